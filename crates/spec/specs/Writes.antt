@@ -1,0 +1,130 @@
+-- Writes to a repository, and the records that they leave (AT Protocol repository v3, records and paths).
+use Rattle.std.specs.Prelude.{ℕ, ◌+◌, Bool, true, false, ◌&&◌, not, List, [], ◌∷◌, length, nat_lt, nat_le, fold, is_some, Result, Ok, Err, Option, Some, None, if◌then◌else◌}
+use Rattle.std.specs.Str.{bytes_eq}
+use Rattle.std.specs.Cmp.Lexicographic.{slice_cmp}
+use Rattle.std.specs.Ordering.{nat_cmp}
+use Rattle.std.specs.FinMap.{find, put}
+use Rattle.std.specs.FinMap.Entries.{where_key}
+use Rattle.spec.specs.Reading.{◌>>=◌, ensure}
+use Rattle.spec.specs.Head.{CborFault}
+use Rattle.spec.specs.DagCbor.{Value, Fields, read}
+use Rattle.spec.specs.Keys.{is_repository_key}
+
+-- a key, and then a record's bytes
+pub data Write : Type 0 where
+  Put : (key record_bytes : List ℕ) → Write
+  Create : (key record_bytes : List ℕ) → Write
+  Update : (key record_bytes : List ℕ) → Write
+  Delete : (key : List ℕ) → Write
+
+abbrev pub with_key : List (List ℕ × List ℕ) → List ℕ → List ℕ → List (List ℕ × List ℕ)
+with_key m key bytes = put (slice_cmp nat_cmp) key bytes m
+
+abbrev pub without_key : List (List ℕ × List ℕ) → List ℕ → List (List ℕ × List ℕ)
+without_key m key = where_key (slice_cmp nat_cmp) (λ k. not (bytes_eq key k)) m
+
+-- the record map after a write
+abbrev pub after_write : List (List ℕ × List ℕ) → Write → List (List ℕ × List ℕ)
+after_write m (Put key bytes) = with_key m key bytes
+after_write m (Create key bytes) = with_key m key bytes
+after_write m (Update key bytes) = with_key m key bytes
+after_write m (Delete key) = without_key m key
+
+-- the record map that writes leave
+abbrev pub leaves : List Write → List (List ℕ × List ℕ)
+leaves ws = fold after_write [] ws
+
+abbrev pub names : List ℕ → Write → Bool
+names key (Put k bytes) = bytes_eq key k
+names key (Create k bytes) = bytes_eq key k
+names key (Update k bytes) = bytes_eq key k
+names key (Delete k) = bytes_eq key k
+
+abbrev pub record_of : Write → Option (List ℕ)
+record_of (Put k bytes) = Some bytes
+record_of (Create k bytes) = Some bytes
+record_of (Update k bytes) = Some bytes
+record_of (Delete k) = None
+
+-- the record of a key by the last write that names it, and before where none does
+abbrev pub last_record : List ℕ → Option (List ℕ) → List Write → Option (List ℕ)
+last_record key before ws = fold (λ o w. if names key w then record_of w else o) before ws
+
+-- ---- which writes are taken
+
+pub data WriteFault : Type 0 where
+  WritesFull : WriteFault
+  BadKey : WriteFault
+  RecordSize : WriteFault
+  BadRecord : CborFault → WriteFault
+  NotAMap : WriteFault
+  KeyExists : WriteFault
+  NoSuchKey : WriteFault
+
+abbrev pub is_map : Value → Bool
+is_map (Fields es) = true
+is_map v = false
+
+abbrev pub or_bad_record : Result Value CborFault → Result Value WriteFault
+or_bad_record (Ok v) = Ok v
+or_bad_record (Err f) = Err (BadRecord f)
+
+-- a record: one map (AT Protocol data model), of at most 1,048,576 bytes (own)
+unfoldable pub record_test : List ℕ → Result (Unit {0}) WriteFault
+record_test bytes = do
+  size_ok ← ensure (nat_le (length bytes) 1048576) RecordSize
+  v ← or_bad_record (read bytes)
+  ensure (is_map v) NotAMap
+
+abbrev pub has_key : List (List ℕ × List ℕ) → List ℕ → Bool
+has_key m key = is_some (find (slice_cmp nat_cmp) key m)
+
+-- the first test that a write fails on the map before it, but for the limit
+abbrev pub write_test : List (List ℕ × List ℕ) → Write → Result (Unit {0}) WriteFault
+write_test m (Put key bytes) = do
+  key_ok ← ensure (is_repository_key key) BadKey
+  record_test bytes
+write_test m (Create key bytes) = do
+  key_ok ← ensure (is_repository_key key) BadKey
+  record_ok ← record_test bytes
+  ensure (not (has_key m key)) KeyExists
+write_test m (Update key bytes) = do
+  key_ok ← ensure (is_repository_key key) BadKey
+  record_ok ← record_test bytes
+  ensure (has_key m key) NoSuchKey
+write_test m (Delete key) = do
+  key_ok ← ensure (is_repository_key key) BadKey
+  ensure (has_key m key) NoSuchKey
+
+-- the same with the limit first, after so many writes
+abbrev pub limited_test : ℕ → ℕ → List (List ℕ × List ℕ) → Write → Result (Unit {0}) WriteFault
+limited_test limit count m w = do
+  room ← ensure (nat_lt count limit) WritesFull
+  write_test m w
+
+-- a refusal, and the number of the refused write in its batch, from 0
+abbrev pub at_number : ℕ → Result (Unit {0}) WriteFault → Result (Unit {0}) (ℕ × WriteFault)
+at_number i (Ok ok) = Ok ok
+at_number i (Err f) = Err (i, f)
+
+abbrev pub batch_test_from : ℕ → ℕ → ℕ → List (List ℕ × List ℕ) → List Write → Result (Unit {0}) (ℕ × WriteFault)
+batch_test_from number limit count m [] = Ok tt
+batch_test_from number limit count m (w ∷ ws) = do
+  ok ← at_number number (limited_test limit count m w)
+  batch_test_from (number + 1) limit (count + 1) (after_write m w) ws
+
+-- write by write, each on what those before it leave
+abbrev pub batch_test : ℕ → List Write → List Write → Result (Unit {0}) (ℕ × WriteFault)
+batch_test limit accepted batch = batch_test_from 0 limit (length accepted) (leaves accepted) batch
+
+abbrev pub passes : {A E : Type 0} → Result A E → Bool
+passes (Ok x) = true
+passes (Err e) = false
+
+abbrev pub is_lawful_from : List (List ℕ × List ℕ) → List Write → Bool
+is_lawful_from m [] = true
+is_lawful_from m (w ∷ ws) = passes (write_test m w) && is_lawful_from (after_write m w) ws
+
+-- each write passed its test when it was made
+abbrev pub is_lawful_list : List Write → Bool
+is_lawful_list ws = is_lawful_from [] ws

@@ -1,0 +1,2 @@
+//! The definitions of the formats and of the Merkle search tree that the other crates are proved to meet.
+#![tactic(auto)]
