@@ -4,13 +4,13 @@ use Rattle.std.specs.Prelude.{pos, negsuc}
 use Rattle.std.specs.Str.{is_utf8}
 use Rattle.std.proofs.lemmas.Bool.{lt-ltb, ltb-true, eqb-true, le-ltb, ne_eqb}
 use Rattle.std.proofs.lemmas.List.{append-nil}
-use Rattle.spec.specs.Reading.{◌>>=◌, front}
+use Rattle.spec.specs.Reading.{IsBytes, ◌>>=◌, front}
 use Rattle.spec.specs.Head.{CborFault, Truncated, Float, Indefinite, Simple, BadTag, BadLink, BadUtf8, KeyNotText, KeyOrder, IntegerRange, Trailing, TooDeep, head, head_at, argument_at, simple_at, major_of, SimpleValue, Array, Map}
 use Rattle.spec.specs.Cid.{is_cid}
 use Rattle.spec.specs.DagCbor.{Value, Null, Boolean, Integer, Bytes, Text, Items, Fields, Link, Values, NoValue, ValueThen, Entries, NoEntry, EntryThen, count_values, count_entries, string, spelling, spelling_of_values, spelling_of_entries, is_next_key, fits_length, is_lawful_within, are_lawful_within, are_entries_within, is_lawful, CborReader, head_of, text_of, link_of, key_of, items_at, fields_at, content_of, simple_value, value_at, read}
 use Rattle.spec.proofs.HeadLaws.{head_takes}
 use Rattle.spec.proofs.NodeLaws.{both}
-use Rattle.spec.proofs.Taking.{IsBytes, Takes, Takes-then, bind_ok, bind_then, ensure_ok, ok_is, front_ok}
+use Rattle.spec.proofs.Taking.{Takes, Takes-then, bind_ok, bind_then, ensure_ok, ok_is, front_ok}
 
 and : (a b : Bool) → a ≡ true → b ≡ true → (a && b) ≡ true
 and true b p q = q
