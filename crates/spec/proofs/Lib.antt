@@ -11,4 +11,5 @@ pub mod SameTree
 pub mod Taking
 pub mod NodeTakes
 pub mod RootLaws
+pub mod Once
 pub mod DagCborTakes
