@@ -12,3 +12,4 @@ pub mod Taking
 pub mod NodeTakes
 pub mod RootLaws
 pub mod DagCborTakes
+pub mod PathPlace
