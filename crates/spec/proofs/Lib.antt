@@ -13,3 +13,4 @@ pub mod NodeTakes
 pub mod RootLaws
 pub mod DagCborTakes
 pub mod PathPlace
+pub mod PathNodes
