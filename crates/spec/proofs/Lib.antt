@@ -14,3 +14,4 @@ pub mod RootLaws
 pub mod DagCborTakes
 pub mod PathPlace
 pub mod PathNodes
+pub mod VerifyLaws
