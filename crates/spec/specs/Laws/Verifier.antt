@@ -1,4 +1,4 @@
--- Paths and verifiers. A digest has 32 bytes, and of two lists of pairs with one root each is meant.
+-- Laws of paths and of verifiers (own). They hold of each list of pairs whose tree has the root that a verifier is told.
 use Rattle.std.specs.Prelude.{◌≡◌, Contains, true, Option, Ok, ℕ, suc, ◌+◌, ◌/◌, ◌≤◌, List, length}
 use Rattle.spec.specs.Layer.{layer}
 use Rattle.spec.specs.Tree.{Pair, top_layer}
@@ -10,11 +10,11 @@ use Rattle.spec.specs.Proof.{path, verified}
 abbrev pub PathIsOfTree : Type 0
 PathIsOfTree = (digest : List ℕ → List ℕ) (bits : ℕ) (es : List Pair) (key b : List ℕ) → Contains (path digest bits es key) b → Contains (nodes digest bits es) b
 
--- a path has at most one node for each layer from the top layer down to 0
+-- a path has no more nodes than there are layers from the top one down to 0
 abbrev pub PathIsShort : Type 0
 PathIsShort = (digest : List ℕ → List ℕ) (bits : ℕ) (es : List Pair) (key : List ℕ) → length (path digest bits es key) ≤ suc (top_layer (layer digest bits) es)
 
--- there are layers 0 to 256 / bits
+-- no key of a digest of 32 bytes is above layer 256 / bits
 abbrev pub LayersAreFew : Type 0
 LayersAreFew = (digest : List ℕ → List ℕ) (bits : ℕ) → ((bytes : List ℕ) → length (digest bytes) ≡ 32) → (es : List Pair) → top_layer (layer digest bits) es ≤ 256 / bits
 
