@@ -1,5 +1,5 @@
 -- The path of a key is made of nodes of the tree, one a layer at most.
-use Rattle.std.proofs.Common.{◌≡◌, ℕ, zero, suc, ◌+◌, ◌*◌, ◌/◌, ◌<◌, ◌≤◌, List, [], ◌∷◌, ◌++◌, length, max, refl, arith, inl, inr}
+use Rattle.std.proofs.Common.{◌≡◌, ℕ, zero, suc, ◌/◌, ◌≤◌, List, [], ◌∷◌, ◌++◌, length, max, arith, inl, inr}
 use Rattle.std.specs.Prelude.{Contains}
 use Rattle.std.specs.Cmp.Lexicographic.{slice_cmp}
 use Rattle.std.specs.Ordering.{nat_cmp}
@@ -14,7 +14,6 @@ use Rattle.spec.specs.NodeFormat.{node_bytes}
 use Rattle.spec.specs.Blocks.{blocks_in, blocks_under, no_record, nodes, pairs, record_at, blocks}
 use Rattle.spec.specs.Proof.{by_order, path_in, path_under, path}
 use Rattle.spec.proofs.LayerLaws.{zero_bits-le}
-use Rattle.spec.proofs.RootLaws.{in_head, in_tail}
 
 -- ---- blocks of the tree
 

@@ -8,7 +8,7 @@ use Rattle.std.specs.FinMap.{is_sorted}
 use Rattle.std.proofs.lemmas.Slice.Eq.{bytes_eq-Decides}
 use Rattle.spec.specs.Cid.{cid}
 use Rattle.spec.specs.Layer.{layer}
-use Rattle.spec.specs.Tree.{Pair, Node, Last, More, Part, Nothing, Sub, top, top_layer, pairs_under, EachNode, EachUnder}
+use Rattle.spec.specs.Tree.{Pair, Node, Last, More, Part, Nothing, Sub, top, pairs_under, EachNode, EachUnder}
 use Rattle.spec.specs.NodeFormat.{first_link, entries_of, shape, shape_cid, node_bytes, read_node, is_key}
 use Rattle.spec.specs.Blocks.{ArePairs, ClashesWithNone, nodes, no_record, root, value_of}
 use Rattle.spec.specs.Proof.{Place, Here, Below, Gap, place, ProofFault, KeyLength, or_missing, block_of, or_bad_node, answer_at, verified_within, verified, path_in, path_under, path}
