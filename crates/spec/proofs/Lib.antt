@@ -12,3 +12,6 @@ pub mod Taking
 pub mod NodeTakes
 pub mod RootLaws
 pub mod DagCborTakes
+pub mod PathPlace
+pub mod PathNodes
+pub mod VerifyLaws

@@ -1,0 +1,2 @@
+//! Laws that show what the definitions mean.
+pub mod verifier;
