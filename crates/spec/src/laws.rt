@@ -1,2 +1,6 @@
 //! Laws that show what the definitions mean.
+//!
+//! Each function here is empty, and its contract is a law about the definitions in `specs/`, stated in
+//! `specs/Laws/`. A function is proved only where its contract is, so each law is proved.
+
 pub mod verifier;
