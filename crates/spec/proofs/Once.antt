@@ -16,7 +16,7 @@ use Rattle.spec.specs.Layer.{layer}
 use Rattle.spec.specs.Tree.{Pair, Node, Last, More, Part, Nothing, Sub, tree, top, top_layer, pairs_in, pairs_under, EachNode, EachUnder}
 use Rattle.spec.specs.NodeFormat.{Shape, shape, shape_cid, node_bytes}
 use Rattle.spec.specs.Blocks.{blocks_in, blocks_under, no_record, nodes, firsts, ArePairs, IsClashFree}
-use Rattle.spec.proofs.NodeLaws.{both}
+use Rattle.spec.proofs.Bools.{both}
 use Rattle.spec.proofs.TreeLaws.{IsLower, lower-from_top, pairs-tree, pairs-top, each-under}
 use Rattle.spec.proofs.TreeNodes.{is_sorted-append}
 use Rattle.spec.proofs.SameTree.{Stands, same-part, free_shapes}
