@@ -1,2 +1,7 @@
-//! The whole tree of sorted pairs.
+//! The whole tree of sorted pairs (AT Protocol repository v3, MST structure; Auvolat and Taïani, SRDS 2019).
 #![tactic(auto)]
+
+mod keys;
+mod rows;
+
+pub use keys::is_ascending;
