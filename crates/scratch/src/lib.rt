@@ -3,5 +3,6 @@
 
 mod keys;
 mod rows;
+mod unread;
 
 pub use keys::is_ascending;
