@@ -1,3 +1,4 @@
 pub mod Ascending
 pub mod Aheads
 pub mod Writing
+pub mod Seen

@@ -2,3 +2,4 @@
 pub mod Pairs
 pub mod Ahead
 pub mod Rows
+pub mod Faults

@@ -1,8 +1,11 @@
 //! The whole tree of sorted pairs (AT Protocol repository v3, MST structure; Auvolat and Taïani, SRDS 2019).
 #![tactic(auto)]
 
+mod clashes;
+mod fault;
 mod keys;
 mod rows;
 mod unread;
 
+pub use fault::ScratchFault;
 pub use keys::is_ascending;

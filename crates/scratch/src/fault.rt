@@ -1,0 +1,30 @@
+//! Why a tree was not built.
+
+use cid::{Collided, Digest};
+use std::alloc::{AllocError, AllocFailed, Allocator, Global};
+use thiserror::Error;
+
+/// Why a tree was not built. Nothing is left behind then.
+#[derive(Drop, Error)]
+#[derive_where(Debug)]
+pub enum ScratchFault<D: Digest, A: Allocator = Global> {
+    /// Two nodes of this tree have one CID and different bytes.
+    #[error("Clash")]
+    Clash(Collided<D, A>),
+
+    /// Memory was refused.
+    #[error("NoMemory")]
+    NoMemory,
+}
+
+impl<D: Digest, A: Allocator> From<AllocError> for ScratchFault<D, A> {
+    fn from(_: AllocError) -> ScratchFault<D, A> {
+        ScratchFault::NoMemory
+    }
+}
+
+impl<D: Digest, A: Allocator, T: Drop> From<AllocFailed<T>> for ScratchFault<D, A> {
+    fn from(_: AllocFailed<T>) -> ScratchFault<D, A> {
+        ScratchFault::NoMemory
+    }
+}
