@@ -7,3 +7,4 @@ pub mod Nodes
 pub mod Clashes
 pub mod Roots
 pub mod Writes
+pub mod Verifier

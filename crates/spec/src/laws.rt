@@ -10,4 +10,5 @@ pub mod heads;
 pub mod nodes;
 pub mod roots;
 pub mod tree;
+pub mod verifier;
 pub mod writes;
