@@ -17,6 +17,7 @@ pub mod Taking
 pub mod NodeTakes
 pub mod RootLaws
 pub mod DagCborTakes
+pub mod NodeValues
 pub mod PathPlace
 pub mod PathNodes
 pub mod VerifyLaws
