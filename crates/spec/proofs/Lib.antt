@@ -1,6 +1,9 @@
 pub mod Bools
 pub mod TreeLaws
 pub mod HeadLaws
+pub mod VarintLaws
+pub mod LinkCids
+pub mod CidTexts
 pub mod LayerLaws
 pub mod NodeLaws
 pub mod DagCborLaws
