@@ -6,5 +6,6 @@ pub mod Tree
 pub mod Nodes
 pub mod Clashes
 pub mod Roots
+pub mod Once
 pub mod Writes
 pub mod Verifier
