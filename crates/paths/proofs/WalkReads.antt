@@ -17,7 +17,7 @@ use Rattle.paths.specs.Walk.{from_here, start, Frame, later, go_down, walk_reads
 use Rattle.paths.proofs.Orders.{order-same, turned, turned_back, order-equal}
 use Rattle.paths.proofs.PathIsRead.{order-is}
 use Rattle.paths.proofs.Weights.{IsWithin, AllWithin, within-first}
-use Rattle.paths.proofs.Walks.{before-trans, Halves, halves, each-left, each-right, each-both, each-map, ascending-parts, IsFrom, all-from, filtered-from, from-order, rest_pairs, first-rest, stack_pairs, later-pairs, IsReady, ready-later, within-start, ascending-start, ascending-first, down-pairs, down-ready}
+use Rattle.paths.proofs.Walks.{before-trans, Halves, halves, each-left, each-right, each-both, each-map, ascending-parts, IsFrom, all-from, filtered-from, from-order, rest_pairs, first-rest, stack_pairs, later-pairs, IsReady, ready-later, within-start, ascending-start, ascending-first, down-pairs, down-ready, ascending-filter}
 
 -- ---- tests and orders
 
@@ -254,3 +254,115 @@ module _ (from last : List ℕ) where
         (ap (λ t. m ∷ t)
         (under-reads n (down-reads n) a m stack w s l u
         ∙ ap (λ t. t ++ chosen (ranged_stack (go_down n from (first (start from m)) (later (start from m) stack)))) (sym (path-start n (locate from m).here))))
+
+-- ---- the whole walk
+
+pub nothing-reads : (n : ℕ) (from : List ℕ) (xs : List Node) → find_path n from Nothing ++ xs ≡ xs
+nothing-reads zero from xs = refl
+nothing-reads (suc n) from xs = refl
+
+nothing-down : (n : ℕ) (from : List ℕ) (stack : List Frame) → go_down n from Nothing stack ≡ stack
+nothing-down zero from stack = refl
+nothing-down (suc n) from stack = refl
+
+-- after a pair with the key z, which isn't below from
+abbrev pub ReadsAt : ℕ → ℕ → List ℕ → Type 0
+ReadsAt limit n from = (z : List ℕ) (p : Part) (stack : List Frame) → IsWithin n p → IsReady n stack → EachNode HasPairs p → AreFilled stack
+    → Ascending (pairs_in p ++ stack_pairs stack) → Each (IsAfter z) (pairs_in p ++ stack_pairs stack) → IsNotBelow z from
+    → walk_reads limit n from p stack
+    ≡ chosen from (last_key z (take limit (pairs_in p ++ stack_pairs stack))) (ranged_in (Some z) (next_key stack) p ++ ranged_stack stack)
+
+rest-list : (r : Node) (xs : List Frame) → pairs_in (first r) ++ stack_pairs (later r xs) ≡ pairs_under r ++ stack_pairs xs
+rest-list r xs =
+    rw (later-pairs r xs)
+    (sym (append_assoc (pairs_in (first r)) (rest_pairs r) (stack_pairs xs)) ∙ ap (λ t. t ++ stack_pairs xs) (first-rest r))
+
+-- from the next pair on
+stack-reads : (limit n : ℕ) (from : List ℕ) → ReadsAt limit n from → (w : List ℕ) (stack : List Frame) → IsReady n stack → AreFilled stack → Ascending (stack_pairs stack) → Each (IsFrom from) (stack_pairs stack)
+    → next_reads (walk_reads limit n from) stack ≡ chosen from (last_key w (take (suc limit) (stack_pairs stack))) (ranged_stack stack)
+stack-reads limit n from ih w [] s f a g = refl
+stack-reads limit n from ih w (x ∷ xs) s f a g =
+    let r = x.1 in
+    let e = rest-list r xs in
+    ih x.0.0 (first r) (later r xs) (within-first n r s.0) (ready-later n r xs s.0 s.1 s.2) (filled-first r f.0) (filled-later r xs f.0 f.1)
+    (subst Ascending (sym e) a.1) (subst (Each (IsAfter x.0.0)) (sym e) a.0) (not-below from x.0 g.0)
+    ∙ rw (e, ranged-rest (Some x.0.0) r xs) refl
+
+-- what the way down leaves, from what it began with
+down-list : (n : ℕ) (from : List ℕ) (p : Part) (stack : List Frame) → IsWithin n p → Ascending (pairs_in p) → Each (IsFrom from) (pairs_in p)
+    → stack_pairs (go_down n from p stack) ≡ pairs_in p ++ stack_pairs stack
+down-list n from p stack w a f = down-pairs n from p stack w a ∙ ap (λ t. t ++ stack_pairs stack) (all-from from (pairs_in p) f)
+
+after-from : (from z : List ℕ) (es : List Pair) → IsNotBelow z from → Each (IsAfter z) es → Each (IsFrom from) es
+after-from from z es h k =
+    each-map (IsAfter z) (IsFrom from) es (λ e a. from-order from e Greater (turned_back from e.0 (less-below z e.0 from h (turned e.0 z a)))) k
+
+next-upper : (from z : List ℕ) (stack : List Frame) → IsNotBelow z from → Each (IsAfter z) (stack_pairs stack) → is_under (next_key stack) from ≡ true
+next-upper from z [] h k = refl
+next-upper from z (x ∷ xs) h k = under-order x.0.0 from Less (less-below z x.0.0 from h (turned x.0.0 z k.0))
+
+-- where a subtree is left, more than nothing is given
+last-less : (z : List ℕ) (limit : ℕ) (x : Pair) (es fs : List Pair) → es ≡ x ∷ fs → Each (IsAfter z) es → order z (last_key z (take (suc limit) es)) ≡ Less
+last-less z limit x es fs e h =
+    let k = subst (Each (IsAfter z)) e h in
+    ap (λ (t : List Pair). order z (last_key z (take (suc limit) t))) e
+    ∙ last-after z x.0 (take limit fs) (turned x.0 z k.0) (each-take (IsAfter z) limit fs k.1)
+
+sub-reads : (limit n : ℕ) (from : List ℕ) → ReadsAt limit n from → (z : List ℕ) (m : Node) (stack : List Frame) → IsWithin n (Sub m) → IsReady n stack → EachNode HasPairs (Sub m) → AreFilled stack
+    → Ascending (pairs_under m ++ stack_pairs stack) → Each (IsAfter z) (pairs_under m ++ stack_pairs stack) → IsNotBelow z from
+    → walk_reads (suc limit) n from (Sub m) stack
+    ≡ chosen from (last_key z (take (suc limit) (pairs_under m ++ stack_pairs stack))) (ranged_in (Some z) (next_key stack) (Sub m) ++ ranged_stack stack)
+sub-reads limit n from ih z m stack w s f g a h b =
+    let L = pairs_under m ++ stack_pairs stack in
+    let last = last_key z (take (suc limit) L) in
+    let whole = f.0.2 in
+    let z_last : order z last ≡ Less = last-less z limit f.0.0 L (f.0.1 ++ stack_pairs stack) (ap (λ t. t ++ stack_pairs stack) whole) h in
+    let lower : (x : List ℕ) → order x from ≡ Less → is_above (Some x) last ≡ true = λ x k. above-order x last Less (before-trans x z last (below-less x z from b k) z_last) in
+    let all = after-from from z L b h in
+    let parts = ascending-parts (pairs_under m) (stack_pairs stack) a in
+    let e = down-list n from (Sub m) stack w parts.0 (each-left (IsFrom from) (pairs_under m) (stack_pairs stack) all) in
+    let d = go_down n from (Sub m) stack in
+    ap (λ t. find_path n from (Sub m) ++ t)
+    (stack-reads limit n from ih z d (down-ready n n from (Sub m) stack (omega arith) w parts.0 s) (down-filled n from (Sub m) stack f g)
+    (subst Ascending (sym e) a) (subst (Each (IsFrom from)) (sym e) all)
+    ∙ ap (λ (t : List Pair). chosen from (last_key z (take (suc limit) t)) (ranged_stack d)) e)
+    ∙ sym (down-reads from last lower n (Some z) (Sub m) stack w parts.0 (above-order z last Less z_last)
+    (next-upper from z stack b (each-right (IsAfter z) (pairs_under m) (stack_pairs stack) h)))
+
+late-all : (z : List ℕ) (es : List Pair) → Each (IsAfter z) es → Each (λ e. is_above (Some e.0) z ≡ false) es
+late-all z es h = each-map (IsAfter z) (λ e. is_above (Some e.0) z ≡ false) es (λ e k. above-order e.0 z Greater k) h
+
+nothing-case : (limit n : ℕ) (from : List ℕ) → ReadsAt limit n from → (z : List ℕ) (stack : List Frame) → IsReady n stack → AreFilled stack
+    → Ascending (stack_pairs stack) → Each (IsAfter z) (stack_pairs stack) → IsNotBelow z from
+    → walk_reads (suc limit) n from Nothing stack ≡ chosen from (last_key z (take (suc limit) (stack_pairs stack))) (ranged_stack stack)
+nothing-case limit n from ih z stack s g a h b =
+    nothing-reads n from (next_reads (walk_reads limit n from) (go_down n from Nothing stack))
+    ∙ ap (next_reads (walk_reads limit n from)) (nothing-down n from stack)
+    ∙ stack-reads limit n from ih z stack s g a (after-from from z (stack_pairs stack) b h)
+
+pub reads-after : (limit n : ℕ) (from : List ℕ) → ReadsAt limit n from
+reads-after zero n from z p stack w s f g a h b =
+    let late = late-all z (pairs_in p ++ stack_pairs stack) h in
+    sym (chosen-none from z (ranged_in (Some z) (next_key stack) p) (ranged_stack stack)
+    (late-in from z (Some z) (next_key stack) p (above-order z z Equal (order-same z)) (each-left (IsLate from z) (pairs_in p) (stack_pairs stack) late))
+    (late-stack from z stack (each-right (IsLate from z) (pairs_in p) (stack_pairs stack) late)))
+reads-after (suc limit) n from z Nothing stack w s f g a h b = nothing-case limit n from (reads-after limit n from) z stack s g a h b
+reads-after (suc limit) n from z (Sub m) stack w s f g a h b = sub-reads limit n from (reads-after limit n from) z m stack w s f g a h b
+
+-- of a walk from the top, that gives at least one pair if there is one
+pub reads-first : (limit n : ℕ) (from : List ℕ) (p : Part) → IsWithin n p → EachNode HasPairs p → Ascending (pairs_in p)
+    → walk_reads (suc limit) n from p [] ≡ nodes_meeting from (last_key from (take (suc limit) (filter (is_from from) (pairs_in p)))) p
+reads-first limit n from p w f a =
+    let L = filter (is_from from) (pairs_in p) in
+    let last = last_key from (take (suc limit) L) in
+    let same : IsNotBelow from from = ap is_lt (order-same from) in
+    let up = last-from from from (take (suc limit) L) same (each-take (IsFrom from) (suc limit) L (filtered-from from (pairs_in p))) in
+    let lower : (x : List ℕ) → order x from ≡ Less → is_above (Some x) last ≡ true = λ x k. above-order x last Less (below-less x last from up k) in
+    let e : stack_pairs (go_down n from p []) ≡ L = down-pairs n from p [] w a ∙ append-nil L in
+    let d = go_down n from p [] in
+    ap (λ t. find_path n from p ++ t)
+    (stack-reads limit n from (reads-after limit n from) from d (down-ready n n from p [] (omega arith) w a tt) (down-filled n from p [] f tt)
+    (subst Ascending (sym e) (ascending-filter from (pairs_in p) a)) (subst (Each (IsFrom from)) (sym e) (filtered-from from (pairs_in p)))
+    ∙ ap (λ (t : List Pair). chosen from (last_key from (take (suc limit) t)) (ranged_stack d)) e)
+    ∙ sym (down-reads from last lower n None p [] w a refl refl)
+    ∙ ap (chosen from last) (append-nil (ranged_in None None p))

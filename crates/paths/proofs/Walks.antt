@@ -86,6 +86,23 @@ pub filtered-from : (from : List ℕ) (es : List Pair) → Each (IsFrom from) (f
 filtered-from from [] = tt
 filtered-from from (e ∷ es) = filter-first from e (filter (is_from from) es) (is_from from e) refl (filtered-from from es)
 
+each-first : (P : Pair → Type 0) (e : Pair) (tail : List Pair) (b : Bool) → P e → Each P tail → Each P (cond b (e ∷ tail) tail)
+each-first P e tail true h k = (h, k)
+each-first P e tail false h k = k
+
+each-filter : (P : Pair → Type 0) (from : List ℕ) (es : List Pair) → Each P es → Each P (filter (is_from from) es)
+each-filter P from [] h = tt
+each-filter P from (e ∷ es) h = each-first P e (filter (is_from from) es) (is_from from e) h.0 (each-filter P from es h.1)
+
+ascending-first_kept : (e : Pair) (tail : List Pair) (b : Bool) → Each (IsAfter e.0) tail → Ascending tail → Ascending (cond b (e ∷ tail) tail)
+ascending-first_kept e tail true h k = (h, k)
+ascending-first_kept e tail false h k = k
+
+pub ascending-filter : (from : List ℕ) (es : List Pair) → Ascending es → Ascending (filter (is_from from) es)
+ascending-filter from [] h = tt
+ascending-filter from (e ∷ es) h =
+    ascending-first_kept e (filter (is_from from) es) (is_from from e) (each-filter (IsAfter e.0) from es h.0) (ascending-filter from es h.1)
+
 -- ---- what is left of a node
 
 abbrev pub rest_pairs : Node → List Pair
