@@ -17,7 +17,7 @@ use Rattle.paths.specs.Walk.{from_here, start, Frame, later, go_down, walk_reads
 use Rattle.paths.proofs.Orders.{order-same, turned, turned_back, order-equal}
 use Rattle.paths.proofs.PathIsRead.{order-is}
 use Rattle.paths.proofs.Weights.{IsWithin, AllWithin, within-first}
-use Rattle.paths.proofs.Walks.{before-trans, Halves, halves, each-left, each-right, each-both, each-map, ascending-parts, IsFrom, all-from, filtered-from, from-order, rest_pairs, first-rest, stack_pairs, later-pairs, IsReady, ready-later, within-start, ascending-start, ascending-first, down-pairs, down-ready, ascending-filter}
+use Rattle.paths.proofs.Walks.{before-trans, Halves, halves, each-left, each-right, each-both, each-map, ascending-parts, IsFrom, all-from, filtered-from, from-order, rest_pairs, first-rest, stack_pairs, later-pairs, IsReady, ready-later, within-start, ascending-start, ascending-first, down-pairs, down-ready, ascending-filter, each-start, each-first_part, path-start}
 
 -- ---- tests and orders
 
@@ -92,36 +92,17 @@ abbrev pub AreFilled : List Frame → Type 0
 AreFilled [] = Unit {0}
 AreFilled (x ∷ xs) = EachUnder HasPairs x.1 × AreFilled xs
 
-filled-first : (m : Node) → EachUnder HasPairs m → EachNode HasPairs (first m)
-filled-first (Last p) h = h
-filled-first (More p e r) h = h.0
-
 filled-later : (m : Node) (stack : List Frame) → EachUnder HasPairs m → AreFilled stack → AreFilled (later m stack)
 filled-later (Last p) stack h s = s
 filled-later (More p e r) stack h s = (h.1, s)
-
-filled-choice : (o : Ordering) (p : Part) → EachNode HasPairs p → EachNode HasPairs (if_equal o Nothing p)
-filled-choice Less p h = h
-filled-choice Equal p h = tt
-filled-choice Greater p h = h
-
-filled-further : (from : List ℕ) (o : Ordering) (p : Part) (e : Pair) (r : Node) → EachUnder HasPairs (More p e r) → EachUnder HasPairs (start from r)
-    → EachUnder HasPairs (from_here from (further o p e r (locate from r)).here)
-filled-further from Less p e r h i = i
-filled-further from Equal p e r h i = (filled-choice (order e.0 from) p h.0, h.1)
-filled-further from Greater p e r h i = (filled-choice (order e.0 from) p h.0, h.1)
-
-filled-start : (from : List ℕ) (m : Node) → EachUnder HasPairs m → EachUnder HasPairs (start from m)
-filled-start from (Last p) h = h
-filled-start from (More p e r) h = filled-further from (order e.0 from) p e r h (filled-start from r h.1)
 
 down-filled : (n : ℕ) (from : List ℕ) (p : Part) (stack : List Frame) → EachNode HasPairs p → AreFilled stack → AreFilled (go_down n from p stack)
 down-filled zero from p stack h s = s
 down-filled (suc n) from Nothing stack h s = s
 down-filled (suc n) from (Sub m) stack h s =
     let k = start from m in
-    let f = filled-start from m h.1 in
-    down-filled n from (first k) (later k stack) (filled-first k f) (filled-later k stack f s)
+    let f = each-start HasPairs from m h.1 in
+    down-filled n from (first k) (later k stack) (each-first_part HasPairs k f) (filled-later k stack f s)
 
 -- the rest of a node after a pair, and the stack below it
 ranged-rest : (a : Option (List ℕ)) (r : Node) (stack : List Frame)
@@ -188,17 +169,6 @@ module _ (from last : List ℕ) where
 
   -- ---- the way down
 
-  path-choice : (n : ℕ) (o : Ordering) (p : Part) → if_equal o [] (find_path n from p) ≡ find_path n from (if_equal o Nothing p)
-  path-choice n Less p = refl
-  path-choice zero Equal p = refl
-  path-choice (suc n) Equal p = refl
-  path-choice n Greater p = refl
-
-  -- a look-up goes on where the walk does
-  path-start : (n : ℕ) (h : Node) → beside from h (λ p q. []) (find_path n from (first h)) ≡ find_path n from (first (from_here from h))
-  path-start n (Last p) = refl
-  path-start n (More p e r) = path-choice n (order e.0 from) p
-
   abbrev pub DownReads : ℕ → Type 0
   DownReads n = (a : Option (List ℕ)) (p : Part) (stack : List Frame) → IsWithin n p → Ascending (pairs_in p)
       → is_above a last ≡ true → is_under (next_key stack) from ≡ true
@@ -253,7 +223,7 @@ module _ (from last : List ℕ) where
         rw (l, u)
         (ap (λ t. m ∷ t)
         (under-reads n (down-reads n) a m stack w s l u
-        ∙ ap (λ t. t ++ chosen (ranged_stack (go_down n from (first (start from m)) (later (start from m) stack)))) (sym (path-start n (locate from m).here))))
+        ∙ ap (λ t. t ++ chosen (ranged_stack (go_down n from (first (start from m)) (later (start from m) stack)))) (sym (path-start from n (locate from m).here))))
 
 -- ---- the whole walk
 
@@ -284,7 +254,7 @@ stack-reads limit n from ih w [] s f a g = refl
 stack-reads limit n from ih w (x ∷ xs) s f a g =
     let r = x.1 in
     let e = rest-list r xs in
-    ih x.0.0 (first r) (later r xs) (within-first n r s.0) (ready-later n r xs s.0 s.1 s.2) (filled-first r f.0) (filled-later r xs f.0 f.1)
+    ih x.0.0 (first r) (later r xs) (within-first n r s.0) (ready-later n r xs s.0 s.1 s.2) (each-first_part HasPairs r f.0) (filled-later r xs f.0 f.1)
     (subst Ascending (sym e) a.1) (subst (Each (IsAfter x.0.0)) (sym e) a.0) (not-below from x.0 g.0)
     ∙ rw (e, ranged-rest (Some x.0.0) r xs) refl
 

@@ -5,11 +5,12 @@ use Rattle.std.specs.declared.cmp.Ordering.{Ordering}
 use Rattle.std.specs.declared.cmp.Ordering.TheVariants.{Less, Equal, Greater}
 use Rattle.std.specs.Ordering.{is_lt}
 use Rattle.std.proofs.lemmas.List.Elements.{filter-append}
-use Rattle.spec.specs.Tree.{Pair, Node, Part, Last, More, Nothing, Sub, pairs_in, pairs_under}
+use Rattle.spec.specs.Tree.{Pair, Node, Part, Last, More, Nothing, Sub, pairs_in, pairs_under, EachNode, EachUnder}
 use Rattle.spec.specs.Blocks.{is_from}
 use Rattle.paths.specs.Order.{order, if_equal}
 use Rattle.paths.specs.Pairs.{Each, IsBefore, IsAfter, Ascending}
 use Rattle.paths.specs.TreeEdit.{first, locate, further}
+use Rattle.paths.specs.Trace.{beside, find_path}
 use Rattle.paths.specs.Walk.{from_here, start, Frame, later, go_down, next, walk}
 use Rattle.paths.proofs.Orders.{after-trans, turned, turned_back, after-same, order-equal, order-total}
 use Rattle.paths.proofs.PathIsRead.{order-is}
@@ -171,6 +172,39 @@ mutual
   pub within-under-up : (n m : ℕ) (k : Node) → n ≤ m → AllWithin n k → AllWithin m k
   within-under-up n m (Last p) l h = within-up n m p l h
   within-under-up n m (More p e r) l h = (within-up n m p l h.0, within-under-up n m r l h.1)
+
+-- ---- where a walk goes on
+
+-- what holds of each node below a node holds of each below what is left of it
+pub each-first_part : (P : Node → Type 0) (m : Node) → EachUnder P m → EachNode P (first m)
+each-first_part P (Last p) h = h
+each-first_part P (More p e r) h = h.0
+
+each-choice : (P : Node → Type 0) (o : Ordering) (p : Part) → EachNode P p → EachNode P (if_equal o Nothing p)
+each-choice P Less p h = h
+each-choice P Equal p h = tt
+each-choice P Greater p h = h
+
+each-further : (P : Node → Type 0) (from : List ℕ) (o : Ordering) (p : Part) (e : Pair) (r : Node) → EachUnder P (More p e r) → EachUnder P (start from r)
+    → EachUnder P (from_here from (further o p e r (locate from r)).here)
+each-further P from Less p e r h i = i
+each-further P from Equal p e r h i = (each-choice P (order e.0 from) p h.0, h.1)
+each-further P from Greater p e r h i = (each-choice P (order e.0 from) p h.0, h.1)
+
+pub each-start : (P : Node → Type 0) (from : List ℕ) (m : Node) → EachUnder P m → EachUnder P (start from m)
+each-start P from (Last p) h = h
+each-start P from (More p e r) h = each-further P from (order e.0 from) p e r h (each-start P from r h.1)
+
+path-choice : (from : List ℕ) (n : ℕ) (o : Ordering) (p : Part) → if_equal o [] (find_path n from p) ≡ find_path n from (if_equal o Nothing p)
+path-choice from n Less p = refl
+path-choice from zero Equal p = refl
+path-choice from (suc n) Equal p = refl
+path-choice from n Greater p = refl
+
+-- a look-up goes on where the walk does
+pub path-start : (from : List ℕ) (n : ℕ) (h : Node) → beside from h (λ p q. []) (find_path n from (first h)) ≡ find_path n from (first (from_here from h))
+path-start from n (Last p) = refl
+path-start from n (More p e r) = path-choice from n (order e.0 from) p
 
 -- ---- the way down
 
