@@ -27,3 +27,5 @@ pub mod RecordMaps
 pub mod BlockChanges
 pub mod Walks
 pub mod WalkReads
+pub mod Enough
+pub mod PathForms
