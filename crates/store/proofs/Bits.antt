@@ -1,12 +1,14 @@
 -- A set of cores as bits.
-use Rattle.std.proofs.Common.{add-one, add-zero, zero, suc, ◌≡◌, ℕ, ◌<◌, ◌≤◌, ◌+◌, ◌*◌, ◌/◌, ◌%◌, ◌^◌, ◌-◌, List, length, refl, ap, sym, ◌∙◌, cond, nat_eq, nat_lt, Bool, true, false, arith, get_or, bit_and, bit_or, replicate, inl, inr, ⊎_elim}
+use Rattle.std.proofs.Common.{add_assoc, count_ones, add-zero, zero, suc, ◌≡◌, ℕ, ◌<◌, ◌≤◌, ◌+◌, ◌*◌, ◌/◌, ◌%◌, ◌^◌, ◌-◌, List, length, refl, ap, sym, ◌∙◌, cond, nat_eq, nat_lt, Bool, true, false, arith, get_or, bit_and, bit_or, replicate, inl, inr, ⊎_elim}
 use Rattle.std.specs.Prelude.{◌&&◌, ◌||◌, not, ◌≢◌, ◌⊎◌}
 use Rattle.std.proofs.Math.ListN.{set}
+use Rattle.std.proofs.Math.Nat.{pow-suc}
 use Rattle.std.proofs.lemmas.List.{get_or-set_same, get_or-set_other}
 use Rattle.std.proofs.lemmas.Bool.Decides.{nat_tests}
-use Rattle.std.proofs.lemmas.Nat.Bits.{bit_at_set_same, bit_at_set_other, bit_at_clear_same, bit_at_clear_other, bit_at-zero, shr_and_one}
+use Rattle.std.proofs.lemmas.Nat.Bits.{bit_at_set_same, bit_at_set_other, bit_at_clear_same, bit_at_clear_other, bit_at-zero, bit_at-lt, bit_at-suc, bit_at_lowest, shr_and_one}
+use Rattle.std.proofs.lemmas.Nat.{ones_le_self}
+use Rattle.std.specs.Int.Count.{ones_step}
 use Rattle.std.specs.Int.{bit_at, w64}
-use mir.Val.{bool_byte}
 use Rattle.std.specs.Ordering.{nat_cmp}
 use Rattle.std.specs.Cmp.{nat_cmp_total, unsigned_tied}
 use Rattle.std.specs.FinSet as set
@@ -138,23 +140,74 @@ pub is_set-from_shift : (ws : List ℕ) (k : ℕ) → nat_eq (bit_and (get_or ws
 unfolding is_set
 is_set-from_shift ws k = ap (λ (x : ℕ). nat_eq x 1) (shr_and_one _ (k % 64))
 
--- the count so far, with one more number looked at
-pub count_more : (ws : List ℕ) (n count : ℕ) → count ≡ set.len (members_below ws n) → count + bool_byte (is_set ws n) ≡ set.len (members_below ws (n + 1))
-unfolding members_below
-count_more ws n count e = rw (add-one n) (
-    (elim (is_set ws n) as (λ t. count + bool_byte t ≡ set.len (cond t (set.insert (members_below ws n) n) (members_below ws n))) [
-      | true ↦ ap (λ (c : ℕ). c + 1) e ∙ sym (set.len-insert nat_cmp_total (members_below ws n) n ∙ ap (λ t. cond t (set.len (members_below ws n)) (set.len (members_below ws n) + 1)) (contains_below ws n n ∙ ap (λ t. t && is_set ws n) (lt_self n)))
-      | false ↦ add-zero count ∙ e
-    ]))
+-- ---- how many bits of the words are set
 
-pub count_none : (ws : List ℕ) → 0 ≡ set.len (members_below ws 0)
-unfolding members_below
-count_none ws = sym (set.len-empty nat_cmp)
+abbrev bits_below : ℕ → ℕ → ℕ
+bits_below w zero = 0
+bits_below w (suc j) = bits_below w j + bit_at w j
 
-pub count_all : (ws : List ℕ) → set.len (members_below ws 1024) ≡ set.len (members ws)
+bits_below-lowest : (w j : ℕ) → bits_below w (suc j) ≡ w % 2 + bits_below (w / 2) j
+bits_below-lowest w zero = let low = bit_at_lowest w in omega arith
+bits_below-lowest w (suc j) = let rest = bits_below-lowest w j in let next = bit_at-suc w j in omega arith
+
+count_ones-bits_below : (k w : ℕ) → w < 2 ^ k → count_ones w ≡ bits_below w k
+count_ones-bits_below zero w small = let none : w ≡ 0 = omega arith in let few = ones_le_self w in omega arith
+count_ones-bits_below (suc k) w small =
+    let first = ones_step w in
+    let rest = count_ones-bits_below k (w / 2) (half k w small) in
+    let lowest = bits_below-lowest w k in
+    omega arith
+  where
+    half : (k w : ℕ) → w < 2 ^ suc k → w / 2 < 2 ^ k
+    half k w small = let twice : 2 ^ suc k ≡ 2 ^ k * 2 = pow-suc 2 k in omega arith
+
+-- bit j of word k is that of number 64 k + j
+is_set-in_word : (ws : List ℕ) (k j : ℕ) → j < 64 → is_set ws (64 * k + j) ≡ nat_eq (bit_at (get_or ws k 0) j) 1
+unfolding is_set
+is_set-in_word ws k j small =
+    let word : (64 * k + j) / 64 ≡ k = omega arith in
+    let bit : (64 * k + j) % 64 ≡ j = omega arith in
+    ap (λ (i : ℕ). nat_eq (bit_at (get_or ws i 0) ((64 * k + j) % 64)) 1) word
+    ∙ ap (λ (i : ℕ). nat_eq (bit_at (get_or ws k 0) i) 1) bit
+
+len_more : (ws : List ℕ) (n : ℕ) (b : Bool) → is_set ws n ≡ b → set.len (members_below ws (suc n)) ≡ cond b (set.len (members_below ws n) + 1) (set.len (members_below ws n))
+unfolding members_below
+len_more ws n true e =
+    ap (λ t. set.len (cond t (set.insert (members_below ws n) n) (members_below ws n))) e
+    ∙ set.len-insert nat_cmp_total (members_below ws n) n
+    ∙ ap (λ t. cond t (set.len (members_below ws n)) (set.len (members_below ws n) + 1)) (contains_below ws n n ∙ ap (λ t. t && is_set ws n) (lt_self n))
+len_more ws n false e = ap (λ t. set.len (cond t (set.insert (members_below ws n) n) (members_below ws n))) e
+
+bit_added : (n b : ℕ) → b < 2 → cond (nat_eq b 1) (n + 1) n ≡ n + b
+bit_added n b small = grind (arith, nat_tests)
+
+len_bits : (ws : List ℕ) (k j : ℕ) → j ≤ 64 → set.len (members_below ws (64 * k + j)) ≡ set.len (members_below ws (64 * k)) + bits_below (get_or ws k 0) j
+len_bits ws k zero h = ap (λ (n : ℕ). set.len (members_below ws n)) (add-zero (64 * k)) ∙ sym (add-zero _)
+len_bits ws k (suc j) h =
+    let next : 64 * k + suc j ≡ suc (64 * k + j) = omega arith in
+    let before = len_bits ws k j (omega arith) in
+    ap (λ (n : ℕ). set.len (members_below ws n)) next
+    ∙ len_more ws (64 * k + j) (nat_eq (bit_at (get_or ws k 0) j) 1) (is_set-in_word ws k j (omega arith))
+    ∙ bit_added _ _ (bit_at-lt (get_or ws k 0) j)
+    ∙ ap (λ (n : ℕ). n + bit_at (get_or ws k 0) j) before
+    ∙ add_assoc _ _ _
+
+-- the numbers in one more word
+pub len_word : (ws : List ℕ) (k : ℕ) → get_or ws k 0 < 2 ^ 64 → set.len (members_below ws (64 * (k + 1))) ≡ set.len (members_below ws (64 * k)) + count_ones (get_or ws k 0)
+len_word ws k small =
+    let next : 64 * (k + 1) ≡ 64 * k + 64 = omega arith in
+    ap (λ (n : ℕ). set.len (members_below ws n)) next
+    ∙ len_bits ws k 64 (omega arith)
+    ∙ ap (λ (n : ℕ). set.len (members_below ws (64 * k)) + n) (sym (count_ones-bits_below 64 (get_or ws k 0) small))
+
+pub len_none : (ws : List ℕ) → set.len (members_below ws 0) ≡ 0
+unfolding members_below
+len_none ws = set.len-empty nat_cmp
+
+pub len_all : (ws : List ℕ) → set.len (members_below ws 1024) ≡ set.len (members ws)
 unfolding members
-count_all ws = refl
+len_all ws = refl
 
-pub at_most_one : (b : Bool) → bool_byte b ≤ 1
-at_most_one true = omega arith
-at_most_one false = omega arith
+pub contains-beyond : (ws : List ℕ) (q : ℕ) → 1024 ≤ q → set.contains (members ws) q ≡ false
+unfolding members
+contains-beyond ws q large = contains_below ws 1024 q ∙ ap (λ b. b && is_set ws q) (let e : nat_lt q 1024 ≡ false = grind (arith, nat_tests) in e)

@@ -2,12 +2,12 @@
 use mathlib.Core.Bool.{true≢false}
 use mathlib.Core.List as List
 use Rattle.std.proofs.Common.{zero, suc, ◌≡◌, ◌≢◌, ℕ, ◌<◌, ◌≤◌, ◌+◌, ◌-◌, ◌∷◌, [], List, length, refl, ap, sym, ◌∙◌, subst, cond, nat_eq, Bool, true, false, arith}
-use Rattle.std.specs.Prelude.{Option, Some, None, is_some, ◌&&◌, T}
+use Rattle.std.specs.Prelude.{Option, Some, None, is_some, ◌&&◌, ◌||◌, T}
 use Rattle.std.proofs.lemmas.Bool.Decides.{nat_tests}
 use Rattle.std.specs.Ordering.{nat_cmp, is_eq, is_lt}
 use Rattle.std.specs.declared.cmp.Ordering.{Ordering}
 use Rattle.std.specs.declared.cmp.Ordering.TheVariants.{Less, Equal, Greater}
-use Rattle.std.specs.Cmp.{eq_by_cmp_equiv, nat_cmp_total}
+use Rattle.std.specs.Cmp.{eq_by_cmp_equiv, nat_cmp_total, unsigned_tied}
 use Rattle.std.specs.Cmp.Lexicographic.{slice_cmp, nat_list_cmp_total}
 use Rattle.std.specs.Map.{lookup}
 use Rattle.std.specs.BTreeMap.{is_at}
@@ -17,6 +17,7 @@ use Rattle.std.specs.FinMap as map
 use Rattle.std.specs.FinMap.{find, is_sorted, slice_cmp-IsAntisymmetric, nat_cmp-IsAntisymmetric}
 use Rattle.std.specs.FinMap.Entries.{same_entries, below_all}
 use Rattle.std.specs.FinSet as set
+use Rattle.spec.specs.Cid.{cid as cid_of}
 use Rattle.store.specs.Table.{Table, Held, table_view, entry_at, cores_of, entered, left, left_entry, IsEntry, IsLawful, HasNoOther}
 
 -- what a list of entries has under a CID
@@ -141,3 +142,124 @@ some_in_insert s k = subst (λ (n : ℕ). 0 < n) (sym (set.len-insert nat_cmp_to
     positive : (n : ℕ) → set.len s ≡ n → set.contains s k ≡ true → 0 < set.len s
     positive zero z e = absurd (true≢false (sym e ∙ ap (λ (x : set.FinSet nat_cmp). set.contains x k) (set.empty_of_len s z) ∙ set.contains-empty nat_cmp k))
     positive (suc n) z e = omega arith
+
+entered_below : (q k : ℕ) (x : Bool) → k < 1024 → (x ≡ true → q < 1024) → (nat_eq q k || x) ≡ true → q < 1024
+entered_below q k true small old h = old refl
+entered_below q k false small old h = grind (arith, nat_tests)
+
+second : (a b : Bool) → (a && b) ≡ true → b ≡ true
+second true b h = h
+second false b h = absurd cc
+
+pub entry_entered : (digest : List ℕ → List ℕ) (cid : List ℕ) (e : Held) (core : ℕ) → core < 1024
+    → IsEntry digest cid e → IsEntry digest cid (e.0, set.insert e.1 core)
+entry_entered digest cid e core small is = record {
+  named = is.named;
+  some = some_in_insert e.1 core;
+  small = λ q h. entered_below q core (set.contains e.1 q) small (is.small q)
+    (sym (set.contains-insert nat_cmp_total e.1 core q ∙ ap (λ b. b || set.contains e.1 q) (unsigned_tied q core)) ∙ h)
+}
+
+abbrev nobody : set.FinSet nat_cmp
+nobody = set.empty
+
+pub entry_first : (digest : List ℕ → List ℕ) (bytes : List ℕ) (core : ℕ) → core < 1024
+    → IsEntry digest (cid_of digest bytes) (bytes, set.insert set.empty core)
+entry_first digest bytes core small = record {
+  named = refl;
+  some = some_in_insert nobody core;
+  small = λ q h. entered_below q core (set.contains nobody q) small
+    (λ e. absurd (true≢false (sym e ∙ set.contains-empty nat_cmp q)))
+    (sym (set.contains-insert nat_cmp_total nobody core q ∙ ap (λ b. b || set.contains nobody q) (unsigned_tied q core)) ∙ h)
+}
+
+some_left : (n : ℕ) → nat_eq n 0 ≡ false → 0 < n
+some_left n e = grind (arith, nat_tests)
+
+pub entry_left : (digest : List ℕ → List ℕ) (cid : List ℕ) (e : Held) (core : ℕ) → nat_eq (set.len (set.remove e.1 core)) 0 ≡ false
+    → IsEntry digest cid e → IsEntry digest cid (e.0, set.remove e.1 core)
+entry_left digest cid e core more is = record {
+  named = is.named;
+  some = some_left _ more;
+  small = λ q h. is.small q (second _ _ (sym (set.contains-remove nat_cmp_total e.1 core q) ∙ h))
+}
+
+-- ---- the table of a list, after a list was changed
+
+abbrev table : map.FinMap (slice_cmp nat_cmp) Held → ℕ → Table
+table m limit = record { entries = m; limit = limit }
+
+pub entry_view : (es : List (List ℕ × Held)) (limit : ℕ) (k : List ℕ) (o : Option Held) → at es k ≡ o → entry_at (table_view es limit) k ≡ o
+entry_view es limit k o a = get_view es k ∙ a
+
+-- a core enters: o is the entry before
+pub entered_view : (es fs : List (List ℕ × Held)) (limit : ℕ) (k bytes : List ℕ) (core : ℕ) (o : Option Held)
+    → at es k ≡ o → Updated es fs k (Some (bytes, set.insert (cores_of o) core))
+    → table_view fs limit ≡ entered (table_view es limit) k bytes core
+entered_view es fs limit k bytes core o a u =
+    ap (λ m. table m limit) (put_view es fs k _ u)
+    ∙ ap (λ (y : Option Held). table (map.insert (map.from_entries es) k (bytes, set.insert (cores_of y) core)) limit) (sym (entry_view es limit k o a))
+
+-- the same entry is put again
+pub same_view : (es fs : List (List ℕ × Held)) (limit : ℕ) (k : List ℕ) (e : Held)
+    → at es k ≡ Some e → Updated es fs k (Some e) → table_view fs limit ≡ table_view es limit
+same_view es fs limit k e a u = ap (λ m. table m limit) (map.same_map nat_list_cmp_total same _ _ (λ q. get_view fs q ∙ u q ∙ kept q (slice_cmp nat_cmp k q) refl ∙ sym (get_view es q)))
+  where
+    kept : (q : List ℕ) (r : Ordering) → slice_cmp nat_cmp k q ≡ r → cond (is_eq r) (Some e) (at es q) ≡ at es q
+    kept q Less tied = refl
+    kept q Equal tied = sym a ∙ ap (at es) (same k q tied)
+    kept q Greater tied = refl
+
+-- a core leaves: an entry that isn't there, one that others hold, and one that it held alone
+pub left_view_none : (es : List (List ℕ × Held)) (limit : ℕ) (k : List ℕ) (core : ℕ)
+    → at es k ≡ None → table_view es limit ≡ left (table_view es limit) k core
+left_view_none es limit k core a = ap (left_entry (table_view es limit) k core) (sym (entry_view es limit k None a))
+
+pub left_view_some : (es fs : List (List ℕ × Held)) (limit : ℕ) (k : List ℕ) (core : ℕ) (e : Held)
+    → at es k ≡ Some e → Updated es fs k (Some (e.0, set.remove e.1 core)) → nat_eq (set.len (set.remove e.1 core)) 0 ≡ false
+    → table_view fs limit ≡ left (table_view es limit) k core
+left_view_some es fs limit k core e a u more =
+    ap (λ m. table m limit) (put_view es fs k _ u)
+    ∙ ap (λ b. cond b (table (map.remove (map.from_entries es) k) limit) (table (map.insert (map.from_entries es) k (e.0, set.remove e.1 core)) limit)) (sym more)
+    ∙ ap (left_entry (table_view es limit) k core) (sym (entry_view es limit k (Some e) a))
+
+pub left_view_last : (es fs : List (List ℕ × Held)) (limit : ℕ) (k : List ℕ) (core : ℕ) (e : Held)
+    → at es k ≡ Some e → Updated es fs k None → nat_eq (set.len (set.remove e.1 core)) 0 ≡ true
+    → table_view fs limit ≡ left (table_view es limit) k core
+left_view_last es fs limit k core e a u last =
+    ap (λ m. table m limit) (cut_view es fs k u)
+    ∙ ap (λ b. cond b (table (map.remove (map.from_entries es) k) limit) (table (map.insert (map.from_entries es) k (e.0, set.remove e.1 core)) limit)) (sym last)
+    ∙ ap (left_entry (table_view es limit) k core) (sym (entry_view es limit k (Some e) a))
+
+-- an entry that is put and then taken out
+pub put_then_cut : (es ms fs : List (List ℕ × Held)) (k : List ℕ) (w : Held) → Updated es ms k (Some w) → Updated ms fs k None → Updated es fs k None
+put_then_cut es ms fs k w u v q = v q ∙ ap (cond (is_at (slice_cmp nat_cmp k) q) None) (u q) ∙ over (is_at (slice_cmp nat_cmp k) q)
+  where
+    over : (b : Bool) → cond b None (cond b (Some w) (at es q)) ≡ cond b None (at es q)
+    over true = refl
+    over false = refl
+
+-- ---- the law, after a list was changed
+
+pub lawful_at : (digest : List ℕ → List ℕ) (es : List (List ℕ × Held)) (limit : ℕ) (k : List ℕ) (e : Held)
+    → IsLawful digest (table_view es limit) → at es k ≡ Some e → IsEntry digest k e
+lawful_at digest es limit k e l a = l.entries k e (entry_view es limit k (Some e) a)
+
+pub lawful_changed : (digest : List ℕ → List ℕ) (es fs : List (List ℕ × Held)) (limit : ℕ) (k : List ℕ) (e w : Held)
+    → IsLawful digest (table_view es limit) → at es k ≡ Some e → IsEntry digest k w → Updated es fs k (Some w)
+    → IsLawful digest (table_view fs limit)
+lawful_changed digest es fs limit k e w l a is u = subst (λ m. IsLawful digest (table m limit)) (sym (put_view es fs k w u))
+    (lawful_put digest (table_view es limit) k w l is (λ none. let never : Some e ≡ None = sym (entry_view es limit k (Some e) a) ∙ none in absurd cc))
+
+pub lawful_added : (digest : List ℕ → List ℕ) (es fs : List (List ℕ × Held)) (limit : ℕ) (k : List ℕ) (w : Held)
+    → IsLawful digest (table_view es limit) → map.len (map.from_entries {R = slice_cmp nat_cmp} es) < limit → IsEntry digest k w → Updated es fs k (Some w)
+    → IsLawful digest (table_view fs limit)
+lawful_added digest es fs limit k w l free is u = subst (λ m. IsLawful digest (table m limit)) (sym (put_view es fs k w u))
+    (lawful_put digest (table_view es limit) k w l is (λ none. free))
+
+pub lawful_taken : (digest : List ℕ → List ℕ) (es fs : List (List ℕ × Held)) (limit : ℕ) (k : List ℕ)
+    → IsLawful digest (table_view es limit) → Updated es fs k None → IsLawful digest (table_view fs limit)
+lawful_taken digest es fs limit k l u = subst (λ m. IsLawful digest (table m limit)) (sym (cut_view es fs k u)) (lawful_cut digest (table_view es limit) k l)
+
+pub no_other : (t : Table) (k bytes : List ℕ) (e : Held) → entry_at t k ≡ Some e → e.0 ≡ bytes → HasNoOther t k bytes
+no_other t k bytes e a is d found = ap (λ (x : Held). x.0) (same_Some d e (sym found ∙ a)) ∙ is

@@ -63,21 +63,13 @@ impl Cores {
         core < CORES && is_set(&self.words, core)
     }
 
-    /// Whether there is no core.
-    pub(crate) fn is_empty(&self) -> bool
-        ensures { result ≡ (set.len self.now == 0) }
-    {
-        self.len() == 0
-    }
-
     /// How many cores there are.
     pub(crate) fn len(&self) -> u64
         ensures { result ≡ set.len self.now }
     {
-        let words = &self.words;
         let mut count = 0;
-        for core in 0..1024 {
-            count += u64::from(is_set(words, core));
+        for word in &self.words {
+            count += u64::from(word.count_ones());
         }
         count
     }

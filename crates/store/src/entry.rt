@@ -1,8 +1,9 @@
-ghost use Rattle.std.specs.Prelude.{◌≡◌, ◌<◌, ◌==◌, IfOk, IfErr, OnOk, OnErr};
+ghost use Rattle.std.specs.Prelude.{◌≡◌, ℕ, ◌<◌, ◌==◌, List, IfOk, IfErr, OnOk, OnErr};
 ghost use Rattle.std.specs.Arc.{arc_value};
 ghost use Rattle.std.specs.FinSet as set;
 ghost use Rattle.spec.specs.Cid.{cid as cid_of};
 ghost use Rattle.store.specs.Faults.{IsRefusalOfHeld};
+ghost use Rattle.store.specs.Table.{IsEntry};
 
 use crate::cores::Cores;
 use crate::fault::StoreFault;
@@ -60,6 +61,7 @@ impl<D: Digest, A: Allocator> Entry<D, A> {
         ensures hold { IfOk result (λ h. h ≡ (arc_value block, core)) }
         ensures entered { OnOk result (self.new ≡ (arc_value block, set.insert self.old.1 core)) }
         ensures same_bytes { OnOk result (self.old.0 ≡ arc_value block) }
+        ensures entry { (q : List ℕ) → IsEntry D.digest_of q self.old → IsEntry D.digest_of q self.new }
         ensures unchanged { OnErr result (self.new ≡ self.old) }
         ensures fault { IfErr result (IsRefusalOfHeld (arc_value block) self.old.0) }
     {
@@ -83,6 +85,6 @@ impl<D: Digest, A: Allocator> Entry<D, A> {
         ensures last { result ≡ (set.len (set.remove self.old.1 core) == 0) }
     {
         self.cores.remove(core);
-        self.cores.is_empty()
+        self.cores.len() == 0
     }
 }

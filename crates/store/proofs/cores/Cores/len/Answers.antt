@@ -1,20 +1,29 @@
-use Rattle.std.proofs.Common.{◌≡◌, ◌+◌, ℕ, arith, ap, ◌∙◌}
-use mir.Val.{bool_byte}
+use Rattle.std.proofs.Common.{◌≡◌, ◌<◌, ◌+◌, ◌*◌, ◌^◌, ℕ, arith, ap, ◌∙◌, sym, get_or, count_ones}
 use Rattle.std.specs.FinSet as set
-use Rattle.store.specs.Cores.{is_set, members_below}
-use Rattle.store.proofs.Bits.{at_most_one, count_none, count_more, count_all}
+use Rattle.std.proofs.lemmas.Nat.{ones-le}
+use Rattle.store.specs.Cores.{members_below}
+use Rattle.store.proofs.Bits.{len_none, len_word, len_all}
 use Rattle.store.proofs.cores.Cores.len.Goals as goal
 
-pub loop-core-init : goal.loop-core-init
-loop-core-init c = (omega arith, count_none c.self.inside.words)
+pub loop-word-init : goal.loop-word-init
+loop-word-init c = (omega arith, sym (len_none c.self.inside.words))
 
-pub loop-core-preserved : goal.loop-core-preserved
-loop-core-preserved c =
-    let byte : c.from-count.result ≡ bool_byte (is_set c.self.inside.words c.loop-core.core) = c.from-count.ensures ∙ ap bool_byte c.is_set.ensures in
+pub loop-word-preserved : goal.loop-word-preserved
+loop-word-preserved c =
+    let fits : get_or c.self.inside.words c.loop-word.word-index 0 < 2 ^ 64 = ? in
+    let more : c.from-count.result ≡ count_ones (get_or c.self.inside.words c.loop-word.word-index 0) = c.from-count.ensures in
+    let few = ones-le 64 (get_or c.self.inside.words c.loop-word.word-index 0) fits in
     (
-      omega (arith, byte, at_most_one (is_set c.self.inside.words c.loop-core.core)),
-      ap (λ (x : ℕ). c.loop-core.count + x) byte ∙ count_more c.self.inside.words c.loop-core.core c.loop-core.count c.loop-core.invariant.1,
+      omega (arith, more, few, c.loop-word.invariant.0),
+      ap (λ (n : ℕ). c.loop-word.count + n) more
+      ∙ ap (λ (n : ℕ). n + count_ones (get_or c.self.inside.words c.loop-word.word-index 0)) c.loop-word.invariant.1
+      ∙ sym (len_word c.self.inside.words c.loop-word.word-index fits),
     )
 
 pub returns : goal.returns
-returns c = c.loop-core.invariant.1 ∙ ap (λ (n : ℕ). set.len (members_below c.self.inside.words n)) (let e : c.loop-core.core ≡ 1024 = omega arith in e) ∙ count_all c.self.inside.words ∙ ap (λ s. set.len s) c.self.view_is
+returns c =
+    let all : 64 * c.loop-word.word-index ≡ 1024 = omega (arith, c.loop-word-test.false, c.loop-word.auto.word-index-end, c.self.told) in
+    c.loop-word.invariant.1
+    ∙ ap (λ (n : ℕ). set.len (members_below c.self.inside.words n)) all
+    ∙ len_all c.self.inside.words
+    ∙ ap (λ s. set.len s) c.self.view_is
