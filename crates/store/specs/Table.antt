@@ -1,5 +1,5 @@
 -- What a shard holds.
-use Rattle.std.specs.Prelude.{◌≡◌, ℕ, ◌≤◌, ◌<◌, ◌==◌, true, if◌then◌else◌, List, Option, None, Some, IfSome, refl}
+use Rattle.std.specs.Prelude.{◌≡◌, ℕ, ◌≤◌, ◌<◌, ◌==◌, true, if◌then◌else◌, List, map as each, slice_index, ◌%◌, Option, None, Some, IfSome, refl}
 use Rattle.std.specs.Ordering.{nat_cmp}
 use Rattle.std.specs.Cmp.Lexicographic.{slice_cmp}
 use Rattle.std.specs.FinMap as map
@@ -66,3 +66,15 @@ left_entry t cid core (Some e) = if set.len (set.remove e.1 core) == 0
 
 abbrev pub left : Table → List ℕ → ℕ → Table
 left t cid core = left_entry t cid core (entry_at t cid)
+
+-- each CID with its cores
+abbrev pub with_cores : List (List ℕ × Held) → List (List ℕ × set.FinSet nat_cmp)
+with_cores es = each (λ e. (e.0, e.1.1)) es
+
+-- each entry's CID with its cores, in the order of the CIDs
+abbrev pub listed : Table → List (List ℕ × set.FinSet nat_cmp)
+listed t = with_cores (map.entries t.entries)
+
+-- the number of the shard of a CID: the low four bits of the digest's first byte (own)
+abbrev pub shard_of : List ℕ → ℕ
+shard_of cid = slice_index cid 4 % 16

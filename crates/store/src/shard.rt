@@ -3,9 +3,10 @@ ghost use Rattle.std.specs.Arc.{arc_value};
 ghost use Rattle.std.specs.FinMap as map;
 ghost use Rattle.std.specs.FinSet as set;
 ghost use Rattle.spec.specs.Cid.{cid as cid_of};
-ghost use Rattle.store.specs.Table.{entered, left, HasNoOther, cores_at, IsLawful};
+ghost use Rattle.store.specs.Table.{entered, left, HasNoOther, cores_at, listed, IsLawful};
 ghost use Rattle.store.specs.Faults.{IsRefusal};
 
+use crate::entries::Entries;
 use crate::entry::Entry;
 use crate::fault::StoreFault;
 use crate::hold::Hold;
@@ -62,6 +63,16 @@ impl<D: Digest, A: Allocator> Shard<D, A> {
             if entry.leave(core) {
                 self.table.remove(&cid);
             }
+        }
+    }
+
+    /// Each entry's CID with the cores that hold its block, in the order of the CIDs.
+    pub fn entries(&self) -> Entries<'_, D, A>
+        ensures entries { result ≡ listed self.now }
+        ensures lawful { IsLawful D.digest_of self.now }
+    {
+        Entries {
+            entries: self.table.iter(),
         }
     }
 

@@ -1,4 +1,4 @@
-use Rattle.std.proofs.Common.{◌≡◌, ◌<◌, ◌+◌, ◌*◌, ◌^◌, ℕ, arith, ap, ◌∙◌, sym, get_or, count_ones}
+use Rattle.std.proofs.Common.{rules, ◌≡◌, ◌<◌, ◌+◌, ◌*◌, ◌^◌, ℕ, arith, ap, ◌∙◌, sym, get_or, count_ones}
 use Rattle.std.specs.FinSet as set
 use Rattle.std.proofs.lemmas.Nat.{ones-le}
 use Rattle.store.specs.Cores.{members_below}
@@ -10,7 +10,7 @@ loop-word-init c = (omega arith, sym (len_none c.self.inside.words))
 
 pub loop-word-preserved : goal.loop-word-preserved
 loop-word-preserved c =
-    let fits : get_or c.self.inside.words c.loop-word.word-index 0 < 2 ^ 64 = ? in
+    let fits : get_or c.self.inside.words c.loop-word.word-index 0 < 2 ^ 64 = search rules in
     let more : c.from-count.result ≡ count_ones (get_or c.self.inside.words c.loop-word.word-index 0) = c.from-count.ensures in
     let few = ones-le 64 (get_or c.self.inside.words c.loop-word.word-index 0) fits in
     (
