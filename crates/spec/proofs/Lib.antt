@@ -16,6 +16,7 @@ pub mod SameTree
 pub mod Taking
 pub mod NodeTakes
 pub mod RootLaws
+pub mod Once
 pub mod DagCborTakes
 pub mod NodeValues
 pub mod PathPlace

@@ -7,5 +7,6 @@ pub mod Nodes
 pub mod Cars
 pub mod Clashes
 pub mod Roots
+pub mod Once
 pub mod Writes
 pub mod Verifier

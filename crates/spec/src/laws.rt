@@ -9,6 +9,7 @@ pub mod clashes;
 pub mod dagcbor;
 pub mod heads;
 pub mod nodes;
+pub mod once;
 pub mod roots;
 pub mod tree;
 pub mod verifier;
