@@ -1,15 +1,15 @@
 -- A node's bytes, and a CAR's header, are spellings of DAG-CBOR values.
-use Rattle.std.proofs.Common.{◌≡◌, ℕ, suc, ◌+◌, ◌^◌, ◌<◌, ◌≤◌, Bool, true, ◌&&◌, ltb, leb, List, [], ◌∷◌, ◌++◌, length, drop, Option, Some, None, refl, sym, ap, subst, ◌∙◌, append_assoc, arith}
+use Rattle.std.proofs.Common.{◌≡◌, ℕ, suc, ◌^◌, ◌≤◌, true, ◌&&◌, ltb, leb, List, [], ◌∷◌, ◌++◌, length, drop, Option, Some, None, refl, sym, ap, ◌∙◌, append_assoc, arith}
 use Rattle.std.specs.Prelude.{codes}
 use Rattle.std.specs.Str.{is_utf8, chars}
 use Rattle.std.specs.Char.{encode_utf8}
 use Rattle.std.specs.Cmp.Lexicographic.{slice_cmp}
 use Rattle.std.specs.Ordering.{nat_cmp, is_lt}
-use Rattle.std.proofs.lemmas.Bool.{ltb-true, lt-ltb, leb-true, eqb-true, eq-eqb}
-use Rattle.std.proofs.lemmas.List.{append-nil, length-drop}
+use Rattle.std.proofs.lemmas.Bool.{lt-ltb, leb-true, eqb-true, eq-eqb}
+use Rattle.std.proofs.lemmas.List.{append-nil}
 use Rattle.spec.specs.Head.{head}
-use Rattle.spec.specs.Cid.{is_own_cid, is_cid, is_version_0, is_version_1, prefix, link}
-use Rattle.spec.specs.DagCbor.{Value, Null, Bytes, Integer, Items, Fields, Link, Values, NoValue, ValueThen, NoEntry, EntryThen, count_values, spelling, spelling_of_values, fits_length, is_lawful_within, are_lawful_within, is_lawful}
+use Rattle.spec.specs.Cid.{is_own_cid, is_cid, is_version_0, is_version_1, link}
+use Rattle.spec.specs.DagCbor.{Items, Link, count_values, spelling, spelling_of_values, is_lawful_within, are_lawful_within, is_lawful}
 use Rattle.spec.specs.NodeFormat.{Entry, common, suffix_after, link_or_null, entry_bytes, entries_bytes, node_spelling, is_key, are_keys_after, is_own_cid_or_none, are_links, is_node}
 use Rattle.spec.specs.Car.{header, sized}
 use Rattle.spec.specs.Laws.Nodes.{value_of_link, value_of_entry, values_of_entries, value_of_node}

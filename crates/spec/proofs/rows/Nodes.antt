@@ -1,5 +1,4 @@
 -- The bytes of nodes, and what a reader says of bytes that depart from them.
-use Prim.Native.String.{String}
 use Rattle.std.specs.Prelude.{◌≡◌, ℕ, Bool, true, false, List, [], ◌∷◌, ◌++◌, length, take, replicate, Option, Some, None, Result, Ok, Err}
 use Rattle.std.proofs.Common.{refl}
 use Rattle.std.specs.List.{list_all, range_with_len}

@@ -1,11 +1,10 @@
 -- Trees of up to three keys, by their nodes and by the lengths of these.
-use Rattle.std.specs.Prelude.{◌≡◌, ℕ, true, List, [], ◌∷◌, map, length, codes, sum}
+use Rattle.std.specs.Prelude.{◌≡◌, true, List, [], ◌∷◌, map, length, codes, sum}
 use Rattle.std.proofs.Common.{refl}
 use Rattle.std.specs.Int.Count.{count_leading_zeros}
 use Rattle.spec.specs.Cid.{cid}
 use Rattle.spec.specs.Layer.{layer}
-use Rattle.spec.specs.Tree.{Pair, Node, Last, More, Part, Nothing, Sub, top}
-use Rattle.spec.specs.NodeFormat.{node_bytes}
+use Rattle.spec.specs.Tree.{Pair, Node, Last, More, Nothing, Sub, top}
 use Rattle.spec.specs.Blocks.{nodes, is_clash_free}
 use Rattle.spec.proofs.rows.Written.{hex, by_last_digit, cid_of_byte}
 
