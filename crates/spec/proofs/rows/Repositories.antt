@@ -1,6 +1,7 @@
 -- Records that writes leave, blocks of repositories, and their files.
-use Rattle.std.specs.Prelude.{◌≡◌, ℕ, List, [], ◌∷◌, ◌++◌, map, length, codes, Ok, Err, None}
+use Rattle.std.specs.Prelude.{◌≡◌, ℕ, List, [], ◌∷◌, ◌++◌, map, length, codes, replicate, true, false, Ok, Err, None}
 use Rattle.std.proofs.Common.{refl}
+use Rattle.std.specs.List.{list_all, list_any}
 use Rattle.std.specs.Str.{is_utf8, chars}
 use Rattle.std.specs.Char.{encode_utf8}
 use Rattle.std.specs.Int.Count.{count_leading_zeros}
@@ -11,6 +12,7 @@ use Rattle.spec.specs.NodeFormat.{entry_at, entries_at, read_node}
 use Rattle.spec.specs.Blocks.{firsts, blocks, pairs, repository_root}
 use Rattle.spec.specs.Car.{car_of}
 use Rattle.spec.specs.Proof.{path, verified, verified_within, BlockMissing, KeyLength}
+use Rattle.spec.specs.Keys.{is_repository_key}
 use Rattle.spec.specs.Writes.{Write, Put, Create, Delete, leaves, batch_test, record_test, WritesFull, NotAMap, KeyExists, NoSuchKey, BadRecord}
 use Rattle.spec.proofs.rows.Written.{hex, by_last_digit}
 
@@ -68,6 +70,15 @@ proofs_of_an_empty_tree = (refl, refl, refl)
 proof_of_a_key : (map length (path by_last_digit 2 (pairs by_last_digit (leaves three)) (codes "a/q2")) ≡ 144 ∷ []) × (map length (path by_last_digit 2 (pairs by_last_digit (leaves three)) (codes "a/q3")) ≡ 144 ∷ 47 ∷ 64 ∷ [])
 unfolding count_leading_zeros cid
 proof_of_a_key = (refl, refl)
+
+-- ---- keys
+
+keys_that_serve : list_all is_repository_key (codes "a/..." ∷ codes "a.b-c/x:~_" ∷ (replicate 317 97 ++ (47 ∷ replicate 512 97)) ∷ []) ≡ true
+keys_that_serve = refl
+
+-- no slash; no record key; no collection; two slashes; one dot and two; a letter that a collection may not have; one letter too many in either part
+keys_that_do_not : list_any is_repository_key (codes "a" ∷ codes "a/" ∷ codes "/b" ∷ codes "a/b/c" ∷ codes "a/." ∷ codes "a/.." ∷ codes "a_b/c" ∷ (replicate 318 97 ++ codes "/a") ∷ (codes "a/" ++ replicate 513 97) ∷ []) ≡ false
+keys_that_do_not = refl
 
 -- ---- batches
 
