@@ -1,3 +1,5 @@
 pub mod Fault
 pub mod Source
 pub mod View
+pub mod Majors
+pub mod Levels

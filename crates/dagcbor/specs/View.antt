@@ -1,5 +1,5 @@
 -- The value of the data model that a `Value` stands for.
-use Rattle.std.specs.Prelude.{ℕ, List, [], ◌∷◌}
+use Rattle.std.specs.Prelude.{ℕ, List, [], ◌∷◌, map}
 use Rattle.std.specs.Borrow.{Bor}
 use Rattle.spec.specs.DagCbor.{Value as Data, Null, Boolean, Integer, Bytes, Text, Items, Fields, Link, Values, NoValue, ValueThen, Entries, NoEntry, EntryThen}
 use Rattle.dagcbor.specs.declared.value.Value.{Value, fold-Value}
@@ -26,3 +26,9 @@ view_step (Value-F.Link s) = Link s.now
 
 abbrev pub view : {A : Type 0} → Value A → Data
 view {A} = fold-Value A Data view_step
+
+abbrev pub view_items : {A : Type 0} → List (Value A) → Values
+view_items vs = values_of (map view vs)
+
+abbrev pub view_fields : {A : Type 0} → List (Bor (List ℕ) × Value A) → Entries
+view_fields ms = entries_of (map (λ m. (m.0, view m.1)) ms)

@@ -7,11 +7,13 @@ mod fault;
 mod head;
 mod keys;
 mod link;
+mod major;
 mod reading;
 mod value;
 mod writing;
 
 pub use cursor::Cursor;
 pub use fault::CborFault;
+pub use reading::read;
 pub use value::Value;
 pub use writing::push_head;
