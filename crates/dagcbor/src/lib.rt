@@ -6,6 +6,7 @@ mod cursor;
 mod fault;
 mod head;
 mod keys;
+mod lawful;
 mod link;
 mod major;
 mod reading;
@@ -14,6 +15,7 @@ mod writing;
 
 pub use cursor::Cursor;
 pub use fault::CborFault;
+pub use lawful::is_lawful;
 pub use reading::read;
 pub use value::Value;
-pub use writing::push_head;
+pub use writing::{push_head, write};

@@ -70,7 +70,7 @@ fields-returns-in_err-value g t c =
     let before = option_map (λ s. s.now) l.before in
     Gives-at_err _ fault_of e c.from_residual-in_err-value.result _ (p.1 ∙ ap Err p.2)
     (Fails-same (fault_of e) _ _ l.invariant
-        (fields_fail (fault_of e) (value_at c.args.levels) before c.args.n l._turn l.rest.now c.in_ok-key.after.now c.in_ok-key.key.now l.fields.items (omega arith) c.in_ok-key.ensures (c.in_err-value.ensures)))
+    (fields_fail (fault_of e) (value_at c.args.levels) before c.args.n l._turn l.rest.now c.in_ok-key.after.now c.in_ok-key.key.now l.fields.items (omega arith) c.in_ok-key.ensures (c.in_err-value.ensures)))
 
 pub fields-loop-turn-preserved : goal.fields-loop-turn-preserved
 fields-loop-turn-preserved g t c =
