@@ -125,9 +125,9 @@ fn push_fields<A: Allocator, B: Allocator>(
 ) -> Result<(), AllocError>
     ensures { OnOk result (out.new.items ≡ out.old.items ++ spelling_of_entries (view_fields fields.now.items)) }
 {
-    for (key, value) in fields {
-        push_text(out, key)?;
-        push_value(out, value)?;
+    for field in fields {
+        push_text(out, field.0)?;
+        push_value(out, &field.1)?;
     }
     Ok(())
 }
