@@ -1,3 +1,4 @@
 pub mod Powers
 pub mod Readings
 pub mod ItemByItem
+pub mod Spelled

@@ -3,3 +3,4 @@ pub mod Source
 pub mod View
 pub mod Majors
 pub mod Levels
+pub mod Refused

@@ -1,13 +1,14 @@
 //! Reading of values, from left to right.
 
-ghost use Rattle.std.specs.Prelude.{◌≡◌, pos, negsuc, option_map};
+ghost use Rattle.std.specs.Prelude.{◌≡◌, pos, negsuc, option_map, IfOk, IfErr, IsTrue, IsSome};
 ghost use Rattle.spec.specs.Reading.{Gives};
 ghost use Rattle.spec.specs.Head.{Array, Map};
-ghost use Rattle.spec.specs.DagCbor.{Integer, integer_of, text_of, key_of, simple_value, items_at, fields_at, content_of, value_at, read};
+ghost use Rattle.spec.specs.DagCbor.{Integer, integer_of, text_of, key_of, simple_value, items_at, fields_at, content_of, value_at, read, spelling, is_lawful};
 ghost use Rattle.dagcbor.specs.Fault.{fault_of};
 ghost use Rattle.dagcbor.specs.View.{view, view_items, view_fields};
 ghost use Rattle.dagcbor.specs.Majors.{major_view};
 ghost use Rattle.dagcbor.specs.Levels.{within};
+ghost use Rattle.dagcbor.specs.Refused.{HasNoValue};
 
 use crate::fault::CborFault;
 use crate::head::{front, head, head_of};
@@ -206,7 +207,10 @@ fn fields<'a, A: Allocator + Copy>(
 /// Lists and maps may lie 64 levels deep (own); a deeper one is `TooDeep`. No room is reserved by a length that the bytes state.
 #[tactic(auto, unfolding(spec::specs::DagCbor::read))]
 pub fn read<'a, A: Allocator + Copy>(alloc: A, bytes: &'a [u8]) -> Result<Value<'a, A>, CborFault>
-    ensures { Gives view fault_of result (read bytes.now) }
+    ensures read { Gives view fault_of result (read bytes.now) }
+    ensures spelled { IfOk result (λ v. bytes.now ≡ spelling (view v)) }
+    ensures lawful { IfOk result (λ v. IsTrue (is_lawful (view v))) }
+    ensures refused { IfErr result (λ e. IsSome (fault_of e) → HasNoValue bytes.now) }
 {
     let (value, rest) = value(alloc, 64, bytes)?;
     if !rest.is_empty() {
