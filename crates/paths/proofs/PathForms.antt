@@ -8,7 +8,7 @@ use Rattle.spec.specs.Tree.{Pair}
 use Rattle.spec.specs.NodeFormat.{Shape, LastLink, MoreLinks, shape_cid}
 use Rattle.paths.specs.Order.{order}
 use Rattle.paths.specs.ShapeEdit.{close_link, close_shapes, split_links, split_shapes, go_shape, go_shape_at, insert_shape, insert_shape_at, head_shape, tail_shapes, put_shape, put_shapes, remove_shape, delete_shape, delete_shapes, row_links, path_links, last_shape, layer_of_shape, put_top_shape, put_top_shapes, above_shape, above_shapes}
-use Rattle.paths.specs.PathEdit.{climb, climb_shapes, raise, raise_shapes, put_here, put_below, put_below_shapes, put_root, put_written, above_row}
+use Rattle.paths.specs.PathEdit.{climb, climb_shapes, raise, raise_shapes, put_here, put_below, put_below_shapes, put_root, put_written, all_but_last}
 
 module _ (digest : List ℕ → List ℕ) where
   -- ---- a node with a key or a link
@@ -162,7 +162,7 @@ module _ (digest : List ℕ → List ℕ) where
   -- ---- delete: the path ends at the key's layer
 
   pub delete-same : (j n : ℕ) (key : List ℕ) (x : Option (List ℕ)) (s : Shape) (path : List Shape) → n ≡ length path + j
-      → delete_shape digest j n key x s path ≡ climb digest key (above_row (s ∷ path)) (remove_shape key (last_shape s path) x)
+      → delete_shape digest j n key x s path ≡ climb digest key (all_but_last (s ∷ path)) (remove_shape key (last_shape s path) x)
   delete-same j zero key x s [] e = refl
   delete-same j (suc n) key x s [] e = rw (eq-eqb j (suc n) (omega arith)) refl
   delete-same j zero key x s (t ∷ path) e = absurd (omega arith)
@@ -171,7 +171,7 @@ module _ (digest : List ℕ → List ℕ) where
       rw (ne_eqb j (suc n) (λ h. omega arith)) (ap (λ r. go_shape key s (close_link digest r)) (delete-same j n key x t path q))
 
   pub delete-same_shapes : (j n : ℕ) (key : List ℕ) (x : Option (List ℕ)) (s : Shape) (path : List Shape) → n ≡ length path + j
-      → delete_shapes digest j n key x path ≡ climb_shapes digest key (above_row (s ∷ path)) (remove_shape key (last_shape s path) x)
+      → delete_shapes digest j n key x path ≡ climb_shapes digest key (all_but_last (s ∷ path)) (remove_shape key (last_shape s path) x)
   delete-same_shapes j zero key x s [] e = refl
   delete-same_shapes j (suc n) key x s [] e = rw (eq-eqb j (suc n) (omega arith)) refl
   delete-same_shapes j zero key x s (t ∷ path) e = absurd (omega arith)
