@@ -31,7 +31,10 @@ pub mod Enough
 pub mod PathForms
 pub mod PathReads
 pub mod SourceLaws
+pub mod DeleteSource
 pub mod OverSource
 pub mod LookupTheorems
 pub mod WalkTheorems
 pub mod EditTheorems
+pub mod DeleteTheorems
+pub mod RecordTheorems

@@ -287,7 +287,7 @@ nodes-here : (layer : List ℕ → ℕ) (key : List ℕ) (n : ℕ) (m : Node) �
 nodes-here layer key zero m h = refl
 nodes-here layer key (suc n) m h = rw h refl
 
-lone-met : (layer : List ℕ → ℕ) (key : List ℕ) (p : Part) (e : Pair) (q : Part) → order e.0 key ≡ Equal
+pub lone-met : (layer : List ℕ → ℕ) (key : List ℕ) (p : Part) (e : Pair) (q : Part) → order e.0 key ≡ Equal
     → met_pairs layer (layer e.0) key (More p e (Last q)) ≡ merge_pairs (layer e.0) p q
 lone-met layer key p e q h =
     let t = layer e.0 in
