@@ -1,14 +1,24 @@
-pub mod Faults
+pub mod Bools
 pub mod TreeLaws
 pub mod HeadLaws
+pub mod VarintLaws
+pub mod LinkCids
+pub mod CidTexts
 pub mod LayerLaws
 pub mod NodeLaws
 pub mod DagCborLaws
 pub mod BlockLaws
 pub mod WriteLaws
+pub mod BatchLaws
+pub mod LayeredTrees
 pub mod TreeNodes
 pub mod SameTree
 pub mod Taking
 pub mod NodeTakes
 pub mod RootLaws
+pub mod Once
 pub mod DagCborTakes
+pub mod PathPlace
+pub mod PathNodes
+pub mod VerifyLaws
+mod rows

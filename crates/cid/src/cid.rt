@@ -1,0 +1,150 @@
+ghost use Rattle.std.specs.Prelude.{◌≡◌, ◌↔◌, ℕ, List, length, take, drop, true, IsTrue, Some, None, Ok, Err, if◌then◌else◌};
+ghost use Rattle.std.specs.Int.{w64, from_le_bytes};
+ghost use Rattle.std.specs.Hash as fed;
+ghost use Rattle.std.specs.Cmp.Rules.{comparing, hashing};
+ghost use Rattle.std.proofs.Common.{rules};
+ghost use Rattle.spec.specs.Cid.{cid as cid_of, is_own_cid, text as text_of, cid_of_text};
+ghost use Rattle.spec.specs.Reading.{Gives};
+ghost use Rattle.cid.specs.CidFault.{fault_of};
+ghost use Rattle.cid.specs.declared.cid_fault.CidFault.TheVariants.{NotThisProfile};
+
+use crate::base32;
+use crate::cid_fault::CidFault;
+use crate::digest::Digest;
+use std::convert::TryFrom;
+use std::fmt;
+use std::hash::{Hash, Hasher};
+use std::marker::Model;
+use std::str::FromStr;
+
+/// The identifier of a block of this host: 36 bytes, ordered and compared bytewise.
+///
+/// The bytes are `01` (version 1), `71` (dag-cbor), `12` (sha2-256), `20` (32 bytes) and the digest of the block
+/// (CIDv1; multicodec; multihash). There is no other value of this type.
+#[derive(Clone, Copy, PartialEq, Eq, PartialOrd, Ord, Debug)]
+pub struct Cid {
+    pub(crate) bytes: [u8; 36],
+}
+
+impl Model for Cid {
+    ghost Value = { List ℕ };
+
+    ghost view = { λ c. c.bytes };
+
+    ghost invariant = { λ c. is_own_cid c.bytes ≡ true };
+
+    ghost inverse = { λ bytes. record { bytes = bytes } };
+}
+
+const PREFIX: [u8; 4] = [0x01, 0x71, 0x12, 0x20];
+
+impl Cid {
+    /// The CID of a block of these bytes under the digest `D`.
+    #[tactic(auto, unfolding(spec::specs::Cid::cid))]
+    pub fn of<D: Digest>(bytes: &[u8]) -> Cid
+        ensures value { result ≡ cid_of D.digest_of bytes.now }
+    {
+        let mut whole = [0; 36];
+        whole[..4].copy_from_slice(&PREFIX);
+        whole[4..].copy_from_slice(&D::digest(bytes));
+        Cid { bytes: whole }
+    }
+
+    /// These bytes as an identifier, or `None` where they don't begin with `01 71 12 20` (CIDv1).
+    pub fn from_bytes(bytes: [u8; 36]) -> Option<Cid>
+        ensures { result ≡ (if is_own_cid bytes then Some bytes else None) }
+    {
+        if has_own_prefix(&bytes) {
+            Some(Cid { bytes })
+        } else {
+            None
+        }
+    }
+
+    /// The 36 bytes.
+    pub fn as_bytes(&self) -> &[u8; 36]
+        ensures bytes { result.now ≡ self.now }
+        ensures own { is_own_cid self.now ≡ true }
+    {
+        &self.bytes
+    }
+
+    /// The text: the multibase prefix `b` and 58 letters of base32 in lower case (CIDv1; RFC 4648, section 6).
+    pub fn text(&self) -> [u8; 59]
+        ensures { result ≡ text_of self.now }
+    {
+        let mut text = [b'b'; 59];
+        text[1..].copy_from_slice(&base32::letters(&self.bytes));
+        text
+    }
+
+    /// The identifier with this text, or the first of the five faults, in the order in which `CidFault` lists them.
+    #[tactic(auto, unfolding(spec::specs::Cid::cid_of_text))]
+    pub fn from_text(text: &[u8]) -> Result<Cid, CidFault>
+        ensures { Gives (λ cid. cid) fault_of result (cid_of_text text.now) }
+    {
+        if text.len() != 59 {
+            return Err(CidFault::BadLength);
+        }
+        if text[0] != b'b' {
+            return Err(CidFault::BadPrefix);
+        }
+        let Some(values) = base32::values(&text[1..]) else {
+            return Err(CidFault::BadLetter);
+        };
+        if values[57] % 4 != 0 {
+            return Err(CidFault::BadBits);
+        }
+        Cid::try_from(base32::bytes(&values))
+    }
+}
+
+/// Whether these are the bytes of an identifier of this host.
+pub(crate) fn has_own_prefix(bytes: &[u8; 36]) -> bool
+    ensures { result ≡ is_own_cid bytes.now }
+{
+    bytes[..4] == PREFIX[..]
+}
+
+impl TryFrom<[u8; 36]> for Cid {
+    type Error = CidFault;
+
+    ghost try_from_gives = { λ bytes r. r ≡ (if is_own_cid bytes then Ok bytes else Err NotThisProfile) };
+
+    fn try_from(bytes: [u8; 36]) -> Result<Cid, CidFault> {
+        Cid::from_bytes(bytes).ok_or(CidFault::NotThisProfile)
+    }
+}
+
+impl Hash for Cid {
+    ghost hash_input = { λ c. fed.u64 (from_le_bytes w64 (take 8 (drop 4 c))) };
+
+    ghost respects_eq = { Prim.search (hashing, rules) };
+
+    /// The first eight bytes of the digest as one number: no more is needed to spread identifiers, and it is cheap.
+    fn hash<H: Hasher>(&self, state: &mut H) {
+        let b = &self.bytes;
+        state.write_u64(u64::from_le_bytes([b[4], b[5], b[6], b[7], b[8], b[9], b[10], b[11]]));
+    }
+}
+
+/// Writes the text of the identifier.
+impl fmt::Display for Cid {
+    ghost output = { λ cid. Some (text_of cid) };
+
+    fn fmt<W: fmt::Write>(&self, f: &mut fmt::Formatter<W>) -> fmt::Result {
+        let text = self.text();
+        f.write_str(str::from_utf8(&text).unwrap())
+    }
+}
+
+/// Reads the text of an identifier, as `Cid::from_text` does.
+impl FromStr for Cid {
+    type Err = CidFault;
+
+    ghost from_str_gives = { λ text r. Gives (λ cid. cid) fault_of r (cid_of_text text) };
+
+    fn from_str(text: &str) -> Result<Cid, CidFault> {
+        Cid::from_text(text.as_bytes())
+    }
+}

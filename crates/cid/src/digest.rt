@@ -1,0 +1,39 @@
+ghost use Rattle.std.specs.Prelude.{◌≡◌, ℕ, List, length};
+ghost use Rattle.spec.specs.Reading.{IsBytes};
+ghost use Rattle.sha2.specs.Sha256.{sha256};
+ghost use Rattle.sha2.proofs.Facts256.{length-sha256};
+ghost use Rattle.cid.specs.Digests.{IsBytes-sha256};
+
+/// A digest: one fixed function from bytes to 32 bytes.
+///
+/// Nothing assumes that it has no collisions: where two different blocks have one CID, a call that meets both says so.
+pub trait Digest: Drop {
+    /// The digest of each list of bytes.
+    ghost digest_of: { List ℕ → List ℕ };
+
+    /// The digest of these bytes.
+    fn digest(bytes: &[u8]) -> [u8; 32]
+        ensures { result ≡ digest_of bytes.now };
+
+    /// Each digest has 32 numbers.
+    ghost digest_len: { (bytes : List ℕ) → length (digest_of bytes) ≡ 32 };
+
+    /// Each of them is a byte.
+    ghost digest_bytes: { (bytes : List ℕ) → IsBytes (digest_of bytes) };
+}
+
+/// SHA-256 (FIPS 180-4), the digest of the AT Protocol.
+#[derive(Drop)]
+pub struct Sha256;
+
+impl Digest for Sha256 {
+    ghost digest_of = { sha256 };
+
+    fn digest(bytes: &[u8]) -> [u8; 32] {
+        <sha2::Sha256 as sha2::Digest>::digest(bytes)
+    }
+
+    ghost digest_len = { length-sha256 };
+
+    ghost digest_bytes = { IsBytes-sha256 };
+}

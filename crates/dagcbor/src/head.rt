@@ -1,0 +1,118 @@
+//! Heads of items at the front of some bytes (RFC 8949, section 3; the shortest form alone: IPLD DAG-CBOR).
+
+ghost use Rattle.std.specs.Prelude.{◌≡◌, ◌≤◌, ◌<◌, length, IfOk};
+ghost use Rattle.spec.specs.Reading.{Gives, front};
+ghost use Rattle.spec.specs.Head.{head_at, argument_at, long_argument, simple_at, Truncated};
+ghost use Rattle.dagcbor.specs.Fault.{fault_of};
+
+use crate::fault::CborFault;
+
+/// An argument of 1, 2, 4 or 8 bytes, and the bytes after it.
+fn long_argument(low: u8, bytes: &[u8]) -> Result<(u64, &[u8]), CborFault>
+    requires lower { 24 ≤ low }
+    requires upper { low ≤ 27 }
+    ensures read { Gives (λ x. (x.0, x.1.now)) fault_of result (long_argument low bytes.now) }
+    ensures no_longer { IfOk result (λ x. length x.1.now ≤ length bytes.now) }
+{
+    if low == 24 {
+        if bytes.is_empty() {
+            return Err(CborFault::Truncated);
+        }
+        let n = u64::from(bytes[0]);
+        if n < 24 {
+            return Err(CborFault::LongHead);
+        }
+        return Ok((n, &bytes[1..]));
+    }
+    if low == 25 {
+        if bytes.len() < 2 {
+            return Err(CborFault::Truncated);
+        }
+        let (front, rest) = bytes.split_at(2);
+        let n = u16::from_be_bytes([front[0], front[1]]);
+        if n < 0x100 {
+            return Err(CborFault::LongHead);
+        }
+        return Ok((u64::from(n), rest));
+    }
+    if low == 26 {
+        if bytes.len() < 4 {
+            return Err(CborFault::Truncated);
+        }
+        let (front, rest) = bytes.split_at(4);
+        let n = u32::from_be_bytes([front[0], front[1], front[2], front[3]]);
+        if n < 0x1_0000 {
+            return Err(CborFault::LongHead);
+        }
+        return Ok((u64::from(n), rest));
+    }
+    if bytes.len() < 8 {
+        return Err(CborFault::Truncated);
+    }
+    let (front, rest) = bytes.split_at(8);
+    let n = u64::from_be_bytes([
+        front[0], front[1], front[2], front[3], front[4], front[5], front[6], front[7],
+    ]);
+    if n < 0x1_0000_0000 {
+        return Err(CborFault::LongHead);
+    }
+    Ok((n, rest))
+}
+
+/// The argument that the low five bits of a first byte say, and the bytes after it.
+fn argument(low: u8, bytes: &[u8]) -> Result<(u64, &[u8]), CborFault>
+    ensures read { Gives (λ x. (x.0, x.1.now)) fault_of result (argument_at low bytes.now) }
+    ensures no_longer { IfOk result (λ x. length x.1.now ≤ length bytes.now) }
+{
+    if low < 24 {
+        Ok((u64::from(low), bytes))
+    } else if low == 31 {
+        Err(CborFault::Indefinite)
+    } else if 27 < low {
+        Err(CborFault::LongHead)
+    } else {
+        long_argument(low, bytes)
+    }
+}
+
+/// A simple value's number, which is false's, true's or null's, and the bytes after it.
+fn simple(low: u8, bytes: &[u8]) -> Result<(u64, &[u8]), CborFault>
+    ensures read { Gives (λ x. (x.0, x.1.now)) fault_of result (simple_at low bytes.now) }
+    ensures no_longer { IfOk result (λ x. length x.1.now ≤ length bytes.now) }
+{
+    match low {
+        20 | 21 | 22 => Ok((u64::from(low), bytes)),
+        25 | 26 | 27 => Err(CborFault::Float),
+        31 => Err(CborFault::Indefinite),
+        _ => Err(CborFault::Simple),
+    }
+}
+
+/// A head at the front: its major type and its argument, and the bytes after it.
+#[tactic(auto, unfolding(spec::specs::Head::head_at))]
+pub(crate) fn head(bytes: &[u8]) -> Result<((u8, u64), &[u8]), CborFault>
+    ensures read { Gives (λ x. (x.0, x.1.now)) fault_of result (head_at bytes.now) }
+    ensures no_longer { IfOk result (λ x. length x.1.now ≤ length bytes.now) }
+{
+    match bytes {
+        [] => Err(CborFault::Truncated),
+        [first, rest @ ..] => {
+            let (n, rest) = if *first < 224 {
+                argument(*first % 32, rest)?
+            } else {
+                simple(*first % 32, rest)?
+            };
+            Ok(((*first / 32, n), rest))
+        }
+    }
+}
+
+/// The first `n` bytes and the others, or `Truncated` where there are fewer.
+pub(crate) fn front(n: u64, bytes: &[u8]) -> Result<(&[u8], &[u8]), CborFault>
+    ensures { Gives (λ x. (x.0.now, x.1.now)) fault_of result (front Truncated n bytes.now) }
+{
+    if (bytes.len() as u64) < n {
+        return Err(CborFault::Truncated);
+    }
+    Ok(bytes.split_at(n as usize))
+}
