@@ -15,7 +15,7 @@ use Rattle.paths.specs.Order.{order, if_equal}
 use Rattle.paths.specs.Pairs.{put_pair, delete_pair}
 use Rattle.paths.specs.Changes.{count, marked, add_of, drop_of, AreChanges}
 use Rattle.paths.specs.Trace.{weight, weight_under, total, put_top_gone, put_top_made, delete_path_gone, delete_path_made, delete_gone, delete_path_reads, settle_gone, settle_reads, settle_left, left_stays, delete_left, delete_path_read}
-use Rattle.paths.proofs.Lists.{count-append, count-map}
+use Rattle.paths.proofs.Lists.{count-append, count-map, contains-counted, counted-contains}
 use Rattle.paths.proofs.Weights.{weight-prune, total-append}
 use Rattle.paths.proofs.Gone.{put_top-old, delete_path-old}
 use Rattle.paths.proofs.NodesOnce.{nodes-once}
@@ -75,6 +75,37 @@ module _ (digest : List ℕ → List ℕ) where
       let j = count-blocks (cid digest) (cid digest b) (Sub (top (layer digest bits) es)) in
       let k = once (cid digest b) in
       omega arith
+
+  -- ---- where the nodes read and made stand
+
+  count-nodes_of : (bits : ℕ) (es : List Pair) (b : List ℕ) → count b (nodes digest bits es) ≡ weight (marked (node_bytes digest) b) (Sub (top (layer digest bits) es))
+  count-nodes_of bits es b = count-nodes b (Sub (top (layer digest bits) es))
+
+  -- what is read is old
+  pub read-stands : (bits : ℕ) (es : List Pair) (read : List Node)
+      → ((b : List ℕ) → 0 < total (marked (node_bytes digest) b) read → 0 < weight (marked (node_bytes digest) b) (Sub (top (layer digest bits) es)))
+      → (b : List ℕ) → Contains (bytes_of read) b → Contains (nodes digest bits es) b
+  read-stands bits es read read_old b h =
+      let i = counted-contains b (bytes_of read) h in
+      let r = count-total (node_bytes digest) b read in
+      let l : 0 < total (marked (node_bytes digest) b) read = omega arith in
+      let k = read_old b l in
+      let c = count-nodes_of bits es b in
+      contains-counted b (nodes digest bits es) (omega arith)
+
+  -- what is made is new
+  pub made-stands : (bits : ℕ) (es fs : List Pair) (made gone : List Node)
+      → ((w : Node → ℕ) → weight w (Sub (top (layer digest bits) es)) + total w made ≡ weight w (Sub (top (layer digest bits) fs)) + total w gone)
+      → ((w : Node → ℕ) → total w gone ≤ weight w (Sub (top (layer digest bits) es)))
+      → (b : List ℕ) → Contains (bytes_of made) b → Contains (nodes digest bits fs) b
+  made-stands bits es fs made gone even gone_old b h =
+      let w = marked (node_bytes digest) b in
+      let i = counted-contains b (bytes_of made) h in
+      let r = count-total (node_bytes digest) b made in
+      let e = even w in
+      let g = gone_old w in
+      let c = count-nodes_of bits fs b in
+      contains-counted b (nodes digest bits fs) (omega arith)
 
   -- ---- any edit whose nodes balance
 
@@ -144,7 +175,7 @@ module _ (digest : List ℕ → List ℕ) where
   delete_left-old l w key (More p e (Last q)) = let i = lone-old w (l e.0) p q (order e.0 key) in omega arith
   delete_left-old l w key (More p e (More q f r)) = omega arith
 
-  read-old : (l : List ℕ → ℕ) (b : List ℕ) (key : List ℕ) (m : Node) → let w = marked (node_bytes digest) b in 0 < total w (delete_path_read l key m) → 0 < weight w (Sub m)
+  pub read-old : (l : List ℕ → ℕ) (b : List ℕ) (key : List ℕ) (m : Node) → let w = marked (node_bytes digest) b in 0 < total w (delete_path_read l key m) → 0 < weight w (Sub m)
   read-old l b key m k =
       let w = marked (node_bytes digest) b in
       let a = total-append w (delete_path_gone l key m) (left_stays (delete_left l key m)) in

@@ -166,7 +166,7 @@ module _ (digest : List ℕ → List ℕ) where
   within-cases layer key n h r true k i = k
   within-cases layer key n h r false k i = i
 
-  within-row : (layer : List ℕ → ℕ) (key : List ℕ) (n : ℕ) (m : Node) → AllWithin n m → AllWithin (row_at layer n key m).0 (row_at layer n key m).1
+  pub within-row : (layer : List ℕ → ℕ) (key : List ℕ) (n : ℕ) (m : Node) → AllWithin n m → AllWithin (row_at layer n key m).0 (row_at layer n key m).1
   within-row layer key zero m h = within-locate zero key m h
   within-row layer key (suc n) m h =
       let g = first (locate key m).here in

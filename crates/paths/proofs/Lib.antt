@@ -25,7 +25,16 @@ pub mod Lists
 pub mod Changes
 pub mod RecordMaps
 pub mod BlockChanges
-pub mod Walks
+pub mod WalkPairs
 pub mod WalkReads
 pub mod Enough
 pub mod PathForms
+pub mod PathReads
+pub mod SourceLaws
+pub mod DeleteSource
+pub mod OverSource
+pub mod LookupTheorems
+pub mod WalkTheorems
+pub mod EditTheorems
+pub mod DeleteTheorems
+pub mod RecordTheorems

@@ -7,8 +7,8 @@ use Rattle.std.proofs.lemmas.Bool.{eq-eqb, ne_eqb, ltb-false}
 use Rattle.spec.specs.Tree.{Pair}
 use Rattle.spec.specs.NodeFormat.{Shape, LastLink, MoreLinks, shape_cid}
 use Rattle.paths.specs.Order.{order}
-use Rattle.paths.specs.ShapeEdit.{close_link, close_shapes, split_links, split_shapes, go_shape, go_shape_at, insert_shape, insert_shape_at, head_shape, tail_shapes, put_shape, put_shapes, remove_shape, delete_shape, delete_shapes, row_links, path_links, last_shape, layer_of_shape, put_top_shape, put_top_shapes, above_shape, above_shapes}
-use Rattle.paths.specs.PathEdit.{climb, climb_shapes, raise, raise_shapes, put_here, put_below, put_below_shapes, put_root, put_written, above_row}
+use Rattle.paths.specs.ShapeEdit.{close_link, close_shapes, split_links, split_shapes, go_shape, go_shape_at, insert_shape, insert_shape_at, head_shape, tail_shapes, put_shape, put_shapes, remove_shape, delete_shape, delete_shapes, row_links, path_links, last_shape, layer_of_shape, put_top_shape, put_top_shapes, above_shape, above_shapes, merge_links, merge_shapes, settle_shape, settle_shapes, lone_shape, delete_top_shape, delete_top_shapes}
+use Rattle.paths.specs.PathEdit.{climb, climb_shapes, raise, raise_shapes, put_here, put_below, put_below_shapes, put_root, put_written, all_but_last, delete_root, delete_written}
 
 module _ (digest : List ℕ → List ℕ) where
   -- ---- a node with a key or a link
@@ -162,7 +162,7 @@ module _ (digest : List ℕ → List ℕ) where
   -- ---- delete: the path ends at the key's layer
 
   pub delete-same : (j n : ℕ) (key : List ℕ) (x : Option (List ℕ)) (s : Shape) (path : List Shape) → n ≡ length path + j
-      → delete_shape digest j n key x s path ≡ climb digest key (above_row (s ∷ path)) (remove_shape key (last_shape s path) x)
+      → delete_shape digest j n key x s path ≡ climb digest key (all_but_last (s ∷ path)) (remove_shape key (last_shape s path) x)
   delete-same j zero key x s [] e = refl
   delete-same j (suc n) key x s [] e = rw (eq-eqb j (suc n) (omega arith)) refl
   delete-same j zero key x s (t ∷ path) e = absurd (omega arith)
@@ -171,7 +171,7 @@ module _ (digest : List ℕ → List ℕ) where
       rw (ne_eqb j (suc n) (λ h. omega arith)) (ap (λ r. go_shape key s (close_link digest r)) (delete-same j n key x t path q))
 
   pub delete-same_shapes : (j n : ℕ) (key : List ℕ) (x : Option (List ℕ)) (s : Shape) (path : List Shape) → n ≡ length path + j
-      → delete_shapes digest j n key x path ≡ climb_shapes digest key (above_row (s ∷ path)) (remove_shape key (last_shape s path) x)
+      → delete_shapes digest j n key x path ≡ climb_shapes digest key (all_but_last (s ∷ path)) (remove_shape key (last_shape s path) x)
   delete-same_shapes j zero key x s [] e = refl
   delete-same_shapes j (suc n) key x s [] e = rw (eq-eqb j (suc n) (omega arith)) refl
   delete-same_shapes j zero key x s (t ∷ path) e = absurd (omega arith)
@@ -186,3 +186,29 @@ links-same j zero key s (t ∷ path) e = absurd (omega arith)
 links-same j (suc n) key s (t ∷ path) e =
     let q : n ≡ length path + j = omega arith in
     rw (ne_eqb j (suc n) (λ h. omega arith)) (links-same j n key t path q)
+
+module _ (digest : List ℕ → List ℕ) where
+  -- the new top, where the path ends at the key's layer
+  pub delete_root-same : (layer : List ℕ → ℕ) (key : List ℕ) (s : Shape) (path : List Shape) (met : List (Shape × Shape)) (pruned : List Shape)
+      → layer_of_shape layer s ≡ length path + layer key
+      → delete_top_shape digest layer key s path met pruned ≡ delete_root digest key (s ∷ path) met pruned
+  delete_root-same layer key s path met pruned e =
+      let t = layer_of_shape layer s in
+      let settled : Option (List ℕ) → Option (List ℕ) → Shape = λ l k. settle_shape digest l k met pruned in
+      let x = row_links key (last_shape s path) in
+      ap (λ (x : Option (List ℕ) × Option (List ℕ)). lone_shape key s settled (delete_shape digest (layer key) t key (merge_links digest x.0 x.1 met) s path)) (links-same (layer key) t key s path e)
+      ∙ ap (lone_shape key s settled) (delete-same digest (layer key) t key (merge_links digest x.0 x.1 met) s path e)
+
+  pub delete_written-same : (layer : List ℕ → ℕ) (key : List ℕ) (s : Shape) (path : List Shape) (met : List (Shape × Shape))
+      → layer_of_shape layer s ≡ length path + layer key
+      → delete_top_shapes digest layer key s path met ≡ delete_written digest key (s ∷ path) met
+  delete_written-same layer key s path met e =
+      let t = layer_of_shape layer s in
+      let settled : Option (List ℕ) → Option (List ℕ) → List Shape = λ l k. settle_shapes digest l k met in
+      let x = row_links key (last_shape s path) in
+      let y = merge_links digest x.0 x.1 met in
+      ap (λ (x : Option (List ℕ) × Option (List ℕ)). let y = merge_links digest x.0 x.1 met in
+      lone_shape key s settled (merge_shapes digest met ++ (delete_shapes digest (layer key) t key y path ++ (delete_shape digest (layer key) t key y s path ∷ []))))
+      (links-same (layer key) t key s path e)
+      ∙ ap (λ a. lone_shape key s settled (merge_shapes digest met ++ (a ++ (delete_shape digest (layer key) t key y s path ∷ [])))) (delete-same_shapes digest (layer key) t key y s path e)
+      ∙ ap (λ a. lone_shape key s settled (merge_shapes digest met ++ (climb_shapes digest key (all_but_last (s ∷ path)) (remove_shape key (last_shape s path) y) ++ (a ∷ [])))) (delete-same digest (layer key) t key y s path e)

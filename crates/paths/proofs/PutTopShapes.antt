@@ -52,7 +52,7 @@ module _ (digest : List ℕ → List ℕ) where
         link-lift d s.1,
       )
 
-  layer-shape : (layer : List ℕ → ℕ) (m : Node) → layer_of_shape layer (shape digest m) ≡ layer_of layer m
+  pub layer-shape : (layer : List ℕ → ℕ) (m : Node) → layer_of_shape layer (shape digest m) ≡ layer_of layer m
   layer-shape layer (Last p) = refl
   layer-shape layer (More p e r) = refl
 

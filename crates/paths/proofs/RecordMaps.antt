@@ -99,7 +99,8 @@ delete-is key (e ∷ es) h = without-case key e es (order e.0 key) refl h.0 (del
 
 -- ---- the pairs of a record map after a write
 
-pairs-put : (digest : List ℕ → List ℕ) (m : List (List ℕ × List ℕ)) (key bytes : List ℕ) → pairs digest (with_key m key bytes) ≡ put (slice_cmp nat_cmp) key (cid digest bytes) (pairs digest m)
+-- a put
+pub pairs-put : (digest : List ℕ → List ℕ) (m : List (List ℕ × List ℕ)) (key bytes : List ℕ) → pairs digest (with_key m key bytes) ≡ put (slice_cmp nat_cmp) key (cid digest bytes) (pairs digest m)
 pairs-put digest [] key bytes = refl
 pairs-put digest (e ∷ m) key bytes =
     elim (slice_cmp nat_cmp key e.0) as (λ o. pairs digest (by_order o ((key, bytes) ∷ e ∷ m) ((e.0, bytes) ∷ m) (e ∷ with_key m key bytes))
@@ -109,10 +110,8 @@ pairs-put digest (e ∷ m) key bytes =
       | Greater ↦ ap (λ (t : List Pair). (e.0, cid digest e.1) ∷ t) (pairs-put digest m key bytes)
     ]
 
-pub pairs-with_key : (digest : List ℕ → List ℕ) (m : List (List ℕ × List ℕ)) (key bytes : List ℕ) → pairs digest (with_key m key bytes) ≡ put_pair (key, cid digest bytes) (pairs digest m)
-pairs-with_key digest m key bytes = pairs-put digest m key bytes ∙ put-is (key, cid digest bytes) (pairs digest m)
-
-pairs-filter : (digest : List ℕ → List ℕ) (p : List ℕ → Bool) (m : List (List ℕ × List ℕ)) → pairs digest (where_key (slice_cmp nat_cmp) p m) ≡ where_key (slice_cmp nat_cmp) p (pairs digest m)
+-- and a filter of keys
+pub pairs-filter : (digest : List ℕ → List ℕ) (p : List ℕ → Bool) (m : List (List ℕ × List ℕ)) → pairs digest (where_key (slice_cmp nat_cmp) p m) ≡ where_key (slice_cmp nat_cmp) p (pairs digest m)
 pairs-filter digest p [] = refl
 pairs-filter digest p (e ∷ m) =
     elim (p e.0) as (λ t. pairs digest (cond t (e ∷ where_key (slice_cmp nat_cmp) p m) (where_key (slice_cmp nat_cmp) p m))
@@ -121,5 +120,3 @@ pairs-filter digest p (e ∷ m) =
       | false ↦ pairs-filter digest p m
     ]
 
-pub pairs-without_key : (digest : List ℕ → List ℕ) (m : List (List ℕ × List ℕ)) (key : List ℕ) → Ascending (pairs digest m) → pairs digest (without_key m key) ≡ delete_pair key (pairs digest m)
-pairs-without_key digest m key h = pairs-filter digest (λ k. not (bytes_eq key k)) m ∙ delete-is key (pairs digest m) h

@@ -127,7 +127,7 @@ each-back : (P : Pair → Type 0) (xs ys : List Pair) → Each P (xs ++ ys) → 
 each-back P [] ys h = h
 each-back P (x ∷ xs) ys h = each-back P xs ys h.1
 
-lows-of : (layer : List ℕ → ℕ) (n : ℕ) (key : List ℕ) (es : List Pair) (a : Around key es) → Each (IsLower layer n) es → Lows layer n key a.front a.mid a.back
+pub lows-of : (layer : List ℕ → ℕ) (n : ℕ) (key : List ℕ) (es : List Pair) (a : Around key es) → Each (IsLower layer n) es → Lows layer n key a.front a.mid a.back
 lows-of layer n key es a h =
     let k = subst (Each (IsLower layer n)) a.whole h in
     let r = each-back (IsLower layer n) a.front (a.mid ++ a.back) k in

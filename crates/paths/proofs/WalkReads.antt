@@ -17,7 +17,7 @@ use Rattle.paths.specs.Walk.{from_here, start, Frame, later, go_down, walk_reads
 use Rattle.paths.proofs.Orders.{order-same, turned, turned_back, order-equal}
 use Rattle.paths.proofs.PathIsRead.{order-is}
 use Rattle.paths.proofs.Weights.{IsWithin, AllWithin, within-first}
-use Rattle.paths.proofs.Walks.{before-trans, Halves, halves, each-left, each-right, each-both, each-map, ascending-parts, IsFrom, all-from, filtered-from, from-order, rest_pairs, first-rest, stack_pairs, later-pairs, IsReady, ready-later, within-start, ascending-start, ascending-first, down-pairs, down-ready, ascending-filter, each-start, each-first_part, path-start}
+use Rattle.paths.proofs.WalkPairs.{before-trans, Halves, halves, each-left, each-right, each-both, each-map, ascending-parts, IsFrom, all-from, filtered-from, from-order, rest_pairs, first-rest, stack_pairs, later-pairs, IsReady, ready-later, within-start, ascending-start, ascending-first, down-pairs, down-ready, ascending-filter, each-start, each-first_part, path-start}
 
 -- ---- tests and orders
 

@@ -55,15 +55,15 @@ put_written digest layer p path =
 
 -- ---- delete, where the last node of the path has the key
 
+-- all of a list but its last element
+abbrev pub all_but_last : {A : Type 0} → List A → List A
+all_but_last [] = []
+all_but_last (x ∷ []) = []
+all_but_last (x ∷ y ∷ ys) = x ∷ all_but_last (y ∷ ys)
+
 -- the node with the key
 abbrev pub row_shape : List Shape → Shape
 row_shape path = last_shape (LastLink None) path
-
--- those above it
-abbrev pub above_row : List Shape → List Shape
-above_row [] = []
-above_row (s ∷ []) = []
-above_row (s ∷ t ∷ path) = s ∷ above_row (t ∷ path)
 
 -- the node without the key, where the pairs of nodes that meet there are given
 abbrev pub delete_here : (List ℕ → List ℕ) → List ℕ → List Shape → List (Shape × Shape) → Shape
@@ -71,7 +71,7 @@ delete_here digest key path met =
     let s = row_shape path in let x = row_links key s in remove_shape key s (merge_links digest x.0 x.1 met)
 
 abbrev pub delete_below : (List ℕ → List ℕ) → List ℕ → List Shape → List (Shape × Shape) → Shape
-delete_below digest key path met = climb digest key (above_row path) (delete_here digest key path met)
+delete_below digest key path met = climb digest key (all_but_last path) (delete_here digest key path met)
 
 -- where a top that loses its only key comes down to one subtree: the link at which pruning begins
 abbrev pub prune_link : List ℕ → List Shape → List (Shape × Shape) → Option (List ℕ)
@@ -86,7 +86,7 @@ delete_root digest key path met pruned =
 abbrev pub delete_written : (List ℕ → List ℕ) → List ℕ → List Shape → List (Shape × Shape) → List Shape
 delete_written digest key path met =
     lone_shape key (head_shape path) (λ l k. settle_shapes digest l k met)
-    (merge_shapes digest met ++ (climb_shapes digest key (above_row path) (delete_here digest key path met) ++ (delete_below digest key path met ∷ [])))
+    (merge_shapes digest met ++ (climb_shapes digest key (all_but_last path) (delete_here digest key path met) ++ (delete_below digest key path met ∷ [])))
 
 -- ---- what a delete reads
 
@@ -100,4 +100,4 @@ abbrev pub delete_read : List Shape → List (Shape × Shape) → List Shape →
 delete_read path met pruned = path ++ (flat met ++ pruned)
 
 abbrev pub delete_gone_shapes : List Shape → List (Shape × Shape) → List Shape → List Shape
-delete_gone_shapes path met pruned = path ++ (flat met ++ above_row pruned)
+delete_gone_shapes path met pruned = path ++ (flat met ++ all_but_last pruned)

@@ -8,7 +8,8 @@ use Rattle.spec.specs.Tree.{Pair, Part, EachNode}
 use Rattle.spec.specs.NodeFormat.{Entry, NodeFault, read_node, Shape, LastLink, MoreLinks, first_link, shape, shape_cid}
 use Rattle.spec.specs.Blocks.{nodes}
 use Rattle.paths.specs.Order.{order}
-use Rattle.paths.specs.ShapeEdit.{last_link}
+use Rattle.paths.specs.ShapeEdit.{last_link, row_links}
+use Rattle.paths.specs.PathEdit.{row_shape, prune_link}
 
 -- the node behind a link
 abbrev pub shown : (List ℕ → Option Shape) → Option (List ℕ) → Option Shape
@@ -108,6 +109,13 @@ pruned_at further (Some (MoreLinks l e r)) = MoreLinks l e r ∷ []
 abbrev pub pruned_from : (List ℕ → Option Shape) → ℕ → Option (List ℕ) → List Shape
 pruned_from shows zero l = []
 pruned_from shows (suc n) l = pruned_at (pruned_from shows n) (shown shows l)
+
+-- what a delete reads where the last node of the path has the key: the pairs that meet there, and the chain that is pruned
+abbrev pub delete_met_from : (List ℕ → Option Shape) → ℕ → List ℕ → List Shape → List (Shape × Shape)
+delete_met_from shows n key path = let x = row_links key (row_shape path) in met_from shows n x.0 x.1
+
+abbrev pub delete_pruned_from : (List ℕ → Option Shape) → ℕ → List ℕ → List Shape → List (Shape × Shape) → List Shape
+delete_pruned_from shows n key path met = pruned_from shows n (prune_link key path met)
 
 -- ---- walks, with a stack of pairs still to come, each with the rest of its node after it
 
