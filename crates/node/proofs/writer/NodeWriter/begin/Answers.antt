@@ -1,0 +1,9 @@
+use Rattle.std.proofs.Common.{ap}
+use Rattle.node.proofs.Writing.{entries_in-none, IsWritten-none}
+use Rattle.node.proofs.writer.NodeWriter.begin.Goals as goal
+
+pub invariant_of-result : goal.invariant_of-result
+invariant_of-result g c = IsWritten-none _ _ c.in_ok-entries.ensures.items c.in_ok-last.ensures
+
+pub returns : goal.returns
+returns g c = ?
