@@ -8,19 +8,12 @@ use Rattle.spec.specs.Reading.{◌>>=◌, front}
 use Rattle.spec.specs.Head.{CborFault, Truncated, head, head_at, major_of}
 use Rattle.spec.specs.Cid.{is_cid}
 use Rattle.spec.specs.DagCbor.{Value, Null, Boolean, Integer, Bytes, Text, Items, Fields, Link, Values, NoValue, ValueThen, Entries, NoEntry, EntryThen, count_values, count_entries, string, spelling, spelling_of_values, spelling_of_entries, is_next_key, fits_length, is_lawful_within, are_lawful_within, are_entries_within, is_lawful, CborReader, head_of, text_of, link_of, key_of, items_at, fields_at, content_of, value_at, read}
+use Rattle.spec.proofs.Taking.{front-append, ok_is}
 use Rattle.spec.proofs.HeadLaws.{head_at-head}
-use Rattle.spec.proofs.NodeLaws.{both}
-
-abbrev done : Value → List ℕ → Result (Value × List ℕ) CborFault
-done v rest = Ok (v, rest)
-
-front-append : (n : ℕ) (bytes rest : List ℕ) → length bytes ≡ n → front Truncated n (bytes ++ rest) ≡ Ok (bytes, rest)
-front-append n bytes rest e =
-    let long : ltb (length (bytes ++ rest)) n ≡ false = le-ltb _ _ (omega (arith, length-append bytes rest)) in
-    rw (long, take_at bytes rest n e, drop_at bytes rest n e) refl
+use Rattle.spec.proofs.Bools.{both}
 
 -- what reads lists and maps at a level
-abbrev within : ℕ → Result (CborReader Value) CborFault
+abbrev pub within : ℕ → Result (CborReader Value) CborFault
 within zero = Err Rattle.spec.specs.Head.TooDeep
 within (suc levels) = Ok (value_at levels)
 
@@ -76,7 +69,7 @@ head_of-head m n fault rest small lt =
     ∙ ap (λ (r : Result ((ℕ × ℕ) × List ℕ) CborFault). r >>= λ h. Ok (h.0.1, h.1)) (head_at-head m n rest small lt)
 
 text_of-append : (n : ℕ) (bytes rest : List ℕ) → length bytes ≡ n → is_utf8 bytes ≡ true → text_of n (bytes ++ rest) ≡ Ok (bytes, rest)
-text_of-append n bytes rest e utf8 = rw (front-append n bytes rest e, utf8) refl
+text_of-append n bytes rest e utf8 = rw (front-append Truncated n bytes rest e, utf8) refl
 
 -- ---- values
 
@@ -86,18 +79,18 @@ string_text m bytes rest = head m (length bytes) ++ (bytes ++ rest)
 value_at-bytes : (levels : ℕ) (bytes rest : List ℕ) → fits_length bytes ≡ true → value_at levels (string 2 bytes ++ rest) ≡ Ok (Bytes bytes, rest)
 value_at-bytes levels bytes rest fits =
     ap (value_at levels) (append_assoc (head 2 (length bytes)) bytes rest) ∙ value_at-head levels 2 (length bytes) (bytes ++ rest) (omega arith) (ltb-true _ _ fits)
-    ∙ rw (front-append (length bytes) bytes rest refl) refl
+    ∙ rw (front-append Truncated (length bytes) bytes rest refl) refl
 
 value_at-text : (levels : ℕ) (bytes rest : List ℕ) → fits_length bytes ≡ true → is_utf8 bytes ≡ true → value_at levels (string 3 bytes ++ rest) ≡ Ok (Text bytes, rest)
 value_at-text levels bytes rest fits utf8 =
     ap (value_at levels) (append_assoc (head 3 (length bytes)) bytes rest) ∙ value_at-head levels 3 (length bytes) (bytes ++ rest) (omega arith) (ltb-true _ _ fits)
-    ∙ rw (front-append (length bytes) bytes rest refl, utf8) refl
+    ∙ rw (front-append Truncated (length bytes) bytes rest refl, utf8) refl
 
 link_of-string : (bytes rest : List ℕ) → fits_length (0 ∷ bytes) ≡ true → is_cid bytes ≡ true → link_of 42 (string 2 (0 ∷ bytes) ++ rest) ≡ Ok (Link bytes, rest)
 link_of-string bytes rest fits cid =
     let some : ltb 0 (suc (length bytes)) ≡ true = lt-ltb _ _ (omega arith) in
     ap (link_of 42) (append_assoc (head 2 (suc (length bytes))) (0 ∷ bytes) rest)
-    ∙ rw (head_of-head 2 (suc (length bytes)) Rattle.spec.specs.Head.BadLink (0 ∷ (bytes ++ rest)) (omega arith) (ltb-true _ _ fits), front-append (suc (length bytes)) (0 ∷ bytes) rest refl, some, cid) refl
+    ∙ rw (head_of-head 2 (suc (length bytes)) Rattle.spec.specs.Head.BadLink (0 ∷ (bytes ++ rest)) (omega arith) (ltb-true _ _ fits), front-append Truncated (suc (length bytes)) (0 ∷ bytes) rest refl, some, cid) refl
 
 value_at-link : (levels : ℕ) (bytes rest : List ℕ) → fits_length (0 ∷ bytes) ≡ true → is_cid bytes ≡ true → value_at levels (spelling (Link bytes) ++ rest) ≡ Ok (Link bytes, rest)
 value_at-link levels bytes rest fits cid =
@@ -157,3 +150,10 @@ mutual
 pub read-spelling : (v : Value) → is_lawful v ≡ true → read (spelling v) ≡ Ok v
 unfolding read
 read-spelling v is = ap read (sym (append-nil (spelling v))) ∙ rw (value_at-spelling v 64 [] is) refl
+
+-- no spelling begins another
+pub spelling-one_form : (v w : Value) (x y : List ℕ) → is_lawful v ≡ true → is_lawful w ≡ true → spelling v ++ x ≡ spelling w ++ y → (v ≡ w) × (x ≡ y)
+spelling-one_form v w x y is_v is_w e =
+    let pair : ◌≡◌ {A = Value × List ℕ} (v, x) (w, y) =
+    ok_is CborFault (v, x) (w, y) (sym (value_at-spelling v 64 x is_v) ∙ ap (value_at 64) e ∙ value_at-spelling w 64 y is_w) in
+    (ap (λ (p : Value × List ℕ). p.0) pair, ap (λ (p : Value × List ℕ). p.1) pair)

@@ -3,22 +3,15 @@ use Rattle.std.proofs.Common.{◌≡◌, ℕ, zero, suc, ◌+◌, ◌/◌, ◌%�
 use Rattle.std.specs.Prelude.{pos, negsuc}
 use Rattle.std.specs.Str.{is_utf8}
 use Rattle.std.proofs.lemmas.Bool.{lt-ltb, ltb-true, eqb-true, le-ltb, ne_eqb}
-use Rattle.std.proofs.lemmas.List.{append-nil}
-use Rattle.spec.specs.Reading.{IsBytes, ◌>>=◌, front}
+use Rattle.std.proofs.lemmas.List.{append-nil, nil_from_length}
+use Rattle.spec.specs.Reading.{◌>>=◌, front}
 use Rattle.spec.specs.Head.{CborFault, Truncated, Float, Indefinite, Simple, BadTag, BadLink, BadUtf8, KeyNotText, KeyOrder, IntegerRange, Trailing, TooDeep, head, head_at, argument_at, simple_at, major_of, SimpleValue, Array, Map}
 use Rattle.spec.specs.Cid.{is_cid}
 use Rattle.spec.specs.DagCbor.{Value, Null, Boolean, Integer, Bytes, Text, Items, Fields, Link, Values, NoValue, ValueThen, Entries, NoEntry, EntryThen, count_values, count_entries, string, spelling, spelling_of_values, spelling_of_entries, is_next_key, fits_length, is_lawful_within, are_lawful_within, are_entries_within, is_lawful, CborReader, head_of, text_of, link_of, key_of, items_at, fields_at, content_of, simple_value, value_at, read}
 use Rattle.spec.proofs.HeadLaws.{head_takes}
-use Rattle.spec.proofs.NodeLaws.{both}
-use Rattle.spec.proofs.Taking.{Takes, Takes-then, bind_ok, bind_then, ensure_ok, ok_is, front_ok}
-
-and : (a b : Bool) → a ≡ true → b ≡ true → (a && b) ≡ true
-and true b p q = q
-and false b p q = p
-
-nil_from_length : {X : Type 0} (xs : List X) → length xs ≡ 0 → xs ≡ []
-nil_from_length [] h = refl
-nil_from_length (x ∷ xs) h = absurd cc
+use Rattle.spec.proofs.Bools.{both, and}
+use Rattle.spec.proofs.DagCborLaws.{within}
+use Rattle.spec.proofs.Taking.{IsBytes, Takes, Takes-then, bind_ok, bind_then, ensure_ok, ok_is, front_ok}
 
 record TakesValue (levels : ℕ) (bytes : List ℕ) (x : Value × List ℕ) : Type 0 where
   takes : Takes bytes (spelling x.0) x.1
@@ -179,10 +172,6 @@ entries_take levels ih (suc n) before bytes x fits e =
     (Takes-then bytes (string 3 k.0 ++ spelling v.0) v.1 (spelling_of_entries es.0) es.1 two c.0, ap suc c.1, and _ _ (and _ _ (and _ _ (and _ _ a.1 a.2) a.3) b.lawful) c.2))))
 
 -- ---- values
-
-abbrev within : ℕ → Result (CborReader Value) CborFault
-within zero = Err TooDeep
-within (suc levels) = Ok (value_at levels)
 
 abbrev ReadsBelow : ℕ → Type 0
 ReadsBelow zero = Unit {0}

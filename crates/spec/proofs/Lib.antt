@@ -1,4 +1,4 @@
-pub mod Faults
+pub mod Bools
 pub mod TreeLaws
 pub mod HeadLaws
 pub mod LayerLaws
@@ -6,9 +6,15 @@ pub mod NodeLaws
 pub mod DagCborLaws
 pub mod BlockLaws
 pub mod WriteLaws
+pub mod BatchLaws
+pub mod LayeredTrees
 pub mod TreeNodes
 pub mod SameTree
 pub mod Taking
 pub mod NodeTakes
 pub mod RootLaws
 pub mod DagCborTakes
+pub mod PathPlace
+pub mod PathNodes
+pub mod VerifyLaws
+mod rows

@@ -11,7 +11,7 @@ use Rattle.spec.specs.Layer.{layer}
 use Rattle.spec.specs.Tree.{Pair, Node, Last, More, Part, Nothing, Sub, top, pairs_in, EachNode, EachUnder}
 use Rattle.spec.specs.NodeFormat.{is_key, is_ascending, node_bytes, shape}
 use Rattle.spec.specs.Blocks.{blocks_in, blocks_under, nodes, root, no_record, ArePairs, IsClashFree}
-use Rattle.spec.proofs.NodeLaws.{both}
+use Rattle.spec.proofs.Bools.{both}
 use Rattle.spec.proofs.TreeLaws.{pairs-top}
 use Rattle.spec.proofs.TreeNodes.{IsLawful, EachNode-top}
 use Rattle.spec.proofs.SameTree.{Stands, same-part, free_shapes}

@@ -12,18 +12,8 @@ use Rattle.spec.specs.Tree.{Pair, Node, Part, Nothing, Sub, Groups, LastGroup, M
 use Rattle.spec.specs.NodeFormat.{is_key, are_keys_after, is_own_cid_or_none, are_links, is_node, Shape, first_link, entries_of, shape, shape_bytes, part_link, read_node}
 use Rattle.spec.specs.Blocks.{ArePairs}
 use Rattle.spec.proofs.TreeLaws.{joined-cut}
-use Rattle.spec.proofs.NodeLaws.{both, read_node-node_spelling}
-
-and : (a b : Bool) → a ≡ true → b ≡ true → (a && b) ≡ true
-and true b p q = q
-and false b p q = p
-
-from_T : (b : Bool) → T b → b ≡ true
-from_T true h = refl
-from_T false h = absurd h
-
-to_T : (b : Bool) → b ≡ true → T b
-to_T b e = subst T (sym e) tt
+use Rattle.spec.proofs.Bools.{both, and}
+use Rattle.spec.proofs.NodeLaws.{read_node-node_spelling}
 
 All-append : {X : Type 0} (P : X → Type 0) (xs ys : List X) → AllByRecursion P (xs ++ ys) → AllByRecursion P xs × AllByRecursion P ys
 All-append P [] ys all = (tt, all)

@@ -1,5 +1,5 @@
 -- Content identifiers (CIDv1: multiformats cid, multicodec dag-cbor, multihash sha2-256).
-use Rattle.std.specs.Prelude.{ℕ, ◌+◌, ◌-◌, ◌*◌, ◌/◌, ◌%◌, ◌^◌, Bool, false, ◌&&◌, ◌||◌, List, [], ◌∷◌, ◌++◌, length, take, drop, map, codes, slice_index, nat_lt, ◌==◌, if◌then◌else◌, Option, Some, None, Result, Ok}
+use Rattle.std.specs.Prelude.{◌≡◌, ℕ, ◌+◌, ◌-◌, ◌*◌, ◌/◌, ◌%◌, ◌^◌, Bool, false, ◌&&◌, ◌||◌, List, [], ◌∷◌, ◌++◌, length, take, drop, map, codes, slice_index, nat_lt, ◌==◌, if◌then◌else◌, Option, Some, None, Result, Ok}
 use Rattle.std.specs.List.{list_all, range_with_len}
 use Rattle.std.specs.Str.{bytes_eq}
 use Rattle.spec.specs.Reading.{◌>>=◌, ensure}
@@ -8,6 +8,10 @@ use Rattle.spec.specs.Varint.{varint_at}
 -- version 1, codec dag-cbor, hash sha2-256, 32 bytes of digest (CIDv1; multicodec; multihash)
 abbrev pub prefix : List ℕ
 prefix = 0x01 ∷ 0x71 ∷ 0x12 ∷ 0x20 ∷ []
+
+-- what serves as a digest: 32 bytes for every input
+abbrev pub IsDigest : (List ℕ → List ℕ) → Type 0
+IsDigest digest = (bytes : List ℕ) → length (digest bytes) ≡ 32
 
 -- the CID of some bytes under a digest (CIDv1)
 unfoldable pub cid : (List ℕ → List ℕ) → List ℕ → List ℕ

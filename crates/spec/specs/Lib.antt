@@ -12,3 +12,4 @@ pub mod Car
 pub mod Proof
 pub mod Keys
 pub mod Writes
+pub mod Laws

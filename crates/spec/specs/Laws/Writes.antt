@@ -1,0 +1,45 @@
+-- The records that writes leave, and which batches of writes are taken.
+use Rattle.std.specs.Prelude.{◌≡◌, ◌↔◌, ℕ, true, List, ◌∷◌, ◌++◌, length, None, Ok, Err}
+use Rattle.std.specs.Cmp.Lexicographic.{slice_cmp}
+use Rattle.std.specs.Ordering.{nat_cmp}
+use Rattle.std.specs.FinMap.{find, is_sorted}
+use Rattle.spec.specs.Blocks.{blocks, repository_root}
+use Rattle.spec.specs.Writes.{Write, WriteFault, leaves, last_record, write_test, limited_test, batch_test, is_lawful_list}
+
+abbrev pub LastWriteDecides : Type 0
+LastWriteDecides = (ws : List Write) (key : List ℕ) → find (slice_cmp nat_cmp) key (leaves ws) ≡ last_record key None ws
+
+abbrev pub KeysAscend : Type 0
+KeysAscend = (ws : List Write) → is_sorted (slice_cmp nat_cmp) (leaves ws) ≡ true
+
+-- writes whose last words on each key agree leave one root and one list of blocks, whatever their order
+abbrev pub OrderIsNoMatter : Type 0
+OrderIsNoMatter = (digest : List ℕ → List ℕ) (bits : ℕ) (further : List (List ℕ)) (ws vs : List Write) → ((key : List ℕ) → last_record key None ws ≡ last_record key None vs)
+    → (leaves ws ≡ leaves vs) × (repository_root digest bits (leaves ws) ≡ repository_root digest bits (leaves vs)) × (blocks digest bits further (leaves ws) ≡ blocks digest bits further (leaves vs))
+
+-- each write of a lawful list passes on the records that the writes before it leave
+abbrev pub LawfulIsEachOnThoseBefore : Type 0
+LawfulIsEachOnThoseBefore = (ws : List Write) → (is_lawful_list ws ≡ true) ↔ ((before after : List Write) (w : Write) → ws ≡ before ++ w ∷ after → write_test (leaves before) w ≡ Ok tt)
+
+-- each write of a batch passes on the records that the accepted writes and those before it leave
+abbrev pub EachPasses : ℕ → List Write → List Write → Type 0
+EachPasses limit accepted batch = (before after : List Write) (w : Write) → batch ≡ before ++ w ∷ after → limited_test limit (length (accepted ++ before)) (leaves (accepted ++ before)) w ≡ Ok tt
+
+abbrev pub BatchPasses : Type 0
+BatchPasses = (limit : ℕ) (accepted batch : List Write) → (batch_test limit accepted batch ≡ Ok tt) ↔ EachPasses limit accepted batch
+
+-- write i is the first that doesn't pass, and this is its fault
+pub record IsFirstRefused (limit : ℕ) (accepted batch : List Write) (i : ℕ) (fault : WriteFault) : Type 0 where
+  pub before : List Write
+  pub refused : Write
+  pub after : List Write
+  pub whole : batch ≡ before ++ refused ∷ after
+  pub number : length before ≡ i
+  pub passed : EachPasses limit accepted before
+  pub fails : limited_test limit (length (accepted ++ before)) (leaves (accepted ++ before)) refused ≡ Err fault
+
+abbrev pub BatchFails : Type 0
+BatchFails = (limit : ℕ) (accepted batch : List Write) (i : ℕ) (fault : WriteFault) → (batch_test limit accepted batch ≡ Err (i, fault)) ↔ IsFirstRefused limit accepted batch i fault
+
+abbrev pub BatchKeepsLawful : Type 0
+BatchKeepsLawful = (limit : ℕ) (accepted batch : List Write) → is_lawful_list accepted ≡ true → batch_test limit accepted batch ≡ Ok tt → is_lawful_list (accepted ++ batch) ≡ true
