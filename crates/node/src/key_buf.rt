@@ -2,11 +2,9 @@
 
 ghost use Rattle.std.specs.Prelude.{◌≡◌, ◌+◌, ◌≤◌, ◌++◌, [], length, take, IfOk};
 
+use crate::common::LONGEST_KEY;
 use std::alloc::{AllocError, Allocator, Global};
 use std::marker::Model;
-
-/// How many bytes a key has at most (own, for a node by itself; a repository's keys are shorter).
-pub(crate) const LONGEST_KEY: usize = 1024;
 
 /// A key in room for any: 1,024 bytes, which are reserved once.
 ///

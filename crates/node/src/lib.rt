@@ -4,6 +4,8 @@
 mod common;
 mod key_buf;
 mod parts;
+#[cfg(test)]
+mod tests;
 mod writer;
 
 pub use key_buf::KeyBuf;

@@ -1,9 +1,9 @@
 //! The parts of a node's bytes (AT Protocol repository v3, MST node data format). Where memory is refused, what
 //! stood in the bytes before stays at their front.
 
-ghost use Rattle.std.specs.Prelude.{◌≡◌, ◌<◌, ◌∷◌, ◌++◌, [], length, OnOk, option_map};
+ghost use Rattle.std.specs.Prelude.{◌≡◌, ◌∷◌, ◌++◌, [], length, true, OnOk, option_map};
 ghost use Rattle.spec.specs.Head.{head};
-ghost use Rattle.spec.specs.NodeFormat.{link_or_null};
+ghost use Rattle.spec.specs.NodeFormat.{link_or_null, is_own_cid_or_none};
 ghost use Rattle.cid.specs.CidRef.{bytes_of};
 ghost use Rattle.node.specs.Bytes.{Extends, entry_text};
 
@@ -47,7 +47,8 @@ pub(crate) fn push_link<A: Allocator>(
 
 /// A link as it is lent.
 pub(crate) fn lend(link: &Option<Cid>) -> Option<CidRef<'_>>
-    ensures { option_map bytes_of result ≡ link.now }
+    ensures value { option_map bytes_of result ≡ link.now }
+    ensures own { is_own_cid_or_none link.now ≡ true }
 {
     match link {
         None => None,
@@ -64,13 +65,13 @@ pub(crate) fn push_entry<A: Allocator>(
     prefix: usize,
     suffix: &[u8],
     value: CidRef<'_>,
-    tree: &Option<Cid>,
+    tree: Option<CidRef<'_>>,
 ) -> Result<(), AllocError>
-    ensures ok { OnOk result (out.new.items ≡ out.old.items ++ entry_text prefix suffix.now (bytes_of value.entry) tree.now) }
+    ensures ok { OnOk result (out.new.items ≡ out.old.items ++ entry_text prefix suffix.now (bytes_of value.entry) (option_map bytes_of tree.entry)) }
     ensures kept { Extends out.old.items out.new.items }
 {
     out.reserve(suffix.len().saturating_add(FIELDS))?;
     push_key(out, prefix, suffix)?;
-    push_link(out, b't', lend(tree))?;
+    push_link(out, b't', tree)?;
     push_link(out, b'v', Some(value))
 }

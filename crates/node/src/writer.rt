@@ -5,8 +5,8 @@ ghost use Rattle.spec.specs.NodeFormat.{node_spelling};
 ghost use Rattle.node.specs.Contents.{Contents, is_next_key};
 ghost use Rattle.cid.specs.CidRef.{bytes_of};
 
-use crate::common::common_len;
-use crate::key_buf::{KeyBuf, LONGEST_KEY};
+use crate::common::{common_len, is_key};
+use crate::key_buf::KeyBuf;
 use crate::parts::{lend, push_entry, push_link};
 use cid::{Cid, CidRef};
 use dagcbor::push_head;
@@ -61,7 +61,7 @@ impl<A: Allocator + Clone> NodeWriter<A> {
     pub fn is_next(&self, key: &[u8]) -> bool
         ensures { result ≡ is_next_key self.now.entries key.now }
     {
-        self.last.key() < key && !key.is_empty() && key.len() <= LONGEST_KEY
+        self.last.key().cmp(key).is_lt() && is_key(key)
     }
 
     /// Adds an entry: a key, its record's CID, and the link of the subtree after it. Keys ascend strictly and have 1
@@ -78,14 +78,19 @@ impl<A: Allocator + Clone> NodeWriter<A> {
     {
         let prefix = common_len(self.last.key(), key);
         let suffix = &key[prefix..];
+        let tree = lend(&tree);
         let written = self.entries.len();
-        if push_entry(&mut self.entries, prefix, suffix, value, &tree).is_err() {
-            self.entries.truncate(written);
-            return Err(AllocError);
+        match push_entry(&mut self.entries, prefix, suffix, value, tree) {
+            Ok(()) => {
+                self.last.change(prefix, suffix);
+                self.count += 1;
+                Ok(())
+            }
+            Err(refused) => {
+                self.entries.truncate(written);
+                Err(refused)
+            }
         }
-        self.last.change(prefix, suffix);
-        self.count += 1;
-        Ok(())
     }
 
     /// The bytes of the node.
