@@ -1,6 +1,7 @@
 //! Digests, layers of keys, content identifiers, and blocks of bytes under their identifiers.
 #![tactic(auto)]
 
+mod base32;
 mod block;
 mod cid;
 mod cid_fault;

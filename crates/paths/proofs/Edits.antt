@@ -4,7 +4,7 @@ use Rattle.std.specs.declared.cmp.Ordering.TheVariants.{Equal}
 use Rattle.std.proofs.lemmas.Bool.{eqb-false, eq-eqb}
 use Rattle.paths.specs.Order.{order}
 use Rattle.spec.specs.Tree.{Pair, Part, Sub, Groups, LastGroup, MoreGroups, cut, node_of, below, tree}
-use Rattle.paths.specs.Edit.{with_first, close, open_part, descend, between, insert, put_in, node_put, remove, delete_in, node_delete, find, answer}
+use Rattle.paths.specs.TreeEdit.{with_first, close, open_part, descend, between, insert, put_in, node_put, remove, delete_in, node_delete, find, answer}
 use Rattle.paths.specs.Pairs.{Each, IsBefore, IsAfter}
 use Rattle.paths.proofs.Cut.{last_group, first_group, first-with_first, with_first-with_first, first-node_of, with_first-same}
 use Rattle.paths.proofs.Groups.{InGroups, Each-append, cut-in, last-in, first-in, last-inner, first-inner, close-tree}

@@ -2,7 +2,7 @@
 use Rattle.std.proofs.Common.{◌≡◌, ◌⊎◌, ℕ, zero, suc, ◌+◌, ◌-◌, ◌<◌, ◌≤◌, max, Bool, true, false, nat_eq, nat_lt, List, [], ◌∷◌, ◌++◌, refl, sym, ap, subst, ◌∙◌, arith, inl, inr, cond}
 use Rattle.std.proofs.lemmas.Bool.{eqb-false, eqb-true, eq-eqb, ne_eqb, ltb-true, ltb-false, cases_lt}
 use Rattle.spec.specs.Tree.{Pair, Part, Last, Sub, Groups, LastGroup, MoreGroups, push, enter, cut, node_of, below, tree, top_layer, top}
-use Rattle.paths.specs.Edit.{close, lift, layer_of, node_put, put_above, put_top, node_delete, prune, delete_top, find}
+use Rattle.paths.specs.TreeEdit.{close, lift, layer_of, node_put, put_above, put_top, node_delete, prune, delete_top, find}
 use Rattle.paths.specs.Pairs.{Each, Ascending, put_pair, delete_pair, value_in}
 use Rattle.spec.proofs.TreeLaws.{IsLower, lower-from_top}
 use Rattle.paths.proofs.Groups.{Each-append, close-tree}

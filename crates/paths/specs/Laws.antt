@@ -7,10 +7,10 @@ use Rattle.spec.specs.Blocks.{ArePairs, IsClashFree, nodes, root, pairs}
 use Rattle.spec.specs.Cid.{cid}
 use Rattle.spec.specs.Proof.{path, verified}
 use Rattle.spec.specs.Writes.{with_key, without_key}
-use Rattle.paths.specs.Edit.{layer_of, find, put_top, delete_path}
+use Rattle.paths.specs.TreeEdit.{layer_of, find, put_top, delete_path}
 use Rattle.paths.specs.Pairs.{Ascending, put_pair, delete_pair, value_in}
 use Rattle.paths.specs.Trace.{find_path, put_top_gone, put_top_made, delete_path_gone, delete_path_made, delete_path_read, delete_path_nodes, met_pairs, delete_left, prune_path}
-use Rattle.paths.specs.Paths.{put_top_shape, put_top_shapes, delete_top_shape, delete_top_shapes}
+use Rattle.paths.specs.ShapeEdit.{put_top_shape, put_top_shapes, delete_top_shape, delete_top_shapes}
 use Rattle.paths.specs.Changes.{AreChanges, add_of, drop_of}
 
 -- ---- the tree after an edit is the tree from scratch

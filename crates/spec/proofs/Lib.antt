@@ -1,6 +1,9 @@
 pub mod Bools
 pub mod TreeLaws
 pub mod HeadLaws
+pub mod VarintLaws
+pub mod LinkCids
+pub mod CidTexts
 pub mod LayerLaws
 pub mod NodeLaws
 pub mod DagCborLaws
@@ -13,6 +16,7 @@ pub mod SameTree
 pub mod Taking
 pub mod NodeTakes
 pub mod RootLaws
+pub mod Once
 pub mod DagCborTakes
 pub mod PathPlace
 pub mod PathNodes

@@ -4,12 +4,12 @@ use Rattle.spec.specs.NodeFormat.{shape}
 use Rattle.paths.proofs.Tops.{find-top, put-top}
 use Rattle.paths.proofs.Settle.{delete_path-top}
 use Rattle.paths.proofs.Counts.{put_top-gone, put_top-made, delete_path-reads, delete_path-made}
-use Rattle.paths.proofs.Differences.{within-top}
-use Rattle.paths.proofs.Top_shapes.{shape-put_top, shapes-put_top}
-use Rattle.paths.proofs.Delete_top_shapes.{shape-delete_path, shapes-delete_path}
-use Rattle.paths.proofs.Proof_path.{path-layer}
-use Rattle.paths.proofs.Maps.{pairs-with_key, pairs-without_key}
-use Rattle.paths.proofs.Whole.{put-changes, delete-changes, delete_path-read}
+use Rattle.paths.proofs.Balance.{within-top}
+use Rattle.paths.proofs.PutTopShapes.{shape-put_top, shapes-put_top}
+use Rattle.paths.proofs.DeleteTopShapes.{shape-delete_path, shapes-delete_path}
+use Rattle.paths.proofs.PathIsRead.{path-layer}
+use Rattle.paths.proofs.RecordMaps.{pairs-with_key, pairs-without_key}
+use Rattle.paths.proofs.BlockChanges.{put-changes, delete-changes, delete_path-read}
 use Rattle.paths.proofs.laws.Goals as goal
 
 pub returns-clause-finds : goal.returns-clause-finds

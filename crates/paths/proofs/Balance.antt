@@ -1,12 +1,12 @@
 -- What is added and dropped, from what is made and goes.
 use Rattle.std.proofs.Common.{◌≡◌, ◌↔◌, ℕ, ◌+◌, ◌<◌, ◌≤◌, List, ap, ◌∙◌, arith}
 use Rattle.spec.specs.Tree.{Pair, Node, Sub, top_layer, top}
-use Rattle.paths.specs.Edit.{layer_of}
+use Rattle.paths.specs.TreeEdit.{layer_of}
 use Rattle.paths.specs.Pairs.{Ascending, put_pair, delete_pair}
 use Rattle.paths.specs.Trace.{weight, total, put_top_gone, put_top_made, delete_path_gone, delete_path_made}
 use Rattle.paths.proofs.Weights.{AllWithin, weight-put_top, weight-delete_path}
 use Rattle.paths.proofs.Tops.{layer_of-top, put-top}
-use Rattle.paths.proofs.Flat.{within-tree}
+use Rattle.paths.proofs.Within.{within-tree}
 use Rattle.paths.proofs.Settle.{delete_path-top}
 
 pub within-top : (layer : List ℕ → ℕ) (es : List Pair) → AllWithin (layer_of layer (top layer es)) (top layer es)

@@ -2,11 +2,11 @@
 use Rattle.std.proofs.Common.{◌≡◌, ℕ, zero, suc, List, map, refl, None}
 use Rattle.spec.specs.Tree.{Node, Part, Last, More, Nothing, Sub}
 use Rattle.spec.specs.NodeFormat.{Shape, LastLink, part_link, shape}
-use Rattle.paths.specs.Edit.{first, merge, prune, settle}
+use Rattle.paths.specs.TreeEdit.{first, merge, prune, settle}
 use Rattle.paths.specs.Trace.{last_part, merge_pairs, settle_made, settle_left, prune_path}
-use Rattle.paths.specs.Paths.{last_shape, settle_links, settle_shape, settle_shapes}
+use Rattle.paths.specs.ShapeEdit.{last_shape, settle_links, settle_shape, settle_shapes}
 use Rattle.paths.proofs.Weights.{IsWithin, AllWithin, within-first, within-last}
-use Rattle.paths.proofs.Bridges as bridge
+use Rattle.paths.proofs.ShapeBridges as bridge
 
 module _ (digest : List ℕ → List ℕ) where
   -- ---- pruning

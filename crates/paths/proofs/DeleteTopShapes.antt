@@ -7,14 +7,14 @@ use Rattle.std.specs.declared.cmp.Ordering.TheVariants.{Less, Equal, Greater}
 use Rattle.spec.specs.Tree.{Pair, Node, Part, Last, More, Nothing}
 use Rattle.spec.specs.NodeFormat.{Shape, part_link, shape}
 use Rattle.paths.specs.Order.{order, if_equal}
-use Rattle.paths.specs.Edit.{layer_of, locate, node_delete, lone_at, delete_path}
+use Rattle.paths.specs.TreeEdit.{layer_of, locate, node_delete, lone_at, delete_path}
 use Rattle.paths.specs.Trace.{merge_pairs, row_at, beside, delete_made, delete_path_nodes, settle_made, settle_left, met_pairs, prune_path, delete_left, delete_path_made}
-use Rattle.paths.specs.Paths.{path_links, merge_links, merge_shapes, delete_shape, delete_shapes, settle_shape, settle_shapes, delete_top_shape, delete_top_shapes}
+use Rattle.paths.specs.ShapeEdit.{path_links, merge_links, merge_shapes, delete_shape, delete_shapes, settle_shape, settle_shapes, delete_top_shape, delete_top_shapes}
 use Rattle.paths.proofs.Orders.{order-equal}
 use Rattle.paths.proofs.Weights.{AllWithin}
-use Rattle.paths.proofs.Bridges as bridge
-use Rattle.paths.proofs.Delete_shapes as below
-use Rattle.paths.proofs.Settle_shapes as alone
+use Rattle.paths.proofs.ShapeBridges as bridge
+use Rattle.paths.proofs.DeleteShapes as below
+use Rattle.paths.proofs.SettleShapes as alone
 
 module _ (digest : List ℕ → List ℕ) where
   -- the pairs of nodes that meet, and what pruning looks at, as shapes

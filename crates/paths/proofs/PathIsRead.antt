@@ -9,10 +9,10 @@ use Rattle.spec.specs.Tree.{Pair, Node, Part, Last, More, Nothing, Sub, top_laye
 use Rattle.spec.specs.NodeFormat.{node_bytes}
 use Rattle.spec.specs.Proof.{by_order, path_in, path_under, path}
 use Rattle.paths.specs.Order.{order, if_equal}
-use Rattle.paths.specs.Edit.{first, Place, further, locate, layer_of}
+use Rattle.paths.specs.TreeEdit.{first, Place, further, locate, layer_of}
 use Rattle.paths.specs.Trace.{beside, find_path, find_reads, answer_reads, answer_reads_at}
 use Rattle.paths.proofs.Weights.{IsWithin, AllWithin}
-use Rattle.paths.proofs.Flat.{within-tree}
+use Rattle.paths.proofs.Within.{within-tree}
 use Rattle.paths.proofs.Tops.{layer_of-top}
 
 pub order-is : (x y : List ℕ) → slice_cmp nat_cmp x y ≡ order x y

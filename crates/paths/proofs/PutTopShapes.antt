@@ -2,11 +2,11 @@
 use Rattle.std.proofs.Common.{◌≡◌, ℕ, zero, suc, ◌-◌, Bool, true, false, cond, nat_lt, List, [], ◌∷◌, ◌++◌, map, refl, ap, ◌∙◌}
 use Rattle.std.proofs.lemmas.List.{map-append}
 use Rattle.spec.specs.Tree.{Pair, Node, Part, Last, More, Nothing, Sub}
-use Rattle.paths.specs.Edit.{close, split, lift, layer_of, node_put, put_above, put_top}
+use Rattle.paths.specs.TreeEdit.{close, split, lift, layer_of, node_put, put_above, put_top}
 use Rattle.paths.specs.Trace.{made_close, split_made, lift_made, above_gone, above_made, put_gone, put_made, put_top_gone, put_top_made}
 use Rattle.spec.specs.NodeFormat.{LastLink, part_link, shape}
-use Rattle.paths.specs.Paths.{close_link, split_links, split_shapes, put_shape, put_shapes, tail_shapes, lift_link, lift_shapes, above_shape, above_shapes, layer_of_shape, put_top_shape, put_top_shapes}
-use Rattle.paths.proofs.Bridges as bridge
+use Rattle.paths.specs.ShapeEdit.{close_link, split_links, split_shapes, put_shape, put_shapes, tail_shapes, lift_link, lift_shapes, above_shape, above_shapes, layer_of_shape, put_top_shape, put_top_shapes}
+use Rattle.paths.proofs.ShapeBridges as bridge
 
 module _ (digest : List ℕ → List ℕ) where
   pub link-lift : (d : ℕ) (p : Part) → part_link digest (lift d p) ≡ lift_link digest d (part_link digest p)

@@ -18,9 +18,9 @@ use Rattle.paths.specs.Trace.{weight, weight_under, total, put_top_gone, put_top
 use Rattle.paths.proofs.Lists.{count-append, count-map}
 use Rattle.paths.proofs.Weights.{weight-prune, total-append}
 use Rattle.paths.proofs.Gone.{put_top-old, delete_path-old}
-use Rattle.paths.proofs.Clash.{nodes-once}
-use Rattle.paths.proofs.Differences.{put-balance, delete-balance}
-use Rattle.paths.proofs.Maps.{ascending-sorted}
+use Rattle.paths.proofs.NodesOnce.{nodes-once}
+use Rattle.paths.proofs.Balance.{put-balance, delete-balance}
+use Rattle.paths.proofs.RecordMaps.{ascending-sorted}
 use Rattle.paths.proofs.Changes.{changes}
 
 -- ---- counts in lists of blocks are weights of trees
