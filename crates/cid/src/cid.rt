@@ -3,14 +3,19 @@ ghost use Rattle.std.specs.Int.{w64, from_le_bytes};
 ghost use Rattle.std.specs.Hash as fed;
 ghost use Rattle.std.specs.Cmp.Rules.{comparing, hashing};
 ghost use Rattle.std.proofs.Common.{rules};
-ghost use Rattle.spec.specs.Cid.{cid as cid_of, is_own_cid};
+ghost use Rattle.spec.specs.Cid.{cid as cid_of, is_own_cid, text as text_of, cid_of_text};
+ghost use Rattle.spec.specs.Reading.{Gives};
+ghost use Rattle.cid.specs.CidFault.{fault_of};
 ghost use Rattle.cid.specs.declared.cid_fault.CidFault.TheVariants.{NotThisProfile};
 
+use crate::base32;
 use crate::cid_fault::CidFault;
 use crate::digest::Digest;
 use std::convert::TryFrom;
+use std::fmt;
 use std::hash::{Hash, Hasher};
 use std::marker::Model;
+use std::str::FromStr;
 
 /// The identifier of a block of this host: 36 bytes, ordered and compared bytewise.
 ///
@@ -63,6 +68,35 @@ impl Cid {
     {
         &self.bytes
     }
+
+    /// The text: the multibase prefix `b` and 58 letters of base32 in lower case (CIDv1; RFC 4648, section 6).
+    pub fn text(&self) -> [u8; 59]
+        ensures { result ≡ text_of self.now }
+    {
+        let mut text = [b'b'; 59];
+        text[1..].copy_from_slice(&base32::letters(&self.bytes));
+        text
+    }
+
+    /// The identifier with this text, or the first of the five faults, in the order in which `CidFault` lists them.
+    #[tactic(auto, unfolding(spec::specs::Cid::cid_of_text))]
+    pub fn from_text(text: &[u8]) -> Result<Cid, CidFault>
+        ensures { Gives (λ cid. cid) fault_of result (cid_of_text text.now) }
+    {
+        if text.len() != 59 {
+            return Err(CidFault::BadLength);
+        }
+        if text[0] != b'b' {
+            return Err(CidFault::BadPrefix);
+        }
+        let Some(values) = base32::values(&text[1..]) else {
+            return Err(CidFault::BadLetter);
+        };
+        if values[57] % 4 != 0 {
+            return Err(CidFault::BadBits);
+        }
+        Cid::try_from(base32::bytes(&values))
+    }
 }
 
 /// Whether these are the bytes of an identifier of this host.
@@ -91,5 +125,26 @@ impl Hash for Cid {
     fn hash<H: Hasher>(&self, state: &mut H) {
         let b = &self.bytes;
         state.write_u64(u64::from_le_bytes([b[4], b[5], b[6], b[7], b[8], b[9], b[10], b[11]]));
+    }
+}
+
+/// Writes the text of the identifier.
+impl fmt::Display for Cid {
+    ghost output = { λ cid. Some (text_of cid) };
+
+    fn fmt<W: fmt::Write>(&self, f: &mut fmt::Formatter<W>) -> fmt::Result {
+        let text = self.text();
+        f.write_str(str::from_utf8(&text).unwrap())
+    }
+}
+
+/// Reads the text of an identifier, as `Cid::from_text` does.
+impl FromStr for Cid {
+    type Err = CidFault;
+
+    ghost from_str_gives = { λ text r. Gives (λ cid. cid) fault_of r (cid_of_text text) };
+
+    fn from_str(text: &str) -> Result<Cid, CidFault> {
+        Cid::from_text(text.as_bytes())
     }
 }

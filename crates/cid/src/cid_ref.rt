@@ -1,7 +1,8 @@
 ghost use Rattle.std.specs.Prelude.{◌≡◌, true, Some, None, option_map, if◌then◌else◌};
-ghost use Rattle.spec.specs.Cid.{is_own_cid};
+ghost use Rattle.spec.specs.Cid.{is_own_cid, text as text_of};
 
 use crate::cid::{Cid, has_own_prefix};
+use std::fmt;
 
 /// The identifier of a block of this host in 36 bytes that are lent, ordered and compared bytewise.
 ///
@@ -59,5 +60,16 @@ impl<'a> From<CidRef<'a>> for Cid {
 
     fn from(lent: CidRef<'a>) -> Cid {
         lent.to_cid()
+    }
+}
+
+/// Writes the text of the identifier.
+impl fmt::Display for CidRef<'_> {
+    ghost use Rattle.cid.specs.CidRef.{bytes_of};
+
+    ghost output = { λ lent. Some (text_of (bytes_of lent)) };
+
+    fn fmt<W: fmt::Write>(&self, f: &mut fmt::Formatter<W>) -> fmt::Result {
+        self.to_cid().fmt(f)
     }
 }

@@ -1,12 +1,14 @@
 //! Digests, layers of keys, content identifiers, and blocks of bytes under their identifiers.
 #![tactic(auto)]
 
+mod base32;
 mod block;
 mod cid;
 mod cid_fault;
 mod cid_ref;
 mod collided;
 mod digest;
+pub mod digests;
 mod layers;
 
 pub use block::Block;
