@@ -2,3 +2,4 @@ pub mod Ascending
 pub mod Aheads
 pub mod Writing
 pub mod Seen
+pub mod Steps

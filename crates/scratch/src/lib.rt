@@ -4,6 +4,7 @@
 mod clashes;
 mod fault;
 mod keys;
+mod nodes;
 mod rows;
 mod unread;
 
