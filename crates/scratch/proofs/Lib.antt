@@ -3,3 +3,4 @@ pub mod Aheads
 pub mod Writing
 pub mod Seen
 pub mod Steps
+pub mod Whole

@@ -3,9 +3,9 @@
 ghost use Rattle.std.specs.Prelude.{◌≡◌, map, IfOk, MatchOption};
 ghost use Rattle.std.specs.Arc.{arc_value};
 ghost use Rattle.spec.specs.Blocks.{IsClashFree};
-ghost use Rattle.scratch.specs.Faults.{AreClashing};
+ghost use Rattle.scratch.specs.Faults.{AreClashing, IsClashIn};
 
-use cid::{Block, Digest};
+use cid::{Block, Collided, Digest};
 use std::alloc::{AllocError, Allocator};
 use std::collections::BTreeMap;
 use std::sync::Arc;
@@ -27,4 +27,18 @@ pub fn find_clash<D: Digest, A: Allocator + Clone>(
         }
     }
     Ok(None)
+}
+
+/// The two blocks at these places, which clash.
+pub fn show_clash<D: Digest, A: Allocator>(
+    blocks: &[Arc<Block<D, A>, A>],
+    one: usize,
+    other: usize,
+) -> Result<Collided<D, A>, AllocError>
+    requires { AreClashing D.digest_of (map arc_value blocks.now) one other }
+    ensures { IfOk result (λ pair. IsClashIn D.digest_of (map arc_value blocks.now) pair) }
+{
+    let one = Arc::try_clone(&blocks[one])?;
+    let other = Arc::try_clone(&blocks[other])?;
+    Ok(Collided::new(one, other))
 }

@@ -6,7 +6,9 @@ mod fault;
 mod keys;
 mod nodes;
 mod rows;
+mod tree;
 mod unread;
 
 pub use fault::ScratchFault;
 pub use keys::is_ascending;
+pub use tree::{Built, build};

@@ -14,49 +14,51 @@ use node::NodeWriter;
 use std::alloc::{AllocError, Allocator};
 use std::sync::Arc;
 
-/// A tree that is being built: the rows that no node has yet, and the nodes so far in the order of the export.
-///
-/// The nodes that are open stand on the call stack, one a layer.
-#[derive(Drop)]
-pub struct Nodes<'a, D: Digest, const B: u8, A: Allocator> {
-    pub alloc: A,
-    pub unread: Unread<'a, D, B>,
-    pub blocks: Vec<Arc<Block<D, A>, A>, A>,
+/// The nodes of a tree, in the order of the export.
+pub type Blocks<D, A> = Vec<Arc<Block<D, A>, A>, A>;
+
+/// Takes the next rows of layers below `layer` and adds the nodes of their subtree, whose link is answered, if there
+/// are such rows.
+#[cycle(nodes)]
+pub fn push_part<D: Digest, const B: u8, A: Allocator + Clone>(
+    blocks: &mut Blocks<D, A>,
+    unread: &mut Unread<'_, D, B>,
+    layer: u16,
+) -> Result<Option<Cid>, AllocError>
+    requires { is_ascending unread.old ≡ true }
+    ensures link { IfOk result (λ link. link ≡ part_link D.digest_of (part_ahead (layer_of D.digest_of B) layer unread.old)) }
+    ensures blocks { OnOk result (map arc_value blocks.new.items ≡ map arc_value blocks.old.items ++ blocks_in D.digest_of no_record (part_ahead (layer_of D.digest_of B) layer unread.old)) }
+    ensures unread { OnOk result (unread.new ≡ from_layer (layer_of D.digest_of B) layer unread.old) }
+{
+    if !unread.is_below(layer) {
+        return Ok(None);
+    }
+    Ok(Some(push_node(blocks, unread, layer - 1)?))
 }
 
-impl<'a, D: Digest, const B: u8, A: Allocator + Clone> Nodes<'a, D, B, A> {
-    /// The subtree of the next rows of layers below `layer`, and its link, if there are such rows.
-    #[cycle(nodes)]
-    pub fn part(&mut self, layer: u16) -> Result<Option<Cid>, AllocError>
-        requires { is_ascending self.old.unread ≡ true }
-        ensures link { IfOk result (λ link. link ≡ part_link D.digest_of (part_ahead (layer_of D.digest_of B) layer self.old.unread)) }
-        ensures blocks { OnOk result (map arc_value self.new.blocks.items ≡ map arc_value self.old.blocks.items ++ blocks_in D.digest_of no_record (part_ahead (layer_of D.digest_of B) layer self.old.unread)) }
-        ensures unread { OnOk result (self.new.unread ≡ from_layer (layer_of D.digest_of B) layer self.old.unread) }
-    {
-        if !self.unread.is_below(layer) {
-            return Ok(None);
-        }
-        Ok(Some(self.node(layer - 1)?))
+/// Takes the next rows of layers up to `layer` and adds their node of this layer and the nodes under it. The node has
+/// its place before those under it, although its bytes are known last; the open nodes stand on the call stack.
+#[cycle(nodes)]
+pub fn push_node<D: Digest, const B: u8, A: Allocator + Clone>(
+    blocks: &mut Blocks<D, A>,
+    unread: &mut Unread<'_, D, B>,
+    layer: u16,
+) -> Result<Cid, AllocError>
+    requires { is_ascending unread.old ≡ true }
+    ensures link { IfOk result (λ cid. Some cid ≡ part_link D.digest_of (Sub (node_ahead (layer_of D.digest_of B) layer unread.old))) }
+    ensures blocks { OnOk result (map arc_value blocks.new.items ≡ map arc_value blocks.old.items ++ blocks_in D.digest_of no_record (Sub (node_ahead (layer_of D.digest_of B) layer unread.old))) }
+    ensures unread { OnOk result (unread.new ≡ from_layer (layer_of D.digest_of B) (suc layer) unread.old) }
+{
+    let place = blocks.len();
+    let left = push_part(blocks, unread, layer)?;
+    let mut writer = NodeWriter::begin(blocks.allocator().clone()?, left)?;
+    while let Some(row) = unread.next_of(layer) {
+        let tree = push_part(blocks, unread, layer)?;
+        writer.entry(row.key, row.value, tree)?;
     }
-
-    /// The node of this layer of the next rows of this layer and of those below, after which come the nodes under it.
-    #[cycle(nodes)]
-    pub fn node(&mut self, layer: u16) -> Result<Cid, AllocError>
-        requires { is_ascending self.old.unread ≡ true }
-        ensures link { IfOk result (λ cid. Some cid ≡ part_link D.digest_of (Sub (node_ahead (layer_of D.digest_of B) layer self.old.unread))) }
-        ensures blocks { OnOk result (map arc_value self.new.blocks.items ≡ map arc_value self.old.blocks.items ++ blocks_in D.digest_of no_record (Sub (node_ahead (layer_of D.digest_of B) layer self.old.unread))) }
-        ensures unread { OnOk result (self.new.unread ≡ from_layer (layer_of D.digest_of B) (suc layer) self.old.unread) }
-    {
-        let place = self.blocks.len();
-        let left = self.part(layer)?;
-        let mut writer = NodeWriter::begin(self.alloc.clone()?, left)?;
-        while let Some(row) = self.unread.next_of(layer) {
-            let tree = self.part(layer)?;
-            writer.entry(row.key, row.value, tree)?;
-        }
-        let block = Block::of(writer.finish()?);
-        let cid = block.cid();
-        self.blocks.insert(place, Arc::new(self.alloc.clone()?, block)?)?;
-        Ok(cid)
-    }
+    let block = Block::of(writer.finish()?);
+    let cid = block.cid();
+    let alloc = blocks.allocator().clone()?;
+    blocks.insert(place, Arc::new(alloc, block)?)?;
+    Ok(cid)
 }
