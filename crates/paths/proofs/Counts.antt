@@ -6,7 +6,7 @@ use Rattle.std.specs.declared.cmp.Ordering.{Ordering}
 use Rattle.std.specs.declared.cmp.Ordering.TheVariants.{Less, Equal, Greater}
 use Rattle.paths.specs.Order.{order, if_equal}
 use Rattle.spec.specs.Tree.{Pair, Node, Part, Last, More, Nothing, Sub}
-use Rattle.paths.specs.Edit.{first, with_first, onto, locate, close, open_part, split, join, merge, lift, layer_of, node_put, put_above, node_delete}
+use Rattle.paths.specs.TreeEdit.{first, with_first, onto, locate, close, open_part, split, join, merge, lift, layer_of, node_put, put_above, node_delete}
 use Rattle.paths.specs.Trace.{nodes_of, made_close, last_part, split_gone, split_made, merge_gone, merge_made, insert_list, insert_list_at, put_in_gone, put_in_made, put_gone, put_made, lift_made, remove_list_at, delete_in_gone, delete_in_made, delete_gone, delete_made, prune_gone, above_gone, above_made, put_top_gone, put_top_made, find_reads, answer_reads, answer_reads_at, prune_reads, settle_made, settle_reads, at_lone, delete_path_made, delete_path_reads}
 
 close-one : (m : Node) → length (made_close m) ≤ 1

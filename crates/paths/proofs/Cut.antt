@@ -1,7 +1,7 @@
 -- How a cut list joins, and where a key's place is in a node made from it.
 use Rattle.std.proofs.Common.{◌≡◌, ℕ, Bool, true, false, nat_eq, List, [], ◌∷◌, ◌++◌, refl, ap, ◌∙◌}
 use Rattle.spec.specs.Tree.{Pair, Node, Part, Last, More, Groups, LastGroup, MoreGroups, push, enter, cut, node_of}
-use Rattle.paths.specs.Edit.{first, with_first, onto, locate}
+use Rattle.paths.specs.TreeEdit.{first, with_first, onto, locate}
 use Rattle.paths.specs.Pairs.{IsBefore}
 
 abbrev pub befores : (List Pair → Part) → Groups → List (Part × Pair)

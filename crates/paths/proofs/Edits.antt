@@ -4,7 +4,7 @@ use Rattle.std.specs.declared.cmp.Ordering.TheVariants.{Equal}
 use Rattle.std.proofs.lemmas.Bool.{eqb-false, eq-eqb}
 use Rattle.paths.specs.Order.{order}
 use Rattle.spec.specs.Tree.{Pair, Part, Sub, Groups, LastGroup, MoreGroups, cut, node_of, below, tree}
-use Rattle.paths.specs.Edit.{with_first, close, open_part, descend, between, insert, put_in, node_put, remove, delete_in, node_delete, find, answer}
+use Rattle.paths.specs.TreeEdit.{with_first, close, open_part, descend, between, insert, put_in, node_put, remove, delete_in, node_delete, find, answer}
 use Rattle.paths.specs.Pairs.{Each, IsBefore, IsAfter}
 use Rattle.paths.proofs.Cut.{last_group, first_group, first-with_first, with_first-with_first, first-node_of, with_first-same}
 use Rattle.paths.proofs.Groups.{InGroups, Each-append, cut-in, last-in, first-in, last-inner, first-inner, close-tree}
@@ -38,7 +38,7 @@ pub record Lows (layer : List ℕ → ℕ) (n : ℕ) (key : List ℕ) (xs mid ys
   pub front_before : Each (IsBefore key) xs
   pub back_after : Each (IsAfter key) ys
 
-lows-down : (layer : List ℕ → ℕ) (n : ℕ) (key : List ℕ) (xs mid ys : List Pair) → Lows layer (suc n) key xs mid ys → Each (IsLower layer n) mid
+pub lows-down : (layer : List ℕ → ℕ) (n : ℕ) (key : List ℕ) (xs mid ys : List Pair) → Lows layer (suc n) key xs mid ys → Each (IsLower layer n) mid
     → Lows layer n key (last_group (cut layer n xs)) mid (first_group (cut layer n ys))
 lows-down layer n key xs mid ys c m = record {
   front_low = last-inner (IsLower layer n) (cut layer n xs) (cut-inner layer n xs c.front_low);
@@ -49,11 +49,11 @@ lows-down layer n key xs mid ys c m = record {
   back_after = first-in (IsAfter key) (cut layer n ys) (cut-in (IsAfter key) layer n ys c.back_after);
 }
 
-here-outside : (layer : List ℕ → ℕ) (n : ℕ) (key : List ℕ) (mid : List Pair) → Here key mid → nat_eq (layer key) n ≡ false → Each (IsOutside layer n) mid
+pub here-outside : (layer : List ℕ → ℕ) (n : ℕ) (key : List ℕ) (mid : List Pair) → Here key mid → nat_eq (layer key) n ≡ false → Each (IsOutside layer n) mid
 here-outside layer n key [] absent h = tt
 here-outside layer n key (_ ∷ _) (present e q) h = (rw q h, tt)
 
-outside-low : (layer : List ℕ → ℕ) (n : ℕ) (mid : List Pair) → Each (IsLower layer (suc n)) mid → Each (IsOutside layer n) mid → Each (IsLower layer n) mid
+pub outside-low : (layer : List ℕ → ℕ) (n : ℕ) (mid : List Pair) → Each (IsLower layer (suc n)) mid → Each (IsOutside layer n) mid → Each (IsLower layer n) mid
 outside-low layer n [] h o = tt
 outside-low layer n (e ∷ mid) h o =
     (let l : layer e.0 < suc n = h.0 in let ne = eqb-false (layer e.0) n o.0 in omega arith, outside-low layer n mid h.1 o.1)

@@ -2,7 +2,7 @@
 use Rattle.std.proofs.Common.{◌≡◌, ℕ, List, [], ◌∷◌, length, refl}
 use Rattle.paths.specs.Order.{order}
 use Rattle.spec.specs.Tree.{Pair, Part, Last, More, Nothing, Sub, top}
-use Rattle.paths.specs.Edit.{put_top, delete_path}
+use Rattle.paths.specs.TreeEdit.{put_top, delete_path}
 use Rattle.paths.specs.Trace.{put_top_gone, put_top_made, delete_path_gone, delete_path_made, delete_path_reads}
 
 abbrev toy : List ℕ → ℕ

@@ -4,7 +4,7 @@ use Rattle.std.specs.declared.cmp.Ordering.{Ordering}
 use Rattle.std.specs.declared.cmp.Ordering.TheVariants.{Less, Equal, Greater}
 use Rattle.paths.specs.Order.{order, if_equal}
 use Rattle.spec.specs.Tree.{Pair, Node, Part, Last, More, Nothing, Sub}
-use Rattle.paths.specs.Edit.{first, locate, open_part, layer_of}
+use Rattle.paths.specs.TreeEdit.{first, locate, open_part, layer_of}
 use Rattle.paths.specs.Trace.{weight, weight_under, total, nodes_of, last_part, split_gone, merge_gone, insert_list, insert_list_at, put_in_gone, put_gone, remove_list_at, delete_in_gone, delete_gone, prune_gone, above_gone, put_top_gone, settle_gone, delete_path_gone}
 use Rattle.paths.proofs.Weights.{total-append, weight-locate, weight-open, weight-prune}
 

@@ -2,7 +2,7 @@
 use Rattle.std.proofs.Common.{◌≡◌, ℕ, zero, suc, ◌<◌, Bool, true, false, nat_eq, List, [], ◌∷◌, ◌++◌, refl, arith}
 use Rattle.std.proofs.lemmas.Bool.{eqb-false}
 use Rattle.spec.specs.Tree.{Pair, Part, Sub, Groups, LastGroup, MoreGroups, push, enter, cut, node_of, below, tree}
-use Rattle.paths.specs.Edit.{with_first, locate, close}
+use Rattle.paths.specs.TreeEdit.{with_first, locate, close}
 use Rattle.paths.specs.Pairs.{Each, IsAfter}
 use Rattle.paths.proofs.Cut.{befores, last_group, first_group, Keys}
 use Rattle.spec.proofs.TreeLaws.{Inner, IsLower}

@@ -3,7 +3,7 @@ use Rattle.std.proofs.Common.{◌≡◌, ℕ, zero, suc, true, false, nat_eq, Li
 use Rattle.std.specs.declared.cmp.Ordering.TheVariants.{Equal}
 use Rattle.paths.specs.Order.{order}
 use Rattle.spec.specs.Tree.{Pair, Part, More, Sub, Groups, LastGroup, MoreGroups, push, cut, node_of, below, tree}
-use Rattle.paths.specs.Edit.{with_first, onto, locate, open_part, descend}
+use Rattle.paths.specs.TreeEdit.{with_first, onto, locate, open_part, descend}
 use Rattle.paths.specs.Pairs.{Each, IsBefore, IsAfter}
 use Rattle.paths.proofs.Cut.{befores, last_group, first_group, locate-onto, first-with_first, with_first-with_first}
 use Rattle.paths.proofs.Groups.{cut-in, befores-in, stops}

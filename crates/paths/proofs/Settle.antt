@@ -5,7 +5,7 @@ use Rattle.std.specs.declared.cmp.Ordering.TheVariants.{Less, Equal, Greater}
 use Rattle.std.proofs.lemmas.Bool.{eq-eqb}
 use Rattle.paths.specs.Order.{order}
 use Rattle.spec.specs.Tree.{Pair, Node, Part, Last, More, Nothing, Sub, top}
-use Rattle.paths.specs.Edit.{first, with_first, onto, Place, further, locate, close, open_part, join, merge, descend, remove, remove_at, delete_in, node_delete, prune, delete_top, settle, lone_at, delete_path}
+use Rattle.paths.specs.TreeEdit.{first, with_first, onto, Place, further, locate, close, open_part, join, merge, descend, remove, remove_at, delete_in, node_delete, prune, delete_top, settle, lone_at, delete_path}
 use Rattle.paths.specs.Pairs.{Ascending, delete_pair}
 use Rattle.paths.proofs.Orders.{order-equal}
 use Rattle.paths.proofs.Tops.{delete-top}

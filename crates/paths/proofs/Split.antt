@@ -2,7 +2,7 @@
 use Rattle.std.proofs.Common.{◌≡◌, ℕ, zero, suc, List, [], ◌∷◌, ◌++◌, refl, sym, ap, ◌∙◌}
 use Rattle.std.proofs.lemmas.List.{append-nil}
 use Rattle.spec.specs.Tree.{Pair, Part, More, Sub, Groups, LastGroup, MoreGroups, cut, node_of, below, tree}
-use Rattle.paths.specs.Edit.{first, with_first, onto, locate, split, join, merge}
+use Rattle.paths.specs.TreeEdit.{first, with_first, onto, locate, split, join, merge}
 use Rattle.paths.specs.Pairs.{Each, IsBefore, IsAfter}
 use Rattle.paths.proofs.Cut.{befores, last_group, first_group, ahead, glue, cut-append, node-glue, node-whole, first-with_first, with_first-with_first, first-node_of, with_first-same, locate-onto}
 use Rattle.spec.proofs.TreeLaws.{IsLower, cut-inner}

@@ -2,7 +2,7 @@
 use Rattle.std.proofs.Common.{◌≡◌, ◌⊎◌, ℕ, zero, suc, ◌+◌, ◌-◌, ◌<◌, ◌≤◌, max, Bool, true, false, nat_eq, nat_lt, List, [], ◌∷◌, ◌++◌, refl, sym, ap, subst, ◌∙◌, arith, inl, inr, cond}
 use Rattle.std.proofs.lemmas.Bool.{eqb-false, eqb-true, eq-eqb, ne_eqb, ltb-true, ltb-false, cases_lt}
 use Rattle.spec.specs.Tree.{Pair, Part, Last, Sub, Groups, LastGroup, MoreGroups, push, enter, cut, node_of, below, tree, top_layer, top}
-use Rattle.paths.specs.Edit.{close, lift, layer_of, node_put, put_above, put_top, node_delete, prune, delete_top, find}
+use Rattle.paths.specs.TreeEdit.{close, lift, layer_of, node_put, put_above, put_top, node_delete, prune, delete_top, find}
 use Rattle.paths.specs.Pairs.{Each, Ascending, put_pair, delete_pair, value_in}
 use Rattle.spec.proofs.TreeLaws.{IsLower, lower-from_top}
 use Rattle.paths.proofs.Groups.{Each-append, close-tree}
@@ -127,7 +127,7 @@ each-back : (P : Pair → Type 0) (xs ys : List Pair) → Each P (xs ++ ys) → 
 each-back P [] ys h = h
 each-back P (x ∷ xs) ys h = each-back P xs ys h.1
 
-lows-of : (layer : List ℕ → ℕ) (n : ℕ) (key : List ℕ) (es : List Pair) (a : Around key es) → Each (IsLower layer n) es → Lows layer n key a.front a.mid a.back
+pub lows-of : (layer : List ℕ → ℕ) (n : ℕ) (key : List ℕ) (es : List Pair) (a : Around key es) → Each (IsLower layer n) es → Lows layer n key a.front a.mid a.back
 lows-of layer n key es a h =
     let k = subst (Each (IsLower layer n)) a.whole h in
     let r = each-back (IsLower layer n) a.front (a.mid ++ a.back) k in

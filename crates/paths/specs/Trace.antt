@@ -4,7 +4,7 @@ use Rattle.std.specs.declared.cmp.Ordering.{Ordering}
 use Rattle.std.specs.declared.cmp.Ordering.TheVariants.{Less, Equal, Greater}
 use Rattle.paths.specs.Order.{order, if_equal}
 use Rattle.spec.specs.Tree.{Pair, Node, Part, Last, More, Nothing, Sub}
-use Rattle.paths.specs.Edit.{first, with_first, onto, locate, close, open_part, split, join, merge, lift, layer_of, node_put, put_above, node_delete, prune}
+use Rattle.paths.specs.TreeEdit.{first, with_first, onto, locate, close, open_part, split, join, merge, lift, layer_of, node_put, put_above, node_delete, prune}
 
 -- a number for each node, over all nodes of a part
 abbrev mutual

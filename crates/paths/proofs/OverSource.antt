@@ -1,0 +1,54 @@
+-- A source that has the nodes of a tree shows them.
+use Rattle.std.proofs.Common.{◌≡◌, ℕ, List, [], ◌∷◌, Option, Result, Ok, refl, sym, ap, ◌∙◌, length}
+use Rattle.std.specs.Prelude.{Contains, option_and_then}
+use Rattle.std.specs.declared.option.Option.TheVariants.{Some}
+use Rattle.spec.specs.Cid.{cid}
+use Rattle.spec.specs.Layer.{layer}
+use Rattle.spec.specs.Tree.{Pair, Node, Part, Last, More, Nothing, Sub, top, EachNode, EachUnder}
+use Rattle.spec.specs.NodeFormat.{Shape, LastLink, MoreLinks, first_link, entries_of, shape, shape_bytes, read_node}
+use Rattle.spec.specs.Blocks.{ArePairs, IsClashFree, nodes}
+use Rattle.spec.proofs.TreeNodes.{IsLawfulShape, read_node-shape_bytes}
+use Rattle.spec.proofs.SameTree.{Stands}
+use Rattle.spec.proofs.RootLaws.{stands-top}
+use Rattle.paths.specs.Sources.{shape_from, shape_of_reading, shape_of_bytes, shown_by, HasNodes, Holds}
+
+shape_from-parts : (s : Shape) → shape_from (first_link s) (entries_of s) ≡ s
+shape_from-parts (LastLink l) = refl
+shape_from-parts (MoreLinks l e r) = ap (MoreLinks l e) (shape_from-parts r)
+
+some : Shape → Option Shape
+some s = Some s
+
+-- what is of the grammar is read as the shape that was written
+pub shape_of_bytes-shape_bytes : (s : Shape) → IsLawfulShape s → shape_of_bytes (shape_bytes s) ≡ Some s
+shape_of_bytes-shape_bytes s is = ap shape_of_reading (read_node-shape_bytes s is) ∙ ap (λ (t : Shape). Some t) (shape_from-parts s)
+
+-- ---- each node
+
+mutual
+  pub each-part : (P Q : Node → Type 0) → ((m : Node) → P m → Q m) → (p : Part) → EachNode P p → EachNode Q p
+  each-part P Q f Nothing h = tt
+  each-part P Q f (Sub m) h = (f m h.0, each-node P Q f m h.1)
+
+  pub each-node : (P Q : Node → Type 0) → ((m : Node) → P m → Q m) → (m : Node) → EachUnder P m → EachUnder Q m
+  each-node P Q f (Last p) h = each-part P Q f p h
+  each-node P Q f (More p e r) h = (each-part P Q f p h.0, each-node P Q f r h.1)
+
+-- the source shows each node of the tree
+pub holds-top : (digest : List ℕ → List ℕ) (bits : ℕ) → ((bytes : List ℕ) → length (digest bytes) ≡ 32) → (gives : List ℕ → Option (List ℕ)) (es : List Pair) → ArePairs es → HasNodes digest bits gives es
+    → Holds digest (shown_by gives) (Sub (top (layer digest bits) es))
+holds-top digest bits fits gives es are has =
+    each-part _ _
+    (λ (m : Node) (s : Stands (Contains (nodes digest bits es)) (shape digest m)).
+    ap (option_and_then shape_of_bytes) (has (shape_bytes (shape digest m)) s.0) ∙ shape_of_bytes-shape_bytes (shape digest m) s.1)
+    (Sub (top (layer digest bits) es)) (stands-top digest bits fits es are (nodes digest bits es) (λ b h. h))
+
+-- one CID gives one block
+pub free-source : (digest : List ℕ → List ℕ) (bits : ℕ) (gives : List ℕ → Option (List ℕ)) (es : List Pair) → HasNodes digest bits gives es → IsClashFree digest (nodes digest bits es)
+free-source digest bits gives es has a b h k e = some_is a b (sym (has a h) ∙ ap gives e ∙ has b k)
+  where
+    given : List ℕ → Option (List ℕ)
+    given x = Some x
+
+    some_is : (x y : List ℕ) → given x ≡ given y → x ≡ y
+    some_is x y q = cc
