@@ -15,13 +15,13 @@ use Rattle.paths.specs.Order.{order, if_equal}
 use Rattle.paths.specs.Pairs.{put_pair, delete_pair}
 use Rattle.paths.specs.Changes.{count, marked, add_of, drop_of, AreChanges}
 use Rattle.paths.specs.Trace.{weight, weight_under, total, put_top_gone, put_top_made, delete_path_gone, delete_path_made, delete_gone, delete_path_reads, settle_gone, settle_reads, settle_left, left_stays, delete_left, delete_path_read}
-use Rattle.paths.proofs.Lists.{count-append, count-map, contains-counted, counted-contains}
-use Rattle.paths.proofs.Weights.{weight-prune, total-append}
-use Rattle.paths.proofs.Gone.{put_top-old, delete_path-old}
-use Rattle.paths.proofs.NodesOnce.{nodes-once}
 use Rattle.paths.proofs.Balance.{put-balance, delete-balance}
-use Rattle.paths.proofs.RecordMaps.{ascending-sorted}
 use Rattle.paths.proofs.Changes.{changes}
+use Rattle.paths.proofs.Gone.{put_top-old, delete_path-old}
+use Rattle.paths.proofs.Lists.{count-append, count-map, contains-counted, counted-contains}
+use Rattle.paths.proofs.NodesOnce.{nodes-once}
+use Rattle.paths.proofs.RecordMaps.{ascending-sorted}
+use Rattle.paths.proofs.Weights.{weight-prune, total-append}
 
 -- ---- counts in lists of blocks are weights of trees
 

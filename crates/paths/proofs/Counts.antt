@@ -7,7 +7,7 @@ use Rattle.std.specs.declared.cmp.Ordering.TheVariants.{Less, Equal, Greater}
 use Rattle.paths.specs.Order.{order, if_equal}
 use Rattle.spec.specs.Tree.{Pair, Node, Part, Last, More, Nothing, Sub}
 use Rattle.paths.specs.TreeEdit.{first, with_first, onto, locate, close, open_part, split, join, merge, lift, layer_of, node_put, put_above, node_delete}
-use Rattle.paths.specs.Trace.{nodes_of, made_close, last_part, split_gone, split_made, merge_gone, merge_made, insert_list, insert_list_at, put_in_gone, put_in_made, put_gone, put_made, lift_made, remove_list_at, delete_in_gone, delete_in_made, delete_gone, delete_made, prune_gone, above_gone, above_made, put_top_gone, put_top_made, find_reads, answer_reads, answer_reads_at, prune_reads, settle_made, settle_reads, at_lone, delete_path_made, delete_path_reads}
+use Rattle.paths.specs.Trace.{nodes_of, made_close, last_part, split_gone, split_made, merge_gone, merge_made, insert_list, insert_list_at, put_in_gone, put_in_made, put_gone, put_made, lift_made, remove_list_at, delete_in_gone, delete_in_made, delete_gone, delete_made, prune_gone, above_gone, above_made, put_top_gone, put_top_made, find_path, beside, settle_made, settle_reads, at_lone, delete_path_made, delete_path_reads}
 
 close-one : (m : Node) → length (made_close m) ≤ 1
 close-one (Last Nothing) = omega arith
@@ -18,23 +18,23 @@ nodes-one : (g : Part) → length (nodes_of g) ≤ 1
 nodes-one Nothing = omega arith
 nodes-one (Sub m) = omega arith
 
--- ---- get
+-- ---- look-ups
 
-answer_at-most : (o : Ordering) (k n : ℕ) → k ≤ n → answer_reads_at o k ≤ n
-answer_at-most Less k n h = h
-answer_at-most Equal k n h = omega arith
-answer_at-most Greater k n h = h
+if_equal-most : (o : Ordering) (n : ℕ) (ms : List Node) → length ms ≤ n → length (if_equal o [] ms) ≤ n
+if_equal-most Less n ms h = h
+if_equal-most Equal n ms h = omega arith
+if_equal-most Greater n ms h = h
 
-answer-most : (key : List ℕ) (k n : ℕ) (m : Node) → k ≤ n → answer_reads key k m ≤ n
-answer-most key k n (Last p) h = h
-answer-most key k n (More p e r) h = answer_at-most (order e.0 key) k n h
+beside-most : (key : List ℕ) (h : Node) (n : ℕ) (ms : List Node) → length ms ≤ n → length (beside key h (λ p q. []) ms) ≤ n
+beside-most key (Last p) n ms h = h
+beside-most key (More p e r) n ms h = if_equal-most (order e.0 key) n ms h
 
-pub find-reads : (n : ℕ) (key : List ℕ) (p : Part) → find_reads n key p ≤ n
-find-reads zero key p = omega arith
-find-reads (suc n) key Nothing = omega arith
-find-reads (suc n) key (Sub m) =
+pub find_path-most : (n : ℕ) (key : List ℕ) (p : Part) → length (find_path n key p) ≤ n
+find_path-most zero key p = omega arith
+find_path-most (suc n) key Nothing = omega arith
+find_path-most (suc n) key (Sub m) =
     let h = (locate key m).here in
-    let i = answer-most key (find_reads n key (first h)) n h (find-reads n key (first h)) in
+    let i = beside-most key h n (find_path n key (first h)) (find_path-most n key (first h)) in
     omega arith
 
 -- ---- split and merge
@@ -197,22 +197,6 @@ delete-gone layer (suc n) key m =
     let k = delete_in-made (suc n) key h in
     cond-most (nat_eq (layer key) (suc n)) (delete_in_gone (suc n) key h) (nodes_of (first h) ++ delete_gone layer n key (open_part (first h))) (2 * suc n)
     (omega arith) (omega (arith, length-append (nodes_of (first h)) (delete_gone layer n key (open_part (first h)))))
-
-pub prune-reads : (k n : ℕ) (m : Node) → prune_reads k n m ≤ n - k
-prune-reads k zero m = omega arith
-prune-reads k (suc n) (Last Nothing) = omega arith
-prune-reads zero (suc n) (Last (Sub m)) = let i = prune-reads zero n m in omega arith
-prune-reads (suc k) (suc n) (Last (Sub m)) = let i = prune-reads k n m in omega arith
-prune-reads k (suc n) (More p e r) = omega arith
-
--- where the key stands in the top: the top, two nodes for each level merged, and one for each level below that pruning looks at
-pub delete_in-reads : (n : ℕ) (key : List ℕ) (h m : Node)
-    → suc (length (delete_in_gone n key h) + prune_reads (length (delete_in_made n key h)) n m) ≤ 2 * n + 1
-delete_in-reads n key h m =
-    let i = delete_in-gone n key h in
-    let j = delete_in-made n key h in
-    let k = prune-reads (length (delete_in_made n key h)) n m in
-    omega arith
 
 prune-gone : (n : ℕ) (m : Node) → length (prune_gone n m) ≤ n
 prune-gone zero m = omega arith

@@ -9,7 +9,7 @@ use Rattle.paths.specs.Trace.{nodes_of, delete_path_nodes, row_at, beside, delet
 use Rattle.spec.specs.NodeFormat.{MoreLinks, part_link, shape, first_link}
 use Rattle.paths.specs.ShapeEdit.{close_link, go_shape, remove_shape, remove_shape_at, with_first_link, head_shape, tail_shapes, delete_shape, row_links, row_links_at, path_links, merge_links, merge_shapes, delete_shapes, close_shapes}
 use Rattle.paths.proofs.ShapeBridges as bridge
-use Rattle.paths.proofs.Weights.{IsWithin, AllWithin, within-first, within-locate, within-open, within-rest}
+use Rattle.paths.proofs.Within.{IsWithin, AllWithin, within-first, within-locate, within-open, within-rest}
 use Rattle.std.proofs.lemmas.List.{append-nil, map-append}
 
 module _ (digest : List ℕ → List ℕ) where

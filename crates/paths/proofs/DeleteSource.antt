@@ -12,14 +12,14 @@ use Rattle.paths.specs.Trace.{beside, row_at, merge_pairs, met_pairs, settle_lef
 use Rattle.paths.specs.ShapeEdit.{settle_links, lone_shape}
 use Rattle.paths.specs.PathEdit.{flat, all_but_last}
 use Rattle.paths.specs.Sources.{met_from, pruned_from}
-use Rattle.paths.proofs.Weights.{IsWithin, AllWithin, within-first}
-use Rattle.paths.proofs.ShapeBridges as bridge
-use Rattle.paths.proofs.SettleShapes.{links-settle}
 use Rattle.paths.proofs.DeleteShapes.{within-row}
 use Rattle.paths.proofs.Enough.{merge_pairs-enough, prune_path-enough}
 use Rattle.paths.proofs.PathReads.{lone-met}
+use Rattle.paths.proofs.SettleShapes.{links-settle}
 use Rattle.paths.proofs.SourceLaws.{IsShown, met-holds, pruned-holds}
 use Rattle.paths.proofs.WalkPairs.{each-first_part}
+use Rattle.paths.proofs.Within.{IsWithin, AllWithin, within-first}
+use Rattle.paths.proofs.ShapeBridges as bridge
 
 -- ---- what holds of each node below a node holds below the rest of it at a key
 

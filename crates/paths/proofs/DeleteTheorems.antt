@@ -20,7 +20,6 @@ use Rattle.paths.specs.Sources.{HasNodes, shown_by, path_from, met_from, pruned_
 use Rattle.paths.specs.EditLaws.{IsEdit}
 use Rattle.paths.specs.DeleteLaws.{DeleteIsTop, DeleteReadsPath, DeleteReads, DeleteIsShapes, DeleteCounts, IsDelete, DeleteOverSource}
 use Rattle.paths.proofs.Balance.{delete-balance, within-top}
-use Rattle.paths.proofs.BlockChanges as blocks
 use Rattle.paths.proofs.Counts.{delete_path-reads, delete_path-made}
 use Rattle.paths.proofs.DeleteShapes.{links-path}
 use Rattle.paths.proofs.DeleteSource.{map-flat, map-all_but_last, met-row, pruned-top}
@@ -30,13 +29,14 @@ use Rattle.paths.proofs.Gone.{delete_path-old}
 use Rattle.paths.proofs.LookupTheorems.{find_path-bound}
 use Rattle.paths.proofs.OverSource.{holds-top, free-source}
 use Rattle.paths.proofs.PathForms.{delete_root-same, delete_written-same, links-same}
-use Rattle.paths.proofs.PathReads as reads
 use Rattle.paths.proofs.PutTopShapes.{layer-shape}
 use Rattle.paths.proofs.RecordMaps.{ascending-sorted, find-is, delete-is}
 use Rattle.paths.proofs.Settle.{delete_path-top}
-use Rattle.paths.proofs.ShapeBridges as bridge
 use Rattle.paths.proofs.SourceLaws.{path-holds}
 use Rattle.paths.proofs.Weights.{total-append}
+use Rattle.paths.proofs.BlockChanges as blocks
+use Rattle.paths.proofs.PathReads as reads
+use Rattle.paths.proofs.ShapeBridges as bridge
 
 pub delete-is_top : DeleteIsTop
 delete-is_top layer key es s =

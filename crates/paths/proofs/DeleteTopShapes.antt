@@ -11,7 +11,7 @@ use Rattle.paths.specs.TreeEdit.{layer_of, locate, node_delete, lone_at, delete_
 use Rattle.paths.specs.Trace.{merge_pairs, row_at, beside, delete_made, delete_path_nodes, settle_made, settle_left, met_pairs, prune_path, delete_left, delete_path_made}
 use Rattle.paths.specs.ShapeEdit.{path_links, merge_links, merge_shapes, delete_shape, delete_shapes, settle_shape, settle_shapes, delete_top_shape, delete_top_shapes}
 use Rattle.paths.proofs.Orders.{order-equal}
-use Rattle.paths.proofs.Weights.{AllWithin}
+use Rattle.paths.proofs.Within.{AllWithin}
 use Rattle.paths.proofs.ShapeBridges as bridge
 use Rattle.paths.proofs.DeleteShapes as below
 use Rattle.paths.proofs.SettleShapes as alone

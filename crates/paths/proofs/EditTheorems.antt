@@ -42,9 +42,6 @@ pub put-reads_path : PutReadsPath
 put-reads_path layer n p es s l = put-path layer p es (ascending-sorted es s) ∙ sym (find_path-bound layer n p.0 es l)
 
 -- the path begins with the top
-head-path : (digest : List ℕ → List ℕ) (n : ℕ) (key : List ℕ) (m : Node) → head_shape (map (shape digest) (find_path (suc n) key (Sub m))) ≡ shape digest m
-head-path digest n key m = refl
-
 head-bound : (digest : List ℕ → List ℕ) (layer : List ℕ → ℕ) (n : ℕ) (key : List ℕ) (es : List Pair) → layer_of layer (top layer es) < n
     → head_shape (map (shape digest) (find_path n key (Sub (top layer es)))) ≡ shape digest (top layer es)
 head-bound digest layer zero key es l = absurd (omega arith)

@@ -6,13 +6,14 @@ use Rattle.paths.specs.Order.{order}
 use Rattle.spec.specs.Tree.{Pair, Part, Sub, Groups, LastGroup, MoreGroups, cut, node_of, below, tree}
 use Rattle.paths.specs.TreeEdit.{with_first, close, open_part, descend, between, insert, put_in, node_put, remove, delete_in, node_delete, find, answer}
 use Rattle.paths.specs.Pairs.{Each, IsBefore, IsAfter}
-use Rattle.paths.proofs.Cut.{last_group, first_group, first-with_first, with_first-with_first, first-node_of, with_first-same}
-use Rattle.paths.proofs.Groups.{InGroups, Each-append, cut-in, last-in, first-in, last-inner, first-inner, close-tree}
-use Rattle.spec.proofs.TreeLaws.{IsLower, cut-inner}
-use Rattle.paths.proofs.Split.{merge-below, split-below, tree-append, locate-append}
-use Rattle.paths.proofs.Orders.{order-same}
 use Rattle.paths.proofs.Around.{Here, absent, present, value_of}
+use Rattle.paths.proofs.Cut.{last_group, first_group, first-with_first, with_first-with_first, first-node_of, with_first-same}
+use Rattle.paths.proofs.EachPair.{each-both}
+use Rattle.paths.proofs.Groups.{InGroups, cut-in, last-in, first-in, last-inner, first-inner, close-tree}
+use Rattle.paths.proofs.Orders.{order-same}
 use Rattle.paths.proofs.Places.{IsOutside, tree-here, locate-outside, locate-here, descend-tree, open-below, sub-tree}
+use Rattle.paths.proofs.Split.{merge-below, split-below, tree-append, locate-append}
+use Rattle.spec.proofs.TreeLaws.{IsLower, cut-inner}
 
 insert-after : (n : ℕ) (p : Pair) (q : Part) (part : List Pair → Part) (g : Groups) → InGroups (IsAfter p.0) g
     → insert n p (with_first q (node_of part g)) ≡ between n p (with_first q (node_of part g))
@@ -141,7 +142,7 @@ delete-deeper layer key n ih xs mid ys h c =
     let us = last_group (cut layer (suc n) xs) in
     let vs = first_group (cut layer (suc n) ys) in
     descend-tree layer (suc n) key (λ g. close (node_delete layer n key (open_part g))) xs mid [] ys o tt c.front_before c.back_after
-    (rw (open-below layer n (us ++ (mid ++ vs)), ih us mid vs d) (close-tree layer n (us ++ vs) (Each-append (IsLower layer (suc n)) us vs d.front_low d.back_low)))
+    (rw (open-below layer n (us ++ (mid ++ vs)), ih us mid vs d) (close-tree layer n (us ++ vs) (each-both (IsLower layer (suc n)) us vs d.front_low d.back_low)))
 
 delete-cases : (layer : List ℕ → ℕ) (key : List ℕ) (n : ℕ) → DeleteAt layer key n → (b : Bool) → nat_eq (layer key) (suc n) ≡ b → DeleteAt layer key (suc n)
 delete-cases layer key n ih true h xs mid ys c = rw h (delete_in-tree layer (suc n) key xs mid ys h c c.mid_here)

@@ -11,10 +11,6 @@ abbrev pub InGroups : (Pair → Type 0) → Groups → Type 0
 InGroups P (LastGroup g) = Each P g
 InGroups P (MoreGroups g e r) = Each P g × P e × InGroups P r
 
-pub Each-append : (P : Pair → Type 0) (xs ys : List Pair) → Each P xs → Each P ys → Each P (xs ++ ys)
-Each-append P [] ys h k = k
-Each-append P (x ∷ xs) ys h k = (h.0, Each-append P xs ys h.1 k)
-
 enter-in : (P : Pair → Type 0) (b : Bool) (e : Pair) (g : Groups) → P e → InGroups P g → InGroups P (enter b e g)
 enter-in P true e g p h = (tt, p, h)
 enter-in P false e (LastGroup g) p h = (p, h)

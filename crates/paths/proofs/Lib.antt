@@ -6,7 +6,6 @@ pub mod Around
 pub mod Places
 pub mod Edits
 pub mod Tops
-pub mod OrderKept
 pub mod Weights
 pub mod Counts
 pub mod Within
@@ -38,3 +37,4 @@ pub mod WalkTheorems
 pub mod EditTheorems
 pub mod DeleteTheorems
 pub mod RecordTheorems
+pub mod EachPair

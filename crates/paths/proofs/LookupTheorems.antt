@@ -11,22 +11,22 @@ use Rattle.spec.specs.Layer.{layer, zero_bits}
 use Rattle.spec.specs.Tree.{Pair, Sub, top_layer, top}
 use Rattle.spec.specs.NodeFormat.{Shape, LastLink, MoreLinks, Entry, shape, shape_bytes, first_link, entries_of}
 use Rattle.spec.specs.Proof.{by_order, place, gap_of, Here}
-use Rattle.spec.proofs.LayerLaws.{zero_bits-le}
+use Rattle.spec.proofs.PathNodes.{top_layer-le}
 use Rattle.paths.specs.Order.{order}
 use Rattle.paths.specs.TreeEdit.{layer_of}
 use Rattle.paths.specs.Trace.{find_path}
 use Rattle.paths.specs.Sources.{shown_by, row_value, row_value_at, gap, gap_at, path_from}
 use Rattle.paths.specs.LookupLaws.{FindIsValue, FindReads, TopHasLayer, PathIsRead, found_at, StepIsPlace, PathBound, LookupOverSource}
-use Rattle.paths.proofs.Weights.{IsWithin, AllWithin}
 use Rattle.paths.proofs.Balance.{within-top}
-use Rattle.paths.proofs.Counts.{find-reads}
+use Rattle.paths.proofs.Counts.{find_path-most}
 use Rattle.paths.proofs.Enough.{find-enough, find_path-enough}
+use Rattle.paths.proofs.Orders.{order-is}
 use Rattle.paths.proofs.OverSource.{holds-top}
-use Rattle.paths.proofs.PathIsRead.{order-is, path-layer, path-reads}
+use Rattle.paths.proofs.PathIsRead.{path-layer}
 use Rattle.paths.proofs.RecordMaps.{ascending-sorted, find-is}
 use Rattle.paths.proofs.SourceLaws.{path-holds, value-holds, path-most}
 use Rattle.paths.proofs.Tops.{find-top, layer_of-top}
-use Rattle.paths.proofs.WalkPairs.{within-under-up}
+use Rattle.paths.proofs.Within.{IsWithin, AllWithin, within-under-up}
 
 -- as many layers as are wanted, above the top's
 pub within-bound : (layer : List ℕ → ℕ) (n : ℕ) (es : List Pair) → layer_of layer (top layer es) < n → IsWithin n (Sub (top layer es))
@@ -54,32 +54,17 @@ find-reads_layers layer n key es =
     elim (cases_lt t n) [
       | inl l ↦
           let e : length (find_path n key p) ≡ length (find_path (suc t) key p) = ap length (find_path-bound layer n key es l) in
-          let r = path-reads (suc t) key p in
-          let b = find-reads (suc t) key p in
+          let b = find_path-most (suc t) key p in
           omega arith
       | inr l ↦
-          let r = path-reads n key p in
-          let b = find-reads n key p in
+          let b = find_path-most n key p in
           omega arith
     ]
 
 -- ---- layers
 
-quotient-le : (a b bits : ℕ) → a ≤ b → a / bits ≤ b / bits
-quotient-le a b zero l = rw (div-zero a, div-zero b) (omega arith)
-quotient-le a b (suc k) l = le-div (a / suc k) b (suc k) (omega arith) (let q = div-mul-le_self a (suc k) in omega arith)
-
-layers-le : (digest : List ℕ → List ℕ) (bits : ℕ) → ((bytes : List ℕ) → length (digest bytes) ≡ 32) → (es : List Pair) → top_layer (layer digest bits) es ≤ 256 / bits
-layers-le digest bits fits [] = omega arith
-layers-le digest bits fits (e ∷ es) =
-    let i = layers-le digest bits fits es in
-    let z = zero_bits-le (digest e.0) in
-    let f = fits e.0 in
-    let q = quotient-le (zero_bits (digest e.0)) 256 bits (omega arith) in
-    omega arith
-
 pub top-has_layer : TopHasLayer
-top-has_layer digest bits fits es = let e = layer_of-top (layer digest bits) es in let l = layers-le digest bits fits es in omega arith
+top-has_layer digest bits fits es = let e = layer_of-top (layer digest bits) es in let l = top_layer-le digest bits fits es in omega arith
 
 pub path-is_read : PathIsRead
 path-is_read digest bits n es key l =

@@ -10,35 +10,22 @@ use Rattle.spec.specs.Blocks.{ArePairs, IsClashFree, nodes}
 use Rattle.spec.proofs.TreeNodes.{IsLawfulShape, read_node-shape_bytes}
 use Rattle.spec.proofs.SameTree.{Stands}
 use Rattle.spec.proofs.RootLaws.{stands-top}
+use Rattle.spec.proofs.VerifyLaws.{each-part_is}
 use Rattle.paths.specs.Sources.{shape_from, shape_of_reading, shape_of_bytes, shown_by, HasNodes, Holds}
 
 shape_from-parts : (s : Shape) → shape_from (first_link s) (entries_of s) ≡ s
 shape_from-parts (LastLink l) = refl
 shape_from-parts (MoreLinks l e r) = ap (MoreLinks l e) (shape_from-parts r)
 
-some : Shape → Option Shape
-some s = Some s
-
 -- what is of the grammar is read as the shape that was written
 pub shape_of_bytes-shape_bytes : (s : Shape) → IsLawfulShape s → shape_of_bytes (shape_bytes s) ≡ Some s
 shape_of_bytes-shape_bytes s is = ap shape_of_reading (read_node-shape_bytes s is) ∙ ap (λ (t : Shape). Some t) (shape_from-parts s)
-
--- ---- each node
-
-mutual
-  pub each-part : (P Q : Node → Type 0) → ((m : Node) → P m → Q m) → (p : Part) → EachNode P p → EachNode Q p
-  each-part P Q f Nothing h = tt
-  each-part P Q f (Sub m) h = (f m h.0, each-node P Q f m h.1)
-
-  pub each-node : (P Q : Node → Type 0) → ((m : Node) → P m → Q m) → (m : Node) → EachUnder P m → EachUnder Q m
-  each-node P Q f (Last p) h = each-part P Q f p h
-  each-node P Q f (More p e r) h = (each-part P Q f p h.0, each-node P Q f r h.1)
 
 -- the source shows each node of the tree
 pub holds-top : (digest : List ℕ → List ℕ) (bits : ℕ) → ((bytes : List ℕ) → length (digest bytes) ≡ 32) → (gives : List ℕ → Option (List ℕ)) (es : List Pair) → ArePairs es → HasNodes digest bits gives es
     → Holds digest (shown_by gives) (Sub (top (layer digest bits) es))
 holds-top digest bits fits gives es are has =
-    each-part _ _
+    each-part_is _ _
     (λ (m : Node) (s : Stands (Contains (nodes digest bits es)) (shape digest m)).
     ap (option_and_then shape_of_bytes) (has (shape_bytes (shape digest m)) s.0) ∙ shape_of_bytes-shape_bytes (shape digest m) s.1)
     (Sub (top (layer digest bits) es)) (stands-top digest bits fits es are (nodes digest bits es) (λ b h. h))

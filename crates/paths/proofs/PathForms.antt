@@ -16,9 +16,6 @@ module _ (digest : List ℕ → List ℕ) where
   abbrev pub IsOpen : Shape → Type 0
   IsOpen s = (close_link digest s ≡ Some (shape_cid digest s)) × (close_shapes s ≡ s ∷ [])
 
-  open-more : (l : Option (List ℕ)) (e : Pair) (r : Shape) → IsOpen (MoreLinks l e r)
-  open-more l e r = (refl, refl)
-
   open-insert_at : (o : Ordering) (p : Pair) (l : Option (List ℕ)) (e : Pair) (r : Shape) (t : Option (List ℕ) × Option (List ℕ)) (kept : Shape) → IsOpen (insert_shape_at o p l e r t kept)
   open-insert_at Less p l e r t kept = (refl, refl)
   open-insert_at Equal p l e r t kept = (refl, refl)

@@ -10,14 +10,10 @@ use Rattle.spec.specs.NodeFormat.{node_bytes}
 use Rattle.spec.specs.Proof.{by_order, path_in, path_under, path}
 use Rattle.paths.specs.Order.{order, if_equal}
 use Rattle.paths.specs.TreeEdit.{first, Place, further, locate, layer_of}
-use Rattle.paths.specs.Trace.{beside, find_path, find_reads, answer_reads, answer_reads_at}
-use Rattle.paths.proofs.Weights.{IsWithin, AllWithin}
-use Rattle.paths.proofs.Within.{within-tree}
+use Rattle.paths.specs.Trace.{beside, find_path}
+use Rattle.paths.proofs.Orders.{order-is}
 use Rattle.paths.proofs.Tops.{layer_of-top}
-
-pub order-is : (x y : List ℕ) → slice_cmp nat_cmp x y ≡ order x y
-unfolding order
-order-is x y = refl
+use Rattle.paths.proofs.Within.{IsWithin, AllWithin, within-tree}
 
 -- the nodes below, but for a key that is here
 abbrev read_below : List ℕ → ℕ → Node → List Node
@@ -53,20 +49,3 @@ path-top digest bits es key =
 pub path-layer : (digest : List ℕ → List ℕ) (bits : ℕ) (es : List Pair) (key : List ℕ) → let t = top (layer digest bits) es in
     path digest bits es key ≡ map (node_bytes digest) (find_path (suc (layer_of (layer digest bits) t)) key (Sub t))
 path-layer digest bits es key = rw (layer_of-top (layer digest bits) es) (path-top digest bits es key)
-
--- as many as the reads
-reads-choice : (o : Ordering) (ms : List Node) → length (if_equal o [] ms) ≡ answer_reads_at o (length ms)
-reads-choice Less ms = refl
-reads-choice Equal ms = refl
-reads-choice Greater ms = refl
-
-reads-below : (key : List ℕ) (n : ℕ) (h : Node) → length (read_below key n h) ≡ answer_reads key (length (find_path n key (first h))) h
-reads-below key n (Last p) = refl
-reads-below key n (More p e r) = reads-choice (order e.0 key) (find_path n key p)
-
-pub path-reads : (n : ℕ) (key : List ℕ) (p : Part) → length (find_path n key p) ≡ find_reads n key p
-path-reads zero key p = refl
-path-reads (suc n) key Nothing = refl
-path-reads (suc n) key (Sub m) =
-    let h = (locate key m).here in
-    ap (λ k. suc k) (reads-below key n h ∙ ap (λ k. answer_reads key k h) (path-reads n key (first h)))

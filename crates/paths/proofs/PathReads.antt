@@ -11,12 +11,12 @@ use Rattle.paths.specs.TreeEdit.{first, with_first, locate, open_part, find, ans
 use Rattle.paths.specs.Trace.{nodes_of, split_gone, insert_list, insert_list_at, put_in_gone, put_gone, above_gone, put_top_gone, find_path, beside, delete_path_nodes, row_at, met_pairs, merge_pairs, merge_gone, delete_in_gone, remove_list_at, delete_gone, settle_gone, settle_left, prune_gone, prune_path, at_lone, delete_left, left_stays, delete_path_gone, delete_path_read}
 use Rattle.paths.specs.PathEdit.{flat, all_but_last}
 use Rattle.spec.proofs.TreeLaws.{IsLower, lower-from_top}
-use Rattle.paths.proofs.Orders.{order-same, order-equal}
-use Rattle.paths.proofs.Cut.{last_group, first_group, first-with_first}
-use Rattle.paths.proofs.Groups.{InGroups, cut-in}
-use Rattle.paths.proofs.Places.{IsOutside, locate-outside, locate-here, sub-tree}
 use Rattle.paths.proofs.Around.{Here, absent, present, Around, around, value_of, value_in-around}
+use Rattle.paths.proofs.Cut.{last_group, first_group, first-with_first}
 use Rattle.paths.proofs.Edits.{Lows, lows-down, outside-low, here-outside, find-tree}
+use Rattle.paths.proofs.Groups.{InGroups, cut-in}
+use Rattle.paths.proofs.Orders.{order-same, order-equal}
+use Rattle.paths.proofs.Places.{IsOutside, locate-outside, locate-here, sub-tree}
 use Rattle.paths.proofs.Tops.{layer_of-top, lows-of}
 
 -- the nodes that a look-up reads below a node

@@ -16,9 +16,8 @@ use Rattle.spec.specs.Writes.{with_key, without_key}
 use Rattle.spec.proofs.NodeLaws.{both}
 use Rattle.paths.specs.Order.{order}
 use Rattle.paths.specs.Pairs.{Each, IsAfter, Ascending, put_first, put_pair, delete_first, delete_pair, value_first, value_in}
-use Rattle.paths.proofs.Orders.{order-equal, turned_back, order-same}
 use Rattle.paths.proofs.Around.{all-after-trans, all-after-same}
-use Rattle.paths.proofs.PathIsRead.{order-is}
+use Rattle.paths.proofs.Orders.{order-equal, turned_back, order-same, order-is}
 
 -- the same order the other way round
 other_way : (x y : List ℕ) (o : Ordering) → order x y ≡ o → slice_cmp nat_cmp y x ≡ ordering_reverse o

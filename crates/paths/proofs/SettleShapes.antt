@@ -5,7 +5,7 @@ use Rattle.spec.specs.NodeFormat.{Shape, LastLink, part_link, shape}
 use Rattle.paths.specs.TreeEdit.{first, merge, prune, settle}
 use Rattle.paths.specs.Trace.{last_part, merge_pairs, settle_made, settle_left, prune_path}
 use Rattle.paths.specs.ShapeEdit.{last_shape, settle_links, settle_shape, settle_shapes}
-use Rattle.paths.proofs.Weights.{IsWithin, AllWithin, within-first, within-last}
+use Rattle.paths.proofs.Within.{IsWithin, AllWithin, within-first, within-last}
 use Rattle.paths.proofs.ShapeBridges as bridge
 
 module _ (digest : List ℕ → List ℕ) where

@@ -9,7 +9,7 @@ use Rattle.spec.specs.Tree.{Pair, Node, Part, Last, More, Nothing, Sub}
 use Rattle.paths.specs.TreeEdit.{first, with_first, onto, Place, further, locate, close, open_part, join, merge, split, descend, insert, put_in, node_put}
 use Rattle.paths.specs.Trace.{nodes_of, made_close, split_gone, split_made, insert_list, insert_list_at, put_in_gone, put_in_made, put_gone, put_made, last_part, merge_made, merge_pairs}
 use Rattle.spec.specs.NodeFormat.{Shape, MoreLinks, part_link, shape, first_link, shape_cid}
-use Rattle.paths.proofs.Weights.{IsWithin, within-last, within-first}
+use Rattle.paths.proofs.Within.{IsWithin, within-last, within-first}
 use Rattle.paths.specs.ShapeEdit.{keep_before, keep_before_at, keep_after, keep_after_at, close_link, close_shapes, split_links, split_shapes, go_shape, go_shape_at, insert_shape, insert_shape_at, head_shape, tail_shapes, put_shape, put_shapes, last_link, with_first_link, join_shape, merge_links, merge_shapes}
 
 module _ (digest : List ℕ → List ℕ) where

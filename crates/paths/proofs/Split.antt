@@ -5,8 +5,8 @@ use Rattle.spec.specs.Tree.{Pair, Part, More, Sub, Groups, LastGroup, MoreGroups
 use Rattle.paths.specs.TreeEdit.{first, with_first, onto, locate, split, join, merge}
 use Rattle.paths.specs.Pairs.{Each, IsBefore, IsAfter}
 use Rattle.paths.proofs.Cut.{befores, last_group, first_group, ahead, glue, cut-append, node-glue, node-whole, first-with_first, with_first-with_first, first-node_of, with_first-same, locate-onto}
-use Rattle.spec.proofs.TreeLaws.{IsLower, cut-inner}
 use Rattle.paths.proofs.Groups.{cut-in, befores-in, last-in, first-in, last-inner, first-inner, stops, close-tree}
+use Rattle.spec.proofs.TreeLaws.{IsLower, cut-inner}
 
 with_first-ahead : (part : List Pair → Part) (a : List Pair) (h : Groups) → with_first (part (a ++ first_group h)) (node_of part h) ≡ node_of part (ahead a h)
 with_first-ahead part a (LastGroup g) = refl

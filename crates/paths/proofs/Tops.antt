@@ -5,11 +5,12 @@ use Rattle.spec.specs.Tree.{Pair, Part, Last, Sub, Groups, LastGroup, MoreGroups
 use Rattle.paths.specs.TreeEdit.{close, lift, layer_of, node_put, put_above, put_top, node_delete, prune, delete_top, find}
 use Rattle.paths.specs.Pairs.{Each, Ascending, put_pair, delete_pair, value_in}
 use Rattle.spec.proofs.TreeLaws.{IsLower, lower-from_top}
-use Rattle.paths.proofs.Groups.{Each-append, close-tree}
-use Rattle.paths.proofs.Split.{split-below}
 use Rattle.paths.proofs.Around.{Here, absent, present, Around, around, put_pair-around, delete_pair-around, value_in-around}
+use Rattle.paths.proofs.EachPair.{each-both, each-left, each-right}
 use Rattle.paths.proofs.Edits.{Lows, put-tree, delete-tree, find-tree}
+use Rattle.paths.proofs.Groups.{close-tree}
 use Rattle.paths.proofs.Places.{tree-here}
+use Rattle.paths.proofs.Split.{split-below}
 
 cut-none : (layer : List ℕ → ℕ) (n : ℕ) (es : List Pair) → Each (IsLower layer n) es → cut layer n es ≡ LastGroup es
 cut-none layer n [] h = refl
@@ -119,23 +120,15 @@ prune-tree layer (suc n) (e ∷ es) h =
 
 -- ---- the whole tree
 
-each-front : (P : Pair → Type 0) (xs ys : List Pair) → Each P (xs ++ ys) → Each P xs
-each-front P [] ys h = tt
-each-front P (x ∷ xs) ys h = (h.0, each-front P xs ys h.1)
-
-each-back : (P : Pair → Type 0) (xs ys : List Pair) → Each P (xs ++ ys) → Each P ys
-each-back P [] ys h = h
-each-back P (x ∷ xs) ys h = each-back P xs ys h.1
-
 pub lows-of : (layer : List ℕ → ℕ) (n : ℕ) (key : List ℕ) (es : List Pair) (a : Around key es) → Each (IsLower layer n) es → Lows layer n key a.front a.mid a.back
 lows-of layer n key es a h =
     let k = subst (Each (IsLower layer n)) a.whole h in
-    let r = each-back (IsLower layer n) a.front (a.mid ++ a.back) k in
+    let r = each-right (IsLower layer n) a.front (a.mid ++ a.back) k in
     record {
-      front_low = each-front (IsLower layer n) a.front (a.mid ++ a.back) k;
+      front_low = each-left (IsLower layer n) a.front (a.mid ++ a.back) k;
       mid_here = a.mid_here;
-      mid_low = each-front (IsLower layer n) a.mid a.back r;
-      back_low = each-back (IsLower layer n) a.mid a.back r;
+      mid_low = each-left (IsLower layer n) a.mid a.back r;
+      back_low = each-right (IsLower layer n) a.mid a.back r;
       front_before = a.front_before;
       back_after = a.back_after;
     }
@@ -164,7 +157,7 @@ delete-top layer key es s =
     rw (layer_of-top layer es)
     (ap (λ x. prune t (node_delete layer t key (tree layer t x))) a.whole
     ∙ ap (prune t) (delete-tree layer key t a.front a.mid a.back c)
-    ∙ prune-tree layer t (a.front ++ a.back) (Each-append (IsLower layer (suc t)) a.front a.back c.front_low c.back_low)
+    ∙ prune-tree layer t (a.front ++ a.back) (each-both (IsLower layer (suc t)) a.front a.back c.front_low c.back_low)
     ∙ ap (top layer) (sym (ap (delete_pair key) a.whole ∙ delete_pair-around key a.front a.mid a.back a.front_before a.mid_here a.back_after)))
 
 -- ---- put
@@ -194,7 +187,7 @@ put-over layer p xs ys t e l c =
     let new = top_layer-append layer xs (p ∷ ys) in
     let q : j ≡ top_layer layer (xs ++ p ∷ ys) = omega arith in
     let r : j - suc t + suc t ≡ j = omega arith in
-    let w = Each-append (IsLower layer (suc t)) xs ys c.front_low c.back_low in
+    let w = each-both (IsLower layer (suc t)) xs ys c.front_low c.back_low in
     let s = split-below layer p.0 (suc t) xs ys c.front_low c.back_low c.front_before c.back_after in
     let hx = lower-up layer (suc t) j xs (omega arith) c.front_low in
     let hy = lower-up layer (suc t) j ys (omega arith) c.back_low in

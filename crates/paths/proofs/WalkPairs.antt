@@ -12,50 +12,9 @@ use Rattle.paths.specs.Pairs.{Each, IsBefore, IsAfter, Ascending}
 use Rattle.paths.specs.TreeEdit.{first, locate, further}
 use Rattle.paths.specs.Trace.{beside, find_path}
 use Rattle.paths.specs.Walk.{from_here, start, Frame, later, go_down, next, walk}
-use Rattle.paths.proofs.Orders.{after-trans, turned, turned_back, after-same, order-equal, order-total}
-use Rattle.paths.proofs.PathIsRead.{order-is}
-use Rattle.paths.proofs.Weights.{IsWithin, AllWithin, within-first, within-locate}
-
--- ---- lists in order
-
-pub before-trans : (x y key : List ℕ) → order x y ≡ Less → order y key ≡ Less → order x key ≡ Less
-before-trans x y key h k = order-total.trans x y key h k
-
--- what stands before and after a pair of an ascending list
-pub record Halves (xs : List Pair) (e : Pair) (ys : List Pair) : Type 0 where
-  pub before : Each (IsBefore e.0) xs
-  pub after : Each (IsAfter e.0) ys
-  pub front : Ascending xs
-  pub back : Ascending ys
-
-each-parts : (P : Pair → Type 0) (xs ys : List Pair) → Each P (xs ++ ys) → Each P xs × Each P ys
-each-parts P [] ys h = (tt, h)
-each-parts P (x ∷ xs) ys h = let i = each-parts P xs ys h.1 in ((h.0, i.0), i.1)
-
-pub each-left : (P : Pair → Type 0) (xs ys : List Pair) → Each P (xs ++ ys) → Each P xs
-each-left P xs ys h = (each-parts P xs ys h).0
-
-pub each-right : (P : Pair → Type 0) (xs ys : List Pair) → Each P (xs ++ ys) → Each P ys
-each-right P xs ys h = (each-parts P xs ys h).1
-
-pub each-both : (P : Pair → Type 0) (xs ys : List Pair) → Each P xs → Each P ys → Each P (xs ++ ys)
-each-both P [] ys h k = k
-each-both P (x ∷ xs) ys h k = (h.0, each-both P xs ys h.1 k)
-
-pub each-map : (P Q : Pair → Type 0) (es : List Pair) → ((e : Pair) → P e → Q e) → Each P es → Each Q es
-each-map P Q [] f h = tt
-each-map P Q (e ∷ es) f h = (f e h.0, each-map P Q es f h.1)
-
-pub halves : (xs : List Pair) (e : Pair) (ys : List Pair) → Ascending (xs ++ e ∷ ys) → Halves xs e ys
-halves [] e ys h = record { before = tt; after = h.0; front = tt; back = h.1 }
-halves (x ∷ xs) e ys h =
-    let i = halves xs e ys h.1 in
-    let a = each-parts (IsAfter x.0) xs (e ∷ ys) h.0 in
-    record { before = (turned e.0 x.0 a.1.0, i.before); after = i.after; front = (a.0, i.front); back = i.back }
-
-pub ascending-parts : (xs ys : List Pair) → Ascending (xs ++ ys) → Ascending xs × Ascending ys
-ascending-parts [] ys h = (tt, h)
-ascending-parts (x ∷ xs) ys h = let i = ascending-parts xs ys h.1 in ((each-left (IsAfter x.0) xs ys h.0, i.0), i.1)
+use Rattle.paths.proofs.EachPair.{each-both, each-left, each-right, each-map, each-parts, Halves, halves, ascending-parts}
+use Rattle.paths.proofs.Orders.{after-trans, turned, turned_back, after-same, order-equal, order-total, order-is, before-trans}
+use Rattle.paths.proofs.Within.{IsWithin, AllWithin, within-first, within-locate, within-under-up}
 
 -- ---- the pairs from a key on
 
@@ -159,19 +118,6 @@ start-pairs from (Last p) h = sym (append-nil (filter (is_from from) (pairs_in p
 start-pairs from (More p e r) h =
     let s = halves (pairs_in p) e (pairs_under r) h in
     start-further from p e r (order e.0 from) refl s (start-pairs from r s.back)
-
--- ---- enough layers stay enough
-
-mutual
-  pub within-up : (n m : ℕ) (p : Part) → n ≤ m → IsWithin n p → IsWithin m p
-  within-up n m Nothing l h = tt
-  within-up zero m (Sub k) l h = absurd h
-  within-up (suc n) zero (Sub k) l h = absurd (omega arith)
-  within-up (suc n) (suc m) (Sub k) l h = within-under-up n m k (omega arith) h
-
-  pub within-under-up : (n m : ℕ) (k : Node) → n ≤ m → AllWithin n k → AllWithin m k
-  within-under-up n m (Last p) l h = within-up n m p l h
-  within-under-up n m (More p e r) l h = (within-up n m p l h.0, within-under-up n m r l h.1)
 
 -- ---- where a walk goes on
 

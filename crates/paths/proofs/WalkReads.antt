@@ -1,5 +1,5 @@
 -- A walk reads exactly the nodes whose open range of keys meets the range of what it gives.
-use Rattle.std.proofs.Common.{◌≡◌, ℕ, zero, suc, ◌≤◌, Bool, true, false, ◌&&◌, cond, List, [], ◌∷◌, ◌++◌, map, take, Option, None, refl, sym, ap, ◌∙◌, subst, append-nil, append_assoc, arith}
+use Rattle.std.proofs.Common.{◌≡◌, ◌≢◌, ℕ, zero, suc, ◌≤◌, Bool, true, false, ◌&&◌, cond, List, [], ◌∷◌, ◌++◌, map, take, Option, None, refl, sym, ap, ◌∙◌, subst, append-nil, append_assoc, arith}
 use Rattle.std.specs.Prelude.{filter}
 use Rattle.std.specs.declared.option.Option.TheVariants.{Some}
 use Rattle.std.specs.declared.cmp.Ordering.{Ordering}
@@ -9,15 +9,16 @@ use Rattle.std.proofs.lemmas.List.{map-append}
 use Rattle.std.proofs.lemmas.List.Elements.{filter-append}
 use Rattle.spec.specs.Tree.{Pair, Node, Part, Last, More, Nothing, Sub, pairs_in, pairs_under, EachNode, EachUnder}
 use Rattle.spec.specs.Blocks.{is_from}
+use Rattle.spec.specs.Laws.Tree.{HasPairs}
 use Rattle.paths.specs.Order.{order, if_equal}
 use Rattle.paths.specs.Pairs.{Each, IsBefore, IsAfter, Ascending}
 use Rattle.paths.specs.TreeEdit.{first, locate, further, Place}
 use Rattle.paths.specs.Trace.{beside, find_path}
 use Rattle.paths.specs.Walk.{from_here, start, Frame, later, go_down, walk_reads, next_reads, Ranged, ranged_in, ranged_under, is_above, is_under, meets, nodes_meeting, last_key}
-use Rattle.paths.proofs.Orders.{order-same, turned, turned_back, order-equal}
-use Rattle.paths.proofs.PathIsRead.{order-is}
-use Rattle.paths.proofs.Weights.{IsWithin, AllWithin, within-first}
-use Rattle.paths.proofs.WalkPairs.{before-trans, Halves, halves, each-left, each-right, each-both, each-map, ascending-parts, IsFrom, all-from, filtered-from, from-order, rest_pairs, first-rest, stack_pairs, later-pairs, IsReady, ready-later, within-start, ascending-start, ascending-first, down-pairs, down-ready, ascending-filter, each-start, each-first_part, path-start}
+use Rattle.paths.proofs.EachPair.{Halves, halves, each-left, each-right, each-both, each-map, ascending-parts}
+use Rattle.paths.proofs.Orders.{order-same, turned, turned_back, order-equal, order-is, before-trans}
+use Rattle.paths.proofs.WalkPairs.{IsFrom, all-from, filtered-from, from-order, rest_pairs, first-rest, stack_pairs, later-pairs, IsReady, ready-later, within-start, ascending-start, ascending-first, down-pairs, down-ready, ascending-filter, each-start, each-first_part, path-start}
+use Rattle.paths.proofs.Within.{IsWithin, AllWithin, within-first}
 
 -- ---- tests and orders
 
@@ -84,10 +85,7 @@ abbrev pub ranged_stack : List Frame → List Ranged
 ranged_stack [] = []
 ranged_stack (x ∷ xs) = ranged_under (Some x.0.0) (next_key xs) x.1 ++ ranged_stack xs
 
--- each subtree has a pair
-abbrev pub HasPairs : Node → Type 0
-HasPairs m = (e : Pair) × (es : List Pair) × (pairs_under m ≡ e ∷ es)
-
+-- each subtree below what is still to come has a pair
 abbrev pub AreFilled : List Frame → Type 0
 AreFilled [] = Unit {0}
 AreFilled (x ∷ xs) = EachUnder HasPairs x.1 × AreFilled xs
@@ -278,6 +276,14 @@ last-less z limit x es fs e h =
     ap (λ (t : List Pair). order z (last_key z (take (suc limit) t))) e
     ∙ last-after z x.0 (take limit fs) (turned x.0 z k.0) (each-take (IsAfter z) limit fs k.1)
 
+-- a list that isn't empty begins with something
+abbrev IsFilled : List Pair → Type 0
+IsFilled es = (e : Pair) × (fs : List Pair) × (es ≡ e ∷ fs)
+
+filled : (es : List Pair) → es ≢ [] → IsFilled es
+filled [] h = absurd (h refl)
+filled (e ∷ es) h = (e, es, refl)
+
 sub-reads : (limit n : ℕ) (from : List ℕ) → ReadsAt limit n from → (z : List ℕ) (m : Node) (stack : List Frame) → IsWithin n (Sub m) → IsReady n stack → EachNode HasPairs (Sub m) → AreFilled stack
     → Ascending (pairs_under m ++ stack_pairs stack) → Each (IsAfter z) (pairs_under m ++ stack_pairs stack) → IsNotBelow z from
     → walk_reads (suc limit) n from (Sub m) stack
@@ -285,8 +291,8 @@ sub-reads : (limit n : ℕ) (from : List ℕ) → ReadsAt limit n from → (z : 
 sub-reads limit n from ih z m stack w s f g a h b =
     let L = pairs_under m ++ stack_pairs stack in
     let last = last_key z (take (suc limit) L) in
-    let whole = f.0.2 in
-    let z_last : order z last ≡ Less = last-less z limit f.0.0 L (f.0.1 ++ stack_pairs stack) (ap (λ t. t ++ stack_pairs stack) whole) h in
+    let whole = filled (pairs_under m) f.0 in
+    let z_last : order z last ≡ Less = last-less z limit whole.0 L (whole.1 ++ stack_pairs stack) (ap (λ t. t ++ stack_pairs stack) whole.2) h in
     let lower : (x : List ℕ) → order x from ≡ Less → is_above (Some x) last ≡ true = λ x k. above-order x last Less (before-trans x z last (below-less x z from b k) z_last) in
     let all = after-from from z L b h in
     let parts = ascending-parts (pairs_under m) (stack_pairs stack) a in

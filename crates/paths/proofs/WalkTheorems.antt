@@ -5,7 +5,9 @@ use Rattle.spec.specs.Layer.{layer}
 use Rattle.spec.specs.Tree.{Pair, Last, Nothing, Sub, tree, top, top_layer, pairs_in, pairs_under, EachNode}
 use Rattle.spec.specs.NodeFormat.{shape}
 use Rattle.spec.specs.Blocks.{is_from}
-use Rattle.spec.proofs.TreeLaws.{lower-from_top, pairs-tree, pairs-top, each-under}
+use Rattle.spec.specs.Laws.Tree.{HasPairs}
+use Rattle.spec.proofs.LayeredTrees.{HasPairs-top}
+use Rattle.spec.proofs.TreeLaws.{pairs-top}
 use Rattle.paths.specs.Pairs.{Ascending}
 use Rattle.paths.specs.Walk.{walk_reads, nodes_meeting, last_key}
 use Rattle.paths.specs.Sources.{shown_by}
@@ -15,7 +17,7 @@ use Rattle.paths.proofs.OverSource.{holds-top}
 use Rattle.paths.proofs.RecordMaps.{ascending-sorted}
 use Rattle.paths.proofs.SourceLaws.{walk-holds, reads-hold, walk-most}
 use Rattle.paths.proofs.WalkPairs.{walk-pairs}
-use Rattle.paths.proofs.WalkReads.{HasPairs, reads-first}
+use Rattle.paths.proofs.WalkReads.{reads-first}
 
 pub walk-is_listed : WalkIsListed
 walk-is_listed layer limit n from es s l =
@@ -25,9 +27,7 @@ walk-is_listed layer limit n from es s l =
 
 -- each subtree has a pair, and the top too where there are pairs
 filled-top : (layer : List ℕ → ℕ) (e : Pair) (es : List Pair) → EachNode HasPairs (Sub (top layer (e ∷ es)))
-filled-top layer e es =
-    let t = top_layer layer (e ∷ es) in
-    ((e, es, pairs-top layer (e ∷ es)), each-under layer HasPairs (λ n f fs low. (f, fs, pairs-tree layer n (f ∷ fs) low)) t (e ∷ es) (lower-from_top layer t (e ∷ es) (omega arith)))
+filled-top layer e es = ((λ none. let q : e ∷ es ≡ [] = sym (pairs-top layer (e ∷ es)) ∙ none in cc), HasPairs-top layer (e ∷ es))
 
 empty-reads : (limit n : ℕ) (from : List ℕ) → walk_reads (suc limit) (suc n) from (Sub (Last Nothing)) [] ≡ Last Nothing ∷ []
 empty-reads limit zero from = refl

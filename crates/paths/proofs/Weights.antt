@@ -5,18 +5,8 @@ use Rattle.std.specs.declared.cmp.Ordering.TheVariants.{Less, Equal, Greater}
 use Rattle.paths.specs.Order.{order, if_equal}
 use Rattle.spec.specs.Tree.{Pair, Node, Part, Last, More, Nothing, Sub}
 use Rattle.paths.specs.TreeEdit.{first, with_first, onto, Place, further, locate, close, open_part, split, join, merge, lift, layer_of, descend, between, insert, insert_at, put_in, node_put, put_above, put_top, remove, remove_at, delete_in, node_delete, prune, delete_top, settle, lone_at, delete_path}
-use Rattle.paths.specs.Trace.{weight, weight_under, total, nodes_of, made_close, last_part, split_gone, split_made, merge_gone, merge_made, insert_list, insert_list_at, put_in_gone, put_in_made, put_gone, put_made, lift_made, remove_list_at, delete_in_gone, delete_in_made, delete_gone, delete_made, prune_gone, above_gone, above_made, put_top_gone, put_top_made, delete_top_gone, delete_top_made, settle_gone, settle_made, delete_path_gone, delete_path_made}
-
--- at most n layers of nodes
-abbrev mutual
-  pub IsWithin : ℕ → Part → Type 0
-  IsWithin n Nothing = Unit {0}
-  IsWithin zero (Sub m) = ⊥
-  IsWithin (suc n) (Sub m) = AllWithin n m
-
-  pub AllWithin : ℕ → Node → Type 0
-  AllWithin n (Last p) = IsWithin n p
-  AllWithin n (More p e r) = IsWithin n p × AllWithin n r
+use Rattle.paths.specs.Trace.{weight, weight_under, total, nodes_of, made_close, last_part, split_gone, split_made, merge_gone, merge_made, insert_list, insert_list_at, put_in_gone, put_in_made, put_gone, put_made, lift_made, remove_list_at, delete_in_gone, delete_in_made, delete_gone, delete_made, prune_gone, above_gone, above_made, put_top_gone, put_top_made, settle_gone, settle_made, delete_path_gone, delete_path_made}
+use Rattle.paths.proofs.Within.{IsWithin, AllWithin, within-first, within-locate, within-last, within-rest, within-open}
 
 pub total-append : (w : Node → ℕ) (xs ys : List Node) → total w (xs ++ ys) ≡ total w xs + total w ys
 total-append w [] ys = omega arith
@@ -55,26 +45,6 @@ weight-close w (More p e r) = omega arith
 pub weight-open : (w : Node → ℕ) (g : Part) → weight w g ≡ total w (nodes_of g) + weight_under w (open_part g)
 weight-open w Nothing = refl
 weight-open w (Sub m) = omega arith
-
-pub within-first : (n : ℕ) (m : Node) → AllWithin n m → IsWithin n (first m)
-within-first n (Last p) h = h
-within-first n (More p e r) h = h.0
-
-within-further : (n : ℕ) (o : Ordering) (p : Part) (e : Pair) (r : Node) (q : Place) → IsWithin n p → AllWithin n r → AllWithin n q.here → AllWithin n (further o p e r q).here
-within-further n Less p e r q h k i = i
-within-further n Equal p e r q h k i = (h, k)
-within-further n Greater p e r q h k i = (h, k)
-
-pub within-locate : (n : ℕ) (key : List ℕ) (m : Node) → AllWithin n m → AllWithin n (locate key m).here
-within-locate n key (Last p) h = h
-within-locate n key (More p e r) h = within-further n (order e.0 key) p e r (locate key r) h.0 h.1 (within-locate n key r h.1)
-
-pub within-last : (n : ℕ) (m : Node) → AllWithin n m → IsWithin n (last_part m)
-within-last n (Last p) h = h
-within-last n (More p e r) h = within-last n r h.1
-
-pub within-rest : (n : ℕ) (key : List ℕ) (m : Node) → AllWithin n m → IsWithin n (first (locate key m).here)
-within-rest n key m h = within-first n (locate key m).here (within-locate n key m h)
 
 -- ---- split
 
@@ -165,10 +135,6 @@ weight-descend w key change m =
     let e2 = weight-onto w q.before (with_first g q.here) in
     let e3 = weight-with_first w g q.here in
     omega arith
-
-pub within-open : (n : ℕ) (g : Part) → IsWithin (suc n) g → AllWithin n (open_part g)
-within-open n Nothing h = tt
-within-open n (Sub m) h = h
 
 pub weight-put : (layer : List ℕ → ℕ) (w : Node → ℕ) (p : Pair) (n : ℕ) (m : Node) → AllWithin n m → Balances w m (put_made layer n p m) (node_put layer n p m) (put_gone layer n p m)
 weight-put layer w p zero m h = weight-put_in w zero p m h
@@ -288,17 +254,6 @@ weight-prune w zero m = omega arith
 weight-prune w (suc n) (Last Nothing) = omega arith
 weight-prune w (suc n) (Last (Sub m)) = let i = weight-prune w n m in omega arith
 weight-prune w (suc n) (More p e r) = omega arith
-
-pub weight-delete_top : (layer : List ℕ → ℕ) (w : Node → ℕ) (key : List ℕ) (m : Node) → AllWithin (layer_of layer m) m
-    → weight w (Sub m) + total w (delete_top_made layer key m) ≡ weight w (Sub (delete_top layer key m)) + total w (delete_top_gone layer key m)
-weight-delete_top layer w key m h =
-    let t = layer_of layer m in
-    let new = node_delete layer t key m in
-    let i = weight-delete layer w key t m h in
-    let p = weight-prune w t new in
-    let a1 = total-append w (delete_made layer t key m) (new ∷ []) in
-    let a2 = total-append w (delete_gone layer t key m) (prune_gone t new) in
-    omega arith
 
 pub weight-settle : (w : Node → ℕ) (n : ℕ) (p q : Part) → IsWithin n p → IsWithin n q
     → weight w p + weight w q + total w (settle_made n p q) ≡ weight w (Sub (settle n p q)) + total w (settle_gone n p q)

@@ -161,40 +161,6 @@ put_top_made layer p m =
     let t = layer_of layer m in
     if nat_lt t (layer p.0) then above_made (layer p.0) t p m else put_made layer t p m ++ (node_put layer t p m ∷ [])
 
-abbrev pub delete_top_gone : (List ℕ → ℕ) → List ℕ → Node → List Node
-delete_top_gone layer key m =
-    let t = layer_of layer m in m ∷ (delete_gone layer t key m ++ prune_gone t (node_delete layer t key m))
-
-abbrev pub delete_top_made : (List ℕ → ℕ) → List ℕ → Node → List Node
-delete_top_made layer key m =
-    let t = layer_of layer m in delete_made layer t key m ++ (node_delete layer t key m ∷ [])
-
--- ---- the nodes that are read
-
-abbrev pub answer_reads_at : Ordering → ℕ → ℕ
-answer_reads_at Less k = k
-answer_reads_at Equal k = 0
-answer_reads_at Greater k = k
-
-abbrev pub answer_reads : List ℕ → ℕ → Node → ℕ
-answer_reads key k (Last p) = k
-answer_reads key k (More p e r) = answer_reads_at (order e.0 key) k
-
--- of a get: the nodes on the path, down to the one that has the key
-abbrev pub find_reads : ℕ → List ℕ → Part → ℕ
-find_reads zero key p = 0
-find_reads (suc n) key Nothing = 0
-find_reads (suc n) key (Sub m) =
-    let here = (locate key m).here in suc (answer_reads key (find_reads n key (first here)) here)
-
--- of pruning, where the first k subtrees were made just before
-abbrev pub prune_reads : ℕ → ℕ → Node → ℕ
-prune_reads k zero m = 0
-prune_reads k (suc n) (Last Nothing) = 0
-prune_reads zero (suc n) (Last (Sub m)) = suc (prune_reads zero n m)
-prune_reads (suc k) (suc n) (Last (Sub m)) = prune_reads k n m
-prune_reads k (suc n) (More p e r) = 0
-
 -- ---- a delete that makes no node in vain
 
 abbrev pub settle_gone : ℕ → Part → Part → List Node
