@@ -3,7 +3,7 @@ use Rattle.std.proofs.Common.{◌≡◌, ℕ, zero, suc, ◌+◌, ◌<◌, ◌�
 use Rattle.std.proofs.lemmas.List.{map-append, length-append}
 use Rattle.std.specs.declared.cmp.Ordering.{Ordering}
 use Rattle.std.specs.declared.cmp.Ordering.TheVariants.{Less, Equal, Greater}
-use Rattle.spec.specs.Cid.{cid}
+use Rattle.spec.specs.Cid.{IsDigest, cid}
 use Rattle.spec.specs.Layer.{layer}
 use Rattle.spec.specs.Tree.{Pair, Node, Part, Last, More, Nothing, Sub, top}
 use Rattle.spec.specs.NodeFormat.{node_bytes}
@@ -62,7 +62,7 @@ module _ (digest : List ℕ → List ℕ) where
 
   -- ---- no block stands twice in a tree without clash
 
-  cid-once : (bits : ℕ) → ((bytes : List ℕ) → length (digest bytes) ≡ 32) → (es : List Pair) → ArePairs es → IsClashFree digest (nodes digest bits es)
+  cid-once : (bits : ℕ) → IsDigest digest → (es : List Pair) → ArePairs es → IsClashFree digest (nodes digest bits es)
       → (c : List ℕ) → weight (marked (λ m. cid digest (node_bytes digest m)) c) (Sub (top (layer digest bits) es)) ≤ 1
   cid-once bits fits es are free c =
       let bs = nodes digest bits es in
@@ -109,7 +109,7 @@ module _ (digest : List ℕ → List ℕ) where
 
   -- ---- any edit whose nodes balance
 
-  edited : (bits : ℕ) → ((bytes : List ℕ) → length (digest bytes) ≡ 32) → (es fs : List Pair) (made gone read : List Node) → ArePairs es → IsClashFree digest (nodes digest bits es)
+  edited : (bits : ℕ) → IsDigest digest → (es fs : List Pair) (made gone read : List Node) → ArePairs es → IsClashFree digest (nodes digest bits es)
       → ((w : Node → ℕ) → weight w (Sub (top (layer digest bits) es)) + total w made ≡ weight w (Sub (top (layer digest bits) fs)) + total w gone)
       → ((w : Node → ℕ) → total w gone ≤ total w read) → ((w : Node → ℕ) → total w gone ≤ weight w (Sub (top (layer digest bits) es)))
       → ((b : List ℕ) → 0 < total (marked (node_bytes digest) b) read → 0 < weight (marked (node_bytes digest) b) (Sub (top (layer digest bits) es)))
@@ -135,7 +135,7 @@ module _ (digest : List ℕ → List ℕ) where
 
   -- ---- put: what is used up is what is read
 
-  pub put-changes : (bits : ℕ) → ((bytes : List ℕ) → length (digest bytes) ≡ 32) → (p : Pair) (es : List Pair) → ArePairs es → IsClashFree digest (nodes digest bits es)
+  pub put-changes : (bits : ℕ) → IsDigest digest → (p : Pair) (es : List Pair) → ArePairs es → IsClashFree digest (nodes digest bits es)
       → let made = bytes_of (put_top_made (layer digest bits) p (top (layer digest bits) es)) in
       let read = bytes_of (put_top_gone (layer digest bits) p (top (layer digest bits) es)) in
       IsClashFree digest (made ++ read)
@@ -184,7 +184,7 @@ module _ (digest : List ℕ → List ℕ) where
       let d = delete_left-old l w key m in
       omega arith
 
-  pub delete-changes : (bits : ℕ) → ((bytes : List ℕ) → length (digest bytes) ≡ 32) → (key : List ℕ) (es : List Pair) → ArePairs es → IsClashFree digest (nodes digest bits es)
+  pub delete-changes : (bits : ℕ) → IsDigest digest → (key : List ℕ) (es : List Pair) → ArePairs es → IsClashFree digest (nodes digest bits es)
       → let made = bytes_of (delete_path_made (layer digest bits) key (top (layer digest bits) es)) in
       let gone = bytes_of (delete_path_gone (layer digest bits) key (top (layer digest bits) es)) in
       let read = bytes_of (delete_path_read (layer digest bits) key (top (layer digest bits) es)) in

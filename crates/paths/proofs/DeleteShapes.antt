@@ -11,35 +11,24 @@ use Rattle.paths.specs.ShapeEdit.{close_link, go_shape, remove_shape, remove_sha
 use Rattle.paths.proofs.ShapeBridges as bridge
 use Rattle.paths.proofs.Within.{IsWithin, AllWithin, within-first, within-locate, within-open, within-rest}
 use Rattle.std.proofs.lemmas.List.{append-nil, map-append}
+use Rattle.paths.proofs.Traces.{nodes-none}
 
 module _ (digest : List ℕ → List ℕ) where
   -- the two parts beside a key that comes first, merged
   abbrev pub met : ℕ → List ℕ → Node → Part
   met n key h = beside key h (merge n) Nothing
 
-  shape-with_first : (p : Part) (m : Node) → shape digest (with_first p m) ≡ with_first_link (part_link digest p) (shape digest m)
-  shape-with_first p (Last q) = refl
-  shape-with_first p (More q e r) = refl
-
   remove-further : (n : ℕ) (key : List ℕ) (o : Ordering) (g : Part) (e : Pair) (r : Node) (q : Place) → order e.0 key ≡ o
       → shape digest (onto q.before (remove n key q.here)) ≡ remove_shape key (shape digest r) (part_link digest (met n key q.here))
       → shape digest (onto (further o g e r q).before (remove n key (further o g e r q).here))
       ≡ remove_shape_at o (part_link digest g) e (shape digest r) (part_link digest (met n key (further o g e r q).here)) (remove_shape key (shape digest r) (part_link digest (met n key (further o g e r q).here)))
   remove-further n key Less g e r q h i = ap (MoreLinks (part_link digest g) e) i
-  remove-further n key Equal g e r q h i = rw h (shape-with_first (merge n g (first r)) r)
+  remove-further n key Equal g e r q h i = rw h (bridge.shape-with_first digest (merge n g (first r)) r)
   remove-further n key Greater g e r q h i = rw h
 
   pub shape-delete_in : (n : ℕ) (key : List ℕ) (m : Node) → shape digest (delete_in n key m) ≡ remove_shape key (shape digest m) (part_link digest (met n key (locate key m).here))
   shape-delete_in n key (Last g) = refl
   shape-delete_in n key (More g e r) = remove-further n key (order e.0 key) g e r (locate key r) refl (shape-delete_in n key r)
-
-  nodes-none : (layer : List ℕ → ℕ) (n : ℕ) (key : List ℕ) → delete_path_nodes layer n key (Last Nothing) ≡ []
-  nodes-none layer zero key = refl
-  nodes-none layer (suc n) key = go (nat_eq (layer key) (suc n)) (nodes-none layer n key)
-    where
-      go : (b : Bool) → delete_path_nodes layer n key (Last Nothing) ≡ [] → cond b [] (delete_path_nodes layer n key (Last Nothing)) ≡ []
-      go true h = refl
-      go false h = h
 
   open-head : (layer : List ℕ → ℕ) (n : ℕ) (key : List ℕ) (g : Part)
       → head_shape (map (shape digest) (nodes_of g ++ delete_path_nodes layer n key (open_part g))) ≡ shape digest (open_part g)

@@ -14,7 +14,7 @@ use Rattle.paths.specs.PathEdit.{flat, all_but_last}
 use Rattle.paths.specs.Sources.{met_from, pruned_from}
 use Rattle.paths.proofs.DeleteShapes.{within-row}
 use Rattle.paths.proofs.Enough.{merge_pairs-enough, prune_path-enough}
-use Rattle.paths.proofs.PathReads.{lone-met}
+use Rattle.paths.proofs.Traces.{lone-met}
 use Rattle.paths.proofs.SettleShapes.{links-settle}
 use Rattle.paths.proofs.SourceLaws.{IsShown, met-holds, pruned-holds}
 use Rattle.paths.proofs.WalkPairs.{each-first_part}

@@ -5,6 +5,7 @@ use Rattle.std.specs.Cmp.Lexicographic.{slice_cmp}
 use Rattle.std.specs.Ordering.{nat_cmp}
 use Rattle.std.specs.FinMap.{is_sorted}
 use Rattle.std.proofs.lemmas.List.{length-map, map-append}
+use Rattle.spec.specs.Cid.{IsDigest}
 use Rattle.spec.specs.Layer.{layer}
 use Rattle.spec.specs.Tree.{Pair, Node, Part, Sub, top}
 use Rattle.spec.specs.NodeFormat.{Shape, part_link, shape, node_bytes}
@@ -17,8 +18,8 @@ use Rattle.paths.specs.Changes.{marked}
 use Rattle.paths.specs.ShapeEdit.{layer_of_shape, last_shape, row_links, path_links}
 use Rattle.paths.specs.PathEdit.{flat, all_but_last, delete_root, delete_written, delete_read, delete_gone_shapes}
 use Rattle.paths.specs.Sources.{HasNodes, shown_by, path_from, met_from, pruned_from, delete_met_from, delete_pruned_from}
-use Rattle.paths.specs.EditLaws.{IsEdit}
-use Rattle.paths.specs.DeleteLaws.{DeleteIsTop, DeleteReadsPath, DeleteReads, DeleteIsShapes, DeleteCounts, IsDelete, DeleteOverSource}
+use Rattle.paths.specs.Laws.Edits.{IsEdit}
+use Rattle.paths.specs.Laws.Deletes.{DeleteIsTop, DeleteReadsPath, DeleteReads, DeleteIsShapes, DeleteCounts, IsDelete, DeleteOverSource}
 use Rattle.paths.proofs.Balance.{delete-balance, within-top}
 use Rattle.paths.proofs.Counts.{delete_path-reads, delete_path-made}
 use Rattle.paths.proofs.DeleteShapes.{links-path}
@@ -87,7 +88,7 @@ delete-is_shapes digest layer n key es s l v h =
 
 -- ---- over a source
 
-delete-edit : (digest : List ℕ → List ℕ) (bits : ℕ) → ((bytes : List ℕ) → length (digest bytes) ≡ 32) → (key : List ℕ) (es : List Pair) → ArePairs es → IsClashFree digest (nodes digest bits es)
+delete-edit : (digest : List ℕ → List ℕ) (bits : ℕ) → IsDigest digest → (key : List ℕ) (es : List Pair) → ArePairs es → IsClashFree digest (nodes digest bits es)
     → let lay = layer digest bits in
     let m = top lay es in
     IsEdit digest bits es (delete_pair key es) (shape digest (top lay (delete_pair key es)))
@@ -119,7 +120,7 @@ DeleteFacts digest bits key es path met pruned =
     × (length (delete_read path met pruned) ≤ 2 * layer_of (layer digest bits) (top (layer digest bits) es) + 1)
     × (length (delete_written digest key path met) ≤ layer_of (layer digest bits) (top (layer digest bits) es) + 1)
 
-delete-facts : (digest : List ℕ → List ℕ) (bits : ℕ) → ((bytes : List ℕ) → length (digest bytes) ≡ 32) → (n : ℕ) (key : List ℕ) (es : List Pair) → ArePairs es → IsClashFree digest (nodes digest bits es)
+delete-facts : (digest : List ℕ → List ℕ) (bits : ℕ) → IsDigest digest → (n : ℕ) (key : List ℕ) (es : List Pair) → ArePairs es → IsClashFree digest (nodes digest bits es)
     → layer_of (layer digest bits) (top (layer digest bits) es) < n → (v : List ℕ) → value_of key es ≡ Some v
     → let lay = layer digest bits in
     let m = top lay es in

@@ -15,6 +15,7 @@ use Rattle.paths.proofs.Within.{AllWithin}
 use Rattle.paths.proofs.ShapeBridges as bridge
 use Rattle.paths.proofs.DeleteShapes as below
 use Rattle.paths.proofs.SettleShapes as alone
+use Rattle.paths.proofs.Traces.{lone-met}
 
 module _ (digest : List ℕ → List ℕ) where
   -- the pairs of nodes that meet, and what pruning looks at, as shapes
@@ -48,18 +49,6 @@ module _ (digest : List ℕ → List ℕ) where
         append_assoc,
       ) refl
 
-  -- the pairs that meet at the only key of a top
-  row-cases : (layer : List ℕ → ℕ) (key : List ℕ) (n : ℕ) (m : Node) → nat_eq (layer key) n ≡ true → row_at layer n key m ≡ (n, (locate key m).here)
-  row-cases layer key zero m h = refl
-  row-cases layer key (suc n) m h = rw h refl
-
-  lone-pairs : (layer : List ℕ → ℕ) (key : List ℕ) (p : Part) (e : Pair) (q : Part) → order e.0 key ≡ Equal
-      → met_pairs layer (layer e.0) key (More p e (Last q)) ≡ merge_pairs (layer e.0) p q
-  lone-pairs layer key p e q h =
-      let t = layer e.0 in
-      let b : nat_eq (layer key) t ≡ true = eq-eqb (layer key) t (ap layer (sym (order-equal e.0 key h))) in
-      ap (λ (r : ℕ × Node). beside key r.1 (merge_pairs r.0) []) (row-cases layer key t (More p e (Last q)) b) ∙ rw (h, h) refl
-
   -- the top after a delete
   lone-cases : (layer : List ℕ → ℕ) (key : List ℕ) (p : Part) (e : Pair) (q : Part) → AllWithin (layer e.0) (More p e (Last q)) → (o : Ordering) → order e.0 key ≡ o
       → let t = layer e.0 in
@@ -71,7 +60,7 @@ module _ (digest : List ℕ → List ℕ) where
       if_equal o (settle_shape digest (part_link digest p) (part_link digest q) met (map (shape digest) (prune_path left.0 left.1))) (delete_shape digest (layer key) t key (merge_links digest x.0 x.1 met) (shape digest m) path)
       ≡ shape digest (lone_at o t p q (node_delete layer t key m))
   lone-cases layer key p e q w Less h = deeper-shape layer key (layer e.0) (More p e (Last q)) w
-  lone-cases layer key p e q w Equal h = rw (lone-pairs layer key p e q h) (alone.shape-settle digest (layer e.0) p q w.0 w.1)
+  lone-cases layer key p e q w Equal h = rw (lone-met layer key p e q h) (alone.shape-settle digest (layer e.0) p q w.0 w.1)
   lone-cases layer key p e q w Greater h = deeper-shape layer key (layer e.0) (More p e (Last q)) w
 
   pub shape-delete_path : (layer : List ℕ → ℕ) (key : List ℕ) (m : Node) → AllWithin (layer_of layer m) m
@@ -93,7 +82,7 @@ module _ (digest : List ℕ → List ℕ) where
       (merge_shapes digest met ++ (delete_shapes digest (layer key) t key y path ++ (delete_shape digest (layer key) t key y (shape digest m) path ∷ [])))
       ≡ map (shape digest) (if_equal o (settle_made t p q) (delete_made layer t key m ++ (node_delete layer t key m ∷ [])))
   lone-made layer key p e q w Less h = deeper-shapes layer key (layer e.0) (More p e (Last q)) w
-  lone-made layer key p e q w Equal h = rw (lone-pairs layer key p e q h) (alone.shapes-settle digest (layer e.0) p q w.0 w.1)
+  lone-made layer key p e q w Equal h = rw (lone-met layer key p e q h) (alone.shapes-settle digest (layer e.0) p q w.0 w.1)
   lone-made layer key p e q w Greater h = deeper-shapes layer key (layer e.0) (More p e (Last q)) w
 
   pub shapes-delete_path : (layer : List ℕ → ℕ) (key : List ℕ) (m : Node) → AllWithin (layer_of layer m) m

@@ -6,6 +6,7 @@ use Rattle.std.specs.Cmp.Lexicographic.{slice_cmp}
 use Rattle.std.specs.Ordering.{nat_cmp}
 use Rattle.std.specs.FinMap.{is_sorted}
 use Rattle.std.proofs.lemmas.List.{length-map, map-append}
+use Rattle.spec.specs.Cid.{IsDigest}
 use Rattle.spec.specs.Layer.{layer}
 use Rattle.spec.specs.Tree.{Pair, Node, Sub, top}
 use Rattle.spec.specs.NodeFormat.{Shape, shape, shape_bytes, node_bytes}
@@ -18,8 +19,8 @@ use Rattle.paths.specs.Changes.{marked, AreChanges, add_of, drop_of}
 use Rattle.paths.specs.ShapeEdit.{head_shape}
 use Rattle.paths.specs.PathEdit.{put_root, put_written}
 use Rattle.paths.specs.Sources.{HasNodes, shown_by, path_from}
-use Rattle.paths.specs.EditLaws.{bytes_of, IsEdit}
-use Rattle.paths.specs.PutLaws.{PutIsTop, PutReadsPath, PutIsShapes, PutCounts, IsPut, PutOverSource}
+use Rattle.paths.specs.Laws.Edits.{bytes_of, IsEdit}
+use Rattle.paths.specs.Laws.Puts.{PutIsTop, PutReadsPath, PutIsShapes, PutCounts, IsPut, PutOverSource}
 use Rattle.paths.proofs.Balance.{put-balance, within-top}
 use Rattle.paths.proofs.BlockChanges.{put-changes, read-stands, made-stands}
 use Rattle.paths.proofs.Counts.{put_top-gone, put_top-made}
@@ -93,7 +94,7 @@ edit-moved digest bits es fs s t read read' gone gone' made made' a b c d e =
 
 -- ---- put, over a source
 
-put-edit : (digest : List ℕ → List ℕ) (bits : ℕ) → ((bytes : List ℕ) → length (digest bytes) ≡ 32) → (p : Pair) (es : List Pair) → ArePairs es → IsClashFree digest (nodes digest bits es)
+put-edit : (digest : List ℕ → List ℕ) (bits : ℕ) → IsDigest digest → (p : Pair) (es : List Pair) → ArePairs es → IsClashFree digest (nodes digest bits es)
     → let lay = layer digest bits in
     let gone = map (shape digest) (put_top_gone lay p (top lay es)) in
     IsEdit digest bits es (put_pair p es) (shape digest (top lay (put_pair p es))) gone gone (map (shape digest) (put_top_made lay p (top lay es)))

@@ -38,3 +38,4 @@ pub mod EditTheorems
 pub mod DeleteTheorems
 pub mod RecordTheorems
 pub mod EachPair
+pub mod Traces

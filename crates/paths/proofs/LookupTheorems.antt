@@ -16,7 +16,7 @@ use Rattle.paths.specs.Order.{order}
 use Rattle.paths.specs.TreeEdit.{layer_of}
 use Rattle.paths.specs.Trace.{find_path}
 use Rattle.paths.specs.Sources.{shown_by, row_value, row_value_at, gap, gap_at, path_from}
-use Rattle.paths.specs.LookupLaws.{FindIsValue, FindReads, TopHasLayer, PathIsRead, found_at, StepIsPlace, PathBound, LookupOverSource}
+use Rattle.paths.specs.Laws.Lookups.{FindIsValue, FindReads, TopHasLayer, PathIsRead, found_at, StepIsPlace, PathBound, LookupOverSource}
 use Rattle.paths.proofs.Balance.{within-top}
 use Rattle.paths.proofs.Counts.{find_path-most}
 use Rattle.paths.proofs.Enough.{find-enough, find_path-enough}

@@ -2,7 +2,7 @@
 use Rattle.std.proofs.Common.{◌≡◌, ℕ, List, [], ◌∷◌, Option, Result, Ok, refl, sym, ap, ◌∙◌, length}
 use Rattle.std.specs.Prelude.{Contains, option_and_then}
 use Rattle.std.specs.declared.option.Option.TheVariants.{Some}
-use Rattle.spec.specs.Cid.{cid}
+use Rattle.spec.specs.Cid.{IsDigest, cid}
 use Rattle.spec.specs.Layer.{layer}
 use Rattle.spec.specs.Tree.{Pair, Node, Part, Last, More, Nothing, Sub, top, EachNode, EachUnder}
 use Rattle.spec.specs.NodeFormat.{Shape, LastLink, MoreLinks, first_link, entries_of, shape, shape_bytes, read_node}
@@ -22,7 +22,7 @@ pub shape_of_bytes-shape_bytes : (s : Shape) → IsLawfulShape s → shape_of_by
 shape_of_bytes-shape_bytes s is = ap shape_of_reading (read_node-shape_bytes s is) ∙ ap (λ (t : Shape). Some t) (shape_from-parts s)
 
 -- the source shows each node of the tree
-pub holds-top : (digest : List ℕ → List ℕ) (bits : ℕ) → ((bytes : List ℕ) → length (digest bytes) ≡ 32) → (gives : List ℕ → Option (List ℕ)) (es : List Pair) → ArePairs es → HasNodes digest bits gives es
+pub holds-top : (digest : List ℕ → List ℕ) (bits : ℕ) → IsDigest digest → (gives : List ℕ → Option (List ℕ)) (es : List Pair) → ArePairs es → HasNodes digest bits gives es
     → Holds digest (shown_by gives) (Sub (top (layer digest bits) es))
 holds-top digest bits fits gives es are has =
     each-part_is _ _

@@ -18,6 +18,7 @@ use Rattle.paths.proofs.Groups.{InGroups, cut-in}
 use Rattle.paths.proofs.Orders.{order-same, order-equal}
 use Rattle.paths.proofs.Places.{IsOutside, locate-outside, locate-here, sub-tree}
 use Rattle.paths.proofs.Tops.{layer_of-top, lows-of}
+use Rattle.paths.proofs.Traces.{put-nothing, row-here, nodes-here, lone-met}
 
 -- the nodes that a look-up reads below a node
 abbrev pub below_path : List ℕ → ℕ → Node → List Node
@@ -50,14 +51,6 @@ insert-choice Greater ms = refl
 insert-beside : (key : List ℕ) (h : Node) (ms : List Node) → insert_list key h ms ≡ beside key h (λ p q. []) ms
 insert-beside key (Last g) ms = refl
 insert-beside key (More g e r) ms = insert-choice (order e.0 key) ms
-
-put-nothing : (layer : List ℕ → ℕ) (n : ℕ) (p : Pair) → put_gone layer n p (Last Nothing) ≡ []
-put-nothing layer zero p = refl
-put-nothing layer (suc n) p = go (nat_eq (layer p.0) (suc n)) (put-nothing layer n p)
-  where
-    go : (b : Bool) → put_gone layer n p (Last Nothing) ≡ [] → cond b [] (put_gone layer n p (Last Nothing)) ≡ []
-    go true h = refl
-    go false h = h
 
 abbrev PutNone : (List ℕ → ℕ) → Pair → ℕ → Type 0
 PutNone layer p n = (m : Node) → find (suc n) p.0 (Sub m) ≡ None → put_gone layer n p m ≡ below_path p.0 n m
@@ -278,21 +271,6 @@ settle-flat (suc n) (Sub (More p e r)) (Sub k) = ap (λ t. More p e r ∷ k ∷ 
 stays-last : (left : ℕ × Part) → all_but_last (prune_path left.0 left.1) ++ left_stays left ≡ prune_path left.0 left.1
 stays-last (n, Nothing) = refl
 stays-last (n, Sub m) = ap (λ t. t ++ (prune n m ∷ [])) (but_last n m) ∙ sym (last-kept n m)
-
-row-here : (layer : List ℕ → ℕ) (key : List ℕ) (n : ℕ) (m : Node) → nat_eq (layer key) n ≡ true → row_at layer n key m ≡ (n, (locate key m).here)
-row-here layer key zero m h = refl
-row-here layer key (suc n) m h = rw h refl
-
-nodes-here : (layer : List ℕ → ℕ) (key : List ℕ) (n : ℕ) (m : Node) → nat_eq (layer key) n ≡ true → delete_path_nodes layer n key m ≡ []
-nodes-here layer key zero m h = refl
-nodes-here layer key (suc n) m h = rw h refl
-
-pub lone-met : (layer : List ℕ → ℕ) (key : List ℕ) (p : Part) (e : Pair) (q : Part) → order e.0 key ≡ Equal
-    → met_pairs layer (layer e.0) key (More p e (Last q)) ≡ merge_pairs (layer e.0) p q
-lone-met layer key p e q h =
-    let t = layer e.0 in
-    let b : nat_eq (layer key) t ≡ true = eq-eqb (layer key) t (ap layer (sym (order-equal e.0 key h))) in
-    ap (λ (r : ℕ × Node). beside key r.1 (merge_pairs r.0) []) (row-here layer key t (More p e (Last q)) b) ∙ rw (h, h) refl
 
 deeper-gone : (layer : List ℕ → ℕ) (key : List ℕ) (t : ℕ) (m : Node)
     → m ∷ delete_gone layer t key m ≡ m ∷ (delete_path_nodes layer t key m ++ (flat (met_pairs layer t key m) ++ []))

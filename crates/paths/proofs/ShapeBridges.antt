@@ -11,6 +11,7 @@ use Rattle.paths.specs.Trace.{nodes_of, made_close, split_gone, split_made, inse
 use Rattle.spec.specs.NodeFormat.{Shape, MoreLinks, part_link, shape, first_link, shape_cid}
 use Rattle.paths.proofs.Within.{IsWithin, within-last, within-first}
 use Rattle.paths.specs.ShapeEdit.{keep_before, keep_before_at, keep_after, keep_after_at, close_link, close_shapes, split_links, split_shapes, go_shape, go_shape_at, insert_shape, insert_shape_at, head_shape, tail_shapes, put_shape, put_shapes, last_link, with_first_link, join_shape, merge_links, merge_shapes}
+use Rattle.paths.proofs.Traces.{put-nothing}
 
 module _ (digest : List ℕ → List ℕ) where
   before-further : (o : Ordering) (p : Part) (e : Pair) (r : Node) (q : Place) (x : Part) (kept : Shape) → shape digest (onto q.before (Last x)) ≡ kept
@@ -116,23 +117,14 @@ module _ (digest : List ℕ → List ℕ) where
   insert-shapes n key (Last g) = sym (shapes-split n key g)
   insert-shapes n key (More g e r) = insert_at-shapes n key (order e.0 key) g
 
-  -- below a node that is not there is no node
-  gone-none : (layer : List ℕ → ℕ) (n : ℕ) (p : Pair) → put_gone layer n p (Last Nothing) ≡ []
-  gone-none layer zero p = refl
-  gone-none layer (suc n) p = go (nat_eq (layer p.0) (suc n)) (gone-none layer n p)
-    where
-      go : (b : Bool) → put_gone layer n p (Last Nothing) ≡ [] → cond b [] (put_gone layer n p (Last Nothing)) ≡ []
-      go true h = refl
-      go false h = h
-
   open-head : (layer : List ℕ → ℕ) (n : ℕ) (p : Pair) (g : Part)
       → head_shape (map (shape digest) (nodes_of g ++ put_gone layer n p (open_part g))) ≡ shape digest (open_part g)
-  open-head layer n p Nothing = rw (gone-none layer n p)
+  open-head layer n p Nothing = rw (put-nothing layer n p)
   open-head layer n p (Sub m) = refl
 
   open-tail : (layer : List ℕ → ℕ) (n : ℕ) (p : Pair) (g : Part)
       → tail_shapes (map (shape digest) (nodes_of g ++ put_gone layer n p (open_part g))) ≡ map (shape digest) (put_gone layer n p (open_part g))
-  open-tail layer n p Nothing = rw (gone-none layer n p)
+  open-tail layer n p Nothing = rw (put-nothing layer n p)
   open-tail layer n p (Sub m) = refl
 
   -- the node's shape after a put, from the shapes on the path
@@ -195,7 +187,7 @@ module _ (digest : List ℕ → List ℕ) where
   link-last (Last p) = refl
   link-last (More p e r) = link-last r
 
-  shape-with_first : (p : Part) (m : Node) → shape digest (with_first p m) ≡ with_first_link (part_link digest p) (shape digest m)
+  pub shape-with_first : (p : Part) (m : Node) → shape digest (with_first p m) ≡ with_first_link (part_link digest p) (shape digest m)
   shape-with_first p (Last q) = refl
   shape-with_first p (More q e r) = refl
 

@@ -11,7 +11,7 @@ use Rattle.spec.proofs.TreeLaws.{pairs-top}
 use Rattle.paths.specs.Pairs.{Ascending}
 use Rattle.paths.specs.Walk.{walk_reads, nodes_meeting, last_key}
 use Rattle.paths.specs.Sources.{shown_by}
-use Rattle.paths.specs.WalkLaws.{WalkIsListed, WalkReadsRange, WalkBound, WalkOverSource}
+use Rattle.paths.specs.Laws.Walks.{WalkIsListed, WalkReadsRange, WalkBound, WalkOverSource}
 use Rattle.paths.proofs.LookupTheorems.{within-bound}
 use Rattle.paths.proofs.OverSource.{holds-top}
 use Rattle.paths.proofs.RecordMaps.{ascending-sorted}

@@ -1,6 +1,6 @@
 //! The laws of look-ups.
 
-ghost use Rattle.paths.specs.LookupLaws.{FindIsValue, FindReads, TopHasLayer, PathIsRead, StepIsPlace, PathBound, LookupOverSource};
+ghost use Rattle.paths.specs.Laws.Lookups.{FindIsValue, FindReads, TopHasLayer, PathIsRead, StepIsPlace, PathBound, LookupOverSource};
 
 /// A look-up in the tree of ascending pairs finds the key's value.
 pub fn find_is_the_value()

@@ -1,6 +1,6 @@
 //! The laws of walks.
 
-ghost use Rattle.paths.specs.WalkLaws.{WalkIsListed, WalkReadsRange, WalkBound, WalkOverSource};
+ghost use Rattle.paths.specs.Laws.Walks.{WalkIsListed, WalkReadsRange, WalkBound, WalkOverSource};
 
 /// A walk gives the first pairs from a key on, in order.
 pub fn walk_is_the_list()

@@ -3,6 +3,7 @@ use Rattle.std.specs.Prelude.{◌≡◌, true, Option, Some, ℕ, ◌+◌, ◌*�
 use Rattle.std.specs.Cmp.Lexicographic.{slice_cmp}
 use Rattle.std.specs.Ordering.{nat_cmp}
 use Rattle.std.specs.FinMap.{is_sorted}
+use Rattle.spec.specs.Cid.{IsDigest}
 use Rattle.spec.specs.Layer.{layer}
 use Rattle.spec.specs.Tree.{Pair, Node, Sub, top}
 use Rattle.spec.specs.NodeFormat.{shape}
@@ -12,7 +13,7 @@ use Rattle.paths.specs.TreeEdit.{layer_of, delete_path}
 use Rattle.paths.specs.Trace.{find_path, delete_path_gone, delete_path_made, delete_path_read, delete_path_nodes, met_pairs, delete_left, prune_path}
 use Rattle.paths.specs.PathEdit.{delete_root, delete_written, delete_read, delete_gone_shapes, flat, all_but_last}
 use Rattle.paths.specs.Sources.{HasNodes, shown_by, path_from, delete_met_from, delete_pruned_from}
-use Rattle.paths.specs.EditLaws.{IsEdit}
+use Rattle.paths.specs.Laws.Edits.{IsEdit}
 
 -- the tree after a delete is the tree of the pairs that are left from scratch
 abbrev pub DeleteIsTop : Type 0
@@ -67,6 +68,6 @@ pub record IsDelete (digest : List ℕ → List ℕ) (bits : ℕ) (gives : List 
       length (delete_written digest key path met) ≤ layer_of (layer digest bits) (top (layer digest bits) es) + 1
 
 abbrev pub DeleteOverSource : Type 0
-DeleteOverSource = (digest : List ℕ → List ℕ) (bits : ℕ) → ((bytes : List ℕ) → length (digest bytes) ≡ 32)
+DeleteOverSource = (digest : List ℕ → List ℕ) (bits : ℕ) → IsDigest digest
     → (gives : List ℕ → Option (List ℕ)) (n : ℕ) (key : List ℕ) (es : List Pair) → ArePairs es → HasNodes digest bits gives es
     → layer_of (layer digest bits) (top (layer digest bits) es) < n → (v : List ℕ) → value_of key es ≡ Some v → IsDelete digest bits gives n key es

@@ -3,6 +3,7 @@ use Rattle.std.specs.Prelude.{◌≡◌, true, Option, Some, ℕ, suc, ◌+◌, 
 use Rattle.std.specs.Cmp.Lexicographic.{slice_cmp}
 use Rattle.std.specs.Ordering.{nat_cmp}
 use Rattle.std.specs.FinMap.{is_sorted}
+use Rattle.spec.specs.Cid.{IsDigest}
 use Rattle.spec.specs.Layer.{layer}
 use Rattle.spec.specs.Tree.{Pair, Node, Sub, top}
 use Rattle.spec.specs.NodeFormat.{shape}
@@ -12,7 +13,7 @@ use Rattle.paths.specs.TreeEdit.{layer_of, put_top}
 use Rattle.paths.specs.Trace.{find_path, put_top_gone, put_top_made}
 use Rattle.paths.specs.PathEdit.{put_root, put_written}
 use Rattle.paths.specs.Sources.{HasNodes, shown_by, path_from}
-use Rattle.paths.specs.EditLaws.{IsEdit}
+use Rattle.paths.specs.Laws.Edits.{IsEdit}
 
 -- the tree after a put is the tree of the new pairs from scratch
 abbrev pub PutIsTop : Type 0
@@ -44,6 +45,6 @@ pub record IsPut (digest : List ℕ → List ℕ) (bits : ℕ) (gives : List ℕ
       length (put_written digest (layer digest bits) p path) ≤ 2 * max (layer_of (layer digest bits) (top (layer digest bits) es)) (layer digest bits p.0) + 1
 
 abbrev pub PutOverSource : Type 0
-PutOverSource = (digest : List ℕ → List ℕ) (bits : ℕ) → ((bytes : List ℕ) → length (digest bytes) ≡ 32)
+PutOverSource = (digest : List ℕ → List ℕ) (bits : ℕ) → IsDigest digest
     → (gives : List ℕ → Option (List ℕ)) (n : ℕ) (p : Pair) (es : List Pair) → ArePairs es → HasNodes digest bits gives es
     → layer_of (layer digest bits) (top (layer digest bits) es) < n → IsPut digest bits gives n p es

@@ -3,6 +3,7 @@ use Rattle.std.specs.Prelude.{◌≡◌, true, Option, Some, None, ℕ, suc, ◌
 use Rattle.std.specs.Cmp.Lexicographic.{slice_cmp}
 use Rattle.std.specs.Ordering.{nat_cmp}
 use Rattle.std.specs.FinMap.{is_sorted}
+use Rattle.spec.specs.Cid.{IsDigest}
 use Rattle.spec.specs.Layer.{layer}
 use Rattle.spec.specs.Tree.{Pair, Sub, top}
 use Rattle.spec.specs.NodeFormat.{Shape, node_bytes, shape_bytes, first_link, entries_of}
@@ -23,7 +24,7 @@ FindReads = (layer : List ℕ → ℕ) (n : ℕ) (key : List ℕ) (es : List Pai
 
 -- a digest of 32 bytes has 256 bits, so no top has a higher layer than that
 abbrev pub TopHasLayer : Type 0
-TopHasLayer = (digest : List ℕ → List ℕ) (bits : ℕ) → ((bytes : List ℕ) → length (digest bytes) ≡ 32) → (es : List Pair)
+TopHasLayer = (digest : List ℕ → List ℕ) (bits : ℕ) → IsDigest digest → (es : List Pair)
     → layer_of (layer digest bits) (top (layer digest bits) es) ≤ 256 / bits
 
 -- the nodes of a key's path are those that a look-up reads
@@ -53,6 +54,6 @@ pub record IsLookup (digest : List ℕ → List ℕ) (bits : ℕ) (gives : List 
   pub count : length (path_from (shown_by gives) n key (Some (root digest bits es))) ≤ suc (layer_of (layer digest bits) (top (layer digest bits) es))
 
 abbrev pub LookupOverSource : Type 0
-LookupOverSource = (digest : List ℕ → List ℕ) (bits : ℕ) → ((bytes : List ℕ) → length (digest bytes) ≡ 32)
+LookupOverSource = (digest : List ℕ → List ℕ) (bits : ℕ) → IsDigest digest
     → (gives : List ℕ → Option (List ℕ)) (n : ℕ) (key : List ℕ) (es : List Pair) → ArePairs es → HasNodes digest bits gives es
     → layer_of (layer digest bits) (top (layer digest bits) es) < n → IsLookup digest bits gives n key es

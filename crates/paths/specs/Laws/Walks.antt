@@ -3,6 +3,7 @@ use Rattle.std.specs.Prelude.{◌≡◌, true, Option, Some, ℕ, suc, ◌*◌, 
 use Rattle.std.specs.Cmp.Lexicographic.{slice_cmp}
 use Rattle.std.specs.Ordering.{nat_cmp}
 use Rattle.std.specs.FinMap.{is_sorted}
+use Rattle.spec.specs.Cid.{IsDigest}
 use Rattle.spec.specs.Layer.{layer}
 use Rattle.spec.specs.Tree.{Pair, Sub, top}
 use Rattle.spec.specs.NodeFormat.{Shape, shape}
@@ -34,6 +35,6 @@ pub record IsWalk (digest : List ℕ → List ℕ) (bits : ℕ) (gives : List �
       ≡ map (shape digest) (nodes_meeting from (last_key from (listed from (suc limit) es)) (Sub (top (layer digest bits) es)))
 
 abbrev pub WalkOverSource : Type 0
-WalkOverSource = (digest : List ℕ → List ℕ) (bits : ℕ) → ((bytes : List ℕ) → length (digest bytes) ≡ 32)
+WalkOverSource = (digest : List ℕ → List ℕ) (bits : ℕ) → IsDigest digest
     → (gives : List ℕ → Option (List ℕ)) (n limit : ℕ) (from : List ℕ) (es : List Pair) → ArePairs es → HasNodes digest bits gives es
     → layer_of (layer digest bits) (top (layer digest bits) es) < n → IsWalk digest bits gives n limit from es
