@@ -25,7 +25,7 @@ use Rattle.paths.proofs.Balance.{put-balance, within-top}
 use Rattle.paths.proofs.BlockChanges.{put-changes, read-stands, made-stands}
 use Rattle.paths.proofs.Counts.{put_top-gone, put_top-made}
 use Rattle.paths.proofs.Gone.{put_top-old}
-use Rattle.paths.proofs.LookupTheorems.{find_path-bound, map-two}
+use Rattle.paths.proofs.LookupTheorems.{find_path-bound, map-two, lookup-over_source}
 use Rattle.paths.proofs.OverSource.{holds-top, free-source}
 use Rattle.paths.proofs.PathForms.{put_root-same, put_written-same}
 use Rattle.paths.proofs.PathReads.{put-path}
@@ -124,6 +124,7 @@ put-over_source digest bits fits gives n p es are has l =
     (sym (put-is p es)) e in
     record {
       edit = edit-moved digest bits es (with_key es p.0 p.1) _ _ _ _ _ _ _ _ new_top read read made f;
+      read_count = (lookup-over_source digest bits fits gives n p.0 es are has l).count;
       made_count =
           let c = put_top-made lay p m in
           let d = length-map (put_top_made lay p m) (shape digest) in

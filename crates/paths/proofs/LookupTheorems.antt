@@ -16,7 +16,7 @@ use Rattle.paths.specs.Order.{order}
 use Rattle.paths.specs.TreeEdit.{layer_of}
 use Rattle.paths.specs.Trace.{find_path}
 use Rattle.paths.specs.Sources.{shown_by, row_value, row_value_at, gap, gap_at, path_from}
-use Rattle.paths.specs.Laws.Lookups.{FindIsValue, FindReads, TopHasLayer, PathIsRead, found_at, StepIsPlace, PathBound, LookupOverSource}
+use Rattle.paths.specs.Laws.Lookups.{FindIsValue, FindReads, TopHasLayer, KeyHasLayer, PathIsRead, found_at, StepIsPlace, PathBound, LookupOverSource}
 use Rattle.paths.proofs.Balance.{within-top}
 use Rattle.paths.proofs.Counts.{find_path-most}
 use Rattle.paths.proofs.Enough.{find-enough, find_path-enough}
@@ -65,6 +65,9 @@ find-reads_layers layer n key es =
 
 pub top-has_layer : TopHasLayer
 top-has_layer digest bits fits es = let e = layer_of-top (layer digest bits) es in let l = top_layer-le digest bits fits es in omega arith
+
+pub key-has_layer : KeyHasLayer
+key-has_layer digest bits fits key = let l = top_layer-le digest bits fits ((key, []) ∷ []) in omega arith
 
 pub path-is_read : PathIsRead
 path-is_read digest bits n es key l =

@@ -209,3 +209,36 @@ module _ (digest : List ℕ → List ℕ) where
       (links-same (layer key) t key s path e)
       ∙ ap (λ a. lone_shape key s settled (merge_shapes digest met ++ (a ++ (delete_shape digest (layer key) t key y s path ∷ [])))) (delete-same_shapes digest (layer key) t key y s path e)
       ∙ ap (λ a. lone_shape key s settled (merge_shapes digest met ++ (climb_shapes digest key (all_but_last (s ∷ path)) (remove_shape key (last_shape s path) y) ++ (a ∷ [])))) (delete-same digest (layer key) t key y s path e)
+
+-- ---- for loops from the bottom up
+
+module _ (digest : List ℕ → List ℕ) where
+  -- the lowest of the nodes above is written first
+  pub climb-last : (key : List ℕ) (above : List Shape) (a s : Shape) → climb digest key (above ++ (a ∷ [])) s ≡ climb digest key above (go_shape key a (close_link digest s))
+  climb-last key [] a s = refl
+  climb-last key (b ∷ above) a s = ap (λ t. go_shape key b (close_link digest t)) (climb-last key above a s)
+
+  pub climb_shapes-last : (key : List ℕ) (above : List Shape) (a s : Shape)
+      → climb_shapes digest key (above ++ (a ∷ [])) s ≡ close_shapes s ++ climb_shapes digest key above (go_shape key a (close_link digest s))
+  climb_shapes-last key [] a s = sym (append-nil (close_shapes s))
+  climb_shapes-last key (b ∷ above) a s =
+      let next = go_shape key a (close_link digest s) in
+      ap (λ t. t ++ close_shapes (climb digest key (above ++ (a ∷ [])) s)) (climb_shapes-last key above a s)
+      ∙ append_assoc (close_shapes s) (climb_shapes digest key above next) (close_shapes (climb digest key (above ++ (a ∷ [])) s))
+      ∙ ap (λ t. close_shapes s ++ (climb_shapes digest key above next ++ close_shapes t)) (climb-last key above a s)
+
+  -- and so the lowest of the nodes without keys
+  pub raise-first : (d : ℕ) (s : Shape) → raise digest (suc d) s ≡ raise digest d (LastLink (Some (shape_cid digest s)))
+  raise-first zero s = refl
+  raise-first (suc d) s = ap (λ t. LastLink (Some (shape_cid digest t))) (raise-first d s)
+
+  pub raise_shapes-first : (d : ℕ) (s : Shape) → raise_shapes digest (suc d) s ≡ s ∷ raise_shapes digest d (LastLink (Some (shape_cid digest s)))
+  raise_shapes-first zero s = refl
+  raise_shapes-first (suc d) s =
+      ap (λ t. t ++ (raise digest (suc d) s ∷ [])) (raise_shapes-first d s)
+      ∙ ap (λ t. s ∷ (raise_shapes digest d (LastLink (Some (shape_cid digest s))) ++ (t ∷ []))) (raise-first d s)
+
+-- the last of a path and what stands above it
+pub last_shape-append : (t : Shape) (above : List Shape) (s : Shape) → last_shape t (above ++ (s ∷ [])) ≡ s
+last_shape-append t [] s = refl
+last_shape-append t (a ∷ above) s = last_shape-append a above s

@@ -4,14 +4,15 @@ use Rattle.std.specs.Cmp.Lexicographic.{slice_cmp}
 use Rattle.std.specs.Ordering.{nat_cmp}
 use Rattle.std.specs.FinMap.{is_sorted}
 use Rattle.spec.specs.Cid.{IsDigest}
+use Rattle.spec.specs.Reading.{IsBytes}
 use Rattle.spec.specs.Layer.{layer}
 use Rattle.spec.specs.Tree.{Pair, Sub, top}
-use Rattle.spec.specs.NodeFormat.{Shape, node_bytes, shape_bytes, first_link, entries_of}
+use Rattle.spec.specs.NodeFormat.{Shape, node_bytes, shape_bytes, first_link, entries_of, is_node}
 use Rattle.spec.specs.Blocks.{ArePairs, value_of, root}
 use Rattle.spec.specs.Proof.{path, Place, Here, Below, Gap, place}
 use Rattle.paths.specs.TreeEdit.{layer_of, find}
 use Rattle.paths.specs.Trace.{find_path}
-use Rattle.paths.specs.Sources.{HasNodes, shown_by, row_value, gap, path_from, value_from}
+use Rattle.paths.specs.Sources.{HasNodes, shown_by, shape_of_bytes, row_value, gap, path_from, value_from}
 
 -- a look-up in the tree of ascending pairs finds the key's value, with any bound above the top's layer
 abbrev pub FindIsValue : Type 0
@@ -26,6 +27,10 @@ FindReads = (layer : List ℕ → ℕ) (n : ℕ) (key : List ℕ) (es : List Pai
 abbrev pub TopHasLayer : Type 0
 TopHasLayer = (digest : List ℕ → List ℕ) (bits : ℕ) → IsDigest digest → (es : List Pair)
     → layer_of (layer digest bits) (top (layer digest bits) es) ≤ 256 / bits
+
+-- nor has a key
+abbrev pub KeyHasLayer : Type 0
+KeyHasLayer = (digest : List ℕ → List ℕ) (bits : ℕ) → IsDigest digest → (key : List ℕ) → layer digest bits key ≤ 256 / bits
 
 -- the nodes of a key's path are those that a look-up reads
 abbrev pub PathIsRead : Type 0
@@ -45,6 +50,14 @@ StepIsPlace = (key : List ℕ) (s : Shape) → found_at (place key (first_link s
 -- no more than n nodes are read, whatever the source shows
 abbrev pub PathBound : Type 0
 PathBound = (shows : List ℕ → Option Shape) (n : ℕ) (key : List ℕ) (l : Option (List ℕ)) → length (path_from shows n key l) ≤ n
+
+-- a shape of the node grammar is read from its bytes, and bytes that read as a shape are its bytes
+abbrev pub ShapeReadsBack : Type 0
+ShapeReadsBack = (s : Shape) → is_node (first_link s) (entries_of s) ≡ true → shape_of_bytes (shape_bytes s) ≡ Some s
+
+abbrev pub OnlyShapesAreRead : Type 0
+OnlyShapesAreRead = (bytes : List ℕ) (s : Shape) → IsBytes bytes → shape_of_bytes bytes ≡ Some s
+    → (bytes ≡ shape_bytes s) × (is_node (first_link s) (entries_of s) ≡ true)
 
 -- from the root, over a source that has the nodes of a tree
 pub record IsLookup (digest : List ℕ → List ℕ) (bits : ℕ) (gives : List ℕ → Option (List ℕ)) (n : ℕ) (key : List ℕ) (es : List Pair) : Type 0 where

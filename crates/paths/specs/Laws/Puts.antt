@@ -41,6 +41,7 @@ PutCounts = (layer : List ℕ → ℕ) (p : Pair) (m : Node) → let t = max (la
 pub record IsPut (digest : List ℕ → List ℕ) (bits : ℕ) (gives : List ℕ → Option (List ℕ)) (n : ℕ) (p : Pair) (es : List Pair) : Type 0 where
   pub edit : let path = path_from (shown_by gives) n p.0 (Some (root digest bits es)) in
       IsEdit digest bits es (with_key es p.0 p.1) (put_root digest (layer digest bits) p path) path path (put_written digest (layer digest bits) p path)
+  pub read_count : length (path_from (shown_by gives) n p.0 (Some (root digest bits es))) ≤ suc (layer_of (layer digest bits) (top (layer digest bits) es))
   pub made_count : let path = path_from (shown_by gives) n p.0 (Some (root digest bits es)) in
       length (put_written digest (layer digest bits) p path) ≤ 2 * max (layer_of (layer digest bits) (top (layer digest bits) es)) (layer digest bits p.0) + 1
 
