@@ -25,7 +25,7 @@ use Rattle.paths.proofs.Counts.{delete_path-reads, delete_path-made}
 use Rattle.paths.proofs.DeleteShapes.{links-path}
 use Rattle.paths.proofs.DeleteSource.{map-flat, map-all_but_last, met-row, pruned-top}
 use Rattle.paths.proofs.DeleteTopShapes.{shape-delete_path, shapes-delete_path}
-use Rattle.paths.proofs.EditTheorems.{edit-shapes, edit-moved}
+use Rattle.paths.proofs.PutTheorems.{edit-shapes, edit-moved}
 use Rattle.paths.proofs.Gone.{delete_path-old}
 use Rattle.paths.proofs.LookupTheorems.{find_path-bound}
 use Rattle.paths.proofs.OverSource.{holds-top, free-source}
