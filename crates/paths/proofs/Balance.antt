@@ -1,5 +1,5 @@
 -- What is added and dropped, from what is made and goes.
-use Rattle.std.proofs.Common.{◌≡◌, ◌↔◌, ℕ, ◌+◌, ◌<◌, ◌≤◌, List, ap, ◌∙◌, arith}
+use Rattle.std.proofs.Common.{◌≡◌, ℕ, ◌+◌, List, ap, ◌∙◌}
 use Rattle.spec.specs.Tree.{Pair, Node, Sub, top_layer, top}
 use Rattle.paths.specs.TreeEdit.{layer_of}
 use Rattle.paths.specs.Pairs.{Ascending, put_pair, delete_pair}

@@ -4,10 +4,10 @@ use Rattle.std.specs.declared.cmp.Ordering.{Ordering}
 use Rattle.std.specs.declared.cmp.Ordering.TheVariants.{Less, Equal, Greater}
 use Rattle.paths.specs.Order.{order, if_equal}
 use Rattle.spec.specs.Tree.{Pair, Node, Part, Last, More, Nothing, Sub}
-use Rattle.paths.specs.TreeEdit.{first, with_first, onto, Place, further, locate, close, open_part, merge, descend, remove, delete_in, node_delete}
+use Rattle.paths.specs.TreeEdit.{first, onto, Place, further, locate, close, open_part, merge, descend, remove, delete_in, node_delete}
 use Rattle.paths.specs.Trace.{nodes_of, delete_path_nodes, row_at, beside, delete_met, merge_made, delete_in_made, delete_made, merge_pairs, met_pairs, met_made, made_close, remove_list_at}
 use Rattle.spec.specs.NodeFormat.{MoreLinks, part_link, shape, first_link}
-use Rattle.paths.specs.ShapeEdit.{close_link, go_shape, remove_shape, remove_shape_at, with_first_link, head_shape, tail_shapes, delete_shape, row_links, row_links_at, path_links, merge_links, merge_shapes, delete_shapes, close_shapes}
+use Rattle.paths.specs.ShapeEdit.{close_link, go_shape, remove_shape, remove_shape_at, head_shape, tail_shapes, delete_shape, row_links, row_links_at, path_links, merge_links, merge_shapes, delete_shapes, close_shapes}
 use Rattle.paths.proofs.ShapeBridges as bridge
 use Rattle.paths.proofs.Within.{IsWithin, AllWithin, within-first, within-locate, within-open, within-rest}
 use Rattle.std.proofs.lemmas.List.{append-nil, map-append}

@@ -1,14 +1,12 @@
 -- What a delete reads over a source, beside the path: the pairs that meet at the key, and the chain that is pruned.
-use Rattle.std.proofs.Common.{◌≡◌, ℕ, zero, suc, ◌+◌, ◌<◌, ◌≤◌, Bool, true, false, cond, nat_eq, List, [], ◌∷◌, ◌++◌, map, Option, None, refl, sym, ap, ◌∙◌, arith}
-use Rattle.std.specs.declared.option.Option.TheVariants.{Some}
+use Rattle.std.proofs.Common.{◌≡◌, ℕ, zero, suc, ◌<◌, ◌≤◌, Bool, true, false, cond, nat_eq, List, [], ◌∷◌, map, Option, None, refl, ap, ◌∙◌, arith}
 use Rattle.std.specs.declared.cmp.Ordering.{Ordering}
 use Rattle.std.specs.declared.cmp.Ordering.TheVariants.{Less, Equal, Greater}
-use Rattle.std.proofs.lemmas.List.{map-append}
 use Rattle.spec.specs.Tree.{Pair, Node, Part, Last, More, Nothing, Sub, EachNode, EachUnder}
-use Rattle.spec.specs.NodeFormat.{Shape, part_link, shape, shape_cid}
+use Rattle.spec.specs.NodeFormat.{Shape, part_link, shape}
 use Rattle.paths.specs.Order.{order, if_equal}
 use Rattle.paths.specs.TreeEdit.{first, locate, further, Place, open_part, layer_of}
-use Rattle.paths.specs.Trace.{beside, row_at, merge_pairs, met_pairs, settle_left, at_lone, delete_left, prune_path, delete_path_nodes}
+use Rattle.paths.specs.Trace.{beside, row_at, merge_pairs, met_pairs, settle_left, delete_left, prune_path}
 use Rattle.paths.specs.ShapeEdit.{settle_links, lone_shape}
 use Rattle.paths.specs.PathEdit.{flat, all_but_last}
 use Rattle.paths.specs.Sources.{met_from, pruned_from}
@@ -18,7 +16,7 @@ use Rattle.paths.proofs.Traces.{lone-met}
 use Rattle.paths.proofs.SettleShapes.{links-settle}
 use Rattle.paths.proofs.SourceLaws.{IsShown, met-holds, pruned-holds}
 use Rattle.paths.proofs.WalkPairs.{each-first_part}
-use Rattle.paths.proofs.Within.{IsWithin, AllWithin, within-first}
+use Rattle.paths.proofs.Within.{IsWithin, AllWithin}
 use Rattle.paths.proofs.ShapeBridges as bridge
 
 -- ---- what holds of each node below a node holds below the rest of it at a key

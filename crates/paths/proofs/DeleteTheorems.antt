@@ -1,5 +1,5 @@
 -- The laws of a delete.
-use Rattle.std.proofs.Common.{◌≡◌, ℕ, zero, suc, ◌+◌, ◌*◌, ◌<◌, ◌≤◌, true, List, [], ◌∷◌, ◌++◌, length, map, Option, None, refl, sym, ap, ◌∙◌, subst, arith}
+use Rattle.std.proofs.Common.{◌≡◌, ℕ, ◌+◌, ◌*◌, ◌<◌, ◌≤◌, true, List, [], ◌∷◌, ◌++◌, length, map, Option, sym, ap, ◌∙◌, subst, arith}
 use Rattle.std.specs.declared.option.Option.TheVariants.{Some}
 use Rattle.std.specs.Cmp.Lexicographic.{slice_cmp}
 use Rattle.std.specs.Ordering.{nat_cmp}
@@ -7,19 +7,18 @@ use Rattle.std.specs.FinMap.{is_sorted}
 use Rattle.std.proofs.lemmas.List.{length-map, map-append}
 use Rattle.spec.specs.Cid.{IsDigest}
 use Rattle.spec.specs.Layer.{layer}
-use Rattle.spec.specs.Tree.{Pair, Node, Part, Sub, top}
-use Rattle.spec.specs.NodeFormat.{Shape, part_link, shape, node_bytes}
+use Rattle.spec.specs.Tree.{Pair, Node, Sub, top}
+use Rattle.spec.specs.NodeFormat.{Shape, part_link, shape}
 use Rattle.spec.specs.Blocks.{ArePairs, IsClashFree, nodes, value_of}
 use Rattle.spec.specs.Writes.{without_key}
-use Rattle.paths.specs.Pairs.{Ascending, delete_pair, value_in}
-use Rattle.paths.specs.TreeEdit.{layer_of, delete_path}
-use Rattle.paths.specs.Trace.{find_path, delete_path_nodes, met_pairs, delete_left, prune_path, delete_path_gone, delete_path_made, delete_path_read, weight, total}
-use Rattle.paths.specs.Changes.{marked}
-use Rattle.paths.specs.ShapeEdit.{layer_of_shape, last_shape, row_links, path_links}
+use Rattle.paths.specs.Pairs.{delete_pair}
+use Rattle.paths.specs.TreeEdit.{layer_of}
+use Rattle.paths.specs.Trace.{delete_path_nodes, met_pairs, delete_left, prune_path, delete_path_gone, delete_path_made, delete_path_read}
+use Rattle.paths.specs.ShapeEdit.{layer_of_shape}
 use Rattle.paths.specs.PathEdit.{flat, all_but_last, delete_root, delete_written, delete_read, delete_gone_shapes}
-use Rattle.paths.specs.Sources.{HasNodes, shown_by, path_from, met_from, pruned_from, delete_met_from, delete_pruned_from}
+use Rattle.paths.specs.Sources.{shown_by, path_from, met_from, delete_met_from, delete_pruned_from}
 use Rattle.paths.specs.Laws.Edits.{IsEdit}
-use Rattle.paths.specs.Laws.Deletes.{DeleteIsTop, DeleteReadsPath, DeleteReads, DeleteIsShapes, DeleteCounts, IsDelete, DeleteOverSource}
+use Rattle.paths.specs.Laws.Deletes.{DeleteIsTop, DeleteReadsPath, DeleteReads, DeleteIsShapes, DeleteCounts, DeleteOverSource}
 use Rattle.paths.proofs.Balance.{delete-balance, within-top}
 use Rattle.paths.proofs.Counts.{delete_path-reads, delete_path-made}
 use Rattle.paths.proofs.DeleteShapes.{links-path}
@@ -34,7 +33,6 @@ use Rattle.paths.proofs.PutTopShapes.{layer-shape}
 use Rattle.paths.proofs.RecordMaps.{ascending-sorted, find-is, delete-is}
 use Rattle.paths.proofs.Settle.{delete_path-top}
 use Rattle.paths.proofs.SourceLaws.{path-holds}
-use Rattle.paths.proofs.Weights.{total-append}
 use Rattle.paths.proofs.BlockChanges as blocks
 use Rattle.paths.proofs.PathReads as reads
 use Rattle.paths.proofs.ShapeBridges as bridge
@@ -77,14 +75,15 @@ delete-is_shapes digest layer n key es s l v h =
     let long = length-map below (shape digest) in
     let same = layer-shape digest layer m in
     let deep = r.deep in
-    let e : layer_of_shape layer (shape digest m) ≡ length (map (shape digest) below) + layer key = omega arith in
-    (ap (shape digest) (sym (delete-is_top layer key es s))
-    ∙ sym (shape-delete_path digest layer key m w)
-    ∙ delete_root-same digest layer key (shape digest m) (map (shape digest) below) met pruned e
-    ∙ ap (λ x. delete_root digest key x met pruned) path,
-    sym (shapes-delete_path digest layer key m w)
-    ∙ delete_written-same digest layer key (shape digest m) (map (shape digest) below) met e
-    ∙ ap (λ x. delete_written digest key x met) path)
+    let e : layer_of_shape layer (shape digest m) ≡ length (map (shape digest) below) + layer key = omega arith in (
+      ap (shape digest) (sym (delete-is_top layer key es s))
+          ∙ sym (shape-delete_path digest layer key m w)
+          ∙ delete_root-same digest layer key (shape digest m) (map (shape digest) below) met pruned e
+          ∙ ap (λ x. delete_root digest key x met pruned) path,
+      sym (shapes-delete_path digest layer key m w)
+          ∙ delete_written-same digest layer key (shape digest m) (map (shape digest) below) met e
+          ∙ ap (λ x. delete_written digest key x met) path,
+    )
 
 -- ---- over a source
 

@@ -1,16 +1,14 @@
 -- What a delete of the whole tree computes from shapes.
-use Rattle.std.proofs.Common.{◌≡◌, ℕ, zero, suc, true, nat_eq, List, [], ◌∷◌, ◌++◌, map, refl, sym, ap, append_assoc, ◌∙◌}
+use Rattle.std.proofs.Common.{◌≡◌, ℕ, List, [], ◌∷◌, ◌++◌, map, refl, sym, append_assoc}
 use Rattle.std.proofs.lemmas.List.{map-append}
-use Rattle.std.proofs.lemmas.Bool.{eq-eqb}
 use Rattle.std.specs.declared.cmp.Ordering.{Ordering}
 use Rattle.std.specs.declared.cmp.Ordering.TheVariants.{Less, Equal, Greater}
 use Rattle.spec.specs.Tree.{Pair, Node, Part, Last, More, Nothing}
 use Rattle.spec.specs.NodeFormat.{Shape, part_link, shape}
 use Rattle.paths.specs.Order.{order, if_equal}
-use Rattle.paths.specs.TreeEdit.{layer_of, locate, node_delete, lone_at, delete_path}
-use Rattle.paths.specs.Trace.{merge_pairs, row_at, beside, delete_made, delete_path_nodes, settle_made, settle_left, met_pairs, prune_path, delete_left, delete_path_made}
+use Rattle.paths.specs.TreeEdit.{layer_of, node_delete, lone_at, delete_path}
+use Rattle.paths.specs.Trace.{delete_made, delete_path_nodes, settle_made, settle_left, met_pairs, prune_path, delete_left, delete_path_made}
 use Rattle.paths.specs.ShapeEdit.{path_links, merge_links, merge_shapes, delete_shape, delete_shapes, settle_shape, settle_shapes, delete_top_shape, delete_top_shapes}
-use Rattle.paths.proofs.Orders.{order-equal}
 use Rattle.paths.proofs.Within.{AllWithin}
 use Rattle.paths.proofs.ShapeBridges as bridge
 use Rattle.paths.proofs.DeleteShapes as below

@@ -1,5 +1,5 @@
 -- What holds of each pair of a list, and lists in ascending order.
-use Rattle.std.proofs.Common.{◌≡◌, ℕ, List, [], ◌∷◌, ◌++◌}
+use Rattle.std.proofs.Common.{List, [], ◌∷◌, ◌++◌}
 use Rattle.spec.specs.Tree.{Pair}
 use Rattle.paths.specs.Pairs.{Each, IsBefore, IsAfter, Ascending}
 use Rattle.paths.proofs.Orders.{turned}

@@ -1,9 +1,9 @@
 -- What is read in a tree of n layers is the same for each bound from n on.
 use Rattle.std.proofs.Common.{◌≡◌, ℕ, zero, suc, ◌≤◌, List, [], ◌∷◌, refl, ap, arith}
-use Rattle.spec.specs.Tree.{Node, Part, Last, More, Nothing, Sub}
+use Rattle.spec.specs.Tree.{Part, Last, More, Nothing, Sub}
 use Rattle.paths.specs.TreeEdit.{first, locate, find, answer}
 use Rattle.paths.specs.Trace.{beside, find_path, last_part, merge_pairs, prune_path}
-use Rattle.paths.proofs.Within.{IsWithin, within-rest, within-last, within-first}
+use Rattle.paths.proofs.Within.{IsWithin, within-rest, within-last}
 
 pub find-enough : (n m : ℕ) (key : List ℕ) (p : Part) → n ≤ m → IsWithin n p → find m key p ≡ find n key p
 find-enough zero zero key Nothing l w = refl

@@ -1,5 +1,5 @@
 -- What holds of each pair of a list holds of each in its cut.
-use Rattle.std.proofs.Common.{◌≡◌, ℕ, zero, suc, ◌<◌, Bool, true, false, nat_eq, List, [], ◌∷◌, ◌++◌, refl, arith}
+use Rattle.std.proofs.Common.{◌≡◌, ℕ, zero, suc, ◌<◌, Bool, true, false, nat_eq, List, [], ◌∷◌, refl, arith}
 use Rattle.std.proofs.lemmas.Bool.{eqb-false}
 use Rattle.spec.specs.Tree.{Pair, Part, Sub, Groups, LastGroup, MoreGroups, push, enter, cut, node_of, below, tree}
 use Rattle.paths.specs.TreeEdit.{with_first, locate, close}

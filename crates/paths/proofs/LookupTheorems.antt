@@ -1,21 +1,19 @@
 -- The laws of look-ups.
-use Rattle.std.proofs.Common.{◌≡◌, ◌⊎◌, inl, inr, ℕ, zero, suc, ◌+◌, ◌*◌, ◌/◌, ◌<◌, ◌≤◌, max, List, [], ◌∷◌, length, map, Option, None, refl, sym, ap, ◌∙◌, arith}
+use Rattle.std.proofs.Common.{◌≡◌, inl, inr, ℕ, zero, suc, ◌<◌, List, [], ◌∷◌, length, map, Option, None, refl, sym, ap, ◌∙◌, arith}
 use Rattle.std.specs.declared.option.Option.TheVariants.{Some}
 use Rattle.std.specs.declared.cmp.Ordering.{Ordering}
 use Rattle.std.specs.declared.cmp.Ordering.TheVariants.{Less, Equal, Greater}
 use Rattle.std.proofs.lemmas.Bool.{cases_lt}
 use Rattle.std.proofs.lemmas.List.{length-map}
-use Rattle.std.proofs.Math.Nat.{div-zero, div-mul-le_self}
-use Rattle.std.proofs.lemmas.Nat.{le-div}
-use Rattle.spec.specs.Layer.{layer, zero_bits}
-use Rattle.spec.specs.Tree.{Pair, Sub, top_layer, top}
-use Rattle.spec.specs.NodeFormat.{Shape, LastLink, MoreLinks, Entry, shape, shape_bytes, first_link, entries_of}
+use Rattle.spec.specs.Layer.{layer}
+use Rattle.spec.specs.Tree.{Pair, Sub, top}
+use Rattle.spec.specs.NodeFormat.{Shape, LastLink, MoreLinks, shape, shape_bytes, first_link, entries_of}
 use Rattle.spec.specs.Proof.{by_order, place, gap_of, Here}
 use Rattle.spec.proofs.PathNodes.{top_layer-le}
 use Rattle.paths.specs.Order.{order}
 use Rattle.paths.specs.TreeEdit.{layer_of}
 use Rattle.paths.specs.Trace.{find_path}
-use Rattle.paths.specs.Sources.{shown_by, row_value, row_value_at, gap, gap_at, path_from}
+use Rattle.paths.specs.Sources.{shown_by, row_value, row_value_at, gap, gap_at}
 use Rattle.paths.specs.Laws.Lookups.{FindIsValue, FindReads, TopHasLayer, KeyHasLayer, PathIsRead, found_at, StepIsPlace, PathBound, LookupOverSource}
 use Rattle.paths.proofs.Balance.{within-top}
 use Rattle.paths.proofs.Counts.{find_path-most}
@@ -26,7 +24,7 @@ use Rattle.paths.proofs.PathIsRead.{path-layer}
 use Rattle.paths.proofs.RecordMaps.{ascending-sorted, find-is}
 use Rattle.paths.proofs.SourceLaws.{path-holds, value-holds, path-most}
 use Rattle.paths.proofs.Tops.{find-top, layer_of-top}
-use Rattle.paths.proofs.Within.{IsWithin, AllWithin, within-under-up}
+use Rattle.paths.proofs.Within.{IsWithin, within-under-up}
 
 -- as many layers as are wanted, above the top's
 pub within-bound : (layer : List ℕ → ℕ) (n : ℕ) (es : List Pair) → layer_of layer (top layer es) < n → IsWithin n (Sub (top layer es))

@@ -1,13 +1,13 @@
 -- A source that has the nodes of a tree shows them.
-use Rattle.std.proofs.Common.{◌≡◌, ℕ, List, [], Option, Result, Ok, refl, sym, ap, ◌∙◌, length, true, ◌∷◌, Err}
+use Rattle.std.proofs.Common.{◌≡◌, ℕ, List, [], Option, Result, Ok, refl, sym, ap, ◌∙◌, true, ◌∷◌, Err}
 use Rattle.std.specs.Prelude.{Contains, option_and_then}
 use Rattle.std.specs.declared.option.Option.TheVariants.{Some}
-use Rattle.spec.specs.Cid.{IsDigest, cid}
+use Rattle.spec.specs.Cid.{IsDigest}
 use Rattle.spec.specs.Layer.{layer}
-use Rattle.spec.specs.Tree.{Pair, Node, Part, Last, More, Nothing, Sub, top, EachNode, EachUnder}
+use Rattle.spec.specs.Tree.{Pair, Node, Sub, top}
 use Rattle.spec.specs.NodeFormat.{Shape, LastLink, MoreLinks, first_link, entries_of, shape, shape_bytes, read_node, node_spelling, is_node, Entry, NodeFault}
 use Rattle.spec.specs.Blocks.{ArePairs, IsClashFree, nodes}
-use Rattle.spec.proofs.TreeNodes.{IsLawfulShape, read_node-shape_bytes}
+use Rattle.spec.proofs.TreeNodes.{read_node-shape_bytes}
 use Rattle.spec.specs.Reading.{IsBytes}
 use Rattle.spec.proofs.NodeTakes.{read_node_takes}
 use Rattle.spec.proofs.SameTree.{Stands}
@@ -41,9 +41,10 @@ read-cases bytes s fits (Ok r) e h =
     let same : shape_from r.0 r.1 ≡ s = cc in
     let takes = read_node_takes bytes r.0 r.1 fits e in
     let left = sym (first_link-from r.0 r.1) ∙ ap first_link same in
-    let entries = sym (entries_of-from r.0 r.1) ∙ ap entries_of same in
-    (takes.0 ∙ ap (λ l. node_spelling l r.1) left ∙ ap (node_spelling (first_link s)) entries,
-    sym (ap (λ l. is_node l r.1) left ∙ ap (is_node (first_link s)) entries) ∙ takes.1)
+    let entries = sym (entries_of-from r.0 r.1) ∙ ap entries_of same in (
+      takes.0 ∙ ap (λ l. node_spelling l r.1) left ∙ ap (node_spelling (first_link s)) entries,
+      sym (ap (λ l. is_node l r.1) left ∙ ap (is_node (first_link s)) entries) ∙ takes.1,
+    )
 
 pub shape_bytes-shape_of_bytes : OnlyShapesAreRead
 shape_bytes-shape_of_bytes bytes s fits h = read-cases bytes s fits (read_node bytes) refl h

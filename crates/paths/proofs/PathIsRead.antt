@@ -1,14 +1,12 @@
 -- The path of a proof is the list of nodes that a get reads.
-use Rattle.std.proofs.Common.{◌≡◌, ℕ, zero, suc, List, [], ◌∷◌, length, map, refl, ap, ◌∙◌}
+use Rattle.std.proofs.Common.{◌≡◌, ℕ, zero, suc, List, [], ◌∷◌, map, refl, ap, ◌∙◌}
 use Rattle.std.specs.declared.cmp.Ordering.{Ordering}
 use Rattle.std.specs.declared.cmp.Ordering.TheVariants.{Less, Equal, Greater}
-use Rattle.std.specs.Ordering.{nat_cmp}
-use Rattle.std.specs.Cmp.Lexicographic.{slice_cmp}
 use Rattle.spec.specs.Layer.{layer}
 use Rattle.spec.specs.Tree.{Pair, Node, Part, Last, More, Nothing, Sub, top_layer, top}
 use Rattle.spec.specs.NodeFormat.{node_bytes}
 use Rattle.spec.specs.Proof.{by_order, path_in, path_under, path}
-use Rattle.paths.specs.Order.{order, if_equal}
+use Rattle.paths.specs.Order.{order}
 use Rattle.paths.specs.TreeEdit.{first, Place, further, locate, layer_of}
 use Rattle.paths.specs.Trace.{beside, find_path}
 use Rattle.paths.proofs.Orders.{order-is}

@@ -1,24 +1,24 @@
 -- What an edit reads is the path of a look-up, and for a delete also the pairs that meet and the chain that is pruned.
-use Rattle.std.proofs.Common.{◌≡◌, ℕ, zero, suc, ◌+◌, ◌<◌, ◌≤◌, Bool, true, false, cond, nat_eq, nat_lt, List, [], ◌∷◌, ◌++◌, length, map, Option, None, refl, sym, ap, ◌∙◌, subst, append_assoc, append-nil, arith}
+use Rattle.std.proofs.Common.{◌≡◌, ℕ, zero, suc, ◌+◌, ◌<◌, Bool, true, false, cond, nat_eq, nat_lt, List, [], ◌∷◌, ◌++◌, length, Option, None, refl, sym, ap, ◌∙◌, subst, append_assoc, append-nil, arith}
 use Rattle.std.specs.declared.option.Option.TheVariants.{Some}
 use Rattle.std.specs.declared.cmp.Ordering.{Ordering}
 use Rattle.std.specs.declared.cmp.Ordering.TheVariants.{Less, Equal, Greater}
-use Rattle.std.proofs.lemmas.Bool.{eq-eqb, eqb-true, eqb-false, ltb-true, ltb-false}
+use Rattle.std.proofs.lemmas.Bool.{eq-eqb, eqb-true, eqb-false, ltb-true}
 use Rattle.spec.specs.Tree.{Pair, Node, Part, Last, More, Nothing, Sub, Groups, LastGroup, MoreGroups, cut, node_of, below, tree, top_layer, top}
 use Rattle.paths.specs.Order.{order, if_equal}
-use Rattle.paths.specs.Pairs.{Each, IsAfter, Ascending, value_in}
+use Rattle.paths.specs.Pairs.{IsAfter, Ascending, value_in}
 use Rattle.paths.specs.TreeEdit.{first, with_first, locate, open_part, find, answer, value_here, layer_of, prune}
-use Rattle.paths.specs.Trace.{nodes_of, split_gone, insert_list, insert_list_at, put_in_gone, put_gone, above_gone, put_top_gone, find_path, beside, delete_path_nodes, row_at, met_pairs, merge_pairs, merge_gone, delete_in_gone, remove_list_at, delete_gone, settle_gone, settle_left, prune_gone, prune_path, at_lone, delete_left, left_stays, delete_path_gone, delete_path_read}
+use Rattle.paths.specs.Trace.{nodes_of, split_gone, insert_list, insert_list_at, put_in_gone, put_gone, above_gone, put_top_gone, find_path, beside, delete_path_nodes, row_at, met_pairs, merge_pairs, merge_gone, delete_in_gone, remove_list_at, delete_gone, settle_gone, settle_left, prune_gone, prune_path, delete_left, left_stays, delete_path_gone, delete_path_read}
 use Rattle.paths.specs.PathEdit.{flat, all_but_last}
-use Rattle.spec.proofs.TreeLaws.{IsLower, lower-from_top}
-use Rattle.paths.proofs.Around.{Here, absent, present, Around, around, value_of, value_in-around}
+use Rattle.spec.proofs.TreeLaws.{lower-from_top}
+use Rattle.paths.proofs.Around.{Here, absent, present, around, value_of, value_in-around}
 use Rattle.paths.proofs.Cut.{last_group, first_group, first-with_first}
 use Rattle.paths.proofs.Edits.{Lows, lows-down, outside-low, here-outside, find-tree}
 use Rattle.paths.proofs.Groups.{InGroups, cut-in}
 use Rattle.paths.proofs.Orders.{order-same, order-equal}
-use Rattle.paths.proofs.Places.{IsOutside, locate-outside, locate-here, sub-tree}
+use Rattle.paths.proofs.Places.{locate-outside, locate-here, sub-tree}
 use Rattle.paths.proofs.Tops.{layer_of-top, lows-of}
-use Rattle.paths.proofs.Traces.{put-nothing, row-here, nodes-here, lone-met}
+use Rattle.paths.proofs.Traces.{put-nothing, nodes-here, lone-met}
 
 -- the nodes that a look-up reads below a node
 abbrev pub below_path : List ℕ → ℕ → Node → List Node

@@ -1,27 +1,23 @@
 -- The laws of a put and of a delete.
-use Rattle.std.proofs.Common.{◌≡◌, ℕ, zero, suc, ◌+◌, ◌*◌, ◌<◌, ◌≤◌, max, List, [], ◌∷◌, ◌++◌, length, map, Option, None, refl, sym, ap, ◌∙◌, subst, arith}
+use Rattle.std.proofs.Common.{◌≡◌, ℕ, zero, suc, ◌<◌, List, ◌++◌, length, map, refl, sym, ap, ◌∙◌, subst, arith}
 use Rattle.std.specs.Prelude.{Contains}
-use Rattle.std.specs.declared.option.Option.TheVariants.{Some}
-use Rattle.std.specs.Cmp.Lexicographic.{slice_cmp}
-use Rattle.std.specs.Ordering.{nat_cmp}
-use Rattle.std.specs.FinMap.{is_sorted}
-use Rattle.std.proofs.lemmas.List.{length-map, map-append}
+use Rattle.std.proofs.lemmas.List.{length-map}
 use Rattle.spec.specs.Cid.{IsDigest}
 use Rattle.spec.specs.Layer.{layer}
 use Rattle.spec.specs.Tree.{Pair, Node, Sub, top}
 use Rattle.spec.specs.NodeFormat.{Shape, shape, shape_bytes, node_bytes}
-use Rattle.spec.specs.Blocks.{ArePairs, IsClashFree, nodes, root, value_of}
-use Rattle.spec.specs.Writes.{with_key, without_key}
-use Rattle.paths.specs.Pairs.{Ascending, put_pair, delete_pair}
-use Rattle.paths.specs.TreeEdit.{layer_of, put_top, delete_path}
-use Rattle.paths.specs.Trace.{find_path, put_top_gone, put_top_made, delete_path_gone, delete_path_made, delete_path_read}
+use Rattle.spec.specs.Blocks.{ArePairs, IsClashFree, nodes}
+use Rattle.spec.specs.Writes.{with_key}
+use Rattle.paths.specs.Pairs.{put_pair}
+use Rattle.paths.specs.TreeEdit.{layer_of}
+use Rattle.paths.specs.Trace.{find_path, put_top_gone, put_top_made}
 use Rattle.paths.specs.Changes.{marked, AreChanges, add_of, drop_of}
 use Rattle.paths.specs.ShapeEdit.{head_shape}
 use Rattle.paths.specs.PathEdit.{put_root, put_written}
-use Rattle.paths.specs.Sources.{HasNodes, shown_by, path_from}
-use Rattle.paths.specs.Laws.Edits.{bytes_of, IsEdit}
-use Rattle.paths.specs.Laws.Puts.{PutIsTop, PutReadsPath, PutIsShapes, PutCounts, IsPut, PutOverSource}
-use Rattle.paths.proofs.Balance.{put-balance, within-top}
+use Rattle.paths.specs.Sources.{shown_by}
+use Rattle.paths.specs.Laws.Edits.{IsEdit}
+use Rattle.paths.specs.Laws.Puts.{PutIsTop, PutReadsPath, PutIsShapes, PutCounts, PutOverSource}
+use Rattle.paths.proofs.Balance.{put-balance}
 use Rattle.paths.proofs.BlockChanges.{put-changes, read-stands, made-stands}
 use Rattle.paths.proofs.Counts.{put_top-gone, put_top-made}
 use Rattle.paths.proofs.Gone.{put_top-old}
@@ -54,12 +50,13 @@ put-is_shapes digest layer n p es s l =
     let gone = put-reads_path layer n p es s l in
     let path = map (shape digest) (find_path n p.0 (Sub m)) in
     let h = head-bound digest layer n p.0 es l in
-    let r = ap (map (shape digest)) gone in
-    (ap (shape digest) (sym (put-is_top layer p es s))
-    ∙ shape-put_top digest layer p m
-    ∙ rw (sym h, r) (put_root-same digest layer p path),
-    shapes-put_top digest layer p m
-    ∙ rw (sym h, r) (put_written-same digest layer p path))
+    let r = ap (map (shape digest)) gone in (
+      ap (shape digest) (sym (put-is_top layer p es s))
+          ∙ shape-put_top digest layer p m
+          ∙ rw (sym h, r) (put_root-same digest layer p path),
+      shapes-put_top digest layer p m
+          ∙ rw (sym h, r) (put_written-same digest layer p path),
+    )
 
 pub put-counts : PutCounts
 put-counts layer p m = (put_top-gone layer p m, put_top-made layer p m)

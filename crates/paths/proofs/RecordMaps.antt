@@ -12,7 +12,7 @@ use Rattle.std.proofs.lemmas.Slice.Eq.{bytes_eq-Decides}
 use Rattle.spec.specs.Cid.{cid}
 use Rattle.spec.specs.Tree.{Pair}
 use Rattle.spec.specs.Blocks.{pairs}
-use Rattle.spec.specs.Writes.{with_key, without_key}
+use Rattle.spec.specs.Writes.{with_key}
 use Rattle.spec.proofs.NodeLaws.{both}
 use Rattle.paths.specs.Order.{order}
 use Rattle.paths.specs.Pairs.{Each, IsAfter, Ascending, put_first, put_pair, delete_first, delete_pair, value_first, value_in}
@@ -118,4 +118,3 @@ pairs-filter digest p (e ∷ m) =
       | true ↦ ap (λ (t : List Pair). (e.0, cid digest e.1) ∷ t) (pairs-filter digest p m)
       | false ↦ pairs-filter digest p m
     ]
-

@@ -1,5 +1,5 @@
 -- A record map and the pairs of its tree go together.
-use Rattle.std.proofs.Common.{◌≡◌, ℕ, List, not}
+use Rattle.std.proofs.Common.{not}
 use Rattle.std.specs.Str.{bytes_eq}
 use Rattle.paths.specs.Laws.Records.{PutIsWrite, DeleteIsWrite}
 use Rattle.paths.proofs.RecordMaps.{pairs-put, pairs-filter}

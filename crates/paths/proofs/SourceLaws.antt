@@ -6,13 +6,12 @@ use Rattle.std.specs.declared.cmp.Ordering.TheVariants.{Less, Equal, Greater}
 use Rattle.std.proofs.lemmas.List.{map-append, length-append}
 use Rattle.std.proofs.Math.Nat.{suc-mul}
 use Rattle.spec.specs.Tree.{Pair, Node, Part, Last, More, Nothing, Sub, EachNode, EachUnder}
-use Rattle.spec.specs.NodeFormat.{Shape, LastLink, MoreLinks, first_link, part_link, shape, shape_cid}
-use Rattle.paths.specs.Order.{order, if_equal}
-use Rattle.paths.specs.TreeEdit.{first, locate, further, Place, find, answer, value_here}
-use Rattle.paths.specs.Trace.{beside, find_path, last_part, merge_pairs, prune_path}
+use Rattle.spec.specs.NodeFormat.{Shape, LastLink, first_link, part_link, shape, shape_cid}
+use Rattle.paths.specs.Order.{order}
+use Rattle.paths.specs.TreeEdit.{first, locate, further, find, answer}
+use Rattle.paths.specs.Trace.{find_path, last_part, merge_pairs, prune_path}
 use Rattle.paths.specs.Walk.{from_here, start, Frame, later, go_down, next, walk, next_reads, walk_reads}
-use Rattle.paths.specs.ShapeEdit.{last_link}
-use Rattle.paths.specs.Sources.{shown, Holds, gap, gap_at, row_value, row_value_at, path_from, path_at, or_deeper, value_from, value_at, met_from, met_at, pruned_from, pruned_at, start_shape, start_at, later_shape, down_from, down_at, next_from, walk_from, next_path, walk_path}
+use Rattle.paths.specs.Sources.{shown, gap, gap_at, row_value, row_value_at, path_from, path_at, or_deeper, value_from, met_from, pruned_from, start_shape, start_at, later_shape, down_from, next_from, walk_from, next_path, walk_path}
 use Rattle.paths.proofs.ShapeBridges as bridge
 use Rattle.paths.proofs.WalkPairs.{each-first_part, each-start, path-start}
 

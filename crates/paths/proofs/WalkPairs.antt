@@ -13,7 +13,7 @@ use Rattle.paths.specs.TreeEdit.{first, locate, further}
 use Rattle.paths.specs.Trace.{beside, find_path}
 use Rattle.paths.specs.Walk.{from_here, start, Frame, later, go_down, next, walk}
 use Rattle.paths.proofs.EachPair.{each-both, each-left, each-right, each-map, each-parts, Halves, halves, ascending-parts}
-use Rattle.paths.proofs.Orders.{after-trans, turned, turned_back, after-same, order-equal, order-total, order-is, before-trans}
+use Rattle.paths.proofs.Orders.{after-trans, after-same, order-equal, order-is, before-trans}
 use Rattle.paths.proofs.Within.{IsWithin, AllWithin, within-first, within-locate, within-under-up}
 
 -- ---- the pairs from a key on

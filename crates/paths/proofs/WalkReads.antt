@@ -1,5 +1,5 @@
 -- A walk reads exactly the nodes whose open range of keys meets the range of what it gives.
-use Rattle.std.proofs.Common.{◌≡◌, ◌≢◌, ℕ, zero, suc, ◌≤◌, Bool, true, false, ◌&&◌, cond, List, [], ◌∷◌, ◌++◌, map, take, Option, None, refl, sym, ap, ◌∙◌, subst, append-nil, append_assoc, arith}
+use Rattle.std.proofs.Common.{◌≡◌, ◌≢◌, ℕ, zero, suc, Bool, true, false, ◌&&◌, List, [], ◌∷◌, ◌++◌, map, take, Option, None, refl, sym, ap, ◌∙◌, subst, append-nil, append_assoc, arith}
 use Rattle.std.specs.Prelude.{filter}
 use Rattle.std.specs.declared.option.Option.TheVariants.{Some}
 use Rattle.std.specs.declared.cmp.Ordering.{Ordering}
@@ -10,14 +10,14 @@ use Rattle.std.proofs.lemmas.List.Elements.{filter-append}
 use Rattle.spec.specs.Tree.{Pair, Node, Part, Last, More, Nothing, Sub, pairs_in, pairs_under, EachNode, EachUnder}
 use Rattle.spec.specs.Blocks.{is_from}
 use Rattle.spec.specs.Laws.Tree.{HasPairs}
-use Rattle.paths.specs.Order.{order, if_equal}
+use Rattle.paths.specs.Order.{order}
 use Rattle.paths.specs.Pairs.{Each, IsBefore, IsAfter, Ascending}
-use Rattle.paths.specs.TreeEdit.{first, locate, further, Place}
-use Rattle.paths.specs.Trace.{beside, find_path}
+use Rattle.paths.specs.TreeEdit.{first, locate, further}
+use Rattle.paths.specs.Trace.{find_path}
 use Rattle.paths.specs.Walk.{from_here, start, Frame, later, go_down, walk_reads, next_reads, Ranged, ranged_in, ranged_under, is_above, is_under, meets, nodes_meeting, last_key}
-use Rattle.paths.proofs.EachPair.{Halves, halves, each-left, each-right, each-both, each-map, ascending-parts}
+use Rattle.paths.proofs.EachPair.{Halves, halves, each-left, each-right, each-map, ascending-parts}
 use Rattle.paths.proofs.Orders.{order-same, turned, turned_back, order-equal, order-is, before-trans}
-use Rattle.paths.proofs.WalkPairs.{IsFrom, all-from, filtered-from, from-order, rest_pairs, first-rest, stack_pairs, later-pairs, IsReady, ready-later, within-start, ascending-start, ascending-first, down-pairs, down-ready, ascending-filter, each-start, each-first_part, path-start}
+use Rattle.paths.proofs.WalkPairs.{IsFrom, all-from, filtered-from, from-order, rest_pairs, first-rest, stack_pairs, later-pairs, IsReady, ready-later, down-pairs, down-ready, ascending-filter, each-start, each-first_part, path-start}
 use Rattle.paths.proofs.Within.{IsWithin, AllWithin, within-first}
 
 -- ---- tests and orders

@@ -1,8 +1,8 @@
 -- The laws of walks.
-use Rattle.std.proofs.Common.{◌≡◌, ℕ, zero, suc, List, [], ◌∷◌, ◌++◌, take, map, refl, sym, ap, ◌∙◌, subst, append-nil, arith}
+use Rattle.std.proofs.Common.{◌≡◌, ℕ, zero, suc, List, [], ◌∷◌, take, map, refl, sym, ap, ◌∙◌, subst, append-nil, arith}
 use Rattle.std.specs.Prelude.{filter}
 use Rattle.spec.specs.Layer.{layer}
-use Rattle.spec.specs.Tree.{Pair, Last, Nothing, Sub, tree, top, top_layer, pairs_in, pairs_under, EachNode}
+use Rattle.spec.specs.Tree.{Pair, Last, Nothing, Sub, top, pairs_under, EachNode}
 use Rattle.spec.specs.NodeFormat.{shape}
 use Rattle.spec.specs.Blocks.{is_from}
 use Rattle.spec.specs.Laws.Tree.{HasPairs}

@@ -4,7 +4,7 @@ use Rattle.std.specs.declared.cmp.Ordering.{Ordering}
 use Rattle.std.specs.declared.cmp.Ordering.TheVariants.{Less, Equal, Greater}
 use Rattle.paths.specs.Order.{order, if_equal}
 use Rattle.spec.specs.Tree.{Pair, Node, Part, Last, More, Nothing, Sub}
-use Rattle.paths.specs.TreeEdit.{first, with_first, onto, Place, further, locate, close, open_part, split, join, merge, lift, layer_of, descend, between, insert, insert_at, put_in, node_put, put_above, put_top, remove, remove_at, delete_in, node_delete, prune, delete_top, settle, lone_at, delete_path}
+use Rattle.paths.specs.TreeEdit.{first, with_first, onto, Place, further, locate, close, open_part, split, join, merge, lift, layer_of, descend, between, insert, insert_at, put_in, node_put, put_above, put_top, remove, remove_at, delete_in, node_delete, prune, settle, lone_at, delete_path}
 use Rattle.paths.specs.Trace.{weight, weight_under, total, nodes_of, made_close, last_part, split_gone, split_made, merge_gone, merge_made, insert_list, insert_list_at, put_in_gone, put_in_made, put_gone, put_made, lift_made, remove_list_at, delete_in_gone, delete_in_made, delete_gone, delete_made, prune_gone, above_gone, above_made, put_top_gone, put_top_made, settle_gone, settle_made, delete_path_gone, delete_path_made}
 use Rattle.paths.proofs.Within.{IsWithin, AllWithin, within-first, within-locate, within-last, within-rest, within-open}
 

@@ -1,5 +1,5 @@
 -- How many layers of nodes a tree has: a tree of layer n has at most n of them below its top.
-use Rattle.std.proofs.Common.{◌≡◌, ℕ, zero, suc, ◌≤◌, List, [], ◌∷◌, refl, arith}
+use Rattle.std.proofs.Common.{ℕ, zero, suc, ◌≤◌, List, [], ◌∷◌, arith}
 use Rattle.std.specs.declared.cmp.Ordering.{Ordering}
 use Rattle.std.specs.declared.cmp.Ordering.TheVariants.{Less, Equal, Greater}
 use Rattle.spec.specs.Tree.{Pair, Node, Part, Last, More, Nothing, Sub, Groups, LastGroup, MoreGroups, cut, node_of, below, tree}

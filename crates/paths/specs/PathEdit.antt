@@ -2,7 +2,7 @@
 -- key's; each function goes along the list, so that a loop over the read blocks follows it.
 use Rattle.std.specs.Prelude.{ℕ, zero, suc, ◌-◌, nat_lt, if◌then◌else◌, List, [], ◌∷◌, ◌++◌, length, take, drop, Option, Some, None}
 use Rattle.spec.specs.Tree.{Pair}
-use Rattle.spec.specs.NodeFormat.{Shape, LastLink, MoreLinks, shape_cid}
+use Rattle.spec.specs.NodeFormat.{Shape, LastLink, shape_cid}
 use Rattle.paths.specs.ShapeEdit.{close_link, close_shapes, split_links, split_shapes, go_shape, insert_shape, head_shape, tail_shapes, merge_links, merge_shapes, remove_shape, above_shape, above_shapes, layer_of_shape, row_links, settle_links, last_shape, settle_shape, settle_shapes, lone_shape}
 
 -- the topmost of some nodes, each with a new link next to a key's place, where the lowest is linked to a changed node
