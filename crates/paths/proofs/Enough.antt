@@ -15,7 +15,8 @@ find-enough (suc n) (suc m) key (Sub k) l w =
     let h = (locate key k).here in
     ap (λ x. answer key x h) (find-enough n m key (first h) (omega arith) (within-rest n key k w))
 
-pub find_path-enough : (n m : ℕ) (key : List ℕ) (p : Part) → n ≤ m → IsWithin n p → find_path m key p ≡ find_path n key p
+pub find_path-enough : (n m : ℕ) (key : List ℕ) (p : Part) → n ≤ m → IsWithin n p
+    → find_path m key p ≡ find_path n key p
 find_path-enough zero zero key Nothing l w = refl
 find_path-enough zero (suc m) key Nothing l w = refl
 find_path-enough zero m key (Sub k) l w = absurd w

@@ -31,7 +31,8 @@ leaf e = Sub (More Nothing e (Last Nothing))
 three : top toy (p0 ∷ q2 ∷ r0 ∷ []) ≡ More (Sub (Last (leaf p0))) q2 (Last (Sub (Last (leaf r0))))
 three = refl
 
-deleted : delete_path toy (113 ∷ 2 ∷ []) (top toy (p0 ∷ q2 ∷ r0 ∷ [])) ≡ More Nothing p0 (More Nothing r0 (Last Nothing))
+deleted : delete_path toy (113 ∷ 2 ∷ []) (top toy (p0 ∷ q2 ∷ r0 ∷ []))
+    ≡ More Nothing p0 (More Nothing r0 (Last Nothing))
 unfolding order
 deleted = refl
 
@@ -42,7 +43,8 @@ unfolding order
 deleted-counts = (refl, refl, refl)
 
 -- the part over `p0` goes whole
-deleted-low : delete_path toy (112 ∷ 0 ∷ []) (top toy (p0 ∷ q2 ∷ r0 ∷ [])) ≡ More Nothing q2 (Last (Sub (Last (leaf r0))))
+deleted-low : delete_path toy (112 ∷ 0 ∷ []) (top toy (p0 ∷ q2 ∷ r0 ∷ []))
+    ≡ More Nothing q2 (Last (Sub (Last (leaf r0))))
 unfolding order
 deleted-low = refl
 
@@ -55,20 +57,24 @@ deleted-last : delete_path toy (113 ∷ 2 ∷ []) (top toy (q2 ∷ [])) ≡ Last
 unfolding order
 deleted-last = refl
 
-put-high-counts : (length (put_top_made toy (key 113 3) (top toy (p0 ∷ r0 ∷ []))) ≡ 7) × (length (put_top_gone toy (key 113 3) (top toy (p0 ∷ r0 ∷ []))) ≡ 1)
+put-high-counts : (length (put_top_made toy (key 113 3) (top toy (p0 ∷ r0 ∷ []))) ≡ 7)
+    × (length (put_top_gone toy (key 113 3) (top toy (p0 ∷ r0 ∷ []))) ≡ 1)
 unfolding order
 put-high-counts = (refl, refl)
 
 -- the node of `r0` is made again
-put-side : put_top toy (key 112 3) (top toy (r0 ∷ [])) ≡ More Nothing (key 112 3) (Last (Sub (Last (Sub (Last (leaf r0))))))
+put-side : put_top toy (key 112 3) (top toy (r0 ∷ []))
+    ≡ More Nothing (key 112 3) (Last (Sub (Last (Sub (Last (leaf r0))))))
 unfolding order
 put-side = refl
 
-put-side-counts : (length (put_top_made toy (key 112 3) (top toy (r0 ∷ []))) ≡ 4) × (length (put_top_gone toy (key 112 3) (top toy (r0 ∷ []))) ≡ 1)
+put-side-counts : (length (put_top_made toy (key 112 3) (top toy (r0 ∷ []))) ≡ 4)
+    × (length (put_top_gone toy (key 112 3) (top toy (r0 ∷ []))) ≡ 1)
 unfolding order
 put-side-counts = (refl, refl)
 
-put-low-counts : (length (put_top_made toy (key 113 0) (top toy (p0 ∷ q2 ∷ r0 ∷ []))) ≡ 3) × (length (put_top_gone toy (key 113 0) (top toy (p0 ∷ q2 ∷ r0 ∷ []))) ≡ 3)
+put-low-counts : (length (put_top_made toy (key 113 0) (top toy (p0 ∷ q2 ∷ r0 ∷ []))) ≡ 3)
+    × (length (put_top_gone toy (key 113 0) (top toy (p0 ∷ q2 ∷ r0 ∷ []))) ≡ 3)
 unfolding order
 put-low-counts = (refl, refl)
 
@@ -82,7 +88,9 @@ unfolding order
 walked = refl
 
 -- the top, and then the two nodes over `r0`: nothing on the other side
-walked-reads : walk_reads 2 3 (113 ∷ 2 ∷ []) pqr [] ≡ More (Sub (Last (leaf p0))) q2 (Last (Sub (Last (leaf r0)))) ∷ Last (leaf r0) ∷ More Nothing r0 (Last Nothing) ∷ []
+walked-reads : walk_reads 2 3 (113 ∷ 2 ∷ []) pqr []
+    ≡ More (Sub (Last (leaf p0))) q2 (Last (Sub (Last (leaf r0)))) ∷ Last (leaf r0) ∷ More Nothing r0
+    (Last Nothing) ∷ []
 unfolding order
 walked-reads = refl
 
@@ -106,13 +114,15 @@ plain bytes = bytes
 
 -- the key of the top goes, and two leaves meet
 met-shapes : delete_root plain (113 ∷ 2 ∷ []) (map (shape plain) (find_path 3 (113 ∷ 2 ∷ []) pqr))
-    ((shape plain (Last (leaf p0)), shape plain (Last (leaf r0))) ∷ (shape plain (More Nothing p0 (Last Nothing)), shape plain (More Nothing r0 (Last Nothing))) ∷ []) []
+    ((shape plain (Last (leaf p0)), shape plain (Last (leaf r0))) ∷
+    (shape plain (More Nothing p0 (Last Nothing)), shape plain (More Nothing r0 (Last Nothing))) ∷ []) []
     ≡ shape plain (More Nothing p0 (More Nothing r0 (Last Nothing)))
 unfolding order
 met-shapes = refl
 
 -- a key two layers above the others: bare nodes come between
-raised-shapes : put_root plain toy (key 113 2) (map (shape plain) (find_path 1 (113 ∷ 2 ∷ []) (Sub (top toy (p0 ∷ r0 ∷ [])))))
+raised-shapes : put_root plain toy (key 113 2)
+    (map (shape plain) (find_path 1 (113 ∷ 2 ∷ []) (Sub (top toy (p0 ∷ r0 ∷ [])))))
     ≡ shape plain (top toy (p0 ∷ q2 ∷ r0 ∷ []))
 unfolding order
 raised-shapes = refl

@@ -57,7 +57,8 @@ close-entered layer n true e g h = refl
 close-entered layer zero false e g h = let l : layer e.0 < zero = h refl in absurd (omega arith)
 close-entered layer (suc m) false e g h = close-pushed layer m e g
 
-pub close-tree : (layer : List ℕ → ℕ) (n : ℕ) (es : List Pair) → Each (IsLower layer (suc n)) es → close (tree layer n es) ≡ below layer (suc n) es
+pub close-tree : (layer : List ℕ → ℕ) (n : ℕ) (es : List Pair) → Each (IsLower layer (suc n)) es
+    → close (tree layer n es) ≡ below layer (suc n) es
 close-tree layer zero [] h = refl
 close-tree layer (suc m) [] h = refl
 close-tree layer n (e ∷ es) h =

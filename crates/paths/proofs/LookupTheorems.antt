@@ -27,7 +27,8 @@ use Rattle.paths.proofs.Tops.{find-top, layer_of-top}
 use Rattle.paths.proofs.Within.{IsWithin, within-under-up}
 
 -- as many layers as are wanted, above the top's
-pub within-bound : (layer : List ℕ → ℕ) (n : ℕ) (es : List Pair) → layer_of layer (top layer es) < n → IsWithin n (Sub (top layer es))
+pub within-bound : (layer : List ℕ → ℕ) (n : ℕ) (es : List Pair) → layer_of layer (top layer es) < n
+    → IsWithin n (Sub (top layer es))
 within-bound layer zero es l = absurd (omega arith)
 within-bound layer (suc n) es l =
     within-under-up (layer_of layer (top layer es)) n (top layer es) (omega arith) (within-top layer es)
@@ -43,7 +44,8 @@ find-is_value layer n key es s l =
 pub find_path-bound : (layer : List ℕ → ℕ) (n : ℕ) (key : List ℕ) (es : List Pair) → layer_of layer (top layer es) < n
     → find_path n key (Sub (top layer es)) ≡ find_path (suc (layer_of layer (top layer es))) key (Sub (top layer es))
 find_path-bound layer n key es l =
-    find_path-enough (suc (layer_of layer (top layer es))) n key (Sub (top layer es)) (omega arith) (within-top layer es)
+    find_path-enough (suc (layer_of layer (top layer es))) n key (Sub (top layer es)) (omega arith)
+    (within-top layer es)
 
 pub find-reads_layers : FindReads
 find-reads_layers layer n key es =
@@ -51,7 +53,8 @@ find-reads_layers layer n key es =
     let p = Sub (top layer es) in
     elim (cases_lt t n) [
       | inl l ↦
-          let e : length (find_path n key p) ≡ length (find_path (suc t) key p) = ap length (find_path-bound layer n key es l) in
+          let e : length (find_path n key p)
+          ≡ length (find_path (suc t) key p) = ap length (find_path-bound layer n key es l) in
           let b = find_path-most (suc t) key p in
           omega arith
       | inr l ↦
@@ -62,7 +65,8 @@ find-reads_layers layer n key es =
 -- ---- layers
 
 pub top-has_layer : TopHasLayer
-top-has_layer digest bits fits es = let e = layer_of-top (layer digest bits) es in let l = top_layer-le digest bits fits es in omega arith
+top-has_layer digest bits fits es = let e = layer_of-top (layer digest bits) es in
+    let l = top_layer-le digest bits fits es in omega arith
 
 pub key-has_layer : KeyHasLayer
 key-has_layer digest bits fits key = let l = top_layer-le digest bits fits ((key, []) ∷ []) in omega arith
@@ -75,7 +79,8 @@ path-is_read digest bits n es key l =
 
 step-choice : (key : List ℕ) (o : Ordering) (l : Option (List ℕ)) (e : Pair) (r : Shape)
     → found_at (place key (first_link r) (entries_of r)) ≡ (row_value key r, gap key r)
-    → found_at (by_order o (place key (first_link r) (entries_of r)) (Here (record { key = e.0; value = e.1; tree = first_link r })) (gap_of l))
+    → found_at (by_order o (place key (first_link r) (entries_of r))
+    (Here (record { key = e.0; value = e.1; tree = first_link r })) (gap_of l))
     ≡ (row_value_at o e (row_value key r), gap_at o l (gap key r))
 step-choice key Less l e r h = h
 step-choice key Equal l e r h = refl
@@ -86,7 +91,8 @@ pub step-is_place : StepIsPlace
 step-is_place key (LastLink None) = refl
 step-is_place key (LastLink (Some c)) = refl
 step-is_place key (MoreLinks l e r) =
-    ap (λ o. found_at (by_order o (place key (first_link r) (entries_of r)) (Here (record { key = e.0; value = e.1; tree = first_link r })) (gap_of l))) (order-is e.0 key)
+    ap (λ o. found_at (by_order o (place key (first_link r) (entries_of r))
+    (Here (record { key = e.0; value = e.1; tree = first_link r })) (gap_of l))) (order-is e.0 key)
     ∙ step-choice key (order e.0 key) l e r (step-is_place key r)
 
 -- ---- over a source
@@ -108,7 +114,8 @@ lookup-over_source digest bits fits gives n key es are has l =
     let path = path-holds digest shows n key p holds in
     record {
       value = value-holds digest shows n key p holds ∙ find-is_value lay n key es are.sorted l;
-      reads = ap (map shape_bytes) path ∙ map-two shape_bytes (shape digest) (find_path n key p) ∙ sym (path-is_read digest bits n es key l);
+      reads = ap (map shape_bytes) path ∙ map-two shape_bytes (shape digest) (find_path n key p)
+          ∙ sym (path-is_read digest bits n es key l);
       count =
           let c = ap length path in
           let d = length-map (find_path n key p) (shape digest) in

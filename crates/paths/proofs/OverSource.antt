@@ -22,7 +22,8 @@ shape_from-parts (MoreLinks l e r) = ap (MoreLinks l e) (shape_from-parts r)
 
 -- what is of the grammar is read as the shape that was written
 pub shape_of_bytes-shape_bytes : ShapeReadsBack
-shape_of_bytes-shape_bytes s is = ap shape_of_reading (read_node-shape_bytes s is) ∙ ap (λ (t : Shape). Some t) (shape_from-parts s)
+shape_of_bytes-shape_bytes s is = ap shape_of_reading (read_node-shape_bytes s is)
+    ∙ ap (λ (t : Shape). Some t) (shape_from-parts s)
 
 first_link-from : (left : Option (List ℕ)) (es : List Entry) → first_link (shape_from left es) ≡ left
 first_link-from left [] = refl
@@ -31,10 +32,12 @@ first_link-from left (e ∷ es) = refl
 entries_of-from : (left : Option (List ℕ)) (es : List Entry) → entries_of (shape_from left es) ≡ es
 entries_of-from left [] = refl
 entries_of-from left (e ∷ es) =
-    ap (λ l. record { key = e.key; value = e.value; tree = l } ∷ entries_of (shape_from e.tree es)) (first_link-from e.tree es)
+    ap (λ l. record { key = e.key; value = e.value; tree = l } ∷ entries_of (shape_from e.tree es))
+    (first_link-from e.tree es)
     ∙ ap (λ fs. e ∷ fs) (entries_of-from e.tree es)
 
-read-cases : (bytes : List ℕ) (s : Shape) → IsBytes bytes → (r : Result (Option (List ℕ) × List Entry) NodeFault) → read_node bytes ≡ r → shape_of_reading r ≡ Some s
+read-cases : (bytes : List ℕ) (s : Shape) → IsBytes bytes → (r : Result (Option (List ℕ) × List Entry) NodeFault)
+    → read_node bytes ≡ r → shape_of_reading r ≡ Some s
     → (bytes ≡ shape_bytes s) × (is_node (first_link s) (entries_of s) ≡ true)
 read-cases bytes s fits (Err f) e h = absurd cc
 read-cases bytes s fits (Ok r) e h =
@@ -50,16 +53,19 @@ pub shape_bytes-shape_of_bytes : OnlyShapesAreRead
 shape_bytes-shape_of_bytes bytes s fits h = read-cases bytes s fits (read_node bytes) refl h
 
 -- the source shows each node of the tree
-pub holds-top : (digest : List ℕ → List ℕ) (bits : ℕ) → IsDigest digest → (gives : List ℕ → Option (List ℕ)) (es : List Pair) → ArePairs es → HasNodes digest bits gives es
+pub holds-top : (digest : List ℕ → List ℕ) (bits : ℕ) → IsDigest digest
+    → (gives : List ℕ → Option (List ℕ)) (es : List Pair) → ArePairs es → HasNodes digest bits gives es
     → Holds digest (shown_by gives) (Sub (top (layer digest bits) es))
 holds-top digest bits fits gives es are has =
     each-part_is _ _
     (λ (m : Node) (s : Stands (Contains (nodes digest bits es)) (shape digest m)).
-    ap (option_and_then shape_of_bytes) (has (shape_bytes (shape digest m)) s.0) ∙ shape_of_bytes-shape_bytes (shape digest m) s.1)
+    ap (option_and_then shape_of_bytes) (has (shape_bytes (shape digest m)) s.0)
+    ∙ shape_of_bytes-shape_bytes (shape digest m) s.1)
     (Sub (top (layer digest bits) es)) (stands-top digest bits fits es are (nodes digest bits es) (λ b h. h))
 
 -- one CID gives one block
-pub free-source : (digest : List ℕ → List ℕ) (bits : ℕ) (gives : List ℕ → Option (List ℕ)) (es : List Pair) → HasNodes digest bits gives es → IsClashFree digest (nodes digest bits es)
+pub free-source : (digest : List ℕ → List ℕ) (bits : ℕ) (gives : List ℕ → Option (List ℕ)) (es : List Pair)
+    → HasNodes digest bits gives es → IsClashFree digest (nodes digest bits es)
 free-source digest bits gives es has a b h k e = some_is a b (sym (has a h) ∙ ap gives e ∙ has b k)
   where
     given : List ℕ → Option (List ℕ)

@@ -39,7 +39,8 @@ pub put-reads_path : PutReadsPath
 put-reads_path layer n p es s l = put-path layer p es (ascending-sorted es s) ∙ sym (find_path-bound layer n p.0 es l)
 
 -- the path begins with the top
-head-bound : (digest : List ℕ → List ℕ) (layer : List ℕ → ℕ) (n : ℕ) (key : List ℕ) (es : List Pair) → layer_of layer (top layer es) < n
+head-bound : (digest : List ℕ → List ℕ) (layer : List ℕ → ℕ) (n : ℕ) (key : List ℕ) (es : List Pair)
+    → layer_of layer (top layer es) < n
     → head_shape (map (shape digest) (find_path n key (Sub (top layer es)))) ≡ shape digest (top layer es)
 head-bound digest layer zero key es l = absurd (omega arith)
 head-bound digest layer (suc n) key es l = refl
@@ -68,8 +69,10 @@ pub edit-shapes : (digest : List ℕ → List ℕ) (bits : ℕ) (es fs : List Pa
     → ((b : List ℕ) → Contains (map (node_bytes digest) made) b → Contains (nodes digest bits fs) b)
     → (IsClashFree digest (map (node_bytes digest) made ++ map (node_bytes digest) read)
     → AreChanges digest (nodes digest bits es) (nodes digest bits fs) (map (node_bytes digest) read)
-    (add_of digest (map (node_bytes digest) read) (map (node_bytes digest) made)) (drop_of digest (map (node_bytes digest) made) (map (node_bytes digest) gone)))
-    → IsEdit digest bits es fs (shape digest (top (layer digest bits) fs)) (map (shape digest) read) (map (shape digest) gone) (map (shape digest) made)
+    (add_of digest (map (node_bytes digest) read) (map (node_bytes digest) made))
+    (drop_of digest (map (node_bytes digest) made) (map (node_bytes digest) gone)))
+    → IsEdit digest bits es fs (shape digest (top (layer digest bits) fs)) (map (shape digest) read)
+    (map (shape digest) gone) (map (shape digest) made)
 edit-shapes digest bits es fs read gone made old new changed =
     let r = map-two shape_bytes (shape digest) read in
     let g = map-two shape_bytes (shape digest) gone in
@@ -81,8 +84,10 @@ edit-shapes digest bits es fs read gone made old new changed =
       changes = rw (r, g, m) changed;
     }
 
-pub edit-moved : (digest : List ℕ → List ℕ) (bits : ℕ) (es fs : List Pair) (s t : Shape) (read read' gone gone' made made' : List Shape)
-    → s ≡ t → read ≡ read' → gone ≡ gone' → made ≡ made' → IsEdit digest bits es fs s read gone made → IsEdit digest bits es fs t read' gone' made'
+pub edit-moved : (digest : List ℕ → List ℕ) (bits : ℕ) (es fs : List Pair) (s t : Shape)
+    (read read' gone gone' made made' : List Shape)
+    → s ≡ t → read ≡ read' → gone ≡ gone' → made ≡ made' → IsEdit digest bits es fs s read gone made
+    → IsEdit digest bits es fs t read' gone' made'
 edit-moved digest bits es fs s t read read' gone gone' made made' a b c d e =
     subst (λ x. IsEdit digest bits es fs t read' gone' x) d
     (subst (λ x. IsEdit digest bits es fs t read' x made) c
@@ -91,10 +96,12 @@ edit-moved digest bits es fs s t read read' gone gone' made made' a b c d e =
 
 -- ---- put, over a source
 
-put-edit : (digest : List ℕ → List ℕ) (bits : ℕ) → IsDigest digest → (p : Pair) (es : List Pair) → ArePairs es → IsClashFree digest (nodes digest bits es)
+put-edit : (digest : List ℕ → List ℕ) (bits : ℕ) → IsDigest digest → (p : Pair) (es : List Pair) → ArePairs es
+    → IsClashFree digest (nodes digest bits es)
     → let lay = layer digest bits in
     let gone = map (shape digest) (put_top_gone lay p (top lay es)) in
-    IsEdit digest bits es (put_pair p es) (shape digest (top lay (put_pair p es))) gone gone (map (shape digest) (put_top_made lay p (top lay es)))
+    IsEdit digest bits es (put_pair p es) (shape digest (top lay (put_pair p es))) gone gone
+    (map (shape digest) (put_top_made lay p (top lay es)))
 put-edit digest bits fits p es are free =
     let lay = layer digest bits in
     let m = top lay es in
@@ -102,7 +109,8 @@ put-edit digest bits fits p es are free =
     let made = put_top_made lay p m in
     edit-shapes digest bits es (put_pair p es) gone gone made
     (read-stands digest bits es gone (λ b k. let i = put_top-old (marked (node_bytes digest) b) lay p m in omega arith))
-    (made-stands digest bits es (put_pair p es) made gone (λ w. put-balance lay w p es (ascending-sorted es are.sorted)) (λ w. put_top-old w lay p m))
+    (made-stands digest bits es (put_pair p es) made gone
+    (λ w. put-balance lay w p es (ascending-sorted es are.sorted)) (λ w. put_top-old w lay p m))
     (put-changes digest bits fits p es are free)
 
 pub put-over_source : PutOverSource
@@ -117,7 +125,8 @@ put-over_source digest bits fits gives n p es are has l =
     let made = shapes.1 ∙ ap (put_written digest lay p) (sym path) in
     let e = put-edit digest bits fits p es are (free-source digest bits gives es has) in
     let f = subst
-    (λ fs. IsEdit digest bits es fs (shape digest (top lay fs)) (map (shape digest) (put_top_gone lay p m)) (map (shape digest) (put_top_gone lay p m)) (map (shape digest) (put_top_made lay p m)))
+    (λ fs. IsEdit digest bits es fs (shape digest (top lay fs)) (map (shape digest) (put_top_gone lay p m))
+    (map (shape digest) (put_top_gone lay p m)) (map (shape digest) (put_top_made lay p m)))
     (sym (put-is p es)) e in
     record {
       edit = edit-moved digest bits es (with_key es p.0 p.1) _ _ _ _ _ _ _ _ new_top read read made f;

@@ -21,16 +21,19 @@ pub nodes-none : (layer : List ℕ → ℕ) (n : ℕ) (key : List ℕ) → delet
 nodes-none layer zero key = refl
 nodes-none layer (suc n) key = go (nat_eq (layer key) (suc n)) (nodes-none layer n key)
   where
-    go : (b : Bool) → delete_path_nodes layer n key (Last Nothing) ≡ [] → cond b [] (delete_path_nodes layer n key (Last Nothing)) ≡ []
+    go : (b : Bool) → delete_path_nodes layer n key (Last Nothing) ≡ []
+        → cond b [] (delete_path_nodes layer n key (Last Nothing)) ≡ []
     go true h = refl
     go false h = h
 
 -- where the node is of the key's layer
-pub row-here : (layer : List ℕ → ℕ) (key : List ℕ) (n : ℕ) (m : Node) → nat_eq (layer key) n ≡ true → row_at layer n key m ≡ (n, (locate key m).here)
+pub row-here : (layer : List ℕ → ℕ) (key : List ℕ) (n : ℕ) (m : Node) → nat_eq (layer key) n ≡ true
+    → row_at layer n key m ≡ (n, (locate key m).here)
 row-here layer key zero m h = refl
 row-here layer key (suc n) m h = rw h refl
 
-pub nodes-here : (layer : List ℕ → ℕ) (key : List ℕ) (n : ℕ) (m : Node) → nat_eq (layer key) n ≡ true → delete_path_nodes layer n key m ≡ []
+pub nodes-here : (layer : List ℕ → ℕ) (key : List ℕ) (n : ℕ) (m : Node) → nat_eq (layer key) n ≡ true
+    → delete_path_nodes layer n key m ≡ []
 nodes-here layer key zero m h = refl
 nodes-here layer key (suc n) m h = rw h refl
 
@@ -39,4 +42,5 @@ pub lone-met : (layer : List ℕ → ℕ) (key : List ℕ) (p : Part) (e : Pair)
 lone-met layer key p e q h =
     let t = layer e.0 in
     let b : nat_eq (layer key) t ≡ true = eq-eqb (layer key) t (ap layer (sym (order-equal e.0 key h))) in
-    ap (λ (r : ℕ × Node). beside key r.1 (merge_pairs r.0) []) (row-here layer key t (More p e (Last q)) b) ∙ rw (h, h) refl
+    ap (λ (r : ℕ × Node). beside key r.1 (merge_pairs r.0) []) (row-here layer key t (More p e (Last q)) b)
+    ∙ rw (h, h) refl

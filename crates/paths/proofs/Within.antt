@@ -22,14 +22,16 @@ pub within-first : (n : ℕ) (m : Node) → AllWithin n m → IsWithin n (first 
 within-first n (Last p) h = h
 within-first n (More p e r) h = h.0
 
-within-further : (n : ℕ) (o : Ordering) (p : Part) (e : Pair) (r : Node) (q : Place) → IsWithin n p → AllWithin n r → AllWithin n q.here → AllWithin n (further o p e r q).here
+within-further : (n : ℕ) (o : Ordering) (p : Part) (e : Pair) (r : Node) (q : Place) → IsWithin n p → AllWithin n r
+    → AllWithin n q.here → AllWithin n (further o p e r q).here
 within-further n Less p e r q h k i = i
 within-further n Equal p e r q h k i = (h, k)
 within-further n Greater p e r q h k i = (h, k)
 
 pub within-locate : (n : ℕ) (key : List ℕ) (m : Node) → AllWithin n m → AllWithin n (locate key m).here
 within-locate n key (Last p) h = h
-within-locate n key (More p e r) h = within-further n (order e.0 key) p e r (locate key r) h.0 h.1 (within-locate n key r h.1)
+within-locate n key (More p e r) h =
+    within-further n (order e.0 key) p e r (locate key r) h.0 h.1 (within-locate n key r h.1)
 
 pub within-last : (n : ℕ) (m : Node) → AllWithin n m → IsWithin n (last_part m)
 within-last n (Last p) h = h
@@ -57,7 +59,8 @@ mutual
 
 -- ---- the tree of some pairs
 
-within-groups : (n : ℕ) (part : List Pair → Part) → ((xs : List Pair) → IsWithin n (part xs)) → (g : Groups) → AllWithin n (node_of part g)
+within-groups : (n : ℕ) (part : List Pair → Part) → ((xs : List Pair) → IsWithin n (part xs)) → (g : Groups)
+    → AllWithin n (node_of part g)
 within-groups n part h (LastGroup g) = h g
 within-groups n part h (MoreGroups g e r) = (h g, within-groups n part h r)
 

@@ -1,4 +1,5 @@
--- The nodes that an edit uses up, and those that it makes, along its path. A node that is only put aside unread is in neither.
+-- The nodes that an edit uses up, and those that it makes, along its path. A node that is only put aside unread is in
+-- neither.
 use Rattle.std.specs.Prelude.{ℕ, List, [], ◌∷◌, ◌++◌, ◌+◌, nat_eq, nat_lt, zero, suc, ◌-◌, length, if◌then◌else◌}
 use Rattle.std.specs.declared.cmp.Ordering.{Ordering}
 use Rattle.std.specs.declared.cmp.Ordering.TheVariants.{Less, Equal, Greater}
@@ -123,7 +124,8 @@ abbrev pub delete_gone : (List ℕ → ℕ) → ℕ → List ℕ → Node → Li
 delete_gone layer zero key m = delete_in_gone zero key (locate key m).here
 delete_gone layer (suc n) key m =
     let h = (locate key m).here in
-    if nat_eq (layer key) (suc n) then delete_in_gone (suc n) key h else nodes_of (first h) ++ delete_gone layer n key (open_part (first h))
+    if nat_eq (layer key) (suc n) then delete_in_gone (suc n) key h else
+    nodes_of (first h) ++ delete_gone layer n key (open_part (first h))
 
 abbrev pub delete_made : (List ℕ → ℕ) → ℕ → List ℕ → Node → List Node
 delete_made layer zero key m = delete_in_made zero key (locate key m).here
@@ -149,7 +151,8 @@ above_gone t key (More p e r) = split_gone (suc t) key (Sub (More p e r))
 abbrev pub above_made : ℕ → ℕ → Pair → Node → List Node
 above_made j t p m =
     let s = split (suc t) p.0 (close m) in
-    split_made (suc t) p.0 (close m) ++ (lift_made (j - suc t) s.0 ++ (lift_made (j - suc t) s.1 ++ (put_above j t p m ∷ [])))
+    split_made (suc t) p.0 (close m)
+    ++ (lift_made (j - suc t) s.0 ++ (lift_made (j - suc t) s.1 ++ (put_above j t p m ∷ [])))
 
 abbrev pub put_top_gone : (List ℕ → ℕ) → Pair → Node → List Node
 put_top_gone layer p m =
@@ -204,7 +207,8 @@ delete_path_gone layer key m =
 
 abbrev pub delete_path_made : (List ℕ → ℕ) → List ℕ → Node → List Node
 delete_path_made layer key m =
-    let t = layer_of layer m in at_lone key m (settle_made t) (delete_made layer t key m ++ (node_delete layer t key m ∷ []))
+    let t = layer_of layer m in
+    at_lone key m (settle_made t) (delete_made layer t key m ++ (node_delete layer t key m ∷ []))
 
 abbrev pub delete_path_reads : (List ℕ → ℕ) → List ℕ → Node → ℕ
 delete_path_reads layer key m =

@@ -14,27 +14,34 @@ use Rattle.paths.specs.Sources.{HasNodes, shown_by, walk_from, walk_path}
 
 -- a walk over the tree of ascending pairs gives the first of them from a key on
 abbrev pub WalkIsListed : Type 0
-WalkIsListed = (layer : List ℕ → ℕ) (limit n : ℕ) (from : List ℕ) (es : List Pair) → is_sorted (slice_cmp nat_cmp) es ≡ true → layer_of layer (top layer es) < n
+WalkIsListed = (layer : List ℕ → ℕ) (limit n : ℕ) (from : List ℕ) (es : List Pair)
+    → is_sorted (slice_cmp nat_cmp) es ≡ true → layer_of layer (top layer es) < n
     → walk limit n from (Sub (top layer es)) [] ≡ listed from limit es
 
 -- where it may give a pair, it reads exactly the nodes whose open range of keys meets the range from the key to the last
 -- pair given, or to the key itself where none is; each once, and each before those below it
 abbrev pub WalkReadsRange : Type 0
-WalkReadsRange = (layer : List ℕ → ℕ) (limit n : ℕ) (from : List ℕ) (es : List Pair) → is_sorted (slice_cmp nat_cmp) es ≡ true → layer_of layer (top layer es) < n
-    → walk_reads (suc limit) n from (Sub (top layer es)) [] ≡ nodes_meeting from (last_key from (listed from (suc limit) es)) (Sub (top layer es))
+WalkReadsRange = (layer : List ℕ → ℕ) (limit n : ℕ) (from : List ℕ) (es : List Pair)
+    → is_sorted (slice_cmp nat_cmp) es ≡ true → layer_of layer (top layer es) < n
+    → walk_reads (suc limit) n from (Sub (top layer es)) []
+    ≡ nodes_meeting from (last_key from (listed from (suc limit) es)) (Sub (top layer es))
 
 -- no more than n nodes are read for each pair, whatever the source shows
 abbrev pub WalkBound : Type 0
-WalkBound = (shows : List ℕ → Option Shape) (limit n : ℕ) (from : List ℕ) (l : Option (List ℕ)) (stack : List (Pair × Shape))
+WalkBound = (shows : List ℕ → Option Shape) (limit n : ℕ) (from : List ℕ) (l : Option (List ℕ))
+    (stack : List (Pair × Shape))
     → length (walk_path shows limit n from l stack) ≤ limit * n
 
 -- from the root, over a source that has the nodes of a tree
-pub record IsWalk (digest : List ℕ → List ℕ) (bits : ℕ) (gives : List ℕ → Option (List ℕ)) (n limit : ℕ) (from : List ℕ) (es : List Pair) : Type 0 where
+pub record IsWalk (digest : List ℕ → List ℕ) (bits : ℕ) (gives : List ℕ → Option (List ℕ)) (n limit : ℕ)
+    (from : List ℕ) (es : List Pair) : Type 0 where
   pub given : walk_from (shown_by gives) limit n from (Some (root digest bits es)) [] ≡ listed from limit es
   pub reads : walk_path (shown_by gives) (suc limit) n from (Some (root digest bits es)) []
-      ≡ map (shape digest) (nodes_meeting from (last_key from (listed from (suc limit) es)) (Sub (top (layer digest bits) es)))
+      ≡ map (shape digest) (nodes_meeting from (last_key from (listed from (suc limit) es))
+      (Sub (top (layer digest bits) es)))
 
 abbrev pub WalkOverSource : Type 0
 WalkOverSource = (digest : List ℕ → List ℕ) (bits : ℕ) → IsDigest digest
-    → (gives : List ℕ → Option (List ℕ)) (n limit : ℕ) (from : List ℕ) (es : List Pair) → ArePairs es → HasNodes digest bits gives es
+    → (gives : List ℕ → Option (List ℕ)) (n limit : ℕ) (from : List ℕ) (es : List Pair) → ArePairs es
+    → HasNodes digest bits gives es
     → layer_of (layer digest bits) (top (layer digest bits) es) < n → IsWalk digest bits gives n limit from es
