@@ -43,6 +43,7 @@ pub mod Balance
 pub mod BlockChanges
 -- ---- the laws
 pub mod LookupTheorems
+pub mod WalkRanges
 pub mod WalkTheorems
 pub mod PutTheorems
 pub mod DeleteTheorems

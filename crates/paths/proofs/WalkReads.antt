@@ -22,10 +22,10 @@ use Rattle.paths.proofs.Within.{IsWithin, AllWithin, within-first}
 
 -- ---- tests and orders
 
-above-order : (a last : List ℕ) (o : Ordering) → order a last ≡ o → is_above (Some a) last ≡ is_lt o
+pub above-order : (a last : List ℕ) (o : Ordering) → order a last ≡ o → is_above (Some a) last ≡ is_lt o
 above-order a last o h = ap is_lt (order-is a last ∙ h)
 
-under-order : (b from : List ℕ) (o : Ordering) → order from b ≡ o → is_under (Some b) from ≡ is_lt o
+pub under-order : (b from : List ℕ) (o : Ordering) → order from b ≡ o → is_under (Some b) from ≡ is_lt o
 under-order b from o h = ap is_lt (order-is from b ∙ h)
 
 -- a key isn't below another
@@ -51,7 +51,7 @@ less-choice z b from Greater q h k = before-trans from z b (turned z from q) k
 less-below : (z b from : List ℕ) → IsNotBelow z from → order z b ≡ Less → order from b ≡ Less
 less-below z b from h k = less-choice z b from (order z from) refl h k
 
-not-below : (from : List ℕ) (e : Pair) → IsFrom from e → IsNotBelow e.0 from
+pub not-below : (from : List ℕ) (e : Pair) → IsFrom from e → IsNotBelow e.0 from
 not-below from e h = go (order e.0 from) refl
   where
     go : (o : Ordering) → order e.0 from ≡ o → is_lt o ≡ false
@@ -172,7 +172,7 @@ module _ (from last : List ℕ) where
         chosen-none (ranged_in a (Some e.0) p) (ranged_under (Some e.0) b r) (late-in a (Some e.0) p h l)
         (late-under (Some e.0) b r t.0 t.1)
 
-  late-stack : (stack : List Frame) → Each IsLate (stack_pairs stack) → chosen (ranged_stack stack) ≡ []
+  pub late-stack : (stack : List Frame) → Each IsLate (stack_pairs stack) → chosen (ranged_stack stack) ≡ []
   late-stack [] h = refl
   late-stack (x ∷ xs) h =
       chosen-none (ranged_under (Some x.0.0) (next_key xs) x.1) (ranged_stack xs)

@@ -1,15 +1,17 @@
 -- The laws of walks.
-use Rattle.std.specs.Prelude.{◌≡◌, true, Option, Some, ℕ, suc, ◌*◌, ◌<◌, ◌≤◌, List, [], length, map}
+use Rattle.std.specs.Prelude.{◌≡◌, true, Option, Some, None, ℕ, suc, ◌*◌, ◌<◌, ◌≤◌, List, [], length, map}
+use Rattle.std.specs.List.{AllByRecursion}
 use Rattle.std.specs.Cmp.Lexicographic.{slice_cmp}
 use Rattle.std.specs.Ordering.{nat_cmp}
 use Rattle.std.specs.FinMap.{is_sorted}
 use Rattle.spec.specs.Cid.{IsDigest}
 use Rattle.spec.specs.Layer.{layer}
-use Rattle.spec.specs.Tree.{Pair, Sub, top}
-use Rattle.spec.specs.NodeFormat.{Shape, shape}
-use Rattle.spec.specs.Blocks.{ArePairs, listed, root}
+use Rattle.spec.specs.Tree.{Pair, Sub, top, pairs_under}
+use Rattle.spec.specs.NodeFormat.{Shape, shape, node_bytes}
+use Rattle.spec.specs.Blocks.{ArePairs, listed, root, nodes}
 use Rattle.paths.specs.TreeEdit.{layer_of}
-use Rattle.paths.specs.Walk.{walk, walk_reads, nodes_meeting, last_key}
+use Rattle.paths.specs.Trace.{find_path}
+use Rattle.paths.specs.Walk.{walk, walk_reads, Ranged, ranged_in, is_above, is_under, nodes_meeting, last_key}
 use Rattle.paths.specs.Sources.{HasNodes, shown_by, walk_from, walk_path}
 
 -- a walk over the tree of ascending pairs gives the first of them from a key on
@@ -25,6 +27,26 @@ WalkReadsRange = (layer : List ℕ → ℕ) (limit n : ℕ) (from : List ℕ) (e
     → is_sorted (slice_cmp nat_cmp) es ≡ true → layer_of layer (top layer es) < n
     → walk_reads (suc limit) n from (Sub (top layer es)) []
     ≡ nodes_meeting from (last_key from (listed from (suc limit) es)) (Sub (top layer es))
+
+-- these are nodes of the tree, each with one range
+abbrev pub RangesAreNodes : Type 0
+RangesAreNodes = (digest : List ℕ → List ℕ) (bits : ℕ) (es : List Pair)
+    → map (λ (x : Ranged). node_bytes digest x.node) (ranged_in None None (Sub (top (layer digest bits) es)))
+    ≡ nodes digest bits es
+
+-- which holds the keys of the node and of all nodes below it
+abbrev pub IsInRange : Ranged → Type 0
+IsInRange x = AllByRecursion (λ e. (is_above x.above e.0 ≡ true) × (is_under x.under e.0 ≡ true)) (pairs_under x.node)
+
+abbrev pub RangesHoldKeys : Type 0
+RangesHoldKeys = (layer : List ℕ → ℕ) (es : List Pair) → is_sorted (slice_cmp nat_cmp) es ≡ true
+    → AllByRecursion IsInRange (ranged_in None None (Sub (top layer es)))
+
+-- the path of a key is the nodes whose open range holds it
+abbrev pub PathIsRange : Type 0
+PathIsRange = (layer : List ℕ → ℕ) (n : ℕ) (key : List ℕ) (es : List Pair) → is_sorted (slice_cmp nat_cmp) es ≡ true
+    → layer_of layer (top layer es) < n
+    → find_path n key (Sub (top layer es)) ≡ nodes_meeting key key (Sub (top layer es))
 
 -- no more than n nodes are read for each pair, whatever the source shows
 abbrev pub WalkBound : Type 0
