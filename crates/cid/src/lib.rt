@@ -8,6 +8,7 @@ mod cid_fault;
 mod cid_ref;
 mod collided;
 mod digest;
+pub mod digests;
 mod layers;
 
 pub use block::Block;

@@ -1,8 +1,10 @@
 //! Heads of items at the front of some bytes (RFC 8949, section 3; the shortest form alone: IPLD DAG-CBOR).
 
-ghost use Rattle.std.specs.Prelude.{◌≡◌, ◌≤◌, ◌<◌, length, IfOk};
+ghost use Rattle.std.specs.Prelude.{◌≡◌, ◌≤◌, ◌<◌, length, IfOk, Some};
 ghost use Rattle.spec.specs.Reading.{Gives, front};
 ghost use Rattle.spec.specs.Head.{head_at, argument_at, long_argument, simple_at, Truncated};
+ghost use Rattle.spec.specs.Head as heads;
+ghost use Rattle.spec.specs.DagCbor.{head_of};
 ghost use Rattle.dagcbor.specs.Fault.{fault_of};
 
 use crate::fault::CborFault;
@@ -115,4 +117,20 @@ pub(crate) fn front(n: u64, bytes: &[u8]) -> Result<(&[u8], &[u8]), CborFault>
         return Err(CborFault::Truncated);
     }
     Ok(bytes.split_at(n as usize))
+}
+
+/// The argument of a head that has to have this major type, or else there is this fault.
+pub(crate) fn head_of(major: u8, fault: CborFault, bytes: &[u8]) -> Result<(u64, &[u8]), CborFault>
+    ensures { (f : heads.CborFault) → fault_of fault ≡ Some f → Gives (λ x. (x.0, x.1.now)) fault_of result (head_of major f bytes.now) }
+{
+    match bytes {
+        [] => Err(CborFault::Truncated),
+        [first, ..] => {
+            if *first / 32 != major {
+                return Err(fault);
+            }
+            let ((_, n), rest) = head(bytes)?;
+            Ok((n, rest))
+        }
+    }
 }

@@ -1,12 +1,12 @@
 -- A link may hold a CID of version 0 or of version 1, spelled as the standard says, and nothing else.
-use Rattle.std.proofs.Common.{◌≡◌, ℕ, suc, ◌^◌, ◌<◌, Bool, true, false, ◌&&◌, ◌||◌, eqb, List, [], ◌∷◌, ◌++◌, length, get_or, drop, Option, Some, None, refl, sym, ap, subst, ◌∙◌, append_assoc, arith, inl, inr}
+use Rattle.std.proofs.Common.{◌≡◌, ℕ, suc, ◌^◌, ◌<◌, Bool, true, ◌&&◌, eqb, List, [], ◌∷◌, ◌++◌, length, Option, Some, None, refl, sym, ap, subst, ◌∙◌, append_assoc, arith, inl, inr}
 use Rattle.std.specs.Prelude.{◌⊎◌}
 use Rattle.std.proofs.lemmas.Bool.{eqb-true, eq-eqb}
 use Rattle.std.proofs.lemmas.List.{drop_at}
 use Rattle.spec.specs.Varint.{varint, varint_at}
 use Rattle.spec.specs.Cid.{then_number, is_version_0, is_version_1, is_cid}
 use Rattle.spec.specs.Laws.Cids.{Version0, Version1}
-use Rattle.spec.proofs.Bools.{both}
+use Rattle.spec.proofs.Bools.{both, one_of, or_left, or_right}
 use Rattle.spec.proofs.Taking.{IsBytes, IsBytes-rest, IsBytes-drop}
 use Rattle.spec.proofs.VarintLaws.{varint_at-varint, varint_at_takes}
 
@@ -90,18 +90,6 @@ test-from_Version1 bytes v =
     (then_number-some (varint_at sized) _ (length v.digest) v.digest (varint_at-varint (length v.digest) v.digest v.length_fits) (eq-eqb (length v.digest) (length v.digest) refl)))
 
 -- ---- either
-
-one_of : (s t : Bool) → (s || t) ≡ true → (s ≡ true) ⊎ (t ≡ true)
-one_of true t h = inl refl
-one_of false t h = inr h
-
-or_left : (s t : Bool) → s ≡ true → (s || t) ≡ true
-or_left true t h = refl
-or_left false t h = absurd cc
-
-or_right : (s t : Bool) → t ≡ true → (s || t) ≡ true
-or_right true t h = refl
-or_right false t h = h
 
 pub versions-from_test : (bytes : List ℕ) → IsBytes bytes → is_cid bytes ≡ true → Version0 bytes ⊎ Version1 bytes
 versions-from_test bytes fits h =

@@ -1,6 +1,6 @@
 -- A number of at most nine bytes is read as it was written, and only its shortest form is read.
 use Rattle.std.proofs.Common.{◌≡◌, ◌≢◌, ℕ, zero, suc, ◌+◌, ◌*◌, ◌/◌, ◌%◌, ◌^◌, ◌<◌, ◌≤◌, Bool, true, false, cond, eqb, ltb, List, [], ◌∷◌, ◌++◌, Option, Some, None, refl, sym, ap, subst, ◌∙◌, arith, inl, inr}
-use Rattle.std.proofs.lemmas.Bool.{cases_lt, lt-ltb, le-ltb, ltb-true, ltb-false, ne_eqb, eqb-false}
+use Rattle.std.proofs.lemmas.Bool.{cases_lt, lt-ltb, le-ltb, ne_eqb, eqb-false}
 use Rattle.spec.specs.Varint.{varint, varint_within, varint_at, varint_at_within, with_low}
 use Rattle.spec.proofs.Taking.{IsBytes, IsBytes-rest}
 

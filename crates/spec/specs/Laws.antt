@@ -4,6 +4,7 @@ pub mod DagCbor
 pub mod Cids
 pub mod Tree
 pub mod Nodes
+pub mod Cars
 pub mod Clashes
 pub mod Roots
 pub mod Once

@@ -3,6 +3,7 @@
 //! Each function here is empty, and its contract is a law about the definitions in `specs/`, stated in
 //! `specs/Laws/`. A function is proved only where its contract is, so each law is proved.
 
+pub mod cars;
 pub mod cids;
 pub mod clashes;
 pub mod dagcbor;

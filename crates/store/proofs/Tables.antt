@@ -112,7 +112,7 @@ pub lawful_put : (digest : List ℕ → List ℕ) (t : Table) (k : List ℕ) (v 
     → IsLawful digest (record { entries = map.insert t.entries k v; limit = t.limit })
 lawful_put digest t k v l is free = record {
   entries = λ q e h. entry_put digest t k v l is q e (slice_cmp nat_cmp q k) refl (sym (map.get-insert nat_list_cmp_total t.entries k v q) ∙ h);
-  bounded = subst (λ (n : ℕ). n ≤ t.limit) (sym (map.len-insert nat_list_cmp_total t.entries k v)) (room (entry_at t k) (map.len t.entries) t.limit l.bounded free)
+  bounded = subst (λ (n : ℕ). n ≤ t.limit) (sym (map.len-insert nat_list_cmp_total t.entries k v)) (room (entry_at t k) (map.len t.entries) t.limit l.bounded free);
 }
 
 -- an entry is taken out
@@ -120,13 +120,13 @@ pub lawful_cut : (digest : List ℕ → List ℕ) (t : Table) (k : List ℕ) →
     → IsLawful digest (record { entries = map.remove t.entries k; limit = t.limit })
 lawful_cut digest t k l = record {
   entries = λ q e h. entry_kept digest t k l q e (slice_cmp nat_cmp q k) (sym (map.get-remove nat_list_cmp_total t.entries k q) ∙ h);
-  bounded = subst (λ (n : ℕ). n ≤ t.limit) (sym (map.len-remove nat_list_cmp_total t.entries k)) (fewer (is_some (entry_at t k)) (map.len t.entries) t.limit l.bounded)
+  bounded = subst (λ (n : ℕ). n ≤ t.limit) (sym (map.len-remove nat_list_cmp_total t.entries k)) (fewer (is_some (entry_at t k)) (map.len t.entries) t.limit l.bounded);
 }
 
 pub lawful_empty : (digest : List ℕ → List ℕ) (limit : ℕ) → IsLawful digest (record { entries = map.empty; limit = limit })
 lawful_empty digest limit = record {
   entries = λ q e h. absurd (let never : None ≡ Some e = sym (map.get-empty (slice_cmp nat_cmp) q) ∙ h in cc);
-  bounded = subst (λ (n : ℕ). n ≤ limit) (sym (map.len-empty (slice_cmp nat_cmp) Held)) (omega arith)
+  bounded = subst (λ (n : ℕ). n ≤ limit) (sym (map.len-empty (slice_cmp nat_cmp) Held)) (omega arith);
 }
 
 -- ---- what an entry has after a core came or went
@@ -157,7 +157,7 @@ entry_entered digest cid e core small is = record {
   named = is.named;
   some = some_in_insert e.1 core;
   small = λ q h. entered_below q core (set.contains e.1 q) small (is.small q)
-    (sym (set.contains-insert nat_cmp_total e.1 core q ∙ ap (λ b. b || set.contains e.1 q) (unsigned_tied q core)) ∙ h)
+      (sym (set.contains-insert nat_cmp_total e.1 core q ∙ ap (λ b. b || set.contains e.1 q) (unsigned_tied q core)) ∙ h);
 }
 
 abbrev nobody : set.FinSet nat_cmp
@@ -169,8 +169,8 @@ entry_first digest bytes core small = record {
   named = refl;
   some = some_in_insert nobody core;
   small = λ q h. entered_below q core (set.contains nobody q) small
-    (λ e. absurd (true≢false (sym e ∙ set.contains-empty nat_cmp q)))
-    (sym (set.contains-insert nat_cmp_total nobody core q ∙ ap (λ b. b || set.contains nobody q) (unsigned_tied q core)) ∙ h)
+      (λ e. absurd (true≢false (sym e ∙ set.contains-empty nat_cmp q)))
+      (sym (set.contains-insert nat_cmp_total nobody core q ∙ ap (λ b. b || set.contains nobody q) (unsigned_tied q core)) ∙ h);
 }
 
 some_left : (n : ℕ) → nat_eq n 0 ≡ false → 0 < n
@@ -181,7 +181,7 @@ pub entry_left : (digest : List ℕ → List ℕ) (cid : List ℕ) (e : Held) (c
 entry_left digest cid e core more is = record {
   named = is.named;
   some = some_left _ more;
-  small = λ q h. is.small q (second _ _ (sym (set.contains-remove nat_cmp_total e.1 core q) ∙ h))
+  small = λ q h. is.small q (second _ _ (sym (set.contains-remove nat_cmp_total e.1 core q) ∙ h));
 }
 
 -- ---- the table of a list, after a list was changed

@@ -45,8 +45,26 @@ impl<D: Digest, A: Allocator> Shards<D, A> {
 
     /// The shards, in the order of their numbers, out of their locks.
     pub fn tables(self) -> [Shard<D, A>; SHARDS] {
-        let Shards { shards } = self;
-        shards.map(Mutex::into_inner)
+        // `map` would ask that an allocator of unknown size fit in memory once more.
+        let [a, b, c, d, e, f, g, h, i, j, k, l, m, n, o, p] = self.shards;
+        [
+            a.into_inner(),
+            b.into_inner(),
+            c.into_inner(),
+            d.into_inner(),
+            e.into_inner(),
+            f.into_inner(),
+            g.into_inner(),
+            h.into_inner(),
+            i.into_inner(),
+            j.into_inner(),
+            k.into_inner(),
+            l.into_inner(),
+            m.into_inner(),
+            n.into_inner(),
+            o.into_inner(),
+            p.into_inner(),
+        ]
     }
 }
 

@@ -28,8 +28,8 @@ invariant_of-self g c =
     let here : at es c.cid-cid.result ≡ Some c.in-Some.entry.now = sym c.in-Some.ensures.value in
     let w = c.get_mut.follows.holds c.enter.new.self in
     lawful_changed g.D.Digest.digest_of es _ c.self.inside.limit c.cid-cid.result c.in-Some.entry.now c.enter.new.self c.self.invariant here
-      (c.enter.ensures.entry c.cid-cid.result (lawful_at g.D.Digest.digest_of es c.self.inside.limit c.cid-cid.result _ c.self.invariant here))
-      ((w.3 (rw here refl)).0)
+    (c.enter.ensures.entry c.cid-cid.result (lawful_at g.D.Digest.digest_of es c.self.inside.limit c.cid-cid.result _ c.self.invariant here))
+    ((w.3 (rw here refl)).0)
 
 pub returns-in-Some-clause-same_bytes : goal.returns-in-Some-clause-same_bytes
 returns-in-Some-clause-same_bytes g c =
@@ -37,10 +37,10 @@ returns-in-Some-clause-same_bytes g c =
     let here : at es c.cid-cid.result ≡ Some c.in-Some.entry.now = sym c.in-Some.ensures.value in
     let name : c.cid-cid.result ≡ cid_of g.D.Digest.digest_of (arc_value c.args.block) = c.cid-cid.ensures ∙ ap (cid_of g.D.Digest.digest_of) c.deref.ensures in
     on_ok_weaker c.enter.result
-      (λ (e : c.in-Some.entry.now.0 ≡ arc_value c.args.block). subst (λ (x : List ℕ). HasNoOther c.args.self.now x (arc_value c.args.block)) name
-        (subst (λ (t : Table). HasNoOther t c.cid-cid.result (arc_value c.args.block)) c.self.view_is
-          (no_other (table_view es c.self.inside.limit) c.cid-cid.result (arc_value c.args.block) c.in-Some.entry.now (entry_view es c.self.inside.limit c.cid-cid.result _ here) e)))
-      c.enter.ensures.same_bytes
+    (λ (e : c.in-Some.entry.now.0 ≡ arc_value c.args.block). subst (λ (x : List ℕ). HasNoOther c.args.self.now x (arc_value c.args.block)) name
+    (subst (λ (t : Table). HasNoOther t c.cid-cid.result (arc_value c.args.block)) c.self.view_is
+    (no_other (table_view es c.self.inside.limit) c.cid-cid.result (arc_value c.args.block) c.in-Some.entry.now (entry_view es c.self.inside.limit c.cid-cid.result _ here) e)))
+    c.enter.ensures.same_bytes
 
 pub returns-in-Some-clause-entered : goal.returns-in-Some-clause-entered
 returns-in-Some-clause-entered g c =
@@ -49,12 +49,12 @@ returns-in-Some-clause-entered g c =
     let name : c.cid-cid.result ≡ cid_of g.D.Digest.digest_of (arc_value c.args.block) = c.cid-cid.ensures ∙ ap (cid_of g.D.Digest.digest_of) c.deref.ensures in
     let w = c.get_mut.follows.holds c.enter.new.self in
     on_ok_weaker c.enter.result
-      (λ (e : c.enter.new.self ≡ (arc_value c.args.block, set.insert c.in-Some.entry.now.1 c.args.core)).
-        entered_view es _ c.self.inside.limit c.cid-cid.result (arc_value c.args.block) c.args.core (Some c.in-Some.entry.now) here
-          (subst (λ (x : Held). Updated es (c.get_mut.follows.lender c.enter.new.self).entries c.cid-cid.result (Some x)) e ((w.3 (rw here refl)).0))
-        ∙ ap (λ (t : Table). entered t c.cid-cid.result (arc_value c.args.block) c.args.core) c.self.view_is
-        ∙ ap (λ (x : List ℕ). entered c.args.self.now x (arc_value c.args.block) c.args.core) name)
-      c.enter.ensures.entered
+    (λ (e : c.enter.new.self ≡ (arc_value c.args.block, set.insert c.in-Some.entry.now.1 c.args.core)).
+    entered_view es _ c.self.inside.limit c.cid-cid.result (arc_value c.args.block) c.args.core (Some c.in-Some.entry.now) here
+    (subst (λ (x : Held). Updated es (c.get_mut.follows.lender c.enter.new.self).entries c.cid-cid.result (Some x)) e ((w.3 (rw here refl)).0))
+    ∙ ap (λ (t : Table). entered t c.cid-cid.result (arc_value c.args.block) c.args.core) c.self.view_is
+    ∙ ap (λ (x : List ℕ). entered c.args.self.now x (arc_value c.args.block) c.args.core) name)
+    c.enter.ensures.entered
 
 pub returns-in-Some-clause-unchanged : goal.returns-in-Some-clause-unchanged
 returns-in-Some-clause-unchanged g c =
@@ -62,11 +62,11 @@ returns-in-Some-clause-unchanged g c =
     let here : at es c.cid-cid.result ≡ Some c.in-Some.entry.now = sym c.in-Some.ensures.value in
     let w = c.get_mut.follows.holds c.enter.new.self in
     on_err_weaker c.enter.result
-      (λ (e : c.enter.new.self ≡ c.in-Some.entry.now).
-        same_view es _ c.self.inside.limit c.cid-cid.result c.in-Some.entry.now here
-          (subst (λ (x : Held). Updated es (c.get_mut.follows.lender c.enter.new.self).entries c.cid-cid.result (Some x)) e ((w.3 (rw here refl)).0))
-        ∙ c.self.view_is)
-      c.enter.ensures.unchanged
+    (λ (e : c.enter.new.self ≡ c.in-Some.entry.now).
+    same_view es _ c.self.inside.limit c.cid-cid.result c.in-Some.entry.now here
+    (subst (λ (x : Held). Updated es (c.get_mut.follows.lender c.enter.new.self).entries c.cid-cid.result (Some x)) e ((w.3 (rw here refl)).0))
+    ∙ c.self.view_is)
+    c.enter.ensures.unchanged
 
 pub returns-in-Some-clause-fault : goal.returns-in-Some-clause-fault
 returns-in-Some-clause-fault g c =
@@ -74,11 +74,11 @@ returns-in-Some-clause-fault g c =
     let here : at es c.cid-cid.result ≡ Some c.in-Some.entry.now = sym c.in-Some.ensures.value in
     let name : c.cid-cid.result ≡ cid_of g.D.Digest.digest_of (arc_value c.args.block) = c.cid-cid.ensures ∙ ap (cid_of g.D.Digest.digest_of) c.deref.ensures in
     let found : entry_at c.args.self.now c.cid-cid.result ≡ Some c.in-Some.entry.now =
-      ap (λ (t : Table). entry_at t c.cid-cid.result) (sym c.self.view_is) ∙ entry_view es c.self.inside.limit c.cid-cid.result _ here in
+    ap (λ (t : Table). entry_at t c.cid-cid.result) (sym c.self.view_is) ∙ entry_view es c.self.inside.limit c.cid-cid.result _ here in
     IfErr-weaker c.enter.result _ _
-      (λ f h. subst (λ (x : List ℕ). IsRefusalBeside c.args.self.now (arc_value c.args.block) (entry_at c.args.self.now x) f) name
-        (subst (λ (o : Option Held). IsRefusalBeside c.args.self.now (arc_value c.args.block) o f) (sym found) h))
-      c.enter.ensures.fault
+    (λ f h. subst (λ (x : List ℕ). IsRefusalBeside c.args.self.now (arc_value c.args.block) (entry_at c.args.self.now x) f) name
+    (subst (λ (o : Option Held). IsRefusalBeside c.args.self.now (arc_value c.args.block) o f) (sym found) h))
+    c.enter.ensures.fault
 
 pub returns-then-len-self-clause-fault : goal.returns-then-len-self-clause-fault
 returns-then-len-self-clause-fault g c =
@@ -89,9 +89,9 @@ returns-then-len-self-clause-fault g c =
     let ordered : IsStrictlySortedBy (slice_cmp nat_cmp) (List.map (λ e. e.0) es) = subst (λ (es : List (List ℕ × Held)). IsStrictlySortedBy (slice_cmp nat_cmp) (List.map (λ e. e.0) es)) kept c.len.ensures.ordered in
     let size = len_view es ordered in
     let gone : entry_at c.args.self.now (cid_of g.D.Digest.digest_of (arc_value c.args.block)) ≡ None =
-      ap (entry_at c.args.self.now) (sym name) ∙ ap (λ (t : Table). entry_at t c.cid-cid.result) (sym c.self.view_is) ∙ entry_view es c.self.inside.limit c.cid-cid.result None none in
+    ap (entry_at c.args.self.now) (sym name) ∙ ap (λ (t : Table). entry_at t c.cid-cid.result) (sym c.self.view_is) ∙ entry_view es c.self.inside.limit c.cid-cid.result None none in
     subst (λ (o : Option Held). IsRefusalBeside {D = g.row.D.Denot} {A = g.row.A.Denot} c.args.self.now (arc_value c.args.block) o Full) (sym gone)
-      (subst (λ (t : Table). t.limit ≤ map.len t.entries) c.self.view_is (omega (arith, size, c.len.ensures.len, ap length kept)))
+    (subst (λ (t : Table). t.limit ≤ map.len t.entries) c.self.view_is (omega (arith, size, c.len.ensures.len, ap length kept)))
 
 pub returns-in_default-clause-fault : goal.returns-in_default-clause-fault
 returns-in_default-clause-fault g c =
@@ -102,9 +102,9 @@ returns-in_default-clause-fault g c =
     let ordered : IsStrictlySortedBy (slice_cmp nat_cmp) (List.map (λ e. e.0) es) = subst (λ (es : List (List ℕ × Held)). IsStrictlySortedBy (slice_cmp nat_cmp) (List.map (λ e. e.0) es)) kept c.len.ensures.ordered in
     let size = len_view es ordered in
     let gone : entry_at c.args.self.now (cid_of g.D.Digest.digest_of (arc_value c.args.block)) ≡ None =
-      ap (entry_at c.args.self.now) (sym name) ∙ ap (λ (t : Table). entry_at t c.cid-cid.result) (sym c.self.view_is) ∙ entry_view es c.self.inside.limit c.cid-cid.result None none in
+    ap (entry_at c.args.self.now) (sym name) ∙ ap (λ (t : Table). entry_at t c.cid-cid.result) (sym c.self.view_is) ∙ entry_view es c.self.inside.limit c.cid-cid.result None none in
     subst (λ (o : Option Held). IsRefusalBeside {D = g.row.D.Denot} {A = g.row.A.Denot} c.args.self.now (arc_value c.args.block) o NoMemory) (sym gone)
-      (subst (λ (t : Table). map.len t.entries < t.limit) c.self.view_is (omega (arith, size, c.len.ensures.len, ap length kept)))
+    (subst (λ (t : Table). map.len t.entries < t.limit) c.self.view_is (omega (arith, size, c.len.ensures.len, ap length kept)))
 
 pub returns-in_default-insert-clause-fault : goal.returns-in_default-insert-clause-fault
 returns-in_default-insert-clause-fault g c =
@@ -115,9 +115,9 @@ returns-in_default-insert-clause-fault g c =
     let ordered : IsStrictlySortedBy (slice_cmp nat_cmp) (List.map (λ e. e.0) es) = subst (λ (es : List (List ℕ × Held)). IsStrictlySortedBy (slice_cmp nat_cmp) (List.map (λ e. e.0) es)) kept c.len.ensures.ordered in
     let size = len_view es ordered in
     let gone : entry_at c.args.self.now (cid_of g.D.Digest.digest_of (arc_value c.args.block)) ≡ None =
-      ap (entry_at c.args.self.now) (sym name) ∙ ap (λ (t : Table). entry_at t c.cid-cid.result) (sym c.self.view_is) ∙ entry_view es c.self.inside.limit c.cid-cid.result None none in
+    ap (entry_at c.args.self.now) (sym name) ∙ ap (λ (t : Table). entry_at t c.cid-cid.result) (sym c.self.view_is) ∙ entry_view es c.self.inside.limit c.cid-cid.result None none in
     subst (λ (o : Option Held). IsRefusalBeside {D = g.row.D.Denot} {A = g.row.A.Denot} c.args.self.now (arc_value c.args.block) o NoMemory) (sym gone)
-      (subst (λ (t : Table). map.len t.entries < t.limit) c.self.view_is (omega (arith, size, c.len.ensures.len, ap length kept)))
+    (subst (λ (t : Table). map.len t.entries < t.limit) c.self.view_is (omega (arith, size, c.len.ensures.len, ap length kept)))
 
 pub invariant_of-self-in-None : goal.invariant_of-self-in-None
 invariant_of-self-in-None g c =
@@ -128,13 +128,13 @@ invariant_of-self-in-None g c =
     let size = len_view es ordered in
     let value : c.new.result ≡ (arc_value c.args.block, set.insert set.empty c.args.core) = c.new.ensures ∙ ap (λ (x : List ℕ). (x, set.insert set.empty c.args.core)) c.in-Ok.ensures in
     let updates : Updated es c.insert.new.self.entries c.cid-cid.result (Some c.new.result) =
-      subst (λ (xs : List (List ℕ × Held)). Updated xs c.insert.new.self.entries c.cid-cid.result (Some c.new.result)) kept c.in-Ok-insert.ensures.updates.0 in
+    subst (λ (xs : List (List ℕ × Held)). Updated xs c.insert.new.self.entries c.cid-cid.result (Some c.new.result)) kept c.in-Ok-insert.ensures.updates.0 in
     lawful_added g.D.Digest.digest_of es _ c.self.inside.limit c.cid-cid.result c.new.result c.self.invariant
-      (omega (arith, size, c.len.ensures.len, ap length kept))
-      (subst (λ (e : Held). IsEntry g.D.Digest.digest_of c.cid-cid.result e) (sym value)
-        (subst (λ (x : List ℕ). IsEntry g.D.Digest.digest_of x (arc_value c.args.block, set.insert set.empty c.args.core)) (sym name)
-          (entry_first g.D.Digest.digest_of (arc_value c.args.block) c.args.core c.requires)))
-      updates
+    (omega (arith, size, c.len.ensures.len, ap length kept))
+    (subst (λ (e : Held). IsEntry g.D.Digest.digest_of c.cid-cid.result e) (sym value)
+    (subst (λ (x : List ℕ). IsEntry g.D.Digest.digest_of x (arc_value c.args.block, set.insert set.empty c.args.core)) (sym name)
+    (entry_first g.D.Digest.digest_of (arc_value c.args.block) c.args.core c.requires)))
+    updates
 
 pub returns-in-Ok-insert-clause-same_bytes : goal.returns-in-Ok-insert-clause-same_bytes
 returns-in-Ok-insert-clause-same_bytes g c e h =
@@ -142,7 +142,7 @@ returns-in-Ok-insert-clause-same_bytes g c e h =
     let name : c.cid-cid.result ≡ cid_of g.D.Digest.digest_of (arc_value c.args.block) = c.cid-cid.ensures ∙ ap (cid_of g.D.Digest.digest_of) c.deref.ensures in
     let none : at es c.cid-cid.result ≡ None = sym c.in-None.ensures.value in
     let gone : entry_at c.args.self.now (cid_of g.D.Digest.digest_of (arc_value c.args.block)) ≡ None =
-      ap (entry_at c.args.self.now) (sym name) ∙ ap (λ (t : Table). entry_at t c.cid-cid.result) (sym c.self.view_is) ∙ entry_view es c.self.inside.limit c.cid-cid.result None none in
+    ap (entry_at c.args.self.now) (sym name) ∙ ap (λ (t : Table). entry_at t c.cid-cid.result) (sym c.self.view_is) ∙ entry_view es c.self.inside.limit c.cid-cid.result None none in
     let never : Some e ≡ None = sym h ∙ gone in
     absurd cc
 
@@ -154,8 +154,8 @@ returns-in-Ok-insert-clause-entered g c =
     let kept : c.get_mut.follows.lender-at-none.entries ≡ es = ap (λ m. m.entries) c.get_mut.follows.holds-at-none in
     let value : c.new.result ≡ (arc_value c.args.block, set.insert set.empty c.args.core) = c.new.ensures ∙ ap (λ (x : List ℕ). (x, set.insert set.empty c.args.core)) c.in-Ok.ensures in
     let updates : Updated es c.insert.new.self.entries c.cid-cid.result (Some c.new.result) =
-      subst (λ (xs : List (List ℕ × Held)). Updated xs c.insert.new.self.entries c.cid-cid.result (Some c.new.result)) kept c.in-Ok-insert.ensures.updates.0 in
+    subst (λ (xs : List (List ℕ × Held)). Updated xs c.insert.new.self.entries c.cid-cid.result (Some c.new.result)) kept c.in-Ok-insert.ensures.updates.0 in
     entered_view es _ c.self.inside.limit c.cid-cid.result (arc_value c.args.block) c.args.core None none
-      (subst (λ (x : Held). Updated es c.insert.new.self.entries c.cid-cid.result (Some x)) value updates)
+    (subst (λ (x : Held). Updated es c.insert.new.self.entries c.cid-cid.result (Some x)) value updates)
     ∙ ap (λ (t : Table). entered t c.cid-cid.result (arc_value c.args.block) c.args.core) c.self.view_is
     ∙ ap (λ (x : List ℕ). entered c.args.self.now x (arc_value c.args.block) c.args.core) name
