@@ -111,42 +111,36 @@ fn refuses_with_the_first_fault(rt: HostRuntime) -> Result<(), Fail> {
 
 #[test]
 fn reads_what_the_bytes_say(rt: HostRuntime) -> Result<(), Fail> {
-    let alloc = rt.alloc();
-    assert!(rt;
-        matches!(
-            read(alloc, b"\x1b\x7f\xff\xff\xff\xff\xff\xff\xff")?,
-            Value::Int(i64::MAX)
-        )
-    );
-    assert!(rt;
-        matches!(
-            read(alloc, b"\x3b\x7f\xff\xff\xff\xff\xff\xff\xff")?,
-            Value::Int(i64::MIN)
-        )
-    );
-    assert!(rt; matches!(read(alloc, b"\x38\x63")?, Value::Int(-100)));
-    assert!(rt; matches!(read(alloc, b"\xf4")?, Value::Bool(false)));
-    assert!(rt; matches!(read(alloc, b"\xf5")?, Value::Bool(true)));
-    assert!(rt; matches!(read(alloc, b"\xf6")?, Value::Null));
-    assert!(rt;
-        matches!(
-            read(alloc, b"\x44\x00\x01\x02\xff")?,
-            Value::Bytes([0, 1, 2, 255])
-        )
-    );
-    assert!(rt; matches!(read(alloc, b"\x62\xc3\xa9")?, Value::Text("é")));
-    let link = b"\xd8\x2a\x49\x00\x01\x55\x00\x04\x01\x02\x03\x04";
-    assert!(rt; matches!(read(alloc, link)?, Value::Link([1, 0x55, 0, 4, 1, 2, 3, 4])));
-    let version_0 = b"\xd8\x2a\x58\x23\x00\x12\x20abcdefghijklmnopqrstuvwxyz012345";
-    assert!(rt;
-        matches!(read(alloc, version_0)?, Value::Link(cid) if cid.len() == 34 && cid[0] == 0x12)
-    );
-    let Value::Map(fields) = read(alloc, b"\xa2\x61b\xf6\x62aa\xf5")? else {
-        return Err("a map".into());
-    };
-    assert_eq!(rt; fields.len(), 2);
-    assert!(rt; matches!(fields[0], ("b", Value::Null)));
-    assert!(rt; matches!(fields[1], ("aa", Value::Bool(true))));
+    let rows: [(&[u8], &str); 11] = [
+        (
+            b"\x1b\x7f\xff\xff\xff\xff\xff\xff\xff",
+            "Int(9223372036854775807)",
+        ),
+        (
+            b"\x3b\x7f\xff\xff\xff\xff\xff\xff\xff",
+            "Int(-9223372036854775808)",
+        ),
+        (b"\x38\x63", "Int(-100)"),
+        (b"\xf4", "Bool(false)"),
+        (b"\xf5", "Bool(true)"),
+        (b"\xf6", "Null"),
+        (b"\x44\x00\x01\x02\xff", "Bytes([0, 1, 2, 255])"),
+        (b"\x62aa", "Text(\"aa\")"),
+        (
+            b"\xa2\x61b\xf6\x62aa\xf5",
+            "Map([(\"b\", Null), (\"aa\", Bool(true))])",
+        ),
+        (b"\x82\x01\x80", "List([Int(1), List([])])"),
+        (
+            b"\xd8\x2a\x49\x00\x01\x55\x00\x04\x01\x02\x03\x04",
+            "Link([1, 85, 0, 4, 1, 2, 3, 4])",
+        ),
+    ];
+    for (bytes, shown) in rows {
+        let value = read(rt.alloc(), bytes)?;
+        let text = format!(in rt.alloc(); "{value:?}")?;
+        assert_eq!(rt; text.as_str(), shown);
+    }
     Ok(())
 }
 
