@@ -18,7 +18,7 @@ use Rattle.std.specs.FinMap.{find, is_sorted, slice_cmp-IsAntisymmetric, nat_cmp
 use Rattle.std.specs.FinMap.Entries.{same_entries, below_all}
 use Rattle.std.specs.FinSet as set
 use Rattle.spec.specs.Cid.{cid as cid_of}
-use Rattle.store.specs.Table.{Table, Held, table_view, entry_at, cores_of, entered, left, left_entry, IsEntry, IsLawful, HasNoOther}
+use Rattle.store.specs.Table.{Table, Held, table_view, entry_at, cores_of, entered, left, left_entry, IsEntry, IsLawful, HasNoOther, listed, with_cores}
 
 -- what a list of entries has under a CID
 abbrev pub at : List (List ℕ × Held) → List ℕ → Option Held
@@ -263,3 +263,7 @@ lawful_taken digest es fs limit k l u = subst (λ m. IsLawful digest (table m li
 
 pub no_other : (t : Table) (k bytes : List ℕ) (e : Held) → entry_at t k ≡ Some e → e.0 ≡ bytes → HasNoOther t k bytes
 no_other t k bytes e a is d found = ap (λ (x : Held). x.0) (same_Some d e (sym found ∙ a)) ∙ is
+
+pub listed_view : (es rest : List (List ℕ × Held)) (limit : ℕ) (t : Table) → IsStrictlySortedBy (slice_cmp nat_cmp) (List.map (λ e. e.0) es)
+    → rest ≡ es → table_view es limit ≡ t → with_cores rest ≡ listed t
+listed_view es rest limit t h same_rest v = ap (λ (xs : List (List ℕ × Held)). with_cores xs) (same_rest ∙ sym (entries_view es h)) ∙ ap (λ (x : Table). listed x) v
