@@ -10,7 +10,8 @@ abbrev pub bytes_of : List Shape → List (List ℕ)
 bytes_of ss = map shape_bytes ss
 
 -- the tree of es becomes that of fs
-pub record IsEdit (digest : List ℕ → List ℕ) (bits : ℕ) (es fs : List Pair) (new_top : Shape) (read gone made : List Shape) : Type 0 where
+pub record IsEdit (digest : List ℕ → List ℕ) (bits : ℕ) (es fs : List Pair) (new_top : Shape)
+    (read gone made : List Shape) : Type 0 where
   pub root_is : root digest bits fs ≡ shape_cid digest new_top
   pub read_old : (b : List ℕ) → Contains (bytes_of read) b → Contains (nodes digest bits es) b
   pub made_new : (b : List ℕ) → Contains (bytes_of made) b → Contains (nodes digest bits fs) b

@@ -1,30 +1,27 @@
 -- The laws of a put and of a delete.
-use Rattle.std.proofs.Common.{◌≡◌, ℕ, zero, suc, ◌+◌, ◌*◌, ◌<◌, ◌≤◌, max, List, [], ◌∷◌, ◌++◌, length, map, Option, None, refl, sym, ap, ◌∙◌, subst, arith}
+use Rattle.std.proofs.Common.{◌≡◌, ℕ, zero, suc, ◌<◌, List, ◌++◌, length, map, refl, sym, ap, ◌∙◌, subst, arith}
 use Rattle.std.specs.Prelude.{Contains}
-use Rattle.std.specs.declared.option.Option.TheVariants.{Some}
-use Rattle.std.specs.Cmp.Lexicographic.{slice_cmp}
-use Rattle.std.specs.Ordering.{nat_cmp}
-use Rattle.std.specs.FinMap.{is_sorted}
-use Rattle.std.proofs.lemmas.List.{length-map, map-append}
+use Rattle.std.proofs.lemmas.List.{length-map}
+use Rattle.spec.specs.Cid.{IsDigest}
 use Rattle.spec.specs.Layer.{layer}
 use Rattle.spec.specs.Tree.{Pair, Node, Sub, top}
 use Rattle.spec.specs.NodeFormat.{Shape, shape, shape_bytes, node_bytes}
-use Rattle.spec.specs.Blocks.{ArePairs, IsClashFree, nodes, root, value_of}
-use Rattle.spec.specs.Writes.{with_key, without_key}
-use Rattle.paths.specs.Pairs.{Ascending, put_pair, delete_pair}
-use Rattle.paths.specs.TreeEdit.{layer_of, put_top, delete_path}
-use Rattle.paths.specs.Trace.{find_path, put_top_gone, put_top_made, delete_path_gone, delete_path_made, delete_path_read}
+use Rattle.spec.specs.Blocks.{ArePairs, IsClashFree, nodes}
+use Rattle.spec.specs.Writes.{with_key}
+use Rattle.paths.specs.Pairs.{put_pair}
+use Rattle.paths.specs.TreeEdit.{layer_of}
+use Rattle.paths.specs.Trace.{find_path, put_top_gone, put_top_made}
 use Rattle.paths.specs.Changes.{marked, AreChanges, add_of, drop_of}
 use Rattle.paths.specs.ShapeEdit.{head_shape}
 use Rattle.paths.specs.PathEdit.{put_root, put_written}
-use Rattle.paths.specs.Sources.{HasNodes, shown_by, path_from}
-use Rattle.paths.specs.EditLaws.{bytes_of, IsEdit}
-use Rattle.paths.specs.PutLaws.{PutIsTop, PutReadsPath, PutIsShapes, PutCounts, IsPut, PutOverSource}
-use Rattle.paths.proofs.Balance.{put-balance, within-top}
+use Rattle.paths.specs.Sources.{shown_by}
+use Rattle.paths.specs.Laws.Edits.{IsEdit}
+use Rattle.paths.specs.Laws.Puts.{PutIsTop, PutReadsPath, PutIsShapes, PutCounts, PutOverSource}
+use Rattle.paths.proofs.Balance.{put-balance}
 use Rattle.paths.proofs.BlockChanges.{put-changes, read-stands, made-stands}
 use Rattle.paths.proofs.Counts.{put_top-gone, put_top-made}
 use Rattle.paths.proofs.Gone.{put_top-old}
-use Rattle.paths.proofs.LookupTheorems.{find_path-bound, map-two}
+use Rattle.paths.proofs.LookupTheorems.{find_path-bound, map-two, lookup-over_source}
 use Rattle.paths.proofs.OverSource.{holds-top, free-source}
 use Rattle.paths.proofs.PathForms.{put_root-same, put_written-same}
 use Rattle.paths.proofs.PathReads.{put-path}
@@ -42,10 +39,8 @@ pub put-reads_path : PutReadsPath
 put-reads_path layer n p es s l = put-path layer p es (ascending-sorted es s) ∙ sym (find_path-bound layer n p.0 es l)
 
 -- the path begins with the top
-head-path : (digest : List ℕ → List ℕ) (n : ℕ) (key : List ℕ) (m : Node) → head_shape (map (shape digest) (find_path (suc n) key (Sub m))) ≡ shape digest m
-head-path digest n key m = refl
-
-head-bound : (digest : List ℕ → List ℕ) (layer : List ℕ → ℕ) (n : ℕ) (key : List ℕ) (es : List Pair) → layer_of layer (top layer es) < n
+head-bound : (digest : List ℕ → List ℕ) (layer : List ℕ → ℕ) (n : ℕ) (key : List ℕ) (es : List Pair)
+    → layer_of layer (top layer es) < n
     → head_shape (map (shape digest) (find_path n key (Sub (top layer es)))) ≡ shape digest (top layer es)
 head-bound digest layer zero key es l = absurd (omega arith)
 head-bound digest layer (suc n) key es l = refl
@@ -56,12 +51,13 @@ put-is_shapes digest layer n p es s l =
     let gone = put-reads_path layer n p es s l in
     let path = map (shape digest) (find_path n p.0 (Sub m)) in
     let h = head-bound digest layer n p.0 es l in
-    let r = ap (map (shape digest)) gone in
-    (ap (shape digest) (sym (put-is_top layer p es s))
-    ∙ shape-put_top digest layer p m
-    ∙ rw (sym h, r) (put_root-same digest layer p path),
-    shapes-put_top digest layer p m
-    ∙ rw (sym h, r) (put_written-same digest layer p path))
+    let r = ap (map (shape digest)) gone in (
+      ap (shape digest) (sym (put-is_top layer p es s))
+          ∙ shape-put_top digest layer p m
+          ∙ rw (sym h, r) (put_root-same digest layer p path),
+      shapes-put_top digest layer p m
+          ∙ rw (sym h, r) (put_written-same digest layer p path),
+    )
 
 pub put-counts : PutCounts
 put-counts layer p m = (put_top-gone layer p m, put_top-made layer p m)
@@ -73,8 +69,10 @@ pub edit-shapes : (digest : List ℕ → List ℕ) (bits : ℕ) (es fs : List Pa
     → ((b : List ℕ) → Contains (map (node_bytes digest) made) b → Contains (nodes digest bits fs) b)
     → (IsClashFree digest (map (node_bytes digest) made ++ map (node_bytes digest) read)
     → AreChanges digest (nodes digest bits es) (nodes digest bits fs) (map (node_bytes digest) read)
-    (add_of digest (map (node_bytes digest) read) (map (node_bytes digest) made)) (drop_of digest (map (node_bytes digest) made) (map (node_bytes digest) gone)))
-    → IsEdit digest bits es fs (shape digest (top (layer digest bits) fs)) (map (shape digest) read) (map (shape digest) gone) (map (shape digest) made)
+    (add_of digest (map (node_bytes digest) read) (map (node_bytes digest) made))
+    (drop_of digest (map (node_bytes digest) made) (map (node_bytes digest) gone)))
+    → IsEdit digest bits es fs (shape digest (top (layer digest bits) fs)) (map (shape digest) read)
+    (map (shape digest) gone) (map (shape digest) made)
 edit-shapes digest bits es fs read gone made old new changed =
     let r = map-two shape_bytes (shape digest) read in
     let g = map-two shape_bytes (shape digest) gone in
@@ -86,8 +84,10 @@ edit-shapes digest bits es fs read gone made old new changed =
       changes = rw (r, g, m) changed;
     }
 
-pub edit-moved : (digest : List ℕ → List ℕ) (bits : ℕ) (es fs : List Pair) (s t : Shape) (read read' gone gone' made made' : List Shape)
-    → s ≡ t → read ≡ read' → gone ≡ gone' → made ≡ made' → IsEdit digest bits es fs s read gone made → IsEdit digest bits es fs t read' gone' made'
+pub edit-moved : (digest : List ℕ → List ℕ) (bits : ℕ) (es fs : List Pair) (s t : Shape)
+    (read read' gone gone' made made' : List Shape)
+    → s ≡ t → read ≡ read' → gone ≡ gone' → made ≡ made' → IsEdit digest bits es fs s read gone made
+    → IsEdit digest bits es fs t read' gone' made'
 edit-moved digest bits es fs s t read read' gone gone' made made' a b c d e =
     subst (λ x. IsEdit digest bits es fs t read' gone' x) d
     (subst (λ x. IsEdit digest bits es fs t read' x made) c
@@ -96,10 +96,12 @@ edit-moved digest bits es fs s t read read' gone gone' made made' a b c d e =
 
 -- ---- put, over a source
 
-put-edit : (digest : List ℕ → List ℕ) (bits : ℕ) → ((bytes : List ℕ) → length (digest bytes) ≡ 32) → (p : Pair) (es : List Pair) → ArePairs es → IsClashFree digest (nodes digest bits es)
+put-edit : (digest : List ℕ → List ℕ) (bits : ℕ) → IsDigest digest → (p : Pair) (es : List Pair) → ArePairs es
+    → IsClashFree digest (nodes digest bits es)
     → let lay = layer digest bits in
     let gone = map (shape digest) (put_top_gone lay p (top lay es)) in
-    IsEdit digest bits es (put_pair p es) (shape digest (top lay (put_pair p es))) gone gone (map (shape digest) (put_top_made lay p (top lay es)))
+    IsEdit digest bits es (put_pair p es) (shape digest (top lay (put_pair p es))) gone gone
+    (map (shape digest) (put_top_made lay p (top lay es)))
 put-edit digest bits fits p es are free =
     let lay = layer digest bits in
     let m = top lay es in
@@ -107,7 +109,8 @@ put-edit digest bits fits p es are free =
     let made = put_top_made lay p m in
     edit-shapes digest bits es (put_pair p es) gone gone made
     (read-stands digest bits es gone (λ b k. let i = put_top-old (marked (node_bytes digest) b) lay p m in omega arith))
-    (made-stands digest bits es (put_pair p es) made gone (λ w. put-balance lay w p es (ascending-sorted es are.sorted)) (λ w. put_top-old w lay p m))
+    (made-stands digest bits es (put_pair p es) made gone
+    (λ w. put-balance lay w p es (ascending-sorted es are.sorted)) (λ w. put_top-old w lay p m))
     (put-changes digest bits fits p es are free)
 
 pub put-over_source : PutOverSource
@@ -122,10 +125,12 @@ put-over_source digest bits fits gives n p es are has l =
     let made = shapes.1 ∙ ap (put_written digest lay p) (sym path) in
     let e = put-edit digest bits fits p es are (free-source digest bits gives es has) in
     let f = subst
-    (λ fs. IsEdit digest bits es fs (shape digest (top lay fs)) (map (shape digest) (put_top_gone lay p m)) (map (shape digest) (put_top_gone lay p m)) (map (shape digest) (put_top_made lay p m)))
+    (λ fs. IsEdit digest bits es fs (shape digest (top lay fs)) (map (shape digest) (put_top_gone lay p m))
+    (map (shape digest) (put_top_gone lay p m)) (map (shape digest) (put_top_made lay p m)))
     (sym (put-is p es)) e in
     record {
       edit = edit-moved digest bits es (with_key es p.0 p.1) _ _ _ _ _ _ _ _ new_top read read made f;
+      read_count = (lookup-over_source digest bits fits gives n p.0 es are has l).count;
       made_count =
           let c = put_top-made lay p m in
           let d = length-map (put_top_made lay p m) (shape digest) in
