@@ -55,7 +55,11 @@ impl<D: Digest, A: Allocator> Entry<D, A> {
     }
 
     /// Enters the core, where the block has the same bytes.
-    pub fn enter(&mut self, core: u32, block: Arc<Block<D, A>, A>) -> Result<Hold<D, A>, StoreFault<D, A>>
+    pub fn enter(
+        &mut self,
+        core: u32,
+        block: Arc<Block<D, A>, A>,
+    ) -> Result<Hold<D, A>, StoreFault<D, A>>
         requires small { core < 1024 }
         requires cid { cid_of D.digest_of (arc_value block) ≡ cid_of D.digest_of self.old.0 }
         ensures hold { IfOk result (λ h. h ≡ (arc_value block, core)) }

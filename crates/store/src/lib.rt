@@ -15,3 +15,6 @@ pub use fault::StoreFault;
 pub use hold::Hold;
 pub use shard::Shard;
 pub use shards::{SHARDS, Shards, shard_number};
+
+#[cfg(test)]
+mod tests;

@@ -95,7 +95,11 @@ impl<D: Digest, A: Allocator + Clone> Shard<D, A> {
     /// `StoreFault::Collision` shows the given and the held block where other bytes are held under the CID,
     /// `StoreFault::Full` comes only where the block is new and there are `limit` blocks, and `StoreFault::NoMemory`
     /// where memory was refused. After a refusal nothing has changed.
-    pub fn acquire(&mut self, core: u32, block: Arc<Block<D, A>, A>) -> Result<Hold<D, A>, StoreFault<D, A>>
+    pub fn acquire(
+        &mut self,
+        core: u32,
+        block: Arc<Block<D, A>, A>,
+    ) -> Result<Hold<D, A>, StoreFault<D, A>>
         requires { core < 1024 }
         ensures hold { IfOk result (λ h. h ≡ (arc_value block, core)) }
         ensures same_bytes { OnOk result (HasNoOther self.old (cid_of D.digest_of (arc_value block)) (arc_value block)) }

@@ -13,7 +13,7 @@ invariant_of-self g c =
     let w = c.get_mut.follows.holds c.leave.new.self in
     let put : Updated es (c.get_mut.follows.lender c.leave.new.self).entries k (Some c.leave.new.self) = (w.3 (rw here refl)).0 in
     lawful_taken g.D.Digest.digest_of es _ c.self.inside.limit k c.self.invariant
-      (put_then_cut es _ c.remove.new.self.entries k c.leave.new.self put c.remove.ensures.updates.0)
+    (put_then_cut es _ c.remove.new.self.entries k c.leave.new.self put c.remove.ensures.updates.0)
 
 pub returns-then-leave : goal.returns-then-leave
 returns-then-leave g c =
@@ -24,8 +24,8 @@ returns-then-leave g c =
     let put : Updated es (c.get_mut.follows.lender c.leave.new.self).entries k (Some c.leave.new.self) = (w.3 (rw here refl)).0 in
     let name : k ≡ cid_of g.D.Digest.digest_of (arc_value c.hold.inside.block) = c.cid-cid.ensures ∙ ap (cid_of g.D.Digest.digest_of) c.deref.ensures in
     left_view_last es _ c.self.inside.limit k c.hold.inside.core c.in-Some.entry.now here
-      (put_then_cut es _ c.remove.new.self.entries k c.leave.new.self put c.remove.ensures.updates.0)
-      (sym c.leave.ensures.last ∙ c.if-leave.true)
+    (put_then_cut es _ c.remove.new.self.entries k c.leave.new.self put c.remove.ensures.updates.0)
+    (sym c.leave.ensures.last ∙ c.if-leave.true)
     ∙ ap (λ (t : Table). left t k c.hold.inside.core) c.self.view_is
     ∙ ap (λ (x : List ℕ). left c.args.self.now x c.hold.inside.core) name
     ∙ ap (λ (h : List ℕ × ℕ). left c.args.self.now (cid_of g.D.Digest.digest_of h.0) h.1) c.hold.view_is
@@ -37,10 +37,10 @@ invariant_of-self-else-leave g c =
     let here : at es k ≡ Some c.in-Some.entry.now = sym c.in-Some.ensures.value in
     let w = c.get_mut.follows.holds c.leave.new.self in
     lawful_changed g.D.Digest.digest_of es _ c.self.inside.limit k c.in-Some.entry.now c.leave.new.self c.self.invariant here
-      (subst (IsEntry g.D.Digest.digest_of k) (sym c.leave.ensures.left)
-        (entry_left g.D.Digest.digest_of k c.in-Some.entry.now c.hold.inside.core (sym c.leave.ensures.last ∙ c.if-leave.false)
-          (lawful_at g.D.Digest.digest_of es c.self.inside.limit k c.in-Some.entry.now c.self.invariant here)))
-      ((w.3 (rw here refl)).0)
+    (subst (IsEntry g.D.Digest.digest_of k) (sym c.leave.ensures.left)
+    (entry_left g.D.Digest.digest_of k c.in-Some.entry.now c.hold.inside.core (sym c.leave.ensures.last ∙ c.if-leave.false)
+    (lawful_at g.D.Digest.digest_of es c.self.inside.limit k c.in-Some.entry.now c.self.invariant here)))
+    ((w.3 (rw here refl)).0)
 
 pub returns-in-Some : goal.returns-in-Some
 returns-in-Some g c =
@@ -51,8 +51,8 @@ returns-in-Some g c =
     let put : Updated es (c.get_mut.follows.lender c.leave.new.self).entries k (Some c.leave.new.self) = (w.3 (rw here refl)).0 in
     let name : k ≡ cid_of g.D.Digest.digest_of (arc_value c.hold.inside.block) = c.cid-cid.ensures ∙ ap (cid_of g.D.Digest.digest_of) c.deref.ensures in
     left_view_some es _ c.self.inside.limit k c.hold.inside.core c.in-Some.entry.now here
-      (subst (λ (x : Held). Updated es (c.get_mut.follows.lender c.leave.new.self).entries k (Some x)) c.leave.ensures.left put)
-      (sym c.leave.ensures.last ∙ c.if-leave.false)
+    (subst (λ (x : Held). Updated es (c.get_mut.follows.lender c.leave.new.self).entries k (Some x)) c.leave.ensures.left put)
+    (sym c.leave.ensures.last ∙ c.if-leave.false)
     ∙ ap (λ (t : Table). left t k c.hold.inside.core) c.self.view_is
     ∙ ap (λ (x : List ℕ). left c.args.self.now x c.hold.inside.core) name
     ∙ ap (λ (h : List ℕ × ℕ). left c.args.self.now (cid_of g.D.Digest.digest_of h.0) h.1) c.hold.view_is
