@@ -1,5 +1,5 @@
 -- Lawful lists and maps, item by item.
-use Rattle.std.proofs.Common.{◌≡◌, ℕ, zero, suc, ◌+◌, ◌-◌, ◌*◌, ◌^◌, lit<, ◌<◌, ◌≤◌, ◌++◌, append_assoc, Bool, true, false, cond, ◌&&◌, ltb, List, [], ◌∷◌, length, drop, get_or, Option, Some, None, Vec, refl, sym, ap, ◌∙◌, arith, rules}
+use Rattle.std.proofs.Common.{◌≡◌, ℕ, zero, suc, ◌+◌, ◌-◌, ◌^◌, lit<, ◌<◌, ◌≤◌, ◌++◌, append_assoc, Bool, true, false, cond, ◌&&◌, ltb, List, [], ◌∷◌, length, drop, get_or, Option, Some, None, Vec, refl, sym, ap, ◌∙◌, arith, rules}
 use Rattle.std.specs.Borrow.{Bor}
 use Rattle.std.specs.Str.{is_utf8}
 use Rattle.std.proofs.lemmas.List.{at_drop_more, append-nil, drop_all, length-append}

@@ -3,7 +3,7 @@ use Rattle.std.proofs.Common.{◌≡◌, ℕ, List, Option, Some, None, Result, 
 use Rattle.std.specs.Prelude.{IsSome}
 use Rattle.spec.specs.Reading.{Fails}
 use Rattle.spec.specs.Head.{CborFault}
-use Rattle.spec.specs.DagCbor.{Value, spelling, is_lawful, read}
+use Rattle.spec.specs.DagCbor.{Value, read}
 use Rattle.spec.proofs.DagCborLaws.{read-spelling}
 use Rattle.dagcbor.specs.Refused.{HasNoValue}
 

@@ -10,6 +10,7 @@ ghost use Rattle.dagcbor.specs.Fault.{fault_of};
 use crate::fault::CborFault;
 
 /// An argument of 1, 2, 4 or 8 bytes, and the bytes after it.
+#[inline(never)]
 fn long_argument(low: u8, bytes: &[u8]) -> Result<(u64, &[u8]), CborFault>
     requires lower { 24 ≤ low }
     requires upper { low ≤ 27 }
@@ -62,6 +63,7 @@ fn long_argument(low: u8, bytes: &[u8]) -> Result<(u64, &[u8]), CborFault>
 }
 
 /// The argument that the low five bits of a first byte say, and the bytes after it.
+#[inline(always)]
 fn argument(low: u8, bytes: &[u8]) -> Result<(u64, &[u8]), CborFault>
     ensures read { Gives (λ x. (x.0, x.1.now)) fault_of result (argument_at low bytes.now) }
     ensures no_longer { IfOk result (λ x. length x.1.now ≤ length bytes.now) }
@@ -78,6 +80,7 @@ fn argument(low: u8, bytes: &[u8]) -> Result<(u64, &[u8]), CborFault>
 }
 
 /// A simple value's number, which is false's, true's or null's, and the bytes after it.
+#[inline]
 fn simple(low: u8, bytes: &[u8]) -> Result<(u64, &[u8]), CborFault>
     ensures read { Gives (λ x. (x.0, x.1.now)) fault_of result (simple_at low bytes.now) }
     ensures no_longer { IfOk result (λ x. length x.1.now ≤ length bytes.now) }
@@ -92,6 +95,7 @@ fn simple(low: u8, bytes: &[u8]) -> Result<(u64, &[u8]), CborFault>
 
 /// A head at the front: its major type and its argument, and the bytes after it.
 #[tactic(auto, unfolding(spec::specs::Head::head_at))]
+#[inline(always)]
 pub(crate) fn head(bytes: &[u8]) -> Result<((u8, u64), &[u8]), CborFault>
     ensures read { Gives (λ x. (x.0, x.1.now)) fault_of result (head_at bytes.now) }
     ensures no_longer { IfOk result (λ x. length x.1.now ≤ length bytes.now) }
@@ -110,6 +114,7 @@ pub(crate) fn head(bytes: &[u8]) -> Result<((u8, u64), &[u8]), CborFault>
 }
 
 /// The first `n` bytes and the others, or `Truncated` where there are fewer.
+#[inline]
 pub(crate) fn front(n: u64, bytes: &[u8]) -> Result<(&[u8], &[u8]), CborFault>
     ensures { Gives (λ x. (x.0.now, x.1.now)) fault_of result (front Truncated n bytes.now) }
 {

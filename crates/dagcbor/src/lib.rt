@@ -19,3 +19,6 @@ pub use lawful::is_lawful;
 pub use reading::read;
 pub use value::Value;
 pub use writing::{push_head, write};
+
+#[cfg(test)]
+mod tests;

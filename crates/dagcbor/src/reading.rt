@@ -46,20 +46,20 @@ fn key<'a>(before: Option<&str>, bytes: &'a [u8]) -> Result<(&'a str, &'a [u8]),
 fn unsigned(n: u64, bytes: &[u8]) -> Result<(i64, &[u8]), CborFault>
     ensures { Gives (λ x. (Integer x.0, x.1.now)) fault_of result (integer_of pos n bytes.now) }
 {
-    if n >= 1 << 63 {
-        return Err(CborFault::IntegerRange);
+    match i64::try_from(n) {
+        Ok(z) => Ok((z, bytes)),
+        Err(_) => Err(CborFault::IntegerRange),
     }
-    Ok((n as i64, bytes))
 }
 
 /// The whole number -1 - n, and the bytes after its head.
 fn negative(n: u64, bytes: &[u8]) -> Result<(i64, &[u8]), CborFault>
     ensures { Gives (λ x. (Integer x.0, x.1.now)) fault_of result (integer_of negsuc n bytes.now) }
 {
-    if n >= 1 << 63 {
-        return Err(CborFault::IntegerRange);
+    match i64::try_from(n) {
+        Ok(z) => Ok((-1 - z, bytes)),
+        Err(_) => Err(CborFault::IntegerRange),
     }
-    Ok((-1 - n as i64, bytes))
 }
 
 /// The simple value of this number: 20 is false, 21 is true, and 22 is null.

@@ -4,7 +4,7 @@ use std::alloc::{Allocator, Global};
 
 /// A value of the data model (IPLD DAG-CBOR; AT Protocol data model, which has no floats). Its bytes and texts are lent: those
 /// of a value that was read are slices of what it was read from.
-#[derive(Drop)]
+#[derive(Debug, Drop)]
 pub enum Value<'a, A: Allocator = Global> {
     Null,
     Bool(bool),

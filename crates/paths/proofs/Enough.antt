@@ -1,9 +1,9 @@
 -- What is read in a tree of n layers is the same for each bound from n on.
 use Rattle.std.proofs.Common.{◌≡◌, ℕ, zero, suc, ◌≤◌, List, [], ◌∷◌, refl, ap, arith}
-use Rattle.spec.specs.Tree.{Node, Part, Last, More, Nothing, Sub}
+use Rattle.spec.specs.Tree.{Part, Last, More, Nothing, Sub}
 use Rattle.paths.specs.TreeEdit.{first, locate, find, answer}
 use Rattle.paths.specs.Trace.{beside, find_path, last_part, merge_pairs, prune_path}
-use Rattle.paths.proofs.Weights.{IsWithin, within-rest, within-last, within-first}
+use Rattle.paths.proofs.Within.{IsWithin, within-rest, within-last}
 
 pub find-enough : (n m : ℕ) (key : List ℕ) (p : Part) → n ≤ m → IsWithin n p → find m key p ≡ find n key p
 find-enough zero zero key Nothing l w = refl
@@ -15,7 +15,8 @@ find-enough (suc n) (suc m) key (Sub k) l w =
     let h = (locate key k).here in
     ap (λ x. answer key x h) (find-enough n m key (first h) (omega arith) (within-rest n key k w))
 
-pub find_path-enough : (n m : ℕ) (key : List ℕ) (p : Part) → n ≤ m → IsWithin n p → find_path m key p ≡ find_path n key p
+pub find_path-enough : (n m : ℕ) (key : List ℕ) (p : Part) → n ≤ m → IsWithin n p
+    → find_path m key p ≡ find_path n key p
 find_path-enough zero zero key Nothing l w = refl
 find_path-enough zero (suc m) key Nothing l w = refl
 find_path-enough zero m key (Sub k) l w = absurd w

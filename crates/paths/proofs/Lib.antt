@@ -1,40 +1,51 @@
+-- In the order in which they are best read.
+-- ---- keys and lists of pairs
+pub mod Orders
+pub mod EachPair
+pub mod Around
+pub mod RecordMaps
+-- ---- an edit of a tree is the tree from scratch
 pub mod Cut
 pub mod Groups
 pub mod Split
-pub mod Orders
-pub mod Around
 pub mod Places
 pub mod Edits
 pub mod Tops
-pub mod OrderKept
-pub mod Weights
-pub mod Counts
-pub mod Within
-pub mod NodesOnce
 pub mod Settle
+-- ---- which nodes are read and made, and how many
+pub mod Within
+pub mod Weights
 pub mod Gone
-pub mod Balance
+pub mod Counts
+pub mod Traces
+pub mod Enough
+pub mod PathIsRead
+pub mod PathReads
+-- ---- walks
+pub mod WalkPairs
+pub mod WalkReads
+-- ---- the same from shapes
 pub mod ShapeBridges
-pub mod Examples
 pub mod PutTopShapes
 pub mod DeleteShapes
 pub mod SettleShapes
 pub mod DeleteTopShapes
-pub mod PathIsRead
-pub mod Lists
-pub mod Changes
-pub mod RecordMaps
-pub mod BlockChanges
-pub mod WalkPairs
-pub mod WalkReads
-pub mod Enough
 pub mod PathForms
-pub mod PathReads
+-- ---- the same over a source
 pub mod SourceLaws
 pub mod DeleteSource
 pub mod OverSource
+-- ---- which blocks come and go
+pub mod Lists
+pub mod Changes
+pub mod NodesOnce
+pub mod Balance
+pub mod BlockChanges
+-- ---- the laws
 pub mod LookupTheorems
+pub mod WalkRanges
 pub mod WalkTheorems
-pub mod EditTheorems
+pub mod PutTheorems
 pub mod DeleteTheorems
 pub mod RecordTheorems
+pub mod Examples

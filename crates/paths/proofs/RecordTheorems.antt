@@ -1,7 +1,7 @@
 -- A record map and the pairs of its tree go together.
-use Rattle.std.proofs.Common.{◌≡◌, ℕ, List, not}
+use Rattle.std.proofs.Common.{not}
 use Rattle.std.specs.Str.{bytes_eq}
-use Rattle.paths.specs.RecordLaws.{PutIsWrite, DeleteIsWrite}
+use Rattle.paths.specs.Laws.Records.{PutIsWrite, DeleteIsWrite}
 use Rattle.paths.proofs.RecordMaps.{pairs-put, pairs-filter}
 
 pub put-is_write : PutIsWrite

@@ -5,27 +5,30 @@ use Rattle.spec.specs.NodeFormat.{Shape, LastLink, part_link, shape}
 use Rattle.paths.specs.TreeEdit.{first, merge, prune, settle}
 use Rattle.paths.specs.Trace.{last_part, merge_pairs, settle_made, settle_left, prune_path}
 use Rattle.paths.specs.ShapeEdit.{last_shape, settle_links, settle_shape, settle_shapes}
-use Rattle.paths.proofs.Weights.{IsWithin, AllWithin, within-first, within-last}
+use Rattle.paths.proofs.Within.{IsWithin, AllWithin, within-first, within-last}
 use Rattle.paths.proofs.ShapeBridges as bridge
 
 module _ (digest : List ℕ → List ℕ) where
   -- ---- pruning
 
-  last-same : (n : ℕ) (m : Node) (s : Shape) → AllWithin n m → last_shape s (map (shape digest) (prune_path n (Sub m))) ≡ shape digest (prune n m)
+  last-same : (n : ℕ) (m : Node) (s : Shape) → AllWithin n m
+      → last_shape s (map (shape digest) (prune_path n (Sub m))) ≡ shape digest (prune n m)
   last-same zero m s h = refl
   last-same (suc n) (Last Nothing) s h = refl
   last-same (suc n) (Last (Sub m)) s h = last-same n m (shape digest (Last (Sub m))) h
   last-same (suc n) (More p e r) s h = refl
 
   -- what pruning leaves is the last node at which it looks
-  pub shape-prune : (n : ℕ) (m : Node) → AllWithin n m → last_shape (LastLink None) (map (shape digest) (prune_path n (Sub m))) ≡ shape digest (prune n m)
+  pub shape-prune : (n : ℕ) (m : Node) → AllWithin n m
+      → last_shape (LastLink None) (map (shape digest) (prune_path n (Sub m))) ≡ shape digest (prune n m)
   shape-prune n m h = last-same n m (LastLink None) h
 
   -- ---- the top
 
   -- the link at which pruning begins
   pub links-settle : (n : ℕ) (p q : Part) → IsWithin n p → IsWithin n q
-      → settle_links (part_link digest p) (part_link digest q) (map (bridge.two_shapes digest) (merge_pairs n p q)) ≡ part_link digest (settle_left n p q).1
+      → settle_links (part_link digest p) (part_link digest q) (map (bridge.two_shapes digest) (merge_pairs n p q))
+      ≡ part_link digest (settle_left n p q).1
   links-settle zero Nothing Nothing h k = refl
   links-settle zero Nothing (Sub m) h k = absurd k
   links-settle zero (Sub m) q h k = absurd h
@@ -37,7 +40,9 @@ module _ (digest : List ℕ → List ℕ) where
 
   pub shape-settle : (n : ℕ) (p q : Part) → IsWithin n p → IsWithin n q
       → let left = settle_left n p q in
-      settle_shape digest (part_link digest p) (part_link digest q) (map (bridge.two_shapes digest) (merge_pairs n p q)) (map (shape digest) (prune_path left.0 left.1)) ≡ shape digest (settle n p q)
+      settle_shape digest (part_link digest p) (part_link digest q)
+      (map (bridge.two_shapes digest) (merge_pairs n p q)) (map (shape digest) (prune_path left.0 left.1))
+      ≡ shape digest (settle n p q)
   shape-settle zero Nothing Nothing h k = refl
   shape-settle zero Nothing (Sub m) h k = absurd k
   shape-settle zero (Sub m) q h k = absurd h
@@ -55,7 +60,8 @@ module _ (digest : List ℕ → List ℕ) where
       ) refl
 
   pub shapes-settle : (n : ℕ) (p q : Part) → IsWithin n p → IsWithin n q
-      → settle_shapes digest (part_link digest p) (part_link digest q) (map (bridge.two_shapes digest) (merge_pairs n p q)) ≡ map (shape digest) (settle_made n p q)
+      → settle_shapes digest (part_link digest p) (part_link digest q)
+      (map (bridge.two_shapes digest) (merge_pairs n p q)) ≡ map (shape digest) (settle_made n p q)
   shapes-settle zero Nothing Nothing h k = refl
   shapes-settle zero Nothing (Sub m) h k = absurd k
   shapes-settle zero (Sub m) q h k = absurd h
@@ -63,5 +69,7 @@ module _ (digest : List ℕ → List ℕ) where
   shapes-settle (suc n) Nothing (Sub m) h k = refl
   shapes-settle (suc n) (Sub m) Nothing h k = refl
   shapes-settle (suc n) (Sub (Last p)) (Sub (Last q)) h k = shapes-settle n p q h k
-  shapes-settle (suc n) (Sub (Last p)) (Sub (More q e r)) h k = bridge.shapes-merge digest (suc n) (Sub (Last p)) (Sub (More q e r)) h k
-  shapes-settle (suc n) (Sub (More p e r)) (Sub m) h k = bridge.shapes-merge digest (suc n) (Sub (More p e r)) (Sub m) h k
+  shapes-settle (suc n) (Sub (Last p)) (Sub (More q e r)) h k =
+      bridge.shapes-merge digest (suc n) (Sub (Last p)) (Sub (More q e r)) h k
+  shapes-settle (suc n) (Sub (More p e r)) (Sub m) h k =
+      bridge.shapes-merge digest (suc n) (Sub (More p e r)) (Sub m) h k

@@ -12,50 +12,9 @@ use Rattle.paths.specs.Pairs.{Each, IsBefore, IsAfter, Ascending}
 use Rattle.paths.specs.TreeEdit.{first, locate, further}
 use Rattle.paths.specs.Trace.{beside, find_path}
 use Rattle.paths.specs.Walk.{from_here, start, Frame, later, go_down, next, walk}
-use Rattle.paths.proofs.Orders.{after-trans, turned, turned_back, after-same, order-equal, order-total}
-use Rattle.paths.proofs.PathIsRead.{order-is}
-use Rattle.paths.proofs.Weights.{IsWithin, AllWithin, within-first, within-locate}
-
--- ---- lists in order
-
-pub before-trans : (x y key : List ℕ) → order x y ≡ Less → order y key ≡ Less → order x key ≡ Less
-before-trans x y key h k = order-total.trans x y key h k
-
--- what stands before and after a pair of an ascending list
-pub record Halves (xs : List Pair) (e : Pair) (ys : List Pair) : Type 0 where
-  pub before : Each (IsBefore e.0) xs
-  pub after : Each (IsAfter e.0) ys
-  pub front : Ascending xs
-  pub back : Ascending ys
-
-each-parts : (P : Pair → Type 0) (xs ys : List Pair) → Each P (xs ++ ys) → Each P xs × Each P ys
-each-parts P [] ys h = (tt, h)
-each-parts P (x ∷ xs) ys h = let i = each-parts P xs ys h.1 in ((h.0, i.0), i.1)
-
-pub each-left : (P : Pair → Type 0) (xs ys : List Pair) → Each P (xs ++ ys) → Each P xs
-each-left P xs ys h = (each-parts P xs ys h).0
-
-pub each-right : (P : Pair → Type 0) (xs ys : List Pair) → Each P (xs ++ ys) → Each P ys
-each-right P xs ys h = (each-parts P xs ys h).1
-
-pub each-both : (P : Pair → Type 0) (xs ys : List Pair) → Each P xs → Each P ys → Each P (xs ++ ys)
-each-both P [] ys h k = k
-each-both P (x ∷ xs) ys h k = (h.0, each-both P xs ys h.1 k)
-
-pub each-map : (P Q : Pair → Type 0) (es : List Pair) → ((e : Pair) → P e → Q e) → Each P es → Each Q es
-each-map P Q [] f h = tt
-each-map P Q (e ∷ es) f h = (f e h.0, each-map P Q es f h.1)
-
-pub halves : (xs : List Pair) (e : Pair) (ys : List Pair) → Ascending (xs ++ e ∷ ys) → Halves xs e ys
-halves [] e ys h = record { before = tt; after = h.0; front = tt; back = h.1 }
-halves (x ∷ xs) e ys h =
-    let i = halves xs e ys h.1 in
-    let a = each-parts (IsAfter x.0) xs (e ∷ ys) h.0 in
-    record { before = (turned e.0 x.0 a.1.0, i.before); after = i.after; front = (a.0, i.front); back = i.back }
-
-pub ascending-parts : (xs ys : List Pair) → Ascending (xs ++ ys) → Ascending xs × Ascending ys
-ascending-parts [] ys h = (tt, h)
-ascending-parts (x ∷ xs) ys h = let i = ascending-parts xs ys h.1 in ((each-left (IsAfter x.0) xs ys h.0, i.0), i.1)
+use Rattle.paths.proofs.EachPair.{each-both, each-left, each-right, each-map, each-parts, Halves, halves, ascending-parts}
+use Rattle.paths.proofs.Orders.{after-trans, after-same, order-equal, order-is, before-trans}
+use Rattle.paths.proofs.Within.{IsWithin, AllWithin, within-first, within-locate, within-under-up}
 
 -- ---- the pairs from a key on
 
@@ -79,30 +38,36 @@ pub all-from : (from : List ℕ) (es : List Pair) → Each (IsFrom from) es → 
 all-from from [] h = refl
 all-from from (e ∷ es) h = rw h.0 (ap (λ t. e ∷ t) (all-from from es h.1))
 
-filter-first : (from : List ℕ) (e : Pair) (tail : List Pair) (b : Bool) → is_from from e ≡ b → Each (IsFrom from) tail → Each (IsFrom from) (cond b (e ∷ tail) tail)
+filter-first : (from : List ℕ) (e : Pair) (tail : List Pair) (b : Bool) → is_from from e ≡ b
+    → Each (IsFrom from) tail → Each (IsFrom from) (cond b (e ∷ tail) tail)
 filter-first from e tail true q h = (q, h)
 filter-first from e tail false q h = h
 
 pub filtered-from : (from : List ℕ) (es : List Pair) → Each (IsFrom from) (filter (is_from from) es)
 filtered-from from [] = tt
-filtered-from from (e ∷ es) = filter-first from e (filter (is_from from) es) (is_from from e) refl (filtered-from from es)
+filtered-from from (e ∷ es) =
+    filter-first from e (filter (is_from from) es) (is_from from e) refl (filtered-from from es)
 
-each-first : (P : Pair → Type 0) (e : Pair) (tail : List Pair) (b : Bool) → P e → Each P tail → Each P (cond b (e ∷ tail) tail)
+each-first : (P : Pair → Type 0) (e : Pair) (tail : List Pair) (b : Bool) → P e → Each P tail
+    → Each P (cond b (e ∷ tail) tail)
 each-first P e tail true h k = (h, k)
 each-first P e tail false h k = k
 
 each-filter : (P : Pair → Type 0) (from : List ℕ) (es : List Pair) → Each P es → Each P (filter (is_from from) es)
 each-filter P from [] h = tt
-each-filter P from (e ∷ es) h = each-first P e (filter (is_from from) es) (is_from from e) h.0 (each-filter P from es h.1)
+each-filter P from (e ∷ es) h =
+    each-first P e (filter (is_from from) es) (is_from from e) h.0 (each-filter P from es h.1)
 
-ascending-first_kept : (e : Pair) (tail : List Pair) (b : Bool) → Each (IsAfter e.0) tail → Ascending tail → Ascending (cond b (e ∷ tail) tail)
+ascending-first_kept : (e : Pair) (tail : List Pair) (b : Bool) → Each (IsAfter e.0) tail → Ascending tail
+    → Ascending (cond b (e ∷ tail) tail)
 ascending-first_kept e tail true h k = (h, k)
 ascending-first_kept e tail false h k = k
 
 pub ascending-filter : (from : List ℕ) (es : List Pair) → Ascending es → Ascending (filter (is_from from) es)
 ascending-filter from [] h = tt
 ascending-filter from (e ∷ es) h =
-    ascending-first_kept e (filter (is_from from) es) (is_from from e) (each-filter (IsAfter e.0) from es h.0) (ascending-filter from es h.1)
+    ascending-first_kept e (filter (is_from from) es) (is_from from e) (each-filter (IsAfter e.0) from es h.0)
+    (ascending-filter from es h.1)
 
 -- ---- what is left of a node
 
@@ -123,14 +88,17 @@ pub later-pairs : (m : Node) (stack : List Frame) → stack_pairs (later m stack
 later-pairs (Last p) stack = refl
 later-pairs (More p e r) stack = refl
 
-all_before : (from key : List ℕ) (es : List Pair) → Each (IsBefore key) es → order key from ≡ Less → Each (IsBefore from) es
+all_before : (from key : List ℕ) (es : List Pair) → Each (IsBefore key) es → order key from ≡ Less
+    → Each (IsBefore from) es
 all_before from key es h k = each-map (IsBefore key) (IsBefore from) es (λ e b. before-trans e.0 key from b k) h
 
 all_before_same : (from key : List ℕ) (es : List Pair) → Each (IsBefore key) es → key ≡ from → Each (IsBefore from) es
 all_before_same from key es h k = subst (λ x. Each (IsBefore x) es) k h
 
-start-further : (from : List ℕ) (p : Part) (e : Pair) (r : Node) (o : Ordering) → order e.0 from ≡ o → Halves (pairs_in p) e (pairs_under r)
-    → filter (is_from from) (pairs_under r) ≡ filter (is_from from) (pairs_in (first (start from r))) ++ rest_pairs (start from r)
+start-further : (from : List ℕ) (p : Part) (e : Pair) (r : Node) (o : Ordering) → order e.0 from ≡ o
+    → Halves (pairs_in p) e (pairs_under r)
+    → filter (is_from from) (pairs_under r)
+    ≡ filter (is_from from) (pairs_in (first (start from r))) ++ rest_pairs (start from r)
     → let h = from_here from (further o p e r (locate from r)).here in
     filter (is_from from) (pairs_in p ++ e ∷ pairs_under r) ≡ filter (is_from from) (pairs_in (first h)) ++ rest_pairs h
 start-further from p e r Less q h i =
@@ -142,36 +110,26 @@ start-further from p e r Equal q h i =
       none-before from (pairs_in p) (all_before_same from e.0 (pairs_in p) h.before (order-equal e.0 from q)),
       from-order from e Equal q,
       q,
-      all-from from (pairs_under r) (each-map (IsAfter e.0) (IsFrom from) (pairs_under r) (λ f a. from-after from e.0 f a q) h.after),
+      all-from from (pairs_under r)
+          (each-map (IsAfter e.0) (IsFrom from) (pairs_under r) (λ f a. from-after from e.0 f a q) h.after),
     ) refl
 start-further from p e r Greater q h i =
     filter-append (is_from from) (pairs_in p) (e ∷ pairs_under r)
     ∙ rw (
       from-order from e Greater q,
       q,
-      all-from from (pairs_under r) (each-map (IsAfter e.0) (IsFrom from) (pairs_under r) (λ f a. from-later from e.0 f a q) h.after),
+      all-from from (pairs_under r)
+          (each-map (IsAfter e.0) (IsFrom from) (pairs_under r) (λ f a. from-later from e.0 f a q) h.after),
     ) refl
 
 -- the pairs from a key on are those of the first subtree that is left, and all others that are left
 pub start-pairs : (from : List ℕ) (m : Node) → Ascending (pairs_under m)
-    → filter (is_from from) (pairs_under m) ≡ filter (is_from from) (pairs_in (first (start from m))) ++ rest_pairs (start from m)
+    → filter (is_from from) (pairs_under m)
+    ≡ filter (is_from from) (pairs_in (first (start from m))) ++ rest_pairs (start from m)
 start-pairs from (Last p) h = sym (append-nil (filter (is_from from) (pairs_in p)))
 start-pairs from (More p e r) h =
     let s = halves (pairs_in p) e (pairs_under r) h in
     start-further from p e r (order e.0 from) refl s (start-pairs from r s.back)
-
--- ---- enough layers stay enough
-
-mutual
-  pub within-up : (n m : ℕ) (p : Part) → n ≤ m → IsWithin n p → IsWithin m p
-  within-up n m Nothing l h = tt
-  within-up zero m (Sub k) l h = absurd h
-  within-up (suc n) zero (Sub k) l h = absurd (omega arith)
-  within-up (suc n) (suc m) (Sub k) l h = within-under-up n m k (omega arith) h
-
-  pub within-under-up : (n m : ℕ) (k : Node) → n ≤ m → AllWithin n k → AllWithin m k
-  within-under-up n m (Last p) l h = within-up n m p l h
-  within-under-up n m (More p e r) l h = (within-up n m p l h.0, within-under-up n m r l h.1)
 
 -- ---- where a walk goes on
 
@@ -185,7 +143,8 @@ each-choice P Less p h = h
 each-choice P Equal p h = tt
 each-choice P Greater p h = h
 
-each-further : (P : Node → Type 0) (from : List ℕ) (o : Ordering) (p : Part) (e : Pair) (r : Node) → EachUnder P (More p e r) → EachUnder P (start from r)
+each-further : (P : Node → Type 0) (from : List ℕ) (o : Ordering) (p : Part) (e : Pair) (r : Node)
+    → EachUnder P (More p e r) → EachUnder P (start from r)
     → EachUnder P (from_here from (further o p e r (locate from r)).here)
 each-further P from Less p e r h i = i
 each-further P from Equal p e r h i = (each-choice P (order e.0 from) p h.0, h.1)
@@ -195,14 +154,16 @@ pub each-start : (P : Node → Type 0) (from : List ℕ) (m : Node) → EachUnde
 each-start P from (Last p) h = h
 each-start P from (More p e r) h = each-further P from (order e.0 from) p e r h (each-start P from r h.1)
 
-path-choice : (from : List ℕ) (n : ℕ) (o : Ordering) (p : Part) → if_equal o [] (find_path n from p) ≡ find_path n from (if_equal o Nothing p)
+path-choice : (from : List ℕ) (n : ℕ) (o : Ordering) (p : Part)
+    → if_equal o [] (find_path n from p) ≡ find_path n from (if_equal o Nothing p)
 path-choice from n Less p = refl
 path-choice from zero Equal p = refl
 path-choice from (suc n) Equal p = refl
 path-choice from n Greater p = refl
 
 -- a look-up goes on where the walk does
-pub path-start : (from : List ℕ) (n : ℕ) (h : Node) → beside from h (λ p q. []) (find_path n from (first h)) ≡ find_path n from (first (from_here from h))
+pub path-start : (from : List ℕ) (n : ℕ) (h : Node)
+    → beside from h (λ p q. []) (find_path n from (first h)) ≡ find_path n from (first (from_here from h))
 path-start from n (Last p) = refl
 path-start from n (More p e r) = path-choice from n (order e.0 from) p
 
@@ -213,7 +174,8 @@ abbrev pub IsReady : ℕ → List Frame → Type 0
 IsReady n [] = Unit {0}
 IsReady n (x ∷ xs) = AllWithin n x.1 × Ascending (pairs_under x.1) × IsReady n xs
 
-pub ready-later : (n : ℕ) (m : Node) (stack : List Frame) → AllWithin n m → Ascending (pairs_under m) → IsReady n stack → IsReady n (later m stack)
+pub ready-later : (n : ℕ) (m : Node) (stack : List Frame) → AllWithin n m → Ascending (pairs_under m)
+    → IsReady n stack → IsReady n (later m stack)
 ready-later n (Last p) stack w a h = h
 ready-later n (More p e r) stack w a h = (w.1, (halves (pairs_in p) e (pairs_under r) a).back, h)
 
@@ -229,7 +191,8 @@ within-start-here n from (More p e r) w = (within-choice n p (order e.0 from) w.
 pub within-start : (n : ℕ) (from : List ℕ) (m : Node) → AllWithin n m → AllWithin n (start from m)
 within-start n from m w = within-start-here n from (locate from m).here (within-locate n from m w)
 
-ascending-further : (from : List ℕ) (p : Part) (e : Pair) (r : Node) (o : Ordering) → order e.0 from ≡ o → Ascending (pairs_in p ++ e ∷ pairs_under r) → Ascending (pairs_under (start from r))
+ascending-further : (from : List ℕ) (p : Part) (e : Pair) (r : Node) (o : Ordering) → order e.0 from ≡ o
+    → Ascending (pairs_in p ++ e ∷ pairs_under r) → Ascending (pairs_under (start from r))
     → Ascending (pairs_under (from_here from (further o p e r (locate from r)).here))
 ascending-further from p e r Less q h i = i
 ascending-further from p e r Equal q h i = rw q (ascending-parts (pairs_in p) (e ∷ pairs_under r) h).1
@@ -238,7 +201,8 @@ ascending-further from p e r Greater q h i = rw q h
 pub ascending-start : (from : List ℕ) (m : Node) → Ascending (pairs_under m) → Ascending (pairs_under (start from m))
 ascending-start from (Last p) h = h
 ascending-start from (More p e r) h =
-    ascending-further from p e r (order e.0 from) refl h (ascending-start from r (halves (pairs_in p) e (pairs_under r) h).back)
+    ascending-further from p e r (order e.0 from) refl h
+    (ascending-start from r (halves (pairs_in p) e (pairs_under r) h).back)
 
 pub ascending-first : (m : Node) → Ascending (pairs_under m) → Ascending (pairs_in (first m))
 ascending-first (Last p) h = h
@@ -257,7 +221,8 @@ down-pairs (suc n) from (Sub m) stack w h =
     ∙ rw (later-pairs k stack, start-pairs from m h)
     (sym (append_assoc (filter (is_from from) (pairs_in (first k))) (rest_pairs k) (stack_pairs stack)))
 
-pub down-ready : (n top : ℕ) (from : List ℕ) (p : Part) (stack : List Frame) → n ≤ top → IsWithin n p → Ascending (pairs_in p) → IsReady top stack → IsReady top (go_down n from p stack)
+pub down-ready : (n top : ℕ) (from : List ℕ) (p : Part) (stack : List Frame) → n ≤ top → IsWithin n p
+    → Ascending (pairs_in p) → IsReady top stack → IsReady top (go_down n from p stack)
 down-ready zero top from p stack l w h s = s
 down-ready (suc n) top from Nothing stack l w h s = s
 down-ready (suc n) top from (Sub m) stack l w h s =
@@ -270,29 +235,38 @@ down-ready (suc n) top from (Sub m) stack l w h s =
 -- ---- the walk
 
 abbrev pub WalkAt : ℕ → ℕ → List ℕ → Type 0
-WalkAt limit n from = (p : Part) (stack : List Frame) → IsWithin n p → Ascending (pairs_in p) → IsReady n stack → Each (IsFrom from) (stack_pairs stack)
+WalkAt limit n from = (p : Part) (stack : List Frame) → IsWithin n p → Ascending (pairs_in p) → IsReady n stack
+    → Each (IsFrom from) (stack_pairs stack)
     → walk limit n from p stack ≡ take limit (filter (is_from from) (pairs_in p) ++ stack_pairs stack)
 
 -- from the first pair still to come on
-next-pairs : (limit n : ℕ) (from : List ℕ) → WalkAt limit n from → (stack : List Frame) → IsReady n stack → Each (IsFrom from) (stack_pairs stack)
+next-pairs : (limit n : ℕ) (from : List ℕ) → WalkAt limit n from → (stack : List Frame) → IsReady n stack
+    → Each (IsFrom from) (stack_pairs stack)
     → next (walk limit n from) stack ≡ take (suc limit) (stack_pairs stack)
 next-pairs limit n from ih [] s f = refl
 next-pairs limit n from ih (x ∷ xs) s f =
     let r = x.1 in
     let later_from = each-parts (IsFrom from) (pairs_under r) (stack_pairs xs) f.1 in
-    let first_from = each-left (IsFrom from) (pairs_in (first r)) (rest_pairs r) (subst (Each (IsFrom from)) (sym (first-rest r)) later_from.0) in
-    let rest_from = each-right (IsFrom from) (pairs_in (first r)) (rest_pairs r) (subst (Each (IsFrom from)) (sym (first-rest r)) later_from.0) in
+    let first_from = each-left (IsFrom from) (pairs_in (first r)) (rest_pairs r)
+    (subst (Each (IsFrom from)) (sym (first-rest r)) later_from.0) in
+    let rest_from = each-right (IsFrom from) (pairs_in (first r)) (rest_pairs r)
+    (subst (Each (IsFrom from)) (sym (first-rest r)) later_from.0) in
     ap (λ t. x.0 ∷ t)
     (ih (first r) (later r xs) (within-first n r s.0) (ascending-first r s.1) (ready-later n r xs s.0 s.1 s.2)
-    (subst (Each (IsFrom from)) (sym (later-pairs r xs)) (each-both (IsFrom from) (rest_pairs r) (stack_pairs xs) rest_from later_from.1))
+    (subst (Each (IsFrom from)) (sym (later-pairs r xs))
+    (each-both (IsFrom from) (rest_pairs r) (stack_pairs xs) rest_from later_from.1))
     ∙ ap (take limit)
     (rw (all-from from (pairs_in (first r)) first_from, later-pairs r xs)
-    (sym (append_assoc (pairs_in (first r)) (rest_pairs r) (stack_pairs xs)) ∙ ap (λ t. t ++ stack_pairs xs) (first-rest r))))
+    (sym (append_assoc (pairs_in (first r)) (rest_pairs r) (stack_pairs xs))
+    ∙ ap (λ t. t ++ stack_pairs xs) (first-rest r))))
 
 pub walk-pairs : (limit n : ℕ) (from : List ℕ) → WalkAt limit n from
 walk-pairs zero n from p stack w a s f = refl
 walk-pairs (suc limit) n from p stack w a s f =
     let e = down-pairs n from p stack w a in
-    next-pairs limit n from (walk-pairs limit n from) (go_down n from p stack) (down-ready n n from p stack (omega arith) w a s)
-    (subst (Each (IsFrom from)) (sym e) (each-both (IsFrom from) (filter (is_from from) (pairs_in p)) (stack_pairs stack) (filtered-from from (pairs_in p)) f))
+    next-pairs limit n from (walk-pairs limit n from) (go_down n from p stack)
+    (down-ready n n from p stack (omega arith) w a s)
+    (subst (Each (IsFrom from)) (sym e)
+    (each-both (IsFrom from) (filter (is_from from) (pairs_in p)) (stack_pairs stack)
+    (filtered-from from (pairs_in p)) f))
     ∙ ap (take (suc limit)) e

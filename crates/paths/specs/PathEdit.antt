@@ -2,7 +2,7 @@
 -- key's; each function goes along the list, so that a loop over the read blocks follows it.
 use Rattle.std.specs.Prelude.{ℕ, zero, suc, ◌-◌, nat_lt, if◌then◌else◌, List, [], ◌∷◌, ◌++◌, length, take, drop, Option, Some, None}
 use Rattle.spec.specs.Tree.{Pair}
-use Rattle.spec.specs.NodeFormat.{Shape, LastLink, MoreLinks, shape_cid}
+use Rattle.spec.specs.NodeFormat.{Shape, LastLink, shape_cid}
 use Rattle.paths.specs.ShapeEdit.{close_link, close_shapes, split_links, split_shapes, go_shape, insert_shape, head_shape, tail_shapes, merge_links, merge_shapes, remove_shape, above_shape, above_shapes, layer_of_shape, row_links, settle_links, last_shape, settle_shape, settle_shapes, lone_shape}
 
 -- the topmost of some nodes, each with a new link next to a key's place, where the lowest is linked to a changed node
@@ -32,19 +32,22 @@ put_here digest p path = insert_shape p (head_shape path) (split_links digest p.
 
 -- the top, d layers above the key: where the path ends above the key's layer, nodes without keys come between
 abbrev pub put_below : (List ℕ → List ℕ) → ℕ → Pair → List Shape → Shape
-put_below digest d p path = climb digest p.0 (take d path) (raise digest (d - length path) (put_here digest p (drop d path)))
+put_below digest d p path =
+    climb digest p.0 (take d path) (raise digest (d - length path) (put_here digest p (drop d path)))
 
 abbrev pub put_below_shapes : (List ℕ → List ℕ) → ℕ → Pair → List Shape → List Shape
 put_below_shapes digest d p path =
     let here = put_here digest p (drop d path) in
     split_shapes digest p.0 (tail_shapes (drop d path))
-    ++ (raise_shapes digest (d - length path) here ++ climb_shapes digest p.0 (take d path) (raise digest (d - length path) here))
+    ++ (raise_shapes digest (d - length path) here
+    ++ climb_shapes digest p.0 (take d path) (raise digest (d - length path) here))
 
 -- the new top
 abbrev pub put_root : (List ℕ → List ℕ) → (List ℕ → ℕ) → Pair → List Shape → Shape
 put_root digest layer p path =
     let t = layer_of_shape layer (head_shape path) in
-    if nat_lt t (layer p.0) then above_shape digest (layer p.0 - suc t) p path else put_below digest (t - layer p.0) p path
+    if nat_lt t (layer p.0) then above_shape digest (layer p.0 - suc t) p path else
+    put_below digest (t - layer p.0) p path
 
 -- all nodes that are made, the new top last
 abbrev pub put_written : (List ℕ → List ℕ) → (List ℕ → ℕ) → Pair → List Shape → List Shape
@@ -86,7 +89,9 @@ delete_root digest key path met pruned =
 abbrev pub delete_written : (List ℕ → List ℕ) → List ℕ → List Shape → List (Shape × Shape) → List Shape
 delete_written digest key path met =
     lone_shape key (head_shape path) (λ l k. settle_shapes digest l k met)
-    (merge_shapes digest met ++ (climb_shapes digest key (all_but_last path) (delete_here digest key path met) ++ (delete_below digest key path met ∷ [])))
+    (merge_shapes digest met
+    ++ (climb_shapes digest key (all_but_last path) (delete_here digest key path met)
+    ++ (delete_below digest key path met ∷ [])))
 
 -- ---- what a delete reads
 

@@ -63,7 +63,8 @@ abbrev pub go_shape : List ℕ → Shape → Option (List ℕ) → Shape
 go_shape key (LastLink l) new = LastLink new
 go_shape key (MoreLinks l e r) new = go_shape_at (order e.0 key) l e r new (go_shape key r new)
 
-abbrev pub insert_shape_at : Ordering → Pair → Option (List ℕ) → Pair → Shape → Option (List ℕ) × Option (List ℕ) → Shape → Shape
+abbrev pub insert_shape_at : Ordering → Pair → Option (List ℕ) → Pair → Shape → Option (List ℕ) × Option (List ℕ)
+    → Shape → Shape
 insert_shape_at Less p l e r t kept = MoreLinks l e kept
 insert_shape_at Equal p l e r t kept = MoreLinks l p r
 insert_shape_at Greater p l e r t kept = MoreLinks t.0 p (MoreLinks t.1 e r)
@@ -117,11 +118,13 @@ one_link (Some x) y = Some x
 -- the link of one part after another, from the pairs of nodes that meet
 abbrev pub merge_links : (List ℕ → List ℕ) → Option (List ℕ) → Option (List ℕ) → List (Shape × Shape) → Option (List ℕ)
 merge_links digest x y [] = one_link x y
-merge_links digest x y (s ∷ ss) = Some (shape_cid digest (join_shape s.0 s.1 (merge_links digest (last_link s.0) (first_link s.1) ss)))
+merge_links digest x y (s ∷ ss) =
+    Some (shape_cid digest (join_shape s.0 s.1 (merge_links digest (last_link s.0) (first_link s.1) ss)))
 
 abbrev pub merge_shapes : (List ℕ → List ℕ) → List (Shape × Shape) → List Shape
 merge_shapes digest [] = []
-merge_shapes digest (s ∷ ss) = merge_shapes digest ss ++ (join_shape s.0 s.1 (merge_links digest (last_link s.0) (first_link s.1) ss) ∷ [])
+merge_shapes digest (s ∷ ss) =
+    merge_shapes digest ss ++ (join_shape s.0 s.1 (merge_links digest (last_link s.0) (first_link s.1) ss) ∷ [])
 
 -- a key taken out, with a link where its neighbours meet
 abbrev pub remove_shape_at : Ordering → Option (List ℕ) → Pair → Shape → Option (List ℕ) → Shape → Shape
@@ -150,7 +153,8 @@ above_shape digest d p path =
 abbrev pub above_shapes : (List ℕ → List ℕ) → ℕ → Pair → List Shape → List Shape
 above_shapes digest d p path =
     let s = split_links digest p.0 path in
-    split_shapes digest p.0 path ++ (lift_shapes digest d s.0 ++ (lift_shapes digest d s.1 ++ (above_shape digest d p path ∷ [])))
+    split_shapes digest p.0 path
+    ++ (lift_shapes digest d s.0 ++ (lift_shapes digest d s.1 ++ (above_shape digest d p path ∷ [])))
 
 abbrev pub layer_of_shape : (List ℕ → ℕ) → Shape → ℕ
 layer_of_shape layer (LastLink l) = 0
@@ -160,7 +164,8 @@ layer_of_shape layer (MoreLinks l e r) = layer e.0
 abbrev pub put_top_shape : (List ℕ → List ℕ) → (List ℕ → ℕ) → Pair → Shape → List Shape → Shape
 put_top_shape digest layer p s path =
     let t = layer_of_shape layer s in
-    if nat_lt t (layer p.0) then above_shape digest (layer p.0 - suc t) p path else put_shape digest (layer p.0) t p s (tail_shapes path)
+    if nat_lt t (layer p.0) then above_shape digest (layer p.0 - suc t) p path else
+    put_shape digest (layer p.0) t p s (tail_shapes path)
 
 abbrev pub put_top_shapes : (List ℕ → List ℕ) → (List ℕ → ℕ) → Pair → Shape → List Shape → List Shape
 put_top_shapes digest layer p s path =
@@ -181,10 +186,12 @@ abbrev pub delete_shapes : (List ℕ → List ℕ) → ℕ → ℕ → List ℕ 
 delete_shapes digest j zero key x path = []
 delete_shapes digest j (suc n) key x path =
     if nat_eq j (suc n) then [] else
-    delete_shapes digest j n key x (tail_shapes path) ++ close_shapes (delete_shape digest j n key x (head_shape path) (tail_shapes path))
+    delete_shapes digest j n key x (tail_shapes path)
+    ++ close_shapes (delete_shape digest j n key x (head_shape path) (tail_shapes path))
 
 -- the links beside a key
-abbrev pub row_links_at : Ordering → Option (List ℕ) → Option (List ℕ) → Option (List ℕ) × Option (List ℕ) → Option (List ℕ) × Option (List ℕ)
+abbrev pub row_links_at : Ordering → Option (List ℕ) → Option (List ℕ) → Option (List ℕ) × Option (List ℕ)
+    → Option (List ℕ) × Option (List ℕ)
 row_links_at Less l x further = further
 row_links_at Equal l x further = (l, x)
 row_links_at Greater l x further = (None, None)
@@ -212,11 +219,13 @@ abbrev pub last_shape : Shape → List Shape → Shape
 last_shape s [] = s
 last_shape s (t ∷ ts) = last_shape t ts
 
-abbrev pub settle_shape : (List ℕ → List ℕ) → Option (List ℕ) → Option (List ℕ) → List (Shape × Shape) → List Shape → Shape
+abbrev pub settle_shape : (List ℕ → List ℕ) → Option (List ℕ) → Option (List ℕ) → List (Shape × Shape)
+    → List Shape → Shape
 settle_shape digest x y [] pruned = last_shape (LastLink None) pruned
 settle_shape digest x y ((LastLink p, LastLink q) ∷ ss) pruned = settle_shape digest p q ss pruned
 settle_shape digest x y ((LastLink p, MoreLinks q e r) ∷ ss) pruned = MoreLinks (merge_links digest p q ss) e r
-settle_shape digest x y ((MoreLinks p e r, k) ∷ ss) pruned = join_shape (MoreLinks p e r) k (merge_links digest (last_link r) (first_link k) ss)
+settle_shape digest x y ((MoreLinks p e r, k) ∷ ss) pruned =
+    join_shape (MoreLinks p e r) k (merge_links digest (last_link r) (first_link k) ss)
 
 abbrev pub settle_end : Option (List ℕ) → List Shape
 settle_end None = LastLink None ∷ []
@@ -236,16 +245,20 @@ lone_shape key (MoreLinks l e (MoreLinks k f r)) x y = y
 
 -- ---- the whole tree: the top, the nodes below it on the path, the pairs that meet, and what pruning looks at
 
-abbrev pub delete_top_shape : (List ℕ → List ℕ) → (List ℕ → ℕ) → List ℕ → Shape → List Shape → List (Shape × Shape) → List Shape → Shape
+abbrev pub delete_top_shape : (List ℕ → List ℕ) → (List ℕ → ℕ) → List ℕ → Shape → List Shape → List (Shape × Shape)
+    → List Shape → Shape
 delete_top_shape digest layer key s path met pruned =
     let t = layer_of_shape layer s in
     let x = path_links (layer key) t key s path in
-    lone_shape key s (λ l k. settle_shape digest l k met pruned) (delete_shape digest (layer key) t key (merge_links digest x.0 x.1 met) s path)
+    lone_shape key s (λ l k. settle_shape digest l k met pruned)
+    (delete_shape digest (layer key) t key (merge_links digest x.0 x.1 met) s path)
 
-abbrev pub delete_top_shapes : (List ℕ → List ℕ) → (List ℕ → ℕ) → List ℕ → Shape → List Shape → List (Shape × Shape) → List Shape
+abbrev pub delete_top_shapes : (List ℕ → List ℕ) → (List ℕ → ℕ) → List ℕ → Shape → List Shape → List (Shape × Shape)
+    → List Shape
 delete_top_shapes digest layer key s path met =
     let t = layer_of_shape layer s in
     let x = path_links (layer key) t key s path in
     let y = merge_links digest x.0 x.1 met in
     lone_shape key s (λ l k. settle_shapes digest l k met)
-    (merge_shapes digest met ++ (delete_shapes digest (layer key) t key y path ++ (delete_shape digest (layer key) t key y s path ∷ [])))
+    (merge_shapes digest met
+    ++ (delete_shapes digest (layer key) t key y path ++ (delete_shape digest (layer key) t key y s path ∷ [])))

@@ -1,6 +1,6 @@
 -- Look-ups, edits and walks over a source of blocks, which shows the node with a CID, where it has it. Each function is
 -- what a loop reads, also where a block is missing.
-use Rattle.std.specs.Prelude.{◌≡◌, ℕ, zero, suc, List, [], ◌∷◌, ◌++◌, length, Contains, Option, Some, None, Result, Ok, Err, option_and_then}
+use Rattle.std.specs.Prelude.{◌≡◌, ℕ, zero, suc, List, [], ◌∷◌, ◌++◌, Contains, Option, Some, None, Result, Ok, Err, option_and_then}
 use Rattle.std.specs.declared.cmp.Ordering.{Ordering}
 use Rattle.std.specs.declared.cmp.Ordering.TheVariants.{Less, Equal, Greater}
 use Rattle.spec.specs.Cid.{cid}
@@ -90,7 +90,8 @@ value_from shows (suc n) key l = value_at (value_from shows n key) key (shown sh
 
 -- ---- what a delete reads beside the path
 
-abbrev pub met_at : (Option (List ℕ) → Option (List ℕ) → List (Shape × Shape)) → Option Shape → Option Shape → List (Shape × Shape)
+abbrev pub met_at : (Option (List ℕ) → Option (List ℕ) → List (Shape × Shape)) → Option Shape → Option Shape
+    → List (Shape × Shape)
 met_at further None t = []
 met_at further (Some s) None = []
 met_at further (Some s) (Some t) = (s, t) ∷ further (last_link s) (first_link t)
@@ -110,7 +111,8 @@ abbrev pub pruned_from : (List ℕ → Option Shape) → ℕ → Option (List �
 pruned_from shows zero l = []
 pruned_from shows (suc n) l = pruned_at (pruned_from shows n) (shown shows l)
 
--- what a delete reads where the last node of the path has the key: the pairs that meet there, and the chain that is pruned
+-- what a delete reads where the last node of the path has the key: the pairs that meet there, and the chain that is
+-- pruned
 abbrev pub delete_met_from : (List ℕ → Option Shape) → ℕ → List ℕ → List Shape → List (Shape × Shape)
 delete_met_from shows n key path = let x = row_links key (row_shape path) in met_from shows n x.0 x.1
 
@@ -135,13 +137,16 @@ later_shape (LastLink l) stack = stack
 later_shape (MoreLinks l e r) stack = (e, r) ∷ stack
 
 -- where a block is missing the walk ends
-abbrev pub down_at : (Option (List ℕ) → List (Pair × Shape) → List (Pair × Shape)) → List ℕ → Option (List ℕ) → Option Shape → List (Pair × Shape) → List (Pair × Shape)
+abbrev pub down_at : (Option (List ℕ) → List (Pair × Shape) → List (Pair × Shape)) → List ℕ → Option (List ℕ)
+    → Option Shape → List (Pair × Shape) → List (Pair × Shape)
 down_at further from None o stack = stack
 down_at further from (Some c) None stack = []
-down_at further from (Some c) (Some s) stack = let h = start_shape from s in further (first_link h) (later_shape h stack)
+down_at further from (Some c) (Some s) stack =
+    let h = start_shape from s in further (first_link h) (later_shape h stack)
 
 -- the stack at the first pair from a link on that isn't below a key, over at most n nodes: those of path_from
-abbrev pub down_from : (List ℕ → Option Shape) → ℕ → List ℕ → Option (List ℕ) → List (Pair × Shape) → List (Pair × Shape)
+abbrev pub down_from : (List ℕ → Option Shape) → ℕ → List ℕ → Option (List ℕ) → List (Pair × Shape)
+    → List (Pair × Shape)
 down_from shows zero from l stack = stack
 down_from shows (suc n) from l stack = down_at (down_from shows n from) from l (shown shows l) stack
 
@@ -161,4 +166,5 @@ next_path further (x ∷ xs) = further (first_link x.1) (later_shape x.1 xs)
 -- the nodes read by it
 abbrev pub walk_path : (List ℕ → Option Shape) → ℕ → ℕ → List ℕ → Option (List ℕ) → List (Pair × Shape) → List Shape
 walk_path shows zero n from l stack = []
-walk_path shows (suc limit) n from l stack = path_from shows n from l ++ next_path (walk_path shows limit n from) (down_from shows n from l stack)
+walk_path shows (suc limit) n from l stack =
+    path_from shows n from l ++ next_path (walk_path shows limit n from) (down_from shows n from l stack)

@@ -168,7 +168,8 @@ prune (suc n) (More p e r) = More p e r
 abbrev pub delete_top : (List ℕ → ℕ) → List ℕ → Node → Node
 delete_top layer key m = let t = layer_of layer m in prune t (node_delete layer t key m)
 
--- the top over two adjacent parts, where no key is left between and around them: two nodes without keys are never made one
+-- the top over two adjacent parts, where no key is left between and around them: two nodes without keys are never made
+-- one
 abbrev pub settle : ℕ → Part → Part → Node
 settle zero p q = Last Nothing
 settle (suc n) Nothing Nothing = Last Nothing

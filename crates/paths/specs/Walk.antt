@@ -49,7 +49,8 @@ next_reads further (x ∷ xs) = further (first x.1) (later x.1 xs)
 -- the nodes read: on each way down those that a look-up of the key reads there
 abbrev pub walk_reads : ℕ → ℕ → List ℕ → Part → List Frame → List Node
 walk_reads zero n from p stack = []
-walk_reads (suc limit) n from p stack = find_path n from p ++ next_reads (walk_reads limit n from) (go_down n from p stack)
+walk_reads (suc limit) n from p stack =
+    find_path n from p ++ next_reads (walk_reads limit n from) (go_down n from p stack)
 
 -- ---- which nodes these are
 

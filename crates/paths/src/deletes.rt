@@ -1,6 +1,6 @@
 //! The laws of a delete.
 
-ghost use Rattle.paths.specs.DeleteLaws.{DeleteIsTop, DeleteReadsPath, DeleteReads, DeleteIsShapes, DeleteCounts, DeleteOverSource};
+ghost use Rattle.paths.specs.Laws.Deletes.{DeleteIsTop, DeleteReadsPath, DeleteReads, DeleteIsShapes, DeleteCounts, DeleteOverSource};
 
 /// The tree after a delete is the tree of the pairs that are left from scratch.
 pub fn delete_is_the_tree_from_scratch()

@@ -1,6 +1,6 @@
 //! The laws of look-ups.
 
-ghost use Rattle.paths.specs.LookupLaws.{FindIsValue, FindReads, TopHasLayer, PathIsRead, StepIsPlace, PathBound, LookupOverSource};
+ghost use Rattle.paths.specs.Laws.Lookups.{FindIsValue, FindReads, TopHasLayer, KeyHasLayer, PathIsRead, StepIsPlace, PathBound, ShapeReadsBack, OnlyShapesAreRead, LookupOverSource};
 
 /// A look-up in the tree of ascending pairs finds the key's value.
 pub fn find_is_the_value()
@@ -17,6 +17,11 @@ pub fn top_has_a_layer_of_the_digest()
     ensures { TopHasLayer }
 {}
 
+/// Nor is the layer of a key.
+pub fn key_has_a_layer_of_the_digest()
+    ensures { KeyHasLayer }
+{}
+
 /// The nodes of a key's path, which a proof of the key shows, are those that a look-up reads.
 pub fn path_is_what_find_reads()
     ensures { PathIsRead }
@@ -30,6 +35,16 @@ pub fn step_is_the_place()
 /// A look-up ends within its bound, whatever the source shows.
 pub fn path_is_bounded()
     ensures { PathBound }
+{}
+
+/// A shape of the node grammar is read from its bytes.
+pub fn shape_reads_back()
+    ensures { ShapeReadsBack }
+{}
+
+/// Bytes that read as a shape are the bytes of that shape, which is of the node grammar.
+pub fn only_shapes_are_read()
+    ensures { OnlyShapesAreRead }
 {}
 
 /// Over a source that has the nodes of a tree, a look-up from its root finds the key's value and reads the key's path.

@@ -1,6 +1,6 @@
 //! The laws of a put.
 
-ghost use Rattle.paths.specs.PutLaws.{PutIsTop, PutReadsPath, PutIsShapes, PutCounts, PutOverSource};
+ghost use Rattle.paths.specs.Laws.Puts.{PutIsTop, PutReadsPath, PutIsShapes, PutCounts, PutOverSource};
 
 /// The tree after a put is the tree of the new pairs from scratch.
 pub fn put_is_the_tree_from_scratch()

@@ -1,6 +1,6 @@
 //! A record map and the pairs of its tree.
 
-ghost use Rattle.paths.specs.RecordLaws.{PutIsWrite, DeleteIsWrite};
+ghost use Rattle.paths.specs.Laws.Records.{PutIsWrite, DeleteIsWrite};
 
 /// The pairs of a record map after a put are those of the put pairs.
 pub fn put_is_the_write()

@@ -1,4 +1,4 @@
-use Rattle.std.proofs.Common.{◌≡◌, ℕ, ◌+◌, ◌*◌, ◌<◌, ◌≤◌, ◌^◌, ◌-◌, arith}
+use Rattle.std.proofs.Common.{◌<◌, ◌^◌, ◌-◌, arith}
 use Rattle.dagcbor.proofs.Powers.{power-more, power-small, power-some}
 use Rattle.dagcbor.proofs.cid.+varint_within.Goals as goal
 

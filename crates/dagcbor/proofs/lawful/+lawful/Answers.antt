@@ -1,4 +1,4 @@
-use Rattle.std.proofs.Common.{◌≡◌, ℕ, ◌^◌, ◌<◌, length, sym, ap, ◌∙◌, arith}
+use Rattle.std.proofs.Common.{◌^◌, ◌<◌, length, sym, ap, ◌∙◌, arith}
 use Rattle.spec.specs.DagCbor.{is_lawful_within}
 use Rattle.dagcbor.specs.View.{view}
 use Rattle.dagcbor.proofs.ItemByItem.{lawful-List, lawful-Map}

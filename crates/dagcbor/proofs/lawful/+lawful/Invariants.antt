@@ -1,4 +1,4 @@
-use Rattle.std.proofs.Common.{◌≡◌, ℕ, ◌+◌, ◌*◌, drop, None}
+use Rattle.std.proofs.Common.{◌≡◌, ◌+◌, ◌*◌, drop, None}
 use Rattle.std.specs.Prelude.{option_map}
 use Rattle.spec.specs.DagCbor.{are_lawful_within, are_entries_within}
 use Rattle.dagcbor.specs.View.{view_items, view_fields}

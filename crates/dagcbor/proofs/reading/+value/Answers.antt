@@ -1,12 +1,11 @@
-use Rattle.std.proofs.Common.{◌≡◌, ℕ, ◌+◌, ◌-◌, ◌*◌, ◌<◌, ◌≤◌, ◌++◌, [], ◌∷◌, Some, None, List, Result, Ok, Err, refl, sym, ap, ◌∙◌, arith, rules}
+use Rattle.std.proofs.Common.{◌≡◌, ℕ, ◌+◌, ◌-◌, ◌++◌, [], ◌∷◌, Some, List, Result, Ok, Err, sym, ap, ◌∙◌, arith, rules}
 use Rattle.std.specs.Prelude.{option_map}
 use Rattle.std.proofs.lemmas.Result.{err_from_is_err_and}
-use Rattle.spec.specs.Reading.{◌>>=◌, Fails}
+use Rattle.spec.specs.Reading.{◌>>=◌}
 use Rattle.spec.specs.Head.{CborFault, Major, major_of, head_at}
 use Rattle.spec.specs.DagCbor.{Value, items_at, fields_at, content_of, value_at}
 use Rattle.dagcbor.specs.Levels.{within}
 use Rattle.dagcbor.specs.Fault.{fault_of}
-use Rattle.dagcbor.specs.View.{view, view_items, view_fields}
 use Rattle.dagcbor.proofs.Readings.{value_at-is, Fails-then, Fails-same, Gives-at_err, Gives-same, behind_values, items_more, items_end, items_fail, behind_fields, fields_more, fields_end, fields_no_key, fields_fail}
 use Rattle.dagcbor.proofs.reading.+value.Goals as goal
 

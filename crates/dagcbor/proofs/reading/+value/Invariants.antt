@@ -1,4 +1,4 @@
-use Rattle.std.proofs.Common.{◌≡◌, ℕ, ◌+◌, ◌-◌, ◌*◌, None}
+use Rattle.std.proofs.Common.{◌≡◌, ◌+◌, ◌-◌, ◌*◌, None}
 use Rattle.std.specs.Prelude.{option_map}
 use Rattle.spec.specs.DagCbor.{items_at, fields_at, value_at}
 use Rattle.dagcbor.proofs.Readings.{behind_values, behind_fields}

@@ -1,9 +1,7 @@
-use Rattle.std.proofs.Common.{◌≡◌, Bool, true, false, Ok, refl, sym, ap}
+use Rattle.std.proofs.Common.{◌≡◌, true, false, refl}
 use Rattle.std.specs.Str.{is_utf8}
 use Rattle.std.proofs.lemmas.Str.{is_utf8-from_IsUtf8, IsUtf8-from_is_utf8}
 use Rattle.std.proofs.lemmas.Bool.{false_from_ne_true}
-use Rattle.spec.specs.Reading.{front}
-use Rattle.spec.specs.Head.{Truncated}
 use Rattle.dagcbor.proofs.reading.text.Goals as goal
 
 pub returns-in-Ok : goal.returns-in-Ok

@@ -1,4 +1,4 @@
-use Rattle.std.proofs.Common.{◌≡◌, ℕ, ◌+◌, ◌<◌, ◌≤◌, ◌++◌, List, length, drop, get_or, sym, ap, subst, ◌∙◌, arith, rules}
+use Rattle.std.proofs.Common.{◌≡◌, ℕ, ◌+◌, ◌<◌, ◌≤◌, ◌++◌, length, drop, get_or, sym, ap, subst, ◌∙◌, arith, rules}
 use Rattle.std.proofs.lemmas.Result.{on_ok_weaker}
 use Rattle.spec.specs.Head.{head}
 use Rattle.spec.specs.DagCbor.{string, spelling, spelling_of_values, spelling_of_entries}
@@ -26,9 +26,9 @@ push_items-push_value-requires g t c κs within =
     let i = c.loop-item.item-index in
     let x = c.item-item.result in
     let here : length (spelling (view x)) ≤ length (spelling_of_values (view_items xs)) =
-        subst (λ y. length (spelling (view y)) ≤ length (spelling_of_values (view_items xs))) (sym c.item-item.is) (item-within xs i x (omega arith)) in
+    subst (λ y. length (spelling (view y)) ≤ length (spelling_of_values (view_items xs))) (sym c.item-item.is) (item-within xs i x (omega arith)) in
     let no_longer : length (spelling (view x)) ≤ length (spelling_of_values (view_items c.args.items.now.items)) =
-        subst (λ ys. length (spelling (view x)) ≤ length (spelling_of_values (view_items ys))) c.deref-item-items.ensures.value here in
+    subst (λ ys. length (spelling (view x)) ≤ length (spelling_of_values (view_items ys))) c.deref-item-items.ensures.value here in
     search rules
 
 pub push_items-loop-item-preserved : goal.push_items-loop-item-preserved
@@ -47,9 +47,9 @@ push_fields-push_value-requires g t c κs within =
     let i = c.loop-field.field-index in
     let x = c.field-item.result in
     let here : length (spelling (view x.1)) ≤ length (spelling_of_entries (view_fields xs)) =
-        subst (λ y. length (spelling (view y.1)) ≤ length (spelling_of_entries (view_fields xs))) (sym c.field-item.is) (field-within xs i x (omega arith)) in
+    subst (λ y. length (spelling (view y.1)) ≤ length (spelling_of_entries (view_fields xs))) (sym c.field-item.is) (field-within xs i x (omega arith)) in
     let no_longer : length (spelling (view x.1)) ≤ length (spelling_of_entries (view_fields c.args.fields.now.items)) =
-        subst (λ ys. length (spelling (view x.1)) ≤ length (spelling_of_entries (view_fields ys))) c.deref-field-items.ensures.value here in
+    subst (λ ys. length (spelling (view x.1)) ≤ length (spelling_of_entries (view_fields ys))) c.deref-field-items.ensures.value here in
     search rules
 
 pub push_fields-loop-field-preserved : goal.push_fields-loop-field-preserved

@@ -1,4 +1,4 @@
-use Rattle.paths.proofs.EditTheorems.{put-over_source}
+use Rattle.paths.proofs.PutTheorems.{put-over_source}
 use Rattle.paths.proofs.puts.put_over_a_source.Goals as goal
 
 pub returns : goal.returns

@@ -1,4 +1,4 @@
-use Rattle.paths.proofs.EditTheorems.{put-reads_path}
+use Rattle.paths.proofs.PutTheorems.{put-reads_path}
 use Rattle.paths.proofs.puts.put_reads_the_path.Goals as goal
 
 pub returns : goal.returns
