@@ -7,7 +7,7 @@ ghost use Rattle.edit.specs.Steps.{place_found, layers};
 use node::{NodeView, Place};
 
 /// How many layers a tree has at most, where `B` zero bits of a digest count for one layer.
-pub(crate) const fn layers<const B: u8>() -> u16
+pub(crate) fn layers<const B: u8>() -> u16
     requires { 1 ≤ B }
     ensures { result ≡ layers B }
 {
