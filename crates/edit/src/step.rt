@@ -1,6 +1,6 @@
 //! One step down the tree.
 
-ghost use Rattle.std.specs.Prelude.{◌≡◌, ◌≤◌, suc, ◌/◌, option_map};
+ghost use Rattle.std.specs.Prelude.{◌≡◌, ◌≤◌, option_map};
 ghost use Rattle.paths.specs.Sources.{shape_of_bytes, row_value, gap};
 ghost use Rattle.edit.specs.Steps.{place_found, layers};
 
