@@ -113,7 +113,7 @@ look view was is key c bytes x v l left same given shown read more =
     let e : suc (left - 1) ≡ left = omega arith in
     let w : was c ≡ Some x = sym (ap (λ (f : List ℕ → Option _). f c) same) ∙ sym given in
     let s : option_map view (was c) ≡ Some bytes = ap (option_map view) w
-        ∙ ap (λ (b : List ℕ). Some b) (sym shown) in
+    ∙ ap (λ (b : List ℕ). Some b) (sym shown) in
     let shows = shown_by (λ d. option_map view (was d)) in
     let t = steps (λ d. option_map view (was d)) key c bytes v l left more s read in
     (sym (ap (λ k. value_from shows k key (Some c)) e) ∙ t.0, sym (ap (λ k. asked_from shows k key (Some c)) e) ∙ t.1)
@@ -149,7 +149,7 @@ module _ (digest : List ℕ → List ℕ) (shows : List ℕ → Option Shape) wh
         h.0,
         link-gap digest key m,
         asked-holds n key (first k)
-        (each-first_part (IsShown digest shows) k (each-start (IsShown digest shows) key m h.1)),
+            (each-first_part (IsShown digest shows) k (each-start (IsShown digest shows) key m h.1)),
       ) refl
 
 -- ---- over a source that has a tree's nodes
