@@ -9,6 +9,11 @@ mod rows;
 mod tree;
 mod unread;
 
+#[cfg(test)]
+mod plain;
+#[cfg(test)]
+mod tests;
+
 pub use fault::ScratchFault;
 pub use keys::is_ascending;
 pub use tree::{Built, build};

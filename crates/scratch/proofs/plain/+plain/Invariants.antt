@@ -1,0 +1,8 @@
+use Rattle.std.proofs.Common.{◌+◌, ◌*◌}
+use Rattle.scratch.proofs.plain.+plain.Given as goal
+
+abbrev pub decreases-node : goal.decreases-node
+decreases-node g l = 2 * l.n + 1
+
+abbrev pub decreases-part : goal.decreases-part
+decreases-part g l = 2 * l.n
