@@ -1,8 +1,8 @@
 //! Readings by their bytes, and want of memory.
 
 use super::*;
-use linked_list_allocator::LocalHeap;
-use std::alloc::{AllocError, Allocator};
+use refusing::Refusing;
+use std::alloc::Allocator;
 use std::test::Fail;
 
 /// Each of these is the spelling of a value.
@@ -212,40 +212,40 @@ fn goes_from_head_to_head(rt: HostRuntime) -> Result<(), Fail> {
     Ok(())
 }
 
-/// Reads and writes again over a heap of this size: how much the writing gave.
-fn read_and_write(heap: &LocalHeap, bytes: &[u8]) -> Result<usize, CborFault> {
-    let value = read(heap, bytes)?;
+/// Reads these bytes and writes the value again: whether the same bytes came.
+fn read_and_write<A: Allocator + Copy>(alloc: A, bytes: &[u8]) -> Result<bool, CborFault> {
+    let value = read(alloc, bytes)?;
     if !is_lawful(&value) {
-        return Err(CborFault::Trailing);
+        return Ok(false);
     }
-    Ok(write(heap, &value)?.len())
+    let written = write(alloc, &value)?;
+    Ok(written.as_slice() == bytes)
 }
 
 #[test]
-fn answers_want_of_memory(rt: HostRuntime) -> Result<(), Fail> {
+fn answers_each_refusal_of_memory(rt: HostRuntime) -> Result<(), Fail> {
     let bytes =
         b"\xa3\x61a\x85\x01\x02\x03\x04\x05\x61b\xa1\x61c\x80\x61d\x78\x20abcdefghijklmnopqrstuvwxyz012345";
-    let mut refused = 0u32;
-    let mut done = 0u32;
-    for step in 1..64usize {
-        let heap = LocalHeap::new(rt.alloc(), step * 32)?;
-        match read_and_write(&heap, bytes) {
-            Ok(length) => {
-                assert_eq!(rt; length, bytes.len());
-                done = done.saturating_add(1);
-            }
-            Err(fault) => {
-                assert_eq!(rt; fault, CborFault::NoMemory);
-                refused = refused.saturating_add(1);
-            }
+    let heap = Refusing::new(rt.alloc());
+    let mut refusals = 0u64;
+    for number in 1..100u64 {
+        heap.refuse(number);
+        let before = heap.refused();
+        let answer = read_and_write(&heap, bytes);
+        assert_eq!(rt; heap.live(), 0);
+        if heap.refused() == before {
+            assert_eq!(rt; answer, Ok(true));
+            assert!(rt; number > 5, "{number} requests");
+            refusals = number;
+            break;
         }
-        assert_eq!(rt; heap.used(), 0);
+        assert_eq!(rt; answer, Err(CborFault::NoMemory), "at request {number}");
     }
-    assert!(rt; refused > 4 && done > 4, "{refused} refused, {done} done");
+    assert!(rt; refusals > 0);
     Ok(())
 }
 
-/// Puts heads of each length until memory is refused: how many bytes there were before the refusal, and after it.
+/// Puts heads of each length, over a heap that refuses one request: how many bytes there were before the refusal and after it.
 fn push_until_refused<A: Allocator>(alloc: A) -> (usize, usize) {
     let mut out = Vec::new(alloc);
     let mut before = 0;
@@ -257,15 +257,17 @@ fn push_until_refused<A: Allocator>(alloc: A) -> (usize, usize) {
             }
         }
     }
-    (before, out.len())
+    (before, 0)
 }
 
 #[test]
 fn puts_no_part_of_a_head(rt: HostRuntime) -> Result<(), Fail> {
-    for step in 1..16usize {
-        let heap = LocalHeap::new(rt.alloc(), step * 40)?;
+    for number in 1..6u64 {
+        let heap = Refusing::new(rt.alloc());
+        heap.refuse(number);
         let (before, after) = push_until_refused(&heap);
         assert_eq!(rt; before, after);
+        assert_eq!(rt; heap.refused(), 1);
     }
     let mut out = Vec::new(rt.alloc());
     push_head(&mut out, 6, 42)?;
