@@ -1,0 +1,4 @@
+pub mod Spaces
+pub mod Leaving
+pub mod Remaining
+pub mod LastLines

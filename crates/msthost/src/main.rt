@@ -1,0 +1,11 @@
+//! `msthost`: Merkle search trees of AT Protocol repositories, from the command line.
+#![tactic(auto)]
+
+mod line;
+mod listing;
+mod reading;
+mod tree_fault;
+mod writing;
+
+fn main() {
+}
