@@ -1,15 +1,16 @@
 -- A text of a CID that passes the first tests.
 use Rattle.std.proofs.Common.{◌≡◌, ℕ, ◌%◌, ◌-◌, eqb, Bool, true, false, List, length, get_or, take, drop, Result, Ok, Err, arith, cond, refl, subst, sym}
-use Rattle.std.specs.Prelude.{nat_lt}
+use Rattle.std.specs.Prelude.{nat_lt, IfOk}
 use Rattle.std.proofs.Common.{length-drop}
 use Rattle.std.proofs.lemmas.List.{take_all}
 use Rattle.std.specs.List.{list_all}
 use Rattle.std.specs.Str.{bytes_eq}
 use Rattle.spec.specs.Reading.{◌>>=◌, ensure, Gives}
+use Rattle.spec.proofs.CidTexts.{cid_of_text_takes}
 use Rattle.cid.specs.CidFault.{fault_of}
 use Rattle.cid.specs.declared.cid_fault.CidFault.{CidFault as Fault}
 use Rattle.cid.specs.declared.cid_fault.CidFault.TheVariants.{NotThisProfile as OtherProfile}
-use Rattle.spec.specs.Cid.{prefix, is_own_cid, BadLetter, BadBits, NotThisProfile, letter_values, bytes_of_text, cid_of_text, CidFault}
+use Rattle.spec.specs.Cid.{prefix, is_own_cid, BadLetter, BadBits, NotThisProfile, letter_values, bytes_of_text, cid_of_text, text, CidFault}
 
 pub text_bad_letter : (s : List ℕ) → length s ≡ 59 → get_or s 0 0 ≡ 98 → list_all (λ v. nat_lt v 32) (letter_values s) ≡ false → cid_of_text s ≡ Err BadLetter
 unfolding cid_of_text
@@ -50,3 +51,8 @@ text_read s c r size begins passes bits is gave =
     let Read : Result (List ℕ) Fault → Type 0 = λ x. Gives (λ cid. cid) fault_of x (cid_of_text s) in
     let given : r ≡ cond (bytes_eq (take 4 (bytes_of_text s)) prefix) (Ok (bytes_of_text s)) (Err OtherProfile) = subst Given is gave in
     subst Read (sym given) (profile_gives (bytes_eq (take 4 (bytes_of_text s)) prefix) (bytes_of_text s) (cid_of_text s) (text_profile s size begins passes bits))
+
+-- what is read is the text of what it was read as
+pub read_text : (s : List ℕ) (r : Result (List ℕ) Fault) → Gives (λ cid. cid) fault_of r (cid_of_text s) → IfOk r (λ cid. s ≡ text cid)
+read_text s (Ok c) read = (cid_of_text_takes s c read).0
+read_text s (Err f) read = tt

@@ -6,11 +6,11 @@ use Rattle.std.specs.Int.{w32, to_be_bytes, bytes_high_first, byte_at}
 use Rattle.spec.specs.Reading.{IsBytes}
 use Rattle.sha2.specs.Sha256.{digest_bytes, final_hash, initial_hash_256, sha256}
 
-IsBytes-cons : (x : ℕ) (xs : List ℕ) → x < 256 → IsBytes xs → IsBytes (x ∷ xs)
+pub IsBytes-cons : (x : ℕ) (xs : List ℕ) → x < 256 → IsBytes xs → IsBytes (x ∷ xs)
 IsBytes-cons x xs below rest zero = below
 IsBytes-cons x xs below rest (suc i) = rest i
 
-IsBytes-append : (xs ys : List ℕ) → IsBytes xs → IsBytes ys → IsBytes (xs ++ ys)
+pub IsBytes-append : (xs ys : List ℕ) → IsBytes xs → IsBytes ys → IsBytes (xs ++ ys)
 IsBytes-append [] ys f g = g
 IsBytes-append (x ∷ xs) ys f g = IsBytes-cons x (xs ++ ys) (f 0) (IsBytes-append xs ys (λ j. f (suc j)) g)
 
@@ -18,7 +18,7 @@ byte_at-lt : (k n : ℕ) → byte_at k n < 256
 byte_at-lt zero n = mod_below n 256 (omega arith)
 byte_at-lt (suc k) n = mod_below (n / 256 ^ suc k) 256 (omega arith)
 
-IsBytes-high_first : (k n : ℕ) → IsBytes (bytes_high_first k n)
+pub IsBytes-high_first : (k n : ℕ) → IsBytes (bytes_high_first k n)
 IsBytes-high_first zero n i = omega arith
 IsBytes-high_first (suc k) n zero = byte_at-lt k n
 IsBytes-high_first (suc k) n (suc i) = IsBytes-high_first k n i

@@ -1,3 +1,4 @@
 pub mod Digests
 pub mod CidFault
 pub mod CidRef
+pub mod TestDigests

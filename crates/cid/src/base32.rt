@@ -1,13 +1,15 @@
 //! Base32 in lower case without padding, of the 36 bytes of an identifier (RFC 4648, section 6).
 ghost use Rattle.std.specs.Prelude.{◌≡◌, ◌<◌, ◌*◌, ◌/◌, map, length, nat_lt, slice_index, Some, None, if◌then◌else◌};
 ghost use Rattle.std.specs.List.{list_all, range_with_len};
+ghost use Rattle.spec.specs.Reading.{IsBytes};
 ghost use Rattle.spec.specs.Cid.{five_bits as five_bits_of, letter as letter_of, eight_bits as eight_bits_of, letter_value as value_of, base32};
 
 const ALPHABET: [u8; 32] = *b"abcdefghijklmnopqrstuvwxyz234567";
 
 /// The letters of the bytes, five bits each. Two zero bits fill the last one.
 pub(crate) fn letters(bytes: &[u8; 36]) -> [u8; 58]
-    ensures { result ≡ base32 bytes.now }
+    ensures value { result ≡ base32 bytes.now }
+    ensures bytes { IsBytes bytes.now }
 {
     let mut letters = [0; 58];
     for i in 0..58 {

@@ -1,4 +1,4 @@
-ghost use Rattle.std.specs.Prelude.{◌≡◌, ◌↔◌, ℕ, List, length, take, drop, true, IsTrue, Some, None, Ok, Err, if◌then◌else◌};
+ghost use Rattle.std.specs.Prelude.{◌≡◌, ◌↔◌, ℕ, List, length, take, drop, true, IsTrue, IfOk, Some, None, Ok, Err, if◌then◌else◌};
 ghost use Rattle.std.specs.Int.{w64, from_le_bytes};
 ghost use Rattle.std.specs.Hash as fed;
 ghost use Rattle.std.specs.Cmp.Rules.{comparing, hashing};
@@ -71,7 +71,8 @@ impl Cid {
 
     /// The text: the multibase prefix `b` and 58 letters of base32 in lower case (CIDv1; RFC 4648, section 6).
     pub fn text(&self) -> [u8; 59]
-        ensures { result ≡ text_of self.now }
+        ensures value { result ≡ text_of self.now }
+        ensures reads_back { cid_of_text result ≡ Ok self.now }
     {
         let mut text = [b'b'; 59];
         text[1..].copy_from_slice(&base32::letters(&self.bytes));
@@ -81,7 +82,8 @@ impl Cid {
     /// The identifier with this text, or the first of the five faults, in the order in which `CidFault` lists them.
     #[tactic(auto, unfolding(spec::specs::Cid::cid_of_text))]
     pub fn from_text(text: &[u8]) -> Result<Cid, CidFault>
-        ensures { Gives (λ cid. cid) fault_of result (cid_of_text text.now) }
+        ensures read { Gives (λ cid. cid) fault_of result (cid_of_text text.now) }
+        ensures text { IfOk result (λ cid. text.now ≡ text_of cid) }
     {
         if text.len() != 59 {
             return Err(CidFault::BadLength);

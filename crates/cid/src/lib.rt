@@ -8,6 +8,7 @@ mod cid_fault;
 mod cid_ref;
 mod collided;
 mod digest;
+pub mod digests;
 mod layers;
 
 pub use block::Block;
@@ -17,3 +18,6 @@ pub use cid_ref::CidRef;
 pub use collided::Collided;
 pub use digest::{Digest, Sha256};
 pub use layers::layer;
+
+#[cfg(test)]
+mod tests;

@@ -1,2 +1,6 @@
 pub mod Fault
 pub mod Source
+pub mod View
+pub mod Majors
+pub mod Levels
+pub mod Refused

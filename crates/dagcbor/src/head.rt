@@ -1,13 +1,16 @@
 //! Heads of items at the front of some bytes (RFC 8949, section 3; the shortest form alone: IPLD DAG-CBOR).
 
-ghost use Rattle.std.specs.Prelude.{◌≡◌, ◌≤◌, ◌<◌, length, IfOk};
+ghost use Rattle.std.specs.Prelude.{◌≡◌, ◌≤◌, ◌<◌, length, IfOk, Some};
 ghost use Rattle.spec.specs.Reading.{Gives, front};
 ghost use Rattle.spec.specs.Head.{head_at, argument_at, long_argument, simple_at, Truncated};
+ghost use Rattle.spec.specs.Head as heads;
+ghost use Rattle.spec.specs.DagCbor.{head_of};
 ghost use Rattle.dagcbor.specs.Fault.{fault_of};
 
 use crate::fault::CborFault;
 
 /// An argument of 1, 2, 4 or 8 bytes, and the bytes after it.
+#[inline(never)]
 fn long_argument(low: u8, bytes: &[u8]) -> Result<(u64, &[u8]), CborFault>
     requires lower { 24 ≤ low }
     requires upper { low ≤ 27 }
@@ -60,6 +63,7 @@ fn long_argument(low: u8, bytes: &[u8]) -> Result<(u64, &[u8]), CborFault>
 }
 
 /// The argument that the low five bits of a first byte say, and the bytes after it.
+#[inline(always)]
 fn argument(low: u8, bytes: &[u8]) -> Result<(u64, &[u8]), CborFault>
     ensures read { Gives (λ x. (x.0, x.1.now)) fault_of result (argument_at low bytes.now) }
     ensures no_longer { IfOk result (λ x. length x.1.now ≤ length bytes.now) }
@@ -76,6 +80,7 @@ fn argument(low: u8, bytes: &[u8]) -> Result<(u64, &[u8]), CborFault>
 }
 
 /// A simple value's number, which is false's, true's or null's, and the bytes after it.
+#[inline]
 fn simple(low: u8, bytes: &[u8]) -> Result<(u64, &[u8]), CborFault>
     ensures read { Gives (λ x. (x.0, x.1.now)) fault_of result (simple_at low bytes.now) }
     ensures no_longer { IfOk result (λ x. length x.1.now ≤ length bytes.now) }
@@ -90,6 +95,7 @@ fn simple(low: u8, bytes: &[u8]) -> Result<(u64, &[u8]), CborFault>
 
 /// A head at the front: its major type and its argument, and the bytes after it.
 #[tactic(auto, unfolding(spec::specs::Head::head_at))]
+#[inline(always)]
 pub(crate) fn head(bytes: &[u8]) -> Result<((u8, u64), &[u8]), CborFault>
     ensures read { Gives (λ x. (x.0, x.1.now)) fault_of result (head_at bytes.now) }
     ensures no_longer { IfOk result (λ x. length x.1.now ≤ length bytes.now) }
@@ -108,6 +114,7 @@ pub(crate) fn head(bytes: &[u8]) -> Result<((u8, u64), &[u8]), CborFault>
 }
 
 /// The first `n` bytes and the others, or `Truncated` where there are fewer.
+#[inline]
 pub(crate) fn front(n: u64, bytes: &[u8]) -> Result<(&[u8], &[u8]), CborFault>
     ensures { Gives (λ x. (x.0.now, x.1.now)) fault_of result (front Truncated n bytes.now) }
 {
@@ -115,4 +122,20 @@ pub(crate) fn front(n: u64, bytes: &[u8]) -> Result<(&[u8], &[u8]), CborFault>
         return Err(CborFault::Truncated);
     }
     Ok(bytes.split_at(n as usize))
+}
+
+/// The argument of a head that has to have this major type, or else there is this fault.
+pub(crate) fn head_of(major: u8, fault: CborFault, bytes: &[u8]) -> Result<(u64, &[u8]), CborFault>
+    ensures { (f : heads.CborFault) → fault_of fault ≡ Some f → Gives (λ x. (x.0, x.1.now)) fault_of result (head_of major f bytes.now) }
+{
+    match bytes {
+        [] => Err(CborFault::Truncated),
+        [first, ..] => {
+            if *first / 32 != major {
+                return Err(fault);
+            }
+            let ((_, n), rest) = head(bytes)?;
+            Ok((n, rest))
+        }
+    }
 }

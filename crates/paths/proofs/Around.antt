@@ -37,29 +37,35 @@ put_pair-around p [] [] [] hx hm hy = refl
 put_pair-around p [] [] (y ∷ ys) hx hm hy = rw hy.0
 put_pair-around p [] (_ ∷ _) ys hx (present e q) hy = rw (present-equal p.0 e q)
 
-pub delete_pair-around : (key : List ℕ) (xs mid ys : List Pair) → Each (IsBefore key) xs → Here key mid → Each (IsAfter key) ys
+pub delete_pair-around : (key : List ℕ) (xs mid ys : List Pair) → Each (IsBefore key) xs → Here key mid
+    → Each (IsAfter key) ys
     → delete_pair key (xs ++ (mid ++ ys)) ≡ xs ++ ys
-delete_pair-around key (x ∷ xs) mid ys hx hm hy = rw hx.0 (ap (λ t. x ∷ t) (delete_pair-around key xs mid ys hx.1 hm hy))
+delete_pair-around key (x ∷ xs) mid ys hx hm hy =
+    rw hx.0 (ap (λ t. x ∷ t) (delete_pair-around key xs mid ys hx.1 hm hy))
 delete_pair-around key [] [] [] hx hm hy = refl
 delete_pair-around key [] [] (y ∷ ys) hx hm hy = rw hy.0
 delete_pair-around key [] (_ ∷ _) ys hx (present e q) hy = rw (present-equal key e q)
 
-pub value_in-around : (key : List ℕ) (xs mid ys : List Pair) → Each (IsBefore key) xs → Here key mid → Each (IsAfter key) ys
+pub value_in-around : (key : List ℕ) (xs mid ys : List Pair) → Each (IsBefore key) xs → Here key mid
+    → Each (IsAfter key) ys
     → value_in key (xs ++ (mid ++ ys)) ≡ value_of mid
 value_in-around key (x ∷ xs) mid ys hx hm hy = rw hx.0 (value_in-around key xs mid ys hx.1 hm hy)
 value_in-around key [] [] [] hx hm hy = refl
 value_in-around key [] [] (y ∷ ys) hx hm hy = rw hy.0
 value_in-around key [] (_ ∷ _) ys hx (present e q) hy = rw (present-equal key e q)
 
-pub all-after-same : (key k : List ℕ) (es : List Pair) → order k key ≡ Equal → Each (IsAfter k) es → Each (IsAfter key) es
+pub all-after-same : (key k : List ℕ) (es : List Pair) → order k key ≡ Equal → Each (IsAfter k) es
+    → Each (IsAfter key) es
 all-after-same key k [] h a = tt
 all-after-same key k (e ∷ es) h a = (after-same e.0 k key a.0 h, all-after-same key k es h a.1)
 
-pub all-after-trans : (key k : List ℕ) (es : List Pair) → order k key ≡ Greater → Each (IsAfter k) es → Each (IsAfter key) es
+pub all-after-trans : (key k : List ℕ) (es : List Pair) → order k key ≡ Greater → Each (IsAfter k) es
+    → Each (IsAfter key) es
 all-after-trans key k [] h a = tt
 all-after-trans key k (e ∷ es) h a = (after-trans e.0 k key a.0 h, all-after-trans key k es h a.1)
 
-around-first : (key : List ℕ) (e : Pair) (es : List Pair) (o : Ordering) → order e.0 key ≡ o → Each (IsAfter e.0) es → Around key es → Around key (e ∷ es)
+around-first : (key : List ℕ) (e : Pair) (es : List Pair) (o : Ordering) → order e.0 key ≡ o → Each (IsAfter e.0) es
+    → Around key es → Around key (e ∷ es)
 around-first key e es Less h a r = record {
   front = e ∷ r.front;
   mid = r.mid;
@@ -89,5 +95,13 @@ around-first key e es Greater h a r = record {
 }
 
 pub around : (key : List ℕ) (es : List Pair) → Ascending es → Around key es
-around key [] h = record { front = []; mid = []; back = []; whole = refl; front_before = tt; mid_here = absent; back_after = tt }
+around key [] h = record {
+  front = [];
+  mid = [];
+  back = [];
+  whole = refl;
+  front_before = tt;
+  mid_here = absent;
+  back_after = tt;
+}
 around key (e ∷ es) h = around-first key e es (order e.0 key) refl h.0 (around key es h.1)

@@ -17,18 +17,22 @@ pub record Balance (digest : List ℕ → List ℕ) (old new made gone read : Li
   pub read_old : (b : List ℕ) → 0 < count b read → 0 < count b old
   pub free : IsClashFree digest (made ++ read)
 
-module _ (digest : List ℕ → List ℕ) (old new made gone read : List (List ℕ)) (known : Balance digest old new made gone read) where
+module _ (digest : List ℕ → List ℕ) (old new made gone read : List (List ℕ))
+    (known : Balance digest old new made gone read) where
   abbrev is_unread : List ℕ → Bool
   is_unread b = not (has_cid (cid digest b) (map (cid digest) read))
 
   -- of what is made or read, one CID has one block
-  one : (a b : List ℕ) → 0 < count a made + count a read → 0 < count b made + count b read → cid digest a ≡ cid digest b → a ≡ b
+  one : (a b : List ℕ) → 0 < count a made + count a read → 0 < count b made + count b read
+      → cid digest a ≡ cid digest b → a ≡ b
   one a b h k e =
       let p = count-append a made read in
       let q = count-append b made read in
-      known.free a b (contains-counted a (made ++ read) (omega arith)) (contains-counted b (made ++ read) (omega arith)) e
+      known.free a b (contains-counted a (made ++ read) (omega arith))
+      (contains-counted b (made ++ read) (omega arith)) e
 
-  unread-case : (b : List ℕ) (t : Bool) → has_cid (cid digest b) (map (cid digest) read) ≡ t → 0 < count b (filter is_unread made) → (0 < count b made) × (count b read ≡ 0)
+  unread-case : (b : List ℕ) (t : Bool) → has_cid (cid digest b) (map (cid digest) read) ≡ t
+      → 0 < count b (filter is_unread made) → (0 < count b made) × (count b read ≡ 0)
   unread-case b true h k = let z = filter-out is_unread b made (ap not h) in absurd (omega arith)
   unread-case b false h k =
       let e = filter-in is_unread b made (ap not h) in
@@ -58,9 +62,11 @@ module _ (digest : List ℕ → List ℕ) (old new made gone read : List (List �
       (contains-counted b new (omega arith), λ d. let k = counted-contains b read d in absurd (omega arith))
 
   -- a made block that is not old
-  unread-made : (b : List ℕ) → 0 < count b made → count b old ≡ 0 → (t : Bool) → has_cid (cid digest b) (map (cid digest) read) ≡ t → t ≡ false
+  unread-made : (b : List ℕ) → 0 < count b made → count b old ≡ 0 → (t : Bool)
+      → has_cid (cid digest b) (map (cid digest) read) ≡ t → t ≡ false
   unread-made b m o true h =
-      let f : From (cid digest) (cid digest b) read = from-map (cid digest) (cid digest b) read (has-counted (cid digest b) (map (cid digest) read) h) in
+      let f : From (cid digest) (cid digest b) read =
+      from-map (cid digest) (cid digest b) read (has-counted (cid digest b) (map (cid digest) read) h) in
       let s : 0 < count f.source read = f.stands in
       let e : f.source ≡ b = one f.source b (omega arith) (omega arith) f.is in
       let r : count f.source read ≡ count b read = ap (λ x. count x read) e in
@@ -74,7 +80,8 @@ module _ (digest : List ℕ → List ℕ) (old new made gone read : List (List �
       let h : t ≡ false = unread-made b m o t refl in
       let e = filter-in is_unread b made (ap not h) in
       firsts-some (cid digest) b (filter is_unread made)
-      (λ a l c. let x = filter-fewer is_unread a made in let y : 0 < count a (filter is_unread made) = l in one a b (omega arith) (omega arith) c)
+      (λ a l c. let x = filter-fewer is_unread a made in let y : 0 < count a (filter is_unread made) = l in
+      one a b (omega arith) (omega arith) c)
       (omega arith)
 
   none-old : (b : List ℕ) (k : ℕ) → count b old ≡ k → (Contains old b → ⊥) → k ≡ 0
@@ -98,7 +105,9 @@ module _ (digest : List ℕ → List ℕ) (old new made gone read : List (List �
   abbrev not_made : List ℕ → Bool
   not_made c = not (has_cid c (map (cid digest) made))
 
-  drop-case : (c : List ℕ) (t : Bool) → has_cid c (map (cid digest) made) ≡ t → 0 < count c (drop_of digest made gone) → (0 < count c (map (cid digest) gone)) × (count c (map (cid digest) made) ≡ 0)
+  drop-case : (c : List ℕ) (t : Bool) → has_cid c (map (cid digest) made) ≡ t
+      → 0 < count c (drop_of digest made gone)
+      → (0 < count c (map (cid digest) gone)) × (count c (map (cid digest) made) ≡ 0)
   drop-case c true h k = let z = filter-out not_made c (map (cid digest) gone) (ap not h) in absurd (omega arith)
   drop-case c false h k =
       let e = filter-in not_made c (map (cid digest) gone) (ap not h) in
@@ -114,16 +123,19 @@ module _ (digest : List ℕ → List ℕ) (old new made gone read : List (List �
       let b = f.source in
       let s : 0 < count b gone = f.stands in
       let m = count-map (cid digest) b made in
-      let n : count (cid digest b) (map (cid digest) made) ≡ count c (map (cid digest) made) = ap (λ x. count x (map (cid digest) made)) f.is in
+      let n : count (cid digest b) (map (cid digest) made)
+      ≡ count c (map (cid digest) made) = ap (λ x. count x (map (cid digest) made)) f.is in
       let z : count c (map (cid digest) made) ≡ 0 = u.1 in
       let g = known.gone_old b in
       let o = known.old_once b in
       let e = known.even b in
       (b, contains-counted b old (omega arith), (λ k. let l = counted-contains b new k in absurd (omega arith)), f.is)
 
-  made-none : (b : List ℕ) → 0 < count b gone → count b made ≡ 0 → (t : Bool) → has_cid (cid digest b) (map (cid digest) made) ≡ t → t ≡ false
+  made-none : (b : List ℕ) → 0 < count b gone → count b made ≡ 0 → (t : Bool)
+      → has_cid (cid digest b) (map (cid digest) made) ≡ t → t ≡ false
   made-none b g m true h =
-      let f : From (cid digest) (cid digest b) made = from-map (cid digest) (cid digest b) made (has-counted (cid digest b) (map (cid digest) made) h) in
+      let f : From (cid digest) (cid digest b) made =
+      from-map (cid digest) (cid digest b) made (has-counted (cid digest b) (map (cid digest) made) h) in
       let s : 0 < count f.source made = f.stands in
       let r : 0 < count b read = known.gone_read b g in
       let e : f.source ≡ b = one f.source b (omega arith) (omega arith) f.is in
@@ -131,7 +143,8 @@ module _ (digest : List ℕ → List ℕ) (old new made gone read : List (List �
       absurd (omega arith)
   made-none b g m false h = refl
 
-  is-dropped : (b : List ℕ) → Contains old b → (Contains new b → ⊥) → 0 < count (cid digest b) (drop_of digest made gone)
+  is-dropped : (b : List ℕ) → Contains old b → (Contains new b → ⊥)
+      → 0 < count (cid digest b) (drop_of digest made gone)
   is-dropped b o n =
       let k = counted-contains b old o in
       let z = none-new b (count b new) refl n in
@@ -148,7 +161,8 @@ module _ (digest : List ℕ → List ℕ) (old new made gone read : List (List �
   dropped-in : (c : List ℕ) → IsDropped c → Contains (drop_of digest made gone) c
   dropped-in c (b, o, n, e) =
       let k = is-dropped b o n in
-      let f : count (cid digest b) (drop_of digest made gone) ≡ count c (drop_of digest made gone) = ap (λ x. count x (drop_of digest made gone)) e in
+      let f : count (cid digest b) (drop_of digest made gone)
+      ≡ count c (drop_of digest made gone) = ap (λ x. count x (drop_of digest made gone)) e in
       contains-counted c (drop_of digest made gone) (omega arith)
 
   pub changes : AreChanges digest old new read (add_of digest read made) (drop_of digest made gone)
@@ -157,5 +171,6 @@ module _ (digest : List ℕ → List ℕ) (old new made gone read : List (List �
     whole = whole;
     once = λ c. firsts-once (cid digest) c (filter is_unread made);
     dropped = λ c. (dropped-is c, dropped-in c);
-    drop_once = λ c. let l = known.gone_once c in let k = filter-fewer not_made c (map (cid digest) gone) in omega arith;
+    drop_once = λ c. let l = known.gone_once c in let k = filter-fewer not_made c (map (cid digest) gone) in
+        omega arith;
   }

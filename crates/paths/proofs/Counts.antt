@@ -6,8 +6,8 @@ use Rattle.std.specs.declared.cmp.Ordering.{Ordering}
 use Rattle.std.specs.declared.cmp.Ordering.TheVariants.{Less, Equal, Greater}
 use Rattle.paths.specs.Order.{order, if_equal}
 use Rattle.spec.specs.Tree.{Pair, Node, Part, Last, More, Nothing, Sub}
-use Rattle.paths.specs.Edit.{first, with_first, onto, locate, close, open_part, split, join, merge, lift, layer_of, node_put, put_above, node_delete}
-use Rattle.paths.specs.Trace.{nodes_of, made_close, last_part, split_gone, split_made, merge_gone, merge_made, insert_list, insert_list_at, put_in_gone, put_in_made, put_gone, put_made, lift_made, remove_list_at, delete_in_gone, delete_in_made, delete_gone, delete_made, prune_gone, above_gone, above_made, put_top_gone, put_top_made, find_reads, answer_reads, answer_reads_at, prune_reads, settle_made, settle_reads, at_lone, delete_path_made, delete_path_reads}
+use Rattle.paths.specs.TreeEdit.{first, with_first, onto, locate, close, open_part, split, join, merge, lift, layer_of, node_put, put_above, node_delete}
+use Rattle.paths.specs.Trace.{nodes_of, made_close, last_part, split_gone, split_made, merge_gone, merge_made, insert_list, insert_list_at, put_in_gone, put_in_made, put_gone, put_made, lift_made, remove_list_at, delete_in_gone, delete_in_made, delete_gone, delete_made, prune_gone, above_gone, above_made, put_top_gone, put_top_made, find_path, beside, settle_made, settle_reads, at_lone, delete_path_made, delete_path_reads}
 
 close-one : (m : Node) → length (made_close m) ≤ 1
 close-one (Last Nothing) = omega arith
@@ -18,23 +18,24 @@ nodes-one : (g : Part) → length (nodes_of g) ≤ 1
 nodes-one Nothing = omega arith
 nodes-one (Sub m) = omega arith
 
--- ---- get
+-- ---- look-ups
 
-answer_at-most : (o : Ordering) (k n : ℕ) → k ≤ n → answer_reads_at o k ≤ n
-answer_at-most Less k n h = h
-answer_at-most Equal k n h = omega arith
-answer_at-most Greater k n h = h
+if_equal-most : (o : Ordering) (n : ℕ) (ms : List Node) → length ms ≤ n → length (if_equal o [] ms) ≤ n
+if_equal-most Less n ms h = h
+if_equal-most Equal n ms h = omega arith
+if_equal-most Greater n ms h = h
 
-answer-most : (key : List ℕ) (k n : ℕ) (m : Node) → k ≤ n → answer_reads key k m ≤ n
-answer-most key k n (Last p) h = h
-answer-most key k n (More p e r) h = answer_at-most (order e.0 key) k n h
+beside-most : (key : List ℕ) (h : Node) (n : ℕ) (ms : List Node) → length ms ≤ n
+    → length (beside key h (λ p q. []) ms) ≤ n
+beside-most key (Last p) n ms h = h
+beside-most key (More p e r) n ms h = if_equal-most (order e.0 key) n ms h
 
-pub find-reads : (n : ℕ) (key : List ℕ) (p : Part) → find_reads n key p ≤ n
-find-reads zero key p = omega arith
-find-reads (suc n) key Nothing = omega arith
-find-reads (suc n) key (Sub m) =
+pub find_path-most : (n : ℕ) (key : List ℕ) (p : Part) → length (find_path n key p) ≤ n
+find_path-most zero key p = omega arith
+find_path-most (suc n) key Nothing = omega arith
+find_path-most (suc n) key (Sub m) =
     let h = (locate key m).here in
-    let i = answer-most key (find_reads n key (first h)) n h (find-reads n key (first h)) in
+    let i = beside-most key h n (find_path n key (first h)) (find_path-most n key (first h)) in
     omega arith
 
 -- ---- split and merge
@@ -55,7 +56,11 @@ split-made (suc n) key (Sub m) =
     let i = split-made n key (first q.here) in
     let c = close-one a in
     let d = close-one b in
-    omega (arith, length-append (split_made n key (first q.here)) (made_close a ++ made_close b), length-append (made_close a) (made_close b))
+    omega (
+      arith,
+      length-append (split_made n key (first q.here)) (made_close a ++ made_close b),
+      length-append (made_close a) (made_close b),
+    )
 
 pub merge-made : (n : ℕ) (p q : Part) → length (merge_made n p q) ≤ n
 merge-made zero p q = omega arith
@@ -90,10 +95,12 @@ cond-most true xs ys k h g = h
 cond-most false xs ys k h g = g
 
 put_in-gone : (n : ℕ) (p : Pair) (m : Node) → length (put_in_gone n p m) ≤ n
-put_in-gone n p m = let h = (locate p.0 m).here in insert-most p.0 h (split_gone n p.0 (first h)) n (split-gone n p.0 (first h))
+put_in-gone n p m = let h = (locate p.0 m).here in
+    insert-most p.0 h (split_gone n p.0 (first h)) n (split-gone n p.0 (first h))
 
 put_in-made : (n : ℕ) (p : Pair) (m : Node) → length (put_in_made n p m) ≤ 2 * n
-put_in-made n p m = let h = (locate p.0 m).here in insert-most p.0 h (split_made n p.0 (first h)) (2 * n) (split-made n p.0 (first h))
+put_in-made n p m = let h = (locate p.0 m).here in
+    insert-most p.0 h (split_made n p.0 (first h)) (2 * n) (split-made n p.0 (first h))
 
 pub put-gone : (layer : List ℕ → ℕ) (n : ℕ) (p : Pair) (m : Node) → length (put_gone layer n p m) ≤ n
 put-gone layer zero p m = put_in-gone zero p m
@@ -101,7 +108,8 @@ put-gone layer (suc n) p m =
     let g = first (locate p.0 m).here in
     let i = put-gone layer n p (open_part g) in
     let o = nodes-one g in
-    cond-most (nat_eq (layer p.0) (suc n)) (put_in_gone (suc n) p m) (nodes_of g ++ put_gone layer n p (open_part g)) (suc n)
+    cond-most (nat_eq (layer p.0) (suc n)) (put_in_gone (suc n) p m)
+    (nodes_of g ++ put_gone layer n p (open_part g)) (suc n)
     (put_in-gone (suc n) p m) (omega (arith, length-append (nodes_of g) (put_gone layer n p (open_part g))))
 
 pub put-made : (layer : List ℕ → ℕ) (n : ℕ) (p : Pair) (m : Node) → length (put_made layer n p m) ≤ 2 * n
@@ -110,7 +118,8 @@ put-made layer (suc n) p m =
     let g = first (locate p.0 m).here in
     let new = node_put layer n p (open_part g) in
     let i = put-made layer n p (open_part g) in
-    cond-most (nat_eq (layer p.0) (suc n)) (put_in_made (suc n) p m) (put_made layer n p (open_part g) ++ (new ∷ [])) (2 * suc n)
+    cond-most (nat_eq (layer p.0) (suc n)) (put_in_made (suc n) p m)
+    (put_made layer n p (open_part g) ++ (new ∷ [])) (2 * suc n)
     (put_in-made (suc n) p m) (omega (arith, length-append (put_made layer n p (open_part g)) (new ∷ [])))
 
 lift-made : (d : ℕ) (p : Part) → length (lift_made d p) ≤ d
@@ -133,10 +142,16 @@ above-made j t p m l =
     let b = lift-made d s.0 in
     let c = lift-made d s.1 in
     let z = put_above j t p m ∷ [] in
-    omega (arith, length-append (split_made (suc t) p.0 (close m)) (lift_made d s.0 ++ (lift_made d s.1 ++ z)), length-append (lift_made d s.0) (lift_made d s.1 ++ z), length-append (lift_made d s.1) z)
+    omega (
+      arith,
+      length-append (split_made (suc t) p.0 (close m)) (lift_made d s.0 ++ (lift_made d s.1 ++ z)),
+      length-append (lift_made d s.0) (lift_made d s.1 ++ z),
+      length-append (lift_made d s.1) z,
+    )
 
 -- what a put reads is what it uses up
-pub put_top-gone : (layer : List ℕ → ℕ) (p : Pair) (m : Node) → length (put_top_gone layer p m) ≤ suc (max (layer_of layer m) (layer p.0))
+pub put_top-gone : (layer : List ℕ → ℕ) (p : Pair) (m : Node)
+    → length (put_top_gone layer p m) ≤ suc (max (layer_of layer m) (layer p.0))
 put_top-gone layer p m =
     let t = layer_of layer m in
     let j = layer p.0 in
@@ -152,8 +167,10 @@ put_top-cases layer p m t j false h =
     let l = ltb-false t j h in let i = put-made layer t p m in
     omega (arith, length-append (put_made layer t p m) (node_put layer t p m ∷ []))
 
-pub put_top-made : (layer : List ℕ → ℕ) (p : Pair) (m : Node) → length (put_top_made layer p m) ≤ 2 * max (layer_of layer m) (layer p.0) + 1
-put_top-made layer p m = put_top-cases layer p m (layer_of layer m) (layer p.0) (nat_lt (layer_of layer m) (layer p.0)) refl
+pub put_top-made : (layer : List ℕ → ℕ) (p : Pair) (m : Node)
+    → length (put_top_made layer p m) ≤ 2 * max (layer_of layer m) (layer p.0) + 1
+put_top-made layer p m =
+    put_top-cases layer p m (layer_of layer m) (layer p.0) (nat_lt (layer_of layer m) (layer p.0)) refl
 
 -- ---- delete
 
@@ -164,16 +181,20 @@ remove_at-most Greater ms k h = omega arith
 
 delete_in-made : (n : ℕ) (key : List ℕ) (m : Node) → length (delete_in_made n key m) ≤ n
 delete_in-made n key (Last g) = omega arith
-delete_in-made n key (More g e r) = remove_at-most (order e.0 key) (merge_made n g (first r)) n (merge-made n g (first r))
+delete_in-made n key (More g e r) =
+    remove_at-most (order e.0 key) (merge_made n g (first r)) n (merge-made n g (first r))
 
-twice-at : (o : Ordering) (xs ys : List Node) → length xs ≡ 2 * length ys → length (remove_list_at o xs) ≡ 2 * length (remove_list_at o ys)
+twice-at : (o : Ordering) (xs ys : List Node) → length xs ≡ 2 * length ys
+    → length (remove_list_at o xs) ≡ 2 * length (remove_list_at o ys)
 twice-at Less xs ys h = refl
 twice-at Equal xs ys h = h
 twice-at Greater xs ys h = refl
 
-delete_in-gone : (n : ℕ) (key : List ℕ) (m : Node) → length (delete_in_gone n key m) ≡ 2 * length (delete_in_made n key m)
+delete_in-gone : (n : ℕ) (key : List ℕ) (m : Node)
+    → length (delete_in_gone n key m) ≡ 2 * length (delete_in_made n key m)
 delete_in-gone n key (Last g) = refl
-delete_in-gone n key (More g e r) = twice-at (order e.0 key) (merge_gone n g (first r)) (merge_made n g (first r)) (merge-gone n g (first r))
+delete_in-gone n key (More g e r) =
+    twice-at (order e.0 key) (merge_gone n g (first r)) (merge_made n g (first r)) (merge-gone n g (first r))
 
 pub delete-made : (layer : List ℕ → ℕ) (n : ℕ) (key : List ℕ) (m : Node) → length (delete_made layer n key m) ≤ n
 delete-made layer zero key m = delete_in-made zero key (locate key m).here
@@ -182,8 +203,10 @@ delete-made layer (suc n) key m =
     let new = node_delete layer n key (open_part (first h)) in
     let i = delete-made layer n key (open_part (first h)) in
     let c = close-one new in
-    cond-most (nat_eq (layer key) (suc n)) (delete_in_made (suc n) key h) (delete_made layer n key (open_part (first h)) ++ made_close new) (suc n)
-    (delete_in-made (suc n) key h) (omega (arith, length-append (delete_made layer n key (open_part (first h))) (made_close new)))
+    cond-most (nat_eq (layer key) (suc n)) (delete_in_made (suc n) key h)
+    (delete_made layer n key (open_part (first h)) ++ made_close new) (suc n)
+    (delete_in-made (suc n) key h)
+    (omega (arith, length-append (delete_made layer n key (open_part (first h))) (made_close new)))
 
 pub delete-gone : (layer : List ℕ → ℕ) (n : ℕ) (key : List ℕ) (m : Node) → length (delete_gone layer n key m) ≤ 2 * n
 delete-gone layer zero key m =
@@ -195,24 +218,9 @@ delete-gone layer (suc n) key m =
     let o = nodes-one (first h) in
     let j = delete_in-gone (suc n) key h in
     let k = delete_in-made (suc n) key h in
-    cond-most (nat_eq (layer key) (suc n)) (delete_in_gone (suc n) key h) (nodes_of (first h) ++ delete_gone layer n key (open_part (first h))) (2 * suc n)
+    cond-most (nat_eq (layer key) (suc n)) (delete_in_gone (suc n) key h)
+    (nodes_of (first h) ++ delete_gone layer n key (open_part (first h))) (2 * suc n)
     (omega arith) (omega (arith, length-append (nodes_of (first h)) (delete_gone layer n key (open_part (first h)))))
-
-pub prune-reads : (k n : ℕ) (m : Node) → prune_reads k n m ≤ n - k
-prune-reads k zero m = omega arith
-prune-reads k (suc n) (Last Nothing) = omega arith
-prune-reads zero (suc n) (Last (Sub m)) = let i = prune-reads zero n m in omega arith
-prune-reads (suc k) (suc n) (Last (Sub m)) = let i = prune-reads k n m in omega arith
-prune-reads k (suc n) (More p e r) = omega arith
-
--- where the key stands in the top: the top, two nodes for each level merged, and one for each level below that pruning looks at
-pub delete_in-reads : (n : ℕ) (key : List ℕ) (h m : Node)
-    → suc (length (delete_in_gone n key h) + prune_reads (length (delete_in_made n key h)) n m) ≤ 2 * n + 1
-delete_in-reads n key h m =
-    let i = delete_in-gone n key h in
-    let j = delete_in-made n key h in
-    let k = prune-reads (length (delete_in_made n key h)) n m in
-    omega arith
 
 prune-gone : (n : ℕ) (m : Node) → length (prune_gone n m) ≤ n
 prune-gone zero m = omega arith
@@ -226,8 +234,10 @@ settle-reads (suc n) Nothing Nothing = omega arith
 settle-reads (suc n) Nothing (Sub k) = let i = prune-gone n k in omega arith
 settle-reads (suc n) (Sub m) Nothing = let i = prune-gone n m in omega arith
 settle-reads (suc n) (Sub (Last p)) (Sub (Last q)) = let i = settle-reads n p q in omega arith
-settle-reads (suc n) (Sub (Last p)) (Sub (More q e r)) = let i = merge-gone n p q in let j = merge-made n p q in omega arith
-settle-reads (suc n) (Sub (More p e r)) (Sub k) = let i = merge-gone n (last_part r) (first k) in let j = merge-made n (last_part r) (first k) in omega arith
+settle-reads (suc n) (Sub (Last p)) (Sub (More q e r)) = let i = merge-gone n p q in let j = merge-made n p q in
+    omega arith
+settle-reads (suc n) (Sub (More p e r)) (Sub k) = let i = merge-gone n (last_part r) (first k) in
+    let j = merge-made n (last_part r) (first k) in omega arith
 
 pub settle-made : (n : ℕ) (p q : Part) → length (settle_made n p q) ≤ suc n
 settle-made zero p q = omega arith
@@ -239,36 +249,46 @@ settle-made (suc n) (Sub (Last p)) (Sub (More q e r)) =
     let j = merge-made n p q in omega (arith, length-append (merge_made n p q) (More (merge n p q) e r ∷ []))
 settle-made (suc n) (Sub (More p e r)) (Sub k) =
     let j = merge-made n (last_part r) (first k) in
-    omega (arith, length-append (merge_made n (last_part r) (first k)) (join (λ x. merge n x (first k)) (More p e r) k ∷ []))
+    omega (
+      arith,
+      length-append (merge_made n (last_part r) (first k))
+          (join (λ x. merge n x (first k)) (More p e r) k ∷ []),
+    )
 
 choice-most : (o : Ordering) (x y k : ℕ) → x ≤ k → y ≤ k → if_equal o x y ≤ k
 choice-most Less x y k h g = g
 choice-most Equal x y k h g = h
 choice-most Greater x y k h g = g
 
-choice-short : (o : Ordering) (xs ys : List Node) (k : ℕ) → length xs ≤ k → length ys ≤ k → length (if_equal o xs ys) ≤ k
+choice-short : (o : Ordering) (xs ys : List Node) (k : ℕ) → length xs ≤ k → length ys ≤ k
+    → length (if_equal o xs ys) ≤ k
 choice-short Less xs ys k h g = g
 choice-short Equal xs ys k h g = h
 choice-short Greater xs ys k h g = g
 
-lone-most : (key : List ℕ) (m : Node) (x : Part → Part → ℕ) (y k : ℕ) → ((p q : Part) → x p q ≤ k) → y ≤ k → at_lone key m x y ≤ k
+lone-most : (key : List ℕ) (m : Node) (x : Part → Part → ℕ) (y k : ℕ) → ((p q : Part) → x p q ≤ k) → y ≤ k
+    → at_lone key m x y ≤ k
 lone-most key (Last p) x y k h g = g
 lone-most key (More p e (Last q)) x y k h g = choice-most (order e.0 key) (x p q) y k (h p q) g
 lone-most key (More p e (More q f r)) x y k h g = g
 
-lone-short : (key : List ℕ) (m : Node) (x : Part → Part → List Node) (y : List Node) (k : ℕ) → ((p q : Part) → length (x p q) ≤ k) → length y ≤ k → length (at_lone key m x y) ≤ k
+lone-short : (key : List ℕ) (m : Node) (x : Part → Part → List Node) (y : List Node) (k : ℕ)
+    → ((p q : Part) → length (x p q) ≤ k) → length y ≤ k → length (at_lone key m x y) ≤ k
 lone-short key (Last p) x y k h g = g
 lone-short key (More p e (Last q)) x y k h g = choice-short (order e.0 key) (x p q) y k (h p q) g
 lone-short key (More p e (More q f r)) x y k h g = g
 
 -- a delete reads at most 2 t + 1 nodes, t the top's layer
-pub delete_path-reads : (layer : List ℕ → ℕ) (key : List ℕ) (m : Node) → delete_path_reads layer key m ≤ 2 * layer_of layer m + 1
+pub delete_path-reads : (layer : List ℕ → ℕ) (key : List ℕ) (m : Node)
+    → delete_path_reads layer key m ≤ 2 * layer_of layer m + 1
 delete_path-reads layer key m =
     let t = layer_of layer m in
-    let i = lone-most key m (settle_reads t) (length (delete_gone layer t key m)) (2 * t) (settle-reads t) (delete-gone layer t key m) in
+    let i = lone-most key m (settle_reads t) (length (delete_gone layer t key m)) (2 * t) (settle-reads t)
+    (delete-gone layer t key m) in
     omega arith
 
-pub delete_path-made : (layer : List ℕ → ℕ) (key : List ℕ) (m : Node) → length (delete_path_made layer key m) ≤ layer_of layer m + 1
+pub delete_path-made : (layer : List ℕ → ℕ) (key : List ℕ) (m : Node)
+    → length (delete_path_made layer key m) ≤ layer_of layer m + 1
 delete_path-made layer key m =
     let t = layer_of layer m in
     let d = delete-made layer t key m in

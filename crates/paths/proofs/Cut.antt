@@ -1,7 +1,7 @@
 -- How a cut list joins, and where a key's place is in a node made from it.
 use Rattle.std.proofs.Common.{◌≡◌, ℕ, Bool, true, false, nat_eq, List, [], ◌∷◌, ◌++◌, refl, ap, ◌∙◌}
 use Rattle.spec.specs.Tree.{Pair, Node, Part, Last, More, Groups, LastGroup, MoreGroups, push, enter, cut, node_of}
-use Rattle.paths.specs.Edit.{first, with_first, onto, locate}
+use Rattle.paths.specs.TreeEdit.{first, with_first, onto, locate}
 use Rattle.paths.specs.Pairs.{IsBefore}
 
 abbrev pub befores : (List Pair → Part) → Groups → List (Part × Pair)
@@ -37,22 +37,26 @@ ahead-nil : (h : Groups) → h ≡ ahead [] h
 ahead-nil (LastGroup g) = refl
 ahead-nil (MoreGroups g e r) = refl
 
-pub cut-append : (layer : List ℕ → ℕ) (n : ℕ) (xs ys : List Pair) → cut layer n (xs ++ ys) ≡ glue (cut layer n xs) (cut layer n ys)
+pub cut-append : (layer : List ℕ → ℕ) (n : ℕ) (xs ys : List Pair)
+    → cut layer n (xs ++ ys) ≡ glue (cut layer n xs) (cut layer n ys)
 cut-append layer n [] ys = ahead-nil (cut layer n ys)
 cut-append layer n (e ∷ es) ys =
     let b = nat_eq (layer e.0) n in
     ap (enter b e) (cut-append layer n es ys) ∙ enter-glue b e (cut layer n es) (cut layer n ys)
 
-node-ahead : (part : List Pair → Part) (a : List Pair) (h : Groups) → node_of part (ahead a h) ≡ with_first (part (a ++ first_group h)) (node_of part h)
+node-ahead : (part : List Pair → Part) (a : List Pair) (h : Groups)
+    → node_of part (ahead a h) ≡ with_first (part (a ++ first_group h)) (node_of part h)
 node-ahead part a (LastGroup g) = refl
 node-ahead part a (MoreGroups g e r) = refl
 
 pub node-glue : (part : List Pair → Part) (g h : Groups)
-    → node_of part (glue g h) ≡ onto (befores part g) (with_first (part (last_group g ++ first_group h)) (node_of part h))
+    → node_of part (glue g h)
+    ≡ onto (befores part g) (with_first (part (last_group g ++ first_group h)) (node_of part h))
 node-glue part (LastGroup a) h = node-ahead part a h
 node-glue part (MoreGroups a e r) h = ap (More (part a) e) (node-glue part r h)
 
-pub node-whole : (part : List Pair → Part) (g : Groups) → onto (befores part g) (Last (part (last_group g))) ≡ node_of part g
+pub node-whole : (part : List Pair → Part) (g : Groups)
+    → onto (befores part g) (Last (part (last_group g))) ≡ node_of part g
 node-whole part (LastGroup a) = refl
 node-whole part (MoreGroups a e r) = ap (More (part a) e) (node-whole part r)
 
@@ -68,7 +72,8 @@ pub first-node_of : (part : List Pair → Part) (g : Groups) → first (node_of 
 first-node_of part (LastGroup g) = refl
 first-node_of part (MoreGroups g e r) = refl
 
-pub with_first-same : (part : List Pair → Part) (g : Groups) → with_first (part (first_group g)) (node_of part g) ≡ node_of part g
+pub with_first-same : (part : List Pair → Part) (g : Groups)
+    → with_first (part (first_group g)) (node_of part g) ≡ node_of part g
 with_first-same part (LastGroup g) = refl
 with_first-same part (MoreGroups g e r) = refl
 

@@ -4,7 +4,7 @@ use Rattle.std.specs.declared.cmp.Ordering.{Ordering}
 use Rattle.std.specs.declared.cmp.Ordering.TheVariants.{Less, Equal, Greater}
 use Rattle.paths.specs.Order.{order, if_equal}
 use Rattle.spec.specs.Tree.{Pair, Node, Part, Last, More, Nothing, Sub}
-use Rattle.paths.specs.Edit.{first, locate, open_part, layer_of}
+use Rattle.paths.specs.TreeEdit.{first, locate, open_part, layer_of}
 use Rattle.paths.specs.Trace.{weight, weight_under, total, nodes_of, last_part, split_gone, merge_gone, insert_list, insert_list_at, put_in_gone, put_gone, remove_list_at, delete_in_gone, delete_gone, prune_gone, above_gone, put_top_gone, settle_gone, delete_path_gone}
 use Rattle.paths.proofs.Weights.{total-append, weight-locate, weight-open, weight-prune}
 
@@ -61,7 +61,8 @@ module _ (w : Node → ℕ) where
       let j = rest-most p.0 m in
       let e = weight-open w g in
       let a = total-append w (nodes_of g) (put_gone layer n p (open_part g)) in
-      cond-old (nat_eq (layer p.0) (suc n)) (put_in_gone (suc n) p m) (nodes_of g ++ put_gone layer n p (open_part g)) (weight_under w m)
+      cond-old (nat_eq (layer p.0) (suc n)) (put_in_gone (suc n) p m)
+      (nodes_of g ++ put_gone layer n p (open_part g)) (weight_under w m)
       (put_in-old (suc n) p m) (omega arith)
 
   above-old : (t : ℕ) (key : List ℕ) (m : Node) → total w (above_gone t key m) ≤ weight w (Sub m)
@@ -73,7 +74,8 @@ module _ (w : Node → ℕ) where
   put_top-old layer p m =
       let t = layer_of layer m in
       let i = put-old layer t p m in
-      cond-old (nat_lt t (layer p.0)) (above_gone t p.0 m) (m ∷ put_gone layer t p m) (weight w (Sub m)) (above-old t p.0 m) (omega arith)
+      cond-old (nat_lt t (layer p.0)) (above_gone t p.0 m) (m ∷ put_gone layer t p m) (weight w (Sub m))
+      (above-old t p.0 m) (omega arith)
 
   remove_at-old : (o : Ordering) (ms : List Node) (k : ℕ) → total w ms ≤ k → total w (remove_list_at o ms) ≤ k
   remove_at-old Less ms k h = omega arith
@@ -87,7 +89,8 @@ module _ (w : Node → ℕ) where
       let j = first-most r in
       remove_at-old (order e.0 key) (merge_gone n g (first r)) (weight w g + weight_under w r) (omega arith)
 
-  pub delete-old : (layer : List ℕ → ℕ) (n : ℕ) (key : List ℕ) (m : Node) → total w (delete_gone layer n key m) ≤ weight_under w m
+  pub delete-old : (layer : List ℕ → ℕ) (n : ℕ) (key : List ℕ) (m : Node)
+      → total w (delete_gone layer n key m) ≤ weight_under w m
   delete-old layer zero key m =
       let i = delete_in-old zero key (locate key m).here in let e = weight-locate w key m in omega arith
   delete-old layer (suc n) key m =
@@ -99,7 +102,8 @@ module _ (w : Node → ℕ) where
       let l = weight-locate w key m in
       let d = delete_in-old (suc n) key h in
       let a = total-append w (nodes_of g) (delete_gone layer n key (open_part g)) in
-      cond-old (nat_eq (layer key) (suc n)) (delete_in_gone (suc n) key h) (nodes_of g ++ delete_gone layer n key (open_part g)) (weight_under w m)
+      cond-old (nat_eq (layer key) (suc n)) (delete_in_gone (suc n) key h)
+      (nodes_of g ++ delete_gone layer n key (open_part g)) (weight_under w m)
       (omega arith) (omega arith)
 
   prune-old : (n : ℕ) (m : Node) → total w (prune_gone n m) ≤ weight w (Sub m)
@@ -115,18 +119,22 @@ module _ (w : Node → ℕ) where
   settle-old (suc n) (Sub (More p e r)) (Sub k) =
       let i = merge-old n (last_part r) (first k) in let a = last-most r in let b = first-most k in omega arith
 
-  choice-old : (o : Ordering) (xs ys : List Node) (k : ℕ) → total w xs ≤ k → total w ys ≤ k → total w (if_equal o xs ys) ≤ k
+  choice-old : (o : Ordering) (xs ys : List Node) (k : ℕ) → total w xs ≤ k → total w ys ≤ k
+      → total w (if_equal o xs ys) ≤ k
   choice-old Less xs ys k h g = g
   choice-old Equal xs ys k h g = h
   choice-old Greater xs ys k h g = g
 
-  pub delete_path-old : (layer : List ℕ → ℕ) (key : List ℕ) (m : Node) → total w (delete_path_gone layer key m) ≤ weight w (Sub m)
+  pub delete_path-old : (layer : List ℕ → ℕ) (key : List ℕ) (m : Node)
+      → total w (delete_path_gone layer key m) ≤ weight w (Sub m)
   delete_path-old layer key (Last p) = let i = delete-old layer 0 key (Last p) in omega arith
   delete_path-old layer key (More p e (Last q)) =
       let t = layer e.0 in
       let m = More p e (Last q) in
       let i = delete-old layer t key m in
       let s = settle-old t p q in
-      let c = choice-old (order e.0 key) (settle_gone t p q) (delete_gone layer t key m) (weight_under w m) (omega arith) i in
+      let c = choice-old (order e.0 key) (settle_gone t p q) (delete_gone layer t key m) (weight_under w m)
+      (omega arith) i in
       omega arith
-  delete_path-old layer key (More p e (More q f r)) = let i = delete-old layer (layer e.0) key (More p e (More q f r)) in omega arith
+  delete_path-old layer key (More p e (More q f r)) =
+      let i = delete-old layer (layer e.0) key (More p e (More q f r)) in omega arith

@@ -1,8 +1,8 @@
 -- What holds of each pair of a list holds of each in its cut.
-use Rattle.std.proofs.Common.{◌≡◌, ℕ, zero, suc, ◌<◌, Bool, true, false, nat_eq, List, [], ◌∷◌, ◌++◌, refl, arith}
+use Rattle.std.proofs.Common.{◌≡◌, ℕ, zero, suc, ◌<◌, Bool, true, false, nat_eq, List, [], ◌∷◌, refl, arith}
 use Rattle.std.proofs.lemmas.Bool.{eqb-false}
 use Rattle.spec.specs.Tree.{Pair, Part, Sub, Groups, LastGroup, MoreGroups, push, enter, cut, node_of, below, tree}
-use Rattle.paths.specs.Edit.{with_first, locate, close}
+use Rattle.paths.specs.TreeEdit.{with_first, locate, close}
 use Rattle.paths.specs.Pairs.{Each, IsAfter}
 use Rattle.paths.proofs.Cut.{befores, last_group, first_group, Keys}
 use Rattle.spec.proofs.TreeLaws.{Inner, IsLower}
@@ -10,10 +10,6 @@ use Rattle.spec.proofs.TreeLaws.{Inner, IsLower}
 abbrev pub InGroups : (Pair → Type 0) → Groups → Type 0
 InGroups P (LastGroup g) = Each P g
 InGroups P (MoreGroups g e r) = Each P g × P e × InGroups P r
-
-pub Each-append : (P : Pair → Type 0) (xs ys : List Pair) → Each P xs → Each P ys → Each P (xs ++ ys)
-Each-append P [] ys h k = k
-Each-append P (x ∷ xs) ys h k = (h.0, Each-append P xs ys h.1 k)
 
 enter-in : (P : Pair → Type 0) (b : Bool) (e : Pair) (g : Groups) → P e → InGroups P g → InGroups P (enter b e g)
 enter-in P true e g p h = (tt, p, h)
@@ -61,7 +57,8 @@ close-entered layer n true e g h = refl
 close-entered layer zero false e g h = let l : layer e.0 < zero = h refl in absurd (omega arith)
 close-entered layer (suc m) false e g h = close-pushed layer m e g
 
-pub close-tree : (layer : List ℕ → ℕ) (n : ℕ) (es : List Pair) → Each (IsLower layer (suc n)) es → close (tree layer n es) ≡ below layer (suc n) es
+pub close-tree : (layer : List ℕ → ℕ) (n : ℕ) (es : List Pair) → Each (IsLower layer (suc n)) es
+    → close (tree layer n es) ≡ below layer (suc n) es
 close-tree layer zero [] h = refl
 close-tree layer (suc m) [] h = refl
 close-tree layer n (e ∷ es) h =

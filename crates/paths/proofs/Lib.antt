@@ -1,27 +1,51 @@
+-- In the order in which they are best read.
+-- ---- keys and lists of pairs
+pub mod Orders
+pub mod EachPair
+pub mod Around
+pub mod RecordMaps
+-- ---- an edit of a tree is the tree from scratch
 pub mod Cut
 pub mod Groups
 pub mod Split
-pub mod Orders
-pub mod Around
 pub mod Places
 pub mod Edits
 pub mod Tops
-pub mod Order_kept
-pub mod Weights
-pub mod Counts
-pub mod Flat
-pub mod Clash
 pub mod Settle
+-- ---- which nodes are read and made, and how many
+pub mod Within
+pub mod Weights
 pub mod Gone
-pub mod Differences
-pub mod Bridges
-pub mod Examples
-pub mod Top_shapes
-pub mod Delete_shapes
-pub mod Settle_shapes
-pub mod Delete_top_shapes
-pub mod Proof_path
+pub mod Counts
+pub mod Traces
+pub mod Enough
+pub mod PathIsRead
+pub mod PathReads
+-- ---- walks
+pub mod WalkPairs
+pub mod WalkReads
+-- ---- the same from shapes
+pub mod ShapeBridges
+pub mod PutTopShapes
+pub mod DeleteShapes
+pub mod SettleShapes
+pub mod DeleteTopShapes
+pub mod PathForms
+-- ---- the same over a source
+pub mod SourceLaws
+pub mod DeleteSource
+pub mod OverSource
+-- ---- which blocks come and go
 pub mod Lists
 pub mod Changes
-pub mod Maps
-pub mod Whole
+pub mod NodesOnce
+pub mod Balance
+pub mod BlockChanges
+-- ---- the laws
+pub mod LookupTheorems
+pub mod WalkRanges
+pub mod WalkTheorems
+pub mod PutTheorems
+pub mod DeleteTheorems
+pub mod RecordTheorems
+pub mod Examples

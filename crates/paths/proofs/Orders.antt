@@ -54,3 +54,11 @@ slices-equal (x ∷ xs) (y ∷ ys) h =
 pub order-equal : (x y : List ℕ) → order x y ≡ Equal → x ≡ y
 unfolding order
 order-equal x y h = slices-equal x y h
+
+-- the order of spec
+pub order-is : (x y : List ℕ) → slice_cmp nat_cmp x y ≡ order x y
+unfolding order
+order-is x y = refl
+
+pub before-trans : (x y key : List ℕ) → order x y ≡ Less → order y key ≡ Less → order x key ≡ Less
+before-trans x y key h k = order-total.trans x y key h k

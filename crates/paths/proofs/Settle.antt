@@ -5,7 +5,7 @@ use Rattle.std.specs.declared.cmp.Ordering.TheVariants.{Less, Equal, Greater}
 use Rattle.std.proofs.lemmas.Bool.{eq-eqb}
 use Rattle.paths.specs.Order.{order}
 use Rattle.spec.specs.Tree.{Pair, Node, Part, Last, More, Nothing, Sub, top}
-use Rattle.paths.specs.Edit.{first, with_first, onto, Place, further, locate, close, open_part, join, merge, descend, remove, remove_at, delete_in, node_delete, prune, delete_top, settle, lone_at, delete_path}
+use Rattle.paths.specs.TreeEdit.{first, with_first, onto, Place, further, locate, close, open_part, join, merge, descend, remove, remove_at, delete_in, node_delete, prune, delete_top, settle, lone_at, delete_path}
 use Rattle.paths.specs.Pairs.{Ascending, delete_pair}
 use Rattle.paths.proofs.Orders.{order-equal}
 use Rattle.paths.proofs.Tops.{delete-top}
@@ -37,22 +37,27 @@ with-rows p (Last q) h = h
 with-rows p (More q e r) h = tt
 
 -- a change after the first key, or of a node that keeps a key
-onto-rows : (o : Ordering) (p : Part) (e : Pair) (r : Node) (q : Place) (change : Node → Node) → ((o ≡ Less → ⊥) → HasRows (change (More p e r)))
+onto-rows : (o : Ordering) (p : Part) (e : Pair) (r : Node) (q : Place) (change : Node → Node)
+    → ((o ≡ Less → ⊥) → HasRows (change (More p e r)))
     → HasRows (onto (further o p e r q).before (change (further o p e r q).here))
 onto-rows Less p e r q change h = tt
 onto-rows Equal p e r q change h = h (λ c. cc)
 onto-rows Greater p e r q change h = h (λ c. cc)
 
-remove-rows : (n : ℕ) (o : Ordering) (p : Part) (e : Pair) (q : Part) (f : Pair) (r : Node) → HasRows (remove_at o n p e (More q f r))
+remove-rows : (n : ℕ) (o : Ordering) (p : Part) (e : Pair) (q : Part) (f : Pair) (r : Node)
+    → HasRows (remove_at o n p e (More q f r))
 remove-rows n Less p e q f r = tt
 remove-rows n Equal p e q f r = tt
 remove-rows n Greater p e q f r = tt
 
-delete_in-rows : (n : ℕ) (key : List ℕ) (p : Part) (e : Pair) (q : Part) (f : Pair) (r : Node) → HasRows (delete_in n key (More p e (More q f r)))
+delete_in-rows : (n : ℕ) (key : List ℕ) (p : Part) (e : Pair) (q : Part) (f : Pair) (r : Node)
+    → HasRows (delete_in n key (More p e (More q f r)))
 delete_in-rows n key p e q f r =
-    onto-rows (order e.0 key) p e (More q f r) (locate key (More q f r)) (remove n key) (λ c. remove-rows n (order e.0 key) p e q f r)
+    onto-rows (order e.0 key) p e (More q f r) (locate key (More q f r)) (remove n key)
+    (λ c. remove-rows n (order e.0 key) p e q f r)
 
-descend-rows : (key : List ℕ) (change : Part → Part) (p : Part) (e : Pair) (r : Node) → HasRows (descend key change (More p e r))
+descend-rows : (key : List ℕ) (change : Part → Part) (p : Part) (e : Pair) (r : Node)
+    → HasRows (descend key change (More p e r))
 descend-rows key change p e r =
     onto-rows (order e.0 key) p e r (locate key r) (λ h. with_first (change (first h)) h) (λ c. tt)
 
@@ -60,36 +65,48 @@ cond-rows : (b : Bool) (m k : Node) → HasRows m → HasRows k → HasRows (con
 cond-rows true m k h g = h
 cond-rows false m k h g = g
 
-delete-rows : (layer : List ℕ → ℕ) (n : ℕ) (key : List ℕ) (p : Part) (e : Pair) (q : Part) (f : Pair) (r : Node) → HasRows (node_delete layer n key (More p e (More q f r)))
+delete-rows : (layer : List ℕ → ℕ) (n : ℕ) (key : List ℕ) (p : Part) (e : Pair) (q : Part) (f : Pair) (r : Node)
+    → HasRows (node_delete layer n key (More p e (More q f r)))
 delete-rows layer zero key p e q f r = delete_in-rows zero key p e q f r
 delete-rows layer (suc n) key p e q f r =
-    cond-rows (nat_eq (layer key) (suc n)) (delete_in (suc n) key (More p e (More q f r))) (descend key (λ g. close (node_delete layer n key (open_part g))) (More p e (More q f r)))
-    (delete_in-rows (suc n) key p e q f r) (descend-rows key (λ g. close (node_delete layer n key (open_part g))) p e (More q f r))
+    cond-rows (nat_eq (layer key) (suc n)) (delete_in (suc n) key (More p e (More q f r)))
+    (descend key (λ g. close (node_delete layer n key (open_part g))) (More p e (More q f r)))
+    (delete_in-rows (suc n) key p e q f r)
+    (descend-rows key (λ g. close (node_delete layer n key (open_part g))) p e (More q f r))
 
 -- ---- a top with one key
 
-lone-in : (n : ℕ) (key : List ℕ) (p : Part) (e : Pair) (q : Part) (o : Ordering) → order e.0 key ≡ o → (o ≡ Equal → ⊥) → HasRows (delete_in n key (More p e (Last q)))
+lone-in : (n : ℕ) (key : List ℕ) (p : Part) (e : Pair) (q : Part) (o : Ordering) → order e.0 key ≡ o
+    → (o ≡ Equal → ⊥) → HasRows (delete_in n key (More p e (Last q)))
 lone-in n key p e q Less h ne = rw h tt
 lone-in n key p e q Equal h ne = absurd (ne refl)
 lone-in n key p e q Greater h ne = rw (h, h) tt
 
-lone-delete : (layer : List ℕ → ℕ) (n : ℕ) (key : List ℕ) (p : Part) (e : Pair) (q : Part) (o : Ordering) → order e.0 key ≡ o → (o ≡ Equal → ⊥) → HasRows (node_delete layer n key (More p e (Last q)))
+lone-delete : (layer : List ℕ → ℕ) (n : ℕ) (key : List ℕ) (p : Part) (e : Pair) (q : Part) (o : Ordering)
+    → order e.0 key ≡ o → (o ≡ Equal → ⊥) → HasRows (node_delete layer n key (More p e (Last q)))
 lone-delete layer zero key p e q o h ne = lone-in zero key p e q o h ne
 lone-delete layer (suc n) key p e q o h ne =
-    cond-rows (nat_eq (layer key) (suc n)) (delete_in (suc n) key (More p e (Last q))) (descend key (λ g. close (node_delete layer n key (open_part g))) (More p e (Last q)))
-    (lone-in (suc n) key p e q o h ne) (descend-rows key (λ g. close (node_delete layer n key (open_part g))) p e (Last q))
+    cond-rows (nat_eq (layer key) (suc n)) (delete_in (suc n) key (More p e (Last q)))
+    (descend key (λ g. close (node_delete layer n key (open_part g))) (More p e (Last q)))
+    (lone-in (suc n) key p e q o h ne)
+    (descend-rows key (λ g. close (node_delete layer n key (open_part g))) p e (Last q))
 
-delete-here : (layer : List ℕ → ℕ) (n : ℕ) (key : List ℕ) (m : Node) → nat_eq (layer key) n ≡ true → node_delete layer n key m ≡ delete_in n key m
+delete-here : (layer : List ℕ → ℕ) (n : ℕ) (key : List ℕ) (m : Node) → nat_eq (layer key) n ≡ true
+    → node_delete layer n key m ≡ delete_in n key m
 delete-here layer zero key m h = refl
 delete-here layer (suc n) key m h = rw h
 
-lone-gone : (n : ℕ) (key : List ℕ) (p : Part) (e : Pair) (q : Part) → order e.0 key ≡ Equal → delete_in n key (More p e (Last q)) ≡ Last (merge n p q)
+lone-gone : (n : ℕ) (key : List ℕ) (p : Part) (e : Pair) (q : Part) → order e.0 key ≡ Equal
+    → delete_in n key (More p e (Last q)) ≡ Last (merge n p q)
 lone-gone n key p e q h = rw (h, h)
 
 lone-cases : (layer : List ℕ → ℕ) (key : List ℕ) (p : Part) (e : Pair) (q : Part) (o : Ordering) → order e.0 key ≡ o
-    → lone_at o (layer e.0) p q (node_delete layer (layer e.0) key (More p e (Last q))) ≡ prune (layer e.0) (node_delete layer (layer e.0) key (More p e (Last q)))
-lone-cases layer key p e q Less h = sym (prune-kept (layer e.0) _ (lone-delete layer (layer e.0) key p e q Less h (λ c. cc)))
-lone-cases layer key p e q Greater h = sym (prune-kept (layer e.0) _ (lone-delete layer (layer e.0) key p e q Greater h (λ c. cc)))
+    → lone_at o (layer e.0) p q (node_delete layer (layer e.0) key (More p e (Last q)))
+    ≡ prune (layer e.0) (node_delete layer (layer e.0) key (More p e (Last q)))
+lone-cases layer key p e q Less h =
+    sym (prune-kept (layer e.0) _ (lone-delete layer (layer e.0) key p e q Less h (λ c. cc)))
+lone-cases layer key p e q Greater h =
+    sym (prune-kept (layer e.0) _ (lone-delete layer (layer e.0) key p e q Greater h (λ c. cc)))
 lone-cases layer key p e q Equal h =
     let t = layer e.0 in
     let b : nat_eq (layer key) t ≡ true = eq-eqb (layer key) t (ap layer (sym (order-equal e.0 key h))) in
@@ -102,5 +119,6 @@ delete-path layer key (More p e (Last q)) = lone-cases layer key p e q (order e.
 delete-path layer key (More p e (More q f r)) =
     sym (prune-kept (layer e.0) _ (delete-rows layer (layer e.0) key p e q f r))
 
-pub delete_path-top : (layer : List ℕ → ℕ) (key : List ℕ) (es : List Pair) → Ascending es → delete_path layer key (top layer es) ≡ top layer (delete_pair key es)
+pub delete_path-top : (layer : List ℕ → ℕ) (key : List ℕ) (es : List Pair) → Ascending es
+    → delete_path layer key (top layer es) ≡ top layer (delete_pair key es)
 delete_path-top layer key es s = delete-path layer key (top layer es) ∙ delete-top layer key es s

@@ -2,14 +2,15 @@
 use Rattle.std.proofs.Common.{◌≡◌, ◌⊎◌, ℕ, zero, suc, ◌+◌, ◌-◌, ◌<◌, ◌≤◌, max, Bool, true, false, nat_eq, nat_lt, List, [], ◌∷◌, ◌++◌, refl, sym, ap, subst, ◌∙◌, arith, inl, inr, cond}
 use Rattle.std.proofs.lemmas.Bool.{eqb-false, eqb-true, eq-eqb, ne_eqb, ltb-true, ltb-false, cases_lt}
 use Rattle.spec.specs.Tree.{Pair, Part, Last, Sub, Groups, LastGroup, MoreGroups, push, enter, cut, node_of, below, tree, top_layer, top}
-use Rattle.paths.specs.Edit.{close, lift, layer_of, node_put, put_above, put_top, node_delete, prune, delete_top, find}
+use Rattle.paths.specs.TreeEdit.{close, lift, layer_of, node_put, put_above, put_top, node_delete, prune, delete_top, find}
 use Rattle.paths.specs.Pairs.{Each, Ascending, put_pair, delete_pair, value_in}
 use Rattle.spec.proofs.TreeLaws.{IsLower, lower-from_top}
-use Rattle.paths.proofs.Groups.{Each-append, close-tree}
-use Rattle.paths.proofs.Split.{split-below}
 use Rattle.paths.proofs.Around.{Here, absent, present, Around, around, put_pair-around, delete_pair-around, value_in-around}
+use Rattle.paths.proofs.EachPair.{each-both, each-left, each-right}
 use Rattle.paths.proofs.Edits.{Lows, put-tree, delete-tree, find-tree}
+use Rattle.paths.proofs.Groups.{close-tree}
 use Rattle.paths.proofs.Places.{tree-here}
+use Rattle.paths.proofs.Split.{split-below}
 
 cut-none : (layer : List ℕ → ℕ) (n : ℕ) (es : List Pair) → Each (IsLower layer n) es → cut layer n es ≡ LastGroup es
 cut-none layer n [] h = refl
@@ -18,14 +19,17 @@ cut-none layer n (e ∷ es) h =
     let b : nat_eq (layer e.0) n ≡ false = ne_eqb (layer e.0) n (λ q. omega arith) in
     rw (b, cut-none layer n es h.1)
 
-lower-up : (layer : List ℕ → ℕ) (m n : ℕ) (es : List Pair) → m ≤ n → Each (IsLower layer m) es → Each (IsLower layer n) es
+lower-up : (layer : List ℕ → ℕ) (m n : ℕ) (es : List Pair) → m ≤ n → Each (IsLower layer m) es
+    → Each (IsLower layer n) es
 lower-up layer m n [] l h = tt
 lower-up layer m n (e ∷ es) l h = (let k : layer e.0 < m = h.0 in omega arith, lower-up layer m n es l h.1)
 
-tree-none : (layer : List ℕ → ℕ) (n : ℕ) (es : List Pair) → Each (IsLower layer n) es → tree layer n es ≡ Last (below layer n es)
+tree-none : (layer : List ℕ → ℕ) (n : ℕ) (es : List Pair) → Each (IsLower layer n) es
+    → tree layer n es ≡ Last (below layer n es)
 tree-none layer n es h = ap (node_of (below layer n)) (cut-none layer n es h)
 
-pub lift-below : (layer : List ℕ → ℕ) (d n : ℕ) (es : List Pair) → Each (IsLower layer n) es → lift d (below layer n es) ≡ below layer (d + n) es
+pub lift-below : (layer : List ℕ → ℕ) (d n : ℕ) (es : List Pair) → Each (IsLower layer n) es
+    → lift d (below layer n es) ≡ below layer (d + n) es
 lift-below layer zero n es h = let q : n ≡ zero + n = omega arith in ap (λ m. below layer m es) q
 lift-below layer (suc d) n es h =
     let k = lower-up layer n (d + n) es (omega arith) h in
@@ -38,11 +42,13 @@ lift-below layer (suc d) n es h =
 
 -- ---- the top's layer
 
-pub top_layer-append : (layer : List ℕ → ℕ) (xs ys : List Pair) → top_layer layer (xs ++ ys) ≡ max (top_layer layer xs) (top_layer layer ys)
+pub top_layer-append : (layer : List ℕ → ℕ) (xs ys : List Pair)
+    → top_layer layer (xs ++ ys) ≡ max (top_layer layer xs) (top_layer layer ys)
 top_layer-append layer [] ys = omega arith
 top_layer-append layer (x ∷ xs) ys = rw (top_layer-append layer xs ys) (omega arith)
 
-pub top-from_lower : (layer : List ℕ → ℕ) (n : ℕ) (es : List Pair) → Each (IsLower layer (suc n)) es → top_layer layer es ≤ n
+pub top-from_lower : (layer : List ℕ → ℕ) (n : ℕ) (es : List Pair) → Each (IsLower layer (suc n)) es
+    → top_layer layer es ≤ n
 top-from_lower layer n [] h = omega arith
 top-from_lower layer n (e ∷ es) h =
     let l : layer e.0 < suc n = h.0 in let i = top-from_lower layer n es h.1 in omega arith
@@ -72,7 +78,8 @@ push-more : (layer : List ℕ → ℕ) (n : ℕ) (e : Pair) (g : Groups) → IsM
 push-more layer n e (LastGroup g) h = h
 push-more layer n e (MoreGroups g x r) h = h
 
-enter-more : (layer : List ℕ → ℕ) (n : ℕ) (b : Bool) (e : Pair) (g : Groups) → nat_eq (layer e.0) n ≡ b → (layer e.0 ≡ n) ⊎ IsMore layer n g → IsMore layer n (enter b e g)
+enter-more : (layer : List ℕ → ℕ) (n : ℕ) (b : Bool) (e : Pair) (g : Groups) → nat_eq (layer e.0) n ≡ b
+    → (layer e.0 ≡ n) ⊎ IsMore layer n g → IsMore layer n (enter b e g)
 enter-more layer n true e g h k = eqb-true (layer e.0) n h
 enter-more layer n false e g h (inl q) = absurd (eqb-false (layer e.0) n h q)
 enter-more layer n false e g h (inr k) = push-more layer n e g k
@@ -80,13 +87,16 @@ enter-more layer n false e g h (inr k) = push-more layer n e g k
 has-more : (layer : List ℕ → ℕ) (n : ℕ) (es : List Pair) → HasLayer layer n es → IsMore layer n (cut layer n es)
 has-more layer n [] h = absurd h
 has-more layer n (e ∷ es) (inl q) = enter-more layer n (nat_eq (layer e.0) n) e (cut layer n es) refl (inl q)
-has-more layer n (e ∷ es) (inr k) = enter-more layer n (nat_eq (layer e.0) n) e (cut layer n es) refl (inr (has-more layer n es k))
+has-more layer n (e ∷ es) (inr k) =
+    enter-more layer n (nat_eq (layer e.0) n) e (cut layer n es) refl (inr (has-more layer n es k))
 
-layer_of-more : (layer : List ℕ → ℕ) (n : ℕ) (part : List Pair → Part) (g : Groups) → IsMore layer n g → layer_of layer (node_of part g) ≡ n
+layer_of-more : (layer : List ℕ → ℕ) (n : ℕ) (part : List Pair → Part) (g : Groups) → IsMore layer n g
+    → layer_of layer (node_of part g) ≡ n
 layer_of-more layer n part (LastGroup g) h = absurd h
 layer_of-more layer n part (MoreGroups g e r) h = h
 
-prune-more : (layer : List ℕ → ℕ) (n : ℕ) (part : List Pair → Part) (g : Groups) → IsMore layer (suc n) g → prune (suc n) (node_of part g) ≡ node_of part g
+prune-more : (layer : List ℕ → ℕ) (n : ℕ) (part : List Pair → Part) (g : Groups) → IsMore layer (suc n) g
+    → prune (suc n) (node_of part g) ≡ node_of part g
 prune-more layer n part (LastGroup g) h = absurd h
 prune-more layer n part (MoreGroups g e r) h = refl
 
@@ -98,7 +108,8 @@ layer_of-top layer (e ∷ es) =
 
 -- ---- pruning
 
-pub prune-tree : (layer : List ℕ → ℕ) (n : ℕ) (es : List Pair) → Each (IsLower layer (suc n)) es → prune n (tree layer n es) ≡ top layer es
+pub prune-tree : (layer : List ℕ → ℕ) (n : ℕ) (es : List Pair) → Each (IsLower layer (suc n)) es
+    → prune n (tree layer n es) ≡ top layer es
 prune-tree layer zero es h =
     let l = top-from_lower layer zero es h in
     let q : zero ≡ top_layer layer es = omega arith in
@@ -119,23 +130,16 @@ prune-tree layer (suc n) (e ∷ es) h =
 
 -- ---- the whole tree
 
-each-front : (P : Pair → Type 0) (xs ys : List Pair) → Each P (xs ++ ys) → Each P xs
-each-front P [] ys h = tt
-each-front P (x ∷ xs) ys h = (h.0, each-front P xs ys h.1)
-
-each-back : (P : Pair → Type 0) (xs ys : List Pair) → Each P (xs ++ ys) → Each P ys
-each-back P [] ys h = h
-each-back P (x ∷ xs) ys h = each-back P xs ys h.1
-
-lows-of : (layer : List ℕ → ℕ) (n : ℕ) (key : List ℕ) (es : List Pair) (a : Around key es) → Each (IsLower layer n) es → Lows layer n key a.front a.mid a.back
+pub lows-of : (layer : List ℕ → ℕ) (n : ℕ) (key : List ℕ) (es : List Pair) (a : Around key es)
+    → Each (IsLower layer n) es → Lows layer n key a.front a.mid a.back
 lows-of layer n key es a h =
     let k = subst (Each (IsLower layer n)) a.whole h in
-    let r = each-back (IsLower layer n) a.front (a.mid ++ a.back) k in
+    let r = each-right (IsLower layer n) a.front (a.mid ++ a.back) k in
     record {
-      front_low = each-front (IsLower layer n) a.front (a.mid ++ a.back) k;
+      front_low = each-left (IsLower layer n) a.front (a.mid ++ a.back) k;
       mid_here = a.mid_here;
-      mid_low = each-front (IsLower layer n) a.mid a.back r;
-      back_low = each-back (IsLower layer n) a.mid a.back r;
+      mid_low = each-left (IsLower layer n) a.mid a.back r;
+      back_low = each-right (IsLower layer n) a.mid a.back r;
       front_before = a.front_before;
       back_after = a.back_after;
     }
@@ -164,8 +168,9 @@ delete-top layer key es s =
     rw (layer_of-top layer es)
     (ap (λ x. prune t (node_delete layer t key (tree layer t x))) a.whole
     ∙ ap (prune t) (delete-tree layer key t a.front a.mid a.back c)
-    ∙ prune-tree layer t (a.front ++ a.back) (Each-append (IsLower layer (suc t)) a.front a.back c.front_low c.back_low)
-    ∙ ap (top layer) (sym (ap (delete_pair key) a.whole ∙ delete_pair-around key a.front a.mid a.back a.front_before a.mid_here a.back_after)))
+    ∙ prune-tree layer t (a.front ++ a.back) (each-both (IsLower layer (suc t)) a.front a.back c.front_low c.back_low)
+    ∙ ap (top layer) (sym (ap (delete_pair key) a.whole
+    ∙ delete_pair-around key a.front a.mid a.back a.front_before a.mid_here a.back_after)))
 
 -- ---- put
 
@@ -174,11 +179,13 @@ mid-layer : (layer : List ℕ → ℕ) (key : List ℕ) (mid : List Pair) → He
 mid-layer layer key [] absent = omega arith
 mid-layer layer key (_ ∷ _) (present e q) = let l : layer e.0 ≡ layer key = ap layer q in omega arith
 
-put-within : (layer : List ℕ → ℕ) (p : Pair) (xs mid ys : List Pair) (t : ℕ) → t ≡ top_layer layer (xs ++ (mid ++ ys)) → layer p.0 ≤ t
+put-within : (layer : List ℕ → ℕ) (p : Pair) (xs mid ys : List Pair) (t : ℕ)
+    → t ≡ top_layer layer (xs ++ (mid ++ ys)) → layer p.0 ≤ t
     → Here p.0 mid → Lows layer (suc t) p.0 xs mid ys
     → node_put layer t p (tree layer t (xs ++ (mid ++ ys))) ≡ top layer (xs ++ p ∷ ys)
 put-within layer p xs mid ys t e l m c =
-    let old : top_layer layer (xs ++ (mid ++ ys)) ≡ max (top_layer layer xs) (max (top_layer layer mid) (top_layer layer ys)) =
+    let old : top_layer layer (xs ++ (mid ++ ys))
+    ≡ max (top_layer layer xs) (max (top_layer layer mid) (top_layer layer ys)) =
     top_layer-append layer xs (mid ++ ys) ∙ ap (max (top_layer layer xs)) (top_layer-append layer mid ys) in
     let new = top_layer-append layer xs (p ∷ ys) in
     let k = mid-layer layer p.0 mid m in
@@ -194,7 +201,7 @@ put-over layer p xs ys t e l c =
     let new = top_layer-append layer xs (p ∷ ys) in
     let q : j ≡ top_layer layer (xs ++ p ∷ ys) = omega arith in
     let r : j - suc t + suc t ≡ j = omega arith in
-    let w = Each-append (IsLower layer (suc t)) xs ys c.front_low c.back_low in
+    let w = each-both (IsLower layer (suc t)) xs ys c.front_low c.back_low in
     let s = split-below layer p.0 (suc t) xs ys c.front_low c.back_low c.front_before c.back_after in
     let hx = lower-up layer (suc t) j xs (omega arith) c.front_low in
     let hy = lower-up layer (suc t) j ys (omega arith) c.back_low in
@@ -202,11 +209,14 @@ put-over layer p xs ys t e l c =
     let fy = lift-below layer (j - suc t) (suc t) ys c.back_low ∙ ap (λ n. below layer n ys) r in
     let b : nat_eq j j ≡ true = eq-eqb j j refl in
     rw (close-tree layer t (xs ++ ys) w, s, fx, fy)
-    (sym (ap (λ n. tree layer n (xs ++ p ∷ ys)) (sym q) ∙ tree-here layer j xs p ys b ∙ rw (cut-none layer j xs hx, cut-none layer j ys hy)))
+    (sym (ap (λ n. tree layer n (xs ++ p ∷ ys)) (sym q) ∙ tree-here layer j xs p ys b
+    ∙ rw (cut-none layer j xs hx, cut-none layer j ys hy)))
 
-put-choice : (layer : List ℕ → ℕ) (p : Pair) (xs mid ys : List Pair) (t : ℕ) (b : Bool) → t ≡ top_layer layer (xs ++ (mid ++ ys)) → nat_lt t (layer p.0) ≡ b
+put-choice : (layer : List ℕ → ℕ) (p : Pair) (xs mid ys : List Pair) (t : ℕ) (b : Bool)
+    → t ≡ top_layer layer (xs ++ (mid ++ ys)) → nat_lt t (layer p.0) ≡ b
     → Here p.0 mid → Lows layer (suc t) p.0 xs mid ys
-    → cond b (put_above (layer p.0) t p (tree layer t (xs ++ (mid ++ ys)))) (node_put layer t p (tree layer t (xs ++ (mid ++ ys)))) ≡ top layer (xs ++ p ∷ ys)
+    → cond b (put_above (layer p.0) t p (tree layer t (xs ++ (mid ++ ys))))
+    (node_put layer t p (tree layer t (xs ++ (mid ++ ys)))) ≡ top layer (xs ++ p ∷ ys)
 put-choice layer p xs mid ys t false e h m c =
     let l = ltb-false t (layer p.0) h in put-within layer p xs mid ys t e l m c
 put-choice layer p xs [] ys t true e h absent c =
@@ -222,6 +232,8 @@ put-top layer p es s =
     let t = top_layer layer es in
     let c = lows-of layer (suc t) p.0 es a (lower-from_top layer t es (omega arith)) in
     rw (layer_of-top layer es)
-    (ap (λ x. cond (nat_lt t (layer p.0)) (put_above (layer p.0) t p (tree layer t x)) (node_put layer t p (tree layer t x))) a.whole
+    (ap (λ x. cond (nat_lt t (layer p.0)) (put_above (layer p.0) t p (tree layer t x))
+    (node_put layer t p (tree layer t x))) a.whole
     ∙ put-choice layer p a.front a.mid a.back t (nat_lt t (layer p.0)) (ap (top_layer layer) a.whole) refl a.mid_here c
-    ∙ ap (top layer) (sym (ap (put_pair p) a.whole ∙ put_pair-around p a.front a.mid a.back a.front_before a.mid_here a.back_after)))
+    ∙ ap (top layer) (sym (ap (put_pair p) a.whole
+    ∙ put_pair-around p a.front a.mid a.back a.front_before a.mid_here a.back_after)))

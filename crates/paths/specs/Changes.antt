@@ -42,5 +42,6 @@ pub record AreChanges (digest : List ℕ → List ℕ) (old new read add drop : 
   pub whole : (b : List ℕ) → Contains new b → ¬ Contains old b → Contains add b
   pub once : (c : List ℕ) → count c (map (cid digest) add) ≤ 1
   -- dropped are the CIDs of the old blocks that aren't new
-  pub dropped : (c : List ℕ) → Contains drop c ↔ ((b : List ℕ) × Contains old b × (¬ Contains new b) × (cid digest b ≡ c))
+  pub dropped : (c : List ℕ)
+      → Contains drop c ↔ ((b : List ℕ) × Contains old b × (¬ Contains new b) × (cid digest b ≡ c))
   pub drop_once : (c : List ℕ) → count c drop ≤ 1

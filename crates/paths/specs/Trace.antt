@@ -1,10 +1,11 @@
--- The nodes that an edit uses up, and those that it makes, along its path. A node that is only put aside unread is in neither.
+-- The nodes that an edit uses up, and those that it makes, along its path. A node that is only put aside unread is in
+-- neither.
 use Rattle.std.specs.Prelude.{ℕ, List, [], ◌∷◌, ◌++◌, ◌+◌, nat_eq, nat_lt, zero, suc, ◌-◌, length, if◌then◌else◌}
 use Rattle.std.specs.declared.cmp.Ordering.{Ordering}
 use Rattle.std.specs.declared.cmp.Ordering.TheVariants.{Less, Equal, Greater}
 use Rattle.paths.specs.Order.{order, if_equal}
 use Rattle.spec.specs.Tree.{Pair, Node, Part, Last, More, Nothing, Sub}
-use Rattle.paths.specs.Edit.{first, with_first, onto, locate, close, open_part, split, join, merge, lift, layer_of, node_put, put_above, node_delete, prune}
+use Rattle.paths.specs.TreeEdit.{first, with_first, onto, locate, close, open_part, split, join, merge, lift, layer_of, node_put, put_above, node_delete, prune}
 
 -- a number for each node, over all nodes of a part
 abbrev mutual
@@ -123,7 +124,8 @@ abbrev pub delete_gone : (List ℕ → ℕ) → ℕ → List ℕ → Node → Li
 delete_gone layer zero key m = delete_in_gone zero key (locate key m).here
 delete_gone layer (suc n) key m =
     let h = (locate key m).here in
-    if nat_eq (layer key) (suc n) then delete_in_gone (suc n) key h else nodes_of (first h) ++ delete_gone layer n key (open_part (first h))
+    if nat_eq (layer key) (suc n) then delete_in_gone (suc n) key h else
+    nodes_of (first h) ++ delete_gone layer n key (open_part (first h))
 
 abbrev pub delete_made : (List ℕ → ℕ) → ℕ → List ℕ → Node → List Node
 delete_made layer zero key m = delete_in_made zero key (locate key m).here
@@ -149,7 +151,8 @@ above_gone t key (More p e r) = split_gone (suc t) key (Sub (More p e r))
 abbrev pub above_made : ℕ → ℕ → Pair → Node → List Node
 above_made j t p m =
     let s = split (suc t) p.0 (close m) in
-    split_made (suc t) p.0 (close m) ++ (lift_made (j - suc t) s.0 ++ (lift_made (j - suc t) s.1 ++ (put_above j t p m ∷ [])))
+    split_made (suc t) p.0 (close m)
+    ++ (lift_made (j - suc t) s.0 ++ (lift_made (j - suc t) s.1 ++ (put_above j t p m ∷ [])))
 
 abbrev pub put_top_gone : (List ℕ → ℕ) → Pair → Node → List Node
 put_top_gone layer p m =
@@ -160,40 +163,6 @@ abbrev pub put_top_made : (List ℕ → ℕ) → Pair → Node → List Node
 put_top_made layer p m =
     let t = layer_of layer m in
     if nat_lt t (layer p.0) then above_made (layer p.0) t p m else put_made layer t p m ++ (node_put layer t p m ∷ [])
-
-abbrev pub delete_top_gone : (List ℕ → ℕ) → List ℕ → Node → List Node
-delete_top_gone layer key m =
-    let t = layer_of layer m in m ∷ (delete_gone layer t key m ++ prune_gone t (node_delete layer t key m))
-
-abbrev pub delete_top_made : (List ℕ → ℕ) → List ℕ → Node → List Node
-delete_top_made layer key m =
-    let t = layer_of layer m in delete_made layer t key m ++ (node_delete layer t key m ∷ [])
-
--- ---- the nodes that are read
-
-abbrev pub answer_reads_at : Ordering → ℕ → ℕ
-answer_reads_at Less k = k
-answer_reads_at Equal k = 0
-answer_reads_at Greater k = k
-
-abbrev pub answer_reads : List ℕ → ℕ → Node → ℕ
-answer_reads key k (Last p) = k
-answer_reads key k (More p e r) = answer_reads_at (order e.0 key) k
-
--- of a get: the nodes on the path, down to the one that has the key
-abbrev pub find_reads : ℕ → List ℕ → Part → ℕ
-find_reads zero key p = 0
-find_reads (suc n) key Nothing = 0
-find_reads (suc n) key (Sub m) =
-    let here = (locate key m).here in suc (answer_reads key (find_reads n key (first here)) here)
-
--- of pruning, where the first k subtrees were made just before
-abbrev pub prune_reads : ℕ → ℕ → Node → ℕ
-prune_reads k zero m = 0
-prune_reads k (suc n) (Last Nothing) = 0
-prune_reads zero (suc n) (Last (Sub m)) = suc (prune_reads zero n m)
-prune_reads (suc k) (suc n) (Last (Sub m)) = prune_reads k n m
-prune_reads k (suc n) (More p e r) = 0
 
 -- ---- a delete that makes no node in vain
 
@@ -238,7 +207,8 @@ delete_path_gone layer key m =
 
 abbrev pub delete_path_made : (List ℕ → ℕ) → List ℕ → Node → List Node
 delete_path_made layer key m =
-    let t = layer_of layer m in at_lone key m (settle_made t) (delete_made layer t key m ++ (node_delete layer t key m ∷ []))
+    let t = layer_of layer m in
+    at_lone key m (settle_made t) (delete_made layer t key m ++ (node_delete layer t key m ∷ []))
 
 abbrev pub delete_path_reads : (List ℕ → ℕ) → List ℕ → Node → ℕ
 delete_path_reads layer key m =

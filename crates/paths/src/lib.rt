@@ -1,20 +1,11 @@
-//! The edit of a tree along one path: its definitions and its laws.
+//! One path in place of the whole tree: what a look-up, a walk, a put and a delete read of a Merkle search tree, and what they make of it.
+//!
+//! The definitions stand in `specs/`: functions of trees, then functions of the shapes that blocks show, then loops over
+//! a source of blocks. Each function here is a law of them, and does nothing when it is called.
 #![tactic(auto)]
 
-ghost use Rattle.paths.specs.Laws.{FindIsValue, PutIsTop, DeleteIsTop, PutIsShapes, DeleteIsShapes, PutCounts, DeleteCounts, PutChanges, DeleteChanges, PathIsRead, PutIsWrite, DeleteIsWrite};
-
-/// The laws.
-pub fn laws()
-    ensures finds { FindIsValue }
-    ensures puts { PutIsTop }
-    ensures deletes { DeleteIsTop }
-    ensures put_shapes { PutIsShapes }
-    ensures delete_shapes { DeleteIsShapes }
-    ensures put_counts { PutCounts }
-    ensures delete_counts { DeleteCounts }
-    ensures put_changes { PutChanges }
-    ensures delete_changes { DeleteChanges }
-    ensures paths { PathIsRead }
-    ensures put_writes { PutIsWrite }
-    ensures delete_writes { DeleteIsWrite }
-{}
+pub mod deletes;
+pub mod lookups;
+pub mod puts;
+pub mod records;
+pub mod walks;

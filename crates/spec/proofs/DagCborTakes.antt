@@ -5,9 +5,9 @@ use Rattle.std.specs.Str.{is_utf8}
 use Rattle.std.proofs.lemmas.Bool.{lt-ltb, ltb-true, eqb-true, le-ltb, ne_eqb}
 use Rattle.std.proofs.lemmas.List.{append-nil, nil_from_length}
 use Rattle.spec.specs.Reading.{◌>>=◌, front}
-use Rattle.spec.specs.Head.{CborFault, Truncated, Float, Indefinite, Simple, BadTag, BadLink, BadUtf8, KeyNotText, KeyOrder, IntegerRange, Trailing, TooDeep, head, head_at, argument_at, simple_at, major_of, SimpleValue, Array, Map}
+use Rattle.spec.specs.Head.{CborFault, Truncated, Float, Indefinite, Simple, BadTag, BadLink, BadUtf8, KeyNotText, KeyOrder, IntegerRange, Trailing, head, head_at, argument_at, simple_at, major_of, SimpleValue, Array, Map}
 use Rattle.spec.specs.Cid.{is_cid}
-use Rattle.spec.specs.DagCbor.{Value, Null, Boolean, Integer, Bytes, Text, Items, Fields, Link, Values, NoValue, ValueThen, Entries, NoEntry, EntryThen, count_values, count_entries, string, spelling, spelling_of_values, spelling_of_entries, is_next_key, fits_length, is_lawful_within, are_lawful_within, are_entries_within, is_lawful, CborReader, head_of, text_of, link_of, key_of, items_at, fields_at, content_of, simple_value, value_at, read}
+use Rattle.spec.specs.DagCbor.{Value, Null, Boolean, Integer, Bytes, Text, Items, Fields, Link, Values, NoValue, ValueThen, Entries, NoEntry, EntryThen, count_values, count_entries, string, spelling, spelling_of_values, spelling_of_entries, is_next_key, fits_length, is_lawful_within, are_lawful_within, are_entries_within, is_lawful, head_of, text_of, link_of, key_of, items_at, fields_at, content_of, simple_value, value_at, read}
 use Rattle.spec.proofs.HeadLaws.{head_takes}
 use Rattle.spec.proofs.Bools.{both, and}
 use Rattle.spec.proofs.DagCborLaws.{within}

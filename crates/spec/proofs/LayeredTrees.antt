@@ -1,5 +1,5 @@
 -- A tree goes down layer by layer without an empty subtree, and is the only one of its pairs that does.
-use Rattle.std.proofs.Common.{◌≡◌, ◌≢◌, ℕ, zero, suc, ◌<◌, ◌≤◌, List, [], ◌∷◌, ◌++◌, refl, sym, ap, ◌∙◌, subst, arith}
+use Rattle.std.proofs.Common.{◌≡◌, ◌≢◌, ℕ, zero, suc, ◌<◌, List, [], ◌∷◌, ◌++◌, refl, sym, ap, ◌∙◌, arith}
 use Rattle.std.specs.List.{AllByRecursion}
 use Rattle.spec.specs.Tree.{Pair, Node, Last, More, Part, Nothing, Sub, Groups, LastGroup, MoreGroups, cut, node_of, below, tree, top, top_layer, pairs_in, pairs_under, EachNode, EachUnder, joined, EachLayer, AreGroups}
 use Rattle.spec.specs.Laws.Tree.{HasLayer, IsJustBelow, HasPairs}

@@ -1,20 +1,31 @@
+-- Tests, and what a reading took of its input.
 pub mod Bools
-pub mod TreeLaws
+pub mod Taking
+-- Formats.
 pub mod HeadLaws
-pub mod LayerLaws
-pub mod NodeLaws
+pub mod VarintLaws
 pub mod DagCborLaws
-pub mod BlockLaws
-pub mod WriteLaws
-pub mod BatchLaws
+pub mod DagCborTakes
+pub mod CidTexts
+pub mod LinkCids
+-- Trees and their nodes.
+pub mod LayerLaws
+pub mod TreeLaws
 pub mod LayeredTrees
+pub mod NodeLaws
+pub mod NodeTakes
+pub mod NodeValues
 pub mod TreeNodes
 pub mod SameTree
-pub mod Taking
-pub mod NodeTakes
+-- Blocks, roots and paths.
+pub mod BlockLaws
 pub mod RootLaws
-pub mod DagCborTakes
+pub mod Once
 pub mod PathPlace
 pub mod PathNodes
 pub mod VerifyLaws
+-- Writes.
+pub mod WriteLaws
+pub mod BatchLaws
+-- Worked rows.
 mod rows

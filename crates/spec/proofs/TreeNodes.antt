@@ -1,5 +1,5 @@
 -- Each node of a tree has bytes of the node grammar, so that it is read as it was written.
-use Rattle.std.proofs.Common.{◌≡◌, ℕ, zero, suc, ◌≤◌, Bool, true, false, ◌&&◌, T, List, [], ◌∷◌, ◌++◌, length, Ok, refl, sym, subst, arith}
+use Rattle.std.proofs.Common.{◌≡◌, ℕ, zero, suc, ◌≤◌, true, List, [], ◌∷◌, ◌++◌, length, Ok, refl, sym, subst, arith}
 use Rattle.std.specs.List.{AllByRecursion}
 use Rattle.std.specs.Cmp.Lexicographic.{slice_cmp}
 use Rattle.std.specs.Ordering.{nat_cmp, is_lt}
@@ -12,6 +12,7 @@ use Rattle.spec.specs.Tree.{Pair, Node, Part, Nothing, Sub, Groups, LastGroup, M
 use Rattle.spec.specs.NodeFormat.{is_key, are_keys_after, is_own_cid_or_none, are_links, is_node, Shape, first_link, entries_of, shape, shape_bytes, part_link, read_node}
 use Rattle.spec.specs.Blocks.{ArePairs}
 use Rattle.spec.proofs.TreeLaws.{joined-cut}
+pub use Rattle.spec.specs.Laws.Nodes.{IsLawful}
 use Rattle.spec.proofs.Bools.{both, and}
 use Rattle.spec.proofs.NodeLaws.{read_node-node_spelling}
 
@@ -85,9 +86,6 @@ nil_below (e ∷ es) keys = and _ _ (nil_below_key e.0 keys.0) (nil_below es key
 -- what a block shows is of the grammar
 abbrev pub IsLawfulShape : Shape → Type 0
 IsLawfulShape s = is_node (first_link s) (entries_of s) ≡ true
-
-abbrev pub IsLawful : (List ℕ → List ℕ) → Node → Type 0
-IsLawful digest m = IsLawfulShape (shape digest m)
 
 IsLawful-node_of : (digest : List ℕ → List ℕ) (part : List Pair → Part) → ((bytes : List ℕ) → length (digest bytes) ≡ 32) → (g : Groups) → ArePairs (joined g) → IsLawful digest (node_of part g)
 IsLawful-node_of digest part fits g are =

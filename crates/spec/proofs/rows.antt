@@ -1,2 +1,8 @@
--- Worked rows, computed.
-mod Faults
+-- Worked rows, computed: a definition that gives another value is refused at one of them.
+mod Written
+mod Layers
+mod Trees
+mod Nodes
+mod Repositories
+mod Cids
+mod Values

@@ -55,6 +55,7 @@ pub record ArePairs (es : List Pair) : Type 0 where
 abbrev pub value_of : List ℕ → List Pair → Option (List ℕ)
 value_of key es = find (slice_cmp nat_cmp) key es
 
+-- the pair's key is this one or a greater one
 abbrev pub is_from : List ℕ → Pair → Bool
 is_from from e = not (is_lt (slice_cmp nat_cmp e.0 from))
 

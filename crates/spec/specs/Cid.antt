@@ -35,9 +35,11 @@ alphabet = codes "abcdefghijklmnopqrstuvwxyz234567"
 abbrev pub five_bits : List ℕ → ℕ → ℕ
 five_bits bytes i = (slice_index bytes (5 * i / 8) * 256 + slice_index bytes (5 * i / 8 + 1)) / 2 ^ (11 - 5 * i % 8) % 32
 
+-- the letter of these five bits
 abbrev pub letter : List ℕ → ℕ → ℕ
 letter bytes i = slice_index alphabet (five_bits bytes i)
 
+-- as many letters as it takes for all bits, without padding
 abbrev pub base32 : List ℕ → List ℕ
 base32 bytes = map (letter bytes) (range_with_len 0 ((8 * length bytes + 4) / 5))
 
@@ -64,6 +66,7 @@ letter_value c =
     else if nat_lt 49 c && nat_lt c 56 then c - 24
     else 32
 
+-- the values of the letters behind the multibase letter
 abbrev pub letter_values : List ℕ → List ℕ
 letter_values s = map letter_value (drop 1 s)
 
@@ -99,5 +102,6 @@ is_version_1 bytes =
 abbrev pub is_version_0 : List ℕ → Bool
 is_version_0 bytes = (length bytes == 34) && (slice_index bytes 0 == 0x12) && (slice_index bytes 1 == 0x20)
 
+-- a CID that a record's link may hold
 abbrev pub is_cid : List ℕ → Bool
 is_cid bytes = is_version_0 bytes || is_version_1 bytes

@@ -27,24 +27,29 @@ mutual
     NoEntry : Entries
     EntryThen : (key : List ℕ) (value : Value) → Entries → Entries
 
+-- how many items a list has
 abbrev pub count_values : Values → ℕ
 count_values NoValue = 0
 count_values (ValueThen v vs) = suc (count_values vs)
 
+-- how many pairs a map has
 abbrev pub count_entries : Entries → ℕ
 count_entries NoEntry = 0
 count_entries (EntryThen k v es) = suc (count_entries es)
 
 -- ---- the one spelling (IPLD DAG-CBOR, strictness)
 
+-- n, and -1 - n (RFC 8949, section 3.1)
 abbrev pub spelling_of_integer : ℤ → List ℕ
 spelling_of_integer (pos n) = head 0 n
 spelling_of_integer (negsuc n) = head 1 n
 
+-- (RFC 8949, section 3.3)
 abbrev pub spelling_of_boolean : Bool → List ℕ
 spelling_of_boolean false = 0xf4 ∷ []
 spelling_of_boolean true = 0xf5 ∷ []
 
+-- a byte string or a text: its length, and its bytes
 abbrev pub string : ℕ → List ℕ → List ℕ
 string major bytes = head major (length bytes) ++ bytes
 
@@ -71,6 +76,7 @@ abbrev mutual
 abbrev pub is_key_below : List ℕ → List ℕ → Bool
 is_key_below a b = nat_lt (length a) (length b) || ((length a == length b) && is_lt (slice_cmp nat_cmp a b))
 
+-- after the key before it, if there is one
 abbrev pub is_next_key : Option (List ℕ) → List ℕ → Bool
 is_next_key None key = true
 is_next_key (Some before) key = is_key_below before key
@@ -113,14 +119,17 @@ is_lawful v = is_lawful_within 64 v
 
 -- ---- reading, from left to right, with the first fault (the order of the faults is own)
 
+-- what is read at the front, and the bytes after it
 abbrev pub CborReader : Type 0 → Type 0
 CborReader A = List ℕ → Result (A × List ℕ) CborFault
 
+-- behind the head of a whole number
 abbrev pub integer_of : (ℕ → ℤ) → ℕ → CborReader Value
 integer_of sign n bytes = do
   ok ← ensure (nat_lt n (2 ^ 63)) IntegerRange
   Ok (Integer (sign n), bytes)
 
+-- n bytes of UTF-8 behind their head
 abbrev pub text_of : ℕ → CborReader (List ℕ)
 text_of n bytes = do
   t ← front Truncated n bytes
@@ -144,6 +153,7 @@ link_of tag bytes = do
   ok ← ensure (nat_lt 0 (length content.0) && (slice_index content.0 0 == 0) && is_cid (drop 1 content.0)) BadLink
   Ok (Link (drop 1 content.0), content.1)
 
+-- n items, each read by value
 abbrev pub items_at : CborReader Value → ℕ → CborReader Values
 items_at value zero bytes = Ok (NoValue, bytes)
 items_at value (suc n) bytes = do
@@ -151,6 +161,7 @@ items_at value (suc n) bytes = do
   vs ← items_at value n v.1
   Ok (ValueThen v.0 vs.0, vs.1)
 
+-- a map's key after the key before it
 abbrev pub key_of : Option (List ℕ) → CborReader (List ℕ)
 key_of before bytes = do
   n ← head_of 3 KeyNotText bytes
@@ -158,6 +169,7 @@ key_of before bytes = do
   ok ← ensure (is_next_key before key.0) KeyOrder
   Ok key
 
+-- n pairs of a key and a value, after the key before them
 abbrev pub fields_at : CborReader Value → Option (List ℕ) → ℕ → CborReader Entries
 fields_at value before zero bytes = Ok (NoEntry, bytes)
 fields_at value before (suc n) bytes = do
@@ -166,6 +178,7 @@ fields_at value before (suc n) bytes = do
   es ← fields_at value (Some key.0) n v.1
   Ok (EntryThen key.0 v.0 es.0, es.1)
 
+-- 20, 21 and 22 (RFC 8949, section 3.3)
 abbrev pub simple_value : ℕ → Value
 simple_value n = if n == 20 then Boolean false else if n == 21 then Boolean true else Null
 

@@ -30,6 +30,7 @@ pub data Major : Type 0 where
   Tag : Major
   SimpleValue : Major
 
+-- the major type of a number from 0 to 7
 abbrev pub major_of : ℕ → Major
 major_of m =
     if m == 0 then UnsignedInteger
@@ -54,6 +55,7 @@ head m n =
 abbrev pub argument_width : ℕ → Width
 argument_width low = if low == 24 then w8 else if low == 25 then w16 else if low == 26 then w32 else w64
 
+-- the least argument that needs that width: what a shorter head could say is no lawful argument (DAG-CBOR, strictness)
 abbrev pub least_argument : ℕ → ℕ
 least_argument low = if low == 24 then 24 else if low == 25 then 2 ^ 8 else if low == 26 then 2 ^ 16 else 2 ^ 32
 
@@ -64,6 +66,7 @@ long_argument low bytes = do
   ok ← ensure (nat_lt (least_argument low - 1) (from_be_bytes (argument_width low) f.0)) LongHead
   Ok (from_be_bytes (argument_width low) f.0, f.1)
 
+-- the argument that a first byte's low five bits announce: 28 to 30 are reserved, and 31 is an indefinite length, which DAG-CBOR has not
 abbrev pub argument_at : ℕ → List ℕ → Result (ℕ × List ℕ) CborFault
 argument_at low bytes =
     if nat_lt low 24 then Ok (low, bytes)

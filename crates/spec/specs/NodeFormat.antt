@@ -22,6 +22,7 @@ common [] ys = 0
 common (x ∷ xs) [] = 0
 common (x ∷ xs) (y ∷ ys) = if x == y then suc (common xs ys) else 0
 
+-- a link to a subtree, or null where there is none
 abbrev pub link_or_null : Option (List ℕ) → List ℕ
 link_or_null None = 0xf6 ∷ []
 link_or_null (Some c) = link c
@@ -66,21 +67,25 @@ abbrev pub is_own_cid_or_none : Option (List ℕ) → Bool
 is_own_cid_or_none None = true
 is_own_cid_or_none (Some c) = is_own_cid c
 
+-- each CID of an entry is of the host's form
 abbrev pub are_links : List Entry → Bool
 are_links [] = true
 are_links (e ∷ es) = is_own_cid e.value && is_own_cid_or_none e.tree && are_links es
 
+-- a node of the grammar: entries whose keys ascend, and links of the host's form
 abbrev pub is_node : Option (List ℕ) → List Entry → Bool
 is_node left es = nat_lt (length es) (2 ^ 64) && are_keys_after [] es && are_links es && is_own_cid_or_none left
 
 -- ---- reading a node, with the first fault (own names)
 
+-- bytes that are no node in shape; a prefix that is not the greatest common one; keys that don't ascend; a key of no bytes or too many
 pub data NodeFault : Type 0 where
   NotNode : NodeFault
   BadPrefix : NodeFault
   KeyOrder : NodeFault
   KeyLength : NodeFault
 
+-- what is read at the front, and the bytes after it
 abbrev pub NodeReader : Type 0 → Type 0
 NodeReader A = List ℕ → Result (A × List ℕ) NodeFault
 
@@ -90,25 +95,30 @@ literal expected bytes = do
   ok ← ensure (bytes_eq (take (length expected) bytes) expected) NotNode
   Ok (drop (length expected) bytes)
 
+-- a head that is none makes no node
 abbrev pub or_not_node : {A : Type 0} → Result A CborFault → Result A NodeFault
 or_not_node (Ok x) = Ok x
 or_not_node (Err f) = Err NotNode
 
+-- the argument of a head of this major type
 abbrev pub argument_of : ℕ → NodeReader ℕ
 argument_of major bytes = do
   h ← or_not_node (head_at bytes)
   ok ← ensure (h.0.0 == major) NotNode
   Ok (h.0.1, h.1)
 
+-- a link of the host's form
 abbrev pub link_at : NodeReader (List ℕ)
 link_at bytes = do
   c ← literal (link prefix) bytes
   digest ← front NotNode 32 c
   Ok (prefix ++ digest.0, digest.1)
 
+-- a link that was found is one
 abbrev pub some_link : List ℕ × List ℕ → Option (List ℕ) × List ℕ
 some_link found = (Some found.0, found.1)
 
+-- null, or such a link
 abbrev pub link_or_null_at : NodeReader (Option (List ℕ))
 link_or_null_at [] = Err NotNode
 link_or_null_at (b ∷ bytes) = if b == 0xf6 then Ok (None, bytes) else link_at (b ∷ bytes) >>= λ found. Ok (some_link found)
@@ -122,6 +132,7 @@ whole_key before p k = do
   order_ok ← ensure (nat_lt 0 (length k) && not (nat_lt p (length before) && nat_lt (slice_index k 0) (slice_index before p))) KeyOrder
   Ok (take p before ++ k)
 
+-- an entry, read whole and then tested against the key before
 unfoldable pub entry_at : List ℕ → NodeReader Entry
 entry_at before bytes = do
   in_k ← literal (0xa4 ∷ 0x61 ∷ 0x6b ∷ []) bytes
@@ -137,6 +148,7 @@ entry_at before bytes = do
   key ← whole_key before p.0 k.0
   Ok (record { key = key; value = v.0; tree = t.0 }, v.1)
 
+-- n entries, the first after the key before
 unfoldable pub entries_at : ℕ → List ℕ → NodeReader (List Entry)
 entries_at zero before bytes = Ok ([], bytes)
 entries_at (suc n) before bytes = do
@@ -172,9 +184,11 @@ abbrev pub entries_of : Shape → List Entry
 entries_of (LastLink l) = []
 entries_of (MoreLinks l e r) = record { key = e.0; value = e.1; tree = first_link r } ∷ entries_of r
 
+-- its bytes
 abbrev pub shape_bytes : Shape → List ℕ
 shape_bytes s = node_spelling (first_link s) (entries_of s)
 
+-- and the CID of these
 abbrev pub shape_cid : (List ℕ → List ℕ) → Shape → List ℕ
 shape_cid digest s = cid digest (shape_bytes s)
 
@@ -187,5 +201,6 @@ abbrev mutual
   shape digest (Last p) = LastLink (part_link digest p)
   shape digest (More p e r) = MoreLinks (part_link digest p) e (shape digest r)
 
+-- the block of a node of a tree
 abbrev pub node_bytes : (List ℕ → List ℕ) → Node → List ℕ
 node_bytes digest m = shape_bytes (shape digest m)

@@ -17,6 +17,7 @@ abbrev pub with_low : ℕ → Option (ℕ × List ℕ) → Option (ℕ × List �
 with_low low None = None
 with_low low (Some high) = if high.0 == 0 then None else Some (low + 128 * high.0, high.1)
 
+-- a number of at most k bytes at the front, and the bytes after it
 abbrev pub varint_at_within : ℕ → List ℕ → Option (ℕ × List ℕ)
 varint_at_within zero bytes = None
 varint_at_within (suc k) [] = None

@@ -17,9 +17,11 @@ pub data Write : Type 0 where
   Update : (key record_bytes : List ℕ) → Write
   Delete : (key : List ℕ) → Write
 
+-- the map with this record under the key
 abbrev pub with_key : List (List ℕ × List ℕ) → List ℕ → List ℕ → List (List ℕ × List ℕ)
 with_key m key bytes = put (slice_cmp nat_cmp) key bytes m
 
+-- the map without the key
 abbrev pub without_key : List (List ℕ × List ℕ) → List ℕ → List (List ℕ × List ℕ)
 without_key m key = where_key (slice_cmp nat_cmp) (λ k. not (bytes_eq key k)) m
 
@@ -34,12 +36,14 @@ after_write m (Delete key) = without_key m key
 abbrev pub leaves : List Write → List (List ℕ × List ℕ)
 leaves ws = fold after_write [] ws
 
+-- the write is to this key
 abbrev pub names : List ℕ → Write → Bool
 names key (Put k bytes) = bytes_eq key k
 names key (Create k bytes) = bytes_eq key k
 names key (Update k bytes) = bytes_eq key k
 names key (Delete k) = bytes_eq key k
 
+-- the record that a write leaves under its key
 abbrev pub record_of : Write → Option (List ℕ)
 record_of (Put k bytes) = Some bytes
 record_of (Create k bytes) = Some bytes
@@ -52,6 +56,7 @@ last_record key before ws = fold (λ o w. if names key w then record_of w else o
 
 -- ---- which writes are taken
 
+-- why a write isn't taken (own): no room for more writes; the key; the record's size, spelling or kind; whether the key is there
 pub data WriteFault : Type 0 where
   WritesFull : WriteFault
   BadKey : WriteFault
@@ -61,10 +66,12 @@ pub data WriteFault : Type 0 where
   KeyExists : WriteFault
   NoSuchKey : WriteFault
 
+-- a record is a map (AT Protocol data model)
 abbrev pub is_map : Value → Bool
 is_map (Fields es) = true
 is_map v = false
 
+-- a record that was read, or the fault
 abbrev pub or_bad_record : Result Value CborFault → Result Value WriteFault
 or_bad_record (Ok v) = Ok v
 or_bad_record (Err f) = Err (BadRecord f)
@@ -76,6 +83,7 @@ record_test bytes = do
   v ← or_bad_record (read bytes)
   ensure (is_map v) NotAMap
 
+-- there is a record under the key
 abbrev pub has_key : List (List ℕ × List ℕ) → List ℕ → Bool
 has_key m key = is_some (find (slice_cmp nat_cmp) key m)
 
@@ -107,6 +115,7 @@ abbrev pub at_number : ℕ → Result (Unit {0}) WriteFault → Result (Unit {0}
 at_number i (Ok ok) = Ok ok
 at_number i (Err f) = Err (i, f)
 
+-- from a write of this number on, after so many writes in all and on the map that they leave
 abbrev pub batch_test_from : ℕ → ℕ → ℕ → List (List ℕ × List ℕ) → List Write → Result (Unit {0}) (ℕ × WriteFault)
 batch_test_from number limit count m [] = Ok tt
 batch_test_from number limit count m (w ∷ ws) = do
@@ -117,10 +126,12 @@ batch_test_from number limit count m (w ∷ ws) = do
 abbrev pub batch_test : ℕ → List Write → List Write → Result (Unit {0}) (ℕ × WriteFault)
 batch_test limit accepted batch = batch_test_from 0 limit (length accepted) (leaves accepted) batch
 
+-- there was no fault
 abbrev pub passes : {A E : Type 0} → Result A E → Bool
 passes (Ok x) = true
 passes (Err e) = false
 
+-- each write passes its test on the map that those before it leave, from this map on
 abbrev pub is_lawful_from : List (List ℕ × List ℕ) → List Write → Bool
 is_lawful_from m [] = true
 is_lawful_from m (w ∷ ws) = passes (write_test m w) && is_lawful_from (after_write m w) ws

@@ -3,10 +3,13 @@
 //! Each function here is empty, and its contract is a law about the definitions in `specs/`, stated in
 //! `specs/Laws/`. A function is proved only where its contract is, so each law is proved.
 
+pub mod cars;
+pub mod cids;
 pub mod clashes;
 pub mod dagcbor;
 pub mod heads;
 pub mod nodes;
+pub mod once;
 pub mod roots;
 pub mod tree;
 pub mod verifier;

@@ -1,6 +1,6 @@
 //! The bytes of nodes.
 
-ghost use Rattle.spec.specs.Laws.Nodes.{NodeReadsBack, OnlySpellingsAreRead, NoTwoNodesAreSpelledAlike, TreesHaveLawfulNodes};
+ghost use Rattle.spec.specs.Laws.Nodes.{NodeReadsBack, OnlySpellingsAreRead, NoTwoNodesAreSpelledAlike, NodeIsDagCbor, TreesHaveLawfulNodes};
 
 /// A node of the grammar is read from its spelling.
 pub fn node_reads_back()
@@ -15,6 +15,11 @@ pub fn only_spellings_are_read()
 /// No two nodes of the grammar are spelled alike.
 pub fn no_two_nodes_are_spelled_alike()
     ensures { NoTwoNodesAreSpelledAlike }
+{}
+
+/// A node is spelled in DAG-CBOR, as a map of its entries and its left link.
+pub fn node_is_dag_cbor()
+    ensures { NodeIsDagCbor }
 {}
 
 /// Each node of a tree is of the grammar, under any digest of 32 bytes.

@@ -5,6 +5,6 @@ use Rattle.cid.proofs.cid.CidDisplay.fmt.Goals as goal
 
 pub unwrap-requires : goal.unwrap-requires
 unwrap-requires g c =
-    let letters : IsUtf8 c.text-text.result = subst IsUtf8 (sym c.text-text.ensures) (IsUtf8-text c.args.self.now) in
+    let letters : IsUtf8 c.text-text.result = subst IsUtf8 (sym c.text-text.ensures.value) (IsUtf8-text c.args.self.now) in
     let read = c.from_utf8.ensures.cases in
     search rules

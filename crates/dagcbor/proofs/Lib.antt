@@ -1,0 +1,4 @@
+pub mod Powers
+pub mod Readings
+pub mod ItemByItem
+pub mod Spelled

@@ -1,0 +1,26 @@
+//! Links: tag 42 over a byte string of the byte 00 and a CID (IPLD DAG-CBOR, links).
+
+ghost use Rattle.std.specs.Prelude.{◌≡◌, Some};
+ghost use Rattle.spec.specs.Reading.{Gives};
+ghost use Rattle.spec.specs.Head as heads;
+ghost use Rattle.spec.specs.DagCbor.{Link, link_of};
+ghost use Rattle.dagcbor.specs.Fault.{fault_of};
+
+use crate::cid::is_cid;
+use crate::fault::CborFault;
+use crate::head::{front, head_of};
+
+/// The CID of a link, behind the head of its tag, and the bytes after it.
+pub(crate) fn link(tag: u64, bytes: &[u8]) -> Result<(&[u8], &[u8]), CborFault>
+    ensures { Gives (λ x. (Link x.0.now, x.1.now)) fault_of result (link_of tag bytes.now) }
+{
+    if tag != 42 {
+        return Err(CborFault::BadTag);
+    }
+    let (n, rest) = head_of(2, CborFault::BadLink, bytes)?;
+    let (content, rest) = front(n, rest)?;
+    match content {
+        [0, cid @ ..] if is_cid(cid) => Ok((cid, rest)),
+        _ => Err(CborFault::BadLink),
+    }
+}

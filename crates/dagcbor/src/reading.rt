@@ -1,0 +1,220 @@
+//! Reading of values, from left to right.
+
+ghost use Rattle.std.specs.Prelude.{◌≡◌, pos, negsuc, option_map, IfOk, IfErr, IsTrue, IsSome};
+ghost use Rattle.spec.specs.Reading.{Gives};
+ghost use Rattle.spec.specs.Head.{Array, Map};
+ghost use Rattle.spec.specs.DagCbor.{Integer, integer_of, text_of, key_of, simple_value, items_at, fields_at, content_of, value_at, read, spelling, is_lawful};
+ghost use Rattle.dagcbor.specs.Fault.{fault_of};
+ghost use Rattle.dagcbor.specs.View.{view, view_items, view_fields};
+ghost use Rattle.dagcbor.specs.Majors.{major_view};
+ghost use Rattle.dagcbor.specs.Levels.{within};
+ghost use Rattle.dagcbor.specs.Refused.{HasNoValue};
+
+use crate::fault::CborFault;
+use crate::head::{front, head, head_of};
+use crate::keys::is_next_key;
+use crate::link::link;
+use crate::major::{Major, major_of};
+use crate::value::Value;
+use std::alloc::Allocator;
+
+/// A text of `n` bytes of UTF-8, and the bytes after it.
+fn text(n: u64, bytes: &[u8]) -> Result<(&str, &[u8]), CborFault>
+    ensures { Gives (λ x. (x.0.now, x.1.now)) fault_of result (text_of n bytes.now) }
+{
+    let (content, rest) = front(n, bytes)?;
+    match str::from_utf8(content) {
+        Ok(text) => Ok((text, rest)),
+        Err(_) => Err(CborFault::BadUtf8),
+    }
+}
+
+/// A key that may follow the one before it, where there is one, and the bytes after it.
+fn key<'a>(before: Option<&str>, bytes: &'a [u8]) -> Result<(&'a str, &'a [u8]), CborFault>
+    ensures { Gives (λ x. (x.0.now, x.1.now)) fault_of result (key_of (option_map (λ s. s.now) before.entry) bytes.now) }
+{
+    let (n, rest) = head_of(3, CborFault::KeyNotText, bytes)?;
+    let (key, rest) = text(n, rest)?;
+    if is_next_key(before, key) {
+        Ok((key, rest))
+    } else {
+        Err(CborFault::KeyOrder)
+    }
+}
+
+/// The whole number n, and the bytes after its head.
+fn unsigned(n: u64, bytes: &[u8]) -> Result<(i64, &[u8]), CborFault>
+    ensures { Gives (λ x. (Integer x.0, x.1.now)) fault_of result (integer_of pos n bytes.now) }
+{
+    match i64::try_from(n) {
+        Ok(z) => Ok((z, bytes)),
+        Err(_) => Err(CborFault::IntegerRange),
+    }
+}
+
+/// The whole number -1 - n, and the bytes after its head.
+fn negative(n: u64, bytes: &[u8]) -> Result<(i64, &[u8]), CborFault>
+    ensures { Gives (λ x. (Integer x.0, x.1.now)) fault_of result (integer_of negsuc n bytes.now) }
+{
+    match i64::try_from(n) {
+        Ok(z) => Ok((-1 - z, bytes)),
+        Err(_) => Err(CborFault::IntegerRange),
+    }
+}
+
+/// The simple value of this number: 20 is false, 21 is true, and 22 is null.
+fn simple_value<'a, A: Allocator>(n: u64) -> Value<'a, A>
+    ensures { view result ≡ simple_value n }
+{
+    match n {
+        20 => Value::Bool(false),
+        21 => Value::Bool(true),
+        _ => Value::Null,
+    }
+}
+
+/// A value at the front, where lists and maps may lie this many levels deep, and the bytes after it.
+#[cycle(value)]
+fn value<'a, A: Allocator + Copy>(
+    alloc: A,
+    levels: u8,
+    bytes: &'a [u8],
+) -> Result<(Value<'a, A>, &'a [u8]), CborFault>
+    ensures { Gives (λ x. (view x.0, x.1.now)) fault_of result (value_at levels bytes.now) }
+{
+    let ((major, n), rest) = head(bytes)?;
+    content(alloc, levels, major_of(major), n, rest)
+}
+
+/// What follows a head, and the bytes after it.
+#[cycle(value)]
+fn content<'a, A: Allocator + Copy>(
+    alloc: A,
+    levels: u8,
+    major: Major,
+    n: u64,
+    bytes: &'a [u8],
+) -> Result<(Value<'a, A>, &'a [u8]), CborFault>
+    ensures { Gives (λ x. (view x.0, x.1.now)) fault_of result (content_of (within levels) (major_view major) n bytes.now) }
+{
+    match major {
+        Major::UnsignedInteger => {
+            let (z, rest) = unsigned(n, bytes)?;
+            Ok((Value::Int(z), rest))
+        }
+        Major::NegativeInteger => {
+            let (z, rest) = negative(n, bytes)?;
+            Ok((Value::Int(z), rest))
+        }
+        Major::ByteString => {
+            let (content, rest) = front(n, bytes)?;
+            Ok((Value::Bytes(content), rest))
+        }
+        Major::TextString => {
+            let (content, rest) = text(n, bytes)?;
+            Ok((Value::Text(content), rest))
+        }
+        Major::Array => list(alloc, levels, n, bytes),
+        Major::Map => map(alloc, levels, n, bytes),
+        Major::Tag => {
+            let (cid, rest) = link(n, bytes)?;
+            Ok((Value::Link(cid), rest))
+        }
+        Major::SimpleValue => Ok((simple_value(n), bytes)),
+    }
+}
+
+/// A list of `n` items, and the bytes after it.
+#[cycle(value)]
+fn list<'a, A: Allocator + Copy>(
+    alloc: A,
+    levels: u8,
+    n: u64,
+    bytes: &'a [u8],
+) -> Result<(Value<'a, A>, &'a [u8]), CborFault>
+    ensures { Gives (λ x. (view x.0, x.1.now)) fault_of result (content_of (within levels) Array n bytes.now) }
+{
+    if levels == 0 {
+        return Err(CborFault::TooDeep);
+    }
+    let (items, rest) = items(alloc, levels - 1, n, bytes)?;
+    Ok((Value::List(items), rest))
+}
+
+/// A map of `n` pairs, and the bytes after it.
+#[cycle(value)]
+fn map<'a, A: Allocator + Copy>(
+    alloc: A,
+    levels: u8,
+    n: u64,
+    bytes: &'a [u8],
+) -> Result<(Value<'a, A>, &'a [u8]), CborFault>
+    ensures { Gives (λ x. (view x.0, x.1.now)) fault_of result (content_of (within levels) Map n bytes.now) }
+{
+    if levels == 0 {
+        return Err(CborFault::TooDeep);
+    }
+    let (fields, rest) = fields(alloc, levels - 1, n, bytes)?;
+    Ok((Value::Map(fields), rest))
+}
+
+/// `n` values one after the other, and the bytes after them.
+#[cycle(value)]
+fn items<'a, A: Allocator + Copy>(
+    alloc: A,
+    levels: u8,
+    n: u64,
+    bytes: &'a [u8],
+) -> Result<(Vec<Value<'a, A>, A>, &'a [u8]), CborFault>
+    ensures { Gives (λ x. (view_items x.0.items, x.1.now)) fault_of result (items_at (value_at levels) n bytes.now) }
+{
+    let mut items = Vec::new(alloc);
+    let mut rest = bytes;
+    for _turn in 0..n {
+        let (item, after) = value(alloc, levels, rest)?;
+        items.push(item)?;
+        rest = after;
+    }
+    Ok((items, rest))
+}
+
+/// `n` keys in order, each with a value, and the bytes after them.
+#[cycle(value)]
+fn fields<'a, A: Allocator + Copy>(
+    alloc: A,
+    levels: u8,
+    n: u64,
+    bytes: &'a [u8],
+) -> Result<(Vec<(&'a str, Value<'a, A>), A>, &'a [u8]), CborFault>
+    ensures { Gives (λ x. (view_fields x.0.items, x.1.now)) fault_of result (fields_at (value_at levels) None n bytes.now) }
+{
+    let mut fields = Vec::new(alloc);
+    let mut before = None;
+    let mut rest = bytes;
+    for _turn in 0..n {
+        let (key, after) = key(before, rest)?;
+        let (value, after) = value(alloc, levels, after)?;
+        fields.push((key, value))?;
+        before = Some(key);
+        rest = after;
+    }
+    Ok((fields, rest))
+}
+
+/// The value that these bytes are the spelling of (IPLD DAG-CBOR, strictness). Its bytes and texts are slices of `bytes`.
+///
+/// Any other error than `NoMemory` says that the bytes are no value's spelling, and is the first fault from the left.
+/// Lists and maps may lie 64 levels deep (own); a deeper one is `TooDeep`. No room is reserved by a length that the bytes state.
+#[tactic(auto, unfolding(spec::specs::DagCbor::read))]
+pub fn read<'a, A: Allocator + Copy>(alloc: A, bytes: &'a [u8]) -> Result<Value<'a, A>, CborFault>
+    ensures read { Gives view fault_of result (read bytes.now) }
+    ensures spelled { IfOk result (λ v. bytes.now ≡ spelling (view v)) }
+    ensures lawful { IfOk result (λ v. IsTrue (is_lawful (view v))) }
+    ensures refused { IfErr result (λ e. IsSome (fault_of e) → HasNoValue bytes.now) }
+{
+    let (value, rest) = value(alloc, 64, bytes)?;
+    if !rest.is_empty() {
+        return Err(CborFault::Trailing);
+    }
+    Ok(value)
+}

@@ -1,0 +1,2 @@
+pub mod CommonParts
+pub mod Writing

@@ -1,0 +1,108 @@
+//! Nodes written entry by entry.
+
+ghost use Rattle.std.specs.Prelude.{◌≡◌, [], ◌∷◌, ◌++◌, true, IfOk, OnOk, OnErr};
+ghost use Rattle.spec.specs.NodeFormat.{node_spelling};
+ghost use Rattle.node.specs.Contents.{Contents, is_next_key};
+ghost use Rattle.cid.specs.CidRef.{bytes_of};
+
+use crate::common::{common_len, is_key};
+use crate::key_buf::KeyBuf;
+use crate::parts::{lend, push_entry, push_link};
+use cid::{Cid, CidRef};
+use dagcbor::push_head;
+use std::alloc::{AllocError, Allocator, Global};
+use std::clone::Clone;
+use std::marker::Model;
+
+/// How many bytes of entries there is room for from the beginning: most nodes have no more.
+const FIRST_ROOM: usize = 512;
+
+/// How many bytes a node has at most beside its entries.
+const ENDS: usize = 55;
+
+/// A node that is being written, its entries in ascending order of their keys.
+///
+/// A contract sees it as the left link and the entries so far.
+#[derive(Drop)]
+#[derive_where(Debug)]
+pub struct NodeWriter<A: Allocator = Global> {
+    left: Option<Cid>,
+    count: u64,
+    entries: Vec<u8, A>,
+    last: KeyBuf<A>,
+}
+
+impl<A: Allocator> Model for NodeWriter<A> {
+    ghost use Rattle.node.specs.Contents.{Contents, entries_in, IsWritten};
+
+    ghost Value = { Contents };
+
+    ghost view = { λ w. record { left = w.left; entries = entries_in w.count w.entries.items } };
+
+    ghost invariant = { λ w. IsWritten w.count w.entries.items w.last };
+}
+
+impl<A: Allocator + Clone> NodeWriter<A> {
+    /// Begins a node: `left` is the link of the subtree before all its keys.
+    pub fn begin(alloc: A, left: Option<Cid>) -> Result<NodeWriter<A>, AllocError>
+        ensures { IfOk result (λ writer. writer ≡ record { left = left; entries = [] }) }
+    {
+        let last = KeyBuf::new(alloc.clone()?)?;
+        let entries = Vec::with_capacity(alloc, FIRST_ROOM)?;
+        Ok(NodeWriter {
+            left,
+            count: 0,
+            entries,
+            last,
+        })
+    }
+
+    /// Whether `key` can be the next entry's: it has 1 to 1,024 bytes and is greater than the last key.
+    pub fn is_next(&self, key: &[u8]) -> bool
+        ensures { result ≡ is_next_key self.now.entries key.now }
+    {
+        self.last.key().cmp(key).is_lt() && is_key(key)
+    }
+
+    /// Adds an entry: a key, its record's CID, and the link of the subtree after it. Keys ascend strictly and have 1
+    /// to 1,024 bytes; `is_next` is the test. Where memory is refused, the writer stays as it was.
+    pub fn entry(
+        &mut self,
+        key: &[u8],
+        value: CidRef<'_>,
+        tree: Option<Cid>,
+    ) -> Result<(), AllocError>
+        requires { is_next_key self.old.entries key.now ≡ true }
+        ensures ok { OnOk result (self.new ≡ record { left = self.old.left; entries = self.old.entries ++ record { key = key.now; value = bytes_of value.entry; tree = tree } ∷ [] }) }
+        ensures unchanged { OnErr result (self.new ≡ self.old) }
+    {
+        let prefix = common_len(self.last.key(), key);
+        let suffix = &key[prefix..];
+        let tree = lend(&tree);
+        let written = self.entries.len();
+        match push_entry(&mut self.entries, prefix, suffix, value, tree) {
+            Ok(()) => {
+                self.last.change(prefix, suffix);
+                self.count += 1;
+                Ok(())
+            }
+            Err(refused) => {
+                self.entries.truncate(written);
+                Err(refused)
+            }
+        }
+    }
+
+    /// The bytes of the node.
+    pub fn finish(self) -> Result<Vec<u8, A>, AllocError>
+        ensures { IfOk result (λ bytes. bytes.items ≡ node_spelling self.left self.entries) }
+    {
+        let alloc = self.entries.allocator().clone()?;
+        let mut bytes = Vec::with_capacity(alloc, self.entries.len().saturating_add(ENDS))?;
+        bytes.extend_from_slice(&[0xa2, b'a', b'e'])?;
+        push_head(&mut bytes, 4, self.count)?;
+        bytes.extend_from_slice(&self.entries)?;
+        push_link(&mut bytes, b'l', lend(&self.left))?;
+        Ok(bytes)
+    }
+}

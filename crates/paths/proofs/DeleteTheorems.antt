@@ -1,0 +1,206 @@
+-- The laws of a delete.
+use Rattle.std.proofs.Common.{◌≡◌, ℕ, ◌+◌, ◌*◌, ◌<◌, ◌≤◌, true, List, [], ◌∷◌, ◌++◌, length, map, Option, sym, ap, ◌∙◌, subst, arith}
+use Rattle.std.specs.declared.option.Option.TheVariants.{Some}
+use Rattle.std.specs.Cmp.Lexicographic.{slice_cmp}
+use Rattle.std.specs.Ordering.{nat_cmp}
+use Rattle.std.specs.FinMap.{is_sorted}
+use Rattle.std.proofs.lemmas.List.{length-map, map-append}
+use Rattle.spec.specs.Cid.{IsDigest}
+use Rattle.spec.specs.Layer.{layer}
+use Rattle.spec.specs.Tree.{Pair, Node, Sub, top}
+use Rattle.spec.specs.NodeFormat.{Shape, part_link, shape}
+use Rattle.spec.specs.Blocks.{ArePairs, IsClashFree, nodes, value_of}
+use Rattle.spec.specs.Writes.{without_key}
+use Rattle.paths.specs.Pairs.{delete_pair}
+use Rattle.paths.specs.TreeEdit.{layer_of}
+use Rattle.paths.specs.Trace.{delete_path_nodes, met_pairs, delete_left, prune_path, delete_path_gone, delete_path_made, delete_path_read}
+use Rattle.paths.specs.ShapeEdit.{layer_of_shape}
+use Rattle.paths.specs.PathEdit.{flat, all_but_last, delete_root, delete_written, delete_read, delete_gone_shapes}
+use Rattle.paths.specs.Sources.{shown_by, path_from, met_from, delete_met_from, delete_pruned_from}
+use Rattle.paths.specs.Laws.Edits.{IsEdit}
+use Rattle.paths.specs.Laws.Deletes.{DeleteIsTop, DeleteReadsPath, DeleteReads, DeleteIsShapes, DeleteCounts, DeleteOverSource}
+use Rattle.paths.proofs.Balance.{delete-balance, within-top}
+use Rattle.paths.proofs.Counts.{delete_path-reads, delete_path-made}
+use Rattle.paths.proofs.DeleteShapes.{links-path}
+use Rattle.paths.proofs.DeleteSource.{map-flat, map-all_but_last, met-row, pruned-top}
+use Rattle.paths.proofs.DeleteTopShapes.{shape-delete_path, shapes-delete_path}
+use Rattle.paths.proofs.PutTheorems.{edit-shapes, edit-moved}
+use Rattle.paths.proofs.Gone.{delete_path-old}
+use Rattle.paths.proofs.LookupTheorems.{find_path-bound}
+use Rattle.paths.proofs.OverSource.{holds-top, free-source}
+use Rattle.paths.proofs.PathForms.{delete_root-same, delete_written-same, links-same}
+use Rattle.paths.proofs.PutTopShapes.{layer-shape}
+use Rattle.paths.proofs.RecordMaps.{ascending-sorted, find-is, delete-is}
+use Rattle.paths.proofs.Settle.{delete_path-top}
+use Rattle.paths.proofs.SourceLaws.{path-holds}
+use Rattle.paths.proofs.BlockChanges as blocks
+use Rattle.paths.proofs.PathReads as reads
+use Rattle.paths.proofs.ShapeBridges as bridge
+
+pub delete-is_top : DeleteIsTop
+delete-is_top layer key es s =
+    let a = ascending-sorted es s in delete_path-top layer key es a ∙ ap (top layer) (sym (delete-is key es a))
+
+-- where the key is in the tree: what is read below the top, and how deep
+row-of : (layer : List ℕ → ℕ) (key : List ℕ) (es : List Pair) → is_sorted (slice_cmp nat_cmp) es ≡ true
+    → (v : List ℕ) → value_of key es ≡ Some v
+    → reads.ReadsBelow layer (key, []) (layer_of layer (top layer es)) (top layer es)
+row-of layer key es s v h =
+    let a = ascending-sorted es s in reads.row-reads layer key es a v (sym (find-is key es a) ∙ h)
+
+pub delete-reads_path : DeleteReadsPath
+delete-reads_path layer n key es s l v h =
+    let r = row-of layer key es s v h in
+    ap (λ t. top layer es ∷ t) r.delete ∙ sym (find_path-bound layer n key es l)
+
+pub delete-reads_meet : DeleteReads
+delete-reads_meet layer key m = (reads.delete-read layer key m, reads.delete-gone layer key m)
+
+pub delete-counts : DeleteCounts
+delete-counts layer key m =
+    let a = blocks.delete_path-read layer key m in
+    let b = delete_path-reads layer key m in
+    (omega arith, delete_path-made layer key m)
+
+pub delete-is_shapes : DeleteIsShapes
+delete-is_shapes digest layer n key es s l v h =
+    let m = top layer es in
+    let t = layer_of layer m in
+    let w = within-top layer es in
+    let below = delete_path_nodes layer t key m in
+    let path = ap (map (shape digest)) (delete-reads_path layer n key es s l v h) in
+    let r = row-of layer key es s v h in
+    let met = map (bridge.two_shapes digest) (met_pairs layer t key m) in
+    let left = delete_left layer key m in
+    let pruned = map (shape digest) (prune_path left.0 left.1) in
+    let long = length-map below (shape digest) in
+    let same = layer-shape digest layer m in
+    let deep = r.deep in
+    let e : layer_of_shape layer (shape digest m) ≡ length (map (shape digest) below) + layer key = omega arith in (
+      ap (shape digest) (sym (delete-is_top layer key es s))
+          ∙ sym (shape-delete_path digest layer key m w)
+          ∙ delete_root-same digest layer key (shape digest m) (map (shape digest) below) met pruned e
+          ∙ ap (λ x. delete_root digest key x met pruned) path,
+      sym (shapes-delete_path digest layer key m w)
+          ∙ delete_written-same digest layer key (shape digest m) (map (shape digest) below) met e
+          ∙ ap (λ x. delete_written digest key x met) path,
+    )
+
+-- ---- over a source
+
+delete-edit : (digest : List ℕ → List ℕ) (bits : ℕ) → IsDigest digest → (key : List ℕ) (es : List Pair)
+    → ArePairs es → IsClashFree digest (nodes digest bits es)
+    → let lay = layer digest bits in
+    let m = top lay es in
+    IsEdit digest bits es (delete_pair key es) (shape digest (top lay (delete_pair key es)))
+    (map (shape digest) (delete_path_read lay key m)) (map (shape digest) (delete_path_gone lay key m))
+    (map (shape digest) (delete_path_made lay key m))
+delete-edit digest bits fits key es are free =
+    let lay = layer digest bits in
+    let m = top lay es in
+    let read = delete_path_read lay key m in
+    let gone = delete_path_gone lay key m in
+    let made = delete_path_made lay key m in
+    edit-shapes digest bits es (delete_pair key es) read gone made
+    (blocks.read-stands digest bits es read (λ b k. blocks.read-old digest lay b key m k))
+    (blocks.made-stands digest bits es (delete_pair key es) made gone
+    (λ w. delete-balance lay w key es (ascending-sorted es are.sorted)) (λ w. delete_path-old w lay key m))
+    (blocks.delete-changes digest bits fits key es are free)
+
+read-shapes : (digest : List ℕ → List ℕ) (m : Node) (below : List Node) (met : List (Node × Node)) (pruned : List Node)
+    → map (shape digest) (m ∷ (below ++ (flat met ++ pruned)))
+    ≡ map (shape digest) (m ∷ below) ++ (flat (map (bridge.two_shapes digest) met) ++ map (shape digest) pruned)
+read-shapes digest m below met pruned =
+    ap (λ t. shape digest m ∷ t)
+    (map-append (shape digest) below (flat met ++ pruned)
+    ∙ ap (λ t. map (shape digest) below ++ t)
+    (map-append (shape digest) (flat met) pruned
+    ∙ ap (λ t. t ++ map (shape digest) pruned) (map-flat (shape digest) met)))
+
+-- what a delete does, from the path, the pairs that meet and the chain that is pruned
+abbrev DeleteFacts : (List ℕ → List ℕ) → ℕ → List ℕ → List Pair → List Shape → List (Shape × Shape)
+    → List Shape → Type 0
+DeleteFacts digest bits key es path met pruned =
+    IsEdit digest bits es (without_key es key) (delete_root digest key path met pruned)
+    (delete_read path met pruned) (delete_gone_shapes path met pruned) (delete_written digest key path met)
+    × (length (delete_read path met pruned) ≤ 2 * layer_of (layer digest bits) (top (layer digest bits) es) + 1)
+    × (length (delete_written digest key path met) ≤ layer_of (layer digest bits) (top (layer digest bits) es) + 1)
+
+delete-facts : (digest : List ℕ → List ℕ) (bits : ℕ) → IsDigest digest → (n : ℕ) (key : List ℕ) (es : List Pair)
+    → ArePairs es → IsClashFree digest (nodes digest bits es)
+    → layer_of (layer digest bits) (top (layer digest bits) es) < n → (v : List ℕ) → value_of key es ≡ Some v
+    → let lay = layer digest bits in
+    let m = top lay es in
+    let t = layer_of lay m in
+    let left = delete_left lay key m in
+    DeleteFacts digest bits key es (shape digest m ∷ map (shape digest) (delete_path_nodes lay t key m))
+    (map (bridge.two_shapes digest) (met_pairs lay t key m)) (map (shape digest) (prune_path left.0 left.1))
+delete-facts digest bits fits n key es are free l v h =
+    let lay = layer digest bits in
+    let m = top lay es in
+    let t = layer_of lay m in
+    let below = delete_path_nodes lay t key m in
+    let pairs = met_pairs lay t key m in
+    let left = delete_left lay key m in
+    let path = shape digest m ∷ map (shape digest) below in
+    let met = map (bridge.two_shapes digest) pairs in
+    let pruned = map (shape digest) (prune_path left.0 left.1) in
+    let found = ap (map (shape digest)) (sym (delete-reads_path lay n key es are.sorted l v h)) in
+    let shapes = delete-is_shapes digest lay n key es are.sorted l v h in
+    let new_top = shapes.0 ∙ ap (λ x. delete_root digest key x met pruned) found in
+    let made = shapes.1 ∙ ap (λ x. delete_written digest key x met) found in
+    let read : map (shape digest) (delete_path_read lay key m) ≡ delete_read path met pruned =
+    ap (map (shape digest)) (reads.delete-read lay key m)
+    ∙ read-shapes digest m below pairs (prune_path left.0 left.1) in
+    let gone : map (shape digest) (delete_path_gone lay key m) ≡ delete_gone_shapes path met pruned =
+    ap (map (shape digest)) (reads.delete-gone lay key m)
+    ∙ read-shapes digest m below pairs (all_but_last (prune_path left.0 left.1))
+    ∙ ap (λ x. path ++ (flat met ++ x)) (map-all_but_last (shape digest) (prune_path left.0 left.1)) in
+    let base = subst
+    (λ fs. IsEdit digest bits es fs (shape digest (top lay fs)) (map (shape digest) (delete_path_read lay key m))
+    (map (shape digest) (delete_path_gone lay key m)) (map (shape digest) (delete_path_made lay key m)))
+    (sym (delete-is key es (ascending-sorted es are.sorted))) (delete-edit digest bits fits key es are free) in
+    let counts = delete-counts lay key m in
+    let read_length = ap length read in
+    let read_map = length-map (delete_path_read lay key m) (shape digest) in
+    let made_length = ap length made in
+    let made_map = length-map (delete_path_made lay key m) (shape digest) in
+    let few_read = counts.0 in
+    let few_made = counts.1 in (
+      edit-moved digest bits es (without_key es key) _ _ _ _ _ _ _ _ new_top read gone made base,
+      omega arith,
+      omega arith,
+    )
+
+pub delete-over_source : DeleteOverSource
+delete-over_source digest bits fits gives n key es are has l v h =
+    let lay = layer digest bits in
+    let m = top lay es in
+    let t = layer_of lay m in
+    let w = within-top lay es in
+    let shows = shown_by gives in
+    let holds = holds-top digest bits fits gives es are has in
+    let row = row-of lay key es are.sorted v h in
+    let below = delete_path_nodes lay t key m in
+    let pairs = met_pairs lay t key m in
+    let path = shape digest m ∷ map (shape digest) below in
+    let read_path : path_from shows n key (part_link digest (Sub m)) ≡ path =
+    path-holds digest shows n key (Sub m) holds
+    ∙ ap (map (shape digest)) (sym (delete-reads_path lay n key es are.sorted l v h)) in
+    let long = length-map below (shape digest) in
+    let deep = row.deep in
+    let e : t ≡ length (map (shape digest) below) + lay key = omega arith in
+    let links = sym (links-same (lay key) t key (shape digest m) (map (shape digest) below) e)
+    ∙ links-path digest lay key t m in
+    let met : delete_met_from shows n key path ≡ map (bridge.two_shapes digest) pairs =
+    ap (λ (x : Option (List ℕ) × Option (List ℕ)). met_from shows n x.0 x.1) links
+    ∙ met-row digest shows lay key t n m (omega arith) w holds.1 in
+    let pruned = ap (delete_pruned_from shows n key path) met ∙ pruned-top digest shows n lay key m l w holds.1 in
+    let facts = delete-facts digest bits fits n key es are (free-source digest bits gives es has) l v h in
+    let with_pruned = subst (DeleteFacts digest bits key es path (map (bridge.two_shapes digest) pairs))
+    (sym pruned) facts in
+    let with_met = subst (λ x. DeleteFacts digest bits key es path x
+    (delete_pruned_from shows n key path (delete_met_from shows n key path))) (sym met) with_pruned in
+    let whole = subst (λ x. DeleteFacts digest bits key es x (delete_met_from shows n key x)
+    (delete_pruned_from shows n key x (delete_met_from shows n key x))) (sym read_path) with_met in
+    record { edit = whole.0; read_count = whole.1; made_count = whole.2 }

@@ -1,0 +1,80 @@
+-- The laws of a delete.
+use Rattle.std.specs.Prelude.{◌≡◌, true, Option, Some, ℕ, ◌+◌, ◌*◌, ◌<◌, ◌≤◌, List, ◌∷◌, ◌++◌, length, map}
+use Rattle.std.specs.Cmp.Lexicographic.{slice_cmp}
+use Rattle.std.specs.Ordering.{nat_cmp}
+use Rattle.std.specs.FinMap.{is_sorted}
+use Rattle.spec.specs.Cid.{IsDigest}
+use Rattle.spec.specs.Layer.{layer}
+use Rattle.spec.specs.Tree.{Pair, Node, Sub, top}
+use Rattle.spec.specs.NodeFormat.{shape}
+use Rattle.spec.specs.Blocks.{ArePairs, value_of, root}
+use Rattle.spec.specs.Writes.{without_key}
+use Rattle.paths.specs.TreeEdit.{layer_of, delete_path}
+use Rattle.paths.specs.Trace.{find_path, delete_path_gone, delete_path_made, delete_path_read, delete_path_nodes, met_pairs, delete_left, prune_path}
+use Rattle.paths.specs.PathEdit.{delete_root, delete_written, delete_read, delete_gone_shapes, flat, all_but_last}
+use Rattle.paths.specs.Sources.{HasNodes, shown_by, path_from, delete_met_from, delete_pruned_from}
+use Rattle.paths.specs.Laws.Edits.{IsEdit}
+
+-- the tree after a delete is the tree of the pairs that are left from scratch
+abbrev pub DeleteIsTop : Type 0
+DeleteIsTop = (layer : List ℕ → ℕ) (key : List ℕ) (es : List Pair) → is_sorted (slice_cmp nat_cmp) es ≡ true
+    → delete_path layer key (top layer es) ≡ top layer (without_key es key)
+
+-- where the key is there, its path in the tree is that of a look-up
+abbrev pub DeleteReadsPath : Type 0
+DeleteReadsPath = (layer : List ℕ → ℕ) (n : ℕ) (key : List ℕ) (es : List Pair)
+    → is_sorted (slice_cmp nat_cmp) es ≡ true → layer_of layer (top layer es) < n
+    → (v : List ℕ) → value_of key es ≡ Some v
+    → top layer es ∷ delete_path_nodes layer (layer_of layer (top layer es)) key (top layer es)
+    ≡ find_path n key (Sub (top layer es))
+
+-- a delete reads the path, the pairs of nodes that meet, and the chain that is pruned, whose last node stays
+abbrev pub DeleteReads : Type 0
+DeleteReads = (layer : List ℕ → ℕ) (key : List ℕ) (m : Node) → let t = layer_of layer m in
+    let left = delete_left layer key m in
+    let below = delete_path_nodes layer t key m in
+    let met = flat (met_pairs layer t key m) in
+    (delete_path_read layer key m ≡ m ∷ (below ++ (met ++ prune_path left.0 left.1)))
+    × (delete_path_gone layer key m ≡ m ∷ (below ++ (met ++ all_but_last (prune_path left.0 left.1))))
+
+-- the new top and the nodes that are made come from the shapes of these nodes
+abbrev pub DeleteIsShapes : Type 0
+DeleteIsShapes = (digest : List ℕ → List ℕ) (layer : List ℕ → ℕ) (n : ℕ) (key : List ℕ) (es : List Pair)
+    → is_sorted (slice_cmp nat_cmp) es ≡ true → layer_of layer (top layer es) < n
+    → (v : List ℕ) → value_of key es ≡ Some v
+    → let m = top layer es in
+    let path = map (shape digest) (find_path n key (Sub m)) in
+    let met = map (λ (x : Node × Node). (shape digest x.0, shape digest x.1))
+    (met_pairs layer (layer_of layer m) key m) in
+    let left = delete_left layer key m in
+    let pruned = map (shape digest) (prune_path left.0 left.1) in
+    (shape digest (top layer (without_key es key)) ≡ delete_root digest key path met pruned)
+    × (map (shape digest) (delete_path_made layer key m) ≡ delete_written digest key path met)
+
+-- how many nodes are read and made
+abbrev pub DeleteCounts : Type 0
+DeleteCounts = (layer : List ℕ → ℕ) (key : List ℕ) (m : Node) → let t = layer_of layer m in
+    (length (delete_path_read layer key m) ≤ 2 * t + 1) × (length (delete_path_made layer key m) ≤ t + 1)
+
+-- from the root, over a source that has the nodes of a tree with the key
+pub record IsDelete (digest : List ℕ → List ℕ) (bits : ℕ) (gives : List ℕ → Option (List ℕ)) (n : ℕ) (key : List ℕ)
+    (es : List Pair) : Type 0 where
+  pub edit : let path = path_from (shown_by gives) n key (Some (root digest bits es)) in
+      let met = delete_met_from (shown_by gives) n key path in
+      let pruned = delete_pruned_from (shown_by gives) n key path met in
+      IsEdit digest bits es (without_key es key) (delete_root digest key path met pruned)
+      (delete_read path met pruned) (delete_gone_shapes path met pruned) (delete_written digest key path met)
+  pub read_count : let path = path_from (shown_by gives) n key (Some (root digest bits es)) in
+      let met = delete_met_from (shown_by gives) n key path in
+      let pruned = delete_pruned_from (shown_by gives) n key path met in
+      length (delete_read path met pruned) ≤ 2 * layer_of (layer digest bits) (top (layer digest bits) es) + 1
+  pub made_count : let path = path_from (shown_by gives) n key (Some (root digest bits es)) in
+      let met = delete_met_from (shown_by gives) n key path in
+      length (delete_written digest key path met) ≤ layer_of (layer digest bits) (top (layer digest bits) es) + 1
+
+abbrev pub DeleteOverSource : Type 0
+DeleteOverSource = (digest : List ℕ → List ℕ) (bits : ℕ) → IsDigest digest
+    → (gives : List ℕ → Option (List ℕ)) (n : ℕ) (key : List ℕ) (es : List Pair) → ArePairs es
+    → HasNodes digest bits gives es
+    → layer_of (layer digest bits) (top (layer digest bits) es) < n → (v : List ℕ) → value_of key es ≡ Some v
+    → IsDelete digest bits gives n key es

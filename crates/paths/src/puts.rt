@@ -1,0 +1,28 @@
+//! The laws of a put.
+
+ghost use Rattle.paths.specs.Laws.Puts.{PutIsTop, PutReadsPath, PutIsShapes, PutCounts, PutOverSource};
+
+/// The tree after a put is the tree of the new pairs from scratch.
+pub fn put_is_the_tree_from_scratch()
+    ensures { PutIsTop }
+{}
+
+/// A put reads the path of its key, and no other node.
+pub fn put_reads_the_path()
+    ensures { PutReadsPath }
+{}
+
+/// The nodes that a put makes come from the shapes of the nodes on the path alone.
+pub fn put_is_made_from_shapes()
+    ensures { PutIsShapes }
+{}
+
+/// A put reads at most one node a layer, and makes at most two and the top.
+pub fn put_counts()
+    ensures { PutCounts }
+{}
+
+/// Over a source that has the nodes of a tree, a put at its root gives the new root and the blocks that come and go.
+pub fn put_over_a_source()
+    ensures { PutOverSource }
+{}

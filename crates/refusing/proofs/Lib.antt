@@ -1,0 +1,2 @@
+mod GivesBack
+mod Refuses

@@ -1,0 +1,2 @@
+pub mod Aheads
+pub mod Writing

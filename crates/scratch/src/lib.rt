@@ -1,0 +1,2 @@
+//! The whole tree of sorted pairs.
+#![tactic(auto)]

@@ -1,0 +1,127 @@
+ghost use Rattle.std.specs.Prelude.{◌≡◌, ◌<◌, ◌≤◌, IfOk, IfErr, OnOk, OnErr};
+ghost use Rattle.std.specs.Arc.{arc_value};
+ghost use Rattle.std.specs.FinMap as map;
+ghost use Rattle.std.specs.FinSet as set;
+ghost use Rattle.spec.specs.Cid.{cid as cid_of};
+ghost use Rattle.store.specs.Table.{entered, left, HasNoOther, cores_at, listed, IsLawful};
+ghost use Rattle.store.specs.Faults.{IsRefusal};
+
+use crate::entries::Entries;
+use crate::entry::Entry;
+use crate::fault::StoreFault;
+use crate::hold::Hold;
+use cid::{Block, Cid, Digest};
+use std::alloc::{Allocator, Global};
+use std::collections::BTreeMap;
+use std::marker::Model;
+use std::sync::Arc;
+
+/// Blocks by their CIDs, each with the cores that hold it, at most `limit` of them.
+///
+/// A contract sees it as a finite map from CIDs to bytes and sets of cores, beside its limit. Each entry stands under the
+/// CID of its bytes and has at least one core (own).
+#[derive(Drop)]
+pub struct Shard<D: Digest, A: Allocator = Global> {
+    table: BTreeMap<Cid, Entry<D, A>, A>,
+    limit: usize,
+}
+
+impl<D: Digest, A: Allocator> Model for Shard<D, A> {
+    ghost use Rattle.store.specs.Table.{Table, table_code, table_view, IsLawful};
+
+    ghost Value = { Table };
+
+    ghost coded = { table_code };
+
+    ghost view = { λ s. table_view s.table.entries s.limit };
+
+    ghost invariant = { λ s. IsLawful D.digest_of (table_view s.table.entries s.limit) };
+}
+
+impl<D: Digest, A: Allocator> Shard<D, A> {
+    /// An empty shard that may have `limit` blocks. It takes no memory yet.
+    pub fn new(alloc: A, limit: usize) -> Shard<D, A>
+        requires least { 1 ≤ limit }
+        requires most { limit ≤ 1048576 }
+        ensures { result ≡ record { entries = map.empty; limit = limit } }
+    {
+        Shard {
+            table: BTreeMap::new(alloc),
+            limit,
+        }
+    }
+
+    /// Takes the hold's core out of the entry under the hold's CID, and the entry out with its last core.
+    ///
+    /// A core that isn't there changes nothing. It takes no memory and can't fail.
+    pub fn release(&mut self, hold: Hold<D, A>)
+        ensures { self.new ≡ left self.old (cid_of D.digest_of hold.0) hold.1 }
+    {
+        let Hold { block, core } = hold;
+        let cid = block.cid();
+        if let Some(entry) = self.table.get_mut(&cid) {
+            if entry.leave(core) {
+                self.table.remove(&cid);
+            }
+        }
+    }
+
+    /// Each entry's CID with the cores that hold its block, in the order of the CIDs.
+    pub fn entries(&self) -> Entries<'_, D, A>
+        ensures entries { result ≡ listed self.now }
+        ensures lawful { IsLawful D.digest_of self.now }
+    {
+        Entries {
+            entries: self.table.iter(),
+        }
+    }
+
+    /// How many cores hold the block of this CID: 0 where there is none.
+    pub fn count(&self, cid: &Cid) -> u64
+        ensures count { result ≡ set.len (cores_at self.now cid.now) }
+        ensures lawful { IsLawful D.digest_of self.now }
+    {
+        match self.table.get(cid) {
+            Some(entry) => entry.cores().len(),
+            None => 0,
+        }
+    }
+}
+
+impl<D: Digest, A: Allocator + Clone> Shard<D, A> {
+    /// Enters the core among those that hold the block, and gives the hold.
+    ///
+    /// A block that is held already needs no memory, whatever core is entered. Otherwise the block gets an entry.
+    /// `StoreFault::Collision` shows the given and the held block where other bytes are held under the CID,
+    /// `StoreFault::Full` comes only where the block is new and there are `limit` blocks, and `StoreFault::NoMemory`
+    /// where memory was refused. After a refusal nothing has changed.
+    pub fn acquire(
+        &mut self,
+        core: u32,
+        block: Arc<Block<D, A>, A>,
+    ) -> Result<Hold<D, A>, StoreFault<D, A>>
+        requires { core < 1024 }
+        ensures hold { IfOk result (λ h. h ≡ (arc_value block, core)) }
+        ensures same_bytes { OnOk result (HasNoOther self.old (cid_of D.digest_of (arc_value block)) (arc_value block)) }
+        ensures entered { OnOk result (self.new ≡ entered self.old (cid_of D.digest_of (arc_value block)) (arc_value block) core) }
+        ensures unchanged { OnErr result (self.new ≡ self.old) }
+        ensures fault { IfErr result (IsRefusal D.digest_of self.old (arc_value block)) }
+    {
+        let cid = block.cid();
+        match self.table.get_mut(&cid) {
+            Some(entry) => entry.enter(core, block),
+            None => {
+                if self.table.len() >= self.limit {
+                    return Err(StoreFault::Full);
+                }
+                let Ok(held) = Arc::try_clone(&block) else {
+                    return Err(StoreFault::NoMemory);
+                };
+                let Ok(_) = self.table.insert(cid, Entry::new(core, held)) else {
+                    return Err(StoreFault::NoMemory);
+                };
+                Ok(Hold { block, core })
+            }
+        }
+    }
+}

@@ -1,0 +1,99 @@
+ghost use Rattle.std.specs.Prelude.{◌≡◌, ◌<◌, ◌≤◌, IfOk, IfErr, Some, slice_get};
+ghost use Rattle.std.specs.Arc.{arc_value};
+ghost use Rattle.store.specs.Faults.{IsRefusalOf};
+ghost use Rattle.store.specs.Table.{shard_of};
+
+use crate::fault::StoreFault;
+use crate::hold::Hold;
+use crate::shard::Shard;
+use cid::{Block, Cid, Digest};
+use std::alloc::{Allocator, Global};
+use std::array;
+use std::sync::{Arc, Mutex, Wait};
+
+/// How many shards there are.
+pub const SHARDS: usize = 16;
+
+/// The number of the shard of a CID, below 16: the low four bits of the first byte of its digest (own).
+pub fn shard_number(cid: &Cid) -> usize
+    ensures value { result ≡ shard_of cid.now }
+    ensures small { result < 16 }
+{
+    usize::from(cid.as_bytes()[4]) % SHARDS
+}
+
+/// Sixteen locked shards, which threads share. A block stands in the shard of its CID.
+#[derive(Drop)]
+pub struct Shards<D: Digest, A: Allocator = Global> {
+    shards: [Mutex<Shard<D, A>>; SHARDS],
+}
+
+impl<D: Digest, A: Allocator> Shards<D, A> {
+    /// The shard of a CID.
+    pub fn shard(&self, cid: &Cid) -> &Mutex<Shard<D, A>>
+        ensures { slice_get self.now.shards (shard_of cid.now) ≡ Some result.now }
+    {
+        &self.shards[shard_number(cid)]
+    }
+
+    /// Releases the hold in the shard of its block, as `Shard::release` does. It takes no memory.
+    ///
+    /// It waits for that shard's lock, and holds no other.
+    pub fn release<R: Wait>(&self, rt: &R, hold: Hold<D, A>) {
+        self.shard(&hold.cid()).lock(rt).release(hold);
+    }
+
+    /// The shards, in the order of their numbers, out of their locks.
+    pub fn tables(self) -> [Shard<D, A>; SHARDS] {
+        // `map` would ask that an allocator of unknown size fit in memory once more.
+        let [a, b, c, d, e, f, g, h, i, j, k, l, m, n, o, p] = self.shards;
+        [
+            a.into_inner(),
+            b.into_inner(),
+            c.into_inner(),
+            d.into_inner(),
+            e.into_inner(),
+            f.into_inner(),
+            g.into_inner(),
+            h.into_inner(),
+            i.into_inner(),
+            j.into_inner(),
+            k.into_inner(),
+            l.into_inner(),
+            m.into_inner(),
+            n.into_inner(),
+            o.into_inner(),
+            p.into_inner(),
+        ]
+    }
+}
+
+impl<D: Digest, A: Allocator + Copy> Shards<D, A> {
+    /// Sixteen empty shards, each of at most `limit` blocks. It takes no memory yet.
+    pub fn open(alloc: A, limit: usize) -> Shards<D, A>
+        requires least { 1 ≤ limit }
+        requires most { limit ≤ 1048576 }
+    {
+        Shards {
+            shards: array::from_fn(|_| Mutex::new(Shard::new(alloc, limit))),
+        }
+    }
+}
+
+impl<D: Digest, A: Allocator + Clone> Shards<D, A> {
+    /// Acquires the block in its shard, as `Shard::acquire` does.
+    ///
+    /// It waits for that shard's lock, and holds no other.
+    pub fn acquire<R: Wait>(
+        &self,
+        rt: &R,
+        core: u32,
+        block: Arc<Block<D, A>, A>,
+    ) -> Result<Hold<D, A>, StoreFault<D, A>>
+        requires { core < 1024 }
+        ensures hold { IfOk result (λ h. h ≡ (arc_value block, core)) }
+        ensures fault { IfErr result (IsRefusalOf D.digest_of (arc_value block)) }
+    {
+        self.shard(&block.cid()).lock(rt).acquire(core, block)
+    }
+}
