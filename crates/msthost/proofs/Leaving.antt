@@ -60,6 +60,14 @@ pub fails : {E : Type 0} (a b : Option (List ℕ)) (r : Result (Unit {0}) E) (wh
 fails a b (Ok u) whole err p = absurd cc
 fails a b (Err e) whole err p = p
 
+-- a part of what was left failed, or the last part ended
+pub stops : {E : Type 0} (a b c : Option (List ℕ)) (whole left x y : List ℕ) (r : Result (Unit {0}) E) → Leaves a b whole left → left ≡ x ++ y → IsErr r → AppendsBeginning b c x → Writes a c r whole
+stops a b c whole left x y r p e err q = fails a c r whole err (leaves-beginning a b c whole left x y p e q)
+
+pub ends : {E : Type 0} (a b c : Option (List ℕ)) (whole left : List ℕ) (r : Result (Unit {0}) E) → Leaves a b whole left → Writes b c r left → Writes a c r whole
+ends a b c whole left (Ok u) p w = leaves-nothing a c whole [] (leaves-less a b c whole left left [] p (sym (append-nil left)) w) refl
+ends a b c whole left (Err e) p w = leaves-beginning a b c whole left left [] p (sym (append-nil left)) w
+
 -- a list is what stands before a place and what is cut off from there on
 pub cut-at : (n : ℕ) (xs rest : List ℕ) → rest ≡ take (length xs - n) (drop n xs) → xs ≡ take n xs ++ rest
 cut-at n xs rest e =

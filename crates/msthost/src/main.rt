@@ -5,6 +5,7 @@ mod line;
 mod listing;
 mod reading;
 mod tree_fault;
+mod tree_lines;
 mod writing;
 
 fn main() {
