@@ -39,15 +39,16 @@ empty-reads limit zero from = refl
 empty-reads limit (suc n) from = refl
 
 pub walk-reads_range : WalkReadsRange
-walk-reads_range layer limit zero from es s l = absurd (omega arith)
-walk-reads_range layer limit (suc n) from [] s l = empty-reads limit n from
-walk-reads_range layer limit (suc n) from (e ∷ es) s l =
+walk-reads_range layer zero n from es s l more = absurd (omega arith)
+walk-reads_range layer (suc limit) zero from es s l more = absurd (omega arith)
+walk-reads_range layer (suc limit) (suc n) from [] s l more = empty-reads limit n from
+walk-reads_range layer (suc limit) (suc n) from (e ∷ es) s l more =
     let fs = e ∷ es in
     let m = top layer fs in
     let a = subst Ascending (sym (pairs-top layer fs)) (ascending-sorted fs s) in
     reads-first limit (suc n) from (Sub m) (within-bound layer (suc n) fs l) (filled-top layer e es) a
-    ∙ ap (λ (t : List Pair). nodes_meeting from (last_key from (take (suc limit) (filter (is_from from) t)))
-    (Sub m)) (pairs-top layer fs)
+    ∙ ap (λ (t : List Pair). nodes_meeting from (last_key from (take (suc limit) (filter (is_from from) t))) (Sub m))
+    (pairs-top layer fs)
 
 pub walk-bound : WalkBound
 walk-bound = walk-most
@@ -60,6 +61,6 @@ walk-over_source digest bits fits gives n limit from es are has l =
     let holds = holds-top digest bits fits gives es are has in
     record {
       given = walk-holds digest shows limit n from p [] holds tt ∙ walk-is_listed lay limit n from es are.sorted l;
-      reads = reads-hold digest shows (suc limit) n from p [] holds tt
-          ∙ ap (map (shape digest)) (walk-reads_range lay limit n from es are.sorted l);
+      reads = λ more. reads-hold digest shows limit n from p [] holds tt
+          ∙ ap (map (shape digest)) (walk-reads_range lay limit n from es are.sorted l more);
     }

@@ -1,5 +1,5 @@
 -- The laws of walks.
-use Rattle.std.specs.Prelude.{◌≡◌, true, Option, Some, None, ℕ, suc, ◌*◌, ◌<◌, ◌≤◌, List, [], length, map}
+use Rattle.std.specs.Prelude.{◌≡◌, true, Option, Some, None, ℕ, ◌*◌, ◌<◌, ◌≤◌, List, [], length, map}
 use Rattle.std.specs.List.{AllByRecursion}
 use Rattle.std.specs.Cmp.Lexicographic.{slice_cmp}
 use Rattle.std.specs.Ordering.{nat_cmp}
@@ -21,12 +21,12 @@ WalkIsListed = (layer : List ℕ → ℕ) (limit n : ℕ) (from : List ℕ) (es 
     → walk limit n from (Sub (top layer es)) [] ≡ listed from limit es
 
 -- where it may give a pair, it reads exactly the nodes whose open range of keys meets the range from the key to the last
--- pair given, or to the key itself where none is; each once, and each before those below it
+-- pair given, or to the key itself where none is; each once, and each before those below it; with limit 0 it reads none
 abbrev pub WalkReadsRange : Type 0
 WalkReadsRange = (layer : List ℕ → ℕ) (limit n : ℕ) (from : List ℕ) (es : List Pair)
-    → is_sorted (slice_cmp nat_cmp) es ≡ true → layer_of layer (top layer es) < n
-    → walk_reads (suc limit) n from (Sub (top layer es)) []
-    ≡ nodes_meeting from (last_key from (listed from (suc limit) es)) (Sub (top layer es))
+    → is_sorted (slice_cmp nat_cmp) es ≡ true → layer_of layer (top layer es) < n → 0 < limit
+    → walk_reads limit n from (Sub (top layer es)) []
+    ≡ nodes_meeting from (last_key from (listed from limit es)) (Sub (top layer es))
 
 -- these are nodes of the tree, each with one range
 abbrev pub RangesAreNodes : Type 0
@@ -58,9 +58,9 @@ WalkBound = (shows : List ℕ → Option Shape) (limit n : ℕ) (from : List ℕ
 pub record IsWalk (digest : List ℕ → List ℕ) (bits : ℕ) (gives : List ℕ → Option (List ℕ)) (n limit : ℕ)
     (from : List ℕ) (es : List Pair) : Type 0 where
   pub given : walk_from (shown_by gives) limit n from (Some (root digest bits es)) [] ≡ listed from limit es
-  pub reads : walk_path (shown_by gives) (suc limit) n from (Some (root digest bits es)) []
-      ≡ map (shape digest) (nodes_meeting from (last_key from (listed from (suc limit) es))
-      (Sub (top (layer digest bits) es)))
+  pub reads : 0 < limit
+      → walk_path (shown_by gives) limit n from (Some (root digest bits es)) []
+      ≡ map (shape digest) (nodes_meeting from (last_key from (listed from limit es)) (Sub (top (layer digest bits) es)))
 
 abbrev pub WalkOverSource : Type 0
 WalkOverSource = (digest : List ℕ → List ℕ) (bits : ℕ) → IsDigest digest
