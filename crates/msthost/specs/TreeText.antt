@@ -61,11 +61,17 @@ pairs_of_lines n (l ∷ ls) = do
   more ← pairs_of_lines (n + 1) ls
   Ok (es ++ more)
 
--- ---- the tree
+-- ---- the map
 
 -- the pairs put into a map one after another: of those with one key the last decides
 abbrev pub last_of_each_key : List Pair → List Pair
 last_of_each_key es = fold (λ m e. put (slice_cmp nat_cmp) e.0 e.1 m) [] es
+
+-- the map from keys to CIDs that the lines of an input leave, or the first faulty line
+unfoldable pub map_of_input : List ℕ → Result (List Pair) TreeFault
+map_of_input input = do
+  es ← pairs_of_lines 1 (lines input)
+  Ok (last_of_each_key es)
 
 -- ---- the output
 
@@ -80,9 +86,9 @@ text_of_tree digest bits es = text (root digest bits es) ++ (10 ∷ []) ++ flat_
 -- the text for an input, or why there is none
 unfoldable pub tree_text : (List ℕ → List ℕ) → ℕ → List ℕ → Result (List ℕ) TreeFault
 tree_text digest bits input = do
-  es ← pairs_of_lines 1 (lines input)
-  clash_free ← ensure (is_clash_free digest (nodes digest bits (last_of_each_key es))) Clash
-  Ok (text_of_tree digest bits (last_of_each_key es))
+  m ← map_of_input input
+  clash_free ← ensure (is_clash_free digest (nodes digest bits m)) Clash
+  Ok (text_of_tree digest bits m)
 
 -- the text, or nothing where there is none
 abbrev pub text_or_nothing : Result (List ℕ) TreeFault → List ℕ

@@ -1,7 +1,7 @@
 //! The pairs of key and CID that the lines of an input leave.
 ghost use Rattle.std.specs.Prelude.{◌≡◌, [], ◌∷◌, ◌++◌, OnOk};
 ghost use Rattle.spec.specs.Reading.{Gives};
-ghost use Rattle.msthost.specs.TreeText.{lines, pairs_of_lines, last_of_each_key};
+ghost use Rattle.msthost.specs.TreeText.{lines, pairs_of_lines, last_of_each_key, map_of_input as map_of};
 ghost use Rattle.msthost.specs.Fault.{fault_of};
 ghost use Rattle.msthost.specs.Pairs.{pairs_of};
 
@@ -56,4 +56,17 @@ pub(crate) fn keep_last_of_each_key<A: Allocator>(
     pairs.sort_by(|a, b| a.0.cmp(&b.0))?;
     pairs.dedup_by(|later, kept| later.0 == kept.0);
     Ok(())
+}
+
+/// The map that the lines of an input leave, in the order of its keys, or the first line that is faulty.
+#[tactic(auto, unfolding(crate::specs::TreeText::map_of_input))]
+pub(crate) fn map_of_input<A: Allocator + Clone>(
+    alloc: A,
+    input: &[u8],
+) -> Result<Vec<(Vec<u8, A>, Cid), A>, TreeFault>
+    ensures { Gives (λ pairs. pairs_of pairs.items) fault_of result (map_of input.now) }
+{
+    let mut pairs = pairs_of_input(alloc, input)?;
+    keep_last_of_each_key(&mut pairs)?;
+    Ok(pairs)
 }
