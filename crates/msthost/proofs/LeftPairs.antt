@@ -55,17 +55,18 @@ module _ (p : Pair → Bool) where
   all-append [] ys f g = g
   all-append (x ∷ xs) ys f g = both (p x) (list_all p (xs ++ ys)) (one (p x) (list_all p xs) f) (all-append xs ys (other (p x) (list_all p xs) f) g)
 
+  put-by : (k v : List ℕ) (e : Pair) (es : List Pair) (o : Ordering) → order k e.0 ≡ o → p (k, v) ≡ true → p e ≡ true → list_all p es ≡ true → list_all p (put order k v es) ≡ true
+      → list_all p (put order k v (e ∷ es)) ≡ true
+  put-by k v e es Less t f here rest after = rw t (both (p (k, v)) (p e && list_all p es) f (both (p e) (list_all p es) here rest))
+  put-by k v e es Equal t f here rest after =
+      rw t (both (p (e.0, v)) (list_all p es) (subst (λ (q : List ℕ). p (q, v) ≡ true) (slice_cmp-IsAntisymmetric nat_cmp-IsAntisymmetric k e.0 t) f) rest)
+  put-by k v e es Greater t f here rest after = rw t (both (p e) (list_all p (put order k v es)) here after)
+
   all-put : (k v : List ℕ) (es : List Pair) → p (k, v) ≡ true → list_all p es ≡ true → list_all p (put order k v es) ≡ true
   all-put k v [] f g = both (p (k, v)) true f refl
   all-put k v (e ∷ es) f g =
-      let here = one (p e) (list_all p es) g in
       let rest = other (p e) (list_all p es) g in
-      by (order k e.0) refl here rest
-      where
-        by : (o : Ordering) → order k e.0 ≡ o → p e ≡ true → list_all p es ≡ true → list_all p (put order k v (e ∷ es)) ≡ true
-        by Less t here rest = rw t (both (p (k, v)) (p e && list_all p es) f (both (p e) (list_all p es) here rest))
-        by Equal t here rest = rw t (both (p (e.0, v)) (list_all p es) (subst (λ (q : List ℕ). p (q, v) ≡ true) (slice_cmp-IsAntisymmetric nat_cmp-IsAntisymmetric k e.0 t) f) rest)
-        by Greater t here rest = rw t (both (p e) (list_all p (put order k v es)) here (all-put k v es f rest))
+      put-by k v e es (order k e.0) refl f (one (p e) (list_all p es) g) rest (all-put k v es f rest)
 
   all-fold : (m es : List Pair) → list_all p m ≡ true → list_all p es ≡ true → list_all p (fold (λ m e. put order e.0 e.1 m) m es) ≡ true
   all-fold m [] f g = f

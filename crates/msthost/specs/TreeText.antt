@@ -79,16 +79,26 @@ map_of_input input = do
 abbrev pub block_line : (List ℕ → List ℕ) → List ℕ → List ℕ
 block_line digest b = text (cid digest b) ++ (32 ∷ encode_lower b) ++ (10 ∷ [])
 
--- the root's CID, and then a line for each node, from the top
-abbrev pub text_of_tree : (List ℕ → List ℕ) → ℕ → List Pair → List ℕ
-text_of_tree digest bits es = text (root digest bits es) ++ (10 ∷ []) ++ flat_map (block_line digest) (firsts (cid digest) (nodes digest bits es))
+-- the root and the nodes of a map's tree, where no two nodes have one CID and different bytes
+abbrev pub tree_of_map : (List ℕ → List ℕ) → ℕ → List Pair → Result (List ℕ × List (List ℕ)) TreeFault
+tree_of_map digest bits m = do
+  clash_free ← ensure (is_clash_free digest (nodes digest bits m)) Clash
+  Ok (root digest bits m, firsts (cid digest) (nodes digest bits m))
+
+unfoldable pub tree_of_input : (List ℕ → List ℕ) → ℕ → List ℕ → Result (List ℕ × List (List ℕ)) TreeFault
+tree_of_input digest bits input = do
+  m ← map_of_input input
+  tree_of_map digest bits m
+
+-- the text of a tree: the root's CID, and then a line for each node
+abbrev pub text_of_tree : (List ℕ → List ℕ) → List ℕ × List (List ℕ) → List ℕ
+text_of_tree digest tree = text tree.0 ++ (10 ∷ []) ++ flat_map (block_line digest) tree.1
 
 -- the text for an input, or why there is none
 unfoldable pub tree_text : (List ℕ → List ℕ) → ℕ → List ℕ → Result (List ℕ) TreeFault
 tree_text digest bits input = do
-  m ← map_of_input input
-  clash_free ← ensure (is_clash_free digest (nodes digest bits m)) Clash
-  Ok (text_of_tree digest bits m)
+  tree ← tree_of_input digest bits input
+  Ok (text_of_tree digest tree)
 
 -- the text, or nothing where there is none
 abbrev pub text_or_nothing : Result (List ℕ) TreeFault → List ℕ

@@ -6,6 +6,8 @@ mod listing;
 mod reading;
 mod tree_fault;
 mod tree_lines;
+mod tree_text;
+mod stub;
 mod writing;
 
 fn main() {
