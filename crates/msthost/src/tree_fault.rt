@@ -2,6 +2,7 @@
 ghost use Rattle.std.specs.Prelude.{◌≡◌};
 ghost use Rattle.msthost.specs.declared.tree_fault.TreeFault.TheVariants as errors;
 
+use crate::decimal::Decimal;
 use std::alloc::{AllocError, AllocFailed};
 use thiserror::Error;
 
@@ -23,7 +24,7 @@ pub enum LineFault {
 #[derive(Clone, Copy, PartialEq, Eq, Debug, Error)]
 pub enum TreeFault {
     /// This line of the input is the first faulty one. Nothing was written.
-    #[error("line {number}: {fault}")]
+    #[error("line {line}: {fault}", line = Decimal(*.number))]
     Line {
         /// The line's number, from 1. Empty lines count.
         number: u64,
