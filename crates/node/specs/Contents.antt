@@ -1,9 +1,9 @@
 -- What a node by itself holds.
-use Rattle.std.specs.Prelude.{◌≡◌, ℕ, ◌^◌, Bool, true, ◌&&◌, List, [], ◌∷◌, ◌++◌, length, Option, Result, Ok, Err}
+use Rattle.std.specs.Prelude.{◌≡◌, ℕ, Bool, true, ◌&&◌, List, [], ◌∷◌, ◌++◌, length, Option, Result, Ok, Err, IsOk}
 use Rattle.std.specs.Cmp.Lexicographic.{slice_cmp}
 use Rattle.std.specs.Ordering.{nat_cmp, is_lt}
 use Rattle.spec.specs.Head.{head}
-use Rattle.spec.specs.NodeFormat.{Entry, NodeFault, is_key, entries_bytes, are_keys_after, are_links, read_node}
+use Rattle.spec.specs.NodeFormat.{Entry, NodeFault, is_key, entries_bytes, are_keys_after, are_links, is_node, entries_at, read_node}
 
 -- the subtree before the entries, and the entries
 pub record Contents : Type 0 where
@@ -39,3 +39,18 @@ pub record Spells (n : ℕ) (bytes last : List ℕ) (es : List Entry) : Type 0 w
 
 abbrev pub IsWritten : ℕ → List ℕ → List ℕ → Type 0
 IsWritten n bytes last = Spells n bytes last (entries_in n bytes)
+
+-- ---- entries as a block that was read shows them
+
+abbrev pub entries_of_reading : Result (List Entry × List ℕ) NodeFault → List Entry
+entries_of_reading (Ok x) = x.0
+entries_of_reading (Err f) = []
+
+-- the entries that so many readings show, the first after no key
+unfoldable pub entries_shown : ℕ → List ℕ → List Entry
+entries_shown n bytes = entries_of_reading (entries_at n [] bytes)
+
+-- so many entries can be read, and are a node's
+pub record IsRead (left : Option (List ℕ)) (n : ℕ) (bytes : List ℕ) : Type 0 where
+  pub all : IsOk (entries_at n [] bytes)
+  pub grammar : is_node left (entries_shown n bytes) ≡ true

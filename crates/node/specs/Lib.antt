@@ -1,2 +1,6 @@
 pub mod Bytes
 pub mod Contents
+pub mod Fault
+pub mod Rows
+pub mod Search
+pub mod Views

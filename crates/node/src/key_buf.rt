@@ -3,6 +3,7 @@
 ghost use Rattle.std.specs.Prelude.{◌≡◌, ◌+◌, ◌≤◌, ◌++◌, [], length, take, IfOk};
 
 use crate::common::LONGEST_KEY;
+use crate::entry::EntryView;
 use std::alloc::{AllocError, Allocator, Global};
 use std::marker::Model;
 
@@ -41,6 +42,23 @@ impl<A: Allocator> KeyBuf<A> {
         ensures { result.now ≡ self.now }
     {
         &self.bytes
+    }
+
+    /// Goes back to the empty key, before the first entry of a node.
+    pub fn reset(&mut self)
+        ensures { self.new ≡ [] }
+    {
+        self.bytes.clear();
+    }
+
+    /// Goes on to the key of the next entry of a node. The entries are those of one node, from the front; so an entry's
+    /// prefix is no longer than the key before, and its key has no more than 1,024 bytes. This takes no memory.
+    pub fn step(&mut self, entry: &EntryView<'_>)
+        requires within { entry.now.prefix ≤ length self.old }
+        requires room { entry.now.prefix + length entry.now.suffix.now ≤ 1024 }
+        ensures { self.new ≡ take entry.now.prefix self.old ++ entry.now.suffix.now }
+    {
+        self.change(entry.prefix, entry.suffix);
     }
 
     /// Keeps the first `prefix` bytes and puts `suffix` after them.

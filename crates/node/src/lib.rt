@@ -2,11 +2,25 @@
 #![tactic(auto)]
 
 mod common;
+mod entries;
+mod entry;
+mod fault;
+mod heads;
+mod key_before;
 mod key_buf;
 mod parts;
+mod place;
+mod reading;
+mod search;
 #[cfg(test)]
 mod tests;
+mod view;
 mod writer;
 
+pub use entries::Entries;
+pub use entry::EntryView;
+pub use fault::NodeFault;
 pub use key_buf::KeyBuf;
+pub use place::Place;
+pub use view::NodeView;
 pub use writer::NodeWriter;

@@ -142,11 +142,11 @@ module _ (layer : List ℕ → ℕ) where
   pub part-none : (n : ℕ) (es : List Pair) → is_first_below layer n es ≡ false → part_ahead layer n es ≡ Nothing
   part-none n es h = ap (below layer n) (before-none n es h) ∙ below-nothing layer n
 
-  part-some_at : (k : ℕ) (es : List Pair) → is_first_below layer (suc k) es ≡ true → part_ahead layer (suc k) es ≡ Sub (node_ahead layer k es)
+  pub part-some_at : (k : ℕ) (es : List Pair) → is_first_below layer (suc k) es ≡ true → part_ahead layer (suc k) es ≡ Sub (node_ahead layer k es)
   part-some_at k [] h = absurd cc
   part-some_at k (e ∷ es) h =
       ap (λ b. below layer (suc k) (Before (suc k) b e es)) h ∙ ap (λ b. Sub (tree layer k (Before (suc k) b e es))) (sym h)
 
-  first-suc : (n : ℕ) (es : List Pair) → is_first_below layer n es ≡ true → 0 < n
+  pub first-suc : (n : ℕ) (es : List Pair) → is_first_below layer n es ≡ true → 0 < n
   first-suc n [] h = absurd cc
   first-suc n (e ∷ es) h = let lt = ltb-true (layer e.0) n h in omega arith

@@ -1,7 +1,7 @@
 use super::*;
 use cid::digests::{Clash, Toy};
 use cid::{Block, Cid, Digest};
-use linked_list_allocator::LocalHeap;
+use refusing::Refusing;
 use std::alloc::{AllocError, Allocator, Global};
 use std::sync::Arc;
 use std::test::Fail;
@@ -159,35 +159,16 @@ fn stands_in_its_shard(rt: HostRuntime) -> Result<(), Fail> {
     Ok(())
 }
 
-// Takes all of the heap's memory but a part of `room` bytes.
-fn ballast<'a>(
-    alloc: Global,
-    heap: &'a LocalHeap,
-    room: usize,
-) -> Result<Vec<Vec<u8, &'a LocalHeap>>, AllocError> {
-    let spare: Vec<u8, &LocalHeap> = Vec::with_capacity(heap, room)?;
-    let mut taken = Vec::new(alloc);
-    for size in [8192, 4096, 1024, 256, 64, 16, 1] {
-        for _ in 0..64u8 {
-            if let Ok(part) = Vec::with_capacity(heap, size) {
-                taken.push(part)?;
-            }
-        }
-    }
-    drop(spare);
-    Ok(taken)
-}
-
 #[test]
 fn memory_refused(rt: HostRuntime) -> Result<(), Fail> {
-    let heap = LocalHeap::new(rt.alloc(), 1 << 16)?;
-    let mut shard: Shard<Toy, &LocalHeap> = Shard::new(&heap, 64);
+    let heap = Refusing::new(rt.alloc());
+    let mut shard: Shard<Toy, &Refusing<Global>> = Shard::new(&heap, 64);
     let mut holds = Vec::new(rt.alloc());
-    let mut refused = 0u64;
     for last in 0..40u8 {
         let block = block(&heap, &[0xa1, 0x61, 0x61, last]).expect(&rt, "memory for a block");
-        for step in 0..64usize {
-            let ballast = ballast(rt.alloc(), &heap, step * 128).expect(&rt, "a ballast");
+        // Each request of the acquire fails in turn, until it has none that could.
+        for request in 1..9u64 {
+            heap.refuse(request);
             let given = Arc::try_clone(&block).expect(&rt, "one more use");
             match shard.acquire(1, given) {
                 Ok(hold) => {
@@ -199,26 +180,24 @@ fn memory_refused(rt: HostRuntime) -> Result<(), Fail> {
                     assert!(rt; matches!(fault, StoreFault::NoMemory));
                     assert_eq!(rt; shard.count(&block.cid()), 0);
                     assert_eq!(rt; shard.entries().count(), usize::from(last));
-                    refused = refused.saturating_add(1);
                 }
             }
-            drop(ballast);
         }
         assert_eq!(rt; shard.count(&block.cid()), 1);
         // A held block wants no memory, nor does a release.
-        let ballast = ballast(rt.alloc(), &heap, 0).expect(&rt, "a ballast");
+        heap.refuse_from(1);
         let hold = shard.acquire(2, block).expect(&rt, "a held block");
         assert_eq!(rt; shard.count(&hold.cid()), 2);
         shard.release(hold);
-        drop(ballast);
+        heap.refuse(0);
     }
-    assert!(rt; refused > 0);
+    assert!(rt; heap.refused() >= 4);
     while let Some(hold) = holds.pop() {
         shard.release(hold);
     }
     holds.destroy_empty();
     assert_eq!(rt; shard.entries().count(), 0);
     drop(shard);
-    assert_eq!(rt; heap.used(), 0);
+    assert_eq!(rt; heap.live(), 0);
     Ok(())
 }

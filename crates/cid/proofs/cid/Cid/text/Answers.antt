@@ -1,5 +1,4 @@
-use Rattle.std.proofs.Common.{◌≡◌, true, ◌∷◌, ◌++◌, [], List, ℕ, Result, Ok, ap, sym, subst, ◌∙◌, append-nil}
-use Rattle.spec.specs.Reading.{IsBytes}
+use Rattle.std.proofs.Common.{◌≡◌, ◌∷◌, ◌++◌, [], List, ℕ, Ok, ap, ◌∙◌, append-nil}
 use Rattle.spec.specs.Cid.{base32, text, cid_of_text}
 use Rattle.spec.proofs.CidTexts.{cid_of_text-text}
 use Rattle.cid.proofs.cid.Cid.text.Goals as goal

@@ -1,0 +1,109 @@
+-- A key is found by the rows alone, as it is by the entries.
+use Rattle.std.proofs.Common.{◌≡◌, ◌⊎◌, inl, inr, ℕ, suc, ◌+◌, ◌<◌, ◌≤◌, Bool, true, false, ◌&&◌, cond, eqb, ltb, List, [], ◌∷◌, length, drop, Option, refl, sym, ap, ◌∙◌, arith}
+use Rattle.std.specs.declared.cmp.Ordering.{Ordering}
+use Rattle.std.specs.declared.cmp.Ordering.TheVariants.{Less, Equal, Greater}
+use Rattle.std.specs.Ordering.{nat_cmp, is_lt}
+use Rattle.std.specs.List.{Contains}
+use Rattle.std.proofs.lemmas.Bool.{cases_lt, le-ltb, lt-ltb, eq-eqb, ne_eqb}
+use Rattle.spec.specs.NodeFormat.{Entry, common, is_key, are_keys_after}
+use Rattle.spec.specs.Proof.{Place, Here, by_order, gap_of, place}
+use Rattle.spec.proofs.Bools.{both}
+use Rattle.node.specs.Rows.{Row, row_after, rows}
+use Rattle.node.specs.Search.{order_after, common_after}
+use Rattle.node.proofs.Comparing.{cmp, beside, cmp-turn, common-turn, cmp-equal}
+
+-- ---- one entry
+
+less_than : (p s : ℕ) → p < s → nat_cmp p s ≡ Less
+less_than p s h = rw (lt-ltb p s h) refl
+
+as_much : (p s : ℕ) → p ≡ s → nat_cmp p s ≡ Equal
+as_much p s h = rw (le-ltb p s (omega arith), eq-eqb p s h) refl
+
+more_than : (p s : ℕ) → s < p → nat_cmp p s ≡ Greater
+more_than p s h = rw (le-ltb p s (omega arith), ne_eqb p s (λ e. omega arith)) refl
+
+-- the row tells how the entry's key compares with the sought one, and what they have in common
+record Tells (before : List ℕ) (e : Entry) (key : List ℕ) : Type 0 where
+  order : order_after (common before key) key (row_after before e) ≡ cmp e.key key
+  same : common_after (common before key) key (row_after before e) ≡ common e.key key
+
+-- the key before is less than the sought one, or there is none
+abbrev IsAhead : List ℕ → List ℕ → Type 0
+IsAhead before key = (before ≡ []) ⊎ (is_lt (cmp before key) ≡ true)
+
+longer : (before key : List ℕ) (p : ℕ) → IsAhead before key → p < length before → is_lt (cmp before key) ≡ true
+longer before key p (inl none) lt = absurd (omega (arith, ap length none))
+longer before key p (inr less) lt = less
+
+tells : (before : List ℕ) (e : Entry) (key : List ℕ) → is_lt (cmp before e.key) ≡ true → IsAhead before key → common before key ≤ length before → common before e.key ≤ length before → Tells before e key
+tells before e key less ahead fits fits_too =
+    let p = common before e.key in
+    let s = common before key in
+    elim (cases_lt p s) [
+      | inl lt ↦
+          let o = less_than p s lt in
+          let w = (beside before e.key key less).fewer lt in
+          record { order = rw o (sym w.0); same = rw o (sym w.1) }
+      | inr le ↦ elim (cases_lt s p) [
+        | inl lt ↦
+            let o = more_than p s lt in
+            let w = (beside before key e.key (longer before key s ahead (omega arith))).fewer lt in
+            record { order = rw o (sym (cmp-turn key e.key w.0)); same = rw o (sym (common-turn e.key key ∙ w.1)) }
+        | inr ge ↦
+            let eq : p ≡ s = omega arith in
+            let o = as_much p s eq in
+            let w = (beside before e.key key less).as_many eq in
+            record {
+              order = rw o (ap (λ (n : ℕ). cmp (drop p e.key) (drop n key)) (sym eq) ∙ sym w.0);
+              same = rw o (ap (λ (n : ℕ). n + common (drop p e.key) (drop n key)) (sym eq) ∙ sym w.1);
+            }
+      ]
+    ]
+
+-- ---- all entries
+
+-- where the key is, by the rows
+abbrev pub find_rows : List ℕ → ℕ → Option (List ℕ) → List Row → Place
+find_rows key same gap [] = gap_of gap
+find_rows key same gap (r ∷ rs) =
+    by_order (order_after same key r) (find_rows key (common_after same key r) r.tree rs) (Here (record { key = key; value = r.value; tree = r.tree })) (gap_of gap)
+
+abbrev here : Entry → List ℕ → Place
+here e key = Here (record { key = key; value = e.value; tree = e.tree })
+
+by_each : (o : Ordering) (e : Entry) (key : List ℕ) (x y z : Place) → cmp e.key key ≡ o → (o ≡ Less → x ≡ y) → by_order o x (here e key) z ≡ by_order o y (Here e) z
+by_each Less e key x y z is h = h refl
+by_each Equal e key x y z is h = ap (here e) (sym (cmp-equal e.key key is))
+by_each Greater e key x y z is h = refl
+
+common-fits : (xs ys : List ℕ) → common xs ys ≤ length xs
+common-fits [] ys = omega arith
+common-fits (x ∷ xs) [] = omega arith
+common-fits (x ∷ xs) (y ∷ ys) = elim (eqb x y) as (λ t. cond t (suc (common xs ys)) 0 ≤ length (x ∷ xs)) [ true ↦ let h = common-fits xs ys in omega arith | false ↦ omega arith ]
+
+find_from : (before key : List ℕ) (gap : Option (List ℕ)) (es : List Entry) → are_keys_after before es ≡ true → IsAhead before key → find_rows key (common before key) gap (rows before es) ≡ place key gap es
+find_from before key gap [] keys ahead = refl
+find_from before key gap (e ∷ es) keys ahead =
+    let parts = both (is_lt (cmp before e.key) && is_key e.key) (are_keys_after e.key es) keys in
+    let less = both (is_lt (cmp before e.key)) (is_key e.key) parts.0 in
+    let t = tells before e key less.0 ahead (common-fits before key) (common-fits before e.key) in
+    let first : find_rows key (common before key) gap (rows before (e ∷ es)) ≡ by_order (cmp e.key key) (find_rows key (common e.key key) e.tree (rows e.key es)) (here e key) (gap_of gap) =
+    rw (t.order, t.same) refl in
+    let turned : cmp e.key key ≡ Less → find_rows key (common e.key key) e.tree (rows e.key es) ≡ place key e.tree es = λ is.
+    find_from e.key key e.tree es parts.1 (inr (ap is_lt is)) in
+    first ∙ by_each (cmp e.key key) e key _ _ _ refl turned
+
+pub find_rows-place : (key : List ℕ) (gap : Option (List ℕ)) (es : List Entry) → are_keys_after [] es ≡ true → find_rows key 0 gap (rows [] es) ≡ place key gap es
+find_rows-place key gap es keys = find_from [] key gap es keys (inl refl)
+
+-- ---- among the rows
+
+pub contains_first : (x : Row) (xs : List Row) → Contains (x ∷ xs) x
+contains_first x xs = (0, omega arith, refl)
+
+pub contains_rest : (x y : Row) (xs : List Row) → Contains xs y → Contains (x ∷ xs) y
+contains_rest x y xs h = (suc h.0, let lt = h.1 in omega arith, h.2)
+
+pub find_rows-less : (key : List ℕ) (same : ℕ) (gap : Option (List ℕ)) (r : Row) (rs : List Row) → order_after same key r ≡ Less → find_rows key same gap (r ∷ rs) ≡ find_rows key (common_after same key r) r.tree rs
+find_rows-less key same gap r rs o = rw o refl

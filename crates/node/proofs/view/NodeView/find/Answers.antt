@@ -1,0 +1,48 @@
+use Rattle.std.proofs.Common.{◌≡◌, ℕ, ◌∷◌, [], List, Option, option_map, arith, sym, ap, subst, ◌∙◌}
+use Rattle.std.specs.List.{Contains}
+use Rattle.std.specs.declared.cmp.Ordering.TheVariants.{Less}
+use Rattle.cid.specs.CidRef.{bytes_of}
+use Rattle.node.specs.Contents.{Contents}
+use Rattle.node.specs.Rows.{Row, rows}
+use Rattle.node.specs.Search.{order_after, common_after}
+use Rattle.node.specs.Views.{row_of}
+use Rattle.node.proofs.Finding.{find_rows, find_rows-place, find_rows-less, contains_rest}
+use Rattle.node.proofs.view.NodeView.find.Goals as goal
+
+pub loop-entry-init : goal.loop-entry-init
+loop-entry-init c =
+    let node = c.args.self.now in
+    let key = c.args.key.now in
+    let all : c.into_iter-entry-iterator.result ≡ rows [] node.entries = c.into_iter-entry-iterator.ensures.into_iter_gives ∙ c.entries-entry-items.ensures.rows in
+    let left : option_map bytes_of c.self.inside.left ≡ node.left = ap (λ (w : Contents). w.left) c.self.view_is in
+    record {
+      can = tt;
+      ends = tt;
+      within = omega arith;
+      found = ap (find_rows key 0 (option_map bytes_of c.self.inside.left)) all ∙ ap (λ (gap : Option (List ℕ)). find_rows key 0 gap (rows [] node.entries)) left
+          ∙ find_rows-place key node.left node.entries c.entries-entry-items.ensures.ascending;
+      among = λ r h. subst (λ (rs : List Row). Contains rs r) all h;
+    }
+
+pub loop-entry-preserved : goal.loop-entry-preserved
+loop-entry-preserved c =
+    let key = c.args.key.now in
+    let l = c.loop-entry in
+    let row = row_of c.in-Some.entry in
+    let gap = option_map bytes_of l.gap in
+    let less : order_after l.same key row ≡ Less = sym c.compare_after-order.ensures.order ∙ c.in-Less.is in
+    let steps : l.entry-iterator ≡ row ∷ c.next.new.self = c.in-Some.ensures.steps in
+    record {
+      can = tt;
+      ends = tt;
+      within = c.compare_after-order.ensures.within;
+      found = ap (λ (n : ℕ). find_rows key n row.tree c.next.new.self) c.compare_after-order.ensures.same ∙ sym (find_rows-less key l.same gap row c.next.new.self less)
+          ∙ ap (find_rows key l.same gap) (sym steps) ∙ l.invariant.found;
+      among = λ r h. l.invariant.among r (subst (λ (rs : List Row). Contains rs r) (sym steps) (contains_rest row r c.next.new.self h));
+    }
+
+pub returns-in-Greater-clause-among : goal.returns-in-Greater-clause-among
+returns-in-Greater-clause-among c = c.place_in_gap.ensures.among (rows [] c.args.self.now.entries)
+
+pub returns-clause-among : goal.returns-clause-among
+returns-clause-among c = c.place_in_gap-2.ensures.among (rows [] c.args.self.now.entries)

@@ -1,0 +1,86 @@
+//! The parts of a node read from the front of some bytes, each with the bytes after it (AT Protocol repository v3,
+//! MST node data format).
+
+ghost use Rattle.std.specs.Prelude.{◌≡◌, option_map};
+ghost use Rattle.spec.specs.Reading.{Gives, front};
+ghost use Rattle.spec.specs.NodeFormat.{literal, link_at, link_or_null_at, NotNode as not_node};
+ghost use Rattle.cid.specs.CidRef.{bytes_of};
+ghost use Rattle.node.specs.Fault.{fault_of};
+ghost use Rattle.node.specs.Rows.{row_at};
+ghost use Rattle.node.specs.Views.{row_of};
+
+use crate::entry::EntryView;
+use crate::fault::NodeFault;
+use crate::heads::argument;
+use cid::CidRef;
+
+/// These very bytes.
+pub(crate) fn literal<'a>(expected: &[u8], bytes: &'a [u8]) -> Result<&'a [u8], NodeFault>
+    ensures { Gives (λ rest. rest.now) fault_of result (literal expected.now bytes.now) }
+{
+    bytes.strip_prefix(expected).ok_or(NodeFault::NotNode)
+}
+
+/// The next `n` bytes.
+pub(crate) fn front(n: u64, bytes: &[u8]) -> Result<(&[u8], &[u8]), NodeFault>
+    ensures { Gives (λ x. (x.0.now, x.1.now)) fault_of result (front not_node n bytes.now) }
+{
+    if (bytes.len() as u64) < n {
+        return Err(NodeFault::NotNode);
+    }
+    Ok(bytes.split_at(n as usize))
+}
+
+/// A link.
+pub(crate) fn link(bytes: &[u8]) -> Result<(CidRef<'_>, &[u8]), NodeFault>
+    ensures { Gives (λ x. (bytes_of x.0, x.1.now)) fault_of result (link_at bytes.now) }
+{
+    let rest = literal(&[0xd8, 0x2a, 0x58, 0x25, 0x00], bytes)?;
+    if rest.len() < 36 {
+        return Err(NodeFault::NotNode);
+    }
+    let (cid, rest) = rest.split_at(36);
+    match CidRef::from_bytes(cid) {
+        Some(cid) => Ok((cid, rest)),
+        None => Err(NodeFault::NotNode),
+    }
+}
+
+/// A link or null.
+pub(crate) fn link_or_null(bytes: &[u8]) -> Result<(Option<CidRef<'_>>, &[u8]), NodeFault>
+    ensures { Gives (λ x. (option_map bytes_of x.0, x.1.now)) fault_of result (link_or_null_at bytes.now) }
+{
+    match bytes {
+        [0xf6, rest @ ..] => Ok((None, rest)),
+        _ => {
+            let (cid, rest) = link(bytes)?;
+            Ok((Some(cid), rest))
+        }
+    }
+}
+
+/// An entry, without the tests against the key before.
+#[tactic(auto, unfolding(crate::specs::Rows::row_at))]
+pub(crate) fn entry(bytes: &[u8]) -> Result<(EntryView<'_>, &[u8]), NodeFault>
+    ensures { Gives (λ x. (row_of x.0, x.1.now)) fault_of result (row_at bytes.now) }
+{
+    let rest = literal(&[0xa4, b'a', b'k'], bytes)?;
+    let (length, rest) = argument(2, rest)?;
+    let (suffix, rest) = front(length, rest)?;
+    let rest = literal(b"ap", rest)?;
+    let (prefix, rest) = argument(0, rest)?;
+    if prefix >= 1 << 63 {
+        return Err(NodeFault::NotNode);
+    }
+    let rest = literal(b"at", rest)?;
+    let (tree, rest) = link_or_null(rest)?;
+    let rest = literal(b"av", rest)?;
+    let (value, rest) = link(rest)?;
+    let entry = EntryView {
+        prefix: prefix as usize,
+        suffix,
+        value,
+        tree,
+    };
+    Ok((entry, rest))
+}

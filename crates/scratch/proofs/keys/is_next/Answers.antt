@@ -1,0 +1,12 @@
+use Rattle.scratch.proofs.Ascending.{less-test, next-less, next-other}
+use Rattle.std.proofs.Common.{sym, ◌∙◌}
+use Rattle.scratch.proofs.keys.is_next.Goals as goal
+
+pub returns-then-lt : goal.returns-then-lt
+returns-then-lt c =
+    let e = less-test c.args.before.now c.args.key.now c.lt.result c.lt.ensures in
+    next-less c.args.before.now c.args.key.now (sym e ∙ c.if-lt.true)
+
+pub returns-else-lt : goal.returns-else-lt
+returns-else-lt c =
+    next-other c.args.before.now c.args.key.now c.lt.result (less-test c.args.before.now c.args.key.now c.lt.result c.lt.ensures) c.if-lt.false

@@ -1,0 +1,77 @@
+//! The tree of sorted pairs.
+
+ghost use Rattle.std.specs.Prelude.{◌≡◌, ◌≤◌, true, map, IfOk, IfErr, OnOk};
+ghost use Rattle.std.specs.Arc.{arc_value};
+ghost use Rattle.spec.specs.Cid.{cid as cid_of};
+ghost use Rattle.spec.specs.Layer.{layer as layer_of};
+ghost use Rattle.spec.specs.NodeFormat.{is_ascending};
+ghost use Rattle.spec.specs.Blocks.{IsClashFree, firsts, nodes, root as root_of};
+ghost use Rattle.scratch.specs.Pairs.{pairs_of};
+ghost use Rattle.scratch.specs.Rows.{pair_of, AreLayered};
+ghost use Rattle.scratch.specs.Faults.{IsFaultOf};
+
+use crate::clashes::{find_clash, show_clash};
+use crate::fault::ScratchFault;
+use crate::nodes::{Blocks, push_node};
+use crate::rows::{Row, rows, top_layer};
+use crate::unread::Unread;
+use cid::{Block, Cid, Digest};
+use std::alloc::{AllocError, Allocator, Global};
+use std::convert::AsSlice;
+use std::sync::Arc;
+
+/// A tree: the CID of its top, and its nodes in the order of the export without records, each once. That is a node
+/// first, then the subtree before its keys, and then for each key the subtree after it (own).
+#[derive(Drop)]
+#[derive_where(Debug)]
+pub struct Built<D: Digest, A: Allocator = Global> {
+    pub root: Cid,
+    pub blocks: Blocks<D, A>,
+}
+
+/// The tree of these pairs, whose keys ascend strictly, bytewise, and have 1 to 1,024 bytes; `is_ascending` is the
+/// test. The empty list has a tree of one node.
+///
+/// Each key is hashed once, for its layer, and each node once, for its CID, in one pass over the pairs.
+/// `ScratchFault::Clash` shows two nodes of this tree with one CID and different bytes, and `ScratchFault::NoMemory`
+/// comes where memory was refused. Nothing is left behind then.
+/// (AT Protocol repository v3, MST structure; Auvolat and Taïani, SRDS 2019, base `2 ^ B`; `B` is 2 in the protocol.)
+pub fn build<D: Digest, const B: u8, K: AsSlice<u8>, A: Allocator + Clone>(
+    alloc: A,
+    pairs: &[(K, Cid)],
+) -> Result<Built<D, A>, ScratchFault<D, A>>
+    requires ascending { is_ascending (pairs_of K.items pairs.now) ≡ true }
+    requires least { 1 ≤ B }
+    requires most { B ≤ 8 }
+    ensures root { IfOk result (λ built. built.root ≡ root_of D.digest_of B (pairs_of K.items pairs.now)) }
+    ensures blocks { IfOk result (λ built. map arc_value built.blocks.items ≡ nodes D.digest_of B (pairs_of K.items pairs.now)) }
+
+    // Each node is there once, and no two clash.
+    ensures once { OnOk result (firsts (cid_of D.digest_of) (nodes D.digest_of B (pairs_of K.items pairs.now)) ≡ nodes D.digest_of B (pairs_of K.items pairs.now)) }
+    ensures clash_free { OnOk result (IsClashFree D.digest_of (nodes D.digest_of B (pairs_of K.items pairs.now))) }
+
+    ensures fault { IfErr result (IsFaultOf D.digest_of (nodes D.digest_of B (pairs_of K.items pairs.now))) }
+{
+    let rows = rows::<D, B, K, A>(alloc.clone()?, pairs)?;
+    let built = write::<D, B, A>(alloc.clone()?, &rows)?;
+    match find_clash(alloc, &built.blocks)? {
+        None => Ok(built),
+        Some((one, other)) => Err(ScratchFault::Clash(show_clash(&built.blocks, one, other)?)),
+    }
+}
+
+/// The tree of these rows, of which nothing is known of clashes.
+fn write<D: Digest, const B: u8, A: Allocator + Clone>(
+    alloc: A,
+    rows: &[Row<'_>],
+) -> Result<Built<D, A>, AllocError>
+    requires layered { AreLayered (layer_of D.digest_of B) rows.now }
+    requires ascending { is_ascending (map pair_of rows.now) ≡ true }
+    ensures root { IfOk result (λ built. built.root ≡ root_of D.digest_of B (map pair_of rows.now)) }
+    ensures blocks { IfOk result (λ built. map arc_value built.blocks.items ≡ nodes D.digest_of B (map pair_of rows.now)) }
+{
+    let mut blocks = Vec::new(alloc);
+    let mut unread = Unread::<D, B>::new(rows);
+    let root = push_node(&mut blocks, &mut unread, top_layer::<D, B>(rows))?;
+    Ok(Built { root, blocks })
+}
