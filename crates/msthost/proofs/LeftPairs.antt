@@ -100,10 +100,10 @@ unfolding map_of_input
 sorted-left input m made =
     bind_then (pairs_of_lines 1 (lines input)) _ m made (λ es of left.
     subst (λ (gs : List Pair). is_sorted order gs ≡ true) (ok_is TreeFault (last_of_each_key es) m left) (from_T _ (is_sorted-last_of_each_key es)))
-    where
-      from_T : (b : Bool) → T b → b ≡ true
-      from_T true t = refl
-      from_T false t = absurd t
+  where
+    from_T : (b : Bool) → T b → b ≡ true
+    from_T true t = refl
+    from_T false t = absurd t
 
 -- ---- what is left
 

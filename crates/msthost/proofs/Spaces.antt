@@ -30,8 +30,8 @@ last_space l k last =
     let p = λ (c : ℕ). not (is_space c) in
     let high : k < length l = last.0.high in
     let rest : suffix_len p l ≡ length l - (k + 1) = suffix_len_is p l (k + 1) 0 (omega arith)
-        (λ j low top. ap not (not_true (is_space (get_or l j 0)) (last.0.after j low top)))
-        (λ pos. let e : (k + 1) - 1 ≡ k = omega arith in rw e (ap not last.1)) in
+    (λ j low top. ap not (not_true (is_space (get_or l j 0)) (last.0.after j low top)))
+    (λ pos. let e : (k + 1) - 1 ≡ k = omega arith in rw e (ap not last.1)) in
     let from : length l - suffix_len p l ≡ k + 1 = omega arith in
     let upto : length l - suffix_len p l - 1 ≡ k = omega arith in
     record {

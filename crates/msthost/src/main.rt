@@ -8,7 +8,6 @@ mod line;
 mod listing;
 mod reading;
 mod run;
-mod stub;
 mod tree_fault;
 mod tree_lines;
 mod tree_text;

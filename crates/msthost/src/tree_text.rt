@@ -11,10 +11,10 @@ ghost use Rattle.msthost.specs.Pairs.{pairs_of};
 
 use crate::listing::map_of_input;
 use crate::reading::read_all;
-use crate::stub::{Built, ScratchFault, build};
 use crate::tree_fault::TreeFault;
 use crate::tree_lines::write_tree;
 use cid::{Cid, Digest};
+use scratch::{Built, ScratchFault, build};
 use std::alloc::Allocator;
 use std::io::{Read, Write};
 

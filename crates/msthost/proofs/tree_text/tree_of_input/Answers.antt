@@ -15,5 +15,5 @@ tree_of_pairs-requires-clause-ascending g c =
 pub returns : goal.returns
 returns g c =
     let same = ap (λ es. tree_of_map g.D.Digest.digest_of g.row.B (pairs_of es)) c.deref.ensures.value
-            ∙ tree-of-map g.D.Digest.digest_of g.row.B c.args.input.now (pairs_of c.in_ok-pairs.pairs.items) c.in_ok-pairs.ensures in
+    ∙ tree-of-map g.D.Digest.digest_of g.row.B c.args.input.now (pairs_of c.in_ok-pairs.pairs.items) c.in_ok-pairs.ensures in
     rw (← same) c.tree_of_pairs.ensures

@@ -1,6 +1,6 @@
 use Rattle.std.proofs.Common.{subst}
 use Rattle.spec.specs.Blocks.{nodes}
-use Rattle.msthost.specs.StubFaults.{IsClashIn, IsFaultOf}
+use Rattle.scratch.specs.Faults.{IsClashIn, IsFaultOf}
 use Rattle.msthost.specs.Pairs.{pairs_of}
 use Rattle.msthost.proofs.Listings.{tree-free, tree-clash}
 use Rattle.msthost.proofs.tree_text.tree_of_pairs.Goals as goal
@@ -14,6 +14,6 @@ pub returns-in-Err-Clash : goal.returns-in-Err-Clash
 returns-in-Err-Clash g c =
     let digest = g.D.Digest.digest_of in
     let found : IsClashIn digest (nodes digest g.row.B (pairs_of c.args.pairs.now)) c.in-Err-Clash.field-0-0 =
-        subst (IsFaultOf digest (nodes digest g.row.B (pairs_of c.args.pairs.now))) c.in-Err-Clash.field-0-is c.in-Err-Clash.ensures.fault in
+    subst (IsFaultOf digest (nodes digest g.row.B (pairs_of c.args.pairs.now))) c.in-Err-Clash.field-0-is c.in-Err-Clash.ensures.fault in
     tree-clash digest g.row.B (pairs_of c.args.pairs.now)
     (record { one = c.in-Err-Clash.field-0-0.0; other = c.in-Err-Clash.field-0-0.1; has_one = found.0; has_other = found.1; clash = found.2 })
