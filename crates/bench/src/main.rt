@@ -3,8 +3,7 @@
 
 mod blocks;
 
-use std::env;
-use std::io;
+use std::{env, io};
 
 const USAGE: &str = "\
 usage: bench store COUNT ROUNDS
@@ -12,7 +11,8 @@ usage: bench store COUNT ROUNDS
 
 fn main(rt: HostRuntime) -> io::Result<()> {
     let mut words = env::args(&rt)?.skip(1);
-    let (Some(command), Some(count), Some(rounds)) = (words.next(), words.next(), words.next()) else {
+    let (Some(command), Some(count), Some(rounds)) = (words.next(), words.next(), words.next())
+    else {
         println!(rt; "{USAGE}")?;
         return Ok(());
     };
@@ -20,11 +20,12 @@ fn main(rt: HostRuntime) -> io::Result<()> {
         println!(rt; "{USAGE}")?;
         return Ok(());
     };
-    if command.as_str() == "store" && count <= 1_048_576 {
-        match blocks::measure(rt.alloc(), count, rounds) {
-            Ok(held) => println!(rt; "{held} acquired and released")?,
-            Err(fault) => println!(rt; "refused: {fault}")?,
-        }
+    if command.as_str() != "store" || count > 1_048_576 {
+        println!(rt; "{USAGE}")?;
+        return Ok(());
     }
-    Ok(())
+    match blocks::measure(rt.alloc(), count, rounds) {
+        Ok(held) => println!(rt; "{held} acquired and released"),
+        Err(fault) => println!(rt; "refused: {fault}"),
+    }
 }

@@ -1,6 +1,6 @@
 //! Heads and bytes read one after the other from the front of some bytes.
 
-ghost use Rattle.std.specs.Prelude.{◌≡◌, ◌+◌, [], length, OnErr};
+ghost use Rattle.std.specs.Prelude.{◌≡◌, ◌≢◌, ◌+◌, [], length, Err, OnErr};
 ghost use Rattle.spec.specs.Reading.{Gives, front};
 ghost use Rattle.spec.specs.Head.{head_at, Truncated};
 ghost use Rattle.dagcbor.specs.Fault.{fault_of};
@@ -56,6 +56,7 @@ impl<'a> Cursor<'a> {
         ensures read { Gives (λ h. (h, self.new.left)) fault_of result (head_at self.old.left) }
         ensures place { self.new.place + length self.new.left ≡ self.old.place + length self.old.left }
         ensures unchanged { OnErr result (self.new ≡ self.old) }
+        ensures takes_no_memory { result ≢ Err CborFault.NoMemory }
     {
         let (found, left) = head::head(self.left)?;
         self.left = left;
@@ -67,6 +68,7 @@ impl<'a> Cursor<'a> {
         ensures read { Gives (λ taken. (taken.now, self.new.left)) fault_of result (front Truncated n self.old.left) }
         ensures place { self.new.place + length self.new.left ≡ self.old.place + length self.old.left }
         ensures unchanged { OnErr result (self.new ≡ self.old) }
+        ensures takes_no_memory { result ≢ Err CborFault.NoMemory }
     {
         let (taken, left) = head::front(n, self.left)?;
         self.left = left;

@@ -1,6 +1,6 @@
 //! Heads of items at the front of some bytes (RFC 8949, section 3; the shortest form alone: IPLD DAG-CBOR).
 
-ghost use Rattle.std.specs.Prelude.{◌≡◌, ◌≤◌, ◌<◌, length, IfOk, Some};
+ghost use Rattle.std.specs.Prelude.{◌≡◌, ◌≤◌, ◌<◌, ◌≢◌, length, IfOk, Err, Some};
 ghost use Rattle.spec.specs.Reading.{Gives, front};
 ghost use Rattle.spec.specs.Head.{head_at, argument_at, long_argument, simple_at, Truncated};
 ghost use Rattle.spec.specs.Head as heads;
@@ -16,6 +16,7 @@ fn long_argument(low: u8, bytes: &[u8]) -> Result<(u64, &[u8]), CborFault>
     requires upper { low ≤ 27 }
     ensures read { Gives (λ x. (x.0, x.1.now)) fault_of result (long_argument low bytes.now) }
     ensures no_longer { IfOk result (λ x. length x.1.now ≤ length bytes.now) }
+    ensures takes_no_memory { result ≢ Err CborFault.NoMemory }
 {
     if low == 24 {
         if bytes.is_empty() {
@@ -67,6 +68,7 @@ fn long_argument(low: u8, bytes: &[u8]) -> Result<(u64, &[u8]), CborFault>
 fn argument(low: u8, bytes: &[u8]) -> Result<(u64, &[u8]), CborFault>
     ensures read { Gives (λ x. (x.0, x.1.now)) fault_of result (argument_at low bytes.now) }
     ensures no_longer { IfOk result (λ x. length x.1.now ≤ length bytes.now) }
+    ensures takes_no_memory { result ≢ Err CborFault.NoMemory }
 {
     if low < 24 {
         Ok((u64::from(low), bytes))
@@ -84,6 +86,7 @@ fn argument(low: u8, bytes: &[u8]) -> Result<(u64, &[u8]), CborFault>
 fn simple(low: u8, bytes: &[u8]) -> Result<(u64, &[u8]), CborFault>
     ensures read { Gives (λ x. (x.0, x.1.now)) fault_of result (simple_at low bytes.now) }
     ensures no_longer { IfOk result (λ x. length x.1.now ≤ length bytes.now) }
+    ensures takes_no_memory { result ≢ Err CborFault.NoMemory }
 {
     match low {
         20 | 21 | 22 => Ok((u64::from(low), bytes)),
@@ -99,6 +102,7 @@ fn simple(low: u8, bytes: &[u8]) -> Result<(u64, &[u8]), CborFault>
 pub(crate) fn head(bytes: &[u8]) -> Result<((u8, u64), &[u8]), CborFault>
     ensures read { Gives (λ x. (x.0, x.1.now)) fault_of result (head_at bytes.now) }
     ensures no_longer { IfOk result (λ x. length x.1.now ≤ length bytes.now) }
+    ensures takes_no_memory { result ≢ Err CborFault.NoMemory }
 {
     match bytes {
         [] => Err(CborFault::Truncated),
@@ -116,7 +120,8 @@ pub(crate) fn head(bytes: &[u8]) -> Result<((u8, u64), &[u8]), CborFault>
 /// The first `n` bytes and the others, or `Truncated` where there are fewer.
 #[inline]
 pub(crate) fn front(n: u64, bytes: &[u8]) -> Result<(&[u8], &[u8]), CborFault>
-    ensures { Gives (λ x. (x.0.now, x.1.now)) fault_of result (front Truncated n bytes.now) }
+    ensures read { Gives (λ x. (x.0.now, x.1.now)) fault_of result (front Truncated n bytes.now) }
+    ensures takes_no_memory { result ≢ Err CborFault.NoMemory }
 {
     if (bytes.len() as u64) < n {
         return Err(CborFault::Truncated);

@@ -10,7 +10,7 @@ use std::sync::Arc;
 /// The right of one core to one block, from `acquire` until `release`.
 ///
 /// It can't be dropped: each hold is kept or given back by `release`. Code that lets one go doesn't compile, as
-/// `fn forget<D: Digest>(hold: Hold<D>) {}`, of which the compiler says that the value is let go and nothing takes it.
+/// `fn forget<D: Digest>(hold: Hold<D>) {}`: `hold` is let go where its block ends, and `Hold<D>` is not `Drop`.
 ///
 /// A contract sees it as the block's bytes and the core's number.
 pub struct Hold<D: Digest, A: Allocator = Global> {

@@ -1,0 +1,7 @@
+//! Tests that cross crates: published values of the AT Protocol, and crates of this repository beside each other.
+#![tactic(auto)]
+
+#[cfg(test)]
+mod published;
+#[cfg(test)]
+mod trees;
