@@ -50,3 +50,6 @@ fn run_on_streams<X: Write>(rt: &HostRuntime, alloc: Global, err: &mut X) -> io:
     let mut out = BufWriter::new(alloc, rt.stdout())?;
     Ok(run_words(alloc, &lent, &mut input, &mut out, err))
 }
+
+#[cfg(test)]
+mod tests;

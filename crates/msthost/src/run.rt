@@ -10,7 +10,7 @@ use cid::{Digest, Sha256};
 use clap::Error;
 use clap::error::ErrorKind;
 use std::alloc::Global;
-use std::io::{Read, Write};
+use std::io::{self, Read, Write};
 
 /// The status of what is done.
 const DONE: u8 = 0;
@@ -98,8 +98,14 @@ fn show<W: Write, X: Write>(error: &Error, out: &mut W, err: &mut X) -> u8
         let _ = write!(err, "{error}");
         return USAGE;
     }
-    match write!(out, "{error}") {
+    match print(error, out) {
         Ok(()) => DONE,
         Err(_) => failed(TreeFault::WriteFailed, err),
     }
+}
+
+/// Writes the text for the user, to the writer's end.
+fn print<W: Write>(text: &Error, out: &mut W) -> io::Result<()> {
+    write!(out, "{text}")?;
+    out.flush()
 }
