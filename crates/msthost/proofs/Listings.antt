@@ -1,6 +1,6 @@
 -- The text for an input, from its tree.
 use Rattle.std.proofs.Common.{◌≡◌, ℕ, true, false, List, [], ◌∷◌, ◌++◌, Some, None, refl, sym, ap, subst, ◌∙◌}
-use Rattle.std.specs.Prelude.{Option, Result, Ok, Err, IfSome, IfErr, OnOk, OnErr, IsErrAnd}
+use Rattle.std.specs.Prelude.{Option, Result, Ok, Err, is_ok, IfSome, IfErr, OnOk, OnErr, IsErrAnd}
 use Rattle.spec.specs.Reading.{◌>>=◌, ensure, Fails}
 use Rattle.spec.specs.Cid.{cid}
 use Rattle.spec.specs.Tree.{Pair}
@@ -75,3 +75,6 @@ module _ (digest : List ℕ → List ℕ) (bits : ℕ) (given : Option (List ℕ
 
   pub fault-known : (f : Option TreeFault) → Fails f (tree_of_input digest bits bytes) → IfSome given (λ xs. Fails f (tree_text digest bits xs))
   fault-known f e = known (λ xs. Fails f (tree_text digest bits xs)) given bytes read (text-failed digest bits bytes f e)
+
+  pub there-is-text : (tree : List ℕ × List (List ℕ)) → tree_of_input digest bits bytes ≡ Ok tree → IfSome given (λ xs. is_ok (tree_text digest bits xs) ≡ true)
+  there-is-text tree e = known (λ xs. is_ok (tree_text digest bits xs) ≡ true) given bytes read (ap is_ok (text-made digest bits bytes tree e))

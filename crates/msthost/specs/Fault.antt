@@ -29,3 +29,11 @@ may_have_written errors.Clash = false
 may_have_written errors.NoMemory = true
 may_have_written errors.ReadFailed = false
 may_have_written errors.WriteFailed = true
+
+-- whether it is a fault of the lines or of their tree, or want of memory
+abbrev pub is_of_input : TreeFault → Bool
+is_of_input (errors.Line n f) = true
+is_of_input errors.Clash = true
+is_of_input errors.NoMemory = true
+is_of_input errors.ReadFailed = false
+is_of_input errors.WriteFailed = false

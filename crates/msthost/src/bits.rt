@@ -1,5 +1,5 @@
 //! The fan-out of a tree, chosen while the program runs.
-ghost use Rattle.std.specs.Prelude.{◌≡◌, ◌≤◌, ◌↔◌, is_some, true, false, IsSome, IfErr, IfSome, OnErr, OnOk};
+ghost use Rattle.std.specs.Prelude.{◌≡◌, ◌≤◌, ◌↔◌, is_some, is_ok, true, false, IsSome, IfErr, IfSome, OnErr, OnOk};
 ghost use Rattle.std.specs.Io.KnownBytes.{IsAtEnd, Keeps};
 ghost use Rattle.spec.specs.Reading.{Fails};
 ghost use Rattle.msthost.specs.TreeText.{tree_text as tree_text_of, text_or_nothing};
@@ -53,6 +53,8 @@ pub(crate) fn tree_text_with<D: Digest, A: Allocator + Clone, R: Read, W: Write>
     ensures judged { IfErr result (λ e. is_some (fault_of e) ≡ true → IsAtEnd (R.remaining input.new)) }
     ensures fault { IfErr result (λ e. IfSome (R.remaining input.old) (λ xs.
         Fails (fault_of e) (tree_text_of D.digest_of bits.number xs))) }
+    ensures write_failed { result ≡ Err TreeFault.WriteFailed → IfSome (R.remaining input.old) (λ xs.
+        is_ok (tree_text_of D.digest_of bits.number xs) ≡ true) }
     ensures nothing { IfErr result (λ e. may_have_written e ≡ false →
         Keeps (W.contents out.old) (W.contents out.new)) }
     ensures beginning { OnErr result (IfSome (R.remaining input.old) (λ xs.

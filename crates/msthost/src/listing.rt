@@ -1,8 +1,8 @@
 //! The pairs of key and CID that the lines of an input leave.
-ghost use Rattle.std.specs.Prelude.{◌≡◌, [], ◌∷◌, ◌++◌, OnOk};
+ghost use Rattle.std.specs.Prelude.{◌≡◌, [], ◌∷◌, ◌++◌, true, IfErr, OnOk};
 ghost use Rattle.spec.specs.Reading.{Gives};
 ghost use Rattle.msthost.specs.TreeText.{lines, pairs_of_lines, last_of_each_key, map_of_input as map_of};
-ghost use Rattle.msthost.specs.Fault.{fault_of};
+ghost use Rattle.msthost.specs.Fault.{fault_of, is_of_input};
 ghost use Rattle.msthost.specs.Pairs.{pairs_of};
 
 use crate::line::pair_of_line;
@@ -16,7 +16,8 @@ pub(crate) fn pairs_of_input<A: Allocator + Clone>(
     alloc: A,
     input: &[u8],
 ) -> Result<Vec<(Vec<u8, A>, Cid), A>, TreeFault>
-    ensures { Gives (λ pairs. pairs_of pairs.items) fault_of result (pairs_of_lines 1 (lines input.now)) }
+    ensures pairs { Gives (λ pairs. pairs_of pairs.items) fault_of result (pairs_of_lines 1 (lines input.now)) }
+    ensures kind { IfErr result (λ e. is_of_input e ≡ true) }
 {
     let mut pairs = Vec::new(alloc.clone()?);
     let mut number = 0;
@@ -64,7 +65,8 @@ pub(crate) fn map_of_input<A: Allocator + Clone>(
     alloc: A,
     input: &[u8],
 ) -> Result<Vec<(Vec<u8, A>, Cid), A>, TreeFault>
-    ensures { Gives (λ pairs. pairs_of pairs.items) fault_of result (map_of input.now) }
+    ensures map { Gives (λ pairs. pairs_of pairs.items) fault_of result (map_of input.now) }
+    ensures kind { IfErr result (λ e. is_of_input e ≡ true) }
 {
     let mut pairs = pairs_of_input(alloc, input)?;
     keep_last_of_each_key(&mut pairs)?;

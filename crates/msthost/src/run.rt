@@ -1,7 +1,9 @@
 //! The commands, over any reader and writers.
-ghost use Rattle.std.specs.Prelude.{◌≡◌, ◌≤◌, ◌⊎◌, false, IfErr};
+ghost use Rattle.std.specs.Prelude.{◌≡◌, ◌≤◌, ◌⊎◌, false, IfErr, IfSome, OnOk};
 ghost use Rattle.std.specs.Io.KnownBytes.{Keeps};
 ghost use Rattle.msthost.specs.Fault.{may_have_written};
+ghost use Rattle.msthost.specs.TreeText.{tree_text};
+ghost use Rattle.msthost.specs.Written.{AppendsText};
 
 use crate::bits::{Bits, tree_text_with};
 use crate::command_line::{Request, request_of};
@@ -67,7 +69,10 @@ fn tree<D: Digest, R: Read, W: Write>(
     input: &mut R,
     out: &mut W,
 ) -> Result<(), TreeFault>
-    ensures { IfErr result (λ e. may_have_written e ≡ false → Keeps (W.contents out.old) (W.contents out.new)) }
+    ensures text { OnOk result (IfSome (R.remaining input.old) (λ xs.
+        AppendsText (W.contents out.old) (W.contents out.new) (tree_text D.digest_of bits.number xs))) }
+    ensures nothing { IfErr result (λ e. may_have_written e ≡ false →
+        Keeps (W.contents out.old) (W.contents out.new)) }
 {
     tree_text_with::<D, Global, R, W>(bits, alloc, input, out)?;
     out.flush().map_err(|_| TreeFault::WriteFailed)

@@ -40,3 +40,11 @@ fn joined(alloc: Global, parts: &[&str]) -> Result<Vec<u8>, Fail> {
     }
     Ok(all)
 }
+
+/// The first line, without its end.
+fn first_line(text: &[u8]) -> &[u8] {
+    match text.iter().position(|byte| *byte == b'\n') {
+        Some(end) => &text[..end],
+        None => text,
+    }
+}

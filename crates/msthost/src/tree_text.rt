@@ -1,12 +1,12 @@
 //! The listing of a tree.
-ghost use Rattle.std.specs.Prelude.{◌≡◌, ◌≤◌, true, false, map, is_some, IfErr, IfOk, IfSome, OnErr, OnOk};
+ghost use Rattle.std.specs.Prelude.{◌≡◌, ◌≤◌, true, false, map, is_some, is_ok, IfErr, IfOk, IfSome, OnErr, OnOk};
 ghost use Rattle.std.specs.Arc.{arc_value};
 ghost use Rattle.std.specs.Io.KnownBytes.{IsAtEnd, Keeps};
 ghost use Rattle.spec.specs.NodeFormat.{is_ascending};
 ghost use Rattle.spec.specs.Reading.{Gives, Fails};
 ghost use Rattle.msthost.specs.TreeText.{tree_of_map, tree_of_input as tree_of, tree_text as tree_text_of, text_or_nothing};
 ghost use Rattle.msthost.specs.Written.{AppendsBeginning, AppendsText};
-ghost use Rattle.msthost.specs.Fault.{fault_of, may_have_written};
+ghost use Rattle.msthost.specs.Fault.{fault_of, is_of_input, may_have_written};
 ghost use Rattle.msthost.specs.Pairs.{pairs_of};
 
 use crate::listing::map_of_input;
@@ -46,6 +46,10 @@ pub fn tree_text<D: Digest, const B: u8, A: Allocator + Clone, R: Read, W: Write
     ensures fault { IfErr result (λ e. IfSome (R.remaining input.old) (λ xs.
         Fails (fault_of e) (tree_text_of D.digest_of B xs))) }
 
+    // A write fails only where there is a text.
+    ensures write_failed { result ≡ Err TreeFault.WriteFailed → IfSome (R.remaining input.old) (λ xs.
+        is_ok (tree_text_of D.digest_of B xs) ≡ true) }
+
     // How much of the text was written.
     ensures nothing { IfErr result (λ e. may_have_written e ≡ false →
         Keeps (W.contents out.old) (W.contents out.new)) }
@@ -65,8 +69,9 @@ fn tree_of_input<D: Digest, const B: u8, A: Allocator + Clone>(
 ) -> Result<Built<D, A>, TreeFault>
     requires least { 1 ≤ B }
     requires most { B ≤ 8 }
-    ensures { Gives (λ built. (built.root, map arc_value built.blocks.items)) fault_of result
+    ensures tree { Gives (λ built. (built.root, map arc_value built.blocks.items)) fault_of result
         (tree_of D.digest_of B input.now) }
+    ensures kind { IfErr result (λ e. is_of_input e ≡ true) }
 {
     let pairs = map_of_input(alloc.clone()?, input)?;
     tree_of_pairs::<D, B, A>(alloc, &pairs)
@@ -80,8 +85,9 @@ fn tree_of_pairs<D: Digest, const B: u8, A: Allocator + Clone>(
     requires least { 1 ≤ B }
     requires most { B ≤ 8 }
     requires ascending { is_ascending (pairs_of pairs.now) ≡ true }
-    ensures { Gives (λ built. (built.root, map arc_value built.blocks.items)) fault_of result
+    ensures tree { Gives (λ built. (built.root, map arc_value built.blocks.items)) fault_of result
         (tree_of_map D.digest_of B (pairs_of pairs.now)) }
+    ensures kind { IfErr result (λ e. is_of_input e ≡ true) }
 {
     match build::<D, B, Vec<u8, A>, A>(alloc, pairs) {
         Ok(built) => Ok(built),

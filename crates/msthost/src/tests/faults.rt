@@ -1,5 +1,5 @@
 //! Inputs and command lines that are refused.
-use super::{joined, run};
+use super::{first_line, joined, run};
 use cid::Sha256;
 use cid::digests::Size;
 use std::test::Fail;
@@ -10,21 +10,22 @@ const TREE: [&str; 2] = ["msthost", "tree"];
 fn faulty_lines(rt: HostRuntime) -> Result<(), Fail> {
     let long = [b'k'; 1025];
     let long = str::from_utf8(&long)?;
-    for (parts, shown) in [
-        (["a/b", "", "", ""], "line 1: BadLine"),
-        ([" ", "E", "", ""], "line 1: BadKey"),
-        (["a/b ", "", "", ""], "line 1: BadCid"),
-        (["\n", "a/b", "", ""], "line 2: BadLine"),
-        (["\n\r\n\n", "a/b", "", ""], "line 4: BadLine"),
-        (["a/b ", "E", "\n\r", ""], "line 2: BadLine"),
-        (["\r\r\n", "", "", ""], "line 1: BadLine"),
-        (["a/b ", "E", "\r", ""], "line 1: BadCid"),
-        (["a/b ", "E", " ", ""], "line 1: BadCid"),
-        ([long, " ", "E", ""], "line 1: BadKey"),
-        ([long, " x", "\na", ""], "line 1: BadKey"),
-        (["a/b ", "E", "\nx\n", " y"], "line 2: BadLine"),
-    ] {
-        let input = joined(rt.alloc(), &parts)?;
+    let cases: [(&[&str], &str); 12] = [
+        (&["a/b"], "line 1: BadLine"),
+        (&[" ", "E"], "line 1: BadKey"),
+        (&["a/b "], "line 1: BadCid"),
+        (&["\n", "a/b"], "line 2: BadLine"),
+        (&["\n\r\n\n", "a/b"], "line 4: BadLine"),
+        (&["a/b ", "E", "\n\r"], "line 2: BadLine"),
+        (&["\r\r\n"], "line 1: BadLine"),
+        (&["a/b ", "E", "\r"], "line 1: BadCid"),
+        (&["a/b ", "E", " "], "line 1: BadCid"),
+        (&[long, " ", "E"], "line 1: BadKey"),
+        (&[long, " x", "\na"], "line 1: BadKey"),
+        (&["a/b ", "E", "\nx\n", " y"], "line 2: BadLine"),
+    ];
+    for (parts, shown) in cases {
+        let input = joined(rt.alloc(), parts)?;
         let ended = run::<Sha256>(rt.alloc(), &TREE, &input);
         let wanted = joined(rt.alloc(), &["msthost: ", shown, "\n"])?;
         assert_eq!(rt; ended.err.as_slice(), wanted.as_slice());

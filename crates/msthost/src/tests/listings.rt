@@ -1,5 +1,5 @@
 //! Listings that are made.
-use super::{joined, run};
+use super::{first_line, joined, run};
 use crate::run::run_words;
 use cid::Sha256;
 use cid::digests::Toy;
@@ -10,14 +10,6 @@ const TREE: [&str; 2] = ["msthost", "tree"];
 
 /// The record of every key of the published trees.
 const RECORD: &str = "bafyreie5cvv4h45feadgeuwhbcutmh6t2ceseocckahdoe6uat64zmz454";
-
-/// The first line, without its end.
-fn first_line(text: &[u8]) -> &[u8] {
-    match text.iter().position(|byte| *byte == b'\n') {
-        Some(end) => &text[..end],
-        None => text,
-    }
-}
 
 #[test]
 fn no_lines(rt: HostRuntime) -> Result<(), Fail> {

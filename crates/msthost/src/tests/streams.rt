@@ -33,7 +33,8 @@ fn a_read_that_fails(rt: HostRuntime) -> Result<(), Fail> {
     let whole = joined(rt.alloc(), &["a/b ", "E", "\nb/c ", "E", "\n"])?;
     let faulty = joined(rt.alloc(), &["a/b", "\n"])?;
     // at the first byte, in the middle of a line, after the last line, and after a line that is faulty
-    for bytes in [&whole[..0], &whole[..70], &whole[..], &faulty[..]] {
+    let cut = whole.get(..70).ok_or("too short")?;
+    for bytes in [b"".as_slice(), cut, whole.as_slice(), faulty.as_slice()] {
         for (kind, status, shown) in [
             (ErrorKind::Other, 4, b"msthost: read failed\n".as_slice()),
             (

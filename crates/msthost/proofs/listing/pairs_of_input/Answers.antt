@@ -45,14 +45,14 @@ loop-line-preserved g c =
       },
     )
 
-pub returns-in-Err : goal.returns-in-Err
-returns-in-Err g c =
+pub returns-in-Err-clause-pairs : goal.returns-in-Err-clause-pairs
+returns-in-Err-clause-pairs g c =
     c.loop-line.invariant.2.reading
     ∙ ap (λ ls. onto (pairs_of c.loop-line.pairs.items) (pairs_of_lines (c.loop-line.number + 1) ls)) c.in-Some.ensures.steps
     ∙ onto-fault (c.loop-line.number + 1) (pairs_of c.loop-line.pairs.items) c.in-Some.line.now c.next.new.self _ (sym c.is_empty.ensures ∙ c.if-is_empty.false) c.in-Err.ensures
 
-pub returns : goal.returns
-returns g c =
+pub returns-clause-pairs : goal.returns-clause-pairs
+returns-clause-pairs g c =
     c.loop-line.invariant.2.reading
     ∙ ap (λ ls. onto (pairs_of c.loop-line.pairs.items) (pairs_of_lines (c.loop-line.number + 1) ls)) c.in-None.ensures.steps.0
     ∙ onto-done (c.loop-line.number + 1) (pairs_of c.loop-line.pairs.items)

@@ -5,13 +5,13 @@ use Rattle.msthost.specs.Pairs.{pairs_of}
 use Rattle.msthost.proofs.Listings.{tree-free, tree-clash}
 use Rattle.msthost.proofs.tree_text.tree_of_pairs.Goals as goal
 
-pub returns-in-Ok : goal.returns-in-Ok
-returns-in-Ok g c =
+pub returns-in-Ok-clause-tree : goal.returns-in-Ok-clause-tree
+returns-in-Ok-clause-tree g c =
     let e = c.in-Ok.ensures in
     tree-free g.D.Digest.digest_of g.row.B (pairs_of c.args.pairs.now) _ _ e.clash_free e.root e.blocks e.once
 
-pub returns-in-Err-Clash : goal.returns-in-Err-Clash
-returns-in-Err-Clash g c =
+pub returns-in-Err-Clash-clause-tree : goal.returns-in-Err-Clash-clause-tree
+returns-in-Err-Clash-clause-tree g c =
     let digest = g.D.Digest.digest_of in
     let found : IsClashIn digest (nodes digest g.row.B (pairs_of c.args.pairs.now)) c.in-Err-Clash.field-0-0 =
     subst (IsFaultOf digest (nodes digest g.row.B (pairs_of c.args.pairs.now))) c.in-Err-Clash.field-0-is c.in-Err-Clash.ensures.fault in
