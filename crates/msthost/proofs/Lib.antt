@@ -1,0 +1,6 @@
+pub mod Spaces
+pub mod Leaving
+pub mod Remaining
+pub mod LastLines
+pub mod LeftPairs
+pub mod Listings

@@ -1,0 +1,4 @@
+pub mod TreeText
+pub mod Fault
+pub mod Written
+pub mod Pairs

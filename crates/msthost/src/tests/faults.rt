@@ -1,0 +1,129 @@
+//! Inputs and command lines that are refused.
+use super::{first_line, joined, run};
+use cid::Sha256;
+use cid::digests::Size;
+use std::test::Fail;
+
+const TREE: [&str; 2] = ["msthost", "tree"];
+
+#[test]
+fn faulty_lines(rt: HostRuntime) -> Result<(), Fail> {
+    let long = [b'k'; 1025];
+    let long = str::from_utf8(&long)?;
+    let cases: [(&[&str], &str); 12] = [
+        (&["a/b"], "line 1: BadLine"),
+        (&[" ", "E"], "line 1: BadKey"),
+        (&["a/b "], "line 1: BadCid"),
+        (&["\n", "a/b"], "line 2: BadLine"),
+        (&["\n\r\n\n", "a/b"], "line 4: BadLine"),
+        (&["a/b ", "E", "\n\r"], "line 2: BadLine"),
+        (&["\r\r\n"], "line 1: BadLine"),
+        (&["a/b ", "E", "\r"], "line 1: BadCid"),
+        (&["a/b ", "E", " "], "line 1: BadCid"),
+        (&[long, " ", "E"], "line 1: BadKey"),
+        (&[long, " x", "\na"], "line 1: BadKey"),
+        (&["a/b ", "E", "\nx\n", " y"], "line 2: BadLine"),
+    ];
+    for (parts, shown) in cases {
+        let input = joined(rt.alloc(), parts)?;
+        let ended = run::<Sha256>(rt.alloc(), &TREE, &input);
+        let wanted = joined(rt.alloc(), &["msthost: ", shown, "\n"])?;
+        assert_eq!(rt; ended.err.as_slice(), wanted.as_slice());
+        assert_eq!(rt; ended.status, 1, "where {shown}");
+        assert!(rt; ended.out.is_empty(), "where {shown}");
+    }
+    Ok(())
+}
+
+#[test]
+fn faulty_cids(rt: HostRuntime) -> Result<(), Fail> {
+    // too short; another multibase; no letter of base32; bits after the last byte; another codec
+    for text in [
+        "bafyreie5737gdxlw5i64vzichcalba3z2v5n6icifvx5xytvske7mr3hp",
+        "zafyreie5737gdxlw5i64vzichcalba3z2v5n6icifvx5xytvske7mr3hpm",
+        "b1fyreie5737gdxlw5i64vzichcalba3z2v5n6icifvx5xytvske7mr3hpm",
+        "bafyreie5737gdxlw5i64vzichcalba3z2v5n6icifvx5xytvske7mr3hpn",
+        "bafkreie5737gdxlw5i64vzichcalba3z2v5n6icifvx5xytvske7mr3hpm",
+    ] {
+        let input = joined(rt.alloc(), &["a/b ", text, "\n"])?;
+        let ended = run::<Sha256>(rt.alloc(), &TREE, &input);
+        assert_eq!(rt;
+            ended.err.as_slice(),
+            b"msthost: line 1: BadCid\n".as_slice(),
+            "at {text}"
+        );
+        assert_eq!(rt; ended.status, 1, "at {text}");
+    }
+    Ok(())
+}
+
+#[test]
+fn the_longest_key(rt: HostRuntime) -> Result<(), Fail> {
+    let key = [b'k'; 1024];
+    let input = joined(rt.alloc(), &[str::from_utf8(&key)?, " ", "E"])?;
+    let ended = run::<Sha256>(rt.alloc(), &TREE, &input);
+    assert_eq!(rt; ended.status, 0);
+    assert_eq!(rt;
+        &ended.out[..59],
+        b"bafyreig37hu6jop2zw2hyng2t7crys3wo7c2cro6hmyvtygf5foi2v3xni".as_slice()
+    );
+    Ok(())
+}
+
+#[test]
+fn nodes_that_clash(rt: HostRuntime) -> Result<(), Fail> {
+    let input = joined(rt.alloc(), &["a/p0 ", "E", "\na/q2 ", "E", "\na/r0 ", "E"])?;
+    let ended = run::<Size>(rt.alloc(), &TREE, &input);
+    assert_eq!(rt; ended.status, 1);
+    assert_eq!(rt; ended.err.as_slice(), b"msthost: Clash\n".as_slice());
+    assert!(rt; ended.out.is_empty());
+    Ok(())
+}
+
+#[test]
+fn wrong_command_lines(rt: HostRuntime) -> Result<(), Fail> {
+    let words: [&[&str]; 8] = [
+        &[],
+        &["msthost"],
+        &["msthost", "trees"],
+        &["msthost", "tree", "file"],
+        &["msthost", "tree", "--bits"],
+        &["msthost", "tree", "--bits", "0"],
+        &["msthost", "tree", "--bits", "9"],
+        &["msthost", "tree", "--bits", "two"],
+    ];
+    for words in words {
+        let ended = run::<Sha256>(rt.alloc(), words, b"a/b");
+        assert_eq!(rt; ended.status, 2, "at {words:?}");
+        assert!(rt; ended.err.starts_with(b"error: "), "at {words:?}");
+        assert!(rt; ended.out.is_empty(), "at {words:?}");
+    }
+    Ok(())
+}
+
+#[test]
+fn bits_out_of_range_are_named(rt: HostRuntime) {
+    let ended = run::<Sha256>(rt.alloc(), &["msthost", "tree", "--bits", "9"], b"");
+    let wanted =
+        b"error: invalid value '9' for '--bits <B>': 9 is not in 1..=8\n\nFor more information, try '--help'.\n";
+    assert_eq!(rt; ended.err.as_slice(), wanted.as_slice());
+}
+
+#[test]
+fn help_and_version(rt: HostRuntime) -> Result<(), Fail> {
+    let words: [&[&str]; 4] = [
+        &["msthost", "--help"],
+        &["msthost", "-h"],
+        &["msthost", "tree", "--help"],
+        &["msthost", "--version"],
+    ];
+    for words in words {
+        let ended = run::<Sha256>(rt.alloc(), words, b"a/b");
+        assert_eq!(rt; ended.status, 0, "at {words:?}");
+        assert!(rt; ended.err.is_empty(), "at {words:?}");
+        assert!(rt; !ended.out.is_empty(), "at {words:?}");
+    }
+    let ended = run::<Sha256>(rt.alloc(), &["msthost", "--version"], b"");
+    assert_eq!(rt; ended.out.as_slice(), b"msthost 0.1.0\n".as_slice());
+    Ok(())
+}
