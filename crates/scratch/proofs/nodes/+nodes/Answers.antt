@@ -16,12 +16,12 @@ pub push_node-loop-row-init : goal.push_node-loop-row-init
 push_node-loop-row-init g t c =
     record {
       rises = Rises-same (last_key [] c.in_ok-writer.writer.entries) [] c.push_part.new.unread _
-      (ap (λ (w : Contents). last_key [] w.entries) c.in_ok-writer.ensures) c.in_ok-left.ensures.unread
-      (Rises-from (layer_of g.D.Digest.digest_of g.row.B) [] c.args.layer c.args.unread.now (Rises-ascending c.args.unread.now c.requires));
+          (ap (λ (w : Contents). last_key [] w.entries) c.in_ok-writer.ensures) c.in_ok-left.ensures.unread
+          (Rises-from (layer_of g.D.Digest.digest_of g.row.B) [] c.args.layer c.args.unread.now (Rises-ascending c.args.unread.now c.requires));
       written = begin g.D.Digest.digest_of (layer_of g.D.Digest.digest_of g.row.B) c.args.layer c.args.unread.now _
-      c.in_ok-writer.writer.left c.in_ok-writer.writer.entries c.push_part.new.unread _
-      (ap (λ (w : Contents). w.left) c.in_ok-writer.ensures ∙ c.in_ok-left.ensures.link) (ap (λ (w : Contents). w.entries) c.in_ok-writer.ensures)
-      c.in_ok-left.ensures.unread c.in_ok-left.ensures.blocks;
+          c.in_ok-writer.writer.left c.in_ok-writer.writer.entries c.push_part.new.unread _
+          (ap (λ (w : Contents). w.left) c.in_ok-writer.ensures ∙ c.in_ok-left.ensures.link) (ap (λ (w : Contents). w.entries) c.in_ok-writer.ensures)
+          c.in_ok-left.ensures.unread c.in_ok-left.ensures.blocks;
       begun = omega (arith, c.len-place.ensures);
     }
 
@@ -36,14 +36,14 @@ pub push_node-loop-row-preserved : goal.push_node-loop-row-preserved
 push_node-loop-row-preserved g t c =
     record {
       rises = Rises-same (last_key [] c.entry.new.self.entries) _ c.push_part-in-Some.new.unread _
-      (ap (λ (w : Contents). last_key [] w.entries) c.in_ok-entry.ensures.ok) c.in_ok-tree.ensures.unread
-      (Rises-next (layer_of g.D.Digest.digest_of g.row.B) c.args.layer c.loop-row.writer.entries _ (pair_of c.in-Some.row) c.next_of.new.self refl
-      (Rises-same (last_key [] c.loop-row.writer.entries) _ (pair_of c.in-Some.row ∷ c.next_of.new.self) c.loop-row.unread refl (sym c.in-Some.ensures.some) c.loop-row.invariant.rises));
+          (ap (λ (w : Contents). last_key [] w.entries) c.in_ok-entry.ensures.ok) c.in_ok-tree.ensures.unread
+          (Rises-next (layer_of g.D.Digest.digest_of g.row.B) c.args.layer c.loop-row.writer.entries _ (pair_of c.in-Some.row) c.next_of.new.self refl
+          (Rises-same (last_key [] c.loop-row.writer.entries) _ (pair_of c.in-Some.row ∷ c.next_of.new.self) c.loop-row.unread refl (sym c.in-Some.ensures.some) c.loop-row.invariant.rises));
       written = more g.D.Digest.digest_of (layer_of g.D.Digest.digest_of g.row.B) c.args.layer c.args.unread.now _
-      c.loop-row.writer.left c.entry.new.self.left c.loop-row.writer.entries c.entry.new.self.entries c.loop-row.unread c.push_part-in-Some.new.unread _ _
-      (pair_of c.in-Some.row) c.next_of.new.self c.in_ok-tree.tree
-      c.loop-row.invariant.written c.in-Some.ensures.some c.in-Some.ensures.layer (ap (λ (w : Contents). w.left) c.in_ok-entry.ensures.ok) (ap (λ (w : Contents). w.entries) c.in_ok-entry.ensures.ok)
-      c.in_ok-tree.ensures.link c.in_ok-tree.ensures.unread c.in_ok-tree.ensures.blocks;
+          c.loop-row.writer.left c.entry.new.self.left c.loop-row.writer.entries c.entry.new.self.entries c.loop-row.unread c.push_part-in-Some.new.unread _ _
+          (pair_of c.in-Some.row) c.next_of.new.self c.in_ok-tree.tree
+          c.loop-row.invariant.written c.in-Some.ensures.some c.in-Some.ensures.layer (ap (λ (w : Contents). w.left) c.in_ok-entry.ensures.ok) (ap (λ (w : Contents). w.entries) c.in_ok-entry.ensures.ok)
+          c.in_ok-tree.ensures.link c.in_ok-tree.ensures.unread c.in_ok-tree.ensures.blocks;
       begun = c.loop-row.invariant.begun;
     }
 
