@@ -77,7 +77,7 @@ by_each Less e key x y z is h = h refl
 by_each Equal e key x y z is h = ap (here e) (sym (cmp-equal e.key key is))
 by_each Greater e key x y z is h = refl
 
-common-fits : (xs ys : List ℕ) → common xs ys ≤ length xs
+pub common-fits : (xs ys : List ℕ) → common xs ys ≤ length xs
 common-fits [] ys = omega arith
 common-fits (x ∷ xs) [] = omega arith
 common-fits (x ∷ xs) (y ∷ ys) = elim (eqb x y) as (λ t. cond t (suc (common xs ys)) 0 ≤ length (x ∷ xs)) [ true ↦ let h = common-fits xs ys in omega arith | false ↦ omega arith ]

@@ -2,6 +2,6 @@ pub mod CommonParts
 pub mod Comparing
 pub mod Faults
 pub mod Finding
-pub mod LongHeads
 pub mod RowLaws
+pub mod Stepping
 pub mod Writing

@@ -5,7 +5,6 @@ mod common;
 mod entries;
 mod entry;
 mod fault;
-mod heads;
 mod key_before;
 mod key_buf;
 mod parts;

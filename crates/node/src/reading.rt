@@ -3,7 +3,7 @@
 
 ghost use Rattle.std.specs.Prelude.{◌≡◌, option_map};
 ghost use Rattle.spec.specs.Reading.{Gives, front};
-ghost use Rattle.spec.specs.NodeFormat.{literal, link_at, link_or_null_at, NotNode as not_node};
+ghost use Rattle.spec.specs.NodeFormat.{literal, argument_of, link_at, link_or_null_at, NotNode as not_node};
 ghost use Rattle.cid.specs.CidRef.{bytes_of};
 ghost use Rattle.node.specs.Fault.{fault_of};
 ghost use Rattle.node.specs.Rows.{row_at};
@@ -11,14 +11,32 @@ ghost use Rattle.node.specs.Views.{row_of};
 
 use crate::entry::EntryView;
 use crate::fault::NodeFault;
-use crate::heads::argument;
 use cid::CidRef;
+use dagcbor::Cursor;
 
 /// These very bytes.
 pub(crate) fn literal<'a>(expected: &[u8], bytes: &'a [u8]) -> Result<&'a [u8], NodeFault>
     ensures { Gives (λ rest. rest.now) fault_of result (literal expected.now bytes.now) }
 {
     bytes.strip_prefix(expected).ok_or(NodeFault::NotNode)
+}
+
+/// A head of this major type: its argument.
+pub(crate) fn argument(major: u8, bytes: &[u8]) -> Result<(u64, &[u8]), NodeFault>
+    ensures { Gives (λ x. (x.0, x.1.now)) fault_of result (argument_of major bytes.now) }
+{
+    let mut cursor = Cursor::new(bytes);
+    let Ok((kind, n)) = cursor.head() else {
+        return Err(NodeFault::NotNode);
+    };
+    if kind != major {
+        return Err(NodeFault::NotNode);
+    }
+    let left = bytes.len() - cursor.place();
+    let Ok(rest) = cursor.take(left as u64) else {
+        unreachable!()
+    };
+    Ok((n, rest))
 }
 
 /// The next `n` bytes.

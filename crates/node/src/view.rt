@@ -12,10 +12,9 @@ ghost use Rattle.node.specs.Views.{place_of, IsAmong};
 
 use crate::entries::Entries;
 use crate::fault::NodeFault;
-use crate::heads::argument;
 use crate::key_before::KeyBefore;
 use crate::place::{Place, place_in_gap};
-use crate::reading::{entry, link_or_null, literal};
+use crate::reading::{argument, entry, link_or_null, literal};
 use crate::search::compare_after;
 use cid::CidRef;
 use std::cmp::Ordering;
