@@ -5,14 +5,13 @@ mod clashes;
 mod fault;
 mod keys;
 mod nodes;
-mod rows;
-mod tree;
-mod unread;
-
 #[cfg(test)]
 mod plain;
+mod rows;
 #[cfg(test)]
 mod tests;
+mod tree;
+mod unread;
 
 pub use fault::ScratchFault;
 pub use keys::is_ascending;

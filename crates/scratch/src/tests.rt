@@ -28,7 +28,12 @@ fn lengths<D: Digest, const B: u8, A: Allocator + Clone>(
 {
     assert!(rt; is_ascending(keys));
     let built = build::<D, B, &[u8], A>(alloc.clone()?, keys)?;
-    assert!(rt; built.blocks.first().is_some_and(|top| top.cid() == built.root));
+    assert!(rt;
+        built
+            .blocks
+            .first()
+            .is_some_and(|top| top.cid() == built.root)
+    );
     let mut lengths = Vec::new(alloc);
     for block in &built.blocks {
         lengths.push(block.bytes().len())?;
@@ -42,7 +47,10 @@ fn empty_tree(rt: HostRuntime) -> Result<(), Fail> {
     assert!(rt; is_ascending(&none));
     let built = build::<Sha256, 2, &[u8], _>(rt.alloc(), &none)?;
     assert_eq!(rt; built.blocks.len(), 1);
-    assert_eq!(rt; built.blocks[0].bytes(), [0xa2, 0x61, 0x65, 0x80, 0x61, 0x6c, 0xf6].as_slice());
+    assert_eq!(rt;
+        built.blocks[0].bytes(),
+        [0xa2, 0x61, 0x65, 0x80, 0x61, 0x6c, 0xf6].as_slice()
+    );
     let text = b"bafyreie5737gdxlw5i64vzichcalba3z2v5n6icifvx5xytvske7mr3hpm";
     assert_eq!(rt; built.root.text().as_slice(), text.as_slice());
     Ok(())
@@ -57,7 +65,10 @@ fn tree_of_five_nodes(rt: HostRuntime) -> Result<(), Fail> {
     let four = lengths::<Toy, 4, _>(&rt, rt.alloc(), &keys)?;
     let eight = lengths::<Toy, 8, _>(&rt, rt.alloc(), &keys)?;
     let flat = lengths::<Clash, 2, _>(&rt, rt.alloc(), &keys)?;
-    assert_eq!(rt; one.as_slice(), [144, 47, 47, 47, 64, 47, 47, 47, 64].as_slice());
+    assert_eq!(rt;
+        one.as_slice(),
+        [144, 47, 47, 47, 64, 47, 47, 47, 64].as_slice()
+    );
     assert_eq!(rt; two.as_slice(), [144, 47, 64, 47, 64].as_slice());
     assert_eq!(rt; four.as_slice(), [144, 64, 64].as_slice());
     assert_eq!(rt; eight.as_slice(), [174].as_slice());

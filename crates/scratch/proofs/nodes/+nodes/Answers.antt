@@ -1,49 +1,45 @@
-use Rattle.std.proofs.Common.{◌≡◌, ◌+◌, ◌-◌, ◌<◌, ◌≤◌, ◌∷◌, ◌++◌, suc, [], length, map, Some, refl, sym, ap, ◌∙◌, arith}
+use Rattle.std.proofs.Common.{◌-◌, ◌∷◌, ◌++◌, [], map, refl, sym, ap, ◌∙◌, arith}
 use Rattle.std.specs.Arc.{arc_value}
 use Rattle.std.proofs.lemmas.List.{append-nil}
 use Rattle.spec.specs.Layer.{layer as layer_of}
-use Rattle.spec.specs.Tree.{Sub}
 use Rattle.spec.specs.NodeFormat.{part_link}
 use Rattle.spec.specs.Blocks.{blocks_in, no_record}
 use Rattle.node.specs.Contents.{Contents, last_key}
 use Rattle.scratch.specs.Rows.{pair_of}
 use Rattle.scratch.proofs.Ascending.{Rises-ascending}
 use Rattle.scratch.proofs.Aheads.{part-none}
-use Rattle.scratch.proofs.Steps.{length-from, Rises-from, Rises-same, Rises-next, insert-added, place-within, begin, more, whole, part-is, link-is, blocks-are}
+use Rattle.scratch.proofs.Steps.{fewer, Rises-from, Rises-same, Rises-next, place-within, begin, more, whole, part-is, link-is, blocks-are}
 use Rattle.scratch.proofs.nodes.+nodes.Goals as goal
 
 pub push_node-loop-row-init : goal.push_node-loop-row-init
 push_node-loop-row-init g t c =
     record {
       rises = Rises-same (last_key [] c.in_ok-writer.writer.entries) [] c.push_part.new.unread _
-      (ap (λ (w : Contents). last_key [] w.entries) c.in_ok-writer.ensures) c.in_ok-left.ensures.unread
-      (Rises-from (layer_of g.D.Digest.digest_of g.row.B) [] c.args.layer c.args.unread.now (Rises-ascending c.args.unread.now c.requires));
+          (ap (λ (w : Contents). last_key [] w.entries) c.in_ok-writer.ensures) c.in_ok-left.ensures.unread
+          (Rises-from (layer_of g.D.Digest.digest_of g.row.B) [] c.args.layer c.args.unread.now (Rises-ascending c.args.unread.now c.requires));
       written = begin g.D.Digest.digest_of (layer_of g.D.Digest.digest_of g.row.B) c.args.layer c.args.unread.now _
-      c.in_ok-writer.writer.left c.in_ok-writer.writer.entries c.push_part.new.unread _
-      (ap (λ (w : Contents). w.left) c.in_ok-writer.ensures ∙ c.in_ok-left.ensures.link) (ap (λ (w : Contents). w.entries) c.in_ok-writer.ensures)
-      c.in_ok-left.ensures.unread c.in_ok-left.ensures.blocks;
+          c.in_ok-writer.writer.left c.in_ok-writer.writer.entries c.push_part.new.unread _
+          (ap (λ (w : Contents). w.left) c.in_ok-writer.ensures ∙ c.in_ok-left.ensures.link) (ap (λ (w : Contents). w.entries) c.in_ok-writer.ensures)
+          c.in_ok-left.ensures.unread c.in_ok-left.ensures.blocks;
       begun = omega (arith, c.len-place.ensures);
     }
 
 pub push_node-loop-row-smaller : goal.push_node-loop-row-smaller
 push_node-loop-row-smaller g t c =
-    let left = length-from (layer_of g.D.Digest.digest_of g.row.B) c.args.layer c.next_of.new.self in
-    let is = ap length c.in_ok-tree.ensures.unread in
-    let was = ap length c.in-Some.ensures.some in
-    omega (arith, left, is, was)
+    fewer (layer_of g.D.Digest.digest_of g.row.B) c.args.layer c.loop-row.unread c.push_part-in-Some.new.unread c.next_of.new.self (pair_of c.in-Some.row) c.in-Some.ensures.some c.in_ok-tree.ensures.unread
 
 pub push_node-loop-row-preserved : goal.push_node-loop-row-preserved
 push_node-loop-row-preserved g t c =
     record {
       rises = Rises-same (last_key [] c.entry.new.self.entries) _ c.push_part-in-Some.new.unread _
-      (ap (λ (w : Contents). last_key [] w.entries) c.in_ok-entry.ensures.ok) c.in_ok-tree.ensures.unread
-      (Rises-next (layer_of g.D.Digest.digest_of g.row.B) c.args.layer c.loop-row.writer.entries _ (pair_of c.in-Some.row) c.next_of.new.self refl
-      (Rises-same (last_key [] c.loop-row.writer.entries) _ (pair_of c.in-Some.row ∷ c.next_of.new.self) c.loop-row.unread refl (sym c.in-Some.ensures.some) c.loop-row.invariant.rises));
+          (ap (λ (w : Contents). last_key [] w.entries) c.in_ok-entry.ensures.ok) c.in_ok-tree.ensures.unread
+          (Rises-next (layer_of g.D.Digest.digest_of g.row.B) c.args.layer c.loop-row.writer.entries _ (pair_of c.in-Some.row) c.next_of.new.self refl
+          (Rises-same (last_key [] c.loop-row.writer.entries) _ (pair_of c.in-Some.row ∷ c.next_of.new.self) c.loop-row.unread refl (sym c.in-Some.ensures.some) c.loop-row.invariant.rises));
       written = more g.D.Digest.digest_of (layer_of g.D.Digest.digest_of g.row.B) c.args.layer c.args.unread.now _
-      c.loop-row.writer.left c.entry.new.self.left c.loop-row.writer.entries c.entry.new.self.entries c.loop-row.unread c.push_part-in-Some.new.unread _ _
-      (pair_of c.in-Some.row) c.next_of.new.self c.in_ok-tree.tree
-      c.loop-row.invariant.written c.in-Some.ensures.some c.in-Some.ensures.layer (ap (λ (w : Contents). w.left) c.in_ok-entry.ensures.ok) (ap (λ (w : Contents). w.entries) c.in_ok-entry.ensures.ok)
-      c.in_ok-tree.ensures.link c.in_ok-tree.ensures.unread c.in_ok-tree.ensures.blocks;
+          c.loop-row.writer.left c.entry.new.self.left c.loop-row.writer.entries c.entry.new.self.entries c.loop-row.unread c.push_part-in-Some.new.unread _ _
+          (pair_of c.in-Some.row) c.next_of.new.self c.in_ok-tree.tree
+          c.loop-row.invariant.written c.in-Some.ensures.some c.in-Some.ensures.layer (ap (λ (w : Contents). w.left) c.in_ok-entry.ensures.ok) (ap (λ (w : Contents). w.entries) c.in_ok-entry.ensures.ok)
+          c.in_ok-tree.ensures.link c.in_ok-tree.ensures.unread c.in_ok-tree.ensures.blocks;
       begun = c.loop-row.invariant.begun;
     }
 

@@ -18,7 +18,7 @@ invariant-push_node-loop-row g l =
     record {
       rises : Rises (last_key [] l.writer.entries) l.unread;
       written : Written g.D.Digest.digest_of (layer_of g.D.Digest.digest_of g.row.B) l.layer l.fn.unread (map arc_value l.fn.blocks.items)
-      l.writer.left l.writer.entries l.unread (map arc_value l.blocks.items);
+          l.writer.left l.writer.entries l.unread (map arc_value l.blocks.items);
       begun : l.place ≡ length l.fn.blocks.items;
     }
 

@@ -10,5 +10,5 @@ invariant-loop-row g l =
     record {
       rest : AreLayered (layer_of g.D.Digest.digest_of g.row.B) (drop l.row-index l.rows);
       greatest : max l.top (top_layer_of (layer_of g.D.Digest.digest_of g.row.B) (map pair_of (drop l.row-index l.rows)))
-      ≡ top_layer_of (layer_of g.D.Digest.digest_of g.row.B) (map pair_of l.rows);
+          ≡ top_layer_of (layer_of g.D.Digest.digest_of g.row.B) (map pair_of l.rows);
     }
