@@ -1,21 +1,21 @@
 -- The steps by which a node is written.
-use Rattle.std.proofs.Common.{◌≡◌, ℕ, zero, suc, ◌+◌, ◌-◌, ◌<◌, ◌≤◌, Bool, true, false, ◌&&◌, cond, nat_lt, List, [], ◌∷◌, ◌++◌, map, length, take, drop, Option, Some, None, refl, sym, ap, subst, ◌∙◌, arith}
+use Rattle.std.proofs.Common.{◌≡◌, ℕ, suc, ◌-◌, ◌<◌, ◌≤◌, Bool, true, false, cond, nat_lt, List, [], ◌∷◌, ◌++◌, map, length, take, drop, Option, Some, refl, sym, ap, subst, ◌∙◌, arith}
 use Rattle.std.specs.List.{insert, list_all}
 use Rattle.std.specs.Cmp.Lexicographic.{slice_cmp}
 use Rattle.std.specs.Ordering.{nat_cmp, is_lt}
 use Rattle.std.specs.FinMap.{is_sorted}
 use Rattle.std.specs.FinMap.Entries.{below_all}
-use Rattle.std.proofs.lemmas.List.{append-nil, take_at, drop_at, length-append, length-map, map-append, take-map, drop-map}
+use Rattle.std.proofs.lemmas.List.{take_at, drop_at, length-append, length-map, map-append, take-map, drop-map}
 use Rattle.spec.specs.Cid.{cid}
-use Rattle.spec.specs.Tree.{Pair, Node, Part, Nothing, Sub}
-use Rattle.spec.specs.NodeFormat.{Entry, is_ascending, is_key, part_link, shape, shape_cid, node_bytes, node_spelling}
+use Rattle.spec.specs.Tree.{Pair, Sub}
+use Rattle.spec.specs.NodeFormat.{Entry, is_key, part_link, node_spelling}
 use Rattle.spec.specs.Blocks.{blocks_in, blocks_under, no_record}
-use Rattle.spec.proofs.Bools.{both, and}
+use Rattle.spec.proofs.Bools.{both}
 use Rattle.node.specs.Contents.{last_key}
-use Rattle.scratch.specs.Ahead.{is_first_below, is_first_at, before_layer, from_layer, node_ahead, part_ahead}
-use Rattle.scratch.proofs.Ascending.{Rises, Begins, Begins-cons}
-use Rattle.scratch.proofs.Aheads.{before-none, from-none, first-from, part-none, part-some_at, first-suc}
-use Rattle.scratch.proofs.Writing.{Written, Written-begun, Written-more, Written-whole, IsWhole, entry_ahead}
+use Rattle.scratch.specs.Ahead.{is_first_below, is_first_at, from_layer, node_ahead, part_ahead}
+use Rattle.scratch.proofs.Ascending.{Rises, Begins-cons}
+use Rattle.scratch.proofs.Aheads.{part-some_at, first-suc}
+use Rattle.scratch.proofs.Writing.{Written, Written-begun, Written-more, Written-whole, IsWhole}
 
 -- ---- what is left
 
@@ -24,9 +24,16 @@ module _ (layer : List ℕ → ℕ) where
   length-from_step n e es true h = omega arith
   length-from_step n e es false h = omega arith
 
-  pub length-from : (n : ℕ) (es : List Pair) → length (from_layer layer n es) ≤ length es
+  length-from : (n : ℕ) (es : List Pair) → length (from_layer layer n es) ≤ length es
   length-from n [] = omega arith
   length-from n (e ∷ es) = length-from_step n e es (nat_lt (layer e.0) n) (length-from n es)
+
+  -- an entry and the part after it are fewer
+  pub fewer : (n : ℕ) (now after rest : List Pair) (e : Pair) → now ≡ e ∷ rest → after ≡ from_layer layer n rest → length after < length now
+  fewer n now after rest e is left =
+      let long : length now ≡ length (e ∷ rest) = ap length is in
+      let short : length after ≡ length (from_layer layer n rest) = ap length left in
+      omega (arith, length-from n rest)
 
   Rises-from_step : (before : List ℕ) (n : ℕ) (e : Pair) (es : List Pair) (b : Bool) → Rises before (e ∷ es) → (Rises before es → Rises before (from_layer layer n es)) → Rises before (cond b (from_layer layer n es) (e ∷ es))
   Rises-from_step before n e es true r further =

@@ -1,5 +1,5 @@
 -- The whole tree, from the rows of its pairs.
-use Rattle.std.proofs.Common.{◌≡◌, ℕ, suc, ◌+◌, ◌<◌, ◌≤◌, ◌^◌, true, List, [], ◌∷◌, ◌++◌, map, length, slice_index_or, Option, Some, None, MatchOption, refl, sym, ap, subst, ◌∙◌, arith}
+use Rattle.std.proofs.Common.{◌≡◌, ℕ, suc, ◌<◌, ◌^◌, true, List, [], ◌∷◌, ◌++◌, map, length, slice_index_or, Option, Some, None, MatchOption, sym, ap, subst, ◌∙◌, arith}
 use Rattle.std.specs.Prelude.{Contains}
 use Rattle.std.specs.List.{AllByRecursion, list_all}
 use Rattle.std.specs.FinMap.{is_sorted}
@@ -10,7 +10,7 @@ use Rattle.std.proofs.lemmas.List.Elements.{Contains-get_or}
 use Rattle.spec.specs.Cid.{cid, is_own_cid, IsDigest}
 use Rattle.spec.specs.Layer.{layer}
 use Rattle.spec.specs.Tree.{Pair, Sub, tree, top, top_layer}
-use Rattle.spec.specs.NodeFormat.{is_key, is_ascending, part_link, shape_cid, shape}
+use Rattle.spec.specs.NodeFormat.{is_key, is_ascending, part_link}
 use Rattle.spec.specs.Blocks.{ArePairs, IsClashFree, Clash, blocks_in, no_record, nodes, root, firsts}
 use Rattle.spec.proofs.Bools.{both}
 use Rattle.spec.proofs.TreeLaws.{lower-from_top}

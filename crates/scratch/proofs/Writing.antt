@@ -1,8 +1,8 @@
 -- A node that is written entry by entry, each with the part after it.
 use Rattle.std.proofs.Common.{◌≡◌, ℕ, suc, false, List, [], ◌∷◌, ◌++◌, Option, refl, sym, ap, ◌∙◌, append_assoc}
 use Rattle.std.proofs.lemmas.List.{append-nil}
-use Rattle.spec.specs.Tree.{Pair, Node, Last, More, Part, Nothing, Sub}
-use Rattle.spec.specs.NodeFormat.{Entry, Shape, first_link, entries_of, part_link, shape, node_bytes, node_spelling}
+use Rattle.spec.specs.Tree.{Pair, Node, Last, More, Part, Nothing}
+use Rattle.spec.specs.NodeFormat.{Entry, first_link, entries_of, part_link, shape, node_bytes, node_spelling}
 use Rattle.spec.specs.Blocks.{blocks_in, blocks_under, no_record}
 use Rattle.spec.proofs.Once.{blocks_under-More}
 use Rattle.scratch.specs.Ahead.{is_first_below, is_first_at, from_layer, node_ahead, part_ahead}

@@ -1,5 +1,5 @@
 -- Pairs beside the layers of their keys.
-use Rattle.std.specs.Prelude.{◌≡◌, ℕ, List, map}
+use Rattle.std.specs.Prelude.{◌≡◌, ℕ, List}
 use Rattle.std.specs.List.{AllByRecursion}
 use Rattle.spec.specs.Tree.{Pair}
 use Rattle.cid.specs.CidRef.{bytes_of}

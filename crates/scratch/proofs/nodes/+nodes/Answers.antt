@@ -1,15 +1,14 @@
-use Rattle.std.proofs.Common.{◌≡◌, ◌+◌, ◌-◌, ◌<◌, ◌≤◌, ◌∷◌, ◌++◌, suc, [], length, map, Some, refl, sym, ap, ◌∙◌, arith}
+use Rattle.std.proofs.Common.{◌-◌, ◌∷◌, ◌++◌, [], map, refl, sym, ap, ◌∙◌, arith}
 use Rattle.std.specs.Arc.{arc_value}
 use Rattle.std.proofs.lemmas.List.{append-nil}
 use Rattle.spec.specs.Layer.{layer as layer_of}
-use Rattle.spec.specs.Tree.{Sub}
 use Rattle.spec.specs.NodeFormat.{part_link}
 use Rattle.spec.specs.Blocks.{blocks_in, no_record}
 use Rattle.node.specs.Contents.{Contents, last_key}
 use Rattle.scratch.specs.Rows.{pair_of}
 use Rattle.scratch.proofs.Ascending.{Rises-ascending}
 use Rattle.scratch.proofs.Aheads.{part-none}
-use Rattle.scratch.proofs.Steps.{length-from, Rises-from, Rises-same, Rises-next, insert-added, place-within, begin, more, whole, part-is, link-is, blocks-are}
+use Rattle.scratch.proofs.Steps.{fewer, Rises-from, Rises-same, Rises-next, place-within, begin, more, whole, part-is, link-is, blocks-are}
 use Rattle.scratch.proofs.nodes.+nodes.Goals as goal
 
 pub push_node-loop-row-init : goal.push_node-loop-row-init
@@ -27,10 +26,7 @@ push_node-loop-row-init g t c =
 
 pub push_node-loop-row-smaller : goal.push_node-loop-row-smaller
 push_node-loop-row-smaller g t c =
-    let left = length-from (layer_of g.D.Digest.digest_of g.row.B) c.args.layer c.next_of.new.self in
-    let is = ap length c.in_ok-tree.ensures.unread in
-    let was = ap length c.in-Some.ensures.some in
-    omega (arith, left, is, was)
+    fewer (layer_of g.D.Digest.digest_of g.row.B) c.args.layer c.loop-row.unread c.push_part-in-Some.new.unread c.next_of.new.self (pair_of c.in-Some.row) c.in-Some.ensures.some c.in_ok-tree.ensures.unread
 
 pub push_node-loop-row-preserved : goal.push_node-loop-row-preserved
 push_node-loop-row-preserved g t c =

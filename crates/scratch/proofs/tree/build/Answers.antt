@@ -1,9 +1,8 @@
-use Rattle.std.proofs.Common.{◌≡◌, map, sym, ap, ◌∙◌, arith}
+use Rattle.std.proofs.Common.{map, ap, ◌∙◌, arith}
 use Rattle.std.specs.Arc.{arc_value}
 use Rattle.spec.specs.Blocks.{nodes, root, IsClashFree}
 use Rattle.scratch.specs.Pairs.{pairs_of}
 use Rattle.scratch.specs.Rows.{pair_of}
-use Rattle.scratch.specs.Faults.{AreClashing}
 use Rattle.scratch.proofs.Whole.{once, free-nodes, clash-among, at_none}
 use Rattle.scratch.proofs.tree.build.Goals as goal
 
