@@ -36,7 +36,12 @@ pub fn run_words<R: Read, W: Write, X: Write>(
     input: &mut R,
     out: &mut W,
     err: &mut X,
-) -> u8 {
+) -> u8
+    ensures status { result ≤ 4 }
+
+    // A faulty line, a clash and a wrong command line write nothing.
+    ensures nothing { (result ≡ 1) ⊎ (result ≡ 2) → Keeps (W.contents out.old) (W.contents out.new) }
+{
     run_words_with::<Sha256, R, W, X>(alloc, words, input, out, err)
 }
 
