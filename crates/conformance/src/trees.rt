@@ -5,6 +5,7 @@ ghost use Rattle.std.specs.Prelude.{◌≤◌};
 use cid::digests::Toy;
 use cid::{Block, Cid};
 use scratch::{build, is_ascending};
+use std::alloc::Global;
 use std::sync::Arc;
 use std::test::Fail;
 
@@ -16,19 +17,14 @@ fn record() -> Result<Cid, Fail> {
 }
 
 /// How many nodes a tree has, and how many bytes in all, with `B` zero bits a layer.
-fn sizes<const B: u8>(rt: &HostRuntime, keys: &[&[u8]]) -> Result<(usize, usize), Fail>
+fn sizes<const B: u8>(alloc: Global, pairs: &[(&[u8], Cid)]) -> Result<(usize, usize), Fail>
     requires least { 1 ≤ B }
     requires most { B ≤ 8 }
 {
-    let value = record()?;
-    let mut pairs = Vec::new(rt.alloc());
-    for key in keys {
-        pairs.push((*key, value))?;
-    }
-    if !is_ascending(&pairs) {
+    if !is_ascending(pairs) {
         return Err(Fail::from("the keys don't ascend"));
     }
-    let built = build::<Toy, B, _, _>(rt.alloc(), &pairs)?;
+    let built = build::<Toy, B, _, _>(alloc, pairs)?;
     Ok((built.blocks.len(), bytes_of(&built.blocks)))
 }
 
@@ -43,10 +39,11 @@ fn bytes_of(blocks: &[Arc<Block<Toy>>]) -> usize {
 
 #[test]
 fn tree_of_five_nodes(rt: HostRuntime) -> Result<(), Fail> {
-    let keys: [&[u8]; 3] = [b"a/p0", b"a/q2", b"a/r0"];
-    assert_eq!(rt; sizes::<1>(&rt, &keys)?, (9, 554));
-    assert_eq!(rt; sizes::<2>(&rt, &keys)?, (5, 366));
-    assert_eq!(rt; sizes::<4>(&rt, &keys)?, (3, 272));
-    assert_eq!(rt; sizes::<8>(&rt, &keys)?, (1, 174));
+    let value = record()?;
+    let pairs: [(&[u8], Cid); 3] = [(b"a/p0", value), (b"a/q2", value), (b"a/r0", value)];
+    assert_eq!(rt; sizes::<1>(rt.alloc(), &pairs)?, (9, 554));
+    assert_eq!(rt; sizes::<2>(rt.alloc(), &pairs)?, (5, 366));
+    assert_eq!(rt; sizes::<4>(rt.alloc(), &pairs)?, (3, 272));
+    assert_eq!(rt; sizes::<8>(rt.alloc(), &pairs)?, (1, 174));
     Ok(())
 }
