@@ -24,8 +24,8 @@ impl Asked {
     }
 
     /// Once more than before.
-    pub(crate) fn once_more(_before: &Asked) -> Asked
-        ensures { result.times ≡ suc _before.now.times }
+    pub(crate) fn once_more(&self) -> Asked
+        ensures { result.times ≡ suc self.now.times }
     {
         Asked {}
     }

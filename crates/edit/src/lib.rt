@@ -2,9 +2,11 @@
 #![tactic(auto)]
 
 mod asked;
+mod block_map;
 mod lookup;
 mod source;
 mod step;
 
+pub use block_map::BlockMap;
 pub use lookup::get;
 pub use source::Source;
