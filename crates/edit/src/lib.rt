@@ -3,10 +3,15 @@
 
 mod asked;
 mod block_map;
+mod descent;
+mod frame;
 mod lookup;
+mod rows;
 mod source;
 mod step;
+mod walks;
 
 pub use block_map::BlockMap;
 pub use lookup::get;
 pub use source::Source;
+pub use walks::walk;
