@@ -2,30 +2,68 @@
 #![tactic(auto)]
 
 mod blocks;
+mod command;
+mod records;
+mod trees;
 
+use crate::command::Command;
+use std::time::Instant;
 use std::{env, io};
 
 const USAGE: &str = "\
 usage: bench store COUNT ROUNDS
-  makes COUNT blocks, at most 1,048,576, and then ROUNDS times acquires and releases all of them in one shard";
+         makes COUNT blocks, at most 1,048,576, and then ROUNDS times acquires and releases all of them in one shard
+       bench read ROUNDS
+         reads each of three records of about 300 bytes ROUNDS times
+       bench build ROUNDS < LISTING
+         reads lines of key and CID, sorts them, and builds their tree ROUNDS times";
 
 fn main(rt: HostRuntime) -> io::Result<()> {
-    let mut words = env::args(&rt)?.skip(1);
-    let (Some(command), Some(count), Some(rounds)) = (words.next(), words.next(), words.next())
-    else {
-        println!(rt; "{USAGE}")?;
-        return Ok(());
-    };
-    let (Ok(count), Ok(rounds)) = (count.parse::<u32>(), rounds.parse::<u32>()) else {
-        println!(rt; "{USAGE}")?;
-        return Ok(());
-    };
-    if command.as_str() != "store" || count > 1_048_576 {
-        println!(rt; "{USAGE}")?;
-        return Ok(());
+    let words: Vec<String> = env::args(&rt)?.skip(1).collect(rt.alloc())?;
+    match Command::from_words(&words) {
+        Some(Command::Store { count, rounds }) => store(&rt, count, rounds),
+        Some(Command::Read { rounds }) => read(&rt, rounds),
+        Some(Command::Build { rounds }) => build(&rt, rounds),
+        None => println!(rt; "{USAGE}"),
     }
+}
+
+fn store(rt: &HostRuntime, count: u32, rounds: u32) -> io::Result<()> {
     match blocks::measure(rt.alloc(), count, rounds) {
         Ok(held) => println!(rt; "{held} acquired and released"),
         Err(fault) => println!(rt; "refused: {fault}"),
     }
+}
+
+/// Prints for each record how many millions of bytes a second were read.
+fn read(rt: &HostRuntime, rounds: u32) -> io::Result<()> {
+    for record in &records::RECORDS {
+        let bytes = hex::decode(rt.alloc(), record.text).unwrap_or(Vec::new(rt.alloc()));
+        let start = Instant::now(rt)?;
+        let found = records::measure(rt.alloc(), &bytes, rounds);
+        let micros = start.elapsed(rt)?.as_micros();
+        let read = u128::from(found) * bytes.len() as u128;
+        let (name, length) = (record.name, bytes.len());
+        println!(rt; "{name}: {length} bytes, {} MB/s", read / micros.max(1))?;
+    }
+    Ok(())
+}
+
+/// Prints how long the tree of the listing on standard input took, at the least.
+fn build(rt: &HostRuntime, rounds: u32) -> io::Result<()> {
+    let listing = io::read_to_string(rt.alloc(), rt.stdin())?;
+    let pairs = trees::pairs(rt.alloc(), listing.as_bytes())?;
+    let mut least = u128::MAX;
+    let mut nodes = 0;
+    for _ in 0..rounds {
+        let start = Instant::now(rt)?;
+        if let Some(blocks) = trees::nodes(rt.alloc(), &pairs) {
+            least = least.min(start.elapsed(rt)?.as_micros());
+            nodes = blocks.len();
+        }
+    }
+    println!(rt;
+        "{} keys, {nodes} nodes, {least} microseconds at the least",
+        pairs.len()
+    )
 }

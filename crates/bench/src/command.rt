@@ -1,0 +1,31 @@
+//! The command that the words name.
+
+/// What is measured.
+#[derive(Drop)]
+pub enum Command {
+    Store { count: u32, rounds: u32 },
+    Read { rounds: u32 },
+    Build { rounds: u32 },
+}
+
+impl Command {
+    /// The command of these words, the program's name left out, or `None` where they are none.
+    pub fn from_words(words: &[String]) -> Option<Command> {
+        let name = words.first()?;
+        match (name.as_str(), words.len()) {
+            ("store", 3) => {
+                let count = number(words, 1)?;
+                let rounds = number(words, 2)?;
+                (count <= 1_048_576).then_some(Command::Store { count, rounds })
+            }
+            ("read", 2) => number(words, 1).map(|rounds| Command::Read { rounds }),
+            ("build", 2) => number(words, 1).map(|rounds| Command::Build { rounds }),
+            _ => None,
+        }
+    }
+}
+
+/// The number that a word is.
+fn number(words: &[String], place: usize) -> Option<u32> {
+    words.get(place)?.parse().ok()
+}

@@ -1,0 +1,34 @@
+//! Trees from listings of keys and CIDs.
+
+use bstr::ByteSlice;
+use cid::{Block, Cid, Sha256};
+use scratch::{build, is_ascending};
+use std::alloc::{AllocError, Global};
+use std::sync::Arc;
+
+/// The pairs of the lines `KEY CID` of a listing, in the order of their keys; other lines are left out.
+pub fn pairs(alloc: Global, listing: &[u8]) -> Result<Vec<(Vec<u8>, Cid)>, AllocError> {
+    let mut pairs = Vec::new(alloc);
+    for line in listing.lines() {
+        if let Some((key, cid)) = pair(line) {
+            pairs.push((Vec::from_slice(alloc, key)?, cid))?;
+        }
+    }
+    pairs.sort_by(|a, b| a.0.cmp(&b.0))?;
+    pairs.dedup_by(|later, kept| later.0 == kept.0);
+    Ok(pairs)
+}
+
+fn pair(line: &[u8]) -> Option<(&[u8], Cid)> {
+    let space = line.rfind_byte(b' ')?;
+    let cid = Cid::from_text(&line[space + 1..]).ok()?;
+    Some((&line[..space], cid))
+}
+
+/// The nodes of the tree of these pairs, or `None` where there is none or no memory for it.
+pub fn nodes(alloc: Global, pairs: &[(Vec<u8>, Cid)]) -> Option<Vec<Arc<Block<Sha256>>>> {
+    if !is_ascending(pairs) {
+        return None;
+    }
+    Some(build::<Sha256, 2, _, _>(alloc, pairs).ok()?.blocks)
+}
