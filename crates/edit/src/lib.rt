@@ -9,6 +9,8 @@ mod lookup;
 mod rows;
 mod source;
 mod step;
+#[cfg(test)]
+mod tests;
 mod walks;
 
 pub use block_map::BlockMap;
