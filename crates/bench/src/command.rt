@@ -6,6 +6,7 @@ pub enum Command {
     Store { count: u32, rounds: u32 },
     Read { rounds: u32 },
     Build { rounds: u32 },
+    Get { count: u32, rounds: u32 },
 }
 
 impl Command {
@@ -20,6 +21,11 @@ impl Command {
             }
             ("read", 2) => number(words, 1).map(|rounds| Command::Read { rounds }),
             ("build", 2) => number(words, 1).map(|rounds| Command::Build { rounds }),
+            ("get", 3) => {
+                let count = number(words, 1)?;
+                let rounds = number(words, 2)?;
+                (count <= 1_048_576).then_some(Command::Get { count, rounds })
+            }
             _ => None,
         }
     }

@@ -3,10 +3,13 @@
 
 mod blocks;
 mod command;
+mod lookups;
+mod made;
 mod records;
 mod trees;
 
 use crate::command::Command;
+use edit::BlockMap;
 use std::time::Instant;
 use std::{env, io};
 
@@ -16,7 +19,9 @@ usage: bench store COUNT ROUNDS
        bench read ROUNDS
          reads each of three records of about 300 bytes ROUNDS times
        bench build ROUNDS < LISTING
-         reads lines of key and CID, sorts them, and builds their tree ROUNDS times";
+         reads lines of key and CID, sorts them, and builds their tree ROUNDS times
+       bench get COUNT ROUNDS
+         makes a tree of COUNT keys, at most 1,048,576, and looks 10,000 of them up ROUNDS times";
 
 fn main(rt: HostRuntime) -> io::Result<()> {
     let words: Vec<String> = env::args(&rt)?.skip(1).collect(rt.alloc())?;
@@ -24,6 +29,7 @@ fn main(rt: HostRuntime) -> io::Result<()> {
         Some(Command::Store { count, rounds }) => store(&rt, count, rounds),
         Some(Command::Read { rounds }) => read(&rt, rounds),
         Some(Command::Build { rounds }) => build(&rt, rounds),
+        Some(Command::Get { count, rounds }) => get(&rt, count, rounds),
         None => println!(rt; "{USAGE}"),
     }
 }
@@ -65,5 +71,35 @@ fn build(rt: &HostRuntime, rounds: u32) -> io::Result<()> {
     println!(rt;
         "{} keys, {nodes} nodes, {least} microseconds at the least",
         pairs.len()
+    )
+}
+
+/// How many keys are looked up in a round.
+const ASKED: usize = 10_000;
+
+/// Prints how long a look-up took, at the least, over all nodes of a tree in memory.
+fn get(rt: &HostRuntime, count: u32, rounds: u32) -> io::Result<()> {
+    let pairs = made::pairs(rt.alloc(), count)?;
+    let places = made::some(rt.alloc(), &pairs, ASKED)?;
+    let blocks = trees::nodes(rt.alloc(), &pairs).unwrap_or(Vec::new(rt.alloc()));
+    let Some(top) = blocks.first() else {
+        return println!(rt; "refused");
+    };
+    let root = top.cid();
+    let mut map = BlockMap::new(rt.alloc(), &blocks)?;
+    let mut least = u128::MAX;
+    let mut found = 0;
+    for _ in 0..rounds {
+        let start = Instant::now(rt)?;
+        found = lookups::found(&mut map, root, &pairs, &places);
+        least = least.min(start.elapsed(rt)?.as_nanos());
+    }
+    println!(rt;
+        "{} keys, {} nodes, {found} of {} found, {} reads in all, {} ns a look-up at the least",
+        pairs.len(),
+        blocks.len(),
+        places.len(),
+        map.reads(),
+        least / (places.len() as u128).max(1)
     )
 }

@@ -2,6 +2,10 @@
 #![tactic(auto)]
 
 #[cfg(test)]
+mod lookups;
+#[cfg(test)]
 mod published;
 #[cfg(test)]
 mod trees;
+#[cfg(test)]
+mod walks;

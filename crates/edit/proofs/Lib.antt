@@ -1,1 +1,4 @@
+pub mod Mapping
+pub mod NodeReading
 pub mod Stepping
+pub mod Walking

@@ -1,0 +1,32 @@
+//! A count that proofs alone read.
+
+ghost use Rattle.std.specs.Prelude.{◌≡◌, ℕ, suc};
+ghost use Rattle.std.specs.Borrow.{ftrue};
+
+use std::marker::Model;
+
+/// How often something was asked, as a number of any size. It takes no memory, and its methods do nothing when they run.
+#[derive(Drop)]
+pub(crate) struct Asked {
+    pub(crate) ghost times: { ℕ },
+}
+
+impl Model for Asked {
+    ghost also_owns = { λ _. ftrue };
+}
+
+impl Asked {
+    /// Not once so far.
+    pub(crate) fn never() -> Asked
+        ensures { result.times ≡ 0 }
+    {
+        Asked {}
+    }
+
+    /// Once more than before.
+    pub(crate) fn once_more(&self) -> Asked
+        ensures { result.times ≡ suc self.now.times }
+    {
+        Asked {}
+    }
+}
