@@ -137,6 +137,36 @@ fn a_key_has_spaces(rt: HostRuntime) -> Result<(), Fail> {
 }
 
 #[test]
+fn a_lone_carriage_return_is_part_of_a_key(rt: HostRuntime) -> Result<(), Fail> {
+    let root = "bafyreihmtk6sjdmr7p2y3wrwx6c54vipkm6ngkq3o7bkcvvmxapklwclva";
+    for end in ["", "\n", "\r\n"] {
+        let input = joined(rt.alloc(), &["a\rb ", "E", "\rc/d ", "E", end])?;
+        let ended = run::<Sha256>(rt.alloc(), &TREE, &input);
+        assert_eq!(rt; first_line(&ended.out), root.as_bytes(), "after {end:?}");
+        assert_eq!(rt; ended.status, 0, "after {end:?}");
+    }
+    Ok(())
+}
+
+#[test]
+fn nodes_and_bytes_of_each_number_of_bits(rt: HostRuntime) -> Result<(), Fail> {
+    let input = joined(rt.alloc(), &["a/r0 ", "E", "\na/p0 ", "E", "\na/q2 ", "E"])?;
+    for (bits, nodes, bytes) in [("1", 9, 554), ("2", 5, 366), ("4", 3, 272), ("8", 1, 174)] {
+        let ended = run::<Toy>(rt.alloc(), &["msthost", "tree", "--bits", bits], &input);
+        let mut lines = 0;
+        for byte in &ended.out {
+            if *byte == b'\n' {
+                lines += 1;
+            }
+        }
+        assert_eq!(rt; lines, nodes + 1, "at {bits}");
+        // the root with its line's end, and for each node a CID, a space, two digits a byte and a line's end
+        assert_eq!(rt; ended.out.len(), 60 + nodes * 61 + 2 * bytes, "at {bits}");
+    }
+    Ok(())
+}
+
+#[test]
 fn nodes_without_keys(rt: HostRuntime) -> Result<(), Fail> {
     let input = joined(rt.alloc(), &["a/p0 ", "E", "\na/q2 ", "E", "\na/r0 ", "E"])?;
     let ended = run::<Toy>(rt.alloc(), &TREE, &input);
