@@ -151,17 +151,17 @@ fn a_lone_carriage_return_is_part_of_a_key(rt: HostRuntime) -> Result<(), Fail> 
 #[test]
 fn nodes_and_bytes_of_each_number_of_bits(rt: HostRuntime) -> Result<(), Fail> {
     let input = joined(rt.alloc(), &["a/r0 ", "E", "\na/p0 ", "E", "\na/q2 ", "E"])?;
-    for (bits, nodes, bytes) in [("1", 9, 554), ("2", 5, 366), ("4", 3, 272), ("8", 1, 174)] {
+    // 9 nodes of 554 bytes, 5 of 366, 3 of 272, one of 174: a line of 60 for the root, and of 61 and two digits a byte
+    for (bits, lines, length) in [
+        ("1", 10, 1717),
+        ("2", 6, 1097),
+        ("4", 4, 787),
+        ("8", 2, 469),
+    ] {
         let ended = run::<Toy>(rt.alloc(), &["msthost", "tree", "--bits", bits], &input);
-        let mut lines = 0;
-        for byte in &ended.out {
-            if *byte == b'\n' {
-                lines += 1;
-            }
-        }
-        assert_eq!(rt; lines, nodes + 1, "at {bits}");
-        // the root with its line's end, and for each node a CID, a space, two digits a byte and a line's end
-        assert_eq!(rt; ended.out.len(), 60 + nodes * 61 + 2 * bytes, "at {bits}");
+        let ends = ended.out.iter().filter(|byte| **byte == b'\n').count();
+        assert_eq!(rt; ends, lines, "at {bits}");
+        assert_eq!(rt; ended.out.len(), length, "at {bits}");
     }
     Ok(())
 }
