@@ -1,6 +1,6 @@
 -- The definitions' faults that a program's fault is, but for want of memory and failed reads and writes, of which they
 -- know nothing.
-use Rattle.std.specs.Prelude.{Bool, true, false, Option, Some, None}
+use Rattle.std.specs.Prelude.{ℕ, Bool, true, false, Option, Some, None}
 use Rattle.msthost.specs.TreeText as text
 use Rattle.msthost.specs.declared.tree_fault.LineFault.{LineFault}
 use Rattle.msthost.specs.declared.tree_fault.LineFault.TheVariants as lines
@@ -37,3 +37,11 @@ is_of_input errors.Clash = true
 is_of_input errors.NoMemory = true
 is_of_input errors.ReadFailed = false
 is_of_input errors.WriteFailed = false
+
+-- the status that the program ends with
+abbrev pub status_of : TreeFault → ℕ
+status_of (errors.Line n f) = 1
+status_of errors.Clash = 1
+status_of errors.NoMemory = 3
+status_of errors.ReadFailed = 4
+status_of errors.WriteFailed = 4

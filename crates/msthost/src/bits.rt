@@ -34,6 +34,8 @@ impl Bits {
 }
 
 impl Default for Bits {
+    ghost is_default = { λ bits. bits.number ≡ 2 };
+
     /// The AT Protocol's two bits, a fan-out of 4 (AT Protocol repository v3, MST structure).
     fn default() -> Bits {
         Bits { number: 2 }

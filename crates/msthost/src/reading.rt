@@ -1,6 +1,7 @@
 //! Reading all of an input.
-ghost use Rattle.std.specs.Prelude.{◌≡◌, ◌⊎◌, IfOk, IfErr, IfSome, OnOk};
+ghost use Rattle.std.specs.Prelude.{◌≡◌, ◌≢◌, ◌⊎◌, IfOk, IfErr, IfSome, OnOk};
 ghost use Rattle.std.specs.Io.KnownBytes.{IsAtEnd};
+ghost use Rattle.std.specs.IoError.{error_kind};
 
 use crate::tree_fault::TreeFault;
 use std::alloc::Allocator;
@@ -24,7 +25,9 @@ pub(crate) fn read_all<A: Allocator, R: Read>(
 
 /// What a failed read is called: the bytes may have had no room.
 fn read_fault(error: &Error) -> TreeFault
-    ensures { (result ≡ TreeFault.NoMemory) ⊎ (result ≡ TreeFault.ReadFailed) }
+    ensures memory { error_kind error.now ≡ ErrorKind.OutOfMemory → result ≡ TreeFault.NoMemory }
+    ensures other { (error_kind error.now ≢ ErrorKind.OutOfMemory) → result ≡ TreeFault.ReadFailed }
+    ensures either { (result ≡ TreeFault.NoMemory) ⊎ (result ≡ TreeFault.ReadFailed) }
 {
     if error.kind() == ErrorKind::OutOfMemory {
         TreeFault::NoMemory

@@ -1,7 +1,7 @@
 //! The commands, over any reader and writers.
 ghost use Rattle.std.specs.Prelude.{◌≡◌, ◌≤◌, ◌⊎◌, false, IfErr, IfSome, OnOk};
 ghost use Rattle.std.specs.Io.KnownBytes.{Keeps};
-ghost use Rattle.msthost.specs.Fault.{may_have_written};
+ghost use Rattle.msthost.specs.Fault.{may_have_written, status_of};
 ghost use Rattle.msthost.specs.TreeText.{tree_text};
 ghost use Rattle.msthost.specs.Written.{AppendsText};
 
@@ -85,7 +85,7 @@ fn tree<D: Digest, R: Read, W: Write>(
 
 /// The status of a fault, and a line on standard error. Where that can't be written there is nobody to tell.
 pub(crate) fn failed<X: Write>(fault: TreeFault, err: &mut X) -> u8
-    ensures status { result ≤ 4 }
+    ensures status { result ≡ status_of fault }
     ensures nothing { (result ≡ 1) ⊎ (result ≡ 2) → may_have_written fault ≡ false }
 {
     let _ = writeln!(err, "msthost: {fault}");

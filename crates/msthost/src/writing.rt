@@ -1,5 +1,6 @@
 //! Writing whole runs of bytes, with a word on what was written where it fails.
-ghost use Rattle.std.specs.Prelude.{◌≡◌, ◌≤◌, ◌*◌, true, length, IfErr};
+ghost use Rattle.std.specs.Prelude.{◌≡◌, ◌≢◌, ◌≤◌, ◌*◌, true, length, IfErr};
+ghost use Rattle.std.specs.IoError.{error_kind};
 ghost use Rattle.hex.specs.Hex.{encode_lower};
 ghost use Rattle.msthost.specs.Written.{Writes};
 ghost use Rattle.msthost.specs.Fault.{may_have_written};
@@ -32,7 +33,9 @@ pub(crate) fn write_whole<W: Write>(out: &mut W, bytes: &[u8]) -> Result<(), Tre
 
 /// What a failed write is called: want of memory, as of a `Vec` that is written to, has its own name.
 fn write_fault(error: &Error) -> TreeFault
-    ensures { may_have_written result ≡ true }
+    ensures memory { error_kind error.now ≡ ErrorKind.OutOfMemory → result ≡ TreeFault.NoMemory }
+    ensures other { (error_kind error.now ≢ ErrorKind.OutOfMemory) → result ≡ TreeFault.WriteFailed }
+    ensures fault { may_have_written result ≡ true }
 {
     if error.kind() == ErrorKind::OutOfMemory {
         TreeFault::NoMemory

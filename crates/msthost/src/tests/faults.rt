@@ -45,22 +45,23 @@ fn refused(rt: &impl Abort, alloc: Global, parts: &[&str], shown: &str) -> Resul
 
 #[test]
 fn faulty_cids(rt: HostRuntime) -> Result<(), Fail> {
-    // too short; another multibase; no letter of base32; bits after the last byte; another codec
+    // nothing; too short; too long; another multibase; no letter of base32; a capital; bits after the last byte; another
+    // version; another codec; another hash; another length of it
     for text in [
+        "",
         "bafyreie5737gdxlw5i64vzichcalba3z2v5n6icifvx5xytvske7mr3hp",
+        "bafyreie5737gdxlw5i64vzichcalba3z2v5n6icifvx5xytvske7mr3hpmm",
         "zafyreie5737gdxlw5i64vzichcalba3z2v5n6icifvx5xytvske7mr3hpm",
         "b1fyreie5737gdxlw5i64vzichcalba3z2v5n6icifvx5xytvske7mr3hpm",
+        "bAfyreie5737gdxlw5i64vzichcalba3z2v5n6icifvx5xytvske7mr3hpm",
         "bafyreie5737gdxlw5i64vzichcalba3z2v5n6icifvx5xytvske7mr3hpn",
+        "bajyreie5737gdxlw5i64vzichcalba3z2v5n6icifvx5xytvske7mr3hpm",
         "bafkreie5737gdxlw5i64vzichcalba3z2v5n6icifvx5xytvske7mr3hpm",
+        "bafyrgie5737gdxlw5i64vzichcalba3z2v5n6icifvx5xytvske7mr3hpm",
+        "bafyreim5737gdxlw5i64vzichcalba3z2v5n6icifvx5xytvske7mr3hpm",
     ] {
-        let input = joined(rt.alloc(), &["a/b ", text, "\n"])?;
-        let ended = run::<Sha256>(rt.alloc(), &TREE, &input);
-        assert_eq!(rt;
-            ended.err.as_slice(),
-            b"msthost: line 1: BadCid\n".as_slice(),
-            "at {text}"
-        );
-        assert_eq!(rt; ended.status, 1, "at {text}");
+        refused(&rt, rt.alloc(), &["a/b ", text, "\n"], "line 1: BadCid")?;
+        refused(&rt, rt.alloc(), &["\r\n", "a/b ", text], "line 2: BadCid")?;
     }
     Ok(())
 }

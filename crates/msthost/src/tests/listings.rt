@@ -137,6 +137,36 @@ fn a_key_has_spaces(rt: HostRuntime) -> Result<(), Fail> {
 }
 
 #[test]
+fn a_lone_carriage_return_is_part_of_a_key(rt: HostRuntime) -> Result<(), Fail> {
+    let root = "bafyreihmtk6sjdmr7p2y3wrwx6c54vipkm6ngkq3o7bkcvvmxapklwclva";
+    for end in ["", "\n", "\r\n"] {
+        let input = joined(rt.alloc(), &["a\rb ", "E", "\rc/d ", "E", end])?;
+        let ended = run::<Sha256>(rt.alloc(), &TREE, &input);
+        assert_eq!(rt; first_line(&ended.out), root.as_bytes(), "after {end:?}");
+        assert_eq!(rt; ended.status, 0, "after {end:?}");
+    }
+    Ok(())
+}
+
+#[test]
+fn nodes_and_bytes_of_each_number_of_bits(rt: HostRuntime) -> Result<(), Fail> {
+    let input = joined(rt.alloc(), &["a/r0 ", "E", "\na/p0 ", "E", "\na/q2 ", "E"])?;
+    // 9 nodes of 554 bytes, 5 of 366, 3 of 272, one of 174: a line of 60 for the root, and of 61 and two digits a byte
+    for (bits, lines, length) in [
+        ("1", 10, 1717),
+        ("2", 6, 1097),
+        ("4", 4, 787),
+        ("8", 2, 469),
+    ] {
+        let ended = run::<Toy>(rt.alloc(), &["msthost", "tree", "--bits", bits], &input);
+        let ends = ended.out.iter().filter(|byte| **byte == b'\n').count();
+        assert_eq!(rt; ends, lines, "at {bits}");
+        assert_eq!(rt; ended.out.len(), length, "at {bits}");
+    }
+    Ok(())
+}
+
+#[test]
 fn nodes_without_keys(rt: HostRuntime) -> Result<(), Fail> {
     let input = joined(rt.alloc(), &["a/p0 ", "E", "\na/q2 ", "E", "\na/r0 ", "E"])?;
     let ended = run::<Toy>(rt.alloc(), &TREE, &input);

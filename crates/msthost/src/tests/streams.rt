@@ -55,6 +55,46 @@ fn a_read_that_fails(rt: HostRuntime) -> Result<(), Fail> {
     Ok(())
 }
 
+/// Gives these bytes, one at a time, and is interrupted before each.
+#[derive(Drop)]
+struct InterruptedReader<'a> {
+    left: &'a [u8],
+    is_interrupted: bool,
+}
+
+impl Read for InterruptedReader<'_> {
+    ghost remaining = { λ r. Some r.left.now };
+
+    fn read(&mut self, buf: &mut [u8]) -> io::Result<usize> {
+        self.is_interrupted = !self.is_interrupted;
+        if self.is_interrupted {
+            return Err(io::Error::from(ErrorKind::Interrupted));
+        }
+        let most = buf.len().min(1);
+        self.left.read(&mut buf[..most])
+    }
+}
+
+#[test]
+fn a_read_that_is_interrupted(rt: HostRuntime) -> Result<(), Fail> {
+    let lines = joined(rt.alloc(), &["a/b ", "E", "\nb/c ", "E", "\n"])?;
+    let mut whole = lines.as_slice();
+    let mut wanted = Vec::new(rt.alloc());
+    let mut err = Vec::new(rt.alloc());
+    let status = run_words(rt.alloc(), &TREE, &mut whole, &mut wanted, &mut err);
+    assert_eq!(rt; status, 0);
+    let mut input = InterruptedReader {
+        left: &lines,
+        is_interrupted: false,
+    };
+    let mut out = Vec::new(rt.alloc());
+    let status = run_words(rt.alloc(), &TREE, &mut input, &mut out, &mut err);
+    assert_eq!(rt; status, 0);
+    assert_eq!(rt; out.as_slice(), wanted.as_slice());
+    assert!(rt; err.is_empty());
+    Ok(())
+}
+
 /// Takes a few bytes at a time and is interrupted now and then, has room for so many bytes, and may fail at its end.
 #[derive(Drop)]
 struct NarrowWriter {
