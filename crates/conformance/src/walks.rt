@@ -37,21 +37,17 @@ fn listed(alloc: Global, pairs: &Pairs, from: &[u8], limit: usize) -> Result<Pai
 }
 
 const STARTS: [&[u8]; 9] = [
-    b"",
-    b"a",
-    b"a/000",
-    b"a/0000",
-    b"a/123",
-    b"a/199",
-    b"a/25",
-    b"a/299",
-    b"b",
+    b"", b"a", b"a/000", b"a/0000", b"a/123", b"a/199", b"a/25", b"a/299", b"b",
 ];
 
 const LIMITS: [usize; 7] = [0, 1, 2, 7, 64, 300, usize::MAX];
 
 /// Whether each walk of the table gives the sorted list, and reads each node once at most.
-fn agrees<D: Digest, const B: u8>(alloc: Global, pairs: &Pairs, built: &Built<D>) -> Result<bool, Fail>
+fn agrees<D: Digest, const B: u8>(
+    alloc: Global,
+    pairs: &Pairs,
+    built: &Built<D>,
+) -> Result<bool, Fail>
     requires { 1 ≤ B }
 {
     for from in STARTS {
