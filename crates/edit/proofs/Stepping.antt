@@ -1,5 +1,5 @@
 -- One step of a look-up, and a look-up over a whole tree.
-use Rattle.std.proofs.Common.{◌≡◌, ℕ, zero, suc, ◌+◌, ◌-◌, ◌<◌, ◌≤◌, List, [], ◌∷◌, length, Option, option_map, Result, Ok, refl, sym, ap, ◌∙◌, arith}
+use Rattle.std.proofs.Common.{◌≡◌, ℕ, zero, suc, ◌+◌, ◌-◌, ◌<◌, ◌≤◌, List, [], ◌∷◌, length, Option, option_map, Ok, refl, sym, ap, ◌∙◌, arith}
 use Rattle.std.specs.Prelude.{option_and_then}
 use Rattle.std.specs.declared.option.Option.TheVariants.{Some, None}
 use Rattle.spec.specs.NodeFormat.{Shape, Entry, first_link, entries_of, read_node, part_link, shape_bytes}
@@ -13,7 +13,7 @@ use Rattle.paths.specs.Laws.Lookups.{found_at, IsLookup}
 use Rattle.paths.proofs.SourceLaws.{IsShown, link-gap}
 use Rattle.paths.proofs.WalkPairs.{each-first_part, each-start}
 use Rattle.paths.proofs.OverSource.{holds-top}
-use Rattle.paths.specs.Sources.{shape_from, shape_of_reading, shape_of_bytes, shown_by, row_value, gap, or_deeper, value_at, value_from, path_from}
+use Rattle.paths.specs.Sources.{shape_from, shape_of_reading, shape_of_bytes, shown_by, row_value, gap, or_deeper, value_from, path_from}
 use Rattle.paths.specs.TreeEdit.{first, layer_of}
 use Rattle.paths.specs.Walk.{start}
 use Rattle.paths.proofs.LookupTheorems.{step-is_place, top-has_layer, lookup-over_source}

@@ -1,5 +1,5 @@
 -- One step of a walk, and a walk over a whole tree.
-use Rattle.std.proofs.Common.{Vec, ◌≡◌, ℕ, zero, suc, ◌+◌, ◌*◌, ◌-◌, ◌<◌, ◌≤◌, List, [], ◌∷◌, ◌++◌, length, map, Option, option_map, refl, sym, ap, ◌∙◌, subst, append-nil, append_assoc, arith}
+use Rattle.std.proofs.Common.{Vec, ◌≡◌, ℕ, zero, suc, ◌+◌, ◌*◌, ◌-◌, ◌<◌, ◌≤◌, List, [], ◌∷◌, ◌++◌, length, Option, option_map, refl, sym, ap, ◌∙◌, append-nil, append_assoc, arith}
 use Rattle.std.specs.Prelude.{IfSome, IfNone}
 use Rattle.std.specs.declared.option.Option.TheVariants.{Some, None}
 use Rattle.std.specs.declared.cmp.Ordering.{Ordering}
@@ -12,19 +12,19 @@ use Rattle.cid.specs.CidRef.{bytes_of}
 use Rattle.cid.specs.declared.cid_ref.CidRef.{CidRef}
 use Rattle.spec.specs.Cid.{IsDigest}
 use Rattle.spec.specs.Layer.{layer}
-use Rattle.spec.specs.Tree.{Pair, Node, Part, Last, More, Nothing, Sub, EachNode, EachUnder, top}
-use Rattle.spec.specs.NodeFormat.{Shape, LastLink, MoreLinks, first_link, part_link, shape, shape_cid}
-use Rattle.spec.specs.Blocks.{listed, root as root_of}
+use Rattle.spec.specs.Tree.{Pair, Node, Part, Last, More, Sub, EachNode, EachUnder, top}
+use Rattle.spec.specs.NodeFormat.{Shape, LastLink, MoreLinks, first_link, part_link, shape}
+use Rattle.spec.specs.Blocks.{listed}
 use Rattle.paths.specs.Order.{order}
 use Rattle.paths.specs.TreeEdit.{first}
-use Rattle.paths.specs.Walk.{Frame, start, later, go_down}
-use Rattle.paths.specs.Sources.{shown_by, gap, gap_at, path_from, start_shape, start_at, later_shape, down_from, down_at, next_from, walk_from, next_path, walk_path}
+use Rattle.paths.specs.Walk.{Frame, later, go_down}
+use Rattle.paths.specs.Sources.{shown_by, gap, gap_at, path_from, start_shape, start_at, later_shape, down_from, next_from, walk_from, next_path, walk_path}
 use Rattle.paths.specs.Laws.Walks.{IsWalk}
 use Rattle.paths.proofs.Orders.{order-is}
 use Rattle.paths.proofs.OverSource.{holds-top}
 use Rattle.paths.proofs.ShapeBridges as bridge
 use Rattle.paths.proofs.SourceLaws.{IsShown, AreShown, frames, down-holds, down-shown}
-use Rattle.paths.proofs.WalkPairs.{each-first_part, each-start}
+use Rattle.paths.proofs.WalkPairs.{each-first_part}
 use Rattle.paths.proofs.WalkTheorems.{walk-over_source}
 use Rattle.paths.proofs.LookupTheorems.{top-has_layer}
 use Rattle.edit.specs.Rows.{Reading}
@@ -32,7 +32,7 @@ use Rattle.edit.specs.Steps.{layers, asked_from}
 use Rattle.edit.specs.Trees.{HasTree}
 use Rattle.edit.specs.Walks.{nodes_walked, pairs_given, frame_of, stacked, shape_at, asked_after, asked_walk}
 use Rattle.edit.specs.declared.frame.Frame as frame
-use Rattle.edit.proofs.Stepping.{asked-holds, asked-most}
+use Rattle.edit.proofs.Stepping.{asked-holds}
 
 -- ---- the stack
 

@@ -12,6 +12,17 @@ use std::sync::Arc;
 
 /// Blocks in memory by their CIDs, with a count of the reads. Of blocks with one CID it gives the first.
 ///
+/// What it gives is lent by the blocks, and may outlive the map but not them:
+///
+/// ```compile_fail
+/// let view = {
+///     let blocks = build::<Sha256, 2, _, _>(alloc, &pairs)?.blocks;
+///     let mut map = BlockMap::new(alloc, &blocks)?;
+///     NodeView::parse(map.get(&root)?.bytes())?
+/// };
+/// // error[E0597]: `blocks` does not live long enough
+/// ```
+///
 /// A contract sees it as the blocks, and how often one was asked for.
 #[derive(Drop)]
 pub struct BlockMap<'a, D: Digest, A: Allocator = Global> {

@@ -1,4 +1,4 @@
-use Rattle.std.proofs.Common.{ℕ, ◌≡◌, ◌+◌, ◌≤◌, ap, ◌∙◌, arith}
+use Rattle.std.proofs.Common.{◌+◌, ap, ◌∙◌}
 use Rattle.edit.proofs.Stepping.{tree-value, tree-reads, tree-layers, asked-most, most-below, reads-below}
 use Rattle.edit.proofs.lookup.get.Goals as goal
 

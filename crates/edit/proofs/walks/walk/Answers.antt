@@ -1,6 +1,5 @@
-use Rattle.std.proofs.Common.{◌≡◌, ◌+◌, length, ap, ◌∙◌}
+use Rattle.std.proofs.Common.{◌+◌, ap, ◌∙◌}
 use Rattle.std.proofs.lemmas.Result.{IfOk-weaker}
-use Rattle.edit.specs.Walks.{pairs_given, asked_walk}
 use Rattle.edit.proofs.Walking.{tree-pairs, tree-asked}
 use Rattle.edit.proofs.walks.walk.Goals as goal
 
