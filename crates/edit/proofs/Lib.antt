@@ -1,1 +1,4 @@
+pub mod Among
+pub mod NodeLaws
+pub mod PathReading
 pub mod Stepping
