@@ -2,5 +2,8 @@ pub mod Changes
 pub mod Faults
 pub mod Nodes
 pub mod ShapeCode
+pub mod Ahead
+pub mod Drafts
+pub mod Rows
 pub mod Steps
 pub mod Trees
