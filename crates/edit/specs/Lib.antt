@@ -5,5 +5,6 @@ pub mod ShapeCode
 pub mod Ahead
 pub mod Drafts
 pub mod Rows
+pub mod Settled
 pub mod Steps
 pub mod Trees

@@ -2,6 +2,7 @@
 #![tactic(auto)]
 
 mod ahead;
+mod build;
 mod changed;
 mod changes;
 mod copying;
