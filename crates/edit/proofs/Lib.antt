@@ -1,2 +1,5 @@
+pub mod Among
+pub mod NodeLaws
+pub mod PathReading
 pub mod Stepping
 pub mod Building

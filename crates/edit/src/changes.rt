@@ -3,10 +3,11 @@
 ghost use Rattle.std.specs.Prelude.{◌≡◌, ◌∷◌, [], ◌++◌, map, IfOk, IfErr, OnOk};
 ghost use Rattle.std.specs.Arc.{arc_value};
 ghost use Rattle.spec.specs.NodeFormat.{shape_bytes};
-ghost use Rattle.spec.specs.Blocks.{IsClashFree};
-ghost use Rattle.paths.specs.Changes.{add_of, drop_of};
+ghost use Rattle.spec.specs.Cid.{cid as cid_of};
+ghost use Rattle.spec.specs.Blocks.{Clash, IsClashFree};
+ghost use Rattle.paths.specs.Changes.{add_of, drop_of, has_cid as has_cid_of};
 ghost use Rattle.edit.specs.Changes.{IsAmong};
-ghost use Rattle.edit.specs.Faults.{IsRefusal};
+ghost use Rattle.edit.specs.Faults.{IsClashIn, IsRefusal};
 
 use crate::fault::EditFault;
 use crate::nodes::Node;
@@ -22,7 +23,8 @@ pub(crate) fn added<D: Digest, A: Allocator>(
     made: Vec<Arc<Block<D, A>, A>, A>,
 ) -> Result<Vec<Arc<Block<D, A>, A>, A>, EditFault<D, A>>
     ensures add { IfOk result (λ add. map arc_value add.items ≡ add_of D.digest_of (map shape_bytes read.now) (map arc_value made.items)) }
-    ensures clash_free { OnOk result (IsClashFree D.digest_of (map shape_bytes read.now) → IsClashFree D.digest_of (map arc_value made.items ++ map shape_bytes read.now)) }
+    ensures clash_free { IsClashFree D.digest_of (map shape_bytes read.now) → IfOk result (λ add. IsClashFree D.digest_of (map arc_value add.items ++ map shape_bytes read.now)) }
+    ensures made { IsClashFree D.digest_of (map shape_bytes read.now) → OnOk result (IsClashFree D.digest_of (map arc_value made.items ++ map shape_bytes read.now)) }
     ensures fault { IfErr result (IsRefusal D.digest_of (map arc_value made.items ++ map shape_bytes read.now) ⊥) }
 {
     let mut add = Vec::new(alloc);
@@ -45,7 +47,7 @@ pub(crate) fn dropped<D: Digest, A: Allocator>(
     let mut dropped = Vec::new(alloc);
     for node in gone {
         let cid = node.block().cid();
-        if !made.iter().any(|block| block.cid() == cid) {
+        if !has_cid(made, cid) {
             dropped.push(cid)?;
         }
     }
@@ -98,7 +100,25 @@ fn is_same<D: Digest, A: Allocator>(
     if one.bytes() == other.bytes() {
         return Ok(true);
     }
+    Err(EditFault::Clash(shown(one, other)?))
+}
+
+/// Two blocks that clash.
+fn shown<D: Digest, A: Allocator>(
+    one: &Arc<Block<D, A>, A>,
+    other: &Arc<Block<D, A>, A>,
+) -> Result<Collided<D, A>, AllocError>
+    requires { Clash D.digest_of (arc_value one.now) (arc_value other.now) }
+    ensures { IfOk result (IsClashIn D.digest_of (arc_value one.now ∷ arc_value other.now ∷ [])) }
+{
     let one = Arc::try_clone(one)?;
     let other = Arc::try_clone(other)?;
-    Err(EditFault::Clash(Collided::new(one, other)))
+    Ok(Collided::new(one, other))
+}
+
+/// Whether one of the blocks has this CID.
+fn has_cid<D: Digest, A: Allocator>(blocks: &[Arc<Block<D, A>, A>], cid: Cid) -> bool
+    ensures { result ≡ has_cid_of cid (map (cid_of D.digest_of) (map arc_value blocks.now)) }
+{
+    blocks.iter().any(|block| cid == block.cid())
 }

@@ -4,12 +4,13 @@ ghost use Rattle.std.specs.Prelude.{◌≡◌, ℕ, suc, List, option_map, IfSom
 ghost use Rattle.std.specs.Arc.{arc_value};
 ghost use Rattle.paths.specs.Sources.{shape_from, shape_of_bytes, row_value, gap};
 ghost use Rattle.spec.specs.NodeFormat.{first_link};
+ghost use Rattle.cid.specs.CidRef.{bytes_of};
 ghost use Rattle.paths.specs.ShapeEdit.{last_link};
 ghost use Rattle.edit.specs.Nodes.{IsNodeOf, has_pairs};
 ghost use Rattle.edit.specs.Steps.{place_found, shows};
 
 use crate::source::Source;
-use cid::{Block, Cid, Digest};
+use cid::{Block, Cid, CidRef, Digest};
 use node::{NodeView, Place};
 use std::alloc::Allocator;
 use std::marker::Model;
@@ -67,25 +68,28 @@ impl<'a, D: Digest, A: Allocator> Node<'a, D, A> {
     pub(crate) fn has_pairs(&self) -> bool
         ensures { result ≡ has_pairs self.now }
     {
-        self.view.entries().next().is_some()
+        match self.view.entries().next() {
+            Some(_) => true,
+            None => false,
+        }
     }
 
     /// The link before all its pairs.
     pub(crate) fn first_link(&self) -> Option<Cid>
         ensures { result ≡ first_link self.now }
     {
-        Some(self.view.left()?.to_cid())
+        to_cid(self.view.left())
     }
 
     /// The link after all its pairs.
     pub(crate) fn last_link(&self) -> Option<Cid>
         ensures { result ≡ last_link self.now }
     {
-        let mut link = self.view.left();
+        let mut last = self.view.left();
         for entry in self.view.entries() {
-            link = entry.tree;
+            last = entry.tree;
         }
-        Some(link?.to_cid())
+        to_cid(last)
     }
 
     /// Where a key stands.
@@ -96,12 +100,25 @@ impl<'a, D: Digest, A: Allocator> Node<'a, D, A> {
     }
 }
 
+/// A link with bytes of its own.
+fn to_cid(link: Option<CidRef<'_>>) -> Option<Cid>
+    ensures { result ≡ option_map bytes_of link.entry }
+{
+    match link {
+        None => None,
+        Some(link) => Some(link.to_cid()),
+    }
+}
+
 /// What a block of these bytes shows, or `None` where they are no node.
 fn view_of(bytes: &[u8]) -> Option<NodeView<'_>>
     ensures shape { option_map (λ view. shape_from view.left view.entries) result ≡ shape_of_bytes bytes.now }
     ensures lawful { IfSome result (λ view. IsNodeOf bytes.now (shape_from view.left view.entries)) }
 {
-    NodeView::parse(bytes).ok()
+    match NodeView::parse(bytes) {
+        Ok(view) => Some(view),
+        Err(_) => None,
+    }
 }
 
 /// The node with a CID, or `None` where the source lacks the block or it is no node. The source is asked once.

@@ -53,7 +53,10 @@ pub(crate) fn read_path<'a, D: Digest + 'a, A: Allocator + 'a, S: Source<'a, Arc
                 return Ok(Path { nodes, previous });
             }
             Place::Below(next) => cid = next.to_cid(),
-            Place::Gap => break,
+            Place::Gap => {
+                let previous = None;
+                return Ok(Path { nodes, previous });
+            }
         }
     }
     let previous = None;
@@ -82,7 +85,7 @@ pub(crate) fn read_met<'a, D: Digest + 'a, A: Allocator + 'a, S: Source<'a, Arc<
     while left > 0 {
         left -= 1;
         let (Some(one), Some(other)) = (before, after) else {
-            break;
+            return Ok(met);
         };
         let Some(one) = node_at(src, &one) else {
             return Err(DraftFault::NotNode);
@@ -117,7 +120,7 @@ pub(crate) fn read_pruned<
     while left > 0 {
         left -= 1;
         let Some(cid) = below else {
-            break;
+            return Ok(nodes);
         };
         let Some(node) = node_at(src, &cid) else {
             return Err(DraftFault::NotNode);
@@ -126,7 +129,7 @@ pub(crate) fn read_pruned<
         below = node.first_link();
         nodes.push(node)?;
         if is_last {
-            break;
+            return Ok(nodes);
         }
     }
     Ok(nodes)

@@ -1,0 +1,35 @@
+-- What a node shows, from its left link and its entries.
+use Rattle.std.proofs.Common.{◌≡◌, ℕ, List, [], ◌∷◌, Option, Bool, true, false, Result, Ok, refl, ap}
+use Rattle.spec.specs.Reading.{IsBytes}
+use Rattle.spec.specs.NodeFormat.{Entry, read_node}
+use Rattle.node.specs.Rows.{Row, rows}
+use Rattle.paths.specs.ShapeEdit.{last_link}
+use Rattle.paths.specs.Sources.{shape_from, shape_of_reading}
+use Rattle.paths.proofs.OverSource.{shape_bytes-shape_of_bytes}
+use Rattle.edit.specs.Nodes.{IsNodeOf, has_pairs}
+
+pub node-of : (bytes : List ℕ) (left : Option (List ℕ)) (es : List Entry) → IsBytes bytes → read_node bytes ≡ Ok (left, es)
+    → IsNodeOf bytes (shape_from left es)
+node-of bytes left es are h =
+    let p = shape_bytes-shape_of_bytes bytes (shape_from left es) are (ap shape_of_reading h) in
+    record { spelled = p.0; lawful = p.1 }
+
+pub pairs-some : (before : List ℕ) (left : Option (List ℕ)) (es : List Entry) (r : Row) (rs : List Row)
+    → rows before es ≡ r ∷ rs → true ≡ has_pairs (shape_from left es)
+pairs-some before left [] r rs h = cc
+pairs-some before left (e ∷ es) r rs h = refl
+
+pub pairs-none : (before : List ℕ) (left : Option (List ℕ)) (es : List Entry) → rows before es ≡ []
+    → false ≡ has_pairs (shape_from left es)
+pairs-none before left [] h = refl
+pairs-none before left (e ∷ es) h = cc
+
+-- the link after some rows, from the one before them
+abbrev pub last_of : Option (List ℕ) → List Row → Option (List ℕ)
+last_of link [] = link
+last_of link (r ∷ rs) = last_of r.tree rs
+
+pub last-rows : (before : List ℕ) (left : Option (List ℕ)) (es : List Entry)
+    → last_of left (rows before es) ≡ last_link (shape_from left es)
+last-rows before left [] = refl
+last-rows before left (e ∷ es) = last-rows e.key e.tree es
