@@ -1,5 +1,5 @@
 -- Nodes that are written anew, and when one can't be written.
-use Rattle.std.specs.Prelude.{◌≡◌, ¬◌, ⊤, ℕ, Bool, true, false, List, [], ◌∷◌, Option, Some, None}
+use Rattle.std.specs.Prelude.{◌≡◌, ⊤, ℕ, Bool, true, false, List, [], ◌∷◌, Option, Some, None}
 use Rattle.std.specs.List.{AllByRecursion}
 use Rattle.spec.specs.Tree.{Pair}
 use Rattle.spec.specs.NodeFormat.{Entry, Shape, LastLink, MoreLinks, first_link, entries_of, are_keys_after, are_links, is_own_cid_or_none, is_node}

@@ -1,4 +1,5 @@
 pub mod Ahead
+pub mod Codes
 pub mod Drafts
 pub mod Rows
 pub mod Steps

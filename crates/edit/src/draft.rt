@@ -27,8 +27,11 @@ impl<A: Allocator> Model for Draft<A> {
     ghost use Rattle.std.specs.Prelude.{◌≡◌};
     ghost use Rattle.spec.specs.NodeFormat.{Shape, shape_bytes};
     ghost use Rattle.edit.specs.Drafts.{Lawful, is_hollow, shape_in};
+    ghost use Rattle.edit.specs.Codes.{shape_code};
 
     ghost Value = { Shape };
+
+    ghost coded = { shape_code };
 
     ghost view = { λ d. shape_in d.bytes.items };
 

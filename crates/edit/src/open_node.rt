@@ -44,7 +44,7 @@ impl<A: Allocator + Clone> OpenNode<A> {
         key: &[u8],
         value: CidRef<'_>,
     ) -> Result<OpenNode<A>, AllocError>
-        ensures { IfOk result (λ open. open ≡ (link, (key.now, bytes_of value.entry)) ∷ []) }
+        ensures { IfOk result (λ node. node ≡ (link, (key.now, bytes_of value.entry)) ∷ []) }
     {
         let closed = NodeWriter::begin(alloc.clone()?, link)?;
         let mut bytes = Vec::new(alloc);
