@@ -78,7 +78,9 @@ impl<'a, A: Allocator> NodeRows<'a, A> {
     }
 
     /// The room for keys, for another node.
-    pub(crate) fn into_key(self) -> KeyBuf<A> {
+    pub(crate) fn into_key(self) -> KeyBuf<A>
+        ensures { result ≡ self.entry.before }
+    {
         self.key
     }
 }
