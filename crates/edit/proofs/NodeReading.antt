@@ -3,7 +3,7 @@ use Rattle.std.proofs.Common.{◌≡◌, ℕ, Bool, true, ◌&&◌, List, [], �
 use Rattle.std.specs.Cmp.Lexicographic.{slice_cmp}
 use Rattle.std.specs.Ordering.{nat_cmp, is_lt}
 use Rattle.spec.specs.Tree.{Pair}
-use Rattle.spec.specs.NodeFormat.{Entry, Shape, MoreLinks, first_link, is_key, are_keys_after}
+use Rattle.spec.specs.NodeFormat.{Entry, Shape, MoreLinks, first_link, entries_of, is_key, are_keys_after}
 use Rattle.spec.proofs.Bools.{both}
 use Rattle.node.specs.Rows.{Row, row_after, rows}
 use Rattle.node.proofs.Stepping.{prefix-fits, key-fits, key-stepped}
@@ -31,3 +31,14 @@ AreKeys-rows before (e ∷ es) h =
       key-fits before e key.1,
       subst (λ (k : List ℕ). AreKeys k (rows e.key es)) (sym (key-stepped before e)) (AreKeys-rows e.key es parts.1),
     )
+
+pub first_link-from : (left : Option (List ℕ)) (es : List Entry) → first_link (shape_from left es) ≡ left
+first_link-from left [] = refl
+first_link-from left (e ∷ es) = refl
+
+pub entries_of-from : (left : Option (List ℕ)) (es : List Entry) → entries_of (shape_from left es) ≡ es
+entries_of-from left [] = refl
+entries_of-from left (e ∷ es) =
+    ap (λ l. record { key = e.key; value = e.value; tree = l } ∷ entries_of (shape_from e.tree es))
+    (first_link-from e.tree es)
+    ∙ ap (λ fs. e ∷ fs) (entries_of-from e.tree es)

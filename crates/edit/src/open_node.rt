@@ -27,13 +27,11 @@ pub(crate) struct OpenNode<A: Allocator> {
 impl<A: Allocator> Model for OpenNode<A> {
     ghost use Rattle.std.specs.Prelude.{ℕ, List, Option};
     ghost use Rattle.spec.specs.Tree.{Pair};
-    ghost use Rattle.edit.specs.Drafts.{turned, AreWritten};
+    ghost use Rattle.edit.specs.Drafts.{turned};
 
     ghost Value = { List (Option (List ℕ) × Pair) };
 
     ghost view = { λ n. turned n.closed.left n.closed.entries (n.key.items, n.value) };
-
-    ghost invariant = { λ n. AreWritten n.closed.left n.closed.entries };
 }
 
 impl<A: Allocator + Clone> OpenNode<A> {
