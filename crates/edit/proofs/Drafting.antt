@@ -1,5 +1,6 @@
 -- Nodes written pair by pair.
 use Rattle.std.proofs.Common.{◌≡◌, ℕ, suc, ◌+◌, ◌^◌, ◌<◌, ◌≤◌, Bool, true, false, ◌&&◌, ltb, List, [], ◌∷◌, ◌++◌, length, Option, None, Some, Result, Ok, refl, sym, ap, subst, ◌∙◌, append_assoc, arith, length-append}
+use Rattle.std.specs.Prelude.{not, is_some}
 use Rattle.std.specs.Cmp.Lexicographic.{slice_cmp}
 use Rattle.std.specs.Ordering.{nat_cmp, is_lt}
 use Rattle.std.proofs.lemmas.Bool.{lt-ltb}
@@ -148,3 +149,18 @@ closed left es p last k v bytes now xs c =
     let is : shape_from left (es ++ entry_with p last ∷ []) ≡ onto xs (LastLink last) =
     sym (onto-turned left es p last) ∙ ap (λ (zs : Links). onto zs (LastLink last)) c.was in
     (w.draft false (never-hollow left es (entry_with p last)), w.view ∙ is)
+
+hollow-last : (last : Option (List ℕ)) (b : Bool) → is_some last ≡ not b → b ≡ is_hollow (LastLink last)
+hollow-last None true h = refl
+hollow-last None false h = absurd cc
+hollow-last (Some c) true h = absurd cc
+hollow-last (Some c) false h = refl
+
+-- the bytes of a node without pairs
+pub bare : (last : Option (List ℕ)) (now : Contents) (bytes : List ℕ) (b : Bool) → now ≡ record { left = last; entries = [] }
+    → is_node now.left now.entries ≡ true → bytes ≡ node_spelling now.left now.entries → is_some last ≡ not b
+    → IsDraft bytes b × (shape_in bytes ≡ LastLink last)
+bare last now bytes b is node spelled none =
+    let w = written last [] bytes (sym (ap (λ (x : Contents). is_node x.left x.entries) is) ∙ node)
+    (spelled ∙ ap (λ (x : Contents). node_spelling x.left x.entries) is) in
+    (w.draft b (hollow-last last b none), w.view)
