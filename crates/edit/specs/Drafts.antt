@@ -1,8 +1,8 @@
 -- Nodes that are written anew, and when one can't be written.
-use Rattle.std.specs.Prelude.{◌≡◌, ¬◌, ⊤, ℕ, Bool, true, false, List, [], ◌∷◌, Option, Some, None}
+use Rattle.std.specs.Prelude.{◌≡◌, ⊤, ℕ, Bool, true, false, List, [], ◌∷◌, Option, Some, None}
 use Rattle.std.specs.List.{AllByRecursion}
 use Rattle.spec.specs.Tree.{Pair}
-use Rattle.spec.specs.NodeFormat.{Entry, Shape, LastLink, MoreLinks, first_link, entries_of, are_keys_after, are_links, is_own_cid_or_none, is_node}
+use Rattle.spec.specs.NodeFormat.{Entry, Shape, LastLink, MoreLinks, first_link, entries_of, is_node, shape_bytes}
 use Rattle.paths.specs.Sources.{shape_of_bytes}
 use Rattle.edit.specs.declared.draft_fault.DraftFault.{DraftFault}
 use Rattle.edit.specs.declared.draft_fault.DraftFault.TheVariants.{NotNode, NoMemory}
@@ -44,6 +44,12 @@ or_empty (Some s) = s
 unfoldable pub shape_in : List ℕ → Shape
 shape_in bytes = or_empty (shape_of_bytes bytes)
 
+-- these are the bytes of a node of the grammar, and whether it is hollow
+pub record IsDraft (bytes : List ℕ) (hollow : Bool) : Type 0 where
+  pub lawful : Lawful (shape_in bytes)
+  pub spelled : bytes ≡ shape_bytes (shape_in bytes)
+  pub empty : hollow ≡ is_hollow (shape_in bytes)
+
 -- ---- nodes by their entries
 
 -- links and pairs in turn, from the first link, the entries with the links after them, and a last pair
@@ -55,7 +61,3 @@ turned left (e ∷ es) p = (left, (e.key, e.value)) ∷ turned e.tree es p
 abbrev pub so_far : {A : Type 0} → Option (List A) → List A
 so_far None = []
 so_far (Some xs) = xs
-
--- the entries of an open node are a node's, whatever comes after them
-abbrev pub AreWritten : Option (List ℕ) → List Entry → Type 0
-AreWritten left es = (are_keys_after [] es ≡ true) × (are_links es ≡ true) × (is_own_cid_or_none left ≡ true)

@@ -3,6 +3,7 @@ pub mod Faults
 pub mod Nodes
 pub mod ShapeCode
 pub mod Ahead
+pub mod Codes
 pub mod Drafts
 pub mod Rows
 pub mod Settled

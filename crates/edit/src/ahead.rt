@@ -27,8 +27,11 @@ impl<'a, A: Allocator> Model for Ahead<'a, A> {
     ghost use Rattle.spec.specs.NodeFormat.{Shape};
     ghost use Rattle.cid.specs.CidRef.{bytes_of};
     ghost use Rattle.edit.specs.Ahead.{ahead_of};
+    ghost use Rattle.edit.specs.Codes.{shape_code};
 
     ghost Value = { Shape };
+
+    ghost coded = { shape_code };
 
     ghost view = { λ a. ahead_of (option_map bytes_of a.link) (option_map bytes_of a.value) a.rows };
 }

@@ -48,8 +48,8 @@ pub(crate) fn copy_pairs<A: Allocator + Clone>(
     ahead: Ahead<'_, A>,
     writer: &mut DraftWriter<A>,
 ) -> Result<(), DraftFault>
-    ensures written { OnOk result (writer.new ≡ writer.old ++ all_pairs ahead) }
-    ensures fault { IfErr result (IsFaultOfAll (writer.old ++ all_pairs ahead)) }
+    ensures written { OnOk result (writer.new ≡ writer.old ++ all_pairs ahead.entry) }
+    ensures fault { IfErr result (IsFaultOfAll (writer.old ++ all_pairs ahead.entry)) }
 {
     let mut ahead = ahead;
     while let Some((next, value)) = ahead.pair() {
@@ -65,8 +65,8 @@ pub(crate) fn copy_from<A: Allocator + Clone>(
     first: Option<Cid>,
     writer: DraftWriter<A>,
 ) -> Result<Draft<A>, DraftFault>
-    ensures ok { IfOk result (λ draft. draft ≡ onto writer (with_first_link first ahead)) }
-    ensures fault { IfErr result (IsFaultOf (onto writer (with_first_link first ahead))) }
+    ensures ok { IfOk result (λ draft. draft ≡ onto writer (with_first_link first ahead.entry)) }
+    ensures fault { IfErr result (IsFaultOf (onto writer (with_first_link first ahead.entry))) }
 {
     let mut ahead = ahead;
     let mut writer = writer;

@@ -24,15 +24,17 @@ pub(crate) struct Draft<A: Allocator> {
 }
 
 impl<A: Allocator> Model for Draft<A> {
-    ghost use Rattle.std.specs.Prelude.{◌≡◌};
-    ghost use Rattle.spec.specs.NodeFormat.{Shape, shape_bytes};
-    ghost use Rattle.edit.specs.Drafts.{Lawful, is_hollow, shape_in};
+    ghost use Rattle.spec.specs.NodeFormat.{Shape};
+    ghost use Rattle.edit.specs.Drafts.{IsDraft, shape_in};
+    ghost use Rattle.edit.specs.Codes.{shape_code};
 
     ghost Value = { Shape };
 
+    ghost coded = { shape_code };
+
     ghost view = { λ d. shape_in d.bytes.items };
 
-    ghost invariant = { λ d. Lawful (shape_in d.bytes.items) × (d.bytes.items ≡ shape_bytes (shape_in d.bytes.items)) × (d.hollow ≡ is_hollow (shape_in d.bytes.items)) };
+    ghost invariant = { λ d. IsDraft d.bytes.items d.hollow };
 }
 
 impl<A: Allocator + Clone> Draft<A> {

@@ -20,7 +20,7 @@ use std::marker::Model;
 #[derive(Drop)]
 pub(crate) struct DraftWriter<A: Allocator> {
     alloc: A,
-    open: Option<OpenNode<A>>,
+    node: Option<OpenNode<A>>,
 }
 
 impl<A: Allocator> Model for DraftWriter<A> {
@@ -30,7 +30,7 @@ impl<A: Allocator> Model for DraftWriter<A> {
 
     ghost Value = { List (Option (List ℕ) × Pair) };
 
-    ghost view = { λ w. so_far w.open };
+    ghost view = { λ w. so_far w.node };
 }
 
 impl<A: Allocator + Clone> DraftWriter<A> {
@@ -38,7 +38,7 @@ impl<A: Allocator + Clone> DraftWriter<A> {
     pub(crate) fn new(alloc: A) -> DraftWriter<A>
         ensures { result ≡ [] }
     {
-        DraftWriter { alloc, open: None }
+        DraftWriter { alloc, node: None }
     }
 
     /// Adds a link and the pair after it. After a refusal nothing is promised of the writer.
@@ -51,11 +51,11 @@ impl<A: Allocator + Clone> DraftWriter<A> {
         ensures ok { OnOk result (self.new ≡ self.old ++ (link, (key.now, bytes_of value.entry)) ∷ []) }
         ensures fault { IfErr result (IsFaultOfAll (self.old ++ (link, (key.now, bytes_of value.entry)) ∷ [])) }
     {
-        match &mut self.open {
-            Some(open) => open.pair(link, key, value),
+        match &mut self.node {
+            Some(node) => node.pair(link, key, value),
             None => {
                 let alloc = self.alloc.clone()?;
-                self.open = Some(OpenNode::begin(alloc, link, key, value)?);
+                self.node = Some(OpenNode::begin(alloc, link, key, value)?);
                 Ok(())
             }
         }
@@ -66,10 +66,11 @@ impl<A: Allocator + Clone> DraftWriter<A> {
         ensures ok { IfOk result (λ draft. draft ≡ onto self (LastLink last)) }
         ensures fault { IfErr result (IsFaultOf (onto self (LastLink last))) }
     {
-        match self.open {
-            Some(open) => open.finish(last),
+        let DraftWriter { alloc, node } = self;
+        match node {
+            Some(node) => node.finish(last),
             None => Ok(Draft {
-                bytes: NodeWriter::begin(self.alloc, last)?.finish()?,
+                bytes: NodeWriter::begin(alloc, last)?.finish()?,
                 hollow: last.is_none(),
             }),
         }

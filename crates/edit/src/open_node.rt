@@ -27,13 +27,11 @@ pub(crate) struct OpenNode<A: Allocator> {
 impl<A: Allocator> Model for OpenNode<A> {
     ghost use Rattle.std.specs.Prelude.{ℕ, List, Option};
     ghost use Rattle.spec.specs.Tree.{Pair};
-    ghost use Rattle.edit.specs.Drafts.{turned, AreWritten};
+    ghost use Rattle.edit.specs.Drafts.{turned};
 
     ghost Value = { List (Option (List ℕ) × Pair) };
 
     ghost view = { λ n. turned n.closed.left n.closed.entries (n.key.items, n.value) };
-
-    ghost invariant = { λ n. AreWritten n.closed.left n.closed.entries };
 }
 
 impl<A: Allocator + Clone> OpenNode<A> {
@@ -44,7 +42,7 @@ impl<A: Allocator + Clone> OpenNode<A> {
         key: &[u8],
         value: CidRef<'_>,
     ) -> Result<OpenNode<A>, AllocError>
-        ensures { IfOk result (λ open. open ≡ (link, (key.now, bytes_of value.entry)) ∷ []) }
+        ensures { IfOk result (λ node. node ≡ (link, (key.now, bytes_of value.entry)) ∷ []) }
     {
         let closed = NodeWriter::begin(alloc.clone()?, link)?;
         let mut bytes = Vec::new(alloc);

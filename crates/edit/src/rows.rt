@@ -25,8 +25,11 @@ impl<'a, A: Allocator> Model for NodeRows<'a, A> {
     ghost use Rattle.std.specs.Prelude.{option_map};
     ghost use Rattle.cid.specs.CidRef.{bytes_of};
     ghost use Rattle.edit.specs.Rows.{Reading, AreKeys, shape_of_rows};
+    ghost use Rattle.edit.specs.Codes.{reading_code};
 
     ghost Value = { Reading };
+
+    ghost coded = { reading_code };
 
     ghost view = { λ r. record { before = r.key; rest = shape_of_rows r.key (option_map bytes_of r.link) r.entries } };
 
@@ -75,7 +78,9 @@ impl<'a, A: Allocator> NodeRows<'a, A> {
     }
 
     /// The room for keys, for another node.
-    pub(crate) fn into_key(self) -> KeyBuf<A> {
+    pub(crate) fn into_key(self) -> KeyBuf<A>
+        ensures { result ≡ self.entry.before }
+    {
         self.key
     }
 }
