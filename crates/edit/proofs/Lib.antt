@@ -1,4 +1,7 @@
 pub mod Among
 pub mod NodeLaws
 pub mod PathReading
+pub mod Drafting
+pub mod NodeReading
 pub mod Stepping
+pub mod Building

@@ -2,5 +2,10 @@ pub mod Changes
 pub mod Faults
 pub mod Nodes
 pub mod ShapeCode
+pub mod Ahead
+pub mod Codes
+pub mod Drafts
+pub mod Rows
+pub mod Settled
 pub mod Steps
 pub mod Trees

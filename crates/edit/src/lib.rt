@@ -1,13 +1,22 @@
 //! Look-ups, walks and edits over the blocks of one tree, wherever these are kept.
 #![tactic(auto)]
 
+mod ahead;
+mod build;
+mod changed;
 mod changes;
+mod copying;
+mod draft;
 mod draft_fault;
+mod draft_writer;
 mod edited;
+mod ends;
 mod fault;
 mod lookup;
 mod nodes;
+mod open_node;
 mod path;
+mod rows;
 mod source;
 mod step;
 

@@ -5,7 +5,7 @@ use Rattle.std.specs.Ordering.{nat_cmp, is_lt}
 use Rattle.std.proofs.lemmas.Bool.{lt-ltb}
 use Rattle.std.proofs.lemmas.List.{append-nil, take_rest}
 use Rattle.spec.specs.Head.{head}
-use Rattle.spec.specs.NodeFormat.{Entry, node_spelling, common, entry_bytes, entries_bytes, is_key, are_keys_after, are_links, is_own_cid_or_none, read_node}
+use Rattle.spec.specs.NodeFormat.{Entry, node_spelling, common, entry_bytes, entries_bytes, is_key, are_keys_after, are_links, is_own_cid_or_none, is_node, read_node}
 use Rattle.spec.specs.Cid.{is_own_cid}
 use Rattle.spec.proofs.NodeLaws.{read_node-node_spelling, both}
 use Rattle.node.specs.Bytes.{entry_text}
@@ -116,3 +116,11 @@ one_more n p bytes last text whole tree e left now written w is next value own s
       IsWritten-from_spells (n + 1) text whole _ s fits,
       ap (contents left) (entries_in-entries_bytes (n + 1) text whole _ s fits) ∙ ap (λ (x : Contents). contents x.left (x.entries ++ e ∷ [])) is,
     )
+
+-- what a writer holds is a node
+pub is_node-written : (n : ℕ) (bytes last : List ℕ) (left : Option (List ℕ)) (now : Contents) → IsWritten n bytes last
+    → contents left (entries_in n bytes) ≡ now → n < 2 ^ 64 → is_own_cid_or_none left ≡ true
+    → is_node now.left now.entries ≡ true
+is_node-written n bytes last left now w is small own =
+    let few = lt-ltb (length (entries_in n bytes)) (2 ^ 64) (omega (arith, w.counted)) in
+    sym (ap (λ (x : Contents). is_node x.left x.entries) is) ∙ and _ _ (and _ _ (and _ _ few w.ascending) w.linked) own

@@ -1,7 +1,7 @@
 //! Nodes written entry by entry.
 
 ghost use Rattle.std.specs.Prelude.{◌≡◌, [], ◌∷◌, ◌++◌, true, IfOk, OnOk, OnErr};
-ghost use Rattle.spec.specs.NodeFormat.{node_spelling};
+ghost use Rattle.spec.specs.NodeFormat.{is_node, node_spelling};
 ghost use Rattle.node.specs.Contents.{Contents, is_next_key};
 ghost use Rattle.cid.specs.CidRef.{bytes_of};
 
@@ -95,7 +95,8 @@ impl<A: Allocator + Clone> NodeWriter<A> {
 
     /// The bytes of the node.
     pub fn finish(self) -> Result<Vec<u8, A>, AllocError>
-        ensures { IfOk result (λ bytes. bytes.items ≡ node_spelling self.left self.entries) }
+        ensures bytes { IfOk result (λ bytes. bytes.items ≡ node_spelling self.left self.entries) }
+        ensures grammar { OnOk result (is_node self.left self.entries ≡ true) }
     {
         let alloc = self.entries.allocator().clone()?;
         let mut bytes = Vec::with_capacity(alloc, self.entries.len().saturating_add(ENDS))?;

@@ -8,15 +8,15 @@ use Rattle.std.proofs.lemmas.List.{length-map, map-append}
 use Rattle.spec.specs.Cid.{IsDigest}
 use Rattle.spec.specs.Layer.{layer}
 use Rattle.spec.specs.Tree.{Pair, Node, Sub, top}
-use Rattle.spec.specs.NodeFormat.{Shape, part_link, shape}
-use Rattle.spec.specs.Blocks.{ArePairs, IsClashFree, nodes, value_of}
+use Rattle.spec.specs.NodeFormat.{Shape, shape}
+use Rattle.spec.specs.Blocks.{ArePairs, IsClashFree, nodes, root, value_of}
 use Rattle.spec.specs.Writes.{without_key}
 use Rattle.paths.specs.Pairs.{delete_pair}
 use Rattle.paths.specs.TreeEdit.{layer_of}
 use Rattle.paths.specs.Trace.{delete_path_nodes, met_pairs, delete_left, prune_path, delete_path_gone, delete_path_made, delete_path_read}
 use Rattle.paths.specs.ShapeEdit.{layer_of_shape}
 use Rattle.paths.specs.PathEdit.{flat, all_but_last, delete_root, delete_written, delete_read, delete_gone_shapes}
-use Rattle.paths.specs.Sources.{shown_by, path_from, met_from, delete_met_from, delete_pruned_from}
+use Rattle.paths.specs.Sources.{HasNodes, shown_by, path_from, met_from, delete_met_from, delete_pruned_from}
 use Rattle.paths.specs.Laws.Edits.{IsEdit}
 use Rattle.paths.specs.Laws.Deletes.{DeleteIsTop, DeleteReadsPath, DeleteReads, DeleteIsShapes, DeleteCounts, DeleteOverSource}
 use Rattle.paths.proofs.Balance.{delete-balance, within-top}
@@ -172,8 +172,22 @@ delete-facts digest bits fits n key es are free l v h =
       omega arith,
     )
 
-pub delete-over_source : DeleteOverSource
-delete-over_source digest bits fits gives n key es are has l v h =
+-- what is read over a source that has the nodes
+abbrev DeleteSees : (List ℕ → List ℕ) → ℕ → (List ℕ → Option (List ℕ)) → ℕ → List ℕ → List Pair → Type 0
+DeleteSees digest bits gives n key es =
+    let lay = layer digest bits in
+    let m = top lay es in
+    let t = layer_of lay m in
+    let path = shape digest m ∷ map (shape digest) (delete_path_nodes lay t key m) in
+    (path_from (shown_by gives) n key (Some (root digest bits es)) ≡ path)
+    × (delete_met_from (shown_by gives) n key path ≡ map (bridge.two_shapes digest) (met_pairs lay t key m))
+
+delete-sees : (digest : List ℕ → List ℕ) (bits : ℕ) → IsDigest digest
+    → (gives : List ℕ → Option (List ℕ)) (n : ℕ) (key : List ℕ) (es : List Pair) → ArePairs es
+    → HasNodes digest bits gives es
+    → layer_of (layer digest bits) (top (layer digest bits) es) < n → (v : List ℕ) → value_of key es ≡ Some v
+    → DeleteSees digest bits gives n key es
+delete-sees digest bits fits gives n key es are has l v h =
     let lay = layer digest bits in
     let m = top lay es in
     let t = layer_of lay m in
@@ -182,19 +196,52 @@ delete-over_source digest bits fits gives n key es are has l v h =
     let holds = holds-top digest bits fits gives es are has in
     let row = row-of lay key es are.sorted v h in
     let below = delete_path_nodes lay t key m in
-    let pairs = met_pairs lay t key m in
-    let path = shape digest m ∷ map (shape digest) below in
-    let read_path : path_from shows n key (part_link digest (Sub m)) ≡ path =
-    path-holds digest shows n key (Sub m) holds
-    ∙ ap (map (shape digest)) (sym (delete-reads_path lay n key es are.sorted l v h)) in
     let long = length-map below (shape digest) in
     let deep = row.deep in
     let e : t ≡ length (map (shape digest) below) + lay key = omega arith in
     let links = sym (links-same (lay key) t key (shape digest m) (map (shape digest) below) e)
-    ∙ links-path digest lay key t m in
-    let met : delete_met_from shows n key path ≡ map (bridge.two_shapes digest) pairs =
-    ap (λ (x : Option (List ℕ) × Option (List ℕ)). met_from shows n x.0 x.1) links
-    ∙ met-row digest shows lay key t n m (omega arith) w holds.1 in
+    ∙ links-path digest lay key t m in (
+      path-holds digest shows n key (Sub m) holds
+          ∙ ap (map (shape digest)) (sym (delete-reads_path lay n key es are.sorted l v h)),
+      ap (λ (x : Option (List ℕ) × Option (List ℕ)). met_from shows n x.0 x.1) links
+          ∙ met-row digest shows lay key t n m (omega arith) w holds.1,
+    )
+
+-- the nodes that are made, from what is read
+pub delete-made_shapes : (digest : List ℕ → List ℕ) (bits : ℕ) → IsDigest digest
+    → (gives : List ℕ → Option (List ℕ)) (n : ℕ) (key : List ℕ) (es : List Pair) → ArePairs es
+    → HasNodes digest bits gives es
+    → layer_of (layer digest bits) (top (layer digest bits) es) < n → (v : List ℕ) → value_of key es ≡ Some v
+    → let path = path_from (shown_by gives) n key (Some (root digest bits es)) in
+    map (shape digest) (delete_path_made (layer digest bits) key (top (layer digest bits) es))
+    ≡ delete_written digest key path (delete_met_from (shown_by gives) n key path)
+delete-made_shapes digest bits fits gives n key es are has l v h =
+    let lay = layer digest bits in
+    let m = top lay es in
+    let t = layer_of lay m in
+    let path = shape digest m ∷ map (shape digest) (delete_path_nodes lay t key m) in
+    let met = map (bridge.two_shapes digest) (met_pairs lay t key m) in
+    let found = ap (map (shape digest)) (sym (delete-reads_path lay n key es are.sorted l v h)) in
+    let shapes = delete-is_shapes digest lay n key es are.sorted l v h in
+    let sees = delete-sees digest bits fits gives n key es are has l v h in
+    shapes.1
+    ∙ ap (λ x. delete_written digest key x met) found
+    ∙ ap (delete_written digest key path) (sym sees.1)
+    ∙ ap (λ x. delete_written digest key x (delete_met_from (shown_by gives) n key x)) (sym sees.0)
+
+pub delete-over_source : DeleteOverSource
+delete-over_source digest bits fits gives n key es are has l v h =
+    let lay = layer digest bits in
+    let m = top lay es in
+    let t = layer_of lay m in
+    let w = within-top lay es in
+    let shows = shown_by gives in
+    let holds = holds-top digest bits fits gives es are has in
+    let pairs = met_pairs lay t key m in
+    let path = shape digest m ∷ map (shape digest) (delete_path_nodes lay t key m) in
+    let sees = delete-sees digest bits fits gives n key es are has l v h in
+    let read_path = sees.0 in
+    let met = sees.1 in
     let pruned = ap (delete_pruned_from shows n key path) met ∙ pruned-top digest shows n lay key m l w holds.1 in
     let facts = delete-facts digest bits fits n key es are (free-source digest bits gives es has) l v h in
     let with_pruned = subst (DeleteFacts digest bits key es path (map (bridge.two_shapes digest) pairs))

@@ -47,5 +47,7 @@ pub mod WalkRanges
 pub mod WalkTheorems
 pub mod PutTheorems
 pub mod DeleteTheorems
+pub mod Lawful
+pub mod LawfulDeletes
 pub mod RecordTheorems
 pub mod Examples

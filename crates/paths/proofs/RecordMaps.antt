@@ -25,7 +25,7 @@ other_way x y o h = nat_list_cmp_total.antisymm y x ∙ ap ordering_reverse (ord
 
 -- ---- ascending
 
-less_is : (r : Ordering) → is_lt r ≡ true → r ≡ Less
+pub less_is : (r : Ordering) → is_lt r ≡ true → r ≡ Less
 less_is Less h = refl
 less_is Equal h = absurd cc
 less_is Greater h = absurd cc

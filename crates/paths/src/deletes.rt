@@ -1,6 +1,6 @@
 //! The laws of a delete.
 
-ghost use Rattle.paths.specs.Laws.Deletes.{DeleteIsTop, DeleteReadsPath, DeleteReads, DeleteIsShapes, DeleteCounts, DeleteOverSource};
+ghost use Rattle.paths.specs.Laws.Deletes.{DeleteIsTop, DeleteReadsPath, DeleteReads, DeleteIsShapes, DeleteCounts, DeleteIsLawful, DeleteOverSource};
 
 /// The tree after a delete is the tree of the pairs that are left from scratch.
 pub fn delete_is_the_tree_from_scratch()
@@ -25,6 +25,11 @@ pub fn delete_is_made_from_shapes()
 /// A delete reads at most two nodes a layer, and makes at most one.
 pub fn delete_counts()
     ensures { DeleteCounts }
+{}
+
+/// Each node that a delete makes of the nodes of a tree is of the node grammar.
+pub fn delete_is_lawful()
+    ensures { DeleteIsLawful }
 {}
 
 /// Over a source that has the nodes of a tree, a delete at its root gives the new root and the blocks that come and go.

@@ -1,6 +1,6 @@
 //! The laws of a put.
 
-ghost use Rattle.paths.specs.Laws.Puts.{PutIsTop, PutReadsPath, PutIsShapes, PutCounts, PutOverSource};
+ghost use Rattle.paths.specs.Laws.Puts.{PutIsTop, PutReadsPath, PutIsShapes, PutCounts, PutIsLawful, PutOverSource};
 
 /// The tree after a put is the tree of the new pairs from scratch.
 pub fn put_is_the_tree_from_scratch()
@@ -20,6 +20,11 @@ pub fn put_is_made_from_shapes()
 /// A put reads at most one node a layer, and makes at most two and the top.
 pub fn put_counts()
     ensures { PutCounts }
+{}
+
+/// Each node that a put makes is of the node grammar, where the nodes of the path are and the new pair is one of a tree.
+pub fn put_is_lawful()
+    ensures { PutIsLawful }
 {}
 
 /// Over a source that has the nodes of a tree, a put at its root gives the new root and the blocks that come and go.

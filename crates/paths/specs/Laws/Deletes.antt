@@ -13,6 +13,7 @@ use Rattle.paths.specs.TreeEdit.{layer_of, delete_path}
 use Rattle.paths.specs.Trace.{find_path, delete_path_gone, delete_path_made, delete_path_read, delete_path_nodes, met_pairs, delete_left, prune_path}
 use Rattle.paths.specs.PathEdit.{delete_root, delete_written, delete_read, delete_gone_shapes, flat, all_but_last}
 use Rattle.paths.specs.Sources.{HasNodes, shown_by, path_from, delete_met_from, delete_pruned_from}
+use Rattle.paths.specs.Lawful.{AllLawful}
 use Rattle.paths.specs.Laws.Edits.{IsEdit}
 
 -- the tree after a delete is the tree of the pairs that are left from scratch
@@ -78,3 +79,12 @@ DeleteOverSource = (digest : List ℕ → List ℕ) (bits : ℕ) → IsDigest di
     → HasNodes digest bits gives es
     → layer_of (layer digest bits) (top (layer digest bits) es) < n → (v : List ℕ) → value_of key es ≡ Some v
     → IsDelete digest bits gives n key es
+
+-- what a delete makes of the nodes of a tree is of the node grammar
+abbrev pub DeleteIsLawful : Type 0
+DeleteIsLawful = (digest : List ℕ → List ℕ) (bits : ℕ) → IsDigest digest
+    → (gives : List ℕ → Option (List ℕ)) (n : ℕ) (key : List ℕ) (es : List Pair) → ArePairs es
+    → HasNodes digest bits gives es
+    → layer_of (layer digest bits) (top (layer digest bits) es) < n → (v : List ℕ) → value_of key es ≡ Some v
+    → let path = path_from (shown_by gives) n key (Some (root digest bits es)) in
+    AllLawful (delete_written digest key path (delete_met_from (shown_by gives) n key path))

@@ -3,16 +3,17 @@ use Rattle.std.specs.Prelude.{◌≡◌, true, Option, Some, ℕ, suc, ◌+◌, 
 use Rattle.std.specs.Cmp.Lexicographic.{slice_cmp}
 use Rattle.std.specs.Ordering.{nat_cmp}
 use Rattle.std.specs.FinMap.{is_sorted}
-use Rattle.spec.specs.Cid.{IsDigest}
+use Rattle.spec.specs.Cid.{IsDigest, is_own_cid}
 use Rattle.spec.specs.Layer.{layer}
 use Rattle.spec.specs.Tree.{Pair, Node, Sub, top}
-use Rattle.spec.specs.NodeFormat.{shape}
+use Rattle.spec.specs.NodeFormat.{Shape, is_key, shape}
 use Rattle.spec.specs.Blocks.{ArePairs, root}
 use Rattle.spec.specs.Writes.{with_key}
 use Rattle.paths.specs.TreeEdit.{layer_of, put_top}
 use Rattle.paths.specs.Trace.{find_path, put_top_gone, put_top_made}
 use Rattle.paths.specs.PathEdit.{put_root, put_written}
 use Rattle.paths.specs.Sources.{HasNodes, shown_by, path_from}
+use Rattle.paths.specs.Lawful.{AllLawful, AllShort}
 use Rattle.paths.specs.Laws.Edits.{IsEdit}
 
 -- the tree after a put is the tree of the new pairs from scratch
@@ -56,3 +57,9 @@ PutOverSource = (digest : List ℕ → List ℕ) (bits : ℕ) → IsDigest diges
     → (gives : List ℕ → Option (List ℕ)) (n : ℕ) (p : Pair) (es : List Pair) → ArePairs es
     → HasNodes digest bits gives es
     → layer_of (layer digest bits) (top (layer digest bits) es) < n → IsPut digest bits gives n p es
+
+-- whatever the nodes on the path are, what a put makes of them is of the node grammar
+abbrev pub PutIsLawful : Type 0
+PutIsLawful = (digest : List ℕ → List ℕ) (layer : List ℕ → ℕ) → IsDigest digest
+    → (p : Pair) (path : List Shape) → is_key p.0 ≡ true → is_own_cid p.1 ≡ true → AllLawful path → AllShort path
+    → AllLawful (put_written digest layer p path)

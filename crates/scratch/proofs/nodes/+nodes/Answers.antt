@@ -53,14 +53,14 @@ pub push_node-returns-clause-link : goal.push_node-returns-clause-link
 push_node-returns-clause-link g t c =
     link-is g.D.Digest.digest_of (layer_of g.D.Digest.digest_of g.row.B) c.args.layer c.args.unread.now _ c.loop-row.writer.left c.loop-row.writer.entries c.loop-row.unread _ c.of-block.result c.cid-cid.result
     (whole g.D.Digest.digest_of (layer_of g.D.Digest.digest_of g.row.B) c.args.layer c.args.unread.now _ c.loop-row.writer.left c.loop-row.writer.entries c.loop-row.unread _ c.in_default.ensures.none c.loop-row.invariant.written)
-    (c.of-block.ensures ∙ c.in_ok-finish.ensures) c.cid-cid.ensures
+    (c.of-block.ensures ∙ c.in_ok-finish.ensures.bytes) c.cid-cid.ensures
 
 pub push_node-returns-clause-blocks : goal.push_node-returns-clause-blocks
 push_node-returns-clause-blocks g t c =
     blocks-are arc_value g.D.Digest.digest_of (layer_of g.D.Digest.digest_of g.row.B) c.args.layer c.args.unread.now c.args.blocks.now.items c.loop-row.writer.left c.loop-row.writer.entries c.loop-row.unread
     c.loop-row.blocks.items c.insert.new.self.items c.in_ok-new.field-0 c.len-place.result
     (whole g.D.Digest.digest_of (layer_of g.D.Digest.digest_of g.row.B) c.args.layer c.args.unread.now _ c.loop-row.writer.left c.loop-row.writer.entries c.loop-row.unread _ c.in_default.ensures.none c.loop-row.invariant.written)
-    (c.in_ok-new.ensures.ok ∙ c.of-block.ensures ∙ c.in_ok-finish.ensures) c.loop-row.invariant.begun c.in_ok-insert.ensures.items
+    (c.in_ok-new.ensures.ok ∙ c.of-block.ensures ∙ c.in_ok-finish.ensures.bytes) c.loop-row.invariant.begun c.in_ok-insert.ensures.items
 
 pub push_node-returns-clause-unread : goal.push_node-returns-clause-unread
 push_node-returns-clause-unread g t c =

@@ -1,0 +1,15 @@
+-- Nodes that can be written, and read again.
+use Rattle.std.specs.Prelude.{◌≡◌, ◌<◌, ◌^◌, true, length, List}
+use Rattle.std.specs.List.{AllByRecursion}
+use Rattle.spec.specs.NodeFormat.{Shape, first_link, entries_of, shape_bytes, is_node}
+
+-- what a block shows is of the node grammar
+abbrev pub Lawful : Shape → Type 0
+Lawful s = is_node (first_link s) (entries_of s) ≡ true
+
+abbrev pub AllLawful : List Shape → Type 0
+AllLawful ss = AllByRecursion Lawful ss
+
+-- each has fewer bytes than a machine can count
+abbrev pub AllShort : List Shape → Type 0
+AllShort ss = AllByRecursion (λ s. length (shape_bytes s) < 2 ^ 64) ss
