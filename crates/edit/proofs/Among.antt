@@ -87,6 +87,23 @@ pub any-mark : {X : Type 0} (view : X → List ℕ) (digest : List ℕ → List 
 any-mark view digest c xs =
     sym (any-map (bytes_eq c) (cid digest) (map view xs) ∙ any-map (λ b. bytes_eq c (cid digest b)) view xs)
 
+module _ {X : Type 0} (view : X → List ℕ) (digest : List ℕ → List ℕ) (c : List ℕ) where
+  pub mark-more : (xs : List X) (i : ℕ) (x : X) → i < length xs → x ≡ get_or xs i x → has_mark view digest c x ≡ false
+      → list_any (has_mark view digest c) (take i xs) ≡ false → list_any (has_mark view digest c) (take (i + 1) xs) ≡ false
+  mark-more xs i x l e h none =
+      list_any_more (has_mark view digest c) xs i x l
+      ∙ ap (λ b. b || has_mark view digest c (get_or xs i x)) none ∙ ap (has_mark view digest c) (sym e) ∙ h
+
+  pub mark-here : (xs : List X) (i : ℕ) (x : X) → i < length xs → x ≡ get_or xs i x → has_mark view digest c x ≡ true
+      → true ≡ has_cid c (map (cid digest) (map view xs))
+  mark-here xs i x l e h =
+      sym (list_any_at (has_mark view digest c) xs i x l (ap (has_mark view digest c) (sym e) ∙ h)) ∙ any-mark view digest c xs
+
+  pub mark-none : (xs : List X) (i : ℕ) → length xs ≤ i → list_any (has_mark view digest c) (take i xs) ≡ false
+      → false ≡ has_cid c (map (cid digest) (map view xs))
+  mark-none xs i l none =
+      sym none ∙ ap (list_any (has_mark view digest c)) (take_all i xs l) ∙ any-mark view digest c xs
+
 -- ---- refusals
 
 pub clash-two : (digest : List ℕ → List ℕ) (a b x y : List ℕ) (pair : List ℕ × List ℕ) → IsClash digest a b → x ≡ a

@@ -197,6 +197,11 @@ module _ (shows : List ℕ → Option Shape) where
         ends x y (ap (λ o. met_from shows n o y) h ∙ ap (met_from shows n (Some c)) q ∙ e.0)
         (ap (λ o. asked_met shows n o y) h ∙ ap (asked_met shows n (Some c)) q ∙ e.1) f
 
+    pub met-ends-late : (x y : Option (List ℕ)) → y ≡ None → IsMetSoFar shows n₀ x₀ y₀ n x y met
+        → IsMetRead shows n₀ x₀ y₀ met
+    met-ends-late None y h f = met-ends None y refl f
+    met-ends-late (Some c) y h f = met-ends-after (Some c) y c refl h f
+
     here : (x y : Option (List ℕ)) (c d : List ℕ) → x ≡ Some c → y ≡ Some d → IsMetSoFar shows n₀ x₀ y₀ n x y met
         → IsMetSoFar shows n₀ x₀ y₀ n (Some c) (Some d) met
     here x y c d h q f = record {

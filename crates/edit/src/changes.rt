@@ -120,5 +120,10 @@ fn shown<D: Digest, A: Allocator>(
 fn has_cid<D: Digest, A: Allocator>(blocks: &[Arc<Block<D, A>, A>], cid: Cid) -> bool
     ensures { result ≡ has_cid_of cid (map (cid_of D.digest_of) (map arc_value blocks.now)) }
 {
-    blocks.iter().any(|block| cid == block.cid())
+    for block in blocks {
+        if cid == block.cid() {
+            return true;
+        }
+    }
+    false
 }

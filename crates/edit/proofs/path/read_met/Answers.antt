@@ -1,10 +1,11 @@
-use Rattle.std.proofs.Common.{ℕ, ◌-◌, ◌*◌, Option, List, [], ◌∷◌, ◌++◌, sym, ap, ◌∙◌, subst, arith}
+use Rattle.std.proofs.Common.{◌≡◌, ℕ, ◌-◌, ◌*◌, Option, List, [], ◌∷◌, ◌++◌, sym, ap, ◌∙◌, subst, arith, rules}
 use Rattle.std.specs.declared.option.Option.TheVariants.{Some, None}
 use Rattle.std.specs.Arc.{arc_value}
 use Rattle.spec.specs.NodeFormat.{first_link}
 use Rattle.edit.specs.Steps.{shows}
-use Rattle.edit.proofs.PathReading.{IsMetSoFar, shown-by, reads-le, reads-two, met-more, met-missing, met-missing-after, met-counts}
+use Rattle.edit.proofs.PathReading.{IsMetSoFar, shown-by, reads-le, reads-two, met-more, met-ends, met-ends-late, met-missing, met-missing-after, met-counts}
 use Rattle.edit.proofs.path.read_met.Goals as goal
+use Rattle.edit.proofs.path.read_met.Goals.{in_default-via-in-Some+in_default, in_default-via-in_default}
 
 pub returns-in_default-node_at-clause-fault : goal.returns-in_default-node_at-clause-fault
 returns-in_default-node_at-clause-fault g c =
@@ -90,4 +91,18 @@ returns-in_err-push-clause-reads g c =
     omega (arith, e)
 
 pub returns-in_default-clause-reads_all : goal.returns-in_default-clause-reads_all
-returns-in_default-clause-reads_all g c = ?
+returns-in_default-clause-reads_all g c =
+    let at = c.loop-left in
+    let b = at.invariant.counted in
+    elim c.in_default.branch [
+      in_default-via-in-Some+in_default w ↦
+        (let none : at.after ≡ None = search rules in
+        let e = (met-ends-late (shows arc_value (g.S.Source.gives c.args.src.now)) c.args.most c.args.one c.args.other at.left
+        at.met.items at.before at.after none at.invariant.so_far).asked in
+        omega (arith, e))
+    | in_default-via-in_default w ↦
+        (let none : at.before ≡ None = search rules in
+        let e = (met-ends (shows arc_value (g.S.Source.gives c.args.src.now)) c.args.most c.args.one c.args.other at.left
+        at.met.items at.before at.after none at.invariant.so_far).asked in
+        omega (arith, e))
+    ]
