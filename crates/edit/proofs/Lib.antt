@@ -1,3 +1,4 @@
+pub mod Cutting
 pub mod Drafting
 pub mod NodeReading
 pub mod Stepping
