@@ -2,6 +2,7 @@
 use Rattle.std.specs.Prelude.{ℕ, Bool, true, false, List, [], ◌∷◌, Option, Some, None}
 use Rattle.std.specs.declared.cmp.Ordering.{Ordering}
 use Rattle.std.specs.declared.cmp.Ordering.TheVariants.{Less, Equal, Greater}
+use Rattle.std.specs.Ordering.{is_lt, is_eq}
 use Rattle.spec.specs.Tree.{Pair}
 use Rattle.spec.specs.NodeFormat.{Shape, LastLink, MoreLinks, first_link}
 use Rattle.paths.specs.Order.{order}
@@ -21,6 +22,15 @@ after_pair (MoreLinks l e r) = r
 abbrev pub ahead_of : Option (List ℕ) → Option (List ℕ) → Reading → Shape
 ahead_of link None r = LastLink link
 ahead_of link (Some value) r = MoreLinks link (r.before, value) r.rest
+
+abbrev pub is_more : Shape → Bool
+is_more (LastLink l) = false
+is_more (MoreLinks l e r) = true
+
+-- the first pair with a link before it, if there is one
+abbrev pub first_linked : Option (List ℕ) → Shape → List (Option (List ℕ) × Pair)
+first_linked link (LastLink l) = []
+first_linked link (MoreLinks l e r) = (link, e) ∷ []
 
 -- all pairs, each with the link before it
 abbrev pub all_pairs : Shape → List (Option (List ℕ) × Pair)
@@ -47,24 +57,14 @@ abbrev pub from_key : List ℕ → Shape → Shape
 from_key key (LastLink l) = LastLink l
 from_key key (MoreLinks l e r) = from_key_at (order e.0 key) l e r (from_key key r)
 
-abbrev pub is_less : Ordering → Bool
-is_less Less = true
-is_less Equal = false
-is_less Greater = false
-
-abbrev pub is_same : Ordering → Bool
-is_same Less = false
-is_same Equal = true
-is_same Greater = false
-
 -- whether the first pair stands before a key, or is the key's
 abbrev pub is_first_before : List ℕ → Shape → Bool
 is_first_before key (LastLink l) = false
-is_first_before key (MoreLinks l e r) = is_less (order e.0 key)
+is_first_before key (MoreLinks l e r) = is_lt (order e.0 key)
 
 abbrev pub is_first_at : List ℕ → Shape → Bool
 is_first_at key (LastLink l) = false
-is_first_at key (MoreLinks l e r) = is_same (order e.0 key)
+is_first_at key (MoreLinks l e r) = is_eq (order e.0 key)
 
 -- the links beside a key that is a node's only one
 abbrev pub links_if_lone : List ℕ → Shape → Option (Option (List ℕ) × Option (List ℕ))

@@ -4,7 +4,7 @@ ghost use Rattle.std.specs.Prelude.{◌≡◌, option_map, IfOk, IfErr};
 ghost use Rattle.spec.specs.NodeFormat.{first_link};
 ghost use Rattle.paths.specs.Sources.{shape_from};
 ghost use Rattle.cid.specs.CidRef.{bytes_of};
-ghost use Rattle.edit.specs.Ahead.{first_pair, after_pair, is_first_at};
+ghost use Rattle.edit.specs.Ahead.{first_pair, after_pair, is_more, is_first_before, is_first_at};
 
 use crate::rows::{NodeRows, to_cid};
 use cid::{Cid, CidRef};
@@ -64,14 +64,25 @@ impl<'a, A: Allocator> Ahead<'a, A> {
         }
     }
 
-    /// Whether the next pair has this key.
+    /// Whether there is a next pair.
+    pub(crate) fn is_more(&self) -> bool
+        ensures { result ≡ is_more self.now }
+    {
+        self.value.is_some()
+    }
+
+    /// Whether there is a next pair, and it stands before `key`.
+    pub(crate) fn is_before(&self, key: &[u8]) -> bool
+        ensures { result ≡ is_first_before key.now self.now }
+    {
+        self.value.is_some() && self.rows.key().cmp(key).is_lt()
+    }
+
+    /// Whether there is a next pair, and its key is `key`.
     pub(crate) fn is_at(&self, key: &[u8]) -> bool
         ensures { result ≡ is_first_at key.now self.now }
     {
-        match self.pair() {
-            Some((next, _)) => next == key,
-            None => false,
-        }
+        self.value.is_some() && self.rows.key().cmp(key).is_eq()
     }
 
     /// Goes on after the next pair, to the link after it. Where only a link is left nothing changes.

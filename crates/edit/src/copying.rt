@@ -2,7 +2,7 @@
 
 ghost use Rattle.std.specs.Prelude.{◌≡◌, ◌++◌, IfOk, IfErr, OnOk};
 ghost use Rattle.paths.specs.ShapeEdit.{with_first_link};
-ghost use Rattle.edit.specs.Ahead.{all_pairs, before_key, from_key};
+ghost use Rattle.edit.specs.Ahead.{after_pair, first_linked, all_pairs, before_key, from_key};
 ghost use Rattle.edit.specs.Drafts.{onto, IsFaultOf, IsFaultOfAll};
 
 use crate::ahead::Ahead;
@@ -17,11 +17,26 @@ use std::clone::Clone;
 pub(crate) fn skip_before<A: Allocator>(ahead: &mut Ahead<'_, A>, key: &[u8])
     ensures { ahead.new ≡ from_key key.now ahead.old }
 {
-    while let Some((next, _)) = ahead.pair()
-        && next < key
-    {
+    while ahead.is_before(key) {
         ahead.skip();
     }
+}
+
+/// Writes the next pair with a link before it, and goes on after it. Where only a link is left nothing is written.
+fn copy_pair<A: Allocator + Clone>(
+    ahead: &mut Ahead<'_, A>,
+    link: Option<Cid>,
+    writer: &mut DraftWriter<A>,
+) -> Result<(), DraftFault>
+    ensures written { OnOk result (writer.new ≡ writer.old ++ first_linked link ahead.old) }
+    ensures ahead { OnOk result (ahead.new ≡ after_pair ahead.old) }
+    ensures fault { IfErr result (IsFaultOfAll (writer.old ++ first_linked link ahead.old)) }
+{
+    if let Some((key, value)) = ahead.pair() {
+        writer.pair(link, key, value)?;
+        ahead.skip();
+    }
+    Ok(())
 }
 
 /// Writes the pairs before `key`, each with the link before it, and goes on to the first that isn't before `key`.
@@ -34,11 +49,9 @@ pub(crate) fn copy_before<A: Allocator + Clone>(
     ensures ahead { OnOk result (ahead.new ≡ from_key key.now ahead.old) }
     ensures fault { IfErr result (IsFaultOfAll (writer.old ++ before_key key.now ahead.old)) }
 {
-    while let Some((next, value)) = ahead.pair()
-        && next < key
-    {
-        writer.pair(ahead.link(), next, value)?;
-        ahead.skip();
+    while ahead.is_before(key) {
+        let link = ahead.link();
+        copy_pair(ahead, link, writer)?;
     }
     Ok(())
 }
@@ -52,9 +65,9 @@ pub(crate) fn copy_pairs<A: Allocator + Clone>(
     ensures fault { IfErr result (IsFaultOfAll (writer.old ++ all_pairs ahead.entry)) }
 {
     let mut ahead = ahead;
-    while let Some((next, value)) = ahead.pair() {
-        writer.pair(ahead.link(), next, value)?;
-        ahead.skip();
+    while ahead.is_more() {
+        let link = ahead.link();
+        copy_pair(&mut ahead, link, writer)?;
     }
     Ok(())
 }
@@ -71,9 +84,8 @@ pub(crate) fn copy_from<A: Allocator + Clone>(
     let mut ahead = ahead;
     let mut writer = writer;
     let mut link = first;
-    while let Some((next, value)) = ahead.pair() {
-        writer.pair(link, next, value)?;
-        ahead.skip();
+    while ahead.is_more() {
+        copy_pair(&mut ahead, link, &mut writer)?;
         link = ahead.link();
     }
     writer.finish(link)

@@ -40,7 +40,7 @@ row-cases : (P : Node → Type 0) (n : ℕ) (h : Node) (r : ℕ × Node) (b : Bo
 row-cases P n h r true k i = k
 row-cases P n h r false k i = i
 
-each-row : (P : Node → Type 0) (layer : List ℕ → ℕ) (key : List ℕ) (n : ℕ) (m : Node) → EachUnder P m
+pub each-row : (P : Node → Type 0) (layer : List ℕ → ℕ) (key : List ℕ) (n : ℕ) (m : Node) → EachUnder P m
     → EachUnder P (row_at layer n key m).1
 each-row P layer key zero m h = each-locate P key m h
 each-row P layer key (suc n) m h =
@@ -128,7 +128,7 @@ module _ (digest : List ℕ → List ℕ) (shows : List ℕ → Option Shape) wh
   left-within (suc n) (Sub (Last p)) (Sub (More q e r)) w v = tt
   left-within (suc n) (Sub (More p e r)) (Sub k) w v = tt
 
-  left-shown : (P : Node → Type 0) (n : ℕ) (p q : Part) → EachNode P p → EachNode P q → EachNode P (settle_left n p q).1
+  pub left-shown : (P : Node → Type 0) (n : ℕ) (p q : Part) → EachNode P p → EachNode P q → EachNode P (settle_left n p q).1
   left-shown P zero p q h k = tt
   left-shown P (suc n) Nothing q h k = k
   left-shown P (suc n) (Sub m) Nothing h k = h

@@ -1,28 +1,31 @@
 -- The laws of a delete.
-use Rattle.std.proofs.Common.{◌≡◌, ℕ, ◌+◌, ◌*◌, ◌<◌, ◌≤◌, true, List, [], ◌∷◌, ◌++◌, length, map, Option, sym, ap, ◌∙◌, subst, arith}
+use Rattle.std.proofs.Common.{◌≡◌, ℕ, ◌+◌, ◌*◌, ◌<◌, ◌≤◌, true, List, [], ◌∷◌, ◌++◌, length, map, Option, None, refl, sym, ap, ◌∙◌, subst, arith}
 use Rattle.std.specs.declared.option.Option.TheVariants.{Some}
+use Rattle.std.specs.declared.cmp.Ordering.{Ordering}
+use Rattle.std.specs.declared.cmp.Ordering.TheVariants.{Less, Equal, Greater}
 use Rattle.std.specs.Cmp.Lexicographic.{slice_cmp}
 use Rattle.std.specs.Ordering.{nat_cmp}
 use Rattle.std.specs.FinMap.{is_sorted}
 use Rattle.std.proofs.lemmas.List.{length-map, map-append}
 use Rattle.spec.specs.Cid.{IsDigest}
 use Rattle.spec.specs.Layer.{layer}
-use Rattle.spec.specs.Tree.{Pair, Node, Sub, top}
-use Rattle.spec.specs.NodeFormat.{Shape, shape}
+use Rattle.spec.specs.Tree.{Pair, Node, Part, Last, More, Nothing, Sub, EachUnder, top}
+use Rattle.spec.specs.NodeFormat.{Shape, shape, part_link}
 use Rattle.spec.specs.Blocks.{ArePairs, IsClashFree, nodes, root, value_of}
 use Rattle.spec.specs.Writes.{without_key}
 use Rattle.paths.specs.Pairs.{delete_pair}
-use Rattle.paths.specs.TreeEdit.{layer_of}
-use Rattle.paths.specs.Trace.{delete_path_nodes, met_pairs, delete_left, prune_path, delete_path_gone, delete_path_made, delete_path_read}
-use Rattle.paths.specs.ShapeEdit.{layer_of_shape}
-use Rattle.paths.specs.PathEdit.{flat, all_but_last, delete_root, delete_written, delete_read, delete_gone_shapes}
-use Rattle.paths.specs.Sources.{HasNodes, shown_by, path_from, met_from, delete_met_from, delete_pruned_from}
+use Rattle.paths.specs.Order.{order, if_equal}
+use Rattle.paths.specs.TreeEdit.{first, layer_of}
+use Rattle.paths.specs.Trace.{beside, row_at, settle_left, delete_path_nodes, met_pairs, delete_left, prune_path, delete_path_gone, delete_path_made, delete_path_read}
+use Rattle.paths.specs.ShapeEdit.{layer_of_shape, settle_links, lone_shape}
+use Rattle.paths.specs.PathEdit.{prune_link, flat, all_but_last, delete_root, delete_written, delete_read, delete_gone_shapes}
+use Rattle.paths.specs.Sources.{HasNodes, Holds, shown_by, path_from, met_from, delete_met_from, delete_pruned_from}
 use Rattle.paths.specs.Laws.Edits.{IsEdit}
-use Rattle.paths.specs.Laws.Deletes.{DeleteIsTop, DeleteReadsPath, DeleteReads, DeleteIsShapes, DeleteCounts, DeleteOverSource}
+use Rattle.paths.specs.Laws.Deletes.{DeleteIsTop, DeleteReadsPath, DeleteReads, DeleteIsShapes, DeleteCounts, IsHeld, ReadsHeld, DeleteReadsHeld, DeleteOverSource}
 use Rattle.paths.proofs.Balance.{delete-balance, within-top}
 use Rattle.paths.proofs.Counts.{delete_path-reads, delete_path-made}
 use Rattle.paths.proofs.DeleteShapes.{links-path}
-use Rattle.paths.proofs.DeleteSource.{map-flat, map-all_but_last, met-row, pruned-top}
+use Rattle.paths.proofs.DeleteSource.{each-row, left-shown, map-flat, map-all_but_last, met-row, pruned-top}
 use Rattle.paths.proofs.DeleteTopShapes.{shape-delete_path, shapes-delete_path}
 use Rattle.paths.proofs.PutTheorems.{edit-shapes, edit-moved}
 use Rattle.paths.proofs.Gone.{delete_path-old}
@@ -32,7 +35,11 @@ use Rattle.paths.proofs.PathForms.{delete_root-same, delete_written-same, links-
 use Rattle.paths.proofs.PutTopShapes.{layer-shape}
 use Rattle.paths.proofs.RecordMaps.{ascending-sorted, find-is, delete-is}
 use Rattle.paths.proofs.Settle.{delete_path-top}
-use Rattle.paths.proofs.SourceLaws.{path-holds}
+use Rattle.paths.proofs.SettleShapes.{links-settle}
+use Rattle.paths.proofs.SourceLaws.{IsShown, path-holds}
+use Rattle.paths.proofs.Traces.{lone-met}
+use Rattle.paths.proofs.WalkPairs.{each-first_part}
+use Rattle.paths.proofs.Within.{AllWithin}
 use Rattle.paths.proofs.BlockChanges as blocks
 use Rattle.paths.proofs.PathReads as reads
 use Rattle.paths.proofs.ShapeBridges as bridge
@@ -228,6 +235,82 @@ delete-made_shapes digest bits fits gives n key es are has l v h =
     ∙ ap (λ x. delete_written digest key x met) found
     ∙ ap (delete_written digest key path) (sym sees.1)
     ∙ ap (λ x. delete_written digest key x (delete_met_from (shown_by gives) n key x)) (sym sees.0)
+
+-- ---- what is read beside the path stands below links of the tree
+
+abbrev AreHeld : (List ℕ → List ℕ) → (List ℕ → Option Shape) → Option (List ℕ) × Option (List ℕ) → Type 0
+AreHeld digest shows x = IsHeld digest shows x.0 × IsHeld digest shows x.1
+
+none-held : (digest : List ℕ → List ℕ) (shows : List ℕ → Option Shape) → IsHeld digest shows None
+none-held digest shows = record { part = Nothing; is = refl; holds = tt }
+
+part-held : (digest : List ℕ → List ℕ) (shows : List ℕ → Option Shape) (p : Part) → Holds digest shows p
+    → IsHeld digest shows (part_link digest p)
+part-held digest shows p h = record { part = p; is = refl; holds = h }
+
+choice-held : (digest : List ℕ → List ℕ) (shows : List ℕ → Option Shape) (o : Ordering) (p q : Part)
+    → Holds digest shows p → Holds digest shows q
+    → AreHeld digest shows (if_equal o (part_link digest p, part_link digest q) (None, None))
+choice-held digest shows Less p q h k = (none-held digest shows, none-held digest shows)
+choice-held digest shows Equal p q h k = (part-held digest shows p h, part-held digest shows q k)
+choice-held digest shows Greater p q h k = (none-held digest shows, none-held digest shows)
+
+beside-held : (digest : List ℕ → List ℕ) (shows : List ℕ → Option Shape) (key : List ℕ) (h : Node)
+    → EachUnder (IsShown digest shows) h
+    → AreHeld digest shows (beside key h (λ a b. (part_link digest a, part_link digest b)) (None, None))
+beside-held digest shows key (Last g) s = (none-held digest shows, none-held digest shows)
+beside-held digest shows key (More g e r) s =
+    choice-held digest shows (order e.0 key) g (first r) s.0 (each-first_part (IsShown digest shows) r s.1)
+
+lone-held : (digest : List ℕ → List ℕ) (shows : List ℕ → Option Shape) (layer : List ℕ → ℕ) (key : List ℕ) (p : Part)
+    (e : Pair) (q : Part) (o : Ordering) → order e.0 key ≡ o → AllWithin (layer e.0) (More p e (Last q))
+    → EachUnder (IsShown digest shows) (More p e (Last q))
+    → let met = map (bridge.two_shapes digest) (met_pairs layer (layer e.0) key (More p e (Last q))) in
+    IsHeld digest shows (if_equal o (settle_links (part_link digest p) (part_link digest q) met) None)
+lone-held digest shows layer key p e q Less h w s = none-held digest shows
+lone-held digest shows layer key p e q Equal h w s =
+    let t = layer e.0 in record {
+      part = (settle_left t p q).1;
+      is = ap (λ x. settle_links (part_link digest p) (part_link digest q) (map (bridge.two_shapes digest) x))
+          (lone-met layer key p e q h)
+          ∙ links-settle digest t p q w.0 w.1;
+      holds = left-shown digest shows (IsShown digest shows) t p q s.0 s.1;
+    }
+lone-held digest shows layer key p e q Greater h w s = none-held digest shows
+
+chain-held : (digest : List ℕ → List ℕ) (shows : List ℕ → Option Shape) (layer : List ℕ → ℕ) (key : List ℕ) (m : Node)
+    → AllWithin (layer_of layer m) m → EachUnder (IsShown digest shows) m
+    → let met = map (bridge.two_shapes digest) (met_pairs layer (layer_of layer m) key m) in
+    IsHeld digest shows (lone_shape key (shape digest m) (λ l k. settle_links l k met) None)
+chain-held digest shows layer key (Last p) w s = none-held digest shows
+chain-held digest shows layer key (More p e (Last q)) w s =
+    lone-held digest shows layer key p e q (order e.0 key) refl w s
+chain-held digest shows layer key (More p e (More q f r)) w s = none-held digest shows
+
+pub delete-reads_held : DeleteReadsHeld
+delete-reads_held digest bits fits gives n key es are has l v h =
+    let lay = layer digest bits in
+    let m = top lay es in
+    let t = layer_of lay m in
+    let w = within-top lay es in
+    let shows = shown_by gives in
+    let holds = holds-top digest bits fits gives es are has in
+    let path = shape digest m ∷ map (shape digest) (delete_path_nodes lay t key m) in
+    let sees = delete-sees digest bits fits gives n key es are has l v h in
+    let row = row-of lay key es are.sorted v h in
+    let below = delete_path_nodes lay t key m in
+    let long = length-map below (shape digest) in
+    let deep = row.deep in
+    let e : t ≡ length (map (shape digest) below) + lay key = omega arith in
+    let links = sym (links-same (lay key) t key (shape digest m) (map (shape digest) below) e)
+    ∙ links-path digest lay key t m in
+    let r = row_at lay t key m in
+    let beside_row = subst (AreHeld digest shows) (sym links)
+    (beside-held digest shows key r.1 (each-row (IsShown digest shows) lay key t m holds.1)) in
+    let pruned = subst (λ met. IsHeld digest shows (prune_link key path met)) (sym sees.1)
+    (chain-held digest shows lay key m w holds.1) in
+    subst (ReadsHeld digest shows n key) (sym sees.0)
+    (record { one = beside_row.0; other = beside_row.1; chain = pruned })
 
 pub delete-over_source : DeleteOverSource
 delete-over_source digest bits fits gives n key es are has l v h =

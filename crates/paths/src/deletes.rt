@@ -1,6 +1,6 @@
 //! The laws of a delete.
 
-ghost use Rattle.paths.specs.Laws.Deletes.{DeleteIsTop, DeleteReadsPath, DeleteReads, DeleteIsShapes, DeleteCounts, DeleteIsLawful, DeleteOverSource};
+ghost use Rattle.paths.specs.Laws.Deletes.{DeleteIsTop, DeleteReadsPath, DeleteReads, DeleteIsShapes, DeleteCounts, DeleteIsLawful, DeleteReadsHeld, DeleteOverSource};
 
 /// The tree after a delete is the tree of the pairs that are left from scratch.
 pub fn delete_is_the_tree_from_scratch()
@@ -30,6 +30,11 @@ pub fn delete_counts()
 /// Each node that a delete makes of the nodes of a tree is of the node grammar.
 pub fn delete_is_lawful()
     ensures { DeleteIsLawful }
+{}
+
+/// No block is missing that a delete reads beside its path.
+pub fn delete_reads_what_is_held()
+    ensures { DeleteReadsHeld }
 {}
 
 /// Over a source that has the nodes of a tree, a delete at its root gives the new root and the blocks that come and go.

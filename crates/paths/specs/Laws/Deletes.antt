@@ -5,14 +5,15 @@ use Rattle.std.specs.Ordering.{nat_cmp}
 use Rattle.std.specs.FinMap.{is_sorted}
 use Rattle.spec.specs.Cid.{IsDigest}
 use Rattle.spec.specs.Layer.{layer}
-use Rattle.spec.specs.Tree.{Pair, Node, Sub, top}
-use Rattle.spec.specs.NodeFormat.{shape}
+use Rattle.spec.specs.Tree.{Pair, Node, Part, Sub, top}
+use Rattle.spec.specs.NodeFormat.{Shape, shape, part_link}
 use Rattle.spec.specs.Blocks.{ArePairs, value_of, root}
 use Rattle.spec.specs.Writes.{without_key}
 use Rattle.paths.specs.TreeEdit.{layer_of, delete_path}
 use Rattle.paths.specs.Trace.{find_path, delete_path_gone, delete_path_made, delete_path_read, delete_path_nodes, met_pairs, delete_left, prune_path}
-use Rattle.paths.specs.PathEdit.{delete_root, delete_written, delete_read, delete_gone_shapes, flat, all_but_last}
-use Rattle.paths.specs.Sources.{HasNodes, shown_by, path_from, delete_met_from, delete_pruned_from}
+use Rattle.paths.specs.ShapeEdit.{row_links}
+use Rattle.paths.specs.PathEdit.{row_shape, prune_link, delete_root, delete_written, delete_read, delete_gone_shapes, flat, all_but_last}
+use Rattle.paths.specs.Sources.{HasNodes, Holds, shown_by, path_from, delete_met_from, delete_pruned_from}
 use Rattle.paths.specs.Lawful.{AllLawful}
 use Rattle.paths.specs.Laws.Edits.{IsEdit}
 
@@ -88,3 +89,23 @@ DeleteIsLawful = (digest : List ℕ → List ℕ) (bits : ℕ) → IsDigest dige
     → layer_of (layer digest bits) (top (layer digest bits) es) < n → (v : List ℕ) → value_of key es ≡ Some v
     → let path = path_from (shown_by gives) n key (Some (root digest bits es)) in
     AllLawful (delete_written digest key path (delete_met_from (shown_by gives) n key path))
+
+-- a link to a part whose nodes are all shown
+pub record IsHeld (digest : List ℕ → List ℕ) (shows : List ℕ → Option Shape) (l : Option (List ℕ)) : Type 0 where
+  pub part : Part
+  pub is : l ≡ part_link digest part
+  pub holds : Holds digest shows part
+
+-- what a delete reads beside the path stands below such links, so that no block is missing
+pub record ReadsHeld (digest : List ℕ → List ℕ) (shows : List ℕ → Option Shape) (n : ℕ) (key : List ℕ)
+    (path : List Shape) : Type 0 where
+  pub one : IsHeld digest shows (row_links key (row_shape path)).0
+  pub other : IsHeld digest shows (row_links key (row_shape path)).1
+  pub chain : IsHeld digest shows (prune_link key path (delete_met_from shows n key path))
+
+abbrev pub DeleteReadsHeld : Type 0
+DeleteReadsHeld = (digest : List ℕ → List ℕ) (bits : ℕ) → IsDigest digest
+    → (gives : List ℕ → Option (List ℕ)) (n : ℕ) (key : List ℕ) (es : List Pair) → ArePairs es
+    → HasNodes digest bits gives es
+    → layer_of (layer digest bits) (top (layer digest bits) es) < n → (v : List ℕ) → value_of key es ≡ Some v
+    → ReadsHeld digest (shown_by gives) n key (path_from (shown_by gives) n key (Some (root digest bits es)))
