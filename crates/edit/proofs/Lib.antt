@@ -1,6 +1,8 @@
 pub mod Among
 pub mod NodeLaws
 pub mod PathReading
+pub mod PutSteps
+pub mod Putting
 pub mod Cutting
 pub mod Drafting
 pub mod NodeReading

@@ -6,7 +6,7 @@ ghost use Rattle.spec.specs.Layer.{layer as layer_of};
 ghost use Rattle.spec.specs.NodeFormat.{shape_bytes, shape_cid};
 ghost use Rattle.cid.specs.CidRef.{bytes_of};
 ghost use Rattle.paths.specs.Lawful.{AllLawful};
-ghost use Rattle.paths.specs.ShapeEdit.{split_shapes, tail_shapes, above_shape, above_shapes};
+ghost use Rattle.paths.specs.ShapeEdit.{split_shapes, head_shape, tail_shapes, above_shape, above_shapes, layer_of_shape};
 ghost use Rattle.paths.specs.PathEdit.{put_here as put_here_shape, put_below as put_below_shape, put_below_shapes, put_root, put_written};
 ghost use Rattle.edit.specs.Faults.{IsFaultUnless};
 
@@ -35,15 +35,24 @@ pub(crate) fn put_nodes<D: Digest, const B: u8, A: Allocator + Clone>(
     ensures fault { IfErr result (IsFaultUnless (AllLawful (put_written D.digest_of (layer_of D.digest_of B) (key.now, bytes_of value.entry) path.now))) }
 {
     let layer = layer::<D, B>(key);
-    let top = match path {
-        [top, ..] => top_layer::<D, B>(top.view()),
-        [] => 0,
-    };
+    let top = first_layer::<D, B, A>(path);
     if top < layer {
         put_above(alloc, layer - top - 1, path, key, value, made)
     } else {
         put_below(alloc, top - layer, path, key, value, made)
     }
+}
+
+/// The layer of the first of these nodes, and 0 where there is none.
+fn first_layer<D: Digest, const B: u8, A: Allocator>(path: &[Node<'_, D, A>]) -> u16
+    requires least { 1 ≤ B }
+    requires most { B ≤ 8 }
+    ensures { result ≡ layer_of_shape (layer_of D.digest_of B) (head_shape path.now) }
+{
+    let [top, ..] = path else {
+        return 0;
+    };
+    top_layer::<D, B>(top.view())
 }
 
 /// A pair above a path: its node alone, so many layers above the nodes on both sides.
