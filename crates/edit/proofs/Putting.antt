@@ -24,8 +24,8 @@ use Rattle.paths.proofs.Lawful.{put-lawful}
 use Rattle.paths.proofs.LookupTheorems.{top-has_layer}
 use Rattle.paths.proofs.OverSource.{free-source}
 use Rattle.paths.proofs.PutTheorems.{put-over_source}
-use Rattle.edit.specs.Edits.{IsEditOf}
-use Rattle.edit.specs.Faults.{IsFaultUnless, IsEditFault, IsRefusal}
+use Rattle.edit.specs.Edits.{IsEditOf, IsPutOn}
+use Rattle.edit.specs.Faults.{IsFaultUnless, IsEditFault, IsClashIn, IsRefusal}
 use Rattle.edit.specs.Steps.{layers, IsWholePath}
 use Rattle.edit.specs.Trees.{HasTree}
 use Rattle.edit.specs.declared.draft_fault.DraftFault.{DraftFault}
@@ -33,13 +33,25 @@ use Rattle.edit.specs.declared.draft_fault.DraftFault.TheVariants as drafts
 use Rattle.edit.specs.declared.fault.EditFault.{EditFault}
 use Rattle.edit.specs.declared.fault.EditFault.TheVariants.{NoSuchKey, Clash, NoMemory}
 use Rattle.edit.proofs.Stepping.{is-lookup, asked-path, tree-value}
-use Rattle.edit.proofs.Among.{refusal-within}
 
 -- ---- refusals
 
 pub memory-only : {D A : Type 0} (digest : List ℕ → List ℕ) (blocks : List (List ℕ)) (P : Type 0) (fault : EditFault D A)
     → fault ≡ NoMemory → IsRefusal digest blocks P fault
 memory-only digest blocks P fault e = subst (IsRefusal digest blocks P) (sym e) tt
+
+-- no node could be written
+pub not-written : {D A : Type 0} (digest : List ℕ → List ℕ) (blocks : List (List ℕ)) (Q : Type 0) (draft : DraftFault)
+    (fault : EditFault D A) → IsFaultUnless Q draft → IsEditFault draft fault → IsRefusal digest blocks (¬ Q) fault
+not-written digest blocks Q drafts.NotNode fault h e = subst (IsRefusal digest blocks (¬ Q)) (sym e) h
+not-written digest blocks Q drafts.NoMemory fault h e = memory-only digest blocks (¬ Q) fault e
+
+-- a clash among other blocks, which are among these
+pub clash-within : {D A : Type 0} (digest : List ℕ → List ℕ) (P : Type 0) (xs ys : List (List ℕ)) (fault : EditFault D A)
+    → xs ≡ ys → IsRefusal digest xs ⊥ fault → IsRefusal digest ys P fault
+clash-within digest P xs ys NoSuchKey e r = absurd r
+clash-within digest P xs ys (Clash pair) e r = subst (λ (bs : List (List ℕ)). IsClashIn digest bs pair) e r
+clash-within digest P xs ys NoMemory e r = tt
 
 -- what can't be: a node is missing, or is none
 pub cannot-be : {D A : Type 0} (digest : List ℕ → List ℕ) (blocks : List (List ℕ)) (P Q : Type 0) (draft : DraftFault)
@@ -99,61 +111,69 @@ module _ (digest : List ℕ → List ℕ) (bits : ℕ) (fits : IsDigest digest) 
     pub path-bytes : bytes_of read ≡ path digest bits es key
     path-bytes = ap bytes_of reads ∙ (is-lookup digest bits fits gives root key es has n enough).reads
 
-    module _ (made : List (List ℕ)) (made_is : made ≡ map shape_bytes (put_written digest (layer digest bits) (key, value) read)) where
-      written : made ≡ bytes_of (put_written digest (layer digest bits) (key, value)
-          (path_from (shown_by gives) n key (Some (root_of digest bits es))))
-      written = made_is ∙ ap (λ (ss : List Shape). bytes_of (put_written digest (layer digest bits) (key, value) ss)) reads
+    written : bytes_of (put_written digest (layer digest bits) (key, value) read) ≡ bytes_of (put_written digest
+        (layer digest bits) (key, value) (path_from (shown_by gives) n key (Some (root_of digest bits es))))
+    written = ap (λ (ss : List Shape). bytes_of (put_written digest (layer digest bits) (key, value) ss)) reads
 
-      new : (b : List ℕ) → Contains made b → Contains (nodes digest bits (with_key es key value)) b
-      new b c = is-put.edit.made_new b (subst (λ (bs : List (List ℕ)). Contains bs b) written c)
+    new : (b : List ℕ) → Contains (bytes_of (put_written digest (layer digest bits) (key, value) read)) b
+        → Contains (nodes digest bits (with_key es key value)) b
+    new b c = is-put.edit.made_new b (subst (λ (bs : List (List ℕ)). Contains bs b) written c)
 
-      -- what was made and read is of the tree before or of the tree after
-      pub within : (b : List ℕ) → Contains (made ++ bytes_of read) b
-          → Contains (nodes digest bits es ++ nodes digest bits (with_key es key value)) b
-      within b c = by (Contains-append_cases made (bytes_of read) b c)
-        where
-          by : Contains made b ⊎ Contains (bytes_of read) b
-              → Contains (nodes digest bits es ++ nodes digest bits (with_key es key value)) b
-          by (inl k) = Contains-append_right (nodes digest bits es) (nodes digest bits (with_key es key value)) b (new b k)
-          by (inr k) = Contains-append_left (nodes digest bits es) (nodes digest bits (with_key es key value)) b (old b k)
+    -- what was made and read is of the tree before or of the tree after
+    pub within : (b : List ℕ)
+        → Contains (bytes_of (put_written digest (layer digest bits) (key, value) read) ++ bytes_of read) b
+        → Contains (nodes digest bits es ++ nodes digest bits (with_key es key value)) b
+    within b c =
+        by (Contains-append_cases (bytes_of (put_written digest (layer digest bits) (key, value) read)) (bytes_of read) b c)
+      where
+        by : Contains (bytes_of (put_written digest (layer digest bits) (key, value) read)) b ⊎ Contains (bytes_of read) b
+            → Contains (nodes digest bits es ++ nodes digest bits (with_key es key value)) b
+        by (inl k) = Contains-append_right (nodes digest bits es) (nodes digest bits (with_key es key value)) b (new b k)
+        by (inr k) = Contains-append_left (nodes digest bits es) (nodes digest bits (with_key es key value)) b (old b k)
 
-      pub put-answer : (root' : List ℕ) (add drop : List (List ℕ)) (previous : Option (List ℕ))
-          → root' ≡ shape_cid digest (put_root digest (layer digest bits) (key, value) read)
-          → previous ≡ value_from (shown_by gives) n key (Some root)
-          → drop ≡ drop_of digest made (bytes_of read) → add ≡ add_of digest (bytes_of read) made
-          → (IsClashFree digest (bytes_of read) → IsClashFree digest (add ++ bytes_of read))
-          → (IsClashFree digest (bytes_of read) → IsClashFree digest (made ++ bytes_of read))
-          → IsEditOf digest bits es (with_key es key value) key (path digest bits es key) root' add drop previous
-      put-answer root' add drop previous hr hp hd ha hc hm =
-          let goes = path_from (shown_by gives) n key (Some (root_of digest bits es)) in
-          let comes = put_written digest (layer digest bits) (key, value) goes in
-          let all = is-put.edit.changes
-              (subst (λ (bs : List (List ℕ)). IsClashFree digest (bs ++ bytes_of goes)) written
-              (subst (λ (ss : List Shape). IsClashFree digest (made ++ bytes_of ss)) reads (hm free))) in
-          let added : add_of digest (bytes_of goes) (bytes_of comes) ≡ add =
-              sym (ha ∙ ap (λ (ss : List Shape). add_of digest (bytes_of ss) made) reads ∙ ap (add_of digest (bytes_of goes)) written) in
-          let dropped : drop_of digest (bytes_of comes) (bytes_of goes) ≡ drop =
-              sym (hd ∙ ap (λ (ss : List Shape). drop_of digest made (bytes_of ss)) reads
-              ∙ ap (λ (bs : List (List ℕ)). drop_of digest bs (bytes_of goes)) written) in
-          let seen : bytes_of goes ≡ path digest bits es key = (is-lookup digest bits fits gives root key es has n enough).reads in
-          record {
-            root_is = hr ∙ ap (λ (ss : List Shape). shape_cid digest (put_root digest (layer digest bits) (key, value) ss)) reads
-                ∙ sym is-put.edit.root_is;
-            previous_is = hp ∙ tree-value digest bits fits gives root key es has n enough;
-            changes = subst (λ (bs : List (List ℕ)). AreChanges digest (nodes digest bits es)
-                (nodes digest bits (with_key es key value)) bs add drop) seen
-                (subst (λ (bs : List (List ℕ)). AreChanges digest (nodes digest bits es)
-                (nodes digest bits (with_key es key value)) (bytes_of goes) bs drop) added
-                (subst (λ (bs : List (List ℕ)). AreChanges digest (nodes digest bits es)
-                (nodes digest bits (with_key es key value)) (bytes_of goes) (add_of digest (bytes_of goes) (bytes_of comes)) bs) dropped all));
-            clash_free = subst (λ (bs : List (List ℕ)). IsClashFree digest (add ++ bs)) path-bytes (hc free);
-            count =
-                let a = add-few digest (bytes_of read) made in
-                let b = ap length ha in
-                let c = ap length written in
-                let d = length-map comes shape_bytes in
-                let e = is-put.made_count in omega arith;
-          }
+    pub put-answer : (root' : List ℕ) (add drop : List (List ℕ)) (previous : Option (List ℕ))
+        → IsPutOn digest (layer digest bits) (key, value) read root' add drop
+        → previous ≡ value_from (shown_by gives) n key (Some root)
+        → IsEditOf digest bits es (with_key es key value) key (path digest bits es key) root' add drop previous
+    put-answer root' add drop previous on hp =
+        let goes = path_from (shown_by gives) n key (Some (root_of digest bits es)) in
+        let comes = put_written digest (layer digest bits) (key, value) goes in
+        let all = is-put.edit.changes
+            (subst (λ (ss : List Shape). IsClashFree digest (bytes_of (put_written digest (layer digest bits) (key, value) ss) ++ bytes_of ss))
+            reads (on.all_free free)) in
+        let added : add_of digest (bytes_of goes) (bytes_of comes) ≡ add =
+            sym (on.added ∙ ap (λ (ss : List Shape). add_of digest (bytes_of ss) (bytes_of (put_written digest (layer digest bits) (key, value) ss))) reads) in
+        let dropped : drop_of digest (bytes_of comes) (bytes_of goes) ≡ drop =
+            sym (on.dropped ∙ ap (λ (ss : List Shape). drop_of digest (bytes_of (put_written digest (layer digest bits) (key, value) ss)) (bytes_of ss)) reads) in
+        let seen : bytes_of goes ≡ path digest bits es key = (is-lookup digest bits fits gives root key es has n enough).reads in
+        record {
+          root_is = on.root_is ∙ ap (λ (ss : List Shape). shape_cid digest (put_root digest (layer digest bits) (key, value) ss)) reads
+              ∙ sym is-put.edit.root_is;
+          previous_is = hp ∙ tree-value digest bits fits gives root key es has n enough;
+          changes = subst (λ (bs : List (List ℕ)). AreChanges digest (nodes digest bits es)
+              (nodes digest bits (with_key es key value)) bs add drop) seen
+              (subst (λ (bs : List (List ℕ)). AreChanges digest (nodes digest bits es)
+              (nodes digest bits (with_key es key value)) (bytes_of goes) bs drop) added
+              (subst (λ (bs : List (List ℕ)). AreChanges digest (nodes digest bits es)
+              (nodes digest bits (with_key es key value)) (bytes_of goes) (add_of digest (bytes_of goes) (bytes_of comes)) bs) dropped all));
+          clash_free = subst (λ (bs : List (List ℕ)). IsClashFree digest (add ++ bs)) path-bytes (on.free free);
+          count =
+              let a = add-few digest (bytes_of read) (bytes_of (put_written digest (layer digest bits) (key, value) read)) in
+              let b = ap length on.added in
+              let c = ap length written in
+              let d = length-map comes shape_bytes in
+              let e = is-put.made_count in omega arith;
+        }
+
+    -- a refusal, seen from the tree
+    pub put-refused : {D A : Type 0} (fault : EditFault D A)
+        → AllLawful (put_written digest (layer digest bits) (key, value) read)
+        → IsRefusal digest (bytes_of (put_written digest (layer digest bits) (key, value) read) ++ bytes_of read)
+        (¬ AllLawful (put_written digest (layer digest bits) (key, value) read)) fault
+        → IsRefusal digest (nodes digest bits es ++ nodes digest bits (with_key es key value)) ⊥ fault
+    put-refused NoSuchKey all r = r all
+    put-refused (Clash pair) all r = (within pair.0 r.0, within pair.1 r.1, r.2)
+    put-refused NoMemory all r = tt
 
 pub put-is_lawful : (digest : List ℕ → List ℕ) (bits : ℕ) → IsDigest digest → (key value : List ℕ) (read : List Shape)
     → is_key key ≡ true → is_own_cid value ≡ true → AllLawful read × AllShort read

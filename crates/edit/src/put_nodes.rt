@@ -37,10 +37,9 @@ pub(crate) fn put_nodes<D: Digest, const B: u8, A: Allocator + Clone>(
     let layer = layer::<D, B>(key);
     let top = first_layer::<D, B, A>(path);
     if top < layer {
-        put_above(alloc, layer - top - 1, path, key, value, made)
-    } else {
-        put_below(alloc, top - layer, path, key, value, made)
+        return put_above(alloc, layer - top - 1, path, key, value, made);
     }
+    put_below(alloc, top - layer, path, key, value, made)
 }
 
 /// The layer of the first of these nodes, and 0 where there is none.

@@ -4,12 +4,15 @@ ghost use Rattle.std.specs.Prelude.{◌≡◌, ◌≤◌, ◌+◌, ◌++◌, ℕ
 ghost use Rattle.std.specs.Arc.{arc_value};
 ghost use Rattle.spec.specs.Tree.{Pair, top};
 ghost use Rattle.spec.specs.Layer.{layer};
-ghost use Rattle.spec.specs.NodeFormat.{is_key};
+ghost use Rattle.spec.specs.NodeFormat.{is_key, shape_bytes};
+ghost use Rattle.cid.specs.CidRef.{bytes_of};
 ghost use Rattle.spec.specs.Blocks.{nodes};
 ghost use Rattle.spec.specs.Writes.{with_key};
 ghost use Rattle.spec.specs.Proof.{path};
+ghost use Rattle.paths.specs.Lawful.{AllLawful};
+ghost use Rattle.paths.specs.PathEdit.{put_written};
 ghost use Rattle.paths.specs.TreeEdit.{layer_of};
-ghost use Rattle.edit.specs.Edits.{IsEditOf};
+ghost use Rattle.edit.specs.Edits.{IsEditOf, IsPutOn};
 ghost use Rattle.edit.specs.Faults.{IsRefusal};
 ghost use Rattle.edit.specs.Steps.{layers};
 ghost use Rattle.edit.specs.Trees.{HasTree};
@@ -17,7 +20,7 @@ ghost use Rattle.edit.specs.Trees.{HasTree};
 use crate::changes::{added, dropped};
 use crate::edited::Edit;
 use crate::fault::EditFault;
-use crate::path::read_path;
+use crate::path::{Path, read_path};
 use crate::put_nodes::put_nodes;
 use crate::source::Source;
 use crate::step::layers;
@@ -54,14 +57,24 @@ pub fn put<
     ensures same { S.gives src.new ≡ S.gives src.old }
 {
     let path = read_path(alloc.clone()?, src, root, key, layers::<B>())?;
+    put_on_path::<D, B, A>(alloc, &path, key, CidRef::from(&value))
+}
+
+/// Puts a key with a value into a tree, of which the nodes on the key's path were read.
+fn put_on_path<D: Digest, const B: u8, A: Allocator + Clone>(
+    alloc: A,
+    path: &Path<'_, D, A>,
+    key: &[u8],
+    value: CidRef<'_>,
+) -> Result<Edit<D, A>, EditFault<D, A>>
+    requires least { 1 ≤ B }
+    requires most { B ≤ 8 }
+    ensures edit { IfOk result (λ edit. IsPutOn D.digest_of (layer D.digest_of B) (key.now, bytes_of value.entry) path.now.nodes.items edit.root (map arc_value edit.add.items) edit.drop.items) }
+    ensures previous { IfOk result (λ edit. edit.previous ≡ path.now.previous) }
+    ensures fault { IfErr result (IsRefusal D.digest_of (map shape_bytes (put_written D.digest_of (layer D.digest_of B) (key.now, bytes_of value.entry) path.now.nodes.items) ++ map shape_bytes path.now.nodes.items) (¬ AllLawful (put_written D.digest_of (layer D.digest_of B) (key.now, bytes_of value.entry) path.now.nodes.items))) }
+{
     let mut made = Vec::new(alloc.clone()?);
-    let root = put_nodes::<D, B, A>(
-        alloc.clone()?,
-        &path.nodes,
-        key,
-        CidRef::from(&value),
-        &mut made,
-    )?;
+    let root = put_nodes::<D, B, A>(alloc.clone()?, &path.nodes, key, value, &mut made)?;
     let drop = dropped(alloc.clone()?, &made, &path.nodes)?;
     let add = added(alloc, &path.nodes, made)?;
     let previous = path.previous;
