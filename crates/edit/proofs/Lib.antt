@@ -1,3 +1,4 @@
+pub mod Changing
 pub mod Cutting
 pub mod Drafting
 pub mod NodeReading

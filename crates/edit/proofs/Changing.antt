@@ -1,0 +1,117 @@
+-- What an edit writes, by what stands before a key and what is left.
+use Rattle.std.proofs.Common.{◌≡◌, ℕ, Bool, true, false, List, [], ◌∷◌, ◌++◌, Option, refl, sym, ap, ◌∙◌}
+use Rattle.std.specs.declared.cmp.Ordering.{Ordering}
+use Rattle.std.specs.declared.cmp.Ordering.TheVariants.{Less, Equal, Greater}
+use Rattle.std.specs.Ordering.{is_eq}
+use Rattle.spec.specs.Tree.{Pair}
+use Rattle.spec.specs.NodeFormat.{Shape, LastLink, MoreLinks, first_link}
+use Rattle.paths.specs.Order.{order}
+use Rattle.paths.specs.ShapeEdit.{keep_before, keep_before_at, keep_after, keep_after_at, go_shape, go_shape_at, insert_shape, insert_shape_at, remove_shape, remove_shape_at, with_first_link, join_shape}
+use Rattle.edit.specs.Ahead.{after_pair, all_pairs, before_key, before_key_at, from_key, from_key_at, is_first_at}
+use Rattle.edit.specs.Drafts.{onto}
+use Rattle.edit.proofs.Drafting.{Links, onto-append}
+
+module _ (key : List ℕ) (new : Option (List ℕ)) where
+  before-at : (o : Ordering) (l : Option (List ℕ)) (e : Pair) (r : Shape)
+      → keep_before key r new ≡ onto (before_key key r) (LastLink new)
+      → keep_before_at o l e new (keep_before key r new) ≡ onto (before_key_at o l e (before_key key r)) (LastLink new)
+  before-at Less l e r h = ap (MoreLinks l e) h
+  before-at Equal l e r h = refl
+  before-at Greater l e r h = refl
+
+  pub keep_before-is : (s : Shape) → keep_before key s new ≡ onto (before_key key s) (LastLink new)
+  keep_before-is (LastLink l) = refl
+  keep_before-is (MoreLinks l e r) = before-at (order e.0 key) l e r (keep_before-is r)
+
+  after-at : (o : Ordering) (l : Option (List ℕ)) (e : Pair) (r : Shape)
+      → keep_after key r new ≡ with_first_link new (from_key key r)
+      → keep_after_at o e r new (keep_after key r new) ≡ with_first_link new (from_key_at o l e r (from_key key r))
+  after-at Less l e r h = h
+  after-at Equal l e r h = refl
+  after-at Greater l e r h = refl
+
+  pub keep_after-is : (s : Shape) → keep_after key s new ≡ with_first_link new (from_key key s)
+  keep_after-is (LastLink l) = refl
+  keep_after-is (MoreLinks l e r) = after-at (order e.0 key) l e r (keep_after-is r)
+
+  go-at : (o : Ordering) (l : Option (List ℕ)) (e : Pair) (r : Shape)
+      → go_shape key r new ≡ onto (before_key key r) (with_first_link new (from_key key r))
+      → go_shape_at o l e r new (go_shape key r new)
+      ≡ onto (before_key_at o l e (before_key key r)) (with_first_link new (from_key_at o l e r (from_key key r)))
+  go-at Less l e r h = ap (MoreLinks l e) h
+  go-at Equal l e r h = refl
+  go-at Greater l e r h = refl
+
+  pub go-is : (s : Shape) → go_shape key s new ≡ onto (before_key key s) (with_first_link new (from_key key s))
+  go-is (LastLink l) = refl
+  go-is (MoreLinks l e r) = go-at (order e.0 key) l e r (go-is r)
+
+  -- a key that the node has
+  removed-at : (o : Ordering) (l : Option (List ℕ)) (e : Pair) (r : Shape) → order e.0 key ≡ o
+      → (is_first_at key (from_key key r) ≡ true
+      → remove_shape key r new ≡ onto (before_key key r) (with_first_link new (after_pair (from_key key r))))
+      → is_first_at key (from_key_at o l e r (from_key key r)) ≡ true
+      → remove_shape_at o l e r new (remove_shape key r new)
+      ≡ onto (before_key_at o l e (before_key key r)) (with_first_link new (after_pair (from_key_at o l e r (from_key key r))))
+  removed-at Less l e r q h t = ap (MoreLinks l e) (h t)
+  removed-at Equal l e r q h t = refl
+  removed-at Greater l e r q h t = let c : false ≡ true = sym (ap is_eq q) ∙ t in absurd cc
+
+  pub removed : (s : Shape) → is_first_at key (from_key key s) ≡ true
+      → remove_shape key s new ≡ onto (before_key key s) (with_first_link new (after_pair (from_key key s)))
+  removed (LastLink l) t = absurd cc
+  removed (MoreLinks l e r) t = removed-at (order e.0 key) l e r refl (removed r) t
+
+  -- a key that the node doesn't have
+  kept-at : (o : Ordering) (l : Option (List ℕ)) (e : Pair) (r : Shape) → order e.0 key ≡ o
+      → (is_first_at key (from_key key r) ≡ false → remove_shape key r new ≡ onto (before_key key r) (from_key key r))
+      → is_first_at key (from_key_at o l e r (from_key key r)) ≡ false
+      → remove_shape_at o l e r new (remove_shape key r new)
+      ≡ onto (before_key_at o l e (before_key key r)) (from_key_at o l e r (from_key key r))
+  kept-at Less l e r q h t = ap (MoreLinks l e) (h t)
+  kept-at Equal l e r q h t = let c : true ≡ false = sym (ap is_eq q) ∙ t in absurd cc
+  kept-at Greater l e r q h t = refl
+
+  pub kept : (s : Shape) → is_first_at key (from_key key s) ≡ false
+      → remove_shape key s new ≡ onto (before_key key s) (from_key key s)
+  kept (LastLink l) t = refl
+  kept (MoreLinks l e r) t = kept-at (order e.0 key) l e r refl (kept r) t
+
+module _ (p : Pair) (t : Option (List ℕ) × Option (List ℕ)) where
+  abbrev put : Shape → Shape
+  put f = MoreLinks (first_link f) p (after_pair f)
+
+  replaced-at : (o : Ordering) (l : Option (List ℕ)) (e : Pair) (r : Shape) → order e.0 p.0 ≡ o
+      → (is_first_at p.0 (from_key p.0 r) ≡ true → insert_shape p r t ≡ onto (before_key p.0 r) (put (from_key p.0 r)))
+      → is_first_at p.0 (from_key_at o l e r (from_key p.0 r)) ≡ true
+      → insert_shape_at o p l e r t (insert_shape p r t)
+      ≡ onto (before_key_at o l e (before_key p.0 r)) (put (from_key_at o l e r (from_key p.0 r)))
+  replaced-at Less l e r q h u = ap (MoreLinks l e) (h u)
+  replaced-at Equal l e r q h u = refl
+  replaced-at Greater l e r q h u = let c : false ≡ true = sym (ap is_eq q) ∙ u in absurd cc
+
+  pub replaced : (s : Shape) → is_first_at p.0 (from_key p.0 s) ≡ true
+      → insert_shape p s t
+      ≡ onto (before_key p.0 s) (MoreLinks (first_link (from_key p.0 s)) p (after_pair (from_key p.0 s)))
+  replaced (LastLink l) u = absurd cc
+  replaced (MoreLinks l e r) u = replaced-at (order e.0 p.0) l e r refl (replaced r) u
+
+  added-at : (o : Ordering) (l : Option (List ℕ)) (e : Pair) (r : Shape) → order e.0 p.0 ≡ o
+      → (is_first_at p.0 (from_key p.0 r) ≡ false
+      → insert_shape p r t ≡ onto (before_key p.0 r) (MoreLinks t.0 p (with_first_link t.1 (from_key p.0 r))))
+      → is_first_at p.0 (from_key_at o l e r (from_key p.0 r)) ≡ false
+      → insert_shape_at o p l e r t (insert_shape p r t)
+      ≡ onto (before_key_at o l e (before_key p.0 r))
+      (MoreLinks t.0 p (with_first_link t.1 (from_key_at o l e r (from_key p.0 r))))
+  added-at Less l e r q h u = ap (MoreLinks l e) (h u)
+  added-at Equal l e r q h u = let c : true ≡ false = sym (ap is_eq q) ∙ u in absurd cc
+  added-at Greater l e r q h u = refl
+
+  pub added : (s : Shape) → is_first_at p.0 (from_key p.0 s) ≡ false
+      → insert_shape p s t ≡ onto (before_key p.0 s) (MoreLinks t.0 p (with_first_link t.1 (from_key p.0 s)))
+  added (LastLink l) u = refl
+  added (MoreLinks l e r) u = added-at (order e.0 p.0) l e r refl (added r) u
+
+pub join-is : (s t : Shape) (x : Option (List ℕ)) → join_shape s t x ≡ onto (all_pairs s) (with_first_link x t)
+join-is (LastLink l) t x = refl
+join-is (MoreLinks l e r) t x = ap (MoreLinks l e) (join-is r t x)
