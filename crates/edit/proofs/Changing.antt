@@ -221,6 +221,14 @@ fault-begins f key s a t none h k b fault =
     fault-at f (none ++ before_key key a) b.rest t
     (ap (λ (xs : Links). onto xs b.rest) (begun key s a none h k) ∙ b.is) fault
 
+pub joined : (s t a b : Shape) (x : Option (List ℕ)) (none w : Links) → a ≡ s → b ≡ t → none ≡ []
+    → w ≡ none ++ all_pairs a → onto w (with_first_link x b) ≡ join_shape s t x
+joined s t a b x none w h i k written =
+    ap (λ (xs : Links). onto xs (with_first_link x b))
+    (written ∙ ap (λ (xs : Links). xs ++ all_pairs a) k ∙ ap all_pairs h)
+    ∙ ap (λ u. onto (all_pairs s) (with_first_link x u)) i
+    ∙ sym (join-is s t x)
+
 -- ---- an answer by another name
 
 pub drafted : (r : Result Shape DraftFault) (s t : Shape) → s ≡ t → IfOk r (λ d. d ≡ s) → IfOk r (λ d. d ≡ t)

@@ -11,7 +11,7 @@ returns-in_err-copy_before-clause-fault g c =
     let key = c.args.key.now in
     let s = shape_from c.args.node.now.left c.args.node.now.entries in
     rw (p.1, p.2) (fault-begins c.in_err-copy_before.field-0.0 key s c.in_ok-ahead.ahead _ c.new-writer.result
-        c.in_ok-ahead.ensures c.new-writer.ensures (keep_before-begins key c.args.new s) c.in_err-copy_before.ensures.fault)
+    c.in_ok-ahead.ensures c.new-writer.ensures (keep_before-begins key c.args.new s) c.in_err-copy_before.ensures.fault)
 
 pub returns-clause-ok : goal.returns-clause-ok
 returns-clause-ok g c =
