@@ -94,8 +94,8 @@ pub put-on : (digest : List ℕ → List ℕ) (layer : List ℕ → ℕ) (p : Pa
     → IsPutOn digest layer p read root add drop
 put-on digest layer p read n1 n2 n3 made lent begun root add drop h1 h2 h3 hl hb hm hr hd ha hf hg =
     let w : made ≡ bytes_of (put_written digest layer p read) =
-        hm ∙ ap (λ (bs : List (List ℕ)). bs ++ bytes_of (put_written digest layer p n1)) hb
-        ∙ ap (λ (ss : List Shape). bytes_of (put_written digest layer p ss)) h1 in
+    hm ∙ ap (λ (bs : List (List ℕ)). bs ++ bytes_of (put_written digest layer p n1)) hb
+    ∙ ap (λ (ss : List Shape). bytes_of (put_written digest layer p ss)) h1 in
     record {
       root_is = hr ∙ ap (λ (ss : List Shape). shape_cid digest (put_root digest layer p ss)) h1;
       added = ha ∙ ap (λ (ss : List Shape). add_of digest (bytes_of ss) made) h3 ∙ ap (add_of digest (bytes_of read)) w;
@@ -169,12 +169,12 @@ module _ (digest : List ℕ → List ℕ) (bits : ℕ) (fits : IsDigest digest) 
         let goes = path_from (shown_by gives) n key (Some (root_of digest bits es)) in
         let comes = put_written digest (layer digest bits) (key, value) goes in
         let all = is-put.edit.changes
-            (subst (λ (ss : List Shape). IsClashFree digest (bytes_of (put_written digest (layer digest bits) (key, value) ss) ++ bytes_of ss))
-            reads (on.all_free free)) in
+        (subst (λ (ss : List Shape). IsClashFree digest (bytes_of (put_written digest (layer digest bits) (key, value) ss) ++ bytes_of ss))
+        reads (on.all_free free)) in
         let added : add_of digest (bytes_of goes) (bytes_of comes) ≡ add =
-            sym (on.added ∙ ap (λ (ss : List Shape). add_of digest (bytes_of ss) (bytes_of (put_written digest (layer digest bits) (key, value) ss))) reads) in
+        sym (on.added ∙ ap (λ (ss : List Shape). add_of digest (bytes_of ss) (bytes_of (put_written digest (layer digest bits) (key, value) ss))) reads) in
         let dropped : drop_of digest (bytes_of comes) (bytes_of goes) ≡ drop =
-            sym (on.dropped ∙ ap (λ (ss : List Shape). drop_of digest (bytes_of (put_written digest (layer digest bits) (key, value) ss)) (bytes_of ss)) reads) in
+        sym (on.dropped ∙ ap (λ (ss : List Shape). drop_of digest (bytes_of (put_written digest (layer digest bits) (key, value) ss)) (bytes_of ss)) reads) in
         let seen : bytes_of goes ≡ path digest bits es key = (is-lookup digest bits fits gives root key es has n enough).reads in
         record {
           root_is = on.root_is ∙ ap (λ (ss : List Shape). shape_cid digest (put_root digest (layer digest bits) (key, value) ss)) reads

@@ -17,7 +17,9 @@ pub returns-in_err-path-clause-fault : goal.returns-in_err-path-clause-fault
 returns-in_err-path-clause-fault g c es h =
     let p = err_from_is_err_and c.from_residual-in_err-path.result c.from_residual-in_err-path.ensures.1 in
     rw p.1
-    (cannot-be g.D.Digest.digest_of _ ⊥ _ c.in_err-path.field-0.0 p.0
+    (cannot-be g.D.Digest.digest_of
+    (nodes g.D.Digest.digest_of g.row.B es ++ nodes g.D.Digest.digest_of g.row.B (with_key es c.args.key.now c.args.value)) ⊥ _
+    c.in_err-path.field-0.0 p.0
     (path-whole _ _ g.met.D.Digest.digest_len _ _ c.args.key.now es h _ c.layers.ensures) c.in_err-path.ensures.fault p.2)
 
 pub returns-in_err-path-clause-layers : goal.returns-in_err-path-clause-layers
@@ -42,7 +44,7 @@ returns-clause-edit g c es h =
 pub returns-clause-fault : goal.returns-clause-fault
 returns-clause-fault g c es h =
     let all = put-is_lawful g.D.Digest.digest_of g.row.B g.met.D.Digest.digest_len c.args.key.now (bytes_of c.from.result)
-        c.in_ok-path.path.nodes.items c.requires.key c.from.result.own c.in_ok-path.ensures.read in
+    c.in_ok-path.path.nodes.items c.requires.key c.from.result.own c.in_ok-path.ensures.read in
     if-err c.put_on_path.result
     (λ f r. subst (λ (v : List ℕ). IsRefusal g.D.Digest.digest_of (nodes g.D.Digest.digest_of g.row.B es
     ++ nodes g.D.Digest.digest_of g.row.B (with_key es c.args.key.now v)) ⊥ f) c.from.ensures
