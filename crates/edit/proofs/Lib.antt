@@ -6,3 +6,4 @@ pub mod Drafting
 pub mod NodeReading
 pub mod Stepping
 pub mod Building
+pub mod Deleting
