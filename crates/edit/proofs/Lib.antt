@@ -7,3 +7,4 @@ pub mod NodeReading
 pub mod Stepping
 pub mod Building
 pub mod Deleting
+pub mod DeleteReading
