@@ -73,10 +73,10 @@ module _ {X : Type 0} (view : X → List ℕ) (digest : List ℕ → List ℕ) (
             ∙ list_any_at (is_like view digest block) xs i x l (ap (is_like view digest block) (sym e) ∙ like-of x true h));
         here = λ _. subst (Contains (map view xs)) (only block (view x) c) (in-map xs i x l e);
       }
-      where
-        only : (a b : List ℕ) → Contains (b ∷ []) a → b ≡ a
-        only a b (zero, k, q) = q
-        only a b (suc i, k, q) = absurd (omega arith)
+    where
+      only : (a b : List ℕ) → Contains (b ∷ []) a → b ≡ a
+      only a b (zero, k, q) = q
+      only a b (suc i, k, q) = absurd (omega arith)
 
 -- whether a block has the CID c
 abbrev pub has_mark : {X : Type 0} → (X → List ℕ) → (List ℕ → List ℕ) → List ℕ → X → Bool
@@ -212,7 +212,7 @@ snoc-case mark x y ys false h ih =
         → bytes_eq (mark x) (mark y) ≡ false → bytes_eq (mark x) (mark f) ≡ true → t ≡ false
     differs-case mark x y f true e h k =
         let same = (bytes_eq-Decides (mark x) (mark y)).1
-            ((bytes_eq-Decides (mark x) (mark f)).0 k ∙ (bytes_eq-Decides (mark f) (mark y)).0 e) in cc
+        ((bytes_eq-Decides (mark x) (mark f)).0 k ∙ (bytes_eq-Decides (mark f) (mark y)).0 e) in cc
     differs-case mark x y f false e h k = refl
 
     differs : (mark : List ℕ → List ℕ) (x y f : List ℕ) → bytes_eq (mark x) (mark y) ≡ false
@@ -237,7 +237,7 @@ not-there : (digest : List ℕ → List ℕ) (x : List ℕ) (bs : List (List ℕ
 not-there digest x bs h a c e =
     let like : List ℕ → Bool = λ y. bytes_eq (cid digest x) (cid digest y) in
     let found : list_any like bs ≡ true = list_any_at like bs c.0 a c.1
-        (ap like c.2 ∙ (bytes_eq-Decides (cid digest x) (cid digest a)).1 e) in
+    (ap like c.2 ∙ (bytes_eq-Decides (cid digest x) (cid digest a)).1 e) in
     let none : list_any like bs ≡ false = sym (any-map (bytes_eq (cid digest x)) (cid digest) bs) ∙ h in
     cc
 
@@ -267,7 +267,7 @@ module _ (digest : List ℕ → List ℕ) (read made add : List (List ℕ)) (x :
   unfolding unread
   added-held r m a =
       let has : has_cid (cid digest x) (map (cid digest) (add_of digest read made)) ≡ true =
-          ap (λ bs. has_cid (cid digest x) (map (cid digest) bs)) (sym a.added) ∙ sym m.by_cid in
+      ap (λ bs. has_cid (cid digest x) (map (cid digest) bs)) (sym a.added) ∙ sym m.by_cid in
       record {
         added = a.added ∙ sym (ap (firsts (cid digest)) (filter-one unread x made true (ap not (sym r.by_cid)))
             ∙ firsts-snoc (cid digest) x (filter unread made)
@@ -321,7 +321,7 @@ module _ (digest : List ℕ → List ℕ) (read made add : List (List ℕ)) (x :
   unfolding unread
   added-new r m a =
       let has : has_cid (cid digest x) (map (cid digest) (add_of digest read made)) ≡ false =
-          ap (λ bs. has_cid (cid digest x) (map (cid digest) bs)) (sym a.added) ∙ sym m.by_cid in
+      ap (λ bs. has_cid (cid digest x) (map (cid digest) bs)) (sym a.added) ∙ sym m.by_cid in
       record {
         added = ap (λ bs. bs ++ x ∷ []) a.added
             ∙ sym (ap (firsts (cid digest)) (filter-one unread x made true (ap not (sym r.by_cid)))
@@ -332,10 +332,10 @@ module _ (digest : List ℕ → List ℕ) (read made add : List (List ℕ)) (x :
         clash_free = λ free. free-more r m (a.clash_free free);
         from = λ b k. pushed a b (Contains-push_cases add x b k);
       }
-      where
-        pushed : AreAdded digest read made add → (b : List ℕ) → Contains add b ⊎ (x ≡ b) → Contains (made ++ x ∷ []) b
-        pushed a b (inl k) = Contains-append_left made (x ∷ []) b (a.from b k)
-        pushed a b (inr e) = subst (Contains (made ++ x ∷ [])) e (Contains-push made x)
+    where
+      pushed : AreAdded digest read made add → (b : List ℕ) → Contains add b ⊎ (x ≡ b) → Contains (made ++ x ∷ []) b
+      pushed a b (inl k) = Contains-append_left made (x ∷ []) b (a.from b k)
+      pushed a b (inr e) = subst (Contains (made ++ x ∷ [])) e (Contains-push made x)
 
 -- where all are added, what was made clashes with none that was made or read
 pub added-free : (digest : List ℕ → List ℕ) (read made add : List (List ℕ)) → AreAdded digest read made add

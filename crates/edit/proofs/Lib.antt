@@ -1,8 +1,12 @@
 pub mod Among
 pub mod NodeLaws
 pub mod PathReading
+pub mod PutSteps
+pub mod Putting
+pub mod Changing
 pub mod Cutting
 pub mod Drafting
+pub mod NodeEnds
 pub mod NodeReading
 pub mod Stepping
 pub mod Building

@@ -1,11 +1,13 @@
 -- Loops that read nodes from a source: what was read so far, and what is still to be read.
-use Rattle.std.proofs.Common.{◌≡◌, ℕ, zero, suc, ◌+◌, ◌-◌, ◌*◌, ◌<◌, ◌≤◌, List, [], ◌∷◌, ◌++◌, length, Option, Bool, true, false, refl, sym, ap, ◌∙◌, arith}
+use Rattle.std.proofs.Common.{◌≡◌, ℕ, zero, suc, ◌+◌, ◌-◌, ◌*◌, ◌<◌, ◌≤◌, List, [], ◌∷◌, ◌++◌, length, Option, Bool, true, false, ◌^◌, refl, sym, ap, ◌∙◌, subst, arith}
 use Rattle.std.specs.declared.option.Option.TheVariants.{Some, None}
 use Rattle.std.proofs.lemmas.List.{append-nil, append_assoc}
-use Rattle.spec.specs.NodeFormat.{Shape, LastLink, MoreLinks, first_link}
+use Rattle.std.specs.List.{AllByRecursion}
+use Rattle.spec.specs.NodeFormat.{Shape, LastLink, MoreLinks, first_link, shape_bytes}
+use Rattle.paths.specs.Lawful.{Lawful, AllLawful, AllShort}
 use Rattle.paths.specs.ShapeEdit.{last_link}
 use Rattle.paths.specs.Sources.{row_value, gap, or_deeper, path_at, value_at, value_from, path_from, shown, met_at, met_from, pruned_at, pruned_from}
-use Rattle.edit.specs.Nodes.{has_pairs}
+use Rattle.edit.specs.Nodes.{IsRead, has_pairs}
 use Rattle.edit.specs.Steps.{asked_at, asked_from, asked_met_at, asked_met, asked_pruned_at, asked_pruned, shows, IsWholePath, IsWholeMet, IsWholeChain}
 use Rattle.edit.proofs.Stepping.{at_key, value-none, asked-none}
 
@@ -20,6 +22,21 @@ back n h = omega arith
 pub shown-by : {X : Type 0} (view : X → List ℕ) (was is : List ℕ → Option X) (c : List ℕ) (o : Option Shape) → is ≡ was
     → o ≡ shows view is c → shows view was c ≡ o
 shown-by view was is c o same h = sym (h ∙ ap (λ (f : List ℕ → Option _). shows view f c) same)
+
+-- ---- what is read is of the grammar
+
+all-more : {A : Type 0} (P : A → Type 0) (xs : List A) (x : A) → AllByRecursion P xs → P x → AllByRecursion P (xs ++ x ∷ [])
+all-more P [] x a p = (p, tt)
+all-more P (y ∷ xs) x a p = (a.0, all-more P xs x a.1 p)
+
+pub all-read : (xs ys : List Shape) (x : Shape) → ys ≡ xs ++ x ∷ [] → AllLawful xs × AllShort xs → IsRead x
+    → AllLawful ys × AllShort ys
+all-read xs ys x e a r = (
+  subst AllLawful (sym e) (all-more Lawful xs x a.0 r.0),
+  subst AllShort (sym e) (all-more (λ (s : Shape). length (shape_bytes s) < 2 ^ 64) xs x a.1 r.1),
+)
+
+-- ---- how often a source is asked
 
 pub reads-le : (r₂ r₁ r₀ n a : ℕ) → r₂ ≡ suc r₁ → r₁ ≡ r₀ + n → suc n ≤ a → r₂ ≤ r₀ + a
 reads-le r₂ r₁ r₀ n a h k l = omega arith
@@ -124,9 +141,9 @@ module _ (shows : List ℕ → Option Shape) (key : List ℕ) where
     path-missing t f h =
         let e = back n t in
         let a : asked_from shows n key (Some c) ≡ 1 = sym (ap (λ k. asked_from shows k key (Some c)) e)
-            ∙ ap (asked_at (asked_from shows (n - 1) key) key) h in
+        ∙ ap (asked_at (asked_from shows (n - 1) key) key) h in
         let p : path_from shows n key (Some c) ≡ [] = sym (ap (λ k. path_from shows k key (Some c)) e)
-            ∙ ap (path_at (path_from shows (n - 1) key) key) h in
+        ∙ ap (path_at (path_from shows (n - 1) key) key) h in
         let b = f.asked in
         let k = ap length (f.path ∙ ap (λ xs. nodes ++ xs) p ∙ append-nil nodes) in
         ((λ w. omega (arith, w)), omega arith)
@@ -154,11 +171,12 @@ module _ (shows : List ℕ → Option Shape) where
       → (met_from shows n (Some c) (Some d) ≡ (s, t) ∷ met_from shows (n - 1) (last_link s) (first_link t))
       × (asked_met shows n (Some c) (Some d) ≡ suc (suc (asked_met shows (n - 1) (last_link s) (first_link t))))
   met-step n c d s t h p q =
-      let e = back n h in
-      (sym (ap (λ k. met_from shows k (Some c) (Some d)) e)
-      ∙ ap (λ o. met_at (met_from shows (n - 1)) o (shows d)) p ∙ ap (met_at (met_from shows (n - 1)) (Some s)) q,
-      sym (ap (λ k. asked_met shows k (Some c) (Some d)) e)
-      ∙ ap (λ o. asked_met_at (asked_met shows (n - 1)) o (shows d)) p ∙ ap (asked_met_at (asked_met shows (n - 1)) (Some s)) q)
+      let e = back n h in (
+        sym (ap (λ k. met_from shows k (Some c) (Some d)) e)
+            ∙ ap (λ o. met_at (met_from shows (n - 1)) o (shows d)) p ∙ ap (met_at (met_from shows (n - 1)) (Some s)) q,
+        sym (ap (λ k. asked_met shows k (Some c) (Some d)) e)
+            ∙ ap (λ o. asked_met_at (asked_met shows (n - 1)) o (shows d)) p ∙ ap (asked_met_at (asked_met shows (n - 1)) (Some s)) q,
+      )
 
   none-after : (further : Option (List ℕ) → Option (List ℕ) → List (Shape × Shape)) (o : Option Shape)
       → met_at further o None ≡ []
@@ -230,9 +248,9 @@ module _ (shows : List ℕ → Option Shape) where
         let f = here x y c d p q g in
         let e = back n t in
         let a : asked_met shows n (Some c) (Some d) ≡ 1 = sym (ap (λ k. asked_met shows k (Some c) (Some d)) e)
-            ∙ ap (λ o. asked_met_at (asked_met shows (n - 1)) o (shows d)) h in
+        ∙ ap (λ o. asked_met_at (asked_met shows (n - 1)) o (shows d)) h in
         let m : met_from shows n (Some c) (Some d) ≡ [] = sym (ap (λ k. met_from shows k (Some c) (Some d)) e)
-            ∙ ap (λ o. met_at (met_from shows (n - 1)) o (shows d)) h in
+        ∙ ap (λ o. met_at (met_from shows (n - 1)) o (shows d)) h in
         let b = f.asked in
         let k = ap length (f.pairs ∙ ap (λ xs. met ++ xs) m ∙ append-nil met) in
         ((λ w. omega (arith, w)), omega arith)
@@ -245,10 +263,10 @@ module _ (shows : List ℕ → Option Shape) where
         let f = here x y c d p q g in
         let e = back n t in
         let a : asked_met shows n (Some c) (Some d) ≡ 2 = sym (ap (λ k. asked_met shows k (Some c) (Some d)) e)
-            ∙ ap (λ o. asked_met_at (asked_met shows (n - 1)) o (shows d)) h
-            ∙ ap (asked_met_at (asked_met shows (n - 1)) (Some s)) i in
+        ∙ ap (λ o. asked_met_at (asked_met shows (n - 1)) o (shows d)) h
+        ∙ ap (asked_met_at (asked_met shows (n - 1)) (Some s)) i in
         let m : met_from shows n (Some c) (Some d) ≡ [] = sym (ap (λ k. met_from shows k (Some c) (Some d)) e)
-            ∙ ap (λ o. met_at (met_from shows (n - 1)) o (shows d)) h ∙ ap (met_at (met_from shows (n - 1)) (Some s)) i in
+        ∙ ap (λ o. met_at (met_from shows (n - 1)) o (shows d)) h ∙ ap (met_at (met_from shows (n - 1)) (Some s)) i in
         let b = f.asked in
         let k = ap length (f.pairs ∙ ap (λ xs. met ++ xs) m ∙ append-nil met) in
         ((λ w. omega (arith, w)), omega arith)
@@ -283,9 +301,10 @@ module _ (shows : List ℕ → Option Shape) where
       → (pruned_from shows n (Some c) ≡ pruned_at (pruned_from shows (n - 1)) o)
       × (asked_pruned shows n (Some c) ≡ asked_pruned_at (asked_pruned shows (n - 1)) o)
   shown-at n c o t h =
-      let e = back n t in
-      (sym (ap (λ k. pruned_from shows k (Some c)) e) ∙ ap (pruned_at (pruned_from shows (n - 1))) h,
-      sym (ap (λ k. asked_pruned shows k (Some c)) e) ∙ ap (asked_pruned_at (asked_pruned shows (n - 1))) h)
+      let e = back n t in (
+        sym (ap (λ k. pruned_from shows k (Some c)) e) ∙ ap (pruned_at (pruned_from shows (n - 1))) h,
+        sym (ap (λ k. asked_pruned shows k (Some c)) e) ∙ ap (asked_pruned_at (asked_pruned shows (n - 1))) h,
+      )
 
   bare-at : (further : Option (List ℕ) → List Shape) (times : Option (List ℕ) → ℕ) (s : Shape) → has_pairs s ≡ false
       → (pruned_at further (Some s) ≡ s ∷ further (first_link s))
@@ -324,7 +343,7 @@ module _ (shows : List ℕ → Option Shape) where
         let a = shown-at n c (Some s) t h in
         let e = bare-at (pruned_from shows (n - 1)) (asked_pruned shows (n - 1)) s b in
         let i : asked_pruned shows n₀ l₀ ≡ length nodes + asked_pruned shows n (Some c) = f.asked
-            ∙ ap (λ o. length nodes + asked_pruned shows n o) p in
+        ∙ ap (λ o. length nodes + asked_pruned shows n o) p in
         let j : asked_pruned shows n (Some c) ≡ suc (asked_pruned shows (n - 1) (first_link s)) = a.1 ∙ e.1 in
         record {
           chain = f.chain ∙ ap (λ o. nodes ++ pruned_from shows n o) p ∙ ap (λ xs. nodes ++ xs) (a.0 ∙ e.0)
@@ -338,7 +357,7 @@ module _ (shows : List ℕ → Option Shape) where
         let a = shown-at n c (Some s) t h in
         let e = last-at (pruned_from shows (n - 1)) (asked_pruned shows (n - 1)) s b in
         let i : asked_pruned shows n₀ l₀ ≡ length nodes + asked_pruned shows n (Some c) = f.asked
-            ∙ ap (λ o. length nodes + asked_pruned shows n o) p in
+        ∙ ap (λ o. length nodes + asked_pruned shows n o) p in
         let j : asked_pruned shows n (Some c) ≡ 1 = a.1 ∙ e.1 in
         record {
           chain = sym (f.chain ∙ ap (λ o. nodes ++ pruned_from shows n o) p ∙ ap (λ xs. nodes ++ xs) (a.0 ∙ e.0));
@@ -350,7 +369,7 @@ module _ (shows : List ℕ → Option Shape) where
     chain-missing c t p h f =
         let a = shown-at n c None t h in
         let i : asked_pruned shows n₀ l₀ ≡ length nodes + asked_pruned shows n (Some c) = f.asked
-            ∙ ap (λ o. length nodes + asked_pruned shows n o) p in
+        ∙ ap (λ o. length nodes + asked_pruned shows n o) p in
         let j : asked_pruned shows n (Some c) ≡ 1 = a.1 in
         let k = ap length (f.chain ∙ ap (λ o. nodes ++ pruned_from shows n o) p ∙ ap (λ xs. nodes ++ xs) a.0 ∙ append-nil nodes) in
         ((λ w. omega (arith, w)), omega arith)
@@ -360,6 +379,6 @@ module _ (shows : List ℕ → Option Shape) where
     chain-counts c s t p h f =
         let a = shown-at n c (Some s) t h in
         let i : asked_pruned shows n₀ l₀ ≡ length nodes + asked_pruned shows n (Some c) = f.asked
-            ∙ ap (λ o. length nodes + asked_pruned shows n o) p in
+        ∙ ap (λ o. length nodes + asked_pruned shows n o) p in
         let j = a.1 in
         let k = asks (asked_pruned shows (n - 1)) s in omega arith

@@ -161,7 +161,7 @@ module _ (digest : List ℕ → List ℕ) (shows : List ℕ → Option Shape) wh
 
 module _ (digest : List ℕ → List ℕ) (bits : ℕ) (fits : IsDigest digest) (gives : List ℕ → Option (List ℕ))
     (root key : List ℕ) (es : List Pair) (has : HasTree digest bits gives root es) (n : ℕ) (enough : n ≡ layers bits) where
-  is-lookup : IsLookup digest bits gives n key es
+  pub is-lookup : IsLookup digest bits gives n key es
   is-lookup =
       let t = top-has_layer digest bits fits es in
       lookup-over_source digest bits fits gives n key es has.pairs has.nodes (omega arith)
@@ -169,7 +169,7 @@ module _ (digest : List ℕ → List ℕ) (bits : ℕ) (fits : IsDigest digest) 
   pub tree-value : value_from (shown_by gives) n key (Some root) ≡ value_of key es
   tree-value = ap (λ r. value_from (shown_by gives) n key (Some r)) has.root_is ∙ is-lookup.value
 
-  asked-path : asked_from (shown_by gives) n key (Some root)
+  pub asked-path : asked_from (shown_by gives) n key (Some root)
       ≡ length (path_from (shown_by gives) n key (Some (root_of digest bits es)))
   asked-path =
       ap (λ r. asked_from (shown_by gives) n key (Some r)) has.root_is

@@ -5,6 +5,7 @@ pub mod ShapeCode
 pub mod Ahead
 pub mod Codes
 pub mod Drafts
+pub mod Edits
 pub mod Rows
 pub mod Settled
 pub mod Deletes

@@ -48,10 +48,16 @@ pub(crate) fn has_only(node: &NodeView<'_>, key: &[u8]) -> Option<(Option<Cid>, 
 {
     let mut entries = node.entries();
     let entry = entries.next()?;
-    if entries.next().is_some() || entry.suffix != key {
-        return None;
+    match entries.next() {
+        None => {
+            if entry.suffix.cmp(key).is_eq() {
+                Some((to_cid(node.left()), to_cid(entry.tree)))
+            } else {
+                None
+            }
+        }
+        Some(_) => None,
     }
-    Some((to_cid(node.left()), to_cid(entry.tree)))
 }
 
 /// The layer of a node's keys, and 0 for a node without keys.

@@ -6,7 +6,7 @@ ghost use Rattle.paths.specs.Sources.{shape_from, shape_of_bytes, row_value, gap
 ghost use Rattle.spec.specs.NodeFormat.{first_link};
 ghost use Rattle.cid.specs.CidRef.{bytes_of};
 ghost use Rattle.paths.specs.ShapeEdit.{last_link};
-ghost use Rattle.edit.specs.Nodes.{IsNodeOf, has_pairs};
+ghost use Rattle.edit.specs.Nodes.{IsNodeOf, IsRead, has_pairs};
 ghost use Rattle.edit.specs.Steps.{place_found, shows};
 
 use crate::source::Source;
@@ -44,7 +44,8 @@ impl<'a, D: Digest, A: Allocator> Model for Node<'a, D, A> {
 impl<'a, D: Digest, A: Allocator> Node<'a, D, A> {
     /// The node of a block, or `None` where its bytes are no node.
     pub(crate) fn of(block: &'a Arc<Block<D, A>, A>) -> Option<Node<'a, D, A>>
-        ensures { result ≡ shape_of_bytes (arc_value block.now) }
+        ensures shown { result ≡ shape_of_bytes (arc_value block.now) }
+        ensures read { IfSome result IsRead }
     {
         let view = view_of(block.bytes())?;
         Some(Node { block, view })
@@ -127,6 +128,7 @@ pub(crate) fn node_at<'a, D: Digest + 'a, A: Allocator + 'a, S: Source<'a, Arc<B
     cid: &Cid,
 ) -> Option<Node<'a, D, A>>
     ensures shown { result ≡ shows arc_value (S.gives src.old) cid.now }
+    ensures read { IfSome result IsRead }
     ensures same { S.gives src.new ≡ S.gives src.old }
     ensures counted { S.reads src.new ≡ suc (S.reads src.old) }
 {

@@ -2,6 +2,7 @@
 
 ghost use Rattle.std.specs.Prelude.{◌≡◌, ◌≤◌, ◌+◌, ℕ, List, Some, IfOk, IfErr, OnOk, map};
 ghost use Rattle.std.specs.Arc.{arc_value};
+ghost use Rattle.paths.specs.Lawful.{AllLawful, AllShort};
 ghost use Rattle.paths.specs.Sources.{path_from, value_from, met_from, pruned_from};
 ghost use Rattle.edit.specs.Faults.{IsFaultUnless};
 ghost use Rattle.edit.specs.Steps.{shows, asked_from, asked_met, asked_pruned, IsWholePath, IsWholeMet, IsWholeChain};
@@ -31,6 +32,7 @@ pub(crate) fn read_path<'a, D: Digest + 'a, A: Allocator + 'a, S: Source<'a, Arc
     most: u16,
 ) -> Result<Path<'a, D, A>, DraftFault>
     ensures nodes { IfOk result (λ path. path.nodes.items ≡ path_from (shows arc_value (S.gives src.old)) most key.now (Some root)) }
+    ensures read { IfOk result (λ path. AllLawful path.nodes.items × AllShort path.nodes.items) }
     ensures previous { IfOk result (λ path. path.previous ≡ value_from (shows arc_value (S.gives src.old)) most key.now (Some root)) }
     ensures fault { IfErr result (IsFaultUnless (IsWholePath (shows arc_value (S.gives src.old)) most key.now (Some root))) }
     ensures same { S.gives src.new ≡ S.gives src.old }

@@ -16,7 +16,7 @@ returns-in_err-is_read-clause-fault g c =
     let at = c.loop-block in
     let read = map shape_bytes c.args.read.now in
     let whole = sym c.into_iter-block-iterator.ensures.into_iter_gives.0 ∙ at.invariant.whole
-        ∙ ap (λ ys. at.yielded ++ ys) c.in-Some.ensures.steps.0 in
+    ∙ ap (λ ys. at.yielded ++ ys) c.in-Some.ensures.steps.0 in
     rw (p.1, p.2)
     (refusal-within g.D.Digest.digest_of ⊥ (arc_value c.in-Some.block ∷ read) (map arc_value c.args.made.items ++ read)
     c.in_err-is_read.field-0.0
@@ -29,7 +29,7 @@ returns-in_err-is_made-clause-fault g c =
     let at = c.loop-block in
     let read = map shape_bytes c.args.read.now in
     let whole = sym c.into_iter-block-iterator.ensures.into_iter_gives.0 ∙ at.invariant.whole
-        ∙ ap (λ ys. at.yielded ++ ys) c.in-Some.ensures.steps.0 in
+    ∙ ap (λ ys. at.yielded ++ ys) c.in-Some.ensures.steps.0 in
     rw (p.1, p.2)
     (refusal-within g.D.Digest.digest_of ⊥ (arc_value c.in-Some.block ∷ map arc_value at.add.items)
     (map arc_value c.args.made.items ++ read) c.in_err-is_made.field-0.0
@@ -59,16 +59,16 @@ loop-block-preserved g c =
     let steps : into_iter_items at.block-iterator ≡ c.in-Some.block ∷ into_iter_items c.next.new.self = c.in-Some.ensures.steps.0 in
     record {
       added = elim c.else-not-branch.branch [
-        else-not-branch-via-then-not-branch+in_ok-is_made+else-not-branch-2 w ↦
-          (let unread : c.in_ok-is_read.field-0 ≡ false = search rules in
-          let held : w.in_ok-is_made.field-0 ≡ true = search rules in
-          turn-held arc_value g.D.Digest.digest_of (map shape_bytes c.args.read.now) at.yielded at.add.items c.in-Some.block
-          at.invariant.added c.in_ok-is_read.field-0 w.in_ok-is_made.field-0 w.deref.result.now
-          unread c.in_ok-is_read.ensures.found w.deref.ensures.value held w.in_ok-is_made.ensures.found)
-      | else-not-branch-via-else-not-branch w ↦
-          (let was_read : c.in_ok-is_read.field-0 ≡ true = search rules in
-          turn-read arc_value g.D.Digest.digest_of (map shape_bytes c.args.read.now) at.yielded at.add.items c.in-Some.block
-          at.invariant.added c.in_ok-is_read.field-0 was_read c.in_ok-is_read.ensures.found)
+        | else-not-branch-via-then-not-branch+in_ok-is_made+else-not-branch-2 w ↦
+            (let unread : c.in_ok-is_read.field-0 ≡ false = search rules in
+            let held : w.in_ok-is_made.field-0 ≡ true = search rules in
+            turn-held arc_value g.D.Digest.digest_of (map shape_bytes c.args.read.now) at.yielded at.add.items c.in-Some.block
+            at.invariant.added c.in_ok-is_read.field-0 w.in_ok-is_made.field-0 w.deref.result.now
+            unread c.in_ok-is_read.ensures.found w.deref.ensures.value held w.in_ok-is_made.ensures.found)
+        | else-not-branch-via-else-not-branch w ↦
+            (let was_read : c.in_ok-is_read.field-0 ≡ true = search rules in
+            turn-read arc_value g.D.Digest.digest_of (map shape_bytes c.args.read.now) at.yielded at.add.items c.in-Some.block
+            at.invariant.added c.in_ok-is_read.field-0 was_read c.in_ok-is_read.ensures.found)
       ];
       whole = at.invariant.whole ∙ ap (λ ys. at.yielded ++ ys) steps
           ∙ sym (append_assoc at.yielded (c.in-Some.block ∷ []) (into_iter_items c.next.new.self));
@@ -80,7 +80,7 @@ returns-clause-add g c =
     let at = c.loop-block in
     let none : length (into_iter_items at.block-iterator) ≡ 0 = sym at.invariant.left ∙ c.in-None.ensures.steps.0 in
     let all = over c.args.made.items at.yielded (into_iter_items at.block-iterator)
-        (sym c.into_iter-block-iterator.ensures.into_iter_gives.0 ∙ at.invariant.whole) none in
+    (sym c.into_iter-block-iterator.ensures.into_iter_gives.0 ∙ at.invariant.whole) none in
     at.invariant.added.added
     ∙ ap (add_of g.D.Digest.digest_of (map shape_bytes c.args.read.now)) (ap (map arc_value) all)
 
@@ -93,6 +93,6 @@ returns-clause-made g c =
     let read = map shape_bytes c.args.read.now in
     let none : length (into_iter_items at.block-iterator) ≡ 0 = sym at.invariant.left ∙ c.in-None.ensures.steps.0 in
     let all = over c.args.made.items at.yielded (into_iter_items at.block-iterator)
-        (sym c.into_iter-block-iterator.ensures.into_iter_gives.0 ∙ at.invariant.whole) none in
+    (sym c.into_iter-block-iterator.ensures.into_iter_gives.0 ∙ at.invariant.whole) none in
     λ free. subst (λ (ys : List (List ℕ)). IsClashFree g.D.Digest.digest_of (ys ++ read)) (ap (map arc_value) all)
     (added-free g.D.Digest.digest_of read (map arc_value at.yielded) (map arc_value at.add.items) at.invariant.added free)

@@ -95,14 +95,14 @@ returns-in_default-clause-reads_all g c =
     let at = c.loop-left in
     let b = at.invariant.counted in
     elim c.in_default.branch [
-      in_default-via-in-Some+in_default w ↦
-        (let none : at.after ≡ None = search rules in
-        let e = (met-ends-late (shows arc_value (g.S.Source.gives c.args.src.now)) c.args.most c.args.one c.args.other at.left
-        at.met.items at.before at.after none at.invariant.so_far).asked in
-        omega (arith, e))
-    | in_default-via-in_default w ↦
-        (let none : at.before ≡ None = search rules in
-        let e = (met-ends (shows arc_value (g.S.Source.gives c.args.src.now)) c.args.most c.args.one c.args.other at.left
-        at.met.items at.before at.after none at.invariant.so_far).asked in
-        omega (arith, e))
+      | in_default-via-in-Some+in_default w ↦
+          (let none : at.after ≡ None = search rules in
+          let e = (met-ends-late (shows arc_value (g.S.Source.gives c.args.src.now)) c.args.most c.args.one c.args.other at.left
+          at.met.items at.before at.after none at.invariant.so_far).asked in
+          omega (arith, e))
+      | in_default-via-in_default w ↦
+          (let none : at.before ≡ None = search rules in
+          let e = (met-ends (shows arc_value (g.S.Source.gives c.args.src.now)) c.args.most c.args.one c.args.other at.left
+          at.met.items at.before at.after none at.invariant.so_far).asked in
+          omega (arith, e))
     ]
