@@ -31,15 +31,15 @@ pub pair-tail : {X : Type 0} (xs : List (X × X)) (x y : X × X) → 1 ≤ lengt
 pair-tail [] x y h = absurd (omega arith)
 pair-tail (z ∷ zs) x y h = ap (λ t. z ∷ t) (sym (take_all (length (z ∷ zs) - 1) zs (omega arith)))
 
-front-all : {X : Type 0} (P : X → Type 0) (xs ys : List X) → AllByRecursion P (xs ++ ys) → AllByRecursion P xs
+pub front-all : {X : Type 0} (P : X → Type 0) (xs ys : List X) → AllByRecursion P (xs ++ ys) → AllByRecursion P xs
 front-all P [] ys h = tt
 front-all P (x ∷ xs) ys h = (h.0, front-all P xs ys h.1)
 
-back-all : {X : Type 0} (P : X → Type 0) (xs ys : List X) → AllByRecursion P (xs ++ ys) → AllByRecursion P ys
+pub back-all : {X : Type 0} (P : X → Type 0) (xs ys : List X) → AllByRecursion P (xs ++ ys) → AllByRecursion P ys
 back-all P [] ys h = h
 back-all P (x ∷ xs) ys h = back-all P xs ys h.1
 
-join-all : {X : Type 0} (P : X → Type 0) (xs ys : List X) → AllByRecursion P xs → AllByRecursion P ys
+pub join-all : {X : Type 0} (P : X → Type 0) (xs ys : List X) → AllByRecursion P xs → AllByRecursion P ys
     → AllByRecursion P (xs ++ ys)
 join-all P [] ys h k = k
 join-all P (x ∷ xs) ys h k = (h.0, join-all P xs ys h.1 k)
@@ -59,7 +59,7 @@ of-unless s Q NotNode h n = λ q. n (h q)
 of-unless s Q NoMemory h n = tt
 
 -- the node without keys and links is of the grammar too
-closed-lawful : (s : Shape) → AllLawful (close_shapes s) → Lawful s
+pub closed-lawful : (s : Shape) → AllLawful (close_shapes s) → Lawful s
 closed-lawful (LastLink None) h = refl
 closed-lawful (LastLink (Some c)) h = h.0
 closed-lawful (MoreLinks l e r) h = h.0

@@ -10,3 +10,5 @@ pub mod NodeEnds
 pub mod NodeReading
 pub mod Stepping
 pub mod Building
+pub mod Deleting
+pub mod DeleteReading

@@ -7,5 +7,6 @@ pub mod Drafts
 pub mod Edits
 pub mod Rows
 pub mod Settled
+pub mod Deletes
 pub mod Steps
 pub mod Trees

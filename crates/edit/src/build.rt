@@ -12,5 +12,5 @@ pub(crate) use climb::climb;
 pub(crate) use lift::lift;
 pub(crate) use merge::merge;
 pub(crate) use raise::raise;
-pub(crate) use settle::{Settled, settle};
+pub(crate) use settle::{Settled, are_bare, settle};
 pub(crate) use split::split;
