@@ -20,7 +20,7 @@ use Rattle.paths.proofs.LookupTheorems.{step-is_place, top-has_layer, lookup-ove
 use Rattle.edit.specs.Steps.{layers, asked_at, asked_from}
 use Rattle.edit.specs.Trees.{HasTree}
 
-first_link-from : (left : Option (List ℕ)) (es : List Entry) → first_link (shape_from left es) ≡ left
+pub first_link-from : (left : Option (List ℕ)) (es : List Entry) → first_link (shape_from left es) ≡ left
 first_link-from left [] = refl
 first_link-from left (e ∷ es) = refl
 
@@ -35,6 +35,15 @@ entries_of-from left (e ∷ es) =
 abbrev pub at_key : List ℕ → Shape → Option (List ℕ) × Option (List ℕ)
 at_key key s = (row_value key s, gap key s)
 
+pub place-found : (key : List ℕ) (left : Option (List ℕ)) (es : List Entry) (p : Place) → p ≡ place key left es
+    → found_at p ≡ at_key key (shape_from left es)
+place-found key left es p q =
+    let s = shape_from left es in
+    ap found_at q
+    ∙ ap (λ l. found_at (place key l es)) (sym (first_link-from left es))
+    ∙ ap (λ fs. found_at (place key (first_link s) fs)) (sym (entries_of-from left es))
+    ∙ step-is_place key s
+
 abbrev pub found : Place → Option (Option (List ℕ) × Option (List ℕ))
 found p = Some (found_at p)
 
@@ -42,11 +51,7 @@ pub place-step : (key bytes : List ℕ) (left : Option (List ℕ)) (es : List En
     → read_node bytes ≡ Ok (left, es) → p ≡ place key left es
     → found p ≡ option_map (at_key key) (shape_of_bytes bytes)
 place-step key bytes left es p h q =
-    let s = shape_from left es in
-    ap found q
-    ∙ ap (λ l. found (place key l es)) (sym (first_link-from left es))
-    ∙ ap (λ fs. found (place key (first_link s) fs)) (sym (entries_of-from left es))
-    ∙ ap (λ (x : Option (List ℕ) × Option (List ℕ)). Some x) (step-is_place key s)
+    ap (λ (x : Option (List ℕ) × Option (List ℕ)). Some x) (place-found key left es p q)
     ∙ sym (ap (λ r. option_map (at_key key) (shape_of_reading r)) h)
 
 -- ---- one step of the loop
@@ -156,7 +161,7 @@ module _ (digest : List ℕ → List ℕ) (shows : List ℕ → Option Shape) wh
 
 module _ (digest : List ℕ → List ℕ) (bits : ℕ) (fits : IsDigest digest) (gives : List ℕ → Option (List ℕ))
     (root key : List ℕ) (es : List Pair) (has : HasTree digest bits gives root es) (n : ℕ) (enough : n ≡ layers bits) where
-  is-lookup : IsLookup digest bits gives n key es
+  pub is-lookup : IsLookup digest bits gives n key es
   is-lookup =
       let t = top-has_layer digest bits fits es in
       lookup-over_source digest bits fits gives n key es has.pairs has.nodes (omega arith)
@@ -164,7 +169,7 @@ module _ (digest : List ℕ → List ℕ) (bits : ℕ) (fits : IsDigest digest) 
   pub tree-value : value_from (shown_by gives) n key (Some root) ≡ value_of key es
   tree-value = ap (λ r. value_from (shown_by gives) n key (Some r)) has.root_is ∙ is-lookup.value
 
-  asked-path : asked_from (shown_by gives) n key (Some root)
+  pub asked-path : asked_from (shown_by gives) n key (Some root)
       ≡ length (path_from (shown_by gives) n key (Some (root_of digest bits es)))
   asked-path =
       ap (λ r. asked_from (shown_by gives) n key (Some r)) has.root_is

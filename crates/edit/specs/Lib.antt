@@ -1,6 +1,14 @@
 pub mod Codes
 pub mod Maps
 pub mod Rows
+pub mod Changes
+pub mod Faults
+pub mod Nodes
+pub mod Ahead
+pub mod Drafts
+pub mod Edits
+pub mod Settled
+pub mod Deletes
 pub mod Steps
 pub mod Trees
 pub mod Walks

@@ -1,10 +1,12 @@
 -- What loops over a source read.
-use Rattle.std.specs.Prelude.{ℕ, zero, suc, ◌+◌, ◌/◌, List, Option, Some, None}
+use Rattle.std.specs.Prelude.{◌≡◌, ◌≢◌, ℕ, zero, suc, ◌+◌, ◌*◌, ◌/◌, length, List, Option, Some, None, option_map}
+use Rattle.cid.specs.CidRef.{bytes_of}
 use Rattle.node.specs.declared.place.Place.{Place}
 use Rattle.node.specs.Views.{place_of}
-use Rattle.spec.specs.NodeFormat.{Shape}
+use Rattle.spec.specs.NodeFormat.{Shape, LastLink, MoreLinks, first_link}
 use Rattle.paths.specs.Laws.Lookups.{found_at}
-use Rattle.paths.specs.Sources.{gap}
+use Rattle.paths.specs.ShapeEdit.{last_link}
+use Rattle.paths.specs.Sources.{gap, shown_by, path_from, met_from, pruned_from}
 
 -- how many layers a tree has at most: those of 256 bits, and layer 0
 abbrev pub layers : ℕ → ℕ
@@ -13,6 +15,10 @@ layers bits = 256 / bits + 1
 -- the value at a key's place, and the link to go on with
 abbrev pub place_found : List ℕ → Place → Option (List ℕ) × Option (List ℕ)
 place_found key p = found_at (place_of key p)
+
+-- what a source of blocks shows, where view is the bytes of a block
+abbrev pub shows : {X : Type 0} → (X → List ℕ) → (List ℕ → Option X) → List ℕ → Option Shape
+shows view gives = shown_by (λ c. option_map view (gives c))
 
 abbrev pub asked_at : (Option (List ℕ) → ℕ) → List ℕ → Option Shape → ℕ
 asked_at further key None = 1
@@ -23,3 +29,36 @@ abbrev pub asked_from : (List ℕ → Option Shape) → ℕ → List ℕ → Opt
 asked_from shows zero key l = 0
 asked_from shows (suc n) key None = 0
 asked_from shows (suc n) key (Some c) = asked_at (asked_from shows n key) key (shows c)
+
+-- each block of a path is there and is a node
+abbrev pub IsWholePath : (List ℕ → Option Shape) → ℕ → List ℕ → Option (List ℕ) → Type 0
+IsWholePath shows n key l = asked_from shows n key l ≡ length (path_from shows n key l)
+
+abbrev pub asked_met_at : (Option (List ℕ) → Option (List ℕ) → ℕ) → Option Shape → Option Shape → ℕ
+asked_met_at further None t = 1
+asked_met_at further (Some s) None = 2
+asked_met_at further (Some s) (Some t) = suc (suc (further (last_link s) (first_link t)))
+
+-- how many blocks are asked for where the nodes below two links meet: none unless both links are there
+abbrev pub asked_met : (List ℕ → Option Shape) → ℕ → Option (List ℕ) → Option (List ℕ) → ℕ
+asked_met shows zero x y = 0
+asked_met shows (suc n) None y = 0
+asked_met shows (suc n) (Some c) None = 0
+asked_met shows (suc n) (Some c) (Some d) = asked_met_at (asked_met shows n) (shows c) (shows d)
+
+abbrev pub IsWholeMet : (List ℕ → Option Shape) → ℕ → Option (List ℕ) → Option (List ℕ) → Type 0
+IsWholeMet shows n x y = asked_met shows n x y ≡ 2 * length (met_from shows n x y)
+
+abbrev pub asked_pruned_at : (Option (List ℕ) → ℕ) → Option Shape → ℕ
+asked_pruned_at further None = 1
+asked_pruned_at further (Some (LastLink l)) = suc (further l)
+asked_pruned_at further (Some (MoreLinks l e r)) = 1
+
+-- how many blocks are asked for from a link down to the first node with a key
+abbrev pub asked_pruned : (List ℕ → Option Shape) → ℕ → Option (List ℕ) → ℕ
+asked_pruned shows zero l = 0
+asked_pruned shows (suc n) None = 0
+asked_pruned shows (suc n) (Some c) = asked_pruned_at (asked_pruned shows n) (shows c)
+
+abbrev pub IsWholeChain : (List ℕ → Option Shape) → ℕ → Option (List ℕ) → Type 0
+IsWholeChain shows n l = asked_pruned shows n l ≡ length (pruned_from shows n l)

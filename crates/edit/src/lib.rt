@@ -1,11 +1,28 @@
-//! Look-ups and walks over the blocks of one tree, wherever these are kept.
+//! Look-ups, walks and edits over the blocks of one tree, wherever these are kept.
 #![tactic(auto)]
 
+mod ahead;
 mod asked;
 mod block_map;
+mod build;
+mod changed;
+mod changes;
+mod copying;
+mod delete;
 mod descent;
+mod draft;
+mod draft_fault;
+mod draft_writer;
+mod edited;
+mod ends;
+mod fault;
 mod frame;
 mod lookup;
+mod nodes;
+mod open_node;
+mod path;
+mod put_nodes;
+mod puts;
 mod rows;
 mod source;
 mod step;
@@ -14,6 +31,9 @@ mod tests;
 mod walks;
 
 pub use block_map::BlockMap;
+pub use edited::Edit;
+pub use fault::EditFault;
 pub use lookup::get;
+pub use puts::put;
 pub use source::Source;
 pub use walks::walk;

@@ -1,0 +1,262 @@
+-- What the functions that build nodes make, from one node to the next, and when one of these nodes would be none.
+use Rattle.std.proofs.Common.{◌≡◌, ℕ, suc, ◌-◌, ◌≤◌, Bool, true, false, List, [], ◌∷◌, ◌++◌, length, take, drop, get_or, map, Option, None, Result, Ok, Err, refl, sym, ap, ◌∙◌, subst, append_assoc, arith}
+use Rattle.std.specs.Prelude.{OnOk}
+use Rattle.std.specs.declared.option.Option.TheVariants.{Some}
+use Rattle.std.specs.List.{AllByRecursion}
+use Rattle.std.proofs.lemmas.List.{map-append, take_all}
+use Rattle.spec.specs.NodeFormat.{Shape, LastLink, MoreLinks, first_link, shape_bytes, shape_cid}
+use Rattle.paths.specs.Lawful.{Lawful, AllLawful}
+use Rattle.paths.specs.ShapeEdit.{close_link, close_shapes, keep_before, keep_after, split_links, split_shapes, lift_link, lift_shapes, go_shape, last_link, join_shape, merge_links, merge_shapes, settle_links, settle_shape, settle_shapes}
+use Rattle.paths.specs.PathEdit.{raise, raise_shapes, climb, climb_shapes}
+use Rattle.edit.specs.declared.draft_fault.DraftFault.{DraftFault}
+use Rattle.edit.specs.declared.draft_fault.DraftFault.TheVariants.{NotNode, NoMemory}
+use Rattle.edit.specs.declared.build.settle.Settled.{Settled}
+use Rattle.edit.specs.declared.build.settle.Settled.TheVariants.{Made, Below}
+use Rattle.edit.specs.Drafts.{IsFaultOf}
+use Rattle.edit.specs.Faults.{IsFaultUnless}
+use Rattle.edit.specs.Settled.{are_bare, IsSettled}
+
+-- ---- lists
+
+-- a list by its first element and the others
+pub head-tail : {X : Type 0} (xs : List X) (x : X) → 1 ≤ length xs → x ≡ get_or xs 0 x
+    → xs ≡ x ∷ take (length xs - 1) (drop 1 xs)
+head-tail [] x h e = absurd (omega arith)
+head-tail (y ∷ ys) x h e =
+    ap (λ (z : _). z ∷ ys) (sym e) ∙ ap (λ t. x ∷ t) (sym (take_all (length (y ∷ ys) - 1) ys (omega arith)))
+
+-- a list of pairs by its first pair, whose parts are read one by one
+pub pair-tail : {X : Type 0} (xs : List (X × X)) (x y : X × X) → 1 ≤ length xs
+    → xs ≡ ((get_or xs 0 x).0, (get_or xs 0 y).1) ∷ take (length xs - 1) (drop 1 xs)
+pair-tail [] x y h = absurd (omega arith)
+pair-tail (z ∷ zs) x y h = ap (λ t. z ∷ t) (sym (take_all (length (z ∷ zs) - 1) zs (omega arith)))
+
+pub front-all : {X : Type 0} (P : X → Type 0) (xs ys : List X) → AllByRecursion P (xs ++ ys) → AllByRecursion P xs
+front-all P [] ys h = tt
+front-all P (x ∷ xs) ys h = (h.0, front-all P xs ys h.1)
+
+pub back-all : {X : Type 0} (P : X → Type 0) (xs ys : List X) → AllByRecursion P (xs ++ ys) → AllByRecursion P ys
+back-all P [] ys h = h
+back-all P (x ∷ xs) ys h = back-all P xs ys h.1
+
+pub join-all : {X : Type 0} (P : X → Type 0) (xs ys : List X) → AllByRecursion P xs → AllByRecursion P ys
+    → AllByRecursion P (xs ++ ys)
+join-all P [] ys h k = k
+join-all P (x ∷ xs) ys h k = (h.0, join-all P xs ys h.1 k)
+
+-- ---- faults
+
+pub on_ok : {T E P : Type 0} (r : Result T E) → P → OnOk r P
+on_ok (Ok x) p = p
+on_ok (Err e) p = tt
+
+pub unless-weaker : (P Q : Type 0) (f : DraftFault) → (Q → P) → IsFaultUnless P f → IsFaultUnless Q f
+unless-weaker P Q NotNode h n = λ q. n (h q)
+unless-weaker P Q NoMemory h n = tt
+
+pub of-unless : (s : Shape) (Q : Type 0) (f : DraftFault) → (Q → Lawful s) → IsFaultOf s f → IsFaultUnless Q f
+of-unless s Q NotNode h n = λ q. n (h q)
+of-unless s Q NoMemory h n = tt
+
+-- the node without keys and links is of the grammar too
+pub closed-lawful : (s : Shape) → AllLawful (close_shapes s) → Lawful s
+closed-lawful (LastLink None) h = refl
+closed-lawful (LastLink (Some c)) h = h.0
+closed-lawful (MoreLinks l e r) h = h.0
+
+module _ (digest : List ℕ → List ℕ) where
+  -- ---- split
+
+  pub split-below : (key : List ℕ) (path xs : List Shape) (x : Shape) (f : DraftFault) → path ≡ x ∷ xs
+      → IsFaultUnless (AllLawful (split_shapes digest key xs)) f
+      → IsFaultUnless (AllLawful (split_shapes digest key path)) f
+  split-below key path xs x f e =
+      unless-weaker _ _ f (λ all. front-all Lawful (split_shapes digest key xs) _
+      (subst (λ p. AllLawful (split_shapes digest key p)) e all))
+
+  pub split-before : (key : List ℕ) (path xs : List Shape) (x s : Shape) (l r : Option (List ℕ)) (f : DraftFault)
+      → path ≡ x ∷ xs → s ≡ x → (l, r) ≡ split_links digest key xs → IsFaultOf (keep_before key s l) f
+      → IsFaultUnless (AllLawful (split_shapes digest key path)) f
+  split-before key path xs x s l r f e same links =
+      let t = split_links digest key xs in
+      let left : l ≡ t.0 = ap (λ (p : Option (List ℕ) × Option (List ℕ)). p.0) links in
+      of-unless (keep_before key s l) _ f (λ all.
+      let sides = back-all Lawful (split_shapes digest key xs) _
+      (subst (λ p. AllLawful (split_shapes digest key p)) e all) in
+      let kept = closed-lawful (keep_before key x t.0) (front-all Lawful (close_shapes (keep_before key x t.0)) _ sides) in
+      rw (same, left) kept)
+
+  pub split-after : (key : List ℕ) (path xs : List Shape) (x s : Shape) (l r : Option (List ℕ)) (f : DraftFault)
+      → path ≡ x ∷ xs → s ≡ x → (l, r) ≡ split_links digest key xs → IsFaultOf (keep_after key s r) f
+      → IsFaultUnless (AllLawful (split_shapes digest key path)) f
+  split-after key path xs x s l r f e same links =
+      let t = split_links digest key xs in
+      let right : r ≡ t.1 = ap (λ (p : Option (List ℕ) × Option (List ℕ)). p.1) links in
+      of-unless (keep_after key s r) _ f (λ all.
+      let sides = back-all Lawful (split_shapes digest key xs) _
+      (subst (λ p. AllLawful (split_shapes digest key p)) e all) in
+      let kept = closed-lawful (keep_after key x t.1) (back-all Lawful (close_shapes (keep_before key x t.0)) _ sides) in
+      rw (same, right) kept)
+
+  pub split-made : (key : List ℕ) (path xs : List Shape) (x s u before after : Shape) (l r : Option (List ℕ))
+      (m0 m1 m2 m3 : List (List ℕ))
+      → path ≡ x ∷ xs → s ≡ x → u ≡ x → (l, r) ≡ split_links digest key xs
+      → before ≡ keep_before key s l → after ≡ keep_after key u r
+      → m1 ≡ m0 ++ map shape_bytes (split_shapes digest key xs)
+      → m2 ≡ m1 ++ map shape_bytes (close_shapes before) → m3 ≡ m2 ++ map shape_bytes (close_shapes after)
+      → m3 ≡ m0 ++ map shape_bytes (split_shapes digest key path)
+  split-made key path xs x s u before after l r m0 m1 m2 m3 e same same' links kb ka h1 h2 h3 =
+      let t = split_links digest key xs in
+      let left : l ≡ t.0 = ap (λ (p : Option (List ℕ) × Option (List ℕ)). p.0) links in
+      let right : r ≡ t.1 = ap (λ (p : Option (List ℕ) × Option (List ℕ)). p.1) links in
+      let below = split_shapes digest key xs in
+      let b = close_shapes (keep_before key x t.0) in
+      let a = close_shapes (keep_after key x t.1) in
+      let eb : before ≡ keep_before key x t.0 = kb ∙ ap (λ v. keep_before key v l) same ∙ ap (keep_before key x) left in
+      let ea : after ≡ keep_after key x t.1 = ka ∙ ap (λ v. keep_after key v r) same' ∙ ap (keep_after key x) right in
+      let d2 : m2 ≡ (m0 ++ map shape_bytes below) ++ map shape_bytes b =
+      h2 ∙ ap (λ v. m1 ++ map shape_bytes (close_shapes v)) eb ∙ ap (λ v. v ++ map shape_bytes b) h1 in
+      let d3 : m3 ≡ ((m0 ++ map shape_bytes below) ++ map shape_bytes b) ++ map shape_bytes a =
+      h3 ∙ ap (λ v. m2 ++ map shape_bytes (close_shapes v)) ea ∙ ap (λ v. v ++ map shape_bytes a) d2 in
+      let whole : map shape_bytes (below ++ (b ++ a))
+      ≡ map shape_bytes below ++ (map shape_bytes b ++ map shape_bytes a) =
+      map-append shape_bytes below (b ++ a) ∙ ap (λ v. map shape_bytes below ++ v) (map-append shape_bytes b a) in
+      d3
+      ∙ append_assoc (m0 ++ map shape_bytes below) (map shape_bytes b) (map shape_bytes a)
+      ∙ append_assoc m0 (map shape_bytes below) (map shape_bytes b ++ map shape_bytes a)
+      ∙ ap (λ v. m0 ++ v) (sym whole)
+      ∙ ap (λ p. m0 ++ map shape_bytes (split_shapes digest key p)) (sym e)
+
+  -- ---- lift and raise
+
+  pub lift-below : (n m : ℕ) (l : Option (List ℕ)) (f : DraftFault) → n ≡ suc m
+      → IsFaultUnless (AllLawful (lift_shapes digest m l)) f → IsFaultUnless (AllLawful (lift_shapes digest n l)) f
+  lift-below n m l f e =
+      unless-weaker _ _ f (λ all. front-all Lawful (lift_shapes digest m l) _
+      (subst (λ k. AllLawful (lift_shapes digest k l)) e all))
+
+  pub lift-made : (n m : ℕ) (l below : Option (List ℕ)) (s : Shape) (m0 m1 m2 : List (List ℕ)) → n ≡ suc m
+      → below ≡ lift_link digest m l → s ≡ LastLink below → m1 ≡ m0 ++ map shape_bytes (lift_shapes digest m l)
+      → m2 ≡ m1 ++ map shape_bytes (close_shapes s) → m2 ≡ m0 ++ map shape_bytes (lift_shapes digest n l)
+  lift-made n m l below s m0 m1 m2 e link is h1 h2 =
+      let xs = lift_shapes digest m l in
+      let ys = close_shapes (LastLink (lift_link digest m l)) in
+      h2
+      ∙ ap (λ v. m1 ++ map shape_bytes (close_shapes v)) (is ∙ ap LastLink link)
+      ∙ ap (λ v. v ++ map shape_bytes ys) h1
+      ∙ append_assoc m0 (map shape_bytes xs) (map shape_bytes ys)
+      ∙ ap (λ v. m0 ++ v) (sym (map-append shape_bytes xs ys))
+      ∙ ap (λ k. m0 ++ map shape_bytes (lift_shapes digest k l)) (sym e)
+
+  pub raise-below : (n m : ℕ) (s : Shape) (f : DraftFault) → n ≡ suc m
+      → IsFaultUnless (AllLawful (raise_shapes digest m s ++ (raise digest m s ∷ []))) f
+      → IsFaultUnless (AllLawful (raise_shapes digest n s ++ (raise digest n s ∷ []))) f
+  raise-below n m s f e =
+      unless-weaker _ _ f (λ all. front-all Lawful (raise_shapes digest m s ++ (raise digest m s ∷ [])) _
+      (subst (λ k. AllLawful (raise_shapes digest k s ++ (raise digest k s ∷ []))) e all))
+
+  pub raise-top : (n m : ℕ) (s below : Shape) (c : List ℕ) → n ≡ suc m → below ≡ raise digest m s
+      → c ≡ shape_cid digest below → LastLink (Some c) ≡ raise digest n s
+  raise-top n m s below c e is h =
+      ap (λ (x : List ℕ). LastLink (Some x)) (h ∙ ap (shape_cid digest) is) ∙ ap (λ k. raise digest k s) (sym e)
+
+  pub raise-made : (n m : ℕ) (s below : Shape) (m0 m1 m2 : List (List ℕ)) → n ≡ suc m → below ≡ raise digest m s
+      → m1 ≡ m0 ++ map shape_bytes (raise_shapes digest m s) → m2 ≡ m1 ++ shape_bytes below ∷ []
+      → m2 ≡ m0 ++ map shape_bytes (raise_shapes digest n s)
+  raise-made n m s below m0 m1 m2 e is h1 h2 =
+      let xs = raise_shapes digest m s in
+      let t = raise digest m s in
+      h2
+      ∙ ap (λ v. m1 ++ shape_bytes v ∷ []) is
+      ∙ ap (λ v. v ++ shape_bytes t ∷ []) h1
+      ∙ append_assoc m0 (map shape_bytes xs) (shape_bytes t ∷ [])
+      ∙ ap (λ v. m0 ++ v) (sym (map-append shape_bytes xs (t ∷ [])))
+      ∙ ap (λ k. m0 ++ map shape_bytes (raise_shapes digest k s)) (sym e)
+
+  -- ---- climb
+
+  pub climb-below : (key : List ℕ) (above xs : List Shape) (x s : Shape) (f : DraftFault) → above ≡ x ∷ xs
+      → IsFaultUnless (AllLawful (climb_shapes digest key xs s ++ (climb digest key xs s ∷ []))) f
+      → IsFaultUnless (AllLawful (climb_shapes digest key above s ++ (climb digest key above s ∷ []))) f
+  climb-below key above xs x s f e =
+      let top = climb digest key xs s in
+      let below = climb_shapes digest key xs s in
+      unless-weaker _ _ f (λ all.
+      let whole = front-all Lawful (below ++ close_shapes top) _
+      (subst (λ a. AllLawful (climb_shapes digest key a s ++ (climb digest key a s ∷ []))) e all) in
+      join-all Lawful below (top ∷ []) (front-all Lawful below _ whole)
+      (closed-lawful top (back-all Lawful below _ whole), tt))
+
+  pub climb-top : (key : List ℕ) (above xs : List Shape) (x s u below : Shape) (l : Option (List ℕ)) (f : DraftFault)
+      → above ≡ x ∷ xs → u ≡ x → below ≡ climb digest key xs s → l ≡ close_link digest below
+      → IsFaultOf (go_shape key u l) f
+      → IsFaultUnless (AllLawful (climb_shapes digest key above s ++ (climb digest key above s ∷ []))) f
+  climb-top key above xs x s u below l f e same is link =
+      let to : l ≡ close_link digest (climb digest key xs s) = link ∙ ap (close_link digest) is in
+      of-unless (go_shape key u l) _ f (λ all.
+      let top = back-all Lawful (climb_shapes digest key (x ∷ xs) s) _
+      (subst (λ a. AllLawful (climb_shapes digest key a s ++ (climb digest key a s ∷ []))) e all) in
+      rw (same, to) top.0)
+
+  -- ---- settle
+
+  bare-two : (x y p q : Option (List ℕ)) (b a : Shape) (below : List (Shape × Shape)) (t : Settled)
+      → are_bare b a ≡ true → p ≡ first_link b → q ≡ first_link a → IsSettled digest p q below t
+      → IsSettled digest x y ((b, a) ∷ below) t
+  bare-two x y p q (LastLink l) (LastLink k) below (Made c) h i j s = rw (← i, ← j) s
+  bare-two x y p q (LastLink l) (LastLink k) below (Below c) h i j s = rw (← i, ← j) s
+  bare-two x y p q (LastLink l) (MoreLinks k e r) below t h i j s = absurd cc
+  bare-two x y p q (MoreLinks l e r) (LastLink k) below t h i j s = absurd cc
+  bare-two x y p q (MoreLinks l e r) (MoreLinks k f u) below t h i j s = absurd cc
+
+  pub settled-bare : (x y p q : Option (List ℕ)) (met below : List (Shape × Shape)) (b a : Shape) (t : Settled)
+      → met ≡ (b, a) ∷ below → are_bare b a ≡ true → p ≡ first_link b → q ≡ first_link a
+      → IsSettled digest p q below t → IsSettled digest x y met t
+  settled-bare x y p q met below b a t e h i j s =
+      subst (λ m. IsSettled digest x y m t) (sym e) (bare-two x y p q b a below t h i j s)
+
+  bare-shapes : (x y p q : Option (List ℕ)) (b a : Shape) (below : List (Shape × Shape))
+      → are_bare b a ≡ true → p ≡ first_link b → q ≡ first_link a
+      → settle_shapes digest p q below ≡ settle_shapes digest x y ((b, a) ∷ below)
+  bare-shapes x y p q (LastLink l) (LastLink k) below h i j = rw (i, j) refl
+  bare-shapes x y p q (LastLink l) (MoreLinks k e r) below h i j = absurd cc
+  bare-shapes x y p q (MoreLinks l e r) (LastLink k) below h i j = absurd cc
+  bare-shapes x y p q (MoreLinks l e r) (MoreLinks k f u) below h i j = absurd cc
+
+  pub settle-bare : (x y p q : Option (List ℕ)) (met below : List (Shape × Shape)) (b a : Shape)
+      → met ≡ (b, a) ∷ below → are_bare b a ≡ true → p ≡ first_link b → q ≡ first_link a
+      → settle_shapes digest p q below ≡ settle_shapes digest x y met
+  settle-bare x y p q met below b a e h i j =
+      bare-shapes x y p q b a below h i j ∙ ap (settle_shapes digest x y) (sym e)
+
+  -- a pair of nodes of which one has keys
+  keyed-two : (x y : Option (List ℕ)) (b a : Shape) (below : List (Shape × Shape)) → are_bare b a ≡ false
+      → let met : List (Shape × Shape) = (b, a) ∷ below in
+      (settle_links x y met ≡ None)
+      × (Some (shape_cid digest (settle_shape digest x y met [])) ≡ merge_links digest x y met)
+      × (settle_shapes digest x y met ≡ merge_shapes digest met)
+  keyed-two x y (LastLink l) (LastLink k) below h = absurd cc
+  keyed-two x y (LastLink l) (MoreLinks k e r) below h = (refl, refl, refl)
+  keyed-two x y (MoreLinks l e r) (LastLink k) below h = (refl, refl, refl)
+  keyed-two x y (MoreLinks l e r) (MoreLinks k f u) below h = (refl, refl, refl)
+
+  pub settled-keyed : (x y l : Option (List ℕ)) (met below : List (Shape × Shape)) (b a : Shape) (c : List ℕ)
+      → met ≡ (b, a) ∷ below → are_bare b a ≡ false → l ≡ merge_links digest x y met → l ≡ Some c
+      → (settle_links x y met ≡ None) × (c ≡ shape_cid digest (settle_shape digest x y met []))
+  settled-keyed x y l met below b a c e h is some =
+      let k = keyed-two x y b a below h in
+      let m : Some c ≡ merge_links digest x y ((b, a) ∷ below) = sym some ∙ is ∙ ap (merge_links digest x y) e in
+      let same : Some c ≡ Some (shape_cid digest (settle_shape digest x y ((b, a) ∷ below) [])) = m ∙ sym k.1 in
+      (ap (settle_links x y) e ∙ k.0, cc)
+
+  pub settle-keyed : (x y : Option (List ℕ)) (met below : List (Shape × Shape)) (b a : Shape)
+      → met ≡ (b, a) ∷ below → are_bare b a ≡ false → settle_shapes digest x y met ≡ merge_shapes digest met
+  settle-keyed x y met below b a e h =
+      let k = keyed-two x y b a below h in
+      ap (settle_shapes digest x y) e ∙ k.2 ∙ ap (merge_shapes digest) (sym e)
+
+  pub made-keyed : (x y : Option (List ℕ)) (met below : List (Shape × Shape)) (b a : Shape) (m0 m1 : List (List ℕ))
+      → met ≡ (b, a) ∷ below → are_bare b a ≡ false → m1 ≡ m0 ++ map shape_bytes (merge_shapes digest met)
+      → m1 ≡ m0 ++ map shape_bytes (settle_shapes digest x y met)
+  made-keyed x y met below b a m0 m1 e h is =
+      is ∙ ap (λ ss. m0 ++ map shape_bytes ss) (sym (settle-keyed x y met below b a e h))

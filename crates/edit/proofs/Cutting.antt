@@ -1,0 +1,119 @@
+-- A node taken pair by pair, up to a key or to its end.
+use Rattle.std.proofs.Common.{◌≡◌, ℕ, suc, ◌<◌, true, false, List, [], ◌++◌, Option, None, Some, option_map, refl, sym, ap, subst, ◌∙◌, append_assoc, arith}
+use Rattle.std.specs.Prelude.{is_some}
+use Rattle.std.specs.declared.cmp.Ordering.{Ordering}
+use Rattle.std.specs.declared.cmp.Ordering.TheVariants.{Less, Equal, Greater}
+use Rattle.std.specs.Cmp.Lexicographic.{slice_cmp}
+use Rattle.std.specs.Ordering.{nat_cmp, is_lt, is_eq}
+use Rattle.std.proofs.lemmas.List.{append-nil}
+use Rattle.spec.specs.Tree.{Pair}
+use Rattle.spec.specs.NodeFormat.{Shape, LastLink, MoreLinks, first_link}
+use Rattle.paths.specs.Order.{order}
+use Rattle.paths.specs.ShapeEdit.{with_first_link}
+use Rattle.edit.specs.declared.draft_fault.DraftFault.{DraftFault}
+use Rattle.edit.specs.declared.draft_fault.DraftFault.TheVariants.{NotNode, NoMemory}
+use Rattle.edit.specs.Ahead.{after_pair, ahead_of, is_more, first_linked, all_pairs, before_key, from_key, is_first_before, is_first_at}
+use Rattle.edit.specs.Drafts.{Lawful, onto, IsFaultOf, IsFaultOfAll}
+use Rattle.edit.specs.Rows.{Reading}
+use Rattle.edit.proofs.Drafting.{Links, onto-append}
+
+-- ---- the key of the next pair
+
+pub first_before-some : {A : Type 0} (f : A → List ℕ) (link : Option (List ℕ)) (value : Option A) (r : Reading)
+    (key : List ℕ) → is_some value ≡ true
+    → is_first_before key (ahead_of link (option_map f value) r) ≡ is_lt (slice_cmp nat_cmp r.before key)
+unfolding order
+first_before-some f link None r key h = absurd cc
+first_before-some f link (Some v) r key h = refl
+
+pub first_at-some : {A : Type 0} (f : A → List ℕ) (link : Option (List ℕ)) (value : Option A) (r : Reading)
+    (key : List ℕ) → is_some value ≡ true
+    → is_first_at key (ahead_of link (option_map f value) r) ≡ is_eq (slice_cmp nat_cmp r.before key)
+unfolding order
+first_at-some f link None r key h = absurd cc
+first_at-some f link (Some v) r key h = refl
+
+-- ---- one pair
+
+-- how many pairs are left
+abbrev pub pairs_left : Shape → ℕ
+pairs_left (LastLink l) = 0
+pairs_left (MoreLinks l e r) = suc (pairs_left r)
+
+pub more-less : (s : Shape) → is_more s ≡ true → pairs_left (after_pair s) < pairs_left s
+more-less (LastLink l) h = absurd cc
+more-less (MoreLinks l e r) h = omega arith
+
+pub record StepsBefore (key : List ℕ) (s : Shape) : Type 0 where
+  pub less : pairs_left (after_pair s) < pairs_left s
+  pub from : from_key key (after_pair s) ≡ from_key key s
+  pub before : first_linked (first_link s) s ++ before_key key (after_pair s) ≡ before_key key s
+
+steps-at : (key : List ℕ) (l : Option (List ℕ)) (e : Pair) (r : Shape) (o : Ordering) → order e.0 key ≡ o → is_lt o ≡ true
+    → StepsBefore key (MoreLinks l e r)
+steps-at key l e r Less h t = record { less = omega arith; from = rw h refl; before = rw h refl }
+steps-at key l e r Equal h t = absurd cc
+steps-at key l e r Greater h t = absurd cc
+
+pub steps-before : (key : List ℕ) (s : Shape) → is_first_before key s ≡ true → StepsBefore key s
+steps-before key (LastLink l) h = absurd cc
+steps-before key (MoreLinks l e r) h = steps-at key l e r (order e.0 key) refl h
+
+pub record StopsBefore (key : List ℕ) (s : Shape) : Type 0 where
+  pub from : s ≡ from_key key s
+  pub before : before_key key s ≡ []
+
+stops-at : (key : List ℕ) (l : Option (List ℕ)) (e : Pair) (r : Shape) (o : Ordering) → order e.0 key ≡ o → is_lt o ≡ false
+    → StopsBefore key (MoreLinks l e r)
+stops-at key l e r Less h t = absurd cc
+stops-at key l e r Equal h t = record { from = rw h refl; before = rw h refl }
+stops-at key l e r Greater h t = record { from = rw h refl; before = rw h refl }
+
+pub stops-before : (key : List ℕ) (s : Shape) → is_first_before key s ≡ false → StopsBefore key s
+stops-before key (LastLink l) h = record { from = refl; before = refl }
+stops-before key (MoreLinks l e r) h = stops-at key l e r (order e.0 key) refl h
+
+pub all-step : (s : Shape) → is_more s ≡ true → first_linked (first_link s) s ++ all_pairs (after_pair s) ≡ all_pairs s
+all-step (LastLink l) h = absurd cc
+all-step (MoreLinks l e r) h = refl
+
+pub all-end : (s : Shape) → is_more s ≡ false → all_pairs s ≡ []
+all-end (LastLink l) h = refl
+all-end (MoreLinks l e r) h = absurd cc
+
+pub with-own : (s : Shape) → with_first_link (first_link s) s ≡ s
+with-own (LastLink l) = refl
+with-own (MoreLinks l e r) = refl
+
+pub from-step : (link : Option (List ℕ)) (s : Shape) → is_more s ≡ true
+    → onto (first_linked link s) (with_first_link (first_link (after_pair s)) (after_pair s)) ≡ with_first_link link s
+from-step link (LastLink l) h = absurd cc
+from-step link (MoreLinks l e r) h = ap (MoreLinks link e) (with-own r)
+
+pub from-end : (link : Option (List ℕ)) (s : Shape) → is_more s ≡ false → LastLink link ≡ with_first_link link s
+from-end link (LastLink l) h = refl
+from-end link (MoreLinks l e r) h = absurd cc
+
+-- ---- what is written
+
+pub grows : (before now piece rest all : Links) → now ≡ before ++ piece → piece ++ rest ≡ all → now ++ rest ≡ before ++ all
+grows before now piece rest all h k =
+    ap (λ (xs : Links). xs ++ rest) h ∙ append_assoc before piece rest ∙ ap (λ (xs : Links). before ++ xs) k
+
+pub ends : (now rest all : Links) → rest ≡ [] → now ++ rest ≡ all → now ≡ all
+ends now rest all h k = sym (append-nil now) ∙ ap (λ (xs : Links). now ++ xs) (sym h) ∙ k
+
+pub grows-onto : (before now piece : Links) (s t : Shape) → now ≡ before ++ piece → onto piece s ≡ t
+    → onto now s ≡ onto before t
+grows-onto before now piece s t h k =
+    ap (λ (xs : Links). onto xs s) h ∙ onto-append before piece s ∙ ap (onto before) k
+
+-- ---- what can't be written
+
+pub fault-at : (f : DraftFault) (xs : Links) (s t : Shape) → onto xs s ≡ t → IsFaultOfAll xs f → IsFaultOf t f
+fault-at NotNode xs s t e h = λ lawful. h s (subst Lawful (sym e) lawful)
+fault-at NoMemory xs s t e h = tt
+
+pub fault-on : (f : DraftFault) (xs ys zs : Links) → xs ++ ys ≡ zs → IsFaultOfAll xs f → IsFaultOfAll zs f
+fault-on f xs ys zs e h s =
+    fault-at f xs (onto ys s) (onto zs s) (sym (onto-append xs ys s) ∙ ap (λ (us : Links). onto us s) e) h

@@ -1,0 +1,87 @@
+-- What a delete reads, from what each of its parts reads.
+use Rattle.std.proofs.Common.{◌≡◌, ℕ, ◌+◌, ◌≤◌, List, Option, refl, sym, ap, ◌∙◌, subst, arith}
+use Rattle.std.specs.declared.option.Option.TheVariants.{Some}
+use Rattle.spec.specs.NodeFormat.{Shape}
+use Rattle.paths.specs.ShapeEdit.{row_links}
+use Rattle.paths.specs.PathEdit.{row_shape, prune_link}
+use Rattle.paths.specs.Sources.{path_from, met_from, delete_met_from}
+use Rattle.edit.specs.declared.draft_fault.DraftFault.{DraftFault}
+use Rattle.edit.specs.Deletes.{CanReadDelete}
+use Rattle.edit.specs.Faults.{IsFaultUnless}
+use Rattle.edit.specs.Steps.{shows, asked_met, asked_pruned, IsWholeMet, IsWholeChain}
+use Rattle.edit.proofs.Building.{unless-weaker}
+
+module _ {X : Type 0} (view : X → List ℕ) (was : List ℕ → Option X) (n : ℕ) (key root : List ℕ) where
+  links-are : (path : List Shape) (x y : Option (List ℕ))
+      → path ≡ path_from (shows view was) n key (Some root) → (x, y) ≡ row_links key (row_shape path)
+      → (x, y) ≡ row_links key (row_shape (path_from (shows view was) n key (Some root)))
+  links-are path x y e links = links ∙ ap (λ p. row_links key (row_shape p)) e
+
+  pub met-is : (is : List ℕ → Option X) (path : List Shape) (x y : Option (List ℕ)) (met : List (Shape × Shape))
+      → is ≡ was → path ≡ path_from (shows view was) n key (Some root) → (x, y) ≡ row_links key (row_shape path)
+      → met ≡ met_from (shows view is) n x y
+      → met ≡ delete_met_from (shows view was) n key (path_from (shows view was) n key (Some root))
+  met-is is path x y met same e links read =
+      read
+      ∙ ap (λ g. met_from (shows view g) n x y) same
+      ∙ ap (λ (p : Option (List ℕ) × Option (List ℕ)). met_from (shows view was) n p.0 p.1) (links-are path x y e links)
+
+  pub link-is : (path p : List Shape) (met m : List (Shape × Shape)) (l : Option (List ℕ))
+      → path ≡ path_from (shows view was) n key (Some root)
+      → met ≡ delete_met_from (shows view was) n key (path_from (shows view was) n key (Some root))
+      → p ≡ path → m ≡ met → l ≡ prune_link key p m
+      → let whole = path_from (shows view was) n key (Some root) in
+      l ≡ prune_link key whole (delete_met_from (shows view was) n key whole)
+  link-is path p met m l e f i j is =
+      is ∙ ap (λ q. prune_link key q m) (i ∙ e)
+      ∙ ap (prune_link key (path_from (shows view was) n key (Some root))) (j ∙ f)
+
+  pub no-met : (is : List ℕ → Option X) (path : List Shape) (x y : Option (List ℕ)) (f : DraftFault)
+      → is ≡ was → path ≡ path_from (shows view was) n key (Some root) → (x, y) ≡ row_links key (row_shape path)
+      → IsFaultUnless (IsWholeMet (shows view is) n x y) f
+      → IsFaultUnless (CanReadDelete (shows view was) n key root) f
+  no-met is path x y f same e links =
+      unless-weaker _ _ f (λ (can : CanReadDelete (shows view was) n key root).
+      subst (λ g. IsWholeMet (shows view g) n x y) (sym same)
+      (subst (λ (p : Option (List ℕ) × Option (List ℕ)). IsWholeMet (shows view was) n p.0 p.1)
+      (sym (links-are path x y e links)) can.met))
+
+  pub no-chain : (is : List ℕ → Option X) (l : Option (List ℕ)) (f : DraftFault) → is ≡ was
+      → (let whole = path_from (shows view was) n key (Some root) in
+      l ≡ prune_link key whole (delete_met_from (shows view was) n key whole))
+      → IsFaultUnless (IsWholeChain (shows view is) n l) f
+      → IsFaultUnless (CanReadDelete (shows view was) n key root) f
+  no-chain is l f same e =
+      unless-weaker _ _ f (λ (can : CanReadDelete (shows view was) n key root).
+      subst (λ g. IsWholeChain (shows view g) n l) (sym same)
+      (subst (IsWholeChain (shows view was) n) (sym e) can.chain))
+
+  -- ---- how many blocks are asked for
+
+  pub met-asked : (is : List ℕ → Option X) (path : List Shape) (x y : Option (List ℕ)) → is ≡ was
+      → path ≡ path_from (shows view was) n key (Some root) → (x, y) ≡ row_links key (row_shape path)
+      → let z = row_links key (row_shape (path_from (shows view was) n key (Some root))) in
+      asked_met (shows view is) n x y ≡ asked_met (shows view was) n z.0 z.1
+  met-asked is path x y same e links =
+      ap (λ g. asked_met (shows view g) n x y) same
+      ∙ ap (λ (p : Option (List ℕ) × Option (List ℕ)). asked_met (shows view was) n p.0 p.1) (links-are path x y e links)
+
+  pub chain-asked : (is : List ℕ → Option X) (l : Option (List ℕ)) → is ≡ was
+      → (let whole = path_from (shows view was) n key (Some root) in
+      l ≡ prune_link key whole (delete_met_from (shows view was) n key whole))
+      → let whole = path_from (shows view was) n key (Some root) in
+      asked_pruned (shows view is) n l
+      ≡ asked_pruned (shows view was) n (prune_link key whole (delete_met_from (shows view was) n key whole))
+  chain-asked is l same e =
+      ap (λ g. asked_pruned (shows view g) n l) same ∙ ap (asked_pruned (shows view was) n) e
+
+pub three : (r0 r1 r2 r3 a b c b' c' : ℕ) → r1 ≡ r0 + a → r2 ≡ r1 + b → r3 ≡ r2 + c → b ≡ b' → c ≡ c'
+    → r3 ≡ r0 + (a + (b' + c'))
+three r0 r1 r2 r3 a b c b' c' h i j p q = omega arith
+
+pub three-most : (r0 r1 r2 r3 a b c b' c' : ℕ) → r1 ≡ r0 + a → r2 ≡ r1 + b → r3 ≤ r2 + c → b ≡ b' → c ≡ c'
+    → r3 ≤ r0 + (a + (b' + c'))
+three-most r0 r1 r2 r3 a b c b' c' h i j p q = omega arith
+
+pub at-most : (a b : ℕ) → a ≡ b → a ≤ b
+at-most a b e = omega arith

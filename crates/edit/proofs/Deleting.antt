@@ -1,0 +1,164 @@
+-- What a delete writes, from the nodes that were read.
+use Rattle.std.proofs.Common.{◌≡◌, ℕ, zero, suc, ◌-◌, ◌≤◌, List, [], ◌∷◌, ◌++◌, length, take, drop, get_or, map, Option, None, refl, sym, ap, ◌∙◌, subst, append_assoc, arith}
+use Rattle.std.specs.declared.option.Option.TheVariants.{Some}
+use Rattle.std.specs.declared.cmp.Ordering.{Ordering}
+use Rattle.std.specs.declared.cmp.Ordering.TheVariants.{Less, Equal, Greater}
+use Rattle.std.proofs.lemmas.List.{map-append}
+use Rattle.spec.specs.NodeFormat.{Shape, LastLink, MoreLinks, shape_bytes, shape_cid}
+use Rattle.paths.specs.Lawful.{Lawful, AllLawful}
+use Rattle.paths.specs.Order.{order, if_equal}
+use Rattle.paths.specs.ShapeEdit.{close_shapes, head_shape, last_shape, row_links, merge_links, merge_shapes, remove_shape, settle_links, settle_shape, settle_shapes, lone_shape}
+use Rattle.paths.specs.PathEdit.{climb, climb_shapes, all_but_last, row_shape, prune_link, delete_here, delete_below, delete_root, delete_written}
+use Rattle.edit.specs.declared.draft_fault.DraftFault.{DraftFault}
+use Rattle.edit.specs.declared.build.settle.Settled.TheVariants.{Made, Below}
+use Rattle.edit.specs.Ahead.{links_if_lone}
+use Rattle.edit.specs.Deletes.{row_written, Ends, CanWriteRow, CanSettle, CanDelete}
+use Rattle.edit.specs.Drafts.{IsFaultOf}
+use Rattle.edit.specs.Faults.{IsFaultUnless}
+use Rattle.edit.specs.Settled.{IsSettled}
+use Rattle.edit.proofs.Building.{front-all, back-all, join-all, closed-lawful, unless-weaker, of-unless}
+
+-- ---- the last of some nodes, and the others
+
+last-at : (s : Shape) (ss : List Shape) (x : Shape) → get_or (s ∷ ss) (length ss) x ≡ last_shape s ss
+last-at s [] x = refl
+last-at s (t ∷ ts) x = last-at t ts x
+
+all-but_last : (s : Shape) (ss : List Shape) → take (length ss) (s ∷ ss) ≡ all_but_last (s ∷ ss)
+all-but_last s [] = refl
+all-but_last s (t ∷ ts) = ap (λ r. s ∷ r) (all-but_last t ts)
+
+pub row-last : (path : List Shape) (x : Shape) → 1 ≤ length path → x ≡ get_or path (length path - 1) x → row_shape path ≡ x
+row-last [] x n h = absurd (omega arith)
+row-last (s ∷ ss) x n h =
+    let e : length (s ∷ ss) - 1 ≡ length ss = omega arith in
+    sym (h ∙ ap (λ k. get_or (s ∷ ss) k x) e ∙ last-at s ss x)
+
+pub above-row : (path : List Shape) → 1 ≤ length path → take (length path - 1) path ≡ all_but_last path
+above-row [] n = absurd (omega arith)
+above-row (s ∷ ss) n =
+    let e : length (s ∷ ss) - 1 ≡ length ss = omega arith in ap (λ k. take k (s ∷ ss)) e ∙ all-but_last s ss
+
+module _ (digest : List ℕ → List ℕ) where
+  -- ---- where the key isn't the only one of the top
+
+  -- the changed node is among those that are made
+  here-lawful : (key : List ℕ) (above : List Shape) (s : Shape)
+      → AllLawful (climb_shapes digest key above s ++ (climb digest key above s ∷ [])) → Lawful s
+  here-lawful key [] s h = h.0
+  here-lawful key (a ∷ above) s h =
+      let top = climb digest key above s in
+      let below = climb_shapes digest key above s in
+      let whole = front-all Lawful (below ++ close_shapes top) _ h in
+      here-lawful key above s
+      (join-all Lawful below (top ∷ []) (front-all Lawful below _ whole)
+      (closed-lawful top (back-all Lawful below _ whole), tt))
+
+  pub row-merge : (key : List ℕ) (path : List Shape) (met : List (Shape × Shape)) (f : DraftFault)
+      → IsFaultUnless (AllLawful (merge_shapes digest met)) f → IsFaultUnless (CanWriteRow digest key path met) f
+  row-merge key path met f =
+      unless-weaker _ _ f (λ (can : CanWriteRow digest key path met). front-all Lawful (merge_shapes digest met) _ can.lawful)
+
+  -- the node without the key, from what was read of it
+  pub here-is : (key : List ℕ) (path : List Shape) (met : List (Shape × Shape)) (row s u n : Shape)
+      (x l : Option (List ℕ)) (y : Option (List ℕ))
+      → row_shape path ≡ row → s ≡ row → u ≡ row → (x, y) ≡ row_links key s → l ≡ merge_links digest x y met
+      → n ≡ remove_shape key u l → n ≡ delete_here digest key path met
+  here-is key path met row s u n x l y at same same' links link is =
+      let z = row_links key row in
+      let e : (x, y) ≡ z = links ∙ ap (row_links key) same in
+      let m : l ≡ merge_links digest z.0 z.1 met = link
+      ∙ ap (λ (p : Option (List ℕ) × Option (List ℕ)). merge_links digest p.0 p.1 met) e in
+      is ∙ ap (λ v. remove_shape key v l) same' ∙ ap (remove_shape key row) m
+      ∙ ap (λ v. let w = row_links key v in remove_shape key v (merge_links digest w.0 w.1 met)) (sym at)
+
+  pub row-here : (key : List ℕ) (path : List Shape) (met : List (Shape × Shape)) (row s u : Shape)
+      (x l : Option (List ℕ)) (y : Option (List ℕ)) (f : DraftFault)
+      → row_shape path ≡ row → s ≡ row → u ≡ row → (x, y) ≡ row_links key s → l ≡ merge_links digest x y met
+      → IsFaultOf (remove_shape key u l) f → IsFaultUnless (CanWriteRow digest key path met) f
+  row-here key path met row s u x l y f at same same' links link =
+      of-unless (remove_shape key u l) _ f (λ (can : CanWriteRow digest key path met).
+      let e = here-is key path met row s u (remove_shape key u l) x l y at same same' links link refl in
+      subst Lawful (sym e)
+      (here-lawful key (all_but_last path) (delete_here digest key path met)
+      (back-all Lawful (merge_shapes digest met) _ can.lawful)))
+
+  pub row-climb : (key : List ℕ) (path above : List Shape) (met : List (Shape × Shape)) (n : Shape) (f : DraftFault)
+      → above ≡ all_but_last path → n ≡ delete_here digest key path met
+      → IsFaultUnless (AllLawful (climb_shapes digest key above n ++ (climb digest key above n ∷ []))) f
+      → IsFaultUnless (CanWriteRow digest key path met) f
+  row-climb key path above met n f over is =
+      unless-weaker _ _ f (λ (can : CanWriteRow digest key path met).
+      rw (over, is) (back-all Lawful (merge_shapes digest met) _ can.lawful))
+
+  pub row-root : (key : List ℕ) (path above : List Shape) (met : List (Shape × Shape)) (n top : Shape) (c : List ℕ)
+      → above ≡ all_but_last path → n ≡ delete_here digest key path met → top ≡ climb digest key above n
+      → c ≡ shape_cid digest top → c ≡ shape_cid digest (delete_below digest key path met)
+  row-root key path above met n top c over is at h =
+      h ∙ ap (shape_cid digest) (at ∙ ap (λ a. climb digest key a n) over ∙ ap (climb digest key (all_but_last path)) is)
+
+  pub row-made : (key : List ℕ) (path above : List Shape) (met : List (Shape × Shape)) (n top : Shape)
+      (m0 m1 m2 m3 : List (List ℕ))
+      → above ≡ all_but_last path → n ≡ delete_here digest key path met → top ≡ climb digest key above n
+      → m1 ≡ m0 ++ map shape_bytes (merge_shapes digest met)
+      → m2 ≡ m1 ++ map shape_bytes (climb_shapes digest key above n) → m3 ≡ m2 ++ shape_bytes top ∷ []
+      → m3 ≡ m0 ++ map shape_bytes (row_written digest key path met)
+  row-made key path above met n top m0 m1 m2 m3 over is at h1 h2 h3 =
+      let xs = merge_shapes digest met in
+      let here = delete_here digest key path met in
+      let up = all_but_last path in
+      let ys = climb_shapes digest key up here in
+      let t = delete_below digest key path met in
+      let top_is : top ≡ t = at ∙ ap (λ a. climb digest key a n) over ∙ ap (climb digest key up) is in
+      let ys_is : climb_shapes digest key above n ≡ ys =
+      ap (λ a. climb_shapes digest key a n) over ∙ ap (climb_shapes digest key up) is in
+      let d2 : m2 ≡ (m0 ++ map shape_bytes xs) ++ map shape_bytes ys =
+      h2 ∙ ap (λ v. m1 ++ map shape_bytes v) ys_is ∙ ap (λ v. v ++ map shape_bytes ys) h1 in
+      let d3 : m3 ≡ ((m0 ++ map shape_bytes xs) ++ map shape_bytes ys) ++ (shape_bytes t ∷ []) =
+      h3 ∙ ap (λ v. m2 ++ shape_bytes v ∷ []) top_is ∙ ap (λ v. v ++ shape_bytes t ∷ []) d2 in
+      let whole : map shape_bytes (xs ++ (ys ++ (t ∷ [])))
+      ≡ map shape_bytes xs ++ (map shape_bytes ys ++ (shape_bytes t ∷ [])) =
+      map-append shape_bytes xs (ys ++ (t ∷ [])) ∙ ap (λ v. map shape_bytes xs ++ v) (map-append shape_bytes ys (t ∷ [])) in
+      d3
+      ∙ append_assoc (m0 ++ map shape_bytes xs) (map shape_bytes ys) (shape_bytes t ∷ [])
+      ∙ append_assoc m0 (map shape_bytes xs) (map shape_bytes ys ++ (shape_bytes t ∷ []))
+      ∙ ap (λ v. m0 ++ v) (sym whole)
+
+  -- ---- where it is
+
+  -- the last node of the chain that is pruned
+  pub pruned-root : (x y : Option (List ℕ)) (met : List (Shape × Shape)) (pruned : List Shape) (l : List ℕ) (top : Shape)
+      → IsSettled digest x y met (Below l) → 1 ≤ length pruned → top ≡ get_or pruned (length pruned - 1) top
+      → top ≡ settle_shape digest x y met pruned
+  pruned-root x y met pruned l top h n at = sym (h.1 pruned ∙ row-last pruned top n at)
+
+-- ---- both
+
+lone-case : {A : Type 0} (o : Ordering) (p q l k : Option (List ℕ)) (f : Option (List ℕ) → Option (List ℕ) → A) (y : A)
+    → if_equal {A = Option (Option (List ℕ) × Option (List ℕ))} o (Some (p, q)) None ≡ Some (l, k)
+    → if_equal o (f p q) y ≡ f l k
+lone-case Less p q l k f y h = absurd cc
+lone-case Equal p q l k f y h =
+    let x : Option (List ℕ) × Option (List ℕ) = (p, q) in
+    let z : Option (List ℕ) × Option (List ℕ) = (l, k) in
+    let e : x ≡ z = cc in ap (λ (v : Option (List ℕ) × Option (List ℕ)). f v.0 v.1) e
+lone-case Greater p q l k f y h = absurd cc
+
+none-case : {A : Type 0} (o : Ordering) (x : Option (List ℕ) × Option (List ℕ)) (z y : A)
+    → if_equal o (Some x) None ≡ None → if_equal o z y ≡ y
+none-case Less x z y h = refl
+none-case Equal x z y h = absurd cc
+none-case Greater x z y h = refl
+
+pub lone-some : {A : Type 0} (key : List ℕ) (s : Shape) (l k : Option (List ℕ))
+    (f : Option (List ℕ) → Option (List ℕ) → A) (y : A) → links_if_lone key s ≡ Some (l, k)
+    → lone_shape key s f y ≡ f l k
+lone-some key (LastLink p) l k f y h = absurd cc
+lone-some key (MoreLinks p e (LastLink q)) l k f y h = lone-case (order e.0 key) p q l k f y h
+lone-some key (MoreLinks p e (MoreLinks q g r)) l k f y h = absurd cc
+
+pub lone-none : {A : Type 0} (key : List ℕ) (s : Shape)
+    (f : Option (List ℕ) → Option (List ℕ) → A) (y : A) → links_if_lone key s ≡ None → lone_shape key s f y ≡ y
+lone-none key (LastLink p) f y h = refl
+lone-none key (MoreLinks p e (LastLink q)) f y h = none-case (order e.0 key) (p, q) (f p q) y h
+lone-none key (MoreLinks p e (MoreLinks q g r)) f y h = refl

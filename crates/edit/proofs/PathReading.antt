@@ -1,0 +1,384 @@
+-- Loops that read nodes from a source: what was read so far, and what is still to be read.
+use Rattle.std.proofs.Common.{◌≡◌, ℕ, zero, suc, ◌+◌, ◌-◌, ◌*◌, ◌<◌, ◌≤◌, List, [], ◌∷◌, ◌++◌, length, Option, Bool, true, false, ◌^◌, refl, sym, ap, ◌∙◌, subst, arith}
+use Rattle.std.specs.declared.option.Option.TheVariants.{Some, None}
+use Rattle.std.proofs.lemmas.List.{append-nil, append_assoc}
+use Rattle.std.specs.List.{AllByRecursion}
+use Rattle.spec.specs.NodeFormat.{Shape, LastLink, MoreLinks, first_link, shape_bytes}
+use Rattle.paths.specs.Lawful.{Lawful, AllLawful, AllShort}
+use Rattle.paths.specs.ShapeEdit.{last_link}
+use Rattle.paths.specs.Sources.{row_value, gap, or_deeper, path_at, value_at, value_from, path_from, shown, met_at, met_from, pruned_at, pruned_from}
+use Rattle.edit.specs.Nodes.{IsRead, has_pairs}
+use Rattle.edit.specs.Steps.{asked_at, asked_from, asked_met_at, asked_met, asked_pruned_at, asked_pruned, shows, IsWholePath, IsWholeMet, IsWholeChain}
+use Rattle.edit.proofs.Stepping.{at_key, value-none, asked-none}
+
+pub longer : {A : Type 0} (xs : List A) (x : A) → length (xs ++ x ∷ []) ≡ suc (length xs)
+longer [] x = refl
+longer (y ∷ xs) x = ap suc (longer xs x)
+
+back : (n : ℕ) → 0 < n → suc (n - 1) ≡ n
+back n h = omega arith
+
+-- what a source shows stays the same
+pub shown-by : {X : Type 0} (view : X → List ℕ) (was is : List ℕ → Option X) (c : List ℕ) (o : Option Shape) → is ≡ was
+    → o ≡ shows view is c → shows view was c ≡ o
+shown-by view was is c o same h = sym (h ∙ ap (λ (f : List ℕ → Option _). shows view f c) same)
+
+-- ---- what is read is of the grammar
+
+all-more : {A : Type 0} (P : A → Type 0) (xs : List A) (x : A) → AllByRecursion P xs → P x → AllByRecursion P (xs ++ x ∷ [])
+all-more P [] x a p = (p, tt)
+all-more P (y ∷ xs) x a p = (a.0, all-more P xs x a.1 p)
+
+pub all-read : (xs ys : List Shape) (x : Shape) → ys ≡ xs ++ x ∷ [] → AllLawful xs × AllShort xs → IsRead x
+    → AllLawful ys × AllShort ys
+all-read xs ys x e a r = (
+  subst AllLawful (sym e) (all-more Lawful xs x a.0 r.0),
+  subst AllShort (sym e) (all-more (λ (s : Shape). length (shape_bytes s) < 2 ^ 64) xs x a.1 r.1),
+)
+
+-- ---- how often a source is asked
+
+pub reads-le : (r₂ r₁ r₀ n a : ℕ) → r₂ ≡ suc r₁ → r₁ ≡ r₀ + n → suc n ≤ a → r₂ ≤ r₀ + a
+reads-le r₂ r₁ r₀ n a h k l = omega arith
+
+pub reads-eq : (r₂ r₁ r₀ n a : ℕ) → r₂ ≡ suc r₁ → r₁ ≡ r₀ + n → a ≡ suc n → r₂ ≡ r₀ + a
+reads-eq r₂ r₁ r₀ n a h k l = omega arith
+
+pub reads-more : {A : Type 0} (r₂ r₁ r₀ : ℕ) (xs ys : List A) (x : A) → ys ≡ xs ++ x ∷ [] → r₂ ≡ suc r₁
+    → r₁ ≡ r₀ + length xs → r₂ ≡ r₀ + length ys
+reads-more r₂ r₁ r₀ xs ys x e h k = let a = ap length e in let b = longer xs x in omega arith
+
+pub reads-two : {A : Type 0} (r₃ r₂ r₁ r₀ : ℕ) (xs ys : List A) (x : A) → ys ≡ xs ++ x ∷ [] → r₃ ≡ suc r₂ → r₂ ≡ suc r₁
+    → r₁ ≡ r₀ + 2 * length xs → r₃ ≡ r₀ + 2 * length ys
+reads-two r₃ r₂ r₁ r₀ xs ys x e i h k = let a = ap length e in let b = longer xs x in omega arith
+
+-- ---- the path of a key
+
+pub record IsPathSoFar (shows : List ℕ → Option Shape) (key : List ℕ) (n₀ : ℕ) (c₀ : List ℕ) (n : ℕ) (c : List ℕ)
+    (nodes : List Shape) : Type 0 where
+  pub path : path_from shows n₀ key (Some c₀) ≡ nodes ++ path_from shows n key (Some c)
+  pub value : value_from shows n₀ key (Some c₀) ≡ value_from shows n key (Some c)
+  pub asked : asked_from shows n₀ key (Some c₀) ≡ length nodes + asked_from shows n key (Some c)
+
+-- the whole path, the value, and how often a source is asked
+pub record IsPathRead (shows : List ℕ → Option Shape) (key : List ℕ) (n₀ : ℕ) (c₀ : List ℕ) (nodes : List Shape)
+    (v : Option (List ℕ)) (times : ℕ) : Type 0 where
+  pub path : nodes ≡ path_from shows n₀ key (Some c₀)
+  pub value : v ≡ value_from shows n₀ key (Some c₀)
+  pub asked : asked_from shows n₀ key (Some c₀) ≡ times
+
+module _ (shows : List ℕ → Option Shape) (key : List ℕ) where
+  record PathStep (n : ℕ) (c : List ℕ) (s : Shape) (v l : Option (List ℕ)) (m : ℕ) : Type 0 where
+    path : path_from shows n key (Some c) ≡ s ∷ path_from shows m key l
+    value : value_from shows n key (Some c) ≡ or_deeper v (value_from shows m key l)
+    asked : asked_from shows n key (Some c) ≡ suc (asked_from shows m key l)
+
+  step-at : (n : ℕ) (c : List ℕ) (s : Shape) → shows c ≡ Some s → PathStep (suc n) c s (row_value key s) (gap key s) n
+  step-at n c s h = record {
+    path = ap (path_at (path_from shows n key) key) h;
+    value = ap (value_at (value_from shows n key) key) h;
+    asked = ap (asked_at (asked_from shows n key) key) h;
+  }
+
+  step : (n : ℕ) (c : List ℕ) (s : Shape) (v l : Option (List ℕ)) → 0 < n → shows c ≡ Some s → (v, l) ≡ at_key key s
+      → PathStep n c s v l (n - 1)
+  step n c s v l t h q =
+      let qv : v ≡ row_value key s = ap (λ (x : Option (List ℕ) × Option (List ℕ)). x.0) q in
+      let ql : l ≡ gap key s = ap (λ (x : Option (List ℕ) × Option (List ℕ)). x.1) q in
+      let p = step-at (n - 1) c s h in
+      let e = back n t in
+      record {
+        path = sym (ap (λ k. path_from shows k key (Some c)) e) ∙ p.path
+            ∙ sym (ap (λ x. s ∷ path_from shows (n - 1) key x) ql);
+        value = sym (ap (λ k. value_from shows k key (Some c)) e) ∙ p.value
+            ∙ sym (ap (λ x. or_deeper (row_value key s) (value_from shows (n - 1) key x)) ql)
+            ∙ sym (ap (λ x. or_deeper x (value_from shows (n - 1) key l)) qv);
+        asked = sym (ap (λ k. asked_from shows k key (Some c)) e) ∙ p.asked
+            ∙ sym (ap (λ x. suc (asked_from shows (n - 1) key x)) ql);
+      }
+
+  path-none : (n : ℕ) → path_from shows n key None ≡ []
+  path-none zero = refl
+  path-none (suc n) = refl
+
+  or-none : (v : Option (List ℕ)) → or_deeper v None ≡ v
+  or-none None = refl
+  or-none (Some v) = refl
+
+  module _ (n₀ : ℕ) (c₀ : List ℕ) (n : ℕ) (c : List ℕ) (nodes : List Shape) where
+    pub path-more : (s : Shape) (d : List ℕ) → 0 < n → IsPathSoFar shows key n₀ c₀ n c nodes → shows c ≡ Some s
+        → (None, Some d) ≡ at_key key s → IsPathSoFar shows key n₀ c₀ (n - 1) d (nodes ++ s ∷ [])
+    path-more s d t f h q =
+        let p = step n c s None (Some d) t h q in
+        record {
+          path = f.path ∙ ap (λ xs. nodes ++ xs) p.path
+              ∙ sym (append_assoc nodes (s ∷ []) (path_from shows (n - 1) key (Some d)));
+          value = f.value ∙ p.value;
+          asked = let a = f.asked in let b = p.asked in let k = longer nodes s in omega arith;
+        }
+
+    pub path-ends : (s : Shape) (v : Option (List ℕ)) → 0 < n → IsPathSoFar shows key n₀ c₀ n c nodes
+        → shows c ≡ Some s → (v, None) ≡ at_key key s
+        → IsPathRead shows key n₀ c₀ (nodes ++ s ∷ []) v (suc (length nodes))
+    path-ends s v t f h q =
+        let p = step n c s v None t h q in
+        record {
+          path = sym (f.path ∙ ap (λ xs. nodes ++ xs) (p.path ∙ ap (λ xs. s ∷ xs) (path-none (n - 1))));
+          value = sym (f.value ∙ p.value ∙ ap (or_deeper v) (value-none shows key (n - 1)) ∙ or-none v);
+          asked = let a = f.asked in let b = p.asked in let k = asked-none shows key (n - 1) in omega arith;
+        }
+
+    pub path-over : n ≡ 0 → IsPathSoFar shows key n₀ c₀ n c nodes → IsPathRead shows key n₀ c₀ nodes None (length nodes)
+    path-over z f = record {
+      path = sym (f.path ∙ ap (λ k. nodes ++ path_from shows k key (Some c)) z ∙ append-nil nodes);
+      value = sym (f.value ∙ ap (λ k. value_from shows k key (Some c)) z);
+      asked = f.asked ∙ ap (λ k. length nodes + asked_from shows k key (Some c)) z ∙ (omega arith);
+    }
+
+    -- a block is missing, or is no node
+    pub path-missing : 0 < n → IsPathSoFar shows key n₀ c₀ n c nodes → shows c ≡ None
+        → (¬ IsWholePath shows n₀ key (Some c₀)) × (asked_from shows n₀ key (Some c₀) ≡ suc (length nodes))
+    path-missing t f h =
+        let e = back n t in
+        let a : asked_from shows n key (Some c) ≡ 1 = sym (ap (λ k. asked_from shows k key (Some c)) e)
+        ∙ ap (asked_at (asked_from shows (n - 1) key) key) h in
+        let p : path_from shows n key (Some c) ≡ [] = sym (ap (λ k. path_from shows k key (Some c)) e)
+        ∙ ap (path_at (path_from shows (n - 1) key) key) h in
+        let b = f.asked in
+        let k = ap length (f.path ∙ ap (λ xs. nodes ++ xs) p ∙ append-nil nodes) in
+        ((λ w. omega (arith, w)), omega arith)
+
+    -- there is a block more
+    pub path-counts : (s : Shape) → 0 < n → IsPathSoFar shows key n₀ c₀ n c nodes → shows c ≡ Some s
+        → suc (length nodes) ≤ asked_from shows n₀ key (Some c₀)
+    path-counts s t f h =
+        let p = step n c s (row_value key s) (gap key s) t h refl in
+        let a = f.asked in let b = p.asked in omega arith
+
+-- ---- pairs of nodes that meet
+
+pub record IsMetSoFar (shows : List ℕ → Option Shape) (n₀ : ℕ) (x₀ y₀ : Option (List ℕ)) (n : ℕ)
+    (x y : Option (List ℕ)) (met : List (Shape × Shape)) : Type 0 where
+  pub pairs : met_from shows n₀ x₀ y₀ ≡ met ++ met_from shows n x y
+  pub asked : asked_met shows n₀ x₀ y₀ ≡ 2 * length met + asked_met shows n x y
+
+pub record IsMetRead (shows : List ℕ → Option Shape) (n₀ : ℕ) (x₀ y₀ : Option (List ℕ)) (met : List (Shape × Shape)) : Type 0 where
+  pub pairs : met ≡ met_from shows n₀ x₀ y₀
+  pub asked : asked_met shows n₀ x₀ y₀ ≡ 2 * length met
+
+module _ (shows : List ℕ → Option Shape) where
+  met-step : (n : ℕ) (c d : List ℕ) (s t : Shape) → 0 < n → shows c ≡ Some s → shows d ≡ Some t
+      → (met_from shows n (Some c) (Some d) ≡ (s, t) ∷ met_from shows (n - 1) (last_link s) (first_link t))
+      × (asked_met shows n (Some c) (Some d) ≡ suc (suc (asked_met shows (n - 1) (last_link s) (first_link t))))
+  met-step n c d s t h p q =
+      let e = back n h in (
+        sym (ap (λ k. met_from shows k (Some c) (Some d)) e)
+            ∙ ap (λ o. met_at (met_from shows (n - 1)) o (shows d)) p ∙ ap (met_at (met_from shows (n - 1)) (Some s)) q,
+        sym (ap (λ k. asked_met shows k (Some c) (Some d)) e)
+            ∙ ap (λ o. asked_met_at (asked_met shows (n - 1)) o (shows d)) p ∙ ap (asked_met_at (asked_met shows (n - 1)) (Some s)) q,
+      )
+
+  none-after : (further : Option (List ℕ) → Option (List ℕ) → List (Shape × Shape)) (o : Option Shape)
+      → met_at further o None ≡ []
+  none-after further None = refl
+  none-after further (Some s) = refl
+
+  met-none : (n : ℕ) (y : Option (List ℕ)) → (met_from shows n None y ≡ []) × (asked_met shows n None y ≡ 0)
+  met-none zero y = (refl, refl)
+  met-none (suc n) y = (refl, refl)
+
+  met-none-after : (n : ℕ) (c : List ℕ) → (met_from shows n (Some c) None ≡ []) × (asked_met shows n (Some c) None ≡ 0)
+  met-none-after zero c = (refl, refl)
+  met-none-after (suc n) c = (none-after (met_from shows n) (shows c), refl)
+
+  module _ (n₀ : ℕ) (x₀ y₀ : Option (List ℕ)) (n : ℕ) (met : List (Shape × Shape)) where
+    ends : (x y : Option (List ℕ)) → met_from shows n x y ≡ [] → asked_met shows n x y ≡ 0
+        → IsMetSoFar shows n₀ x₀ y₀ n x y met → IsMetRead shows n₀ x₀ y₀ met
+    ends x y p q f = record {
+      pairs = sym (f.pairs ∙ ap (λ xs. met ++ xs) p ∙ append-nil met);
+      asked = let a = f.asked in omega arith;
+    }
+
+    pub met-over : (x y : Option (List ℕ)) → n ≡ 0 → IsMetSoFar shows n₀ x₀ y₀ n x y met → IsMetRead shows n₀ x₀ y₀ met
+    met-over x y z f =
+        ends x y (ap (λ k. met_from shows k x y) z) (ap (λ k. asked_met shows k x y) z) f
+
+    pub met-ends : (x y : Option (List ℕ)) → x ≡ None → IsMetSoFar shows n₀ x₀ y₀ n x y met → IsMetRead shows n₀ x₀ y₀ met
+    met-ends x y h f =
+        let e = met-none n y in
+        ends x y (ap (λ o. met_from shows n o y) h ∙ e.0) (ap (λ o. asked_met shows n o y) h ∙ e.1) f
+
+    pub met-ends-after : (x y : Option (List ℕ)) (c : List ℕ) → x ≡ Some c → y ≡ None
+        → IsMetSoFar shows n₀ x₀ y₀ n x y met → IsMetRead shows n₀ x₀ y₀ met
+    met-ends-after x y c h q f =
+        let e = met-none-after n c in
+        ends x y (ap (λ o. met_from shows n o y) h ∙ ap (met_from shows n (Some c)) q ∙ e.0)
+        (ap (λ o. asked_met shows n o y) h ∙ ap (asked_met shows n (Some c)) q ∙ e.1) f
+
+    pub met-ends-late : (x y : Option (List ℕ)) → y ≡ None → IsMetSoFar shows n₀ x₀ y₀ n x y met
+        → IsMetRead shows n₀ x₀ y₀ met
+    met-ends-late None y h f = met-ends None y refl f
+    met-ends-late (Some c) y h f = met-ends-after (Some c) y c refl h f
+
+    here : (x y : Option (List ℕ)) (c d : List ℕ) → x ≡ Some c → y ≡ Some d → IsMetSoFar shows n₀ x₀ y₀ n x y met
+        → IsMetSoFar shows n₀ x₀ y₀ n (Some c) (Some d) met
+    here x y c d h q f = record {
+      pairs = f.pairs ∙ ap (λ o. met ++ met_from shows n o y) h ∙ ap (λ o. met ++ met_from shows n (Some c) o) q;
+      asked = f.asked ∙ ap (λ o. 2 * length met + asked_met shows n o y) h
+          ∙ ap (λ o. 2 * length met + asked_met shows n (Some c) o) q;
+    }
+
+    pub met-more : (x y : Option (List ℕ)) (c d : List ℕ) (s t : Shape) → 0 < n → x ≡ Some c → y ≡ Some d
+        → shows c ≡ Some s → shows d ≡ Some t → IsMetSoFar shows n₀ x₀ y₀ n x y met
+        → IsMetSoFar shows n₀ x₀ y₀ (n - 1) (last_link s) (first_link t) (met ++ (s, t) ∷ [])
+    met-more x y c d s t h p q hs ht g =
+        let f = here x y c d p q g in
+        let e = met-step n c d s t h hs ht in
+        record {
+          pairs = f.pairs ∙ ap (λ xs. met ++ xs) e.0
+              ∙ sym (append_assoc met ((s, t) ∷ []) (met_from shows (n - 1) (last_link s) (first_link t)));
+          asked = let a = f.asked in let b = e.1 in let k = longer met (s, t) in omega arith;
+        }
+
+    -- the first of two blocks is missing, or is no node
+    pub met-missing : (x y : Option (List ℕ)) (c d : List ℕ) → 0 < n → x ≡ Some c → y ≡ Some d → shows c ≡ None
+        → IsMetSoFar shows n₀ x₀ y₀ n x y met
+        → (¬ IsWholeMet shows n₀ x₀ y₀) × (asked_met shows n₀ x₀ y₀ ≡ suc (2 * length met))
+    met-missing x y c d t p q h g =
+        let f = here x y c d p q g in
+        let e = back n t in
+        let a : asked_met shows n (Some c) (Some d) ≡ 1 = sym (ap (λ k. asked_met shows k (Some c) (Some d)) e)
+        ∙ ap (λ o. asked_met_at (asked_met shows (n - 1)) o (shows d)) h in
+        let m : met_from shows n (Some c) (Some d) ≡ [] = sym (ap (λ k. met_from shows k (Some c) (Some d)) e)
+        ∙ ap (λ o. met_at (met_from shows (n - 1)) o (shows d)) h in
+        let b = f.asked in
+        let k = ap length (f.pairs ∙ ap (λ xs. met ++ xs) m ∙ append-nil met) in
+        ((λ w. omega (arith, w)), omega arith)
+
+    -- the second one is
+    pub met-missing-after : (x y : Option (List ℕ)) (c d : List ℕ) (s : Shape) → 0 < n → x ≡ Some c → y ≡ Some d
+        → shows c ≡ Some s → shows d ≡ None → IsMetSoFar shows n₀ x₀ y₀ n x y met
+        → (¬ IsWholeMet shows n₀ x₀ y₀) × (asked_met shows n₀ x₀ y₀ ≡ suc (suc (2 * length met)))
+    met-missing-after x y c d s t p q h i g =
+        let f = here x y c d p q g in
+        let e = back n t in
+        let a : asked_met shows n (Some c) (Some d) ≡ 2 = sym (ap (λ k. asked_met shows k (Some c) (Some d)) e)
+        ∙ ap (λ o. asked_met_at (asked_met shows (n - 1)) o (shows d)) h
+        ∙ ap (asked_met_at (asked_met shows (n - 1)) (Some s)) i in
+        let m : met_from shows n (Some c) (Some d) ≡ [] = sym (ap (λ k. met_from shows k (Some c) (Some d)) e)
+        ∙ ap (λ o. met_at (met_from shows (n - 1)) o (shows d)) h ∙ ap (met_at (met_from shows (n - 1)) (Some s)) i in
+        let b = f.asked in
+        let k = ap length (f.pairs ∙ ap (λ xs. met ++ xs) m ∙ append-nil met) in
+        ((λ w. omega (arith, w)), omega arith)
+
+    -- there are two blocks more
+    pub met-counts : (x y : Option (List ℕ)) (c d : List ℕ) (s t : Shape) → 0 < n → x ≡ Some c → y ≡ Some d
+        → shows c ≡ Some s → shows d ≡ Some t → IsMetSoFar shows n₀ x₀ y₀ n x y met
+        → suc (suc (2 * length met)) ≤ asked_met shows n₀ x₀ y₀
+    met-counts x y c d s t h p q hs ht g =
+        let f = here x y c d p q g in
+        let e = met-step n c d s t h hs ht in
+        let a = f.asked in let b = e.1 in omega arith
+
+-- ---- a chain of nodes without pairs
+
+pub record IsChainSoFar (shows : List ℕ → Option Shape) (n₀ : ℕ) (l₀ : Option (List ℕ)) (n : ℕ)
+    (l : Option (List ℕ)) (nodes : List Shape) : Type 0 where
+  pub chain : pruned_from shows n₀ l₀ ≡ nodes ++ pruned_from shows n l
+  pub asked : asked_pruned shows n₀ l₀ ≡ length nodes + asked_pruned shows n l
+
+pub record IsChainRead (shows : List ℕ → Option Shape) (n₀ : ℕ) (l₀ : Option (List ℕ)) (nodes : List Shape)
+    (times : ℕ) : Type 0 where
+  pub chain : nodes ≡ pruned_from shows n₀ l₀
+  pub asked : asked_pruned shows n₀ l₀ ≡ times
+
+module _ (shows : List ℕ → Option Shape) where
+  chain-none : (n : ℕ) → (pruned_from shows n None ≡ []) × (asked_pruned shows n None ≡ 0)
+  chain-none zero = (refl, refl)
+  chain-none (suc n) = (refl, refl)
+
+  shown-at : (n : ℕ) (c : List ℕ) (o : Option Shape) → 0 < n → shows c ≡ o
+      → (pruned_from shows n (Some c) ≡ pruned_at (pruned_from shows (n - 1)) o)
+      × (asked_pruned shows n (Some c) ≡ asked_pruned_at (asked_pruned shows (n - 1)) o)
+  shown-at n c o t h =
+      let e = back n t in (
+        sym (ap (λ k. pruned_from shows k (Some c)) e) ∙ ap (pruned_at (pruned_from shows (n - 1))) h,
+        sym (ap (λ k. asked_pruned shows k (Some c)) e) ∙ ap (asked_pruned_at (asked_pruned shows (n - 1))) h,
+      )
+
+  bare-at : (further : Option (List ℕ) → List Shape) (times : Option (List ℕ) → ℕ) (s : Shape) → has_pairs s ≡ false
+      → (pruned_at further (Some s) ≡ s ∷ further (first_link s))
+      × (asked_pruned_at times (Some s) ≡ suc (times (first_link s)))
+  bare-at further times (LastLink l) h = (refl, refl)
+  bare-at further times (MoreLinks l e r) h = cc
+
+  last-at : (further : Option (List ℕ) → List Shape) (times : Option (List ℕ) → ℕ) (s : Shape) → has_pairs s ≡ true
+      → (pruned_at further (Some s) ≡ s ∷ []) × (asked_pruned_at times (Some s) ≡ 1)
+  last-at further times (LastLink l) h = cc
+  last-at further times (MoreLinks l e r) h = (refl, refl)
+
+  asks : (times : Option (List ℕ) → ℕ) (s : Shape) → 1 ≤ asked_pruned_at times (Some s)
+  asks times (LastLink l) = omega arith
+  asks times (MoreLinks l e r) = omega arith
+
+  module _ (n₀ : ℕ) (l₀ : Option (List ℕ)) (n : ℕ) (l : Option (List ℕ)) (nodes : List Shape) where
+    pub chain-over : n ≡ 0 → IsChainSoFar shows n₀ l₀ n l nodes → IsChainRead shows n₀ l₀ nodes (length nodes)
+    chain-over z f = record {
+      chain = sym (f.chain ∙ ap (λ k. nodes ++ pruned_from shows k l) z ∙ append-nil nodes);
+      asked = f.asked ∙ ap (λ k. length nodes + asked_pruned shows k l) z ∙ (omega arith);
+    }
+
+    pub chain-ends : l ≡ None → IsChainSoFar shows n₀ l₀ n l nodes → IsChainRead shows n₀ l₀ nodes (length nodes)
+    chain-ends h f =
+        let e = chain-none n in
+        record {
+          chain = sym (f.chain ∙ ap (λ o. nodes ++ pruned_from shows n o) h ∙ ap (λ xs. nodes ++ xs) e.0 ∙ append-nil nodes);
+          asked = f.asked ∙ ap (λ o. length nodes + asked_pruned shows n o) h
+              ∙ ap (λ k. length nodes + k) e.1 ∙ (omega arith);
+        }
+
+    pub chain-more : (c : List ℕ) (s : Shape) → 0 < n → l ≡ Some c → shows c ≡ Some s → has_pairs s ≡ false
+        → IsChainSoFar shows n₀ l₀ n l nodes → IsChainSoFar shows n₀ l₀ (n - 1) (first_link s) (nodes ++ s ∷ [])
+    chain-more c s t p h b f =
+        let a = shown-at n c (Some s) t h in
+        let e = bare-at (pruned_from shows (n - 1)) (asked_pruned shows (n - 1)) s b in
+        let i : asked_pruned shows n₀ l₀ ≡ length nodes + asked_pruned shows n (Some c) = f.asked
+        ∙ ap (λ o. length nodes + asked_pruned shows n o) p in
+        let j : asked_pruned shows n (Some c) ≡ suc (asked_pruned shows (n - 1) (first_link s)) = a.1 ∙ e.1 in
+        record {
+          chain = f.chain ∙ ap (λ o. nodes ++ pruned_from shows n o) p ∙ ap (λ xs. nodes ++ xs) (a.0 ∙ e.0)
+              ∙ sym (append_assoc nodes (s ∷ []) (pruned_from shows (n - 1) (first_link s)));
+          asked = let k = longer nodes s in omega arith;
+        }
+
+    pub chain-last : (c : List ℕ) (s : Shape) → 0 < n → l ≡ Some c → shows c ≡ Some s → has_pairs s ≡ true
+        → IsChainSoFar shows n₀ l₀ n l nodes → IsChainRead shows n₀ l₀ (nodes ++ s ∷ []) (suc (length nodes))
+    chain-last c s t p h b f =
+        let a = shown-at n c (Some s) t h in
+        let e = last-at (pruned_from shows (n - 1)) (asked_pruned shows (n - 1)) s b in
+        let i : asked_pruned shows n₀ l₀ ≡ length nodes + asked_pruned shows n (Some c) = f.asked
+        ∙ ap (λ o. length nodes + asked_pruned shows n o) p in
+        let j : asked_pruned shows n (Some c) ≡ 1 = a.1 ∙ e.1 in
+        record {
+          chain = sym (f.chain ∙ ap (λ o. nodes ++ pruned_from shows n o) p ∙ ap (λ xs. nodes ++ xs) (a.0 ∙ e.0));
+          asked = omega arith;
+        }
+
+    pub chain-missing : (c : List ℕ) → 0 < n → l ≡ Some c → shows c ≡ None → IsChainSoFar shows n₀ l₀ n l nodes
+        → (¬ IsWholeChain shows n₀ l₀) × (asked_pruned shows n₀ l₀ ≡ suc (length nodes))
+    chain-missing c t p h f =
+        let a = shown-at n c None t h in
+        let i : asked_pruned shows n₀ l₀ ≡ length nodes + asked_pruned shows n (Some c) = f.asked
+        ∙ ap (λ o. length nodes + asked_pruned shows n o) p in
+        let j : asked_pruned shows n (Some c) ≡ 1 = a.1 in
+        let k = ap length (f.chain ∙ ap (λ o. nodes ++ pruned_from shows n o) p ∙ ap (λ xs. nodes ++ xs) a.0 ∙ append-nil nodes) in
+        ((λ w. omega (arith, w)), omega arith)
+
+    pub chain-counts : (c : List ℕ) (s : Shape) → 0 < n → l ≡ Some c → shows c ≡ Some s
+        → IsChainSoFar shows n₀ l₀ n l nodes → suc (length nodes) ≤ asked_pruned shows n₀ l₀
+    chain-counts c s t p h f =
+        let a = shown-at n c (Some s) t h in
+        let i : asked_pruned shows n₀ l₀ ≡ length nodes + asked_pruned shows n (Some c) = f.asked
+        ∙ ap (λ o. length nodes + asked_pruned shows n o) p in
+        let j = a.1 in
+        let k = asks (asked_pruned shows (n - 1)) s in omega arith

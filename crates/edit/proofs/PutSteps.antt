@@ -1,0 +1,364 @@
+-- The nodes of a put, step by step, and when one of them would be none.
+use Rattle.std.proofs.Common.{◌≡◌, ℕ, zero, suc, ◌+◌, ◌-◌, ◌<◌, ◌≤◌, min, Bool, true, false, cond, List, [], ◌∷◌, ◌++◌, length, take, drop, map, Option, Result, Ok, Err, IfOk, IfErr, refl, sym, ap, ◌∙◌, subst, append_assoc, arith, lt-ltb}
+use Rattle.std.specs.Prelude.{nat_lt}
+use Rattle.std.specs.declared.option.Option.TheVariants.{Some, None}
+use Rattle.std.specs.List.{AllByRecursion}
+use Rattle.std.proofs.lemmas.List.{map-append}
+use Rattle.std.proofs.Math.Nat.{min-le_left, min-le_right}
+use Rattle.spec.specs.Tree.{Pair}
+use Rattle.spec.specs.NodeFormat.{Shape, LastLink, MoreLinks, shape_bytes, shape_cid}
+use Rattle.paths.specs.Lawful.{Lawful, AllLawful}
+use Rattle.paths.specs.ShapeEdit.{close_shapes, split_links, split_shapes, insert_shape, lift_link, lift_shapes, head_shape, tail_shapes, above_shape, above_shapes, layer_of_shape}
+use Rattle.paths.specs.PathEdit.{raise, raise_shapes, climb, climb_shapes, put_here, put_below, put_below_shapes, put_root, put_written}
+use Rattle.edit.specs.declared.draft_fault.DraftFault.{DraftFault}
+use Rattle.edit.specs.Drafts.{IsFaultOf}
+use Rattle.edit.specs.Faults.{IsFaultUnless}
+use Rattle.edit.proofs.Building.{unless-weaker, of-unless}
+
+pub if-err : {T E : Type 0} {P Q : E → Type 0} (r : Result T E) → ((e : E) → P e → Q e) → IfErr r P → IfErr r Q
+if-err (Ok x) h p = tt
+if-err (Err e) h p = h e p
+
+pub if-ok : {T E : Type 0} {P Q : T → Type 0} (r : Result T E) → ((x : T) → P x → Q x) → IfOk r P → IfOk r Q
+if-ok (Ok x) h p = h x p
+if-ok (Err e) h p = tt
+
+pub if-ok-two : {T E : Type 0} {P Q R : T → Type 0} (r : Result T E) → ((x : T) → P x → Q x → R x) → IfOk r P → IfOk r Q
+    → IfOk r R
+if-ok-two (Ok x) h p q = h x p q
+if-ok-two (Err e) h p q = tt
+
+front-all : {X : Type 0} (P : X → Type 0) (xs ys : List X) → AllByRecursion P (xs ++ ys) → AllByRecursion P xs
+front-all P [] ys h = tt
+front-all P (x ∷ xs) ys h = (h.0, front-all P xs ys h.1)
+
+back-all : {X : Type 0} (P : X → Type 0) (xs ys : List X) → AllByRecursion P (xs ++ ys) → AllByRecursion P ys
+back-all P [] ys h = h
+back-all P (x ∷ xs) ys h = back-all P xs ys h.1
+
+join-all : {X : Type 0} (P : X → Type 0) (xs ys : List X) → AllByRecursion P xs → AllByRecursion P ys
+    → AllByRecursion P (xs ++ ys)
+join-all P [] ys h k = k
+join-all P (x ∷ xs) ys h k = (h.0, join-all P xs ys h.1 k)
+
+closed-lawful : (s : Shape) → AllLawful (close_shapes s) → Lawful s
+closed-lawful (LastLink None) h = refl
+closed-lawful (LastLink (Some c)) h = h.0
+closed-lawful (MoreLinks l e r) h = h.0
+
+map-two : (a b : List Shape) → map shape_bytes (a ++ b) ≡ map shape_bytes a ++ map shape_bytes b
+map-two a b = map-append shape_bytes a b
+
+-- ---- a pair above a path
+
+module _ (digest : List ℕ → List ℕ) (d : ℕ) (p : Pair) (path : List Shape) (l r : Option (List ℕ))
+    (links : (l, r) ≡ split_links digest p.0 path) where
+  left-is : l ≡ (split_links digest p.0 path).0
+  left-is = ap (λ (t : Option (List ℕ) × Option (List ℕ)). t.0) links
+
+  right-is : r ≡ (split_links digest p.0 path).1
+  right-is = ap (λ (t : Option (List ℕ) × Option (List ℕ)). t.1) links
+
+  pub above-left : (f : DraftFault) → IsFaultUnless (AllLawful (lift_shapes digest d l)) f
+      → IsFaultUnless (AllLawful (above_shapes digest d p path)) f
+  above-left f =
+      let s = split_links digest p.0 path in
+      unless-weaker _ _ f (λ all. subst (λ (x : Option (List ℕ)). AllLawful (lift_shapes digest d x)) (sym left-is)
+      (front-all Lawful (lift_shapes digest d s.0) _ (back-all Lawful (split_shapes digest p.0 path) _ all)))
+
+  pub above-right : (f : DraftFault) → IsFaultUnless (AllLawful (lift_shapes digest d r)) f
+      → IsFaultUnless (AllLawful (above_shapes digest d p path)) f
+  above-right f =
+      let s = split_links digest p.0 path in
+      unless-weaker _ _ f (λ all. subst (λ (x : Option (List ℕ)). AllLawful (lift_shapes digest d x)) (sym right-is)
+      (front-all Lawful (lift_shapes digest d s.1) _
+      (back-all Lawful (lift_shapes digest d s.0) _ (back-all Lawful (split_shapes digest p.0 path) _ all))))
+
+  module _ (before after : Option (List ℕ)) (hb : before ≡ lift_link digest d l) (ha : after ≡ lift_link digest d r) where
+    pub above-is : MoreLinks before p (LastLink after) ≡ above_shape digest d p path
+    above-is =
+        let s = split_links digest p.0 path in
+        ap (λ (x : Option (List ℕ)). MoreLinks x p (LastLink after)) (hb ∙ ap (lift_link digest d) left-is)
+        ∙ ap (λ (x : Option (List ℕ)). MoreLinks (lift_link digest d s.0) p (LastLink x)) (ha ∙ ap (lift_link digest d) right-is)
+
+    pub above-top : (f : DraftFault) → IsFaultOf (MoreLinks before p (LastLink after)) f
+        → IsFaultUnless (AllLawful (above_shapes digest d p path)) f
+    above-top f =
+        let s = split_links digest p.0 path in
+        of-unless (MoreLinks before p (LastLink after)) _ f (λ all.
+        let last : AllLawful (above_shape digest d p path ∷ []) =
+        back-all Lawful (lift_shapes digest d s.1) _ (back-all Lawful (lift_shapes digest d s.0) _
+        (back-all Lawful (split_shapes digest p.0 path) _ all)) in
+        subst Lawful (sym above-is) last.0)
+
+    pub above-made : (top : Shape) (m0 m1 m2 m3 m4 : List (List ℕ)) → top ≡ MoreLinks before p (LastLink after)
+        → m1 ≡ m0 ++ map shape_bytes (split_shapes digest p.0 path)
+        → m2 ≡ m1 ++ map shape_bytes (lift_shapes digest d l) → m3 ≡ m2 ++ map shape_bytes (lift_shapes digest d r)
+        → m4 ≡ m3 ++ shape_bytes top ∷ [] → m4 ≡ m0 ++ map shape_bytes (above_shapes digest d p path)
+    above-made top m0 m1 m2 m3 m4 is h1 h2 h3 h4 =
+        let s = split_links digest p.0 path in
+        let a = split_shapes digest p.0 path in
+        let b = lift_shapes digest d s.0 in
+        let c = lift_shapes digest d s.1 in
+        let t = above_shape digest d p path in
+        let d2 : m2 ≡ (m0 ++ map shape_bytes a) ++ map shape_bytes b =
+        h2 ∙ ap (λ (x : Option (List ℕ)). m1 ++ map shape_bytes (lift_shapes digest d x)) left-is
+        ∙ ap (λ v. v ++ map shape_bytes b) h1 in
+        let d3 : m3 ≡ ((m0 ++ map shape_bytes a) ++ map shape_bytes b) ++ map shape_bytes c =
+        h3 ∙ ap (λ (x : Option (List ℕ)). m2 ++ map shape_bytes (lift_shapes digest d x)) right-is
+        ∙ ap (λ v. v ++ map shape_bytes c) d2 in
+        let d4 : m4 ≡ (((m0 ++ map shape_bytes a) ++ map shape_bytes b) ++ map shape_bytes c) ++ shape_bytes t ∷ [] =
+        h4 ∙ ap (λ (x : Shape). m3 ++ shape_bytes x ∷ []) (is ∙ above-is)
+        ∙ ap (λ v. v ++ shape_bytes t ∷ []) d3 in
+        let whole : map shape_bytes (a ++ (b ++ (c ++ (t ∷ []))))
+        ≡ map shape_bytes a ++ (map shape_bytes b ++ (map shape_bytes c ++ (shape_bytes t ∷ []))) =
+        map-two a (b ++ (c ++ (t ∷ [])))
+        ∙ ap (λ v. map shape_bytes a ++ v) (map-two b (c ++ (t ∷ []))
+        ∙ ap (λ v. map shape_bytes b ++ v) (map-two c (t ∷ []))) in
+        d4 ∙ four m0 (map shape_bytes a) (map shape_bytes b) (map shape_bytes c) (shape_bytes t ∷ [])
+        ∙ ap (λ v. m0 ++ v) (sym whole)
+      where
+        four : (m a b c t : List (List ℕ)) → (((m ++ a) ++ b) ++ c) ++ t ≡ m ++ (a ++ (b ++ (c ++ t)))
+        four m a b c t =
+            append_assoc ((m ++ a) ++ b) c t ∙ append_assoc (m ++ a) b (c ++ t) ∙ append_assoc m a (b ++ (c ++ t))
+
+pub above-split : (digest : List ℕ → List ℕ) (d : ℕ) (p : Pair) (path : List Shape) (f : DraftFault)
+    → IsFaultUnless (AllLawful (split_shapes digest p.0 path)) f → IsFaultUnless (AllLawful (above_shapes digest d p path)) f
+above-split digest d p path f = unless-weaker _ _ f (front-all Lawful (split_shapes digest p.0 path) _)
+
+-- ---- a pair in the first of some nodes
+
+module _ (digest : List ℕ → List ℕ) (p : Pair) (path xs : List Shape) (x : Shape) (e : path ≡ x ∷ xs) where
+  pub here-split : (f : DraftFault) → IsFaultUnless (AllLawful (split_shapes digest p.0 xs)) f
+      → IsFaultUnless (AllLawful (split_shapes digest p.0 (tail_shapes path) ++ put_here digest p path ∷ [])) f
+  here-split f =
+      unless-weaker _ _ f (λ all. front-all Lawful (split_shapes digest p.0 xs) _
+      (subst (λ (ss : List Shape). AllLawful (split_shapes digest p.0 (tail_shapes ss) ++ put_here digest p ss ∷ [])) e all))
+
+  pub here-made : (m0 m1 : List (List ℕ)) → m1 ≡ m0 ++ map shape_bytes (split_shapes digest p.0 xs)
+      → m1 ≡ m0 ++ map shape_bytes (split_shapes digest p.0 (tail_shapes path))
+  here-made m0 m1 h = h ∙ ap (λ (ss : List Shape). m0 ++ map shape_bytes (split_shapes digest p.0 (tail_shapes ss))) (sym e)
+
+  module _ (s : Shape) (l r : Option (List ℕ)) (same : s ≡ x) (links : (l, r) ≡ split_links digest p.0 xs) where
+    pub here-is : insert_shape p s (l, r) ≡ put_here digest p path
+    here-is =
+        ap (λ (v : Shape). insert_shape p v (l, r)) same ∙ ap (insert_shape p x) links ∙ ap (put_here digest p) (sym e)
+
+    pub here-node : (f : DraftFault) → IsFaultOf (insert_shape p s (l, r)) f
+        → IsFaultUnless (AllLawful (split_shapes digest p.0 (tail_shapes path) ++ put_here digest p path ∷ [])) f
+    here-node f =
+        of-unless (insert_shape p s (l, r)) _ f (λ all.
+        let last : AllLawful (put_here digest p path ∷ []) =
+        back-all Lawful (split_shapes digest p.0 (tail_shapes path)) _ all in
+        subst Lawful (sym here-is) last.0)
+
+-- ---- a pair below the top
+
+pub same-take : {X : Type 0} (n d : ℕ) (xs : List X) → n ≤ d → (n < d → length xs ≤ n) → take n xs ≡ take d xs
+same-take zero zero xs h k = refl
+same-take zero (suc d) [] h k = refl
+same-take zero (suc d) (x ∷ xs) h k = let l = k (omega arith) in absurd (omega arith)
+same-take (suc n) zero xs h k = absurd (omega arith)
+same-take (suc n) (suc d) [] h k = refl
+same-take (suc n) (suc d) (x ∷ xs) h k =
+    ap (λ ys. x ∷ ys) (same-take n d xs (omega arith) (λ l. let i = k (omega arith) in omega arith))
+
+pub same-drop : {X : Type 0} (n d : ℕ) (xs : List X) → n ≤ d → (n < d → length xs ≤ n) → drop n xs ≡ drop d xs
+same-drop zero zero xs h k = refl
+same-drop zero (suc d) [] h k = refl
+same-drop zero (suc d) (x ∷ xs) h k = let l = k (omega arith) in absurd (omega arith)
+same-drop (suc n) zero xs h k = absurd (omega arith)
+same-drop (suc n) (suc d) [] h k = refl
+same-drop (suc n) (suc d) (x ∷ xs) h k = same-drop n d xs (omega arith) (λ l. let i = k (omega arith) in omega arith)
+
+raise-has : (digest : List ℕ → List ℕ) (n : ℕ) (s : Shape) → AllLawful (raise_shapes digest n s ++ (raise digest n s ∷ []))
+    → Lawful s
+raise-has digest zero s h = h.0
+raise-has digest (suc n) s h = raise-has digest n s (front-all Lawful (raise_shapes digest n s ++ (raise digest n s ∷ [])) _ h)
+
+climb-has : (digest : List ℕ → List ℕ) (key : List ℕ) (above : List Shape) (s : Shape)
+    → AllLawful (climb_shapes digest key above s ++ (climb digest key above s ∷ [])) → Lawful s
+climb-has digest key [] s h = h.0
+climb-has digest key (a ∷ above) s h =
+    let below = climb_shapes digest key above s in
+    let top = climb digest key above s in
+    let both = front-all Lawful (below ++ close_shapes top) _ h in
+    climb-has digest key above s
+    (join-all Lawful below (top ∷ []) (front-all Lawful below _ both)
+    (closed-lawful top (back-all Lawful below _ both), tt))
+
+-- a path that is cut so many layers below its top
+pub record IsCut (d : ℕ) (path above below : List Shape) (up : ℕ) : Type 0 where
+  pub front : above ≡ take d path
+  pub rest : below ≡ drop d path
+  pub layers : up ≡ d - length path
+
+pub cut-at : (d n up : ℕ) (path above below : List Shape) → n ≡ min (length path) d → above ≡ take n path
+    → below ≡ drop n path → up ≡ d - n → IsCut d path above below up
+cut-at d n up path above below m a b u =
+    let i = min-le_left (length path) d in
+    let j = min-le_right (length path) d in
+    let few : n < d → length path ≤ n = λ k. omega arith in
+    record {
+      front = a ∙ same-take n d path (omega arith) few;
+      rest = b ∙ same-drop n d path (omega arith) few;
+      layers = omega arith;
+    }
+
+module _ (digest : List ℕ → List ℕ) (d : ℕ) (p : Pair) (path above below : List Shape) (up : ℕ)
+    (cut : IsCut d path above below up) where
+  abbrev all_of : List Shape
+  all_of = put_below_shapes digest d p path ++ (put_below digest d p path ∷ [])
+
+  abbrev here : Shape
+  here = put_here digest p (drop d path)
+
+  abbrev lifted : Shape
+  lifted = raise digest (d - length path) here
+
+  abbrev sides : List Shape
+  sides = split_shapes digest p.0 (tail_shapes (drop d path))
+
+  abbrev bare : List Shape
+  bare = raise_shapes digest (d - length path) here
+
+  abbrev climbed : List Shape
+  climbed = climb_shapes digest p.0 (take d path) lifted
+
+  of-sides : AllLawful all_of → AllLawful sides
+  of-sides all = front-all Lawful sides _ (front-all Lawful (sides ++ (bare ++ climbed)) _ all)
+
+  of-bare : AllLawful all_of → AllLawful bare
+  of-bare all =
+      front-all Lawful bare _ (back-all Lawful sides _ (front-all Lawful (sides ++ (bare ++ climbed)) _ all))
+
+  of-climbed : AllLawful all_of → AllLawful (climbed ++ (climb digest p.0 (take d path) lifted ∷ []))
+  of-climbed all =
+      join-all Lawful climbed _
+      (back-all Lawful bare _ (back-all Lawful sides _ (front-all Lawful (sides ++ (bare ++ climbed)) _ all)))
+      (back-all Lawful (sides ++ (bare ++ climbed)) _ all)
+
+  of-lifted : AllLawful all_of → AllLawful (bare ++ (lifted ∷ []))
+  of-lifted all =
+      join-all Lawful bare (lifted ∷ []) (of-bare all)
+      (climb-has digest p.0 (take d path) lifted (of-climbed all), tt)
+
+  of-here : AllLawful all_of → AllLawful (sides ++ (here ∷ []))
+  of-here all =
+      join-all Lawful sides (here ∷ []) (of-sides all) (raise-has digest (d - length path) here (of-lifted all), tt)
+
+  pub below-here : (f : DraftFault)
+      → IsFaultUnless (AllLawful (split_shapes digest p.0 (tail_shapes below) ++ (put_here digest p below ∷ []))) f
+      → IsFaultUnless (AllLawful all_of) f
+  below-here f =
+      unless-weaker _ _ f (λ all. subst
+      (λ (ss : List Shape). AllLawful (split_shapes digest p.0 (tail_shapes ss) ++ (put_here digest p ss ∷ [])))
+      (sym cut.rest) (of-here all))
+
+  module _ (node : Shape) (hn : node ≡ put_here digest p below) where
+    node-is : node ≡ here
+    node-is = hn ∙ ap (put_here digest p) cut.rest
+
+    pub below-raise : (f : DraftFault)
+        → IsFaultUnless (AllLawful (raise_shapes digest up node ++ (raise digest up node ∷ []))) f
+        → IsFaultUnless (AllLawful all_of) f
+    below-raise f =
+        unless-weaker _ _ f (λ all. subst
+        (λ (k : ℕ). AllLawful (raise_shapes digest k node ++ (raise digest k node ∷ []))) (sym cut.layers)
+        (subst (λ (s : Shape). AllLawful (raise_shapes digest (d - length path) s ++ (raise digest (d - length path) s ∷ [])))
+        (sym node-is) (of-lifted all)))
+
+    module _ (raised : Shape) (hr : raised ≡ raise digest up node) where
+      raised-is : raised ≡ lifted
+      raised-is = hr ∙ ap (λ (k : ℕ). raise digest k node) cut.layers ∙ ap (raise digest (d - length path)) node-is
+
+      pub below-climb : (f : DraftFault)
+          → IsFaultUnless (AllLawful (climb_shapes digest p.0 above raised ++ (climb digest p.0 above raised ∷ []))) f
+          → IsFaultUnless (AllLawful all_of) f
+      below-climb f =
+          unless-weaker _ _ f (λ all. subst
+          (λ (a : List Shape). AllLawful (climb_shapes digest p.0 a raised ++ (climb digest p.0 a raised ∷ [])))
+          (sym cut.front)
+          (subst (λ (s : Shape). AllLawful (climb_shapes digest p.0 (take d path) s ++ (climb digest p.0 (take d path) s ∷ [])))
+          (sym raised-is) (of-climbed all)))
+
+      pub below-top : (top : Shape) → top ≡ climb digest p.0 above raised → top ≡ put_below digest d p path
+      below-top top ht =
+          ht ∙ ap (λ (a : List Shape). climb digest p.0 a raised) cut.front ∙ ap (climb digest p.0 (take d path)) raised-is
+
+      pub below-made : (top : Shape) (m0 m1 m2 m3 m4 : List (List ℕ)) → top ≡ climb digest p.0 above raised
+          → m1 ≡ m0 ++ map shape_bytes (split_shapes digest p.0 (tail_shapes below))
+          → m2 ≡ m1 ++ map shape_bytes (raise_shapes digest up node)
+          → m3 ≡ m2 ++ map shape_bytes (climb_shapes digest p.0 above raised)
+          → m4 ≡ m3 ++ shape_bytes top ∷ [] → m4 ≡ m0 ++ map shape_bytes all_of
+      below-made top m0 m1 m2 m3 m4 ht h1 h2 h3 h4 =
+          let t = put_below digest d p path in
+          let d1 : m1 ≡ m0 ++ map shape_bytes sides =
+          h1 ∙ ap (λ (ss : List Shape). m0 ++ map shape_bytes (split_shapes digest p.0 (tail_shapes ss))) cut.rest in
+          let d2 : m2 ≡ (m0 ++ map shape_bytes sides) ++ map shape_bytes bare =
+          h2 ∙ ap (λ (k : ℕ). m1 ++ map shape_bytes (raise_shapes digest k node)) cut.layers
+          ∙ ap (λ (s : Shape). m1 ++ map shape_bytes (raise_shapes digest (d - length path) s)) node-is
+          ∙ ap (λ v. v ++ map shape_bytes bare) d1 in
+          let d3 : m3 ≡ ((m0 ++ map shape_bytes sides) ++ map shape_bytes bare) ++ map shape_bytes climbed =
+          h3 ∙ ap (λ (a : List Shape). m2 ++ map shape_bytes (climb_shapes digest p.0 a raised)) cut.front
+          ∙ ap (λ (s : Shape). m2 ++ map shape_bytes (climb_shapes digest p.0 (take d path) s)) raised-is
+          ∙ ap (λ v. v ++ map shape_bytes climbed) d2 in
+          let d4 : m4 ≡ (((m0 ++ map shape_bytes sides) ++ map shape_bytes bare) ++ map shape_bytes climbed) ++ shape_bytes t ∷ [] =
+          h4 ∙ ap (λ (x : Shape). m3 ++ shape_bytes x ∷ []) (below-top top ht)
+          ∙ ap (λ v. v ++ shape_bytes t ∷ []) d3 in
+          let whole : map shape_bytes ((sides ++ (bare ++ climbed)) ++ (t ∷ []))
+          ≡ (map shape_bytes sides ++ (map shape_bytes bare ++ map shape_bytes climbed)) ++ (shape_bytes t ∷ []) =
+          map-two (sides ++ (bare ++ climbed)) (t ∷ [])
+          ∙ ap (λ v. v ++ (shape_bytes t ∷ [])) (map-two sides (bare ++ climbed)
+          ∙ ap (λ v. map shape_bytes sides ++ v) (map-two bare climbed)) in
+          d4 ∙ grouped m0 (map shape_bytes sides) (map shape_bytes bare) (map shape_bytes climbed) (shape_bytes t ∷ [])
+          ∙ ap (λ v. m0 ++ v) (sym whole)
+        where
+          grouped : (m a b c t : List (List ℕ)) → (((m ++ a) ++ b) ++ c) ++ t ≡ m ++ ((a ++ (b ++ c)) ++ t)
+          grouped m a b c t =
+              ap (λ v. v ++ t) (append_assoc (m ++ a) b c ∙ append_assoc m a (b ++ c)) ∙ append_assoc m (a ++ (b ++ c)) t
+
+-- ---- all of a put
+
+module _ (digest : List ℕ → List ℕ) (layer : List ℕ → ℕ) (p : Pair) (path : List Shape) (t : ℕ)
+    (is : t ≡ layer_of_shape layer (head_shape path)) where
+  tested : (b : Bool) → nat_lt t (layer p.0) ≡ b → nat_lt (layer_of_shape layer (head_shape path)) (layer p.0) ≡ b
+  tested b h = ap (λ (n : ℕ). nat_lt n (layer p.0)) (sym is) ∙ h
+
+  module _ (d : ℕ) (h : nat_lt t (layer p.0) ≡ true) (e : d ≡ layer p.0 - suc t) where
+    distance : d ≡ layer p.0 - suc (layer_of_shape layer (head_shape path))
+    distance = e ∙ ap (λ (n : ℕ). layer p.0 - suc n) is
+
+    pub root-above : above_shape digest d p path ≡ put_root digest layer p path
+    root-above =
+        ap (λ (k : ℕ). above_shape digest k p path) distance
+        ∙ sym (ap (λ (b : Bool). cond b
+        (above_shape digest (layer p.0 - suc (layer_of_shape layer (head_shape path))) p path)
+        (put_below digest (layer_of_shape layer (head_shape path) - layer p.0) p path)) (tested true h))
+
+    pub written-above : above_shapes digest d p path ≡ put_written digest layer p path
+    written-above =
+        ap (λ (k : ℕ). above_shapes digest k p path) distance
+        ∙ sym (ap (λ (b : Bool). cond b
+        (above_shapes digest (layer p.0 - suc (layer_of_shape layer (head_shape path))) p path)
+        (put_below_shapes digest (layer_of_shape layer (head_shape path) - layer p.0) p path
+        ++ (put_below digest (layer_of_shape layer (head_shape path) - layer p.0) p path ∷ []))) (tested true h))
+
+  module _ (d : ℕ) (h : nat_lt t (layer p.0) ≡ false) (e : d ≡ t - layer p.0) where
+    depth : d ≡ layer_of_shape layer (head_shape path) - layer p.0
+    depth = e ∙ ap (λ (n : ℕ). n - layer p.0) is
+
+    pub root-below : put_below digest d p path ≡ put_root digest layer p path
+    root-below =
+        ap (λ (k : ℕ). put_below digest k p path) depth
+        ∙ sym (ap (λ (b : Bool). cond b
+        (above_shape digest (layer p.0 - suc (layer_of_shape layer (head_shape path))) p path)
+        (put_below digest (layer_of_shape layer (head_shape path) - layer p.0) p path)) (tested false h))
+
+    pub written-below : put_below_shapes digest d p path ++ (put_below digest d p path ∷ []) ≡ put_written digest layer p path
+    written-below =
+        ap (λ (k : ℕ). put_below_shapes digest k p path ++ (put_below digest k p path ∷ [])) depth
+        ∙ sym (ap (λ (b : Bool). cond b
+        (above_shapes digest (layer p.0 - suc (layer_of_shape layer (head_shape path))) p path)
+        (put_below_shapes digest (layer_of_shape layer (head_shape path) - layer p.0) p path
+        ++ (put_below digest (layer_of_shape layer (head_shape path) - layer p.0) p path ∷ []))) (tested false h))

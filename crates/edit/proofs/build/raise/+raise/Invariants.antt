@@ -1,0 +1,5 @@
+use Rattle.std.proofs.Common.{length}
+use Rattle.edit.proofs.build.raise.+raise.Given as goal
+
+abbrev pub decreases-raise : goal.decreases-raise
+decreases-raise g l = l.layers

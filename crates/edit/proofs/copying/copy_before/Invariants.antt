@@ -1,0 +1,13 @@
+use Rattle.std.proofs.Common.{◌≡◌, ◌++◌}
+use Rattle.edit.specs.Ahead.{before_key, from_key}
+use Rattle.edit.proofs.Cutting.{pairs_left}
+use Rattle.edit.proofs.copying.copy_before.Given as goal
+
+abbrev pub invariant-loop-ahead : goal.invariant-loop-ahead
+invariant-loop-ahead g l = record {
+  from : from_key l.key l.ahead ≡ from_key l.key l.initial.ahead;
+  written : l.writer ++ before_key l.key l.ahead ≡ l.initial.writer ++ before_key l.key l.initial.ahead;
+}
+
+abbrev pub decreases-loop-ahead : goal.decreases-loop-ahead
+decreases-loop-ahead g l = pairs_left l.ahead

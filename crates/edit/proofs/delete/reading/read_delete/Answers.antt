@@ -1,0 +1,58 @@
+use Rattle.std.proofs.Common.{◌≡◌, ◌∙◌}
+use Rattle.std.specs.Arc.{arc_value}
+use Rattle.std.proofs.lemmas.Result.{err_from_is_err_and}
+use Rattle.edit.proofs.DeleteReading.{met-is, link-is, no-met, no-chain, met-asked, chain-asked, three, three-most, at-most}
+use Rattle.edit.proofs.delete.reading.read_delete.Goals as goal
+
+pub returns-in_err-met-clause-fault : goal.returns-in_err-met-clause-fault
+returns-in_err-met-clause-fault g c =
+    let p = err_from_is_err_and c.from_residual-in_err-met.result c.from_residual-in_err-met.ensures.1 in
+    let items : c.deref.result.now ≡ c.in_ok-path.field-0.nodes.items = cc in
+    rw (p.1, p.2)
+    (no-met arc_value (g.S.Source.gives c.args.src.now) _ _ _ _ _ _ _ _ c.read_path.ensures.same
+    (items ∙ c.in_ok-path.ensures.nodes) c.in_ok-one.ensures c.in_err-met.ensures.fault)
+
+pub returns-in_err-pruned-clause-fault : goal.returns-in_err-pruned-clause-fault
+returns-in_err-pruned-clause-fault g c =
+    let p = err_from_is_err_and c.from_residual-in_err-pruned.result c.from_residual-in_err-pruned.ensures.1 in
+    let items : c.deref.result.now ≡ c.in_ok-path.field-0.nodes.items = cc in
+    let again : c.deref-2.result.now ≡ c.deref.result.now = cc in
+    let path = items ∙ c.in_ok-path.ensures.nodes in
+    let met = met-is arc_value (g.S.Source.gives c.args.src.now) _ _ _ _ _ _ _ _ c.read_path.ensures.same path
+    c.in_ok-one.ensures c.in_ok-met.ensures.met in
+    let link = link-is arc_value (g.S.Source.gives c.args.src.now) _ _ _ _ _ _ _ _ path met again c.deref-3.ensures.value
+    c.prune_link-link.ensures in
+    rw (p.1, p.2)
+    (no-chain arc_value (g.S.Source.gives c.args.src.now) _ _ _ _ _ _ (c.read_met.ensures.same ∙ c.read_path.ensures.same)
+    link c.in_err-pruned.ensures.fault)
+
+pub returns-in_err-pruned-clause-reads : goal.returns-in_err-pruned-clause-reads
+returns-in_err-pruned-clause-reads g c =
+    let items : c.deref.result.now ≡ c.in_ok-path.field-0.nodes.items = cc in
+    let again : c.deref-2.result.now ≡ c.deref.result.now = cc in
+    let path = items ∙ c.in_ok-path.ensures.nodes in
+    let met = met-is arc_value (g.S.Source.gives c.args.src.now) _ _ _ _ _ _ _ _ c.read_path.ensures.same path
+    c.in_ok-one.ensures c.in_ok-met.ensures.met in
+    let link = link-is arc_value (g.S.Source.gives c.args.src.now) _ _ _ _ _ _ _ _ path met again c.deref-3.ensures.value
+    c.prune_link-link.ensures in
+    three-most _ _ _ _ _ _ _ _ _ c.in_ok-path.ensures.reads_all c.in_ok-met.ensures.reads_all c.read_pruned.ensures.reads
+    (met-asked arc_value (g.S.Source.gives c.args.src.now) _ _ _ _ _ _ _ c.read_path.ensures.same path c.in_ok-one.ensures)
+    (chain-asked arc_value (g.S.Source.gives c.args.src.now) _ _ _ _ _ (c.read_met.ensures.same ∙ c.read_path.ensures.same)
+    link)
+
+pub returns-clause-reads_all : goal.returns-clause-reads_all
+returns-clause-reads_all g c =
+    let items : c.deref.result.now ≡ c.in_ok-path.field-0.nodes.items = cc in
+    let again : c.deref-2.result.now ≡ c.deref.result.now = cc in
+    let path = items ∙ c.in_ok-path.ensures.nodes in
+    let met = met-is arc_value (g.S.Source.gives c.args.src.now) _ _ _ _ _ _ _ _ c.read_path.ensures.same path
+    c.in_ok-one.ensures c.in_ok-met.ensures.met in
+    let link = link-is arc_value (g.S.Source.gives c.args.src.now) _ _ _ _ _ _ _ _ path met again c.deref-3.ensures.value
+    c.prune_link-link.ensures in
+    three _ _ _ _ _ _ _ _ _ c.in_ok-path.ensures.reads_all c.in_ok-met.ensures.reads_all c.in_ok-pruned.ensures.reads_all
+    (met-asked arc_value (g.S.Source.gives c.args.src.now) _ _ _ _ _ _ _ c.read_path.ensures.same path c.in_ok-one.ensures)
+    (chain-asked arc_value (g.S.Source.gives c.args.src.now) _ _ _ _ _ (c.read_met.ensures.same ∙ c.read_path.ensures.same)
+    link)
+
+pub returns-clause-reads : goal.returns-clause-reads
+returns-clause-reads g c = at-most _ _ (returns-clause-reads_all g c)

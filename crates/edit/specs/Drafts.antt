@@ -1,0 +1,63 @@
+-- Nodes that are written anew, and when one can't be written.
+use Rattle.std.specs.Prelude.{◌≡◌, ⊤, ℕ, Bool, true, false, List, [], ◌∷◌, Option, Some, None}
+use Rattle.std.specs.List.{AllByRecursion}
+use Rattle.spec.specs.Tree.{Pair}
+use Rattle.spec.specs.NodeFormat.{Entry, Shape, LastLink, MoreLinks, first_link, entries_of, is_node, shape_bytes}
+use Rattle.paths.specs.Sources.{shape_of_bytes}
+use Rattle.edit.specs.declared.draft_fault.DraftFault.{DraftFault}
+use Rattle.edit.specs.declared.draft_fault.DraftFault.TheVariants.{NotNode, NoMemory}
+
+-- a node of the grammar
+abbrev pub Lawful : Shape → Type 0
+Lawful s = is_node (first_link s) (entries_of s) ≡ true
+
+abbrev pub AllLawful : List Shape → Type 0
+AllLawful ss = AllByRecursion Lawful ss
+
+-- a node without keys and links
+abbrev pub is_hollow : Shape → Bool
+is_hollow (LastLink None) = true
+is_hollow (LastLink (Some c)) = false
+is_hollow (MoreLinks l e r) = false
+
+-- links and pairs in turn, and then a node
+abbrev pub onto : List (Option (List ℕ) × Pair) → Shape → Shape
+onto [] s = s
+onto (x ∷ xs) s = MoreLinks x.0 x.1 (onto xs s)
+
+-- a node was not written, and it is none of the grammar; of a want of memory nothing is said
+abbrev pub IsFaultOf : Shape → DraftFault → Type 0
+IsFaultOf s NotNode = ¬ Lawful s
+IsFaultOf s NoMemory = ⊤
+
+-- no node that goes on so is one of the grammar
+abbrev pub IsFaultOfAll : List (Option (List ℕ) × Pair) → DraftFault → Type 0
+IsFaultOfAll xs f = (s : Shape) → IsFaultOf (onto xs s) f
+
+-- ---- nodes by their bytes
+
+abbrev pub or_empty : Option Shape → Shape
+or_empty None = LastLink None
+or_empty (Some s) = s
+
+-- the node with these bytes
+unfoldable pub shape_in : List ℕ → Shape
+shape_in bytes = or_empty (shape_of_bytes bytes)
+
+-- these are the bytes of a node of the grammar, and whether it is hollow
+pub record IsDraft (bytes : List ℕ) (hollow : Bool) : Type 0 where
+  pub lawful : Lawful (shape_in bytes)
+  pub spelled : bytes ≡ shape_bytes (shape_in bytes)
+  pub empty : hollow ≡ is_hollow (shape_in bytes)
+
+-- ---- nodes by their entries
+
+-- links and pairs in turn, from the first link, the entries with the links after them, and a last pair
+abbrev pub turned : Option (List ℕ) → List Entry → Pair → List (Option (List ℕ) × Pair)
+turned left [] p = (left, p) ∷ []
+turned left (e ∷ es) p = (left, (e.key, e.value)) ∷ turned e.tree es p
+
+-- what is written while a node is open
+abbrev pub so_far : {A : Type 0} → Option (List A) → List A
+so_far None = []
+so_far (Some xs) = xs

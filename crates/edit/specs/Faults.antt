@@ -1,0 +1,27 @@
+-- When an edit is refused.
+use Rattle.std.specs.Prelude.{◌≡◌, ⊤, ℕ, List, Contains}
+use Rattle.spec.specs.Blocks.{Clash as IsClash}
+use Rattle.edit.specs.declared.draft_fault.DraftFault.{DraftFault}
+use Rattle.edit.specs.declared.draft_fault.DraftFault.TheVariants as drafts
+use Rattle.edit.specs.declared.fault.EditFault.{EditFault}
+use Rattle.edit.specs.declared.fault.EditFault.TheVariants.{NoSuchKey, Clash, NoMemory}
+
+-- what was read or was to be written is no node only unless P; of a want of memory nothing is said
+abbrev pub IsFaultUnless : Type 0 → DraftFault → Type 0
+IsFaultUnless P drafts.NotNode = ¬ P
+IsFaultUnless P drafts.NoMemory = ⊤
+
+-- what a fault of building is to the caller of an edit
+abbrev pub IsEditFault : {D A : Type 0} → DraftFault → EditFault D A → Type 0
+IsEditFault drafts.NotNode fault = fault ≡ NoSuchKey
+IsEditFault drafts.NoMemory fault = fault ≡ NoMemory
+
+-- two of the blocks, with one CID and different bytes
+abbrev pub IsClashIn : (List ℕ → List ℕ) → List (List ℕ) → List ℕ × List ℕ → Type 0
+IsClashIn digest blocks pair = Contains blocks pair.0 × Contains blocks pair.1 × IsClash digest pair.0 pair.1
+
+-- a refusal: there is no such key only where P holds, and two of these blocks clash; of a want of memory nothing is said
+abbrev pub IsRefusal : {D A : Type 0} → (List ℕ → List ℕ) → List (List ℕ) → Type 0 → EditFault D A → Type 0
+IsRefusal digest blocks P NoSuchKey = P
+IsRefusal digest blocks P (Clash pair) = IsClashIn digest blocks pair
+IsRefusal digest blocks P NoMemory = ⊤

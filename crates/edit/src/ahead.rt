@@ -1,0 +1,97 @@
+//! The pairs of a node, of which the next can be looked at before it is taken.
+
+ghost use Rattle.std.specs.Prelude.{◌≡◌, option_map, IfOk, IfErr};
+ghost use Rattle.spec.specs.NodeFormat.{first_link};
+ghost use Rattle.paths.specs.Sources.{shape_from};
+ghost use Rattle.cid.specs.CidRef.{bytes_of};
+ghost use Rattle.edit.specs.Ahead.{first_pair, after_pair, is_more, is_first_before, is_first_at};
+
+use crate::rows::{NodeRows, to_cid};
+use cid::{Cid, CidRef};
+use node::{KeyBuf, NodeView};
+use std::alloc::{AllocError, Allocator};
+use std::marker::Model;
+
+/// The links and pairs of a node, from the front.
+///
+/// A contract sees it as what is left of the node.
+#[derive(Drop)]
+pub(crate) struct Ahead<'a, A: Allocator> {
+    link: Option<CidRef<'a>>,
+    value: Option<CidRef<'a>>,
+    rows: NodeRows<'a, A>,
+}
+
+impl<'a, A: Allocator> Model for Ahead<'a, A> {
+    ghost use Rattle.std.specs.Prelude.{◌≡◌, option_map};
+    ghost use Rattle.spec.specs.NodeFormat.{Shape};
+    ghost use Rattle.cid.specs.CidRef.{bytes_of};
+    ghost use Rattle.edit.specs.Ahead.{ahead_of};
+    ghost use Rattle.edit.specs.Codes.{shape_code};
+
+    ghost Value = { Shape };
+
+    ghost coded = { shape_code };
+
+    ghost view = { λ a. ahead_of (option_map bytes_of a.link) (option_map bytes_of a.value) a.rows };
+}
+
+impl<'a, A: Allocator> Ahead<'a, A> {
+    /// All of a node.
+    pub(crate) fn of(alloc: A, node: &NodeView<'a>) -> Result<Ahead<'a, A>, AllocError>
+        ensures { IfOk result (λ ahead. ahead ≡ shape_from node.now.left node.now.entries) }
+    {
+        let mut rows = NodeRows::of(node, KeyBuf::new(alloc)?);
+        let link = rows.link();
+        let value = rows.next();
+        Ok(Ahead { link, value, rows })
+    }
+
+    /// The link before the next pair, or the last link.
+    pub(crate) fn link(&self) -> Option<Cid>
+        ensures { result ≡ first_link self.now }
+    {
+        to_cid(self.link)
+    }
+
+    /// The next pair, or `None` where only a link is left.
+    pub(crate) fn pair(&self) -> Option<(&[u8], CidRef<'a>)>
+        ensures { option_map (λ pair. (pair.0.now, bytes_of pair.1)) result ≡ first_pair self.now }
+    {
+        match self.value {
+            Some(value) => Some((self.rows.key(), value)),
+            None => None,
+        }
+    }
+
+    /// Whether there is a next pair.
+    pub(crate) fn is_more(&self) -> bool
+        ensures { result ≡ is_more self.now }
+    {
+        self.value.is_some()
+    }
+
+    /// Whether there is a next pair, and it stands before `key`.
+    pub(crate) fn is_before(&self, key: &[u8]) -> bool
+        ensures { result ≡ is_first_before key.now self.now }
+    {
+        self.value.is_some() && self.rows.key().cmp(key).is_lt()
+    }
+
+    /// Whether there is a next pair, and its key is `key`.
+    pub(crate) fn is_at(&self, key: &[u8]) -> bool
+        ensures { result ≡ is_first_at key.now self.now }
+    {
+        self.value.is_some() && self.rows.key().cmp(key).is_eq()
+    }
+
+    /// Goes on after the next pair, to the link after it. Where only a link is left nothing changes.
+    pub(crate) fn skip(&mut self)
+        ensures { self.new ≡ after_pair self.old }
+    {
+        if self.value.is_some() {
+            self.link = self.rows.link();
+            self.value = self.rows.next();
+        }
+    }
+}

@@ -1,0 +1,4 @@
+//! A key taken out of a tree.
+
+mod reading;
+mod writing;

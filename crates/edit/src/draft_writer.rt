@@ -1,0 +1,78 @@
+//! Nodes written link by link and pair by pair.
+
+ghost use Rattle.std.specs.Prelude.{◌≡◌, ◌∷◌, ◌++◌, [], IfOk, IfErr, OnOk};
+ghost use Rattle.spec.specs.NodeFormat.{LastLink};
+ghost use Rattle.cid.specs.CidRef.{bytes_of};
+ghost use Rattle.edit.specs.Drafts.{onto, IsFaultOf, IsFaultOfAll};
+
+use crate::draft::Draft;
+use crate::draft_fault::DraftFault;
+use crate::open_node::OpenNode;
+use cid::{Cid, CidRef};
+use node::NodeWriter;
+use std::alloc::Allocator;
+use std::clone::Clone;
+use std::marker::Model;
+
+/// A node that is being written: a link, a pair, a link, a pair and so on, and the last link at the end.
+///
+/// A contract sees it as the pairs so far, each with the link before it.
+#[derive(Drop)]
+pub(crate) struct DraftWriter<A: Allocator> {
+    alloc: A,
+    node: Option<OpenNode<A>>,
+}
+
+impl<A: Allocator> Model for DraftWriter<A> {
+    ghost use Rattle.std.specs.Prelude.{ℕ, List, Option};
+    ghost use Rattle.spec.specs.Tree.{Pair};
+    ghost use Rattle.edit.specs.Drafts.{so_far};
+
+    ghost Value = { List (Option (List ℕ) × Pair) };
+
+    ghost view = { λ w. so_far w.node };
+}
+
+impl<A: Allocator + Clone> DraftWriter<A> {
+    /// A node of which nothing is written yet.
+    pub(crate) fn new(alloc: A) -> DraftWriter<A>
+        ensures { result ≡ [] }
+    {
+        DraftWriter { alloc, node: None }
+    }
+
+    /// Adds a link and the pair after it. After a refusal nothing is promised of the writer.
+    pub(crate) fn pair(
+        &mut self,
+        link: Option<Cid>,
+        key: &[u8],
+        value: CidRef<'_>,
+    ) -> Result<(), DraftFault>
+        ensures ok { OnOk result (self.new ≡ self.old ++ (link, (key.now, bytes_of value.entry)) ∷ []) }
+        ensures fault { IfErr result (IsFaultOfAll (self.old ++ (link, (key.now, bytes_of value.entry)) ∷ [])) }
+    {
+        match &mut self.node {
+            Some(node) => node.pair(link, key, value),
+            None => {
+                let alloc = self.alloc.clone()?;
+                self.node = Some(OpenNode::begin(alloc, link, key, value)?);
+                Ok(())
+            }
+        }
+    }
+
+    /// Adds the last link.
+    pub(crate) fn finish(self, last: Option<Cid>) -> Result<Draft<A>, DraftFault>
+        ensures ok { IfOk result (λ draft. draft ≡ onto self (LastLink last)) }
+        ensures fault { IfErr result (IsFaultOf (onto self (LastLink last))) }
+    {
+        let DraftWriter { alloc, node } = self;
+        match node {
+            Some(node) => node.finish(last),
+            None => Ok(Draft {
+                bytes: NodeWriter::begin(alloc, last)?.finish()?,
+                hollow: last.is_none(),
+            }),
+        }
+    }
+}
