@@ -8,7 +8,7 @@ use Rattle.spec.specs.NodeFormat.{Shape, LastLink, MoreLinks, shape_bytes, shape
 use Rattle.paths.specs.Lawful.{Lawful, AllLawful}
 use Rattle.paths.specs.Order.{order, if_equal}
 use Rattle.paths.specs.ShapeEdit.{close_shapes, head_shape, last_shape, row_links, merge_links, merge_shapes, remove_shape, settle_links, settle_shape, settle_shapes, lone_shape}
-use Rattle.paths.specs.PathEdit.{climb, climb_shapes, all_but_last, row_shape, prune_link, delete_here, delete_below, delete_root, delete_written}
+use Rattle.paths.specs.PathEdit.{flat, climb, climb_shapes, all_but_last, row_shape, prune_link, delete_here, delete_below, delete_root, delete_written}
 use Rattle.edit.specs.declared.draft_fault.DraftFault.{DraftFault}
 use Rattle.edit.specs.declared.build.settle.Settled.TheVariants.{Made, Below}
 use Rattle.edit.specs.Ahead.{links_if_lone}
@@ -162,3 +162,17 @@ pub lone-none : {A : Type 0} (key : List ℕ) (s : Shape)
 lone-none key (LastLink p) f y h = refl
 lone-none key (MoreLinks p e (LastLink q)) f y h = none-case (order e.0 key) (p, q) (f p q) y h
 lone-none key (MoreLinks p e (MoreLinks q g r)) f y h = refl
+
+-- ---- all nodes in one list
+
+flat-more : {X : Type 0} (xs : List (X × X)) (x : X × X) → flat (xs ++ (x ∷ [])) ≡ flat xs ++ (x.0 ∷ x.1 ∷ [])
+flat-more [] x = refl
+flat-more (y ∷ ys) x = ap (λ t. y.0 ∷ y.1 ∷ t) (flat-more ys x)
+
+pub pushed : {X : Type 0} (m n n1 n2 : List X) (xs : List (X × X)) (x y : X) → n ≡ m ++ flat xs → n1 ≡ n ++ x ∷ []
+    → n2 ≡ n1 ++ y ∷ [] → n2 ≡ m ++ flat (xs ++ ((x, y) ∷ []))
+pushed m n n1 n2 xs x y h i j =
+    j ∙ ap (λ t. t ++ y ∷ []) (i ∙ ap (λ t. t ++ x ∷ []) h)
+    ∙ append_assoc (m ++ flat xs) (x ∷ []) (y ∷ [])
+    ∙ append_assoc m (flat xs) (x ∷ y ∷ [])
+    ∙ ap (λ t. m ++ t) (sym (flat-more xs (x, y)))

@@ -12,3 +12,4 @@ pub mod Stepping
 pub mod Building
 pub mod Deleting
 pub mod DeleteReading
+pub mod DeleteWhole

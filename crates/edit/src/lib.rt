@@ -6,7 +6,7 @@ mod build;
 mod changed;
 mod changes;
 mod copying;
-mod delete;
+mod deletes;
 mod draft;
 mod draft_fault;
 mod draft_writer;
