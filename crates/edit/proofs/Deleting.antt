@@ -1,5 +1,5 @@
 -- What a delete writes, from the nodes that were read.
-use Rattle.std.proofs.Common.{◌≡◌, ℕ, zero, suc, ◌-◌, ◌≤◌, List, [], ◌∷◌, ◌++◌, length, take, drop, get_or, map, Option, None, refl, sym, ap, ◌∙◌, subst, append_assoc, arith}
+use Rattle.std.proofs.Common.{◌≡◌, ℕ, zero, suc, ◌+◌, ◌-◌, ◌≤◌, List, [], ◌∷◌, ◌++◌, length, take, drop, get_or, map, Option, None, refl, sym, ap, ◌∙◌, subst, append_assoc, arith}
 use Rattle.std.specs.declared.option.Option.TheVariants.{Some}
 use Rattle.std.specs.declared.cmp.Ordering.{Ordering}
 use Rattle.std.specs.declared.cmp.Ordering.TheVariants.{Less, Equal, Greater}
@@ -176,3 +176,24 @@ pushed m n n1 n2 xs x y h i j =
     ∙ append_assoc (m ++ flat xs) (x ∷ []) (y ∷ [])
     ∙ append_assoc m (flat xs) (x ∷ y ∷ [])
     ∙ ap (λ t. m ++ t) (sym (flat-more xs (x, y)))
+
+take-past : {X : Type 0} (xs ys : List X) (k : ℕ) → take (length xs + k) (xs ++ ys) ≡ xs ++ take k ys
+take-past [] ys k = let e : 0 + k ≡ k = omega arith in ap (λ n. take n ys) e
+take-past (x ∷ xs) ys k =
+    let e : length (x ∷ xs) + k ≡ suc (length xs + k) = omega arith in
+    ap (λ n. take n (x ∷ (xs ++ ys))) e ∙ ap (λ t. x ∷ t) (take-past xs ys k)
+
+chain-gone : (pruned : List Shape) → take (length pruned - 1) pruned ≡ all_but_last pruned
+chain-gone [] = refl
+chain-gone (s ∷ ss) = above-row (s ∷ ss) (omega arith)
+
+pub gone-is : (path : List Shape) (met : List (Shape × Shape)) (pruned nodes all : List Shape) (a b : ℕ)
+    → nodes ≡ path ++ flat met → all ≡ nodes ++ pruned → a ≡ length nodes → b ≡ length pruned - 1
+    → take (a + b) all ≡ path ++ (flat met ++ all_but_last pruned)
+gone-is path met pruned nodes all a b h i j k =
+    ap (λ n. take (n + b) all) j ∙ ap (λ n. take (length nodes + n) all) k
+    ∙ ap (take (length nodes + (length pruned - 1))) i
+    ∙ take-past nodes pruned (length pruned - 1)
+    ∙ ap (λ t. nodes ++ t) (chain-gone pruned)
+    ∙ ap (λ t. t ++ all_but_last pruned) h
+    ∙ append_assoc path (flat met) (all_but_last pruned)
