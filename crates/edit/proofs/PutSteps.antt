@@ -95,19 +95,19 @@ module _ (digest : List ℕ → List ℕ) (d : ℕ) (p : Pair) (path : List Shap
         let c = lift_shapes digest d s.1 in
         let t = above_shape digest d p path in
         let d2 : m2 ≡ (m0 ++ map shape_bytes a) ++ map shape_bytes b =
-            h2 ∙ ap (λ (x : Option (List ℕ)). m1 ++ map shape_bytes (lift_shapes digest d x)) left-is
-            ∙ ap (λ v. v ++ map shape_bytes b) h1 in
+        h2 ∙ ap (λ (x : Option (List ℕ)). m1 ++ map shape_bytes (lift_shapes digest d x)) left-is
+        ∙ ap (λ v. v ++ map shape_bytes b) h1 in
         let d3 : m3 ≡ ((m0 ++ map shape_bytes a) ++ map shape_bytes b) ++ map shape_bytes c =
-            h3 ∙ ap (λ (x : Option (List ℕ)). m2 ++ map shape_bytes (lift_shapes digest d x)) right-is
-            ∙ ap (λ v. v ++ map shape_bytes c) d2 in
+        h3 ∙ ap (λ (x : Option (List ℕ)). m2 ++ map shape_bytes (lift_shapes digest d x)) right-is
+        ∙ ap (λ v. v ++ map shape_bytes c) d2 in
         let d4 : m4 ≡ (((m0 ++ map shape_bytes a) ++ map shape_bytes b) ++ map shape_bytes c) ++ shape_bytes t ∷ [] =
-            h4 ∙ ap (λ (x : Shape). m3 ++ shape_bytes x ∷ []) (is ∙ above-is)
-            ∙ ap (λ v. v ++ shape_bytes t ∷ []) d3 in
+        h4 ∙ ap (λ (x : Shape). m3 ++ shape_bytes x ∷ []) (is ∙ above-is)
+        ∙ ap (λ v. v ++ shape_bytes t ∷ []) d3 in
         let whole : map shape_bytes (a ++ (b ++ (c ++ (t ∷ []))))
-            ≡ map shape_bytes a ++ (map shape_bytes b ++ (map shape_bytes c ++ (shape_bytes t ∷ []))) =
-            map-two a (b ++ (c ++ (t ∷ [])))
-            ∙ ap (λ v. map shape_bytes a ++ v) (map-two b (c ++ (t ∷ []))
-            ∙ ap (λ v. map shape_bytes b ++ v) (map-two c (t ∷ []))) in
+        ≡ map shape_bytes a ++ (map shape_bytes b ++ (map shape_bytes c ++ (shape_bytes t ∷ []))) =
+        map-two a (b ++ (c ++ (t ∷ [])))
+        ∙ ap (λ v. map shape_bytes a ++ v) (map-two b (c ++ (t ∷ []))
+        ∙ ap (λ v. map shape_bytes b ++ v) (map-two c (t ∷ []))) in
         d4 ∙ four m0 (map shape_bytes a) (map shape_bytes b) (map shape_bytes c) (shape_bytes t ∷ [])
         ∙ ap (λ v. m0 ++ v) (sym whole)
       where
@@ -285,23 +285,23 @@ module _ (digest : List ℕ → List ℕ) (d : ℕ) (p : Pair) (path above below
       below-made top m0 m1 m2 m3 m4 ht h1 h2 h3 h4 =
           let t = put_below digest d p path in
           let d1 : m1 ≡ m0 ++ map shape_bytes sides =
-              h1 ∙ ap (λ (ss : List Shape). m0 ++ map shape_bytes (split_shapes digest p.0 (tail_shapes ss))) cut.rest in
+          h1 ∙ ap (λ (ss : List Shape). m0 ++ map shape_bytes (split_shapes digest p.0 (tail_shapes ss))) cut.rest in
           let d2 : m2 ≡ (m0 ++ map shape_bytes sides) ++ map shape_bytes bare =
-              h2 ∙ ap (λ (k : ℕ). m1 ++ map shape_bytes (raise_shapes digest k node)) cut.layers
-              ∙ ap (λ (s : Shape). m1 ++ map shape_bytes (raise_shapes digest (d - length path) s)) node-is
-              ∙ ap (λ v. v ++ map shape_bytes bare) d1 in
+          h2 ∙ ap (λ (k : ℕ). m1 ++ map shape_bytes (raise_shapes digest k node)) cut.layers
+          ∙ ap (λ (s : Shape). m1 ++ map shape_bytes (raise_shapes digest (d - length path) s)) node-is
+          ∙ ap (λ v. v ++ map shape_bytes bare) d1 in
           let d3 : m3 ≡ ((m0 ++ map shape_bytes sides) ++ map shape_bytes bare) ++ map shape_bytes climbed =
-              h3 ∙ ap (λ (a : List Shape). m2 ++ map shape_bytes (climb_shapes digest p.0 a raised)) cut.front
-              ∙ ap (λ (s : Shape). m2 ++ map shape_bytes (climb_shapes digest p.0 (take d path) s)) raised-is
-              ∙ ap (λ v. v ++ map shape_bytes climbed) d2 in
+          h3 ∙ ap (λ (a : List Shape). m2 ++ map shape_bytes (climb_shapes digest p.0 a raised)) cut.front
+          ∙ ap (λ (s : Shape). m2 ++ map shape_bytes (climb_shapes digest p.0 (take d path) s)) raised-is
+          ∙ ap (λ v. v ++ map shape_bytes climbed) d2 in
           let d4 : m4 ≡ (((m0 ++ map shape_bytes sides) ++ map shape_bytes bare) ++ map shape_bytes climbed) ++ shape_bytes t ∷ [] =
-              h4 ∙ ap (λ (x : Shape). m3 ++ shape_bytes x ∷ []) (below-top top ht)
-              ∙ ap (λ v. v ++ shape_bytes t ∷ []) d3 in
+          h4 ∙ ap (λ (x : Shape). m3 ++ shape_bytes x ∷ []) (below-top top ht)
+          ∙ ap (λ v. v ++ shape_bytes t ∷ []) d3 in
           let whole : map shape_bytes ((sides ++ (bare ++ climbed)) ++ (t ∷ []))
-              ≡ (map shape_bytes sides ++ (map shape_bytes bare ++ map shape_bytes climbed)) ++ (shape_bytes t ∷ []) =
-              map-two (sides ++ (bare ++ climbed)) (t ∷ [])
-              ∙ ap (λ v. v ++ (shape_bytes t ∷ [])) (map-two sides (bare ++ climbed)
-              ∙ ap (λ v. map shape_bytes sides ++ v) (map-two bare climbed)) in
+          ≡ (map shape_bytes sides ++ (map shape_bytes bare ++ map shape_bytes climbed)) ++ (shape_bytes t ∷ []) =
+          map-two (sides ++ (bare ++ climbed)) (t ∷ [])
+          ∙ ap (λ v. v ++ (shape_bytes t ∷ [])) (map-two sides (bare ++ climbed)
+          ∙ ap (λ v. map shape_bytes sides ++ v) (map-two bare climbed)) in
           d4 ∙ grouped m0 (map shape_bytes sides) (map shape_bytes bare) (map shape_bytes climbed) (shape_bytes t ∷ [])
           ∙ ap (λ v. m0 ++ v) (sym whole)
         where

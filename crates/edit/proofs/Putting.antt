@@ -139,12 +139,12 @@ module _ (digest : List ℕ → List ℕ) (bits : ℕ) (fits : IsDigest digest) 
         let goes = path_from (shown_by gives) n key (Some (root_of digest bits es)) in
         let comes = put_written digest (layer digest bits) (key, value) goes in
         let all = is-put.edit.changes
-            (subst (λ (ss : List Shape). IsClashFree digest (bytes_of (put_written digest (layer digest bits) (key, value) ss) ++ bytes_of ss))
-            reads (on.all_free free)) in
+        (subst (λ (ss : List Shape). IsClashFree digest (bytes_of (put_written digest (layer digest bits) (key, value) ss) ++ bytes_of ss))
+        reads (on.all_free free)) in
         let added : add_of digest (bytes_of goes) (bytes_of comes) ≡ add =
-            sym (on.added ∙ ap (λ (ss : List Shape). add_of digest (bytes_of ss) (bytes_of (put_written digest (layer digest bits) (key, value) ss))) reads) in
+        sym (on.added ∙ ap (λ (ss : List Shape). add_of digest (bytes_of ss) (bytes_of (put_written digest (layer digest bits) (key, value) ss))) reads) in
         let dropped : drop_of digest (bytes_of comes) (bytes_of goes) ≡ drop =
-            sym (on.dropped ∙ ap (λ (ss : List Shape). drop_of digest (bytes_of (put_written digest (layer digest bits) (key, value) ss)) (bytes_of ss)) reads) in
+        sym (on.dropped ∙ ap (λ (ss : List Shape). drop_of digest (bytes_of (put_written digest (layer digest bits) (key, value) ss)) (bytes_of ss)) reads) in
         let seen : bytes_of goes ≡ path digest bits es key = (is-lookup digest bits fits gives root key es has n enough).reads in
         record {
           root_is = on.root_is ∙ ap (λ (ss : List Shape). shape_cid digest (put_root digest (layer digest bits) (key, value) ss)) reads

@@ -40,7 +40,7 @@ returns-in_err-node-clause-fault g c =
 pub returns-clause-made : goal.returns-clause-made
 returns-clause-made g c =
     let is = c.in_ok-node.ensures.ok
-        ∙ ap (λ (x : List ℕ). MoreLinks c.in_ok-before.before (c.args.key.now, x) (LastLink c.in_ok-after.after)) c.to_cid.ensures in
+    ∙ ap (λ (x : List ℕ). MoreLinks c.in_ok-before.before (c.args.key.now, x) (LastLink c.in_ok-after.after)) c.to_cid.ensures in
     above-made g.D.Digest.digest_of c.args.layers (c.args.key.now, bytes_of c.args.value) c.args.path.now _ _
     c.in_ok-left.ensures.links c.in_ok-before.before c.in_ok-after.after c.in_ok-before.ensures.link c.in_ok-after.ensures.link
     c.in_ok-node.node _ _ _ _ _ is c.in_ok-left.ensures.made c.in_ok-before.ensures.made c.in_ok-after.ensures.made

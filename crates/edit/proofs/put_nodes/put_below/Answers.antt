@@ -10,7 +10,7 @@ returns-in_err-node-clause-fault g c =
     let p = err_from_is_err_and c.from_residual-in_err-node.result c.from_residual-in_err-node.ensures.1 in
     let m : c.min-depth.result ≡ min (length c.args.path.now) c.args.layers = cc in
     let cut = cut-at c.args.layers c.min-depth.result (c.args.layers - c.min-depth.result) c.args.path.now
-        c.split_at.result.0.now c.split_at.result.1.now m c.split_at.ensures.front c.split_at.ensures.back refl in
+    c.split_at.result.0.now c.split_at.result.1.now m c.split_at.ensures.front c.split_at.ensures.back refl in
     rw (p.1, p.2)
     (below-here g.D.Digest.digest_of c.args.layers (c.args.key.now, bytes_of c.args.value) c.args.path.now _ _ _ cut _
     c.in_err-node.ensures.fault)
@@ -20,7 +20,7 @@ returns-in_err-raised-clause-fault g c =
     let p = err_from_is_err_and c.from_residual-in_err-raised.result c.from_residual-in_err-raised.ensures.1 in
     let m : c.min-depth.result ≡ min (length c.args.path.now) c.args.layers = cc in
     let cut = cut-at c.args.layers c.min-depth.result (c.args.layers - c.min-depth.result) c.args.path.now
-        c.split_at.result.0.now c.split_at.result.1.now m c.split_at.ensures.front c.split_at.ensures.back refl in
+    c.split_at.result.0.now c.split_at.result.1.now m c.split_at.ensures.front c.split_at.ensures.back refl in
     rw (p.1, p.2)
     (below-raise g.D.Digest.digest_of c.args.layers (c.args.key.now, bytes_of c.args.value) c.args.path.now _ _ _ cut
     c.in_ok-node.node c.in_ok-node.ensures.node _ c.in_err-raised.ensures.fault)
@@ -30,7 +30,7 @@ returns-in_err-top-clause-fault g c =
     let p = err_from_is_err_and c.from_residual-in_err-top.result c.from_residual-in_err-top.ensures.1 in
     let m : c.min-depth.result ≡ min (length c.args.path.now) c.args.layers = cc in
     let cut = cut-at c.args.layers c.min-depth.result (c.args.layers - c.min-depth.result) c.args.path.now
-        c.split_at.result.0.now c.split_at.result.1.now m c.split_at.ensures.front c.split_at.ensures.back refl in
+    c.split_at.result.0.now c.split_at.result.1.now m c.split_at.ensures.front c.split_at.ensures.back refl in
     rw (p.1, p.2)
     (below-climb g.D.Digest.digest_of c.args.layers (c.args.key.now, bytes_of c.args.value) c.args.path.now _ _ _ cut
     c.in_ok-node.node c.in_ok-node.ensures.node c.in_ok-raised.raised c.in_ok-raised.ensures.top _ c.in_err-top.ensures.fault)
@@ -39,7 +39,7 @@ pub returns-clause-root : goal.returns-clause-root
 returns-clause-root g c =
     let m : c.min-depth.result ≡ min (length c.args.path.now) c.args.layers = cc in
     let cut = cut-at c.args.layers c.min-depth.result (c.args.layers - c.min-depth.result) c.args.path.now
-        c.split_at.result.0.now c.split_at.result.1.now m c.split_at.ensures.front c.split_at.ensures.back refl in
+    c.split_at.result.0.now c.split_at.result.1.now m c.split_at.ensures.front c.split_at.ensures.back refl in
     c.in_ok-push.ensures.cid
     ∙ ap (shape_cid g.D.Digest.digest_of)
     (below-top g.D.Digest.digest_of c.args.layers (c.args.key.now, bytes_of c.args.value) c.args.path.now _ _ _ cut
@@ -50,7 +50,7 @@ pub returns-clause-made : goal.returns-clause-made
 returns-clause-made g c =
     let m : c.min-depth.result ≡ min (length c.args.path.now) c.args.layers = cc in
     let cut = cut-at c.args.layers c.min-depth.result (c.args.layers - c.min-depth.result) c.args.path.now
-        c.split_at.result.0.now c.split_at.result.1.now m c.split_at.ensures.front c.split_at.ensures.back refl in
+    c.split_at.result.0.now c.split_at.result.1.now m c.split_at.ensures.front c.split_at.ensures.back refl in
     below-made g.D.Digest.digest_of c.args.layers (c.args.key.now, bytes_of c.args.value) c.args.path.now _ _ _ cut
     c.in_ok-node.node c.in_ok-node.ensures.node c.in_ok-raised.raised c.in_ok-raised.ensures.top c.in_ok-top.top
     _ _ _ _ _ c.in_ok-top.ensures.top c.in_ok-node.ensures.made c.in_ok-raised.ensures.made c.in_ok-top.ensures.made
