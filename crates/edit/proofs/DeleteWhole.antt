@@ -83,7 +83,7 @@ module _ (digest : List ℕ → List ℕ) (bits : ℕ) (fits : IsDigest digest) 
       record {
         path = asked-holds digest shows n key (Sub (top (layer digest bits) es))
             (holds-top digest bits fits gives es has.pairs has.nodes);
-        there = subst IsSome (sym value) tt;
+        there = subst IsSome (sym value) refl;
         met = subst (λ l. IsWholeMet shows n l x.1) (sym held.one.is)
             (subst (λ l. IsWholeMet shows n (part_link digest held.one.part) l) (sym held.other.is)
             (met-whole digest shows n held.one.part held.other.part held.one.holds held.other.holds));
