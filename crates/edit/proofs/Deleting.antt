@@ -1,5 +1,5 @@
 -- What a delete writes, from the nodes that were read.
-use Rattle.std.proofs.Common.{◌≡◌, ℕ, zero, suc, ◌-◌, ◌≤◌, List, [], ◌∷◌, ◌++◌, length, take, drop, get_or, map, Option, None, refl, sym, ap, ◌∙◌, subst, append_assoc, arith}
+use Rattle.std.proofs.Common.{◌≡◌, ℕ, zero, suc, ◌+◌, ◌-◌, ◌≤◌, List, [], ◌∷◌, ◌++◌, length, take, drop, get_or, map, Option, None, refl, sym, ap, ◌∙◌, subst, append_assoc, arith}
 use Rattle.std.specs.declared.option.Option.TheVariants.{Some}
 use Rattle.std.specs.declared.cmp.Ordering.{Ordering}
 use Rattle.std.specs.declared.cmp.Ordering.TheVariants.{Less, Equal, Greater}
@@ -8,11 +8,13 @@ use Rattle.spec.specs.NodeFormat.{Shape, LastLink, MoreLinks, shape_bytes, shape
 use Rattle.paths.specs.Lawful.{Lawful, AllLawful}
 use Rattle.paths.specs.Order.{order, if_equal}
 use Rattle.paths.specs.ShapeEdit.{close_shapes, head_shape, last_shape, row_links, merge_links, merge_shapes, remove_shape, settle_links, settle_shape, settle_shapes, lone_shape}
-use Rattle.paths.specs.PathEdit.{climb, climb_shapes, all_but_last, row_shape, prune_link, delete_here, delete_below, delete_root, delete_written}
+use Rattle.paths.specs.PathEdit.{flat, climb, climb_shapes, all_but_last, row_shape, prune_link, delete_here, delete_below, delete_root, delete_written, delete_read, delete_gone_shapes}
+use Rattle.paths.specs.Changes.{add_of, drop_of}
+use Rattle.spec.specs.Blocks.{IsClashFree}
 use Rattle.edit.specs.declared.draft_fault.DraftFault.{DraftFault}
 use Rattle.edit.specs.declared.build.settle.Settled.TheVariants.{Made, Below}
 use Rattle.edit.specs.Ahead.{links_if_lone}
-use Rattle.edit.specs.Deletes.{row_written, Ends, CanWriteRow, CanSettle, CanDelete}
+use Rattle.edit.specs.Deletes.{row_written, Ends, CanWriteRow, CanSettle, CanDelete, IsDeleteOn}
 use Rattle.edit.specs.Drafts.{IsFaultOf}
 use Rattle.edit.specs.Faults.{IsFaultUnless}
 use Rattle.edit.specs.Settled.{IsSettled}
@@ -162,3 +164,78 @@ pub lone-none : {A : Type 0} (key : List ℕ) (s : Shape)
 lone-none key (LastLink p) f y h = refl
 lone-none key (MoreLinks p e (LastLink q)) f y h = none-case (order e.0 key) (p, q) (f p q) y h
 lone-none key (MoreLinks p e (MoreLinks q g r)) f y h = refl
+
+-- ---- all nodes in one list
+
+flat-more : {X : Type 0} (xs : List (X × X)) (x : X × X) → flat (xs ++ (x ∷ [])) ≡ flat xs ++ (x.0 ∷ x.1 ∷ [])
+flat-more [] x = refl
+flat-more (y ∷ ys) x = ap (λ t. y.0 ∷ y.1 ∷ t) (flat-more ys x)
+
+pub pushed : {X : Type 0} (m n n1 n2 : List X) (xs : List (X × X)) (x y : X) → n ≡ m ++ flat xs → n1 ≡ n ++ x ∷ []
+    → n2 ≡ n1 ++ y ∷ [] → n2 ≡ m ++ flat (xs ++ ((x, y) ∷ []))
+pushed m n n1 n2 xs x y h i j =
+    j ∙ ap (λ t. t ++ y ∷ []) (i ∙ ap (λ t. t ++ x ∷ []) h)
+    ∙ append_assoc (m ++ flat xs) (x ∷ []) (y ∷ [])
+    ∙ append_assoc m (flat xs) (x ∷ y ∷ [])
+    ∙ ap (λ t. m ++ t) (sym (flat-more xs (x, y)))
+
+take-past : {X : Type 0} (xs ys : List X) (k : ℕ) → take (length xs + k) (xs ++ ys) ≡ xs ++ take k ys
+take-past [] ys k = let e : 0 + k ≡ k = omega arith in ap (λ n. take n ys) e
+take-past (x ∷ xs) ys k =
+    let e : length (x ∷ xs) + k ≡ suc (length xs + k) = omega arith in
+    ap (λ n. take n (x ∷ (xs ++ ys))) e ∙ ap (λ t. x ∷ t) (take-past xs ys k)
+
+chain-gone : (pruned : List Shape) → take (length pruned - 1) pruned ≡ all_but_last pruned
+chain-gone [] = refl
+chain-gone (s ∷ ss) = above-row (s ∷ ss) (omega arith)
+
+pub gone-is : (path : List Shape) (met : List (Shape × Shape)) (pruned nodes all : List Shape) (a b : ℕ)
+    → nodes ≡ path ++ flat met → all ≡ nodes ++ pruned → a ≡ length nodes → b ≡ length pruned - 1
+    → take (a + b) all ≡ path ++ (flat met ++ all_but_last pruned)
+gone-is path met pruned nodes all a b h i j k =
+    ap (λ n. take (n + b) all) j ∙ ap (λ n. take (length nodes + n) all) k
+    ∙ ap (take (length nodes + (length pruned - 1))) i
+    ∙ take-past nodes pruned (length pruned - 1)
+    ∙ ap (λ t. nodes ++ t) (chain-gone pruned)
+    ∙ ap (λ t. t ++ all_but_last pruned) h
+    ∙ append_assoc path (flat met) (all_but_last pruned)
+
+-- ---- what a delete leaves
+
+pub delete-on : {Y : Type 0} (digest : List ℕ → List ℕ) (f : Y → List ℕ) (key : List ℕ) (path p : List Shape)
+    (met m : List (Shape × Shape)) (pruned q all d6 d5 gone : List Shape) (k : ℕ) (none made d4 : List Y)
+    (root : List ℕ) (add drop : List (List ℕ))
+    → p ≡ path → m ≡ met → q ≡ pruned → root ≡ shape_cid digest (delete_root digest key p m q)
+    → none ≡ [] → map f made ≡ map f none ++ map shape_bytes (delete_written digest key p m)
+    → all ≡ delete_read path met pruned → take k all ≡ delete_gone_shapes path met pruned
+    → d6 ≡ all → d5 ≡ all → d4 ≡ made
+    → drop ≡ drop_of digest (map f d4) (map shape_bytes gone)
+    → add ≡ add_of digest (map shape_bytes d6) (map f made)
+    → (IsClashFree digest (map shape_bytes d6) → IsClashFree digest (add ++ map shape_bytes d6))
+    → (IsClashFree digest (map shape_bytes d6) → IsClashFree digest (map f made ++ map shape_bytes d6))
+    → gone ≡ take k d5
+    → IsDeleteOn digest key path met pruned root add drop
+delete-on digest f key path p met m pruned q all d6 d5 gone k none made d4 root add drop ep em eq hr hn hm ha hg e6 e5 e4 hd had hf hall cut =
+    let w = map shape_bytes (delete_written digest key path met) in
+    let made_is : map f made ≡ w =
+    hm ∙ ap (λ (ys : List _). map f ys ++ map shape_bytes (delete_written digest key p m)) hn
+    ∙ ap (λ (r : List Shape). map shape_bytes (delete_written digest key r m)) ep
+    ∙ ap (λ (r : List (Shape × Shape)). map shape_bytes (delete_written digest key path r)) em in
+    let read_is : d6 ≡ delete_read path met pruned = e6 ∙ ha in
+    let gone_is : gone ≡ delete_gone_shapes path met pruned = cut ∙ ap (take k) e5 ∙ hg in
+    record {
+      root_is = hr ∙ ap (λ (r : List Shape). shape_cid digest (delete_root digest key r m q)) ep
+          ∙ ap (λ (r : List (Shape × Shape)). shape_cid digest (delete_root digest key path r q)) em
+          ∙ ap (λ (r : List Shape). shape_cid digest (delete_root digest key path met r)) eq;
+      added = had ∙ ap (λ (r : List Shape). add_of digest (map shape_bytes r) (map f made)) read_is
+          ∙ ap (add_of digest (map shape_bytes (delete_read path met pruned))) made_is;
+      dropped = hd ∙ ap (λ (ys : List _). drop_of digest (map f ys) (map shape_bytes gone)) e4
+          ∙ ap (λ (x : List (List ℕ)). drop_of digest x (map shape_bytes gone)) made_is
+          ∙ ap (λ (r : List Shape). drop_of digest w (map shape_bytes r)) gone_is;
+      free = subst (λ (r : List Shape). IsClashFree digest (map shape_bytes r) → IsClashFree digest (add ++ map shape_bytes r))
+          read_is hf;
+      all_free = subst (λ (r : List Shape). IsClashFree digest (map shape_bytes r) → IsClashFree digest (w ++ map shape_bytes r))
+          read_is
+          (subst (λ (x : List (List ℕ)). IsClashFree digest (map shape_bytes d6) → IsClashFree digest (x ++ map shape_bytes d6))
+          made_is hall);
+    }

@@ -14,3 +14,4 @@ pub mod NodeEnds
 pub mod Building
 pub mod Deleting
 pub mod DeleteReading
+pub mod DeleteWhole

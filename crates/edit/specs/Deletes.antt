@@ -1,9 +1,12 @@
 -- What a delete reads and writes.
 use Rattle.std.specs.Prelude.{◌≡◌, ◌≤◌, ◌+◌, ⊤, ℕ, List, [], ◌∷◌, ◌++◌, length, Option, Some, None, IsSome}
-use Rattle.spec.specs.NodeFormat.{Shape}
+use Rattle.spec.specs.Blocks.{IsClashFree}
+use Rattle.spec.specs.NodeFormat.{Shape, shape_cid}
 use Rattle.paths.specs.Lawful.{AllLawful}
 use Rattle.paths.specs.ShapeEdit.{merge_shapes, row_links, settle_links, settle_shapes}
-use Rattle.paths.specs.PathEdit.{climb_shapes, all_but_last, row_shape, prune_link, delete_here, delete_below, delete_written}
+use Rattle.paths.specs.PathEdit.{climb_shapes, all_but_last, row_shape, prune_link, delete_here, delete_below, delete_root, delete_written, delete_read, delete_gone_shapes}
+use Rattle.paths.specs.Changes.{add_of, drop_of}
+use Rattle.paths.specs.Laws.Edits.{bytes_of}
 use Rattle.paths.specs.Sources.{path_from, value_from, delete_met_from}
 use Rattle.edit.specs.Steps.{asked_from, asked_met, asked_pruned, IsWholePath, IsWholeMet, IsWholeChain}
 
@@ -50,3 +53,14 @@ asked_delete shows n key root =
     let x = row_links key (row_shape path) in
     asked_from shows n key (Some root)
     + (asked_met shows n x.0 x.1 + asked_pruned shows n (prune_link key path (delete_met_from shows n key path)))
+
+-- what a delete leaves, from what was read
+pub record IsDeleteOn (digest : List ℕ → List ℕ) (key : List ℕ) (path : List Shape) (met : List (Shape × Shape))
+    (pruned : List Shape) (root : List ℕ) (add drop : List (List ℕ)) : Type 0 where
+  pub root_is : root ≡ shape_cid digest (delete_root digest key path met pruned)
+  pub added : add ≡ add_of digest (bytes_of (delete_read path met pruned)) (bytes_of (delete_written digest key path met))
+  pub dropped : drop ≡ drop_of digest (bytes_of (delete_written digest key path met)) (bytes_of (delete_gone_shapes path met pruned))
+  pub free : IsClashFree digest (bytes_of (delete_read path met pruned))
+      → IsClashFree digest (add ++ bytes_of (delete_read path met pruned))
+  pub all_free : IsClashFree digest (bytes_of (delete_read path met pruned))
+      → IsClashFree digest (bytes_of (delete_written digest key path met) ++ bytes_of (delete_read path met pruned))

@@ -54,7 +54,10 @@ pub(crate) fn settle<D: Digest, A: Allocator + Clone>(
 }
 
 /// Whether neither of two nodes has a pair.
-pub(crate) fn are_bare<D: Digest, A: Allocator>(one: &Node<'_, D, A>, other: &Node<'_, D, A>) -> bool
+pub(crate) fn are_bare<D: Digest, A: Allocator>(
+    one: &Node<'_, D, A>,
+    other: &Node<'_, D, A>,
+) -> bool
     ensures { result ≡ are_bare one.now other.now }
 {
     !one.has_pairs() && !other.has_pairs()

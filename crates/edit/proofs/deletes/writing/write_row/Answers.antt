@@ -1,6 +1,6 @@
 use Rattle.std.proofs.lemmas.Result.{err_from_is_err_and}
 use Rattle.edit.proofs.Deleting.{row-last, above-row, here-is, row-merge, row-here, row-climb, row-root, row-made}
-use Rattle.edit.proofs.delete.writing.write_row.Goals as goal
+use Rattle.edit.proofs.deletes.writing.write_row.Goals as goal
 
 pub returns-in_err-link-clause-fault : goal.returns-in_err-link-clause-fault
 returns-in_err-link-clause-fault g c =

@@ -3,7 +3,7 @@ use Rattle.spec.specs.Cid.{cid}
 use Rattle.spec.specs.NodeFormat.{shape_cid}
 use Rattle.edit.specs.Settled.{IsSettled}
 use Rattle.edit.proofs.Deleting.{pruned-root}
-use Rattle.edit.proofs.delete.writing.write_settled.Goals as goal
+use Rattle.edit.proofs.deletes.writing.write_settled.Goals as goal
 
 pub returns-in-len1-up-clause-root : goal.returns-in-len1-up-clause-root
 returns-in-len1-up-clause-root g c =

@@ -2,7 +2,7 @@ use Rattle.std.proofs.Common.{ap, sym, ◌∙◌}
 use Rattle.std.proofs.lemmas.Result.{IfOk-weaker}
 use Rattle.paths.specs.ShapeEdit.{row_links}
 use Rattle.edit.proofs.Deleting.{row-last}
-use Rattle.edit.proofs.delete.reading.key_links.Goals as goal
+use Rattle.edit.proofs.deletes.reading.key_links.Goals as goal
 
 pub returns-in-len1-up : goal.returns-in-len1-up
 returns-in-len1-up g c =

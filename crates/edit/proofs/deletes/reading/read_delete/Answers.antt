@@ -2,7 +2,7 @@ use Rattle.std.proofs.Common.{◌≡◌, ◌∙◌}
 use Rattle.std.specs.Arc.{arc_value}
 use Rattle.std.proofs.lemmas.Result.{err_from_is_err_and}
 use Rattle.edit.proofs.DeleteReading.{met-is, link-is, no-met, no-chain, met-asked, chain-asked, three, three-most, at-most}
-use Rattle.edit.proofs.delete.reading.read_delete.Goals as goal
+use Rattle.edit.proofs.deletes.reading.read_delete.Goals as goal
 
 pub returns-in_err-met-clause-fault : goal.returns-in_err-met-clause-fault
 returns-in_err-met-clause-fault g c =

@@ -1,4 +1,0 @@
-//! A key taken out of a tree.
-
-mod reading;
-mod writing;
