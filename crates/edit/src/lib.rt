@@ -23,6 +23,7 @@ mod rows;
 mod source;
 mod step;
 
+pub use deletes::delete;
 pub use edited::Edit;
 pub use fault::EditFault;
 pub use lookup::get;
