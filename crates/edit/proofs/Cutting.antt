@@ -1,5 +1,5 @@
 -- A node taken pair by pair, up to a key or to its end.
-use Rattle.std.proofs.Common.{◌≡◌, ℕ, suc, ◌<◌, Bool, true, false, List, [], ◌∷◌, ◌++◌, Option, None, Some, option_map, refl, sym, ap, subst, ◌∙◌, append_assoc, arith}
+use Rattle.std.proofs.Common.{◌≡◌, ℕ, suc, ◌<◌, true, false, List, [], ◌++◌, Option, None, Some, option_map, refl, sym, ap, subst, ◌∙◌, append_assoc, arith}
 use Rattle.std.specs.Prelude.{is_some}
 use Rattle.std.specs.declared.cmp.Ordering.{Ordering}
 use Rattle.std.specs.declared.cmp.Ordering.TheVariants.{Less, Equal, Greater}
@@ -12,7 +12,7 @@ use Rattle.paths.specs.Order.{order}
 use Rattle.paths.specs.ShapeEdit.{with_first_link}
 use Rattle.edit.specs.declared.draft_fault.DraftFault.{DraftFault}
 use Rattle.edit.specs.declared.draft_fault.DraftFault.TheVariants.{NotNode, NoMemory}
-use Rattle.edit.specs.Ahead.{after_pair, ahead_of, is_more, first_linked, all_pairs, before_key, before_key_at, from_key, from_key_at, is_first_before, is_first_at}
+use Rattle.edit.specs.Ahead.{after_pair, ahead_of, is_more, first_linked, all_pairs, before_key, from_key, is_first_before, is_first_at}
 use Rattle.edit.specs.Drafts.{Lawful, onto, IsFaultOf, IsFaultOfAll}
 use Rattle.edit.specs.Rows.{Reading}
 use Rattle.edit.proofs.Drafting.{Links, onto-append}

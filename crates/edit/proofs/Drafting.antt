@@ -1,13 +1,10 @@
 -- Nodes written pair by pair.
-use Rattle.std.proofs.Common.{◌≡◌, ℕ, suc, ◌+◌, ◌^◌, ◌<◌, ◌≤◌, Bool, true, false, ◌&&◌, ltb, List, [], ◌∷◌, ◌++◌, length, Option, None, Some, Result, Ok, refl, sym, ap, subst, ◌∙◌, append_assoc, arith, length-append}
+use Rattle.std.proofs.Common.{◌≡◌, ℕ, ◌^◌, Bool, true, false, ◌&&◌, ltb, List, [], ◌∷◌, ◌++◌, length, Option, None, Some, refl, sym, ap, subst, ◌∙◌}
 use Rattle.std.specs.Prelude.{not, is_some}
 use Rattle.std.specs.Cmp.Lexicographic.{slice_cmp}
 use Rattle.std.specs.Ordering.{nat_cmp, is_lt}
-use Rattle.std.proofs.lemmas.Bool.{lt-ltb}
-use Rattle.spec.specs.Head.{head}
 use Rattle.spec.specs.Tree.{Pair}
-use Rattle.spec.specs.Cid.{is_own_cid}
-use Rattle.spec.specs.NodeFormat.{Entry, Shape, LastLink, MoreLinks, first_link, entries_of, entries_bytes, link_or_null, node_spelling, shape_bytes, is_key, are_keys_after, are_links, is_own_cid_or_none, is_node, read_node}
+use Rattle.spec.specs.NodeFormat.{Entry, Shape, LastLink, MoreLinks, first_link, entries_of, node_spelling, shape_bytes, is_key, are_keys_after, are_links, is_own_cid_or_none, is_node, read_node}
 use Rattle.spec.proofs.Bools.{both}
 use Rattle.spec.proofs.NodeLaws.{read_node-node_spelling}
 use Rattle.node.specs.Contents.{Contents, last_key, is_next_key}

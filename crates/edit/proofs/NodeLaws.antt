@@ -3,7 +3,6 @@ use Rattle.std.proofs.Common.{◌≡◌, ◌<◌, ◌^◌, length, ℕ, List, []
 use Rattle.spec.specs.Reading.{IsBytes}
 use Rattle.spec.specs.NodeFormat.{Entry, read_node}
 use Rattle.node.specs.Rows.{Row, rows}
-use Rattle.paths.specs.ShapeEdit.{last_link}
 use Rattle.paths.specs.Sources.{shape_from, shape_of_reading}
 use Rattle.paths.proofs.OverSource.{shape_bytes-shape_of_bytes}
 use Rattle.edit.specs.Nodes.{IsNodeOf, has_pairs}
@@ -23,13 +22,3 @@ pub pairs-none : (before : List ℕ) (left : Option (List ℕ)) (es : List Entry
     → false ≡ has_pairs (shape_from left es)
 pairs-none before left [] h = refl
 pairs-none before left (e ∷ es) h = cc
-
--- the link after some rows, from the one before them
-abbrev pub last_of : Option (List ℕ) → List Row → Option (List ℕ)
-last_of link [] = link
-last_of link (r ∷ rs) = last_of r.tree rs
-
-pub last-rows : (before : List ℕ) (left : Option (List ℕ)) (es : List Entry)
-    → last_of left (rows before es) ≡ last_link (shape_from left es)
-last-rows before left [] = refl
-last-rows before left (e ∷ es) = last-rows e.key e.tree es

@@ -1,11 +1,10 @@
 -- A node read pair by pair.
-use Rattle.std.proofs.Common.{◌≡◌, ℕ, Bool, true, ◌&&◌, List, [], ◌∷◌, Option, refl, sym, ap, subst, ◌∙◌}
+use Rattle.std.proofs.Common.{◌≡◌, ℕ, true, ◌&&◌, List, [], ◌∷◌, Option, refl, sym, ap, subst, ◌∙◌}
 use Rattle.std.specs.Cmp.Lexicographic.{slice_cmp}
 use Rattle.std.specs.Ordering.{nat_cmp, is_lt}
-use Rattle.spec.specs.Tree.{Pair}
-use Rattle.spec.specs.NodeFormat.{Entry, Shape, MoreLinks, first_link, entries_of, is_key, are_keys_after}
+use Rattle.spec.specs.NodeFormat.{Entry, MoreLinks, first_link, entries_of, is_key, are_keys_after}
 use Rattle.spec.proofs.Bools.{both}
-use Rattle.node.specs.Rows.{Row, row_after, rows}
+use Rattle.node.specs.Rows.{Row, rows}
 use Rattle.node.proofs.Stepping.{prefix-fits, key-fits, key-stepped}
 use Rattle.paths.specs.Sources.{shape_from}
 use Rattle.edit.specs.Rows.{shape_of_rows, AreKeys}

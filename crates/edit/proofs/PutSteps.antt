@@ -23,6 +23,11 @@ pub if-ok : {T E : Type 0} {P Q : T → Type 0} (r : Result T E) → ((x : T) �
 if-ok (Ok x) h p = h x p
 if-ok (Err e) h p = tt
 
+pub if-ok-two : {T E : Type 0} {P Q R : T → Type 0} (r : Result T E) → ((x : T) → P x → Q x → R x) → IfOk r P → IfOk r Q
+    → IfOk r R
+if-ok-two (Ok x) h p q = h x p q
+if-ok-two (Err e) h p q = tt
+
 front-all : {X : Type 0} (P : X → Type 0) (xs ys : List X) → AllByRecursion P (xs ++ ys) → AllByRecursion P xs
 front-all P [] ys h = tt
 front-all P (x ∷ xs) ys h = (h.0, front-all P xs ys h.1)
@@ -80,9 +85,11 @@ module _ (digest : List ℕ → List ℕ) (d : ℕ) (p : Pair) (path : List Shap
         → IsFaultUnless (AllLawful (above_shapes digest d p path)) f
     above-top f =
         let s = split_links digest p.0 path in
-        of-unless (MoreLinks before p (LastLink after)) _ f (λ all. subst Lawful (sym above-is)
-        (back-all Lawful (lift_shapes digest d s.1) _ (back-all Lawful (lift_shapes digest d s.0) _
-        (back-all Lawful (split_shapes digest p.0 path) _ all))).0)
+        of-unless (MoreLinks before p (LastLink after)) _ f (λ all.
+        let last : AllLawful (above_shape digest d p path ∷ []) =
+        back-all Lawful (lift_shapes digest d s.1) _ (back-all Lawful (lift_shapes digest d s.0) _
+        (back-all Lawful (split_shapes digest p.0 path) _ all)) in
+        subst Lawful (sym above-is) last.0)
 
     pub above-made : (top : Shape) (m0 m1 m2 m3 m4 : List (List ℕ)) → top ≡ MoreLinks before p (LastLink after)
         → m1 ≡ m0 ++ map shape_bytes (split_shapes digest p.0 path)
@@ -140,8 +147,10 @@ module _ (digest : List ℕ → List ℕ) (p : Pair) (path xs : List Shape) (x :
     pub here-node : (f : DraftFault) → IsFaultOf (insert_shape p s (l, r)) f
         → IsFaultUnless (AllLawful (split_shapes digest p.0 (tail_shapes path) ++ put_here digest p path ∷ [])) f
     here-node f =
-        of-unless (insert_shape p s (l, r)) _ f (λ all. subst Lawful (sym here-is)
-        (back-all Lawful (split_shapes digest p.0 (tail_shapes path)) _ all).0)
+        of-unless (insert_shape p s (l, r)) _ f (λ all.
+        let last : AllLawful (put_here digest p path ∷ []) =
+        back-all Lawful (split_shapes digest p.0 (tail_shapes path)) _ all in
+        subst Lawful (sym here-is) last.0)
 
 -- ---- a pair below the top
 

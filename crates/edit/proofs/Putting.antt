@@ -82,6 +82,36 @@ add-few digest read made =
     let a = fewer (cid digest) (filter unread made) in
     let b = shorter unread made in omega arith
 
+-- ---- over the nodes that were read
+
+pub put-on : (digest : List ℕ → List ℕ) (layer : List ℕ → ℕ) (p : Pair) (read n1 n2 n3 : List Shape)
+    (made lent begun : List (List ℕ)) (root : List ℕ) (add drop : List (List ℕ))
+    → n1 ≡ read → n2 ≡ read → n3 ≡ read → lent ≡ made → begun ≡ []
+    → made ≡ begun ++ bytes_of (put_written digest layer p n1) → root ≡ shape_cid digest (put_root digest layer p n1)
+    → drop ≡ drop_of digest lent (bytes_of n2) → add ≡ add_of digest (bytes_of n3) made
+    → (IsClashFree digest (bytes_of n3) → IsClashFree digest (add ++ bytes_of n3))
+    → (IsClashFree digest (bytes_of n3) → IsClashFree digest (made ++ bytes_of n3))
+    → IsPutOn digest layer p read root add drop
+put-on digest layer p read n1 n2 n3 made lent begun root add drop h1 h2 h3 hl hb hm hr hd ha hf hg =
+    let w : made ≡ bytes_of (put_written digest layer p read) =
+    hm ∙ ap (λ (bs : List (List ℕ)). bs ++ bytes_of (put_written digest layer p n1)) hb
+    ∙ ap (λ (ss : List Shape). bytes_of (put_written digest layer p ss)) h1 in
+    record {
+      root_is = hr ∙ ap (λ (ss : List Shape). shape_cid digest (put_root digest layer p ss)) h1;
+      added = ha ∙ ap (λ (ss : List Shape). add_of digest (bytes_of ss) made) h3 ∙ ap (add_of digest (bytes_of read)) w;
+      dropped = hd ∙ ap (λ (ss : List Shape). drop_of digest lent (bytes_of ss)) h2
+          ∙ ap (λ (bs : List (List ℕ)). drop_of digest bs (bytes_of read)) (hl ∙ w);
+      free = subst (λ (ss : List Shape). IsClashFree digest (bytes_of ss) → IsClashFree digest (add ++ bytes_of ss)) h3 hf;
+      all_free = subst (λ (bs : List (List ℕ)). IsClashFree digest (bytes_of read) → IsClashFree digest (bs ++ bytes_of read)) w
+          (subst (λ (ss : List Shape). IsClashFree digest (bytes_of ss) → IsClashFree digest (made ++ bytes_of ss)) h3 hg);
+    }
+
+pub le-below : (r r0 a b : ℕ) → r ≤ r0 + a → a ≤ b → r ≤ r0 + b
+le-below r r0 a b h k = omega arith
+
+pub le-most : (r r0 a n b : ℕ) → r ≤ r0 + a → a ≤ n → n ≡ b → r ≤ r0 + b
+le-most r r0 a n b h k e = omega arith
+
 -- ---- over a tree
 
 module _ (digest : List ℕ → List ℕ) (bits : ℕ) (fits : IsDigest digest) (gives : List ℕ → Option (List ℕ))

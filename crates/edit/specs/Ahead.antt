@@ -4,7 +4,7 @@ use Rattle.std.specs.declared.cmp.Ordering.{Ordering}
 use Rattle.std.specs.declared.cmp.Ordering.TheVariants.{Less, Equal, Greater}
 use Rattle.std.specs.Ordering.{is_lt, is_eq}
 use Rattle.spec.specs.Tree.{Pair}
-use Rattle.spec.specs.NodeFormat.{Shape, LastLink, MoreLinks, first_link}
+use Rattle.spec.specs.NodeFormat.{Shape, LastLink, MoreLinks}
 use Rattle.paths.specs.Order.{order}
 use Rattle.paths.specs.ShapeEdit.{lone_shape}
 use Rattle.edit.specs.Rows.{Reading}

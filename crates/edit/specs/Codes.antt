@@ -1,5 +1,5 @@
 -- Nodes as values of a type's model.
-use Rattle.std.specs.Prelude.{◌≡◌, ℕ, List, [], ◌∷◌, Option}
+use Rattle.std.specs.Prelude.{◌≡◌, ℕ, List, Option}
 use Rattle.std.specs.Coded.{Coded, code_by, coded_ℕ, coded_list, coded_option, coded×}
 use Rattle.std.proofs.Common.{refl}
 use Rattle.spec.specs.Tree.{Pair}

@@ -1,7 +1,6 @@
 pub mod Changes
 pub mod Faults
 pub mod Nodes
-pub mod ShapeCode
 pub mod Ahead
 pub mod Codes
 pub mod Drafts

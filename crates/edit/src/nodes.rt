@@ -4,13 +4,14 @@ ghost use Rattle.std.specs.Prelude.{◌≡◌, ℕ, suc, List, option_map, IfSom
 ghost use Rattle.std.specs.Arc.{arc_value};
 ghost use Rattle.paths.specs.Sources.{shape_from, shape_of_bytes, row_value, gap};
 ghost use Rattle.spec.specs.NodeFormat.{first_link};
-ghost use Rattle.cid.specs.CidRef.{bytes_of};
 ghost use Rattle.paths.specs.ShapeEdit.{last_link};
 ghost use Rattle.edit.specs.Nodes.{IsNodeOf, IsRead, has_pairs};
 ghost use Rattle.edit.specs.Steps.{place_found, shows};
 
+use crate::ends::last_link;
+use crate::rows::to_cid;
 use crate::source::Source;
-use cid::{Block, Cid, CidRef, Digest};
+use cid::{Block, Cid, Digest};
 use node::{NodeView, Place};
 use std::alloc::Allocator;
 use std::marker::Model;
@@ -30,7 +31,7 @@ impl<'a, D: Digest, A: Allocator> Model for Node<'a, D, A> {
     ghost use Rattle.spec.specs.NodeFormat.{Shape};
     ghost use Rattle.paths.specs.Sources.{shape_from};
     ghost use Rattle.edit.specs.Nodes.{IsNodeOf};
-    ghost use Rattle.edit.specs.ShapeCode.{shape_code};
+    ghost use Rattle.edit.specs.Codes.{shape_code};
 
     ghost Value = { Shape };
 
@@ -86,11 +87,7 @@ impl<'a, D: Digest, A: Allocator> Node<'a, D, A> {
     pub(crate) fn last_link(&self) -> Option<Cid>
         ensures { result ≡ last_link self.now }
     {
-        let mut last = self.view.left();
-        for entry in self.view.entries() {
-            last = entry.tree;
-        }
-        to_cid(last)
+        last_link(&self.view)
     }
 
     /// Where a key stands.
@@ -98,16 +95,6 @@ impl<'a, D: Digest, A: Allocator> Node<'a, D, A> {
         ensures { place_found key.now result ≡ (row_value key.now self.now, gap key.now self.now) }
     {
         self.view.find(key)
-    }
-}
-
-/// A link with bytes of its own.
-fn to_cid(link: Option<CidRef<'_>>) -> Option<Cid>
-    ensures { result ≡ option_map bytes_of link.entry }
-{
-    match link {
-        None => None,
-        Some(link) => Some(link.to_cid()),
     }
 }
 

@@ -1,7 +1,5 @@
-use Rattle.std.proofs.Common.{◌≡◌, ℕ, List, ◌∷◌, [], Option, Some, option_map, sym, ap, ◌∙◌}
-use Rattle.std.specs.Cmp.Lexicographic.{slice_cmp}
+use Rattle.std.proofs.Common.{◌≡◌, ℕ, List, ◌∷◌, [], Option, Some, sym, ap, ◌∙◌}
 use Rattle.std.specs.Ordering.{is_eq}
-use Rattle.cid.specs.CidRef.{bytes_of}
 use Rattle.node.specs.Rows.{Row, rows}
 use Rattle.node.specs.Views.{row_of}
 use Rattle.edit.proofs.NodeEnds.{Links2, lone-none, lone-more, lone-same, lone-other}

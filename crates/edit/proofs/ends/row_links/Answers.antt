@@ -1,4 +1,4 @@
-use Rattle.std.proofs.Common.{◌≡◌, ℕ, List, Option, true, false, sym, ap, ◌∙◌}
+use Rattle.std.proofs.Common.{◌≡◌, ℕ, List, Option, sym, ap, ◌∙◌}
 use Rattle.spec.specs.NodeFormat.{Shape, first_link}
 use Rattle.paths.specs.Sources.{shape_from}
 use Rattle.edit.specs.Ahead.{after_pair, from_key, is_first_at}

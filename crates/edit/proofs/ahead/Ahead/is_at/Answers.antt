@@ -1,7 +1,6 @@
 use Rattle.std.proofs.Common.{ℕ, List, option_map, sym, ap, ◌∙◌}
 use Rattle.std.specs.Cmp.Lexicographic.{slice_cmp}
 use Rattle.std.specs.Ordering.{nat_cmp, is_eq}
-use Rattle.spec.specs.NodeFormat.{Shape}
 use Rattle.cid.specs.CidRef.{bytes_of}
 use Rattle.edit.specs.Ahead.{is_first_at}
 use Rattle.edit.proofs.Cutting.{first_at-some}

@@ -1,6 +1,4 @@
-use Rattle.std.proofs.Common.{◌≡◌, ap, sym, ◌∙◌}
 use Rattle.std.proofs.lemmas.Result.{err_from_is_err_and}
-use Rattle.spec.specs.NodeFormat.{Shape, LastLink}
 use Rattle.paths.specs.Sources.{shape_from}
 use Rattle.edit.proofs.Changing.{cut, fault-begins, go-begins, go-cut, drafted, faulted}
 use Rattle.edit.proofs.changed.go.go.Goals as goal

@@ -1,6 +1,5 @@
-use Rattle.std.proofs.Common.{◌≡◌, ℕ, List, ◌∷◌, ◌++◌, [], Option, refl, ap, sym, ◌∙◌}
+use Rattle.std.proofs.Common.{ℕ, List, ◌∷◌, ◌++◌, [], Option, refl, ap, sym, ◌∙◌}
 use Rattle.std.proofs.lemmas.Result.{err_from_is_err_and}
-use Rattle.spec.specs.NodeFormat.{Shape, first_link}
 use Rattle.spec.specs.Tree.{Pair}
 use Rattle.cid.specs.CidRef.{bytes_of}
 use Rattle.paths.specs.ShapeEdit.{with_first_link}

@@ -1,10 +1,8 @@
-use Rattle.std.proofs.Common.{◌≡◌, ◌++◌, refl}
+use Rattle.std.proofs.Common.{◌++◌, refl}
 use Rattle.std.proofs.lemmas.Result.{err_from_is_err_and}
-use Rattle.spec.specs.NodeFormat.{Shape}
 use Rattle.paths.specs.ShapeEdit.{with_first_link}
 use Rattle.paths.specs.Sources.{shape_from}
 use Rattle.edit.specs.Ahead.{all_pairs}
-use Rattle.edit.specs.Drafts.{onto}
 use Rattle.edit.proofs.Changing.{joined, drafted, faulted}
 use Rattle.edit.proofs.Cutting.{fault-at}
 use Rattle.edit.proofs.changed.join.join.Goals as goal

@@ -1,5 +1,4 @@
-use Rattle.std.proofs.Common.{◌≡◌, ap, sym, ◌∙◌}
-use Rattle.spec.specs.NodeFormat.{Shape}
+use Rattle.std.proofs.Common.{ap, sym, ◌∙◌}
 use Rattle.paths.specs.ShapeEdit.{with_first_link}
 use Rattle.paths.specs.Sources.{shape_from}
 use Rattle.edit.specs.Ahead.{from_key}

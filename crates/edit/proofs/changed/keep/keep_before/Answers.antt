@@ -1,6 +1,4 @@
-use Rattle.std.proofs.Common.{◌≡◌, ap, sym, ◌∙◌}
 use Rattle.std.proofs.lemmas.Result.{err_from_is_err_and}
-use Rattle.spec.specs.NodeFormat.{Shape, LastLink}
 use Rattle.paths.specs.Sources.{shape_from}
 use Rattle.edit.proofs.Changing.{cut, fault-begins, keep_before-begins, keep_before-cut, drafted, faulted}
 use Rattle.edit.proofs.changed.keep.keep_before.Goals as goal

@@ -1,4 +1,4 @@
-use Rattle.std.proofs.Common.{◌≡◌, ap, sym, subst, ◌∙◌}
+use Rattle.std.proofs.Common.{ap, sym, subst, ◌∙◌}
 use Rattle.spec.specs.NodeFormat.{LastLink}
 use Rattle.node.specs.Contents.{is_next_key}
 use Rattle.edit.specs.Drafts.{Lawful, onto}

@@ -1,4 +1,4 @@
-use Rattle.std.proofs.Common.{◌≡◌, sym, ap, ◌∙◌, option_map}
+use Rattle.std.proofs.Common.{sym, ap, ◌∙◌, option_map}
 use Rattle.spec.specs.NodeFormat.{first_link}
 use Rattle.cid.specs.CidRef.{bytes_of}
 use Rattle.edit.specs.Rows.{Reading}

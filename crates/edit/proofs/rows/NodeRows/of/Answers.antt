@@ -1,7 +1,6 @@
-use Rattle.std.proofs.Common.{◌≡◌, ℕ, List, [], Option, sym, ap, subst, ◌∙◌}
+use Rattle.std.proofs.Common.{ℕ, List, [], ap}
 use Rattle.spec.specs.NodeFormat.{Shape}
-use Rattle.node.specs.Rows.{Row, rows}
-use Rattle.edit.specs.Rows.{Reading, AreKeys, shape_of_rows}
+use Rattle.edit.specs.Rows.{Reading}
 use Rattle.edit.proofs.NodeReading.{shape_of_rows-rows, AreKeys-rows}
 use Rattle.edit.proofs.rows.NodeRows.of.Goals as goal
 
