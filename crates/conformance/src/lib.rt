@@ -2,6 +2,10 @@
 #![tactic(auto)]
 
 #[cfg(test)]
+mod edits;
+#[cfg(test)]
+mod histories;
+#[cfg(test)]
 mod lookups;
 #[cfg(test)]
 mod published;

@@ -15,3 +15,4 @@ pub mod Building
 pub mod Deleting
 pub mod DeleteReading
 pub mod DeleteWhole
+pub mod DeleteAnswers

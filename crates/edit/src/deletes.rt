@@ -1,11 +1,15 @@
 //! A key taken out of a tree.
 
-ghost use Rattle.std.specs.Prelude.{◌≡◌, ◌++◌, [], Some, None, map, IfOk, IfErr};
+ghost use Rattle.std.specs.Prelude.{◌≡◌, ◌≤◌, ◌++◌, List, [], Some, None, map, option_map, IfOk, IfErr};
 ghost use Rattle.std.specs.Arc.{arc_value};
+ghost use Rattle.spec.specs.Tree.{Pair};
 ghost use Rattle.spec.specs.NodeFormat.{shape_bytes};
+ghost use Rattle.spec.specs.Blocks.{nodes, value_of};
+ghost use Rattle.spec.specs.Writes.{without_key};
 ghost use Rattle.paths.specs.PathEdit.{prune_link, delete_written, delete_read};
-ghost use Rattle.edit.specs.Deletes.{CanDelete, IsDeleteOn};
+ghost use Rattle.edit.specs.Deletes.{CanDelete, IsDeleteOn, IsDeleteOf};
 ghost use Rattle.edit.specs.Faults.{IsRefusal};
+ghost use Rattle.edit.specs.Trees.{HasTree};
 
 mod listing;
 mod reading;
@@ -13,13 +17,42 @@ mod writing;
 
 use crate::changes::{added, dropped};
 use crate::deletes::listing::all_read;
-use crate::deletes::reading::DeleteNodes;
+use crate::deletes::reading::{DeleteNodes, read_delete};
 use crate::deletes::writing::write_delete;
 use crate::edited::Edit;
 use crate::fault::EditFault;
-use cid::Digest;
+use crate::source::Source;
+use crate::step::layers;
+use cid::{Block, Cid, Digest};
 use std::alloc::Allocator;
 use std::clone::Clone;
+use std::sync::Arc;
+
+/// Takes a key out of the tree with this root.
+///
+/// It reads the nodes of the key's path, the nodes that meet where the key stood, and, where the top loses its only key,
+/// the chain below it down to the first node with a key; each once. No other node is looked at. `B` is the number of zero
+/// bits of a digest that count for one layer (AT Protocol repository v3, MST structure).
+///
+/// The source has all nodes of the tree. Then `EditFault::NoSuchKey` says that the tree doesn't have the key,
+/// `EditFault::Clash` shows two blocks with one CID and different bytes, each a node of the tree before or of the tree
+/// after, and `EditFault::NoMemory` comes where memory was refused. Where the source lacks one of the nodes that are read
+/// or gives what is no node, this is `EditFault::NoSuchKey` too.
+pub fn delete<
+    'a,
+    D: Digest + 'a,
+    const B: u8,
+    A: Allocator + Clone + 'a,
+    S: Source<'a, Arc<Block<D, A>, A>>,
+>(alloc: A, src: &mut S, root: Cid, key: &[u8]) -> Result<Edit<D, A>, EditFault<D, A>>
+    requires { 1 ≤ B }
+    ensures edit { (es : List Pair) → HasTree D.digest_of B (λ c. option_map arc_value (S.gives src.old c)) root es → IfOk result (λ edit. IsDeleteOf D.digest_of B es key.now (S.reads src.old) (S.reads src.new) edit.root (map arc_value edit.add.items) edit.drop.items edit.previous) }
+    ensures fault { (es : List Pair) → HasTree D.digest_of B (λ c. option_map arc_value (S.gives src.old c)) root es → IfErr result (IsRefusal D.digest_of (nodes D.digest_of B es ++ nodes D.digest_of B (without_key es key.now)) (value_of key.now es ≡ None)) }
+    ensures same { S.gives src.new ≡ S.gives src.old }
+{
+    let read = read_delete(alloc.clone()?, src, root, key, layers::<B>())?;
+    delete_from(alloc, key, read)
+}
 
 /// Takes a key out of a tree, of which what the delete needs was read.
 fn delete_from<D: Digest, A: Allocator + Clone>(

@@ -32,6 +32,7 @@ mod tests;
 mod walks;
 
 pub use block_map::BlockMap;
+pub use deletes::delete;
 pub use edited::Edit;
 pub use fault::EditFault;
 pub use keys::is_key;

@@ -1,0 +1,194 @@
+-- A delete over a source that has the nodes of a tree.
+use Rattle.std.proofs.Common.{◌≡◌, ℕ, zero, suc, ◌+◌, ◌*◌, ◌≤◌, max, ◌⊎◌, inl, inr, List, [], ◌∷◌, ◌++◌, length, map, Option, None, refl, sym, ap, ◌∙◌, subst, arith}
+use Rattle.std.specs.Prelude.{Contains, IsSome}
+use Rattle.std.specs.declared.option.Option.TheVariants.{Some}
+use Rattle.std.proofs.lemmas.List.{length-map, length-append}
+use Rattle.std.proofs.lemmas.List.Elements.{Contains-append_left, Contains-append_right, Contains-append_cases}
+use Rattle.spec.specs.Cid.{IsDigest}
+use Rattle.spec.specs.Layer.{layer}
+use Rattle.spec.specs.Tree.{Pair, top}
+use Rattle.spec.specs.NodeFormat.{Shape, shape_bytes}
+use Rattle.spec.specs.Blocks.{IsClashFree, value_of, nodes, root as root_of}
+use Rattle.spec.specs.Writes.{without_key}
+use Rattle.paths.specs.Changes.{AreChanges, add_of, drop_of}
+use Rattle.paths.specs.PathEdit.{flat, prune_link, delete_root, delete_written, delete_read, delete_gone_shapes}
+use Rattle.paths.specs.Sources.{shown_by, path_from, pruned_from, delete_met_from, delete_pruned_from}
+use Rattle.paths.specs.TreeEdit.{layer_of}
+use Rattle.paths.specs.Laws.Edits.{IsEdit, bytes_of}
+use Rattle.paths.proofs.DeleteTheorems.{delete-over_source}
+use Rattle.paths.proofs.LookupTheorems.{top-has_layer}
+use Rattle.paths.proofs.OverSource.{free-source}
+use Rattle.edit.specs.Deletes.{asked_delete, CanDelete, IsDeleteOn, IsDeleteOf}
+use Rattle.edit.specs.Edits.{IsEditOf, greatest_layer}
+use Rattle.edit.specs.Faults.{IsFaultUnless, IsEditFault, IsRefusal}
+use Rattle.edit.specs.Steps.{layers}
+use Rattle.edit.specs.Trees.{HasTree}
+use Rattle.edit.specs.declared.draft_fault.DraftFault.{DraftFault}
+use Rattle.edit.specs.declared.draft_fault.DraftFault.TheVariants as drafts
+use Rattle.edit.specs.declared.fault.EditFault.{EditFault}
+use Rattle.edit.specs.declared.fault.EditFault.TheVariants.{NoSuchKey, Clash, NoMemory}
+use Rattle.edit.proofs.DeleteWhole.{can-read, can-delete}
+use Rattle.edit.proofs.Putting.{memory-only, add-few}
+
+-- ---- what was read
+
+pruned-none : (shows : List ℕ → Option Shape) (n : ℕ) → pruned_from shows n None ≡ []
+pruned-none shows zero = refl
+pruned-none shows (suc n) = refl
+
+-- where no chain begins, none is read
+pub no-chain_read : (shows : List ℕ → Option Shape) (n : ℕ) (key : List ℕ) (path : List Shape) (met : List (Shape × Shape))
+    (pruned : List Shape) → pruned ≡ delete_pruned_from shows n key path met → prune_link key path met ≡ None
+    → pruned ≡ []
+no-chain_read shows n key path met pruned e h = e ∙ ap (pruned_from shows n) h ∙ pruned-none shows n
+
+flat-length : {X : Type 0} (xs : List (X × X)) → length (flat xs) ≡ 2 * length xs
+flat-length [] = refl
+flat-length (x ∷ xs) = let i = flat-length xs in omega arith
+
+read-length : (path : List Shape) (met : List (Shape × Shape)) (pruned : List Shape) (a b c : ℕ) → a ≡ length path
+    → b ≡ 2 * length met → c ≡ length pruned → a + (b + c) ≡ length (delete_read path met pruned)
+read-length path met pruned a b c h i j =
+    let p = length-append path (flat met ++ pruned) in
+    let q = length-append (flat met) pruned in
+    let r = flat-length met in omega arith
+
+-- ---- refusals
+
+-- what was asked for isn't all there only where the key isn't
+pub not-read : {D A : Type 0} (digest : List ℕ → List ℕ) (blocks : List (List ℕ)) (o : Option (List ℕ)) (Q : Type 0)
+    (draft : DraftFault) (fault : EditFault D A) → ((v : List ℕ) → o ≡ Some v → Q) → IsFaultUnless Q draft
+    → IsEditFault draft fault → IsRefusal digest blocks (o ≡ None) fault
+not-read digest blocks None Q drafts.NotNode fault can h e = subst (IsRefusal digest blocks (None ≡ None)) (sym e) refl
+not-read digest blocks (Some v) Q drafts.NotNode fault can h e = absurd (h (can v refl))
+not-read digest blocks o Q drafts.NoMemory fault can h e = memory-only digest blocks (o ≡ None) fault e
+
+-- ---- over a tree
+
+-- the laws of a delete from the nodes that were read
+record IsRight (digest : List ℕ → List ℕ) (bits : ℕ) (es : List Pair) (key : List ℕ) (asked : ℕ) (path : List Shape)
+    (met : List (Shape × Shape)) (pruned : List Shape) : Type 0 where
+  pub edit : IsEdit digest bits es (without_key es key) (delete_root digest key path met pruned)
+      (delete_read path met pruned) (delete_gone_shapes path met pruned) (delete_written digest key path met)
+  pub can : CanDelete digest key path met pruned
+  pub count : asked ≡ length (delete_read path met pruned)
+  pub read_count : length (delete_read path met pruned) ≤ 2 * layer_of (layer digest bits) (top (layer digest bits) es) + 1
+  pub made_count : length (delete_written digest key path met) ≤ layer_of (layer digest bits) (top (layer digest bits) es) + 1
+
+few : (a m t l : ℕ) → a ≤ m → m ≤ t + 1 → a ≤ 2 * suc (max t l)
+few a m t l h k = omega arith
+
+module _ (digest : List ℕ → List ℕ) (bits : ℕ) (fits : IsDigest digest) (gives : List ℕ → Option (List ℕ))
+    (root key : List ℕ) (es : List Pair) (has : HasTree digest bits gives root es) (n : ℕ) (enough : n ≡ layers bits)
+    (v : List ℕ) (there : value_of key es ≡ Some v) where
+  abbrev asked : ℕ
+  asked = asked_delete (shown_by gives) n key root
+
+  abbrev Right : List Shape → List (Shape × Shape) → List Shape → Type 0
+  Right path met pruned = IsRight digest bits es key asked path met pruned
+
+  -- from the root of the tree
+  from-root : let path = path_from (shown_by gives) n key (Some root) in
+      let met = delete_met_from (shown_by gives) n key path in
+      Right path met (delete_pruned_from (shown_by gives) n key path met)
+  from-root =
+      let shows = shown_by gives in
+      let t = top-has_layer digest bits fits es in
+      let is = delete-over_source digest bits fits gives n key es has.pairs has.nodes (omega arith) v there in
+      let can = can-read digest bits fits gives root key es has n enough v there in
+      let path = path_from shows n key (Some root) in
+      let met = delete_met_from shows n key path in
+      let pruned = delete_pruned_from shows n key path met in
+      record {
+        edit = subst (λ (r : List ℕ). let path = path_from shows n key (Some r) in
+            let met = delete_met_from shows n key path in
+            let pruned = delete_pruned_from shows n key path met in
+            IsEdit digest bits es (without_key es key) (delete_root digest key path met pruned)
+            (delete_read path met pruned) (delete_gone_shapes path met pruned) (delete_written digest key path met))
+            (sym has.root_is) is.edit;
+        can = can-delete digest bits fits gives root key es has n enough v there;
+        count = read-length path met pruned _ _ _ can.path can.met can.chain;
+        read_count = subst (λ (r : List ℕ). let path = path_from shows n key (Some r) in
+            let met = delete_met_from shows n key path in
+            let pruned = delete_pruned_from shows n key path met in
+            length (delete_read path met pruned) ≤ 2 * layer_of (layer digest bits) (top (layer digest bits) es) + 1)
+            (sym has.root_is) is.read_count;
+        made_count = subst (λ (r : List ℕ). let path = path_from shows n key (Some r) in
+            let met = delete_met_from shows n key path in
+            length (delete_written digest key path met) ≤ layer_of (layer digest bits) (top (layer digest bits) es) + 1)
+            (sym has.root_is) is.made_count;
+      }
+
+  module _ (path : List Shape) (met : List (Shape × Shape)) (pruned : List Shape)
+      (path_is : path ≡ path_from (shown_by gives) n key (Some root))
+      (met_is : met ≡ delete_met_from (shown_by gives) n key path)
+      (pruned_is : pruned ≡ delete_pruned_from (shown_by gives) n key path met) where
+    right : Right path met pruned
+    right =
+        let shows = shown_by gives in
+        subst (Right path met) (sym pruned_is)
+        (subst (λ (m : List (Shape × Shape)). Right path m (delete_pruned_from shows n key path m)) (sym met_is)
+        (subst (λ (p : List Shape). Right p (delete_met_from shows n key p)
+        (delete_pruned_from shows n key p (delete_met_from shows n key p))) (sym path_is) from-root))
+
+    free : IsClashFree digest (bytes_of (delete_read path met pruned))
+    free a b ca cb e =
+        free-source digest bits gives es has.nodes a b (right.edit.read_old a ca) (right.edit.read_old b cb) e
+
+    -- what was made and read is of the tree before or of the tree after
+    within : (b : List ℕ)
+        → Contains (bytes_of (delete_written digest key path met) ++ bytes_of (delete_read path met pruned)) b
+        → Contains (nodes digest bits es ++ nodes digest bits (without_key es key)) b
+    within b c =
+        by (Contains-append_cases (bytes_of (delete_written digest key path met)) (bytes_of (delete_read path met pruned)) b c)
+      where
+        by : Contains (bytes_of (delete_written digest key path met)) b ⊎ Contains (bytes_of (delete_read path met pruned)) b
+            → Contains (nodes digest bits es ++ nodes digest bits (without_key es key)) b
+        by (inl k) =
+            Contains-append_right (nodes digest bits es) (nodes digest bits (without_key es key)) b (right.edit.made_new b k)
+        by (inr k) =
+            Contains-append_left (nodes digest bits es) (nodes digest bits (without_key es key)) b (right.edit.read_old b k)
+
+    pub delete-answer : (before after : ℕ) → after ≡ before + asked → (root' : List ℕ) (add drop : List (List ℕ))
+        (previous : Option (List ℕ)) → IsDeleteOn digest key path met pruned root' add drop → previous ≡ Some v
+        → IsDeleteOf digest bits es key before after root' add drop previous
+    delete-answer before after counted root' add drop previous on hp =
+        let read = bytes_of (delete_read path met pruned) in
+        let made = bytes_of (delete_written digest key path met) in
+        let gone = bytes_of (delete_gone_shapes path met pruned) in
+        let old = nodes digest bits es in
+        let new = nodes digest bits (without_key es key) in
+        let long : length read ≡ length (delete_read path met pruned) = length-map (delete_read path met pruned) shape_bytes in
+        let changes : AreChanges digest old new read add drop =
+        subst (λ (bs : List (List ℕ)). AreChanges digest old new read bs drop) (sym on.added)
+        (subst (λ (bs : List (List ℕ)). AreChanges digest old new read (add_of digest read made) bs) (sym on.dropped)
+        (right.edit.changes (on.all_free free))) in
+        record {
+          there = subst IsSome (sym hp) refl;
+          read = read;
+          read_old = right.edit.read_old;
+          count = counted ∙ ap (λ (k : ℕ). before + k) (right.count ∙ sym long);
+          most = let few_read = right.read_count in omega arith;
+          edit = record {
+            root_is = on.root_is ∙ sym right.edit.root_is;
+            previous_is = hp ∙ sym there;
+            changes = changes;
+            clash_free = on.free free;
+            count =
+                let a = add-few digest read made in
+                let b = ap length on.added in
+                let c = length-map (delete_written digest key path met) shape_bytes in
+                let d = right.made_count in
+                few (length add) (length (delete_written digest key path met)) _ (layer digest bits key)
+                (omega arith) d;
+          };
+        }
+
+    -- a refusal, seen from the tree
+    pub delete-refused : {D A : Type 0} (P : Type 0) (fault : EditFault D A)
+        → IsRefusal digest (bytes_of (delete_written digest key path met) ++ bytes_of (delete_read path met pruned))
+        (¬ CanDelete digest key path met pruned) fault
+        → IsRefusal digest (nodes digest bits es ++ nodes digest bits (without_key es key)) P fault
+    delete-refused P NoSuchKey r = absurd (r right.can)
+    delete-refused P (Clash pair) r = (within pair.0 r.0, within pair.1 r.1, r.2)
+    delete-refused P NoMemory r = tt

@@ -1,0 +1,50 @@
+use Rattle.std.proofs.Common.{◌≡◌, List, ◌++◌, None, map, ◌∙◌, sym}
+use Rattle.std.specs.Arc.{arc_value}
+use Rattle.std.proofs.lemmas.Result.{err_from_is_err_and}
+use Rattle.spec.specs.Blocks.{nodes, value_of}
+use Rattle.spec.specs.Writes.{without_key}
+use Rattle.edit.proofs.DeleteWhole.{can-read}
+use Rattle.edit.proofs.DeleteAnswers.{no-chain_read, not-read, delete-answer, delete-refused}
+use Rattle.edit.proofs.PutSteps.{if-err, if-ok-two}
+use Rattle.edit.proofs.Stepping.{tree-value}
+use Rattle.edit.proofs.deletes.delete.Goals as goal
+
+pub returns-in_err-read-clause-fault : goal.returns-in_err-read-clause-fault
+returns-in_err-read-clause-fault g c es h =
+    let p = err_from_is_err_and c.from_residual-in_err-read.result c.from_residual-in_err-read.ensures.1 in
+    rw p.1
+    (not-read g.D.Digest.digest_of
+    (nodes g.D.Digest.digest_of g.row.B es ++ nodes g.D.Digest.digest_of g.row.B (without_key es c.args.key.now))
+    (value_of c.args.key.now es) _ c.in_err-read.field-0.0 p.0
+    (can-read g.D.Digest.digest_of _ g.met.D.Digest.digest_len _ c.args.root c.args.key.now es h _ c.layers.ensures)
+    c.in_err-read.ensures.fault p.2)
+
+pub delete_from-requires : goal.delete_from-requires
+delete_from-requires g c =
+    no-chain_read _ _ c.args.key.now c.in_ok-read.read.path.items c.in_ok-read.read.met.items c.in_ok-read.read.pruned.items
+    c.in_ok-read.ensures.pruned
+
+pub returns-clause-edit : goal.returns-clause-edit
+returns-clause-edit g c es h =
+    let value = tree-value g.D.Digest.digest_of g.row.B g.met.D.Digest.digest_len _ c.args.root c.args.key.now es h
+    c.layers.result c.layers.ensures in
+    if-ok-two c.delete_from.result
+    (λ e a b. delete-answer g.D.Digest.digest_of g.row.B g.met.D.Digest.digest_len _ c.args.root c.args.key.now es h
+    c.layers.result c.layers.ensures c.in_ok-read.read.previous (sym (c.in_ok-read.ensures.previous ∙ value))
+    c.in_ok-read.read.path.items c.in_ok-read.read.met.items c.in_ok-read.read.pruned.items
+    c.in_ok-read.ensures.path c.in_ok-read.ensures.met c.in_ok-read.ensures.pruned
+    (g.S.Source.reads c.args.src.now) (g.S.Source.reads c.read_delete.new.src) c.in_ok-read.ensures.reads_all
+    e.root (map arc_value e.add.items) e.drop.items e.previous a b)
+    c.delete_from.ensures.edit c.delete_from.ensures.previous
+
+pub returns-clause-fault : goal.returns-clause-fault
+returns-clause-fault g c es h =
+    let value = tree-value g.D.Digest.digest_of g.row.B g.met.D.Digest.digest_len _ c.args.root c.args.key.now es h
+    c.layers.result c.layers.ensures in
+    if-err c.delete_from.result
+    (λ f r. delete-refused g.D.Digest.digest_of g.row.B g.met.D.Digest.digest_len _ c.args.root c.args.key.now es h
+    c.layers.result c.layers.ensures c.in_ok-read.read.previous (sym (c.in_ok-read.ensures.previous ∙ value))
+    c.in_ok-read.read.path.items c.in_ok-read.read.met.items c.in_ok-read.read.pruned.items
+    c.in_ok-read.ensures.path c.in_ok-read.ensures.met c.in_ok-read.ensures.pruned
+    (value_of c.args.key.now es ≡ None) f r)
+    c.delete_from.ensures.fault
