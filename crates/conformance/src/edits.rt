@@ -33,6 +33,7 @@ fn tree<D: Digest>(alloc: Global, keys: &[&[u8]]) -> Result<Built<D>, Fail> {
 }
 
 /// An edit of a tree, and how many blocks were read for it.
+#[derive(Drop)]
 struct Edited {
     edit: Edit<Toy>,
     reads: u64,
@@ -106,6 +107,7 @@ fn leaves(
 }
 
 /// A row of the table of edits.
+#[derive(Drop)]
 struct Row {
     before: Keys,
     key: &'static [u8],

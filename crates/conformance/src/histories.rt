@@ -15,12 +15,14 @@ type Pairs = Vec<(Vec<u8>, Cid)>;
 type Blocks<D> = Vec<Arc<Block<D>>>;
 
 /// A write of a key: a value to put, or `None` to delete it.
+#[derive(Drop)]
 struct Write {
     key: Vec<u8>,
     value: Option<Cid>,
 }
 
 /// Numbers that look random, the same in each run.
+#[derive(Drop)]
 struct Numbers {
     state: u64,
 }
