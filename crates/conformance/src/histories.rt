@@ -40,7 +40,7 @@ impl Numbers {
 }
 
 /// A write of one of 48 keys, whose last digit is from 0 to 3; one in three deletes.
-fn write<D: Digest>(alloc: Global, numbers: &mut Numbers) -> Result<Write, Fail> {
+fn random_write<D: Digest>(alloc: Global, numbers: &mut Numbers) -> Result<Write, Fail> {
     let place = numbers.below(12);
     let layer = numbers.below(4);
     let key = format!(in alloc; "k/{place:02}{layer}")?.into_bytes();
@@ -149,7 +149,7 @@ fn agrees<D: Digest, const B: u8>(alloc: Global, seed: u64, writes: u32) -> Resu
     let mut root = empty.root;
     let mut blocks = empty.blocks;
     for _ in 0..writes {
-        let write = write::<D>(alloc, &mut numbers)?;
+        let write = random_write::<D>(alloc, &mut numbers)?;
         let edited = edit_tree::<D, B>(alloc, &blocks, root, &write)?;
         let previous = write_pairs(alloc, &mut pairs, &write)?;
         let Some(edit) = edited else {
@@ -173,17 +173,17 @@ fn agrees<D: Digest, const B: u8>(alloc: Global, seed: u64, writes: u32) -> Resu
 
 #[test]
 fn histories_under_the_toy_digest(rt: HostRuntime) -> Result<(), Fail> {
-    assert!(rt; agrees::<Toy, 1>(rt.alloc(), 1, 1_000)?);
-    assert!(rt; agrees::<Toy, 2>(rt.alloc(), 2, 2_000)?);
-    assert!(rt; agrees::<Toy, 8>(rt.alloc(), 3, 1_000)?);
+    assert!(rt; agrees::<Toy, 1>(rt.alloc(), 1, 500)?);
+    assert!(rt; agrees::<Toy, 2>(rt.alloc(), 2, 1_000)?);
+    assert!(rt; agrees::<Toy, 8>(rt.alloc(), 3, 500)?);
     Ok(())
 }
 
 #[test]
 fn histories_under_sha_256(rt: HostRuntime) -> Result<(), Fail> {
-    assert!(rt; agrees::<Sha256, 1>(rt.alloc(), 4, 1_000)?);
-    assert!(rt; agrees::<Sha256, 2>(rt.alloc(), 5, 2_000)?);
-    assert!(rt; agrees::<Sha256, 8>(rt.alloc(), 6, 1_000)?);
+    assert!(rt; agrees::<Sha256, 1>(rt.alloc(), 4, 500)?);
+    assert!(rt; agrees::<Sha256, 2>(rt.alloc(), 5, 1_000)?);
+    assert!(rt; agrees::<Sha256, 8>(rt.alloc(), 6, 500)?);
     Ok(())
 }
 
