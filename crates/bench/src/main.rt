@@ -55,23 +55,17 @@ fn read(rt: &HostRuntime, rounds: u32) -> io::Result<()> {
     Ok(())
 }
 
-/// Prints how long the tree of the listing on standard input took, at the least.
+/// Prints how long the tree of the listing on standard input took.
 fn build(rt: &HostRuntime, rounds: u32) -> io::Result<()> {
     let listing = io::read_to_string(rt.alloc(), rt.stdin())?;
     let pairs = trees::pairs(rt.alloc(), listing.as_bytes())?;
-    let mut least = u128::MAX;
-    let mut nodes = 0;
-    for _ in 0..rounds {
-        let start = Instant::now(rt)?;
-        if let Some(blocks) = trees::nodes(rt.alloc(), &pairs) {
-            least = least.min(start.elapsed(rt)?.as_micros());
-            nodes = blocks.len();
+    match trees::measure(rt, &pairs, rounds)? {
+        Some(built) => {
+            let (nodes, least) = (built.nodes, built.least);
+            println!(rt; "{} keys, {nodes} nodes, {least} microseconds", pairs.len())
         }
+        None => println!(rt; "the tree can't be built"),
     }
-    println!(rt;
-        "{} keys, {nodes} nodes, {least} microseconds at the least",
-        pairs.len()
-    )
 }
 
 /// How many keys are looked up in a round.

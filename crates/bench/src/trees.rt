@@ -1,10 +1,11 @@
 //! Trees from listings of keys and CIDs.
 
 use bstr::ByteSlice;
-use cid::{Block, Cid, Sha256};
+use cid::{Cid, Sha256};
 use scratch::{build, is_ascending};
 use std::alloc::{AllocError, Global};
-use std::sync::Arc;
+use std::io;
+use std::time::Instant;
 
 /// The pairs of the lines `KEY CID` of a listing, in the order of their keys; other lines are left out.
 pub fn pairs(alloc: Global, listing: &[u8]) -> Result<Vec<(Vec<u8>, Cid)>, AllocError> {
@@ -25,10 +26,34 @@ fn pair(line: &[u8]) -> Option<(&[u8], Cid)> {
     Some((&line[..space], cid))
 }
 
-/// The nodes of the tree of these pairs, or `None` where there is none or no memory for it.
-pub fn nodes(alloc: Global, pairs: &[(Vec<u8>, Cid)]) -> Option<Vec<Arc<Block<Sha256>>>> {
+/// A tree that was built some times.
+#[derive(Drop)]
+pub struct Built {
+    pub nodes: usize,
+    /// Microseconds, of the quickest time.
+    pub least: u128,
+}
+
+/// Builds the tree of these pairs so many times; `None` where they don't ascend, two nodes clash or memory is refused.
+pub fn measure(
+    rt: &HostRuntime,
+    pairs: &[(Vec<u8>, Cid)],
+    rounds: u32,
+) -> io::Result<Option<Built>> {
     if !is_ascending(pairs) {
-        return None;
+        return Ok(None);
     }
-    Some(build::<Sha256, 2, _, _>(alloc, pairs).ok()?.blocks)
+    let mut measured = Built {
+        nodes: 0,
+        least: u128::MAX,
+    };
+    for _ in 0..rounds {
+        let start = Instant::now(rt)?;
+        let Ok(built) = build::<Sha256, 2, _, _>(rt.alloc(), pairs) else {
+            return Ok(None);
+        };
+        measured.least = measured.least.min(start.elapsed(rt)?.as_micros());
+        measured.nodes = built.blocks.len();
+    }
+    Ok(Some(measured))
 }
