@@ -24,7 +24,7 @@ fn value() -> Cid {
 fn tree<D: Digest>(alloc: Global, keys: &[&[u8]]) -> Result<Built<D>, Fail> {
     let mut pairs = Vec::new(alloc);
     for key in keys {
-        pairs.push((*key, value()))?;
+        pairs.push((Vec::from_slice(alloc, key)?, value()))?;
     }
     if !is_ascending(&pairs) {
         return Err(Fail::from("the keys don't ascend"));
