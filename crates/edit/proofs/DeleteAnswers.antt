@@ -119,6 +119,10 @@ module _ (digest : List ℕ → List ℕ) (bits : ℕ) (fits : IsDigest digest) 
             (sym has.root_is) is.made_count;
       }
 
+  -- what is asked for
+  pub asked-right : asked ≤ 2 * layer_of (layer digest bits) (top (layer digest bits) es) + 1
+  asked-right = let r = from-root in let a = r.count in let b = r.read_count in omega arith
+
   module _ (path : List Shape) (met : List (Shape × Shape)) (pruned : List Shape)
       (path_is : path ≡ path_from (shown_by gives) n key (Some root))
       (met_is : met ≡ delete_met_from (shown_by gives) n key path)

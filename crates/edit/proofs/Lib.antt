@@ -16,3 +16,4 @@ pub mod Deleting
 pub mod DeleteReading
 pub mod DeleteWhole
 pub mod DeleteAnswers
+pub mod DeleteBound

@@ -1,14 +1,17 @@
 //! A key taken out of a tree.
 
-ghost use Rattle.std.specs.Prelude.{◌≡◌, ◌≤◌, ◌++◌, List, [], Some, None, map, option_map, IfOk, IfErr};
+ghost use Rattle.std.specs.Prelude.{◌≡◌, ◌≤◌, ◌+◌, ◌*◌, ◌++◌, List, [], Some, None, map, option_map, IfOk, IfErr};
 ghost use Rattle.std.specs.Arc.{arc_value};
-ghost use Rattle.spec.specs.Tree.{Pair};
+ghost use Rattle.spec.specs.Tree.{Pair, top};
+ghost use Rattle.spec.specs.Layer.{layer};
 ghost use Rattle.spec.specs.NodeFormat.{shape_bytes};
 ghost use Rattle.spec.specs.Blocks.{nodes, value_of};
 ghost use Rattle.spec.specs.Writes.{without_key};
 ghost use Rattle.paths.specs.PathEdit.{prune_link, delete_written, delete_read};
 ghost use Rattle.edit.specs.Deletes.{CanDelete, IsDeleteOn, IsDeleteOf};
+ghost use Rattle.paths.specs.TreeEdit.{layer_of};
 ghost use Rattle.edit.specs.Faults.{IsRefusal};
+ghost use Rattle.edit.specs.Steps.{layers};
 ghost use Rattle.edit.specs.Trees.{HasTree};
 
 mod listing;
@@ -48,6 +51,8 @@ pub fn delete<
     requires { 1 ≤ B }
     ensures edit { (es : List Pair) → HasTree D.digest_of B (λ c. option_map arc_value (S.gives src.old c)) root es → IfOk result (λ edit. IsDeleteOf D.digest_of B es key.now (S.reads src.old) (S.reads src.new) edit.root (map arc_value edit.add.items) edit.drop.items edit.previous) }
     ensures fault { (es : List Pair) → HasTree D.digest_of B (λ c. option_map arc_value (S.gives src.old c)) root es → IfErr result (IsRefusal D.digest_of (nodes D.digest_of B es ++ nodes D.digest_of B (without_key es key.now)) (value_of key.now es ≡ None)) }
+    ensures layers { (es : List Pair) → HasTree D.digest_of B (λ c. option_map arc_value (S.gives src.old c)) root es → S.reads src.new ≤ S.reads src.old + (2 * layer_of (layer D.digest_of B) (top (layer D.digest_of B) es) + 1) }
+    ensures most { S.reads src.new ≤ S.reads src.old + 4 * layers B }
     ensures same { S.gives src.new ≡ S.gives src.old }
 {
     let read = read_delete(alloc.clone()?, src, root, key, layers::<B>())?;

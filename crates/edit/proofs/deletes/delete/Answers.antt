@@ -1,10 +1,12 @@
-use Rattle.std.proofs.Common.{◌≡◌, List, ◌++◌, None, map, ◌∙◌, sym}
+use Rattle.std.proofs.Common.{◌≡◌, ℕ, ◌*◌, List, ◌++◌, None, map, ap, ◌∙◌, sym}
 use Rattle.std.specs.Arc.{arc_value}
 use Rattle.std.proofs.lemmas.Result.{err_from_is_err_and}
 use Rattle.spec.specs.Blocks.{nodes, value_of}
 use Rattle.spec.specs.Writes.{without_key}
 use Rattle.edit.proofs.DeleteWhole.{can-read}
 use Rattle.edit.proofs.DeleteAnswers.{no-chain_read, not-read, delete-answer, delete-refused}
+use Rattle.edit.proofs.DeleteBound.{delete-most, delete-layers}
+use Rattle.edit.proofs.Putting.{le-below, le-most}
 use Rattle.edit.proofs.PutSteps.{if-err, if-ok-two}
 use Rattle.edit.proofs.Stepping.{tree-value}
 use Rattle.edit.proofs.deletes.delete.Goals as goal
@@ -48,3 +50,25 @@ returns-clause-fault g c es h =
     c.in_ok-read.ensures.path c.in_ok-read.ensures.met c.in_ok-read.ensures.pruned
     (value_of c.args.key.now es ≡ None) f r)
     c.delete_from.ensures.fault
+
+pub returns-in_err-read-clause-layers : goal.returns-in_err-read-clause-layers
+returns-in_err-read-clause-layers g c es h =
+    le-below _ _ _ _ c.read_delete.ensures.reads
+    (delete-layers g.D.Digest.digest_of g.row.B g.met.D.Digest.digest_len _ c.args.root c.args.key.now es h
+    c.layers.result c.layers.ensures)
+
+pub returns-in_err-read-clause-most : goal.returns-in_err-read-clause-most
+returns-in_err-read-clause-most g c =
+    le-most _ _ _ _ _ c.read_delete.ensures.reads (delete-most _ c.layers.result c.args.key.now c.args.root)
+    (ap (λ (k : ℕ). 4 * k) c.layers.ensures)
+
+pub returns-clause-layers : goal.returns-clause-layers
+returns-clause-layers g c es h =
+    le-below _ _ _ _ c.read_delete.ensures.reads
+    (delete-layers g.D.Digest.digest_of g.row.B g.met.D.Digest.digest_len _ c.args.root c.args.key.now es h
+    c.layers.result c.layers.ensures)
+
+pub returns-clause-most : goal.returns-clause-most
+returns-clause-most g c =
+    le-most _ _ _ _ _ c.read_delete.ensures.reads (delete-most _ c.layers.result c.args.key.now c.args.root)
+    (ap (λ (k : ℕ). 4 * k) c.layers.ensures)
