@@ -1,10 +1,11 @@
 //! Trees from listings of keys and CIDs.
 
 use bstr::ByteSlice;
-use cid::{Cid, Sha256};
+use cid::{Block, Cid, Sha256};
 use scratch::{build, is_ascending};
 use std::alloc::{AllocError, Global};
 use std::io;
+use std::sync::Arc;
 use std::time::Instant;
 
 /// The pairs of the lines `KEY CID` of a listing, in the order of their keys; other lines are left out.
@@ -56,4 +57,12 @@ pub fn measure(
         measured.nodes = built.blocks.len();
     }
     Ok(Some(measured))
+}
+
+/// The nodes of the tree of these pairs, or `None` where there is none or no memory for it.
+pub fn nodes(alloc: Global, pairs: &[(Vec<u8>, Cid)]) -> Option<Vec<Arc<Block<Sha256>>>> {
+    if !is_ascending(pairs) {
+        return None;
+    }
+    Some(build::<Sha256, 2, _, _>(alloc, pairs).ok()?.blocks)
 }
