@@ -1,12 +1,12 @@
 -- What the functions that build nodes make, from one node to the next, and when one of these nodes would be none.
-use Rattle.std.proofs.Common.{◌≡◌, ℕ, suc, ◌-◌, ◌≤◌, Bool, true, false, List, [], ◌∷◌, ◌++◌, length, take, drop, get_or, map, Option, None, Result, Ok, Err, refl, sym, ap, ◌∙◌, subst, append_assoc, arith}
+use Rattle.std.proofs.Common.{◌≡◌, ℕ, suc, ◌-◌, ◌≤◌, true, false, List, [], ◌∷◌, ◌++◌, length, take, drop, get_or, map, Option, None, Result, Ok, Err, refl, sym, ap, ◌∙◌, subst, append_assoc, arith}
 use Rattle.std.specs.Prelude.{OnOk}
 use Rattle.std.specs.declared.option.Option.TheVariants.{Some}
 use Rattle.std.specs.List.{AllByRecursion}
 use Rattle.std.proofs.lemmas.List.{map-append, take_all}
 use Rattle.spec.specs.NodeFormat.{Shape, LastLink, MoreLinks, first_link, shape_bytes, shape_cid}
 use Rattle.paths.specs.Lawful.{Lawful, AllLawful}
-use Rattle.paths.specs.ShapeEdit.{close_link, close_shapes, keep_before, keep_after, split_links, split_shapes, lift_link, lift_shapes, go_shape, last_link, join_shape, merge_links, merge_shapes, settle_links, settle_shape, settle_shapes}
+use Rattle.paths.specs.ShapeEdit.{close_link, close_shapes, keep_before, keep_after, split_links, split_shapes, lift_link, lift_shapes, go_shape, merge_links, merge_shapes, settle_links, settle_shape, settle_shapes}
 use Rattle.paths.specs.PathEdit.{raise, raise_shapes, climb, climb_shapes}
 use Rattle.edit.specs.declared.draft_fault.DraftFault.{DraftFault}
 use Rattle.edit.specs.declared.draft_fault.DraftFault.TheVariants.{NotNode, NoMemory}

@@ -1,5 +1,5 @@
 -- A delete over a source that has the nodes of a tree.
-use Rattle.std.proofs.Common.{◌≡◌, ℕ, zero, suc, ◌+◌, ◌*◌, ◌≤◌, max, ◌⊎◌, inl, inr, List, [], ◌∷◌, ◌++◌, length, map, Option, None, refl, sym, ap, ◌∙◌, subst, arith}
+use Rattle.std.proofs.Common.{◌≡◌, ℕ, zero, suc, ◌+◌, ◌*◌, ◌≤◌, max, ◌⊎◌, inl, inr, List, [], ◌∷◌, ◌++◌, length, Option, None, refl, sym, ap, ◌∙◌, subst, arith}
 use Rattle.std.specs.Prelude.{Contains, IsSome}
 use Rattle.std.specs.declared.option.Option.TheVariants.{Some}
 use Rattle.std.proofs.lemmas.List.{length-map, length-append}
@@ -8,9 +8,9 @@ use Rattle.spec.specs.Cid.{IsDigest}
 use Rattle.spec.specs.Layer.{layer}
 use Rattle.spec.specs.Tree.{Pair, top}
 use Rattle.spec.specs.NodeFormat.{Shape, shape_bytes}
-use Rattle.spec.specs.Blocks.{IsClashFree, value_of, nodes, root as root_of}
+use Rattle.spec.specs.Blocks.{IsClashFree, value_of, nodes}
 use Rattle.spec.specs.Writes.{without_key}
-use Rattle.paths.specs.Changes.{AreChanges, add_of, drop_of}
+use Rattle.paths.specs.Changes.{AreChanges, add_of}
 use Rattle.paths.specs.PathEdit.{flat, prune_link, delete_root, delete_written, delete_read, delete_gone_shapes}
 use Rattle.paths.specs.Sources.{shown_by, path_from, pruned_from, delete_met_from, delete_pruned_from}
 use Rattle.paths.specs.TreeEdit.{layer_of}
@@ -19,7 +19,6 @@ use Rattle.paths.proofs.DeleteTheorems.{delete-over_source}
 use Rattle.paths.proofs.LookupTheorems.{top-has_layer}
 use Rattle.paths.proofs.OverSource.{free-source}
 use Rattle.edit.specs.Deletes.{asked_delete, CanDelete, IsDeleteOn, IsDeleteOf}
-use Rattle.edit.specs.Edits.{IsEditOf, greatest_layer}
 use Rattle.edit.specs.Faults.{IsFaultUnless, IsEditFault, IsRefusal}
 use Rattle.edit.specs.Steps.{layers}
 use Rattle.edit.specs.Trees.{HasTree}

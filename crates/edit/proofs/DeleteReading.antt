@@ -1,5 +1,5 @@
 -- What a delete reads, from what each of its parts reads.
-use Rattle.std.proofs.Common.{◌≡◌, ℕ, ◌+◌, ◌≤◌, List, Option, refl, sym, ap, ◌∙◌, subst, arith}
+use Rattle.std.proofs.Common.{◌≡◌, ℕ, ◌+◌, ◌≤◌, List, Option, sym, ap, ◌∙◌, subst, arith}
 use Rattle.std.specs.declared.option.Option.TheVariants.{Some}
 use Rattle.spec.specs.NodeFormat.{Shape}
 use Rattle.paths.specs.ShapeEdit.{row_links}

@@ -1,6 +1,6 @@
 -- Over a source that has a tree's nodes a delete of a key that is there reads all that it asks for, and what it writes is
 -- of the grammar.
-use Rattle.std.proofs.Common.{◌≡◌, ℕ, zero, suc, ◌+◌, ◌*◌, ◌<◌, ◌≤◌, List, [], ◌∷◌, length, Option, None, refl, sym, ap, ◌∙◌, subst, arith}
+use Rattle.std.proofs.Common.{◌≡◌, ℕ, zero, suc, ◌<◌, ◌≤◌, List, length, Option, None, refl, sym, ap, ◌∙◌, subst, arith}
 use Rattle.std.specs.Prelude.{IsSome}
 use Rattle.std.specs.declared.option.Option.TheVariants.{Some}
 use Rattle.spec.specs.Cid.{IsDigest}
@@ -12,7 +12,7 @@ use Rattle.paths.specs.TreeEdit.{first}
 use Rattle.paths.specs.Trace.{last_part}
 use Rattle.paths.specs.ShapeEdit.{row_links}
 use Rattle.paths.specs.PathEdit.{row_shape, prune_link}
-use Rattle.paths.specs.Sources.{shown_by, path_from, value_from, met_from, pruned_from, delete_met_from, delete_pruned_from}
+use Rattle.paths.specs.Sources.{shown_by, path_from, pruned_from, delete_met_from, delete_pruned_from}
 use Rattle.paths.proofs.DeleteTheorems.{delete-reads_held}
 use Rattle.paths.proofs.LawfulDeletes.{delete-lawful}
 use Rattle.paths.proofs.LookupTheorems.{top-has_layer, lookup-over_source}
@@ -21,7 +21,7 @@ use Rattle.paths.proofs.SourceLaws.{IsShown}
 use Rattle.paths.proofs.WalkPairs.{each-first_part}
 use Rattle.paths.proofs.ShapeBridges as bridge
 use Rattle.edit.specs.Deletes.{Ends, CanReadDelete, CanDelete}
-use Rattle.edit.specs.Steps.{layers, asked_at, asked_from, asked_met, asked_pruned_at, asked_pruned, IsWholePath, IsWholeMet, IsWholeChain}
+use Rattle.edit.specs.Steps.{layers, asked_at, asked_from, asked_pruned_at, asked_pruned, IsWholePath, IsWholeMet, IsWholeChain}
 use Rattle.edit.specs.Trees.{HasTree}
 use Rattle.edit.proofs.Stepping.{asked-holds}
 

@@ -1,5 +1,5 @@
 -- What a delete writes, from the nodes that were read.
-use Rattle.std.proofs.Common.{◌≡◌, ℕ, zero, suc, ◌+◌, ◌-◌, ◌≤◌, List, [], ◌∷◌, ◌++◌, length, take, drop, get_or, map, Option, None, refl, sym, ap, ◌∙◌, subst, append_assoc, arith}
+use Rattle.std.proofs.Common.{◌≡◌, ℕ, suc, ◌+◌, ◌-◌, ◌≤◌, List, [], ◌∷◌, ◌++◌, length, take, drop, get_or, map, Option, None, refl, sym, ap, ◌∙◌, subst, append_assoc, arith}
 use Rattle.std.specs.declared.option.Option.TheVariants.{Some}
 use Rattle.std.specs.declared.cmp.Ordering.{Ordering}
 use Rattle.std.specs.declared.cmp.Ordering.TheVariants.{Less, Equal, Greater}
@@ -7,14 +7,14 @@ use Rattle.std.proofs.lemmas.List.{map-append}
 use Rattle.spec.specs.NodeFormat.{Shape, LastLink, MoreLinks, shape_bytes, shape_cid}
 use Rattle.paths.specs.Lawful.{Lawful, AllLawful}
 use Rattle.paths.specs.Order.{order, if_equal}
-use Rattle.paths.specs.ShapeEdit.{close_shapes, head_shape, last_shape, row_links, merge_links, merge_shapes, remove_shape, settle_links, settle_shape, settle_shapes, lone_shape}
-use Rattle.paths.specs.PathEdit.{flat, climb, climb_shapes, all_but_last, row_shape, prune_link, delete_here, delete_below, delete_root, delete_written, delete_read, delete_gone_shapes}
+use Rattle.paths.specs.ShapeEdit.{close_shapes, last_shape, row_links, merge_links, merge_shapes, remove_shape, settle_shape, lone_shape}
+use Rattle.paths.specs.PathEdit.{flat, climb, climb_shapes, all_but_last, row_shape, delete_here, delete_below, delete_root, delete_written, delete_read, delete_gone_shapes}
 use Rattle.paths.specs.Changes.{add_of, drop_of}
 use Rattle.spec.specs.Blocks.{IsClashFree}
 use Rattle.edit.specs.declared.draft_fault.DraftFault.{DraftFault}
-use Rattle.edit.specs.declared.build.settle.Settled.TheVariants.{Made, Below}
+use Rattle.edit.specs.declared.build.settle.Settled.TheVariants.{Below}
 use Rattle.edit.specs.Ahead.{links_if_lone}
-use Rattle.edit.specs.Deletes.{row_written, Ends, CanWriteRow, CanSettle, CanDelete, IsDeleteOn}
+use Rattle.edit.specs.Deletes.{row_written, CanWriteRow, IsDeleteOn}
 use Rattle.edit.specs.Drafts.{IsFaultOf}
 use Rattle.edit.specs.Faults.{IsFaultUnless}
 use Rattle.edit.specs.Settled.{IsSettled}

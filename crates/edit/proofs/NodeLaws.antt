@@ -1,5 +1,5 @@
 -- What a node shows, from its left link and its entries.
-use Rattle.std.proofs.Common.{◌≡◌, ◌<◌, ◌^◌, length, ℕ, List, [], ◌∷◌, Option, Bool, true, false, Result, Ok, refl, ap}
+use Rattle.std.proofs.Common.{◌≡◌, ◌<◌, ◌^◌, length, ℕ, List, [], ◌∷◌, Option, true, false, Ok, refl, ap}
 use Rattle.spec.specs.Reading.{IsBytes}
 use Rattle.spec.specs.NodeFormat.{Entry, read_node}
 use Rattle.node.specs.Rows.{Row, rows}

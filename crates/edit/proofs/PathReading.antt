@@ -1,12 +1,12 @@
 -- Loops that read nodes from a source: what was read so far, and what is still to be read.
-use Rattle.std.proofs.Common.{◌≡◌, ℕ, zero, suc, ◌+◌, ◌-◌, ◌*◌, ◌<◌, ◌≤◌, List, [], ◌∷◌, ◌++◌, length, Option, Bool, true, false, ◌^◌, refl, sym, ap, ◌∙◌, subst, arith}
+use Rattle.std.proofs.Common.{◌≡◌, ℕ, zero, suc, ◌+◌, ◌-◌, ◌*◌, ◌<◌, ◌≤◌, List, [], ◌∷◌, ◌++◌, length, Option, true, false, ◌^◌, refl, sym, ap, ◌∙◌, subst, arith}
 use Rattle.std.specs.declared.option.Option.TheVariants.{Some, None}
 use Rattle.std.proofs.lemmas.List.{append-nil, append_assoc}
 use Rattle.std.specs.List.{AllByRecursion}
 use Rattle.spec.specs.NodeFormat.{Shape, LastLink, MoreLinks, first_link, shape_bytes}
 use Rattle.paths.specs.Lawful.{Lawful, AllLawful, AllShort}
 use Rattle.paths.specs.ShapeEdit.{last_link}
-use Rattle.paths.specs.Sources.{row_value, gap, or_deeper, path_at, value_at, value_from, path_from, shown, met_at, met_from, pruned_at, pruned_from}
+use Rattle.paths.specs.Sources.{row_value, gap, or_deeper, path_at, value_at, value_from, path_from, met_at, met_from, pruned_at, pruned_from}
 use Rattle.edit.specs.Nodes.{IsRead, has_pairs}
 use Rattle.edit.specs.Steps.{asked_at, asked_from, asked_met_at, asked_met, asked_pruned_at, asked_pruned, shows, IsWholePath, IsWholeMet, IsWholeChain}
 use Rattle.edit.proofs.Stepping.{at_key, value-none, asked-none}

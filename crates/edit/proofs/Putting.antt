@@ -1,5 +1,5 @@
 -- A put over a source that has the nodes of a tree.
-use Rattle.std.proofs.Common.{◌≡◌, ℕ, zero, suc, ◌+◌, ◌*◌, ◌<◌, ◌≤◌, max, Bool, true, false, cond, not, ◌⊎◌, inl, inr, List, [], ◌∷◌, ◌++◌, length, map, Option, refl, sym, ap, ◌∙◌, subst, arith}
+use Rattle.std.proofs.Common.{◌≡◌, ℕ, suc, ◌+◌, ◌≤◌, Bool, true, false, cond, not, ◌⊎◌, inl, inr, List, [], ◌∷◌, ◌++◌, length, map, Option, sym, ap, ◌∙◌, subst, arith}
 use Rattle.std.specs.Prelude.{Contains}
 use Rattle.std.specs.declared.option.Option.TheVariants.{Some}
 use Rattle.std.specs.List.{filter}
@@ -8,16 +8,15 @@ use Rattle.std.proofs.lemmas.List.{length-map}
 use Rattle.std.proofs.lemmas.List.Elements.{Contains-append_left, Contains-append_right, Contains-append_cases}
 use Rattle.spec.specs.Cid.{IsDigest, cid, is_own_cid}
 use Rattle.spec.specs.Layer.{layer}
-use Rattle.spec.specs.Tree.{Pair, top}
+use Rattle.spec.specs.Tree.{Pair}
 use Rattle.spec.specs.NodeFormat.{Shape, is_key, shape_bytes, shape_cid}
-use Rattle.spec.specs.Blocks.{IsClashFree, firsts, value_of, nodes, root as root_of}
+use Rattle.spec.specs.Blocks.{IsClashFree, firsts, nodes, root as root_of}
 use Rattle.spec.specs.Proof.{path}
 use Rattle.spec.specs.Writes.{with_key}
 use Rattle.paths.specs.Changes.{AreChanges, has_cid, add_of, drop_of}
 use Rattle.paths.specs.Lawful.{AllLawful, AllShort}
 use Rattle.paths.specs.PathEdit.{put_root, put_written}
 use Rattle.paths.specs.Sources.{shown_by, path_from, value_from}
-use Rattle.paths.specs.TreeEdit.{layer_of}
 use Rattle.paths.specs.Laws.Puts.{IsPut}
 use Rattle.paths.specs.Laws.Edits.{bytes_of}
 use Rattle.paths.proofs.Lawful.{put-lawful}

@@ -1,6 +1,6 @@
 -- Nodes that were read.
 use Rattle.std.specs.Prelude.{◌≡◌, ◌<◌, ◌^◌, ℕ, Bool, true, false, length, List}
-use Rattle.spec.specs.NodeFormat.{Shape, LastLink, MoreLinks, first_link, entries_of, is_node, shape_bytes}
+use Rattle.spec.specs.NodeFormat.{Shape, LastLink, MoreLinks, shape_bytes}
 use Rattle.paths.specs.Lawful.{Lawful}
 
 -- a node of the grammar, and these are its bytes, which a machine can count

@@ -1,6 +1,5 @@
 -- What loops over a source read.
-use Rattle.std.specs.Prelude.{◌≡◌, ◌≢◌, ℕ, zero, suc, ◌+◌, ◌*◌, ◌/◌, length, List, Option, Some, None, option_map}
-use Rattle.cid.specs.CidRef.{bytes_of}
+use Rattle.std.specs.Prelude.{◌≡◌, ℕ, zero, suc, ◌+◌, ◌*◌, ◌/◌, length, List, Option, Some, None, option_map}
 use Rattle.node.specs.declared.place.Place.{Place}
 use Rattle.node.specs.Views.{place_of}
 use Rattle.spec.specs.NodeFormat.{Shape, LastLink, MoreLinks, first_link}

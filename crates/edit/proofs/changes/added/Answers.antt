@@ -1,4 +1,4 @@
-use Rattle.std.proofs.Common.{◌≡◌, ℕ, List, [], ◌∷◌, ◌++◌, Bool, true, false, length, map, sym, ap, ◌∙◌, subst, append_assoc, arith, rules}
+use Rattle.std.proofs.Common.{◌≡◌, ℕ, List, [], ◌∷◌, ◌++◌, true, false, length, map, sym, ap, ◌∙◌, subst, append_assoc, arith, rules}
 use Rattle.std.specs.Arc.{arc_value}
 use Rattle.std.specs.Vec.Iter.{into_iter_items}
 use Rattle.std.proofs.lemmas.Result.{err_from_is_err_and}
@@ -6,7 +6,7 @@ use Rattle.spec.specs.NodeFormat.{shape_bytes}
 use Rattle.spec.specs.Blocks.{IsClashFree}
 use Rattle.paths.specs.Changes.{add_of}
 use Rattle.edit.specs.Faults.{IsRefusal}
-use Rattle.edit.proofs.Among.{refusal-within, among-read, among-made, turn-read, turn-held, turn-new, over, added-free, not-true, not-false}
+use Rattle.edit.proofs.Among.{refusal-within, among-read, among-made, turn-read, turn-held, turn-new, over, added-free}
 use Rattle.edit.proofs.changes.added.Goals as goal
 use Rattle.edit.proofs.changes.added.Goals.{else-not-branch-via-then-not-branch+in_ok-is_made+else-not-branch-2, else-not-branch-via-else-not-branch}
 

@@ -1,4 +1,4 @@
-use Rattle.std.proofs.Common.{◌≡◌, ◌∙◌, true, false, arith, rules}
+use Rattle.std.proofs.Common.{◌≡◌, true, false, arith, rules}
 use Rattle.std.specs.Arc.{arc_value}
 use Rattle.edit.proofs.Among.{has_mark, mark-more, mark-here, mark-none}
 use Rattle.edit.proofs.changes.has_cid.Goals as goal

@@ -1,4 +1,4 @@
-use Rattle.std.proofs.Common.{◌≡◌, ℕ, ◌-◌, ◌*◌, Option, List, [], ◌∷◌, ◌++◌, sym, ap, ◌∙◌, subst, arith, rules}
+use Rattle.std.proofs.Common.{◌≡◌, ℕ, ◌-◌, Option, List, [], ◌∷◌, ◌++◌, sym, ◌∙◌, subst, arith, rules}
 use Rattle.std.specs.declared.option.Option.TheVariants.{Some, None}
 use Rattle.std.specs.Arc.{arc_value}
 use Rattle.spec.specs.NodeFormat.{first_link}

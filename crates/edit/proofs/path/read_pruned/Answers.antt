@@ -1,7 +1,6 @@
-use Rattle.std.proofs.Common.{ℕ, ◌-◌, Option, List, [], ◌∷◌, ◌++◌, sym, ap, ◌∙◌, subst, arith}
+use Rattle.std.proofs.Common.{ℕ, ◌-◌, Option, List, [], ◌∷◌, ◌++◌, sym, ◌∙◌, subst, arith}
 use Rattle.std.specs.declared.option.Option.TheVariants.{Some, None}
 use Rattle.std.specs.Arc.{arc_value}
-use Rattle.spec.specs.NodeFormat.{first_link}
 use Rattle.edit.specs.Steps.{shows}
 use Rattle.edit.proofs.PathReading.{IsChainSoFar, shown-by, reads-le, reads-eq, reads-more, chain-more, chain-last, chain-missing, chain-counts}
 use Rattle.edit.proofs.path.read_pruned.Goals as goal

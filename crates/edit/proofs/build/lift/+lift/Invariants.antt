@@ -1,4 +1,3 @@
-use Rattle.std.proofs.Common.{length}
 use Rattle.edit.proofs.build.lift.+lift.Given as goal
 
 abbrev pub decreases-lift : goal.decreases-lift

@@ -1,4 +1,3 @@
-use Rattle.std.proofs.Common.{length}
 use Rattle.edit.proofs.build.raise.+raise.Given as goal
 
 abbrev pub decreases-raise : goal.decreases-raise
