@@ -1,6 +1,6 @@
 ghost use Rattle.std.specs.Prelude.{◌≡◌, ℕ, List};
 ghost use Rattle.std.specs.Arc.{arc_value};
-ghost use Rattle.spec.specs.Blocks.{Clash};
+ghost use Rattle.spec.specs.Blocks.{IsClash};
 
 use crate::block::Block;
 use crate::digest::Digest;
@@ -23,13 +23,13 @@ impl<D: Digest, A: Allocator> Model for Collided<D, A> {
 
     ghost view = { λ c. (arc_value c.one, arc_value c.other) };
 
-    ghost invariant = { λ c. Clash D.digest_of (arc_value c.one) (arc_value c.other) };
+    ghost invariant = { λ c. IsClash D.digest_of (arc_value c.one) (arc_value c.other) };
 }
 
 impl<D: Digest, A: Allocator> Collided<D, A> {
     /// The pair of two blocks that clash. `Block::cid` and `Block::bytes` are the test.
     pub fn new(one: Arc<Block<D, A>, A>, other: Arc<Block<D, A>, A>) -> Collided<D, A>
-        requires { Clash D.digest_of (arc_value one) (arc_value other) }
+        requires { IsClash D.digest_of (arc_value one) (arc_value other) }
         ensures { result ≡ (arc_value one, arc_value other) }
     {
         Collided { one, other }
@@ -38,7 +38,7 @@ impl<D: Digest, A: Allocator> Collided<D, A> {
     /// One of the two.
     pub fn one(&self) -> &Arc<Block<D, A>, A>
         ensures value { arc_value result.now ≡ self.now.0 }
-        ensures clash { Clash D.digest_of self.now.0 self.now.1 }
+        ensures clash { IsClash D.digest_of self.now.0 self.now.1 }
     {
         &self.one
     }
@@ -46,7 +46,7 @@ impl<D: Digest, A: Allocator> Collided<D, A> {
     /// The other.
     pub fn other(&self) -> &Arc<Block<D, A>, A>
         ensures value { arc_value result.now ≡ self.now.1 }
-        ensures clash { Clash D.digest_of self.now.0 self.now.1 }
+        ensures clash { IsClash D.digest_of self.now.0 self.now.1 }
     {
         &self.other
     }

@@ -1,6 +1,6 @@
 -- When an edit is refused.
-use Rattle.std.specs.Prelude.{◌≡◌, ⊤, ℕ, List, Contains}
-use Rattle.spec.specs.Blocks.{Clash as IsClash}
+use Rattle.std.specs.Prelude.{◌≡◌, ⊤, ℕ, List, Contains, Result, Ok, Err}
+use Rattle.spec.specs.Blocks.{IsClash}
 use Rattle.edit.specs.declared.draft_fault.DraftFault.{DraftFault}
 use Rattle.edit.specs.declared.draft_fault.DraftFault.TheVariants as drafts
 use Rattle.edit.specs.declared.fault.EditFault.{EditFault}
@@ -25,3 +25,14 @@ abbrev pub IsRefusal : {D A : Type 0} → (List ℕ → List ℕ) → List (List
 IsRefusal digest blocks P NoSuchKey = P
 IsRefusal digest blocks P (Clash pair) = IsClashIn digest blocks pair
 IsRefusal digest blocks P NoMemory = ⊤
+
+-- a key, a block or memory is missing
+abbrev pub IsAbsence : {D A : Type 0} → EditFault D A → Type 0
+IsAbsence NoSuchKey = ⊤
+IsAbsence (Clash pair) = ⊥
+IsAbsence NoMemory = ⊤
+
+-- neither an edit nor a clash
+abbrev pub IsMissing : {T D A : Type 0} → Result T (EditFault D A) → Type 0
+IsMissing (Ok x) = ⊥
+IsMissing (Err fault) = IsAbsence fault

@@ -11,7 +11,7 @@ use Rattle.spec.specs.Cid.{cid, is_own_cid, IsDigest}
 use Rattle.spec.specs.Layer.{layer}
 use Rattle.spec.specs.Tree.{Pair, Sub, tree, top, top_layer}
 use Rattle.spec.specs.NodeFormat.{is_key, is_ascending, part_link}
-use Rattle.spec.specs.Blocks.{ArePairs, IsClashFree, Clash, blocks_in, no_record, nodes, root, firsts}
+use Rattle.spec.specs.Blocks.{ArePairs, IsClashFree, IsClash, blocks_in, no_record, nodes, root, firsts}
 use Rattle.spec.proofs.Bools.{both}
 use Rattle.spec.proofs.TreeLaws.{lower-from_top}
 use Rattle.spec.proofs.RootLaws.{all_of}
@@ -73,7 +73,7 @@ clash-in f digest xs i j x y a b pair h is_x is_y is_a is_b is =
     let one : Contains (map f xs) (f x) = subst (Contains (map f xs)) at_x (Contains-get_or (map f xs) i [] h.has_one) in
     let other : Contains (map f xs) (f y) = subst (Contains (map f xs)) at_y (Contains-get_or (map f xs) j [] h.has_other) in
     let both_are : ◌≡◌ {A = List ℕ × List ℕ} (a, b) (f x, f y) = λ k. (is_a k, is_b k) in
-    let clash : Clash digest (f x) (f y) = (ap (cid digest) (sym at_x) ∙ h.clash.0 ∙ ap (cid digest) at_y, λ e. h.clash.1 (at_x ∙ e ∙ sym at_y)) in
+    let clash : IsClash digest (f x) (f y) = (ap (cid digest) (sym at_x) ∙ h.clash.0 ∙ ap (cid digest) at_y, λ e. h.clash.1 (at_x ∙ e ∙ sym at_y)) in
     subst (IsClashIn digest (map f xs)) (sym (is ∙ both_are)) (one, other, clash)
 
 pub clash-among : (digest : List ℕ → List ℕ) (blocks nodes : List (List ℕ)) (pair : List ℕ × List ℕ) → blocks ≡ nodes → IsClashIn digest blocks pair → IsClashIn digest nodes pair

@@ -1,6 +1,6 @@
 -- When a tree is not built.
 use Rattle.std.specs.Prelude.{ℕ, ◌<◌, List, [], length, slice_index_or, Contains, ⊤}
-use Rattle.spec.specs.Blocks.{Clash as IsClash}
+use Rattle.spec.specs.Blocks.{IsClash}
 use Rattle.scratch.specs.declared.fault.ScratchFault.{ScratchFault}
 use Rattle.scratch.specs.declared.fault.ScratchFault.TheVariants.{Clash, NoMemory}
 

@@ -17,9 +17,6 @@ fold-append m (w ∷ ws) vs = fold-append (after_write m w) ws vs
 
 -- ---- lawful lists
 
-abbrev done : Unit {0} → Result (Unit {0}) WriteFault
-done u = Ok u
-
 ok-passes : (r : Result (Unit {0}) WriteFault) → passes r ≡ true → r ≡ Ok tt
 ok-passes (Ok u) h = refl
 ok-passes (Err f) h = absurd cc

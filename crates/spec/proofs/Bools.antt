@@ -1,5 +1,5 @@
 -- Tests joined by "and", "or" and "not", taken apart and put together.
-use Rattle.std.proofs.Common.{◌≡◌, Bool, true, false, ◌&&◌, ◌||◌, not, T, refl, sym, subst, inl, inr}
+use Rattle.std.proofs.Common.{◌≡◌, Bool, true, false, ◌&&◌, ◌||◌, not, T, refl, inl, inr}
 use Rattle.std.specs.Prelude.{◌⊎◌}
 
 pub both : (a b : Bool) → (a && b) ≡ true → (a ≡ true) × (b ≡ true)
@@ -54,6 +54,3 @@ not_implied false b h = absurd cc
 pub from_T : (b : Bool) → T b → b ≡ true
 from_T true h = refl
 from_T false h = absurd h
-
-pub to_T : (b : Bool) → b ≡ true → T b
-to_T b e = subst T (sym e) tt

@@ -73,9 +73,6 @@ text_of-append n bytes rest e utf8 = rw (front-append Truncated n bytes rest e, 
 
 -- ---- values
 
-abbrev string_text : ℕ → List ℕ → List ℕ → List ℕ
-string_text m bytes rest = head m (length bytes) ++ (bytes ++ rest)
-
 value_at-bytes : (levels : ℕ) (bytes rest : List ℕ) → fits_length bytes ≡ true → value_at levels (string 2 bytes ++ rest) ≡ Ok (Bytes bytes, rest)
 value_at-bytes levels bytes rest fits =
     ap (value_at levels) (append_assoc (head 2 (length bytes)) bytes rest) ∙ value_at-head levels 2 (length bytes) (bytes ++ rest) (omega arith) (ltb-true _ _ fits)

@@ -11,7 +11,7 @@ use Rattle.std.proofs.lemmas.List.Elements.{Contains-append_left, Contains-appen
 use Rattle.spec.specs.Layer.{layer, zero_bits}
 use Rattle.spec.specs.Tree.{Pair, Node, Last, More, Part, Nothing, Sub, Groups, LastGroup, MoreGroups, cut, node_of, below, top_layer, top}
 use Rattle.spec.specs.NodeFormat.{node_bytes}
-use Rattle.spec.specs.Blocks.{blocks_in, blocks_under, no_record, nodes, pairs, record_at, blocks}
+use Rattle.spec.specs.Blocks.{blocks_in, blocks_under, no_record, nodes}
 use Rattle.spec.specs.Proof.{by_order, path_in, path_under, path}
 use Rattle.spec.proofs.LayerLaws.{zero_bits-le}
 
@@ -45,13 +45,6 @@ module _ (digest : List ℕ → List ℕ) (records : List ℕ → List (List ℕ
 
 pub path-among : (digest : List ℕ → List ℕ) (bits : ℕ) (es : List Pair) (key b : List ℕ) → Contains (path digest bits es key) b → Contains (nodes digest bits es) b
 path-among digest bits es key b i = path_in-among digest no_record key b (Sub (top (layer digest bits) es)) i
-
--- and a block of a repository, among its records and what else it has
-pub path-among-blocks : (digest : List ℕ → List ℕ) (bits : ℕ) (further : List (List ℕ)) (m : List (List ℕ × List ℕ)) (key b : List ℕ)
-    → Contains (path digest bits (pairs digest m) key) b → Contains (blocks digest bits further m) b
-path-among-blocks digest bits further m key b i =
-    let tree = Sub (top (layer digest bits) (pairs digest m)) in
-    Contains-append_right further (blocks_in digest (record_at m) tree) b (path_in-among digest (record_at m) key b tree i)
 
 -- ---- how many nodes a path has
 

@@ -1,5 +1,5 @@
 -- Where a key stands in a node of a tree, and what that says of the key's value: the step of each look-up down a tree.
-use Rattle.std.proofs.Common.{◌≡◌, ℕ, true, cond, List, [], ◌∷◌, ◌++◌, Option, Some, None, Ok, refl, sym, ap, subst, ◌∙◌}
+use Rattle.std.proofs.Common.{◌≡◌, ℕ, true, cond, List, [], ◌∷◌, ◌++◌, Some, None, refl, sym, ap, subst, ◌∙◌}
 use Rattle.std.specs.Cmp.Lexicographic.{slice_cmp}
 use Rattle.std.specs.Ordering.{nat_cmp, is_lt, is_eq, ordering_reverse}
 use Rattle.std.specs.declared.cmp.Ordering.{Ordering}
@@ -10,13 +10,12 @@ use Rattle.std.proofs.lemmas.Cmp.{nat_list_cmp_total}
 use Rattle.std.proofs.lemmas.Map.Text.{is_eq-slice_cmp}
 use Rattle.std.proofs.lemmas.Slice.Eq.{bytes_eq-Decides}
 use Rattle.spec.specs.Tree.{Pair, Node, Last, More, Part, Nothing, Sub, top, pairs_in, pairs_under, EachNode, EachUnder}
-use Rattle.spec.specs.NodeFormat.{Entry, first_link, entries_of, part_link, shape, shape_cid, node_bytes, read_node, NodeFault}
+use Rattle.spec.specs.NodeFormat.{Entry, first_link, entries_of, part_link, shape, shape_cid, node_bytes}
 use Rattle.spec.specs.Blocks.{ArePairs, value_of}
 use Rattle.spec.specs.Proof.{by_order, Place, Here, Below, Gap, gap_of, place, path_in, path_under}
 use Rattle.spec.proofs.NodeLaws.{both}
 use Rattle.spec.proofs.TreeLaws.{pairs-top}
-use Rattle.spec.proofs.Taking.{ok_is}
-use Rattle.spec.proofs.TreeNodes.{below_all-append, is_sorted-append, IsLawful, read_node-shape_bytes}
+use Rattle.spec.proofs.TreeNodes.{below_all-append, is_sorted-append}
 
 -- ---- keys in order
 
@@ -179,17 +178,6 @@ module _ (digest : List ℕ → List ℕ) (key : List ℕ) where
   place-node (More p e r) sorted =
       let rest = (is_sorted-append (e ∷ []) (pairs_under r) (is_sorted-append (pairs_in p) (e ∷ pairs_under r) sorted).1).1 in
       row-place p e r (slice_cmp nat_cmp e.0 key) refl sorted (place-node r rest)
-
-  -- the same at a place that is known
-  pub place-is : (m : Node) (at : Place) → is_sorted (slice_cmp nat_cmp) (pairs_under m) ≡ true → place key (first_link (shape digest m)) (entries_of (shape digest m)) ≡ at → IsPlace digest key m at
-  place-is m at sorted is = subst (IsPlace digest key m) is (place-node m sorted)
-
-  -- the same of what is read in the block of a node
-  pub place-read : (m : Node) (left : Option (List ℕ)) (es : List Entry) (at : Place) → is_sorted (slice_cmp nat_cmp) (pairs_under m) ≡ true → IsLawful digest m
-      → read_node (node_bytes digest m) ≡ Ok (left, es) → place key left es ≡ at → IsPlace digest key m at
-  place-read m left es at sorted lawful read is =
-      let both_are = ok_is NodeFault (first_link (shape digest m), entries_of (shape digest m)) (left, es) (sym (read_node-shape_bytes (shape digest m) lawful) ∙ read) in
-      place-is m at sorted (ap (λ (x : Option (List ℕ) × List Entry). place key x.0 x.1) both_are ∙ is)
 
   -- what holds of each node below a node holds of the node below the link, and of each node below it
   pub each-below_link : (P : Node → Type 0) (m : Node) (c : List ℕ) (is : IsBelow digest key m c) → EachUnder P m → P is.node × EachUnder P is.node

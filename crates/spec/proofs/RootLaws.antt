@@ -1,15 +1,11 @@
 -- Where no two blocks clash, a root names the contents of its tree.
-use Rattle.std.proofs.Common.{◌≡◌, ℕ, ◌^◌, ◌<◌, Bool, true, List, [], ◌∷◌, ◌++◌, length, refl, sym, ap, ◌∙◌, arith}
+use Rattle.std.proofs.Common.{◌≡◌, ℕ, Bool, true, List, [], ◌∷◌, ◌++◌, length, refl, sym, ap, ◌∙◌, arith}
 use Rattle.std.specs.Prelude.{Contains}
 use Rattle.std.specs.List.{AllByRecursion, list_all}
-use Rattle.std.specs.Cmp.Lexicographic.{slice_cmp}
-use Rattle.std.specs.Ordering.{nat_cmp}
-use Rattle.std.specs.FinMap.{is_sorted}
 use Rattle.std.proofs.lemmas.List.Elements.{Contains-append_left, Contains-append_right}
-use Rattle.spec.specs.Cid.{is_own_cid}
 use Rattle.spec.specs.Layer.{layer}
 use Rattle.spec.specs.Tree.{Pair, Node, Last, More, Part, Nothing, Sub, top, pairs_in, EachNode, EachUnder}
-use Rattle.spec.specs.NodeFormat.{is_key, is_ascending, node_bytes, shape}
+use Rattle.spec.specs.NodeFormat.{node_bytes, shape}
 use Rattle.spec.specs.Blocks.{blocks_in, blocks_under, nodes, root, no_record, ArePairs, IsClashFree}
 use Rattle.spec.proofs.Bools.{both}
 use Rattle.spec.proofs.TreeLaws.{pairs-top}
@@ -21,12 +17,6 @@ use Rattle.spec.proofs.SameTree.{Stands, same-part, free_shapes}
 pub all_of : {X : Type 0} (test : X → Bool) (xs : List X) → list_all test xs ≡ true → AllByRecursion (λ x. test x ≡ true) xs
 all_of test [] h = tt
 all_of test (x ∷ xs) h = let p = both (test x) (list_all test xs) h in (p.0, all_of test xs p.1)
-
--- ascending pairs whose values are CIDs of the host's form
-pub ArePairs-from_tests : (es : List Pair) → is_ascending es ≡ true → list_all (λ e. is_own_cid e.1) es ≡ true → length es < 2 ^ 64 → ArePairs es
-ArePairs-from_tests es up own few =
-    let p = both (is_sorted (slice_cmp nat_cmp) es) (list_all (λ e. is_key e.0) es) up in
-    record { sorted = p.0; keys = all_of (λ e. is_key e.0) es p.1; values = all_of (λ e. is_own_cid e.1) es own; count = few }
 
 -- ---- each node of a tree is among its blocks
 

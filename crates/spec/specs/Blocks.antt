@@ -34,8 +34,8 @@ abbrev pub IsClashFree : (List ℕ → List ℕ) → List (List ℕ) → Type 0
 IsClashFree digest bs = (a b : List ℕ) → Contains bs a → Contains bs b → cid digest a ≡ cid digest b → a ≡ b
 
 -- two blocks with one CID and different bytes
-abbrev pub Clash : (List ℕ → List ℕ) → List ℕ → List ℕ → Type 0
-Clash digest a b = (cid digest a ≡ cid digest b) × (a ≢ b)
+abbrev pub IsClash : (List ℕ → List ℕ) → List ℕ → List ℕ → Type 0
+IsClash digest a b = (cid digest a ≡ cid digest b) × (a ≢ b)
 
 -- No block of the one list clashes with one of the other. Within a list blocks may clash: what a stranger gives needs no
 -- more than this.

@@ -19,10 +19,12 @@ mutual
     Fields : Entries → Value
     Link : List ℕ → Value
 
+  -- the items of a list, in order
   pub data Values : Type 0 where
     NoValue : Values
     ValueThen : Value → Values → Values
 
+  -- the fields of a map, each a key and its value, in order
   pub data Entries : Type 0 where
     NoEntry : Entries
     EntryThen : (key : List ℕ) (value : Value) → Entries → Entries

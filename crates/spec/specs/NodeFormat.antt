@@ -63,6 +63,7 @@ abbrev pub are_keys_after : List ℕ → List Entry → Bool
 are_keys_after before [] = true
 are_keys_after before (e ∷ es) = is_lt (slice_cmp nat_cmp before e.key) && is_key e.key && are_keys_after e.key es
 
+-- no link, or a CID of the host's form
 abbrev pub is_own_cid_or_none : Option (List ℕ) → Bool
 is_own_cid_or_none None = true
 is_own_cid_or_none (Some c) = is_own_cid c

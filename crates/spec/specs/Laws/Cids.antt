@@ -4,6 +4,7 @@ use Rattle.spec.specs.Reading.{IsBytes}
 use Rattle.spec.specs.Varint.{varint, varint_at}
 use Rattle.spec.specs.Cid.{is_own_cid, text, cid_of_text, is_cid}
 
+-- the text of a CID of the host's form reads as that CID
 abbrev pub TextReadsBack : Type 0
 TextReadsBack = (c : List ℕ) → IsBytes c → is_own_cid c ≡ true → cid_of_text (text c) ≡ Ok c
 

@@ -1,7 +1,8 @@
 -- A test for clashes says exactly whether there is one.
 use Rattle.std.specs.Prelude.{◌≡◌, ◌↔◌, Contains, ℕ, true, false, List, ◌++◌}
-use Rattle.spec.specs.Blocks.{is_clash_free, IsClashFree, ClashesWithNone, Clash}
+use Rattle.spec.specs.Blocks.{is_clash_free, IsClashFree, ClashesWithNone, IsClash}
 
+-- the test passes exactly where no two blocks clash
 abbrev pub TestTellsClashFree : Type 0
 TestTellsClashFree = (digest : List ℕ → List ℕ) (bs : List (List ℕ)) → (is_clash_free digest bs ≡ true) ↔ IsClashFree digest bs
 
@@ -11,8 +12,9 @@ pub record HasClash (digest : List ℕ → List ℕ) (bs : List (List ℕ)) : Ty
   pub other : List ℕ
   pub has_one : Contains bs one
   pub has_other : Contains bs other
-  pub clash : Clash digest one other
+  pub clash : IsClash digest one other
 
+-- and fails exactly where two do
 abbrev pub TestTellsClash : Type 0
 TestTellsClash = (digest : List ℕ → List ℕ) (bs : List (List ℕ)) → (is_clash_free digest bs ≡ false) ↔ HasClash digest bs
 

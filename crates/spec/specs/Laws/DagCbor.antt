@@ -3,6 +3,7 @@ use Rattle.std.specs.Prelude.{◌≡◌, ℕ, true, List, ◌++◌, Ok}
 use Rattle.spec.specs.Reading.{IsBytes}
 use Rattle.spec.specs.DagCbor.{Value, spelling, is_lawful, read}
 
+-- the spelling of a lawful value reads as that value
 abbrev pub ValueReadsBack : Type 0
 ValueReadsBack = (v : Value) → is_lawful v ≡ true → read (spelling v) ≡ Ok v
 

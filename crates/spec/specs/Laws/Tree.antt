@@ -6,6 +6,7 @@ use Rattle.spec.specs.Tree.{Pair, Node, Last, More, Part, Nothing, Sub, Groups, 
 abbrev pub CutIsTheOnlyOne : Type 0
 CutIsTheOnlyOne = (layer : List ℕ → ℕ) (n : ℕ) (es : List Pair) → IsCut layer n es (cut layer n es) × ((g : Groups) → IsCut layer n es g → g ≡ cut layer n es)
 
+-- the pairs of a tree, read in order, are the list that it was built from
 abbrev pub PairsAreInOrder : Type 0
 PairsAreInOrder = (layer : List ℕ → ℕ) (es : List Pair) → pairs_under (top layer es) ≡ es
 
@@ -20,6 +21,7 @@ abbrev mutual
   IsJustBelow layer zero (Sub m) = ⊥
   IsJustBelow layer (suc n) (Sub m) = HasLayer layer n m
 
+-- the top has the greatest layer, and each link goes down exactly one
 abbrev pub LinksGoDownOneLayer : Type 0
 LinksGoDownOneLayer = (layer : List ℕ → ℕ) (es : List Pair) → HasLayer layer (top_layer layer es) (top layer es)
 
@@ -27,6 +29,7 @@ LinksGoDownOneLayer = (layer : List ℕ → ℕ) (es : List Pair) → HasLayer l
 abbrev pub HasPairs : Node → Type 0
 HasPairs m = pairs_under m ≢ []
 
+-- each node below the top has a key in it or below it
 abbrev pub NoSubtreeIsEmpty : Type 0
 NoSubtreeIsEmpty = (layer : List ℕ → ℕ) (es : List Pair) → EachUnder HasPairs (top layer es)
 

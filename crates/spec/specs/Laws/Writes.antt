@@ -6,9 +6,11 @@ use Rattle.std.specs.FinMap.{find, is_sorted}
 use Rattle.spec.specs.Blocks.{blocks, repository_root}
 use Rattle.spec.specs.Writes.{Write, WriteFault, leaves, last_record, write_test, limited_test, batch_test, is_lawful_list}
 
+-- the record of a key is what the last write that names the key says
 abbrev pub LastWriteDecides : Type 0
 LastWriteDecides = (ws : List Write) (key : List ℕ) → find (slice_cmp nat_cmp) key (leaves ws) ≡ last_record key None ws
 
+-- the records that writes leave stand in ascending order of keys
 abbrev pub KeysAscend : Type 0
 KeysAscend = (ws : List Write) → is_sorted (slice_cmp nat_cmp) (leaves ws) ≡ true
 
@@ -25,6 +27,7 @@ LawfulIsEachOnThoseBefore = (ws : List Write) → (is_lawful_list ws ≡ true) �
 abbrev pub EachPasses : ℕ → List Write → List Write → Type 0
 EachPasses limit accepted batch = (before after : List Write) (w : Write) → batch ≡ before ++ w ∷ after → limited_test limit (length (accepted ++ before)) (leaves (accepted ++ before)) w ≡ Ok tt
 
+-- a batch is taken exactly where each of its writes passes
 abbrev pub BatchPasses : Type 0
 BatchPasses = (limit : ℕ) (accepted batch : List Write) → (batch_test limit accepted batch ≡ Ok tt) ↔ EachPasses limit accepted batch
 
@@ -38,8 +41,10 @@ pub record IsFirstRefused (limit : ℕ) (accepted batch : List Write) (i : ℕ) 
   pub passed : EachPasses limit accepted before
   pub fails : limited_test limit (length (accepted ++ before)) (leaves (accepted ++ before)) refused ≡ Err fault
 
+-- a batch is refused at its first write that doesn't pass, with that write's fault
 abbrev pub BatchFails : Type 0
 BatchFails = (limit : ℕ) (accepted batch : List Write) (i : ℕ) (fault : WriteFault) → (batch_test limit accepted batch ≡ Err (i, fault)) ↔ IsFirstRefused limit accepted batch i fault
 
+-- a lawful list and a batch that is taken are together a lawful list
 abbrev pub BatchKeepsLawful : Type 0
 BatchKeepsLawful = (limit : ℕ) (accepted batch : List Write) → is_lawful_list accepted ≡ true → batch_test limit accepted batch ≡ Ok tt → is_lawful_list (accepted ++ batch) ≡ true
