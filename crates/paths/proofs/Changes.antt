@@ -45,9 +45,6 @@ module _ (digest : List ℕ → List ℕ) (old new made gone read : List (List �
       let l = firsts-from (cid digest) b (filter is_unread made) in
       unread-case b (has_cid (cid digest b) (map (cid digest) read)) refl (omega arith)
 
-  not_read : (b : List ℕ) → count b gone ≤ count b read → count b read ≡ 0 → count b gone ≡ 0
-  not_read b l e = omega arith
-
   gone-none : (b : List ℕ) (g : ℕ) → count b gone ≡ g → count b read ≡ 0 → g ≡ 0
   gone-none b zero e z = refl
   gone-none b (suc g) e z = let l : 0 < count b read = known.gone_read b (omega arith) in absurd (omega arith)

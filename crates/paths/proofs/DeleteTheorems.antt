@@ -132,6 +132,8 @@ DeleteFacts digest bits key es path met pruned =
     (delete_read path met pruned) (delete_gone_shapes path met pruned) (delete_written digest key path met)
     × (length (delete_read path met pruned) ≤ 2 * layer_of (layer digest bits) (top (layer digest bits) es) + 1)
     × (length (delete_written digest key path met) ≤ layer_of (layer digest bits) (top (layer digest bits) es) + 1)
+    × (delete_read path met pruned
+    ≡ map (shape digest) (delete_path_read (layer digest bits) key (top (layer digest bits) es)))
 
 delete-facts : (digest : List ℕ → List ℕ) (bits : ℕ) → IsDigest digest → (n : ℕ) (key : List ℕ) (es : List Pair)
     → ArePairs es → IsClashFree digest (nodes digest bits es)
@@ -177,6 +179,7 @@ delete-facts digest bits fits n key es are free l v h =
       edit-moved digest bits es (without_key es key) _ _ _ _ _ _ _ _ new_top read gone made base,
       omega arith,
       omega arith,
+      sym read,
     )
 
 -- what is read over a source that has the nodes
@@ -333,4 +336,4 @@ delete-over_source digest bits fits gives n key es are has l v h =
     (delete_pruned_from shows n key path (delete_met_from shows n key path))) (sym met) with_pruned in
     let whole = subst (λ x. DeleteFacts digest bits key es x (delete_met_from shows n key x)
     (delete_pruned_from shows n key x (delete_met_from shows n key x))) (sym read_path) with_met in
-    record { edit = whole.0; read_count = whole.1; made_count = whole.2 }
+    record { edit = whole.0; read_count = whole.1; made_count = whole.2; read_is = whole.3 }

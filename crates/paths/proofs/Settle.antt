@@ -32,10 +32,6 @@ prune-kept : (n : ℕ) (m : Node) → HasRows m → prune n m ≡ m
 prune-kept n (Last p) h = absurd h
 prune-kept n (More p e r) h = prune-rows n p e r
 
-with-rows : (p : Part) (m : Node) → HasRows m → HasRows (with_first p m)
-with-rows p (Last q) h = h
-with-rows p (More q e r) h = tt
-
 -- a change after the first key, or of a node that keeps a key
 onto-rows : (o : Ordering) (p : Part) (e : Pair) (r : Node) (q : Place) (change : Node → Node)
     → ((o ≡ Less → ⊥) → HasRows (change (More p e r)))

@@ -73,6 +73,11 @@ pub record IsDelete (digest : List ℕ → List ℕ) (bits : ℕ) (gives : List 
   pub made_count : let path = path_from (shown_by gives) n key (Some (root digest bits es)) in
       let met = delete_met_from (shown_by gives) n key path in
       length (delete_written digest key path met) ≤ layer_of (layer digest bits) (top (layer digest bits) es) + 1
+  pub read_is : let path = path_from (shown_by gives) n key (Some (root digest bits es)) in
+      let met = delete_met_from (shown_by gives) n key path in
+      let pruned = delete_pruned_from (shown_by gives) n key path met in
+      delete_read path met pruned
+      ≡ map (shape digest) (delete_path_read (layer digest bits) key (top (layer digest bits) es))
 
 abbrev pub DeleteOverSource : Type 0
 DeleteOverSource = (digest : List ℕ → List ℕ) (bits : ℕ) → IsDigest digest
