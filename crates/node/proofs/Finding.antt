@@ -1,15 +1,15 @@
 -- A key is found by the rows alone, as it is by the entries.
-use Rattle.std.proofs.Common.{◌≡◌, ◌⊎◌, inl, inr, ℕ, suc, ◌+◌, ◌<◌, ◌≤◌, Bool, true, false, ◌&&◌, cond, eqb, ltb, List, [], ◌∷◌, length, drop, Option, refl, sym, ap, ◌∙◌, arith}
+use Rattle.std.proofs.Common.{◌≡◌, ◌⊎◌, inl, inr, ℕ, suc, ◌+◌, ◌<◌, ◌≤◌, true, false, ◌&&◌, cond, eqb, List, [], ◌∷◌, length, drop, Option, None, Some, refl, sym, ap, ◌∙◌, arith}
 use Rattle.std.specs.declared.cmp.Ordering.{Ordering}
 use Rattle.std.specs.declared.cmp.Ordering.TheVariants.{Less, Equal, Greater}
 use Rattle.std.specs.Ordering.{nat_cmp, is_lt}
-use Rattle.std.specs.List.{Contains}
 use Rattle.std.proofs.lemmas.Bool.{cases_lt, le-ltb, lt-ltb, eq-eqb, ne_eqb}
 use Rattle.spec.specs.NodeFormat.{Entry, common, is_key, are_keys_after}
 use Rattle.spec.specs.Proof.{Place, Here, by_order, gap_of, place}
 use Rattle.spec.proofs.Bools.{both}
 use Rattle.node.specs.Rows.{Row, row_after, rows}
 use Rattle.node.specs.Search.{order_after, common_after}
+use Rattle.node.specs.Views.{row_with}
 use Rattle.node.proofs.Comparing.{cmp, beside, cmp-turn, common-turn, cmp-equal}
 
 -- ---- one entry
@@ -97,13 +97,35 @@ find_from before key gap (e ∷ es) keys ahead =
 pub find_rows-place : (key : List ℕ) (gap : Option (List ℕ)) (es : List Entry) → are_keys_after [] es ≡ true → find_rows key 0 gap (rows [] es) ≡ place key gap es
 find_rows-place key gap es keys = find_from [] key gap es keys (inl refl)
 
--- ---- among the rows
-
-pub contains_first : (x : Row) (xs : List Row) → Contains (x ∷ xs) x
-contains_first x xs = (0, omega arith, refl)
-
-pub contains_rest : (x y : Row) (xs : List Row) → Contains xs y → Contains (x ∷ xs) y
-contains_rest x y xs h = (suc h.0, let lt = h.1 in omega arith, h.2)
-
 pub find_rows-less : (key : List ℕ) (same : ℕ) (gap : Option (List ℕ)) (r : Row) (rs : List Row) → order_after same key r ≡ Less → find_rows key same gap (r ∷ rs) ≡ find_rows key (common_after same key r) r.tree rs
 find_rows-less key same gap r rs o = rw o refl
+
+-- ---- the row of the key
+
+abbrev pub row_found : List ℕ → ℕ → List Row → Option Row
+row_found key same [] = None
+row_found key same (r ∷ rs) = by_order (order_after same key r) (row_found key (common_after same key r) rs) (Some r) None
+
+by_less : (o : Ordering) (x y a b : Option Row) → (o ≡ Less → x ≡ y) → by_order o x a b ≡ by_order o y a b
+by_less Less x y a b h = h refl
+by_less Equal x y a b h = refl
+by_less Greater x y a b h = refl
+
+row_from : (before key : List ℕ) (es : List Entry) → are_keys_after before es ≡ true → IsAhead before key → row_found key (common before key) (rows before es) ≡ row_with key before es
+row_from before key [] keys ahead = refl
+row_from before key (e ∷ es) keys ahead =
+    let parts = both (is_lt (cmp before e.key) && is_key e.key) (are_keys_after e.key es) keys in
+    let less = both (is_lt (cmp before e.key)) (is_key e.key) parts.0 in
+    let t = tells before e key less.0 ahead (common-fits before key) (common-fits before e.key) in
+    let first : row_found key (common before key) (rows before (e ∷ es)) ≡ by_order (cmp e.key key) (row_found key (common e.key key) (rows e.key es)) (Some (row_after before e)) None =
+    rw (t.order, t.same) refl in
+    first ∙ by_less (cmp e.key key) _ _ _ _ (λ is. row_from e.key key es parts.1 (inr (ap is_lt is)))
+
+pub row_found-with : (key : List ℕ) (es : List Entry) → are_keys_after [] es ≡ true → row_found key 0 (rows [] es) ≡ row_with key [] es
+row_found-with key es keys = row_from [] key es keys (inl refl)
+
+pub row_found-less : (key : List ℕ) (same : ℕ) (r : Row) (rs : List Row) → order_after same key r ≡ Less → row_found key same (r ∷ rs) ≡ row_found key (common_after same key r) rs
+row_found-less key same r rs o = rw o refl
+
+pub row_found-here : (key : List ℕ) (same : ℕ) (r : Row) (rs : List Row) → order_after same key r ≡ Equal → row_found key same (r ∷ rs) ≡ Some r
+row_found-here key same r rs o = rw o refl

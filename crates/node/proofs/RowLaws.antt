@@ -1,12 +1,11 @@
 -- Entries read as rows, and rows put together to keys again.
-use Rattle.std.proofs.Common.{◌≡◌, ◌≢◌, ℕ, zero, suc, ◌+◌, ◌-◌, ◌^◌, ◌<◌, ◌≤◌, Bool, true, false, cond, not, ◌&&◌, eqb, ltb, leb, List, [], ◌∷◌, ◌++◌, length, get_or, take, drop, Option, Result, Ok, Err, IsOk, refl, sym, ap, subst, ◌∙◌, arith}
+use Rattle.std.proofs.Common.{◌≡◌, ◌≢◌, ℕ, zero, suc, ◌+◌, ◌-◌, ◌<◌, ◌≤◌, Bool, true, false, not, ◌&&◌, eqb, ltb, leb, List, [], ◌∷◌, ◌++◌, length, get_or, take, drop, Option, Result, Ok, Err, IsOk, refl, sym, ap, subst, ◌∙◌, arith}
 use Rattle.std.proofs.lemmas.Bool.{leb-true, ltb-true, lt-ltb, eqb-false, eq-eqb, ne_eqb}
 use Rattle.std.proofs.lemmas.List.{drop_at, length-take}
-use Rattle.spec.specs.Reading.{◌>>=◌, ensure, front}
-use Rattle.spec.specs.NodeFormat.{Entry, NodeFault, NotNode, BadPrefix, KeyOrder, KeyLength, common, suffix_after, literal, argument_of, link_at, link_or_null_at, whole_key, entry_at, entries_at, read_node}
+use Rattle.spec.specs.Reading.{◌>>=◌, ensure}
+use Rattle.spec.specs.NodeFormat.{Entry, NodeFault, NotNode, BadPrefix, KeyOrder, KeyLength, common, suffix_after, literal, argument_of, link_or_null_at, whole_key, entry_at, entries_at, read_node}
 use Rattle.spec.proofs.Bools.{both, not_three}
 use Rattle.spec.proofs.Taking.{bind_ok, bind_then, ensure_ok, ok_is}
-use Rattle.node.proofs.CommonParts.{key-again}
 use Rattle.node.specs.Rows.{Row, row_after, rows, row_at, rows_at, rows_of_reading, rows_shown, after_entries, shown_node}
 use Rattle.node.specs.Contents.{entries_of_reading, entries_shown}
 

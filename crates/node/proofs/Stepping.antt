@@ -1,5 +1,5 @@
 -- Keys put together from rows: for callers of `KeyBuf::step` on the entries of a node.
-use Rattle.std.proofs.Common.{◌≡◌, ℕ, ◌+◌, ◌≤◌, Bool, true, ltb, leb, List, ◌++◌, length, take, drop, ap, arith}
+use Rattle.std.proofs.Common.{◌≡◌, ℕ, ◌+◌, ◌≤◌, true, ltb, leb, List, ◌++◌, length, take, arith}
 use Rattle.std.proofs.lemmas.Bool.{leb-true}
 use Rattle.std.proofs.lemmas.List.{length-drop}
 use Rattle.spec.specs.NodeFormat.{Entry, common, is_key}

@@ -1,11 +1,10 @@
 -- Entries by the bytes that spell them, one more at the end.
-use Rattle.std.proofs.Common.{◌≡◌, ℕ, suc, ◌+◌, ◌-◌, ◌^◌, ◌<◌, ◌≤◌, Bool, true, ◌&&◌, List, [], ◌∷◌, ◌++◌, length, take, drop, Option, Some, None, Result, Ok, refl, sym, ap, subst, ◌∙◌, append_assoc, arith, length-append}
+use Rattle.std.proofs.Common.{◌≡◌, ℕ, ◌+◌, ◌-◌, ◌^◌, ◌<◌, ◌≤◌, Bool, true, ◌&&◌, List, [], ◌∷◌, ◌++◌, length, take, drop, Option, None, refl, sym, ap, ◌∙◌, append_assoc, arith, length-append}
 use Rattle.std.specs.Cmp.Lexicographic.{slice_cmp}
 use Rattle.std.specs.Ordering.{nat_cmp, is_lt}
 use Rattle.std.proofs.lemmas.Bool.{lt-ltb}
 use Rattle.std.proofs.lemmas.List.{append-nil, take_rest}
-use Rattle.spec.specs.Head.{head}
-use Rattle.spec.specs.NodeFormat.{Entry, node_spelling, common, entry_bytes, entries_bytes, is_key, are_keys_after, are_links, is_own_cid_or_none, is_node, read_node}
+use Rattle.spec.specs.NodeFormat.{Entry, common, entry_bytes, entries_bytes, is_key, are_keys_after, are_links, is_own_cid_or_none, is_node}
 use Rattle.spec.specs.Cid.{is_own_cid}
 use Rattle.spec.proofs.NodeLaws.{read_node-node_spelling, both}
 use Rattle.node.specs.Bytes.{entry_text}

@@ -3,11 +3,11 @@
 ghost use Rattle.std.specs.Prelude.{◌≡◌, ◌≤◌, length};
 ghost use Rattle.spec.specs.NodeFormat.{common, is_key};
 
-/// How many bytes a key has at most (own, for a node by itself; a repository's keys are shorter).
+/// How many bytes a key has at most.
 pub(crate) const LONGEST_KEY: usize = 1024;
 
-/// Whether these are 1 to 1,024 bytes.
-pub(crate) fn is_key(bytes: &[u8]) -> bool
+/// Whether these are 1 to 1,024 bytes, as a node asks of each key (own; a repository's keys are shorter).
+pub fn is_key(bytes: &[u8]) -> bool
     ensures { result ≡ is_key bytes.now }
 {
     !bytes.is_empty() && bytes.len() <= LONGEST_KEY

@@ -19,7 +19,7 @@ pub struct EntryView<'a> {
     pub prefix: usize,
     /// The other bytes of the key.
     pub suffix: &'a [u8],
-    /// The record.
+    /// The record's CID.
     pub value: CidRef<'a>,
     /// The subtree of the keys between this one and the next.
     pub tree: Option<CidRef<'a>>,

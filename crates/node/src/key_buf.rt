@@ -28,7 +28,7 @@ impl<A: Allocator> Model for KeyBuf<A> {
 }
 
 impl<A: Allocator> KeyBuf<A> {
-    /// A buffer with the empty key, and room for any.
+    /// A buffer with the empty key, and room for any, or `AllocError` where memory was refused.
     pub fn new(alloc: A) -> Result<KeyBuf<A>, AllocError>
         ensures { IfOk result (λ buf. buf ≡ []) }
     {

@@ -16,6 +16,7 @@ mod tests;
 mod view;
 mod writer;
 
+pub use common::is_key;
 pub use entries::Entries;
 pub use entry::EntryView;
 pub use fault::NodeFault;

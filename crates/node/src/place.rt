@@ -3,8 +3,8 @@
 ghost use Rattle.std.specs.Prelude.{◌≡◌, ℕ, List, option_map};
 ghost use Rattle.cid.specs.CidRef.{bytes_of};
 ghost use Rattle.spec.specs.Proof.{gap_of};
-ghost use Rattle.node.specs.Rows.{Row};
-ghost use Rattle.node.specs.Views.{place_of, IsAmong};
+ghost use Rattle.spec.specs.NodeFormat.{Entry};
+ghost use Rattle.node.specs.Views.{place_of, IsRowWith};
 
 use crate::entry::EntryView;
 use cid::CidRef;
@@ -23,7 +23,7 @@ pub enum Place<'a> {
 /// A gap with or without a link.
 pub(crate) fn place_in_gap(link: Option<CidRef<'_>>) -> Place<'_>
     ensures place { (key : List ℕ) → place_of key result ≡ gap_of (option_map bytes_of link.entry) }
-    ensures among { (rs : List Row) → IsAmong rs result }
+    ensures row { (key : List ℕ) (es : List Entry) → IsRowWith key es result }
 {
     match link {
         Some(cid) => Place::Below(cid),

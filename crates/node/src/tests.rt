@@ -108,9 +108,17 @@ fn places_in_a_node(rt: HostRuntime) -> Result<(), Fail> {
     }
     let bytes = writer.finish()?;
     let view = NodeView::parse(&bytes).expect(&rt, "a node");
-    for (key, value) in [(b"a/b".as_slice(), &one), (b"a/cd", &two)] {
+    for (key, prefix, suffix, value, tree) in [
+        (b"a/b".as_slice(), 0, b"a/b".as_slice(), &one, &middle),
+        (b"a/cd", 2, b"cd", &two, &right),
+    ] {
         match view.find(key) {
-            Place::Here(entry) => assert_eq!(rt; entry.value, CidRef::from(value)),
+            Place::Here(entry) => {
+                assert_eq!(rt; entry.prefix, prefix);
+                assert_eq!(rt; entry.suffix, suffix);
+                assert_eq!(rt; entry.value, CidRef::from(value));
+                assert_eq!(rt; entry.tree, Some(CidRef::from(tree)));
+            }
             other => panic!(rt; "{other:?}"),
         }
     }
@@ -146,16 +154,16 @@ fn parts_of_the_node_of_two_entries(rt: HostRuntime) -> Result<(), Fail> {
         assert!(rt; entry.tree.is_none());
     }
     assert!(rt; entries.next().is_none());
-    for (key, is_here) in [
-        (b"a/b".as_slice(), true),
-        (b"a/cd", true),
-        (b"a/a", false),
-        (b"a/c", false),
-        (b"b", false),
+    for (key, suffix) in [
+        (b"a/b".as_slice(), Some(b"a/b".as_slice())),
+        (b"a/cd", Some(b"cd")),
+        (b"a/a", None),
+        (b"a/c", None),
+        (b"b", None),
     ] {
         match view.find(key) {
-            Place::Here(_) => assert!(rt; is_here),
-            Place::Gap => assert!(rt; !is_here),
+            Place::Here(entry) => assert_eq!(rt; Some(entry.suffix), suffix),
+            Place::Gap => assert!(rt; suffix.is_none()),
             Place::Below(_) => panic!(rt; "a link"),
         }
     }
@@ -211,14 +219,16 @@ fn node_faults(rt: HostRuntime) -> Result<(), Fail> {
 
 #[test]
 fn cut_nodes(rt: HostRuntime) -> Result<(), Fail> {
-    let bytes = two_entries(rt.alloc())?;
-    assert_eq!(rt; fault(&bytes), None);
-    for length in 0..bytes.len() {
-        assert_eq!(rt;
-            fault(&bytes[..length]),
-            Some(NodeFault::NotNode),
-            "of {length} bytes"
-        );
+    let empty = NodeWriter::begin(rt.alloc(), None)?.finish()?;
+    for bytes in [two_entries(rt.alloc())?, empty] {
+        assert_eq!(rt; fault(&bytes), None);
+        for length in 0..bytes.len() {
+            assert_eq!(rt;
+                fault(&bytes[..length]),
+                Some(NodeFault::NotNode),
+                "of {length} bytes"
+            );
+        }
     }
     Ok(())
 }

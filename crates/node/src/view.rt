@@ -8,7 +8,7 @@ ghost use Rattle.cid.specs.CidRef.{bytes_of};
 ghost use Rattle.node.specs.Fault.{fault_of};
 ghost use Rattle.node.specs.Rows.{rows, after_entries, shown_node};
 ghost use Rattle.node.specs.Contents.{entries_shown};
-ghost use Rattle.node.specs.Views.{place_of, IsAmong};
+ghost use Rattle.node.specs.Views.{place_of, IsRowWith};
 
 use crate::entries::Entries;
 use crate::fault::NodeFault;
@@ -45,8 +45,9 @@ impl<'a> Model for NodeView<'a> {
 
 impl<'a> NodeView<'a> {
     /// The node of a block. All of the bytes are read, from the front, and the first fault is answered: `NotNode` where
-    /// they depart from the grammar, `BadPrefix`, `KeyLength` and `KeyOrder` where an entry does, each entry being tested
-    /// in this order once it was read whole. This takes no memory.
+    /// they depart from the grammar, and of an entry that was read whole `BadPrefix` where it keeps more than the key
+    /// before has, else `KeyLength`, else `BadPrefix` where it keeps less than it could, else `KeyOrder`. This takes no
+    /// memory: the key before stands in 1,024 bytes on the stack.
     pub fn parse(bytes: &'a [u8]) -> Result<NodeView<'a>, NodeFault>
         ensures { Gives (λ view. (view.left, view.entries)) fault_of result (read_node bytes.now) }
     {
@@ -75,7 +76,7 @@ impl<'a> NodeView<'a> {
     /// Where a key stands. No key is put together: an entry's suffix decides, or what it keeps of the key before.
     pub fn find(&self, key: &[u8]) -> Place<'a>
         ensures place { place_of key.now result ≡ place key.now self.now.left self.now.entries }
-        ensures among { IsAmong (rows [] self.now.entries) result }
+        ensures row { IsRowWith key.now self.now.entries result }
     {
         let mut gap = self.left;
         let mut same = 0;

@@ -43,7 +43,7 @@ impl<A: Allocator> Model for NodeWriter<A> {
 }
 
 impl<A: Allocator + Clone> NodeWriter<A> {
-    /// Begins a node: `left` is the link of the subtree before all its keys.
+    /// Begins a node: `left` is the link of the subtree before all its keys. `AllocError` comes where memory was refused.
     pub fn begin(alloc: A, left: Option<Cid>) -> Result<NodeWriter<A>, AllocError>
         ensures { IfOk result (λ writer. writer ≡ record { left = left; entries = [] }) }
     {
@@ -93,7 +93,7 @@ impl<A: Allocator + Clone> NodeWriter<A> {
         }
     }
 
-    /// The bytes of the node.
+    /// The bytes of the node, or `AllocError` where memory was refused.
     pub fn finish(self) -> Result<Vec<u8, A>, AllocError>
         ensures bytes { IfOk result (λ bytes. bytes.items ≡ node_spelling self.left self.entries) }
         ensures grammar { OnOk result (is_node self.left self.entries ≡ true) }

@@ -1,4 +1,4 @@
-use Rattle.std.proofs.Common.{◌≡◌, ℕ, ◌-◌, ◌<◌, ◌∷◌, [], arith, sym, ap, ◌∙◌, rules}
+use Rattle.std.proofs.Common.{◌≡◌, ℕ, ◌-◌, ◌∷◌, [], arith, sym, ap, ◌∙◌, rules}
 use Rattle.node.specs.Rows.{rows_shown, row_at}
 use Rattle.node.specs.Views.{row_of}
 use Rattle.node.proofs.Faults.{not_failing}

@@ -1,12 +1,11 @@
-use Rattle.std.proofs.Common.{◌≡◌, ℕ, ◌∷◌, [], List, Option, option_map, arith, sym, ap, subst, ◌∙◌}
-use Rattle.std.specs.List.{Contains}
-use Rattle.std.specs.declared.cmp.Ordering.TheVariants.{Less}
+use Rattle.std.proofs.Common.{◌≡◌, ℕ, ◌∷◌, [], List, Option, option_map, arith, sym, ap, ◌∙◌}
+use Rattle.std.specs.declared.cmp.Ordering.TheVariants.{Less, Equal}
 use Rattle.cid.specs.CidRef.{bytes_of}
 use Rattle.node.specs.Contents.{Contents}
-use Rattle.node.specs.Rows.{Row, rows}
-use Rattle.node.specs.Search.{order_after, common_after}
+use Rattle.node.specs.Rows.{rows}
+use Rattle.node.specs.Search.{order_after}
 use Rattle.node.specs.Views.{row_of}
-use Rattle.node.proofs.Finding.{find_rows, find_rows-place, find_rows-less, contains_rest}
+use Rattle.node.proofs.Finding.{find_rows, find_rows-place, find_rows-less, row_found, row_found-with, row_found-less, row_found-here}
 use Rattle.node.proofs.view.NodeView.find.Goals as goal
 
 pub loop-entry-init : goal.loop-entry-init
@@ -21,7 +20,7 @@ loop-entry-init c =
       within = omega arith;
       found = ap (find_rows key 0 (option_map bytes_of c.self.inside.left)) all ∙ ap (λ (gap : Option (List ℕ)). find_rows key 0 gap (rows [] node.entries)) left
           ∙ find_rows-place key node.left node.entries c.entries-entry-items.ensures.ascending;
-      among = λ r h. subst (λ (rs : List Row). Contains rs r) all h;
+      row = ap (row_found key 0) all ∙ row_found-with key node.entries c.entries-entry-items.ensures.ascending;
     }
 
 pub loop-entry-preserved : goal.loop-entry-preserved
@@ -38,11 +37,20 @@ loop-entry-preserved c =
       within = c.compare_after-order.ensures.within;
       found = ap (λ (n : ℕ). find_rows key n row.tree c.next.new.self) c.compare_after-order.ensures.same ∙ sym (find_rows-less key l.same gap row c.next.new.self less)
           ∙ ap (find_rows key l.same gap) (sym steps) ∙ l.invariant.found;
-      among = λ r h. l.invariant.among r (subst (λ (rs : List Row). Contains rs r) (sym steps) (contains_rest row r c.next.new.self h));
+      row = ap (λ (n : ℕ). row_found key n c.next.new.self) c.compare_after-order.ensures.same ∙ sym (row_found-less key l.same row c.next.new.self less)
+          ∙ ap (row_found key l.same) (sym steps) ∙ l.invariant.row;
     }
 
-pub returns-in-Greater-clause-among : goal.returns-in-Greater-clause-among
-returns-in-Greater-clause-among c = c.place_in_gap.ensures.among (rows [] c.args.self.now.entries)
+pub returns-in-Equal-clause-row : goal.returns-in-Equal-clause-row
+returns-in-Equal-clause-row c =
+    let key = c.args.key.now in
+    let l = c.loop-entry in
+    let row = row_of c.in-Some.entry in
+    let here : order_after l.same key row ≡ Equal = sym c.compare_after-order.ensures.order ∙ c.in-Equal.is in
+    sym l.invariant.row ∙ ap (row_found key l.same) c.in-Some.ensures.steps ∙ row_found-here key l.same row c.next.new.self here
 
-pub returns-clause-among : goal.returns-clause-among
-returns-clause-among c = c.place_in_gap-2.ensures.among (rows [] c.args.self.now.entries)
+pub returns-in-Greater-clause-row : goal.returns-in-Greater-clause-row
+returns-in-Greater-clause-row c = c.place_in_gap.ensures.row c.args.key.now c.args.self.now.entries
+
+pub returns-clause-row : goal.returns-clause-row
+returns-clause-row c = c.place_in_gap-2.ensures.row c.args.key.now c.args.self.now.entries

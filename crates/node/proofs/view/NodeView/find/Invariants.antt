@@ -1,9 +1,8 @@
-use Rattle.std.proofs.Common.{◌≡◌, ℕ, List, [], option_map, ◌≤◌, length}
-use Rattle.std.specs.List.{Contains}
+use Rattle.std.proofs.Common.{◌≡◌, [], option_map, ◌≤◌, length}
 use Rattle.spec.specs.Proof.{place}
 use Rattle.cid.specs.CidRef.{bytes_of}
-use Rattle.node.specs.Rows.{Row, rows}
-use Rattle.node.proofs.Finding.{find_rows}
+use Rattle.node.specs.Views.{row_with}
+use Rattle.node.proofs.Finding.{find_rows, row_found}
 use Rattle.node.proofs.view.NodeView.find.Given as goal
 
 abbrev pub invariant-loop-entry : goal.invariant-loop-entry
@@ -12,5 +11,5 @@ invariant-loop-entry l = record {
   ends : (goal.iterator-loop-entry).is_finite l.entry-iterator;
   within : l.same ≤ length l.key;
   found : find_rows l.key l.same (option_map bytes_of l.gap) l.entry-iterator ≡ place l.key l.fn.self.left l.fn.self.entries;
-  among : (r : Row) → Contains l.entry-iterator r → Contains (rows [] l.fn.self.entries) r;
+  row : row_found l.key l.same l.entry-iterator ≡ row_with l.key [] l.fn.self.entries;
 }

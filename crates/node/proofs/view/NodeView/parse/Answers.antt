@@ -1,4 +1,4 @@
-use Rattle.std.proofs.Common.{◌≡◌, Ok, arith, option_map, ◌∙◌}
+use Rattle.std.proofs.Common.{arith, option_map, ◌∙◌}
 use Rattle.std.proofs.lemmas.Result.{err_from_is_err_and}
 use Rattle.spec.specs.Reading.{IsBytes}
 use Rattle.spec.specs.NodeFormat.{read_node}
