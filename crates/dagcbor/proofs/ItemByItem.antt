@@ -1,11 +1,10 @@
 -- Lawful lists and maps, item by item.
-use Rattle.std.proofs.Common.{◌≡◌, ℕ, zero, suc, ◌+◌, ◌-◌, ◌^◌, lit<, ◌<◌, ◌≤◌, ◌++◌, append_assoc, Bool, true, false, cond, ◌&&◌, ltb, List, [], ◌∷◌, length, drop, get_or, Option, Some, None, Vec, refl, sym, ap, ◌∙◌, arith, rules}
+use Rattle.std.proofs.Common.{◌≡◌, ℕ, zero, suc, ◌+◌, ◌-◌, ◌^◌, ◌<◌, ◌≤◌, ◌++◌, append_assoc, true, ltb, List, [], ◌∷◌, length, drop, get_or, None, Vec, refl, sym, ap, ◌∙◌, arith, rules}
 use Rattle.std.specs.Borrow.{Bor}
-use Rattle.std.specs.Str.{is_utf8}
-use Rattle.std.proofs.lemmas.List.{at_drop_more, append-nil, drop_all, length-append}
+use Rattle.std.proofs.lemmas.List.{at_drop_more, length-append}
 use Rattle.std.proofs.lemmas.Bool.{lt-ltb}
 use Rattle.spec.specs.Head.{head}
-use Rattle.spec.specs.DagCbor.{Items, Fields, ValueThen, EntryThen, string, spelling, spelling_of_values, spelling_of_entries, count_values, count_entries, is_next_key, fits_length, is_lawful_within, are_lawful_within, are_entries_within}
+use Rattle.spec.specs.DagCbor.{Items, Fields, ValueThen, EntryThen, string, spelling, spelling_of_values, spelling_of_entries, count_values, count_entries, is_lawful_within, are_lawful_within, are_entries_within}
 use Rattle.dagcbor.specs.View.{view, view_items, view_fields}
 use Rattle.dagcbor.specs.declared.value.Value.{Value, List as ValueList, Map, the_lemmas}
 
@@ -38,19 +37,6 @@ lawful-Map (suc levels) v some few =
     let fits : ltb (count_entries (view_fields v.items)) (2 ^ 64) ≡ true = lt-ltb _ _ (rw (count_entries-fields v.items) few) in
     rw (e, view-Map v, fits) refl
 
-pub are_lawful-at : {A : Type 0} → (levels : ℕ) (vs : List (Value A)) (i : ℕ) (v : Value A) → i < length vs → v ≡ get_or vs i v
-    → are_lawful_within levels (view_items (drop i vs)) ≡ (is_lawful_within levels (view v) && are_lawful_within levels (view_items (drop (i + 1) vs)))
-are_lawful-at levels vs i v lt is =
-    let rest = view_items (drop (i + 1) vs) in
-    at_drop_more (λ xs. are_lawful_within levels (view_items xs)) vs i v lt ∙ ap (λ x. is_lawful_within levels (view x) && are_lawful_within levels rest) (sym is)
-
-pub are_entries-at : {A : Type 0} → (levels : ℕ) (before : Option (List ℕ)) (ms : List (Bor (List ℕ) × Value A)) (i : ℕ) (m : Bor (List ℕ) × Value A) → i < length ms → m ≡ get_or ms i m
-    → are_entries_within levels before (view_fields (drop i ms))
-    ≡ (is_next_key before m.0.now && fits_length m.0.now && is_utf8 m.0.now && is_lawful_within levels (view m.1) && are_entries_within levels (Some m.0.now) (view_fields (drop (i + 1) ms)))
-are_entries-at levels before ms i m lt is =
-    let rest = view_fields (drop (i + 1) ms) in
-    at_drop_more (λ xs. are_entries_within levels before (view_fields xs)) ms i m lt ∙ ap (λ x. are_entries_within levels before (EntryThen x.0.now (view x.1) rest)) (sym is)
-
 -- ---- what was written, and what is left to write
 
 pub spelling-List : {A : Type 0} → (out : List ℕ) (v : Vec (Value A) A) → (out ++ head 4 (length v.items)) ++ spelling_of_values (view_items v.items) ≡ out ++ spelling (view (ValueList v))
@@ -66,9 +52,6 @@ spelling-at out vs i v lt is =
     at_drop_more (λ xs. out ++ spelling_of_values (view_items xs)) vs i v lt ∙ ap (λ x. out ++ spelling_of_values (ValueThen (view x) rest)) (sym is)
     ∙ sym (append_assoc out (spelling (view v)) (spelling_of_values rest))
 
-pub spelling-end : {A : Type 0} → (out : List ℕ) (vs : List (Value A)) (i : ℕ) → length vs ≤ i → out ++ spelling_of_values (view_items (drop i vs)) ≡ out
-spelling-end out vs i all = rw (drop_all i vs all) (append-nil out)
-
 grouped : (a b c d : List ℕ) → a ++ (b ++ c ++ d) ≡ ((a ++ b) ++ c) ++ d
 grouped a b c d = rw (append_assoc (a ++ b) c d, append_assoc a b (c ++ d), append_assoc b c d) refl
 
@@ -79,29 +62,7 @@ entries-at out ms i m lt is =
     at_drop_more (λ xs. out ++ spelling_of_entries (view_fields xs)) ms i m lt ∙ ap (λ x. out ++ spelling_of_entries (EntryThen x.0.now (view x.1) rest)) (sym is)
     ∙ grouped out (string 3 m.0.now) (spelling (view m.1)) (spelling_of_entries rest)
 
-pub entries-end : {A : Type 0} → (out : List ℕ) (ms : List (Bor (List ℕ) × Value A)) (i : ℕ) → length ms ≤ i → out ++ spelling_of_entries (view_fields (drop i ms)) ≡ out
-entries-end out ms i all = rw (drop_all i ms all) (append-nil out)
-
 -- ---- a part is spelled in less room than the whole
-
-some-cond : (b : Bool) (x y : List ℕ) → 0 < length x → 0 < length y → 0 < length (cond b x y)
-some-cond true x y h k = h
-some-cond false x y h k = k
-
-pub head-some : (m n : ℕ) → 0 < length (head m n)
-head-some m n = some-cond (ltb n 24) _ _ (lit< tt) (some-cond (ltb n (2 ^ 8)) _ _ (omega arith) (some-cond (ltb n (2 ^ 16)) _ _ (omega arith) (some-cond (ltb n (2 ^ 32)) _ _ (omega arith) (omega arith))))
-
-pub items-shorter : {A : Type 0} → (v : Vec (Value A) A) → length (spelling_of_values (view_items v.items)) < length (spelling (view (ValueList v)))
-items-shorter v =
-    let values = spelling_of_values (view_items v.items) in
-    let first = head 4 (count_values (view_items v.items)) in
-    rw view-List (omega (arith, length-append first values, head-some 4 (count_values (view_items v.items))))
-
-pub fields-shorter : {A : Type 0} → (v : Vec (Bor (List ℕ) × Value A) A) → length (spelling_of_entries (view_fields v.items)) < length (spelling (view (Map v)))
-fields-shorter v =
-    let entries = spelling_of_entries (view_fields v.items) in
-    let first = head 5 (count_entries (view_fields v.items)) in
-    rw view-Map (omega (arith, length-append first entries, head-some 5 (count_entries (view_fields v.items))))
 
 pub item-within : {A : Type 0} → (vs : List (Value A)) (i : ℕ) (d : Value A) → i < length vs → length (spelling (view (get_or vs i d))) ≤ length (spelling_of_values (view_items vs))
 item-within [] i d lt = absurd (omega arith)

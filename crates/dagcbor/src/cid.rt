@@ -32,8 +32,8 @@ fn varint(bytes: &[u8]) -> Option<(u64, &[u8])>
     varint_within(9, bytes)
 }
 
-/// The length of the digest that version 1 says, and the bytes that stand there: behind the version follow a codec, a hash code
-/// and a digest length (CIDv1, multihash).
+/// Whether these are a CID of version 1: `01`, a codec, a hash code, a digest length, and a digest of that length (CIDv1,
+/// multihash).
 fn is_version_1(bytes: &[u8]) -> bool
     ensures { result ≡ is_version_1 bytes.now }
 {

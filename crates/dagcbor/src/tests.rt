@@ -6,7 +6,7 @@ use std::alloc::Allocator;
 use std::test::Fail;
 
 /// Each of these is the spelling of a value.
-const SPELLINGS: [&[u8]; 17] = [
+const SPELLINGS: [&[u8]; 19] = [
     b"\xa0",
     b"\x80",
     b"\x00",
@@ -22,9 +22,16 @@ const SPELLINGS: [&[u8]; 17] = [
     b"\x62\xc3\xa9",
     b"\x83\x01\x82\x02\x03\xa1\x61a\x80",
     b"\xa2\x61b\xf6\x62aa\xf5",
+    b"\xa2\x61b\x00\x62aa\x00",
     b"\xd8\x2a\x49\x00\x01\x55\x00\x04\x01\x02\x03\x04",
     b"\xd8\x2a\x58\x23\x00\x12\x20abcdefghijklmnopqrstuvwxyz012345",
+    OWN_LINK,
 ];
+
+/// The link to the node without entries: a CID of 36 bytes.
+const OWN_LINK: &[u8] = b"\xd8\x2a\x58\x25\x00\x01\x71\x12\x20\
+    \x9d\xfe\xfe\x61\xdd\x76\xea\x3d\xca\xe5\x02\x38\x80\xb0\x83\x79\
+    \xd5\x7a\xdf\x20\x48\x2d\x6f\xdb\xe2\x75\x92\x89\xf6\x47\x67\x7b";
 
 /// Why some bytes aren't read.
 fn fault_of(rt: &HostRuntime, bytes: &[u8]) -> Option<CborFault> {
@@ -162,12 +169,30 @@ fn writes_what_it_read_and_knows_cut_bytes(rt: HostRuntime) -> Result<(), Fail> 
 }
 
 #[test]
+fn a_link_is_a_part_of_its_source(rt: HostRuntime) -> Result<(), Fail> {
+    let older = b"\xd8\x2a\x58\x23\x00\x12\x20abcdefghijklmnopqrstuvwxyz012345".as_slice();
+    for (bytes, length) in [(OWN_LINK, 36), (older, 34)] {
+        match read(rt.alloc(), bytes)? {
+            Value::Link(cid) => {
+                assert_eq!(rt; cid.len(), length);
+                assert_eq!(rt; cid, &bytes[5..]);
+            }
+            _ => return Err(Fail::from("no link")),
+        }
+    }
+    Ok(())
+}
+
+#[test]
 fn goes_64_levels_deep(rt: HostRuntime) -> Result<(), Fail> {
     let mut bytes = [0x81; 64].to_vec(rt.alloc())?;
     bytes.push(0)?;
     let value = read(rt.alloc(), &bytes)?;
     assert!(rt; is_lawful(&value));
     assert_eq!(rt; write(rt.alloc(), &value)?.as_slice(), bytes.as_slice());
+    for end in 0..bytes.len() {
+        assert_eq!(rt; fault_of(&rt, &bytes[..end]), Some(CborFault::Truncated));
+    }
     assert_eq!(rt; fault_of(&rt, &[0x81; 65]), Some(CborFault::TooDeep));
     let mut many = Vec::new(rt.alloc());
     many.resize(1_000_000, 0x81)?;
