@@ -39,7 +39,7 @@ impl<D: Digest, A: Allocator> Model for Shard<D, A> {
 }
 
 impl<D: Digest, A: Allocator> Shard<D, A> {
-    /// An empty shard that may have `limit` blocks. It takes no memory yet.
+    /// An empty shard that may have `limit` blocks, 1 to 1,048,576. It takes no memory yet.
     pub fn new(alloc: A, limit: usize) -> Shard<D, A>
         requires least { 1 ≤ limit }
         requires most { limit ≤ 1048576 }
@@ -89,7 +89,7 @@ impl<D: Digest, A: Allocator> Shard<D, A> {
 }
 
 impl<D: Digest, A: Allocator + Clone> Shard<D, A> {
-    /// Enters the core among those that hold the block, and gives the hold.
+    /// Enters the core, a number below 1,024, among those that hold the block, and gives the hold.
     ///
     /// A block that is held already needs no memory, whatever core is entered. Otherwise the block gets an entry.
     /// `StoreFault::Collision` shows the given and the held block where other bytes are held under the CID,

@@ -67,7 +67,7 @@ impl<D: Digest, A: Allocator> Shards<D, A> {
 }
 
 impl<D: Digest, A: Allocator + Copy> Shards<D, A> {
-    /// Sixteen empty shards, each of at most `limit` blocks. It takes no memory yet.
+    /// Sixteen empty shards, each of at most `limit` blocks, 1 to 1,048,576. It takes no memory yet.
     pub fn open(alloc: A, limit: usize) -> Shards<D, A>
         requires least { 1 ≤ limit }
         requires most { limit ≤ 1048576 }
