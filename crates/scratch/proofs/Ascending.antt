@@ -1,5 +1,5 @@
 -- Keys ascend strictly exactly where each is greater than the one before it.
-use Rattle.std.proofs.Common.{◌≡◌, ℕ, ◌<◌, Bool, true, false, ◌&&◌, nat_le, List, [], ◌∷◌, length, Some, refl, sym, ap, ◌∙◌, arith}
+use Rattle.std.proofs.Common.{◌≡◌, ℕ, Bool, true, false, ◌&&◌, List, [], ◌∷◌, Some, refl, sym, ap, ◌∙◌}
 use Rattle.std.specs.List.{list_all}
 use Rattle.std.specs.Cmp.Lexicographic.{slice_cmp, slice_partial_cmp}
 use Rattle.std.specs.Ordering.{nat_cmp, is_lt, is_some_and, MatchOrdering, ordering_then}
@@ -8,7 +8,6 @@ use Rattle.std.specs.declared.cmp.Ordering.TheVariants.{Less, Equal, Greater}
 use Rattle.std.specs.FinMap.{is_sorted}
 use Rattle.std.specs.FinMap.Entries.{below_all}
 use Rattle.std.proofs.lemmas.Cmp.{nat_list_cmp_total, same_from_slice_cmp_tested}
-use Rattle.std.proofs.lemmas.Bool.{lt-ltb}
 use Rattle.spec.specs.Tree.{Pair}
 use Rattle.spec.specs.NodeFormat.{is_key, is_ascending}
 use Rattle.spec.proofs.Bools.{both, and}
@@ -96,15 +95,6 @@ less-more x y xs ys Greater e = ap (λ p. is_lt (ordering_then p (slice_cmp nat_
 -- what `<` of two slices answers
 pub less-test : (a b : List ℕ) (r : Bool) → r ≡ is_some_and is_lt (slice_partial_cmp (λ x y. Some (nat_cmp x y)) a b) → r ≡ is_lt (slice_cmp nat_cmp a b)
 less-test = same_from_slice_cmp_tested nat_cmp is_lt (λ a b. is_lt (slice_cmp nat_cmp a b)) refl (λ y ys. refl) (λ x xs. refl) less-more
-
-some_bytes : (a b : List ℕ) → is_lt (slice_cmp nat_cmp a b) ≡ true → 0 < length b
-some_bytes [] [] h = cc
-some_bytes (x ∷ xs) [] h = cc
-some_bytes a (y ∷ ys) h = omega arith
-
--- a greater key has bytes
-pub next-less : (a b : List ℕ) → is_lt (slice_cmp nat_cmp a b) ≡ true → nat_le (length b) 1024 ≡ (is_lt (slice_cmp nat_cmp a b) && is_key b)
-next-less a b h = sym (ap (λ t. t && is_key b) h ∙ ap (λ t. t && nat_le (length b) 1024) (lt-ltb 0 (length b) (some_bytes a b h)))
 
 pub next-other : (a b : List ℕ) (r : Bool) → r ≡ is_lt (slice_cmp nat_cmp a b) → r ≡ false → r ≡ (is_lt (slice_cmp nat_cmp a b) && is_key b)
 next-other a b r e f = f ∙ sym (ap (λ t. t && is_key b) (sym e ∙ f))

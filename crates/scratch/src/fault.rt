@@ -12,11 +12,11 @@ use thiserror::Error;
 #[derive_where(Debug)]
 pub enum ScratchFault<D: Digest, A: Allocator = Global> {
     /// Two nodes of this tree have one CID and different bytes.
-    #[error("Clash")]
+    #[error("two different nodes have one CID")]
     Clash(Collided<D, A>),
 
     /// Memory was refused.
-    #[error("NoMemory")]
+    #[error("out of memory")]
     NoMemory,
 }
 

@@ -3,20 +3,18 @@
 ghost use Rattle.std.specs.Prelude.{◌≡◌, ◌&&◌};
 ghost use Rattle.std.specs.Cmp.Lexicographic.{slice_cmp};
 ghost use Rattle.std.specs.Ordering.{nat_cmp, is_lt};
-ghost use Rattle.spec.specs.NodeFormat.{is_ascending as is_ascending_of, is_key};
+ghost use Rattle.spec.specs.NodeFormat.{is_ascending as is_ascending_of, is_key as is_key_of};
 ghost use Rattle.scratch.specs.Pairs.{pairs_of};
 
 use cid::Cid;
+use node::is_key;
 use std::convert::AsSlice;
-
-/// The most bytes that a key may have (own).
-const LONGEST_KEY: usize = 1024;
 
 /// Whether the key has 1 to 1,024 bytes and is greater, bytewise, than the one before it.
 fn is_next(before: &[u8], key: &[u8]) -> bool
-    ensures { result ≡ is_lt (slice_cmp nat_cmp before.now key.now) && is_key key.now }
+    ensures { result ≡ is_lt (slice_cmp nat_cmp before.now key.now) && is_key_of key.now }
 {
-    before < key && key.len() <= LONGEST_KEY
+    before < key && is_key(key)
 }
 
 /// Whether the keys ascend strictly, bytewise, and each has 1 to 1,024 bytes: what `build` asks of its pairs.

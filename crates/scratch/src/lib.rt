@@ -15,4 +15,5 @@ mod unread;
 
 pub use fault::ScratchFault;
 pub use keys::is_ascending;
+pub use node::is_key;
 pub use tree::{Built, build};

@@ -1,4 +1,4 @@
-//! The nodes of a tree, written in one pass over its pairs.
+//! The nodes of a tree, written in one pass over the rows of its pairs.
 
 ghost use Rattle.std.specs.Prelude.{◌≡◌, ℕ, ◌≤◌, ◌++◌, true, suc, map, Some, IfOk, OnOk};
 ghost use Rattle.std.specs.Arc.{arc_value};

@@ -141,6 +141,8 @@ fn shortest_and_longest_key(rt: HostRuntime) -> Result<(), Fail> {
     let short: [(&[u8], Cid); 1] = [(b"a", value)];
     let few = lengths::<Sha256, 8, _>(&rt, rt.alloc(), &short)?;
     assert_eq!(rt; few.as_slice(), [61].as_slice());
+    let usual = lengths::<Sha256, 8, _>(&rt, rt.alloc(), &[(b"a/b", value)])?;
+    assert_eq!(rt; usual.as_slice(), [63].as_slice());
     let one = lengths::<Sha256, 8, _>(&rt, rt.alloc(), &[(long.as_slice(), value)])?;
     assert_eq!(rt; one.as_slice(), [1086].as_slice());
     Ok(())
@@ -168,6 +170,25 @@ fn memory_refused(rt: HostRuntime) -> Result<(), Fail> {
     Ok(())
 }
 
+#[test]
+fn memory_refused_at_a_clash(rt: HostRuntime) -> Result<(), Fail> {
+    let value = identifier(0x11)?;
+    let keys: [(&[u8], Cid); 3] = [(b"a/p0", value), (b"a/q2", value), (b"a/r0", value)];
+    assert!(rt; is_ascending(&keys));
+    let heap = Refusing::new(rt.alloc());
+    for request in 1..80u64 {
+        heap.refuse(request);
+        match build::<Size, 2, &[u8], _>(&heap, &keys) {
+            Ok(_) => return Err(Fail::from("no clash")),
+            Err(ScratchFault::Clash(pair)) => assert_eq!(rt; pair.one().bytes().len(), 64),
+            Err(ScratchFault::NoMemory) => assert_eq!(rt; heap.refused(), request),
+        }
+        assert_eq!(rt; heap.live(), 0);
+    }
+    assert!(rt; heap.refused() < 79);
+    Ok(())
+}
+
 /// So many pairs, with owned keys.
 fn many(alloc: Global, count: u32) -> Result<plain::Pairs, Fail> {
     let value = identifier(0x11)?;
@@ -184,11 +205,15 @@ fn as_the_plain_body(rt: HostRuntime) -> Result<(), Fail> {
     let pairs = many(rt.alloc(), 3000)?;
     assert!(rt; is_ascending(&pairs));
     let built = build::<Sha256, 2, Vec<u8>, _>(rt.alloc(), &pairs)?;
-    // The definition's node of a layer above the top stands above it, link by link.
+    // The definition's node of a layer above the top stands above it, link by link: nodes of a link alone.
     let plain = plain::node::<Sha256>(rt.alloc(), 20, &pairs)?;
-    assert!(rt; plain.len() > built.blocks.len());
-    let above = plain.len() - built.blocks.len();
-    for (one, other) in plain[above..].iter().zip(&built.blocks) {
+    let above = plain
+        .iter()
+        .take_while(|node| node.bytes().len() == 47)
+        .count();
+    assert_eq!(rt; plain.len().checked_sub(above), Some(built.blocks.len()));
+    assert!(rt; plain.get(above).is_some_and(|top| top.cid() == built.root));
+    for (one, other) in plain.iter().skip(above).zip(&built.blocks) {
         assert_eq!(rt; one.bytes(), other.bytes());
     }
     Ok(())

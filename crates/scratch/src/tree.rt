@@ -32,7 +32,7 @@ pub struct Built<D: Digest, A: Allocator = Global> {
 /// The tree of these pairs, whose keys ascend strictly, bytewise, and have 1 to 1,024 bytes; `is_ascending` is the
 /// test. The empty list has a tree of one node.
 ///
-/// Each key is hashed once, for its layer, and each node once, for its CID, in one pass over the pairs.
+/// Each key is hashed once, for its layer, and each node once, for its CID.
 /// `ScratchFault::Clash` shows two nodes of this tree with one CID and different bytes, and `ScratchFault::NoMemory`
 /// comes where memory was refused. Nothing is left behind then.
 /// (AT Protocol repository v3, MST structure; Auvolat and Taïani, SRDS 2019, base `2 ^ B`; `B` is 2 in the protocol.)
