@@ -8,9 +8,9 @@ use Rattle.std.proofs.lemmas.List.Elements.{filter-append, Contains-append_left,
 use Rattle.std.proofs.lemmas.List.Folds.{list_any_more, list_any_at}
 use Rattle.std.proofs.lemmas.Slice.Eq.{bytes_eq-Decides}
 use Rattle.spec.specs.Cid.{cid}
-use Rattle.spec.specs.Blocks.{IsClashFree, firsts, Clash as IsClash}
+use Rattle.spec.specs.Blocks.{IsClashFree, firsts, IsClash}
 use Rattle.spec.proofs.RootLaws.{in_head, in_tail}
-use Rattle.paths.specs.Changes.{has_cid, add_of, drop_of}
+use Rattle.paths.specs.Changes.{has_cid, add_of}
 use Rattle.edit.specs.Changes.{IsAmong}
 use Rattle.edit.specs.Faults.{IsRefusal, IsClashIn}
 use Rattle.edit.specs.declared.fault.EditFault.{EditFault}
@@ -43,14 +43,6 @@ module _ {X : Type 0} (view : X → List ℕ) (digest : List ℕ → List ℕ) (
 
   like-of : (x : X) (b : Bool) → IsAmong digest block (view x ∷ []) b → is_like view digest block x ≡ b
   like-of x b h = sym (or-false (is_like view digest block x)) ∙ sym h.by_cid
-
-  pub none-more : (xs : List X) (i : ℕ) (x : X) → i < length xs → x ≡ get_or xs i x
-      → IsAmong digest block (view x ∷ []) false → NoneBefore view digest block xs i
-      → NoneBefore view digest block xs (i + 1)
-  none-more xs i x l e h none =
-      list_any_more (is_like view digest block) xs i x l
-      ∙ ap (λ b. b || is_like view digest block (get_or xs i x)) none
-      ∙ ap (is_like view digest block) (sym e) ∙ like-of x false h
 
   pub none-all : (xs : List X) (i : ℕ) → length xs ≤ i → NoneBefore view digest block xs i
       → IsAmong digest block (map view xs) false
@@ -145,10 +137,6 @@ any-filter : (c : List ℕ) (mark : List ℕ → List ℕ) (q : List ℕ → Boo
 any-filter c mark q [] h = refl
 any-filter c mark q (x ∷ xs) h =
     any-filter-case c mark q x xs (bytes_eq c (mark x)) (q x) refl (h x) (any-filter c mark q xs h)
-
--- whether a list has the mark of x, by way of the first of each mark
-seen : (List ℕ → List ℕ) → List ℕ → List (List ℕ) → Bool
-seen mark x ys = list_any (bytes_eq (mark x)) (map mark (firsts mark ys))
 
 abbrev other : (List ℕ → List ℕ) → List ℕ → List ℕ → Bool
 other mark y c = not (bytes_eq (mark y) (mark c))
@@ -347,23 +335,6 @@ added-free digest read made add a free x y cx cy e =
     by b (inl k) = a.within b k
     by b (inr k) = Contains-append_right add read b k
 
--- ---- what is dropped
-
-pub drop-more : (digest : List ℕ → List ℕ) (made gone : List (List ℕ)) (x : List ℕ) (t : Bool)
-    → t ≡ has_cid (cid digest x) (map (cid digest) made)
-    → drop_of digest made (gone ++ x ∷ [])
-    ≡ cond t (drop_of digest made gone) (drop_of digest made gone ++ cid digest x ∷ [])
-drop-more digest made gone x t h =
-    ap (filter (λ c. not (has_cid c (map (cid digest) made)))) (map-append (cid digest) gone (x ∷ []))
-    ∙ filter-one (λ c. not (has_cid c (map (cid digest) made))) (cid digest x) (map (cid digest) gone) (not t)
-    (sym (ap not h))
-    ∙ turn t
-  where
-    turn : (t : Bool) → cond (not t) (drop_of digest made gone ++ cid digest x ∷ []) (drop_of digest made gone)
-        ≡ cond t (drop_of digest made gone) (drop_of digest made gone ++ cid digest x ∷ [])
-    turn true = refl
-    turn false = refl
-
 -- ---- a loop over the made blocks
 
 module _ {X : Type 0} (view : X → List ℕ) (read : List (List ℕ)) (all so_far rest : List X) (x : X)
@@ -415,14 +386,6 @@ module _ {X : Type 0} (view : X → List ℕ) (digest : List ℕ → List ℕ) (
       (added-new digest read (map view made) (map view add) (view x) (subst (IsAmong digest (view x) read) e r)
       (subst (IsAmong digest (view x) (map view add)) i
       (subst (λ (ys : List X). IsAmong digest (view x) (map view ys) h) o m)) a)))
-
-pub not-true : (b : Bool) → not b ≡ true → b ≡ false
-not-true true h = cc
-not-true false h = refl
-
-pub not-false : (b : Bool) → not b ≡ false → b ≡ true
-not-false true h = refl
-not-false false h = cc
 
 -- a list that a loop went over to its end
 pub over : {X : Type 0} (all so_far rest : List X) → all ≡ so_far ++ rest → length rest ≡ 0 → so_far ≡ all

@@ -215,20 +215,6 @@ module _ (digest : List ℕ → List ℕ) where
   settled-bare x y p q met below b a t e h i j s =
       subst (λ m. IsSettled digest x y m t) (sym e) (bare-two x y p q b a below t h i j s)
 
-  bare-shapes : (x y p q : Option (List ℕ)) (b a : Shape) (below : List (Shape × Shape))
-      → are_bare b a ≡ true → p ≡ first_link b → q ≡ first_link a
-      → settle_shapes digest p q below ≡ settle_shapes digest x y ((b, a) ∷ below)
-  bare-shapes x y p q (LastLink l) (LastLink k) below h i j = rw (i, j) refl
-  bare-shapes x y p q (LastLink l) (MoreLinks k e r) below h i j = absurd cc
-  bare-shapes x y p q (MoreLinks l e r) (LastLink k) below h i j = absurd cc
-  bare-shapes x y p q (MoreLinks l e r) (MoreLinks k f u) below h i j = absurd cc
-
-  pub settle-bare : (x y p q : Option (List ℕ)) (met below : List (Shape × Shape)) (b a : Shape)
-      → met ≡ (b, a) ∷ below → are_bare b a ≡ true → p ≡ first_link b → q ≡ first_link a
-      → settle_shapes digest p q below ≡ settle_shapes digest x y met
-  settle-bare x y p q met below b a e h i j =
-      bare-shapes x y p q b a below h i j ∙ ap (settle_shapes digest x y) (sym e)
-
   -- a pair of nodes of which one has keys
   keyed-two : (x y : Option (List ℕ)) (b a : Shape) (below : List (Shape × Shape)) → are_bare b a ≡ false
       → let met : List (Shape × Shape) = (b, a) ∷ below in

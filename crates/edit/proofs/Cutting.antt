@@ -1,19 +1,19 @@
 -- A node taken pair by pair, up to a key or to its end.
-use Rattle.std.proofs.Common.{◌≡◌, ℕ, suc, ◌<◌, true, false, List, [], ◌++◌, Option, None, Some, option_map, refl, sym, ap, subst, ◌∙◌, append_assoc, arith}
+use Rattle.std.proofs.Common.{◌≡◌, ℕ, suc, ◌<◌, true, List, ◌++◌, Option, None, Some, option_map, refl, sym, ap, subst, ◌∙◌, append_assoc, arith}
 use Rattle.std.specs.Prelude.{is_some}
 use Rattle.std.specs.declared.cmp.Ordering.{Ordering}
 use Rattle.std.specs.declared.cmp.Ordering.TheVariants.{Less, Equal, Greater}
 use Rattle.std.specs.Cmp.Lexicographic.{slice_cmp}
 use Rattle.std.specs.Ordering.{nat_cmp, is_lt, is_eq}
-use Rattle.std.proofs.lemmas.List.{append-nil}
 use Rattle.spec.specs.Tree.{Pair}
 use Rattle.spec.specs.NodeFormat.{Shape, LastLink, MoreLinks, first_link}
+use Rattle.paths.specs.Lawful.{Lawful}
 use Rattle.paths.specs.Order.{order}
 use Rattle.paths.specs.ShapeEdit.{with_first_link}
 use Rattle.edit.specs.declared.draft_fault.DraftFault.{DraftFault}
 use Rattle.edit.specs.declared.draft_fault.DraftFault.TheVariants.{NotNode, NoMemory}
 use Rattle.edit.specs.Ahead.{after_pair, ahead_of, is_more, first_linked, all_pairs, before_key, from_key, is_first_before, is_first_at}
-use Rattle.edit.specs.Drafts.{Lawful, onto, IsFaultOf, IsFaultOfAll}
+use Rattle.edit.specs.Drafts.{onto, IsFaultOf, IsFaultOfAll}
 use Rattle.edit.specs.Rows.{Reading}
 use Rattle.edit.proofs.Drafting.{Links, onto-append}
 
@@ -40,10 +40,6 @@ abbrev pub pairs_left : Shape → ℕ
 pairs_left (LastLink l) = 0
 pairs_left (MoreLinks l e r) = suc (pairs_left r)
 
-pub more-less : (s : Shape) → is_more s ≡ true → pairs_left (after_pair s) < pairs_left s
-more-less (LastLink l) h = absurd cc
-more-less (MoreLinks l e r) h = omega arith
-
 pub record StepsBefore (key : List ℕ) (s : Shape) : Type 0 where
   pub less : pairs_left (after_pair s) < pairs_left s
   pub from : from_key key (after_pair s) ≡ from_key key s
@@ -59,27 +55,9 @@ pub steps-before : (key : List ℕ) (s : Shape) → is_first_before key s ≡ tr
 steps-before key (LastLink l) h = absurd cc
 steps-before key (MoreLinks l e r) h = steps-at key l e r (order e.0 key) refl h
 
-pub record StopsBefore (key : List ℕ) (s : Shape) : Type 0 where
-  pub from : s ≡ from_key key s
-  pub before : before_key key s ≡ []
-
-stops-at : (key : List ℕ) (l : Option (List ℕ)) (e : Pair) (r : Shape) (o : Ordering) → order e.0 key ≡ o → is_lt o ≡ false
-    → StopsBefore key (MoreLinks l e r)
-stops-at key l e r Less h t = absurd cc
-stops-at key l e r Equal h t = record { from = rw h refl; before = rw h refl }
-stops-at key l e r Greater h t = record { from = rw h refl; before = rw h refl }
-
-pub stops-before : (key : List ℕ) (s : Shape) → is_first_before key s ≡ false → StopsBefore key s
-stops-before key (LastLink l) h = record { from = refl; before = refl }
-stops-before key (MoreLinks l e r) h = stops-at key l e r (order e.0 key) refl h
-
 pub all-step : (s : Shape) → is_more s ≡ true → first_linked (first_link s) s ++ all_pairs (after_pair s) ≡ all_pairs s
 all-step (LastLink l) h = absurd cc
 all-step (MoreLinks l e r) h = refl
-
-pub all-end : (s : Shape) → is_more s ≡ false → all_pairs s ≡ []
-all-end (LastLink l) h = refl
-all-end (MoreLinks l e r) h = absurd cc
 
 pub with-own : (s : Shape) → with_first_link (first_link s) s ≡ s
 with-own (LastLink l) = refl
@@ -90,18 +68,11 @@ pub from-step : (link : Option (List ℕ)) (s : Shape) → is_more s ≡ true
 from-step link (LastLink l) h = absurd cc
 from-step link (MoreLinks l e r) h = ap (MoreLinks link e) (with-own r)
 
-pub from-end : (link : Option (List ℕ)) (s : Shape) → is_more s ≡ false → LastLink link ≡ with_first_link link s
-from-end link (LastLink l) h = refl
-from-end link (MoreLinks l e r) h = absurd cc
-
 -- ---- what is written
 
 pub grows : (before now piece rest all : Links) → now ≡ before ++ piece → piece ++ rest ≡ all → now ++ rest ≡ before ++ all
 grows before now piece rest all h k =
     ap (λ (xs : Links). xs ++ rest) h ∙ append_assoc before piece rest ∙ ap (λ (xs : Links). before ++ xs) k
-
-pub ends : (now rest all : Links) → rest ≡ [] → now ++ rest ≡ all → now ≡ all
-ends now rest all h k = sym (append-nil now) ∙ ap (λ (xs : Links). now ++ xs) (sym h) ∙ k
 
 pub grows-onto : (before now piece : Links) (s t : Shape) → now ≡ before ++ piece → onto piece s ≡ t
     → onto now s ≡ onto before t

@@ -1,24 +1,24 @@
 -- A delete over a source that has the nodes of a tree.
-use Rattle.std.proofs.Common.{◌≡◌, ℕ, zero, suc, ◌+◌, ◌*◌, ◌≤◌, max, ◌⊎◌, inl, inr, List, [], ◌∷◌, ◌++◌, length, Option, None, refl, sym, ap, ◌∙◌, subst, arith}
-use Rattle.std.specs.Prelude.{Contains, IsSome}
+use Rattle.std.proofs.Common.{◌≡◌, ℕ, zero, suc, ◌+◌, ◌*◌, ◌≤◌, max, List, [], ◌∷◌, ◌++◌, length, map, Option, None, refl, sym, ap, ◌∙◌, subst, arith}
+use Rattle.std.specs.Prelude.{IsSome}
 use Rattle.std.specs.declared.option.Option.TheVariants.{Some}
 use Rattle.std.proofs.lemmas.List.{length-map, length-append}
-use Rattle.std.proofs.lemmas.List.Elements.{Contains-append_left, Contains-append_right, Contains-append_cases}
 use Rattle.spec.specs.Cid.{IsDigest}
 use Rattle.spec.specs.Layer.{layer}
-use Rattle.spec.specs.Tree.{Pair, top}
-use Rattle.spec.specs.NodeFormat.{Shape, shape_bytes}
+use Rattle.spec.specs.Tree.{Pair, Node, top}
+use Rattle.spec.specs.NodeFormat.{Shape, shape, shape_bytes, node_bytes}
 use Rattle.spec.specs.Blocks.{IsClashFree, value_of, nodes}
 use Rattle.spec.specs.Writes.{without_key}
 use Rattle.paths.specs.Changes.{AreChanges, add_of}
 use Rattle.paths.specs.PathEdit.{flat, prune_link, delete_root, delete_written, delete_read, delete_gone_shapes}
 use Rattle.paths.specs.Sources.{shown_by, path_from, pruned_from, delete_met_from, delete_pruned_from}
+use Rattle.paths.specs.Trace.{delete_path_read}
 use Rattle.paths.specs.TreeEdit.{layer_of}
 use Rattle.paths.specs.Laws.Edits.{IsEdit, bytes_of}
 use Rattle.paths.proofs.DeleteTheorems.{delete-over_source}
 use Rattle.paths.proofs.LookupTheorems.{top-has_layer}
 use Rattle.paths.proofs.OverSource.{free-source}
-use Rattle.edit.specs.Deletes.{asked_delete, CanDelete, IsDeleteOn, IsDeleteOf}
+use Rattle.edit.specs.Deletes.{asked_delete, CanDelete, IsDeleteOn, nodes_read, IsDeleteOf}
 use Rattle.edit.specs.Faults.{IsFaultUnless, IsEditFault, IsRefusal}
 use Rattle.edit.specs.Steps.{layers}
 use Rattle.edit.specs.Trees.{HasTree}
@@ -27,7 +27,7 @@ use Rattle.edit.specs.declared.draft_fault.DraftFault.TheVariants as drafts
 use Rattle.edit.specs.declared.fault.EditFault.{EditFault}
 use Rattle.edit.specs.declared.fault.EditFault.TheVariants.{NoSuchKey, Clash, NoMemory}
 use Rattle.edit.proofs.DeleteWhole.{can-read, can-delete}
-use Rattle.edit.proofs.Putting.{memory-only, add-few}
+use Rattle.edit.proofs.Putting.{memory-only, within, add-few}
 
 -- ---- what was read
 
@@ -64,6 +64,10 @@ not-read digest blocks o Q drafts.NoMemory fault can h e = memory-only digest bl
 
 -- ---- over a tree
 
+bytes-shapes : (digest : List ℕ → List ℕ) (ms : List Node) → bytes_of (map (shape digest) ms) ≡ map (node_bytes digest) ms
+bytes-shapes digest [] = refl
+bytes-shapes digest (m ∷ ms) = ap (λ (bs : List (List ℕ)). node_bytes digest m ∷ bs) (bytes-shapes digest ms)
+
 -- the laws of a delete from the nodes that were read
 record IsRight (digest : List ℕ → List ℕ) (bits : ℕ) (es : List Pair) (key : List ℕ) (asked : ℕ) (path : List Shape)
     (met : List (Shape × Shape)) (pruned : List Shape) : Type 0 where
@@ -71,6 +75,8 @@ record IsRight (digest : List ℕ → List ℕ) (bits : ℕ) (es : List Pair) (k
       (delete_read path met pruned) (delete_gone_shapes path met pruned) (delete_written digest key path met)
   pub can : CanDelete digest key path met pruned
   pub count : asked ≡ length (delete_read path met pruned)
+  pub read_is : delete_read path met pruned
+      ≡ map (shape digest) (delete_path_read (layer digest bits) key (top (layer digest bits) es))
   pub read_count : length (delete_read path met pruned) ≤ 2 * layer_of (layer digest bits) (top (layer digest bits) es) + 1
   pub made_count : length (delete_written digest key path met) ≤ layer_of (layer digest bits) (top (layer digest bits) es) + 1
 
@@ -107,6 +113,12 @@ module _ (digest : List ℕ → List ℕ) (bits : ℕ) (fits : IsDigest digest) 
             (sym has.root_is) is.edit;
         can = can-delete digest bits fits gives root key es has n enough v there;
         count = read-length path met pruned _ _ _ can.path can.met can.chain;
+        read_is = subst (λ (r : List ℕ). let path = path_from shows n key (Some r) in
+            let met = delete_met_from shows n key path in
+            let pruned = delete_pruned_from shows n key path met in
+            delete_read path met pruned
+            ≡ map (shape digest) (delete_path_read (layer digest bits) key (top (layer digest bits) es)))
+            (sym has.root_is) is.read_is;
         read_count = subst (λ (r : List ℕ). let path = path_from shows n key (Some r) in
             let met = delete_met_from shows n key path in
             let pruned = delete_pruned_from shows n key path met in
@@ -138,45 +150,38 @@ module _ (digest : List ℕ → List ℕ) (bits : ℕ) (fits : IsDigest digest) 
     free a b ca cb e =
         free-source digest bits gives es has.nodes a b (right.edit.read_old a ca) (right.edit.read_old b cb) e
 
-    -- what was made and read is of the tree before or of the tree after
-    within : (b : List ℕ)
-        → Contains (bytes_of (delete_written digest key path met) ++ bytes_of (delete_read path met pruned)) b
-        → Contains (nodes digest bits es ++ nodes digest bits (without_key es key)) b
-    within b c =
-        by (Contains-append_cases (bytes_of (delete_written digest key path met)) (bytes_of (delete_read path met pruned)) b c)
-      where
-        by : Contains (bytes_of (delete_written digest key path met)) b ⊎ Contains (bytes_of (delete_read path met pruned)) b
-            → Contains (nodes digest bits es ++ nodes digest bits (without_key es key)) b
-        by (inl k) =
-            Contains-append_right (nodes digest bits es) (nodes digest bits (without_key es key)) b (right.edit.made_new b k)
-        by (inr k) =
-            Contains-append_left (nodes digest bits es) (nodes digest bits (without_key es key)) b (right.edit.read_old b k)
+    seen : bytes_of (delete_read path met pruned) ≡ nodes_read digest bits es key
+    seen =
+        ap bytes_of right.read_is
+        ∙ bytes-shapes digest (delete_path_read (layer digest bits) key (top (layer digest bits) es))
 
-    pub delete-answer : (before after : ℕ) → after ≡ before + asked → (root' : List ℕ) (add drop : List (List ℕ))
-        (previous : Option (List ℕ)) → IsDeleteOn digest key path met pruned root' add drop → previous ≡ Some v
-        → IsDeleteOf digest bits es key before after root' add drop previous
-    delete-answer before after counted root' add drop previous on hp =
+    -- each of these is asked for once
+    pub delete-reads : (before after : ℕ) → after ≡ before + asked
+        → after ≡ before + length (nodes_read digest bits es key)
+    delete-reads before after counted =
+        counted
+        ∙ ap (λ (k : ℕ). before + k)
+        (right.count ∙ sym (length-map (delete_read path met pruned) shape_bytes) ∙ ap length seen)
+
+    pub delete-answer : (root' : List ℕ) (add drop : List (List ℕ)) (previous : Option (List ℕ))
+        → IsDeleteOn digest key path met pruned root' add drop → previous ≡ Some v
+        → IsDeleteOf digest bits es key root' add drop previous
+    delete-answer root' add drop previous on hp =
         let read = bytes_of (delete_read path met pruned) in
         let made = bytes_of (delete_written digest key path met) in
-        let gone = bytes_of (delete_gone_shapes path met pruned) in
         let old = nodes digest bits es in
         let new = nodes digest bits (without_key es key) in
-        let long : length read ≡ length (delete_read path met pruned) = length-map (delete_read path met pruned) shape_bytes in
         let changes : AreChanges digest old new read add drop =
         subst (λ (bs : List (List ℕ)). AreChanges digest old new read bs drop) (sym on.added)
         (subst (λ (bs : List (List ℕ)). AreChanges digest old new read (add_of digest read made) bs) (sym on.dropped)
         (right.edit.changes (on.all_free free))) in
         record {
           there = subst IsSome (sym hp) refl;
-          read = read;
-          read_old = right.edit.read_old;
-          count = counted ∙ ap (λ (k : ℕ). before + k) (right.count ∙ sym long);
-          most = let few_read = right.read_count in omega arith;
           edit = record {
             root_is = on.root_is ∙ sym right.edit.root_is;
             previous_is = hp ∙ sym there;
-            changes = changes;
-            clash_free = on.free free;
+            changes = subst (λ (bs : List (List ℕ)). AreChanges digest old new bs add drop) seen changes;
+            clash_free = subst (λ (bs : List (List ℕ)). IsClashFree digest (add ++ bs)) seen (on.free free);
             count =
                 let a = add-few digest read made in
                 let b = ap length on.added in
@@ -193,5 +198,9 @@ module _ (digest : List ℕ → List ℕ) (bits : ℕ) (fits : IsDigest digest) 
         (¬ CanDelete digest key path met pruned) fault
         → IsRefusal digest (nodes digest bits es ++ nodes digest bits (without_key es key)) P fault
     delete-refused P NoSuchKey r = absurd (r right.can)
-    delete-refused P (Clash pair) r = (within pair.0 r.0, within pair.1 r.1, r.2)
+    delete-refused P (Clash pair) r =
+        let among = within (nodes digest bits es) (nodes digest bits (without_key es key))
+        (bytes_of (delete_written digest key path met)) (bytes_of (delete_read path met pruned))
+        right.edit.read_old right.edit.made_new in
+        (among pair.0 r.0, among pair.1 r.1, r.2)
     delete-refused P NoMemory r = tt

@@ -1,14 +1,15 @@
 -- What a delete reads, from what each of its parts reads.
-use Rattle.std.proofs.Common.{◌≡◌, ℕ, ◌+◌, ◌≤◌, List, Option, sym, ap, ◌∙◌, subst, arith}
+use Rattle.std.proofs.Common.{◌≡◌, ℕ, ◌+◌, ◌≤◌, List, Option, refl, sym, ap, ◌∙◌, subst, arith}
+use Rattle.std.specs.Prelude.{IsSome}
 use Rattle.std.specs.declared.option.Option.TheVariants.{Some}
 use Rattle.spec.specs.NodeFormat.{Shape}
 use Rattle.paths.specs.ShapeEdit.{row_links}
 use Rattle.paths.specs.PathEdit.{row_shape, prune_link}
-use Rattle.paths.specs.Sources.{path_from, met_from, delete_met_from}
+use Rattle.paths.specs.Sources.{path_from, value_from, met_from, delete_met_from}
 use Rattle.edit.specs.declared.draft_fault.DraftFault.{DraftFault}
 use Rattle.edit.specs.Deletes.{CanReadDelete}
 use Rattle.edit.specs.Faults.{IsFaultUnless}
-use Rattle.edit.specs.Steps.{shows, asked_met, asked_pruned, IsWholeMet, IsWholeChain}
+use Rattle.edit.specs.Steps.{shows, asked_met, asked_pruned, IsWholePath, IsWholeMet, IsWholeChain}
 use Rattle.edit.proofs.Building.{unless-weaker}
 
 module _ {X : Type 0} (view : X → List ℕ) (was : List ℕ → Option X) (n : ℕ) (key root : List ℕ) where
@@ -55,6 +56,23 @@ module _ {X : Type 0} (view : X → List ℕ) (was : List ℕ → Option X) (n :
       unless-weaker _ _ f (λ (can : CanReadDelete (shows view was) n key root).
       subst (λ g. IsWholeChain (shows view g) n l) (sym same)
       (subst (IsWholeChain (shows view was) n) (sym e) can.chain))
+
+  -- all that a delete reads was there
+  pub can-all : (was₂ was₃ : List ℕ → Option X) (path : List Shape) (x y l : Option (List ℕ)) (v : List ℕ)
+      → IsWholePath (shows view was) n key (Some root) → Some v ≡ value_from (shows view was) n key (Some root)
+      → was₂ ≡ was → path ≡ path_from (shows view was) n key (Some root) → (x, y) ≡ row_links key (row_shape path)
+      → IsWholeMet (shows view was₂) n x y
+      → was₃ ≡ was
+      → (let whole = path_from (shows view was) n key (Some root) in
+      l ≡ prune_link key whole (delete_met_from (shows view was) n key whole))
+      → IsWholeChain (shows view was₃) n l → CanReadDelete (shows view was) n key root
+  can-all was₂ was₃ path x y l v whole there same₂ e links met same₃ link chain = record {
+    path = whole;
+    there = subst IsSome there refl;
+    met = subst (λ (p : Option (List ℕ) × Option (List ℕ)). IsWholeMet (shows view was) n p.0 p.1)
+        (links-are path x y e links) (subst (λ g. IsWholeMet (shows view g) n x y) same₂ met);
+    chain = subst (IsWholeChain (shows view was) n) link (subst (λ g. IsWholeChain (shows view g) n l) same₃ chain);
+  }
 
   -- ---- how many blocks are asked for
 

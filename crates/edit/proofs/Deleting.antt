@@ -1,19 +1,14 @@
 -- What a delete writes, from the nodes that were read.
-use Rattle.std.proofs.Common.{◌≡◌, ℕ, suc, ◌+◌, ◌-◌, ◌≤◌, List, [], ◌∷◌, ◌++◌, length, take, drop, get_or, map, Option, None, refl, sym, ap, ◌∙◌, subst, append_assoc, arith}
-use Rattle.std.specs.declared.option.Option.TheVariants.{Some}
-use Rattle.std.specs.declared.cmp.Ordering.{Ordering}
-use Rattle.std.specs.declared.cmp.Ordering.TheVariants.{Less, Equal, Greater}
+use Rattle.std.proofs.Common.{◌≡◌, ℕ, suc, ◌+◌, ◌-◌, ◌≤◌, List, [], ◌∷◌, ◌++◌, length, take, drop, get_or, map, Option, refl, sym, ap, ◌∙◌, subst, append_assoc, arith}
 use Rattle.std.proofs.lemmas.List.{map-append}
-use Rattle.spec.specs.NodeFormat.{Shape, LastLink, MoreLinks, shape_bytes, shape_cid}
+use Rattle.spec.specs.NodeFormat.{Shape, shape_bytes, shape_cid}
 use Rattle.paths.specs.Lawful.{Lawful, AllLawful}
-use Rattle.paths.specs.Order.{order, if_equal}
-use Rattle.paths.specs.ShapeEdit.{close_shapes, last_shape, row_links, merge_links, merge_shapes, remove_shape, settle_shape, lone_shape}
+use Rattle.paths.specs.ShapeEdit.{close_shapes, last_shape, row_links, merge_links, merge_shapes, remove_shape, settle_shape}
 use Rattle.paths.specs.PathEdit.{flat, climb, climb_shapes, all_but_last, row_shape, delete_here, delete_below, delete_root, delete_written, delete_read, delete_gone_shapes}
 use Rattle.paths.specs.Changes.{add_of, drop_of}
 use Rattle.spec.specs.Blocks.{IsClashFree}
 use Rattle.edit.specs.declared.draft_fault.DraftFault.{DraftFault}
 use Rattle.edit.specs.declared.build.settle.Settled.TheVariants.{Below}
-use Rattle.edit.specs.Ahead.{links_if_lone}
 use Rattle.edit.specs.Deletes.{row_written, CanWriteRow, IsDeleteOn}
 use Rattle.edit.specs.Drafts.{IsFaultOf}
 use Rattle.edit.specs.Faults.{IsFaultUnless}
@@ -133,37 +128,6 @@ module _ (digest : List ℕ → List ℕ) where
       → IsSettled digest x y met (Below l) → 1 ≤ length pruned → top ≡ get_or pruned (length pruned - 1) top
       → top ≡ settle_shape digest x y met pruned
   pruned-root x y met pruned l top h n at = sym (h.1 pruned ∙ row-last pruned top n at)
-
--- ---- both
-
-lone-case : {A : Type 0} (o : Ordering) (p q l k : Option (List ℕ)) (f : Option (List ℕ) → Option (List ℕ) → A) (y : A)
-    → if_equal {A = Option (Option (List ℕ) × Option (List ℕ))} o (Some (p, q)) None ≡ Some (l, k)
-    → if_equal o (f p q) y ≡ f l k
-lone-case Less p q l k f y h = absurd cc
-lone-case Equal p q l k f y h =
-    let x : Option (List ℕ) × Option (List ℕ) = (p, q) in
-    let z : Option (List ℕ) × Option (List ℕ) = (l, k) in
-    let e : x ≡ z = cc in ap (λ (v : Option (List ℕ) × Option (List ℕ)). f v.0 v.1) e
-lone-case Greater p q l k f y h = absurd cc
-
-none-case : {A : Type 0} (o : Ordering) (x : Option (List ℕ) × Option (List ℕ)) (z y : A)
-    → if_equal o (Some x) None ≡ None → if_equal o z y ≡ y
-none-case Less x z y h = refl
-none-case Equal x z y h = absurd cc
-none-case Greater x z y h = refl
-
-pub lone-some : {A : Type 0} (key : List ℕ) (s : Shape) (l k : Option (List ℕ))
-    (f : Option (List ℕ) → Option (List ℕ) → A) (y : A) → links_if_lone key s ≡ Some (l, k)
-    → lone_shape key s f y ≡ f l k
-lone-some key (LastLink p) l k f y h = absurd cc
-lone-some key (MoreLinks p e (LastLink q)) l k f y h = lone-case (order e.0 key) p q l k f y h
-lone-some key (MoreLinks p e (MoreLinks q g r)) l k f y h = absurd cc
-
-pub lone-none : {A : Type 0} (key : List ℕ) (s : Shape)
-    (f : Option (List ℕ) → Option (List ℕ) → A) (y : A) → links_if_lone key s ≡ None → lone_shape key s f y ≡ y
-lone-none key (LastLink p) f y h = refl
-lone-none key (MoreLinks p e (LastLink q)) f y h = none-case (order e.0 key) (p, q) (f p q) y h
-lone-none key (MoreLinks p e (MoreLinks q g r)) f y h = refl
 
 -- ---- all nodes in one list
 

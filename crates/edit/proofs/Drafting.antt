@@ -8,8 +8,9 @@ use Rattle.spec.specs.NodeFormat.{Entry, Shape, LastLink, MoreLinks, first_link,
 use Rattle.spec.proofs.Bools.{both}
 use Rattle.spec.proofs.NodeLaws.{read_node-node_spelling}
 use Rattle.node.specs.Contents.{Contents, last_key, is_next_key}
+use Rattle.paths.specs.Lawful.{Lawful}
 use Rattle.paths.specs.Sources.{shape_from, shape_of_reading}
-use Rattle.edit.specs.Drafts.{Lawful, onto, or_empty, shape_in, IsDraft, is_hollow, turned}
+use Rattle.edit.specs.Drafts.{onto, or_empty, shape_in, IsDraft, is_hollow, turned}
 use Rattle.edit.proofs.NodeReading.{first_link-from, entries_of-from}
 
 abbrev pub Links : Type 0

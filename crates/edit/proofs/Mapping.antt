@@ -1,5 +1,5 @@
 -- The places of blocks by their CIDs.
-use Rattle.std.proofs.Common.{◌≡◌, ℕ, suc, ◌-◌, ◌<◌, Bool, true, false, cond, List, [], ◌∷◌, length, get_or, drop, Option, None, refl, sym, ap, ◌∙◌, subst, arith}
+use Rattle.std.proofs.Common.{◌≡◌, ℕ, suc, ◌-◌, ◌<◌, Bool, true, false, cond, List, ◌∷◌, length, get_or, drop, Option, sym, ap, ◌∙◌, subst, arith}
 use Rattle.std.specs.Prelude.{option_and_then, slice_get}
 use Rattle.std.specs.declared.option.Option.TheVariants.{Some}
 use Rattle.std.specs.Arc.{arc_value}
@@ -18,14 +18,6 @@ module _ {A : Type 0} (digest : List ℕ → List ℕ) (blocks : List (Arc (List
   abbrev pub Sees : ℕ → (List ℕ → Option ℕ) → Type 0
   Sees n place_of =
       (c : List ℕ) → option_and_then (slice_get blocks) (place_of c) ≡ first_of digest (drop n blocks) c
-
-  pub Sees-none : (place_of : List ℕ → Option ℕ) → ((c : List ℕ) → place_of c ≡ None) → Sees (length blocks) place_of
-  Sees-none place_of none c =
-      ap (option_and_then (slice_get blocks)) (none c) ∙ sym (ap (λ bs. first_of digest bs c) (drop_all blocks))
-    where
-      drop_all : (bs : List (Arc (List ℕ) A)) → drop (length bs) bs ≡ []
-      drop_all [] = refl
-      drop_all (b ∷ bs) = drop_all bs
 
   found : (n : ℕ) (x : Arc (List ℕ) A) (c : List ℕ) (later : Option ℕ) (b : Bool)
       → slice_get blocks n ≡ Some x
@@ -57,11 +49,3 @@ module _ {A : Type 0} (digest : List ℕ → List ℕ) (blocks : List (Arc (List
   Sees-left n x k old new more below is key puts sees =
       let e : n ≡ suc (n - 1) = omega arith in
       Sees-more (n - 1) x k old new below is key puts (subst (λ m. Sees m old) e sees)
-
-  pub Sees-all : (place_of : List ℕ → Option ℕ) → Sees 0 place_of
-      → (c : List ℕ) → option_and_then (slice_get blocks) (place_of c) ≡ first_of digest blocks c
-  Sees-all place_of sees c = sees c ∙ ap (λ bs. first_of digest bs c) (drop_none blocks)
-    where
-      drop_none : (bs : List (Arc (List ℕ) A)) → drop 0 bs ≡ bs
-      drop_none [] = refl
-      drop_none (b ∷ bs) = refl

@@ -52,6 +52,34 @@ pub reads-two : {A : Type 0} (r₃ r₂ r₁ r₀ : ℕ) (xs ys : List A) (x : A
     → r₁ ≡ r₀ + 2 * length xs → r₃ ≡ r₀ + 2 * length ys
 reads-two r₃ r₂ r₁ r₀ xs ys x e i h k = let a = ap length e in let b = longer xs x in omega arith
 
+-- ---- what was read is whole where each block that was asked for was read
+
+counts : {A : Type 0} (xs ys : List A) (r₁ r₀ a : ℕ) → xs ≡ ys → r₁ ≡ r₀ + length xs → r₁ ≡ r₀ + a → a ≡ length ys
+counts xs ys r₁ r₀ a e h k = let l = ap length e in omega arith
+
+counts-two : {A : Type 0} (xs ys : List A) (r₁ r₀ a : ℕ) → xs ≡ ys → r₁ ≡ r₀ + 2 * length xs → r₁ ≡ r₀ + a
+    → a ≡ 2 * length ys
+counts-two xs ys r₁ r₀ a e h k = let l = ap length e in omega arith
+
+module _ {X : Type 0} (view : X → List ℕ) (gives : List ℕ → Option X) (n : ℕ) where
+  pub whole-path : (key root : List ℕ) (nodes : List Shape) (r₀ r₁ : ℕ)
+      → nodes ≡ path_from (shows view gives) n key (Some root) → r₁ ≡ r₀ + length nodes
+      → r₁ ≡ r₀ + asked_from (shows view gives) n key (Some root) → IsWholePath (shows view gives) n key (Some root)
+  whole-path key root nodes r₀ r₁ e h k =
+      counts nodes (path_from (shows view gives) n key (Some root)) r₁ r₀ (asked_from (shows view gives) n key (Some root)) e h k
+
+  pub whole-met : (x y : Option (List ℕ)) (met : List (Shape × Shape)) (r₀ r₁ : ℕ)
+      → met ≡ met_from (shows view gives) n x y → r₁ ≡ r₀ + 2 * length met
+      → r₁ ≡ r₀ + asked_met (shows view gives) n x y → IsWholeMet (shows view gives) n x y
+  whole-met x y met r₀ r₁ e h k =
+      counts-two met (met_from (shows view gives) n x y) r₁ r₀ (asked_met (shows view gives) n x y) e h k
+
+  pub whole-chain : (l : Option (List ℕ)) (nodes : List Shape) (r₀ r₁ : ℕ)
+      → nodes ≡ pruned_from (shows view gives) n l → r₁ ≡ r₀ + length nodes
+      → r₁ ≡ r₀ + asked_pruned (shows view gives) n l → IsWholeChain (shows view gives) n l
+  whole-chain l nodes r₀ r₁ e h k =
+      counts nodes (pruned_from (shows view gives) n l) r₁ r₀ (asked_pruned (shows view gives) n l) e h k
+
 -- ---- the path of a key
 
 pub record IsPathSoFar (shows : List ℕ → Option Shape) (key : List ℕ) (n₀ : ℕ) (c₀ : List ℕ) (n : ℕ) (c : List ℕ)
@@ -128,26 +156,6 @@ module _ (shows : List ℕ → Option Shape) (key : List ℕ) where
           asked = let a = f.asked in let b = p.asked in let k = asked-none shows key (n - 1) in omega arith;
         }
 
-    pub path-over : n ≡ 0 → IsPathSoFar shows key n₀ c₀ n c nodes → IsPathRead shows key n₀ c₀ nodes None (length nodes)
-    path-over z f = record {
-      path = sym (f.path ∙ ap (λ k. nodes ++ path_from shows k key (Some c)) z ∙ append-nil nodes);
-      value = sym (f.value ∙ ap (λ k. value_from shows k key (Some c)) z);
-      asked = f.asked ∙ ap (λ k. length nodes + asked_from shows k key (Some c)) z ∙ (omega arith);
-    }
-
-    -- a block is missing, or is no node
-    pub path-missing : 0 < n → IsPathSoFar shows key n₀ c₀ n c nodes → shows c ≡ None
-        → (¬ IsWholePath shows n₀ key (Some c₀)) × (asked_from shows n₀ key (Some c₀) ≡ suc (length nodes))
-    path-missing t f h =
-        let e = back n t in
-        let a : asked_from shows n key (Some c) ≡ 1 = sym (ap (λ k. asked_from shows k key (Some c)) e)
-        ∙ ap (asked_at (asked_from shows (n - 1) key) key) h in
-        let p : path_from shows n key (Some c) ≡ [] = sym (ap (λ k. path_from shows k key (Some c)) e)
-        ∙ ap (path_at (path_from shows (n - 1) key) key) h in
-        let b = f.asked in
-        let k = ap length (f.path ∙ ap (λ xs. nodes ++ xs) p ∙ append-nil nodes) in
-        ((λ w. omega (arith, w)), omega arith)
-
     -- there is a block more
     pub path-counts : (s : Shape) → 0 < n → IsPathSoFar shows key n₀ c₀ n c nodes → shows c ≡ Some s
         → suc (length nodes) ≤ asked_from shows n₀ key (Some c₀)
@@ -198,10 +206,6 @@ module _ (shows : List ℕ → Option Shape) where
       pairs = sym (f.pairs ∙ ap (λ xs. met ++ xs) p ∙ append-nil met);
       asked = let a = f.asked in omega arith;
     }
-
-    pub met-over : (x y : Option (List ℕ)) → n ≡ 0 → IsMetSoFar shows n₀ x₀ y₀ n x y met → IsMetRead shows n₀ x₀ y₀ met
-    met-over x y z f =
-        ends x y (ap (λ k. met_from shows k x y) z) (ap (λ k. asked_met shows k x y) z) f
 
     pub met-ends : (x y : Option (List ℕ)) → x ≡ None → IsMetSoFar shows n₀ x₀ y₀ n x y met → IsMetRead shows n₀ x₀ y₀ met
     met-ends x y h f =
@@ -293,10 +297,6 @@ pub record IsChainRead (shows : List ℕ → Option Shape) (n₀ : ℕ) (l₀ : 
   pub asked : asked_pruned shows n₀ l₀ ≡ times
 
 module _ (shows : List ℕ → Option Shape) where
-  chain-none : (n : ℕ) → (pruned_from shows n None ≡ []) × (asked_pruned shows n None ≡ 0)
-  chain-none zero = (refl, refl)
-  chain-none (suc n) = (refl, refl)
-
   shown-at : (n : ℕ) (c : List ℕ) (o : Option Shape) → 0 < n → shows c ≡ o
       → (pruned_from shows n (Some c) ≡ pruned_at (pruned_from shows (n - 1)) o)
       × (asked_pruned shows n (Some c) ≡ asked_pruned_at (asked_pruned shows (n - 1)) o)
@@ -322,21 +322,6 @@ module _ (shows : List ℕ → Option Shape) where
   asks times (MoreLinks l e r) = omega arith
 
   module _ (n₀ : ℕ) (l₀ : Option (List ℕ)) (n : ℕ) (l : Option (List ℕ)) (nodes : List Shape) where
-    pub chain-over : n ≡ 0 → IsChainSoFar shows n₀ l₀ n l nodes → IsChainRead shows n₀ l₀ nodes (length nodes)
-    chain-over z f = record {
-      chain = sym (f.chain ∙ ap (λ k. nodes ++ pruned_from shows k l) z ∙ append-nil nodes);
-      asked = f.asked ∙ ap (λ k. length nodes + asked_pruned shows k l) z ∙ (omega arith);
-    }
-
-    pub chain-ends : l ≡ None → IsChainSoFar shows n₀ l₀ n l nodes → IsChainRead shows n₀ l₀ nodes (length nodes)
-    chain-ends h f =
-        let e = chain-none n in
-        record {
-          chain = sym (f.chain ∙ ap (λ o. nodes ++ pruned_from shows n o) h ∙ ap (λ xs. nodes ++ xs) e.0 ∙ append-nil nodes);
-          asked = f.asked ∙ ap (λ o. length nodes + asked_pruned shows n o) h
-              ∙ ap (λ k. length nodes + k) e.1 ∙ (omega arith);
-        }
-
     pub chain-more : (c : List ℕ) (s : Shape) → 0 < n → l ≡ Some c → shows c ≡ Some s → has_pairs s ≡ false
         → IsChainSoFar shows n₀ l₀ n l nodes → IsChainSoFar shows n₀ l₀ (n - 1) (first_link s) (nodes ++ s ∷ [])
     chain-more c s t p h b f =

@@ -1,50 +1,25 @@
 -- The nodes of a put, step by step, and when one of them would be none.
-use Rattle.std.proofs.Common.{◌≡◌, ℕ, zero, suc, ◌-◌, ◌<◌, ◌≤◌, min, Bool, true, false, cond, List, [], ◌∷◌, ◌++◌, length, take, drop, map, Option, Result, Ok, Err, IfOk, IfErr, refl, sym, ap, ◌∙◌, subst, append_assoc, arith}
-use Rattle.std.specs.Prelude.{nat_lt}
-use Rattle.std.specs.declared.option.Option.TheVariants.{Some, None}
-use Rattle.std.specs.List.{AllByRecursion}
+use Rattle.std.proofs.Common.{◌≡◌, ℕ, zero, suc, ◌-◌, ◌<◌, ◌≤◌, min, List, [], ◌∷◌, ◌++◌, length, take, drop, map, Option, Result, Ok, Err, IfOk, IfErr, refl, sym, ap, ◌∙◌, subst, append_assoc, arith}
 use Rattle.std.proofs.lemmas.List.{map-append}
 use Rattle.std.proofs.Math.Nat.{min-le_left, min-le_right}
 use Rattle.spec.specs.Tree.{Pair}
 use Rattle.spec.specs.NodeFormat.{Shape, LastLink, MoreLinks, shape_bytes}
 use Rattle.paths.specs.Lawful.{Lawful, AllLawful}
-use Rattle.paths.specs.ShapeEdit.{close_shapes, split_links, split_shapes, insert_shape, lift_link, lift_shapes, head_shape, tail_shapes, above_shape, above_shapes, layer_of_shape}
-use Rattle.paths.specs.PathEdit.{raise, raise_shapes, climb, climb_shapes, put_here, put_below, put_below_shapes, put_root, put_written}
+use Rattle.paths.specs.ShapeEdit.{close_shapes, split_links, split_shapes, insert_shape, lift_link, lift_shapes, tail_shapes, above_shape, above_shapes}
+use Rattle.paths.specs.PathEdit.{raise, raise_shapes, climb, climb_shapes, put_here, put_below, put_below_shapes}
 use Rattle.edit.specs.declared.draft_fault.DraftFault.{DraftFault}
 use Rattle.edit.specs.Drafts.{IsFaultOf}
 use Rattle.edit.specs.Faults.{IsFaultUnless}
-use Rattle.edit.proofs.Building.{unless-weaker, of-unless}
+use Rattle.edit.proofs.Building.{front-all, back-all, join-all, unless-weaker, of-unless, closed-lawful}
 
 pub if-err : {T E : Type 0} {P Q : E → Type 0} (r : Result T E) → ((e : E) → P e → Q e) → IfErr r P → IfErr r Q
 if-err (Ok x) h p = tt
 if-err (Err e) h p = h e p
 
-pub if-ok : {T E : Type 0} {P Q : T → Type 0} (r : Result T E) → ((x : T) → P x → Q x) → IfOk r P → IfOk r Q
-if-ok (Ok x) h p = h x p
-if-ok (Err e) h p = tt
-
 pub if-ok-two : {T E : Type 0} {P Q R : T → Type 0} (r : Result T E) → ((x : T) → P x → Q x → R x) → IfOk r P → IfOk r Q
     → IfOk r R
 if-ok-two (Ok x) h p q = h x p q
 if-ok-two (Err e) h p q = tt
-
-front-all : {X : Type 0} (P : X → Type 0) (xs ys : List X) → AllByRecursion P (xs ++ ys) → AllByRecursion P xs
-front-all P [] ys h = tt
-front-all P (x ∷ xs) ys h = (h.0, front-all P xs ys h.1)
-
-back-all : {X : Type 0} (P : X → Type 0) (xs ys : List X) → AllByRecursion P (xs ++ ys) → AllByRecursion P ys
-back-all P [] ys h = h
-back-all P (x ∷ xs) ys h = back-all P xs ys h.1
-
-join-all : {X : Type 0} (P : X → Type 0) (xs ys : List X) → AllByRecursion P xs → AllByRecursion P ys
-    → AllByRecursion P (xs ++ ys)
-join-all P [] ys h k = k
-join-all P (x ∷ xs) ys h k = (h.0, join-all P xs ys h.1 k)
-
-closed-lawful : (s : Shape) → AllLawful (close_shapes s) → Lawful s
-closed-lawful (LastLink None) h = refl
-closed-lawful (LastLink (Some c)) h = h.0
-closed-lawful (MoreLinks l e r) h = h.0
 
 map-two : (a b : List Shape) → map shape_bytes (a ++ b) ≡ map shape_bytes a ++ map shape_bytes b
 map-two a b = map-append shape_bytes a b
@@ -134,10 +109,6 @@ module _ (digest : List ℕ → List ℕ) (p : Pair) (path xs : List Shape) (x :
   here-split f =
       unless-weaker _ _ f (λ all. front-all Lawful (split_shapes digest p.0 xs) _
       (subst (λ (ss : List Shape). AllLawful (split_shapes digest p.0 (tail_shapes ss) ++ put_here digest p ss ∷ [])) e all))
-
-  pub here-made : (m0 m1 : List (List ℕ)) → m1 ≡ m0 ++ map shape_bytes (split_shapes digest p.0 xs)
-      → m1 ≡ m0 ++ map shape_bytes (split_shapes digest p.0 (tail_shapes path))
-  here-made m0 m1 h = h ∙ ap (λ (ss : List Shape). m0 ++ map shape_bytes (split_shapes digest p.0 (tail_shapes ss))) (sym e)
 
   module _ (s : Shape) (l r : Option (List ℕ)) (same : s ≡ x) (links : (l, r) ≡ split_links digest p.0 xs) where
     pub here-is : insert_shape p s (l, r) ≡ put_here digest p path
@@ -317,48 +288,3 @@ module _ (digest : List ℕ → List ℕ) (d : ℕ) (p : Pair) (path above below
           grouped : (m a b c t : List (List ℕ)) → (((m ++ a) ++ b) ++ c) ++ t ≡ m ++ ((a ++ (b ++ c)) ++ t)
           grouped m a b c t =
               ap (λ v. v ++ t) (append_assoc (m ++ a) b c ∙ append_assoc m a (b ++ c)) ∙ append_assoc m (a ++ (b ++ c)) t
-
--- ---- all of a put
-
-module _ (digest : List ℕ → List ℕ) (layer : List ℕ → ℕ) (p : Pair) (path : List Shape) (t : ℕ)
-    (is : t ≡ layer_of_shape layer (head_shape path)) where
-  tested : (b : Bool) → nat_lt t (layer p.0) ≡ b → nat_lt (layer_of_shape layer (head_shape path)) (layer p.0) ≡ b
-  tested b h = ap (λ (n : ℕ). nat_lt n (layer p.0)) (sym is) ∙ h
-
-  module _ (d : ℕ) (h : nat_lt t (layer p.0) ≡ true) (e : d ≡ layer p.0 - suc t) where
-    distance : d ≡ layer p.0 - suc (layer_of_shape layer (head_shape path))
-    distance = e ∙ ap (λ (n : ℕ). layer p.0 - suc n) is
-
-    pub root-above : above_shape digest d p path ≡ put_root digest layer p path
-    root-above =
-        ap (λ (k : ℕ). above_shape digest k p path) distance
-        ∙ sym (ap (λ (b : Bool). cond b
-        (above_shape digest (layer p.0 - suc (layer_of_shape layer (head_shape path))) p path)
-        (put_below digest (layer_of_shape layer (head_shape path) - layer p.0) p path)) (tested true h))
-
-    pub written-above : above_shapes digest d p path ≡ put_written digest layer p path
-    written-above =
-        ap (λ (k : ℕ). above_shapes digest k p path) distance
-        ∙ sym (ap (λ (b : Bool). cond b
-        (above_shapes digest (layer p.0 - suc (layer_of_shape layer (head_shape path))) p path)
-        (put_below_shapes digest (layer_of_shape layer (head_shape path) - layer p.0) p path
-        ++ (put_below digest (layer_of_shape layer (head_shape path) - layer p.0) p path ∷ []))) (tested true h))
-
-  module _ (d : ℕ) (h : nat_lt t (layer p.0) ≡ false) (e : d ≡ t - layer p.0) where
-    depth : d ≡ layer_of_shape layer (head_shape path) - layer p.0
-    depth = e ∙ ap (λ (n : ℕ). n - layer p.0) is
-
-    pub root-below : put_below digest d p path ≡ put_root digest layer p path
-    root-below =
-        ap (λ (k : ℕ). put_below digest k p path) depth
-        ∙ sym (ap (λ (b : Bool). cond b
-        (above_shape digest (layer p.0 - suc (layer_of_shape layer (head_shape path))) p path)
-        (put_below digest (layer_of_shape layer (head_shape path) - layer p.0) p path)) (tested false h))
-
-    pub written-below : put_below_shapes digest d p path ++ (put_below digest d p path ∷ []) ≡ put_written digest layer p path
-    written-below =
-        ap (λ (k : ℕ). put_below_shapes digest k p path ++ (put_below digest k p path ∷ [])) depth
-        ∙ sym (ap (λ (b : Bool). cond b
-        (above_shapes digest (layer p.0 - suc (layer_of_shape layer (head_shape path))) p path)
-        (put_below_shapes digest (layer_of_shape layer (head_shape path) - layer p.0) p path
-        ++ (put_below digest (layer_of_shape layer (head_shape path) - layer p.0) p path ∷ []))) (tested false h))

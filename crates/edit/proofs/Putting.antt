@@ -24,7 +24,7 @@ use Rattle.paths.proofs.LookupTheorems.{top-has_layer}
 use Rattle.paths.proofs.OverSource.{free-source}
 use Rattle.paths.proofs.PutTheorems.{put-over_source}
 use Rattle.edit.specs.Edits.{IsEditOf, IsPutOn}
-use Rattle.edit.specs.Faults.{IsFaultUnless, IsEditFault, IsClashIn, IsRefusal}
+use Rattle.edit.specs.Faults.{IsFaultUnless, IsEditFault, IsRefusal, IsAbsence}
 use Rattle.edit.specs.Steps.{layers, IsWholePath}
 use Rattle.edit.specs.Trees.{HasTree}
 use Rattle.edit.specs.declared.draft_fault.DraftFault.{DraftFault}
@@ -39,24 +39,26 @@ pub memory-only : {D A : Type 0} (digest : List ℕ → List ℕ) (blocks : List
     → fault ≡ NoMemory → IsRefusal digest blocks P fault
 memory-only digest blocks P fault e = subst (IsRefusal digest blocks P) (sym e) tt
 
--- no node could be written
-pub not-written : {D A : Type 0} (digest : List ℕ → List ℕ) (blocks : List (List ℕ)) (Q : Type 0) (draft : DraftFault)
-    (fault : EditFault D A) → IsFaultUnless Q draft → IsEditFault draft fault → IsRefusal digest blocks (¬ Q) fault
-not-written digest blocks Q drafts.NotNode fault h e = subst (IsRefusal digest blocks (¬ Q)) (sym e) h
-not-written digest blocks Q drafts.NoMemory fault h e = memory-only digest blocks (¬ Q) fault e
-
--- a clash among other blocks, which are among these
-pub clash-within : {D A : Type 0} (digest : List ℕ → List ℕ) (P : Type 0) (xs ys : List (List ℕ)) (fault : EditFault D A)
-    → xs ≡ ys → IsRefusal digest xs ⊥ fault → IsRefusal digest ys P fault
-clash-within digest P xs ys NoSuchKey e r = absurd r
-clash-within digest P xs ys (Clash pair) e r = subst (λ (bs : List (List ℕ)). IsClashIn digest bs pair) e r
-clash-within digest P xs ys NoMemory e r = tt
-
 -- what can't be: a node is missing, or is none
 pub cannot-be : {D A : Type 0} (digest : List ℕ → List ℕ) (blocks : List (List ℕ)) (P Q : Type 0) (draft : DraftFault)
     (fault : EditFault D A) → Q → IsFaultUnless Q draft → IsEditFault draft fault → IsRefusal digest blocks P fault
 cannot-be digest blocks P Q drafts.NotNode fault q h e = absurd (h q)
 cannot-be digest blocks P Q drafts.NoMemory fault q h e = memory-only digest blocks P fault e
+
+-- a node that isn't there, or is none
+pub draft-missing : {D A : Type 0} (draft : DraftFault) (fault : EditFault D A) → IsEditFault draft fault → IsAbsence fault
+draft-missing drafts.NotNode fault e = subst IsAbsence (sym e) tt
+draft-missing drafts.NoMemory fault e = subst IsAbsence (sym e) tt
+
+-- what was made and read is of the tree before or of the tree after
+pub within : (old new made read : List (List ℕ)) → ((b : List ℕ) → Contains read b → Contains old b)
+    → ((b : List ℕ) → Contains made b → Contains new b)
+    → (b : List ℕ) → Contains (made ++ read) b → Contains (old ++ new) b
+within old new made read is_old is_new b c = by (Contains-append_cases made read b c)
+  where
+    by : Contains made b ⊎ Contains read b → Contains (old ++ new) b
+    by (inl k) = Contains-append_right old new b (is_new b k)
+    by (inr k) = Contains-append_left old new b (is_old b k)
 
 -- ---- how many blocks come
 
@@ -148,18 +150,6 @@ module _ (digest : List ℕ → List ℕ) (bits : ℕ) (fits : IsDigest digest) 
         → Contains (nodes digest bits (with_key es key value)) b
     new b c = is-put.edit.made_new b (subst (λ (bs : List (List ℕ)). Contains bs b) written c)
 
-    -- what was made and read is of the tree before or of the tree after
-    pub within : (b : List ℕ)
-        → Contains (bytes_of (put_written digest (layer digest bits) (key, value) read) ++ bytes_of read) b
-        → Contains (nodes digest bits es ++ nodes digest bits (with_key es key value)) b
-    within b c =
-        by (Contains-append_cases (bytes_of (put_written digest (layer digest bits) (key, value) read)) (bytes_of read) b c)
-      where
-        by : Contains (bytes_of (put_written digest (layer digest bits) (key, value) read)) b ⊎ Contains (bytes_of read) b
-            → Contains (nodes digest bits es ++ nodes digest bits (with_key es key value)) b
-        by (inl k) = Contains-append_right (nodes digest bits es) (nodes digest bits (with_key es key value)) b (new b k)
-        by (inr k) = Contains-append_left (nodes digest bits es) (nodes digest bits (with_key es key value)) b (old b k)
-
     pub put-answer : (root' : List ℕ) (add drop : List (List ℕ)) (previous : Option (List ℕ))
         → IsPutOn digest (layer digest bits) (key, value) read root' add drop
         → previous ≡ value_from (shown_by gives) n key (Some root)
@@ -201,7 +191,10 @@ module _ (digest : List ℕ → List ℕ) (bits : ℕ) (fits : IsDigest digest) 
         (¬ AllLawful (put_written digest (layer digest bits) (key, value) read)) fault
         → IsRefusal digest (nodes digest bits es ++ nodes digest bits (with_key es key value)) ⊥ fault
     put-refused NoSuchKey all r = r all
-    put-refused (Clash pair) all r = (within pair.0 r.0, within pair.1 r.1, r.2)
+    put-refused (Clash pair) all r =
+        let among = within (nodes digest bits es) (nodes digest bits (with_key es key value))
+        (bytes_of (put_written digest (layer digest bits) (key, value) read)) (bytes_of read) old new in
+        (among pair.0 r.0, among pair.1 r.1, r.2)
     put-refused NoMemory all r = tt
 
 pub put-is_lawful : (digest : List ℕ → List ℕ) (bits : ℕ) → IsDigest digest → (key value : List ℕ) (read : List Shape)

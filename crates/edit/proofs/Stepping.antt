@@ -70,31 +70,11 @@ at-step shows key c v l n (Some s) e h =
     let ql : l ≡ gap key s = ap (λ (x : Option (List ℕ) × Option (List ℕ)). x.1) q in
     rw (e, qv, ql) (refl, refl)
 
-abbrev pub Stops : (List ℕ → Option Shape) → List ℕ → List ℕ → ℕ → Type 0
-Stops shows key c n = (value_from shows (suc n) key (Some c) ≡ None) × (asked_from shows (suc n) key (Some c) ≡ 1)
-
-at-stop : (shows : List ℕ → Option Shape) (key c : List ℕ) (n : ℕ) → shows c ≡ None → Stops shows key c n
-at-stop shows key c n e = rw e (refl, refl)
-
-no-shape : (key : List ℕ) (o : Option Shape) → None ≡ option_map (at_key key) o → o ≡ None
-no-shape key None h = refl
-no-shape key (Some s) h = cc
-
 pub steps : (gives : List ℕ → Option (List ℕ)) (key c b : List ℕ) (v l : Option (List ℕ)) (n : ℕ) → 0 < n
     → gives c ≡ Some b → Some (v, l) ≡ option_map (at_key key) (shape_of_bytes b)
     → Steps (shown_by gives) key c v l (n - 1)
 steps gives key c b v l n t h q =
     at-step (shown_by gives) key c v l (n - 1) (shape_of_bytes b) (ap (option_and_then shape_of_bytes) h) q
-
-pub stops-missing : (gives : List ℕ → Option (List ℕ)) (key c : List ℕ) (n : ℕ) → gives c ≡ None
-    → Stops (shown_by gives) key c n
-stops-missing gives key c n h = at-stop (shown_by gives) key c n (ap (option_and_then shape_of_bytes) h)
-
-pub stops-bad : (gives : List ℕ → Option (List ℕ)) (key c b : List ℕ) (n : ℕ) → gives c ≡ Some b
-    → None ≡ option_map (at_key key) (shape_of_bytes b) → Stops (shown_by gives) key c n
-stops-bad gives key c b n h q =
-    at-stop (shown_by gives) key c n
-    (ap (option_and_then shape_of_bytes) h ∙ no-shape key (shape_of_bytes b) q)
 
 pub value-none : (shows : List ℕ → Option Shape) (key : List ℕ) (n : ℕ) → value_from shows n key None ≡ None
 value-none shows key zero = refl

@@ -1,12 +1,12 @@
 -- What a delete reads and writes.
-use Rattle.std.specs.Prelude.{◌≡◌, ◌≤◌, ◌+◌, ◌*◌, ⊤, ℕ, List, [], ◌∷◌, ◌++◌, length, Contains, Option, Some, None, IsSome}
-use Rattle.spec.specs.Blocks.{IsClashFree, nodes}
+use Rattle.std.specs.Prelude.{◌≡◌, ◌≤◌, ◌+◌, ⊤, ℕ, List, [], ◌∷◌, ◌++◌, length, map, Option, Some, None, IsSome}
+use Rattle.spec.specs.Blocks.{IsClashFree}
 use Rattle.spec.specs.Layer.{layer}
 use Rattle.spec.specs.Tree.{Pair, top}
 use Rattle.spec.specs.Writes.{without_key}
-use Rattle.paths.specs.TreeEdit.{layer_of}
+use Rattle.paths.specs.Trace.{delete_path_read}
 use Rattle.edit.specs.Edits.{IsEditOf}
-use Rattle.spec.specs.NodeFormat.{Shape, shape_cid}
+use Rattle.spec.specs.NodeFormat.{Shape, shape_cid, node_bytes}
 use Rattle.paths.specs.Lawful.{AllLawful}
 use Rattle.paths.specs.ShapeEdit.{merge_shapes, row_links, settle_links, settle_shapes}
 use Rattle.paths.specs.PathEdit.{climb_shapes, all_but_last, row_shape, prune_link, delete_here, delete_below, delete_root, delete_written, delete_read, delete_gone_shapes}
@@ -70,12 +70,14 @@ pub record IsDeleteOn (digest : List ℕ → List ℕ) (key : List ℕ) (path : 
   pub all_free : IsClashFree digest (bytes_of (delete_read path met pruned))
       → IsClashFree digest (bytes_of (delete_written digest key path met) ++ bytes_of (delete_read path met pruned))
 
--- the tree of es loses a key that it has, for which so many blocks were read, each one of its nodes
-pub record IsDeleteOf (digest : List ℕ → List ℕ) (bits : ℕ) (es : List Pair) (key : List ℕ) (before after : ℕ)
-    (root : List ℕ) (add drop : List (List ℕ)) (previous : Option (List ℕ)) : Type 0 where
+-- the nodes that a delete reads: those of the key's path, those that meet where the key stood, and the chain below a top
+-- that loses its only key
+abbrev pub nodes_read : (List ℕ → List ℕ) → ℕ → List Pair → List ℕ → List (List ℕ)
+nodes_read digest bits es key =
+    map (node_bytes digest) (delete_path_read (layer digest bits) key (top (layer digest bits) es))
+
+-- the tree of es loses a key that it has
+pub record IsDeleteOf (digest : List ℕ → List ℕ) (bits : ℕ) (es : List Pair) (key : List ℕ) (root : List ℕ)
+    (add drop : List (List ℕ)) (previous : Option (List ℕ)) : Type 0 where
   pub there : IsSome previous
-  pub read : List (List ℕ)
-  pub read_old : (b : List ℕ) → Contains read b → Contains (nodes digest bits es) b
-  pub count : after ≡ before + length read
-  pub most : length read ≤ 2 * layer_of (layer digest bits) (top (layer digest bits) es) + 1
-  pub edit : IsEditOf digest bits es (without_key es key) key read root add drop previous
+  pub edit : IsEditOf digest bits es (without_key es key) key (nodes_read digest bits es key) root add drop previous

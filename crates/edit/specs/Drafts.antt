@@ -1,18 +1,11 @@
 -- Nodes that are written anew, and when one can't be written.
 use Rattle.std.specs.Prelude.{◌≡◌, ⊤, ℕ, Bool, true, false, List, [], ◌∷◌, Option, Some, None}
-use Rattle.std.specs.List.{AllByRecursion}
 use Rattle.spec.specs.Tree.{Pair}
-use Rattle.spec.specs.NodeFormat.{Entry, Shape, LastLink, MoreLinks, first_link, entries_of, is_node, shape_bytes}
+use Rattle.spec.specs.NodeFormat.{Entry, Shape, LastLink, MoreLinks, shape_bytes}
+use Rattle.paths.specs.Lawful.{Lawful}
 use Rattle.paths.specs.Sources.{shape_of_bytes}
 use Rattle.edit.specs.declared.draft_fault.DraftFault.{DraftFault}
 use Rattle.edit.specs.declared.draft_fault.DraftFault.TheVariants.{NotNode, NoMemory}
-
--- a node of the grammar
-abbrev pub Lawful : Shape → Type 0
-Lawful s = is_node (first_link s) (entries_of s) ≡ true
-
-abbrev pub AllLawful : List Shape → Type 0
-AllLawful ss = AllByRecursion Lawful ss
 
 -- a node without keys and links
 abbrev pub is_hollow : Shape → Bool

@@ -5,10 +5,11 @@ ghost use Rattle.std.specs.Borrow.{ftrue};
 
 use std::marker::Model;
 
-/// How often something was asked, as a number of any size. It takes no memory, and its methods do nothing when they run.
+/// How often a source was asked, as a number of any size, for the `reads` of a `Source`. It takes no memory, and its
+/// methods do nothing when they run.
 #[derive(Drop)]
-pub(crate) struct Asked {
-    pub(crate) ghost times: { ℕ },
+pub struct Asked {
+    pub ghost times: { ℕ },
 }
 
 impl Model for Asked {
@@ -17,14 +18,14 @@ impl Model for Asked {
 
 impl Asked {
     /// Not once so far.
-    pub(crate) fn never() -> Asked
+    pub fn never() -> Asked
         ensures { result.times ≡ 0 }
     {
         Asked {}
     }
 
     /// Once more than before.
-    pub(crate) fn once_more(&self) -> Asked
+    pub fn once_more(&self) -> Asked
         ensures { result.times ≡ suc self.now.times }
     {
         Asked {}

@@ -45,7 +45,7 @@ impl<'a, D: Digest, A: Allocator> Model for BlockMap<'a, D, A> {
 }
 
 impl<'a, D: Digest, A: Allocator + Clone> BlockMap<'a, D, A> {
-    /// A source of these blocks that wasn't asked for any so far.
+    /// A source of these blocks that wasn't asked for any so far, or `AllocError` where memory was refused.
     pub fn new(
         alloc: A,
         blocks: &'a [Arc<Block<D, A>, A>],

@@ -4,7 +4,7 @@ ghost use Rattle.std.specs.Prelude.{◌≡◌, ◌∷◌, [], ◌++◌, map, IfO
 ghost use Rattle.std.specs.Arc.{arc_value};
 ghost use Rattle.spec.specs.NodeFormat.{shape_bytes};
 ghost use Rattle.spec.specs.Cid.{cid as cid_of};
-ghost use Rattle.spec.specs.Blocks.{Clash, IsClashFree};
+ghost use Rattle.spec.specs.Blocks.{IsClash, IsClashFree};
 ghost use Rattle.paths.specs.Changes.{add_of, drop_of, has_cid as has_cid_of};
 ghost use Rattle.edit.specs.Changes.{IsAmong};
 ghost use Rattle.edit.specs.Faults.{IsClashIn, IsRefusal};
@@ -108,7 +108,7 @@ fn shown<D: Digest, A: Allocator>(
     one: &Arc<Block<D, A>, A>,
     other: &Arc<Block<D, A>, A>,
 ) -> Result<Collided<D, A>, AllocError>
-    requires { Clash D.digest_of (arc_value one.now) (arc_value other.now) }
+    requires { IsClash D.digest_of (arc_value one.now) (arc_value other.now) }
     ensures { IfOk result (IsClashIn D.digest_of (arc_value one.now ∷ arc_value other.now ∷ [])) }
 {
     let one = Arc::try_clone(one)?;

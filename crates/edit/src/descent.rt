@@ -6,6 +6,7 @@ ghost use Rattle.cid.specs.CidRef.{bytes_of};
 ghost use Rattle.paths.specs.Sources.{shape_from, shown_by, start_shape};
 ghost use Rattle.edit.specs.Walks.{shape_at};
 
+use crate::nodes::view_of;
 use crate::rows::NodeRows;
 use crate::source::Source;
 use cid::{Block, Cid, CidRef, Digest};
@@ -23,10 +24,7 @@ pub(crate) fn node_of<'a, D: Digest + 'a, A: Allocator + 'a, S: Source<'a, Arc<B
     ensures counted { S.reads src.new ≡ suc (S.reads src.old) }
     ensures same { S.gives src.new ≡ S.gives src.old }
 {
-    match NodeView::parse(src.get(cid)?.bytes()) {
-        Ok(view) => Some(view),
-        Err(_) => None,
-    }
+    view_of(src.get(cid)?.bytes())
 }
 
 /// Goes to the first pair of a node that isn't below a key. It answers the link to go down from before that pair, which is

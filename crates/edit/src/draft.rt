@@ -3,8 +3,8 @@
 ghost use Rattle.std.specs.Prelude.{◌≡◌, ◌∷◌, ◌++◌, [], map, true, IfOk, OnOk};
 ghost use Rattle.std.specs.Arc.{arc_value};
 ghost use Rattle.spec.specs.NodeFormat.{shape_bytes, shape_cid};
+ghost use Rattle.paths.specs.Lawful.{Lawful};
 ghost use Rattle.paths.specs.ShapeEdit.{close_link, close_shapes};
-ghost use Rattle.edit.specs.Drafts.{Lawful};
 
 use cid::{Block, Cid, Digest};
 use std::alloc::{AllocError, Allocator};

@@ -12,7 +12,8 @@ use thiserror::Error;
 #[derive(Drop, Error)]
 #[derive_where(Debug)]
 pub enum EditFault<D: Digest, A: Allocator = Global> {
-    /// The tree doesn't have the key that was to be deleted.
+    /// The tree doesn't have the key that was to be deleted; or, at a put too, the source lacks a node that was to be
+    /// read, or gives what is no node.
     #[error("the tree does not have the key")]
     NoSuchKey,
 

@@ -99,7 +99,7 @@ impl<'a, D: Digest, A: Allocator> Node<'a, D, A> {
 }
 
 /// What a block of these bytes shows, or `None` where they are no node.
-fn view_of(bytes: &[u8]) -> Option<NodeView<'_>>
+pub(crate) fn view_of(bytes: &[u8]) -> Option<NodeView<'_>>
     ensures shape { option_map (λ view. shape_from view.left view.entries) result ≡ shape_of_bytes bytes.now }
     ensures lawful { IfSome result (λ view. IsNodeOf bytes.now (shape_from view.left view.entries)) }
 {

@@ -1,6 +1,6 @@
 //! The nodes that an edit reads.
 
-ghost use Rattle.std.specs.Prelude.{◌≡◌, ◌≤◌, ◌+◌, ℕ, List, Some, IfOk, IfErr, OnOk, map};
+ghost use Rattle.std.specs.Prelude.{◌≡◌, ◌≤◌, ◌+◌, ◌*◌, ℕ, List, Some, length, IfOk, IfErr, OnOk, map};
 ghost use Rattle.std.specs.Arc.{arc_value};
 ghost use Rattle.paths.specs.Lawful.{AllLawful, AllShort};
 ghost use Rattle.paths.specs.Sources.{path_from, value_from, met_from, pruned_from};
@@ -36,6 +36,7 @@ pub(crate) fn read_path<'a, D: Digest + 'a, A: Allocator + 'a, S: Source<'a, Arc
     ensures previous { IfOk result (λ path. path.previous ≡ value_from (shows arc_value (S.gives src.old)) most key.now (Some root)) }
     ensures fault { IfErr result (IsFaultUnless (IsWholePath (shows arc_value (S.gives src.old)) most key.now (Some root))) }
     ensures same { S.gives src.new ≡ S.gives src.old }
+    ensures counted { IfOk result (λ path. S.reads src.new ≡ S.reads src.old + length path.nodes.items) }
     ensures reads { S.reads src.new ≤ S.reads src.old + asked_from (shows arc_value (S.gives src.old)) most key.now (Some root) }
     ensures reads_all { OnOk result (S.reads src.new ≡ S.reads src.old + asked_from (shows arc_value (S.gives src.old)) most key.now (Some root)) }
 {
@@ -77,6 +78,7 @@ pub(crate) fn read_met<'a, D: Digest + 'a, A: Allocator + 'a, S: Source<'a, Arc<
     ensures met { IfOk result (λ met. met.items ≡ met_from (shows arc_value (S.gives src.old)) most one other) }
     ensures fault { IfErr result (IsFaultUnless (IsWholeMet (shows arc_value (S.gives src.old)) most one other)) }
     ensures same { S.gives src.new ≡ S.gives src.old }
+    ensures counted { IfOk result (λ met. S.reads src.new ≡ S.reads src.old + 2 * length met.items) }
     ensures reads { S.reads src.new ≤ S.reads src.old + asked_met (shows arc_value (S.gives src.old)) most one other }
     ensures reads_all { OnOk result (S.reads src.new ≡ S.reads src.old + asked_met (shows arc_value (S.gives src.old)) most one other) }
 {
@@ -113,6 +115,7 @@ pub(crate) fn read_pruned<
     ensures nodes { IfOk result (λ nodes. nodes.items ≡ pruned_from (shows arc_value (S.gives src.old)) most link) }
     ensures fault { IfErr result (IsFaultUnless (IsWholeChain (shows arc_value (S.gives src.old)) most link)) }
     ensures same { S.gives src.new ≡ S.gives src.old }
+    ensures counted { IfOk result (λ nodes. S.reads src.new ≡ S.reads src.old + length nodes.items) }
     ensures reads { S.reads src.new ≤ S.reads src.old + asked_pruned (shows arc_value (S.gives src.old)) most link }
     ensures reads_all { OnOk result (S.reads src.new ≡ S.reads src.old + asked_pruned (shows arc_value (S.gives src.old)) most link) }
 {

@@ -111,5 +111,5 @@ fn put_here<D: Digest, A: Allocator + Clone>(
         return lone(alloc, None, key, value.to_cid(), None);
     };
     let (left, right) = split(alloc.clone()?, below, key, made)?;
-    insert(alloc, Some(node.view()), key, value.to_cid(), left, right)
+    insert(alloc, node.view(), key, value.to_cid(), left, right)
 }

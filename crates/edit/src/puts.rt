@@ -1,6 +1,6 @@
 //! A key put into a tree.
 
-ghost use Rattle.std.specs.Prelude.{◌≡◌, ◌≤◌, ◌+◌, ◌++◌, ℕ, List, true, suc, length, map, option_map, IfOk, IfErr, OnOk};
+ghost use Rattle.std.specs.Prelude.{◌≡◌, ◌≤◌, ◌+◌, ◌++◌, ℕ, List, Some, true, suc, length, map, option_map, IfOk, IfErr, OnOk};
 ghost use Rattle.std.specs.Arc.{arc_value};
 ghost use Rattle.spec.specs.Tree.{Pair, top};
 ghost use Rattle.spec.specs.Layer.{layer};
@@ -13,8 +13,8 @@ ghost use Rattle.paths.specs.Lawful.{AllLawful};
 ghost use Rattle.paths.specs.PathEdit.{put_written};
 ghost use Rattle.paths.specs.TreeEdit.{layer_of};
 ghost use Rattle.edit.specs.Edits.{IsEditOf, IsPutOn};
-ghost use Rattle.edit.specs.Faults.{IsRefusal};
-ghost use Rattle.edit.specs.Steps.{layers};
+ghost use Rattle.edit.specs.Faults.{IsRefusal, IsMissing};
+ghost use Rattle.edit.specs.Steps.{layers, shows, IsWholePath};
 ghost use Rattle.edit.specs.Trees.{HasTree};
 
 use crate::changes::{added, dropped};
@@ -33,12 +33,13 @@ use std::sync::Arc;
 /// old one.
 ///
 /// It reads the nodes of the key's path, each once, and writes the nodes that change; no other node is looked at. `B`
-/// is the number of zero bits of a digest that count for one layer (AT Protocol repository v3, MST structure). The key
-/// has 1 to 1,024 bytes.
+/// is the number of zero bits of a digest that count for one layer, 1 to 8 (AT Protocol repository v3, MST structure). The
+/// key has 1 to 1,024 bytes; `is_key` is the test.
 ///
 /// The source has all nodes of the tree. Then `EditFault::Clash` shows two blocks with one CID and different bytes,
-/// each a node of the tree before or of the tree after, and `EditFault::NoSuchKey` never comes; it stands for a source
-/// that lacks one of the nodes or gives what is no node. `EditFault::NoMemory` comes where memory was refused.
+/// each a node of the tree before or of the tree after, and `EditFault::NoMemory` comes where memory was refused. Where
+/// the source lacks a node of the path, or gives what is no node, the fault is `EditFault::NoSuchKey`, which never comes
+/// else.
 pub fn put<
     'a,
     D: Digest + 'a,
@@ -51,6 +52,7 @@ pub fn put<
     requires key { is_key key.now ≡ true }
     ensures edit { (es : List Pair) → HasTree D.digest_of B (λ c. option_map arc_value (S.gives src.old c)) root es → IfOk result (λ edit. IsEditOf D.digest_of B es (with_key es key.now value) key.now (path D.digest_of B es key.now) edit.root (map arc_value edit.add.items) edit.drop.items edit.previous) }
     ensures fault { (es : List Pair) → HasTree D.digest_of B (λ c. option_map arc_value (S.gives src.old c)) root es → IfErr result (IsRefusal D.digest_of (nodes D.digest_of B es ++ nodes D.digest_of B (with_key es key.now value)) ⊥) }
+    ensures missing { ¬ IsWholePath (shows arc_value (S.gives src.old)) (layers B) key.now (Some root) → IsMissing result }
     ensures reads { (es : List Pair) → HasTree D.digest_of B (λ c. option_map arc_value (S.gives src.old c)) root es → OnOk result (S.reads src.new ≡ S.reads src.old + length (path D.digest_of B es key.now)) }
     ensures layers { (es : List Pair) → HasTree D.digest_of B (λ c. option_map arc_value (S.gives src.old c)) root es → S.reads src.new ≤ S.reads src.old + suc (layer_of (layer D.digest_of B) (top (layer D.digest_of B) es)) }
     ensures most { S.reads src.new ≤ S.reads src.old + layers B }

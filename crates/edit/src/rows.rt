@@ -76,13 +76,6 @@ impl<'a, A: Allocator> NodeRows<'a, A> {
         self.link = entry.tree;
         Some(entry.value)
     }
-
-    /// The room for keys, for another node.
-    pub(crate) fn into_key(self) -> KeyBuf<A>
-        ensures { result ≡ self.entry.before }
-    {
-        self.key
-    }
 }
 
 /// A link with bytes of its own.

@@ -1,7 +1,7 @@
-//! Look-ups and walks over blocks that are written here, and what no clause says.
+//! Look-ups, walks and edits over blocks that are written here, and what no clause says.
 
-use crate::{BlockMap, get, walk};
-use cid::digests::Toy;
+use crate::{BlockMap, Edit, EditFault, delete, get, is_key, put, walk};
+use cid::digests::{Clash, Toy};
 use cid::{Block, Cid, CidRef};
 use node::NodeWriter;
 use refusing::Refusing;
@@ -168,27 +168,121 @@ fn a_block_that_is_no_node(rt: HostRuntime) -> Result<(), Fail> {
     assert_eq!(rt; count, 2);
     assert_eq!(rt; looked_up(rt.alloc(), &blocks, root, b"a/r0")?, (false, 2));
     assert_eq!(rt; looked_up(rt.alloc(), &blocks, other, b"a/r0")?, (false, 1));
+    // A put goes by it; so does a delete that would make it the top.
+    let mut map = BlockMap::new(rt.alloc(), &blocks)?;
+    let key = b"a/r0".as_slice();
+    assert!(rt; is_key(key));
+    let edited = put::<Toy, 2, _, _>(rt.alloc(), &mut map, root, key, identifier(0x11)?);
+    assert!(rt; matches!(edited, Err(EditFault::NoSuchKey)));
+    let edited = delete::<Toy, 2, _, _>(rt.alloc(), &mut map, root, b"a/q2");
+    assert!(rt; matches!(edited, Err(EditFault::NoSuchKey)));
     Ok(())
 }
 
 #[test]
-fn a_walk_without_memory(rt: HostRuntime) -> Result<(), Fail> {
-    let heap = Refusing::new(rt.alloc());
-    for number in 1..=4 {
-        let mut blocks = Vec::new(&heap);
-        let mut writer = NodeWriter::begin(&heap, None)?;
-        if !writer.is_next(b"a/q2") {
-            return Err(Fail::from("no key"));
-        }
-        writer.entry(b"a/q2", CidRef::from(&identifier(0x11)?), None)?;
-        let block: Block<Toy, &Refusing<Global>> = Block::of(writer.finish()?);
-        let root = block.cid();
-        blocks.push(Arc::new(&heap, block)?)?;
-        let mut map = BlockMap::new(&heap, &blocks)?;
-        heap.refuse(number);
-        assert!(rt; walk::<Toy, 2, _, _>(&heap, &mut map, root, b"", 1).is_err());
+fn a_node_that_links_to_itself(rt: HostRuntime) -> Result<(), Fail> {
+    let root = identifier(0xff)?;
+    let bytes = NodeWriter::begin(rt.alloc(), Some(root))?.finish()?;
+    let mut blocks = Vec::new(rt.alloc());
+    blocks.push(Arc::new(rt.alloc(), Block::<Clash>::of(bytes))?)?;
+    let mut map = BlockMap::new(rt.alloc(), &blocks)?;
+    assert_eq!(rt; get::<Clash, 2, _, _>(&mut map, root, b"a/q2"), None);
+    assert_eq!(rt; map.reads(), 129);
+    let pairs = walk::<Clash, 2, _, _>(rt.alloc(), &mut map, root, b"", 9)?;
+    assert_eq!(rt; pairs.len(), 0);
+    assert_eq!(rt; map.reads(), 258);
+    let key = b"a/q2".as_slice();
+    assert!(rt; is_key(key));
+    let edited = put::<Clash, 2, _, _>(rt.alloc(), &mut map, root, key, identifier(0x11)?);
+    assert!(rt; matches!(edited, Err(EditFault::Clash(_))));
+    assert_eq!(rt; map.reads(), 387);
+    let edited = delete::<Clash, 2, _, _>(rt.alloc(), &mut map, root, key);
+    assert!(rt; matches!(edited, Err(EditFault::NoSuchKey)));
+    assert_eq!(rt; map.reads(), 516);
+    Ok(())
+}
+
+/// Memory that refuses requests, as blocks are kept in it.
+type Heap<'h> = &'h Refusing<Global>;
+
+/// The same blocks in other memory.
+fn kept_in<'h>(
+    heap: Heap<'h>,
+    blocks: &[Arc<Block<Toy>>],
+) -> Result<Vec<Arc<Block<Toy, Heap<'h>>, Heap<'h>>, Heap<'h>>, Fail> {
+    let mut kept = Vec::new(heap);
+    for block in blocks {
+        let block = Block::of(Vec::from_slice(heap, block.bytes())?);
+        kept.push(Arc::new(heap, block)?)?;
     }
-    assert_eq!(rt; heap.live(), 0);
-    assert_eq!(rt; heap.refused(), 4);
+    Ok(kept)
+}
+
+#[test]
+fn a_walk_without_memory(rt: HostRuntime) -> Result<(), Fail> {
+    let (blocks, root) = five_nodes(rt.alloc())?;
+    let heap = Refusing::new(rt.alloc());
+    let kept = kept_in(&heap, &blocks)?;
+    let mut map = BlockMap::new(&heap, &kept)?;
+    let before = heap.live();
+    for request in 1..100u64 {
+        heap.refuse(request);
+        match walk::<Toy, 2, _, _>(&heap, &mut map, root, b"", 9) {
+            Ok(pairs) => assert_eq!(rt; pairs.len(), 3),
+            Err(_) => assert_eq!(rt; heap.refused(), request),
+        }
+        assert_eq!(rt; heap.live(), before);
+    }
+    assert!(rt; 0 < heap.refused() && heap.refused() < 99);
+    Ok(())
+}
+
+/// Tests that an edit was refused for want of memory alone; whether it was made.
+fn is_made(edited: Result<Edit<Toy, Heap<'_>>, EditFault<Toy, Heap<'_>>>) -> Result<bool, Fail> {
+    match edited {
+        Ok(_) => Ok(true),
+        Err(EditFault::NoMemory) => Ok(false),
+        Err(EditFault::NoSuchKey) => Err(Fail::from("no such key")),
+        Err(EditFault::Clash(_)) => Err(Fail::from("a clash")),
+    }
+}
+
+#[test]
+fn a_put_without_memory(rt: HostRuntime) -> Result<(), Fail> {
+    let (blocks, root) = five_nodes(rt.alloc())?;
+    let heap = Refusing::new(rt.alloc());
+    let kept = kept_in(&heap, &blocks)?;
+    let mut map = BlockMap::new(&heap, &kept)?;
+    let before = heap.live();
+    let key = b"a/q4".as_slice();
+    assert!(rt; is_key(key));
+    for request in 1..200u64 {
+        heap.refuse(request);
+        let edited = put::<Toy, 2, _, _>(&heap, &mut map, root, key, identifier(0x22)?);
+        if !is_made(edited)? {
+            assert_eq!(rt; heap.refused(), request);
+        }
+        // What was refused gives all back, and the next put finds the tree as it was.
+        assert_eq!(rt; heap.live(), before);
+    }
+    assert!(rt; 0 < heap.refused() && heap.refused() < 199);
+    Ok(())
+}
+
+#[test]
+fn a_delete_without_memory(rt: HostRuntime) -> Result<(), Fail> {
+    let (blocks, root) = five_nodes(rt.alloc())?;
+    let heap = Refusing::new(rt.alloc());
+    let kept = kept_in(&heap, &blocks)?;
+    let mut map = BlockMap::new(&heap, &kept)?;
+    let before = heap.live();
+    for request in 1..200u64 {
+        heap.refuse(request);
+        if !is_made(delete::<Toy, 2, _, _>(&heap, &mut map, root, b"a/q2"))? {
+            assert_eq!(rt; heap.refused(), request);
+        }
+        assert_eq!(rt; heap.live(), before);
+    }
+    assert!(rt; 0 < heap.refused() && heap.refused() < 199);
     Ok(())
 }

@@ -28,7 +28,8 @@ use std::sync::Arc;
 /// repository v3, MST structure).
 ///
 /// The source has all nodes of the tree. Where it lacks one, or gives what is no node, this ends with the pairs so far;
-/// in any case it reads no more than `256 / B + 1` blocks for each pair of the limit.
+/// in any case it reads no more than `256 / B + 1` blocks for each pair of the limit. `AllocError` comes where memory was
+/// refused.
 pub fn walk<
     'a,
     D: Digest + 'a,

@@ -1,12 +1,11 @@
 //! A pair in its place.
 
-ghost use Rattle.std.specs.Prelude.{◌≡◌, option_map, IfOk, IfErr};
+ghost use Rattle.std.specs.Prelude.{◌≡◌, IfOk, IfErr};
 ghost use Rattle.paths.specs.Sources.{shape_from};
 ghost use Rattle.paths.specs.ShapeEdit.{insert_shape};
-ghost use Rattle.edit.specs.Drafts.{IsFaultOf, or_empty};
+ghost use Rattle.edit.specs.Drafts.{IsFaultOf};
 
 use crate::ahead::Ahead;
-use crate::changed::bare::lone;
 use crate::copying::{copy_before, copy_from};
 use crate::draft::Draft;
 use crate::draft_fault::DraftFault;
@@ -17,27 +16,8 @@ use std::alloc::Allocator;
 use std::clone::Clone;
 
 /// A node with a pair in its place. A new key comes between `left` and `right`, which take the place of the link that
-/// stood there; where the node has the key, the pair takes the place of the old one, and its links stay. Without a node
-/// the pair stands alone.
+/// stood there; where the node has the key, the pair takes the place of the old one, and its links stay.
 pub(crate) fn insert<A: Allocator + Clone>(
-    alloc: A,
-    node: Option<&NodeView<'_>>,
-    key: &[u8],
-    value: Cid,
-    left: Option<Cid>,
-    right: Option<Cid>,
-) -> Result<Draft<A>, DraftFault>
-    ensures ok { IfOk result (λ draft. draft ≡ insert_shape (key.now, value) (or_empty (option_map (λ view. shape_from view.now.left view.now.entries) node.entry)) (left, right)) }
-    ensures fault { IfErr result (IsFaultOf (insert_shape (key.now, value) (or_empty (option_map (λ view. shape_from view.now.left view.now.entries) node.entry)) (left, right))) }
-{
-    match node {
-        Some(node) => insert_into(alloc, node, key, value, left, right),
-        None => lone(alloc, left, key, value, right),
-    }
-}
-
-/// A node with a pair in its place.
-fn insert_into<A: Allocator + Clone>(
     alloc: A,
     node: &NodeView<'_>,
     key: &[u8],

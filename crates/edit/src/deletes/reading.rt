@@ -48,6 +48,7 @@ pub(crate) fn read_delete<
     ensures met { IfOk result (λ read. read.met.items ≡ delete_met_from (shows arc_value (S.gives src.old)) most key.now read.path.items) }
     ensures pruned { IfOk result (λ read. read.pruned.items ≡ delete_pruned_from (shows arc_value (S.gives src.old)) most key.now read.path.items read.met.items) }
     ensures previous { IfOk result (λ read. Some read.previous ≡ value_from (shows arc_value (S.gives src.old)) most key.now (Some root)) }
+    ensures can { OnOk result (CanReadDelete (shows arc_value (S.gives src.old)) most key.now root) }
     ensures fault { IfErr result (IsFaultUnless (CanReadDelete (shows arc_value (S.gives src.old)) most key.now root)) }
     ensures same { S.gives src.new ≡ S.gives src.old }
     ensures reads { S.reads src.new ≤ S.reads src.old + asked_delete (shows arc_value (S.gives src.old)) most key.now root }

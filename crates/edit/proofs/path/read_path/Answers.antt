@@ -115,3 +115,13 @@ returns-in-Gap-clause-reads_all g c =
     let e = path-ends (shows arc_value (g.S.Source.gives c.args.src.now)) c.args.key.now c.args.most c.args.root at.left at.cid
     at.nodes.items c.in-Some.node None c.loop-left-test.true at.invariant.so_far sh c.in-Gap.ensures in
     reads-eq _ _ _ _ _ c.node_at.ensures.counted at.invariant.counted e.asked
+
+pub returns-in-Here-clause-counted : goal.returns-in-Here-clause-counted
+returns-in-Here-clause-counted g c =
+    reads-more _ _ _ c.loop-left.nodes.items _ c.in-Some.node c.in_ok-push.ensures.items c.node_at.ensures.counted
+    c.loop-left.invariant.counted
+
+pub returns-in-Gap-clause-counted : goal.returns-in-Gap-clause-counted
+returns-in-Gap-clause-counted g c =
+    reads-more _ _ _ c.loop-left.nodes.items _ c.in-Some.node c.in_ok-push.ensures.items c.node_at.ensures.counted
+    c.loop-left.invariant.counted

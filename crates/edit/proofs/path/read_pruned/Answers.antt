@@ -66,3 +66,8 @@ loop-left-preserved g c =
           (subst (λ (l : Option (List ℕ)). IsChainSoFar (shows arc_value (g.S.Source.gives c.args.src.now)) c.args.most c.args.link (at.left - 1) l (at.nodes.items ++ c.in-Some-node_at.node ∷ []))
           (sym c.first_link-below.ensures) e);
     }
+
+pub returns-then-is_last-clause-counted : goal.returns-then-is_last-clause-counted
+returns-then-is_last-clause-counted g c =
+    reads-more _ _ _ c.loop-left.nodes.items _ c.in-Some-node_at.node c.in_ok-push.ensures.items c.node_at.ensures.counted
+    c.loop-left.invariant.counted

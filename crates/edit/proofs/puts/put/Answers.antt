@@ -1,4 +1,5 @@
 use Rattle.std.proofs.Common.{ℕ, List, ◌+◌, ◌++◌, ap, ◌∙◌, map, subst}
+use Rattle.std.specs.declared.option.Option.TheVariants.{Some}
 use Rattle.std.specs.Arc.{arc_value}
 use Rattle.std.proofs.lemmas.Result.{err_from_is_err_and}
 use Rattle.cid.specs.CidRef.{bytes_of}
@@ -9,7 +10,9 @@ use Rattle.edit.specs.Edits.{IsEditOf}
 use Rattle.edit.specs.Faults.{IsRefusal}
 use Rattle.edit.proofs.Building.{on_ok}
 use Rattle.edit.proofs.PutSteps.{if-err, if-ok-two}
-use Rattle.edit.proofs.Putting.{cannot-be, le-below, le-most, path-whole, put-answer, put-refused, put-is_lawful}
+use Rattle.edit.proofs.Putting.{cannot-be, draft-missing, le-below, le-most, path-whole, put-answer, put-refused, put-is_lawful}
+use Rattle.edit.specs.Steps.{shows, IsWholePath}
+use Rattle.edit.proofs.PathReading.{whole-path}
 use Rattle.edit.proofs.Stepping.{tree-reads, tree-layers, asked-most}
 use Rattle.edit.proofs.puts.put.Goals as goal
 
@@ -67,3 +70,16 @@ returns-clause-layers g c es h =
 pub returns-clause-most : goal.returns-clause-most
 returns-clause-most g c =
     le-most _ _ _ _ _ c.read_path.ensures.reads (asked-most _ c.args.key.now c.layers.result _) c.layers.ensures
+
+pub returns-in_err-path-clause-missing : goal.returns-in_err-path-clause-missing
+returns-in_err-path-clause-missing g c not_whole =
+    let p = err_from_is_err_and c.from_residual-in_err-path.result c.from_residual-in_err-path.ensures.1 in
+    rw p.1 (draft-missing c.in_err-path.field-0.0 p.0 p.2)
+
+pub returns-clause-missing : goal.returns-clause-missing
+returns-clause-missing g c not_whole =
+    absurd (not_whole (subst (λ (n : ℕ). IsWholePath (shows arc_value (g.S.Source.gives c.args.src.now)) n c.args.key.now (Some c.args.root))
+    c.layers.ensures
+    (whole-path arc_value (g.S.Source.gives c.args.src.now) c.layers.result c.args.key.now c.args.root c.in_ok-path.path.nodes.items
+    (g.S.Source.reads c.args.src.now) (g.S.Source.reads c.read_path.new.src) c.in_ok-path.ensures.nodes c.in_ok-path.ensures.counted
+    c.in_ok-path.ensures.reads_all)))

@@ -1,7 +1,8 @@
-use Rattle.std.proofs.Common.{◌≡◌, ◌∙◌}
+use Rattle.std.proofs.Common.{◌≡◌, sym, ◌∙◌}
 use Rattle.std.specs.Arc.{arc_value}
 use Rattle.std.proofs.lemmas.Result.{err_from_is_err_and}
-use Rattle.edit.proofs.DeleteReading.{met-is, link-is, no-met, no-chain, met-asked, chain-asked, three, three-most, at-most}
+use Rattle.edit.proofs.PathReading.{whole-path, whole-met, whole-chain}
+use Rattle.edit.proofs.DeleteReading.{can-all, met-is, link-is, no-met, no-chain, met-asked, chain-asked, three, three-most, at-most}
 use Rattle.edit.proofs.deletes.reading.read_delete.Goals as goal
 
 pub returns-in_err-met-clause-fault : goal.returns-in_err-met-clause-fault
@@ -56,3 +57,23 @@ returns-clause-reads_all g c =
 
 pub returns-clause-reads : goal.returns-clause-reads
 returns-clause-reads g c = at-most _ _ (returns-clause-reads_all g c)
+
+pub returns-clause-can : goal.returns-clause-can
+returns-clause-can g c =
+    let gives = g.S.Source.gives c.args.src.now in
+    let items : c.deref.result.now ≡ c.in_ok-path.field-0.nodes.items = cc in
+    let again : c.deref-2.result.now ≡ c.deref.result.now = cc in
+    let path = items ∙ c.in_ok-path.ensures.nodes in
+    let met = met-is arc_value gives _ _ _ _ _ _ _ _ c.read_path.ensures.same path
+    c.in_ok-one.ensures c.in_ok-met.ensures.met in
+    let link = link-is arc_value gives _ _ _ _ _ _ _ _ path met again c.deref-3.ensures.value
+    c.prune_link-link.ensures in
+    can-all arc_value gives _ _ _ _ _ _ _ _ _ _
+    (whole-path arc_value gives _ _ _ _ _ _ c.in_ok-path.ensures.nodes c.in_ok-path.ensures.counted c.in_ok-path.ensures.reads_all)
+    (sym c.in-Some.is ∙ c.in_ok-path.ensures.previous)
+    c.read_path.ensures.same path c.in_ok-one.ensures
+    (whole-met arc_value (g.S.Source.gives c.read_path.new.src) c.args.most c.in_ok-one.one c.in_ok-one.other c.in_ok-met.met.items
+    (g.S.Source.reads c.read_path.new.src) (g.S.Source.reads c.read_met.new.src) c.in_ok-met.ensures.met c.in_ok-met.ensures.counted c.in_ok-met.ensures.reads_all)
+    (c.read_met.ensures.same ∙ c.read_path.ensures.same) link
+    (whole-chain arc_value (g.S.Source.gives c.read_met.new.src) c.args.most c.prune_link-link.result c.in_ok-pruned.pruned.items
+    (g.S.Source.reads c.read_met.new.src) (g.S.Source.reads c.read_pruned.new.src) c.in_ok-pruned.ensures.nodes c.in_ok-pruned.ensures.counted c.in_ok-pruned.ensures.reads_all)

@@ -1,7 +1,8 @@
 use Rattle.std.proofs.Common.{ap, sym, subst, ◌∙◌}
 use Rattle.spec.specs.NodeFormat.{LastLink}
 use Rattle.node.specs.Contents.{is_next_key}
-use Rattle.edit.specs.Drafts.{Lawful, onto}
+use Rattle.paths.specs.Lawful.{Lawful}
+use Rattle.edit.specs.Drafts.{onto}
 use Rattle.edit.proofs.Drafting.{Links, unlawful, Closes, closed}
 use Rattle.edit.proofs.open_node.OpenNode.finish.Goals as goal
 

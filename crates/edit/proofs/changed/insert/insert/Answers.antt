@@ -8,7 +8,7 @@ use Rattle.edit.specs.Ahead.{after_pair}
 use Rattle.edit.specs.Drafts.{onto}
 use Rattle.edit.proofs.Changing.{cut, fault-begins, insert-begins, replaced-cut, added-cut, drafted, faulted}
 use Rattle.edit.proofs.Cutting.{with-own, fault-at}
-use Rattle.edit.proofs.changed.insert.insert_into.Goals as goal
+use Rattle.edit.proofs.changed.insert.insert.Goals as goal
 
 pub returns-in_err-copy_before-clause-fault : goal.returns-in_err-copy_before-clause-fault
 returns-in_err-copy_before-clause-fault g c =
