@@ -1,6 +1,6 @@
 #!/usr/bin/env python3
 """What `msthost tree` prints for the lines on standard input, computed plainly: the tree by its definition, each subtree
-built afresh, and nothing shared with the program. It takes no arguments, and its layers are of two bits.
+built afresh, and nothing shared with the program. An argument is the number of zero bits a layer, 2 where there is none.
 """
 import base64
 import hashlib
@@ -19,13 +19,16 @@ def cid_of(data):
     return bytes([0x01, 0x71, 0x12, 0x20]) + hashlib.sha256(data).digest()
 
 
+BITS = int(sys.argv[1]) if len(sys.argv) > 1 else 2
+
+
 def layer(key):
     zeros = 0
     for byte in hashlib.sha256(key).digest():
         if byte:
-            return (zeros + 8 - byte.bit_length()) // 2
+            return (zeros + 8 - byte.bit_length()) // BITS
         zeros += 8
-    return zeros // 2
+    return zeros // BITS
 
 
 def head(major, number):

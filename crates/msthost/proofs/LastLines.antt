@@ -28,10 +28,6 @@ equal Less e = absurd cc
 equal Equal e = refl
 equal Greater e = absurd cc
 
-from_T : (b : Bool) → T b → b ≡ true
-from_T true t = refl
-from_T false t = absurd t
-
 to_T : (b : Bool) → b ≡ true → T b
 to_T true e = tt
 to_T false e = absurd cc

@@ -1,5 +1,5 @@
 -- The pairs that lines leave: keys of 1 to 1,024 bytes that ascend strictly, each with a CID of the host's form.
-use Rattle.std.proofs.Common.{◌≡◌, ℕ, ◌+◌, ◌<◌, ◌^◌, Bool, true, false, ◌&&◌, T, List, [], ◌∷◌, ◌++◌, length, Ordering, Less, Equal, Greater, refl, sym, ap, subst, ◌∙◌}
+use Rattle.std.proofs.Common.{◌≡◌, ℕ, ◌+◌, Bool, true, false, ◌&&◌, T, List, [], ◌∷◌, ◌++◌, Ordering, Less, Equal, Greater, refl, sym, ap, subst, ◌∙◌}
 use Rattle.std.specs.Prelude.{fold, Result, Ok, Err}
 use Rattle.std.specs.List.{list_all, before_last, after_last, list_any}
 use Rattle.std.specs.Ordering.{nat_cmp}
@@ -9,10 +9,8 @@ use Rattle.spec.specs.Reading.{◌>>=◌, ensure}
 use Rattle.spec.specs.Tree.{Pair}
 use Rattle.spec.specs.Cid.{CidFault, is_own_cid, cid_of_text}
 use Rattle.spec.specs.NodeFormat.{is_key, is_ascending}
-use Rattle.spec.specs.Blocks.{ArePairs}
 use Rattle.spec.proofs.Taking.{bind_then, ensure_ok, ok_is}
 use Rattle.spec.proofs.CidTexts.{cid_of_text_takes}
-use Rattle.spec.proofs.RootLaws.{ArePairs-from_tests}
 use Rattle.msthost.specs.TreeText.{LineFault, TreeFault, BadLine, BadKey, BadCid, is_space, or_bad_cid, pair_of_line, at_line, pairs_on_line, pairs_of_lines, lines, last_of_each_key, map_of_input}
 use Rattle.msthost.proofs.LastLines.{order, is_sorted-last_of_each_key}
 
@@ -109,6 +107,3 @@ sorted-left input m made =
 
 pub ascending-left : (input : List ℕ) (m : List Pair) → map_of_input input ≡ Ok m → is_ascending m ≡ true
 ascending-left input m made = both (is_sorted order m) (list_all (λ e. is_key e.0) m) (sorted-left input m made) (all-left (λ e. is_key e.0) (λ l e is. (good_line l e is).key) input m made)
-
-pub ArePairs-left : (input : List ℕ) (m : List Pair) → map_of_input input ≡ Ok m → length m < 2 ^ 64 → ArePairs m
-ArePairs-left input m made count = ArePairs-from_tests m (ascending-left input m made) (all-left (λ e. is_own_cid e.1) (λ l e is. (good_line l e is).value) input m made) count

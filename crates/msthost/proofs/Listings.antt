@@ -1,5 +1,5 @@
 -- The text for an input, from its tree.
-use Rattle.std.proofs.Common.{◌≡◌, ℕ, true, false, List, [], ◌∷◌, ◌++◌, Some, None, refl, sym, ap, subst, ◌∙◌}
+use Rattle.std.proofs.Common.{◌≡◌, ℕ, true, false, List, ◌∷◌, ◌++◌, Some, None, refl, sym, ap, subst, ◌∙◌}
 use Rattle.std.specs.Prelude.{Option, Result, Ok, Err, is_ok, IfSome, IfErr, OnOk, OnErr, IsErrAnd}
 use Rattle.spec.specs.Reading.{◌>>=◌, ensure, Fails}
 use Rattle.spec.specs.Cid.{cid}
@@ -10,7 +10,6 @@ use Rattle.spec.proofs.BlockLaws.{test-from_IsClashFree, test-from_HasClash}
 use Rattle.std.specs.Io.KnownBytes.{Appends}
 use Rattle.msthost.specs.TreeText.{TreeFault, Clash, map_of_input, tree_of_map, tree_of_input, text_of_tree, tree_text, text_or_nothing}
 use Rattle.msthost.specs.Written.{AppendsBeginning, AppendsText, Writes}
-use Rattle.msthost.proofs.Leaving.{Appends-nil}
 
 -- ---- the tree
 
@@ -50,9 +49,6 @@ passed_on P (Ok x) f e p = tt
 passed_on P (Err g) f e p = subst P (sym e) p
 
 -- ---- what was written
-
-beginning-nothing : (o : Option (List ℕ)) (bytes : List ℕ) → AppendsBeginning o o bytes
-beginning-nothing o bytes = ([], bytes, refl, Appends-nil o)
 
 wrote-text : (old new : Option (List ℕ)) (r : Result (List ℕ) TreeFault) (t : List ℕ) → r ≡ Ok t → Appends old new t → AppendsText old new r
 wrote-text old new r t e p = rw e p

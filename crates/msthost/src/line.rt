@@ -8,9 +8,7 @@ ghost use Rattle.msthost.specs.Fault.{some_line_fault_of};
 use crate::tree_fault::LineFault;
 use bstr::ByteSlice;
 use cid::Cid;
-
-/// The longest key (AT Protocol repository v3: a path of a repository has at most 1,024 bytes).
-const LONGEST_KEY: usize = 1024;
+use scratch::is_key;
 
 /// The key and the CID of a line `KEY CID`: the key is all before the last space, and is tested first.
 #[tactic(auto, unfolding(crate::specs::TreeText::pair_of_line))]
@@ -20,7 +18,7 @@ pub(crate) fn pair_of_line(line: &[u8]) -> Result<(&[u8], Cid), LineFault>
     let Some((key, text)) = around_last_space(line) else {
         return Err(LineFault::BadLine);
     };
-    if key.is_empty() || key.len() > LONGEST_KEY {
+    if !is_key(key) {
         return Err(LineFault::BadKey);
     }
     match Cid::from_text(text) {

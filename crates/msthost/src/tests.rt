@@ -1,5 +1,5 @@
-//! What the command does, by its values. They come from the AT Protocol's interoperability tests and from a program in
-//! another language (examples/reference.py), and not from this one.
+//! What the command does, by its values. Where the digest is SHA-256 they come from the AT Protocol's interoperability
+//! tests and from a program in another language (examples/reference.py), and not from this one.
 
 mod faults;
 mod listings;

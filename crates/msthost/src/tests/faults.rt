@@ -1,5 +1,6 @@
 //! Inputs and command lines that are refused.
 use super::{first_line, joined, run};
+use bstr::ByteSlice;
 use cid::Sha256;
 use cid::digests::Size;
 use std::alloc::Global;
@@ -132,6 +133,11 @@ fn help_and_version(rt: HostRuntime) -> Result<(), Fail> {
         assert!(rt; ended.err.is_empty(), "at {words:?}");
         assert!(rt; !ended.out.is_empty(), "at {words:?}");
     }
+    let ended = run::<Sha256>(rt.alloc(), &["msthost", "--help"], b"");
+    assert!(rt; ended.out.as_slice().contains_str(b"$ printf '' | msthost tree"));
+    let ended = run::<Sha256>(rt.alloc(), &["msthost", "tree", "--help"], b"");
+    assert!(rt; ended.out.as_slice().contains_str(b"--bits <B>"));
+    assert!(rt; ended.out.as_slice().contains_str(b"Exit status: 0 done, 1 a faulty line"));
     let ended = run::<Sha256>(rt.alloc(), &["msthost", "--version"], b"");
     assert_eq!(rt; ended.out.as_slice(), b"msthost 0.1.0\n".as_slice());
     Ok(())
