@@ -7,6 +7,7 @@ pub enum Command {
     Read { rounds: u32 },
     Build { rounds: u32 },
     Get { count: u32, rounds: u32 },
+    Edit { count: u32, rounds: u32 },
 }
 
 impl Command {
@@ -25,6 +26,11 @@ impl Command {
                 let count = number(words, 1)?;
                 let rounds = number(words, 2)?;
                 (count <= 1_048_576).then_some(Command::Get { count, rounds })
+            }
+            ("edit", 3) => {
+                let count = number(words, 1)?;
+                let rounds = number(words, 2)?;
+                (count <= 1_048_576).then_some(Command::Edit { count, rounds })
             }
             _ => None,
         }

@@ -3,12 +3,14 @@
 
 mod blocks;
 mod command;
+mod edits;
 mod lookups;
 mod made;
 mod records;
 mod trees;
 
 use crate::command::Command;
+use crate::edits::{Done, Tree};
 use edit::BlockMap;
 use std::time::Instant;
 use std::{env, io};
@@ -21,7 +23,10 @@ usage: bench store COUNT ROUNDS
        bench build ROUNDS < LISTING
          reads lines of key and CID, sorts them, and builds their tree ROUNDS times
        bench get COUNT ROUNDS
-         makes a tree of COUNT keys, at most 1,048,576, and looks 10,000 of them up ROUNDS times";
+         makes a tree of COUNT keys, at most 1,048,576, and looks 10,000 of them up ROUNDS times
+       bench edit COUNT ROUNDS
+         makes a tree of COUNT keys, at most 1,048,576, puts a quarter as many more, at most 10,000, deletes these again
+         and then as many of the first, ROUNDS times";
 
 fn main(rt: HostRuntime) -> io::Result<()> {
     let words: Vec<String> = env::args(&rt)?.skip(1).collect(rt.alloc())?;
@@ -30,6 +35,7 @@ fn main(rt: HostRuntime) -> io::Result<()> {
         Some(Command::Read { rounds }) => read(&rt, rounds),
         Some(Command::Build { rounds }) => build(&rt, rounds),
         Some(Command::Get { count, rounds }) => get(&rt, count, rounds),
+        Some(Command::Edit { count, rounds }) => edit(&rt, count, rounds),
         None => println!(rt; "{USAGE}"),
     }
 }
@@ -96,4 +102,69 @@ fn get(rt: &HostRuntime, count: u32, rounds: u32) -> io::Result<()> {
         map.reads(),
         least / (places.len() as u128).max(1)
     )
+}
+
+/// What the edits of one kind did in one round, and the nanoseconds of their quickest round.
+#[derive(Drop)]
+struct Turn {
+    done: Done,
+    least: u128,
+}
+
+impl Turn {
+    fn none() -> Turn {
+        Turn {
+            done: Done::nothing(),
+            least: u128::MAX,
+        }
+    }
+
+    fn took(&mut self, nanos: u128, done: Done) {
+        self.least = self.least.min(nanos);
+        self.done = done;
+    }
+
+    fn print(&self, rt: &HostRuntime, name: &str) -> io::Result<()> {
+        let done = &self.done;
+        println!(rt;
+            "{name}: {} edits, {} blocks read, {} added, {} dropped, {} ns an edit at the least",
+            done.edits,
+            done.reads,
+            done.added,
+            done.dropped,
+            self.least / u128::from(done.edits).max(1)
+        )
+    }
+}
+
+/// Prints how long a put, its delete and a delete of a first key took, at the least.
+fn edit(rt: &HostRuntime, count: u32, rounds: u32) -> io::Result<()> {
+    let alloc = rt.alloc();
+    let more = (count / 4).min(10_000);
+    let pairs = made::pairs(alloc, count.saturating_add(more))?;
+    let places = made::some(alloc, &pairs, 2 * more as usize)?;
+    let (new, first) = places.split_at(places.len() / 2);
+    let blocks = trees::nodes(alloc, &made::without(alloc, &pairs, new)?).unwrap_or(Vec::new(alloc));
+    let Some(top) = blocks.first() else {
+        return println!(rt; "refused");
+    };
+    let (mut puts, mut undone, mut deletes) = (Turn::none(), Turn::none(), Turn::none());
+    for _ in 0..rounds {
+        let mut tree = Tree::new(alloc, top.cid(), &blocks)?;
+        let start = Instant::now(rt)?;
+        let done = tree.put_all(alloc, &pairs, new)?;
+        puts.took(start.elapsed(rt)?.as_nanos(), done);
+        let start = Instant::now(rt)?;
+        let done = tree.delete_all(alloc, &pairs, new)?;
+        undone.took(start.elapsed(rt)?.as_nanos(), done);
+        if tree.root != top.cid() {
+            return println!(rt; "another root");
+        }
+        let start = Instant::now(rt)?;
+        let done = tree.delete_all(alloc, &pairs, first)?;
+        deletes.took(start.elapsed(rt)?.as_nanos(), done);
+    }
+    puts.print(rt, "put")?;
+    undone.print(rt, "delete of what was put")?;
+    deletes.print(rt, "delete of a first key")
 }
