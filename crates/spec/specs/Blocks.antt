@@ -11,7 +11,7 @@ use Rattle.spec.specs.Tree.{Pair, Node, Last, More, Part, Nothing, Sub, top}
 use Rattle.spec.specs.NodeFormat.{is_key, node_bytes}
 
 -- Each node with the blocks under it: from its first part on, what stands for each entry's record and the blocks of the
--- subtree after it. What stands for a record is given by records.
+-- subtree after it (own: this order). What stands for a record is given by records.
 abbrev mutual
   pub blocks_in : (List ℕ → List ℕ) → (List ℕ → List (List ℕ)) → Part → List (List ℕ)
   blocks_in digest records Nothing = []
@@ -21,37 +21,38 @@ abbrev mutual
   blocks_under digest records (Last p) = blocks_in digest records p
   blocks_under digest records (More p e r) = blocks_in digest records p ++ records e.0 ++ blocks_under digest records r
 
--- the elements whose mark comes first
+-- the elements whose mark comes first (own)
 abbrev pub firsts : (List ℕ → List ℕ) → List (List ℕ) → List (List ℕ)
 firsts mark [] = []
 firsts mark (b ∷ bs) = b ∷ filter (λ c. not (bytes_eq (mark b) (mark c))) (firsts mark bs)
 
--- no two different blocks have one CID, as a test and as a fact
+-- no two different blocks have one CID, as a test and as a fact (own)
 abbrev pub is_clash_free : (List ℕ → List ℕ) → List (List ℕ) → Bool
 is_clash_free digest bs = list_all (λ a. list_all (λ b. not (bytes_eq (cid digest a) (cid digest b)) || bytes_eq a b) bs) bs
 
 abbrev pub IsClashFree : (List ℕ → List ℕ) → List (List ℕ) → Type 0
 IsClashFree digest bs = (a b : List ℕ) → Contains bs a → Contains bs b → cid digest a ≡ cid digest b → a ≡ b
 
--- two blocks with one CID and different bytes
+-- two blocks with one CID and different bytes (own)
 abbrev pub IsClash : (List ℕ → List ℕ) → List ℕ → List ℕ → Type 0
 IsClash digest a b = (cid digest a ≡ cid digest b) × (a ≢ b)
 
--- No block of the one list clashes with one of the other. Within a list blocks may clash: what a stranger gives needs no
--- more than this.
+-- No block of the one list clashes with one of the other (own). Within a list blocks may clash: what a stranger gives
+-- needs no more than this.
 abbrev pub ClashesWithNone : (List ℕ → List ℕ) → List (List ℕ) → List (List ℕ) → Type 0
 ClashesWithNone digest xs ys = (a b : List ℕ) → Contains xs a → Contains ys b → cid digest a ≡ cid digest b → a ≡ b
 
 -- ---- of a list of pairs
 
--- pairs of a record map: keys of 1 to 1,024 bytes ascend strictly, and each value is a CID of the host's form
+-- pairs of a record map: keys of 1 to 1,024 bytes ascend strictly, and each value is a CID of the host's form (own: the
+-- bounds)
 pub record ArePairs (es : List Pair) : Type 0 where
   pub sorted : is_sorted (slice_cmp nat_cmp) es ≡ true
   pub keys : AllByRecursion (λ e. is_key e.0 ≡ true) es
   pub values : AllByRecursion (λ e. is_own_cid e.1 ≡ true) es
   pub count : length es < 2 ^ 64
 
--- the value of a key, and the first so many pairs from a key on
+-- the value of a key
 abbrev pub value_of : List ℕ → List Pair → Option (List ℕ)
 value_of key es = find (slice_cmp nat_cmp) key es
 
@@ -59,6 +60,7 @@ value_of key es = find (slice_cmp nat_cmp) key es
 abbrev pub is_from : List ℕ → Pair → Bool
 is_from from e = not (is_lt (slice_cmp nat_cmp e.0 from))
 
+-- the first so many pairs from a key on (own)
 abbrev pub listed : List ℕ → ℕ → List Pair → List Pair
 listed from limit es = take limit (filter (is_from from) es)
 

@@ -104,7 +104,7 @@ write_test m (Delete key) = do
   key_ok ← ensure (is_repository_key key) BadKey
   ensure (has_key m key) NoSuchKey
 
--- the same with the limit first, after so many writes
+-- the same with the limit first, after so many writes (own)
 abbrev pub limited_test : ℕ → ℕ → List (List ℕ × List ℕ) → Write → Result (Unit {0}) WriteFault
 limited_test limit count m w = do
   room ← ensure (nat_lt count limit) WritesFull
