@@ -99,8 +99,7 @@ impl Tree {
                 reads: 0,
                 asked: Asked::never(),
             };
-            let Ok(edit) = put::<Sha256, 2, _, _>(alloc, &mut lender, self.root, key, *value)
-            else {
+            let Ok(edit) = put::<Sha256, 2, _, _>(alloc, &mut lender, self.root, key, *value) else {
                 break;
             };
             done.count(lender.reads, &edit);

@@ -144,7 +144,9 @@ fn edit(rt: &HostRuntime, count: u32, rounds: u32) -> io::Result<()> {
     let pairs = made::pairs(alloc, count.saturating_add(more))?;
     let places = made::some(alloc, &pairs, 2 * more as usize)?;
     let (new, first) = places.split_at(places.len() / 2);
-    let blocks = trees::nodes(alloc, &made::without(alloc, &pairs, new)?).unwrap_or(Vec::new(alloc));
+    let blocks = trees::nodes(alloc, &made::without(alloc, &pairs, new)?).unwrap_or(Vec::new(
+        alloc,
+    ));
     let Some(top) = blocks.first() else {
         return println!(rt; "refused");
     };
