@@ -2,7 +2,8 @@
 
 use super::*;
 use refusing::Refusing;
-use std::alloc::Allocator;
+use std::alloc::{Allocator, Global};
+use std::process::Abort;
 use std::test::Fail;
 
 /// Each of these is the spelling of a value.
@@ -247,26 +248,40 @@ fn read_and_write<A: Allocator + Copy>(alloc: A, bytes: &[u8]) -> Result<bool, C
     Ok(written.as_slice() == bytes)
 }
 
-#[test]
-fn answers_each_refusal_of_memory(rt: HostRuntime) -> Result<(), Fail> {
-    let bytes =
-        b"\xa3\x61a\x85\x01\x02\x03\x04\x05\x61b\xa1\x61c\x80\x61d\x78\x20abcdefghijklmnopqrstuvwxyz012345";
-    let heap = Refusing::new(rt.alloc());
-    let mut refusals = 0u64;
+/// A map with each kind of value: both booleans, null, a number of each sign with a head of nine bytes, a byte string, a
+/// text, a link, a list of numbers with the shorter heads, and a map.
+const EACH_KIND: &[u8] = b"\xaa\x61a\xf4\x61b\xf5\x61c\xf6\x61d\x1b\x00\x00\x00\x01\x00\x00\x00\x00\
+    \x61e\x3b\x00\x00\x00\x01\x00\x00\x00\x00\x61f\x44\x00\x01\x02\xff\x61g\x62\xc3\xa9\
+    \x61h\xd8\x2a\x49\x00\x01\x55\x00\x04\x01\x02\x03\x04\
+    \x61i\x85\x00\x18\x18\x19\x01\x00\x1a\x00\x01\x00\x00\x20\x61j\xa0";
+
+/// Reads and writes with each request for memory refused in turn: how many requests there are.
+fn requests_refused(rt: &impl Abort, heap: &Refusing<Global>, bytes: &[u8]) -> u64 {
     for number in 1..100u64 {
         heap.refuse(number);
         let before = heap.refused();
-        let answer = read_and_write(&heap, bytes);
+        let answer = read_and_write(heap, bytes);
         assert_eq!(rt; heap.live(), 0);
         if heap.refused() == before {
             assert_eq!(rt; answer, Ok(true));
-            assert!(rt; number > 5, "{number} requests");
-            refusals = number;
-            break;
+            return number - 1;
         }
         assert_eq!(rt; answer, Err(CborFault::NoMemory), "at request {number}");
     }
-    assert!(rt; refusals > 0);
+    0
+}
+
+// Each list around the map moves it along by one byte, so that what is written grows at each of the map's parts in turn.
+#[test]
+fn answers_each_refusal_of_memory(rt: HostRuntime) -> Result<(), Fail> {
+    let heap = Refusing::new(rt.alloc());
+    for depth in 0..61u8 {
+        let mut bytes = Vec::new(rt.alloc());
+        bytes.resize(usize::from(depth), 0x81)?;
+        bytes.extend_from_slice(EACH_KIND)?;
+        let requests = requests_refused(&rt, &heap, &bytes);
+        assert!(rt; requests >= 10 + u64::from(depth), "{requests} requests");
+    }
     Ok(())
 }
 
