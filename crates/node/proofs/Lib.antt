@@ -1,7 +1,10 @@
 pub mod CommonParts
 pub mod Comparing
+pub mod Copying
 pub mod Faults
 pub mod Finding
+pub mod Joining
+pub mod Passing
 pub mod RowLaws
 pub mod Stepping
 pub mod Writing

@@ -2,6 +2,7 @@
 use Rattle.std.specs.Prelude.{◌≡◌, ℕ, Bool, true, ◌&&◌, List, [], ◌∷◌, ◌++◌, length, Option, Result, Ok, Err, IsOk}
 use Rattle.std.specs.Cmp.Lexicographic.{slice_cmp}
 use Rattle.std.specs.Ordering.{nat_cmp, is_lt}
+use Rattle.spec.specs.Reading.{IsBytes}
 use Rattle.spec.specs.Head.{head}
 use Rattle.spec.specs.NodeFormat.{Entry, NodeFault, is_key, entries_bytes, are_keys_after, are_links, is_node, entries_at, read_node}
 
@@ -52,5 +53,6 @@ entries_shown n bytes = entries_of_reading (entries_at n [] bytes)
 
 -- so many entries can be read, and are a node's
 pub record IsRead (left : Option (List ℕ)) (n : ℕ) (bytes : List ℕ) : Type 0 where
+  pub fits : IsBytes bytes
   pub all : IsOk (entries_at n [] bytes)
   pub grammar : is_node left (entries_shown n bytes) ≡ true

@@ -2,5 +2,6 @@ pub mod Bytes
 pub mod Contents
 pub mod Fault
 pub mod Rows
+pub mod Runs
 pub mod Search
 pub mod Views

@@ -10,6 +10,7 @@ mod key_buf;
 mod parts;
 mod place;
 mod reading;
+mod run;
 mod search;
 #[cfg(test)]
 mod tests;

@@ -190,6 +190,23 @@ fn keys_put_together(rt: HostRuntime) -> Result<(), Fail> {
 }
 
 #[test]
+fn entries_copied(rt: HostRuntime) -> Result<(), Fail> {
+    let bytes = two_entries(rt.alloc())?;
+    let view = NodeView::parse(&bytes).expect(&rt, "a node");
+    assert_eq!(rt; view.entry_count(), 2);
+    let mut writer = NodeWriter::begin(rt.alloc(), None)?;
+    writer.copy(&view, 0, 2)?;
+    assert_eq!(rt; writer.finish()?, bytes);
+    let first = view.entries().next().expect(&rt, "an entry");
+    let mut writer = NodeWriter::begin(rt.alloc(), None)?;
+    assert!(rt; writer.is_next(first.suffix));
+    writer.entry(first.suffix, first.value, None)?;
+    writer.copy(&view, 1, 2)?;
+    assert_eq!(rt; writer.finish()?, bytes);
+    Ok(())
+}
+
+#[test]
 fn node_faults(rt: HostRuntime) -> Result<(), Fail> {
     let value = identifier(0x11)?;
     assert_eq!(rt; fault(&[0xa2, 0x61, 0x65, 0x80, 0x61, 0x6c, 0xf6]), None);

@@ -1,13 +1,14 @@
 //! Nodes as their blocks show them.
 
-ghost use Rattle.std.specs.Prelude.{◌≡◌, [], true, option_map, IfOk, OnOk, IsOk};
-ghost use Rattle.spec.specs.Reading.{Gives};
+ghost use Rattle.std.specs.Prelude.{◌≡◌, ◌≤◌, [], true, length, take, drop, option_map, IfOk, OnOk, IsOk};
+ghost use Rattle.spec.specs.Reading.{Gives, IsBytes};
 ghost use Rattle.spec.specs.NodeFormat.{are_keys_after, entries_at, read_node};
 ghost use Rattle.spec.specs.Proof.{place};
 ghost use Rattle.cid.specs.CidRef.{bytes_of};
 ghost use Rattle.node.specs.Fault.{fault_of};
 ghost use Rattle.node.specs.Rows.{rows, after_entries, shown_node};
-ghost use Rattle.node.specs.Contents.{entries_shown};
+ghost use Rattle.node.specs.Contents.{entries_shown, last_key};
+ghost use Rattle.node.specs.Runs.{Begins};
 ghost use Rattle.node.specs.Views.{place_of, IsRowWith};
 
 use crate::entries::Entries;
@@ -15,6 +16,7 @@ use crate::fault::NodeFault;
 use crate::key_before::KeyBefore;
 use crate::place::{Place, place_in_gap};
 use crate::reading::{argument, entry, link_or_null, literal};
+use crate::run::after;
 use crate::search::compare_after;
 use cid::CidRef;
 use std::cmp::Ordering;
@@ -62,6 +64,13 @@ impl<'a> NodeView<'a> {
         self.left
     }
 
+    /// How many entries it has.
+    pub fn entry_count(&self) -> u64
+        ensures { result ≡ length self.now.entries }
+    {
+        self.count
+    }
+
     /// The entries from the front.
     pub fn entries(&self) -> Entries<'a>
         ensures rows { result ≡ rows [] self.now.entries }
@@ -71,6 +80,14 @@ impl<'a> NodeView<'a> {
             left: self.count,
             bytes: self.first,
         }
+    }
+
+    /// The bytes from the `from`-th entry on.
+    pub(crate) fn bytes_from(&self, from: u64) -> &'a [u8]
+        requires { from ≤ length self.now.entries }
+        ensures { Begins result.now (last_key [] (take from self.now.entries)) (drop from self.now.entries) }
+    {
+        after(from, self.first)
     }
 
     /// Where a key stands. No key is put together: an entry's suffix decides, or what it keeps of the key before.
@@ -100,6 +117,7 @@ impl<'a> NodeView<'a> {
 fn node(bytes: &[u8]) -> Result<(Option<CidRef<'_>>, (u64, &[u8])), NodeFault>
     ensures read { Gives (λ x. (option_map bytes_of x.0, entries_shown x.1.0 x.1.1.now)) fault_of result (shown_node bytes.now) }
     ensures all { IfOk result (λ x. IsOk (entries_at x.1.0 [] x.1.1.now)) }
+    ensures fits { IfOk result (λ x. IsBytes x.1.1.now) }
 {
     let rest = literal(&[0xa2, b'a', b'e'], bytes)?;
     let (count, first) = argument(4, rest)?;
@@ -116,6 +134,7 @@ fn node(bytes: &[u8]) -> Result<(Option<CidRef<'_>>, (u64, &[u8])), NodeFault>
 fn after_entries(count: u64, bytes: &[u8]) -> Result<&[u8], NodeFault>
     ensures read { Gives (λ rest. rest.now) fault_of result (after_entries count [] bytes.now) }
     ensures all { OnOk result (IsOk (entries_at count [] bytes.now)) }
+    ensures fits { OnOk result (IsBytes bytes.now) }
 {
     let mut before = KeyBefore::none();
     let mut rest = bytes;

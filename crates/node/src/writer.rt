@@ -1,13 +1,15 @@
 //! Nodes written entry by entry.
 
-ghost use Rattle.std.specs.Prelude.{◌≡◌, [], ◌∷◌, ◌++◌, true, IfOk, OnOk, OnErr};
+ghost use Rattle.std.specs.Prelude.{◌≡◌, ◌-◌, ◌≤◌, [], ◌∷◌, ◌++◌, length, take, drop, true, IfOk, OnOk, OnErr};
 ghost use Rattle.spec.specs.NodeFormat.{is_node, node_spelling};
-ghost use Rattle.node.specs.Contents.{Contents, is_next_key};
+ghost use Rattle.node.specs.Contents.{Contents, last_key, is_next_key};
 ghost use Rattle.cid.specs.CidRef.{bytes_of};
 
 use crate::common::{common_len, is_key};
 use crate::key_buf::KeyBuf;
 use crate::parts::{lend, push_entry, push_link};
+use crate::run::pass;
+use crate::view::NodeView;
 use cid::{Cid, CidRef};
 use dagcbor::push_head;
 use std::alloc::{AllocError, Allocator, Global};
@@ -91,6 +93,29 @@ impl<A: Allocator + Clone> NodeWriter<A> {
                 Err(refused)
             }
         }
+    }
+
+    /// Adds entries as they stand in the block of a node: those from the `from`-th on, up to the `to`-th. Their bytes
+    /// are copied at once. The last key of this writer is the key before them in that node, or there is none before in
+    /// both. Where memory is refused, the writer stays as it was.
+    pub fn copy(&mut self, node: &NodeView<'_>, from: u64, to: u64) -> Result<(), AllocError>
+        requires order { from ≤ to }
+        requires within { to ≤ length node.now.entries }
+        requires follows { last_key [] self.old.entries ≡ last_key [] (take from node.now.entries) }
+        ensures ok { OnOk result (self.new ≡ record { left = self.old.left; entries = self.old.entries ++ take (to - from) (drop from node.now.entries) }) }
+        ensures unchanged { OnErr result (self.new ≡ self.old) }
+    {
+        let start = node.bytes_from(from);
+        self.entries.reserve(start.len())?;
+        let rest = pass(&mut self.last, to - from, start);
+        let Ok(()) = self
+            .entries
+            .extend_from_slice(&start[..start.len() - rest.len()])
+        else {
+            unreachable!()
+        };
+        self.count += to - from;
+        Ok(())
     }
 
     /// The bytes of the node, or `AllocError` where memory was refused.

@@ -37,3 +37,6 @@ returns-clause-all c =
     let l = c.loop-left in
     let done : l.left ≡ 0 = omega arith in
     after_entries-all c.args.count [] c.args.bytes.now l.rest.now (sym l.invariant ∙ ap (λ (n : ℕ). after_entries n l.before l.rest.now) done ∙ after_entries-none l.before l.rest.now)
+
+pub returns-clause-fits : goal.returns-clause-fits
+returns-clause-fits c = λ i. omega (arith, c.type_inv.bytes i)

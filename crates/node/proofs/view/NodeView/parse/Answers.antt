@@ -22,7 +22,7 @@ invariant_of-result c =
     let are : IsBytes bytes = λ i. omega (arith, c.type_inv.bytes i) in
     let left = option_map bytes_of c.in_ok-left.left in
     let es = entries_shown c.in_ok-left.count c.in_ok-left.first.now in
-    record { all = c.in_ok-left.ensures.all; grammar = (read_node_takes bytes left es are (read_node-shown_node bytes ∙ c.in_ok-left.ensures.read)).1 }
+    record { fits = c.in_ok-left.ensures.fits; all = c.in_ok-left.ensures.all; grammar = (read_node_takes bytes left es are (read_node-shown_node bytes ∙ c.in_ok-left.ensures.read)).1 }
 
 pub returns : goal.returns
 returns c = read_node-shown_node c.args.bytes.now ∙ c.in_ok-left.ensures.read

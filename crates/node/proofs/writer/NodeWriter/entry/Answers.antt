@@ -7,13 +7,13 @@ use Rattle.node.proofs.writer.NodeWriter.entry.Goals as goal
 pub overflow_add-self : goal.overflow_add-self
 overflow_add-self g c =
     let v = c.self.inside.entries in
-    omega (arith, count-fits c.self.inside.count v.items c.self.inside.last c.self.invariant, v.small, v.ok.0, v.ok.1)
+    omega (arith, count-fits c.self.inside.count v.items c.self.inside.last _ c.self.invariant, v.small, v.ok.0, v.ok.1)
 
 pub invariant_of-self : goal.invariant_of-self
 invariant_of-self g c =
     let v = c.self.inside.entries in
     let e : Entry = record { key = c.args.key.now; value = bytes_of c.args.value; tree = c.args.tree } in
-    let one : WritesOne c.self.inside.count c.common_len-prefix.result v.items c.self.inside.last c.push_entry.new.out.items c.change.new.self _ e = record {
+    let one : WritesOne c.common_len-prefix.result v.items c.self.inside.last c.push_entry.new.out.items c.change.new.self _ e = record {
       shared = c.common_len-prefix.ensures.value ∙ ap (λ (x : List ℕ). common x e.key) c.key.ensures;
       tree_is = c.lend-tree.ensures.value;
       text_is = c.in-Ok.ensures.ok;
@@ -25,7 +25,7 @@ pub returns-in-Ok-clause-ok : goal.returns-in-Ok-clause-ok
 returns-in-Ok-clause-ok g c =
     let v = c.self.inside.entries in
     let e : Entry = record { key = c.args.key.now; value = bytes_of c.args.value; tree = c.args.tree } in
-    let one : WritesOne c.self.inside.count c.common_len-prefix.result v.items c.self.inside.last c.push_entry.new.out.items c.change.new.self _ e = record {
+    let one : WritesOne c.common_len-prefix.result v.items c.self.inside.last c.push_entry.new.out.items c.change.new.self _ e = record {
       shared = c.common_len-prefix.ensures.value ∙ ap (λ (x : List ℕ). common x e.key) c.key.ensures;
       tree_is = c.lend-tree.ensures.value;
       text_is = c.in-Ok.ensures.ok;

@@ -7,4 +7,4 @@ returns-clause-grammar g c =
     let s = c.self.inside in
     let v = s.entries in
     is_node-written s.count v.items s.last s.left c.args.self c.self.invariant c.self.view_is
-    (omega (arith, count-fits s.count v.items s.last c.self.invariant, v.small, v.ok.0, v.ok.1)) c.lend.ensures.own
+    (omega (arith, count-fits s.count v.items s.last _ c.self.invariant, v.small, v.ok.0, v.ok.1)) c.lend.ensures.own
