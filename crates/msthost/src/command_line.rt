@@ -25,9 +25,8 @@ Reads lines KEY CID from standard input and writes the text of the CID of their 
 for each node, from the top.
 
 Lines come in any order and end at LF or CR LF. The key is all before a line's last space, and has 1 to 1,024 bytes.
-Of lines with one key the last decides, and empty lines are passed over.";
+Of lines with one key the last decides, and empty lines are passed over.
 
-const TREE_STATUS: &str = "\
 Exit status: 0 done, 1 a faulty line or two nodes with one CID, 2 a wrong command line, 3 no memory, 4 reading or
 writing failed.";
 
@@ -63,6 +62,6 @@ fn tree<'a>(alloc: Global) -> Result<Command<'a>, AllocError> {
     Command::new(alloc, "tree")
         .about(TREE_ABOUT)
         .long_about(TREE_LONG_ABOUT)
-        .after_help(TREE_STATUS)
+        .after_help(EXAMPLE)
         .arg(bits)
 }

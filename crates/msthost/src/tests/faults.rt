@@ -148,6 +148,12 @@ fn help_and_version(rt: HostRuntime) -> Result<(), Fail> {
             .as_slice()
             .contains_str(b"Exit status: 0 done, 1 a faulty line")
     );
+    assert!(rt;
+        ended
+            .out
+            .as_slice()
+            .contains_str(b"$ printf '' | msthost tree")
+    );
     let ended = run::<Sha256>(rt.alloc(), &["msthost", "--version"], b"");
     assert_eq!(rt; ended.out.as_slice(), b"msthost 0.1.0\n".as_slice());
     Ok(())
