@@ -1,5 +1,5 @@
 -- A node taken pair by pair, up to a key or to its end.
-use Rattle.std.proofs.Common.{◌≡◌, ℕ, suc, ◌<◌, true, List, ◌++◌, Option, None, Some, option_map, refl, sym, ap, subst, ◌∙◌, append_assoc, arith}
+use Rattle.std.proofs.Common.{◌≡◌, ℕ, ◌<◌, true, List, ◌++◌, Option, None, Some, option_map, refl, sym, ap, subst, ◌∙◌, append_assoc, arith}
 use Rattle.std.specs.Prelude.{is_some}
 use Rattle.std.specs.declared.cmp.Ordering.{Ordering}
 use Rattle.std.specs.declared.cmp.Ordering.TheVariants.{Less, Equal, Greater}
@@ -14,6 +14,7 @@ use Rattle.edit.specs.declared.draft_fault.DraftFault.{DraftFault}
 use Rattle.edit.specs.declared.draft_fault.DraftFault.TheVariants.{NotNode, NoMemory}
 use Rattle.edit.specs.Ahead.{after_pair, ahead_of, is_more, first_linked, all_pairs, before_key, from_key, is_first_before, is_first_at}
 use Rattle.edit.specs.Drafts.{onto, IsFaultOf, IsFaultOfAll}
+use Rattle.edit.specs.Copying.{pairs_left}
 use Rattle.edit.specs.Rows.{Reading}
 use Rattle.edit.proofs.Drafting.{Links, onto-append}
 
@@ -34,11 +35,6 @@ first_at-some f link None r key h = absurd cc
 first_at-some f link (Some v) r key h = refl
 
 -- ---- one pair
-
--- how many pairs are left
-abbrev pub pairs_left : Shape → ℕ
-pairs_left (LastLink l) = 0
-pairs_left (MoreLinks l e r) = suc (pairs_left r)
 
 pub record StepsBefore (key : List ℕ) (s : Shape) : Type 0 where
   pub less : pairs_left (after_pair s) < pairs_left s

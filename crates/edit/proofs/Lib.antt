@@ -10,6 +10,7 @@ pub mod Putting
 pub mod Changing
 pub mod Cutting
 pub mod Drafting
+pub mod Pieces
 pub mod NodeEnds
 pub mod Building
 pub mod Deleting

@@ -1,4 +1,5 @@
 pub mod Codes
+pub mod Copying
 pub mod Maps
 pub mod Rows
 pub mod Changes

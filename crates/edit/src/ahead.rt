@@ -5,6 +5,7 @@ ghost use Rattle.spec.specs.NodeFormat.{first_link};
 ghost use Rattle.paths.specs.Sources.{shape_from};
 ghost use Rattle.cid.specs.CidRef.{bytes_of};
 ghost use Rattle.edit.specs.Ahead.{first_pair, after_pair, is_more, is_first_before, is_first_at};
+ghost use Rattle.edit.specs.Copying.{IsAt, pairs_left};
 
 use crate::rows::{NodeRows, to_cid};
 use cid::{Cid, CidRef};
@@ -16,35 +17,60 @@ use std::marker::Model;
 ///
 /// A contract sees it as what is left of the node.
 #[derive(Drop)]
-pub(crate) struct Ahead<'a, A: Allocator> {
+pub(crate) struct Ahead<'n, 'a, A: Allocator> {
+    node: &'n NodeView<'a>,
+    left: u64,
     link: Option<CidRef<'a>>,
     value: Option<CidRef<'a>>,
     rows: NodeRows<'a, A>,
 }
 
-impl<'a, A: Allocator> Model for Ahead<'a, A> {
+impl<'n, 'a, A: Allocator> Model for Ahead<'n, 'a, A> {
     ghost use Rattle.std.specs.Prelude.{◌≡◌, option_map};
     ghost use Rattle.spec.specs.NodeFormat.{Shape};
     ghost use Rattle.cid.specs.CidRef.{bytes_of};
     ghost use Rattle.edit.specs.Ahead.{ahead_of};
     ghost use Rattle.edit.specs.Codes.{shape_code};
+    ghost use Rattle.edit.specs.Copying.{IsLeft};
 
     ghost Value = { Shape };
 
     ghost coded = { shape_code };
 
     ghost view = { λ a. ahead_of (option_map bytes_of a.link) (option_map bytes_of a.value) a.rows };
+
+    ghost invariant = { λ a. IsLeft a.node.now.entries a.left (ahead_of (option_map bytes_of a.link) (option_map bytes_of a.value) a.rows) };
 }
 
-impl<'a, A: Allocator> Ahead<'a, A> {
+impl<'n, 'a, A: Allocator> Ahead<'n, 'a, A> {
     /// All of a node.
-    pub(crate) fn of(alloc: A, node: &NodeView<'a>) -> Result<Ahead<'a, A>, AllocError>
+    pub(crate) fn of(alloc: A, node: &'n NodeView<'a>) -> Result<Ahead<'n, 'a, A>, AllocError>
         ensures { IfOk result (λ ahead. ahead ≡ shape_from node.now.left node.now.entries) }
     {
         let mut rows = NodeRows::of(node, KeyBuf::new(alloc)?);
         let link = rows.link();
         let value = rows.next();
-        Ok(Ahead { link, value, rows })
+        Ok(Ahead {
+            node,
+            left: node.entry_count(),
+            link,
+            value,
+            rows,
+        })
+    }
+
+    /// The node, and how many of its pairs were passed.
+    pub(crate) fn place(&self) -> (&'n NodeView<'a>, u64)
+        ensures { IsAt result.0.now.entries result.1 self.now }
+    {
+        (self.node, self.node.entry_count() - self.left)
+    }
+
+    /// How many pairs are left.
+    pub(crate) fn left(&self) -> u64
+        ensures { result ≡ pairs_left self.now }
+    {
+        self.left
     }
 
     /// The link before the next pair, or the last link.
@@ -92,6 +118,7 @@ impl<'a, A: Allocator> Ahead<'a, A> {
         if self.value.is_some() {
             self.link = self.rows.link();
             self.value = self.rows.next();
+            self.left -= 1;
         }
     }
 }

@@ -1,20 +1,23 @@
 //! Pairs written as they stand in a node.
 
-ghost use Rattle.std.specs.Prelude.{◌≡◌, ◌++◌, IfOk, IfErr, OnOk};
+ghost use Rattle.std.specs.Prelude.{◌≡◌, ◌≤◌, ◌+◌, ◌++◌, length, None, IfOk, IfErr, OnOk};
 ghost use Rattle.paths.specs.ShapeEdit.{with_first_link};
 ghost use Rattle.edit.specs.Ahead.{after_pair, first_linked, all_pairs, before_key, from_key};
+ghost use Rattle.edit.specs.Copying.{EndsAt, last_pair, pairs_left, passed};
 ghost use Rattle.edit.specs.Drafts.{onto, IsFaultOf, IsFaultOfAll};
 
 use crate::ahead::Ahead;
 use crate::draft::Draft;
 use crate::draft_fault::DraftFault;
 use crate::draft_writer::DraftWriter;
+use crate::last_pair::LastPair;
 use cid::Cid;
-use std::alloc::Allocator;
+use node::NodeView;
+use std::alloc::{AllocError, Allocator};
 use std::clone::Clone;
 
 /// Goes on to the first pair that isn't before `key`.
-pub(crate) fn skip_before<A: Allocator>(ahead: &mut Ahead<'_, A>, key: &[u8])
+pub(crate) fn skip_before<A: Allocator>(ahead: &mut Ahead<'_, '_, A>, key: &[u8])
     ensures { ahead.new ≡ from_key key.now ahead.old }
 {
     while ahead.is_before(key) {
@@ -24,7 +27,7 @@ pub(crate) fn skip_before<A: Allocator>(ahead: &mut Ahead<'_, A>, key: &[u8])
 
 /// Writes the next pair with a link before it, and goes on after it. Where only a link is left nothing is written.
 fn copy_pair<A: Allocator + Clone>(
-    ahead: &mut Ahead<'_, A>,
+    ahead: &mut Ahead<'_, '_, A>,
     link: Option<Cid>,
     writer: &mut DraftWriter<A>,
 ) -> Result<(), DraftFault>
@@ -39,9 +42,81 @@ fn copy_pair<A: Allocator + Clone>(
     Ok(())
 }
 
+/// Passes the next pair and keeps it. Where only a link is left nothing changes.
+fn pass_pair<A: Allocator>(
+    ahead: &mut Ahead<'_, '_, A>,
+    last: &mut LastPair<A>,
+) -> Result<(), AllocError>
+    ensures ahead { OnOk result (ahead.new ≡ after_pair ahead.old) }
+    ensures last { OnOk result (last.new ≡ last_pair last.old (first_linked None ahead.old)) }
+{
+    if let Some((key, value)) = ahead.pair() {
+        last.set(key, value)?;
+        ahead.skip();
+    }
+    Ok(())
+}
+
+/// Passes the pairs before `key`, and keeps the last of them.
+fn pass_before<A: Allocator>(
+    ahead: &mut Ahead<'_, '_, A>,
+    key: &[u8],
+    last: &mut LastPair<A>,
+) -> Result<(), AllocError>
+    ensures ahead { OnOk result (ahead.new ≡ from_key key.now ahead.old) }
+    ensures last { OnOk result (last.new ≡ last_pair last.old (before_key key.now ahead.old)) }
+{
+    while ahead.is_before(key) {
+        pass_pair(ahead, last)?;
+    }
+    Ok(())
+}
+
+/// Passes all pairs, and keeps the last.
+fn pass_pairs<A: Allocator>(
+    ahead: &mut Ahead<'_, '_, A>,
+    last: &mut LastPair<A>,
+) -> Result<(), AllocError>
+    ensures ahead { OnOk result (pairs_left ahead.new ≡ 0) }
+    ensures last { OnOk result (last.new ≡ last_pair last.old (all_pairs ahead.old)) }
+{
+    while ahead.is_more() {
+        pass_pair(ahead, last)?;
+    }
+    Ok(())
+}
+
+/// Writes the pairs of a node after the `at`-th, which was written last, but for the `left` at its end, as they stand
+/// there: `link` is the one before them, and `last` the last of them.
+fn copy_passed<A: Allocator + Clone>(
+    node: &NodeView<'_>,
+    at: u64,
+    left: u64,
+    link: Option<Cid>,
+    last: LastPair<A>,
+    writer: &mut DraftWriter<A>,
+) -> Result<(), DraftFault>
+    requires within { at + 1 + left ≤ length node.now.entries }
+    requires ends { EndsAt node.now.entries at writer.old }
+    requires last { last ≡ last_pair None (passed at left link node.now.entries) }
+    ensures written { OnOk result (writer.new ≡ writer.old ++ passed at left link node.now.entries) }
+    ensures fault { IfErr result (IsFaultOfAll (writer.old ++ passed at left link node.now.entries)) }
+{
+    match last.into_pair() {
+        Some((key, value)) => {
+            let until = node.entry_count() - left - 1;
+            writer.follow(node, at, until, link, key, value)
+        }
+        None => Ok(()),
+    }
+}
+
 /// Writes the pairs before `key`, each with the link before it, and goes on to the first that isn't before `key`.
+///
+/// The first is written anew, as what it has in common with the key before depends on what was written; the bytes of the
+/// others are copied as they stand.
 pub(crate) fn copy_before<A: Allocator + Clone>(
-    ahead: &mut Ahead<'_, A>,
+    ahead: &mut Ahead<'_, '_, A>,
     key: &[u8],
     writer: &mut DraftWriter<A>,
 ) -> Result<(), DraftFault>
@@ -49,32 +124,43 @@ pub(crate) fn copy_before<A: Allocator + Clone>(
     ensures ahead { OnOk result (ahead.new ≡ from_key key.now ahead.old) }
     ensures fault { IfErr result (IsFaultOfAll (writer.old ++ before_key key.now ahead.old)) }
 {
-    while ahead.is_before(key) {
-        let link = ahead.link();
-        copy_pair(ahead, link, writer)?;
+    if !ahead.is_before(key) {
+        return Ok(());
     }
-    Ok(())
+    let (node, at) = ahead.place();
+    let before = ahead.link();
+    copy_pair(ahead, before, writer)?;
+    let link = ahead.link();
+    let mut last = LastPair::none(writer.alloc()?);
+    pass_before(ahead, key, &mut last)?;
+    copy_passed(node, at, ahead.left(), link, last, writer)
 }
 
-/// Writes all pairs, each with the link before it.
+/// Writes all pairs, each with the link before it: the first anew, the bytes of the others as they stand.
 pub(crate) fn copy_pairs<A: Allocator + Clone>(
-    ahead: Ahead<'_, A>,
+    ahead: Ahead<'_, '_, A>,
     writer: &mut DraftWriter<A>,
 ) -> Result<(), DraftFault>
     ensures written { OnOk result (writer.new ≡ writer.old ++ all_pairs ahead.entry) }
     ensures fault { IfErr result (IsFaultOfAll (writer.old ++ all_pairs ahead.entry)) }
 {
     let mut ahead = ahead;
-    while ahead.is_more() {
-        let link = ahead.link();
-        copy_pair(&mut ahead, link, writer)?;
+    if !ahead.is_more() {
+        return Ok(());
     }
-    Ok(())
+    let (node, at) = ahead.place();
+    let before = ahead.link();
+    copy_pair(&mut ahead, before, writer)?;
+    let link = ahead.link();
+    let mut last = LastPair::none(writer.alloc()?);
+    pass_pairs(&mut ahead, &mut last)?;
+    copy_passed(node, at, 0, link, last, writer)
 }
 
-/// Writes what is left of a node, with `first` in place of the link before its next pair.
+/// Writes what is left of a node, with `first` in place of the link before its next pair. This pair is written anew, the
+/// bytes of the others are copied as they stand.
 pub(crate) fn copy_from<A: Allocator + Clone>(
-    ahead: Ahead<'_, A>,
+    ahead: Ahead<'_, '_, A>,
     first: Option<Cid>,
     writer: DraftWriter<A>,
 ) -> Result<Draft<A>, DraftFault>
@@ -83,10 +169,10 @@ pub(crate) fn copy_from<A: Allocator + Clone>(
 {
     let mut ahead = ahead;
     let mut writer = writer;
-    let mut link = first;
-    while ahead.is_more() {
-        copy_pair(&mut ahead, link, &mut writer)?;
-        link = ahead.link();
+    if !ahead.is_more() {
+        return writer.finish(first);
     }
-    writer.finish(link)
+    let (node, at) = ahead.place();
+    copy_pair(&mut ahead, first, &mut writer)?;
+    writer.finish_with(ahead.link(), node, at)
 }

@@ -17,6 +17,7 @@ mod edited;
 mod ends;
 mod fault;
 mod frame;
+mod last_pair;
 mod lookup;
 mod nodes;
 mod open_node;

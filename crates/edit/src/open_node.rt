@@ -1,15 +1,17 @@
 //! A node of which a pair was written and not yet the link after it.
 
-ghost use Rattle.std.specs.Prelude.{◌≡◌, ◌∷◌, ◌++◌, [], true, IfOk, IfErr, OnOk};
+ghost use Rattle.std.specs.Prelude.{◌≡◌, ◌<◌, ◌≤◌, ◌+◌, ◌-◌, ◌∷◌, ◌++◌, [], length, take, drop, true, IfOk, IfErr, OnOk};
 ghost use Rattle.spec.specs.NodeFormat.{LastLink};
 ghost use Rattle.cid.specs.CidRef.{bytes_of};
 ghost use Rattle.node.specs.Contents.{is_next_key};
-ghost use Rattle.edit.specs.Drafts.{onto, IsFaultOf, IsFaultOfAll};
+ghost use Rattle.paths.specs.Sources.{shape_from};
+ghost use Rattle.edit.specs.Copying.{EndsAt};
+ghost use Rattle.edit.specs.Drafts.{onto, turned, IsFaultOf, IsFaultOfAll};
 
 use crate::draft::Draft;
 use crate::draft_fault::DraftFault;
 use cid::{Cid, CidRef};
-use node::NodeWriter;
+use node::{NodeView, NodeWriter};
 use std::alloc::{AllocError, Allocator};
 use std::clone::Clone;
 use std::marker::Model;
@@ -73,6 +75,64 @@ impl<A: Allocator + Clone> OpenNode<A> {
         self.key.extend_from_slice(key)?;
         self.value = value.to_cid();
         Ok(())
+    }
+
+    /// Goes on with a node whose `at`-th pair is the last of this one: with `link` after it, then the pairs up to the
+    /// `until`-th as they stand there, each with the link after it, and then a pair. After a refusal nothing is promised
+    /// of this node.
+    pub(crate) fn follow(
+        &mut self,
+        node: &NodeView<'_>,
+        at: u64,
+        until: u64,
+        link: Option<Cid>,
+        key: Vec<u8, A>,
+        value: Cid,
+    ) -> Result<(), DraftFault>
+        requires order { at < until }
+        requires within { until ≤ length node.now.entries }
+        requires ends { EndsAt node.now.entries at self.old }
+        ensures ok { OnOk result (self.new ≡ self.old ++ turned link (take (until - (at + 1)) (drop (at + 1) node.now.entries)) (key.items, value)) }
+        ensures fault { IfErr result (IsFaultOfAll (self.old ++ turned link (take (until - (at + 1)) (drop (at + 1) node.now.entries)) (key.items, value))) }
+    {
+        if !self.closed.is_next(&self.key) {
+            return Err(DraftFault::NotNode);
+        }
+        self.closed
+            .entry(&self.key, CidRef::from(&self.value), link)?;
+        self.closed.copy(node, at + 1, until)?;
+        self.key = key;
+        self.value = value;
+        Ok(())
+    }
+
+    /// Adds `link` and all that comes after the `at`-th pair of a node, which is the last of this one, as it stands there.
+    pub(crate) fn finish_with(
+        self,
+        link: Option<Cid>,
+        node: &NodeView<'_>,
+        at: u64,
+    ) -> Result<Draft<A>, DraftFault>
+        requires within { at < length node.now.entries }
+        requires ends { EndsAt node.now.entries at self }
+        ensures ok { IfOk result (λ draft. draft ≡ onto self (shape_from link (drop (at + 1) node.now.entries))) }
+        ensures fault { IfErr result (IsFaultOf (onto self (shape_from link (drop (at + 1) node.now.entries)))) }
+    {
+        let OpenNode {
+            mut closed,
+            key,
+            value,
+        } = self;
+        if !closed.is_next(&key) {
+            return Err(DraftFault::NotNode);
+        }
+        closed.entry(&key, CidRef::from(&value), link)?;
+        let count = node.entry_count();
+        closed.copy(node, at + 1, count)?;
+        Ok(Draft {
+            bytes: closed.finish()?,
+            hollow: false,
+        })
     }
 
     /// Adds the last link.

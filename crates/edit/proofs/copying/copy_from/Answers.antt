@@ -1,33 +1,59 @@
-use Rattle.std.proofs.Common.{◌≡◌, ◌++◌, Option, ℕ, List, refl, sym, ap, ◌∙◌}
+use Rattle.std.proofs.Common.{◌≡◌, ◌+◌, ◌++◌, drop, IfOk, IfErr, refl, sym, subst, ◌∙◌}
 use Rattle.std.proofs.lemmas.Result.{err_from_is_err_and}
 use Rattle.spec.specs.NodeFormat.{Shape, first_link}
 use Rattle.paths.specs.ShapeEdit.{with_first_link}
+use Rattle.paths.specs.Sources.{shape_from}
 use Rattle.edit.specs.Ahead.{after_pair, first_linked}
-use Rattle.edit.specs.Drafts.{onto}
+use Rattle.edit.specs.Drafts.{IsFaultOf}
 use Rattle.edit.proofs.Cutting.{from-step, grows-onto, fault-at}
+use Rattle.edit.proofs.Pieces.{ends-at, PassesAll, all-onto}
 use Rattle.edit.proofs.copying.copy_from.Goals as goal
 
 pub returns-in_err-copy_pair-clause-fault : goal.returns-in_err-copy_pair-clause-fault
 returns-in_err-copy_pair-clause-fault g c =
     let p = err_from_is_err_and c.from_residual.result c.from_residual.ensures.1 in
-    let l = c.loop-ahead in
-    let piece = first_linked l.link l.ahead in
-    let rest = with_first_link (first_link (after_pair l.ahead)) (after_pair l.ahead) in
-    let step = from-step l.link l.ahead (sym c.is_more.ensures ∙ c.loop-ahead-test.true) in
-    rw (p.1, p.2) (fault-at c.in_err-copy_pair.field-0.0 (l.writer ++ piece) rest _
-    (grows-onto l.writer (l.writer ++ piece) piece rest (with_first_link l.link l.ahead) refl step ∙ l.invariant)
+    let s = c.args.ahead in
+    let first = c.args.first in
+    let was = c.args.writer in
+    let piece = first_linked first s in
+    let rest = with_first_link (first_link (after_pair s)) (after_pair s) in
+    let step = from-step first s (sym c.is_more.ensures ∙ c.if-not-is_more.false) in
+    rw (p.1, p.2) (fault-at c.in_err-copy_pair.field-0.0 (was ++ piece) rest _
+    (grows-onto was (was ++ piece) piece rest (with_first_link first s) refl step)
     c.in_err-copy_pair.ensures.fault)
 
-pub loop-ahead-preserved : goal.loop-ahead-preserved
-loop-ahead-preserved g c =
-    let l = c.loop-ahead in
-    let piece = first_linked l.link l.ahead in
-    let left = after_pair l.ahead in
-    let step = from-step l.link l.ahead (sym c.is_more.ensures ∙ c.loop-ahead-test.true) in
-    let now : with_first_link c.link-link.result c.copy_pair.new.ahead ≡ with_first_link (first_link left) left =
-    ap (λ (x : Option (List ℕ)). with_first_link x c.copy_pair.new.ahead) c.link-link.ensures
-    ∙ ap (λ (s : Shape). with_first_link (first_link s) s) c.in_ok-copy_pair.ensures.ahead in
-    ap (onto c.copy_pair.new.writer) now
-    ∙ grows-onto l.writer c.copy_pair.new.writer piece (with_first_link (first_link left) left)
-    (with_first_link l.link l.ahead) c.in_ok-copy_pair.ensures.written step
-    ∙ l.invariant
+pub finish_with-requires-clause-ends : goal.finish_with-requires-clause-ends
+finish_with-requires-clause-ends g c =
+    ends-at c.place-at.result.0.now.entries c.place-at.result.1 c.args.ahead c.args.first c.args.writer
+    c.copy_pair.new.writer c.place-at.ensures (sym c.is_more.ensures ∙ c.if-not-is_more.false)
+    c.in_ok-copy_pair.ensures.written
+
+pub returns-clause-ok : goal.returns-clause-ok
+returns-clause-ok g c =
+    let passes : PassesAll c.place-at.result.0.now.entries c.place-at.result.1 c.args.ahead c.copy_pair.new.ahead
+    (first_link c.args.ahead) c.link.result = record {
+      place = c.place-at.ensures;
+      more = sym c.is_more.ensures ∙ c.if-not-is_more.false;
+      before_is = refl;
+      one_is = c.in_ok-copy_pair.ensures.ahead;
+      link_is = c.link.ensures;
+    } in
+    let rest = shape_from c.link.result (drop (c.place-at.result.1 + 1) c.place-at.result.0.now.entries) in
+    let is = grows-onto c.args.writer c.copy_pair.new.writer (first_linked c.args.first c.args.ahead) rest
+    (with_first_link c.args.first c.args.ahead) c.in_ok-copy_pair.ensures.written (all-onto _ _ _ _ _ _ passes c.args.first) in
+    subst (λ (t : Shape). IfOk c.finish_with.result (λ draft. draft ≡ t)) is c.finish_with.ensures.ok
+
+pub returns-clause-fault : goal.returns-clause-fault
+returns-clause-fault g c =
+    let passes : PassesAll c.place-at.result.0.now.entries c.place-at.result.1 c.args.ahead c.copy_pair.new.ahead
+    (first_link c.args.ahead) c.link.result = record {
+      place = c.place-at.ensures;
+      more = sym c.is_more.ensures ∙ c.if-not-is_more.false;
+      before_is = refl;
+      one_is = c.in_ok-copy_pair.ensures.ahead;
+      link_is = c.link.ensures;
+    } in
+    let rest = shape_from c.link.result (drop (c.place-at.result.1 + 1) c.place-at.result.0.now.entries) in
+    let is = grows-onto c.args.writer c.copy_pair.new.writer (first_linked c.args.first c.args.ahead) rest
+    (with_first_link c.args.first c.args.ahead) c.in_ok-copy_pair.ensures.written (all-onto _ _ _ _ _ _ passes c.args.first) in
+    subst (λ (t : Shape). IfErr c.finish_with.result (IsFaultOf t)) is c.finish_with.ensures.fault

@@ -1,6 +1,6 @@
 use Rattle.std.proofs.Common.{◌≡◌}
 use Rattle.edit.specs.Ahead.{from_key}
-use Rattle.edit.proofs.Cutting.{pairs_left}
+use Rattle.edit.specs.Copying.{pairs_left}
 use Rattle.edit.proofs.copying.skip_before.Given as goal
 
 abbrev pub invariant-loop-ahead : goal.invariant-loop-ahead
