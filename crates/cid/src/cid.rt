@@ -105,7 +105,7 @@ impl Cid {
 pub(crate) fn has_own_prefix(bytes: &[u8; 36]) -> bool
     ensures { result ≡ is_own_cid bytes.now }
 {
-    bytes[..4] == PREFIX[..]
+    matches!(bytes, [0x01, 0x71, 0x12, 0x20, ..])
 }
 
 impl TryFrom<[u8; 36]> for Cid {

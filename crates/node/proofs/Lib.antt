@@ -5,6 +5,7 @@ pub mod Faults
 pub mod Finding
 pub mod Joining
 pub mod Passing
+pub mod ReadAgain
 pub mod RowLaws
 pub mod Stepping
 pub mod Writing

@@ -7,6 +7,7 @@ mod entry;
 mod fault;
 mod key_before;
 mod key_buf;
+mod known;
 mod parts;
 mod place;
 mod reading;

@@ -4,7 +4,7 @@ ghost use Rattle.std.specs.Prelude.{◌≡◌, IsOk, Ok};
 ghost use Rattle.node.specs.Runs.{after_rows, after_keys};
 
 use crate::key_buf::KeyBuf;
-use crate::reading::entry;
+use crate::known::known_entry;
 use std::alloc::Allocator;
 
 /// The bytes after so many entries.
@@ -15,9 +15,7 @@ pub(crate) fn after(count: u64, bytes: &[u8]) -> &[u8]
     let mut rest = bytes;
     let mut left = count;
     while left > 0 {
-        let Ok((_, after)) = entry(rest) else {
-            unreachable!()
-        };
+        let (_, after) = known_entry(rest);
         rest = after;
         left -= 1;
     }
@@ -32,9 +30,7 @@ pub(crate) fn pass<'a, A: Allocator>(key: &mut KeyBuf<A>, count: u64, bytes: &'a
     let mut rest = bytes;
     let mut left = count;
     while left > 0 {
-        let Ok((entry, after)) = entry(rest) else {
-            unreachable!()
-        };
+        let (entry, after) = known_entry(rest);
         key.step(&entry);
         rest = after;
         left -= 1;

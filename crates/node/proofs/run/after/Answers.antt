@@ -3,21 +3,21 @@ use Rattle.spec.specs.NodeFormat.{NodeFault}
 use Rattle.node.specs.Rows.{row_at}
 use Rattle.node.specs.Runs.{after_rows}
 use Rattle.node.specs.Views.{row_of}
-use Rattle.node.proofs.Faults.{not_failing}
+use Rattle.node.proofs.ReadAgain.{read-ok}
 use Rattle.node.proofs.Passing.{after_rows-none, after_rows-first, after_rows-next}
 use Rattle.node.proofs.run.after.Goals as goal
 
-pub unreachable-requires : goal.unreachable-requires
-unreachable-requires c =
+pub known_entry-requires : goal.known_entry-requires
+known_entry-requires c =
     let l = c.loop-left in
     let ok : IsOk (after_rows l.left l.rest.now) = subst (λ (r : Result (List ℕ) NodeFault). IsOk r) (sym l.invariant) c.requires in
     let f = after_rows-first l.left l.rest.now (omega arith) ok in
-    not_failing c.in_default.field-0 (row_at l.rest.now) f.0 f.1 c.in_default.ensures
+    read-ok (row_at l.rest.now) f.0 f.1
 
 pub loop-left-preserved : goal.loop-left-preserved
 loop-left-preserved c =
     let l = c.loop-left in
-    sym (after_rows-next l.left l.rest.now (row_of c.in-Ok.field-0-0, c.in-Ok.after.now) (omega arith) c.in-Ok.ensures) ∙ l.invariant
+    sym (after_rows-next l.left l.rest.now (row_of c.known_entry.result.0, c.known_entry.result.1.now) (omega arith) c.known_entry.ensures) ∙ l.invariant
 
 pub returns : goal.returns
 returns c =

@@ -3,33 +3,33 @@ use Rattle.spec.specs.NodeFormat.{NodeFault}
 use Rattle.node.specs.Rows.{row_at}
 use Rattle.node.specs.Runs.{after_keys}
 use Rattle.node.specs.Views.{row_of}
-use Rattle.node.proofs.Faults.{not_failing}
+use Rattle.node.proofs.ReadAgain.{read-ok}
 use Rattle.node.proofs.Passing.{after_keys-none, after_keys-first, after_keys-next}
 use Rattle.node.proofs.run.pass.Goals as goal
 
 still : {A : Type 0} (r s : Result A NodeFault) → r ≡ s → IsOk s → IsOk r
 still {A} r s e ok = subst (λ (x : Result A NodeFault). IsOk x) (sym e) ok
 
-pub unreachable-requires : goal.unreachable-requires
-unreachable-requires g c =
+pub known_entry-requires : goal.known_entry-requires
+known_entry-requires g c =
     let l = c.loop-left in
     let f = after_keys-first l.left l.key l.rest.now (omega arith) (still _ _ l.invariant c.requires) in
-    not_failing c.in_default.field-0 (row_at l.rest.now) f.0 f.1 c.in_default.ensures
+    read-ok (row_at l.rest.now) f.0 f.1
 
 pub step-requires-clause-within : goal.step-requires-clause-within
 step-requires-clause-within g c =
     let l = c.loop-left in
-    (after_keys-next l.left l.key l.rest.now (row_of c.in-Ok.entry, c.in-Ok.after.now) (omega arith) (still _ _ l.invariant c.requires) c.in-Ok.ensures).within
+    (after_keys-next l.left l.key l.rest.now (row_of c.known_entry.result.0, c.known_entry.result.1.now) (omega arith) (still _ _ l.invariant c.requires) c.known_entry.ensures).within
 
 pub step-requires-clause-room : goal.step-requires-clause-room
 step-requires-clause-room g c =
     let l = c.loop-left in
-    (after_keys-next l.left l.key l.rest.now (row_of c.in-Ok.entry, c.in-Ok.after.now) (omega arith) (still _ _ l.invariant c.requires) c.in-Ok.ensures).room
+    (after_keys-next l.left l.key l.rest.now (row_of c.known_entry.result.0, c.known_entry.result.1.now) (omega arith) (still _ _ l.invariant c.requires) c.known_entry.ensures).room
 
 pub loop-left-preserved : goal.loop-left-preserved
 loop-left-preserved g c =
     let l = c.loop-left in
-    let next = after_keys-next l.left l.key l.rest.now (row_of c.in-Ok.entry, c.in-Ok.after.now) (omega arith) (still _ _ l.invariant c.requires) c.in-Ok.ensures in
+    let next = after_keys-next l.left l.key l.rest.now (row_of c.known_entry.result.0, c.known_entry.result.1.now) (omega arith) (still _ _ l.invariant c.requires) c.known_entry.ensures in
     sym (next.goes c.step.new.self c.step.ensures) ∙ l.invariant
 
 pub returns : goal.returns

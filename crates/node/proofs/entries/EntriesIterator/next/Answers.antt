@@ -1,7 +1,7 @@
 use Rattle.std.proofs.Common.{◌≡◌, ℕ, ◌-◌, ◌∷◌, [], arith, sym, ap, ◌∙◌, rules}
 use Rattle.node.specs.Rows.{rows_shown, row_at}
 use Rattle.node.specs.Views.{row_of}
-use Rattle.node.proofs.Faults.{not_failing}
+use Rattle.node.proofs.ReadAgain.{read-ok}
 use Rattle.node.proofs.RowLaws.{first_row, first_row-read, rows_shown-none}
 use Rattle.node.proofs.entries.EntriesIterator.next.Goals as goal
 
@@ -11,25 +11,25 @@ returns-then-self-eq0-clause-steps c =
     let none : c.args.self.now ≡ [] = sym c.self.view_is ∙ ap (λ (n : ℕ). rows_shown n s.bytes.now) c.if-self-eq0.true ∙ rows_shown-none s.bytes.now in
     (none, none)
 
-pub unreachable-requires : goal.unreachable-requires
-unreachable-requires c =
+pub known_entry-requires : goal.known_entry-requires
+known_entry-requires c =
     let s = c.self.inside in
     let f = first_row s.left s.bytes.now (omega (arith, c.if-self-eq0.false)) c.self.invariant in
-    not_failing c.in_default.field-0 (row_at s.bytes.now) f.0 f.1.read c.in_default.ensures
+    read-ok (row_at s.bytes.now) f.0 f.1.read
 
 pub invariant_of-self : goal.invariant_of-self
 invariant_of-self c =
     let s = c.self.inside in
-    (first_row-read s.left s.bytes.now (row_of c.in-Ok.entry, c.in-Ok.rest.now) (omega (arith, c.if-self-eq0.false)) c.self.invariant c.in-Ok.ensures).more
+    (first_row-read s.left s.bytes.now (row_of c.known_entry.result.0, c.known_entry.result.1.now) (omega (arith, c.if-self-eq0.false)) c.self.invariant c.known_entry.ensures).more
 
 pub returns-clause-steps : goal.returns-clause-steps
 returns-clause-steps c =
     let s = c.self.inside in
-    sym c.self.view_is ∙ (first_row-read s.left s.bytes.now (row_of c.in-Ok.entry, c.in-Ok.rest.now) (omega (arith, c.if-self-eq0.false)) c.self.invariant c.in-Ok.ensures).shown
+    sym c.self.view_is ∙ (first_row-read s.left s.bytes.now (row_of c.known_entry.result.0, c.known_entry.result.1.now) (omega (arith, c.if-self-eq0.false)) c.self.invariant c.known_entry.ensures).shown
 
 pub returns-clause-goes : goal.returns-clause-goes
 returns-clause-goes c =
     let s = c.self.inside in
-    let e : c.args.self.now ≡ row_of c.in-Ok.entry ∷ rows_shown (s.left - 1) c.in-Ok.rest.now =
-    sym c.self.view_is ∙ (first_row-read s.left s.bytes.now (row_of c.in-Ok.entry, c.in-Ok.rest.now) (omega (arith, c.if-self-eq0.false)) c.self.invariant c.in-Ok.ensures).shown in
+    let e : c.args.self.now ≡ row_of c.known_entry.result.0 ∷ rows_shown (s.left - 1) c.known_entry.result.1.now =
+    sym c.self.view_is ∙ (first_row-read s.left s.bytes.now (row_of c.known_entry.result.0, c.known_entry.result.1.now) (omega (arith, c.if-self-eq0.false)) c.self.invariant c.known_entry.ensures).shown in
     rw e (search rules)
