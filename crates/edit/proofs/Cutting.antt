@@ -12,7 +12,7 @@ use Rattle.paths.specs.Order.{order}
 use Rattle.paths.specs.ShapeEdit.{with_first_link}
 use Rattle.edit.specs.declared.draft_fault.DraftFault.{DraftFault}
 use Rattle.edit.specs.declared.draft_fault.DraftFault.TheVariants.{NotNode, NoMemory}
-use Rattle.edit.specs.Ahead.{after_pair, ahead_of, is_more, first_linked, all_pairs, before_key, from_key, is_first_before, is_first_at}
+use Rattle.edit.specs.Ahead.{after_pair, ahead_of, is_more, first_linked, before_key, from_key, is_first_before, is_first_at, is_more_before, pairs_before, rest_from}
 use Rattle.edit.specs.Drafts.{onto, IsFaultOf, IsFaultOfAll}
 use Rattle.edit.specs.Copying.{pairs_left}
 use Rattle.edit.specs.Rows.{Reading}
@@ -51,9 +51,20 @@ pub steps-before : (key : List ℕ) (s : Shape) → is_first_before key s ≡ tr
 steps-before key (LastLink l) h = absurd cc
 steps-before key (MoreLinks l e r) h = steps-at key l e r (order e.0 key) refl h
 
-pub all-step : (s : Shape) → is_more s ≡ true → first_linked (first_link s) s ++ all_pairs (after_pair s) ≡ all_pairs s
-all-step (LastLink l) h = absurd cc
-all-step (MoreLinks l e r) h = refl
+-- up to a key, or to the end where none is named
+pub record Steps (key : Option (List ℕ)) (s : Shape) : Type 0 where
+  pub more : is_more s ≡ true
+  pub less : pairs_left (after_pair s) < pairs_left s
+  pub from : rest_from key (after_pair s) ≡ rest_from key s
+  pub before : first_linked (first_link s) s ++ pairs_before key (after_pair s) ≡ pairs_before key s
+
+pub steps : (key : Option (List ℕ)) (s : Shape) → is_more_before key s ≡ true → Steps key s
+steps None (LastLink l) h = absurd cc
+steps None (MoreLinks l e r) h = record { more = refl; less = omega arith; from = refl; before = refl }
+steps (Some key) (LastLink l) h = absurd cc
+steps (Some key) (MoreLinks l e r) h =
+    let one = steps-before key (MoreLinks l e r) h in
+    record { more = refl; less = one.less; from = one.from; before = one.before }
 
 pub with-own : (s : Shape) → with_first_link (first_link s) s ≡ s
 with-own (LastLink l) = refl

@@ -11,12 +11,12 @@ use Rattle.node.specs.Contents.{Contents, last_key}
 use Rattle.paths.specs.Order.{order}
 use Rattle.paths.specs.ShapeEdit.{with_first_link}
 use Rattle.paths.specs.Sources.{shape_from}
-use Rattle.edit.specs.Ahead.{after_pair, ahead_of, is_more, first_linked, all_pairs, before_key, before_key_at, from_key, from_key_at, is_first_before}
+use Rattle.edit.specs.Ahead.{after_pair, ahead_of, is_more, first_linked, all_pairs, before_key, before_key_at, from_key, from_key_at, is_first_before, is_more_before, pairs_before, rest_from}
 use Rattle.edit.specs.Copying.{linked, last_pair, passed, EndsAt, pairs_left, IsAt, IsLeft}
 use Rattle.edit.specs.Drafts.{onto, turned, IsDraft, is_hollow, shape_in, IsFaultOfAll}
 use Rattle.edit.specs.declared.draft_fault.DraftFault.{DraftFault}
 use Rattle.edit.specs.Rows.{Reading}
-use Rattle.edit.proofs.Cutting.{steps-before, all-step, with-own, from-step, grows}
+use Rattle.edit.proofs.Cutting.{Steps, steps, with-own, from-step, grows}
 use Rattle.edit.proofs.Drafting.{Links, entry_with, written}
 use Rattle.edit.proofs.NodeReading.{first_link-from}
 
@@ -132,11 +132,6 @@ ends-key es at left cs p xs was ends =
 
 -- ---- the pairs that were passed
 
-pub last-step : (s : Shape) (before : Option Pair) → is_more s ≡ true
-    → last_pair (last_pair before (first_linked None s)) (all_pairs (after_pair s)) ≡ last_pair before (all_pairs s)
-last-step (LastLink l) before h = absurd cc
-last-step (MoreLinks l e r) before h = refl
-
 last-before-at : (key : List ℕ) (l : Option (List ℕ)) (e : Pair) (r : Shape) (before : Option Pair) (o : Ordering)
     → order e.0 key ≡ o → is_first_before key (MoreLinks l e r) ≡ true
     → last_pair (Some e) (before_key key r) ≡ last_pair before (before_key_at o l e (before_key key r))
@@ -144,10 +139,12 @@ last-before-at key l e r before Less h t = refl
 last-before-at key l e r before Equal h t = let c : false ≡ true = sym (ap is_lt h) ∙ t in absurd cc
 last-before-at key l e r before Greater h t = let c : false ≡ true = sym (ap is_lt h) ∙ t in absurd cc
 
-pub last-step-before : (key : List ℕ) (s : Shape) (before : Option Pair) → is_first_before key s ≡ true
-    → last_pair (last_pair before (first_linked None s)) (before_key key (after_pair s)) ≡ last_pair before (before_key key s)
-last-step-before key (LastLink l) before h = absurd cc
-last-step-before key (MoreLinks l e r) before h = last-before-at key l e r before (order e.0 key) refl h
+pub last-step : (key : Option (List ℕ)) (s : Shape) (before : Option Pair) → is_more_before key s ≡ true
+    → last_pair (last_pair before (first_linked None s)) (pairs_before key (after_pair s)) ≡ last_pair before (pairs_before key s)
+last-step None (LastLink l) before h = absurd cc
+last-step None (MoreLinks l e r) before h = refl
+last-step (Some key) (LastLink l) before h = absurd cc
+last-step (Some key) (MoreLinks l e r) before h = last-before-at key l e r before (order e.0 key) refl h
 
 from-within-at : (key : List ℕ) (l : Option (List ℕ)) (e : Pair) (r : Shape) (o : Ordering)
     → pairs_left (from_key key r) ≤ pairs_left r → pairs_left (from_key_at o l e r (from_key key r)) ≤ suc (pairs_left r)
@@ -155,9 +152,13 @@ from-within-at key l e r Less h = omega (arith, h)
 from-within-at key l e r Equal h = omega arith
 from-within-at key l e r Greater h = omega arith
 
-pub from-within : (key : List ℕ) (s : Shape) → pairs_left (from_key key s) ≤ pairs_left s
+from-within : (key : List ℕ) (s : Shape) → pairs_left (from_key key s) ≤ pairs_left s
 from-within key (LastLink l) = omega arith
 from-within key (MoreLinks l e r) = from-within-at key l e r (order e.0 key) (from-within key r)
+
+rest-within : (key : Option (List ℕ)) (s : Shape) → pairs_left (rest_from key s) ≤ pairs_left s
+rest-within None s = omega arith
+rest-within (Some key) s = from-within key s
 
 before-linked-at : (key : List ℕ) (l : Option (List ℕ)) (e : Entry) (ds : List Entry) (o : Ordering)
     → before_key key (shape_from e.tree ds) ≡ linked e.tree (take (length ds - pairs_left (from_key key (shape_from e.tree ds))) ds)
@@ -180,12 +181,11 @@ before-linked : (key : List ℕ) (l : Option (List ℕ)) (ds : List Entry)
 before-linked key l [] = refl
 before-linked key l (e ∷ ds) = before-linked-at key l e ds (order e.key key) (before-linked key e.tree ds)
 
-pub all-linked : (l : Option (List ℕ)) (ds : List Entry) → all_pairs (shape_from l ds) ≡ linked l ds
+all-linked : (l : Option (List ℕ)) (ds : List Entry) → all_pairs (shape_from l ds) ≡ linked l ds
 all-linked l [] = refl
 all-linked l (e ∷ ds) = ap (λ (xs : Links). (l, (e.key, e.value)) ∷ xs) (all-linked e.tree ds)
 
--- the pairs before a key, from a place on
-pub before-passed : (key : List ℕ) (es : List Entry) (at : ℕ) (s : Shape) → IsAt es (at + 1) s
+before-passed : (key : List ℕ) (es : List Entry) (at : ℕ) (s : Shape) → IsAt es (at + 1) s
     → before_key key s ≡ passed at (pairs_left (from_key key s)) (first_link s) es
 before-passed key es at s i =
     let ds = drop (at + 1) es in
@@ -195,7 +195,7 @@ before-passed key es at s i =
     ∙ ap (λ (n : ℕ). linked l (take (n - pairs_left (from_key key (shape_from l ds))) ds)) long
     ∙ ap (λ (t : Shape). linked l (take (length es - (at + 1) - pairs_left (from_key key t)) ds)) (sym i.rest)
 
-pub all-passed : (es : List Entry) (at : ℕ) (s : Shape) → IsAt es (at + 1) s → all_pairs s ≡ passed at 0 (first_link s) es
+all-passed : (es : List Entry) (at : ℕ) (s : Shape) → IsAt es (at + 1) s → all_pairs s ≡ passed at 0 (first_link s) es
 all-passed es at s i =
     let ds = drop (at + 1) es in
     let l = first_link s in
@@ -203,6 +203,12 @@ all-passed es at s i =
     ap all_pairs i.rest ∙ all-linked l ds
     ∙ ap (linked l) (sym (take_rest es (at + 1)))
     ∙ ap (λ (n : ℕ). linked l (take n ds)) (sym many)
+
+-- the pairs before a key, or to the end, from a place on
+pub pairs-passed : (key : Option (List ℕ)) (es : List Entry) (at : ℕ) (s : Shape) → IsAt es (at + 1) s
+    → pairs_before key s ≡ passed at (pairs_left (rest_from key s)) (first_link s) es
+pairs-passed None es at s i = all-passed es at s i
+pairs-passed (Some key) es at s i = before-passed key es at s i
 
 -- ---- what is written of them
 
@@ -345,73 +351,62 @@ refused-on r was mid piece ys all h k e = subst (λ (zs : Links). IfErr r (IsFau
 
 -- ---- the first pair anew, and the others as they stand
 
-pub more-of : (key : List ℕ) (s : Shape) → is_first_before key s ≡ true → is_more s ≡ true
-more-of key (LastLink l) h = absurd cc
-more-of key (MoreLinks l e r) h = refl
-
--- the first pair of a place was written, and then those before a key were passed
-pub record Passes (key : List ℕ) (es : List Entry) (at : ℕ) (s one rest : Shape) (before link : Option (List ℕ)) (left : ℕ) : Type 0 where
+-- the first pair of a place was written, and what comes after it begins with this link
+pub record First (es : List Entry) (at : ℕ) (s one : Shape) (link : Option (List ℕ)) : Type 0 where
   pub place : IsAt es at s
-  pub less : is_first_before key s ≡ true
+  pub more : is_more s ≡ true
+  pub one_is : one ≡ after_pair s
+  pub link_is : link ≡ first_link one
+
+module _ (es : List Entry) (at : ℕ) (s one : Shape) (link : Option (List ℕ)) (f : First es at s one link) where
+  first-next : IsAt es (at + 1) one
+  first-next = subst (λ (t : Shape). IsAt es (at + 1) t) (sym f.one_is) (one-more es at s f.place f.more)
+
+  pub first-onto : (first : Option (List ℕ)) → onto (first_linked first s) (shape_from link (drop (at + 1) es)) ≡ with_first_link first s
+  first-onto first =
+      let i = first-next in
+      ap (onto (first_linked first s))
+      (ap (λ (l : Option (List ℕ)). shape_from l (drop (at + 1) es)) f.link_is ∙ sym i.rest ∙ sym (with-own one)
+      ∙ ap (λ (t : Shape). with_first_link (first_link t) t) f.one_is)
+      ∙ from-step first s f.more
+
+-- then those before a key, or to the end, were passed
+pub record Passes (key : Option (List ℕ)) (es : List Entry) (at : ℕ) (s one rest : Shape) (before link : Option (List ℕ)) (left : ℕ) : Type 0 where
+  pub place : IsAt es at s
+  pub more : is_more_before key s ≡ true
   pub before_is : before ≡ first_link s
   pub one_is : one ≡ after_pair s
   pub link_is : link ≡ first_link one
-  pub rest_is : rest ≡ from_key key one
+  pub rest_is : rest ≡ rest_from key one
   pub left_is : left ≡ pairs_left rest
 
-module _ (key : List ℕ) (es : List Entry) (at : ℕ) (s one rest : Shape) (before link : Option (List ℕ)) (left : ℕ)
+module _ (key : Option (List ℕ)) (es : List Entry) (at : ℕ) (s one rest : Shape) (before link : Option (List ℕ)) (left : ℕ)
     (p : Passes key es at s one rest before link left) where
+  step : Steps key s
+  step = steps key s p.more
+
   next : IsAt es (at + 1) one
-  next = subst (λ (t : Shape). IsAt es (at + 1) t) (sym p.one_is) (one-more es at s p.place (more-of key s p.less))
+  next = first-next es at s one link (record { place = p.place; more = step.more; one_is = p.one_is; link_is = p.link_is })
 
   pub passes-within : at + 1 + left ≤ length es
   passes-within =
-      let within = from-within key one in
+      let within = rest-within key one in
       let rest_of = ap pairs_left p.rest_is in
       let i = next in
       omega (arith, i.counted, within, p.left_is, rest_of)
 
-  pub passes-others : before_key key one ≡ passed at left link es
+  pub passes-others : pairs_before key one ≡ passed at left link es
   passes-others =
-      before-passed key es at one next
+      pairs-passed key es at one next
       ∙ ap (λ (n : ℕ). passed at n (first_link one) es) (ap pairs_left (sym p.rest_is) ∙ sym p.left_is)
       ∙ ap (λ (l : Option (List ℕ)). passed at left l es) (sym p.link_is)
 
-  pub passes-all : first_linked before s ++ passed at left link es ≡ before_key key s
+  pub passes-all : first_linked before s ++ passed at left link es ≡ pairs_before key s
   passes-all =
+      let one_step = step in
       ap (λ (l : Option (List ℕ)). first_linked l s ++ passed at left link es) p.before_is
-      ∙ ap (λ (xs : Links). first_linked (first_link s) s ++ xs) (sym passes-others ∙ ap (before_key key) p.one_is)
-      ∙ (steps-before key s p.less).before
+      ∙ ap (λ (xs : Links). first_linked (first_link s) s ++ xs) (sym passes-others ∙ ap (pairs_before key) p.one_is)
+      ∙ one_step.before
 
-  pub passes-rest : rest ≡ from_key key s
-  passes-rest = p.rest_is ∙ ap (from_key key) p.one_is ∙ (steps-before key s p.less).from
-
--- the first pair of a place was written, and then all the others were passed
-pub record PassesAll (es : List Entry) (at : ℕ) (s one : Shape) (before link : Option (List ℕ)) : Type 0 where
-  pub place : IsAt es at s
-  pub more : is_more s ≡ true
-  pub before_is : before ≡ first_link s
-  pub one_is : one ≡ after_pair s
-  pub link_is : link ≡ first_link one
-
-module _ (es : List Entry) (at : ℕ) (s one : Shape) (before link : Option (List ℕ)) (p : PassesAll es at s one before link) where
-  pub all-next : IsAt es (at + 1) one
-  all-next = subst (λ (t : Shape). IsAt es (at + 1) t) (sym p.one_is) (one-more es at s p.place p.more)
-
-  pub all-others : all_pairs one ≡ passed at 0 link es
-  all-others =
-      all-passed es at one all-next ∙ ap (λ (l : Option (List ℕ)). passed at 0 l es) (sym p.link_is)
-
-  pub all-all : first_linked before s ++ passed at 0 link es ≡ all_pairs s
-  all-all =
-      ap (λ (l : Option (List ℕ)). first_linked l s ++ passed at 0 link es) p.before_is
-      ∙ ap (λ (xs : Links). first_linked (first_link s) s ++ xs) (sym all-others ∙ ap all_pairs p.one_is)
-      ∙ all-step s p.more
-
-  pub all-onto : (first : Option (List ℕ)) → onto (first_linked first s) (shape_from link (drop (at + 1) es)) ≡ with_first_link first s
-  all-onto first =
-      let i = all-next in
-      ap (onto (first_linked first s))
-      (ap (λ (l : Option (List ℕ)). shape_from l (drop (at + 1) es)) p.link_is ∙ sym i.rest ∙ sym (with-own one)
-      ∙ ap (λ (t : Shape). with_first_link (first_link t) t) p.one_is)
-      ∙ from-step first s p.more
+  pub passes-rest : rest ≡ rest_from key s
+  passes-rest = let one_step = step in p.rest_is ∙ ap (rest_from key) p.one_is ∙ one_step.from

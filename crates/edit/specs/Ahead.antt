@@ -6,7 +6,7 @@ use Rattle.std.specs.Ordering.{is_lt, is_eq}
 use Rattle.spec.specs.Tree.{Pair}
 use Rattle.spec.specs.NodeFormat.{Shape, LastLink, MoreLinks}
 use Rattle.paths.specs.Order.{order}
-use Rattle.paths.specs.ShapeEdit.{lone_shape}
+use Rattle.paths.specs.ShapeEdit.{last_link, lone_shape}
 use Rattle.edit.specs.Rows.{Reading}
 
 abbrev pub first_pair : Shape → Option Pair
@@ -65,6 +65,19 @@ is_first_before key (MoreLinks l e r) = is_lt (order e.0 key)
 abbrev pub is_first_at : List ℕ → Shape → Bool
 is_first_at key (LastLink l) = false
 is_first_at key (MoreLinks l e r) = is_eq (order e.0 key)
+
+-- before a key and from it on, or before the end where no key is named
+abbrev pub is_more_before : Option (List ℕ) → Shape → Bool
+is_more_before None s = is_more s
+is_more_before (Some key) s = is_first_before key s
+
+abbrev pub pairs_before : Option (List ℕ) → Shape → List (Option (List ℕ) × Pair)
+pairs_before None s = all_pairs s
+pairs_before (Some key) s = before_key key s
+
+abbrev pub rest_from : Option (List ℕ) → Shape → Shape
+rest_from None s = LastLink (last_link s)
+rest_from (Some key) s = from_key key s
 
 -- the links beside a key that is a node's only one
 abbrev pub links_if_lone : List ℕ → Shape → Option (Option (List ℕ) × Option (List ℕ))

@@ -1,9 +1,9 @@
 //! Pairs written as they stand in a node.
 
-ghost use Rattle.std.specs.Prelude.{◌≡◌, ◌≤◌, ◌+◌, ◌++◌, length, None, IfOk, IfErr, OnOk};
+ghost use Rattle.std.specs.Prelude.{◌≡◌, ◌≤◌, ◌+◌, ◌++◌, length, None, option_map, IfOk, IfErr, OnOk};
 ghost use Rattle.paths.specs.ShapeEdit.{with_first_link};
-ghost use Rattle.edit.specs.Ahead.{after_pair, first_linked, all_pairs, before_key, from_key};
-ghost use Rattle.edit.specs.Copying.{EndsAt, last_pair, pairs_left, passed};
+ghost use Rattle.edit.specs.Ahead.{after_pair, first_linked, from_key, is_more_before, pairs_before, rest_from};
+ghost use Rattle.edit.specs.Copying.{EndsAt, last_pair, passed};
 ghost use Rattle.edit.specs.Drafts.{onto, IsFaultOf, IsFaultOfAll};
 
 use crate::ahead::Ahead;
@@ -57,30 +57,26 @@ fn pass_pair<A: Allocator>(
     Ok(())
 }
 
-/// Passes the pairs before `key`, and keeps the last of them.
-fn pass_before<A: Allocator>(
-    ahead: &mut Ahead<'_, '_, A>,
-    key: &[u8],
-    last: &mut LastPair<A>,
-) -> Result<(), AllocError>
-    ensures ahead { OnOk result (ahead.new ≡ from_key key.now ahead.old) }
-    ensures last { OnOk result (last.new ≡ last_pair last.old (before_key key.now ahead.old)) }
+/// Whether there is a next pair, and it stands before `key` where one is named.
+fn is_more_before<A: Allocator>(ahead: &Ahead<'_, '_, A>, key: Option<&[u8]>) -> bool
+    ensures { result ≡ is_more_before (option_map (λ k. k.now) key.entry) ahead.now }
 {
-    while ahead.is_before(key) {
-        pass_pair(ahead, last)?;
+    match key {
+        Some(key) => ahead.is_before(key),
+        None => ahead.is_more(),
     }
-    Ok(())
 }
 
-/// Passes all pairs, and keeps the last.
-fn pass_pairs<A: Allocator>(
+/// Passes the pairs before `key`, or all where none is named, and keeps the last of them.
+fn pass_before<A: Allocator>(
     ahead: &mut Ahead<'_, '_, A>,
+    key: Option<&[u8]>,
     last: &mut LastPair<A>,
 ) -> Result<(), AllocError>
-    ensures ahead { OnOk result (pairs_left ahead.new ≡ 0) }
-    ensures last { OnOk result (last.new ≡ last_pair last.old (all_pairs ahead.old)) }
+    ensures ahead { OnOk result (ahead.new ≡ rest_from (option_map (λ k. k.now) key.entry) ahead.old) }
+    ensures last { OnOk result (last.new ≡ last_pair last.old (pairs_before (option_map (λ k. k.now) key.entry) ahead.old)) }
 {
-    while ahead.is_more() {
+    while is_more_before(ahead, key) {
         pass_pair(ahead, last)?;
     }
     Ok(())
@@ -111,20 +107,20 @@ fn copy_passed<A: Allocator + Clone>(
     }
 }
 
-/// Writes the pairs before `key`, each with the link before it, and goes on to the first that isn't before `key`.
+/// Writes the pairs before `key`, or all where none is named, each with the link before it, and goes on after them.
 ///
 /// The first is written anew, as what it has in common with the key before depends on what was written; the bytes of the
 /// others are copied as they stand.
 pub(crate) fn copy_before<A: Allocator + Clone>(
     ahead: &mut Ahead<'_, '_, A>,
-    key: &[u8],
+    key: Option<&[u8]>,
     writer: &mut DraftWriter<A>,
 ) -> Result<(), DraftFault>
-    ensures written { OnOk result (writer.new ≡ writer.old ++ before_key key.now ahead.old) }
-    ensures ahead { OnOk result (ahead.new ≡ from_key key.now ahead.old) }
-    ensures fault { IfErr result (IsFaultOfAll (writer.old ++ before_key key.now ahead.old)) }
+    ensures written { OnOk result (writer.new ≡ writer.old ++ pairs_before (option_map (λ k. k.now) key.entry) ahead.old) }
+    ensures ahead { OnOk result (ahead.new ≡ rest_from (option_map (λ k. k.now) key.entry) ahead.old) }
+    ensures fault { IfErr result (IsFaultOfAll (writer.old ++ pairs_before (option_map (λ k. k.now) key.entry) ahead.old)) }
 {
-    if !ahead.is_before(key) {
+    if !is_more_before(ahead, key) {
         return Ok(());
     }
     let (node, at) = ahead.place();
@@ -134,27 +130,6 @@ pub(crate) fn copy_before<A: Allocator + Clone>(
     let mut last = LastPair::none(writer.alloc()?);
     pass_before(ahead, key, &mut last)?;
     copy_passed(node, at, ahead.left(), link, last, writer)
-}
-
-/// Writes all pairs, each with the link before it: the first anew, the bytes of the others as they stand.
-pub(crate) fn copy_pairs<A: Allocator + Clone>(
-    ahead: Ahead<'_, '_, A>,
-    writer: &mut DraftWriter<A>,
-) -> Result<(), DraftFault>
-    ensures written { OnOk result (writer.new ≡ writer.old ++ all_pairs ahead.entry) }
-    ensures fault { IfErr result (IsFaultOfAll (writer.old ++ all_pairs ahead.entry)) }
-{
-    let mut ahead = ahead;
-    if !ahead.is_more() {
-        return Ok(());
-    }
-    let (node, at) = ahead.place();
-    let before = ahead.link();
-    copy_pair(&mut ahead, before, writer)?;
-    let link = ahead.link();
-    let mut last = LastPair::none(writer.alloc()?);
-    pass_pairs(&mut ahead, &mut last)?;
-    copy_passed(node, at, 0, link, last, writer)
 }
 
 /// Writes what is left of a node, with `first` in place of the link before its next pair. This pair is written anew, the

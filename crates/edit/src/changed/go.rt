@@ -27,6 +27,6 @@ pub(crate) fn go<A: Allocator + Clone>(
 {
     let mut ahead = Ahead::of(alloc.clone()?, node)?;
     let mut writer = DraftWriter::new(alloc);
-    copy_before(&mut ahead, key, &mut writer)?;
+    copy_before(&mut ahead, Some(key), &mut writer)?;
     copy_from(ahead, new, writer)
 }

@@ -30,7 +30,7 @@ pub(crate) fn insert<A: Allocator + Clone>(
 {
     let mut ahead = Ahead::of(alloc.clone()?, node)?;
     let mut writer = DraftWriter::new(alloc);
-    copy_before(&mut ahead, key, &mut writer)?;
+    copy_before(&mut ahead, Some(key), &mut writer)?;
     if ahead.is_at(key) {
         writer.pair(ahead.link(), key, CidRef::from(&value))?;
         ahead.skip();

@@ -6,7 +6,7 @@ ghost use Rattle.paths.specs.ShapeEdit.{join_shape};
 ghost use Rattle.edit.specs.Drafts.{IsFaultOf};
 
 use crate::ahead::Ahead;
-use crate::copying::{copy_from, copy_pairs};
+use crate::copying::{copy_before, copy_from};
 use crate::draft::Draft;
 use crate::draft_fault::DraftFault;
 use crate::draft_writer::DraftWriter;
@@ -26,6 +26,7 @@ pub(crate) fn join<A: Allocator + Clone>(
     ensures fault { IfErr result (IsFaultOf (join_shape (shape_from one.now.left one.now.entries) (shape_from other.now.left other.now.entries) link)) }
 {
     let mut writer = DraftWriter::new(alloc.clone()?);
-    copy_pairs(Ahead::of(alloc.clone()?, one)?, &mut writer)?;
+    let mut ahead = Ahead::of(alloc.clone()?, one)?;
+    copy_before(&mut ahead, None, &mut writer)?;
     copy_from(Ahead::of(alloc, other)?, link, writer)
 }

@@ -27,7 +27,7 @@ pub(crate) fn keep_before<A: Allocator + Clone>(
 {
     let mut ahead = Ahead::of(alloc.clone()?, node)?;
     let mut writer = DraftWriter::new(alloc);
-    copy_before(&mut ahead, key, &mut writer)?;
+    copy_before(&mut ahead, Some(key), &mut writer)?;
     writer.finish(new)
 }
 

@@ -27,7 +27,7 @@ pub(crate) fn remove<A: Allocator + Clone>(
 {
     let mut ahead = Ahead::of(alloc.clone()?, node)?;
     let mut writer = DraftWriter::new(alloc);
-    copy_before(&mut ahead, key, &mut writer)?;
+    copy_before(&mut ahead, Some(key), &mut writer)?;
     if ahead.is_at(key) {
         ahead.skip();
         copy_from(ahead, new, writer)

@@ -1,32 +1,32 @@
-use Rattle.std.proofs.Common.{◌++◌, None, Option, ℕ, List, refl, sym, ap, ◌∙◌}
+use Rattle.std.proofs.Common.{◌++◌, None, Option, option_map, ℕ, List, refl, sym, ap, ◌∙◌}
 use Rattle.std.proofs.lemmas.Result.{err_from_is_err_and}
 use Rattle.spec.specs.Tree.{Pair}
-use Rattle.edit.specs.Ahead.{after_pair, first_linked, before_key}
+use Rattle.edit.specs.Ahead.{after_pair, first_linked, pairs_before}
 use Rattle.edit.specs.Copying.{last_pair, passed}
-use Rattle.edit.proofs.Cutting.{steps-before, grows, fault-on}
-use Rattle.edit.proofs.Pieces.{ends-at, more-of, Passes, passes-within, passes-others, passes-all, goes-on, refused-on}
+use Rattle.edit.proofs.Cutting.{steps, grows, fault-on}
+use Rattle.edit.proofs.Pieces.{ends-at, Passes, passes-within, passes-others, passes-all, goes-on, refused-on}
 use Rattle.edit.proofs.copying.copy_before.Goals as goal
 
 pub returns-in_err-copy_pair-clause-fault : goal.returns-in_err-copy_pair-clause-fault
 returns-in_err-copy_pair-clause-fault g c =
     let p = err_from_is_err_and c.from_residual.result c.from_residual.ensures.1 in
     let s = c.args.ahead.now in
-    let key = c.args.key.now in
+    let key = option_map (λ k. k.now) c.args.key in
     let was = c.args.writer.now in
     let piece = first_linked c.link-before.result s in
-    let rest = before_key key (after_pair s) in
-    let step = steps-before key s (sym c.is_before.ensures ∙ c.if-not-is_before.false) in
+    let rest = pairs_before key (after_pair s) in
+    let step = steps key s (sym c.is_more_before.ensures ∙ c.if-not-is_more_before.false) in
     rw (p.1, p.2) (fault-on c.in_err-copy_pair.field-0.0 (was ++ piece) rest _
-    (grows was (was ++ piece) piece rest (before_key key s) refl
+    (grows was (was ++ piece) piece rest (pairs_before key s) refl
     (ap (λ (x : Option (List ℕ)). first_linked x s ++ rest) c.link-before.ensures ∙ step.before))
     c.in_err-copy_pair.ensures.fault)
 
 pub copy_passed-requires-clause-within : goal.copy_passed-requires-clause-within
 copy_passed-requires-clause-within g c =
-    let passes : Passes c.args.key.now c.place-at.result.0.now.entries c.place-at.result.1 c.args.ahead.now c.copy_pair.new.ahead
+    let passes : Passes (option_map (λ k. k.now) c.args.key) c.place-at.result.0.now.entries c.place-at.result.1 c.args.ahead.now c.copy_pair.new.ahead
     c.pass_before.new.ahead c.link-before.result c.link-link.result c.left.result = record {
       place = c.place-at.ensures;
-      less = sym c.is_before.ensures ∙ c.if-not-is_before.false;
+      more = sym c.is_more_before.ensures ∙ c.if-not-is_more_before.false;
       before_is = c.link-before.ensures;
       one_is = c.in_ok-copy_pair.ensures.ahead;
       link_is = c.link-link.ensures;
@@ -39,15 +39,15 @@ pub copy_passed-requires-clause-ends : goal.copy_passed-requires-clause-ends
 copy_passed-requires-clause-ends g c =
     ends-at c.place-at.result.0.now.entries c.place-at.result.1 c.args.ahead.now c.link-before.result c.args.writer.now
     c.copy_pair.new.writer c.place-at.ensures
-    (more-of c.args.key.now c.args.ahead.now (sym c.is_before.ensures ∙ c.if-not-is_before.false))
+    (steps (option_map (λ k. k.now) c.args.key) c.args.ahead.now (sym c.is_more_before.ensures ∙ c.if-not-is_more_before.false)).more
     c.in_ok-copy_pair.ensures.written
 
 pub copy_passed-requires-clause-last : goal.copy_passed-requires-clause-last
 copy_passed-requires-clause-last g c =
-    let passes : Passes c.args.key.now c.place-at.result.0.now.entries c.place-at.result.1 c.args.ahead.now c.copy_pair.new.ahead
+    let passes : Passes (option_map (λ k. k.now) c.args.key) c.place-at.result.0.now.entries c.place-at.result.1 c.args.ahead.now c.copy_pair.new.ahead
     c.pass_before.new.ahead c.link-before.result c.link-link.result c.left.result = record {
       place = c.place-at.ensures;
-      less = sym c.is_before.ensures ∙ c.if-not-is_before.false;
+      more = sym c.is_more_before.ensures ∙ c.if-not-is_more_before.false;
       before_is = c.link-before.ensures;
       one_is = c.in_ok-copy_pair.ensures.ahead;
       link_is = c.link-link.ensures;
@@ -55,15 +55,15 @@ copy_passed-requires-clause-last g c =
       left_is = c.left.ensures;
     } in
     c.in_ok-pass_before.ensures.last
-    ∙ ap (λ (p : Option Pair). last_pair p (before_key c.args.key.now c.copy_pair.new.ahead)) c.none-last.ensures
+    ∙ ap (λ (p : Option Pair). last_pair p (pairs_before (option_map (λ k. k.now) c.args.key) c.copy_pair.new.ahead)) c.none-last.ensures
     ∙ ap (last_pair None) (passes-others _ _ _ _ _ _ _ _ _ passes)
 
 pub returns-clause-written : goal.returns-clause-written
 returns-clause-written g c =
-    let passes : Passes c.args.key.now c.place-at.result.0.now.entries c.place-at.result.1 c.args.ahead.now c.copy_pair.new.ahead
+    let passes : Passes (option_map (λ k. k.now) c.args.key) c.place-at.result.0.now.entries c.place-at.result.1 c.args.ahead.now c.copy_pair.new.ahead
     c.pass_before.new.ahead c.link-before.result c.link-link.result c.left.result = record {
       place = c.place-at.ensures;
-      less = sym c.is_before.ensures ∙ c.if-not-is_before.false;
+      more = sym c.is_more_before.ensures ∙ c.if-not-is_more_before.false;
       before_is = c.link-before.ensures;
       one_is = c.in_ok-copy_pair.ensures.ahead;
       link_is = c.link-link.ensures;
@@ -77,10 +77,10 @@ returns-clause-written g c =
 
 pub returns-clause-fault : goal.returns-clause-fault
 returns-clause-fault g c =
-    let passes : Passes c.args.key.now c.place-at.result.0.now.entries c.place-at.result.1 c.args.ahead.now c.copy_pair.new.ahead
+    let passes : Passes (option_map (λ k. k.now) c.args.key) c.place-at.result.0.now.entries c.place-at.result.1 c.args.ahead.now c.copy_pair.new.ahead
     c.pass_before.new.ahead c.link-before.result c.link-link.result c.left.result = record {
       place = c.place-at.ensures;
-      less = sym c.is_before.ensures ∙ c.if-not-is_before.false;
+      more = sym c.is_more_before.ensures ∙ c.if-not-is_more_before.false;
       before_is = c.link-before.ensures;
       one_is = c.in_ok-copy_pair.ensures.ahead;
       link_is = c.link-link.ensures;

@@ -6,7 +6,7 @@ use Rattle.paths.specs.Sources.{shape_from}
 use Rattle.edit.specs.Ahead.{after_pair, first_linked}
 use Rattle.edit.specs.Drafts.{IsFaultOf}
 use Rattle.edit.proofs.Cutting.{from-step, grows-onto, fault-at}
-use Rattle.edit.proofs.Pieces.{ends-at, PassesAll, all-onto}
+use Rattle.edit.proofs.Pieces.{ends-at, First, first-onto}
 use Rattle.edit.proofs.copying.copy_from.Goals as goal
 
 pub returns-in_err-copy_pair-clause-fault : goal.returns-in_err-copy_pair-clause-fault
@@ -30,30 +30,26 @@ finish_with-requires-clause-ends g c =
 
 pub returns-clause-ok : goal.returns-clause-ok
 returns-clause-ok g c =
-    let passes : PassesAll c.place-at.result.0.now.entries c.place-at.result.1 c.args.ahead c.copy_pair.new.ahead
-    (first_link c.args.ahead) c.link.result = record {
+    let written : First c.place-at.result.0.now.entries c.place-at.result.1 c.args.ahead c.copy_pair.new.ahead c.link.result = record {
       place = c.place-at.ensures;
       more = sym c.is_more.ensures ∙ c.if-not-is_more.false;
-      before_is = refl;
       one_is = c.in_ok-copy_pair.ensures.ahead;
       link_is = c.link.ensures;
     } in
     let rest = shape_from c.link.result (drop (c.place-at.result.1 + 1) c.place-at.result.0.now.entries) in
     let is = grows-onto c.args.writer c.copy_pair.new.writer (first_linked c.args.first c.args.ahead) rest
-    (with_first_link c.args.first c.args.ahead) c.in_ok-copy_pair.ensures.written (all-onto _ _ _ _ _ _ passes c.args.first) in
+    (with_first_link c.args.first c.args.ahead) c.in_ok-copy_pair.ensures.written (first-onto _ _ _ _ _ written c.args.first) in
     subst (λ (t : Shape). IfOk c.finish_with.result (λ draft. draft ≡ t)) is c.finish_with.ensures.ok
 
 pub returns-clause-fault : goal.returns-clause-fault
 returns-clause-fault g c =
-    let passes : PassesAll c.place-at.result.0.now.entries c.place-at.result.1 c.args.ahead c.copy_pair.new.ahead
-    (first_link c.args.ahead) c.link.result = record {
+    let written : First c.place-at.result.0.now.entries c.place-at.result.1 c.args.ahead c.copy_pair.new.ahead c.link.result = record {
       place = c.place-at.ensures;
       more = sym c.is_more.ensures ∙ c.if-not-is_more.false;
-      before_is = refl;
       one_is = c.in_ok-copy_pair.ensures.ahead;
       link_is = c.link.ensures;
     } in
     let rest = shape_from c.link.result (drop (c.place-at.result.1 + 1) c.place-at.result.0.now.entries) in
     let is = grows-onto c.args.writer c.copy_pair.new.writer (first_linked c.args.first c.args.ahead) rest
-    (with_first_link c.args.first c.args.ahead) c.in_ok-copy_pair.ensures.written (all-onto _ _ _ _ _ _ passes c.args.first) in
+    (with_first_link c.args.first c.args.ahead) c.in_ok-copy_pair.ensures.written (first-onto _ _ _ _ _ written c.args.first) in
     subst (λ (t : Shape). IfErr c.finish_with.result (IsFaultOf t)) is c.finish_with.ensures.fault

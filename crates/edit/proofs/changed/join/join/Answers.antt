@@ -7,23 +7,23 @@ use Rattle.edit.proofs.Changing.{joined, drafted, faulted}
 use Rattle.edit.proofs.Cutting.{fault-at}
 use Rattle.edit.proofs.changed.join.join.Goals as goal
 
-pub returns-in_err-copy_pairs-clause-fault : goal.returns-in_err-copy_pairs-clause-fault
-returns-in_err-copy_pairs-clause-fault g c =
-    let e = err_from_is_err_and c.from_residual-in_err-copy_pairs.result c.from_residual-in_err-copy_pairs.ensures.1 in
+pub returns-in_err-copy_before-clause-fault : goal.returns-in_err-copy_before-clause-fault
+returns-in_err-copy_before-clause-fault g c =
+    let e = err_from_is_err_and c.from_residual-in_err-copy_before.result c.from_residual-in_err-copy_before.ensures.1 in
     let s = shape_from c.args.one.now.left c.args.one.now.entries in
     let t = shape_from c.args.other.now.left c.args.other.now.entries in
-    let w = c.new-writer.result ++ all_pairs c.in_ok-of.field-0 in
-    rw (e.1, e.2) (fault-at c.in_err-copy_pairs.field-0.0 w (with_first_link c.args.link t) _
-    (joined s t c.in_ok-of.field-0 t c.args.link c.new-writer.result w c.in_ok-of.ensures refl c.new-writer.ensures refl)
-    c.in_err-copy_pairs.ensures.fault)
+    let w = c.new-writer.result ++ all_pairs c.in_ok-ahead.ahead in
+    rw (e.1, e.2) (fault-at c.in_err-copy_before.field-0.0 w (with_first_link c.args.link t) _
+    (joined s t c.in_ok-ahead.ahead t c.args.link c.new-writer.result w c.in_ok-ahead.ensures refl c.new-writer.ensures refl)
+    c.in_err-copy_before.ensures.fault)
 
 pub returns-clause-ok : goal.returns-clause-ok
 returns-clause-ok g c =
     let s = shape_from c.args.one.now.left c.args.one.now.entries in
     let t = shape_from c.args.other.now.left c.args.other.now.entries in
     drafted c.copy_from.result _ _
-    (joined s t c.in_ok-of.field-0 c.in_ok-of-2.field-0 c.args.link c.new-writer.result c.copy_pairs.new.writer
-    c.in_ok-of.ensures c.in_ok-of-2.ensures c.new-writer.ensures c.in_ok-copy_pairs.ensures.written)
+    (joined s t c.in_ok-ahead.ahead c.in_ok-of.field-0 c.args.link c.new-writer.result c.copy_before.new.writer
+    c.in_ok-ahead.ensures c.in_ok-of.ensures c.new-writer.ensures c.in_ok-copy_before.ensures.written)
     c.copy_from.ensures.ok
 
 pub returns-clause-fault : goal.returns-clause-fault
@@ -31,6 +31,6 @@ returns-clause-fault g c =
     let s = shape_from c.args.one.now.left c.args.one.now.entries in
     let t = shape_from c.args.other.now.left c.args.other.now.entries in
     faulted c.copy_from.result _ _
-    (joined s t c.in_ok-of.field-0 c.in_ok-of-2.field-0 c.args.link c.new-writer.result c.copy_pairs.new.writer
-    c.in_ok-of.ensures c.in_ok-of-2.ensures c.new-writer.ensures c.in_ok-copy_pairs.ensures.written)
+    (joined s t c.in_ok-ahead.ahead c.in_ok-of.field-0 c.args.link c.new-writer.result c.copy_before.new.writer
+    c.in_ok-ahead.ensures c.in_ok-of.ensures c.new-writer.ensures c.in_ok-copy_before.ensures.written)
     c.copy_from.ensures.fault
