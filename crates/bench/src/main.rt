@@ -10,7 +10,7 @@ mod records;
 mod trees;
 
 use crate::command::Command;
-use crate::edits::{Done, Tree};
+use crate::edits::{Change, Done, Tree};
 use edit::BlockMap;
 use std::time::Instant;
 use std::{env, io};
@@ -154,16 +154,16 @@ fn edit(rt: &HostRuntime, count: u32, rounds: u32) -> io::Result<()> {
     for _ in 0..rounds {
         let mut tree = Tree::new(alloc, top.cid(), &blocks)?;
         let start = Instant::now(rt)?;
-        let done = tree.put_all(alloc, &pairs, new)?;
+        let done = tree.change_all(alloc, Change::Put, &pairs, new)?;
         puts.took(start.elapsed(rt)?.as_nanos(), done);
         let start = Instant::now(rt)?;
-        let done = tree.delete_all(alloc, &pairs, new)?;
+        let done = tree.change_all(alloc, Change::Delete, &pairs, new)?;
         undone.took(start.elapsed(rt)?.as_nanos(), done);
         if tree.root != top.cid() {
             return println!(rt; "another root");
         }
         let start = Instant::now(rt)?;
-        let done = tree.delete_all(alloc, &pairs, first)?;
+        let done = tree.change_all(alloc, Change::Delete, &pairs, first)?;
         deletes.took(start.elapsed(rt)?.as_nanos(), done);
     }
     puts.print(rt, "put")?;
