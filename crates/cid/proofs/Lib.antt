@@ -1,3 +1,4 @@
 pub mod Filling
 pub mod Texts
 pub mod Letters
+pub mod Ordering

@@ -1,16 +1,19 @@
-ghost use Rattle.std.specs.Prelude.{◌≡◌, ◌↔◌, ℕ, List, length, take, drop, true, IsTrue, IfOk, Some, None, Ok, Err, if◌then◌else◌};
-ghost use Rattle.std.specs.Int.{w64, from_le_bytes};
+ghost use Rattle.std.specs.Prelude.{◌≡◌, refl, ◌↔◌, ℕ, List, length, take, drop, true, IsTrue, IfOk, Some, None, Ok, Err, if◌then◌else◌};
+ghost use Rattle.std.specs.Int.{w64, from_be_bytes, from_le_bytes};
 ghost use Rattle.std.specs.Hash as fed;
+ghost use Rattle.std.specs.Cmp.Lexicographic.{slice_cmp, nat_list_cmp_total, texts_po, texts_ties};
+ghost use Rattle.std.specs.Ordering.{nat_cmp};
 ghost use Rattle.std.specs.Cmp.Rules.{comparing, hashing};
 ghost use Rattle.std.proofs.Common.{rules};
 ghost use Rattle.spec.specs.Cid.{cid as cid_of, is_own_cid, text as text_of, cid_of_text};
-ghost use Rattle.spec.specs.Reading.{Gives};
+ghost use Rattle.spec.specs.Reading.{Gives, IsBytes};
 ghost use Rattle.cid.specs.CidFault.{fault_of};
 ghost use Rattle.cid.specs.declared.cid_fault.CidFault.TheVariants.{NotThisProfile};
 
 use crate::base32;
 use crate::cid_fault::CidFault;
 use crate::digest::Digest;
+use std::cmp::Ordering;
 use std::convert::TryFrom;
 use std::fmt;
 use std::hash::{Hash, Hasher};
@@ -21,7 +24,7 @@ use std::str::FromStr;
 ///
 /// The bytes are `01` (version 1), `71` (dag-cbor), `12` (sha2-256), `20` (32 bytes) and the digest of the block
 /// (CIDv1; multicodec; multihash). There is no other value of this type.
-#[derive(Clone, Copy, PartialEq, Eq, PartialOrd, Ord, Debug)]
+#[derive(Clone, Copy, PartialEq, Eq, Debug)]
 pub struct Cid {
     pub(crate) bytes: [u8; 36],
 }
@@ -115,6 +118,43 @@ impl TryFrom<[u8; 36]> for Cid {
 
     fn try_from(bytes: [u8; 36]) -> Result<Cid, CidFault> {
         Cid::from_bytes(bytes).ok_or(CidFault::NotThisProfile)
+    }
+}
+
+/// The first eight bytes of a CID's digest as one number, the highest first.
+fn front(bytes: &[u8; 36]) -> u64
+    ensures value { result ≡ from_be_bytes w64 (take 8 (drop 4 bytes.now)) }
+    ensures fits { IsBytes bytes.now }
+{
+    let b = bytes;
+    u64::from_be_bytes([b[4], b[5], b[6], b[7], b[8], b[9], b[10], b[11]])
+}
+
+impl PartialOrd for Cid {
+    ghost partial_cmp = { λ x y. Some (slice_cmp nat_cmp x y) };
+
+    ghost laws = { texts_po };
+
+    fn partial_cmp(&self, other: &Cid) -> Option<Ordering> {
+        Some(self.cmp(other))
+    }
+}
+
+impl Ord for Cid {
+    ghost cmp = { slice_cmp nat_cmp };
+
+    ghost total = { nat_list_cmp_total };
+
+    ghost matches_partial_cmp = { λ x y. refl };
+
+    ghost matches_eq = { texts_ties };
+
+    /// All begin with the same four bytes, so the first eight of the digest, as one number, nearly always decide.
+    fn cmp(&self, other: &Cid) -> Ordering {
+        match front(&self.bytes).cmp(&front(&other.bytes)) {
+            Ordering::Equal => self.bytes.cmp(&other.bytes),
+            order => order,
+        }
     }
 }
 

@@ -2,6 +2,7 @@ ghost use Rattle.std.specs.Prelude.{◌<◌};
 
 use crate::digests::{Clash, Size, Toy};
 use crate::{Block, Cid, CidFault, CidRef, Collided, Digest, Sha256, layer};
+use std::cmp::Ordering;
 use std::hash::{DefaultHasher, Hash, Hasher};
 use std::str::FromStr;
 use std::sync::Arc;
@@ -170,6 +171,23 @@ fn cids_are_ordered_bytewise(rt: HostRuntime) -> Result<(), Fail> {
     let high = with_digest([0xff; 32]).ok_or("another profile")?;
     assert!(rt; low < high);
     assert!(rt; CidRef::from(&low) < CidRef::from(&high));
+    assert_eq!(rt; low.cmp(&low), Ordering::Equal);
+
+    let middle = with_digest([0x55; 32]).ok_or("another profile")?;
+    for place in 0..32 {
+        // The first byte that differs decides, whatever comes after it.
+        let mut digest = [0x55; 32];
+        for (at, byte) in digest.iter_mut().enumerate() {
+            if at == place {
+                *byte = 0x54;
+            } else if place < at {
+                *byte = 0xff;
+            }
+        }
+        let less = with_digest(digest).ok_or("another profile")?;
+        assert_eq!(rt; less.cmp(&middle), Ordering::Less);
+        assert_eq!(rt; middle.cmp(&less), Ordering::Greater);
+    }
     Ok(())
 }
 
