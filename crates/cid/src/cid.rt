@@ -122,11 +122,10 @@ impl TryFrom<[u8; 36]> for Cid {
 }
 
 /// The first eight bytes of a CID's digest as one number, the highest first.
-fn front(bytes: &[u8; 36]) -> u64
-    ensures value { result ≡ from_be_bytes w64 (take 8 (drop 4 bytes.now)) }
-    ensures fits { IsBytes bytes.now }
+fn front(b: &[u8; 36]) -> u64
+    ensures value { result ≡ from_be_bytes w64 (take 8 (drop 4 b.now)) }
+    ensures fits { IsBytes b.now }
 {
-    let b = bytes;
     u64::from_be_bytes([b[4], b[5], b[6], b[7], b[8], b[9], b[10], b[11]])
 }
 
