@@ -4,6 +4,7 @@ pub mod Copying
 pub mod Faults
 pub mod Finding
 pub mod Joining
+pub mod KeyParts
 pub mod Passing
 pub mod ReadAgain
 pub mod RowLaws

@@ -2,7 +2,7 @@
 use Rattle.std.proofs.Common.{◌≡◌, ℕ, ◌-◌, ◌<◌, ◌≤◌, ◌^◌, ◌/◌, ◌%◌, Bool, true, false, cond, ltb, ◌||◌, nat_lt, List, [], ◌∷◌, ◌++◌, length, get_or, take, drop, Option, Some, None, option_map, Result, Ok, Err, IsOk, refl, sym, ap, subst, ◌∙◌, arith}
 use Rattle.std.specs.Prelude.{◌==◌}
 use Rattle.std.specs.Str.{bytes_eq}
-use Rattle.std.proofs.lemmas.Bool.{lt-ltb, ltb-false}
+use Rattle.std.proofs.lemmas.Bool.{lt-ltb, ltb-false, eq-eqb}
 use Rattle.std.proofs.lemmas.List.{length-take, take-append-drop, take_rest}
 use Rattle.std.proofs.lemmas.Slice.Eq.{bytes_eq-Decides}
 use Rattle.spec.specs.Reading.{◌>>=◌, ensure, front}
@@ -77,6 +77,15 @@ argument-again major b bytes lt h =
     let head : or_not_node (head_at (b ∷ bytes)) ≡ Ok ((b / 32, b % 32), bytes) = ap or_not_node (next-is n made (b % 32, bytes) short) in
     let test = tested (b / 32 == major) NotNode _ (next (or_not_node (head_at (b ∷ bytes))) _ ((b / 32, b % 32), bytes) head h) in
     next-is (or_not_node (head_at (b ∷ bytes))) _ ((b / 32, b % 32), bytes) head ∙ test.2
+
+-- a head of one byte of a type whose heads are all numbers
+pub argument-short : (major n : ℕ) (bytes rest : List ℕ) → 1 ≤ length bytes → major < 7 → get_or bytes 0 0 / 32 ≡ major → get_or bytes 0 0 % 32 < 24 → n ≡ get_or bytes 0 0 % 32
+    → rest ≡ drop 1 bytes → argument_of major bytes ≡ Ok (n, rest)
+unfolding head_at
+argument-short major n [] rest some few type lt n_is rest_is = absurd (omega (arith, some))
+argument-short major n (x ∷ bytes) rest some few type lt n_is rest_is =
+    let number : x < 224 = omega (arith, few, type) in
+    rw (n_is, rest_is, lt-ltb x 224 number, lt-ltb (x % 32) 24 lt, eq-eqb (x / 32) major type) refl
 
 pub argument-known : (major n : ℕ) (bytes rest : List ℕ) → 1 ≤ length bytes → get_or bytes 0 0 % 32 < 24 → n ≡ get_or bytes 0 0 % 32
     → rest ≡ drop 1 bytes → IsOk (argument_of major bytes) → argument_of major bytes ≡ Ok (n, rest)

@@ -5,7 +5,7 @@ use Rattle.std.proofs.lemmas.List.{drop_at, length-take}
 use Rattle.spec.specs.Reading.{◌>>=◌, ensure}
 use Rattle.spec.specs.NodeFormat.{Entry, NodeFault, NotNode, BadPrefix, KeyOrder, KeyLength, common, suffix_after, literal, argument_of, link_or_null_at, whole_key, entry_at, entries_at, read_node}
 use Rattle.spec.proofs.Bools.{both, not_three}
-use Rattle.spec.proofs.Taking.{bind_ok, bind_then, ensure_ok, ok_is}
+use Rattle.spec.proofs.Taking.{bind_ok, bind_then, ok_is}
 use Rattle.node.specs.Rows.{Row, row_after, rows, row_at, rows_at, rows_of_reading, rows_shown, after_entries, shown_node}
 use Rattle.node.specs.Contents.{entries_of_reading, entries_shown}
 
@@ -94,8 +94,19 @@ rows_at-entries (suc n) before bytes x e =
     let shown : List Entry × List ℕ → Result (List Row × List ℕ) NodeFault = λ y. Ok (rows before y.0, y.1) in
     rw (row_at-entry before bytes first read, rows_at-entries n first.0.key first.1 others more) (ap shown (ok_is NodeFault (first.0 ∷ others.0, others.1) x made))))
 
-pub whole_key-within : (before : List ℕ) (p : ℕ) (k key : List ℕ) → whole_key before p k ≡ Ok key → p ≤ length before
-whole_key-within before p k key e = leb-true _ _ (ensure_ok _ _ _ _ e).0
+fitting : {A : Type 0} (p : ℕ) (k : List ℕ) → A → p + length k ≤ 1024 → 0 < length k → A × (p < 1024) × (p + length k ≤ 1024)
+fitting p k within fits some = (within, omega arith, fits)
+
+-- what is left of the key before has room for one byte more, and the key is no longer than a key may be
+pub whole_key-fits : (before : List ℕ) (p : ℕ) (k key : List ℕ) → whole_key before p k ≡ Ok key → (p ≤ length before) × (p < 1024) × (p + length k ≤ 1024)
+whole_key-fits before p k key e =
+    let a = ensured (leb p (length before)) _ _ key e in
+    let b = ensured (ltb 0 (p + length k) && leb (p + length k) 1024) _ _ key a.1 in
+    let c = ensured _ _ _ key b.1 in
+    let d = ensured (ltb 0 (length k) && _) _ _ key c.1 in
+    let long = both (ltb 0 (p + length k)) (leb (p + length k) 1024) b.0 in
+    let some = both (ltb 0 (length k)) _ d.0 in
+    fitting p k (leb-true _ _ a.0) (leb-true _ _ long.1) (ltb-true _ _ some.0)
 
 -- ---- the first of the rows
 

@@ -25,6 +25,18 @@ pub(crate) fn literal<'a>(expected: &[u8], bytes: &'a [u8]) -> Result<&'a [u8], 
 pub(crate) fn argument(major: u8, bytes: &[u8]) -> Result<(u64, &[u8]), NodeFault>
     ensures { Gives (λ x. (x.0, x.1.now)) fault_of result (argument_of major bytes.now) }
 {
+    match bytes {
+        [head, rest @ ..] if major < 7 && head / 32 == major && head % 32 < 24 => {
+            Ok((u64::from(head % 32), rest))
+        }
+        _ => any_argument(major, bytes),
+    }
+}
+
+/// A head of this major type, of whatever length: its argument.
+fn any_argument(major: u8, bytes: &[u8]) -> Result<(u64, &[u8]), NodeFault>
+    ensures { Gives (λ x. (x.0, x.1.now)) fault_of result (argument_of major bytes.now) }
+{
     let mut cursor = Cursor::new(bytes);
     let Ok((kind, n)) = cursor.head() else {
         return Err(NodeFault::NotNode);
@@ -77,8 +89,10 @@ pub(crate) fn link_or_null(bytes: &[u8]) -> Result<(Option<CidRef<'_>>, &[u8]), 
     }
 }
 
-/// An entry, without the tests against the key before.
+/// An entry, without the tests against the key before. It is inlined by its attribute, as nodes are read with room for
+/// few parts of a key or for many: where both call it, a node takes a third more instructions.
 #[tactic(auto, unfolding(crate::specs::Rows::row_at))]
+#[inline(always)]
 pub(crate) fn entry(bytes: &[u8]) -> Result<(EntryView<'_>, &[u8]), NodeFault>
     ensures { Gives (λ x. (row_of x.0, x.1.now)) fault_of result (row_at bytes.now) }
 {

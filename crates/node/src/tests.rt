@@ -235,6 +235,30 @@ fn node_faults(rt: HostRuntime) -> Result<(), Fail> {
 }
 
 #[test]
+fn keys_of_as_many_parts_as_bytes(rt: HostRuntime) -> Result<(), Fail> {
+    let value = identifier(0x11)?;
+    let mut entries: Vec<(usize, &[u8])> = Vec::new(rt.alloc());
+    for prefix in 0..1024 {
+        entries.push((prefix, b"b"))?;
+    }
+    assert_eq!(rt; fault(&node_of(rt.alloc(), &value, &entries)?), None);
+    let last: [(usize, &[u8], Option<NodeFault>); 6] = [
+        (0, b"c", None),
+        (1023, b"c", None),
+        (20, b"a", Some(NodeFault::KeyOrder)),
+        (20, b"b", Some(NodeFault::BadPrefix)),
+        (1024, b"b", Some(NodeFault::KeyLength)),
+        (1025, b"b", Some(NodeFault::BadPrefix)),
+    ];
+    for (prefix, suffix, wanted) in last {
+        entries.push((prefix, suffix))?;
+        assert_eq!(rt; fault(&node_of(rt.alloc(), &value, &entries)?), wanted);
+        entries.pop();
+    }
+    Ok(())
+}
+
+#[test]
 fn cut_nodes(rt: HostRuntime) -> Result<(), Fail> {
     let empty = NodeWriter::begin(rt.alloc(), None)?.finish()?;
     for bytes in [two_entries(rt.alloc())?, empty] {

@@ -1,7 +1,7 @@
 //! Nodes as their blocks show them.
 
-ghost use Rattle.std.specs.Prelude.{◌≡◌, ◌≤◌, [], true, length, take, drop, option_map, IfOk, OnOk, IsOk};
-ghost use Rattle.spec.specs.Reading.{Gives, IsBytes};
+ghost use Rattle.std.specs.Prelude.{◌≡◌, ◌≤◌, [], true, length, take, drop, option_map, IfOk, IfErr, IfSome, OnOk, IsOk, IsSome, Ok};
+ghost use Rattle.spec.specs.Reading.{Gives, Fails, IsBytes};
 ghost use Rattle.spec.specs.NodeFormat.{are_keys_after, entries_at, read_node};
 ghost use Rattle.spec.specs.Proof.{place};
 ghost use Rattle.cid.specs.CidRef.{bytes_of};
@@ -11,6 +11,7 @@ ghost use Rattle.node.specs.Contents.{entries_shown, last_key};
 ghost use Rattle.node.specs.Runs.{Begins};
 ghost use Rattle.node.specs.Views.{place_of, IsRowWith};
 
+use crate::common::LONGEST_KEY;
 use crate::entries::Entries;
 use crate::fault::NodeFault;
 use crate::key_before::KeyBefore;
@@ -49,7 +50,7 @@ impl<'a> NodeView<'a> {
     /// The node of a block. All of the bytes are read, from the front, and the first fault is answered: `NotNode` where
     /// they depart from the grammar, and of an entry that was read whole `BadPrefix` where it keeps more than the key
     /// before has, else `KeyLength`, else `BadPrefix` where it keeps less than it could, else `KeyOrder`. This takes no
-    /// memory: the key before stands in 1,024 bytes on the stack.
+    /// memory and copies nothing.
     pub fn parse(bytes: &'a [u8]) -> Result<NodeView<'a>, NodeFault>
         ensures { Gives (λ view. (view.left, view.entries)) fault_of result (read_node bytes.now) }
     {
@@ -130,20 +131,45 @@ fn node(bytes: &[u8]) -> Result<(Option<CidRef<'_>>, (u64, &[u8])), NodeFault>
     Ok((left, (count, first)))
 }
 
-/// The bytes after so many entries, each of which is tested against the one before.
+/// How many parts the keys of most nodes have at most.
+const USUAL_ROOM: usize = 8;
+
+/// The bytes after so many entries, each of which is tested against the one before. Only where a key has more parts
+/// than most is there room made for as many as a key can have, and all is read again.
 fn after_entries(count: u64, bytes: &[u8]) -> Result<&[u8], NodeFault>
     ensures read { Gives (λ rest. rest.now) fault_of result (after_entries count [] bytes.now) }
     ensures all { OnOk result (IsOk (entries_at count [] bytes.now)) }
     ensures fits { OnOk result (IsBytes bytes.now) }
 {
-    let mut before = KeyBefore::none();
+    if let Some(rest) = after_entries_within::<USUAL_ROOM>(count, bytes)? {
+        return Ok(rest);
+    }
+    match after_entries_within::<LONGEST_KEY>(count, bytes)? {
+        Some(rest) => Ok(rest),
+        None => unreachable!(),
+    }
+}
+
+/// The bytes after so many entries; none where a key has more parts than there is room for.
+fn after_entries_within<const ROOM: usize>(
+    count: u64,
+    bytes: &[u8],
+) -> Result<Option<&[u8]>, NodeFault>
+    requires { ROOM ≤ 1024 }
+    ensures fault { IfErr result (λ fault. Fails (fault_of fault) (after_entries count [] bytes.now)) }
+    ensures read { IfOk result (λ rest. IfSome rest (λ x. after_entries count [] bytes.now ≡ Ok x.now)) }
+    ensures room { ROOM ≡ 1024 → IfOk result (λ rest. IsSome rest) }
+{
+    let mut before = KeyBefore::<ROOM>::none();
     let mut rest = bytes;
     let mut left = count;
     while left > 0 {
         let (entry, after) = entry(rest)?;
-        before.next(entry.prefix, entry.suffix)?;
+        if !before.next(entry.prefix, entry.suffix)? {
+            return Ok(None);
+        }
         rest = after;
         left -= 1;
     }
-    Ok(rest)
+    Ok(Some(rest))
 }

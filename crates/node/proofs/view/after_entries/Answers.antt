@@ -1,42 +1,16 @@
-use Rattle.std.proofs.Common.{◌≡◌, ℕ, [], arith, sym, ap, ◌∙◌}
-use Rattle.std.proofs.lemmas.Result.{err_from_is_err_and}
-use Rattle.spec.specs.NodeFormat.{whole_key}
-use Rattle.node.specs.Rows.{row_at, after_entries}
-use Rattle.node.specs.Views.{row_of}
-use Rattle.node.proofs.Faults.{failing}
-use Rattle.node.proofs.RowLaws.{after_entries-none, after_entries-row_fault, after_entries-key_fault, after_entries-entry, after_entries-all}
+use Rattle.std.proofs.Common.{◌≡◌, ℕ, List, [], Option, IfSome, Some, Ok, Bor, IsOk, subst}
+use Rattle.spec.specs.NodeFormat.{entries_at}
+use Rattle.node.specs.Rows.{after_entries}
+use Rattle.node.proofs.RowLaws.{after_entries-all}
 use Rattle.node.proofs.view.after_entries.Goals as goal
 
-pub returns-in_err-entry-clause-read : goal.returns-in_err-entry-clause-read
-returns-in_err-entry-clause-read c =
-    let p = err_from_is_err_and c.from_residual.result c.from_residual.ensures.1 in
-    let l = c.loop-left in
-    rw (p.1, p.2) (failing c.in_err-entry.field-0.0 (row_at l.rest.now) (after_entries c.args.count [] c.args.bytes.now) c.in_err-entry.ensures (λ f e. sym l.invariant ∙ after_entries-row_fault l.left l.before l.rest.now f (omega arith) e))
+-- what was read to its end was read
+all_of : (count : ℕ) (bytes : List ℕ) (found : Option (Bor (List ℕ))) (rest : Bor (List ℕ)) → found ≡ Some rest → IfSome found (λ x. after_entries count [] bytes ≡ Ok x.now) → IsOk (entries_at count [] bytes)
+all_of count bytes found rest is read =
+    after_entries-all count [] bytes rest.now (subst (λ (x : Option (Bor (List ℕ))). IfSome x (λ y. after_entries count [] bytes ≡ Ok y.now)) is read)
 
-pub returns-in_err-next-clause-read : goal.returns-in_err-next-clause-read
-returns-in_err-next-clause-read c =
-    let p = err_from_is_err_and c.from_residual-in_err-next.result c.from_residual-in_err-next.ensures.1 in
-    let l = c.loop-left in
-    let e = c.in_ok-entry.entry in
-    rw (p.1, p.2) (failing c.in_err-next.field-0.0 (whole_key l.before e.prefix e.suffix.now) (after_entries c.args.count [] c.args.bytes.now) c.in_err-next.ensures (λ f q. sym l.invariant ∙ after_entries-key_fault l.left l.before l.rest.now (row_of e, c.in_ok-entry.after.now) f (omega arith) c.in_ok-entry.ensures q))
-
-pub loop-left-preserved : goal.loop-left-preserved
-loop-left-preserved c =
-    let l = c.loop-left in
-    let e = c.in_ok-entry.entry in
-    sym (after_entries-entry l.left l.before l.rest.now (row_of e, c.in_ok-entry.after.now) c.next.new.self (omega arith) c.in_ok-entry.ensures c.in_ok-next.ensures) ∙ l.invariant
-
-pub returns-clause-read : goal.returns-clause-read
-returns-clause-read c =
-    let l = c.loop-left in
-    let done : l.left ≡ 0 = omega arith in
-    sym l.invariant ∙ ap (λ (n : ℕ). after_entries n l.before l.rest.now) done ∙ after_entries-none l.before l.rest.now
+pub returns-in-Some-clause-all : goal.returns-in-Some-clause-all
+returns-in-Some-clause-all c = all_of c.args.count c.args.bytes.now c.in_ok-rest.field-0 c.in-Some.rest c.in-Some.is c.in_ok-rest.ensures.read
 
 pub returns-clause-all : goal.returns-clause-all
-returns-clause-all c =
-    let l = c.loop-left in
-    let done : l.left ≡ 0 = omega arith in
-    after_entries-all c.args.count [] c.args.bytes.now l.rest.now (sym l.invariant ∙ ap (λ (n : ℕ). after_entries n l.before l.rest.now) done ∙ after_entries-none l.before l.rest.now)
-
-pub returns-clause-fits : goal.returns-clause-fits
-returns-clause-fits c = λ i. omega (arith, c.type_inv.bytes i)
+returns-clause-all c = all_of c.args.count c.args.bytes.now c.in_ok-rest-2.field-0 c.in-Some-2.rest c.in-Some-2.is c.in_ok-rest-2.ensures.read
