@@ -1,12 +1,13 @@
 -- What was read once reads again in the same way, without its tests.
 use Rattle.std.proofs.Common.{◌≡◌, ℕ, ◌-◌, ◌<◌, ◌≤◌, ◌^◌, ◌/◌, ◌%◌, Bool, true, false, cond, ltb, ◌||◌, nat_lt, List, [], ◌∷◌, ◌++◌, length, get_or, take, drop, Option, Some, None, option_map, Result, Ok, Err, IsOk, refl, sym, ap, subst, ◌∙◌, arith}
 use Rattle.std.specs.Prelude.{◌==◌}
+use Rattle.std.specs.Int.{w8, from_be_bytes}
 use Rattle.std.specs.Str.{bytes_eq}
-use Rattle.std.proofs.lemmas.Bool.{lt-ltb, ltb-false, eq-eqb}
+use Rattle.std.proofs.lemmas.Bool.{lt-ltb, le-ltb, ltb-false, eq-eqb}
 use Rattle.std.proofs.lemmas.List.{length-take, take-append-drop, take_rest}
 use Rattle.std.proofs.lemmas.Slice.Eq.{bytes_eq-Decides}
 use Rattle.spec.specs.Reading.{◌>>=◌, ensure, front}
-use Rattle.spec.specs.Head.{CborFault, Indefinite, Float, Simple, argument_at, simple_at, head_at}
+use Rattle.spec.specs.Head.{CborFault, Truncated, LongHead, Indefinite, Float, Simple, argument_at, simple_at, head_at}
 use Rattle.spec.specs.Cid.{prefix, link, is_own_cid}
 use Rattle.spec.specs.NodeFormat.{NodeFault, NotNode, literal, or_not_node, argument_of, link_at, link_or_null_at}
 use Rattle.spec.proofs.Taking.{ok_is}
@@ -86,6 +87,31 @@ argument-short major n [] rest some few type lt n_is rest_is = absurd (omega (ar
 argument-short major n (x ∷ bytes) rest some few type lt n_is rest_is =
     let number : x < 224 = omega (arith, few, type) in
     rw (n_is, rest_is, lt-ltb x 224 number, lt-ltb (x % 32) 24 lt, eq-eqb (x / 32) major type) refl
+
+-- an argument of one byte
+long-byte : (y : ℕ) (bytes : List ℕ) → 24 ≤ y → argument_at 24 (y ∷ bytes) ≡ Ok (y, bytes)
+long-byte y bytes big =
+    let one : from_be_bytes w8 (y ∷ []) ≡ y = omega arith in
+    let some : ltb (length (y ∷ bytes)) 1 ≡ false = le-ltb _ _ (omega arith) in
+    let read : front Truncated 1 (y ∷ bytes) ≡ Ok (y ∷ [], bytes) = rw some refl in
+    let tested_as : ℕ → Result (ℕ × List ℕ) CborFault = λ n. ensure (nat_lt 23 n) LongHead >>= λ ok. Ok (n, bytes) in
+    let passes : tested_as y ≡ Ok (y, bytes) = rw (lt-ltb 23 y (omega (arith, big))) refl in
+    next-is (front Truncated 1 (y ∷ bytes)) (λ f. ensure (nat_lt 23 (from_be_bytes w8 f.0)) LongHead >>= λ ok. Ok (from_be_bytes w8 f.0, f.1)) (y ∷ [], bytes) read
+    ∙ ap tested_as one ∙ passes
+
+-- a head of two bytes of such a type
+pub argument-byte : (major n : ℕ) (bytes rest : List ℕ) → 2 ≤ length bytes → major < 7 → get_or bytes 0 0 / 32 ≡ major → get_or bytes 0 0 % 32 ≡ 24 → 24 ≤ get_or bytes 1 0
+    → n ≡ get_or bytes 1 0 → rest ≡ drop 2 bytes → argument_of major bytes ≡ Ok (n, rest)
+unfolding head_at
+argument-byte major n [] rest some few type low long n_is rest_is = absurd (omega (arith, some))
+argument-byte major n (x ∷ []) rest some few type low long n_is rest_is = absurd (omega (arith, some))
+argument-byte major n (x ∷ y ∷ bytes) rest some few type low long n_is rest_is =
+    let number : x < 224 = omega (arith, few, type) in
+    let read = cond (ltb x 224) (argument_at (x % 32) (y ∷ bytes)) (simple_at (x % 32) (y ∷ bytes)) in
+    let made : ℕ × List ℕ → Result ((ℕ × ℕ) × List ℕ) CborFault = λ z. Ok ((x / 32, z.0), z.1) in
+    let short : read ≡ Ok (y, bytes) = rw (lt-ltb x 224 number) (ap (λ (k : ℕ). argument_at k (y ∷ bytes)) low ∙ long-byte y bytes long) in
+    let head : or_not_node (head_at (x ∷ y ∷ bytes)) ≡ Ok ((x / 32, y), bytes) = ap or_not_node (next-is read made (y, bytes) short) in
+    rw (n_is, rest_is) (next-is (or_not_node (head_at (x ∷ y ∷ bytes))) _ ((x / 32, y), bytes) head ∙ rw (eq-eqb (x / 32) major type) refl)
 
 pub argument-known : (major n : ℕ) (bytes rest : List ℕ) → 1 ≤ length bytes → get_or bytes 0 0 % 32 < 24 → n ≡ get_or bytes 0 0 % 32
     → rest ≡ drop 1 bytes → IsOk (argument_of major bytes) → argument_of major bytes ≡ Ok (n, rest)

@@ -1,5 +1,5 @@
 -- Entries read as rows, and rows put together to keys again.
-use Rattle.std.proofs.Common.{◌≡◌, ◌≢◌, ℕ, zero, suc, ◌+◌, ◌-◌, ◌<◌, ◌≤◌, Bool, true, false, not, ◌&&◌, eqb, ltb, leb, List, [], ◌∷◌, ◌++◌, length, get_or, take, drop, Option, Result, Ok, Err, IsOk, refl, sym, ap, subst, ◌∙◌, arith}
+use Rattle.std.proofs.Common.{◌≡◌, ◌≢◌, ℕ, zero, suc, ◌+◌, ◌-◌, ◌<◌, ◌≤◌, Bool, true, false, not, ◌&&◌, eqb, ltb, leb, List, [], ◌∷◌, ◌++◌, length, get_or, take, drop, Option, Some, IfSome, Bor, Result, Ok, Err, IsOk, refl, sym, ap, subst, ◌∙◌, arith}
 use Rattle.std.proofs.lemmas.Bool.{leb-true, ltb-true, lt-ltb, eqb-false, eq-eqb, ne_eqb}
 use Rattle.std.proofs.lemmas.List.{drop_at, length-take}
 use Rattle.spec.specs.Reading.{◌>>=◌, ensure}
@@ -189,6 +189,11 @@ ok_read r x e = rw e refl
 pub after_entries-all : (n : ℕ) (before bytes rest : List ℕ) → after_entries n before bytes ≡ Ok rest → IsOk (entries_at n before bytes)
 unfolding after_entries
 after_entries-all n before bytes rest e = let b = bind_ok (entries_at n before bytes) _ rest e in ok_read (entries_at n before bytes) b.0 b.1
+
+-- and so where a reading that may give none gave the bytes after them
+pub after_entries-found : (n : ℕ) (bytes : List ℕ) (found : Option (Bor (List ℕ))) (rest : Bor (List ℕ)) → found ≡ Some rest → IfSome found (λ x. after_entries n [] bytes ≡ Ok x.now) → IsOk (entries_at n [] bytes)
+after_entries-found n bytes found rest is read =
+    after_entries-all n [] bytes rest.now (subst (λ (x : Option (Bor (List ℕ))). IfSome x (λ y. after_entries n [] bytes ≡ Ok y.now)) is read)
 
 pub rows_shown-entries : (n : ℕ) (bytes : List ℕ) → IsOk (entries_at n [] bytes) → IsOk (rows_at n bytes) × (rows_shown n bytes ≡ rows [] (entries_shown n bytes))
 unfolding rows_shown entries_shown

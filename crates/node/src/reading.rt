@@ -21,13 +21,17 @@ pub(crate) fn literal<'a>(expected: &[u8], bytes: &'a [u8]) -> Result<&'a [u8], 
     bytes.strip_prefix(expected).ok_or(NodeFault::NotNode)
 }
 
-/// A head of this major type: its argument.
+/// A head of this major type: its argument. Heads of one byte and of two, which nearly all are, are read at once.
+#[inline(always)]
 pub(crate) fn argument(major: u8, bytes: &[u8]) -> Result<(u64, &[u8]), NodeFault>
     ensures { Gives (λ x. (x.0, x.1.now)) fault_of result (argument_of major bytes.now) }
 {
     match bytes {
         [head, rest @ ..] if major < 7 && head / 32 == major && head % 32 < 24 => {
             Ok((u64::from(head % 32), rest))
+        }
+        [head, n, rest @ ..] if major < 7 && head / 32 == major && head % 32 == 24 && *n >= 24 => {
+            Ok((u64::from(*n), rest))
         }
         _ => any_argument(major, bytes),
     }
@@ -89,8 +93,8 @@ pub(crate) fn link_or_null(bytes: &[u8]) -> Result<(Option<CidRef<'_>>, &[u8]), 
     }
 }
 
-/// An entry, without the tests against the key before. It is inlined by its attribute, as nodes are read with room for
-/// few parts of a key or for many: where both call it, a node takes a third more instructions.
+/// An entry, without the tests against the key before. Two loops call it, as nodes are read with room for few parts of
+/// a key or for many; so it and `argument` are inlined by an attribute. By calls, a node takes a third more instructions.
 #[tactic(auto, unfolding(crate::specs::Rows::row_at))]
 #[inline(always)]
 pub(crate) fn entry(bytes: &[u8]) -> Result<(EntryView<'_>, &[u8]), NodeFault>

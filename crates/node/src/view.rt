@@ -134,16 +134,26 @@ fn node(bytes: &[u8]) -> Result<(Option<CidRef<'_>>, (u64, &[u8])), NodeFault>
 /// How many parts the keys of most nodes have at most.
 const USUAL_ROOM: usize = 8;
 
-/// The bytes after so many entries, each of which is tested against the one before. Only where a key has more parts
-/// than most is there room made for as many as a key can have, and all is read again.
+/// The bytes after so many entries, each of which is tested against the one before. Where a key has more parts than
+/// most, all is read again, with room for as many as a key can have.
 fn after_entries(count: u64, bytes: &[u8]) -> Result<&[u8], NodeFault>
     ensures read { Gives (λ rest. rest.now) fault_of result (after_entries count [] bytes.now) }
     ensures all { OnOk result (IsOk (entries_at count [] bytes.now)) }
     ensures fits { OnOk result (IsBytes bytes.now) }
 {
-    if let Some(rest) = after_entries_within::<USUAL_ROOM>(count, bytes)? {
-        return Ok(rest);
+    match after_entries_within::<USUAL_ROOM>(count, bytes)? {
+        Some(rest) => Ok(rest),
+        None => after_entries_of_many_parts(count, bytes),
     }
+}
+
+/// The bytes after so many entries. It is not inlined, so that the stack of most readings is without its room.
+#[inline(never)]
+fn after_entries_of_many_parts(count: u64, bytes: &[u8]) -> Result<&[u8], NodeFault>
+    ensures read { Gives (λ rest. rest.now) fault_of result (after_entries count [] bytes.now) }
+    ensures all { OnOk result (IsOk (entries_at count [] bytes.now)) }
+    ensures fits { OnOk result (IsBytes bytes.now) }
+{
     match after_entries_within::<LONGEST_KEY>(count, bytes)? {
         Some(rest) => Ok(rest),
         None => unreachable!(),
