@@ -18,6 +18,3 @@ pub use cid_ref::CidRef;
 pub use collided::Collided;
 pub use digest::{Digest, Sha256};
 pub use layers::layer;
-
-#[cfg(test)]
-mod tests;

@@ -84,6 +84,3 @@ unsafe impl<A: Allocator> Allocator for Refusing<A> {
         self.inner.deallocate(ptr, size, align);
     }
 }
-
-#[cfg(test)]
-mod tests;

@@ -1,0 +1,79 @@
+//! The allocator for tests: what it grants, refuses and counts.
+
+use refusing::Refusing;
+use std::alloc::{AllocError, Allocator, Global};
+
+/// Takes three blocks that live at once: two lists and a box.
+fn three_blocks<A: Allocator + Clone>(alloc: A) -> Result<u8, AllocError> {
+    let mut ones = Vec::new(alloc.clone()?);
+    ones.push(1u8)?;
+    let mut twos = Vec::new(alloc.clone()?);
+    twos.push(2u8)?;
+    let boxed = Box::new(alloc, 4u8)?;
+    Ok(Box::into_inner(boxed))
+}
+
+/// Whether three blocks are granted.
+fn grants_three(heap: &Refusing<Global>) -> bool {
+    matches!(three_blocks(heap), Ok(4))
+}
+
+/// Whether so many requests were refused, and so many blocks are out.
+fn has_counts(heap: &Refusing<Global>, refused: u64, live: u64) -> bool {
+    heap.refused() == refused && heap.live() == live
+}
+
+#[test]
+fn grants_what_it_was_not_told_to_refuse(rt: HostRuntime) {
+    let heap = Refusing::new(rt.alloc());
+    assert!(rt; grants_three(&heap) && has_counts(&heap, 0, 0));
+}
+
+#[test]
+fn refuses_each_request_in_turn(rt: HostRuntime) {
+    for number in 1..=3u64 {
+        let heap = Refusing::new(rt.alloc());
+        heap.refuse(number);
+        assert!(rt;
+            three_blocks(&heap).is_err() && has_counts(&heap, 1, 0),
+            "at request {number}"
+        );
+    }
+    let heap = Refusing::new(rt.alloc());
+    heap.refuse(4);
+    assert!(rt; grants_three(&heap) && heap.refused() == 0);
+}
+
+#[test]
+fn refuses_one_request_and_then_grants_again(rt: HostRuntime) {
+    let heap = Refusing::new(rt.alloc());
+    let mut list = Vec::new(&heap);
+    heap.refuse(1);
+    assert!(rt; list.push(1u8).is_err() && list.push(2).is_ok());
+    assert!(rt; has_counts(&heap, 1, 1));
+}
+
+#[test]
+fn refuses_from_a_request_on(rt: HostRuntime) {
+    let heap = Refusing::new(rt.alloc());
+    let mut list = Vec::new(&heap);
+    heap.refuse_from(2);
+    assert!(rt; list.push(1u8).is_ok());
+    for time in 0..5u8 {
+        assert!(rt; three_blocks(&heap).is_err(), "at time {time}");
+    }
+    assert!(rt; heap.refused() == 5);
+    heap.refuse(0);
+    assert!(rt; grants_three(&heap) && heap.live() == 1);
+}
+
+#[test]
+fn a_growth_takes_a_block_and_gives_one_back(rt: HostRuntime) {
+    let heap = Refusing::new(rt.alloc());
+    let mut list = Vec::with_capacity(&heap, 1).expect(&rt, "room for one number");
+    assert!(rt; list.push(1u64).is_ok() && heap.live() == 1);
+    heap.refuse(1);
+    assert!(rt; list.reserve(100).is_err() && heap.live() == 1);
+    assert!(rt; list.reserve(100).is_ok() && heap.live() == 1);
+    assert!(rt; list.as_slice() == [1].as_slice());
+}

@@ -1,0 +1,217 @@
+//! One table of counted blocks: who holds them, its limit, collisions, want of memory, and that equal blocks are shared.
+
+use crate::fixtures::{EMPTY, ONE, acquired, block, keep};
+use cid::digests::{Clash, Toy};
+use cid::{Block, Cid, Digest};
+use refusing::Refusing;
+use std::alloc::Global;
+use std::process::Abort;
+use std::sync::Arc;
+use store::{Cores, Hold, Shard, StoreFault};
+
+/// The fault of an acquire that is to be refused.
+fn fault_of<D: Digest>(shard: &mut Shard<D>, block: Arc<Block<D>>) -> Option<StoreFault<D>> {
+    match shard.acquire(0, block) {
+        Ok(hold) => {
+            shard.release(hold);
+            None
+        }
+        Err(fault) => Some(fault),
+    }
+}
+
+/// Whether this core holds the block of this CID and these bytes.
+fn is_hold_of(hold: &Hold<Toy>, core: u32, cid: Cid, bytes: &[u8]) -> bool {
+    hold.core() == core && hold.cid() == cid && hold.block().bytes() == bytes
+}
+
+#[test]
+fn counts_at_limit_one(rt: HostRuntime) {
+    let mut shard: Shard<Toy> = Shard::new(rt.alloc(), 1);
+    let (empty, other) = (Cid::of::<Toy>(&EMPTY), Cid::of::<Toy>(&ONE));
+    let first = acquired(&rt, &mut shard, 0, block(&rt, rt.alloc(), &EMPTY));
+    assert!(rt; shard.count(&empty) == 1);
+    let second = acquired(&rt, &mut shard, 1, block(&rt, rt.alloc(), &EMPTY));
+    assert!(rt; shard.count(&empty) == 2);
+    let fault = fault_of(&mut shard, block(&rt, rt.alloc(), &ONE));
+    assert!(rt; matches!(fault, Some(StoreFault::Full)));
+    shard.release(first);
+    assert!(rt; shard.count(&empty) == 1);
+    shard.release(second);
+    assert!(rt; shard.count(&empty) == 0);
+    let hold = acquired(&rt, &mut shard, 0, block(&rt, rt.alloc(), &ONE));
+    assert!(rt; shard.count(&other) == 1 && is_hold_of(&hold, 0, other, &ONE));
+    shard.release(hold);
+}
+
+/// Whether the fault is the collision of a block of these bytes with a held block of those.
+fn is_collision(fault: &Option<StoreFault<Clash>>, given: &[u8], held: &[u8]) -> bool {
+    match fault {
+        Some(StoreFault::Collision(pair)) => {
+            pair.one().bytes() == given && pair.other().bytes() == held
+        }
+        _ => false,
+    }
+}
+
+#[test]
+fn collision_shows_both(rt: HostRuntime) {
+    let mut shard: Shard<Clash> = Shard::new(rt.alloc(), 2);
+    let hold = acquired(&rt, &mut shard, 0, block(&rt, rt.alloc(), &EMPTY));
+    let fault = fault_of(&mut shard, block(&rt, rt.alloc(), &ONE));
+    assert!(rt; is_collision(&fault, &ONE, &EMPTY));
+    assert!(rt; shard.count(&Cid::of::<Clash>(&EMPTY)) == 1);
+    shard.release(hold);
+}
+
+/// How many cores hold the block of this CID, where each entry has core 3 and lacks this core; else `None`.
+fn count_without(shard: &Shard<Toy>, cid: Cid, core: u32) -> Option<u64> {
+    for (_, cores) in shard.entries() {
+        if cores.has(core) || !cores.has(3) {
+            return None;
+        }
+    }
+    Some(shard.count(&cid))
+}
+
+#[test]
+fn holds_all_cores(rt: HostRuntime) {
+    let mut shard: Shard<Toy> = Shard::new(rt.alloc(), 1);
+    let cid = Cid::of::<Toy>(&EMPTY);
+    let mut holds = Vec::new(rt.alloc());
+    for core in 0..1024u32 {
+        let given = block(&rt, rt.alloc(), &EMPTY);
+        let hold = acquired(&rt, &mut shard, (core * 5 + 3) % 1024, given);
+        keep(&rt, &mut holds, hold);
+        assert_eq!(rt; shard.count(&cid), u64::from(core) + 1);
+    }
+    for left in (0..1024u64).rev() {
+        let hold = holds.pop().expect(&rt, "a hold for each core");
+        let core = hold.core();
+        shard.release(hold);
+        assert_eq!(rt; count_without(&shard, cid, core), Some(left));
+    }
+    assert!(rt; holds.is_empty() && shard.entries().count() == 0);
+    holds.destroy_empty();
+}
+
+/// Whether core 1023 alone of these holds the first block, and core 64 alone of these the second.
+fn is_entry_of(cid: Cid, cores: &Cores, first: Cid, second: Cid) -> bool {
+    cores.has(1023) == (cid == first)
+        && cores.has(64) == (cid == second)
+        && !cores.has(0)
+        && !cores.has(1024)
+        && !cores.has(u32::MAX)
+}
+
+#[test]
+fn lists_entries_in_order(rt: HostRuntime) {
+    let mut shard: Shard<Toy> = Shard::new(rt.alloc(), 2);
+    let (empty, other) = (Cid::of::<Toy>(&EMPTY), Cid::of::<Toy>(&ONE));
+    let first = acquired(&rt, &mut shard, 1023, block(&rt, rt.alloc(), &EMPTY));
+    let second = acquired(&rt, &mut shard, 64, block(&rt, rt.alloc(), &ONE));
+    let mut before: Option<Cid> = None;
+    for (cid, cores) in shard.entries() {
+        assert!(rt; before < Some(cid) && is_entry_of(cid, cores, empty, other));
+        before = Some(cid);
+    }
+    assert!(rt; shard.entries().count() == 2);
+    shard.release(first);
+    shard.release(second);
+}
+
+type Heap<'a> = &'a Refusing<Global>;
+
+/// A block that is acquired again, by another core and from other memory, stands once: the memory that the second core
+/// gave is given back, and both holds show the block of the table.
+#[test]
+fn equal_blocks_are_shared(rt: HostRuntime) {
+    let heap = Refusing::new(rt.alloc());
+    let mut shard: Shard<Toy, Heap<'_>> = Shard::new(&heap, 1);
+    let first = acquired(&rt, &mut shard, 0, block(&rt, &heap, &EMPTY));
+    let live = heap.live();
+    let equal = block(&rt, &heap, &EMPTY);
+    assert!(rt; heap.live() > live);
+    let second = acquired(&rt, &mut shard, 1, equal);
+    assert!(rt; heap.live() == live);
+    // The uses of the block are the table's and the two holds'.
+    assert!(rt; Arc::strong_count(first.block()) == 3 && Arc::strong_count(second.block()) == 3);
+    shard.release(first);
+    shard.release(second);
+    drop(shard);
+    assert!(rt; heap.live() == 0);
+}
+
+/// Whether the table has this many entries, each held by core 1 and not by core 2, and none of this CID.
+fn has_others_only(shard: &Shard<Toy, Heap<'_>>, others: u8, cid: Cid) -> bool {
+    for (held, cores) in shard.entries() {
+        if !cores.has(1) || cores.has(2) || shard.count(&held) != 1 {
+            return false;
+        }
+    }
+    shard.entries().count() == usize::from(others) && shard.count(&cid) == 0
+}
+
+/// The hold of core 1, after each request for memory of the acquire was refused in turn, until there was none more that
+/// could be. After each refusal the table must be as it was, with this many entries: the error is the request after which
+/// it wasn't, or 9 where no acquire succeeds.
+fn acquired_at_last<'a, R: Abort>(
+    rt: &R,
+    heap: Heap<'a>,
+    shard: &mut Shard<Toy, Heap<'a>>,
+    others: u8,
+    block: &Arc<Block<Toy, Heap<'a>>, Heap<'a>>,
+) -> Result<Hold<Toy, Heap<'a>>, u64> {
+    for request in 1..9u64 {
+        heap.refuse(request);
+        let given = Arc::try_clone(block).expect(rt, "one more use");
+        match shard.acquire(1, given) {
+            Ok(hold) => return Ok(hold),
+            Err(StoreFault::NoMemory) if has_others_only(shard, others, block.cid()) => {}
+            Err(_) => return Err(request),
+        }
+    }
+    Err(9)
+}
+
+/// Acquires a new block as above, and answers the hold. Then it stands there once, and neither another core's acquire of
+/// it nor the release wants memory.
+fn acquired_without_memory<'a, R: Abort>(
+    rt: &R,
+    heap: Heap<'a>,
+    shard: &mut Shard<Toy, Heap<'a>>,
+    others: u8,
+) -> Hold<Toy, Heap<'a>> {
+    let block = block(rt, heap, &[0xa1, 0x61, 0x61, others]);
+    let cid = block.cid();
+    let hold = acquired_at_last(rt, heap, shard, others, &block).expect(
+        rt,
+        "refusals that change nothing, and then a hold",
+    );
+    assert!(rt; shard.count(&cid) == 1, "after {others} others");
+    heap.refuse_from(1);
+    let again = acquired(rt, shard, 2, block);
+    assert!(rt; shard.count(&cid) == 2, "after {others} others");
+    shard.release(again);
+    heap.refuse(0);
+    hold
+}
+
+#[test]
+fn memory_refused(rt: HostRuntime) {
+    let heap = Refusing::new(rt.alloc());
+    let mut shard: Shard<Toy, Heap<'_>> = Shard::new(&heap, 64);
+    let mut holds = Vec::new(rt.alloc());
+    for others in 0..40u8 {
+        let hold = acquired_without_memory(&rt, &heap, &mut shard, others);
+        keep(&rt, &mut holds, hold);
+    }
+    assert!(rt; heap.refused() >= 4);
+    for _ in 0..40u8 {
+        shard.release(holds.pop().expect(&rt, "a hold of each block"));
+    }
+    assert!(rt; holds.is_empty() && shard.entries().count() == 0);
+    holds.destroy_empty();
+    drop(shard);
+    assert!(rt; heap.live() == 0);
+}

@@ -1,0 +1,15 @@
+//! Tests of digests, identifiers, counted blocks with their shards, and the allocator for tests.
+#![tactic(auto)]
+
+#[cfg(test)]
+mod allocator;
+#[cfg(test)]
+mod counted_blocks;
+#[cfg(test)]
+mod digests;
+#[cfg(test)]
+mod fixtures;
+#[cfg(test)]
+mod identifiers;
+#[cfg(test)]
+mod shards;
