@@ -1,47 +1,36 @@
-//! Inputs and command lines that are refused.
-use crate::running::{first_line, joined, run};
+//! Inputs and command lines that are refused, and what help shows.
+use crate::running::{TREE, joined, run, run_with};
 use bstr::ByteSlice;
-use cid::Sha256;
 use cid::digests::Size;
+use commands::not_started;
 use std::alloc::Global;
-use std::process::Abort;
+use std::io::{self, ErrorKind};
 use std::test::Fail;
-
-const TREE: [&str; 2] = ["msthost", "tree"];
 
 #[test]
 fn faulty_lines(rt: HostRuntime) -> Result<(), Fail> {
-    let long = [b'k'; 1025];
-    let long = str::from_utf8(&long)?;
-    refused(&rt, rt.alloc(), &["a/b"], "line 1: BadLine")?;
-    refused(&rt, rt.alloc(), &[" ", "E"], "line 1: BadKey")?;
-    refused(&rt, rt.alloc(), &["a/b "], "line 1: BadCid")?;
-    refused(&rt, rt.alloc(), &["\n", "a/b"], "line 2: BadLine")?;
-    refused(&rt, rt.alloc(), &["\n\r\n\n", "a/b"], "line 4: BadLine")?;
-    refused(&rt, rt.alloc(), &["a/b ", "E", "\n\r"], "line 2: BadLine")?;
-    refused(&rt, rt.alloc(), &["\r\r\n"], "line 1: BadLine")?;
-    refused(&rt, rt.alloc(), &["a/b ", "E", "\r"], "line 1: BadCid")?;
-    refused(&rt, rt.alloc(), &["a/b ", "E", " "], "line 1: BadCid")?;
-    refused(&rt, rt.alloc(), &[long, " ", "E"], "line 1: BadKey")?;
-    refused(&rt, rt.alloc(), &[long, " x", "\na"], "line 1: BadKey")?;
-    refused(
-        &rt,
-        rt.alloc(),
-        &["a/b ", "E", "\nx\n", " y"],
-        "line 2: BadLine",
-    )?;
+    let cases: [(&[&str], &str); 10] = [
+        (&["a/b"], "msthost: line 1: BadLine\n"),
+        (&[" ", "E"], "msthost: line 1: BadKey\n"),
+        (&["a/b "], "msthost: line 1: BadCid\n"),
+        (&["\n", "a/b"], "msthost: line 2: BadLine\n"),
+        (&["\n\r\n\n", "a/b"], "msthost: line 4: BadLine\n"),
+        (&["a/b ", "E", "\n\r"], "msthost: line 2: BadLine\n"),
+        (&["\r\r\n"], "msthost: line 1: BadLine\n"),
+        (&["a/b ", "E", "\r"], "msthost: line 1: BadCid\n"),
+        (&["a/b ", "E", " "], "msthost: line 1: BadCid\n"),
+        (&["a/b ", "E", "\nx\n", " y"], "msthost: line 2: BadLine\n"),
+    ];
+    for (parts, told) in cases {
+        assert!(rt; are_refused(rt.alloc(), parts, told)?, "at {parts:?}");
+    }
     Ok(())
 }
 
-/// The lines are refused with this on standard error, and nothing is written.
-fn refused(rt: &impl Abort, alloc: Global, parts: &[&str], shown: &str) -> Result<(), Fail> {
+/// Whether the lines are refused with just this on standard error, and nothing is written.
+fn are_refused(alloc: Global, parts: &[&str], told: &str) -> Result<bool, Fail> {
     let input = joined(alloc, parts)?;
-    let ended = run::<Sha256>(alloc, &TREE, &input);
-    let wanted = joined(alloc, &["msthost: ", shown, "\n"])?;
-    assert_eq!(rt; ended.err.as_slice(), wanted.as_slice());
-    assert_eq!(rt; ended.status, 1, "where {shown}");
-    assert!(rt; ended.out.is_empty(), "where {shown}");
-    Ok(())
+    Ok(run(alloc, &TREE, &input).is(1, b"", told))
 }
 
 #[test]
@@ -61,8 +50,13 @@ fn faulty_cids(rt: HostRuntime) -> Result<(), Fail> {
         "bafyrgie5737gdxlw5i64vzichcalba3z2v5n6icifvx5xytvske7mr3hpm",
         "bafyreim5737gdxlw5i64vzichcalba3z2v5n6icifvx5xytvske7mr3hpm",
     ] {
-        refused(&rt, rt.alloc(), &["a/b ", text, "\n"], "line 1: BadCid")?;
-        refused(&rt, rt.alloc(), &["\r\n", "a/b ", text], "line 2: BadCid")?;
+        for (before, after, told) in [
+            ("", "\n", "msthost: line 1: BadCid\n"),
+            ("\r\n", "", "msthost: line 2: BadCid\n"),
+        ] {
+            let parts = [before, "a/b ", text, after];
+            assert!(rt; are_refused(rt.alloc(), &parts, told)?, "at {parts:?}");
+        }
     }
     Ok(())
 }
@@ -71,28 +65,32 @@ fn faulty_cids(rt: HostRuntime) -> Result<(), Fail> {
 fn the_longest_key(rt: HostRuntime) -> Result<(), Fail> {
     let key = [b'k'; 1024];
     let input = joined(rt.alloc(), &[str::from_utf8(&key)?, " ", "E"])?;
-    let ended = run::<Sha256>(rt.alloc(), &TREE, &input);
-    assert_eq!(rt; ended.status, 0);
-    assert_eq!(rt;
-        first_line(&ended.out),
-        b"bafyreig37hu6jop2zw2hyng2t7crys3wo7c2cro6hmyvtygf5foi2v3xni".as_slice()
-    );
+    let ended = run(rt.alloc(), &TREE, &input);
+    assert!(rt; ended.lists("bafyreig37hu6jop2zw2hyng2t7crys3wo7c2cro6hmyvtygf5foi2v3xni"));
+    Ok(())
+}
+
+#[test]
+fn keys_that_are_longer(rt: HostRuntime) -> Result<(), Fail> {
+    let key = [b'k'; 1025];
+    let key = str::from_utf8(&key)?;
+    let told = "msthost: line 1: BadKey\n";
+    assert!(rt; are_refused(rt.alloc(), &[key, " ", "E"], told)?);
+    assert!(rt; are_refused(rt.alloc(), &[key, " x", "\na"], told)?);
     Ok(())
 }
 
 #[test]
 fn nodes_that_clash(rt: HostRuntime) -> Result<(), Fail> {
     let input = joined(rt.alloc(), &["a/p0 ", "E", "\na/q2 ", "E", "\na/r0 ", "E"])?;
-    let ended = run::<Size>(rt.alloc(), &TREE, &input);
-    assert_eq!(rt; ended.status, 1);
-    assert_eq!(rt; ended.err.as_slice(), b"msthost: Clash\n".as_slice());
-    assert!(rt; ended.out.is_empty());
+    let ended = run_with::<Size>(rt.alloc(), &TREE, &input);
+    assert!(rt; ended.is(1, b"", "msthost: Clash\n"));
     Ok(())
 }
 
 #[test]
-fn wrong_command_lines(rt: HostRuntime) -> Result<(), Fail> {
-    let words: [&[&str]; 8] = [
+fn wrong_command_lines(rt: HostRuntime) {
+    let lines: [&[&str]; 8] = [
         &[],
         &["msthost"],
         &["msthost", "trees"],
@@ -102,59 +100,67 @@ fn wrong_command_lines(rt: HostRuntime) -> Result<(), Fail> {
         &["msthost", "tree", "--bits", "9"],
         &["msthost", "tree", "--bits", "two"],
     ];
-    for words in words {
-        let ended = run::<Sha256>(rt.alloc(), words, b"a/b");
-        assert_eq!(rt; ended.status, 2, "at {words:?}");
-        assert!(rt; ended.err.starts_with(b"error: "), "at {words:?}");
-        assert!(rt; ended.out.is_empty(), "at {words:?}");
+    for words in lines {
+        let ended = run(rt.alloc(), words, b"a/b");
+        let told = ended.err.starts_with(b"error: ");
+        assert!(rt;
+            ended.status == 2 && told && ended.out.is_empty(),
+            "at {words:?}"
+        );
     }
-    Ok(())
 }
 
 #[test]
 fn bits_out_of_range_are_named(rt: HostRuntime) {
-    let ended = run::<Sha256>(rt.alloc(), &["msthost", "tree", "--bits", "9"], b"");
-    let wanted =
-        b"error: invalid value '9' for '--bits <B>': 9 is not in 1..=8\n\nFor more information, try '--help'.\n";
-    assert_eq!(rt; ended.err.as_slice(), wanted.as_slice());
+    let ended = run(rt.alloc(), &["msthost", "tree", "--bits", "9"], b"");
+    let told =
+        "error: invalid value '9' for '--bits <B>': 9 is not in 1..=8\n\nFor more information, try '--help'.\n";
+    assert!(rt; ended.is(2, b"", told));
 }
 
 #[test]
-fn help_and_version(rt: HostRuntime) -> Result<(), Fail> {
-    let words: [&[&str]; 4] = [
-        &["msthost", "--help"],
-        &["msthost", "-h"],
-        &["msthost", "tree", "--help"],
-        &["msthost", "--version"],
+fn help(rt: HostRuntime) {
+    let cases: [(&[&str], &str); 5] = [
+        (&["msthost", "--help"], "$ printf '' | msthost tree"),
+        (&["msthost", "-h"], "$ printf '' | msthost tree"),
+        (&["msthost", "tree", "--help"], "--bits <B>"),
+        (
+            &["msthost", "tree", "--help"],
+            "Exit status: 0 done, 1 a faulty line",
+        ),
+        (&["msthost", "tree", "--help"], "$ printf '' | msthost tree"),
     ];
-    for words in words {
-        let ended = run::<Sha256>(rt.alloc(), words, b"a/b");
-        assert_eq!(rt; ended.status, 0, "at {words:?}");
-        assert!(rt; ended.err.is_empty(), "at {words:?}");
-        assert!(rt; !ended.out.is_empty(), "at {words:?}");
+    for (words, shown) in cases {
+        let ended = run(rt.alloc(), words, b"a/b");
+        let shows = ended.out.as_slice().contains_str(shown.as_bytes());
+        assert!(rt;
+            ended.status == 0 && shows && ended.err.is_empty(),
+            "at {words:?} for {shown}"
+        );
     }
-    let ended = run::<Sha256>(rt.alloc(), &["msthost", "--help"], b"");
-    assert!(rt;
-        ended
-            .out
-            .as_slice()
-            .contains_str(b"$ printf '' | msthost tree")
-    );
-    let ended = run::<Sha256>(rt.alloc(), &["msthost", "tree", "--help"], b"");
-    assert!(rt; ended.out.as_slice().contains_str(b"--bits <B>"));
-    assert!(rt;
-        ended
-            .out
-            .as_slice()
-            .contains_str(b"Exit status: 0 done, 1 a faulty line")
-    );
-    assert!(rt;
-        ended
-            .out
-            .as_slice()
-            .contains_str(b"$ printf '' | msthost tree")
-    );
-    let ended = run::<Sha256>(rt.alloc(), &["msthost", "--version"], b"");
-    assert_eq!(rt; ended.out.as_slice(), b"msthost 0.1.0\n".as_slice());
-    Ok(())
+}
+
+#[test]
+fn version(rt: HostRuntime) {
+    let ended = run(rt.alloc(), &["msthost", "--version"], b"a/b");
+    assert!(rt; ended.is(0, b"msthost 0.1.0\n", ""));
+}
+
+#[test]
+fn programs_that_are_not_started(rt: HostRuntime) {
+    for (kind, status, told) in [
+        (ErrorKind::OutOfMemory, 3, "msthost: no memory\n"),
+        (
+            ErrorKind::InvalidData,
+            2,
+            "error: the arguments are not UTF-8\n",
+        ),
+    ] {
+        let mut err = Vec::new(rt.alloc());
+        let answered = not_started(&io::Error::from(kind), &mut err);
+        assert!(rt;
+            answered == status && err.as_slice() == told.as_bytes(),
+            "at {kind:?}"
+        );
+    }
 }

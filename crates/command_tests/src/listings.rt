@@ -1,26 +1,17 @@
 //! Listings that are made.
-use crate::running::{first_line, joined, run};
-use cid::Sha256;
+use crate::running::{TREE, joined, run, run_with};
 use cid::digests::Toy;
-use commands::run_words;
 use std::alloc::Global;
 use std::test::Fail;
-
-const TREE: [&str; 2] = ["msthost", "tree"];
 
 /// The record of every key of the published trees.
 const RECORD: &str = "bafyreie5cvv4h45feadgeuwhbcutmh6t2ceseocckahdoe6uat64zmz454";
 
 #[test]
-fn no_lines(rt: HostRuntime) -> Result<(), Fail> {
-    let mut input: &[u8] = b"";
-    let mut out = Vec::new(rt.alloc());
-    let mut err = Vec::new(rt.alloc());
-    let status = run_words(rt.alloc(), &TREE, &mut input, &mut out, &mut err);
+fn status_0_of_run_words_means_that_the_listing_is_written(rt: HostRuntime) -> Result<(), Fail> {
     let wanted = joined(rt.alloc(), &["E", "\n", "E", " a2616580616cf6\n"])?;
-    assert_eq!(rt; status, 0);
-    assert_eq!(rt; out.as_slice(), wanted.as_slice());
-    assert!(rt; err.is_empty());
+    let ended = run(rt.alloc(), &TREE, b"");
+    assert!(rt; ended.is(0, &wanted, ""));
     Ok(())
 }
 
@@ -32,42 +23,26 @@ fn one_line(rt: HostRuntime) -> Result<(), Fail> {
     let wanted = joined(rt.alloc(), &[root, "\n", root, " ", node, "\n"])?;
     for end in ["", "\n", "\r\n", "\n\n\r\n"] {
         let input = joined(rt.alloc(), &["a/b ", "E", end])?;
-        assert!(rt; !input.is_empty());
-        let ended = run::<Sha256>(rt.alloc(), &TREE, &input);
-        assert_eq!(rt; ended.out.as_slice(), wanted.as_slice(), "after {end:?}");
-        assert_eq!(rt; ended.status, 0, "after {end:?}");
+        let ended = run(rt.alloc(), &TREE, &input);
+        assert!(rt; ended.is(0, &wanted, ""), "after {end:?}");
     }
     Ok(())
 }
 
 #[test]
-fn published_roots(rt: HostRuntime) -> Result<(), Fail> {
-    let one = joined(
-        rt.alloc(),
-        &["com.example.record/3jqfcqzm3fo2j ", RECORD, "\n"],
-    )?;
-    let other = joined(
-        rt.alloc(),
-        &["com.example.record/3jqfcqzm3fx2j ", RECORD, "\n"],
-    )?;
-    let five = published_five(rt.alloc())?;
-    for (input, root) in [
+fn published_roots_of_one_key(rt: HostRuntime) -> Result<(), Fail> {
+    for (key, root) in [
         (
-            &one,
+            "com.example.record/3jqfcqzm3fo2j ",
             "bafyreibj4lsc3aqnrvphp5xmrnfoorvru4wynt6lwidqbm2623a6tatzdu",
         ),
         (
-            &other,
+            "com.example.record/3jqfcqzm3fx2j ",
             "bafyreih7wfei65pxzhauoibu3ls7jgmkju4bspy4t2ha2qdjnzqvoy33ai",
         ),
-        (
-            &five,
-            "bafyreicmahysq4n6wfuxo522m6dpiy7z7qzym3dzs756t5n7nfdgccwq7m",
-        ),
     ] {
-        let ended = run::<Sha256>(rt.alloc(), &TREE, input);
-        assert_eq!(rt; first_line(&ended.out), root.as_bytes());
-        assert_eq!(rt; ended.status, 0);
+        let input = joined(rt.alloc(), &[key, RECORD, "\n"])?;
+        assert!(rt; run(rt.alloc(), &TREE, &input).lists(root), "at {key}");
     }
     Ok(())
 }
@@ -76,11 +51,9 @@ fn published_roots(rt: HostRuntime) -> Result<(), Fail> {
 fn published_five(alloc: Global) -> Result<Vec<u8>, Fail> {
     let mut input = Vec::new(alloc);
     for key in ["m3fs2j", "m4fc2j", "m3fp2j", "m3ft2j", "m3fr2j"] {
-        input.extend_from_slice(b"com.example.record/3jqfcqz")?;
-        input.extend_from_slice(key.as_bytes())?;
-        input.push(b' ')?;
-        input.extend_from_slice(RECORD.as_bytes())?;
-        input.push(b'\n')?;
+        for part in ["com.example.record/3jqfcqz", key, " ", RECORD, "\n"] {
+            input.extend_from_slice(part.as_bytes())?;
+        }
     }
     Ok(input)
 }
@@ -89,61 +62,52 @@ fn published_five(alloc: Global) -> Result<Vec<u8>, Fail> {
 fn each_number_of_bits(rt: HostRuntime) -> Result<(), Fail> {
     let input = published_five(rt.alloc())?;
     let one = "bafyreia4lg7qsow5oi3fenr4ckrvedywso6f4etz5djo6hvptd3kyw3n6i";
-    let two = "bafyreicmahysq4n6wfuxo522m6dpiy7z7qzym3dzs756t5n7nfdgccwq7m";
+    let published = "bafyreicmahysq4n6wfuxo522m6dpiy7z7qzym3dzs756t5n7nfdgccwq7m";
     let more = "bafyreibxytyffxyzrfc7h7envv3e3go6cavhtyw4h6eywhs6zqf7v2vs2i";
-    for (bits, root) in [
-        ("1", one),
-        ("2", two),
-        ("3", two),
-        ("4", more),
-        ("5", more),
-        ("6", more),
-        ("7", more),
-        ("8", more),
-    ] {
-        let ended = run::<Sha256>(rt.alloc(), &["msthost", "tree", "--bits", bits], &input);
-        assert_eq!(rt; first_line(&ended.out), root.as_bytes(), "at {bits}");
-        assert_eq!(rt; ended.status, 0, "at {bits}");
+    let cases: [(&[&str], &str); 9] = [
+        (&["msthost", "tree"], published),
+        (&["msthost", "tree", "--bits", "1"], one),
+        (&["msthost", "tree", "--bits", "2"], published),
+        (&["msthost", "tree", "--bits", "3"], published),
+        (&["msthost", "tree", "--bits", "4"], more),
+        (&["msthost", "tree", "--bits", "5"], more),
+        (&["msthost", "tree", "--bits", "6"], more),
+        (&["msthost", "tree", "--bits", "7"], more),
+        (&["msthost", "tree", "--bits", "8"], more),
+    ];
+    for (words, root) in cases {
+        assert!(rt; run(rt.alloc(), words, &input).lists(root), "at {words:?}");
     }
     Ok(())
 }
 
 #[test]
 fn the_last_line_of_a_key_decides(rt: HostRuntime) -> Result<(), Fail> {
-    let twice = joined(
-        rt.alloc(),
-        &[
-            "b/1 ", "E", "\na/1 ", "E", "\nb/1 ", RECORD, "\n\na/1 ", RECORD, "\na/1 ", "E", "\n",
-        ],
-    )?;
-    let once = joined(rt.alloc(), &["a/1 ", "E", "\nb/1 ", RECORD])?;
-    let root = "bafyreiafwufgom6kgt2oj43ilqgnilld6ypuu7wj2qsot5z5wonconecta";
-    let ended = run::<Sha256>(rt.alloc(), &TREE, &twice);
-    assert_eq!(rt; first_line(&ended.out), root.as_bytes());
-    assert_eq!(rt;
-        ended.out.as_slice(),
-        run::<Sha256>(rt.alloc(), &TREE, &once).out.as_slice()
-    );
+    let twice = [
+        "b/1 ", "E", "\na/1 ", "E", "\nb/1 ", RECORD, "\n\na/1 ", RECORD, "\na/1 ", "E", "\n",
+    ];
+    let once = ["a/1 ", "E", "\nb/1 ", RECORD];
+    let input = joined(rt.alloc(), &once)?;
+    let wanted = run(rt.alloc(), &TREE, &input);
+    assert!(rt; wanted.lists("bafyreiafwufgom6kgt2oj43ilqgnilld6ypuu7wj2qsot5z5wonconecta"));
+    let input = joined(rt.alloc(), &twice)?;
+    assert!(rt; run(rt.alloc(), &TREE, &input).is(0, &wanted.out, ""));
     Ok(())
 }
 
 #[test]
-fn a_key_has_spaces(rt: HostRuntime) -> Result<(), Fail> {
-    let input = joined(rt.alloc(), &["a b  c ", "E"])?;
-    let root = "bafyreidbsrnnag75pwuth7flro4phz2hod6uxnc62xzszhx74kptcyihby";
-    let ended = run::<Sha256>(rt.alloc(), &TREE, &input);
-    assert_eq!(rt; first_line(&ended.out), root.as_bytes());
-    Ok(())
-}
-
-#[test]
-fn a_lone_carriage_return_is_part_of_a_key(rt: HostRuntime) -> Result<(), Fail> {
-    let root = "bafyreihmtk6sjdmr7p2y3wrwx6c54vipkm6ngkq3o7bkcvvmxapklwclva";
-    for end in ["", "\n", "\r\n"] {
-        let input = joined(rt.alloc(), &["a\rb ", "E", "\rc/d ", "E", end])?;
-        let ended = run::<Sha256>(rt.alloc(), &TREE, &input);
-        assert_eq!(rt; first_line(&ended.out), root.as_bytes(), "after {end:?}");
-        assert_eq!(rt; ended.status, 0, "after {end:?}");
+fn keys_with_spaces_and_carriage_returns(rt: HostRuntime) -> Result<(), Fail> {
+    let spaces = "bafyreidbsrnnag75pwuth7flro4phz2hod6uxnc62xzszhx74kptcyihby";
+    let returns = "bafyreihmtk6sjdmr7p2y3wrwx6c54vipkm6ngkq3o7bkcvvmxapklwclva";
+    let cases: [(&[&str], &str); 4] = [
+        (&["a b  c ", "E"], spaces),
+        (&["a\rb ", "E", "\rc/d ", "E"], returns),
+        (&["a\rb ", "E", "\rc/d ", "E", "\n"], returns),
+        (&["a\rb ", "E", "\rc/d ", "E", "\r\n"], returns),
+    ];
+    for (parts, root) in cases {
+        let input = joined(rt.alloc(), parts)?;
+        assert!(rt; run(rt.alloc(), &TREE, &input).lists(root), "at {parts:?}");
     }
     Ok(())
 }
@@ -158,10 +122,9 @@ fn nodes_and_bytes_of_each_number_of_bits(rt: HostRuntime) -> Result<(), Fail> {
         ("4", 4, 787),
         ("8", 2, 469),
     ] {
-        let ended = run::<Toy>(rt.alloc(), &["msthost", "tree", "--bits", bits], &input);
+        let ended = run_with::<Toy>(rt.alloc(), &["msthost", "tree", "--bits", bits], &input);
         let ends = ended.out.iter().filter(|byte| **byte == b'\n').count();
-        assert_eq!(rt; ends, lines, "at {bits}");
-        assert_eq!(rt; ended.out.len(), length, "at {bits}");
+        assert!(rt; ends == lines && ended.out.len() == length, "at {bits}");
     }
     Ok(())
 }
@@ -169,15 +132,12 @@ fn nodes_and_bytes_of_each_number_of_bits(rt: HostRuntime) -> Result<(), Fail> {
 #[test]
 fn nodes_without_keys(rt: HostRuntime) -> Result<(), Fail> {
     let input = joined(rt.alloc(), &["a/p0 ", "E", "\na/q2 ", "E", "\na/r0 ", "E"])?;
-    let ended = run::<Toy>(rt.alloc(), &TREE, &input);
+    let ended = run_with::<Toy>(rt.alloc(), &TREE, &input);
     let mut lengths = Vec::new(rt.alloc());
     for line in ended.out.split(|byte| *byte == b'\n') {
         lengths.push(line.len())?;
     }
     // the root; a node of 144 bytes over two of 47, each over one of 64; and nothing after the last line's end
-    assert_eq!(rt;
-        lengths.as_slice(),
-        [59, 348, 154, 188, 154, 188, 0].as_slice()
-    );
+    assert!(rt; lengths.as_slice() == [59, 348, 154, 188, 154, 188, 0].as_slice());
     Ok(())
 }

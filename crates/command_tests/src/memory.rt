@@ -19,14 +19,16 @@ fn each_request_refused(rt: HostRuntime) -> Result<(), Fail> {
         let mut out = Vec::new(rt.alloc());
         heap.refuse(number);
         let ended = tree_text::<Sha256, 2, _, _, _>(&heap, &mut &input[..], &mut out);
-        assert_eq!(rt; heap.live(), 0);
+        assert!(rt; heap.live() == 0, "at {number}");
         if ended.is_ok() {
-            assert_eq!(rt; out.as_slice(), wanted.as_slice());
+            assert!(rt; out.as_slice() == wanted.as_slice());
             refused = number - 1;
             break;
         }
-        assert_eq!(rt; ended, Err(TreeFault::NoMemory));
-        assert!(rt; out.is_empty());
+        assert!(rt;
+            ended == Err(TreeFault::NoMemory) && out.is_empty(),
+            "at {number}"
+        );
     }
     assert!(rt; refused > 10);
     Ok(())

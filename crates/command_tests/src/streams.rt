@@ -1,13 +1,11 @@
 //! Readers and writers that fail, or move few bytes at a time.
 ghost use Rattle.std.specs.Prelude.{Some};
 
-use crate::running::{EMPTY, joined};
+use crate::running::{Ended, TREE, joined, run, run_over};
 use commands::run_words;
 use std::alloc::Global;
 use std::io::{self, ErrorKind, Read, Write};
 use std::test::Fail;
-
-const TREE: [&str; 2] = ["msthost", "tree"];
 
 /// Gives these bytes, a few at a time, and fails at their end.
 #[derive(Drop)]
@@ -31,25 +29,15 @@ impl Read for FailingReader<'_> {
 #[test]
 fn a_read_that_fails(rt: HostRuntime) -> Result<(), Fail> {
     let whole = joined(rt.alloc(), &["a/b ", "E", "\nb/c ", "E", "\n"])?;
-    let faulty = joined(rt.alloc(), &["a/b", "\n"])?;
-    // at the first byte, in the middle of a line, after the last line, and after a line that is faulty
     let cut = whole.get(..70).ok_or("too short")?;
-    for bytes in [b"".as_slice(), cut, whole.as_slice(), faulty.as_slice()] {
-        for (kind, status, shown) in [
-            (ErrorKind::Other, 4, b"msthost: read failed\n".as_slice()),
-            (
-                ErrorKind::OutOfMemory,
-                3,
-                b"msthost: no memory\n".as_slice(),
-            ),
+    // at the first byte, in the middle of a line, after the last line, and after a line that is faulty
+    for left in [b"".as_slice(), cut, whole.as_slice(), b"a/b\n".as_slice()] {
+        for (kind, status, told) in [
+            (ErrorKind::Other, 4, "msthost: read failed\n"),
+            (ErrorKind::OutOfMemory, 3, "msthost: no memory\n"),
         ] {
-            let mut input = FailingReader { left: bytes, kind };
-            let mut out = Vec::new(rt.alloc());
-            let mut err = Vec::new(rt.alloc());
-            let ended = run_words(rt.alloc(), &TREE, &mut input, &mut out, &mut err);
-            assert_eq!(rt; ended, status);
-            assert_eq!(rt; err.as_slice(), shown);
-            assert!(rt; out.is_empty());
+            let ended = run_over(rt.alloc(), &TREE, &mut FailingReader { left, kind });
+            assert!(rt; ended.is(status, b"", told), "after {left:?}");
         }
     }
     Ok(())
@@ -78,20 +66,13 @@ impl Read for InterruptedReader<'_> {
 #[test]
 fn a_read_that_is_interrupted(rt: HostRuntime) -> Result<(), Fail> {
     let lines = joined(rt.alloc(), &["a/b ", "E", "\nb/c ", "E", "\n"])?;
-    let mut whole = lines.as_slice();
-    let mut wanted = Vec::new(rt.alloc());
-    let mut err = Vec::new(rt.alloc());
-    let status = run_words(rt.alloc(), &TREE, &mut whole, &mut wanted, &mut err);
-    assert_eq!(rt; status, 0);
+    let wanted = run(rt.alloc(), &TREE, &lines);
     let mut input = InterruptedReader {
         left: &lines,
         is_interrupted: false,
     };
-    let mut out = Vec::new(rt.alloc());
-    let status = run_words(rt.alloc(), &TREE, &mut input, &mut out, &mut err);
-    assert_eq!(rt; status, 0);
-    assert_eq!(rt; out.as_slice(), wanted.as_slice());
-    assert!(rt; err.is_empty());
+    let ended = run_over(rt.alloc(), &TREE, &mut input);
+    assert!(rt; wanted.status == 0 && ended.is(0, &wanted.out, ""));
     Ok(())
 }
 
@@ -138,60 +119,48 @@ fn narrow(alloc: Global, room: usize, flushes: bool) -> NarrowWriter {
     }
 }
 
-/// The text for one line, whose root and node are these.
-fn text_of_nothing(alloc: Global) -> Result<Vec<u8>, Fail> {
-    joined(alloc, &["E", "\n", "E", " a2616580616cf6\n"])
-}
-
-#[test]
-fn a_writer_that_takes_little(rt: HostRuntime) -> Result<(), Fail> {
-    let wanted = text_of_nothing(rt.alloc())?;
+/// Runs a command on an empty input, over such a writer.
+fn run_into(alloc: Global, words: &[&str], out: NarrowWriter) -> Ended {
     let mut input: &[u8] = b"";
-    let mut out = narrow(rt.alloc(), 1000, true);
-    let mut err = Vec::new(rt.alloc());
-    let status = run_words(rt.alloc(), &TREE, &mut input, &mut out, &mut err);
-    assert_eq!(rt; status, 0);
-    assert_eq!(rt; out.written.as_slice(), wanted.as_slice());
-    assert!(rt; err.is_empty());
-    Ok(())
+    let mut out = out;
+    let mut err = Vec::new(alloc);
+    let status = run_words(alloc, words, &mut input, &mut out, &mut err);
+    Ended {
+        status,
+        out: out.written,
+        err,
+    }
 }
 
 #[test]
-fn a_write_that_fails(rt: HostRuntime) -> Result<(), Fail> {
-    let wanted = text_of_nothing(rt.alloc())?;
+fn a_writer_that_takes_little_or_fails(rt: HostRuntime) -> Result<(), Fail> {
+    let wanted = joined(rt.alloc(), &["E", "\n", "E", " a2616580616cf6\n"])?;
+    let ended = run_into(rt.alloc(), &TREE, narrow(rt.alloc(), 1000, true));
+    assert!(rt; ended.is(0, &wanted, ""));
     for room in 0..wanted.len() {
-        let mut input: &[u8] = b"";
-        let mut out = narrow(rt.alloc(), room, true);
-        let mut err = Vec::new(rt.alloc());
-        let status = run_words(rt.alloc(), &TREE, &mut input, &mut out, &mut err);
-        assert_eq!(rt; status, 4);
-        assert_eq!(rt; out.written.as_slice(), &wanted[..room]);
-        assert_eq!(rt; err.as_slice(), b"msthost: write failed\n".as_slice());
+        let ended = run_into(rt.alloc(), &TREE, narrow(rt.alloc(), room, true));
+        assert!(rt;
+            ended.is(4, &wanted[..room], "msthost: write failed\n"),
+            "at {room}"
+        );
     }
     Ok(())
 }
 
 #[test]
-fn a_flush_that_fails(rt: HostRuntime) -> Result<(), Fail> {
-    let mut input: &[u8] = EMPTY.as_bytes();
-    for words in [["msthost", "tree"], ["msthost", "--help"]] {
-        let mut out = narrow(rt.alloc(), 10000, false);
-        let mut err = Vec::new(rt.alloc());
-        input = b"";
-        let status = run_words(rt.alloc(), &words, &mut input, &mut out, &mut err);
-        assert_eq!(rt; status, 4, "at {words:?}");
-        assert_eq!(rt; err.as_slice(), b"msthost: write failed\n".as_slice());
+fn a_flush_that_fails(rt: HostRuntime) {
+    for words in [TREE, ["msthost", "--help"]] {
+        let ended = run_into(rt.alloc(), &words, narrow(rt.alloc(), 10000, false));
+        let told = ended.err.as_slice() == b"msthost: write failed\n".as_slice();
+        assert!(rt; ended.status == 4 && told, "at {words:?}");
     }
-    Ok(())
 }
 
 #[test]
-fn standard_error_that_fails(rt: HostRuntime) -> Result<(), Fail> {
+fn standard_error_that_fails(rt: HostRuntime) {
     let mut input: &[u8] = b"a/b";
     let mut out = Vec::new(rt.alloc());
     let mut err = narrow(rt.alloc(), 0, true);
     let status = run_words(rt.alloc(), &TREE, &mut input, &mut out, &mut err);
-    assert_eq!(rt; status, 1);
-    assert!(rt; out.is_empty());
-    Ok(())
+    assert!(rt; status == 1 && out.is_empty());
 }
