@@ -1,6 +1,6 @@
 -- The text for an input, from its tree.
 use Rattle.std.proofs.Common.{◌≡◌, ℕ, true, false, List, ◌∷◌, ◌++◌, Some, None, refl, sym, ap, subst, ◌∙◌}
-use Rattle.std.specs.Prelude.{Option, Result, Ok, Err, is_ok, IfSome, IfErr, OnOk, OnErr, IsErrAnd}
+use Rattle.std.specs.Prelude.{Option, Result, Ok, Err, is_ok, IfSome, IfErr, OnErr, IsErrAnd}
 use Rattle.spec.specs.Reading.{◌>>=◌, ensure, Fails}
 use Rattle.spec.specs.Cid.{cid}
 use Rattle.spec.specs.Tree.{Pair}
@@ -9,7 +9,7 @@ use Rattle.spec.specs.Laws.Clashes.{HasClash}
 use Rattle.spec.proofs.BlockLaws.{test-from_IsClashFree, test-from_HasClash}
 use Rattle.std.specs.Io.KnownBytes.{Appends}
 use Rattle.commands.specs.TreeText.{TreeFault, Clash, map_of_input, tree_of_map, tree_of_input, text_of_tree, tree_text, text_or_nothing}
-use Rattle.commands.specs.Written.{AppendsBeginning, AppendsText, Writes}
+use Rattle.commands.specs.Written.{AppendsBeginning, AppendsText}
 
 -- ---- the tree
 
@@ -48,6 +48,11 @@ pub passed_on : {T E : Type 0} (P : E → Type 0) (r : Result T E) (f : E) → I
 passed_on P (Ok x) f e p = tt
 passed_on P (Err g) f e p = subst P (sym e) p
 
+-- and at an error, of whatever kind
+pub at_error : {T E : Type 0} (P : Type 0) (r : Result T E) → P → OnErr r P
+at_error P (Ok x) p = tt
+at_error P (Err f) p = p
+
 -- ---- what was written
 
 wrote-text : (old new : Option (List ℕ)) (r : Result (List ℕ) TreeFault) (t : List ℕ) → r ≡ Ok t → Appends old new t → AppendsText old new r
@@ -57,15 +62,12 @@ wrote-beginning : (old new : Option (List ℕ)) (r : Result (List ℕ) TreeFault
 wrote-beginning old new r t e p = rw e p
 
 module _ (digest : List ℕ → List ℕ) (bits : ℕ) (given : Option (List ℕ)) (bytes : List ℕ) (read : IfSome given (λ xs. bytes ≡ xs)) where
-  pub text-written : {E : Type 0} (old new : Option (List ℕ)) (r : Result (Unit {0}) E) (tree : List ℕ × List (List ℕ)) → tree_of_input digest bits bytes ≡ Ok tree → Writes old new r (text_of_tree digest tree)
-      → OnOk r (IfSome given (λ xs. AppendsText old new (tree_text digest bits xs)))
-  text-written old new (Ok u) tree e w = known (λ xs. AppendsText old new (tree_text digest bits xs)) given bytes read (wrote-text old new (tree_text digest bits bytes) (text_of_tree digest tree) (text-made digest bits bytes tree e) w)
-  text-written old new (Err f) tree e w = tt
+  pub text-written : (old new : Option (List ℕ)) (tree : List ℕ × List (List ℕ)) → tree_of_input digest bits bytes ≡ Ok tree → Appends old new (text_of_tree digest tree) → IfSome given (λ xs. AppendsText old new (tree_text digest bits xs))
+  text-written old new tree e w = known (λ xs. AppendsText old new (tree_text digest bits xs)) given bytes read (wrote-text old new (tree_text digest bits bytes) (text_of_tree digest tree) (text-made digest bits bytes tree e) w)
 
-  pub beginning-written : {E : Type 0} (old new : Option (List ℕ)) (r : Result (Unit {0}) E) (tree : List ℕ × List (List ℕ)) → tree_of_input digest bits bytes ≡ Ok tree → Writes old new r (text_of_tree digest tree)
-      → OnErr r (IfSome given (λ xs. AppendsBeginning old new (text_or_nothing (tree_text digest bits xs))))
-  beginning-written old new (Ok u) tree e w = tt
-  beginning-written old new (Err f) tree e w =
+  pub beginning-written : (old new : Option (List ℕ)) (tree : List ℕ × List (List ℕ)) → tree_of_input digest bits bytes ≡ Ok tree → AppendsBeginning old new (text_of_tree digest tree)
+      → IfSome given (λ xs. AppendsBeginning old new (text_or_nothing (tree_text digest bits xs)))
+  beginning-written old new tree e w =
       known (λ xs. AppendsBeginning old new (text_or_nothing (tree_text digest bits xs))) given bytes read
       (wrote-beginning old new (tree_text digest bits bytes) (text_of_tree digest tree) (text-made digest bits bytes tree e) w)
 

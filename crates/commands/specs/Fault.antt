@@ -6,6 +6,10 @@ use Rattle.commands.specs.declared.tree.fault.LineFault.{LineFault}
 use Rattle.commands.specs.declared.tree.fault.LineFault.TheVariants as lines
 use Rattle.commands.specs.declared.tree.fault.TreeFault.{TreeFault}
 use Rattle.commands.specs.declared.tree.fault.TreeFault.TheVariants as errors
+use Rattle.commands.specs.declared.reading.ReadFault.{ReadFault}
+use Rattle.commands.specs.declared.reading.ReadFault.TheVariants as reads
+use Rattle.commands.specs.declared.writing.WriteFault.{WriteFault}
+use Rattle.commands.specs.declared.writing.WriteFault.TheVariants as writes
 
 abbrev pub line_fault_of : LineFault → text.LineFault
 line_fault_of lines.BadLine = text.BadLine
@@ -37,6 +41,15 @@ is_of_input errors.Clash = true
 is_of_input errors.NoMemory = true
 is_of_input errors.ReadFailed = false
 is_of_input errors.WriteFailed = false
+
+-- what a failed read and a failed write are called
+abbrev pub of_read : ReadFault → TreeFault
+of_read reads.NoMemory = errors.NoMemory
+of_read reads.Failed = errors.ReadFailed
+
+abbrev pub of_write : WriteFault → TreeFault
+of_write writes.NoMemory = errors.NoMemory
+of_write writes.Failed = errors.WriteFailed
 
 -- the status that the program ends with
 abbrev pub status_of : TreeFault → ℕ

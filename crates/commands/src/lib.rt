@@ -19,6 +19,7 @@ mod reading;
 mod run;
 mod starting;
 mod status;
+mod telling;
 mod tree;
 mod writing;
 

@@ -1,20 +1,27 @@
 //! Reading all of an input.
-ghost use Rattle.std.specs.Prelude.{◌≡◌, ◌≢◌, ◌⊎◌, IfOk, IfErr, IfSome, OnOk};
+ghost use Rattle.std.specs.Prelude.{◌≡◌, ◌≢◌, IfOk, IfSome, OnOk};
 ghost use Rattle.std.specs.Io.KnownBytes.{IsAtEnd};
 ghost use Rattle.std.specs.IoError.{error_kind};
 
-use crate::tree::TreeFault;
 use std::alloc::Allocator;
 use std::io::{Error, ErrorKind, Read};
+
+/// Why an input can't be read.
+#[derive(Clone, Copy)]
+pub(crate) enum ReadFault {
+    /// The bytes had no room.
+    NoMemory,
+    /// The reader failed.
+    Failed,
+}
 
 /// All that the reader still gives.
 pub(crate) fn read_all<A: Allocator, R: Read>(
     alloc: A,
     input: &mut R,
-) -> Result<Vec<u8, A>, TreeFault>
+) -> Result<Vec<u8, A>, ReadFault>
     ensures bytes { IfOk result (λ bytes. IfSome (R.remaining input.old) (λ xs. bytes.items ≡ xs)) }
     ensures end { OnOk result (IsAtEnd (R.remaining input.new)) }
-    ensures fault { IfErr result (λ e. (e ≡ TreeFault.NoMemory) ⊎ (e ≡ TreeFault.ReadFailed)) }
 {
     let mut bytes = Vec::new(alloc);
     match input.read_to_end(&mut bytes) {
@@ -23,15 +30,14 @@ pub(crate) fn read_all<A: Allocator, R: Read>(
     }
 }
 
-/// What a failed read is called: the bytes may have had no room.
-fn read_fault(error: &Error) -> TreeFault
-    ensures memory { error_kind error.now ≡ ErrorKind.OutOfMemory → result ≡ TreeFault.NoMemory }
-    ensures other { (error_kind error.now ≢ ErrorKind.OutOfMemory) → result ≡ TreeFault.ReadFailed }
-    ensures either { (result ≡ TreeFault.NoMemory) ⊎ (result ≡ TreeFault.ReadFailed) }
+/// What a failed read is called.
+fn read_fault(error: &Error) -> ReadFault
+    ensures memory { error_kind error.now ≡ ErrorKind.OutOfMemory → result ≡ ReadFault.NoMemory }
+    ensures other { (error_kind error.now ≢ ErrorKind.OutOfMemory) → result ≡ ReadFault.Failed }
 {
     if error.kind() == ErrorKind::OutOfMemory {
-        TreeFault::NoMemory
+        ReadFault::NoMemory
     } else {
-        TreeFault::ReadFailed
+        ReadFault::Failed
     }
 }

@@ -4,7 +4,8 @@ ghost use Rattle.std.specs.Io.KnownBytes.{Keeps};
 
 use crate::command_line::{Request, request_of};
 use crate::status::{DONE, USAGE};
-use crate::tree::{self, TreeFault, failed};
+use crate::telling::{no_memory, write_failed};
+use crate::tree;
 use cid::{Digest, Sha256};
 use clap::Error;
 use clap::error::ErrorKind;
@@ -52,7 +53,7 @@ fn show<W: Write, X: Write>(error: &Error, out: &mut W, err: &mut X) -> u8
     ensures nothing { (result ≡ 1) ⊎ (result ≡ 2) → Keeps (W.contents out.old) (W.contents out.new) }
 {
     if error.kind() == ErrorKind::OutOfMemory {
-        return failed(TreeFault::NoMemory, err);
+        return no_memory(err);
     }
     if error.use_stderr() {
         let _ = write!(err, "{error}");
@@ -60,7 +61,7 @@ fn show<W: Write, X: Write>(error: &Error, out: &mut W, err: &mut X) -> u8
     }
     match print(error, out) {
         Ok(()) => DONE,
-        Err(_) => failed(TreeFault::WriteFailed, err),
+        Err(_) => write_failed(err),
     }
 }
 

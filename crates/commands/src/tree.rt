@@ -10,6 +10,6 @@ mod words;
 
 pub use bits::Bits;
 pub use fault::{LineFault, TreeFault};
-pub(crate) use run::{failed, run};
+pub(crate) use run::run;
 pub use text::tree_text;
 pub(crate) use words::{EXAMPLE, bits_of, words};

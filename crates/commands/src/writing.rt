@@ -1,17 +1,23 @@
 //! Writing whole runs of bytes, with a word on what was written where it fails.
-ghost use Rattle.std.specs.Prelude.{◌≡◌, ◌≢◌, ◌≤◌, ◌*◌, true, length, IfErr};
+ghost use Rattle.std.specs.Prelude.{◌≡◌, ◌≢◌, ◌≤◌, ◌*◌, length};
 ghost use Rattle.std.specs.IoError.{error_kind};
 ghost use Rattle.hex.specs.Hex.{encode_lower};
 ghost use Rattle.commands.specs.Written.{Writes};
-ghost use Rattle.commands.specs.Fault.{may_have_written};
 
-use crate::tree::TreeFault;
 use std::io::{Error, ErrorKind, Write};
 
+/// Why an output can't be written. A beginning of it may have been.
+#[derive(Clone, Copy)]
+pub(crate) enum WriteFault {
+    /// The writer had no memory.
+    NoMemory,
+    /// The writer failed.
+    Failed,
+}
+
 /// Writes all of the bytes, in as many calls as the writer needs. At `Err` a beginning of them was written.
-pub(crate) fn write_whole<W: Write>(out: &mut W, bytes: &[u8]) -> Result<(), TreeFault>
-    ensures written { Writes (W.contents out.old) (W.contents out.new) result bytes.now }
-    ensures fault { IfErr result (λ e. may_have_written e ≡ true) }
+pub(crate) fn write_whole<W: Write>(out: &mut W, bytes: &[u8]) -> Result<(), WriteFault>
+    ensures { Writes (W.contents out.old) (W.contents out.new) result bytes.now }
 {
     let mut rest = bytes;
     'tries: for _ in 0..u64::MAX {
@@ -19,7 +25,7 @@ pub(crate) fn write_whole<W: Write>(out: &mut W, bytes: &[u8]) -> Result<(), Tre
             return Ok(());
         }
         match out.write(rest) {
-            Ok(0) => return Err(TreeFault::WriteFailed),
+            Ok(0) => return Err(WriteFault::Failed),
             Ok(n) => rest = &rest[n..],
             Err(e) => {
                 if e.kind() != ErrorKind::Interrupted {
@@ -28,19 +34,18 @@ pub(crate) fn write_whole<W: Write>(out: &mut W, bytes: &[u8]) -> Result<(), Tre
             }
         }
     }
-    Err(TreeFault::WriteFailed)
+    Err(WriteFault::Failed)
 }
 
 /// What a failed write is called: want of memory, as of a `Vec` that is written to, has its own name.
-fn write_fault(error: &Error) -> TreeFault
-    ensures memory { error_kind error.now ≡ ErrorKind.OutOfMemory → result ≡ TreeFault.NoMemory }
-    ensures other { (error_kind error.now ≢ ErrorKind.OutOfMemory) → result ≡ TreeFault.WriteFailed }
-    ensures fault { may_have_written result ≡ true }
+fn write_fault(error: &Error) -> WriteFault
+    ensures memory { error_kind error.now ≡ ErrorKind.OutOfMemory → result ≡ WriteFault.NoMemory }
+    ensures other { (error_kind error.now ≢ ErrorKind.OutOfMemory) → result ≡ WriteFault.Failed }
 {
     if error.kind() == ErrorKind::OutOfMemory {
-        TreeFault::NoMemory
+        WriteFault::NoMemory
     } else {
-        TreeFault::WriteFailed
+        WriteFault::Failed
     }
 }
 
@@ -48,9 +53,8 @@ fn write_fault(error: &Error) -> TreeFault
 const PIECE: usize = 512;
 
 /// Writes the bytes in hexadecimal, in lower case. At `Err` a beginning of the digits was written.
-pub(crate) fn write_hex<W: Write>(out: &mut W, bytes: &[u8]) -> Result<(), TreeFault>
-    ensures written { Writes (W.contents out.old) (W.contents out.new) result (encode_lower bytes.now) }
-    ensures fault { IfErr result (λ e. may_have_written e ≡ true) }
+pub(crate) fn write_hex<W: Write>(out: &mut W, bytes: &[u8]) -> Result<(), WriteFault>
+    ensures { Writes (W.contents out.old) (W.contents out.new) result (encode_lower bytes.now) }
 {
     let mut rest = bytes;
     'pieces: while !rest.is_empty() {
@@ -62,10 +66,9 @@ pub(crate) fn write_hex<W: Write>(out: &mut W, bytes: &[u8]) -> Result<(), TreeF
 }
 
 /// Writes the digits of a few bytes.
-fn write_piece<W: Write>(out: &mut W, piece: &[u8]) -> Result<(), TreeFault>
+fn write_piece<W: Write>(out: &mut W, piece: &[u8]) -> Result<(), WriteFault>
     requires { length piece.now ≤ PIECE }
-    ensures written { Writes (W.contents out.old) (W.contents out.new) result (encode_lower piece.now) }
-    ensures fault { IfErr result (λ e. may_have_written e ≡ true) }
+    ensures { Writes (W.contents out.old) (W.contents out.new) result (encode_lower piece.now) }
 {
     let mut room = [0; 2 * PIECE];
     let digits = &mut room[..2 * piece.len()];

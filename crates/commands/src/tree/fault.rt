@@ -1,8 +1,11 @@
 //! Why there is no listing of a tree.
 ghost use Rattle.std.specs.Prelude.{◌≡◌};
 ghost use Rattle.commands.specs.declared.tree.fault.TreeFault.TheVariants as errors;
+ghost use Rattle.commands.specs.Fault.{of_read, of_write};
 
 use crate::decimal::Decimal;
+use crate::reading::ReadFault;
+use crate::writing::WriteFault;
 use std::alloc::{AllocError, AllocFailed};
 use thiserror::Error;
 
@@ -58,5 +61,27 @@ impl<T: Drop> From<AllocFailed<T>> for TreeFault {
 
     fn from(_refused: AllocFailed<T>) -> TreeFault {
         TreeFault::NoMemory
+    }
+}
+
+impl From<ReadFault> for TreeFault {
+    ghost from_gives = { λ f e. e ≡ of_read f };
+
+    fn from(fault: ReadFault) -> TreeFault {
+        match fault {
+            ReadFault::NoMemory => TreeFault::NoMemory,
+            ReadFault::Failed => TreeFault::ReadFailed,
+        }
+    }
+}
+
+impl From<WriteFault> for TreeFault {
+    ghost from_gives = { λ f e. e ≡ of_write f };
+
+    fn from(fault: WriteFault) -> TreeFault {
+        match fault {
+            WriteFault::NoMemory => TreeFault::NoMemory,
+            WriteFault::Failed => TreeFault::WriteFailed,
+        }
     }
 }

@@ -1,14 +1,12 @@
 //! The lines that a tree is listed by.
-ghost use Rattle.std.specs.Prelude.{◌≡◌, true, ◌∷◌, [], ◌++◌, map, IfErr};
+ghost use Rattle.std.specs.Prelude.{◌∷◌, [], ◌++◌, map};
 ghost use Rattle.std.specs.Arc.{arc_value};
 ghost use Rattle.std.specs.List.{flat_map};
 ghost use Rattle.spec.specs.Cid.{text};
 ghost use Rattle.commands.specs.TreeText.{block_line};
 ghost use Rattle.commands.specs.Written.{Writes};
-ghost use Rattle.commands.specs.Fault.{may_have_written};
 
-use crate::tree::fault::TreeFault;
-use crate::writing::{write_hex, write_whole};
+use crate::writing::{WriteFault, write_hex, write_whole};
 use cid::{Block, Cid, Digest};
 use std::alloc::Allocator;
 use std::io::Write;
@@ -19,10 +17,9 @@ pub(crate) fn write_tree<D: Digest, A: Allocator, W: Write>(
     out: &mut W,
     root: Cid,
     blocks: &[Arc<Block<D, A>, A>],
-) -> Result<(), TreeFault>
-    ensures written { Writes (W.contents out.old) (W.contents out.new) result
+) -> Result<(), WriteFault>
+    ensures { Writes (W.contents out.old) (W.contents out.new) result
         (text root ++ (10 ∷ []) ++ flat_map (block_line D.digest_of) (map arc_value blocks.now)) }
-    ensures fault { IfErr result (λ e. may_have_written e ≡ true) }
 {
     write_whole(out, &root.text())?;
     write_whole(out, b"\n")?;
@@ -33,10 +30,9 @@ pub(crate) fn write_tree<D: Digest, A: Allocator, W: Write>(
 fn write_blocks<D: Digest, A: Allocator, W: Write>(
     out: &mut W,
     blocks: &[Arc<Block<D, A>, A>],
-) -> Result<(), TreeFault>
-    ensures written { Writes (W.contents out.old) (W.contents out.new) result
+) -> Result<(), WriteFault>
+    ensures { Writes (W.contents out.old) (W.contents out.new) result
         (flat_map (block_line D.digest_of) (map arc_value blocks.now)) }
-    ensures fault { IfErr result (λ e. may_have_written e ≡ true) }
 {
     for block in blocks {
         write_block(out, block)?;
@@ -48,9 +44,8 @@ fn write_blocks<D: Digest, A: Allocator, W: Write>(
 fn write_block<D: Digest, A: Allocator, W: Write>(
     out: &mut W,
     block: &Block<D, A>,
-) -> Result<(), TreeFault>
-    ensures written { Writes (W.contents out.old) (W.contents out.new) result (block_line D.digest_of block.now) }
-    ensures fault { IfErr result (λ e. may_have_written e ≡ true) }
+) -> Result<(), WriteFault>
+    ensures { Writes (W.contents out.old) (W.contents out.new) result (block_line D.digest_of block.now) }
 {
     write_whole(out, &block.cid().text())?;
     write_whole(out, b" ")?;

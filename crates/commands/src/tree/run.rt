@@ -6,6 +6,7 @@ ghost use Rattle.commands.specs.TreeText.{tree_text};
 ghost use Rattle.commands.specs.Written.{AppendsText};
 
 use crate::status::{DONE, FAULTY, IO_FAILED, NO_MEMORY};
+use crate::telling::tell;
 use crate::tree::bits::{Bits, tree_text_with};
 use crate::tree::fault::TreeFault;
 use cid::Digest;
@@ -45,12 +46,12 @@ fn write_listing<D: Digest, R: Read, W: Write>(
     out.flush().map_err(|_| TreeFault::WriteFailed)
 }
 
-/// The status of a fault, and a line on standard error. Where that can't be written there is nobody to tell.
-pub(crate) fn failed<X: Write>(fault: TreeFault, err: &mut X) -> u8
+/// Tells a fault, and answers its status.
+fn failed<X: Write>(fault: TreeFault, err: &mut X) -> u8
     ensures status { result ≡ status_of fault }
     ensures nothing { (result ≡ 1) ⊎ (result ≡ 2) → may_have_written fault ≡ false }
 {
-    let _ = writeln!(err, "msthost: {fault}");
+    tell(&fault, err);
     match fault {
         TreeFault::Line { .. } | TreeFault::Clash => FAULTY,
         TreeFault::NoMemory => NO_MEMORY,

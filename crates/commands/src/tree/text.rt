@@ -58,7 +58,8 @@ pub fn tree_text<D: Digest, const B: u8, A: Allocator + Clone, R: Read, W: Write
 {
     let bytes = read_all(alloc.clone()?, input)?;
     let built = tree_of_input::<D, B, A>(alloc, &bytes)?;
-    write_tree(out, built.root, &built.blocks)
+    write_tree(out, built.root, &built.blocks)?;
+    Ok(())
 }
 
 /// The tree of the map that the lines leave.

@@ -15,15 +15,15 @@ next_line seen write xs i x b lt e f =
     ∙ ap (λ z. write z ++ flat_map write (map seen (drop (suc i) xs))) (sym f)
     ∙ ap (λ j. write b ++ flat_map write (map seen (drop j xs))) (sym (add-one i))
 
-pub returns-in_err-write_block-clause-written : goal.returns-in_err-write_block-clause-written
-returns-in_err-write_block-clause-written g c =
+pub returns-in_err-write_block : goal.returns-in_err-write_block
+returns-in_err-write_block g c =
     let o = g.W.Write.contents c.args.out.now in
     let o1 = g.W.Write.contents c.loop-block.out in
     let o2 = g.W.Write.contents c.write_block.new.out in
     let write = block_line g.D.Digest.digest_of in
     stops o o1 o2 _ _ (write c.deref.result.now) _ c.from_residual.result c.loop-block.invariant
     (next_line arc_value write c.args.blocks.now c.loop-block.block-index c.block-item.result c.deref.result.now c.loop-block-test.true c.block-item.is c.deref.ensures)
-    c.from_residual.ensures.0 c.in_err-write_block.ensures.written
+    c.from_residual.ensures.0 c.in_err-write_block.ensures
 
 pub loop-block-preserved : goal.loop-block-preserved
 loop-block-preserved g c =
@@ -33,4 +33,4 @@ loop-block-preserved g c =
     let write = block_line g.D.Digest.digest_of in
     leaves-less o o1 o2 _ _ (write c.deref.result.now) _ c.loop-block.invariant
     (next_line arc_value write c.args.blocks.now c.loop-block.block-index c.block-item.result c.deref.result.now c.loop-block-test.true c.block-item.is c.deref.ensures)
-    c.in_ok-write_block.ensures.written
+    c.in_ok-write_block.ensures
