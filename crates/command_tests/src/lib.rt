@@ -1,0 +1,14 @@
+//! What the commands do, by their values. Where the digest is SHA-256 they come from the AT Protocol's interoperability
+//! tests and from a program in another language (examples/reference.py), and not from the commands.
+#![tactic(auto)]
+
+#[cfg(test)]
+mod faults;
+#[cfg(test)]
+mod listings;
+#[cfg(test)]
+mod memory;
+#[cfg(test)]
+mod running;
+#[cfg(test)]
+mod streams;

@@ -1,0 +1,73 @@
+//! Running a command over memory, and what came of it.
+use cid::Digest;
+use commands::{run_words, run_words_with};
+use std::alloc::Global;
+use std::io::Read;
+use std::test::Fail;
+
+/// The command line of `tree`.
+pub(crate) const TREE: [&str; 2] = ["msthost", "tree"];
+
+/// The text of the CID of the empty tree's node, which serves as the CID of a record too.
+pub(crate) const EMPTY: &str = "bafyreie5737gdxlw5i64vzichcalba3z2v5n6icifvx5xytvske7mr3hpm";
+
+/// How a command ended, and what it wrote.
+#[derive(Drop)]
+pub(crate) struct Ended {
+    pub(crate) status: u8,
+    pub(crate) out: Vec<u8>,
+    pub(crate) err: Vec<u8>,
+}
+
+impl Ended {
+    /// Whether it ended with this status, and wrote this and nothing else.
+    pub(crate) fn is(&self, status: u8, out: &[u8], err: &str) -> bool {
+        self.status == status && self.out.as_slice() == out && self.err.as_slice() == err.as_bytes()
+    }
+
+    /// Whether it listed a tree with this root, and told no fault.
+    pub(crate) fn lists(&self, root: &str) -> bool {
+        self.status == 0 && first_line(&self.out) == root.as_bytes() && self.err.is_empty()
+    }
+}
+
+/// Runs a command over an input in memory.
+pub(crate) fn run(alloc: Global, words: &[&str], input: &[u8]) -> Ended {
+    let mut input = input;
+    run_over(alloc, words, &mut input)
+}
+
+/// Runs a command over any reader.
+pub(crate) fn run_over<R: Read>(alloc: Global, words: &[&str], input: &mut R) -> Ended {
+    let mut out = Vec::new(alloc);
+    let mut err = Vec::new(alloc);
+    let status = run_words(alloc, words, input, &mut out, &mut err);
+    Ended { status, out, err }
+}
+
+/// Runs a command over an input in memory, under the digest `D`.
+pub(crate) fn run_with<D: Digest>(alloc: Global, words: &[&str], input: &[u8]) -> Ended {
+    let mut input = input;
+    let mut out = Vec::new(alloc);
+    let mut err = Vec::new(alloc);
+    let status = run_words_with::<D, _, _, _>(alloc, words, &mut input, &mut out, &mut err);
+    Ended { status, out, err }
+}
+
+/// These texts one after another, with `E` for the text of the CID above.
+pub(crate) fn joined(alloc: Global, parts: &[&str]) -> Result<Vec<u8>, Fail> {
+    let mut all = Vec::new(alloc);
+    for part in parts {
+        let part = if *part == "E" { EMPTY } else { *part };
+        all.extend_from_slice(part.as_bytes())?;
+    }
+    Ok(all)
+}
+
+/// The first line, without its end.
+fn first_line(text: &[u8]) -> &[u8] {
+    match text.iter().position(|byte| *byte == b'\n') {
+        Some(end) => &text[..end],
+        None => text,
+    }
+}

@@ -1,0 +1,72 @@
+//! The commands, over any reader and writers.
+ghost use Rattle.std.specs.Prelude.{◌≡◌, ◌≤◌, ◌⊎◌};
+ghost use Rattle.std.specs.Io.KnownBytes.{Keeps};
+
+use crate::command_line::{Request, request_of};
+use crate::status::{DONE, USAGE};
+use crate::telling::{no_memory, write_failed};
+use crate::tree;
+use cid::{Digest, Sha256};
+use clap::Error;
+use clap::error::ErrorKind;
+use std::alloc::Global;
+use std::io::{self, Read, Write};
+
+/// Does what the words ask for, of which the first is the program's name, under SHA-256, and answers the status.
+pub fn run_words<R: Read, W: Write, X: Write>(
+    alloc: Global,
+    words: &[&str],
+    input: &mut R,
+    out: &mut W,
+    err: &mut X,
+) -> u8
+    ensures status { result ≤ 4 }
+
+    // A faulty line, a clash and a wrong command line write nothing.
+    ensures nothing { (result ≡ 1) ⊎ (result ≡ 2) → Keeps (W.contents out.old) (W.contents out.new) }
+{
+    run_words_with::<Sha256, R, W, X>(alloc, words, input, out, err)
+}
+
+/// `run_words` under the digest `D`.
+pub fn run_words_with<D: Digest, R: Read, W: Write, X: Write>(
+    alloc: Global,
+    words: &[&str],
+    input: &mut R,
+    out: &mut W,
+    err: &mut X,
+) -> u8
+    ensures status { result ≤ 4 }
+
+    // A faulty line, a clash and a wrong command line write nothing.
+    ensures nothing { (result ≡ 1) ⊎ (result ≡ 2) → Keeps (W.contents out.old) (W.contents out.new) }
+{
+    match request_of(alloc, words) {
+        Ok(Request::Tree(bits)) => tree::run::<D, R, W, X>(bits, alloc, input, out, err),
+        Err(error) => show(&error, out, err),
+    }
+}
+
+/// Shows help and the version on standard output, and what is wrong with a command line on standard error.
+fn show<W: Write, X: Write>(error: &Error, out: &mut W, err: &mut X) -> u8
+    ensures status { result ≤ 4 }
+    ensures nothing { (result ≡ 1) ⊎ (result ≡ 2) → Keeps (W.contents out.old) (W.contents out.new) }
+{
+    if error.kind() == ErrorKind::OutOfMemory {
+        return no_memory(err);
+    }
+    if error.use_stderr() {
+        let _ = write!(err, "{error}");
+        return USAGE;
+    }
+    match print(error, out) {
+        Ok(()) => DONE,
+        Err(_) => write_failed(err),
+    }
+}
+
+/// Writes the text for the user, to the writer's end.
+fn print<W: Write>(text: &Error, out: &mut W) -> io::Result<()> {
+    write!(out, "{text}")?;
+    out.flush()
+}
