@@ -81,6 +81,18 @@ module _ (digest : List ℕ → List ℕ) (old new made gone read : List (List �
       one a b (omega arith) (omega arith) c)
       (omega arith)
 
+  -- what is made and wasn't read stands among the new blocks once more than among the old ones
+  apart : ((b : List ℕ) → count b new ≤ 1) → (b : List ℕ) → Contains (add_of digest read made) b → Contains old b → ⊥
+  apart most b c o =
+      let u = unread b (counted-contains b (add_of digest read made) c) in
+      let m : 0 < count b made = u.0 in
+      let r : count b read ≡ 0 = u.1 in
+      let g = gone-none b (count b gone) refl r in
+      let k = counted-contains b old o in
+      let e = known.even b in
+      let n = most b in
+      absurd (omega arith)
+
   none-old : (b : List ℕ) (k : ℕ) → count b old ≡ k → (Contains old b → ⊥) → k ≡ 0
   none-old b zero e n = refl
   none-old b (suc k) e n = absurd (n (contains-counted b old (omega arith)))
@@ -170,4 +182,5 @@ module _ (digest : List ℕ → List ℕ) (old new made gone read : List (List �
     dropped = λ c. (dropped-is c, dropped-in c);
     drop_once = λ c. let l = known.gone_once c in let k = filter-fewer not_made c (map (cid digest) gone) in
         omega arith;
+    apart = apart;
   }

@@ -50,4 +50,10 @@ pub mod DeleteTheorems
 pub mod Lawful
 pub mod LawfulDeletes
 pub mod RecordTheorems
+-- ---- how often a repository's blocks are used
+pub mod RecordCounts
+pub mod Using
+pub mod BlockSources
+pub mod Writing
+pub mod StagedBatches
 pub mod Examples

@@ -45,3 +45,5 @@ pub record AreChanges (digest : List ℕ → List ℕ) (old new read add drop : 
   pub dropped : (c : List ℕ)
       → Contains drop c ↔ ((b : List ℕ) × Contains old b × (¬ Contains new b) × (cid digest b ≡ c))
   pub drop_once : (c : List ℕ) → count c drop ≤ 1
+  -- where no new block stands twice, no added block is an old one, also none that stays
+  pub apart : ((b : List ℕ) → count b new ≤ 1) → (b : List ℕ) → Contains add b → ¬ Contains old b

@@ -5,3 +5,6 @@ pub mod Edits
 pub mod Puts
 pub mod Deletes
 pub mod Records
+pub mod Sources
+pub mod Uses
+pub mod Staging

@@ -38,9 +38,17 @@ shape_of_bytes bytes = shape_of_reading (read_node bytes)
 abbrev pub shown_by : (List ℕ → Option (List ℕ)) → List ℕ → Option Shape
 shown_by gives c = option_and_then shape_of_bytes (gives c)
 
--- the source has each node of the tree of these pairs under its CID
+-- the source has each of these blocks under its CID
+abbrev pub HasBlocks : (List ℕ → List ℕ) → (List ℕ → Option (List ℕ)) → List (List ℕ) → Type 0
+HasBlocks digest gives bs = (b : List ℕ) → Contains bs b → gives (cid digest b) ≡ Some b
+
+-- and each node of the tree of these pairs
 abbrev pub HasNodes : (List ℕ → List ℕ) → ℕ → (List ℕ → Option (List ℕ)) → List Pair → Type 0
-HasNodes digest bits gives es = (b : List ℕ) → Contains (nodes digest bits es) b → gives (cid digest b) ≡ Some b
+HasNodes digest bits gives es = HasBlocks digest gives (nodes digest bits es)
+
+-- what the first source gives, the second gives too
+abbrev pub Extends : (List ℕ → Option (List ℕ)) → (List ℕ → Option (List ℕ)) → Type 0
+Extends gives more = (c b : List ℕ) → gives c ≡ Some b → more c ≡ Some b
 
 -- ---- a step of a look-up
 

@@ -11,7 +11,7 @@ use Rattle.spec.proofs.Taking.{bind_ok}
 abbrev Records : Type 0
 Records = List (List ℕ × List ℕ)
 
-fold-append : (m : Records) (ws vs : List Write) → fold after_write m (ws ++ vs) ≡ fold after_write (fold after_write m ws) vs
+pub fold-append : (m : Records) (ws vs : List Write) → fold after_write m (ws ++ vs) ≡ fold after_write (fold after_write m ws) vs
 fold-append m [] vs = refl
 fold-append m (w ∷ ws) vs = fold-append (after_write m w) ws vs
 

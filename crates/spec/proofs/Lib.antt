@@ -27,5 +27,11 @@ pub mod VerifyLaws
 -- Writes.
 pub mod WriteLaws
 pub mod BatchLaws
+pub mod RecordPairs
+pub mod BatchSteps
+-- Repositories.
+pub mod RepositoryBlocks
+pub mod StampLaws
+pub mod StateLaws
 -- Worked rows.
 mod rows

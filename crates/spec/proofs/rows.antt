@@ -4,5 +4,7 @@ mod Layers
 mod Trees
 mod Nodes
 mod Repositories
+mod Batches
+mod Stamps
 mod Cids
 mod Values

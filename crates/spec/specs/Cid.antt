@@ -51,7 +51,7 @@ text c = 98 ∷ base32 c
 abbrev pub eight_bits : List ℕ → ℕ → ℕ
 eight_bits values j = (slice_index values (8 * j / 5) * 1024 + slice_index values (8 * j / 5 + 1) * 32 + slice_index values (8 * j / 5 + 2)) / 2 ^ (7 - 8 * j % 5) % 256
 
--- what is wrong with a CID's text (own names)
+-- what is wrong with a CID's text (the names and the order are a choice of this project)
 pub data CidFault : Type 0 where
   BadLength : CidFault
   BadPrefix : CidFault
@@ -84,7 +84,7 @@ cid_of_text s = do
   profile_ok ← ensure (bytes_eq (take 4 (bytes_of_text s)) prefix) NotThisProfile
   Ok (bytes_of_text s)
 
--- ---- CIDs in links (own: version 0, and version 1 with any codec and hash)
+-- ---- CIDs in links (a choice of this project: version 0, and version 1 with any codec and hash)
 
 -- a number at the front, and then whether what follows it passes
 abbrev pub then_number : Option (ℕ × List ℕ) → (ℕ → List ℕ → Bool) → Bool

@@ -87,7 +87,8 @@ is_next_key (Some before) key = is_key_below before key
 abbrev pub fits_length : List ℕ → Bool
 fits_length bytes = nat_lt (length bytes) (2 ^ 64)
 
--- whole numbers of 64 bits with a sign (own: DAG-CBOR itself goes from -2 ^ 64 to 2 ^ 64 - 1)
+-- whole numbers of 64 bits with a sign (a choice of this project: DAG-CBOR itself goes from -2 ^ 64 to
+-- 2 ^ 64 - 1)
 abbrev pub is_signed_64 : ℤ → Bool
 is_signed_64 (pos n) = nat_lt n (2 ^ 63)
 is_signed_64 (negsuc n) = nat_lt n (2 ^ 63)
@@ -115,11 +116,11 @@ abbrev mutual
   are_entries_within levels before (EntryThen key v es) =
       is_next_key before key && fits_length key && is_utf8 key && is_lawful_within levels v && are_entries_within levels (Some key) es
 
--- at most 64 levels (own)
+-- at most 64 levels (this bound is a choice of this project)
 abbrev pub is_lawful : Value → Bool
 is_lawful v = is_lawful_within 64 v
 
--- ---- reading, from left to right, with the first fault (the order of the faults is own)
+-- ---- reading, from left to right, with the first fault (the order of the faults is a choice of this project)
 
 -- what is read at the front, and the bytes after it
 abbrev pub CborReader : Type 0 → Type 0

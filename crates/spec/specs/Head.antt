@@ -3,7 +3,7 @@ use Rattle.std.specs.Prelude.{ℕ, ◌+◌, ◌-◌, ◌*◌, ◌/◌, ◌%◌, 
 use Rattle.std.specs.Int.{Width, w8, w16, w32, w64, byte_len, to_be_bytes, from_be_bytes}
 use Rattle.spec.specs.Reading.{◌>>=◌, ensure, front}
 
--- what can be wrong with an encoded value (the names are own)
+-- what can be wrong with an encoded value (the names are a choice of this project)
 pub data CborFault : Type 0 where
   Truncated : CborFault
   LongHead : CborFault

@@ -9,4 +9,7 @@ pub mod Clashes
 pub mod Roots
 pub mod Once
 pub mod Writes
+pub mod Blocks
+pub mod Commits
+pub mod States
 pub mod Verifier

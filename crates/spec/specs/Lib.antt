@@ -12,4 +12,7 @@ pub mod Car
 pub mod Proof
 pub mod Keys
 pub mod Writes
+pub mod Stamps
+pub mod Commits
+pub mod States
 pub mod Laws

@@ -50,7 +50,7 @@ node_spelling left es =
 
 -- ---- the grammar of a node by itself: it knows no tree and no layer
 
--- 1 to 1,024 bytes (own, for a node by itself; a repository's keys are narrower)
+-- 1 to 1,024 bytes (a choice of this project, for a node by itself; a repository's keys are narrower)
 abbrev pub is_key : List ℕ → Bool
 is_key key = nat_lt 0 (length key) && nat_le (length key) 1024
 
@@ -77,7 +77,7 @@ are_links (e ∷ es) = is_own_cid e.value && is_own_cid_or_none e.tree && are_li
 abbrev pub is_node : Option (List ℕ) → List Entry → Bool
 is_node left es = nat_lt (length es) (2 ^ 64) && are_keys_after [] es && are_links es && is_own_cid_or_none left
 
--- ---- reading a node, with the first fault (own names)
+-- ---- reading a node, with the first fault (the names and the order are a choice of this project)
 
 -- bytes that are no node in shape; a prefix that is not the greatest common one; keys that don't ascend; a key of no bytes or too many
 pub data NodeFault : Type 0 where

@@ -1,4 +1,4 @@
--- Reading from the front, with the first fault that is met (own).
+-- Reading from the front, with the first fault that is met.
 use Rattle.std.specs.Prelude.{◌≡◌, ℕ, ◌<◌, Bool, List, length, take, drop, slice_index, nat_lt, Option, Some, None, Result, Ok, Err, if◌then◌else◌}
 
 -- each of the numbers is a byte

@@ -1,5 +1,8 @@
--- Writes to a repository, and the records that they leave (AT Protocol repository v3, records and paths).
-use Rattle.std.specs.Prelude.{ℕ, ◌+◌, Bool, true, false, ◌&&◌, not, List, [], ◌∷◌, length, nat_lt, nat_le, fold, is_some, Result, Ok, Err, Option, Some, None, if◌then◌else◌}
+-- Writes to a repository, and the records that they leave (AT Protocol repository v3, records and
+-- paths).
+use Rattle.std.specs.Prelude.{ℕ, ◌+◌, Bool, true, false, ◌&&◌, not, List, [], ◌∷◌, length, nat_lt}
+use Rattle.std.specs.Prelude.{nat_le, fold, is_some, Result, Ok, Err, Option, Some, None}
+use Rattle.std.specs.Prelude.{if◌then◌else◌}
 use Rattle.std.specs.Str.{bytes_eq}
 use Rattle.std.specs.Cmp.Lexicographic.{slice_cmp}
 use Rattle.std.specs.Ordering.{nat_cmp}
@@ -17,6 +20,20 @@ pub data Write : Type 0 where
   Update : (key record_bytes : List ℕ) → Write
   Delete : (key : List ℕ) → Write
 
+-- the key that a write names
+abbrev pub key_of : Write → List ℕ
+key_of (Put key bytes) = key
+key_of (Create key bytes) = key
+key_of (Update key bytes) = key
+key_of (Delete key) = key
+
+-- the record that it leaves under that key
+abbrev pub record_of : Write → Option (List ℕ)
+record_of (Put key bytes) = Some bytes
+record_of (Create key bytes) = Some bytes
+record_of (Update key bytes) = Some bytes
+record_of (Delete key) = None
+
 -- the map with this record under the key
 abbrev pub with_key : List (List ℕ × List ℕ) → List ℕ → List ℕ → List (List ℕ × List ℕ)
 with_key m key bytes = put (slice_cmp nat_cmp) key bytes m
@@ -25,12 +42,15 @@ with_key m key bytes = put (slice_cmp nat_cmp) key bytes m
 abbrev pub without_key : List (List ℕ × List ℕ) → List ℕ → List (List ℕ × List ℕ)
 without_key m key = where_key (slice_cmp nat_cmp) (λ k. not (bytes_eq key k)) m
 
+-- the one or the other
+abbrev pub with_or_without : List (List ℕ × List ℕ) → List ℕ → Option (List ℕ)
+    → List (List ℕ × List ℕ)
+with_or_without m key None = without_key m key
+with_or_without m key (Some bytes) = with_key m key bytes
+
 -- the record map after a write
 abbrev pub after_write : List (List ℕ × List ℕ) → Write → List (List ℕ × List ℕ)
-after_write m (Put key bytes) = with_key m key bytes
-after_write m (Create key bytes) = with_key m key bytes
-after_write m (Update key bytes) = with_key m key bytes
-after_write m (Delete key) = without_key m key
+after_write m w = with_or_without m (key_of w) (record_of w)
 
 -- the record map that writes leave
 abbrev pub leaves : List Write → List (List ℕ × List ℕ)
@@ -38,17 +58,7 @@ leaves ws = fold after_write [] ws
 
 -- the write is to this key
 abbrev pub names : List ℕ → Write → Bool
-names key (Put k bytes) = bytes_eq key k
-names key (Create k bytes) = bytes_eq key k
-names key (Update k bytes) = bytes_eq key k
-names key (Delete k) = bytes_eq key k
-
--- the record that a write leaves under its key
-abbrev pub record_of : Write → Option (List ℕ)
-record_of (Put k bytes) = Some bytes
-record_of (Create k bytes) = Some bytes
-record_of (Update k bytes) = Some bytes
-record_of (Delete k) = None
+names key w = bytes_eq key (key_of w)
 
 -- the record of a key by the last write that names it, and before where none does
 abbrev pub last_record : List ℕ → Option (List ℕ) → List Write → Option (List ℕ)
@@ -56,7 +66,8 @@ last_record key before ws = fold (λ o w. if names key w then record_of w else o
 
 -- ---- which writes are taken
 
--- why a write isn't taken (own): no room for more writes; the key; the record's size, spelling or kind; whether the key is there
+-- why a write isn't taken (the names are a choice of this project): no room for more writes; its
+-- key; its record's size, spelling or kind; whether its key is there
 pub data WriteFault : Type 0 where
   WritesFull : WriteFault
   BadKey : WriteFault
@@ -76,7 +87,8 @@ abbrev pub or_bad_record : Result Value CborFault → Result Value WriteFault
 or_bad_record (Ok v) = Ok v
 or_bad_record (Err f) = Err (BadRecord f)
 
--- a record: one map (AT Protocol data model), of at most 1,048,576 bytes (own)
+-- a record: one map (AT Protocol data model), of at most 1,048,576 bytes (this bound is a choice of
+-- this project)
 unfoldable pub record_test : List ℕ → Result (Unit {0}) WriteFault
 record_test bytes = do
   size_ok ← ensure (nat_le (length bytes) 1048576) RecordSize
@@ -87,24 +99,28 @@ record_test bytes = do
 abbrev pub has_key : List (List ℕ × List ℕ) → List ℕ → Bool
 has_key m key = is_some (find (slice_cmp nat_cmp) key m)
 
--- the first test that a write fails on the map before it, but for the limit
-abbrev pub write_test : List (List ℕ × List ℕ) → Write → Result (Unit {0}) WriteFault
-write_test m (Put key bytes) = do
+-- the first test that a write fails, by whether there is a record under its key, but for the limit
+abbrev pub test_when : Bool → Write → Result (Unit {0}) WriteFault
+test_when there (Put key bytes) = do
   key_ok ← ensure (is_repository_key key) BadKey
   record_test bytes
-write_test m (Create key bytes) = do
+test_when there (Create key bytes) = do
   key_ok ← ensure (is_repository_key key) BadKey
   record_ok ← record_test bytes
-  ensure (not (has_key m key)) KeyExists
-write_test m (Update key bytes) = do
+  ensure (not there) KeyExists
+test_when there (Update key bytes) = do
   key_ok ← ensure (is_repository_key key) BadKey
   record_ok ← record_test bytes
-  ensure (has_key m key) NoSuchKey
-write_test m (Delete key) = do
+  ensure there NoSuchKey
+test_when there (Delete key) = do
   key_ok ← ensure (is_repository_key key) BadKey
-  ensure (has_key m key) NoSuchKey
+  ensure there NoSuchKey
 
--- the same with the limit first, after so many writes (own)
+-- the same on the map before the write
+abbrev pub write_test : List (List ℕ × List ℕ) → Write → Result (Unit {0}) WriteFault
+write_test m w = test_when (has_key m (key_of w)) w
+
+-- the same with the limit first, after so many writes (this order is a choice of this project)
 abbrev pub limited_test : ℕ → ℕ → List (List ℕ × List ℕ) → Write → Result (Unit {0}) WriteFault
 limited_test limit count m w = do
   room ← ensure (nat_lt count limit) WritesFull
@@ -116,7 +132,8 @@ at_number i (Ok ok) = Ok ok
 at_number i (Err f) = Err (i, f)
 
 -- from a write of this number on, after so many writes in all and on the map that they leave
-abbrev pub batch_test_from : ℕ → ℕ → ℕ → List (List ℕ × List ℕ) → List Write → Result (Unit {0}) (ℕ × WriteFault)
+abbrev pub batch_test_from : ℕ → ℕ → ℕ → List (List ℕ × List ℕ) → List Write
+    → Result (Unit {0}) (ℕ × WriteFault)
 batch_test_from number limit count m [] = Ok tt
 batch_test_from number limit count m (w ∷ ws) = do
   ok ← at_number number (limited_test limit count m w)

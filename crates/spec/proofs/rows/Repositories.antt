@@ -1,19 +1,14 @@
 -- Records that writes leave, blocks of repositories, and their files.
-use Rattle.std.specs.Prelude.{◌≡◌, ℕ, List, [], ◌∷◌, ◌++◌, map, length, codes, replicate, true, false, Ok, Err, None}
+use Rattle.std.specs.Prelude.{◌≡◌, ℕ, List, [], ◌∷◌, ◌++◌, map, length, codes, Ok, Err, None}
 use Rattle.std.proofs.Common.{refl}
-use Rattle.std.specs.List.{list_all, list_any}
-use Rattle.std.specs.Str.{is_utf8, chars}
-use Rattle.std.specs.Char.{encode_utf8}
 use Rattle.std.specs.Int.Count.{count_leading_zeros}
-use Rattle.spec.specs.Head.{LongHead, head_at}
-use Rattle.spec.specs.DagCbor.{value_at, read}
+use Rattle.spec.specs.Head.{head_at}
 use Rattle.spec.specs.Cid.{cid}
 use Rattle.spec.specs.NodeFormat.{entry_at, entries_at, read_node}
 use Rattle.spec.specs.Blocks.{firsts, blocks, pairs, repository_root}
 use Rattle.spec.specs.Car.{car_of}
 use Rattle.spec.specs.Proof.{path, verified, verified_within, BlockMissing, KeyLength}
-use Rattle.spec.specs.Keys.{is_repository_key}
-use Rattle.spec.specs.Writes.{Write, Put, Create, Delete, leaves, batch_test, record_test, WritesFull, NotAMap, KeyExists, NoSuchKey, BadRecord}
+use Rattle.spec.specs.Writes.{Write, Put, Delete, leaves}
 use Rattle.spec.proofs.rows.Written.{hex, by_last_digit}
 
 abbrev empty_node : List ℕ
@@ -70,24 +65,3 @@ proofs_of_an_empty_tree = (refl, refl, refl)
 proof_of_a_key : (map length (path by_last_digit 2 (pairs by_last_digit (leaves three)) (codes "a/q2")) ≡ 144 ∷ []) × (map length (path by_last_digit 2 (pairs by_last_digit (leaves three)) (codes "a/q3")) ≡ 144 ∷ 47 ∷ 64 ∷ [])
 unfolding count_leading_zeros cid
 proof_of_a_key = (refl, refl)
-
--- ---- keys
-
-keys_that_serve : list_all is_repository_key (codes "a/..." ∷ codes "a.b-c/x:~_" ∷ (replicate 317 97 ++ (47 ∷ replicate 512 97)) ∷ []) ≡ true
-keys_that_serve = refl
-
--- no slash; no record key; no collection; two slashes; one dot and two; a letter that a collection may not have; one letter too many in either part
-keys_that_do_not : list_any is_repository_key (codes "a" ∷ codes "a/" ∷ codes "/b" ∷ codes "a/b/c" ∷ codes "a/." ∷ codes "a/.." ∷ codes "a_b/c" ∷ (replicate 318 97 ++ codes "/a") ∷ (codes "a/" ++ replicate 513 97) ∷ []) ≡ false
-keys_that_do_not = refl
-
--- ---- batches
-
-abbrev put_b0 : Write
-put_b0 = Put (codes "a/b0") (hex "a0")
-
-refused_batches : (batch_test 10 [] (Delete (codes "a/b0") ∷ []) ≡ Err (0, NoSuchKey)) × (batch_test 10 [] (put_b0 ∷ Delete (codes "a/c0") ∷ []) ≡ Err (1, NoSuchKey))
-    × (batch_test 10 (put_b0 ∷ []) (Create (codes "a/b0") (hex "a0") ∷ []) ≡ Err (0, KeyExists)) × (batch_test 10 [] (put_b0 ∷ Create (codes "a/b0") (hex "a0") ∷ []) ≡ Err (1, KeyExists))
-    × (batch_test 1 [] (put_b0 ∷ put_b0 ∷ []) ≡ Err (1, WritesFull))
-    × (batch_test 10 [] (Put (codes "a/b0") (hex "80") ∷ []) ≡ Err (0, NotAMap)) × (batch_test 10 [] (Put (codes "a/b0") (hex "b800") ∷ []) ≡ Err (0, BadRecord LongHead))
-unfolding record_test read value_at head_at is_utf8 chars encode_utf8
-refused_batches = (refl, refl, refl, refl, refl, refl, refl)

@@ -1,4 +1,4 @@
--- Laws of paths and of verifiers (own). They hold of each list of pairs whose tree has the root that a verifier is told.
+-- Laws of paths and of verifiers. They hold of each list of pairs whose tree has the root that a verifier is told.
 use Rattle.std.specs.Prelude.{◌≡◌, Contains, true, Option, Ok, ℕ, suc, ◌/◌, ◌≤◌, List, length}
 use Rattle.spec.specs.Layer.{layer}
 use Rattle.spec.specs.Tree.{Pair, top_layer}

@@ -1,4 +1,4 @@
-//! A verifier's answer is right, and comes wherever the path is given (own).
+//! A verifier's answer is right, and comes wherever the path is given.
 ghost use Rattle.spec.specs.Laws.Verifier.{PathIsOfTree, PathIsShort, LayersAreFew, VerifierIsSound, VerifierIsComplete, PathVerifies};
 
 /// Each block of a key's path is a node of the tree. A path has no more nodes than there are layers from the top one down

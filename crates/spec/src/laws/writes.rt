@@ -1,6 +1,6 @@
 //! The records that writes leave, and the batches of writes that are taken.
 
-ghost use Rattle.spec.specs.Laws.Writes.{LastWriteDecides, KeysAscend, OrderIsNoMatter, LawfulIsEachOnThoseBefore, BatchPasses, BatchFails, BatchKeepsLawful};
+ghost use Rattle.spec.specs.Laws.Writes.{LastWriteDecides, KeysAscend, OrderIsNoMatter, LawfulIsEachOnThoseBefore, BatchPasses, BatchFails, BatchKeepsLawful, LeavesGoOn, TestIsByValue, BatchGoesOn, BatchEnds};
 
 /// A key has the record of the last write that names it, and none where that is a delete or there is no such write.
 pub fn last_write_decides()
@@ -35,4 +35,24 @@ pub fn batch_fails()
 /// A lawful list and a batch that passes on it are lawful together.
 pub fn batch_keeps_lawful()
     ensures { BatchKeepsLawful }
+{}
+
+/// One more write changes the records that those before it leave.
+pub fn leaves_go_on()
+    ensures { LeavesGoOn }
+{}
+
+/// A write is tested by whether its key has a value in the pairs of the tree.
+pub fn test_is_by_value()
+    ensures { TestIsByValue }
+{}
+
+/// A batch that passes still passes with one more write that passes after it.
+pub fn batch_goes_on()
+    ensures { BatchGoesOn }
+{}
+
+/// After writes that pass, a batch is refused at the first that doesn't.
+pub fn batch_ends()
+    ensures { BatchEnds }
 {}
