@@ -33,8 +33,8 @@ count_without n w [] ne = refl
 count_without n w (a ∷ l) ne = dite (ℕ_discrete a.writer n)
     (λ e. ap (count_of w) (without_hit n a l e) ∙ count_without n w l ne ∙ sym (count_miss w a l (λ q. ne (sym q ∙ e))))
     (λ other. ap (count_of w) (without_miss n a l other) ∙ dite (ℕ_discrete a.writer w)
-      (λ s. count_hit w a (without n l) s ∙ ap suc (count_without n w l ne) ∙ sym (count_hit w a l s))
-      (λ d. count_miss w a (without n l) d ∙ count_without n w l ne ∙ sym (count_miss w a l d)))
+    (λ s. count_hit w a (without n l) s ∙ ap suc (count_without n w l ne) ∙ sym (count_hit w a l s))
+    (λ d. count_miss w a (without n l) d ∙ count_without n w l ne ∙ sym (count_miss w a l d)))
 
 count_gone : (n : ℕ) (l : List Account) → count_of n (without n l) ≡ 0
 count_gone n [] = refl
@@ -85,7 +85,7 @@ pub own_one : (w : ℕ) (all : List Notice) (l : List Account) → Agree all l �
 own_one w all [] agree h = absurd (omega arith)
 own_one w all (a ∷ l) agree h = dite (ℕ_discrete a.writer w)
     (λ e.
-      let sent : a.sent ≡ of w all = agree 0 a (omega arith) ∙ ap (λ x. of x all) e in
-      let others = own_none w l (omega (arith, count_hit w a l e)) in
-      own_hit w a l e ∙ (λ i. account (e i) (sent i) ∷ others i))
+    let sent : a.sent ≡ of w all = agree 0 a (omega arith) ∙ ap (λ x. of x all) e in
+    let others = own_none w l (omega (arith, count_hit w a l e)) in
+    own_hit w a l e ∙ (λ i. account (e i) (sent i) ∷ others i))
     (λ ne. own_miss w a l ne ∙ own_one w all l (λ k d lt. agree (suc k) d (omega arith)) (omega (arith, count_miss w a l ne)))

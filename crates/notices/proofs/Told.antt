@@ -1,13 +1,15 @@
 -- The moves at a view that is known, and what they tell.
 use Rattle.std.proofs.Common.{◌≡◌, ℕ, ◌+◌, ◌<◌, true, List, [], ◌∷◌, ◌++◌, append-nil, length, Option, Some, None, Result, Ok, Err, sym, refl, ap, ◌∙◌, subst, arith}
-use Rattle.std.specs.Prelude.{MatchOption, MatchResult}
+use Rattle.std.specs.Prelude.{All, MatchOption, MatchResult}
+use Rattle.std.specs.List.{range_with_len}
+use Rattle.std.proofs.lemmas.List.Elements.{All-map}
 use Rattle.crossbeam_queue.specs.Fifo.{Pushes, Pops, Forks, Merges, Learns, Held}
 use Rattle.notices.specs.declared.notice.Notice.{Notice}
 use Rattle.notices.specs.declared.rule.View.{View}
 use Rattle.notices.specs.Rule.{account, sender, feeder, nobody, Agree, Kept}
 use Rattle.notices.specs.Steps.{add, HasPut, EndsWith, HasTaken, Balances, AreDistinct}
-use Rattle.notices.specs.Views.{QueueId, first_sent, pass_view, feed_view, IsSender, IsFeed, FeedView, sent_one, received_one, IsPut, IsTake, WasEmpty, HaveAllJoined, HasEachOnce, IsAllReceived}
-use Rattle.notices.proofs.Moves.{pushes, ends, pops, balances, distinct, forks, merges}
+use Rattle.notices.specs.Views.{QueueId, PassView, first_sent, fresh, fresh_passes, pass_view, feed_view, IsSender, IsFeed, FeedView, IsPut, IsTake, WasEmpty, HaveAllJoined, HasEachOnce, IsAllReceived}
+use Rattle.notices.proofs.Moves.{pushes, ends, pops, balances, forks, merges}
 use Rattle.notices.proofs.Once.{each_once, own_one}
 
 length_zero : {T : Type 0} (l : List T) → length l ≡ 0 → l ≡ []
@@ -78,3 +80,7 @@ take_told q q' v v' None same h =
     let now : feed_view q' v' ≡ f = λ i. feed_view (same i) (h.0 i) in
     (now, subst WasEmpty (sym now) empty, subst (λ g. HaveAllJoined g → IsAllReceived g) (sym now) (all_told f empty h.1.2.1))
 take_told q q' v v' (Some n) same h = ((λ i. feed_view (same i) (h.0 i)), subst (λ (m : ℕ). n.writer < m) (sym (ap (λ (x : View). x.made) h.0)) h.2)
+
+-- each pass of a queue that was opened is of this queue, and has sent nothing
+pub fresh_all : (q : QueueId) (writers : ℕ) → All (λ p. (p.queue_id ≡ q) × (p.sent ≡ [])) (fresh_passes q writers)
+fresh_all q writers = All-map (λ (p : PassView). (p.queue_id ≡ q) × (p.sent ≡ [])) (fresh q) (range_with_len 0 writers) (λ k d lt. (refl, refl))

@@ -7,7 +7,7 @@ use crossbeam_queue::protocol::{Join, Lesson, Outcome, Protocol, Split};
 use crossbeam_queue::{Pass, RuledArrayQueue};
 use std::collections::LinkedList;
 
-/// What one writer sent in all, in order. It stands in contracts alone.
+/// What one writer sent in all, in order.
 pub struct Account {
     pub writer: u32,
     pub sent: LinkedList<Notice>,

@@ -1,4 +1,4 @@
-use Rattle.std.proofs.Common.{◌≡◌, sym, subst}
+use Rattle.std.proofs.Common.{sym, subst}
 use Rattle.crossbeam_queue.specs.Passes.{view}
 use Rattle.notices.specs.declared.rule.View.{View}
 use Rattle.notices.specs.Steps.{AreDistinct}

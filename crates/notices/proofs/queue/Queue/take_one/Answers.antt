@@ -1,4 +1,4 @@
-use Rattle.std.proofs.Common.{◌≡◌, subst}
+use Rattle.std.proofs.Common.{subst}
 use Rattle.crossbeam_queue.specs.Passes.{view}
 use Rattle.notices.specs.Views.{feed_view, FeedView, IsTake}
 use Rattle.notices.proofs.Told.{pops_as, take_told}
