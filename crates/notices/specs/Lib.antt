@@ -1,0 +1,4 @@
+pub mod Numbering
+pub mod Rule
+pub mod Steps
+pub mod Views
