@@ -1,17 +1,14 @@
 -- The pairs that lines leave: keys of 1 to 1,024 bytes that ascend strictly, each with a CID of the host's form.
-use Rattle.std.proofs.Common.{◌≡◌, ℕ, ◌+◌, Bool, true, false, ◌&&◌, T, List, [], ◌∷◌, ◌++◌, Ordering, Less, Equal, Greater, refl, sym, ap, subst, ◌∙◌}
+use Rattle.std.proofs.Common.{◌≡◌, ℕ, ◌+◌, Bool, true, false, ◌&&◌, T, List, [], ◌∷◌, ◌++◌, Ordering, Less, Equal, Greater, refl, ap, subst}
 use Rattle.std.specs.Prelude.{fold, Result, Ok, Err}
 use Rattle.std.specs.List.{list_all, before_last, after_last, list_any}
-use Rattle.std.specs.Ordering.{nat_cmp}
-use Rattle.std.specs.Cmp.Lexicographic.{slice_cmp}
 use Rattle.std.specs.FinMap.{put, is_sorted, slice_cmp-IsAntisymmetric, nat_cmp-IsAntisymmetric}
-use Rattle.spec.specs.Reading.{◌>>=◌, ensure}
 use Rattle.spec.specs.Tree.{Pair}
 use Rattle.spec.specs.Cid.{CidFault, is_own_cid, cid_of_text}
 use Rattle.spec.specs.NodeFormat.{is_key, is_ascending}
 use Rattle.spec.proofs.Taking.{bind_then, ensure_ok, ok_is}
 use Rattle.spec.proofs.CidTexts.{cid_of_text_takes}
-use Rattle.commands.specs.TreeText.{LineFault, TreeFault, BadLine, BadKey, BadCid, is_space, or_bad_cid, pair_of_line, at_line, pairs_on_line, pairs_of_lines, lines, last_of_each_key, map_of_input}
+use Rattle.commands.specs.TreeText.{LineFault, TreeFault, BadLine, BadKey, is_space, or_bad_cid, pair_of_line, at_line, pairs_on_line, pairs_of_lines, lines, last_of_each_key, map_of_input}
 use Rattle.commands.proofs.LastLines.{order, is_sorted-last_of_each_key}
 
 -- ---- a line's pair

@@ -1,10 +1,10 @@
 -- The text for an input, from its tree.
-use Rattle.std.proofs.Common.{◌≡◌, ℕ, true, false, List, ◌∷◌, ◌++◌, Some, None, refl, sym, ap, subst, ◌∙◌}
+use Rattle.std.proofs.Common.{◌≡◌, ℕ, true, List, Some, None, refl, sym, ap, subst, ◌∙◌}
 use Rattle.std.specs.Prelude.{Option, Result, Ok, Err, is_ok, IfSome, IfErr, OnErr, IsErrAnd}
-use Rattle.spec.specs.Reading.{◌>>=◌, ensure, Fails}
+use Rattle.spec.specs.Reading.{◌>>=◌, Fails}
 use Rattle.spec.specs.Cid.{cid}
 use Rattle.spec.specs.Tree.{Pair}
-use Rattle.spec.specs.Blocks.{IsClashFree, is_clash_free, nodes, root, firsts}
+use Rattle.spec.specs.Blocks.{IsClashFree, nodes, root, firsts}
 use Rattle.spec.specs.Laws.Clashes.{HasClash}
 use Rattle.spec.proofs.BlockLaws.{test-from_IsClashFree, test-from_HasClash}
 use Rattle.std.specs.Io.KnownBytes.{Appends}

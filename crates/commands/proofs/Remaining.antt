@@ -1,10 +1,10 @@
 -- Reading pairs line by line: what was read, and what is left to read.
-use Rattle.std.proofs.Common.{◌≡◌, ℕ, zero, suc, ◌+◌, ◌≤◌, List, [], ◌∷◌, ◌++◌, length, true, false, ◌==◌, eqb-true, refl, sym, ap, ◌∙◌, append_assoc, arith}
+use Rattle.std.proofs.Common.{◌≡◌, ℕ, ◌+◌, ◌≤◌, List, [], ◌∷◌, ◌++◌, length, true, false, ◌==◌, eqb-true, refl, sym, ap, ◌∙◌, append_assoc, arith}
 use Rattle.std.specs.Prelude.{Result, Ok, Err}
 use Rattle.std.proofs.lemmas.List.{append-nil}
 use Rattle.spec.specs.Reading.{◌>>=◌}
 use Rattle.spec.specs.Tree.{Pair}
-use Rattle.commands.specs.TreeText.{LineFault, TreeFault, Line, pair_of_line, at_line, pairs_on_line, pairs_of_lines}
+use Rattle.commands.specs.TreeText.{LineFault, TreeFault, Line, pair_of_line, at_line, pairs_of_lines}
 
 -- these pairs, and then those of a further reading
 abbrev pub onto : List Pair → Result (List Pair) TreeFault → Result (List Pair) TreeFault

@@ -1,8 +1,6 @@
-use Rattle.std.proofs.Common.{◌≡◌, rules, ap, sym, ◌∙◌, List, ℕ, Vec, map, reverse, subst}
+use Rattle.std.proofs.Common.{rules, ap, ◌∙◌, List, ℕ, Vec}
 use Rattle.std.specs.Prelude.{filter}
-use Rattle.std.specs.List.{dedup}
 use Rattle.std.specs.List.Sorted.{ties}
-use Rattle.std.specs.Ordering.{is_lt}
 use Rattle.std.specs.Cmp.Lexicographic.{nat_list_cmp_total}
 use Rattle.std.proofs.lemmas.List.Sorted.{ranks_by, answers_always}
 use Rattle.std.proofs.lemmas.Fn.{dedup_same}

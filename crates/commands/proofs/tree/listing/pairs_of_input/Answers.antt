@@ -1,9 +1,7 @@
-use Rattle.std.proofs.lemmas.List.{map-append}
-use Rattle.std.proofs.Common.{◌≡◌, rules, ◌+◌, ◌++◌, [], ◌∷◌, length, map, sym, ap, ◌∙◌, arith}
-use Rattle.std.specs.Prelude.{Ok, Err}
-use Rattle.commands.specs.Pairs.{pair_of, pairs_of}
-use Rattle.commands.specs.TreeText.{lines, pairs_of_lines, pair_of_line}
-use Rattle.commands.proofs.Remaining.{Remains, onto, onto-nothing, onto-empty, onto-pair, onto-fault, onto-done}
+use Rattle.std.proofs.Common.{rules, ◌+◌, length, sym, ap, ◌∙◌, arith}
+use Rattle.commands.specs.Pairs.{pairs_of}
+use Rattle.commands.specs.TreeText.{lines, pairs_of_lines}
+use Rattle.commands.proofs.Remaining.{onto, onto-nothing, onto-empty, onto-pair, onto-fault, onto-done}
 use Rattle.commands.proofs.tree.listing.pairs_of_input.Goals as goal
 
 pub loop-line-init : goal.loop-line-init

@@ -1,7 +1,6 @@
-use Rattle.std.proofs.Common.{◌≡◌, ℕ, List, [], ◌∷◌, ◌++◌, map, refl, sym, ap, subst, ◌∙◌, append_assoc}
+use Rattle.std.proofs.Common.{◌≡◌, ℕ, List, [], ◌∷◌, ◌++◌, map, refl, ap, subst, append_assoc}
 use Rattle.std.specs.Arc.{arc_value}
 use Rattle.std.specs.List.{flat_map}
-use Rattle.spec.specs.Cid.{text}
 use Rattle.commands.specs.TreeText.{block_line}
 use Rattle.commands.specs.Written.{Writes}
 use Rattle.commands.proofs.Leaving.{leaves-all, leaves-less, stops, ends}

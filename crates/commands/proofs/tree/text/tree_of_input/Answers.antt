@@ -1,7 +1,5 @@
-use Rattle.std.proofs.Common.{◌≡◌, ◌∙◌, ap, subst}
+use Rattle.std.proofs.Common.{◌∙◌, ap}
 use Rattle.spec.specs.NodeFormat.{is_ascending}
-use Rattle.spec.specs.Reading.{Gives}
-use Rattle.commands.specs.Fault.{fault_of}
 use Rattle.commands.specs.Pairs.{pairs_of}
 use Rattle.commands.specs.TreeText.{tree_of_map}
 use Rattle.commands.proofs.Listings.{tree-of-map}

@@ -1,5 +1,5 @@
-use Rattle.std.proofs.Common.{◌≡◌, ℕ, List, ap, subst, sym, ◌∙◌, map}
-use Rattle.std.specs.Prelude.{Ok, IfSome}
+use Rattle.std.proofs.Common.{ℕ, List, ap, subst, sym, ◌∙◌, map}
+use Rattle.std.specs.Prelude.{IfSome}
 use Rattle.std.specs.Arc.{arc_value}
 use Rattle.spec.specs.Reading.{Fails}
 use Rattle.commands.specs.Fault.{fault_of}
