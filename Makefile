@@ -1,23 +1,34 @@
 # The two commands: `make demo` shows the program on an example, `make test` is the gate.
 
-.PHONY: demo test check plant bench clean help
+.PHONY: demo test check edits plant bench gate-times clean help
 
 help:
 	@echo 'make demo              builds msthost and runs it on an example'
 	@echo 'make test              the gate: every proof, must-fail edit, test and program, from nothing'
 	@echo 'make check             every crate, quickly, over what earlier checks kept'
+	@echo 'make edits             the wrong bodies of the folder edits, before a release; CRATE=name: of one crate'
 	@echo 'make plant CRATE=name  wrong bodies that the contracts of a crate let through'
 	@echo 'make bench             builds and runs the measurements'
+	@echo 'make gate-times        the gate, and the processor time that it took, crate by crate'
 	@echo 'make clean             takes away what was built'
+	@echo
+	@echo 'Tests stand in crates of their own: of dagcbor and node in format_tests, of cid, store and refusing in'
+	@echo 'block_tests, of scratch and edit in tree_tests, of notices in notice_tests, of commands in command_tests,'
+	@echo 'across crates in conformance.'
 
 demo:
 	@bash tools/demo
 
 test:
+	@tools/edits --apply
+	@tools/readme-example
 	@rt ci
 
 check:
 	@rt all check
+
+edits:
+	@tools/edits $(CRATE)
 
 plant:
 	@test -n "$(CRATE)" || { echo 'usage: make plant CRATE=name'; exit 2; }
@@ -25,6 +36,9 @@ plant:
 
 bench:
 	@bash tools/bench $(ARGS)
+
+gate-times:
+	@tools/gate-times
 
 clean:
 	@rm -rf crates/*/out target
