@@ -19,6 +19,3 @@ pub use lawful::is_lawful;
 pub use reading::read;
 pub use value::Value;
 pub use writing::{push_head, write};
-
-#[cfg(test)]
-mod tests;

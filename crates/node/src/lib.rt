@@ -13,8 +13,6 @@ mod place;
 mod reading;
 mod run;
 mod search;
-#[cfg(test)]
-mod tests;
 mod view;
 mod writer;
 

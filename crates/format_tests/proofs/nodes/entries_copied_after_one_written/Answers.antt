@@ -4,17 +4,17 @@ use Rattle.node.specs.Contents.{Contents, last_key}
 use Rattle.node.specs.Rows.{Row, row_after, rows}
 use Rattle.node.specs.Views.{row_of}
 use Rattle.node.proofs.Joining.{last_key-append}
-use Rattle.node.proofs.tests.entries_copied.Goals as goal
+use Rattle.format_tests.proofs.nodes.entries_copied_after_one_written.Goals as goal
 
 -- the first row shows the whole key
 first-key : (es : List Entry) (r : Row) (rs : List Row) → rows [] es ≡ r ∷ rs → r.suffix ≡ last_key [] (take 1 es)
 first-key [] r rs e = absurd cc
 first-key (x ∷ xs) r rs e = let is : row_after [] x ≡ r = cc in sym (ap (λ (w : Row). w.suffix) is)
 
-pub copy-requires-2-clause-follows : goal.copy-requires-2-clause-follows
-copy-requires-2-clause-follows g c =
+pub copy-requires-clause-follows : goal.copy-requires-clause-follows
+copy-requires-clause-follows g c =
     let first = c.expect-first.result in
-    let key : last_key [] c.entry.new.self.entries ≡ first.suffix.now = ap (λ (x : Contents). last_key [] x.entries) c.in_ok-entry.ensures.ok ∙ last_key-append [] c.in_ok-writer-2.writer.entries _ in
+    let key : last_key [] c.entry.new.self.entries ≡ first.suffix.now = ap (λ (x : Contents). last_key [] x.entries) c.in_ok-entry.ensures.ok ∙ last_key-append [] c.in_ok-writer.writer.entries _ in
     let some : c.next.result ≡ Some first = c.expect-first.ensures in
     let steps = rw some at c.next.ensures.steps in
     key ∙ first-key c.expect-view.result.entries (row_of first) c.next.new.self (sym c.entries.ensures.rows ∙ steps)
