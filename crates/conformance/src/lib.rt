@@ -4,6 +4,8 @@
 #[cfg(test)]
 mod edits;
 #[cfg(test)]
+mod example;
+#[cfg(test)]
 mod histories;
 #[cfg(test)]
 mod lookups;

@@ -27,8 +27,6 @@ mod puts;
 mod rows;
 mod source;
 mod step;
-#[cfg(test)]
-mod tests;
 mod walks;
 
 pub use asked::Asked;

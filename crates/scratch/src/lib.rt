@@ -5,11 +5,7 @@ mod clashes;
 mod fault;
 mod keys;
 mod nodes;
-#[cfg(test)]
-mod plain;
 mod rows;
-#[cfg(test)]
-mod tests;
 mod tree;
 mod unread;
 

@@ -1,6 +1,6 @@
 //! Look-ups, walks and edits over blocks that are written here, and what no clause says.
 
-use crate::{BlockMap, Edit, EditFault, delete, get, is_key, put, walk};
+use edit::{BlockMap, Edit, EditFault, delete, get, is_key, put, walk};
 use cid::digests::{Clash, Toy};
 use cid::{Block, Cid, CidRef};
 use node::NodeWriter;

@@ -2,7 +2,8 @@
 
 ghost use Rattle.std.specs.Prelude.{◌≤◌};
 
-use crate::{ScratchFault, build, is_ascending, plain};
+use crate::plain;
+use scratch::{ScratchFault, build, is_ascending};
 use cid::digests::{Clash, Size, Toy};
 use cid::{Cid, Collided, Digest, Sha256};
 use refusing::Refusing;
