@@ -1,8 +1,8 @@
 //! Look-ups, walks and edits over blocks that are written here, and what no clause says.
 
-use edit::{BlockMap, Edit, EditFault, delete, get, is_key, put, walk};
 use cid::digests::{Clash, Toy};
 use cid::{Block, Cid, CidRef};
+use edit::{BlockMap, Edit, EditFault, delete, get, is_key, put, walk};
 use node::NodeWriter;
 use refusing::Refusing;
 use std::alloc::Global;

@@ -3,10 +3,10 @@
 ghost use Rattle.std.specs.Prelude.{◌≤◌};
 
 use crate::plain;
-use scratch::{ScratchFault, build, is_ascending};
 use cid::digests::{Clash, Size, Toy};
 use cid::{Cid, Collided, Digest, Sha256};
 use refusing::Refusing;
+use scratch::{ScratchFault, build, is_ascending};
 use std::alloc::{Allocator, Global};
 use std::process::Abort;
 use std::test::Fail;
