@@ -1,5 +1,5 @@
 use Rattle.std.proofs.Common.{◌+◌, ◌*◌}
-use Rattle.scratch_tests.proofs.plain.+plain.Given as goal
+use Rattle.tree_tests.proofs.plain.+plain.Given as goal
 
 abbrev pub decreases-node : goal.decreases-node
 decreases-node g l = 2 * l.n + 1
