@@ -41,4 +41,4 @@ gate-times:
 	@tools/gate-times
 
 clean:
-	@rm -rf crates/*/out target
+	@rm -rf crates/*/out target tools/*/target

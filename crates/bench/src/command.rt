@@ -3,11 +3,29 @@
 /// What is measured.
 #[derive(Drop)]
 pub enum Command {
-    Store { count: u32, rounds: u32 },
-    Read { rounds: u32 },
-    Build { rounds: u32 },
-    Get { count: u32, rounds: u32 },
-    Edit { count: u32, rounds: u32 },
+    Store {
+        count: u32,
+        rounds: u32,
+    },
+    Read {
+        rounds: u32,
+    },
+    Build {
+        rounds: u32,
+    },
+    Get {
+        count: u32,
+        rounds: u32,
+    },
+    Edit {
+        count: u32,
+        rounds: u32,
+    },
+    Notices {
+        count: u32,
+        senders: u32,
+        rounds: u32,
+    },
 }
 
 impl Command {
@@ -31,6 +49,16 @@ impl Command {
                 let count = number(words, 1)?;
                 let rounds = number(words, 2)?;
                 (count <= 1_048_576).then_some(Command::Edit { count, rounds })
+            }
+            ("notices", 4) => {
+                let count = number(words, 1)?;
+                let senders = number(words, 2)?;
+                let rounds = number(words, 3)?;
+                (1..=64).contains(&senders).then_some(Command::Notices {
+                    count,
+                    senders,
+                    rounds,
+                })
             }
             _ => None,
         }

@@ -6,13 +6,17 @@ mod command;
 mod edits;
 mod lookups;
 mod made;
+mod queues;
 mod records;
 mod trees;
 
 use crate::command::Command;
 use crate::edits::{Change, Done, Tree};
 use edit::BlockMap;
-use std::time::Instant;
+use std::alloc::Global;
+use std::sync::Wait;
+use std::thread::Threads;
+use std::time::{Clock, Instant};
 use std::{env, io};
 
 const USAGE: &str = "\
@@ -26,7 +30,9 @@ usage: bench store COUNT ROUNDS
          makes a tree of COUNT keys, at most 1,048,576, and looks 10,000 of them up ROUNDS times
        bench edit COUNT ROUNDS
          makes a tree of COUNT keys, at most 1,048,576, puts a quarter as many more, at most 10,000, deletes these again
-         and then as many of the first, ROUNDS times";
+         and then as many of the first, ROUNDS times
+       bench notices COUNT SENDERS ROUNDS
+         sends COUNT notices from SENDERS threads, 1 to 64, through a queue of 1,024 to one taker, ROUNDS times";
 
 fn main(rt: HostRuntime) -> io::Result<()> {
     let words: Vec<String> = env::args(&rt)?.skip(1).collect(rt.alloc())?;
@@ -36,6 +42,13 @@ fn main(rt: HostRuntime) -> io::Result<()> {
         Some(Command::Build { rounds }) => build(&rt, rounds),
         Some(Command::Get { count, rounds }) => get(&rt, count, rounds),
         Some(Command::Edit { count, rounds }) => edit(&rt, count, rounds),
+        Some(
+            Command::Notices {
+                count,
+                senders,
+                rounds,
+            },
+        ) => notices(&rt, rt.alloc(), count, senders, rounds),
         None => println!(rt; "{USAGE}"),
     }
 }
@@ -169,4 +182,21 @@ fn edit(rt: &HostRuntime, count: u32, rounds: u32) -> io::Result<()> {
     puts.print(rt, "put")?;
     undone.print(rt, "delete of what was put")?;
     deletes.print(rt, "delete of a first key")
+}
+
+/// Prints how long a notice took from its sender to the taker, at the least.
+fn notices<R: Threads + Wait + Sync + Clock + Print>(
+    rt: &R,
+    alloc: Global,
+    count: u32,
+    senders: u32,
+    rounds: u32,
+) -> io::Result<()> {
+    let told = queues::measure(rt, alloc, count, senders, rounds)?;
+    println!(rt;
+        "{} received, their numbers add up to {}, {} ns a notice at the least",
+        told.received,
+        told.sum,
+        told.least / u128::from(told.received).max(1)
+    )
 }
