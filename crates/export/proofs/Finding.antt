@@ -1,9 +1,9 @@
 -- Blocks found by their CIDs, some of which are known.
-use Rattle.std.proofs.Common.{◌≡◌, refl, sym, ap, ◌∙◌, subst, ℕ, suc, ◌+◌, ◌<◌, ◌≤◌, nat_lt, Bool, true, false, if◌then◌else◌, List, [], ◌∷◌, ◌++◌, length, take, map}
+use Rattle.std.proofs.Common.{◌≡◌, sym, ap, ◌∙◌, subst, ℕ, suc, ◌+◌, ◌<◌, nat_lt, Bool, true, false, if◌then◌else◌, List, [], ◌∷◌, ◌++◌, length, take, map}
 use native.Mathlib.Omega.{arith}
 use Rattle.std.proofs.Math.ListN.{get_or}
 use Rattle.std.proofs.Math.Seq.{take-suc}
-use Rattle.std.proofs.lemmas.List.{length-append, length-map, get_or-map, length_push}
+use Rattle.std.proofs.lemmas.List.{length-map, get_or-map, length_push}
 use Rattle.spec.specs.Cid.{cid as cid_of}
 use Rattle.export.specs.GivenBlocks.{AreHashed}
 
@@ -23,6 +23,6 @@ pub grown : (digest : List ℕ → List ℕ) (blocks hs new : List (List ℕ)) (
     → new ≡ (if nat_lt (length hs) 32 then hs ++ c ∷ [] else hs) → AreHashed digest blocks new
 grown digest blocks hs new place c here within is known grows =
     grown-by (nat_lt (length hs) 32) (map (cid_of digest) blocks) hs new c [] known
-        (subst (λ n. n < length (map (cid_of digest) blocks)) here (subst (λ n. place < n) (sym (length-map blocks (cid_of digest))) within))
-        (ap (λ n. get_or (map (cid_of digest) blocks) n []) (sym here) ∙ get_or-map (cid_of digest) blocks place [] [] within ∙ sym is)
-        grows
+    (subst (λ n. n < length (map (cid_of digest) blocks)) here (subst (λ n. place < n) (sym (length-map blocks (cid_of digest))) within))
+    (ap (λ n. get_or (map (cid_of digest) blocks) n []) (sym here) ∙ get_or-map (cid_of digest) blocks place [] [] within ∙ sym is)
+    grows

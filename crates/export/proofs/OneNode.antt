@@ -1,8 +1,8 @@
 -- One node of a proof, and then the others.
-use Rattle.std.proofs.Common.{◌≡◌, refl, sym, ap, subst, ◌∙◌, ℕ, zero, suc, ◌-◌, ◌<◌, List, Option, Some, None, Result, Ok, Err, arith}
+use Rattle.std.proofs.Common.{◌≡◌, refl, sym, ap, subst, ◌∙◌, ℕ, suc, ◌-◌, ◌<◌, List, Option, Some, None, Result, Ok, Err, arith}
 use Rattle.spec.specs.Reading.{◌>>=◌, Fails}
 use Rattle.spec.specs.NodeFormat.{read_node}
-use Rattle.spec.specs.Proof.{Place, ProofFault, place, block_of, TooDeep, or_bad_node, answer_at, verified_within}
+use Rattle.spec.specs.Proof.{ProofFault, place, block_of, TooDeep, or_bad_node, answer_at, verified_within}
 use Rattle.export.specs.GivenBlocks.{place_below}
 
 goes_on : {E A B C : Type 0} (r : Result A E) (f : A → Result B E) (h : B → Result C E) → (r >>= (λ x. f x >>= h)) ≡ ((r >>= f) >>= h)

@@ -1,5 +1,5 @@
 -- What a proof shows of the lists of pairs with its root.
-use Rattle.std.proofs.Common.{◌≡◌, sym, ap, ◌∙◌, subst, ◌+◌, ◌/◌, ℕ, List, length, Option, Result, Ok, Err, Bool, true, false, Contains}
+use Rattle.std.proofs.Common.{◌≡◌, sym, ap, ◌∙◌, subst, ◌+◌, ◌/◌, ℕ, List, length, Option, Result, Ok, Err, true, false, Contains}
 use Rattle.std.specs.Prelude.{IfOk}
 use Rattle.spec.specs.Reading.{◌>>=◌, ensure, Gives, Fails}
 use Rattle.spec.specs.Tree.{Pair}

@@ -1,4 +1,11 @@
-//! Proofs that a key has a value, or none, in the tree under a root.
+//! Proofs about single keys of a repository.
+//!
+//! A proof that a tree has a value under a key, or none, is the list of the nodes on the key's path. [`verify`] tells
+//! what such blocks prove to someone who knows the tree's root alone: nothing of the host that gave them is trusted.
+//!
+//! ```text
+//! let value: Option<Cid> = verify::<Sha256, 2, _>(&root, &blocks, b"app.bsky.feed.post/3k")?;
+//! ```
 #![tactic(auto)]
 
 mod given;

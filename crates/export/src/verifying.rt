@@ -17,7 +17,24 @@ use cid::{Cid, Digest};
 use node::{NodeView, Place, is_key};
 use std::convert::AsSlice;
 
-/// What the tree with this root has under a key, by the nodes of the key's path: its value, or `None` where it has none.
+/// What the tree with this root has under a key, as some of its nodes show: the key's value, or `None` where the tree
+/// doesn't have the key.
+///
+/// The blocks are those of a proof, in any order: the nodes of the key's path, from the root down to the node that has
+/// the key, or to a gap without a subtree in which it would stand. Others among them are passed over, and of two blocks
+/// with one CID the first is taken. The key has 1 to 1,024 bytes, and `B` is the number of zero bits of a digest that
+/// count for one layer, at least 1 (AT Protocol repository v3, MST structure; the order of the tests is this host's own).
+///
+/// An answer holds of every list of pairs whose tree has this root and whose nodes clash with none of the given blocks;
+/// and where the key's whole path is given there is an answer. So whoever trusts a root needs to trust nothing else.
+///
+/// The first of these faults is the answer, from the root down: `ProofFault::KeyLength` for the key, and then for each
+/// node of the path `ProofFault::TooDeep` where more nodes would be read than a tree has layers (`256 / B + 1`),
+/// `ProofFault::BlockMissing` where no block has the CID, and `ProofFault::BadNode` where the block is no node.
+///
+/// It takes no memory. The CIDs of the first 32 blocks are kept on the stack once they are known, so a proof whose
+/// blocks stand in the order of the path has each of them hashed once; at worst each block is hashed once for each node
+/// of the path.
 pub fn verify<D: Digest, const B: u8, K: AsSlice<u8>>(
     root: &Cid,
     blocks: &[K],
@@ -25,7 +42,11 @@ pub fn verify<D: Digest, const B: u8, K: AsSlice<u8>>(
 ) -> Result<Option<Cid>, ProofFault>
     requires { 1 ≤ B }
     ensures answer { Gives (λ value. value) fault_of result (verified D.digest_of B root.now (map K.items blocks.now) key.now) }
+
+    // An answer is the key's value in each list of pairs with this root.
     ensures right { (es : List Pair) → ArePairs es → root.now ≡ root_of D.digest_of B es → ClashesWithNone D.digest_of (nodes D.digest_of B es) (map K.items blocks.now) → IfOk result (λ value. value_of key.now es ≡ value) }
+
+    // Where the key's path is given, there is an answer.
     ensures comes { (es : List Pair) → ArePairs es → root.now ≡ root_of D.digest_of B es → ClashesWithNone D.digest_of (nodes D.digest_of B es) (map K.items blocks.now) → is_key_of key.now ≡ true → ((b : List ℕ) → Contains (path D.digest_of B es key.now) b → Contains (map K.items blocks.now) b) → result ≡ Ok (value_of key.now es) }
 {
     if !is_key(key) {

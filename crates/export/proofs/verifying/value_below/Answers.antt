@@ -11,7 +11,7 @@ returns-in-Ok-Here g c =
     let given = map g.K.AsSlice.items c.args.blocks.now in
     c.loop-left.invariant.answer ∙ node_by_node g.D.Digest.digest_of given c.args.key.now c.loop-left.cid c.loop-left.left c.loop-left-test.true
     ∙ ap (λ p. p >>= answer_at (verified_within (c.loop-left.left - 1) g.D.Digest.digest_of given c.args.key.now))
-          (c.in-Ok-Here.ensures.place ∙ ap (λ p. Ok (place_of c.args.key.now p)) c.in-Ok-Here.field-0-is) ∙ ap (λ v. Ok (Some v)) (sym c.to_cid.ensures)
+    (c.in-Ok-Here.ensures.place ∙ ap (λ p. Ok (place_of c.args.key.now p)) c.in-Ok-Here.field-0-is) ∙ ap (λ v. Ok (Some v)) (sym c.to_cid.ensures)
 
 pub loop-left-preserved : goal.loop-left-preserved
 loop-left-preserved g c =
@@ -28,7 +28,7 @@ returns-in-Ok-Gap g c =
     let given = map g.K.AsSlice.items c.args.blocks.now in
     c.loop-left.invariant.answer ∙ node_by_node g.D.Digest.digest_of given c.args.key.now c.loop-left.cid c.loop-left.left c.loop-left-test.true
     ∙ ap (λ p. p >>= answer_at (verified_within (c.loop-left.left - 1) g.D.Digest.digest_of given c.args.key.now))
-          (c.in-Ok-Gap.ensures.place ∙ ap (λ p. Ok (place_of c.args.key.now p)) c.in-Ok-Gap.field-0-is)
+    (c.in-Ok-Gap.ensures.place ∙ ap (λ p. Ok (place_of c.args.key.now p)) c.in-Ok-Gap.field-0-is)
 
 pub returns-in-Err : goal.returns-in-Err
 returns-in-Err g c = subst (Fails (fault_of c.in-Err.fault)) (sym c.loop-left.invariant.answer) (node_fails g.D.Digest.digest_of (map g.K.AsSlice.items c.args.blocks.now) c.args.key.now c.loop-left.cid c.loop-left.left c.loop-left-test.true (fault_of c.in-Err.fault) c.in-Err.ensures.place)
