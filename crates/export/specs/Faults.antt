@@ -1,0 +1,12 @@
+-- The definitions' fault that a `ProofFault` is.
+use Rattle.std.specs.Prelude.{Option, Some, option_map}
+use Rattle.spec.specs.Proof as proof
+use Rattle.node.specs.Fault as nodes
+use Rattle.export.specs.declared.proof_fault.ProofFault.{ProofFault}
+use Rattle.export.specs.declared.proof_fault.ProofFault.TheVariants as errors
+
+abbrev pub fault_of : ProofFault → Option proof.ProofFault
+fault_of errors.BlockMissing = Some proof.BlockMissing
+fault_of (errors.BadNode f) = option_map proof.BadNode (nodes.fault_of f)
+fault_of errors.TooDeep = Some proof.TooDeep
+fault_of errors.KeyLength = Some proof.KeyLength

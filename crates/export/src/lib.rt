@@ -1,0 +1,17 @@
+//! Proofs about single keys of a repository.
+//!
+//! A proof that a tree has a value under a key, or none, is the list of the nodes on the key's path. [`verify`] tells
+//! what such blocks prove to someone who knows the tree's root alone: nothing of the host that gave them is trusted.
+//!
+//! ```text
+//! let value: Option<Cid> = verify::<Sha256, 2, _>(&root, &blocks, b"app.bsky.feed.post/3k")?;
+//! ```
+#![tactic(auto)]
+
+mod given;
+mod hashed;
+mod proof_fault;
+mod verifying;
+
+pub use proof_fault::ProofFault;
+pub use verifying::verify;

@@ -1,0 +1,65 @@
+//! Chains of nodes without pairs, each with a link to the one before, as deep as a proof may be and deeper.
+
+use cid::{Cid, Sha256};
+use export::{ProofFault, verify};
+use std::alloc::{AllocFailed, Allocator};
+use std::test::Fail;
+
+/// The block of the node without pairs and with this link.
+fn node_above<A: Allocator>(alloc: A, link: Option<Cid>) -> Result<Vec<u8, A>, AllocFailed<u8>> {
+    let mut bytes = Vec::new(alloc);
+    for byte in b"\xa2\x61\x65\x80\x61\x6c" {
+        bytes.push(*byte)?;
+    }
+    let Some(cid) = link else {
+        bytes.push(0xf6)?;
+        return Ok(bytes);
+    };
+    for byte in b"\xd8\x2a\x58\x25\x00" {
+        bytes.push(*byte)?;
+    }
+    for byte in cid.as_bytes() {
+        bytes.push(*byte)?;
+    }
+    Ok(bytes)
+}
+
+/// So many nodes, the one without a link first.
+fn chain<A: Allocator + Clone>(alloc: A, count: usize) -> Result<Vec<Vec<u8, A>, A>, Fail> {
+    let mut nodes = Vec::new(alloc.clone()?);
+    let mut below = None;
+    for _ in 0..count {
+        let node = node_above(alloc.clone()?, below)?;
+        below = Some(Cid::of::<Sha256>(&node));
+        nodes.push(node)?;
+    }
+    Ok(nodes)
+}
+
+/// What the first so many nodes of a chain prove from the one at a place on, in their order.
+fn answer<const B: u8, A: Allocator>(
+    nodes: &[Vec<u8, A>],
+    root: usize,
+) -> Option<Result<Option<Cid>, ProofFault>>
+    requires { 1 ≤ B }
+{
+    let root = Cid::of::<Sha256>(nodes.get(root)?);
+    Some(verify::<Sha256, B, Vec<u8, A>>(&root, nodes, b"a"))
+}
+
+#[test]
+fn the_deepest_proof_and_deeper(rt: HostRuntime) -> Result<(), Fail> {
+    let mut nodes = chain(rt.alloc(), 130)?;
+    let absent = Some(Ok(None));
+    let too_deep = Some(Err(ProofFault::TooDeep));
+    assert!(rt; answer::<2, _>(&nodes, 128) == absent);
+    assert!(rt; answer::<2, _>(&nodes, 129) == too_deep);
+    assert!(rt; answer::<8, _>(&nodes, 32) == absent);
+    assert!(rt; answer::<8, _>(&nodes, 33) == too_deep);
+    assert!(rt; answer::<2, _>(&nodes[1..], 128) == too_deep);
+    assert!(rt; answer::<2, _>(&nodes[1..129], 127) == Some(Err(ProofFault::BlockMissing)));
+    nodes.reverse();
+    assert!(rt; answer::<2, _>(&nodes, 1) == absent);
+    assert!(rt; answer::<2, _>(&nodes, 0) == too_deep);
+    Ok(())
+}
