@@ -7,15 +7,16 @@ ghost use Rattle.dagcbor.specs.View.{view, view_items, view_fields};
 
 use crate::cid::is_cid;
 use crate::keys::is_next_key;
-use crate::value::Value;
+use crate::value::{MAX_DEPTH, Value};
 use std::alloc::Allocator;
 
 /// Whether a value has a spelling (IPLD DAG-CBOR, strictness): each map's keys ascend, a shorter one first and those of one length
-/// bytewise; each link holds a CID; and lists and maps lie at most 64 levels deep, which is this repository's own bound.
+/// bytewise; each link holds a CID; and lists and maps lie at most `MAX_DEPTH` levels deep, a bound of this
+/// repository's own.
 pub fn is_lawful<A: Allocator>(value: &Value<'_, A>) -> bool
     ensures { result ≡ is_lawful (view value.now) }
 {
-    is_lawful_within(64, value)
+    is_lawful_within(MAX_DEPTH, value)
 }
 
 /// A law: each number of 64 bits with a sign has a spelling.
