@@ -1,4 +1,4 @@
--- Digests for tests (own): 32 bytes without any cryptography.
+-- Digests for tests (a choice of this project): 32 bytes without any cryptography.
 use Rattle.std.specs.Prelude.{◌≡◌, ◌<◌, ℕ, zero, suc, ◌-◌, ◌*◌, ◌/◌, ◌%◌, ◌^◌, ◌&&◌, List, ◌∷◌, ◌++◌, length, fold, replicate, slice_index, bit_xor, nat_lt, if◌then◌else◌}
 use Rattle.std.specs.Int.{w64, to_be_bytes}
 use Rattle.std.proofs.Common.{refl, arith}

@@ -1,6 +1,7 @@
 use thiserror::Error;
 
-/// What is wrong with a text, or with bytes, that should be the identifier of a block of this host (own names).
+/// What is wrong with a text, or with bytes, that should be the identifier of a block of this host. The names are
+/// this repository's own.
 #[derive(Clone, Copy, PartialEq, Eq, Debug, Error)]
 pub enum CidFault {
     /// The text isn't 59 bytes long.

@@ -1,5 +1,5 @@
 //! The commands of `msthost`, over any reader and any writers: Merkle search trees of AT Protocol repositories, from
-//! lines of text (AT Protocol repository v3, MST structure; the texts are own).
+//! lines of text (AT Protocol repository v3, MST structure; the form of the texts is this repository's own).
 //!
 //! - `run_words` does what a command line says: it takes the words, the standard streams, or stand-ins for them, and
 //!   answers the exit status. It writes help, faults and the version too. A program gives it its own words.

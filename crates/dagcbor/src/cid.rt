@@ -54,7 +54,7 @@ fn is_version_1(bytes: &[u8]) -> bool
 
 /// Whether these bytes are a CID: of version 0, which is `12 20` and 32 bytes; or of version 1, which is `01`, a codec, a hash
 /// code and a digest length as unsigned LEB128 numbers, and a digest of that length (CIDv1; multihash; that every codec and
-/// hash is taken is own).
+/// hash is taken is this repository's own choice).
 pub(crate) fn is_cid(bytes: &[u8]) -> bool
     ensures { result ≡ is_cid bytes.now }
 {

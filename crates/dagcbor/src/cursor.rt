@@ -31,6 +31,7 @@ impl<'a> Model for Cursor<'a> {
 
 impl<'a> Cursor<'a> {
     /// A cursor at the front of `bytes`.
+    #[inline]
     pub fn new(bytes: &'a [u8]) -> Cursor<'a>
         ensures left { result.left ≡ bytes.now }
         ensures place { result.place ≡ 0 }
@@ -48,10 +49,12 @@ impl<'a> Cursor<'a> {
         self.total - self.left.len()
     }
 
-    /// The head at the cursor (RFC 8949, section 3): its major type from 0 to 7 and its argument, of which DAG-CBOR takes the
-    /// shortest form alone. At major type 7 the second is 20 for false, 21 for true and 22 for null.
+    /// The head at the cursor (RFC 8949, section 3): its major type from 0 to 7, which is a `Major` as a number, and its
+    /// argument, of which DAG-CBOR takes the shortest form alone. At major type 7 the second is 20 for false, 21 for true
+    /// and 22 for null.
     ///
     /// `Truncated`, `LongHead`, `Indefinite`, `Float` and `Simple` say what is wrong with the head, and then nothing was read.
+    #[inline(always)]
     pub fn head(&mut self) -> Result<(u8, u64), CborFault>
         ensures read { Gives (λ h. (h, self.new.left)) fault_of result (head_at self.old.left) }
         ensures place { self.new.place + length self.new.left ≡ self.old.place + length self.old.left }
@@ -61,6 +64,14 @@ impl<'a> Cursor<'a> {
         let (found, left) = head::head(self.left)?;
         self.left = left;
         Ok(found)
+    }
+
+    /// The bytes that are left.
+    #[inline]
+    pub fn rest(&self) -> &'a [u8]
+        ensures { result.now ≡ self.now.left }
+    {
+        self.left
     }
 
     /// The next `n` bytes. `Truncated` where fewer are left, and then nothing was read.

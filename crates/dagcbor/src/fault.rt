@@ -7,7 +7,7 @@ use std::alloc::{AllocError, AllocFailed};
 use thiserror::Error;
 
 /// What is wrong with an encoded value, at the first place from the left where something is; or `NoMemory`.
-/// The rules are those of IPLD DAG-CBOR (strictness, links) over RFC 8949; the names are own.
+/// The rules are those of IPLD DAG-CBOR (strictness, links) over RFC 8949; the names are this repository's own.
 #[derive(Clone, Copy, Debug, PartialEq, Eq, Error)]
 pub enum CborFault {
     /// The bytes end inside an item.
@@ -43,7 +43,7 @@ pub enum CborFault {
     /// A whole number outside the range of 64 bits with a sign.
     #[error("a whole number does not fit 64 bits with a sign")]
     IntegerRange,
-    /// Lists and maps more than 64 levels deep.
+    /// Lists and maps more than `MAX_DEPTH` levels deep.
     #[error("lists and maps lie more than 64 levels deep")]
     TooDeep,
     /// Bytes after the value.

@@ -10,7 +10,6 @@ ghost use Rattle.dagcbor.specs.Fault.{fault_of};
 use crate::fault::CborFault;
 
 /// An argument of 1, 2, 4 or 8 bytes, and the bytes after it.
-#[inline(never)]
 fn long_argument(low: u8, bytes: &[u8]) -> Result<(u64, &[u8]), CborFault>
     requires lower { 24 ≤ low }
     requires upper { low ≤ 27 }
@@ -63,21 +62,35 @@ fn long_argument(low: u8, bytes: &[u8]) -> Result<(u64, &[u8]), CborFault>
     Ok((n, rest))
 }
 
-/// The argument that the low five bits of a first byte say, and the bytes after it.
+/// The argument that low five bits from 24 on announce, and the bytes after it.
+#[inline(never)]
+fn announced_argument(low: u8, bytes: &[u8]) -> Result<(u64, &[u8]), CborFault>
+    requires { 24 ≤ low }
+    ensures read { Gives (λ x. (x.0, x.1.now)) fault_of result (argument_at low bytes.now) }
+    ensures no_longer { IfOk result (λ x. length x.1.now ≤ length bytes.now) }
+    ensures takes_no_memory { result ≢ Err CborFault.NoMemory }
+{
+    if low == 31 {
+        Err(CborFault::Indefinite)
+    } else if 27 < low {
+        Err(CborFault::LongHead)
+    } else {
+        long_argument(low, bytes)
+    }
+}
+
+/// The argument that the low five bits of a first byte say, and the bytes after it. Nearly all heads have one byte or
+/// two, and these are read in place; the others by a call.
 #[inline(always)]
 fn argument(low: u8, bytes: &[u8]) -> Result<(u64, &[u8]), CborFault>
     ensures read { Gives (λ x. (x.0, x.1.now)) fault_of result (argument_at low bytes.now) }
     ensures no_longer { IfOk result (λ x. length x.1.now ≤ length bytes.now) }
     ensures takes_no_memory { result ≢ Err CborFault.NoMemory }
 {
-    if low < 24 {
-        Ok((u64::from(low), bytes))
-    } else if low == 31 {
-        Err(CborFault::Indefinite)
-    } else if 27 < low {
-        Err(CborFault::LongHead)
-    } else {
-        long_argument(low, bytes)
+    match bytes {
+        _ if low < 24 => Ok((u64::from(low), bytes)),
+        [n, rest @ ..] if low == 24 && *n >= 24 => Ok((u64::from(*n), rest)),
+        _ => announced_argument(low, bytes),
     }
 }
 

@@ -15,7 +15,7 @@ use crate::head::{front, head, head_of};
 use crate::keys::is_next_key;
 use crate::link::link;
 use crate::major::{Major, major_of};
-use crate::value::Value;
+use crate::value::{MAX_DEPTH, Value};
 use std::alloc::Allocator;
 
 /// A text of `n` bytes of UTF-8, and the bytes after it.
@@ -33,7 +33,7 @@ fn text(n: u64, bytes: &[u8]) -> Result<(&str, &[u8]), CborFault>
 fn key<'a>(before: Option<&str>, bytes: &'a [u8]) -> Result<(&'a str, &'a [u8]), CborFault>
     ensures { Gives (λ x. (x.0.now, x.1.now)) fault_of result (key_of (option_map (λ s. s.now) before.entry) bytes.now) }
 {
-    let (n, rest) = head_of(3, CborFault::KeyNotText, bytes)?;
+    let (n, rest) = head_of(Major::TextString as u8, CborFault::KeyNotText, bytes)?;
     let (key, rest) = text(n, rest)?;
     if is_next_key(before, key) {
         Ok((key, rest))
@@ -204,7 +204,7 @@ fn fields<'a, A: Allocator + Copy>(
 /// The value that these bytes are the spelling of (IPLD DAG-CBOR, strictness). Its bytes and texts are slices of `bytes`.
 ///
 /// Any other error than `NoMemory` says that the bytes are no value's spelling, and is the first fault from the left.
-/// Lists and maps may lie 64 levels deep (own); a deeper one is `TooDeep`. No room is reserved by a length that the bytes state.
+/// Lists and maps may lie `MAX_DEPTH` levels deep; a deeper one is `TooDeep`. No room is reserved by a length that the bytes state.
 #[tactic(auto, unfolding(spec::specs::DagCbor::read))]
 pub fn read<'a, A: Allocator + Copy>(alloc: A, bytes: &'a [u8]) -> Result<Value<'a, A>, CborFault>
     ensures read { Gives view fault_of result (read bytes.now) }
@@ -212,7 +212,7 @@ pub fn read<'a, A: Allocator + Copy>(alloc: A, bytes: &'a [u8]) -> Result<Value<
     ensures lawful { IfOk result (λ v. IsTrue (is_lawful (view v))) }
     ensures refused { IfErr result (λ e. IsSome (fault_of e) → HasNoValue bytes.now) }
 {
-    let (value, rest) = value(alloc, 64, bytes)?;
+    let (value, rest) = value(alloc, MAX_DEPTH, bytes)?;
     if !rest.is_empty() {
         return Err(CborFault::Trailing);
     }

@@ -2,6 +2,10 @@
 
 use std::alloc::{Allocator, Global};
 
+/// How many levels deep lists and maps may lie: one that holds no other is one level. This bound is this repository's own;
+/// DAG-CBOR has none.
+pub const MAX_DEPTH: u8 = 64;
+
 /// A value of the data model (IPLD DAG-CBOR; AT Protocol data model, which has no floats). Its bytes and texts are lent: those
 /// of a value that was read are slices of what it was read from.
 #[derive(Debug, Drop)]

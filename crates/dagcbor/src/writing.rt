@@ -5,6 +5,7 @@ ghost use Rattle.spec.specs.Head.{head};
 ghost use Rattle.spec.specs.DagCbor.{string, spelling, spelling_of_integer, spelling_of_boolean, spelling_of_values, spelling_of_entries, is_lawful, read};
 ghost use Rattle.dagcbor.specs.View.{view, view_items, view_fields};
 
+use crate::link::{BEFORE_CID, LINK_HEAD};
 use crate::major::Major;
 use crate::value::Value;
 use std::alloc::{AllocError, Allocator};
@@ -65,9 +66,9 @@ fn push_text<A: Allocator>(out: &mut Vec<u8, A>, text: &str) -> Result<(), Alloc
 fn push_link<A: Allocator>(out: &mut Vec<u8, A>, cid: &[u8]) -> Result<(), AllocError>
     ensures { OnOk result (out.new.items ≡ out.old.items ++ (head 6 42 ++ string 2 (0 ∷ cid.now))) }
 {
-    push_head(out, Major::Tag as u8, 42)?;
+    out.extend_from_slice(&LINK_HEAD)?;
     push_head(out, Major::ByteString as u8, cid.len() as u64 + 1)?;
-    out.push(0)?;
+    out.push(BEFORE_CID)?;
     out.extend_from_slice(cid)
 }
 

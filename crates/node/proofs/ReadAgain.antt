@@ -1,15 +1,12 @@
 -- What was read once reads again in the same way, without its tests.
-use Rattle.std.proofs.Common.{◌≡◌, ℕ, ◌-◌, ◌<◌, ◌≤◌, ◌^◌, ◌/◌, ◌%◌, Bool, true, false, cond, ltb, ◌||◌, nat_lt, List, [], ◌∷◌, ◌++◌, length, get_or, take, drop, Option, Some, None, option_map, Result, Ok, Err, IsOk, refl, sym, ap, subst, ◌∙◌, arith}
-use Rattle.std.specs.Prelude.{◌==◌}
-use Rattle.std.specs.Int.{w8, from_be_bytes}
+use Rattle.std.proofs.Common.{◌≡◌, ℕ, ◌-◌, ◌≤◌, ◌^◌, Bool, true, false, cond, ltb, nat_lt, List, [], ◌∷◌, ◌++◌, length, take, drop, Option, Some, None, option_map, Result, Ok, Err, IsOk, refl, sym, ap, subst, ◌∙◌, arith}
 use Rattle.std.specs.Str.{bytes_eq}
-use Rattle.std.proofs.lemmas.Bool.{lt-ltb, le-ltb, ltb-false, eq-eqb}
+use Rattle.std.proofs.lemmas.Bool.{ltb-false}
 use Rattle.std.proofs.lemmas.List.{length-take, take-append-drop, take_rest}
 use Rattle.std.proofs.lemmas.Slice.Eq.{bytes_eq-Decides}
 use Rattle.spec.specs.Reading.{◌>>=◌, ensure, front}
-use Rattle.spec.specs.Head.{CborFault, Truncated, LongHead, Indefinite, Float, Simple, argument_at, simple_at, head_at}
 use Rattle.spec.specs.Cid.{prefix, link, is_own_cid}
-use Rattle.spec.specs.NodeFormat.{NodeFault, NotNode, literal, or_not_node, argument_of, link_at, link_or_null_at}
+use Rattle.spec.specs.NodeFormat.{NodeFault, NotNode, literal, argument_of, link_at, link_or_null_at}
 use Rattle.spec.proofs.Taking.{ok_is}
 use Rattle.node.specs.Rows.{Row, row_at}
 
@@ -48,75 +45,6 @@ literal-again expected bytes f h =
     let a = tested t NotNode (λ ok. read) (first (literal expected bytes) f h) in
     let same = literal-is expected bytes a.0 in
     (same, omega (arith, length-take (length expected) bytes, ap length same), next (literal expected bytes) f (drop (length expected) bytes) a.2 h, next-is (literal expected bytes) f (drop (length expected) bytes) a.2)
-
--- ---- heads of one byte
-
-simple-again : (t u v : Bool) (low : ℕ) (bytes : List ℕ) (a b c : CborFault) (n : Result (ℕ × List ℕ) CborFault)
-    → n ≡ cond t (Ok (low, bytes)) (cond u (Err a) (cond v (Err b) (Err c))) → IsOk n → n ≡ Ok (low, bytes)
-simple-again true u v low bytes a b c n e h = e
-simple-again false true v low bytes a b c n e h = let none : false ≡ true = subst IsOk e h in absurd cc
-simple-again false false true low bytes a b c n e h = let none : false ≡ true = subst IsOk e h in absurd cc
-simple-again false false false low bytes a b c n e h = let none : false ≡ true = subst IsOk e h in absurd cc
-
-short-again : (t : Bool) (low : ℕ) (bytes : List ℕ) → low < 24 → IsOk (cond t (argument_at low bytes) (simple_at low bytes))
-    → cond t (argument_at low bytes) (simple_at low bytes) ≡ Ok (low, bytes)
-short-again true low bytes lt h = rw (lt-ltb low 24 lt) refl
-short-again false low bytes lt h =
-    simple-again (low == 20 || low == 21 || low == 22) (low == 25 || low == 26 || low == 27) (low == 31) low bytes Float Indefinite Simple (simple_at low bytes) refl h
-
-not_node-again : {A : Type 0} (r : Result A CborFault) → IsOk (or_not_node r) → IsOk r
-not_node-again (Ok x) h = refl
-not_node-again (Err d) h = h
-
-pub argument-again : (major b : ℕ) (bytes : List ℕ) → b % 32 < 24 → IsOk (argument_of major (b ∷ bytes)) → argument_of major (b ∷ bytes) ≡ Ok (b % 32, bytes)
-unfolding head_at
-argument-again major b bytes lt h =
-    let n = cond (ltb b 224) (argument_at (b % 32) bytes) (simple_at (b % 32) bytes) in
-    let made : ℕ × List ℕ → Result ((ℕ × ℕ) × List ℕ) CborFault = λ x. Ok ((b / 32, x.0), x.1) in
-    let read = first (or_not_node (head_at (b ∷ bytes))) _ h in
-    let short = short-again (ltb b 224) (b % 32) bytes lt (first n made (not_node-again (head_at (b ∷ bytes)) read)) in
-    let head : or_not_node (head_at (b ∷ bytes)) ≡ Ok ((b / 32, b % 32), bytes) = ap or_not_node (next-is n made (b % 32, bytes) short) in
-    let test = tested (b / 32 == major) NotNode _ (next (or_not_node (head_at (b ∷ bytes))) _ ((b / 32, b % 32), bytes) head h) in
-    next-is (or_not_node (head_at (b ∷ bytes))) _ ((b / 32, b % 32), bytes) head ∙ test.2
-
--- a head of one byte of a type whose heads are all numbers
-pub argument-short : (major n : ℕ) (bytes rest : List ℕ) → 1 ≤ length bytes → major < 7 → get_or bytes 0 0 / 32 ≡ major → get_or bytes 0 0 % 32 < 24 → n ≡ get_or bytes 0 0 % 32
-    → rest ≡ drop 1 bytes → argument_of major bytes ≡ Ok (n, rest)
-unfolding head_at
-argument-short major n [] rest some few type lt n_is rest_is = absurd (omega (arith, some))
-argument-short major n (x ∷ bytes) rest some few type lt n_is rest_is =
-    let number : x < 224 = omega (arith, few, type) in
-    rw (n_is, rest_is, lt-ltb x 224 number, lt-ltb (x % 32) 24 lt, eq-eqb (x / 32) major type) refl
-
--- an argument of one byte
-long-byte : (y : ℕ) (bytes : List ℕ) → 24 ≤ y → argument_at 24 (y ∷ bytes) ≡ Ok (y, bytes)
-long-byte y bytes big =
-    let one : from_be_bytes w8 (y ∷ []) ≡ y = omega arith in
-    let some : ltb (length (y ∷ bytes)) 1 ≡ false = le-ltb _ _ (omega arith) in
-    let read : front Truncated 1 (y ∷ bytes) ≡ Ok (y ∷ [], bytes) = rw some refl in
-    let tested_as : ℕ → Result (ℕ × List ℕ) CborFault = λ n. ensure (nat_lt 23 n) LongHead >>= λ ok. Ok (n, bytes) in
-    let passes : tested_as y ≡ Ok (y, bytes) = rw (lt-ltb 23 y (omega (arith, big))) refl in
-    next-is (front Truncated 1 (y ∷ bytes)) (λ f. ensure (nat_lt 23 (from_be_bytes w8 f.0)) LongHead >>= λ ok. Ok (from_be_bytes w8 f.0, f.1)) (y ∷ [], bytes) read
-    ∙ ap tested_as one ∙ passes
-
--- a head of two bytes of such a type
-pub argument-byte : (major n : ℕ) (bytes rest : List ℕ) → 2 ≤ length bytes → major < 7 → get_or bytes 0 0 / 32 ≡ major → get_or bytes 0 0 % 32 ≡ 24 → 24 ≤ get_or bytes 1 0
-    → n ≡ get_or bytes 1 0 → rest ≡ drop 2 bytes → argument_of major bytes ≡ Ok (n, rest)
-unfolding head_at
-argument-byte major n [] rest some few type low long n_is rest_is = absurd (omega (arith, some))
-argument-byte major n (x ∷ []) rest some few type low long n_is rest_is = absurd (omega (arith, some))
-argument-byte major n (x ∷ y ∷ bytes) rest some few type low long n_is rest_is =
-    let number : x < 224 = omega (arith, few, type) in
-    let read = cond (ltb x 224) (argument_at (x % 32) (y ∷ bytes)) (simple_at (x % 32) (y ∷ bytes)) in
-    let made : ℕ × List ℕ → Result ((ℕ × ℕ) × List ℕ) CborFault = λ z. Ok ((x / 32, z.0), z.1) in
-    let short : read ≡ Ok (y, bytes) = rw (lt-ltb x 224 number) (ap (λ (k : ℕ). argument_at k (y ∷ bytes)) low ∙ long-byte y bytes long) in
-    let head : or_not_node (head_at (x ∷ y ∷ bytes)) ≡ Ok ((x / 32, y), bytes) = ap or_not_node (next-is read made (y, bytes) short) in
-    rw (n_is, rest_is) (next-is (or_not_node (head_at (x ∷ y ∷ bytes))) _ ((x / 32, y), bytes) head ∙ rw (eq-eqb (x / 32) major type) refl)
-
-pub argument-known : (major n : ℕ) (bytes rest : List ℕ) → 1 ≤ length bytes → get_or bytes 0 0 % 32 < 24 → n ≡ get_or bytes 0 0 % 32
-    → rest ≡ drop 1 bytes → IsOk (argument_of major bytes) → argument_of major bytes ≡ Ok (n, rest)
-argument-known major n [] rest some lt n_is rest_is h = absurd (omega (arith, some))
-argument-known major n (b ∷ bytes) rest some lt n_is rest_is h = rw (n_is, rest_is) (argument-again major b bytes lt h)
 
 -- ---- links
 

@@ -6,7 +6,8 @@ ghost use Rattle.spec.specs.NodeFormat.{common, is_key};
 /// How many bytes a key has at most.
 pub(crate) const LONGEST_KEY: usize = 1024;
 
-/// Whether these are 1 to 1,024 bytes, as a node asks of each key (own; a repository's keys are shorter).
+/// Whether these are 1 to 1,024 bytes, as a node asks of each key (this repository's own choice: a
+/// key of the AT Protocol is shorter).
 pub fn is_key(bytes: &[u8]) -> bool
     ensures { result ≡ is_key bytes.now }
 {

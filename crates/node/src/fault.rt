@@ -3,7 +3,8 @@
 use thiserror::Error;
 
 /// What is wrong with a node's bytes, at the first place from the front where something is (AT Protocol repository
-/// v3, MST node data format). An entry is tested when it has been read whole. The names are own.
+/// v3, MST node data format). An entry is tested when it has been read whole. The names are this
+/// repository's own.
 #[derive(Clone, Copy, Debug, PartialEq, Eq, Error)]
 pub enum NodeFault {
     /// The bytes aren't those of a node: other fields, another order of them, a head that is not the shortest, another

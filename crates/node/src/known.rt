@@ -7,23 +7,19 @@ ghost use Rattle.node.specs.Rows.{row_at};
 ghost use Rattle.node.specs.Views.{row_of};
 
 use crate::entry::EntryView;
-use crate::reading::argument;
+use crate::reading::{BEFORE_OWN_CID, argument};
 use cid::CidRef;
+use dagcbor::Major;
 
 /// A head of this major type: its argument, and the bytes after it.
 fn known_argument(major: u8, bytes: &[u8]) -> (u64, &[u8])
     requires { IsOk (argument_of major bytes.now) }
     ensures { argument_of major bytes.now ≡ Ok (result.0, result.1.now) }
 {
-    match bytes {
-        [first, rest @ ..] if first % 32 < 24 => (u64::from(first % 32), rest),
-        _ => {
-            let Ok(known) = argument(major, bytes) else {
-                unreachable!()
-            };
-            known
-        }
-    }
+    let Ok(known) = argument(major, bytes) else {
+        unreachable!()
+    };
+    known
 }
 
 /// A link, and the bytes after it.
@@ -31,7 +27,7 @@ fn known_link(bytes: &[u8]) -> (CidRef<'_>, &[u8])
     requires { IsOk (link_at bytes.now) }
     ensures { link_at bytes.now ≡ Ok (bytes_of result.0, result.1.now) }
 {
-    let (cid, rest) = bytes[5..].split_at(36);
+    let (cid, rest) = bytes[BEFORE_OWN_CID.len()..].split_at(36);
     match CidRef::from_bytes(cid) {
         Some(cid) => (cid, rest),
         None => unreachable!(),
@@ -58,9 +54,9 @@ pub(crate) fn known_entry(bytes: &[u8]) -> (EntryView<'_>, &[u8])
     requires { IsOk (row_at bytes.now) }
     ensures { row_at bytes.now ≡ Ok (row_of result.0, result.1.now) }
 {
-    let (length, rest) = known_argument(2, &bytes[3..]);
+    let (length, rest) = known_argument(Major::ByteString as u8, &bytes[3..]);
     let (suffix, rest) = rest.split_at(length as usize);
-    let (prefix, rest) = known_argument(0, &rest[2..]);
+    let (prefix, rest) = known_argument(Major::UnsignedInteger as u8, &rest[2..]);
     let (tree, rest) = known_link_or_null(&rest[2..]);
     let (value, rest) = known_link(&rest[2..]);
     let entry = EntryView {

@@ -8,7 +8,7 @@ ghost use Rattle.cid.specs.CidRef.{bytes_of};
 ghost use Rattle.node.specs.Bytes.{Extends, entry_text};
 
 use cid::{Cid, CidRef};
-use dagcbor::push_head;
+use dagcbor::{BEFORE_CID, LINK_HEAD, Major, push_head};
 use std::alloc::{AllocError, Allocator};
 
 /// The head of an entry, its suffix and how much of the key before it keeps: `k` and `p`.
@@ -21,10 +21,10 @@ pub(crate) fn push_key<A: Allocator>(
     ensures kept { Extends out.old.items out.new.items }
 {
     out.extend_from_slice(&[0xa4, b'a', b'k'])?;
-    push_head(out, 2, suffix.len() as u64)?;
+    push_head(out, Major::ByteString as u8, suffix.len() as u64)?;
     out.extend_from_slice(suffix)?;
     out.extend_from_slice(&[b'a', b'p'])?;
-    push_head(out, 0, prefix as u64)
+    push_head(out, Major::UnsignedInteger as u8, prefix as u64)
 }
 
 /// A field of one letter that holds a link or null.
@@ -39,7 +39,7 @@ pub(crate) fn push_link<A: Allocator>(
     match link {
         None => out.extend_from_slice(&[b'a', name, 0xf6]),
         Some(cid) => {
-            out.extend_from_slice(&[b'a', name, 0xd8, 0x2a, 0x58, 0x25, 0x00])?;
+            out.extend_from_slice(&[b'a', name, LINK_HEAD[0], LINK_HEAD[1], 0x58, 37, BEFORE_CID])?;
             out.extend_from_slice(cid.as_bytes())
         }
     }

@@ -12,7 +12,7 @@ ghost use Rattle.node.specs.Views.{row_of};
 use crate::entry::EntryView;
 use crate::fault::NodeFault;
 use cid::CidRef;
-use dagcbor::Cursor;
+use dagcbor::{BEFORE_CID, Cursor, LINK_HEAD, Major};
 
 /// These very bytes.
 pub(crate) fn literal<'a>(expected: &[u8], bytes: &'a [u8]) -> Result<&'a [u8], NodeFault>
@@ -21,38 +21,16 @@ pub(crate) fn literal<'a>(expected: &[u8], bytes: &'a [u8]) -> Result<&'a [u8], 
     bytes.strip_prefix(expected).ok_or(NodeFault::NotNode)
 }
 
-/// A head of this major type: its argument. Heads of one byte and of two, which nearly all are, are read at once.
+/// A head of this major type: its argument.
 #[inline(always)]
 pub(crate) fn argument(major: u8, bytes: &[u8]) -> Result<(u64, &[u8]), NodeFault>
     ensures { Gives (λ x. (x.0, x.1.now)) fault_of result (argument_of major bytes.now) }
 {
-    match bytes {
-        [head, rest @ ..] if major < 7 && head / 32 == major && head % 32 < 24 => {
-            Ok((u64::from(head % 32), rest))
-        }
-        [head, n, rest @ ..] if major < 7 && head / 32 == major && head % 32 == 24 && *n >= 24 => {
-            Ok((u64::from(*n), rest))
-        }
-        _ => any_argument(major, bytes),
-    }
-}
-
-/// A head of this major type, of whatever length: its argument.
-fn any_argument(major: u8, bytes: &[u8]) -> Result<(u64, &[u8]), NodeFault>
-    ensures { Gives (λ x. (x.0, x.1.now)) fault_of result (argument_of major bytes.now) }
-{
     let mut cursor = Cursor::new(bytes);
-    let Ok((kind, n)) = cursor.head() else {
-        return Err(NodeFault::NotNode);
-    };
-    if kind != major {
-        return Err(NodeFault::NotNode);
+    match cursor.head() {
+        Ok((kind, n)) if kind == major => Ok((n, cursor.rest())),
+        _ => Err(NodeFault::NotNode),
     }
-    let left = bytes.len() - cursor.place();
-    let Ok(rest) = cursor.take(left as u64) else {
-        unreachable!()
-    };
-    Ok((n, rest))
 }
 
 /// The next `n` bytes.
@@ -65,11 +43,15 @@ pub(crate) fn front(n: u64, bytes: &[u8]) -> Result<(&[u8], &[u8]), NodeFault>
     Ok(bytes.split_at(n as usize))
 }
 
+/// What stands before the CID in a link: the head of the tag, the head of a byte string of 37 bytes, and the byte that
+/// belongs to no CID.
+pub(crate) const BEFORE_OWN_CID: [u8; 5] = [LINK_HEAD[0], LINK_HEAD[1], 0x58, 37, BEFORE_CID];
+
 /// A link.
 pub(crate) fn link(bytes: &[u8]) -> Result<(CidRef<'_>, &[u8]), NodeFault>
     ensures { Gives (λ x. (bytes_of x.0, x.1.now)) fault_of result (link_at bytes.now) }
 {
-    let rest = literal(&[0xd8, 0x2a, 0x58, 0x25, 0x00], bytes)?;
+    let rest = literal(&BEFORE_OWN_CID, bytes)?;
     if rest.len() < 36 {
         return Err(NodeFault::NotNode);
     }
@@ -101,10 +83,10 @@ pub(crate) fn entry(bytes: &[u8]) -> Result<(EntryView<'_>, &[u8]), NodeFault>
     ensures { Gives (λ x. (row_of x.0, x.1.now)) fault_of result (row_at bytes.now) }
 {
     let rest = literal(&[0xa4, b'a', b'k'], bytes)?;
-    let (length, rest) = argument(2, rest)?;
+    let (length, rest) = argument(Major::ByteString as u8, rest)?;
     let (suffix, rest) = front(length, rest)?;
     let rest = literal(b"ap", rest)?;
-    let (prefix, rest) = argument(0, rest)?;
+    let (prefix, rest) = argument(Major::UnsignedInteger as u8, rest)?;
     if prefix >= 1 << 63 {
         return Err(NodeFault::NotNode);
     }

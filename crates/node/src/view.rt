@@ -20,6 +20,7 @@ use crate::reading::{argument, entry, link_or_null, literal};
 use crate::run::after;
 use crate::search::compare_after;
 use cid::CidRef;
+use dagcbor::Major;
 use std::cmp::Ordering;
 use std::marker::Model;
 
@@ -121,7 +122,7 @@ fn node(bytes: &[u8]) -> Result<(Option<CidRef<'_>>, (u64, &[u8])), NodeFault>
     ensures fits { IfOk result (λ x. IsBytes x.1.1.now) }
 {
     let rest = literal(&[0xa2, b'a', b'e'], bytes)?;
-    let (count, first) = argument(4, rest)?;
+    let (count, first) = argument(Major::Array as u8, rest)?;
     let rest = after_entries(count, first)?;
     let rest = literal(b"al", rest)?;
     let (left, rest) = link_or_null(rest)?;

@@ -11,7 +11,7 @@ use crate::parts::{lend, push_entry, push_link};
 use crate::run::pass;
 use crate::view::NodeView;
 use cid::{Cid, CidRef};
-use dagcbor::push_head;
+use dagcbor::{Major, push_head};
 use std::alloc::{AllocError, Allocator, Global};
 use std::clone::Clone;
 use std::marker::Model;
@@ -126,7 +126,7 @@ impl<A: Allocator + Clone> NodeWriter<A> {
         let alloc = self.entries.allocator().clone()?;
         let mut bytes = Vec::with_capacity(alloc, self.entries.len().saturating_add(ENDS))?;
         bytes.extend_from_slice(&[0xa2, b'a', b'e'])?;
-        push_head(&mut bytes, 4, self.count)?;
+        push_head(&mut bytes, Major::Array as u8, self.count)?;
         bytes.extend_from_slice(&self.entries)?;
         push_link(&mut bytes, b'l', lend(&self.left))?;
         Ok(bytes)

@@ -21,7 +21,8 @@ use std::convert::AsSlice;
 use std::sync::Arc;
 
 /// A tree: the CID of its top, and its nodes in the order of the export without records, each once. That is a node
-/// first, then the subtree before its keys, and then for each key the subtree after it (own).
+/// first, then the subtree before its keys, and then for each key the subtree after it. This order is this
+/// repository's own choice.
 #[derive(Drop)]
 #[derive_where(Debug)]
 pub struct Built<D: Digest, A: Allocator = Global> {

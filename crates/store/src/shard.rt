@@ -19,7 +19,7 @@ use std::sync::Arc;
 /// Blocks by their CIDs, each with the cores that hold it, at most `limit` of them.
 ///
 /// A contract sees it as a finite map from CIDs to bytes and sets of cores, beside its limit. Each entry stands under the
-/// CID of its bytes and has at least one core (own).
+/// CID of its bytes and has at least one core: this is a rule of this repository, no standard has it.
 #[derive(Drop)]
 pub struct Shard<D: Digest, A: Allocator = Global> {
     table: BTreeMap<Cid, Entry<D, A>, A>,

@@ -14,7 +14,8 @@ use std::sync::{Arc, Mutex, Wait};
 /// How many shards there are.
 pub const SHARDS: usize = 16;
 
-/// The number of the shard of a CID, below 16: the low four bits of the first byte of its digest (own).
+/// The number of the shard of a CID, below 16: the low four bits of the first byte of its digest. This
+/// is this repository's own choice.
 pub fn shard_number(cid: &Cid) -> usize
     ensures value { result ≡ shard_of cid.now }
     ensures small { result < 16 }

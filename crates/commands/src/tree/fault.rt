@@ -9,7 +9,7 @@ use crate::writing::WriteFault;
 use std::alloc::{AllocError, AllocFailed};
 use thiserror::Error;
 
-/// What is wrong with a line `KEY CID` (own names, which standard error shows).
+/// What is wrong with a line `KEY CID`. Standard error shows these names, which are this repository's own.
 #[derive(Clone, Copy, PartialEq, Eq, Debug, Error)]
 pub enum LineFault {
     /// There is no space.
@@ -23,7 +23,8 @@ pub enum LineFault {
     BadCid,
 }
 
-/// Why there is no listing of a tree, or not all of it (own names, which standard error shows).
+/// Why there is no listing of a tree, or not all of it. Standard error shows these names, which are this repository's
+/// own.
 #[derive(Clone, Copy, PartialEq, Eq, Debug, Error)]
 pub enum TreeFault {
     /// This line of the input is the first faulty one. Nothing was written.

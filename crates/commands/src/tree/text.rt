@@ -24,7 +24,7 @@ use std::io::{Read, Write};
 /// Lines end at LF or CR LF, and a last line needs no end. An empty line is passed over, and counted. A key is all
 /// before the last space of its line and has 1 to 1,024 bytes. Lines come in any order, and of those with one key the
 /// last decides. `B` is the number of zero bits that count for one layer, 2 in the AT Protocol
-/// (AT Protocol repository v3; the text is own).
+/// (AT Protocol repository v3; the form of the text is this repository's own).
 ///
 /// All of the input is read before a line is judged, and all is judged before a byte is written: at `Line`, `Clash` and
 /// `ReadFailed` nothing was written, and at `NoMemory` and `WriteFailed` a beginning of the text.
