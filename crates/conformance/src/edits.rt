@@ -1,41 +1,17 @@
 //! Puts and deletes over whole trees, beside the trees from scratch of the pairs that they leave.
 
-ghost use Rattle.std.specs.Prelude.{◌≤◌};
-
+use crate::fixtures::{are_of, tree, tree_of, value};
 use cid::digests::{Size, Toy};
-use cid::{Block, Cid, Digest};
+use cid::{Block, Cid, Collided};
 use edit::{BlockMap, Edit, EditFault, delete, is_key, put};
-use scratch::{Built, build, is_ascending};
-use std::alloc::Global;
+use scratch::Built;
+use std::alloc::{AllocError, Global};
 use std::sync::Arc;
-use std::test::Fail;
 
 type Keys = &'static [&'static [u8]];
 
 /// The keys of the tree of five nodes.
 const FIVE: Keys = &[b"a/p0", b"a/q2", b"a/r0"];
-
-/// The value of every key here.
-fn value() -> Cid {
-    Cid::of::<Toy>(b"record")
-}
-
-/// The tree of these pairs from scratch.
-fn tree_of<D: Digest>(alloc: Global, pairs: &[(Vec<u8>, Cid)]) -> Result<Built<D>, Fail> {
-    if !is_ascending(pairs) {
-        return Err(Fail::from("the keys don't ascend"));
-    }
-    Ok(build::<D, 2, _, _>(alloc, pairs)?)
-}
-
-/// The tree of these keys from scratch.
-fn tree<D: Digest>(alloc: Global, keys: &[&[u8]]) -> Result<Built<D>, Fail> {
-    let mut pairs = Vec::new(alloc);
-    for key in keys {
-        pairs.push((Vec::from_slice(alloc, key)?, value()))?;
-    }
-    tree_of(alloc, &pairs)
-}
 
 /// An edit of a tree, and how many blocks were read for it.
 #[derive(Drop)]
@@ -45,22 +21,22 @@ struct Edited {
 }
 
 /// Puts a key into a tree.
-fn put_into(alloc: Global, before: &Built<Toy>, key: &[u8], value: Cid) -> Result<Edited, Fail> {
+fn put_into(alloc: Global, before: &Built<Toy>, key: &[u8], value: Cid) -> Option<Edited> {
     if !is_key(key) {
-        return Err(Fail::from("no key"));
+        return None;
     }
-    let mut map = BlockMap::new(alloc, &before.blocks)?;
-    let edit = put::<Toy, 2, _, _>(alloc, &mut map, before.root, key, value)?;
+    let mut map = BlockMap::new(alloc, &before.blocks).ok()?;
+    let edit = put::<Toy, 2, _, _>(alloc, &mut map, before.root, key, value).ok()?;
     let reads = map.reads();
-    Ok(Edited { edit, reads })
+    Some(Edited { edit, reads })
 }
 
 /// Takes a key out of a tree.
-fn delete_from(alloc: Global, before: &Built<Toy>, key: &[u8]) -> Result<Edited, Fail> {
-    let mut map = BlockMap::new(alloc, &before.blocks)?;
-    let edit = delete::<Toy, 2, _, _>(alloc, &mut map, before.root, key)?;
+fn delete_from(alloc: Global, before: &Built<Toy>, key: &[u8]) -> Option<Edited> {
+    let mut map = BlockMap::new(alloc, &before.blocks).ok()?;
+    let edit = delete::<Toy, 2, _, _>(alloc, &mut map, before.root, key).ok()?;
     let reads = map.reads();
-    Ok(Edited { edit, reads })
+    Some(Edited { edit, reads })
 }
 
 /// How many blocks an edit adds and drops, and how many bytes the added ones have.
@@ -72,42 +48,30 @@ fn sizes(edit: &Edit<Toy>) -> (usize, usize, usize) {
     (edit.add.len(), edit.drop.len(), bytes)
 }
 
-/// The CIDs of the blocks before an edit without those that it drops and with those that it adds, in their order.
-fn cids_after(alloc: Global, before: &Built<Toy>, edit: &Edit<Toy>) -> Result<Vec<Cid>, Fail> {
-    let mut cids = Vec::new(alloc);
-    for block in &before.blocks {
+/// The blocks before an edit without those that it drops and with those that it adds.
+fn blocks_after(
+    alloc: Global,
+    before: &[Arc<Block<Toy>>],
+    edit: &Edit<Toy>,
+) -> Result<Vec<Arc<Block<Toy>>>, AllocError> {
+    let mut after = Vec::new(alloc);
+    for block in before {
         if !edit.drop.contains(&block.cid()) {
-            cids.push(block.cid())?;
+            after.push(Arc::try_clone(block)?)?;
         }
     }
     for block in &edit.add {
-        cids.push(block.cid())?;
+        after.push(Arc::try_clone(block)?)?;
     }
-    cids.sort()?;
-    Ok(cids)
-}
-
-/// The CIDs of some blocks, in their order.
-fn cids_of(alloc: Global, blocks: &[Arc<Block<Toy>>]) -> Result<Vec<Cid>, Fail> {
-    let mut cids = Vec::new(alloc);
-    for block in blocks {
-        cids.push(block.cid())?;
-    }
-    cids.sort()?;
-    Ok(cids)
+    Ok(after)
 }
 
 /// Whether an edit leaves this tree: its root, and its blocks and no others.
-fn leaves(
-    alloc: Global,
-    before: &Built<Toy>,
-    edit: &Edit<Toy>,
-    after: &Built<Toy>,
-) -> Result<bool, Fail> {
-    Ok(
-        edit.root == after.root
-            && cids_after(alloc, before, edit)? == cids_of(alloc, &after.blocks)?,
-    )
+fn leaves(alloc: Global, before: &Built<Toy>, edit: &Edit<Toy>, after: &Built<Toy>) -> bool {
+    match blocks_after(alloc, &before.blocks, edit) {
+        Ok(blocks) => are_of(alloc, edit.root, &blocks, after),
+        Err(_) => false,
+    }
 }
 
 /// A row of the table of edits.
@@ -183,88 +147,141 @@ const DELETES: [Row; 3] = [
     },
 ];
 
+/// Whether an edit is that of this row, and found this value.
+fn is_of_row(
+    alloc: Global,
+    row: &Row,
+    before: &Built<Toy>,
+    done: &Edited,
+    previous: Option<Cid>,
+) -> bool {
+    match tree::<Toy>(alloc, row.after) {
+        Some(after) => {
+            leaves(alloc, before, &done.edit, &after)
+                && sizes(&done.edit) == row.sizes
+                && done.edit.previous == previous
+                && done.reads <= row.most_reads
+        }
+        None => false,
+    }
+}
+
+/// Whether the put of a row is as it says, and found no value.
+fn puts_as(alloc: Global, row: &Row) -> bool {
+    let Some(before) = tree::<Toy>(alloc, row.before) else {
+        return false;
+    };
+    match put_into(alloc, &before, row.key, value()) {
+        Some(done) => is_of_row(alloc, row, &before, &done, None),
+        None => false,
+    }
+}
+
 #[test]
-fn puts_by_their_sizes(rt: HostRuntime) -> Result<(), Fail> {
+fn puts_by_their_sizes(rt: HostRuntime) {
     for row in &PUTS {
-        let before = tree::<Toy>(rt.alloc(), row.before)?;
-        let done = put_into(rt.alloc(), &before, row.key, value())?;
-        assert_eq!(rt; sizes(&done.edit), row.sizes);
-        assert_eq!(rt; done.edit.previous, None);
-        assert!(rt; done.reads <= row.most_reads);
-        let after = tree::<Toy>(rt.alloc(), row.after)?;
-        assert!(rt; leaves(rt.alloc(), &before, &done.edit, &after)?);
+        assert!(rt; puts_as(rt.alloc(), row));
     }
-    Ok(())
+}
+
+/// Whether the delete of a row is as it says, and found the value.
+fn deletes_as(alloc: Global, row: &Row) -> bool {
+    let Some(before) = tree::<Toy>(alloc, row.before) else {
+        return false;
+    };
+    match delete_from(alloc, &before, row.key) {
+        Some(done) => is_of_row(alloc, row, &before, &done, Some(value())),
+        None => false,
+    }
 }
 
 #[test]
-fn deletes_by_their_sizes(rt: HostRuntime) -> Result<(), Fail> {
+fn deletes_by_their_sizes(rt: HostRuntime) {
     for row in &DELETES {
-        let before = tree::<Toy>(rt.alloc(), row.before)?;
-        let done = delete_from(rt.alloc(), &before, row.key)?;
-        assert_eq!(rt; sizes(&done.edit), row.sizes);
-        assert_eq!(rt; done.edit.previous, Some(value()));
-        assert!(rt; done.reads <= row.most_reads);
-        let after = tree::<Toy>(rt.alloc(), row.after)?;
-        assert!(rt; leaves(rt.alloc(), &before, &done.edit, &after)?);
+        assert!(rt; deletes_as(rt.alloc(), row));
     }
-    Ok(())
+}
+
+/// Whether an edit has no effect on the tree with this root, and found the value.
+fn has_no_effect(done: &Edited, root: Cid, most_reads: u64) -> bool {
+    sizes(&done.edit) == (0, 0, 0)
+        && done.edit.root == root
+        && done.edit.previous == Some(value())
+        && done.reads <= most_reads
+}
+
+/// Whether a put of a key with the value that it has changes nothing.
+fn changes_nothing(alloc: Global, keys: &[&[u8]], key: &[u8], most_reads: u64) -> bool {
+    let Some(before) = tree::<Toy>(alloc, keys) else {
+        return false;
+    };
+    match put_into(alloc, &before, key, value()) {
+        Some(same) => has_no_effect(&same, before.root, most_reads),
+        None => false,
+    }
 }
 
 #[test]
-fn the_same_put_twice(rt: HostRuntime) -> Result<(), Fail> {
-    for (keys, key, most_reads) in [
-        ([b"a/b0".as_slice()].as_slice(), b"a/b0".as_slice(), 1),
-        (FIVE, b"a/q2", 3),
-        (FIVE, b"a/p0", 3),
-    ] {
-        let before = tree::<Toy>(rt.alloc(), keys)?;
-        let same = put_into(rt.alloc(), &before, key, value())?;
-        assert_eq!(rt; sizes(&same.edit), (0, 0, 0));
-        assert_eq!(rt; same.edit.root, before.root);
-        assert_eq!(rt; same.edit.previous, Some(value()));
-        assert!(rt; same.reads <= most_reads);
-    }
-    Ok(())
+fn the_same_put_twice(rt: HostRuntime) {
+    assert!(rt; changes_nothing(rt.alloc(), &[b"a/b0"], b"a/b0", 1));
+    assert!(rt; changes_nothing(rt.alloc(), FIVE, b"a/q2", 3));
+    assert!(rt; changes_nothing(rt.alloc(), FIVE, b"a/p0", 3));
 }
 
-#[test]
-fn another_value_of_a_key(rt: HostRuntime) -> Result<(), Fail> {
-    let other = Cid::of::<Toy>(b"another record");
-    let before = tree::<Toy>(rt.alloc(), FIVE)?;
-    let done = put_into(rt.alloc(), &before, b"a/q2", other)?;
-    assert_eq!(rt; sizes(&done.edit), (1, 1, 144));
-    assert_eq!(rt; done.edit.previous, Some(value()));
-    assert_eq!(rt; done.edit.drop.as_slice(), [before.root].as_slice());
-    assert!(rt;
-        done.edit
+/// Whether an edit puts one new block, the root's, in the place of the root before.
+fn replaces_the_root(done: &Edited, root: Cid) -> bool {
+    let edit = &done.edit;
+    sizes(edit) == (1, 1, 144)
+        && edit.previous == Some(value())
+        && edit.drop.as_slice() == [root].as_slice()
+        && edit
             .add
-            .iter()
-            .all(|block| block.cid() == done.edit.root)
-    );
-    assert!(rt; done.reads <= 3);
-    let mut pairs = Vec::new(rt.alloc());
-    for key in FIVE {
-        let value = if *key == b"a/q2".as_slice() {
-            other
-        } else {
-            value()
-        };
-        pairs.push((Vec::from_slice(rt.alloc(), key)?, value))?;
+            .first()
+            .is_some_and(|block| block.cid() == edit.root)
+        && done.reads <= 3
+}
+
+/// Whether a put of another value of `a/q2` over the tree before leaves the tree after.
+fn leaves_the_other(alloc: Global, before: &Built<Toy>, after: &Built<Toy>, other: Cid) -> bool {
+    match put_into(alloc, before, b"a/q2", other) {
+        Some(done) => {
+            replaces_the_root(&done, before.root) && leaves(alloc, before, &done.edit, after)
+        }
+        None => false,
     }
-    let after = tree_of::<Toy>(rt.alloc(), &pairs)?;
-    assert!(rt; leaves(rt.alloc(), &before, &done.edit, &after)?);
-    Ok(())
 }
 
 #[test]
-fn delete_of_a_key_that_is_not_there(rt: HostRuntime) -> Result<(), Fail> {
-    let before = tree::<Toy>(rt.alloc(), FIVE)?;
-    let mut map = BlockMap::new(rt.alloc(), &before.blocks)?;
-    let edited = delete::<Toy, 2, _, _>(rt.alloc(), &mut map, before.root, b"a/q1");
-    assert!(rt; matches!(edited, Err(EditFault::NoSuchKey)));
-    assert!(rt; map.reads() <= 6);
-    Ok(())
+fn another_value_of_a_key(rt: HostRuntime) {
+    let other = Cid::of::<Toy>(b"another record");
+    let before = tree::<Toy>(rt.alloc(), FIVE).expect(&rt, "a tree");
+    let pairs: [(&[u8], Cid); 3] = [(b"a/p0", value()), (b"a/q2", other), (b"a/r0", value())];
+    let after = tree_of::<Toy, 2, _>(rt.alloc(), &pairs).expect(&rt, "a tree");
+    assert!(rt; leaves_the_other(rt.alloc(), &before, &after, other));
+}
+
+/// Whether an edit answered that there is no such key; none where it had another fault.
+fn is_missed(edited: Result<Edit<Toy>, EditFault<Toy>>) -> Option<bool> {
+    match edited {
+        Ok(_) => Some(false),
+        Err(EditFault::NoSuchKey) => Some(true),
+        Err(_) => None,
+    }
+}
+
+/// Whether a delete of a key misses it, in so many reads at most.
+fn delete_is_missed(alloc: Global, before: &Built<Toy>, key: &[u8], most_reads: u64) -> bool {
+    let Ok(mut map) = BlockMap::new(alloc, &before.blocks) else {
+        return false;
+    };
+    let edited = delete::<Toy, 2, _, _>(alloc, &mut map, before.root, key);
+    is_missed(edited) == Some(true) && map.reads() <= most_reads
+}
+
+#[test]
+fn delete_of_a_key_that_is_not_there(rt: HostRuntime) {
+    let before = tree::<Toy>(rt.alloc(), FIVE).expect(&rt, "a tree");
+    assert!(rt; delete_is_missed(rt.alloc(), &before, b"a/q1", 6));
 }
 
 /// The blocks of a tree but for the one at a place.
@@ -272,7 +289,7 @@ fn without(
     alloc: Global,
     blocks: &[Arc<Block<Toy>>],
     missing: usize,
-) -> Result<Vec<Arc<Block<Toy>>>, Fail> {
+) -> Result<Vec<Arc<Block<Toy>>>, AllocError> {
     let mut others = Vec::new(alloc);
     for (place, block) in blocks.iter().enumerate() {
         if place != missing {
@@ -282,103 +299,107 @@ fn without(
     Ok(others)
 }
 
-/// Whether an edit answered that there is no such key; it must not have another fault.
-fn is_missed(edited: Result<Edit<Toy>, EditFault<Toy>>) -> Result<bool, Fail> {
-    match edited {
-        Ok(_) => Ok(false),
-        Err(EditFault::NoSuchKey) => Ok(true),
-        Err(EditFault::Clash(_)) => Err(Fail::from("a clash")),
-        Err(EditFault::NoMemory) => Err(Fail::from("no memory")),
-    }
-}
-
-/// Whether a put misses the block at a place of the tree.
-fn put_misses(
-    alloc: Global,
-    before: &Built<Toy>,
-    missing: usize,
-    key: &[u8],
-) -> Result<bool, Fail> {
+/// Whether a put misses the block at a place of the tree; none where it had another fault.
+fn put_misses(alloc: Global, before: &Built<Toy>, missing: usize, key: &[u8]) -> Option<bool> {
     if !is_key(key) {
-        return Err(Fail::from("no key"));
+        return None;
     }
-    let others = without(alloc, &before.blocks, missing)?;
-    let mut map = BlockMap::new(alloc, &others)?;
+    let others = without(alloc, &before.blocks, missing).ok()?;
+    let mut map = BlockMap::new(alloc, &others).ok()?;
     is_missed(put::<Toy, 2, _, _>(alloc, &mut map, before.root, key, value()))
 }
 
-/// Whether a delete misses the block at a place of the tree.
-fn delete_misses(
-    alloc: Global,
-    before: &Built<Toy>,
-    missing: usize,
-    key: &[u8],
-) -> Result<bool, Fail> {
-    let others = without(alloc, &before.blocks, missing)?;
-    let mut map = BlockMap::new(alloc, &others)?;
+/// Whether a delete misses the block at a place of the tree; none where it had another fault.
+fn delete_misses(alloc: Global, before: &Built<Toy>, missing: usize, key: &[u8]) -> Option<bool> {
+    let others = without(alloc, &before.blocks, missing).ok()?;
+    let mut map = BlockMap::new(alloc, &others).ok()?;
     is_missed(delete::<Toy, 2, _, _>(alloc, &mut map, before.root, key))
 }
 
+/// Whether the edits miss the block at a place: a put of `a/p1` and a delete of `a/p0` where it stands on the way to the
+/// left, a put of `a/q2` where it is the top, and a delete of `a/q2` at any place.
+fn edits_miss(alloc: Global, before: &Built<Toy>, missing: usize, left: bool, top: bool) -> bool {
+    put_misses(alloc, before, missing, b"a/p1") == Some(left)
+        && put_misses(alloc, before, missing, b"a/q2") == Some(top)
+        && delete_misses(alloc, before, missing, b"a/p0") == Some(left)
+        && delete_misses(alloc, before, missing, b"a/q2") == Some(true)
+}
+
 #[test]
-fn edits_over_a_source_that_lacks_a_block(rt: HostRuntime) -> Result<(), Fail> {
+fn edits_over_a_source_that_lacks_a_block(rt: HostRuntime) {
+    let before = tree::<Toy>(rt.alloc(), FIVE).expect(&rt, "a tree");
     // The blocks are the top, the two nodes before its key, and the two after it.
-    let before = tree::<Toy>(rt.alloc(), FIVE)?;
-    for (key, wanted) in [
-        (b"a/p1".as_slice(), [true, true, true, false, false]),
-        (b"a/q2", [true, false, false, false, false]),
+    for (missing, left, top) in [
+        (0, true, true),
+        (1, true, false),
+        (2, true, false),
+        (3, false, false),
+        (4, false, false),
     ] {
-        for (missing, is_wanted) in wanted.into_iter().enumerate() {
-            assert_eq!(rt; put_misses(rt.alloc(), &before, missing, key)?, is_wanted);
-        }
+        assert!(rt; edits_miss(rt.alloc(), &before, missing, left, top));
     }
-    for (key, wanted) in [
-        (b"a/p0".as_slice(), [true, true, true, false, false]),
-        (b"a/q2", [true, true, true, true, true]),
-    ] {
-        for (missing, is_wanted) in wanted.into_iter().enumerate() {
-            assert_eq!(rt;
-                delete_misses(rt.alloc(), &before, missing, key)?,
-                is_wanted
-            );
-        }
-    }
-    Ok(())
 }
 
-/// The bytes of a node of one key.
-fn lone(alloc: Global, key: &[u8]) -> Result<Arc<Block<Size>>, Fail> {
-    let mut built = tree::<Size>(alloc, &[key])?;
-    Ok(built.blocks.pop().ok_or("no block")?)
+/// The two blocks of the clash that a put meets.
+fn put_clash(alloc: Global, before: &Built<Size>, key: &[u8]) -> Option<Collided<Size>> {
+    if !is_key(key) {
+        return None;
+    }
+    let mut map = BlockMap::new(alloc, &before.blocks).ok()?;
+    match put::<Size, 2, _, _>(alloc, &mut map, before.root, key, value()) {
+        Err(EditFault::Clash(pair)) => Some(pair),
+        _ => None,
+    }
+}
+
+/// The two blocks of the clash that a delete meets.
+fn delete_clash(alloc: Global, before: &Built<Size>, key: &[u8]) -> Option<Collided<Size>> {
+    let mut map = BlockMap::new(alloc, &before.blocks).ok()?;
+    match delete::<Size, 2, _, _>(alloc, &mut map, before.root, key) {
+        Err(EditFault::Clash(pair)) => Some(pair),
+        _ => None,
+    }
+}
+
+/// Whether a tree is of one node, of these bytes, 64 in all.
+fn is_lone(tree: &Built<Size>, bytes: &[u8]) -> bool {
+    match tree.blocks.as_slice() {
+        [block] => block.bytes() == bytes && bytes.len() == 64,
+        _ => false,
+    }
+}
+
+/// Whether the two blocks are the nodes of one key each, `a/p0` and `a/r0`, in either order.
+fn is_of_both_sides(alloc: Global, pair: &Collided<Size>) -> bool {
+    let (one, other) = (pair.one().bytes(), pair.other().bytes());
+    match (
+        tree::<Size>(alloc, &[b"a/p0"]),
+        tree::<Size>(alloc, &[b"a/r0"]),
+    ) {
+        (Some(left), Some(right)) => {
+            (is_lone(&left, one) && is_lone(&right, other))
+                || (is_lone(&left, other) && is_lone(&right, one))
+        }
+        _ => false,
+    }
 }
 
 #[test]
-fn clash_of_the_two_sides_of_a_put(rt: HostRuntime) -> Result<(), Fail> {
-    let before = tree::<Size>(rt.alloc(), &[b"a/p0", b"a/r0"])?;
-    let mut map = BlockMap::new(rt.alloc(), &before.blocks)?;
-    let (left, right) = (lone(rt.alloc(), b"a/p0")?, lone(rt.alloc(), b"a/r0")?);
-    assert_eq!(rt; (left.bytes().len(), right.bytes().len()), (64, 64));
-    match put::<Size, 2, _, _>(rt.alloc(), &mut map, before.root, b"a/q2", value()) {
-        Err(EditFault::Clash(pair)) => {
-            let (one, other) = (pair.one().bytes(), pair.other().bytes());
-            let as_made = one == left.bytes() && other == right.bytes();
-            assert!(rt; as_made || (other == left.bytes() && one == right.bytes()));
-            Ok(())
-        }
-        _ => Err(Fail::from("no clash")),
-    }
+fn clash_of_the_two_sides_of_a_put(rt: HostRuntime) {
+    let before = tree::<Size>(rt.alloc(), &[b"a/p0", b"a/r0"]).expect(&rt, "a tree");
+    let pair = put_clash(rt.alloc(), &before, b"a/q2").expect(&rt, "a clash");
+    assert!(rt; is_of_both_sides(rt.alloc(), &pair));
+}
+
+/// Whether two blocks of 104 bytes differ.
+fn is_of_two_tops(pair: &Collided<Size>) -> bool {
+    let (one, other) = (pair.one().bytes(), pair.other().bytes());
+    one.len() == 104 && other.len() == 104 && one != other
 }
 
 #[test]
-fn clash_of_the_tops_before_and_after_a_delete(rt: HostRuntime) -> Result<(), Fail> {
-    let before = tree::<Size>(rt.alloc(), &[b"a/p0", b"a/p00", b"a/q1"])?;
-    let mut map = BlockMap::new(rt.alloc(), &before.blocks)?;
-    match delete::<Size, 2, _, _>(rt.alloc(), &mut map, before.root, b"a/p00") {
-        Err(EditFault::Clash(pair)) => {
-            assert_eq!(rt; pair.one().bytes().len(), 104);
-            assert_eq!(rt; pair.other().bytes().len(), 104);
-            assert!(rt; pair.one().bytes() != pair.other().bytes());
-            Ok(())
-        }
-        _ => Err(Fail::from("no clash")),
-    }
+fn clash_of_the_tops_before_and_after_a_delete(rt: HostRuntime) {
+    let before = tree::<Size>(rt.alloc(), &[b"a/p0", b"a/p00", b"a/q1"]).expect(&rt, "a tree");
+    let pair = delete_clash(rt.alloc(), &before, b"a/p00").expect(&rt, "a clash");
+    assert!(rt; is_of_two_tops(&pair));
 }

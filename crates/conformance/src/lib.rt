@@ -6,6 +6,8 @@ mod edits;
 #[cfg(test)]
 mod example;
 #[cfg(test)]
+mod fixtures;
+#[cfg(test)]
 mod histories;
 #[cfg(test)]
 mod lookups;

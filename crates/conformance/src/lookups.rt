@@ -1,29 +1,37 @@
 //! Look-ups over whole trees, in as many reads as a key's path has nodes.
 
+use crate::fixtures::{three_pairs, tree_of, value};
 use cid::Cid;
 use cid::digests::Toy;
 use edit::{BlockMap, get};
-use scratch::{build, is_ascending};
-use std::test::Fail;
+use scratch::Built;
+use std::alloc::Global;
+
+/// Whether a look-up of a key gives this value, or none, in so many reads.
+fn is_looked_up(
+    alloc: Global,
+    tree: &Built<Toy>,
+    key: &[u8],
+    value: Option<Cid>,
+    reads: u64,
+) -> bool {
+    let Ok(mut map) = BlockMap::new(alloc, &tree.blocks) else {
+        return false;
+    };
+    let found = get::<Toy, 2, _, _>(&mut map, tree.root, key);
+    found == value && map.reads() == reads
+}
 
 #[test]
-fn reads_of_a_look_up(rt: HostRuntime) -> Result<(), Fail> {
-    let value = Cid::of::<Toy>(b"record");
-    let pairs: [(&[u8], Cid); 3] = [(b"a/p0", value), (b"a/q2", value), (b"a/r0", value)];
-    if !is_ascending(&pairs) {
-        return Err(Fail::from("the keys don't ascend"));
-    }
-    let built = build::<Toy, 2, _, _>(rt.alloc(), &pairs)?;
+fn reads_of_a_look_up(rt: HostRuntime) {
+    let tree = tree_of::<Toy, 2, _>(rt.alloc(), &three_pairs()).expect(&rt, "a tree");
     let cases: [(&[u8], Option<Cid>, u64); 4] = [
-        (b"a/q2", Some(value), 1),
-        (b"a/p0", Some(value), 3),
+        (b"a/q2", Some(value()), 1),
+        (b"a/p0", Some(value()), 3),
         (b"a/p1", None, 3),
-        (b"a/r0", Some(value), 3),
+        (b"a/r0", Some(value()), 3),
     ];
-    for (key, found, reads) in cases {
-        let mut map = BlockMap::new(rt.alloc(), &built.blocks)?;
-        assert_eq!(rt; get::<Toy, 2, _, _>(&mut map, built.root, key), found);
-        assert_eq!(rt; map.reads(), reads);
+    for (key, value, reads) in cases {
+        assert!(rt; is_looked_up(rt.alloc(), &tree, key, value, reads));
     }
-    Ok(())
 }

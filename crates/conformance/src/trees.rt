@@ -2,31 +2,11 @@
 
 ghost use Rattle.std.specs.Prelude.{◌≤◌};
 
+use crate::fixtures::{three_pairs, tree_of};
+use cid::Block;
 use cid::digests::Toy;
-use cid::{Block, Cid};
-use scratch::{build, is_ascending};
 use std::alloc::Global;
 use std::sync::Arc;
-use std::test::Fail;
-
-/// An identifier whose digest has 32 times the byte 11.
-fn record() -> Result<Cid, Fail> {
-    let mut bytes = [0x11; 36];
-    bytes[..4].copy_from_slice(&[0x01, 0x71, 0x12, 0x20]);
-    Ok(Cid::try_from(bytes)?)
-}
-
-/// How many nodes a tree has, and how many bytes in all, with `B` zero bits a layer.
-fn sizes<const B: u8>(alloc: Global, pairs: &[(&[u8], Cid)]) -> Result<(usize, usize), Fail>
-    requires least { 1 ≤ B }
-    requires most { B ≤ 8 }
-{
-    if !is_ascending(pairs) {
-        return Err(Fail::from("the keys don't ascend"));
-    }
-    let built = build::<Toy, B, _, _>(alloc, pairs)?;
-    Ok((built.blocks.len(), bytes_of(&built.blocks)))
-}
 
 /// The bytes of some blocks, in all.
 fn bytes_of(blocks: &[Arc<Block<Toy>>]) -> usize {
@@ -37,13 +17,21 @@ fn bytes_of(blocks: &[Arc<Block<Toy>>]) -> usize {
     bytes
 }
 
+/// Whether the tree of the three pairs has so many nodes, and so many bytes in all, with `B` zero bits a layer.
+fn has_size<const B: u8>(alloc: Global, nodes: usize, bytes: usize) -> bool
+    requires least { 1 ≤ B }
+    requires most { B ≤ 8 }
+{
+    match tree_of::<Toy, B, _>(alloc, &three_pairs()) {
+        Some(tree) => tree.blocks.len() == nodes && bytes_of(&tree.blocks) == bytes,
+        None => false,
+    }
+}
+
 #[test]
-fn tree_of_five_nodes(rt: HostRuntime) -> Result<(), Fail> {
-    let value = record()?;
-    let pairs: [(&[u8], Cid); 3] = [(b"a/p0", value), (b"a/q2", value), (b"a/r0", value)];
-    assert_eq!(rt; sizes::<1>(rt.alloc(), &pairs)?, (9, 554));
-    assert_eq!(rt; sizes::<2>(rt.alloc(), &pairs)?, (5, 366));
-    assert_eq!(rt; sizes::<4>(rt.alloc(), &pairs)?, (3, 272));
-    assert_eq!(rt; sizes::<8>(rt.alloc(), &pairs)?, (1, 174));
-    Ok(())
+fn tree_of_five_nodes(rt: HostRuntime) {
+    assert!(rt; has_size::<1>(rt.alloc(), 9, 554));
+    assert!(rt; has_size::<2>(rt.alloc(), 5, 366));
+    assert!(rt; has_size::<4>(rt.alloc(), 3, 272));
+    assert!(rt; has_size::<8>(rt.alloc(), 1, 174));
 }

@@ -2,12 +2,12 @@
 
 ghost use Rattle.std.specs.Prelude.{◌≤◌};
 
+use crate::fixtures::{three_pairs, tree_of};
 use cid::digests::Toy;
 use cid::{Cid, Digest, Sha256};
 use edit::{BlockMap, walk};
-use scratch::{Built, build, is_ascending};
-use std::alloc::Global;
-use std::test::Fail;
+use scratch::Built;
+use std::alloc::{AllocError, Global};
 
 type Pairs = Vec<(Vec<u8>, Cid)>;
 
@@ -15,18 +15,18 @@ type Pairs = Vec<(Vec<u8>, Cid)>;
 const COUNT: u16 = 300;
 
 /// The keys `a/000` to `a/299` in their order, each with a value of its own.
-fn pairs(alloc: Global) -> Result<Pairs, Fail> {
+fn pairs(alloc: Global) -> Option<Pairs> {
     let mut pairs = Vec::new(alloc);
     for number in 0..COUNT {
-        let key = format!(in alloc; "a/{number:03}")?.into_bytes();
+        let key = format!(in alloc; "a/{number:03}").ok()?.into_bytes();
         let value = Cid::of::<Toy>(&key);
-        pairs.push((key, value))?;
+        pairs.push((key, value)).ok()?;
     }
-    Ok(pairs)
+    Some(pairs)
 }
 
 /// The first `limit` pairs whose key isn't below `from`, out of the sorted list.
-fn listed(alloc: Global, pairs: &Pairs, from: &[u8], limit: usize) -> Result<Pairs, Fail> {
+fn listed(alloc: Global, pairs: &Pairs, from: &[u8], limit: usize) -> Result<Pairs, AllocError> {
     let mut some = Vec::new(alloc);
     for (key, value) in pairs {
         if some.len() < limit && key.as_slice() >= from {
@@ -42,72 +42,93 @@ const STARTS: [&[u8]; 9] = [
 
 const LIMITS: [usize; 7] = [0, 1, 2, 7, 64, 300, usize::MAX];
 
-/// Whether each walk of the table gives the sorted list, and reads each node once at most.
-fn agrees<D: Digest, const B: u8>(
+/// A walk's pairs, and how many blocks were read for it.
+#[derive(Drop)]
+struct Walked {
+    pairs: Pairs,
+    reads: u64,
+}
+
+/// A walk over a tree.
+fn walk_of<D: Digest, const B: u8>(
     alloc: Global,
-    pairs: &Pairs,
-    built: &Built<D>,
-) -> Result<bool, Fail>
+    tree: &Built<D>,
+    from: &[u8],
+    limit: usize,
+) -> Result<Walked, AllocError>
     requires { 1 ≤ B }
 {
+    let mut map = BlockMap::new(alloc, &tree.blocks)?;
+    let pairs = walk::<D, B, _, _>(alloc, &mut map, tree.root, from, limit)?;
+    let reads = map.reads();
+    Ok(Walked { pairs, reads })
+}
+
+/// Whether a walk gives the sorted list, and reads each node once at most.
+fn is_listed<D: Digest, const B: u8>(
+    alloc: Global,
+    pairs: &Pairs,
+    tree: &Built<D>,
+    from: &[u8],
+    limit: usize,
+) -> bool
+    requires { 1 ≤ B }
+{
+    let Ok(walked) = walk_of::<D, B>(alloc, tree, from, limit) else {
+        return false;
+    };
+    let Ok(listed) = listed(alloc, pairs, from, limit) else {
+        return false;
+    };
+    walked.pairs == listed && walked.reads <= tree.blocks.len() as u64
+}
+
+/// Whether each walk of the table gives the sorted list, and one of all keys reads each node once.
+fn agrees<D: Digest, const B: u8>(alloc: Global, pairs: &Pairs) -> bool
+    requires least { 1 ≤ B }
+    requires most { B ≤ 8 }
+{
+    let Some(tree) = tree_of::<D, B, _>(alloc, pairs) else {
+        return false;
+    };
     for from in STARTS {
         for limit in LIMITS {
-            let mut map = BlockMap::new(alloc, &built.blocks)?;
-            let walked = walk::<D, B, _, _>(alloc, &mut map, built.root, from, limit)?;
-            if walked != listed(alloc, pairs, from, limit)? {
-                return Ok(false);
-            }
-            if map.reads() > built.blocks.len() as u64 {
-                return Ok(false);
+            if !is_listed::<D, B>(alloc, pairs, &tree, from, limit) {
+                return false;
             }
         }
     }
-    let mut map = BlockMap::new(alloc, &built.blocks)?;
-    let walked = walk::<D, B, _, _>(alloc, &mut map, built.root, b"", usize::MAX)?;
-    Ok(walked.len() == pairs.len() && map.reads() == built.blocks.len() as u64)
+    match walk_of::<D, B>(alloc, &tree, b"", usize::MAX) {
+        Ok(all) => all.pairs.len() == pairs.len() && all.reads == tree.blocks.len() as u64,
+        Err(_) => false,
+    }
 }
 
 #[test]
-fn walks_over_a_tree_of_the_toy_digest(rt: HostRuntime) -> Result<(), Fail> {
-    let pairs = pairs(rt.alloc())?;
-    if !is_ascending(&pairs) {
-        return Err(Fail::from("the keys don't ascend"));
-    }
-    let built = build::<Toy, 2, _, _>(rt.alloc(), &pairs)?;
-    assert!(rt; agrees::<Toy, 2>(rt.alloc(), &pairs, &built)?);
-    let built = build::<Toy, 1, _, _>(rt.alloc(), &pairs)?;
-    assert!(rt; agrees::<Toy, 1>(rt.alloc(), &pairs, &built)?);
-    Ok(())
+fn walks_over_a_tree_of_the_toy_digest(rt: HostRuntime) {
+    let pairs = pairs(rt.alloc()).expect(&rt, "the pairs");
+    assert!(rt; agrees::<Toy, 2>(rt.alloc(), &pairs));
+    assert!(rt; agrees::<Toy, 1>(rt.alloc(), &pairs));
 }
 
 #[test]
-fn walks_over_a_tree_of_sha_256(rt: HostRuntime) -> Result<(), Fail> {
-    let pairs = pairs(rt.alloc())?;
-    if !is_ascending(&pairs) {
-        return Err(Fail::from("the keys don't ascend"));
-    }
-    let built = build::<Sha256, 2, _, _>(rt.alloc(), &pairs)?;
-    assert!(rt; agrees::<Sha256, 2>(rt.alloc(), &pairs, &built)?);
-    let built = build::<Sha256, 4, _, _>(rt.alloc(), &pairs)?;
-    assert!(rt; agrees::<Sha256, 4>(rt.alloc(), &pairs, &built)?);
-    Ok(())
+fn walks_over_a_tree_of_sha_256(rt: HostRuntime) {
+    let pairs = pairs(rt.alloc()).expect(&rt, "the pairs");
+    assert!(rt; agrees::<Sha256, 2>(rt.alloc(), &pairs));
+    assert!(rt; agrees::<Sha256, 4>(rt.alloc(), &pairs));
 }
 
-#[test]
-fn walk_over_a_tree_of_five_nodes(rt: HostRuntime) -> Result<(), Fail> {
-    let value = Cid::of::<Toy>(b"record");
-    let pairs: [(&[u8], Cid); 3] = [(b"a/p0", value), (b"a/q2", value), (b"a/r0", value)];
-    if !is_ascending(&pairs) {
-        return Err(Fail::from("the keys don't ascend"));
-    }
-    let built = build::<Toy, 2, _, _>(rt.alloc(), &pairs)?;
-    let mut map = BlockMap::new(rt.alloc(), &built.blocks)?;
-    let walked = walk::<Toy, 2, _, _>(rt.alloc(), &mut map, built.root, b"a/q", 2)?;
-    let [(first, _), (second, _)] = walked.as_slice() else {
-        return Err(Fail::from("not two pairs"));
+/// Whether these are the pairs of `a/q2` and `a/r0`.
+fn are_the_last_two(pairs: &[(Vec<u8>, Cid)]) -> bool {
+    let [(first, _), (second, _)] = pairs else {
+        return false;
     };
-    assert_eq!(rt; first.as_slice(), b"a/q2".as_slice());
-    assert_eq!(rt; second.as_slice(), b"a/r0".as_slice());
-    assert_eq!(rt; map.reads(), 5);
-    Ok(())
+    first.as_slice() == b"a/q2".as_slice() && second.as_slice() == b"a/r0".as_slice()
+}
+
+#[test]
+fn walk_over_a_tree_of_five_nodes(rt: HostRuntime) {
+    let tree = tree_of::<Toy, 2, _>(rt.alloc(), &three_pairs()).expect(&rt, "a tree");
+    let walked = walk_of::<Toy, 2>(rt.alloc(), &tree, b"a/q", 2).expect(&rt, "a walk");
+    assert!(rt; are_the_last_two(&walked.pairs) && walked.reads == 5);
 }

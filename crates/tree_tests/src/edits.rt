@@ -1,288 +1,340 @@
 //! Look-ups, walks and edits over blocks that are written here, and what no clause says.
 
+use crate::fixtures::{Blocks, add, add_node, cid_at, five_nodes, node, value, without};
 use cid::digests::{Clash, Toy};
-use cid::{Block, Cid, CidRef};
+use cid::{Block, Cid, Digest};
 use edit::{BlockMap, Edit, EditFault, delete, get, is_key, put, walk};
-use node::NodeWriter;
 use refusing::Refusing;
-use std::alloc::Global;
+use std::alloc::{AllocError, Allocator, Global};
 use std::sync::Arc;
-use std::test::Fail;
 
-type Blocks = Vec<Arc<Block<Toy>>>;
-
-/// The identifier `01 71 12 20` and 32 bytes of one value.
-fn identifier(byte: u8) -> Result<Cid, &'static str> {
-    let mut bytes = [byte; 36];
-    bytes[..4].copy_from_slice(&[0x01, 0x71, 0x12, 0x20]);
-    Cid::from_bytes(bytes).ok_or("no CID")
-}
-
-/// Adds a block of these bytes, and answers its CID.
-fn add(alloc: Global, blocks: &mut Blocks, bytes: Vec<u8>) -> Result<Cid, Fail> {
-    let block = Block::of(bytes);
-    let cid = block.cid();
-    blocks.push(Arc::new(alloc, block)?)?;
-    Ok(cid)
-}
-
-/// Adds a node without keys over another node.
-fn add_bare(alloc: Global, blocks: &mut Blocks, below: Cid) -> Result<Cid, Fail> {
-    let bytes = NodeWriter::begin(alloc, Some(below))?.finish()?;
-    add(alloc, blocks, bytes)
-}
-
-/// Adds a node of one key, with the subtrees before and after it.
-fn add_pair(
-    alloc: Global,
-    blocks: &mut Blocks,
-    before: Option<Cid>,
-    key: &[u8],
-    after: Option<Cid>,
-) -> Result<Cid, Fail> {
-    let value = identifier(0x11)?;
-    let mut writer = NodeWriter::begin(alloc, before)?;
-    if !writer.is_next(key) {
-        return Err(Fail::from("no key"));
-    }
-    writer.entry(key, CidRef::from(&value), after)?;
-    let bytes = writer.finish()?;
-    add(alloc, blocks, bytes)
-}
-
-/// The tree of the keys `a/p0`, `a/q2` and `a/r0` with two zero bits a layer: five nodes, the top last. The first two
-/// are the left subtree's, from its key up.
-fn five_nodes(alloc: Global) -> Result<(Blocks, Cid), Fail> {
-    let mut blocks = Vec::new(alloc);
-    let left = add_pair(alloc, &mut blocks, None, b"a/p0", None)?;
-    let left = add_bare(alloc, &mut blocks, left)?;
-    let right = add_pair(alloc, &mut blocks, None, b"a/r0", None)?;
-    let right = add_bare(alloc, &mut blocks, right)?;
-    let root = add_pair(alloc, &mut blocks, Some(left), b"a/q2", Some(right))?;
-    Ok((blocks, root))
-}
-
-/// The blocks but for the one at a place.
-fn without(alloc: Global, blocks: &[Arc<Block<Toy>>], missing: usize) -> Result<Blocks, Fail> {
-    let mut others = Vec::new(alloc);
-    for (place, block) in blocks.iter().enumerate() {
-        if place != missing {
-            others.push(Arc::try_clone(block)?)?;
-        }
-    }
-    Ok(others)
-}
-
-/// Looks a key up, and answers whether it has the value of every key here, with the number of reads.
-fn looked_up(
+/// Whether a look-up gives this value, or none, in so many reads.
+fn is_looked_up(
     alloc: Global,
     blocks: &[Arc<Block<Toy>>],
     root: Cid,
     key: &[u8],
-) -> Result<(bool, u64), Fail> {
-    let mut map = BlockMap::new(alloc, blocks)?;
+    value: Option<Cid>,
+    reads: u64,
+) -> bool {
+    let Ok(mut map) = BlockMap::new(alloc, blocks) else {
+        return false;
+    };
     let found = get::<Toy, 2, _, _>(&mut map, root, key);
-    Ok((found == Some(identifier(0x11)?), map.reads()))
+    found == value && map.reads() == reads
 }
 
 #[test]
-fn look_ups(rt: HostRuntime) -> Result<(), Fail> {
-    let (blocks, root) = five_nodes(rt.alloc())?;
-    assert_eq!(rt; looked_up(rt.alloc(), &blocks, root, b"a/q2")?, (true, 1));
-    assert_eq!(rt; looked_up(rt.alloc(), &blocks, root, b"a/p0")?, (true, 3));
-    assert_eq!(rt; looked_up(rt.alloc(), &blocks, root, b"a/p1")?, (false, 3));
-    // without the node of `a/p0`, and without the top
-    let others = without(rt.alloc(), &blocks, 0)?;
-    assert_eq!(rt; looked_up(rt.alloc(), &others, root, b"a/p0")?, (false, 3));
-    let others = without(rt.alloc(), &blocks, 4)?;
-    assert_eq!(rt; looked_up(rt.alloc(), &others, root, b"a/p0")?, (false, 1));
-    Ok(())
+fn look_ups(rt: HostRuntime) {
+    let blocks = five_nodes(rt.alloc()).expect(&rt, "the five nodes");
+    let root = cid_at(&blocks, Some(4)).expect(&rt, "the top");
+    let cases: [(&[u8], Option<Cid>, u64); 3] = [
+        (b"a/q2", Some(value()), 1),
+        (b"a/p0", Some(value()), 3),
+        (b"a/p1", None, 3),
+    ];
+    for (key, value, reads) in cases {
+        assert!(rt; is_looked_up(rt.alloc(), &blocks, root, key, value, reads));
+    }
 }
 
-/// The keys of a walk, each with a space after it, and the number of reads.
-fn walked(
+/// Whether a look-up of `a/p0` without the block at this place gives none, in so many reads.
+fn is_missed(
+    alloc: Global,
+    blocks: &[Arc<Block<Toy>>],
+    root: Cid,
+    missing: usize,
+    reads: u64,
+) -> bool {
+    let Ok(others) = without(alloc, blocks, missing) else {
+        return false;
+    };
+    is_looked_up(alloc, &others, root, b"a/p0", None, reads)
+}
+
+#[test]
+fn look_ups_where_a_block_is_missing(rt: HostRuntime) {
+    let blocks = five_nodes(rt.alloc()).expect(&rt, "the five nodes");
+    let root = cid_at(&blocks, Some(4)).expect(&rt, "the top");
+    // without the node of `a/p0`, and without the top
+    assert!(rt; is_missed(rt.alloc(), &blocks, root, 0, 3));
+    assert!(rt; is_missed(rt.alloc(), &blocks, root, 4, 1));
+}
+
+/// Whether the pairs have these keys in their order, and each the value of every key.
+fn have_keys(pairs: &[(Vec<u8>, Cid)], keys: &[&[u8]]) -> bool {
+    for (pair, key) in pairs.iter().zip(keys) {
+        if pair.0.as_slice() != *key || pair.1 != value() {
+            return false;
+        }
+    }
+    pairs.len() == keys.len()
+}
+
+/// Whether a walk gives these keys, in so many reads.
+fn is_walked(
     alloc: Global,
     blocks: &[Arc<Block<Toy>>],
     root: Cid,
     from: &[u8],
     limit: usize,
-) -> Result<(Vec<u8>, u64), Fail> {
-    let mut map = BlockMap::new(alloc, blocks)?;
-    let mut text = Vec::new(alloc);
-    for (key, value) in walk::<Toy, 2, _, _>(alloc, &mut map, root, from, limit)? {
-        if value != identifier(0x11)? {
-            return Err(Fail::from("another value"));
-        }
-        text.extend_from_slice(&key)?;
-        text.push(b' ')?;
+    keys: &[&[u8]],
+    reads: u64,
+) -> bool {
+    let Ok(mut map) = BlockMap::new(alloc, blocks) else {
+        return false;
+    };
+    match walk::<Toy, 2, _, _>(alloc, &mut map, root, from, limit) {
+        Ok(pairs) => have_keys(&pairs, keys) && map.reads() == reads,
+        Err(_) => false,
     }
-    Ok((text, map.reads()))
 }
 
 #[test]
-fn walks(rt: HostRuntime) -> Result<(), Fail> {
-    let (blocks, root) = five_nodes(rt.alloc())?;
-    let cases: [(&[u8], usize, &[u8], u64); 9] = [
-        (b"a/q", 2, b"a/q2 a/r0 ", 5),
-        (b"a/q", 1, b"a/q2 ", 3),
-        (b"a/q2", 1, b"a/q2 ", 1),
-        (b"a/q2", 2, b"a/q2 a/r0 ", 3),
-        (b"a/q3", 2, b"a/r0 ", 3),
-        (b"", 9, b"a/p0 a/q2 a/r0 ", 5),
-        (b"", 1, b"a/p0 ", 3),
-        (b"b", 9, b"", 3),
-        (b"", 0, b"", 0),
+fn walks(rt: HostRuntime) {
+    let blocks = five_nodes(rt.alloc()).expect(&rt, "the five nodes");
+    let root = cid_at(&blocks, Some(4)).expect(&rt, "the top");
+    let cases: [(&[u8], usize, &[&[u8]], u64); 9] = [
+        (b"a/q", 2, &[b"a/q2", b"a/r0"], 5),
+        (b"a/q", 1, &[b"a/q2"], 3),
+        (b"a/q2", 1, &[b"a/q2"], 1),
+        (b"a/q2", 2, &[b"a/q2", b"a/r0"], 3),
+        (b"a/q3", 2, &[b"a/r0"], 3),
+        (b"", 9, &[b"a/p0", b"a/q2", b"a/r0"], 5),
+        (b"", 1, &[b"a/p0"], 3),
+        (b"b", 9, &[], 3),
+        (b"", 0, &[], 0),
     ];
     for (from, limit, keys, reads) in cases {
-        let (text, count) = walked(rt.alloc(), &blocks, root, from, limit)?;
-        assert_eq!(rt; text.as_slice(), keys);
-        assert_eq!(rt; count, reads);
+        assert!(rt; is_walked(rt.alloc(), &blocks, root, from, limit, keys, reads));
     }
-    Ok(())
+}
+
+/// Whether a walk of all keys without the block at this place gives these keys, in so many reads.
+fn is_walked_without(
+    alloc: Global,
+    blocks: &[Arc<Block<Toy>>],
+    root: Cid,
+    missing: usize,
+    keys: &[&[u8]],
+    reads: u64,
+) -> bool {
+    let Ok(others) = without(alloc, blocks, missing) else {
+        return false;
+    };
+    is_walked(alloc, &others, root, b"", 9, keys, reads)
 }
 
 #[test]
-fn walks_where_a_block_is_missing(rt: HostRuntime) -> Result<(), Fail> {
-    let (blocks, root) = five_nodes(rt.alloc())?;
-    // without the node of `a/p0`
-    let others = without(rt.alloc(), &blocks, 0)?;
-    let (text, count) = walked(rt.alloc(), &others, root, b"", 9)?;
-    assert_eq!(rt; text.as_slice(), b"".as_slice());
-    assert_eq!(rt; count, 3);
-    // without the node of `a/r0`
-    let others = without(rt.alloc(), &blocks, 2)?;
-    let (text, count) = walked(rt.alloc(), &others, root, b"", 9)?;
-    assert_eq!(rt; text.as_slice(), b"a/p0 a/q2 ".as_slice());
-    assert_eq!(rt; count, 5);
-    Ok(())
+fn walks_where_a_block_is_missing(rt: HostRuntime) {
+    let blocks = five_nodes(rt.alloc()).expect(&rt, "the five nodes");
+    let root = cid_at(&blocks, Some(4)).expect(&rt, "the top");
+    // without the node of `a/p0`, and without the node of `a/r0`
+    assert!(rt; is_walked_without(rt.alloc(), &blocks, root, 0, &[], 3));
+    assert!(rt; is_walked_without(rt.alloc(), &blocks, root, 2, &[b"a/p0", b"a/q2"], 5));
+}
+
+/// How an edit ended.
+#[derive(Clone, Copy, PartialEq, Eq)]
+enum Ended {
+    Done,
+    NoSuchKey,
+    Clash,
+    NoMemory,
+}
+
+/// How an edit ended that answered this.
+fn end_of<D: Digest, A: Allocator>(edited: Result<Edit<D, A>, EditFault<D, A>>) -> Ended {
+    match edited {
+        Ok(_) => Ended::Done,
+        Err(EditFault::NoSuchKey) => Ended::NoSuchKey,
+        Err(EditFault::Clash(_)) => Ended::Clash,
+        Err(EditFault::NoMemory) => Ended::NoMemory,
+    }
+}
+
+/// How a put of a key ends, which must be one.
+fn put_end<D: Digest, A: Allocator + Clone>(
+    alloc: A,
+    map: &mut BlockMap<'_, D, A>,
+    root: Cid,
+    key: &[u8],
+) -> Option<Ended> {
+    if !is_key(key) {
+        return None;
+    }
+    Some(end_of(put::<D, 2, _, _>(alloc, map, root, key, value())))
+}
+
+/// How a delete of a key ends.
+fn delete_end<D: Digest, A: Allocator + Clone>(
+    alloc: A,
+    map: &mut BlockMap<'_, D, A>,
+    root: Cid,
+    key: &[u8],
+) -> Ended {
+    end_of(delete::<D, 2, _, _>(alloc, map, root, key))
+}
+
+/// How many pairs a walk of all keys gives, or none where memory was refused.
+fn walk_count<D: Digest, A: Allocator + Clone>(
+    alloc: A,
+    map: &mut BlockMap<'_, D, A>,
+    root: Cid,
+) -> Option<usize> {
+    match walk::<D, 2, _, _>(alloc, map, root, b"", 9) {
+        Ok(pairs) => Some(pairs.len()),
+        Err(_) => None,
+    }
+}
+
+/// A block that is no node, and a node of `a/q2` with a link to it after its key.
+fn over_no_node(alloc: Global) -> Result<Blocks<Toy>, AllocError> {
+    let mut blocks = Vec::new(alloc);
+    add(alloc, &mut blocks, Vec::from_slice(alloc, b"no node")?)?;
+    add_node(alloc, &mut blocks, None, b"a/q2", Some(0))?;
+    Ok(blocks)
+}
+
+/// Whether a put goes by the block that is no node, and so does a delete that would make it the top.
+fn edits_find_no_node(alloc: Global, blocks: &[Arc<Block<Toy>>], root: Cid) -> bool {
+    let Ok(mut map) = BlockMap::new(alloc, blocks) else {
+        return false;
+    };
+    put_end(alloc, &mut map, root, b"a/r0") == Some(Ended::NoSuchKey)
+        && delete_end(alloc, &mut map, root, b"a/q2") == Ended::NoSuchKey
+}
+
+/// Whether look-ups, a walk and edits with this root take the block that is no node for none.
+fn find_no_node(alloc: Global, blocks: &[Arc<Block<Toy>>], root: Cid, other: Cid) -> bool {
+    is_walked(alloc, blocks, root, b"", 9, &[b"a/q2"], 2)
+        && is_looked_up(alloc, blocks, root, b"a/r0", None, 2)
+        && is_looked_up(alloc, blocks, other, b"a/r0", None, 1)
+        && edits_find_no_node(alloc, blocks, root)
 }
 
 #[test]
-fn a_block_that_is_no_node(rt: HostRuntime) -> Result<(), Fail> {
-    let mut blocks = Vec::new(rt.alloc());
-    let bytes = b"no node".to_vec(rt.alloc())?;
-    let other = add(rt.alloc(), &mut blocks, bytes)?;
-    let root = add_pair(rt.alloc(), &mut blocks, None, b"a/q2", Some(other))?;
-    let (text, count) = walked(rt.alloc(), &blocks, root, b"", 9)?;
-    assert_eq!(rt; text.as_slice(), b"a/q2 ".as_slice());
-    assert_eq!(rt; count, 2);
-    assert_eq!(rt; looked_up(rt.alloc(), &blocks, root, b"a/r0")?, (false, 2));
-    assert_eq!(rt; looked_up(rt.alloc(), &blocks, other, b"a/r0")?, (false, 1));
-    // A put goes by it; so does a delete that would make it the top.
-    let mut map = BlockMap::new(rt.alloc(), &blocks)?;
-    let key = b"a/r0".as_slice();
-    assert!(rt; is_key(key));
-    let edited = put::<Toy, 2, _, _>(rt.alloc(), &mut map, root, key, identifier(0x11)?);
-    assert!(rt; matches!(edited, Err(EditFault::NoSuchKey)));
-    let edited = delete::<Toy, 2, _, _>(rt.alloc(), &mut map, root, b"a/q2");
-    assert!(rt; matches!(edited, Err(EditFault::NoSuchKey)));
-    Ok(())
+fn a_block_that_is_no_node(rt: HostRuntime) {
+    let blocks = over_no_node(rt.alloc()).expect(&rt, "two blocks");
+    let other = cid_at(&blocks, Some(0)).expect(&rt, "the block");
+    let root = cid_at(&blocks, Some(1)).expect(&rt, "the top");
+    assert!(rt; find_no_node(rt.alloc(), &blocks, root, other));
+}
+
+/// Whether a look-up, a walk, a put and a delete end after 129 reads each, by the only block, a node that links to itself.
+fn end_after_all_layers(alloc: Global, map: &mut BlockMap<'_, Clash>, root: Cid) -> bool {
+    get::<Clash, 2, _, _>(map, root, b"a/q2").is_none()
+        && map.reads() == 129
+        && walk_count(alloc, map, root) == Some(0)
+        && map.reads() == 258
+        && put_end(alloc, map, root, b"a/q2") == Some(Ended::Clash)
+        && map.reads() == 387
+        && delete_end(alloc, map, root, b"a/q2") == Ended::NoSuchKey
+        && map.reads() == 516
+}
+
+/// A node that links to itself: under this digest all blocks have one CID.
+fn self_linked(alloc: Global, root: Cid) -> Result<Blocks<Clash>, AllocError> {
+    let mut blocks = Vec::new(alloc);
+    add(alloc, &mut blocks, node(alloc, Some(root), b"", None)?)?;
+    Ok(blocks)
 }
 
 #[test]
-fn a_node_that_links_to_itself(rt: HostRuntime) -> Result<(), Fail> {
-    let root = identifier(0xff)?;
-    let bytes = NodeWriter::begin(rt.alloc(), Some(root))?.finish()?;
-    let mut blocks = Vec::new(rt.alloc());
-    blocks.push(Arc::new(rt.alloc(), Block::<Clash>::of(bytes))?)?;
-    let mut map = BlockMap::new(rt.alloc(), &blocks)?;
-    assert_eq!(rt; get::<Clash, 2, _, _>(&mut map, root, b"a/q2"), None);
-    assert_eq!(rt; map.reads(), 129);
-    let pairs = walk::<Clash, 2, _, _>(rt.alloc(), &mut map, root, b"", 9)?;
-    assert_eq!(rt; pairs.len(), 0);
-    assert_eq!(rt; map.reads(), 258);
-    let key = b"a/q2".as_slice();
-    assert!(rt; is_key(key));
-    let edited = put::<Clash, 2, _, _>(rt.alloc(), &mut map, root, key, identifier(0x11)?);
-    assert!(rt; matches!(edited, Err(EditFault::Clash(_))));
-    assert_eq!(rt; map.reads(), 387);
-    let edited = delete::<Clash, 2, _, _>(rt.alloc(), &mut map, root, key);
-    assert!(rt; matches!(edited, Err(EditFault::NoSuchKey)));
-    assert_eq!(rt; map.reads(), 516);
-    Ok(())
+fn a_node_that_links_to_itself(rt: HostRuntime) {
+    let root = Cid::of::<Clash>(b"");
+    let blocks = self_linked(rt.alloc(), root).expect(&rt, "a block");
+    let mut map = BlockMap::new(rt.alloc(), &blocks).expect(&rt, "a map");
+    assert!(rt; end_after_all_layers(rt.alloc(), &mut map, root));
 }
 
 /// Memory that refuses requests, as blocks are kept in it.
 type Heap<'h> = &'h Refusing<Global>;
 
-/// The same blocks in other memory.
-fn kept_in<'h>(
+/// What is done over the tree of five nodes.
+#[derive(Clone, Copy)]
+enum Work {
+    Walk,
+    Put,
+    Delete,
+}
+
+/// How the work ended, where it gave what it should.
+fn work_end<'h>(
     heap: Heap<'h>,
-    blocks: &[Arc<Block<Toy>>],
-) -> Result<Vec<Arc<Block<Toy, Heap<'h>>, Heap<'h>>, Heap<'h>>, Fail> {
-    let mut kept = Vec::new(heap);
-    for block in blocks {
-        let block = Block::of(Vec::from_slice(heap, block.bytes())?);
-        kept.push(Arc::new(heap, block)?)?;
+    map: &mut BlockMap<'_, Toy, Heap<'h>>,
+    root: Cid,
+    work: Work,
+) -> Option<Ended> {
+    match work {
+        Work::Walk => match walk_count(heap, map, root) {
+            Some(3) => Some(Ended::Done),
+            Some(_) => None,
+            None => Some(Ended::NoMemory),
+        },
+        Work::Put => put_end(heap, map, root, b"a/q4"),
+        Work::Delete => Some(delete_end(heap, map, root, b"a/q2")),
     }
-    Ok(kept)
+}
+
+/// Whether the work is done, or ends for want of memory alone, where this request is refused; and all memory is back.
+fn is_done_or_refused<'h>(
+    heap: Heap<'h>,
+    map: &mut BlockMap<'_, Toy, Heap<'h>>,
+    root: Cid,
+    work: Work,
+    request: u64,
+) -> bool {
+    let before = heap.live();
+    heap.refuse(request);
+    let is_right = match work_end(heap, map, root, work) {
+        Some(Ended::Done) => true,
+        Some(Ended::NoMemory) => heap.refused() == request,
+        _ => false,
+    };
+    is_right && heap.live() == before
+}
+
+/// Whether this holds for each request in turn, the last of which the work doesn't come to. After each the next finds
+/// the tree as it was.
+fn is_done_at_last<'h>(
+    heap: Heap<'h>,
+    map: &mut BlockMap<'_, Toy, Heap<'h>>,
+    root: Cid,
+    work: Work,
+    last: u64,
+) -> bool {
+    for request in 1..=last {
+        if !is_done_or_refused(heap, map, root, work, request) {
+            return false;
+        }
+    }
+    0 < heap.refused() && heap.refused() < last
+}
+
+/// The same over the tree of five nodes, which is kept in such memory.
+fn is_done_without_memory(alloc: Global, work: Work, last: u64) -> bool {
+    let heap = Refusing::new(alloc);
+    let Ok(blocks) = five_nodes(&heap) else {
+        return false;
+    };
+    let (Some(root), Ok(mut map)) = (cid_at(&blocks, Some(4)), BlockMap::new(&heap, &blocks)) else {
+        return false;
+    };
+    is_done_at_last(&heap, &mut map, root, work, last)
 }
 
 #[test]
-fn a_walk_without_memory(rt: HostRuntime) -> Result<(), Fail> {
-    let (blocks, root) = five_nodes(rt.alloc())?;
-    let heap = Refusing::new(rt.alloc());
-    let kept = kept_in(&heap, &blocks)?;
-    let mut map = BlockMap::new(&heap, &kept)?;
-    let before = heap.live();
-    for request in 1..100u64 {
-        heap.refuse(request);
-        match walk::<Toy, 2, _, _>(&heap, &mut map, root, b"", 9) {
-            Ok(pairs) => assert_eq!(rt; pairs.len(), 3),
-            Err(_) => assert_eq!(rt; heap.refused(), request),
-        }
-        assert_eq!(rt; heap.live(), before);
-    }
-    assert!(rt; 0 < heap.refused() && heap.refused() < 99);
-    Ok(())
-}
-
-/// Tests that an edit was refused for want of memory alone; whether it was made.
-fn is_made(edited: Result<Edit<Toy, Heap<'_>>, EditFault<Toy, Heap<'_>>>) -> Result<bool, Fail> {
-    match edited {
-        Ok(_) => Ok(true),
-        Err(EditFault::NoMemory) => Ok(false),
-        Err(EditFault::NoSuchKey) => Err(Fail::from("no such key")),
-        Err(EditFault::Clash(_)) => Err(Fail::from("a clash")),
-    }
+fn a_walk_without_memory(rt: HostRuntime) {
+    assert!(rt; is_done_without_memory(rt.alloc(), Work::Walk, 99));
 }
 
 #[test]
-fn a_put_without_memory(rt: HostRuntime) -> Result<(), Fail> {
-    let (blocks, root) = five_nodes(rt.alloc())?;
-    let heap = Refusing::new(rt.alloc());
-    let kept = kept_in(&heap, &blocks)?;
-    let mut map = BlockMap::new(&heap, &kept)?;
-    let before = heap.live();
-    let key = b"a/q4".as_slice();
-    assert!(rt; is_key(key));
-    for request in 1..200u64 {
-        heap.refuse(request);
-        let edited = put::<Toy, 2, _, _>(&heap, &mut map, root, key, identifier(0x22)?);
-        if !is_made(edited)? {
-            assert_eq!(rt; heap.refused(), request);
-        }
-        // What was refused gives all back, and the next put finds the tree as it was.
-        assert_eq!(rt; heap.live(), before);
-    }
-    assert!(rt; 0 < heap.refused() && heap.refused() < 199);
-    Ok(())
+fn a_put_without_memory(rt: HostRuntime) {
+    assert!(rt; is_done_without_memory(rt.alloc(), Work::Put, 199));
 }
 
 #[test]
-fn a_delete_without_memory(rt: HostRuntime) -> Result<(), Fail> {
-    let (blocks, root) = five_nodes(rt.alloc())?;
-    let heap = Refusing::new(rt.alloc());
-    let kept = kept_in(&heap, &blocks)?;
-    let mut map = BlockMap::new(&heap, &kept)?;
-    let before = heap.live();
-    for request in 1..200u64 {
-        heap.refuse(request);
-        if !is_made(delete::<Toy, 2, _, _>(&heap, &mut map, root, b"a/q2"))? {
-            assert_eq!(rt; heap.refused(), request);
-        }
-        assert_eq!(rt; heap.live(), before);
-    }
-    assert!(rt; 0 < heap.refused() && heap.refused() < 199);
-    Ok(())
+fn a_delete_without_memory(rt: HostRuntime) {
+    assert!(rt; is_done_without_memory(rt.alloc(), Work::Delete, 199));
 }

@@ -5,6 +5,8 @@
 #[cfg(test)]
 mod edits;
 #[cfg(test)]
+mod fixtures;
+#[cfg(test)]
 mod plain;
 #[cfg(test)]
 mod trees;

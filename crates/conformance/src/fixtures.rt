@@ -1,0 +1,71 @@
+//! Pairs, and the trees of them from scratch.
+
+ghost use Rattle.std.specs.Prelude.{◌≤◌};
+
+use cid::digests::Toy;
+use cid::{Block, Cid, Digest};
+use scratch::{Built, build, is_ascending};
+use std::alloc::{AllocError, Global};
+use std::convert::AsSlice;
+use std::sync::Arc;
+
+/// The value of every key, where a test gives none of its own.
+pub(crate) fn value() -> Cid {
+    Cid::of::<Toy>(b"record")
+}
+
+/// The pairs of the tree of five nodes.
+pub(crate) fn three_pairs() -> [(&'static [u8], Cid); 3] {
+    let value = value();
+    [(b"a/p0", value), (b"a/q2", value), (b"a/r0", value)]
+}
+
+/// The tree of these pairs from scratch, where it can be built.
+pub(crate) fn tree_of<D: Digest, const B: u8, K: AsSlice<u8>>(
+    alloc: Global,
+    pairs: &[(K, Cid)],
+) -> Option<Built<D>>
+    requires least { 1 ≤ B }
+    requires most { B ≤ 8 }
+{
+    if !is_ascending(pairs) {
+        return None;
+    }
+    build::<D, B, K, _>(alloc, pairs).ok()
+}
+
+/// The tree of these keys from scratch, each with the same value, where it can be built.
+pub(crate) fn tree<D: Digest>(alloc: Global, keys: &[&[u8]]) -> Option<Built<D>> {
+    let mut pairs = Vec::new(alloc);
+    for key in keys {
+        let key = Vec::from_slice(alloc, key).ok()?;
+        pairs.push((key, value())).ok()?;
+    }
+    tree_of::<D, 2, _>(alloc, &pairs)
+}
+
+/// The CIDs of some blocks, in their order.
+pub(crate) fn cids_of<D: Digest>(
+    alloc: Global,
+    blocks: &[Arc<Block<D>>],
+) -> Result<Vec<Cid>, AllocError> {
+    let mut cids = Vec::new(alloc);
+    for block in blocks {
+        cids.push(block.cid())?;
+    }
+    cids.sort()?;
+    Ok(cids)
+}
+
+/// Whether these are the root and the blocks of a tree, and no others, in any order.
+pub(crate) fn are_of<D: Digest>(
+    alloc: Global,
+    root: Cid,
+    blocks: &[Arc<Block<D>>],
+    tree: &Built<D>,
+) -> bool {
+    let (Ok(cids), Ok(wanted)) = (cids_of(alloc, blocks), cids_of(alloc, &tree.blocks)) else {
+        return false;
+    };
+    root == tree.root && cids == wanted
+}
