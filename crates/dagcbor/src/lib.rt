@@ -10,6 +10,8 @@ mod lawful;
 mod link;
 mod major;
 mod reading;
+mod room;
+mod text;
 mod value;
 mod writing;
 

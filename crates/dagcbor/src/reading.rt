@@ -3,7 +3,7 @@
 ghost use Rattle.std.specs.Prelude.{◌≡◌, pos, negsuc, option_map, IfOk, IfErr, IsTrue, IsSome};
 ghost use Rattle.spec.specs.Reading.{Gives};
 ghost use Rattle.spec.specs.Head.{Array, Map};
-ghost use Rattle.spec.specs.DagCbor.{Integer, integer_of, text_of, key_of, simple_value, items_at, fields_at, content_of, value_at, read, spelling, is_lawful};
+ghost use Rattle.spec.specs.DagCbor.{Integer, integer_of, key_of, simple_value, items_at, fields_at, content_of, value_at, read, spelling, is_lawful};
 ghost use Rattle.dagcbor.specs.Fault.{fault_of};
 ghost use Rattle.dagcbor.specs.View.{view, view_items, view_fields};
 ghost use Rattle.dagcbor.specs.Majors.{major_view};
@@ -15,21 +15,13 @@ use crate::head::{front, head, head_of};
 use crate::keys::is_next_key;
 use crate::link::link;
 use crate::major::{Major, major_of};
+use crate::room::make_room;
+use crate::text::text;
 use crate::value::{MAX_DEPTH, Value};
 use std::alloc::Allocator;
 
-/// A text of `n` bytes of UTF-8, and the bytes after it.
-fn text(n: u64, bytes: &[u8]) -> Result<(&str, &[u8]), CborFault>
-    ensures { Gives (λ x. (x.0.now, x.1.now)) fault_of result (text_of n bytes.now) }
-{
-    let (content, rest) = front(n, bytes)?;
-    match str::from_utf8(content) {
-        Ok(text) => Ok((text, rest)),
-        Err(_) => Err(CborFault::BadUtf8),
-    }
-}
-
 /// A key that may follow the one before it, where there is one, and the bytes after it.
+#[inline(always)]
 fn key<'a>(before: Option<&str>, bytes: &'a [u8]) -> Result<(&'a str, &'a [u8]), CborFault>
     ensures { Gives (λ x. (x.0.now, x.1.now)) fault_of result (key_of (option_map (λ s. s.now) before.entry) bytes.now) }
 {
@@ -75,6 +67,7 @@ fn simple_value<'a, A: Allocator>(n: u64) -> Value<'a, A>
 
 /// A value at the front, where lists and maps may lie this many levels deep, and the bytes after it.
 #[cycle(value)]
+#[inline(always)]
 fn value<'a, A: Allocator + Copy>(
     alloc: A,
     levels: u8,
@@ -88,6 +81,7 @@ fn value<'a, A: Allocator + Copy>(
 
 /// What follows a head, and the bytes after it.
 #[cycle(value)]
+#[inline(always)]
 fn content<'a, A: Allocator + Copy>(
     alloc: A,
     levels: u8,
@@ -126,6 +120,7 @@ fn content<'a, A: Allocator + Copy>(
 
 /// A list of `n` items, and the bytes after it.
 #[cycle(value)]
+#[inline(never)]
 fn list<'a, A: Allocator + Copy>(
     alloc: A,
     levels: u8,
@@ -143,6 +138,7 @@ fn list<'a, A: Allocator + Copy>(
 
 /// A map of `n` pairs, and the bytes after it.
 #[cycle(value)]
+#[inline(never)]
 fn map<'a, A: Allocator + Copy>(
     alloc: A,
     levels: u8,
@@ -160,6 +156,7 @@ fn map<'a, A: Allocator + Copy>(
 
 /// `n` values one after the other, and the bytes after them.
 #[cycle(value)]
+#[inline(always)]
 fn items<'a, A: Allocator + Copy>(
     alloc: A,
     levels: u8,
@@ -172,6 +169,7 @@ fn items<'a, A: Allocator + Copy>(
     let mut rest = bytes;
     for _turn in 0..n {
         let (item, after) = value(alloc, levels, rest)?;
+        make_room(&mut items, n, after)?;
         items.push(item)?;
         rest = after;
     }
@@ -180,6 +178,7 @@ fn items<'a, A: Allocator + Copy>(
 
 /// `n` keys in order, each with a value, and the bytes after them.
 #[cycle(value)]
+#[inline(always)]
 fn fields<'a, A: Allocator + Copy>(
     alloc: A,
     levels: u8,
@@ -194,6 +193,7 @@ fn fields<'a, A: Allocator + Copy>(
     for _turn in 0..n {
         let (key, after) = key(before, rest)?;
         let (value, after) = value(alloc, levels, after)?;
+        make_room(&mut fields, n, after)?;
         fields.push((key, value))?;
         before = Some(key);
         rest = after;
@@ -204,7 +204,8 @@ fn fields<'a, A: Allocator + Copy>(
 /// The value that these bytes are the spelling of (IPLD DAG-CBOR, strictness). Its bytes and texts are slices of `bytes`.
 ///
 /// Any other error than `NoMemory` says that the bytes are no value's spelling, and is the first fault from the left.
-/// Lists and maps may lie `MAX_DEPTH` levels deep; a deeper one is `TooDeep`. No room is reserved by a length that the bytes state.
+/// Lists and maps may lie `MAX_DEPTH` levels deep; a deeper one is `TooDeep`. No memory is asked for by a number alone that
+/// the bytes state: a list or map takes room when its first item has been read, and then for few at once.
 #[tactic(auto, unfolding(spec::specs::DagCbor::read))]
 pub fn read<'a, A: Allocator + Copy>(alloc: A, bytes: &'a [u8]) -> Result<Value<'a, A>, CborFault>
     ensures read { Gives view fault_of result (read bytes.now) }

@@ -31,6 +31,8 @@ fn requests_refused(rt: &impl Abort, heap: &Refusing<Global>, bytes: &[u8]) -> u
 }
 
 // Each list around the map moves it along by one byte, so that what is written grows at each of the map's parts in turn.
+// Reading asks once for each list and map of few items: the map, the list in it, and those around it; writing five times
+// or more.
 #[test]
 fn answers_each_refusal_of_memory(rt: HostRuntime) -> Result<(), Fail> {
     let heap = Refusing::new(rt.alloc());
@@ -39,7 +41,7 @@ fn answers_each_refusal_of_memory(rt: HostRuntime) -> Result<(), Fail> {
         bytes.resize(usize::from(depth), 0x81)?;
         bytes.extend_from_slice(EACH_KIND)?;
         let requests = requests_refused(&rt, &heap, &bytes);
-        assert!(rt; requests >= 10 + u64::from(depth), "{requests} requests");
+        assert!(rt; requests >= 7 + u64::from(depth), "{requests} requests");
     }
     Ok(())
 }

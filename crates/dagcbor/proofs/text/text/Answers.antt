@@ -1,8 +1,17 @@
 use Rattle.std.proofs.Common.{◌≡◌, true, false, refl}
 use Rattle.std.specs.Str.{is_utf8}
-use Rattle.std.proofs.lemmas.Str.{is_utf8-from_IsUtf8, IsUtf8-from_is_utf8}
+use Rattle.std.proofs.lemmas.Str.{is_utf8-from_IsUtf8, IsUtf8-from_is_utf8, IsUtf8-from_ascii}
 use Rattle.std.proofs.lemmas.Bool.{false_from_ne_true}
-use Rattle.dagcbor.proofs.reading.text.Goals as goal
+use Rattle.dagcbor.proofs.text.text.Goals as goal
+
+pub from_utf8_unchecked-requires : goal.from_utf8_unchecked-requires
+from_utf8_unchecked-requires c = IsUtf8-from_ascii _ c.if-is_ascii.ensures.cases
+
+pub returns-then-is_ascii : goal.returns-then-is_ascii
+returns-then-is_ascii c =
+    let found = c.in_ok-content.ensures.read in
+    let utf8 : is_utf8 c.in_ok-content.content.now ≡ true = is_utf8-from_IsUtf8 _ (IsUtf8-from_ascii _ c.if-is_ascii.ensures.cases) in
+    rw (found, utf8, c.from_utf8_unchecked.ensures) refl
 
 pub returns-in-Ok : goal.returns-in-Ok
 returns-in-Ok c =
