@@ -1,0 +1,4 @@
+pub mod Counts
+pub mod Uses
+pub mod Faults
+pub mod Staging
