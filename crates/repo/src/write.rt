@@ -1,0 +1,45 @@
+ghost use Rattle.std.specs.Prelude.{◌≡◌, Option, option_map};
+ghost use Rattle.spec.specs.Writes.{key_of, record_of};
+ghost use Rattle.repo.specs.Values.{write_of};
+
+use std::alloc::{Allocator, Global};
+
+/// A write to a repository: a key, and then the record's bytes.
+///
+/// A key is a collection, a slash and a record key (AT Protocol repository v3, paths); `is_repository_key` is the test. A
+/// record is one map in DAG-CBOR, of at most 1,048,576 bytes.
+#[derive(Drop)]
+pub enum Write<A: Allocator = Global> {
+    /// The record stands under the key, whatever stood there.
+    Put(Vec<u8, A>, Vec<u8, A>),
+    /// The record stands under the key, where nothing stood there.
+    Create(Vec<u8, A>, Vec<u8, A>),
+    /// The record stands under the key, where another one stood there.
+    Update(Vec<u8, A>, Vec<u8, A>),
+    /// The key goes with its record, where there is one.
+    Delete(Vec<u8, A>),
+}
+
+impl<A: Allocator> Write<A> {
+    /// The key that is written.
+    pub fn key(&self) -> &[u8]
+        ensures { result.now ≡ key_of (write_of self.now) }
+    {
+        match self {
+            Write::Put(key, _)
+            | Write::Create(key, _)
+            | Write::Update(key, _)
+            | Write::Delete(key) => key,
+        }
+    }
+
+    /// The bytes of the record that the write leaves under its key: none for a delete.
+    pub fn record(&self) -> Option<&[u8]>
+        ensures { option_map (λ bytes. bytes.now) result ≡ record_of (write_of self.now) }
+    {
+        match self {
+            Write::Put(_, bytes) | Write::Create(_, bytes) | Write::Update(_, bytes) => Some(bytes),
+            Write::Delete(_) => None,
+        }
+    }
+}
