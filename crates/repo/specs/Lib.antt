@@ -1,2 +1,7 @@
 pub mod Values
 pub mod Tests
+pub mod Keeping
+pub mod Staging
+pub mod Stub
+pub mod Cores
+pub mod Refusals

@@ -4,6 +4,8 @@ use Rattle.spec.specs.Stamps as stamps
 use Rattle.spec.specs.Writes as writes
 use Rattle.spec.specs.States.{BatchFault, EmptyBatch, OfStamp, OfWrite}
 use Rattle.dagcbor.specs.Fault.{fault_of}
+use Rattle.store.specs.declared.fault.StoreFault.{StoreFault}
+use Rattle.store.specs.declared.fault.StoreFault.TheVariants as stores
 use Rattle.repo.specs.declared.fault.RepoFault.{RepoFault}
 use Rattle.repo.specs.declared.fault.RepoFault.TheVariants as faults
 
@@ -52,3 +54,9 @@ abbrev pub IsTestFault : {D A F : Type 0} → (RepoFault D A → Option F) → R
     → RepoFault D A → Type 0
 IsTestFault name test faults.NoMemory = ⊤
 IsTestFault name test fault = IsNamed test (name fault)
+
+-- what a fault of the store is here
+abbrev pub of_store : {D A : Type 0} → StoreFault D A → RepoFault D A
+of_store (stores.Collision pair) = faults.Collision pair
+of_store stores.Full = faults.StoreFull
+of_store stores.NoMemory = faults.NoMemory

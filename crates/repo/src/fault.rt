@@ -6,6 +6,7 @@ ghost use Rattle.repo.specs.declared.fault.RepoFault.TheVariants as faults;
 use cid::{Collided, Digest};
 use dagcbor::CborFault;
 use std::alloc::{AllocError, AllocFailed, Allocator, Global};
+use store::StoreFault;
 use thiserror::Error;
 
 /// Why a batch was refused. Nothing has changed then.
@@ -86,5 +87,19 @@ impl<D: Digest, A: Allocator, T: Drop> From<AllocFailed<T>> for RepoFault<D, A> 
 
     fn from(_: AllocFailed<T>) -> RepoFault<D, A> {
         RepoFault::NoMemory
+    }
+}
+
+impl<D: Digest, A: Allocator> From<StoreFault<D, A>> for RepoFault<D, A> {
+    ghost use Rattle.repo.specs.Tests.{of_store};
+
+    ghost from_gives = { λ store fault. fault ≡ of_store store };
+
+    fn from(fault: StoreFault<D, A>) -> RepoFault<D, A> {
+        match fault {
+            StoreFault::Collision(pair) => RepoFault::Collision(pair),
+            StoreFault::Full => RepoFault::StoreFull,
+            StoreFault::NoMemory => RepoFault::NoMemory,
+        }
     }
 }

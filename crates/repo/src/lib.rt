@@ -2,16 +2,24 @@
 #![tactic(auto)]
 
 mod applied;
+mod batch;
 mod commit;
+mod cores;
 mod fault;
 mod letters;
+mod probe;
+mod stub;
+mod staged_batch;
 mod stamp;
 mod stamp_test;
+mod staging;
 mod write;
 mod write_test;
 
 pub use applied::Applied;
+pub use cores::Core;
 pub use fault::RepoFault;
+pub use probe::tried;
 pub use stamp::Stamp;
 pub use stamp_test::{is_did, is_tid};
 pub use write::Write;

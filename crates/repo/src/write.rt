@@ -1,8 +1,10 @@
-ghost use Rattle.std.specs.Prelude.{◌≡◌, Option, option_map};
+ghost use Rattle.std.specs.Prelude.{◌≡◌, option_map, IfOk};
+ghost use Rattle.std.specs.Arc.{arc_value};
 ghost use Rattle.spec.specs.Writes.{key_of, record_of};
 ghost use Rattle.repo.specs.Values.{write_of};
 
-use std::alloc::{Allocator, Global};
+use std::alloc::{AllocError, Allocator, Global};
+use std::sync::Arc;
 
 /// A write to a repository: a key, and then the record's bytes.
 ///
@@ -42,4 +44,26 @@ impl<A: Allocator> Write<A> {
             Write::Delete(_) => None,
         }
     }
+}
+
+impl<A: Allocator + Copy> Write<A> {
+    /// A copy to share.
+    pub(crate) fn share(&self, alloc: A) -> Result<Arc<Write<A>, A>, AllocError>
+        ensures { IfOk result (λ shared. write_of (arc_value shared) ≡ write_of self.now) }
+    {
+        let copy = match self {
+            Write::Put(key, bytes) => Write::Put(copied(alloc, key)?, copied(alloc, bytes)?),
+            Write::Create(key, bytes) => Write::Create(copied(alloc, key)?, copied(alloc, bytes)?),
+            Write::Update(key, bytes) => Write::Update(copied(alloc, key)?, copied(alloc, bytes)?),
+            Write::Delete(key) => Write::Delete(copied(alloc, key)?),
+        };
+        Ok(Arc::new(alloc, copy)?)
+    }
+}
+
+/// The same bytes in memory of their own.
+pub(crate) fn copied<A: Allocator>(alloc: A, bytes: &[u8]) -> Result<Vec<u8, A>, AllocError>
+    ensures { IfOk result (λ copy. copy.items ≡ bytes.now) }
+{
+    Vec::from_slice(alloc, bytes)
 }

@@ -1,0 +1,5 @@
+//! Kept.
+#![tactic(auto)]
+
+/// Nothing.
+pub fn nothing() {}

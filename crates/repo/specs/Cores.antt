@@ -1,0 +1,17 @@
+-- What a core keeps of its state.
+use Rattle.std.specs.Prelude.{◌≡◌, ◌≤◌, ℕ, List, Option}
+use Rattle.spec.specs.States.{State, IsLawful, state_root, state_blocks, state_commit}
+use Rattle.kept.specs.Counts.{Keeping}
+use Rattle.repo.specs.Keeping.{AreKept}
+
+-- A core's fields are those of its state, which is lawful: the root, the last commit, and the blocks
+-- with their uses. Nothing is staged.
+pub record IsCore (digest : List ℕ → List ℕ) (bits : ℕ) (s : State) (root : List ℕ)
+    (commit : Option (List ℕ)) (k : Keeping) : Type 0 where
+  pub least_bits : 1 ≤ bits
+  pub most_bits : bits ≤ 8
+  pub lawful : IsLawful s
+  pub root_is : root ≡ state_root digest bits s
+  pub commit_is : commit ≡ state_commit digest bits s
+  pub still : k.staged ≡ k.before
+  pub kept : AreKept digest (state_blocks digest bits s) k.before

@@ -1,0 +1,6 @@
+ghost use Rattle.std.specs.Prelude.{⊤};
+
+/// Nothing.
+pub fn tried()
+    ensures { ⊤ }
+{}
