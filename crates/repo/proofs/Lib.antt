@@ -6,3 +6,6 @@ pub mod Faults
 pub mod Outcomes
 pub mod Testing
 pub mod Nexting
+pub mod Batching
+pub mod Commits
+pub mod Keeping
