@@ -9,3 +9,4 @@ pub mod Nexting
 pub mod Batching
 pub mod Commits
 pub mod Keeping
+pub mod Growing

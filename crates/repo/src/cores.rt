@@ -1,6 +1,6 @@
 //! One repository.
 
-ghost use Rattle.std.specs.Prelude.{◌≡◌, ◌≤◌, ◌<◌, ◌++◌, ◌∷◌, [], ℕ, List, Some, Ok, length, option_map, IfOk, IfErr, OnOk, OnErr};
+ghost use Rattle.std.specs.Prelude.{◌≡◌, ◌≤◌, ◌<◌, ◌+◌, ◌++◌, ◌∷◌, [], ℕ, List, Some, Ok, length, option_map, IfOk, IfErr, OnOk, OnErr};
 ghost use Rattle.std.specs.Arc.{arc_value};
 ghost use Rattle.std.specs.Cmp.Lexicographic.{slice_cmp};
 ghost use Rattle.std.specs.Ordering.{nat_cmp};
@@ -175,7 +175,7 @@ impl<D: Digest, const B: u8, A: Allocator + Copy> Core<D, B, A> {
         ensures fault { IfErr result (IsRefusal D.digest_of B self.old (stamp_of stamp.now) (writes_of writes.now) (S.fulls store.old) (S.fulls store.new)) }
     {
         let start = Start {
-            room: self.limit - self.accepted.len(),
+            room: room_for(self.limit, &self.accepted),
             root: self.root,
             commit: self.commit,
         };
@@ -223,6 +223,14 @@ fn last_rev<A: Allocator>(stamps: &[(Stamp<A>, u64)]) -> Option<&[u8]>
         Some((stamp, _)) => Some(&stamp.rev),
         None => None,
     }
+}
+
+/// How many writes more there may be.
+fn room_for<A: Allocator>(limit: usize, accepted: &[Arc<Write<A>, A>]) -> usize
+    requires { length (shared_writes accepted.now) ≤ limit }
+    ensures { length (shared_writes accepted.now) + result ≡ limit }
+{
+    limit - accepted.len()
 }
 
 /// Puts a batch's writes and its stamp to the others, and answers how many writes there are then; or changes nothing.
