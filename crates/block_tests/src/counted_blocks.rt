@@ -120,6 +120,33 @@ fn lists_entries_in_order(rt: HostRuntime) {
     shard.release(second);
 }
 
+/// Whether the steps from core to core give 0, 63, 64 and 1,023, and none after that.
+fn steps_to_each(cores: &Cores) -> bool {
+    let steps = [0, 1, 64, 65, 1024, u32::MAX].map(|from| cores.next_from(from));
+    steps == [Some(0), Some(63), Some(64), Some(1023), None, None]
+}
+
+#[test]
+fn steps_from_core_to_core(rt: HostRuntime) {
+    let mut shard: Shard<Toy> = Shard::new(rt.alloc(), 1);
+    let cid = Cid::of::<Toy>(&EMPTY);
+    let mut holds = Vec::new(rt.alloc());
+    for core in [1023, 0, 64, 63] {
+        let hold = acquired(&rt, &mut shard, core, block(&rt, rt.alloc(), &EMPTY));
+        keep(&rt, &mut holds, hold);
+    }
+    assert!(rt; shard.has(&cid, 63) && !shard.has(&cid, 62));
+    assert!(rt; !shard.has(&Cid::of::<Toy>(&ONE), 63));
+    for (_, cores) in shard.entries() {
+        assert!(rt; steps_to_each(cores));
+    }
+    for _ in 0..4u8 {
+        shard.release(holds.pop().expect(&rt, "a hold of each core"));
+    }
+    assert!(rt; holds.is_empty());
+    holds.destroy_empty();
+}
+
 type Heap<'a> = &'a Refusing<Global>;
 
 /// A block that is acquired again, by another core and from other memory, stands once: the memory that the second core

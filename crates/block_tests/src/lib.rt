@@ -13,3 +13,5 @@ mod fixtures;
 mod identifiers;
 #[cfg(test)]
 mod shards;
+#[cfg(test)]
+mod stores;

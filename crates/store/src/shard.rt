@@ -4,6 +4,7 @@ ghost use Rattle.std.specs.FinMap as map;
 ghost use Rattle.std.specs.FinSet as set;
 ghost use Rattle.spec.specs.Cid.{cid as cid_of};
 ghost use Rattle.store.specs.Table.{entered, left, HasNoOther, cores_at, listed, IsLawful};
+ghost use Rattle.store.specs.Holds.{IsHoldOf};
 ghost use Rattle.store.specs.Faults.{IsRefusal};
 
 use crate::entries::Entries;
@@ -55,7 +56,7 @@ impl<D: Digest, A: Allocator> Shard<D, A> {
     ///
     /// A core that isn't there changes nothing. It takes no memory and can't fail.
     pub fn release(&mut self, hold: Hold<D, A>)
-        ensures { self.new ≡ left self.old (cid_of D.digest_of hold.0) hold.1 }
+        ensures { self.new ≡ left self.old (cid_of D.digest_of (arc_value hold.0)) hold.1 }
     {
         let Hold { block, core } = hold;
         let cid = block.cid();
@@ -74,6 +75,16 @@ impl<D: Digest, A: Allocator> Shard<D, A> {
         Entries {
             entries: self.table.iter(),
         }
+    }
+
+    /// Whether the core holds the block of this CID.
+    pub fn has(&self, cid: &Cid, core: u32) -> bool
+        ensures { result ≡ set.contains (cores_at self.now cid.now) core }
+    {
+        let Some(entry) = self.table.get(cid) else {
+            return false;
+        };
+        entry.cores().has(core)
     }
 
     /// How many cores hold the block of this CID: 0 where there is none.
@@ -101,7 +112,7 @@ impl<D: Digest, A: Allocator + Clone> Shard<D, A> {
         block: Arc<Block<D, A>, A>,
     ) -> Result<Hold<D, A>, StoreFault<D, A>>
         requires { core < 1024 }
-        ensures hold { IfOk result (λ h. h ≡ (arc_value block, core)) }
+        ensures hold { IfOk result (IsHoldOf (arc_value block) core) }
         ensures same_bytes { OnOk result (HasNoOther self.old (cid_of D.digest_of (arc_value block)) (arc_value block)) }
         ensures entered { OnOk result (self.new ≡ entered self.old (cid_of D.digest_of (arc_value block)) (arc_value block) core) }
         ensures unchanged { OnErr result (self.new ≡ self.old) }

@@ -1,5 +1,6 @@
 ghost use Rattle.std.specs.Prelude.{◌≡◌, ◌<◌, ◌≤◌, IfOk, IfErr};
 ghost use Rattle.std.specs.Arc.{arc_value};
+ghost use Rattle.store.specs.Holds.{IsHoldOf};
 ghost use Rattle.store.specs.Faults.{IsRefusalOf};
 ghost use Rattle.store.specs.Table.{shard_of};
 
@@ -32,6 +33,11 @@ impl<D: Digest, A: Allocator> Shards<D, A> {
     /// The shard of a CID, in its lock. No contract can say which lock a call gives, so a test does.
     pub fn shard(&self, cid: &Cid) -> &Mutex<Shard<D, A>> {
         &self.shards[shard_number(cid)]
+    }
+
+    /// The locks of the shards, in the order of their numbers.
+    pub(crate) fn locks(&self) -> [&Mutex<Shard<D, A>>; SHARDS] {
+        array::from_fn(|number| &self.shards[number])
     }
 
     /// Releases the hold in the shard of its block, as `Shard::release` does. It takes no memory.
@@ -89,7 +95,7 @@ impl<D: Digest, A: Allocator + Clone> Shards<D, A> {
         block: Arc<Block<D, A>, A>,
     ) -> Result<Hold<D, A>, StoreFault<D, A>>
         requires { core < 1024 }
-        ensures hold { IfOk result (λ h. h ≡ (arc_value block, core)) }
+        ensures hold { IfOk result (IsHoldOf (arc_value block) core) }
         ensures fault { IfErr result (IsRefusalOf D.digest_of (arc_value block)) }
     {
         self.shard(&block.cid()).lock(rt).acquire(core, block)

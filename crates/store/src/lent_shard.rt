@@ -1,0 +1,72 @@
+//! One shard as a store.
+
+ghost use Rattle.std.specs.Prelude.{◌≡◌, ◌<◌, IfErr, OnOk, OnErr};
+ghost use Rattle.std.specs.Arc.{arc_value};
+ghost use Rattle.spec.specs.Cid.{cid as cid_of};
+ghost use Rattle.store.specs.Faults.{IsRefusal};
+ghost use Rattle.store.specs.Stores.{IsAnswer};
+ghost use Rattle.store.specs.Table.{entered, left};
+
+use crate::block_store::BlockStore;
+use crate::fault::StoreFault;
+use crate::full_count::FullCount;
+use crate::hold::Hold;
+use crate::shard::Shard;
+use cid::{Block, Digest};
+use std::alloc::{Allocator, Global};
+use std::sync::Arc;
+
+/// One shard that its single owner lends: a store without a lock, for blocks of any CID.
+#[derive(Drop)]
+pub struct LentShard<'a, D: Digest, A: Allocator = Global> {
+    shard: &'a mut Shard<D, A>,
+    fulls: FullCount,
+}
+
+impl<'a, D: Digest, A: Allocator> LentShard<'a, D, A> {
+    /// This shard as a store.
+    pub fn new(shard: &'a mut Shard<D, A>) -> LentShard<'a, D, A> {
+        LentShard {
+            shard,
+            fulls: FullCount::never(),
+        }
+    }
+}
+
+impl<'a, D: Digest, A: Allocator + Clone> BlockStore<
+    Arc<Block<D, A>, A>,
+    Hold<D, A>,
+    StoreFault<D, A>,
+> for LentShard<'a, D, A> {
+    ghost use Rattle.std.specs.Arc.{arc_value};
+    ghost use Rattle.store.specs.Stores.{IsAnswer};
+
+    ghost fulls = { λ s. s.fulls.times };
+
+    ghost answers = { λ s b core r t. IsAnswer D.digest_of (arc_value b) core s.fulls.times r t.fulls.times };
+
+    fn acquire(
+        &mut self,
+        core: u32,
+        block: Arc<Block<D, A>, A>,
+    ) -> Result<Hold<D, A>, StoreFault<D, A>>
+        requires { core < 1024 }
+        ensures answer { IsAnswer D.digest_of (arc_value block) core self.old.fulls.times result self.new.fulls.times }
+        ensures entered { OnOk result (self.new.shard.now ≡ entered self.old.shard.now (cid_of D.digest_of (arc_value block)) (arc_value block) core) }
+        ensures unchanged { OnErr result (self.new.shard.now ≡ self.old.shard.now) }
+        ensures refused { IfErr result (IsRefusal D.digest_of self.old.shard.now (arc_value block)) }
+    {
+        let answer = self.shard.acquire(core, block);
+        if matches!(answer, Err(StoreFault::Full)) {
+            self.fulls = self.fulls.once_more();
+        }
+        answer
+    }
+
+    fn release(&mut self, hold: Hold<D, A>)
+        ensures counted { self.new.fulls.times ≡ self.old.fulls.times }
+        ensures left { self.new.shard.now ≡ left self.old.shard.now (cid_of D.digest_of (arc_value hold.0)) hold.1 }
+    {
+        self.shard.release(hold);
+    }
+}
