@@ -168,7 +168,7 @@ module _ (digest : List ℕ → List ℕ) (bits : ℕ) (s : State) (stamp : Stam
   passes-to h = (
     within,
     ap (state_test s stamp) here-next
-    ∙ staged-passes s stamp (before ++ w ∷ []) (let l = length-append before (w ∷ []) in omega (arith, l)) stamped (batch-goes_on s.limit s.accepted before w passed h),
+        ∙ staged-passes s stamp (before ++ w ∷ []) (let l = length-append before (w ∷ []) in omega (arith, l)) stamped (batch-goes_on s.limit s.accepted before w passed h),
   )
 
   fails : (f : WriteFault) → next_test s before w ≡ Err f → state_test s stamp batch ≡ Err (i, OfWrite f)

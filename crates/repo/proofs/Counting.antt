@@ -89,12 +89,12 @@ module _ (digest : List ℕ → List ℕ) (m : Counts) (b : List ℕ) where
     has = λ y i. subst (λ z. bytes_at (raised digest m b) (cid digest z) ≡ Some z) (sym (only y b i)) (ap (option_map (λ v. v.0)) raised-here);
     counted = λ q. elim (tell q (cid digest b)) [
       | inl s ↦ subst (λ y. count_at (raised digest m b) y ≡ count_at m y + uses digest y (b ∷ [])) (sym s)
-            (let o = once (cid digest b) in let r = ap count_of raised-here in omega (arith, o, r))
+          (let o = once (cid digest b) in let r = ap count_of raised-here in omega (arith, o, r))
       | inr a ↦ let r = ap count_of (raised-beside q a) in let o = a.one in omega (arith, o, r)
     ];
     used = λ u q v e. elim (tell q (cid digest b)) [
       | inl s ↦ let x = some_is (b, suc (count_at m (cid digest b))) v (sym raised-here ∙ ap (map.get (raised digest m b)) (sym s) ∙ e) in
-            let y = ap (λ (z : List ℕ × ℕ). z.1) x in omega (arith, y)
+          let y = ap (λ (z : List ℕ × ℕ). z.1) x in omega (arith, y)
       | inr a ↦ u q v (sym (raised-beside q a) ∙ e)
     ];
   }
@@ -136,13 +136,13 @@ module _ (m : Counts) (c b : List ℕ) where
   with-lost n e = record {
     same = λ q x h. elim (tell q c) [
       | inl s ↦ let y = some-bytes b (n - 1) x (sym (ap (option_map (λ u. u.0)) (with-here (n - 1))) ∙ ap (bytes_at (with_count m c b (n - 1))) (sym s) ∙ h) in
-            ap (bytes_at m) s ∙ ap (option_map (λ u. u.0)) e ∙ ap (λ (z : List ℕ). Some z) y
+          ap (bytes_at m) s ∙ ap (option_map (λ u. u.0)) e ∙ ap (λ (z : List ℕ). Some z) y
       | inr a ↦ sym (ap (option_map (λ u. u.0)) (with-beside (n - 1) q a)) ∙ h
     ];
     counted = λ q h. elim (tell q c) [
       | inl s ↦ let o = once c in let old = ap count_of e in let new = ap count_of (with-here (n - 1)) ∙ some-count b (n - 1) in
-            let l : count c (c ∷ []) ≤ count_at m c = subst (λ x. count x (c ∷ []) ≤ count_at m x) s h in
-            subst (λ x. count_at (with_count m c b (n - 1)) x + count x (c ∷ []) ≡ count_at m x) (sym s) (omega (arith, o, old, new, l))
+          let l : count c (c ∷ []) ≤ count_at m c = subst (λ x. count x (c ∷ []) ≤ count_at m x) s h in
+          subst (λ x. count_at (with_count m c b (n - 1)) x + count x (c ∷ []) ≡ count_at m x) (sym s) (omega (arith, o, old, new, l))
       | inr a ↦ let r = ap count_of (with-beside (n - 1) q a) in let o = a.one in omega (arith, o, r)
     ];
     used = λ u q v h. elim (tell q c) [
@@ -159,7 +159,7 @@ lowered-lost m c = by_entry (map.get m c) refl
       same = λ q x h. h;
       counted = λ q h. elim (tell q c) [
         | inl s ↦ let o = once c in let old = ap count_of e in
-              let l : count c (c ∷ []) ≤ count_at m c = subst (λ x. count x (c ∷ []) ≤ count_at m x) s h in absurd (omega (arith, o, old, l))
+            let l : count c (c ∷ []) ≤ count_at m c = subst (λ x. count x (c ∷ []) ≤ count_at m x) s h in absurd (omega (arith, o, old, l))
         | inr a ↦ let o = a.one in omega (arith, o)
       ];
       used = λ u. u;

@@ -145,16 +145,18 @@ staged-commit digest bits s stamp batch root k l m is gained lost =
     } in
     let exchanged : (c : List ℕ) → count_at m c + uses digest c old ≡ count_at k c + uses digest c new =
     λ c. let g = gained.counted c in
-        let o = old-count digest c (state_root digest bits s) (last_stamp s) in
-        let n = is.staged.counted c in
-        let a = count-map_append (cid digest) c old (blocks_in digest (record_at (records_after s batch))
-            (Sub (top (layer digest bits) (pairs digest (records_after s batch))))) in
-        let x = lost.counted c (omega (arith, g, o, n, a)) in
-        omega (arith, g, o, x)
+    let o = old-count digest c (state_root digest bits s) (last_stamp s) in
+    let n = is.staged.counted c in
+    let a = count-map_append (cid digest) c old (blocks_in digest (record_at (records_after s batch))
+    (Sub (top (layer digest bits) (pairs digest (records_after s batch))))) in
+    let x = lost.counted c (omega (arith, g, o, n, a)) in
+    omega (arith, g, o, x)
     in
-    let end = staged-state digest bits s stamp batch root (bytes_at l) (count_at k) (count_at m) moved gained.has exchanged in
-    (end.0, record {
-      has = used-has digest (state_blocks digest bits (after_batch s stamp batch)) l m end.1 lost.same end.2;
-      counted = end.2;
-      used = lost.used (gained.used is.used);
-    })
+    let end = staged-state digest bits s stamp batch root (bytes_at l) (count_at k) (count_at m) moved gained.has exchanged in (
+      end.0,
+      record {
+        has = used-has digest (state_blocks digest bits (after_batch s stamp batch)) l m end.1 lost.same end.2;
+        counted = end.2;
+        used = lost.used (gained.used is.used);
+      },
+    )

@@ -13,21 +13,28 @@ ghost use Rattle.repo.specs.Refusals.{IsBatchAt, IsBatchStart, IsWriteFault, IsR
 ghost use Rattle.repo.specs.Staging.{IsStagedBy, IsBlockFault};
 ghost use Rattle.repo.specs.Tests.{write_fault, IsTestFault};
 ghost use Rattle.repo.specs.Values.{write_of, writes_of, shared_writes, stamp_of};
+ghost use Rattle.store.specs.Stores.{IsStore};
 
 use crate::commit::commit_bytes;
 use crate::fault::RepoFault;
 use crate::staging::{gain, lose, stage_next};
 use crate::stamp::Stamp;
-use crate::stub::{BlockStore, Kept, value_staged};
+use crate::stub::{Kept, value_staged};
 use crate::write::Write;
 use crate::write_test::test_write;
 use cid::{Block, Cid, Digest};
 use std::alloc::{AllocError, Allocator};
 use std::sync::Arc;
+use store::{BlockStore, Hold, StoreFault};
 
 /// Stages all writes of a batch, where there is room for so many: the root after them, and their copies. Or the place of the
 /// first write that is refused.
-pub(crate) fn stage_writes<D: Digest, const B: u8, A: Allocator + Copy, S: BlockStore>(
+pub(crate) fn stage_writes<
+    D: Digest,
+    const B: u8,
+    A: Allocator + Copy,
+    S: BlockStore<Arc<Block<D, A>, A>, Hold<D, A>, StoreFault<D, A>>,
+>(
     kept: &mut Kept<D, A>,
     store: &mut S,
     alloc: A,
@@ -37,6 +44,7 @@ pub(crate) fn stage_writes<D: Digest, const B: u8, A: Allocator + Copy, S: Block
 ) -> Result<(Cid, Vec<Arc<Write<A>, A>, A>), (usize, RepoFault<D, A>)>
     requires least { 1 ≤ B }
     requires most { B ≤ 8 }
+    requires store { IsStore D.digest_of S.fulls S.answers }
     ensures staged { (s : State) → IsBatchStart D.digest_of B s room root kept.old.staged → IfOk result (λ staged. IsStagedBy D.digest_of B s (writes_of writes.now) staged.0 kept.new.staged) }
     ensures copies { IfOk result (λ staged. shared_writes staged.1.items ≡ writes_of writes.now) }
     ensures fault { (s : State) → IsBatchStart D.digest_of B s room root kept.old.staged → IfErr result (IsRefusedWrite D.digest_of B s (writes_of writes.now) (S.fulls store.old) (S.fulls store.new)) }
@@ -46,7 +54,15 @@ pub(crate) fn stage_writes<D: Digest, const B: u8, A: Allocator + Copy, S: Block
     let mut shared = Vec::new(alloc);
     let mut root = root;
     for (place, write) in writes.iter().enumerate() {
-        match stage_shared::<D, B, A, S>(kept, store, alloc, place < room, root, write, &mut shared) {
+        match stage_shared::<D, B, A, S>(
+            kept,
+            store,
+            alloc,
+            place < room,
+            root,
+            write,
+            &mut shared,
+        ) {
             Ok(next) => root = next,
             Err(fault) => return Err((place, fault)),
         }
@@ -55,7 +71,12 @@ pub(crate) fn stage_writes<D: Digest, const B: u8, A: Allocator + Copy, S: Block
 }
 
 /// Stages one write, and puts a copy of it to the others.
-fn stage_shared<D: Digest, const B: u8, A: Allocator + Copy, S: BlockStore>(
+fn stage_shared<
+    D: Digest,
+    const B: u8,
+    A: Allocator + Copy,
+    S: BlockStore<Arc<Block<D, A>, A>, Hold<D, A>, StoreFault<D, A>>,
+>(
     kept: &mut Kept<D, A>,
     store: &mut S,
     alloc: A,
@@ -66,6 +87,7 @@ fn stage_shared<D: Digest, const B: u8, A: Allocator + Copy, S: BlockStore>(
 ) -> Result<Cid, RepoFault<D, A>>
     requires least { 1 ≤ B }
     requires most { B ≤ 8 }
+    requires store { IsStore D.digest_of S.fulls S.answers }
     ensures staged { (s : State) (before : List SpecWrite) → IsBatchAt D.digest_of B s before room root kept.old.staged → IfOk result (λ next. IsStagedBy D.digest_of B s (before ++ write_of write.now ∷ []) next kept.new.staged) }
     ensures copied { OnOk result (shared_writes shared.new.items ≡ shared_writes shared.old.items ++ write_of write.now ∷ []) }
     ensures fault { (s : State) (before : List SpecWrite) → IsBatchAt D.digest_of B s before room root kept.old.staged → IfErr result (IsWriteFault D.digest_of B s before (write_of write.now) (S.fulls store.old) (S.fulls store.new)) }
@@ -78,7 +100,12 @@ fn stage_shared<D: Digest, const B: u8, A: Allocator + Copy, S: BlockStore>(
 }
 
 /// Tests one write on what is staged, stages it, and answers the root after it.
-fn stage_write<D: Digest, const B: u8, A: Allocator + Copy, S: BlockStore>(
+fn stage_write<
+    D: Digest,
+    const B: u8,
+    A: Allocator + Copy,
+    S: BlockStore<Arc<Block<D, A>, A>, Hold<D, A>, StoreFault<D, A>>,
+>(
     kept: &mut Kept<D, A>,
     store: &mut S,
     alloc: A,
@@ -88,6 +115,7 @@ fn stage_write<D: Digest, const B: u8, A: Allocator + Copy, S: BlockStore>(
 ) -> Result<Cid, RepoFault<D, A>>
     requires least { 1 ≤ B }
     requires most { B ≤ 8 }
+    requires store { IsStore D.digest_of S.fulls S.answers }
     ensures staged { (s : State) (before : List SpecWrite) → IsBatchAt D.digest_of B s before room root kept.old.staged → IfOk result (λ next. IsStagedBy D.digest_of B s (before ++ write_of write.now ∷ []) next kept.new.staged) }
     ensures fault { (s : State) (before : List SpecWrite) → IsBatchAt D.digest_of B s before room root kept.old.staged → IfErr result (IsWriteFault D.digest_of B s before (write_of write.now) (S.fulls store.old) (S.fulls store.new)) }
     ensures before { IsStillBefore kept.old kept.new }
@@ -120,7 +148,11 @@ fn test_next<D: Digest, const B: u8, A: Allocator + Copy>(
 }
 
 /// Stages a commit of a stamp and a root in the place of the one before, and answers its CID.
-pub(crate) fn stage_commit<D: Digest, A: Allocator + Copy, S: BlockStore>(
+pub(crate) fn stage_commit<
+    D: Digest,
+    A: Allocator + Copy,
+    S: BlockStore<Arc<Block<D, A>, A>, Hold<D, A>, StoreFault<D, A>>,
+>(
     kept: &mut Kept<D, A>,
     store: &mut S,
     alloc: A,
@@ -128,6 +160,7 @@ pub(crate) fn stage_commit<D: Digest, A: Allocator + Copy, S: BlockStore>(
     root: Cid,
     last: Option<Cid>,
 ) -> Result<Cid, RepoFault<D, A>>
+    requires store { IsStore D.digest_of S.fulls S.answers }
     ensures staged { OnOk result (IsExchanged D.digest_of (commit_bytes (stamp_of stamp.now) root ∷ []) (cons_option last []) kept.old.staged kept.new.staged) }
     ensures cid { IfOk result (λ cid. cid ≡ cid_of D.digest_of (commit_bytes (stamp_of stamp.now) root)) }
     ensures fault { IfErr result (IsBlockFault D.digest_of (commit_bytes (stamp_of stamp.now) root ∷ []) (S.fulls store.old) (S.fulls store.new)) }

@@ -11,17 +11,19 @@ ghost use Rattle.spec.specs.States.{IsLawful, fresh, after_batch, records, state
 ghost use Rattle.spec.specs.Stamps.{last, rev_of};
 ghost use Rattle.repo.specs.Refusals.{IsRefusal, IsApplied};
 ghost use Rattle.repo.specs.Values.{stamp_of, stamps_of, writes_of, shared_writes};
+ghost use Rattle.store.specs.Stores.{IsStore};
 
 use crate::applied::Applied;
 use crate::fault::RepoFault;
-use crate::staged_batch::{Start, StagedBatch, stage_batch};
+use crate::staged_batch::{StagedBatch, Start, stage_batch};
 use crate::stamp::Stamp;
-use crate::stub::{BlockStore, Kept, pairs_in, value_in};
+use crate::stub::{Kept, pairs_in, value_in};
 use crate::write::Write;
 use cid::{Block, Cid, Digest};
 use std::alloc::{AllocError, Allocator, Global};
 use std::marker::Model;
 use std::sync::Arc;
+use store::{BlockStore, Hold, StoreFault};
 
 /// One repository: its accepted writes and their stamps, the root of its tree, and its blocks.
 ///
@@ -160,13 +162,14 @@ impl<D: Digest, const B: u8, A: Allocator + Copy> Core<D, B, A> {
     ///
     /// A refusal names the place of the refused write, from 0; all is then as before, and each hold that was taken has been
     /// given back.
-    pub fn apply<S: BlockStore>(
+    pub fn apply<S: BlockStore<Arc<Block<D, A>, A>, Hold<D, A>, StoreFault<D, A>>>(
         &mut self,
         alloc: A,
         store: &mut S,
         stamp: &Stamp<A>,
         writes: &[Write<A>],
     ) -> Result<Applied, (usize, RepoFault<D, A>)>
+        requires store { IsStore D.digest_of S.fulls S.answers }
         ensures lawful { IsLawful self.old }
         ensures accepted { OnOk result (self.new ≡ after_batch self.old (stamp_of stamp.now) (writes_of writes.now)) }
         ensures passes { OnOk result (state_test self.old (stamp_of stamp.now) (writes_of writes.now) ≡ Ok tt) }

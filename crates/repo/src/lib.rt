@@ -8,11 +8,11 @@ mod cores;
 mod fault;
 mod letters;
 mod probe;
-mod stub;
 mod staged_batch;
+mod staging;
 mod stamp;
 mod stamp_test;
-mod staging;
+mod stub;
 mod write;
 mod write_test;
 

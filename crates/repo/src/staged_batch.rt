@@ -6,16 +6,18 @@ ghost use Rattle.spec.specs.Stamps.{stamp_test};
 ghost use Rattle.repo.specs.Keeping.{IsStillBefore};
 ghost use Rattle.repo.specs.Refusals.{IsBatchOn, IsStagedBatch, IsRefusal};
 ghost use Rattle.repo.specs.Values.{writes_of, shared_writes, stamp_of};
+ghost use Rattle.store.specs.Stores.{IsStore};
 
 use crate::batch::{stage_commit, stage_writes};
 use crate::fault::RepoFault;
 use crate::stamp::Stamp;
 use crate::stamp_test::test_stamp;
-use crate::stub::{BlockStore, Kept};
+use crate::stub::Kept;
 use crate::write::Write;
-use cid::{Cid, Digest};
+use cid::{Block, Cid, Digest};
 use std::alloc::Allocator;
 use std::sync::Arc;
+use store::{BlockStore, Hold, StoreFault};
 
 /// What a batch leaves where it's accepted: the root, the commit, and the copies of its writes and its stamp.
 pub(crate) struct StagedBatch<A: Allocator> {
@@ -35,7 +37,12 @@ pub(crate) struct Start {
 
 /// Tests a batch and stages it with its commit, or finds the place and the fault for which it's refused: no writes, then the
 /// stamp, then write by write.
-pub(crate) fn stage_batch<D: Digest, const B: u8, A: Allocator + Copy, S: BlockStore>(
+pub(crate) fn stage_batch<
+    D: Digest,
+    const B: u8,
+    A: Allocator + Copy,
+    S: BlockStore<Arc<Block<D, A>, A>, Hold<D, A>, StoreFault<D, A>>,
+>(
     kept: &mut Kept<D, A>,
     store: &mut S,
     alloc: A,
@@ -46,6 +53,7 @@ pub(crate) fn stage_batch<D: Digest, const B: u8, A: Allocator + Copy, S: BlockS
 ) -> Result<StagedBatch<A>, (usize, RepoFault<D, A>)>
     requires least { 1 ≤ B }
     requires most { B ≤ 8 }
+    requires store { IsStore D.digest_of S.fulls S.answers }
     ensures staged { (s : State) → IsBatchOn D.digest_of B s start.room start.root start.commit (option_map (λ rev. rev.now) last.entry) kept.old.staged → IfOk result (λ staged. IsStagedBatch D.digest_of B s (stamp_of stamp.now) (writes_of writes.now) staged.root staged.commit kept.new.staged) }
     ensures copies { IfOk result (λ staged. shared_writes staged.writes.items ≡ writes_of writes.now) }
     ensures stamp { IfOk result (λ staged. stamp_of staged.stamp ≡ stamp_of stamp.now) }
@@ -62,7 +70,12 @@ pub(crate) fn stage_batch<D: Digest, const B: u8, A: Allocator + Copy, S: BlockS
 }
 
 /// The same for writes under a stamp that passed its test.
-fn stage_stamped<D: Digest, const B: u8, A: Allocator + Copy, S: BlockStore>(
+fn stage_stamped<
+    D: Digest,
+    const B: u8,
+    A: Allocator + Copy,
+    S: BlockStore<Arc<Block<D, A>, A>, Hold<D, A>, StoreFault<D, A>>,
+>(
     kept: &mut Kept<D, A>,
     store: &mut S,
     alloc: A,
@@ -73,6 +86,7 @@ fn stage_stamped<D: Digest, const B: u8, A: Allocator + Copy, S: BlockStore>(
     requires least { 1 ≤ B }
     requires most { B ≤ 8 }
     requires some { 0 < length writes.now }
+    requires store { IsStore D.digest_of S.fulls S.answers }
     ensures staged { (s : State) (rev : Option (List ℕ)) → IsBatchOn D.digest_of B s start.room start.root start.commit rev kept.old.staged → stamp_test rev (stamp_of stamp.now) ≡ Ok tt → IfOk result (λ staged. IsStagedBatch D.digest_of B s (stamp_of stamp.now) (writes_of writes.now) staged.root staged.commit kept.new.staged) }
     ensures copies { IfOk result (λ staged. shared_writes staged.writes.items ≡ writes_of writes.now) }
     ensures stamp { IfOk result (λ staged. stamp_of staged.stamp ≡ stamp_of stamp.now) }

@@ -13,19 +13,26 @@ ghost use Rattle.kept.specs.Counts.{bytes_at};
 ghost use Rattle.repo.specs.Keeping.{IsGained, IsLost, IsExchanged, IsStillBefore};
 ghost use Rattle.repo.specs.Staging.{IsTreeEdit, IsTreeRefusal, IsStagedWrite, IsBlockFault, blocks_left};
 ghost use Rattle.repo.specs.Values.{write_of};
+ghost use Rattle.store.specs.Stores.{IsStore};
 
 use crate::fault::RepoFault;
-use crate::stub::{BlockStore, Kept, delete_over, put_over};
+use crate::stub::{Kept, delete_over, put_over};
 use crate::write::Write;
 use cid::{Block, Cid, Digest};
 use edit::{Edit, EditFault};
 use std::alloc::{AllocError, Allocator};
 use std::clone::Clone;
 use std::sync::Arc;
+use store::{BlockStore, Hold, StoreFault};
 
 /// Stages a write whose key is that of a record and, where it is a delete, is there: the record and the nodes that come,
 /// and then what goes. It answers the root.
-pub(crate) fn stage_next<D: Digest, const B: u8, A: Allocator + Clone, S: BlockStore>(
+pub(crate) fn stage_next<
+    D: Digest,
+    const B: u8,
+    A: Allocator + Clone,
+    S: BlockStore<Arc<Block<D, A>, A>, Hold<D, A>, StoreFault<D, A>>,
+>(
     kept: &mut Kept<D, A>,
     store: &mut S,
     alloc: A,
@@ -35,6 +42,7 @@ pub(crate) fn stage_next<D: Digest, const B: u8, A: Allocator + Clone, S: BlockS
     requires least { 1 ≤ B }
     requires most { B ≤ 8 }
     requires key { is_key (key_of (write_of write.now)) ≡ true }
+    requires store { IsStore D.digest_of S.fulls S.answers }
     ensures staged { (m : List (List ℕ × List ℕ)) → HasTree D.digest_of B (bytes_at kept.old.staged) root (pairs D.digest_of m) → IfOk result (λ next. IsStagedWrite D.digest_of B m (write_of write.now) next kept.old.staged kept.new.staged) }
     ensures fault { (m : List (List ℕ × List ℕ)) → HasTree D.digest_of B (bytes_at kept.old.staged) root (pairs D.digest_of m) → IfErr result (IsBlockFault D.digest_of (blocks_left D.digest_of B m (write_of write.now)) (S.fulls store.old) (S.fulls store.new)) }
     ensures before { IsStillBefore kept.old kept.new }
@@ -115,12 +123,17 @@ fn put_or_delete<'a, D: Digest + 'a, const B: u8, A: Allocator + Clone + 'a>(
 }
 
 /// Stages what comes with an edit and with its record, and then what goes.
-fn exchange<D: Digest, A: Allocator + Clone, S: BlockStore>(
+fn exchange<
+    D: Digest,
+    A: Allocator + Clone,
+    S: BlockStore<Arc<Block<D, A>, A>, Hold<D, A>, StoreFault<D, A>>,
+>(
     kept: &mut Kept<D, A>,
     store: &mut S,
     brought: Option<Arc<Block<D, A>, A>>,
     edit: Edit<D, A>,
 ) -> Result<(), RepoFault<D, A>>
+    requires store { IsStore D.digest_of S.fulls S.answers }
     ensures exchanged { OnOk result (IsExchanged D.digest_of (map arc_value edit.add.items ++ cons_option (option_map arc_value brought) []) (edit.drop.items ++ cons_option edit.previous []) kept.old.staged kept.new.staged) }
     ensures fault { IfErr result (IsBlockFault D.digest_of (map arc_value edit.add.items ++ cons_option (option_map arc_value brought) []) (S.fulls store.old) (S.fulls store.new)) }
     ensures before { IsStillBefore kept.old kept.new }
@@ -172,11 +185,16 @@ fn with_cid<A: Allocator>(
 }
 
 /// Stages one use more of each of these blocks.
-fn gain_all<D: Digest, A: Allocator + Clone, S: BlockStore>(
+fn gain_all<
+    D: Digest,
+    A: Allocator + Clone,
+    S: BlockStore<Arc<Block<D, A>, A>, Hold<D, A>, StoreFault<D, A>>,
+>(
     kept: &mut Kept<D, A>,
     store: &mut S,
     blocks: Vec<Arc<Block<D, A>, A>, A>,
 ) -> Result<(), RepoFault<D, A>>
+    requires store { IsStore D.digest_of S.fulls S.answers }
     ensures gained { OnOk result (IsGained D.digest_of (map arc_value blocks.items) kept.old.staged kept.new.staged) }
     ensures fault { IfErr result (IsBlockFault D.digest_of (map arc_value blocks.items) (S.fulls store.old) (S.fulls store.new)) }
     ensures before { IsStillBefore kept.old kept.new }
@@ -189,11 +207,12 @@ fn gain_all<D: Digest, A: Allocator + Clone, S: BlockStore>(
 }
 
 /// Stages one use more of a block.
-pub(crate) fn gain<D: Digest, A: Allocator + Clone, S: BlockStore>(
-    kept: &mut Kept<D, A>,
-    store: &mut S,
-    block: Arc<Block<D, A>, A>,
-) -> Result<(), RepoFault<D, A>>
+pub(crate) fn gain<
+    D: Digest,
+    A: Allocator + Clone,
+    S: BlockStore<Arc<Block<D, A>, A>, Hold<D, A>, StoreFault<D, A>>,
+>(kept: &mut Kept<D, A>, store: &mut S, block: Arc<Block<D, A>, A>) -> Result<(), RepoFault<D, A>>
+    requires store { IsStore D.digest_of S.fulls S.answers }
     ensures gained { OnOk result (IsGained D.digest_of (arc_value block ∷ []) kept.old.staged kept.new.staged) }
     ensures fault { IfErr result (IsBlockFault D.digest_of (arc_value block ∷ []) (S.fulls store.old) (S.fulls store.new)) }
     ensures before { IsStillBefore kept.old kept.new }
@@ -206,11 +225,11 @@ pub(crate) fn gain<D: Digest, A: Allocator + Clone, S: BlockStore>(
 }
 
 /// Stages one use less of each of the blocks with these CIDs.
-pub(crate) fn lose_all<D: Digest, A: Allocator, S: BlockStore>(
-    kept: &mut Kept<D, A>,
-    store: &mut S,
-    cids: &[Cid],
-) -> Result<(), AllocError>
+pub(crate) fn lose_all<
+    D: Digest,
+    A: Allocator,
+    S: BlockStore<Arc<Block<D, A>, A>, Hold<D, A>, StoreFault<D, A>>,
+>(kept: &mut Kept<D, A>, store: &mut S, cids: &[Cid]) -> Result<(), AllocError>
     ensures lost { OnOk result (IsLost cids.now kept.old.staged kept.new.staged) }
     ensures before { IsStillBefore kept.old kept.new }
     ensures grown { S.fulls store.old ≤ S.fulls store.new }
@@ -222,11 +241,11 @@ pub(crate) fn lose_all<D: Digest, A: Allocator, S: BlockStore>(
 }
 
 /// Stages one use less of the block with this CID, if it is one.
-pub(crate) fn lose<D: Digest, A: Allocator, S: BlockStore>(
-    kept: &mut Kept<D, A>,
-    store: &mut S,
-    cid: Option<Cid>,
-) -> Result<(), AllocError>
+pub(crate) fn lose<
+    D: Digest,
+    A: Allocator,
+    S: BlockStore<Arc<Block<D, A>, A>, Hold<D, A>, StoreFault<D, A>>,
+>(kept: &mut Kept<D, A>, store: &mut S, cid: Option<Cid>) -> Result<(), AllocError>
     ensures lost { OnOk result (IsLost (cons_option cid []) kept.old.staged kept.new.staged) }
     ensures before { IsStillBefore kept.old kept.new }
     ensures grown { S.fulls store.old ≤ S.fulls store.new }

@@ -16,7 +16,7 @@ ghost use Rattle.edit.specs.Trees.{HasTree};
 ghost use Rattle.edit.specs.Walks.{pairs_given};
 ghost use Rattle.store.specs.Faults.{IsRefusalOf};
 ghost use Rattle.kept.specs.Counts.{Keeping, raised, lowered, HasNoOther, count_at, bytes_at};
-ghost use Rattle.repo.specs.Stub.{fulls_after};
+ghost use Rattle.store.specs.Stores.{IsStore, fulls_after};
 
 use cid::{Block, Cid, Digest};
 use edit::{Edit, EditFault};
@@ -25,14 +25,7 @@ use std::clone::Clone;
 use std::collections::BTreeMap;
 use std::marker::Model;
 use std::sync::Arc;
-use store::{Hold, StoreFault};
-
-pub trait BlockStore {
-    ghost fulls: { Self → ℕ };
-
-    fn touch(&mut self)
-        ensures { fulls self.new ≡ fulls self.old };
-}
+use store::{BlockStore, Hold, StoreFault};
 
 pub struct Kept<D: Digest, A: Allocator = Global> {
     pub(crate) me: u32,
@@ -58,7 +51,11 @@ impl<D: Digest, A: Allocator> Kept<D, A> {
         self.me
     }
 
-    pub fn stage_drop<S: BlockStore>(&mut self, store: &mut S, cid: Cid) -> Result<(), AllocError>
+    pub fn stage_drop<S: BlockStore<Arc<Block<D, A>, A>, Hold<D, A>, StoreFault<D, A>>>(
+        &mut self,
+        store: &mut S,
+        cid: Cid,
+    ) -> Result<(), AllocError>
         ensures dropped { OnOk result (self.new ≡ record self.old { staged = lowered self.old.staged cid }) }
         ensures unchanged { OnErr result (self.new ≡ self.old) }
         ensures fulls { S.fulls store.new ≡ S.fulls store.old }
@@ -66,19 +63,21 @@ impl<D: Digest, A: Allocator> Kept<D, A> {
         Ok(())
     }
 
-    pub fn accept<S: BlockStore>(&mut self, store: &mut S)
+    pub fn accept<S: BlockStore<Arc<Block<D, A>, A>, Hold<D, A>, StoreFault<D, A>>>(
+        &mut self,
+        store: &mut S,
+    )
         ensures accepted { self.new ≡ record self.old { before = self.old.staged } }
         ensures fulls { S.fulls store.new ≡ S.fulls store.old }
-    {
-        store.touch();
-    }
+    {}
 
-    pub fn refuse<S: BlockStore>(&mut self, store: &mut S)
+    pub fn refuse<S: BlockStore<Arc<Block<D, A>, A>, Hold<D, A>, StoreFault<D, A>>>(
+        &mut self,
+        store: &mut S,
+    )
         ensures refused { self.new ≡ record self.old { staged = self.old.before } }
         ensures fulls { S.fulls store.new ≡ S.fulls store.old }
-    {
-        store.touch();
-    }
+    {}
 
     pub fn block(&self, cid: &Cid) -> Option<&Arc<Block<D, A>, A>>
         ensures { option_map (λ block. arc_value block.now) result ≡ bytes_at self.now.before cid.now }
@@ -86,11 +85,12 @@ impl<D: Digest, A: Allocator> Kept<D, A> {
         Some(self.blocks.get(cid)?.block())
     }
 
-    pub fn stage_add<S: BlockStore>(
+    pub fn stage_add<S: BlockStore<Arc<Block<D, A>, A>, Hold<D, A>, StoreFault<D, A>>>(
         &mut self,
         store: &mut S,
         block: Arc<Block<D, A>, A>,
     ) -> Result<(), StoreFault<D, A>>
+        requires store { IsStore D.digest_of S.fulls S.answers }
         ensures added { OnOk result (self.new ≡ record self.old { staged = raised D.digest_of self.old.staged (arc_value block) }) }
         ensures no_other_staged { OnOk result (HasNoOther D.digest_of self.old.staged (arc_value block)) }
         ensures unchanged { OnErr result (self.new ≡ self.old) }
@@ -168,4 +168,31 @@ pub fn delete_over<'a, D: Digest + 'a, const B: u8, A: Allocator + Clone + 'a>(
     ensures fault { (es : List Pair) → HasTree D.digest_of B (bytes_at kept.now.staged) root es → IfErr result (IsRefusal D.digest_of (nodes D.digest_of B es ++ nodes D.digest_of B (without_key es key.now)) (value_of key.now es ≡ None)) }
 {
     Err(EditFault::NoMemory)
+}
+
+impl<D: Digest, A: Allocator> Kept<D, A> {
+    pub fn end<S: BlockStore<Arc<Block<D, A>, A>, Hold<D, A>, StoreFault<D, A>>>(
+        self,
+        store: &mut S,
+    )
+        ensures { S.fulls store.new ≡ S.fulls store.old }
+    {
+        let Kept { me: _, mut blocks } = self;
+        while let Some((_, held)) = blocks.pop_first() {
+            store.release(held);
+        }
+        blocks.destroy_empty();
+    }
+}
+
+impl<D: Digest, A: Allocator + Clone> Kept<D, A> {
+    pub fn open(alloc: A, me: u32) -> Result<Kept<D, A>, AllocError>
+        requires { me < 1024 }
+        ensures { IfOk result (λ kept. kept ≡ record { me = me; before = map.empty; staged = map.empty }) }
+    {
+        Ok(Kept {
+            me,
+            blocks: BTreeMap::new(alloc),
+        })
+    }
 }
