@@ -1,5 +1,0 @@
-//! Kept.
-#![tactic(auto)]
-
-/// Nothing.
-pub fn nothing() {}
