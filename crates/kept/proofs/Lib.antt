@@ -1,0 +1,6 @@
+pub mod Entries
+pub mod Counting
+pub mod Outcomes
+pub mod Keepings
+pub mod Stagings
+pub mod Listing

@@ -1,0 +1,21 @@
+use Rattle.std.proofs.Common.{◌∙◌, ap}
+use Rattle.kept.specs.Counts.{Keeping}
+use Rattle.kept.specs.declared.kept_use.End.TheVariants.{Accept}
+use Rattle.kept.proofs.Counting.{kept_settled, settled_uses, settled_next}
+use Rattle.kept.proofs.Keepings.{keeping_same}
+use Rattle.kept.proofs.kept.Kept.accept.Goals as goal
+
+pub invariant_of-self : goal.invariant_of-self
+invariant_of-self g c =
+    kept_settled g.D.Digest.digest_of c.self.inside.me Accept c.self.inside.blocks c.settle_all.new.blocks
+    c.self.inside.touched.items c.settle_all.new.touched.items c.self.invariant c.settle_all.ensures.settled
+
+pub returns-clause-accepted : goal.returns-clause-accepted
+returns-clause-accepted g c =
+    let m = c.self.inside.blocks in
+    let n = c.settle_all.new.blocks in
+    let ts = c.self.inside.touched.items in
+    keeping_same c.self.inside.me
+    (settled_uses g.D.Digest.digest_of c.self.inside.me Accept m n ts c.self.invariant c.settle_all.ensures.settled)
+    (settled_next g.D.Digest.digest_of c.self.inside.me Accept m n ts c.self.invariant c.settle_all.ensures.settled)
+    ∙ ap (λ (k : Keeping). record { me = k.me; before = k.staged; staged = k.staged }) c.self.view_is

@@ -1,0 +1,34 @@
+//! The kept blocks in their order.
+
+ghost use Rattle.std.specs.Arc.{arc_value};
+ghost use Rattle.std.specs.Iterator.{YieldsFirstBy, item_count};
+ghost use Rattle.kept.specs.Uses.{used_blocks};
+
+use crate::kept_use::Use;
+use cid::{Block, Cid, Digest};
+use std::alloc::{Allocator, Global};
+use std::collections::btree_map::Iter;
+use std::sync::Arc;
+
+/// The blocks that what was accepted uses, in the order of their CIDs: those that are left.
+#[derive(Drop)]
+pub struct Blocks<'a, D: Digest, A: Allocator = Global> {
+    pub(crate) entries: Iter<'a, Cid, Use<D, A>>,
+}
+
+impl<'a, D: Digest, A: Allocator> Iterator for Blocks<'a, D, A> {
+    type Item = &'a Arc<Block<D, A>, A>;
+
+    ghost next_gives = { YieldsFirstBy (λ item. arc_value item.now) (λ left. used_blocks left.entries) };
+
+    ghost remaining = { item_count (λ left. used_blocks left.entries) };
+
+    fn next(&mut self) -> Option<&'a Arc<Block<D, A>, A>> {
+        while let Some((_, held)) = self.entries.next() {
+            if held.uses > 0 {
+                return Some(held.hold.block());
+            }
+        }
+        None
+    }
+}

@@ -1,0 +1,219 @@
+//! What a core keeps.
+
+ghost use Rattle.std.specs.Prelude.{◌≡◌, ◌<◌, ℕ, List, Some, [], option_map, vec_len, vec_capacity, IfErr, IfOk, OnOk, OnErr};
+ghost use Rattle.std.specs.Arc.{arc_value};
+ghost use Rattle.std.specs.FinMap as map;
+ghost use Rattle.store.specs.Faults.{IsRefusalOf};
+ghost use Rattle.store.specs.Stores.{IsStore, fulls_after};
+ghost use Rattle.kept.specs.Counts.{raised, lowered, HasNoOther, count_at, bytes_at, blocks_of};
+ghost use Rattle.kept.specs.Uses.{lent, used_blocks, AreSettled, with_note};
+
+use crate::blocks::Blocks;
+use crate::kept_use::End;
+use crate::lender::Lender;
+use crate::use_map::UseMap;
+use cid::{Block, Cid, Digest};
+use edit::Asked;
+use std::alloc::{AllocError, Allocator, Global};
+use std::marker::Model;
+use std::sync::Arc;
+use store::{BlockStore, Hold, StoreFault};
+
+/// The blocks that a core holds, each with how often it is used by what was accepted, and beside that how often it is used
+/// by what is staged, until all of it is accepted or refused at once.
+///
+/// A block is held as long as it is used by one of the two. It can't be dropped, as no hold can: `end` gives all blocks
+/// back. A contract sees it as the core's number and two finite maps from CIDs to bytes and counts above 0.
+pub struct Kept<D: Digest, A: Allocator = Global> {
+    me: u32,
+    blocks: UseMap<D, A>,
+    // The CIDs of which a use came or went since the last end, each once for as long as its block is held.
+    touched: Vec<Cid, A>,
+}
+
+impl<D: Digest, A: Allocator> Model for Kept<D, A> {
+    ghost use Rattle.kept.specs.Counts.{Keeping, keeping_code};
+    ghost use Rattle.kept.specs.Uses.{keeping_of, IsKept};
+
+    ghost Value = { Keeping };
+
+    ghost coded = { keeping_code };
+
+    ghost view = { λ k. keeping_of k.me k.blocks };
+
+    ghost invariant = { λ k. IsKept D.digest_of k.me k.blocks k.touched.items };
+}
+
+impl<D: Digest, A: Allocator> Kept<D, A> {
+    /// The number of the core, below 1,024.
+    pub fn me(&self) -> u32
+        ensures value { result ≡ self.now.me }
+        ensures small { result < 1024 }
+    {
+        self.me
+    }
+
+    /// The block of this CID, if what was accepted uses it.
+    pub fn block(&self, cid: &Cid) -> Option<&Arc<Block<D, A>, A>>
+        ensures { option_map (λ block. arc_value block.now) result ≡ bytes_at self.now.before cid.now }
+    {
+        let Some(held) = self.blocks.get(cid) else {
+            return None;
+        };
+        if held.uses == 0 {
+            return None;
+        }
+        Some(held.hold.block())
+    }
+
+    /// How often what was accepted uses the block of this CID.
+    pub fn uses(&self, cid: &Cid) -> u64
+        ensures { result ≡ count_at self.now.before cid.now }
+    {
+        match self.blocks.get(cid) {
+            Some(held) => held.uses,
+            None => 0,
+        }
+    }
+
+    /// The blocks that what was accepted uses, each once, in the order of their CIDs. It takes no memory.
+    pub fn blocks(&self) -> Blocks<'_, D, A>
+        ensures { used_blocks result.entries ≡ blocks_of self.now.before }
+    {
+        Blocks {
+            entries: self.blocks.iter(),
+        }
+    }
+
+    /// The blocks as a source that wasn't asked for any so far: what was accepted, and what is staged.
+    pub fn lender(&self) -> Lender<'_, D, A>
+        ensures before { (c bytes : List ℕ) → bytes_at self.now.before c ≡ Some bytes → option_map arc_value (lent result.blocks.now c) ≡ Some bytes }
+        ensures staged { (c bytes : List ℕ) → bytes_at self.now.staged c ≡ Some bytes → option_map arc_value (lent result.blocks.now c) ≡ Some bytes }
+        ensures asked { result.asked.times ≡ 0 }
+    {
+        Lender {
+            blocks: &self.blocks,
+            asked: Asked::never(),
+        }
+    }
+
+    /// Stages one use less of the block with this CID, where there is one. A block that is then used neither by what was
+    /// accepted nor by what is staged is given back at once.
+    ///
+    /// Want of memory changes nothing.
+    pub fn stage_drop<S: BlockStore<Arc<Block<D, A>, A>, Hold<D, A>, StoreFault<D, A>>>(
+        &mut self,
+        store: &mut S,
+        cid: Cid,
+    ) -> Result<(), AllocError>
+        ensures dropped { OnOk result (self.new ≡ record self.old { staged = lowered self.old.staged cid }) }
+        ensures unchanged { OnErr result (self.new ≡ self.old) }
+        ensures fulls { S.fulls store.new ≡ S.fulls store.old }
+    {
+        self.touched.reserve(1)?;
+        let fresh = self.blocks.lower(store, &cid);
+        note(&mut self.touched, cid, fresh);
+        Ok(())
+    }
+
+    /// What is staged counts from now on; a block without a use is given back. It takes no memory and can't fail.
+    pub fn accept<S: BlockStore<Arc<Block<D, A>, A>, Hold<D, A>, StoreFault<D, A>>>(
+        &mut self,
+        store: &mut S,
+    )
+        ensures accepted { self.new ≡ record self.old { before = self.old.staged } }
+        ensures fulls { S.fulls store.new ≡ S.fulls store.old }
+    {
+        settle_all(store, &mut self.blocks, &mut self.touched, End::Accept);
+    }
+
+    /// Nothing is staged any more; a block without a use is given back. It takes no memory and can't fail.
+    pub fn refuse<S: BlockStore<Arc<Block<D, A>, A>, Hold<D, A>, StoreFault<D, A>>>(
+        &mut self,
+        store: &mut S,
+    )
+        ensures refused { self.new ≡ record self.old { staged = self.old.before } }
+        ensures fulls { S.fulls store.new ≡ S.fulls store.old }
+    {
+        settle_all(store, &mut self.blocks, &mut self.touched, End::Refuse);
+    }
+
+    /// Gives all blocks back. It takes no memory and can't fail.
+    pub fn end<S: BlockStore<Arc<Block<D, A>, A>, Hold<D, A>, StoreFault<D, A>>>(
+        self,
+        store: &mut S,
+    )
+        ensures { S.fulls store.new ≡ S.fulls store.old }
+    {
+        let Kept {
+            me: _,
+            blocks,
+            touched: _,
+        } = self;
+        blocks.end(store);
+    }
+}
+
+impl<D: Digest, A: Allocator + Clone> Kept<D, A> {
+    /// No block yet, for the core with this number, below 1,024.
+    pub fn open(alloc: A, me: u32) -> Result<Kept<D, A>, AllocError>
+        requires { me < 1024 }
+        ensures { IfOk result (λ kept. kept ≡ record { me = me; before = map.empty; staged = map.empty }) }
+    {
+        Ok(Kept {
+            me,
+            blocks: UseMap::new(alloc.clone()?),
+            touched: Vec::new(alloc),
+        })
+    }
+
+    /// Stages one use more of a block, which is acquired where it isn't held.
+    ///
+    /// `StoreFault::Collision` shows the given and the held block where other bytes are held under its CID, here or in the
+    /// store; `StoreFault::Full` and `StoreFault::NoMemory` are the store's, the latter also where memory for the entry
+    /// was refused. After a refusal nothing has changed.
+    pub fn stage_add<S: BlockStore<Arc<Block<D, A>, A>, Hold<D, A>, StoreFault<D, A>>>(
+        &mut self,
+        store: &mut S,
+        block: Arc<Block<D, A>, A>,
+    ) -> Result<(), StoreFault<D, A>>
+        requires { IsStore D.digest_of S.fulls S.answers }
+        ensures added { OnOk result (self.new ≡ record self.old { staged = raised D.digest_of self.old.staged (arc_value block) }) }
+        ensures no_other_before { OnOk result (HasNoOther D.digest_of self.old.before (arc_value block)) }
+        ensures no_other_staged { OnOk result (HasNoOther D.digest_of self.old.staged (arc_value block)) }
+        ensures unchanged { OnErr result (self.new ≡ self.old) }
+        ensures fault { IfErr result (IsRefusalOf D.digest_of (arc_value block)) }
+        ensures fulls { S.fulls store.new ≡ fulls_after (S.fulls store.old) result }
+    {
+        let cid = block.cid();
+        self.touched.reserve(1)?;
+        let fresh = self.blocks.raise(store, self.me, block)?;
+        note(&mut self.touched, cid, fresh);
+        Ok(())
+    }
+}
+
+/// Notes a CID as touched where it is fresh, in room that is there.
+fn note<A: Allocator>(touched: &mut Vec<Cid, A>, cid: Cid, fresh: bool)
+    requires { vec_len touched.old < vec_capacity touched.old }
+    ensures { touched.new.items ≡ with_note touched.old.items cid fresh }
+{
+    if fresh {
+        touched.push_reserved(cid);
+    }
+}
+
+/// Ends what is staged for the CIDs that were touched: a block without a use is given back. It takes no memory.
+fn settle_all<
+    D: Digest,
+    A: Allocator,
+    S: BlockStore<Arc<Block<D, A>, A>, Hold<D, A>, StoreFault<D, A>>,
+>(store: &mut S, blocks: &mut UseMap<D, A>, touched: &mut Vec<Cid, A>, end: End)
+    ensures settled { AreSettled end touched.old.items blocks.old blocks.new }
+    ensures none_left { touched.new.items ≡ [] }
+    ensures fulls { S.fulls store.new ≡ S.fulls store.old }
+{
+    while let Some(cid) = touched.pop() {
+        blocks.settle(store, &cid, end);
+    }
+}

@@ -1,0 +1,169 @@
+//! The blocks that a core keeps, by their CIDs.
+
+ghost use Rattle.std.specs.Prelude.{◌≡◌, ◌<◌, true, not, option_map, IfOk, IfErr, OnOk, OnErr};
+ghost use Rattle.std.specs.Arc.{arc_value};
+ghost use Rattle.std.specs.FinMap as map;
+ghost use Rattle.spec.specs.Cid.{cid as cid_of};
+ghost use Rattle.store.specs.Faults.{IsRefusalOf};
+ghost use Rattle.store.specs.Stores.{IsStore, fulls_after};
+ghost use Rattle.kept.specs.Uses.{at, Updated, AreUses, IsRaised, lowered_in, settled, is_noted, is_unnoted};
+
+use crate::kept_use::{End, Use};
+use cid::{Block, Cid, Digest};
+use std::alloc::{AllocFailed, Allocator};
+use std::collections::BTreeMap;
+use std::collections::btree_map::Iter;
+use std::marker::Model;
+use std::sync::Arc;
+use store::{BlockStore, Hold, StoreFault};
+
+/// Each kept block under its CID, with its uses.
+///
+/// A contract sees it as a finite map.
+pub(crate) struct UseMap<D: Digest, A: Allocator> {
+    blocks: BTreeMap<Cid, Use<D, A>, A>,
+}
+
+impl<D: Digest, A: Allocator> Model for UseMap<D, A> {
+    ghost use Rattle.std.specs.Coded.{codes, coded_list, coded_ℕ};
+    ghost use Rattle.std.specs.FinMap as map;
+    ghost use Rattle.kept.specs.Uses.{Uses};
+
+    ghost Value = { Uses D A };
+
+    ghost coded = { map.code (coded_list coded_ℕ) (Prim.hlevel codes) };
+
+    ghost view = { λ m. map.from_entries m.blocks.entries };
+}
+
+impl<D: Digest, A: Allocator> UseMap<D, A> {
+    /// No block so far. It takes no memory yet.
+    pub(crate) fn new(alloc: A) -> UseMap<D, A>
+        ensures { result ≡ map.empty }
+    {
+        UseMap {
+            blocks: BTreeMap::new(alloc),
+        }
+    }
+
+    /// The block of this CID with its uses.
+    pub(crate) fn get(&self, cid: &Cid) -> Option<&Use<D, A>>
+        ensures { option_map (λ held. held.now) result ≡ at self.now cid.now }
+    {
+        self.blocks.get(cid)
+    }
+
+    /// Each block with its uses under its CID, in the order of the CIDs.
+    pub(crate) fn iter(&self) -> Iter<'_, Cid, Use<D, A>>
+        ensures { result ≡ map.entries self.now }
+    {
+        self.blocks.iter()
+    }
+
+    /// Stages one use less of the block with this CID, where there is one, and tells whether it wasn't noted before. A
+    /// block that is then used neither before nor by what is staged is given back. It takes no memory.
+    pub(crate) fn lower<S: BlockStore<Arc<Block<D, A>, A>, Hold<D, A>, StoreFault<D, A>>>(
+        &mut self,
+        store: &mut S,
+        cid: &Cid,
+    ) -> bool
+        ensures lowered { Updated (at self.old) (at self.new) cid.now (lowered_in (at self.old cid.now)) }
+        ensures fresh { result ≡ is_unnoted (at self.old cid.now) }
+        ensures fulls { S.fulls store.new ≡ S.fulls store.old }
+    {
+        let Some(held) = self.blocks.get_mut(cid) else {
+            return false;
+        };
+        let fresh = !held.noted;
+        if held.lower() {
+            return fresh;
+        }
+        if let Some(unused) = self.blocks.remove(cid) {
+            unused.give_back(store);
+        }
+        fresh
+    }
+
+    /// Ends what is staged for this CID. A block without a use is given back. It takes no memory.
+    pub(crate) fn settle<S: BlockStore<Arc<Block<D, A>, A>, Hold<D, A>, StoreFault<D, A>>>(
+        &mut self,
+        store: &mut S,
+        cid: &Cid,
+        end: End,
+    )
+        ensures settled { Updated (at self.old) (at self.new) cid.now (settled end (at self.old cid.now)) }
+        ensures fulls { S.fulls store.new ≡ S.fulls store.old }
+    {
+        let Some(held) = self.blocks.get_mut(cid) else {
+            return;
+        };
+        if held.settle(end) {
+            return;
+        }
+        if let Some(unused) = self.blocks.remove(cid) {
+            unused.give_back(store);
+        }
+    }
+
+    /// Gives all blocks back. It takes no memory.
+    pub(crate) fn end<S: BlockStore<Arc<Block<D, A>, A>, Hold<D, A>, StoreFault<D, A>>>(
+        self,
+        store: &mut S,
+    )
+        ensures { S.fulls store.new ≡ S.fulls store.old }
+    {
+        let UseMap { mut blocks } = self;
+        while let Some((_, held)) = blocks.pop_first() {
+            held.give_back(store);
+        }
+        blocks.destroy_empty();
+    }
+}
+
+impl<D: Digest, A: Allocator + Clone> UseMap<D, A> {
+    /// Stages one use more of a block, which is acquired for the core where it isn't held, and tells whether it wasn't
+    /// noted before.
+    pub(crate) fn raise<S: BlockStore<Arc<Block<D, A>, A>, Hold<D, A>, StoreFault<D, A>>>(
+        &mut self,
+        store: &mut S,
+        me: u32,
+        block: Arc<Block<D, A>, A>,
+    ) -> Result<bool, StoreFault<D, A>>
+        requires small { me < 1024 }
+        requires uses { AreUses D.digest_of me (at self.old) }
+        requires store { IsStore D.digest_of S.fulls S.answers }
+        ensures raised { OnOk result (IsRaised D.digest_of me (at self.old) (at self.new) (arc_value block)) }
+        ensures fresh { IfOk result (λ fresh. fresh ≡ not (is_noted (at self.old (cid_of D.digest_of (arc_value block))))) }
+        ensures unchanged { OnErr result (self.new ≡ self.old) }
+        ensures fault { IfErr result (IsRefusalOf D.digest_of (arc_value block)) }
+        ensures fulls { S.fulls store.new ≡ fulls_after (S.fulls store.old) result }
+    {
+        let cid = block.cid();
+        if let Some(held) = self.blocks.get_mut(&cid) {
+            return held.raise(block);
+        }
+        let hold = store.acquire(me, block)?;
+        let new = Use {
+            hold,
+            uses: 0,
+            next: 1,
+            noted: true,
+        };
+        let before = match self.blocks.insert(cid, new) {
+            Ok(before) => before,
+            Err(
+                AllocFailed {
+                    value: (_, refused),
+                },
+            ) => {
+                refused.give_back(store);
+                return Err(StoreFault::NoMemory);
+            }
+        };
+        // Never, as nothing stood there.
+        if let Some(other) = before {
+            other.give_back(store);
+        }
+        Ok(true)
+    }
+}
