@@ -17,12 +17,13 @@ ghost use Rattle.store.specs.Stores.{IsStore};
 
 use crate::commit::commit_bytes;
 use crate::fault::RepoFault;
+use crate::lent::value_staged;
 use crate::staging::{gain, lose, stage_next};
 use crate::stamp::Stamp;
-use crate::stub::{Kept, value_staged};
 use crate::write::Write;
 use crate::write_test::test_write;
 use cid::{Block, Cid, Digest};
+use kept::Kept;
 use std::alloc::{AllocError, Allocator};
 use std::sync::Arc;
 use store::{BlockStore, Hold, StoreFault};

@@ -16,10 +16,11 @@ ghost use Rattle.repo.specs.Values.{write_of};
 ghost use Rattle.store.specs.Stores.{IsStore};
 
 use crate::fault::RepoFault;
-use crate::stub::{Kept, delete_over, put_over};
+use crate::lent::{delete_over, put_over};
 use crate::write::Write;
 use cid::{Block, Cid, Digest};
 use edit::{Edit, EditFault};
+use kept::Kept;
 use std::alloc::{AllocError, Allocator};
 use std::clone::Clone;
 use std::sync::Arc;

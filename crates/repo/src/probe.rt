@@ -1,6 +1,0 @@
-ghost use Rattle.std.specs.Prelude.{⊤};
-
-/// Nothing.
-pub fn tried()
-    ensures { ⊤ }
-{}
