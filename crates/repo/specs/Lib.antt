@@ -2,6 +2,5 @@ pub mod Values
 pub mod Tests
 pub mod Keeping
 pub mod Staging
-pub mod Stub
 pub mod Cores
 pub mod Refusals

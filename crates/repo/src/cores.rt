@@ -15,11 +15,12 @@ ghost use Rattle.store.specs.Stores.{IsStore};
 
 use crate::applied::Applied;
 use crate::fault::RepoFault;
+use crate::lent::{pairs_in, value_in};
 use crate::staged_batch::{StagedBatch, Start, stage_batch};
 use crate::stamp::Stamp;
-use crate::stub::{Kept, pairs_in, value_in};
 use crate::write::Write;
 use cid::{Block, Cid, Digest};
+use kept::Kept;
 use std::alloc::{AllocError, Allocator, Global};
 use std::marker::Model;
 use std::sync::Arc;
