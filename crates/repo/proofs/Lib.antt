@@ -10,3 +10,4 @@ pub mod Batching
 pub mod Commits
 pub mod Keeping
 pub mod Growing
+pub mod Fresh

@@ -9,13 +9,14 @@ ghost use Rattle.spec.specs.Blocks.{block_at, listed, pairs};
 ghost use Rattle.edit.specs.Walks.{pairs_given};
 ghost use Rattle.spec.specs.States.{IsLawful, fresh, after_batch, records, state_root, state_blocks, state_commit, state_test};
 ghost use Rattle.spec.specs.Stamps.{last, rev_of};
-ghost use Rattle.repo.specs.Refusals.{IsRefusal, IsApplied};
+ghost use Rattle.repo.specs.Refusals.{IsRefusal, IsApplied, IsOpenRefusal};
 ghost use Rattle.repo.specs.Values.{stamp_of, stamps_of, writes_of, shared_writes};
 ghost use Rattle.store.specs.Stores.{IsStore};
 
 use crate::applied::Applied;
 use crate::fault::RepoFault;
 use crate::lent::{pairs_in, value_in};
+use crate::opening::{empty_node, kept_once};
 use crate::staged_batch::{StagedBatch, Start, stage_batch};
 use crate::stamp::Stamp;
 use crate::write::Write;
@@ -111,6 +112,24 @@ impl<D: Digest, const B: u8, A: Allocator> Core<D, B, A> {
         &self.stamps
     }
 
+    /// Gives its blocks back to the store. It takes no memory and can't fail.
+    pub fn end<S: BlockStore<Arc<Block<D, A>, A>, Hold<D, A>, StoreFault<D, A>>>(
+        self,
+        store: &mut S,
+    )
+        ensures { S.fulls store.new ≡ S.fulls store.old }
+    {
+        let Core {
+            limit: _,
+            accepted: _,
+            stamps: _,
+            root: _,
+            commit: _,
+            kept,
+        } = self;
+        kept.end(store);
+    }
+
     /// Its block with this CID: the last commit, a node or a record. It takes no memory.
     pub fn block(&self, cid: &Cid) -> Option<&Arc<Block<D, A>, A>>
         ensures value { option_map (λ block. arc_value block.now) result ≡ block_at D.digest_of cid.now (state_blocks D.digest_of B self.now) }
@@ -149,6 +168,41 @@ impl<D: Digest, const B: u8, A: Allocator + Copy> Core<D, B, A> {
         ensures lawful { IsLawful self.now }
     {
         pairs_in::<D, B, A>(alloc, &self.kept, self.root, from, limit)
+    }
+
+    /// A repository without writes, which may have `limit` of them, under its own number in the store.
+    ///
+    /// Its one block is the empty node. `RepoFault::Collision` shows that the store has other bytes under its CID,
+    /// `RepoFault::StoreFull` says that the store answered so, and `RepoFault::NoMemory` comes where memory was refused.
+    /// After a refusal no block is held.
+    pub fn open<S: BlockStore<Arc<Block<D, A>, A>, Hold<D, A>, StoreFault<D, A>>>(
+        alloc: A,
+        store: &mut S,
+        me: u32,
+        limit: usize,
+    ) -> Result<Core<D, B, A>, RepoFault<D, A>>
+        requires least_bits { 1 ≤ B }
+        requires most_bits { B ≤ 8 }
+        requires small { me < 1024 }
+        requires least { 1 ≤ limit }
+        requires most { limit ≤ 1048576 }
+        requires store { IsStore D.digest_of S.fulls S.answers }
+        ensures fresh { IfOk result (λ core. core ≡ fresh me limit) }
+        ensures fault { IfErr result (IsOpenRefusal D.digest_of B (fresh me limit) (S.fulls store.old) (S.fulls store.new)) }
+    {
+        let node = empty_node(alloc)?;
+        let root = node.cid();
+        match kept_once(alloc, store, me, node) {
+            Ok(kept) => Ok(Core {
+                limit,
+                accepted: Vec::new(alloc),
+                stamps: Vec::new(alloc),
+                root,
+                commit: None,
+                kept,
+            }),
+            Err(fault) => Err(fault),
+        }
     }
 
     /// Accepts all writes of a batch, in order, or none of them.

@@ -8,6 +8,7 @@ mod cores;
 mod fault;
 mod lent;
 mod letters;
+mod opening;
 mod staged_batch;
 mod staging;
 mod stamp;
