@@ -11,3 +11,4 @@ pub mod Commits
 pub mod Keeping
 pub mod Growing
 pub mod Fresh
+pub mod Listing

@@ -9,6 +9,8 @@ ghost use Rattle.spec.specs.Blocks.{block_at, listed, pairs};
 ghost use Rattle.edit.specs.Walks.{pairs_given};
 ghost use Rattle.spec.specs.States.{IsLawful, fresh, after_batch, records, state_root, state_blocks, state_commit, state_test};
 ghost use Rattle.spec.specs.Stamps.{last, rev_of};
+ghost use Rattle.kept.specs.Uses.{used_blocks};
+ghost use Rattle.repo.specs.Cores.{AreEachOnce};
 ghost use Rattle.repo.specs.Refusals.{IsRefusal, IsApplied, IsOpenRefusal};
 ghost use Rattle.repo.specs.Values.{stamp_of, stamps_of, writes_of, shared_writes};
 ghost use Rattle.store.specs.Stores.{IsStore};
@@ -21,7 +23,7 @@ use crate::staged_batch::{StagedBatch, Start, stage_batch};
 use crate::stamp::Stamp;
 use crate::write::Write;
 use cid::{Block, Cid, Digest};
-use kept::Kept;
+use kept::{Blocks, Kept};
 use std::alloc::{AllocError, Allocator, Global};
 use std::marker::Model;
 use std::sync::Arc;
@@ -110,6 +112,15 @@ impl<D: Digest, const B: u8, A: Allocator> Core<D, B, A> {
         ensures lawful { IsLawful self.now }
     {
         &self.stamps
+    }
+
+    /// Its blocks, each once, in the order of their CIDs: the last commit, the nodes and the records. It takes no memory.
+    pub fn blocks(&self) -> Blocks<'_, D, A>
+        ensures blocks { AreEachOnce D.digest_of (state_blocks D.digest_of B self.now) (used_blocks result.entries) }
+        ensures lawful { IsLawful self.now }
+    {
+        let _ = &self.root;
+        self.kept.blocks()
     }
 
     /// Gives its blocks back to the store. It takes no memory and can't fail.
