@@ -6,10 +6,12 @@ ghost use Rattle.std.specs.Cmp.Lexicographic.{slice_cmp};
 ghost use Rattle.std.specs.Ordering.{nat_cmp};
 ghost use Rattle.std.specs.FinMap.{find};
 ghost use Rattle.spec.specs.Blocks.{block_at, listed, pairs};
+ghost use Rattle.edit.specs.Trees.{HasTree};
 ghost use Rattle.edit.specs.Walks.{pairs_given};
+ghost use Rattle.paths.specs.Sources.{HasBlocks};
 ghost use Rattle.spec.specs.States.{IsLawful, fresh, after_batch, records, state_root, state_blocks, state_commit, state_test};
 ghost use Rattle.spec.specs.Stamps.{last, rev_of};
-ghost use Rattle.kept.specs.Uses.{used_blocks};
+ghost use Rattle.kept.specs.Uses.{lent, used_blocks};
 ghost use Rattle.repo.specs.Cores.{AreEachOnce};
 ghost use Rattle.repo.specs.Refusals.{IsRefusal, IsApplied, IsOpenRefusal};
 ghost use Rattle.repo.specs.Values.{stamp_of, stamps_of, writes_of, shared_writes};
@@ -23,7 +25,7 @@ use crate::staged_batch::{StagedBatch, Start, stage_batch};
 use crate::stamp::Stamp;
 use crate::write::Write;
 use cid::{Block, Cid, Digest};
-use kept::{Blocks, Kept};
+use kept::{Blocks, Kept, Lender};
 use std::alloc::{AllocError, Allocator, Global};
 use std::marker::Model;
 use std::sync::Arc;
@@ -121,6 +123,18 @@ impl<D: Digest, const B: u8, A: Allocator> Core<D, B, A> {
     {
         let _ = &self.root;
         self.kept.blocks()
+    }
+
+    /// Its blocks as a source that wasn't asked for any so far, for look-ups, proofs and exports: it has each of them, and so
+    /// the tree at the root. It takes no memory.
+    pub fn lender(&self) -> Lender<'_, D, A>
+        ensures blocks { HasBlocks D.digest_of (λ cid. option_map arc_value (lent result.blocks.now cid)) (state_blocks D.digest_of B self.now) }
+        ensures tree { HasTree D.digest_of B (λ cid. option_map arc_value (lent result.blocks.now cid)) (state_root D.digest_of B self.now) (pairs D.digest_of (records self.now)) }
+        ensures asked { result.asked.times ≡ 0 }
+        ensures lawful { IsLawful self.now }
+    {
+        let _ = &self.root;
+        self.kept.lender()
     }
 
     /// Gives its blocks back to the store. It takes no memory and can't fail.
