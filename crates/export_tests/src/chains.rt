@@ -1,5 +1,7 @@
 //! Chains of nodes without pairs, each with a link to the one before, as deep as a proof may be and deeper.
 
+ghost use Rattle.std.specs.Prelude.{◌≤◌};
+
 use cid::{Cid, Sha256};
 use export::{ProofFault, verify};
 use std::alloc::{AllocFailed, Allocator};
@@ -50,6 +52,7 @@ fn answer<const B: u8, A: Allocator>(
 #[test]
 fn the_deepest_proof_and_deeper(rt: HostRuntime) -> Result<(), Fail> {
     let mut nodes = chain(rt.alloc(), 130)?;
+    assert!(rt; nodes.len() == 130);
     let absent = Some(Ok(None));
     let too_deep = Some(Err(ProofFault::TooDeep));
     assert!(rt; answer::<2, _>(&nodes, 128) == absent);
