@@ -18,12 +18,11 @@ ghost use Rattle.batches.specs.Values.{stamp_of, stamps_of, writes_of, shared_wr
 ghost use Rattle.store.specs.Stores.{IsStore};
 
 use crate::applied::Applied;
-use crate::lent::{pairs_in, value_in};
 use crate::opening::{empty_node, kept_once};
 use crate::staged_batch::{StagedBatch, Start, stage_batch};
 use batches::{RepoFault, Stamp, Write};
 use cid::{Block, Cid, Digest};
-use kept::{Blocks, Kept, Lender};
+use kept::{Blocks, Kept, Lender, pairs_accepted, value_accepted};
 use std::alloc::{AllocError, Allocator, Global};
 use std::marker::Model;
 use std::sync::Arc;
@@ -167,7 +166,7 @@ impl<D: Digest, const B: u8, A: Allocator> Core<D, B, A> {
         ensures value { option_map (λ block. block.now) result ≡ find (slice_cmp nat_cmp) key.now (records self.now) }
         ensures lawful { IsLawful self.now }
     {
-        match value_in::<D, B, A>(&self.kept, self.root, key) {
+        match value_accepted::<D, B, A>(&self.kept, self.root, key) {
             Some(cid) => match self.block(&cid) {
                 Some(block) => Some(block),
                 None => None,
@@ -190,7 +189,7 @@ impl<D: Digest, const B: u8, A: Allocator + Copy> Core<D, B, A> {
         ensures pairs { IfOk result (λ found. pairs_given found.items ≡ listed from.now limit (pairs D.digest_of (records self.now))) }
         ensures lawful { IsLawful self.now }
     {
-        pairs_in::<D, B, A>(alloc, &self.kept, self.root, from, limit)
+        pairs_accepted::<D, B, A>(alloc, &self.kept, self.root, from, limit)
     }
 
     /// A repository without writes, which may have `limit` of them, under its own number in the store.
