@@ -3,3 +3,4 @@ pub mod Keeping
 pub mod Staging
 pub mod Cores
 pub mod Refusals
+pub mod Readings
