@@ -4,8 +4,8 @@ use Rattle.std.specs.Arc.{arc_value}
 use Rattle.std.specs.Prelude.{option_map}
 use Rattle.kept.specs.Counts.{bytes_at}
 use Rattle.kept.specs.Uses.{lent}
-use Rattle.kept.proofs.Stagings.{lent_tree}
-use Rattle.kept.proofs.staging.put_over.Goals as goal
+use Rattle.kept.proofs.LentTrees.{lent_tree}
+use Rattle.kept.proofs.trees.put_staged.Goals as goal
 
 pub returns-clause-edit : goal.returns-clause-edit
 returns-clause-edit g c es h =
