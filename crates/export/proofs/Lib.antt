@@ -1,3 +1,4 @@
 pub mod Finding
+pub mod Leaving
 pub mod OneNode
 pub mod Shown

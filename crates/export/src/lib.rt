@@ -10,8 +10,19 @@
 
 mod given;
 mod hashed;
+mod log;
+mod out;
 mod proof_fault;
+mod sections;
+mod to_memory;
+mod to_writer;
+mod varint;
 mod verifying;
+mod whole;
 
+pub use log::Log;
+pub use out::{Failed, Out};
 pub use proof_fault::ProofFault;
+pub use to_memory::ToMemory;
+pub use to_writer::ToWriter;
 pub use verifying::verify;

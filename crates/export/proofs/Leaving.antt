@@ -1,0 +1,49 @@
+-- What an output took of some bytes, and what is left of them.
+use Rattle.std.proofs.Common.{◌≡◌, ℕ, List, [], ◌∷◌, ◌++◌, length, take, drop, ◌-◌, ◌==◌, true, arith, refl, sym, ap, ◌∙◌, append_assoc}
+use Rattle.std.specs.Prelude.{Result, Ok, Err, IsErr, MatchResult}
+use Rattle.std.proofs.lemmas.List.{append-nil, take_all, take-append-drop, length-drop}
+use Rattle.export.specs.Outs.{Leaves, TakesBeginning, Takes, Fails}
+
+pub leaves-all : (old all : List ℕ) → Leaves old old all all
+leaves-all old all = record { done = []; parts = refl; taken = sym (append-nil old) }
+
+-- one part more
+pub leaves-less : (old new newer all part rest : List ℕ) → Leaves old new all (part ++ rest) → newer ≡ new ++ part
+    → Leaves old newer all rest
+leaves-less old new newer all part rest p q = record {
+  done = p.done ++ part;
+  parts = p.parts ∙ sym (append_assoc p.done part rest);
+  taken = q ∙ ap (λ t. t ++ part) p.taken ∙ append_assoc old p.done part;
+}
+
+-- the same rest in other words
+pub leaves-same : (old new all rest other : List ℕ) → Leaves old new all rest → rest ≡ other → Leaves old new all other
+leaves-same old new all rest other p e = record { done = p.done; parts = p.parts ∙ ap (λ t. p.done ++ t) e; taken = p.taken }
+
+pub leaves-none : (old new all rest : List ℕ) → Leaves old new all rest → rest ≡ [] → new ≡ old ++ all
+leaves-none old new all rest p e =
+    p.taken ∙ ap (λ t. old ++ t) (sym (p.parts ∙ ap (λ t. p.done ++ t) e ∙ append-nil p.done))
+
+pub leaves-some : (old new all rest : List ℕ) → Leaves old new all rest → TakesBeginning old new all
+leaves-some old new all rest p = record { rest = rest; leaves = p }
+
+-- a beginning of a part of what was left
+pub leaves-beginning : (old new newer all part rest : List ℕ) → Leaves old new all (part ++ rest)
+    → TakesBeginning new newer part → TakesBeginning old newer all
+leaves-beginning old new newer all part rest p q =
+    let e = ap (λ t. t ++ rest) q.leaves.parts ∙ append_assoc q.leaves.done q.rest rest in
+    leaves-some old newer all (q.rest ++ rest)
+    (leaves-less old new newer all q.leaves.done (q.rest ++ rest) (leaves-same old new all (part ++ rest) _ p e) q.leaves.taken)
+
+-- ---- at the end of a call
+
+pub takes-err : {T E : Type 0} (old new all : List ℕ) (r : Result T E) → IsErr r → TakesBeginning old new all
+    → Takes old new r all
+takes-err old new all (Ok x) err p = absurd cc
+takes-err old new all (Err e) err p = p
+
+-- a list is what stands before a place and what is cut off from there on
+pub cut-at : (n : ℕ) (xs rest : List ℕ) → rest ≡ take (length xs - n) (drop n xs) → xs ≡ take n xs ++ rest
+cut-at n xs rest e =
+    let all : take (length xs - n) (drop n xs) ≡ drop n xs = take_all (length xs - n) (drop n xs) (omega (arith, length-drop n xs)) in
+    sym (take-append-drop n xs) ∙ ap (λ (t : List ℕ). take n xs ++ t) (sym (e ∙ all))
