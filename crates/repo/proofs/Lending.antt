@@ -7,7 +7,7 @@ use Rattle.spec.specs.States.{State, records, state_blocks, state_root}
 use Rattle.paths.specs.Sources.{HasBlocks, Extends}
 use Rattle.edit.specs.Trees.{HasTree}
 use Rattle.kept.specs.Counts.{Keeping, bytes_at}
-use Rattle.kept.proofs.Stagings.{lent_tree}
+use Rattle.kept.proofs.LentTrees.{lent_tree}
 use Rattle.repo.specs.Cores.{IsCore}
 use Rattle.repo.proofs.Keeping.{core-tree}
 

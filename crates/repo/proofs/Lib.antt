@@ -12,4 +12,3 @@ pub mod Growing
 pub mod Fresh
 pub mod Listing
 pub mod Lending
-pub mod Seeing

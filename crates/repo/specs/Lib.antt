@@ -3,4 +3,4 @@ pub mod Keeping
 pub mod Staging
 pub mod Cores
 pub mod Refusals
-pub mod Seen
+pub mod Readings
