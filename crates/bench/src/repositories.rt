@@ -342,7 +342,7 @@ fn turn<R: Wait + Clock>(
 
 /// How many bytes the process has in memory, where the system tells it as Linux does, in pages of 4,096 bytes.
 fn resident<R: Files>(rt: &R, alloc: Global) -> Option<u64> {
-    let text = fs::read(&(rt, &alloc), "/proc/self/statm").ok()?;
+    let text = fs::read_to_string(&(rt, alloc), "/proc/self/statm").ok()?;
     let pages: u64 = text.split(' ').nth(1)?.parse().ok()?;
     pages.checked_mul(4096)
 }
