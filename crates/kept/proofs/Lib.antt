@@ -2,5 +2,5 @@ pub mod Entries
 pub mod Counting
 pub mod Outcomes
 pub mod Keepings
-pub mod Stagings
+pub mod LentTrees
 pub mod Listing

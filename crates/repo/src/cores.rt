@@ -242,6 +242,7 @@ impl<D: Digest, const B: u8, A: Allocator + Copy> Core<D, B, A> {
     ) -> Result<Applied, (usize, RepoFault<D, A>)>
         requires store { IsStore D.digest_of S.fulls S.answers }
         ensures lawful { IsLawful self.old }
+        ensures still_lawful { IsLawful self.new }
         ensures accepted { OnOk result (self.new ≡ after_batch self.old (stamp_of stamp.now) (writes_of writes.now)) }
         ensures passes { OnOk result (state_test self.old (stamp_of stamp.now) (writes_of writes.now) ≡ Ok tt) }
         ensures applied { IfOk result (IsApplied D.digest_of B self.old self.new) }
