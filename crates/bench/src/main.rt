@@ -241,14 +241,18 @@ fn apply<R: Wait + Clock + Files + Print>(
     took(rt, "delete", &measured.deletes, writes)?;
     println!(rt;
         "{} nodes come with the puts one by one, {} with their batches at once",
-        measured.added,
-        measured.left
+        measured.added, measured.left
     )?;
-    match measured.grown {
-        Some(grown) => println!(rt;
+    if let Some(grown) = measured.grown
+        && plan.gone.is_empty()
+    {
+        println!(rt;
             "{} bytes of memory a key and its record of 288 bytes",
             u128::from(grown) / keys.max(1)
-        ),
+        )?;
+    }
+    match measured.commit {
+        Some(commit) => println!(rt; "the last commit is {commit}"),
         None => Ok(()),
     }
 }

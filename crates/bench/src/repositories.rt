@@ -42,7 +42,10 @@ impl Plan {
     /// can be made in little time, it first gets keys of all layers, and loses the others in the order of their layers.
     pub fn flat(alloc: Global, count: u32) -> Result<Plan, AllocError> {
         let most = count as usize;
-        let mut pairs = made::pairs(alloc, count.saturating_add(count / 5 * 2).saturating_add(100))?;
+        let mut pairs = made::pairs(
+            alloc,
+            count.saturating_add(count / 5 * 2).saturating_add(100),
+        )?;
         made::give_records(alloc, &mut pairs)?;
         let places = made::some(alloc, &pairs, pairs.len())?;
         let mut first = Vec::new(alloc);
@@ -112,12 +115,10 @@ impl Plan {
         for place in places {
             if let Some((key, _)) = self.pairs.get(*place) {
                 let key = Vec::from_slice(alloc, key)?;
-                writes.push(
-                    match change {
-                        Change::Put => Write::Put(key, made::record(alloc, *place as u64)?),
-                        Change::Delete => Write::Delete(key),
-                    },
-                )?;
+                writes.push(match change {
+                    Change::Put => Write::Put(key, made::record(alloc, *place as u64)?),
+                    Change::Delete => Write::Delete(key),
+                })?;
             }
         }
         let did = Vec::from_slice(alloc, b"did:plc:abcdefghijklmnopqrstuvwx")?;
@@ -236,6 +237,8 @@ pub struct Measured {
     pub added: u64,
     /// How many nodes the batches of these puts leave that weren't there before.
     pub left: u64,
+    /// The last commit, which the records and all batches determine.
+    pub commit: Option<Cid>,
 }
 
 /// Makes the repository of a plan in a store of sixteen shards, and then so many times puts its new keys and deletes them,
@@ -287,6 +290,7 @@ fn measure_at<R: Wait + Clock + Files>(
         grown: grown(before, resident(rt, alloc)),
         added: 0,
         left: 0,
+        commit: None,
     };
     for _ in 0..rounds {
         let Some(added) = turn(
@@ -298,7 +302,8 @@ fn measure_at<R: Wait + Clock + Files>(
             tree,
             size,
             &mut measured.puts,
-        )? else {
+        )?
+        else {
             return Ok(None);
         };
         measured.added = added;
@@ -311,11 +316,13 @@ fn measure_at<R: Wait + Clock + Files>(
             tree,
             size,
             &mut measured.deletes,
-        )? else {
+        )?
+        else {
             return Ok(None);
         };
     }
     measured.left = tree.put_batches(alloc, &plan.pairs, &plan.new, size)?;
+    measured.commit = desk.core.commit();
     Ok(Some(measured))
 }
 
