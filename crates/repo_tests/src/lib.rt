@@ -1,0 +1,13 @@
+//! Tests of batches, the blocks that a core keeps, and repositories: worked examples, random batches, want of memory.
+#![tactic(auto)]
+
+#[cfg(test)]
+mod cores;
+#[cfg(test)]
+mod fixtures;
+#[cfg(test)]
+mod stories;
+#[cfg(test)]
+mod trees;
+#[cfg(test)]
+mod turns;
