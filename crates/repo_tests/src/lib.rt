@@ -2,9 +2,13 @@
 #![tactic(auto)]
 
 #[cfg(test)]
+mod commits;
+#[cfg(test)]
 mod cores;
 #[cfg(test)]
 mod fixtures;
+#[cfg(test)]
+mod sharing;
 #[cfg(test)]
 mod stories;
 #[cfg(test)]

@@ -1,11 +1,9 @@
 //! Batches on one repository: what is refused and what is left, orders, full stores, and blocks that clash.
 
-use crate::cores::{apply_steps, end, held, holds, opened};
 use crate::fixtures::Ended::{Accepted, Refused};
 use crate::fixtures::Step::{Create, Delete, Put, Update};
 use crate::fixtures::{EMPTY, ONE, TWO, Why};
 use crate::turns::{Turn, are_turns};
-use std::alloc::Global;
 
 /// Nothing of a batch is accepted that is refused.
 const REFUSED_BATCHES: [Turn; 3] = [
@@ -98,4 +96,46 @@ const THE_SAME_PUT_TWICE: [Turn; 2] = [
 #[test]
 fn the_same_put_twice(rt: HostRuntime) {
     assert!(rt; are_turns(&rt, rt.alloc(), &THE_SAME_PUT_TWICE));
+}
+
+/// A tree of five nodes, and the one node that is left of it.
+const MERGE_AFTER_A_DELETE: [Turn; 2] = [
+    Turn {
+        batch: &[Put(b"a/p0", ONE), Put(b"a/q2", ONE), Put(b"a/r0", ONE)],
+        ended: Accepted(3),
+        records: &[(b"a/p0", ONE), (b"a/q2", ONE), (b"a/r0", ONE)],
+        blocks: 7,
+    },
+    Turn {
+        batch: &[Delete(b"a/q2")],
+        ended: Accepted(4),
+        records: &[(b"a/p0", ONE), (b"a/r0", ONE)],
+        blocks: 3,
+    },
+];
+
+#[test]
+fn merge_after_a_delete(rt: HostRuntime) {
+    assert!(rt; are_turns(&rt, rt.alloc(), &MERGE_AFTER_A_DELETE));
+}
+
+/// A top that comes three layers above the one node before, which stays.
+const RAISED_TOP: [Turn; 2] = [
+    Turn {
+        batch: &[Put(b"a/r0", ONE)],
+        ended: Accepted(1),
+        records: &[(b"a/r0", ONE)],
+        blocks: 3,
+    },
+    Turn {
+        batch: &[Put(b"a/p3", ONE)],
+        ended: Accepted(2),
+        records: &[(b"a/p3", ONE), (b"a/r0", ONE)],
+        blocks: 6,
+    },
+];
+
+#[test]
+fn raised_top(rt: HostRuntime) {
+    assert!(rt; are_turns(&rt, rt.alloc(), &RAISED_TOP));
 }
