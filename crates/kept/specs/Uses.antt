@@ -1,5 +1,5 @@
 -- What is kept, as the map of blocks that the code has.
-use Rattle.std.specs.Prelude.{◌≡◌, ◌<◌, ◌-◌, ℕ, zero, suc, List, [], ◌∷◌, ◌++◌, Bool, false, true, not, cond, Option, None, Some, option_map}
+use Rattle.std.specs.Prelude.{◌≡◌, ◌<◌, ◌+◌, ◌-◌, ℕ, zero, suc, List, [], ◌∷◌, ◌++◌, Bool, false, true, not, cond, Option, None, Some, option_map}
 use Rattle.std.specs.List.{list_any}
 use Rattle.std.specs.Arc.{arc_value}
 use Rattle.std.specs.Ordering.{nat_cmp}
@@ -108,10 +108,11 @@ used_blocks (e ∷ es) = if_any (arc_value e.1.hold.0) e.1.uses (used_blocks es)
 abbrev pub lent : {D A : Type 0} → Uses D A → List ℕ → Option (Arc (List ℕ) A)
 lent m c = option_map (λ u. u.hold.0) (at m c)
 
--- a use stands under the CID of its block, and its hold is this core's
+-- a use stands under the CID of its block, its hold is this core's, and it is used
 pub record IsUse {D A : Type 0} (digest : List ℕ → List ℕ) (me : ℕ) (c : List ℕ) (u : Use D A) : Type 0 where
   pub named : c ≡ cid_of digest (arc_value u.hold.0)
   pub mine : u.hold.1 ≡ me
+  pub used : 0 < u.uses + u.next
 
 abbrev pub AreUses : {D A : Type 0} → (List ℕ → List ℕ) → ℕ → (List ℕ → Option (Use D A)) → Type 0
 AreUses digest me f = (q : List ℕ) (u : Use _ _) → f q ≡ Some u → IsUse digest me q u

@@ -7,6 +7,7 @@ ghost use Rattle.store.specs.Faults.{IsRefusalOf};
 ghost use Rattle.store.specs.Stores.{IsStore, fulls_after};
 ghost use Rattle.kept.specs.Counts.{raised, lowered, HasNoOther, count_at, bytes_at, blocks_of};
 ghost use Rattle.kept.specs.Uses.{lent, used_blocks, AreSettled, with_note};
+ghost use Rattle.kept.specs.Leaving.{HasLeft};
 
 use crate::blocks::Blocks;
 use crate::kept_use::End;
@@ -17,13 +18,13 @@ use edit::Asked;
 use std::alloc::{AllocError, Allocator, Global};
 use std::marker::Model;
 use std::sync::Arc;
-use store::{BlockStore, Hold, StoreFault};
+use store::{BlockStore, Hold, SHARDS, Shard, StoreFault};
 
 /// The blocks that a core holds, each with how often it is used by what was accepted, and beside that how often it is used
 /// by what is staged, until all of it is accepted or refused at once.
 ///
-/// A block is held as long as it is used by one of the two. It can't be dropped, as no hold can: `end` gives all blocks
-/// back. A contract sees it as the core's number and two finite maps from CIDs to bytes and counts above 0.
+/// A block is held as long as it is used by one of the two. It can't be dropped, as no hold can: `end` and `end_in` give all
+/// blocks back. A contract sees it as the core's number and two finite maps from CIDs to bytes and counts above 0.
 pub struct Kept<D: Digest, A: Allocator = Global> {
     me: u32,
     blocks: UseMap<D, A>,
@@ -151,6 +152,20 @@ impl<D: Digest, A: Allocator> Kept<D, A> {
             touched: _,
         } = self;
         blocks.end(store);
+    }
+
+    /// Gives all blocks back to the sixteen shards, which its caller has for itself: in the table of its CID's shard each
+    /// block has its other cores left, and goes where there are none. Nothing else in the tables changes. It takes no memory
+    /// and can't fail.
+    pub fn end_in(self, tables: &mut [Shard<D, A>; SHARDS])
+        ensures { HasLeft self tables.old tables.new }
+    {
+        let Kept {
+            me: _,
+            blocks,
+            touched: _,
+        } = self;
+        blocks.end_in(tables);
     }
 }
 

@@ -6,11 +6,12 @@ ghost use Rattle.spec.specs.Cid.{cid as cid_of};
 ghost use Rattle.store.specs.Faults.{IsRefusalOf};
 ghost use Rattle.kept.specs.Uses.{settled_use, lowered_use};
 ghost use Rattle.kept.specs.Faults.{IsNotFull};
+ghost use Rattle.kept.specs.Leaving.{given_back};
 
 use cid::{Block, Collided, Digest};
 use std::alloc::Allocator;
 use std::sync::Arc;
-use store::{BlockStore, Hold, StoreFault};
+use store::{BlockStore, Hold, SHARDS, Shard, StoreFault, shard_number};
 
 /// How what is staged ends.
 #[derive(Clone, Copy)]
@@ -96,5 +97,19 @@ impl<D: Digest, A: Allocator> Use<D, A> {
             noted: _,
         } = self;
         store.release(hold);
+    }
+
+    /// Gives the block back to the shard of its CID, of these sixteen. It takes no memory.
+    pub(crate) fn give_back_in(self, tables: &mut [Shard<D, A>; SHARDS])
+        ensures { tables.new ≡ given_back D.digest_of tables.old self.hold }
+    {
+        let Use {
+            hold,
+            uses: _,
+            next: _,
+            noted: _,
+        } = self;
+        let place = shard_number(&hold.cid());
+        tables[place].release(hold);
     }
 }

@@ -7,6 +7,7 @@ ghost use Rattle.spec.specs.Cid.{cid as cid_of};
 ghost use Rattle.store.specs.Faults.{IsRefusalOf};
 ghost use Rattle.store.specs.Stores.{IsStore, fulls_after};
 ghost use Rattle.kept.specs.Uses.{at, Updated, AreUses, IsRaised, lowered_in, settled, is_noted, is_unnoted};
+ghost use Rattle.kept.specs.Leaving.{AreNamed, AreGivenBack};
 
 use crate::kept_use::{End, Use};
 use cid::{Block, Cid, Digest};
@@ -15,7 +16,7 @@ use std::collections::BTreeMap;
 use std::collections::btree_map::Iter;
 use std::marker::Model;
 use std::sync::Arc;
-use store::{BlockStore, Hold, StoreFault};
+use store::{BlockStore, Hold, SHARDS, Shard, StoreFault};
 
 /// Each kept block under its CID, with its uses.
 ///
@@ -115,6 +116,18 @@ impl<D: Digest, A: Allocator> UseMap<D, A> {
         let UseMap { mut blocks } = self;
         while let Some((_, held)) = blocks.pop_first() {
             held.give_back(store);
+        }
+        blocks.destroy_empty();
+    }
+
+    /// Gives all blocks back to these sixteen shards. It takes no memory.
+    pub(crate) fn end_in(self, tables: &mut [Shard<D, A>; SHARDS])
+        requires { AreNamed D.digest_of (at self) }
+        ensures { AreGivenBack (at self) tables.old tables.new }
+    {
+        let UseMap { mut blocks } = self;
+        while let Some((_, held)) = blocks.pop_first() {
+            held.give_back_in(tables);
         }
         blocks.destroy_empty();
     }
