@@ -1,9 +1,9 @@
 -- The store's tables while a core gives its blocks back.
 use Rattle.std.proofs.Common.{zero, suc, ◌≡◌, ℕ, ◌<◌, ◌+◌, ◌∷◌, [], List, length, refl, ap, sym, ◌∙◌, cond, nat_eq, Bool, true, false, arith}
-use Rattle.std.specs.Prelude.{Option, Some, None, is_some, option_map, not, ◌&&◌, ◌||◌, slice_set}
+use Rattle.std.specs.Prelude.{Option, Some, None, is_some, option_map, ◌&&◌, ◌||◌, slice_set}
 use Rattle.std.specs.Arc.{arc_value}
 use Rattle.std.proofs.lemmas.Bool.Decides.{nat_tests}
-use Rattle.std.specs.Ordering.{nat_cmp, is_eq}
+use Rattle.std.specs.Ordering.{nat_cmp}
 use Rattle.std.specs.Cmp.{nat_cmp_total}
 use Rattle.std.specs.Cmp.Lexicographic.{slice_cmp, nat_list_cmp_total}
 use Rattle.std.specs.BTreeMap.{is_at}
@@ -44,7 +44,7 @@ left_at t c core q = at_entry (entry_at t c) refl
 
     of_entry : (e : Held) (b : Bool)
         → entry_at (cond b (record { entries = map.remove t.entries c; limit = t.limit })
-            (record { entries = map.insert t.entries c (e.0, set.remove e.1 core); limit = t.limit })) q
+        (record { entries = map.insert t.entries c (e.0, set.remove e.1 core); limit = t.limit })) q
         ≡ cond (is_at (slice_cmp nat_cmp c) q) (cond b None (Some (e.0, set.remove e.1 core))) (entry_at t q)
     of_entry e true = map.get-remove nat_list_cmp_total t.entries c q ∙ ap (λ b. cond b None (entry_at t q)) (sym (turn c q))
     of_entry e false = map.get-insert nat_list_cmp_total t.entries c (e.0, set.remove e.1 core) q
@@ -58,7 +58,7 @@ left_at t c core q = at_entry (entry_at t c) refl
 left_limit : (t : Table) (c : List ℕ) (core : ℕ) → (left t c core).limit ≡ t.limit
 left_limit t c core = of_entry (entry_at t c)
   where
-    either : (e : Held) (b : Bool) → (cond b (record { entries = map.remove t.entries c; limit = t.limit })
+    either : (e : Held) (b : Bool) → (cond {A = Table} b (record { entries = map.remove t.entries c; limit = t.limit })
         (record { entries = map.insert t.entries c (e.0, set.remove e.1 core); limit = t.limit })).limit ≡ t.limit
     either e true = refl
     either e false = refl
@@ -66,6 +66,9 @@ left_limit t c core = of_entry (entry_at t c)
     of_entry : (o : Option Held) → (left_entry t c core o).limit ≡ t.limit
     of_entry None = refl
     of_entry (Some e) = either e (nat_eq (set.len (set.remove e.1 core)) 0)
+
+above_zero : (n : ℕ) → nat_eq (suc n) zero ≡ false
+above_zero n = grind (arith, nat_tests)
 
 abbrev nobody : set.FinSet nat_cmp
 nobody = set.empty
@@ -83,9 +86,15 @@ cores_without core (Some e) = of_size (set.len (set.remove e.1 core)) refl
     of_size : (n : ℕ) → set.len (set.remove e.1 core) ≡ n
         → cores_of (cond (nat_eq n 0) None (Some (e.0, set.remove e.1 core))) ≡ set.remove e.1 core
     of_size zero z = sym (set.empty_of_len (set.remove e.1 core) z)
-    of_size (suc n) z = refl
+    of_size (suc n) z = ap (λ b. cores_of (cond b None (Some (e.0, set.remove e.1 core)))) (above_zero n)
 
 -- ---- a table in its place
+
+below_suc : (n : ℕ) → nat_eq zero (suc n) ≡ false
+below_suc n = grind (arith, nat_tests)
+
+both_suc : (m n : ℕ) → nat_eq m n ≡ nat_eq (suc m) (suc n)
+both_suc m n = grind (arith, nat_tests)
 
 -- a table that changes in its place, where nothing becomes nothing
 changed_at : (F : Table → Table) → F no_table ≡ no_table → (ts : List Table) (s place : ℕ)
@@ -96,18 +105,25 @@ changed_at F none [] s place = past (nat_eq place s)
     past true = sym none
     past false = refl
 changed_at F none (t ∷ ts) zero zero = refl
-changed_at F none (t ∷ ts) zero (suc place) = refl
-changed_at F none (t ∷ ts) (suc s) zero = refl
-changed_at F none (t ∷ ts) (suc s) (suc place) = changed_at F none ts s place
+changed_at F none (t ∷ ts) zero (suc place) = ap (λ b. cond b (F (table_at ts place)) (table_at ts place)) (sym (above_zero place))
+changed_at F none (t ∷ ts) (suc s) zero = ap (λ b. cond b (F t) t) (sym (below_suc s))
+changed_at F none (t ∷ ts) (suc s) (suc place) =
+    changed_at F none ts s place ∙ ap (λ b. cond b (F (table_at ts place)) (table_at ts place)) (both_suc place s)
 
-module _ {D A : Type 0} (digest : List ℕ → List ℕ) where
-  -- ---- one entry is given back
+some_used : (bytes : List ℕ) (m n : ℕ) → 0 < m + n
+    → (is_some (option_map (λ (p : List ℕ × ℕ). p.0) (some_if bytes m)) || is_some (option_map (λ (p : List ℕ × ℕ). p.0) (some_if bytes n))) ≡ true
+some_used bytes zero zero h = absurd (omega (arith, h))
+some_used bytes zero (suc n) h = refl
+some_used bytes (suc m) n h = refl
+
+module _ {A : Type 0} (digest : List ℕ → List ℕ) where
+  -- ---- one hold is given back
 
   -- what stands in the tables afterwards
   given_at : (tables : List Table) (h : Arc (List ℕ) A × ℕ) (k : List ℕ) → k ≡ cid_of digest (arc_value h.0) → (place : ℕ) (c : List ℕ)
       → entry_at (table_at (given_back digest tables h) place) c
       ≡ cond (nat_eq place (shard_of k)) (cond (is_at (slice_cmp nat_cmp k) c) (without_core h.1 (entry_at (table_at tables place) c)) (entry_at (table_at tables place) c))
-          (entry_at (table_at tables place) c)
+      (entry_at (table_at tables place) c)
   given_at tables h k name place c =
       ap (λ (x : List ℕ). entry_at (table_at (slice_set tables (shard_of x) (left (table_at tables (shard_of x)) x h.1)) place) c) (sym name)
       ∙ ap (λ (t : Table). entry_at t c) (changed_at (λ t. left t k h.1) (left_nothing k h.1) tables (shard_of k) place)
@@ -115,7 +131,7 @@ module _ {D A : Type 0} (digest : List ℕ → List ℕ) where
     where
       in_place : (b : Bool) → entry_at (cond b (left (table_at tables place) k h.1) (table_at tables place)) c
           ≡ cond b (cond (is_at (slice_cmp nat_cmp k) c) (without_core h.1 (entry_at (table_at tables place) c)) (entry_at (table_at tables place) c))
-              (entry_at (table_at tables place) c)
+          (entry_at (table_at tables place) c)
       in_place true = left_at (table_at tables place) k h.1 c
       in_place false = refl
 
@@ -130,6 +146,7 @@ module _ {D A : Type 0} (digest : List ℕ → List ℕ) where
       in_place k true = left_limit (table_at tables place) k h.1
       in_place k false = refl
 
+module _ {D A : Type 0} (digest : List ℕ → List ℕ) where
   -- what will be left in the end is the same, whether an entry is still to be given back or has been
   pub given_step : (f g : List ℕ → Option (Use D A)) (tables : List Table) (k : List ℕ) (u : Use D A) → f k ≡ Some u
       → k ≡ cid_of digest (arc_value u.hold.0) → Updated f g k None → (place : ℕ) (c : List ℕ)
@@ -137,7 +154,7 @@ module _ {D A : Type 0} (digest : List ℕ → List ℕ) where
       ≡ entry_after (f c) (nat_eq place (shard_of c)) (entry_at (table_at tables place) c)
   given_step f g tables k u a name h place c =
       ap (λ (w : Option (Use D A)). entry_after w (nat_eq place (shard_of c)) (entry_at (table_at (given_back digest tables u.hold) place) c)) (h c)
-      ∙ ap (entry_after (cond (is_at (slice_cmp nat_cmp k) c) None (f c)) (nat_eq place (shard_of c))) (given_at tables u.hold k name place c)
+      ∙ ap (entry_after (cond (is_at (slice_cmp nat_cmp k) c) None (f c)) (nat_eq place (shard_of c))) (given_at digest tables u.hold k name place c)
       ∙ by_key (is_at (slice_cmp nat_cmp k) c) refl
     where
       o : Option Held
@@ -166,19 +183,19 @@ module _ {D A : Type 0} (digest : List ℕ → List ℕ) where
 
   -- of an empty list nothing is to be given back
   pub none_left : (es : List (List ℕ × Use D A)) (c : List ℕ) → (0 < length es → ⊥) → listed_at es c ≡ None
-  none_left [] c no = refl
-  none_left (e ∷ es) c no = absurd (no (omega arith))
+  none_left [] c never = refl
+  none_left (e ∷ es) c never = absurd (never (omega arith))
 
   after_is : (w : Option (Use D A)) (core : ℕ) (held own : Bool) (o : Option Held) → (w ≡ None → held ≡ false)
       → ((u : Use D A) → w ≡ Some u → (held ≡ true) × (u.hold.1 ≡ core)) → entry_after w own o ≡ cond (own && held) (without_core core o) o
-  after_is None core held own o no yes = ap (λ b. cond b (without_core core o) o) (sym (never own) ∙ ap (λ b. own && b) (sym (no refl)))
+  after_is None core held own o free here = ap (λ b. cond b (without_core core o) o) (sym (never own) ∙ ap (λ b. own && b) (sym (free refl)))
     where
       never : (b : Bool) → (b && false) ≡ false
       never true = refl
       never false = refl
-  after_is (Some u) core held own o no yes =
-      ap (λ (n : ℕ). cond own (without_core n o) o) (yes u refl).1
-      ∙ ap (λ b. cond b (without_core core o) o) (sym (always own) ∙ ap (λ b. own && b) (sym (yes u refl).0))
+  after_is (Some u) core held own o free here =
+      ap (λ (n : ℕ). cond own (without_core n o) o) (here u refl).1
+      ∙ ap (λ b. cond b (without_core core o) o) (sym (always own) ∙ ap (λ b. own && b) (sym (here u refl).0))
     where
       always : (b : Bool) → (b && true) ≡ b
       always true = refl
@@ -193,12 +210,6 @@ module _ {D A : Type 0} (digest : List ℕ → List ℕ) where
       ≡ (is_some (option_map (λ (p : List ℕ × ℕ). p.0) (count_in (λ u. u.uses) w)) || is_some (option_map (λ (p : List ℕ × ℕ). p.0) (count_in (λ u. u.next) w)))
   held_by m c me w e =
       λ i. is_some (bytes_in (λ u. u.uses) m c w e i) || is_some (bytes_in (λ u. u.next) m c w e i)
-
-  some_used : (bytes : List ℕ) (m n : ℕ) → 0 < m + n
-      → (is_some (option_map (λ (p : List ℕ × ℕ). p.0) (some_if bytes m)) || is_some (option_map (λ (p : List ℕ × ℕ). p.0) (some_if bytes n))) ≡ true
-  some_used bytes zero zero h = absurd (omega (arith, h))
-  some_used bytes zero (suc n) h = refl
-  some_used bytes (suc m) n h = refl
 
   left_entries : (me : ℕ) (m : Uses D A) (touched : List (List ℕ)) (old new : List Table) → IsKept digest me m touched → AreGivenBack (at m) old new
       → (place : ℕ) (c : List ℕ) → entry_at (table_at new place) c

@@ -1,12 +1,11 @@
 //! What a core keeps.
 
-ghost use Rattle.std.specs.Prelude.{◌≡◌, ◌<◌, ℕ, List, Some, [], option_map, vec_len, vec_capacity, IfErr, IfOk, OnOk, OnErr};
+ghost use Rattle.std.specs.Prelude.{◌≡◌, ◌<◌, [], option_map, vec_len, vec_capacity, IfErr, IfOk, OnOk, OnErr};
 ghost use Rattle.std.specs.Arc.{arc_value};
-ghost use Rattle.std.specs.FinMap as map;
 ghost use Rattle.store.specs.Faults.{IsRefusalOf};
 ghost use Rattle.store.specs.Stores.{IsStore, fulls_after};
-ghost use Rattle.kept.specs.Counts.{raised, lowered, HasNoOther, count_at, bytes_at, blocks_of};
-ghost use Rattle.kept.specs.Uses.{lent, used_blocks, AreSettled, with_note};
+ghost use Rattle.kept.specs.Counts.{HasNoOther, count_at, bytes_at, blocks_of, none_kept, with_use_more, with_use_less};
+ghost use Rattle.kept.specs.Uses.{used_blocks, AreSettled, with_note, HasAll};
 ghost use Rattle.kept.specs.Leaving.{HasLeft};
 
 use crate::blocks::Blocks;
@@ -56,7 +55,7 @@ impl<D: Digest, A: Allocator> Kept<D, A> {
 
     /// The block of this CID, if what was accepted uses it.
     pub fn block(&self, cid: &Cid) -> Option<&Arc<Block<D, A>, A>>
-        ensures { option_map (λ block. arc_value block.now) result ≡ bytes_at self.now.before cid.now }
+        ensures { option_map (λ b. arc_value b.now) result ≡ bytes_at self.now.before cid.now }
     {
         let Some(held) = self.blocks.get(cid) else {
             return None;
@@ -88,8 +87,8 @@ impl<D: Digest, A: Allocator> Kept<D, A> {
 
     /// The blocks as a source that wasn't asked for any so far: what was accepted, and what is staged.
     pub fn lender(&self) -> Lender<'_, D, A>
-        ensures before { (c bytes : List ℕ) → bytes_at self.now.before c ≡ Some bytes → option_map arc_value (lent result.blocks.now c) ≡ Some bytes }
-        ensures staged { (c bytes : List ℕ) → bytes_at self.now.staged c ≡ Some bytes → option_map arc_value (lent result.blocks.now c) ≡ Some bytes }
+        ensures before { HasAll result.blocks.now self.now.before }
+        ensures staged { HasAll result.blocks.now self.now.staged }
         ensures asked { result.asked.times ≡ 0 }
     {
         Lender {
@@ -107,7 +106,7 @@ impl<D: Digest, A: Allocator> Kept<D, A> {
         store: &mut S,
         cid: Cid,
     ) -> Result<(), AllocError>
-        ensures dropped { OnOk result (self.new ≡ record self.old { staged = lowered self.old.staged cid }) }
+        ensures dropped { OnOk result (self.new ≡ with_use_less self.old cid) }
         ensures unchanged { OnErr result (self.new ≡ self.old) }
         ensures fulls { S.fulls store.new ≡ S.fulls store.old }
     {
@@ -173,7 +172,7 @@ impl<D: Digest, A: Allocator + Clone> Kept<D, A> {
     /// No block yet, for the core with this number, below 1,024.
     pub fn open(alloc: A, me: u32) -> Result<Kept<D, A>, AllocError>
         requires { me < 1024 }
-        ensures { IfOk result (λ kept. kept ≡ record { me = me; before = map.empty; staged = map.empty }) }
+        ensures { IfOk result (λ kept. kept ≡ none_kept me) }
     {
         Ok(Kept {
             me,
@@ -193,7 +192,7 @@ impl<D: Digest, A: Allocator + Clone> Kept<D, A> {
         block: Arc<Block<D, A>, A>,
     ) -> Result<(), StoreFault<D, A>>
         requires { IsStore D.digest_of S.fulls S.answers }
-        ensures added { OnOk result (self.new ≡ record self.old { staged = raised D.digest_of self.old.staged (arc_value block) }) }
+        ensures added { OnOk result (self.new ≡ with_use_more D.digest_of self.old (arc_value block)) }
         ensures no_other_before { OnOk result (HasNoOther D.digest_of self.old.before (arc_value block)) }
         ensures no_other_staged { OnOk result (HasNoOther D.digest_of self.old.staged (arc_value block)) }
         ensures unchanged { OnErr result (self.new ≡ self.old) }

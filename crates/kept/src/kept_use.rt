@@ -1,10 +1,9 @@
 //! A block that is kept, with its uses.
 
-ghost use Rattle.std.specs.Prelude.{◌≡◌, suc, true, not, nat_lt, ◌||◌, IfOk, IfErr, OnOk, OnErr};
+ghost use Rattle.std.specs.Prelude.{◌≡◌, not, nat_lt, ◌||◌, IfOk, IfErr, OnOk, OnErr};
 ghost use Rattle.std.specs.Arc.{arc_value};
-ghost use Rattle.spec.specs.Cid.{cid as cid_of};
 ghost use Rattle.store.specs.Faults.{IsRefusalOf};
-ghost use Rattle.kept.specs.Uses.{settled_use, lowered_use};
+ghost use Rattle.kept.specs.Uses.{settled_use, lowered_use, HaveOneCid, raised_use};
 ghost use Rattle.kept.specs.Faults.{IsNotFull};
 ghost use Rattle.kept.specs.Leaving.{given_back};
 
@@ -36,8 +35,8 @@ impl<D: Digest, A: Allocator> Use<D, A> {
     ///
     /// Another block with its CID is a collision.
     pub(crate) fn raise(&mut self, block: Arc<Block<D, A>, A>) -> Result<bool, StoreFault<D, A>>
-        requires { cid_of D.digest_of (arc_value block) ≡ cid_of D.digest_of (arc_value self.old.hold.0) }
-        ensures raised { OnOk result (self.new ≡ record self.old { next = suc self.old.next; noted = true }) }
+        requires { HaveOneCid D.digest_of (arc_value block) (arc_value self.old.hold.0) }
+        ensures raised { OnOk result (self.new ≡ raised_use self.old) }
         ensures fresh { IfOk result (λ fresh. fresh ≡ not self.old.noted) }
         ensures same_bytes { OnOk result (arc_value self.old.hold.0 ≡ arc_value block) }
         ensures unchanged { OnErr result (self.new ≡ self.old) }

@@ -1,11 +1,11 @@
-use Rattle.std.proofs.Common.{subst}
+use Rattle.std.proofs.Common.{subst, rules}
 use Rattle.kept.specs.Counts.{Keeping}
 use Rattle.kept.specs.Leaving.{HasLeft}
 use Rattle.kept.proofs.Leaving.{has_left}
 use Rattle.kept.proofs.kept.Kept.end_in.Goals as goal
 
 pub end_in-requires : goal.end_in-requires
-end_in-requires g c = λ q u e. (c.self.invariant.entries q u e).named
+end_in-requires g c = (search rules, λ q u e. (c.self.invariant.entries q u e).named)
 
 pub returns : goal.returns
 returns g c =

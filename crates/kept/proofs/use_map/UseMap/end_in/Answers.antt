@@ -1,4 +1,4 @@
-use Rattle.std.proofs.Common.{◌≡◌, ◌∙◌, sym, ap, refl, true, false, nat_eq, List}
+use Rattle.std.proofs.Common.{◌≡◌, ◌∙◌, sym, ap, refl, true, false, nat_eq, ℕ, List}
 use Rattle.std.specs.Prelude.{Option, Some, None}
 use Rattle.store.specs.Table.{Table, entry_at, shard_of}
 use Rattle.kept.specs.Uses.{Updated}
@@ -43,10 +43,11 @@ pub returns : goal.returns
 returns g c =
     let es = c.loop-held.blocks.entries in
     let is = c.loop-held.invariant in
-    let none = λ q. none_left g.D.Digest.digest_of es q (λ some. let never : false ≡ true = c.in_default.ensures.variant.1 some in let no : ⊥ = cc in no) in record {
+    let none : (q : List ℕ) → listed_at es q ≡ None = λ q.
+    none_left g.D.Digest.digest_of es q (λ some. let never : false ≡ true = c.in_default.ensures.variant.1 some in absurd cc) in record {
       entries = λ place q.
           sym (ap (λ (w : Option (Use g.row.D.Denot g.row.A.Denot)).
-              entry_after w (nat_eq place (shard_of q)) (entry_at (table_at c.loop-held.tables place) q)) (none q))
+          entry_after w (nat_eq place (shard_of q)) (entry_at (table_at c.loop-held.tables place) q)) (none q))
           ∙ is.entries place q;
       limits = is.limits;
     }
