@@ -1,10 +1,9 @@
 -- What a core leaves in the tables when it ends.
-use Rattle.std.proofs.Common.{◌≡◌, ℕ, Bool, true, false, ◌==◌, ◌&&◌, ◌||◌, List, refl, ap, ◌∙◌, Option, None}
-use Rattle.std.specs.declared.option.Option.TheVariants.{Some}
+use Rattle.std.proofs.Common.{◌≡◌, ℕ, Bool, true, false, ◌==◌, ◌&&◌, ◌||◌, List, refl, ap, ◌∙◌, Option}
 use Rattle.std.specs.Prelude.{cond, is_some}
 use Rattle.std.specs.FinSet as set
 use Rattle.spec.specs.States.{State}
-use Rattle.store.specs.Table.{Table, Held, cores_at, entry_at, shard_of}
+use Rattle.store.specs.Table.{Table, cores_at, entry_at, shard_of}
 use Rattle.kept.specs.Counts.{Counts, Keeping, bytes_at}
 use Rattle.kept.specs.Leaving.{HasLeft, is_held, leaves, table_at, without_core}
 use Rattle.repo.specs.Cores.{IsCore}

@@ -1,4 +1,4 @@
-use Rattle.std.proofs.Common.{refl, subst, ap}
+use Rattle.std.proofs.Common.{subst, ap}
 use Rattle.spec.specs.States.{State}
 use Rattle.repo.specs.Cores.{IsCore}
 use Rattle.repo.proofs.Ended.{core-ended}
