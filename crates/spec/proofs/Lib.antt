@@ -33,5 +33,6 @@ pub mod BatchSteps
 pub mod RepositoryBlocks
 pub mod StampLaws
 pub mod StateLaws
+pub mod CommitLaws
 -- Worked rows.
 mod rows

@@ -34,7 +34,7 @@ is_cid-own c own =
     let parts = own_cid c own in
     or_right (is_version_0 c) (is_version_1 c) (ap is_version_1 parts.0 ∙ eq-eqb (length (drop 4 c)) 32 parts.1)
 
-lawful-link : (levels : ℕ) (c : List ℕ) → is_own_cid c ≡ true → is_lawful_within levels (Link c) ≡ true
+pub lawful-link : (levels : ℕ) (c : List ℕ) → is_own_cid c ≡ true → is_lawful_within levels (Link c) ≡ true
 lawful-link levels c own = let long = own_length c own in and _ _ (lt-ltb (suc (length c)) (2 ^ 64) (omega arith)) (is_cid-own c own)
 
 lawful-link_or_null : (levels : ℕ) (o : Option (List ℕ)) → is_own_cid_or_none o ≡ true → is_lawful_within levels (value_of_link o) ≡ true

@@ -1,0 +1,15 @@
+pub mod Counting
+pub mod Staged
+pub mod Editing
+pub mod Faults
+pub mod Outcomes
+pub mod Testing
+pub mod Nexting
+pub mod Batching
+pub mod Commits
+pub mod Keeping
+pub mod Growing
+pub mod Fresh
+pub mod Listing
+pub mod Lending
+pub mod Ended

@@ -1,0 +1,15 @@
+use Rattle.std.proofs.Common.{ap, ◌∙◌}
+use Rattle.std.specs.Arc.{arc_value}
+use Rattle.spec.specs.Cid.{cid}
+use Rattle.repo.specs.Views.{state_view}
+use Rattle.repo.proofs.Fresh.{empty-state, fresh-core}
+use Rattle.repo.proofs.cores.Core.open.Goals as goal
+
+pub invariant_of-result : goal.invariant_of-result
+invariant_of-result g c =
+    let dig = g.D.Digest.digest_of in
+    let kept = c.in-Ok.kept in
+    fresh-core dig g.row.B c.args.me c.args.limit (state_view kept.me c.args.limit c.new.result.items c.new-in-Ok.result.items) (arc_value c.in_ok-node.node) c.cid-root.result kept
+    c.requires.least_bits c.requires.most_bits c.requires.small c.requires.least c.requires.most
+    (empty-state kept.me c.args.me c.args.limit c.new.result.items c.new-in-Ok.result.items c.in-Ok.ensures.me c.new.ensures.items c.new-in-Ok.ensures.items)
+    c.in_ok-node.ensures (c.cid-root.ensures ∙ ap (cid dig) c.deref.ensures) c.in-Ok.ensures.still c.in-Ok.ensures.kept

@@ -1,0 +1,10 @@
+use Rattle.std.proofs.Common.{◌≤◌, take}
+use Rattle.repo.specs.Keeping.{IsLost, IsStillBefore}
+use Rattle.repo.proofs.staging.lose_all.Given as goal
+
+abbrev pub invariant-loop-cid : goal.invariant-loop-cid
+invariant-loop-cid g l = record {
+  lost : IsLost (take l.cid-index l.cids) l.initial.kept.staged l.kept.staged;
+  still : IsStillBefore l.initial.kept l.kept;
+  grown : g.S.BlockStore.fulls l.initial.store ≤ g.S.BlockStore.fulls l.store;
+}

@@ -1,0 +1,347 @@
+//! One repository.
+
+ghost use Rattle.std.specs.Prelude.{◌≡◌, ◌≤◌, ◌<◌, ◌+◌, ◌++◌, ◌∷◌, [], ℕ, List, Some, Ok, length, option_map, IfOk, IfErr, OnOk, OnErr};
+ghost use Rattle.std.specs.Arc.{arc_value};
+ghost use Rattle.edit.specs.Walks.{pairs_given};
+ghost use Rattle.spec.specs.States.{IsLawful, fresh, after_batch, state_root, state_commit, state_test};
+ghost use Rattle.spec.specs.Stamps.{last, rev_of};
+ghost use Rattle.kept.specs.Uses.{used_blocks};
+ghost use Rattle.repo.specs.Ending.{IsEnded};
+ghost use Rattle.repo.specs.Readings.{AreBlocksOnce, LendsBlocks, LendsTree, pairs_from, record_at, state_block};
+ghost use Rattle.repo.specs.Refusals.{IsRefusal, IsApplied, IsOpenRefusal};
+ghost use Rattle.batches.specs.Values.{stamp_of, stamps_of, writes_of, shared_writes};
+ghost use Rattle.store.specs.Stores.{IsStore};
+
+use crate::applied::Applied;
+use crate::opening::{empty_node, kept_once};
+use crate::staged_batch::{StagedBatch, Start, stage_batch};
+use batches::{RepoFault, Stamp, Write};
+use cid::{Block, Cid, Digest};
+use kept::{Blocks, Kept, Lender, pairs_accepted, value_accepted};
+use std::alloc::{AllocError, Allocator, Global};
+use std::marker::Model;
+use std::sync::Arc;
+use store::{BlockStore, Hold, SHARDS, Shard, StoreFault};
+
+/// One repository: its accepted writes and their stamps, the root of its tree, and its blocks.
+///
+/// Always its root and its blocks are those of the Merkle search tree built from scratch from the records that its
+/// accepted writes leave, with the commit of its last stamp, and there are no other blocks. It keeps one hold for each
+/// block, under its own number.
+///
+/// A contract sees it as its state: its number, how many writes it may have, the writes, and the stamps.
+pub struct Core<D: Digest, const B: u8, A: Allocator = Global> {
+    limit: usize,
+    accepted: Vec<Arc<Write<A>, A>, A>,
+    stamps: Vec<(Stamp<A>, u64), A>,
+    root: Cid,
+    commit: Option<Cid>,
+    kept: Kept<D, A>,
+}
+
+impl<D: Digest, const B: u8, A: Allocator> Model for Core<D, B, A> {
+    ghost use Rattle.spec.specs.States.{State};
+    ghost use Rattle.repo.specs.Views.{state_view};
+    ghost use Rattle.repo.specs.Cores.{IsCore};
+
+    ghost Value = { State };
+
+    ghost view = { λ c. state_view c.kept.me c.limit c.accepted.items c.stamps.items };
+
+    ghost invariant = { λ c. IsCore D.digest_of B (state_view c.kept.me c.limit c.accepted.items c.stamps.items) c.root c.commit c.kept };
+}
+
+impl<D: Digest, const B: u8, A: Allocator> Core<D, B, A> {
+    /// The number that it has in the store, below 1,024.
+    pub fn me(&self) -> u32
+        ensures value { result ≡ self.now.me }
+        ensures small { result < 1024 }
+    {
+        self.kept.me()
+    }
+
+    /// How many writes it may have, 1 to 1,048,576.
+    pub fn limit(&self) -> usize
+        ensures value { result ≡ self.now.limit }
+        ensures lawful { IsLawful self.now }
+    {
+        self.limit
+    }
+
+    /// How many writes are accepted.
+    pub fn number(&self) -> u64
+        ensures value { result ≡ length self.now.accepted }
+        ensures lawful { IsLawful self.now }
+    {
+        self.accepted.len() as u64
+    }
+
+    /// The root of the tree.
+    pub fn root(&self) -> Cid
+        ensures value { result ≡ state_root D.digest_of B self.now }
+        ensures lawful { IsLawful self.now }
+    {
+        self.root
+    }
+
+    /// The CID of the last batch's commit, or `None` before the first one.
+    pub fn commit(&self) -> Option<Cid>
+        ensures value { result ≡ state_commit D.digest_of B self.now }
+        ensures lawful { IsLawful self.now }
+    {
+        self.commit
+    }
+
+    /// The accepted writes, the oldest first.
+    pub fn accepted(&self) -> &[Arc<Write<A>, A>]
+        ensures value { shared_writes result.now ≡ self.now.accepted }
+        ensures lawful { IsLawful self.now }
+    {
+        &self.accepted
+    }
+
+    /// The stamp of each batch, the oldest first, with the number of accepted writes after it.
+    pub fn stamps(&self) -> &[(Stamp<A>, u64)]
+        ensures value { stamps_of result.now ≡ self.now.stamps }
+        ensures lawful { IsLawful self.now }
+    {
+        &self.stamps
+    }
+
+    /// Its blocks, each once, in the order of their CIDs: the last commit, the nodes and the records. It takes no memory.
+    pub fn blocks(&self) -> Blocks<'_, D, A>
+        ensures blocks { AreBlocksOnce D.digest_of B self.now (used_blocks result.entries) }
+        ensures lawful { IsLawful self.now }
+    {
+        let _ = &self.root;
+        self.kept.blocks()
+    }
+
+    /// Its blocks as a source that wasn't asked for any so far, for look-ups, proofs and exports: it has each of them, and so
+    /// the tree at the root. It takes no memory.
+    pub fn lender(&self) -> Lender<'_, D, A>
+        ensures blocks { LendsBlocks D.digest_of B self.now result.blocks.now }
+        ensures tree { LendsTree D.digest_of B self.now result.blocks.now }
+        ensures asked { result.asked.times ≡ 0 }
+        ensures lawful { IsLawful self.now }
+    {
+        let _ = &self.root;
+        self.kept.lender()
+    }
+
+    /// Gives its blocks back to the store. It takes no memory and can't fail.
+    pub fn end<S: BlockStore<Arc<Block<D, A>, A>, Hold<D, A>, StoreFault<D, A>>>(
+        self,
+        store: &mut S,
+    )
+        ensures { S.fulls store.new ≡ S.fulls store.old }
+    {
+        let Core {
+            limit: _,
+            accepted: _,
+            stamps: _,
+            root: _,
+            commit: _,
+            kept,
+        } = self;
+        kept.end(store);
+    }
+
+    /// Gives its blocks back to the sixteen shards, which its caller has for itself: in the table of its CID's shard each of
+    /// its blocks has its other cores left, and goes where there are none. Nothing else in the tables changes. It takes no
+    /// memory and can't fail.
+    pub fn end_in(self, tables: &mut [Shard<D, A>; SHARDS])
+        ensures { IsEnded D.digest_of B self tables.old tables.new }
+    {
+        let Core {
+            limit: _,
+            accepted: _,
+            stamps: _,
+            root: _,
+            commit: _,
+            kept,
+        } = self;
+        kept.end_in(tables);
+    }
+
+    /// Its block with this CID: the last commit, a node or a record. It takes no memory.
+    pub fn block(&self, cid: &Cid) -> Option<&Arc<Block<D, A>, A>>
+        ensures value { option_map (λ block. arc_value block.now) result ≡ state_block D.digest_of B self.now cid.now }
+        ensures lawful { IsLawful self.now }
+    {
+        let _ = &self.root;
+        self.kept.block(cid)
+    }
+
+    /// The record of a key, or `None` where there is none. It takes any key and no memory.
+    pub fn get(&self, key: &[u8]) -> Option<&Block<D, A>>
+        ensures value { option_map (λ block. block.now) result ≡ record_at self.now key.now }
+        ensures lawful { IsLawful self.now }
+    {
+        match value_accepted::<D, B, A>(&self.kept, self.root, key) {
+            Some(cid) => match self.block(&cid) {
+                Some(block) => Some(block),
+                None => None,
+            },
+            None => None,
+        }
+    }
+}
+
+impl<D: Digest, const B: u8, A: Allocator + Copy> Core<D, B, A> {
+    /// The first `limit` pairs of a key and its record's CID, from a key on, in the order of the keys.
+    ///
+    /// `AllocError` comes where memory was refused.
+    pub fn list(
+        &self,
+        alloc: A,
+        from: &[u8],
+        limit: usize,
+    ) -> Result<Vec<(Vec<u8, A>, Cid), A>, AllocError>
+        ensures pairs { IfOk result (λ found. pairs_given found.items ≡ pairs_from D.digest_of self.now from.now limit) }
+        ensures lawful { IsLawful self.now }
+    {
+        pairs_accepted::<D, B, A>(alloc, &self.kept, self.root, from, limit)
+    }
+
+    /// A repository without writes, which may have `limit` of them, under its own number in the store.
+    ///
+    /// Its one block is the empty node. `RepoFault::Collision` shows that the store has other bytes under its CID,
+    /// `RepoFault::StoreFull` says that the store answered so, and `RepoFault::NoMemory` comes where memory was refused.
+    /// After a refusal no block is held.
+    pub fn open<S: BlockStore<Arc<Block<D, A>, A>, Hold<D, A>, StoreFault<D, A>>>(
+        alloc: A,
+        store: &mut S,
+        me: u32,
+        limit: usize,
+    ) -> Result<Core<D, B, A>, RepoFault<D, A>>
+        requires least_bits { 1 ≤ B }
+        requires most_bits { B ≤ 8 }
+        requires small { me < 1024 }
+        requires least { 1 ≤ limit }
+        requires most { limit ≤ 1048576 }
+        requires store { IsStore D.digest_of S.fulls S.answers }
+        ensures fresh { IfOk result (λ core. core ≡ fresh me limit) }
+        ensures fault { IfErr result (IsOpenRefusal D.digest_of B (fresh me limit) (S.fulls store.old) (S.fulls store.new)) }
+    {
+        let node = empty_node(alloc)?;
+        let root = node.cid();
+        match kept_once(alloc, store, me, node) {
+            Ok(kept) => Ok(Core {
+                limit,
+                accepted: Vec::new(alloc),
+                stamps: Vec::new(alloc),
+                root,
+                commit: None,
+                kept,
+            }),
+            Err(fault) => Err(fault),
+        }
+    }
+
+    /// Accepts all writes of a batch, in order, or none of them.
+    ///
+    /// The tests come in this order: a batch without writes is `RepoFault::EmptyBatch`; the stamp, `RepoFault::BadDid`,
+    /// `RepoFault::BadRev`, `RepoFault::RevOrder`; and then write by write, each on the records that those before it leave:
+    /// `RepoFault::WritesFull`, `RepoFault::BadKey`, `RepoFault::RecordSize`, `RepoFault::BadRecord`, `RepoFault::NotAMap`,
+    /// `RepoFault::KeyExists` or `RepoFault::NoSuchKey`. Where a write's blocks are made, `RepoFault::Collision` shows two
+    /// blocks that clash, of which one is of the repository after the writes up to that place, and `RepoFault::StoreFull`
+    /// says that the store answered so. `RepoFault::NoMemory` comes where memory was refused; where it serves the whole
+    /// batch, at place 0. The commit's own refusals stand at the place of the last write.
+    ///
+    /// A refusal names the place of the refused write, from 0; all is then as before, and each hold that was taken has been
+    /// given back.
+    pub fn apply<S: BlockStore<Arc<Block<D, A>, A>, Hold<D, A>, StoreFault<D, A>>>(
+        &mut self,
+        alloc: A,
+        store: &mut S,
+        stamp: &Stamp<A>,
+        writes: &[Write<A>],
+    ) -> Result<Applied, (usize, RepoFault<D, A>)>
+        requires store { IsStore D.digest_of S.fulls S.answers }
+        ensures lawful { IsLawful self.old }
+        ensures still_lawful { IsLawful self.new }
+        ensures accepted { OnOk result (self.new ≡ after_batch self.old (stamp_of stamp.now) (writes_of writes.now)) }
+        ensures passes { OnOk result (state_test self.old (stamp_of stamp.now) (writes_of writes.now) ≡ Ok tt) }
+        ensures applied { IfOk result (IsApplied D.digest_of B self.old self.new) }
+        ensures unchanged { OnErr result (self.new ≡ self.old) }
+        ensures fault { IfErr result (IsRefusal D.digest_of B self.old (stamp_of stamp.now) (writes_of writes.now) (S.fulls store.old) (S.fulls store.new)) }
+    {
+        let start = Start {
+            room: room_for(self.limit, &self.accepted),
+            root: self.root,
+            commit: self.commit,
+        };
+        let last = last_rev(&self.stamps);
+        match stage_batch::<D, B, A, S>(&mut self.kept, store, alloc, start, last, stamp, writes) {
+            Ok(staged) => {
+                let StagedBatch {
+                    root,
+                    commit,
+                    writes: shared,
+                    stamp: copy,
+                } = staged;
+                match grow(&mut self.accepted, &mut self.stamps, shared, copy) {
+                    Ok(number) => {
+                        self.kept.accept(store);
+                        let previous = self.root;
+                        self.root = root;
+                        self.commit = Some(commit);
+                        Ok(Applied {
+                            number,
+                            root,
+                            previous,
+                            commit,
+                        })
+                    }
+                    Err(_) => {
+                        self.kept.refuse(store);
+                        Err((0, RepoFault::NoMemory))
+                    }
+                }
+            }
+            Err(refusal) => {
+                self.kept.refuse(store);
+                Err(refusal)
+            }
+        }
+    }
+}
+
+/// The last batch's revision, or `None` before the first one.
+fn last_rev<A: Allocator>(stamps: &[(Stamp<A>, u64)]) -> Option<&[u8]>
+    ensures { option_map (λ rev. rev.now) result ≡ rev_of (last (stamps_of stamps.now)) }
+{
+    match stamps.last() {
+        Some((stamp, _)) => Some(&stamp.rev),
+        None => None,
+    }
+}
+
+/// How many writes more there may be.
+fn room_for<A: Allocator>(limit: usize, accepted: &[Arc<Write<A>, A>]) -> usize
+    requires { length (shared_writes accepted.now) ≤ limit }
+    ensures { length (shared_writes accepted.now) + result ≡ limit }
+{
+    limit - accepted.len()
+}
+
+/// Puts a batch's writes and its stamp to the others, and answers how many writes there are then; or changes nothing.
+fn grow<A: Allocator>(
+    accepted: &mut Vec<Arc<Write<A>, A>, A>,
+    stamps: &mut Vec<(Stamp<A>, u64), A>,
+    mut shared: Vec<Arc<Write<A>, A>, A>,
+    stamp: Stamp<A>,
+) -> Result<u64, AllocError>
+    ensures writes { OnOk result (shared_writes accepted.new.items ≡ shared_writes accepted.old.items ++ shared_writes shared.items) }
+    ensures stamps { OnOk result (stamps_of stamps.new.items ≡ stamps_of stamps.old.items ++ (stamp_of stamp, length accepted.new.items) ∷ []) }
+    ensures number { IfOk result (λ number. number ≡ length accepted.new.items) }
+    ensures same_writes { OnErr result (accepted.new.items ≡ accepted.old.items) }
+    ensures same_stamps { OnErr result (stamps.new.items ≡ stamps.old.items) }
+{
+    stamps.reserve(1)?;
+    accepted.append(&mut shared)?;
+    let number = accepted.len() as u64;
+    stamps.push_reserved((stamp, number));
+    Ok(number)
+}
