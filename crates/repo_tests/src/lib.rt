@@ -2,11 +2,17 @@
 #![tactic(auto)]
 
 #[cfg(test)]
+mod clashes;
+#[cfg(test)]
 mod commits;
 #[cfg(test)]
 mod cores;
 #[cfg(test)]
 mod fixtures;
+#[cfg(test)]
+mod lists;
+#[cfg(test)]
+mod orders;
 #[cfg(test)]
 mod sharing;
 #[cfg(test)]
