@@ -11,7 +11,8 @@ use store::{LentShard, Shard};
 
 /// The commit of the tree without entries under the DID `did:web:a.b` and the revision `3jzfcijpj2z2a`, 96 bytes. The
 /// digest is SHA-256 of the node, by another program.
-const COMMIT: &[u8] = b"\xa5\x63did\x6bdid:web:a.b\x63rev\x6d3jzfcijpj2z2a\x64data\xd8\x2a\x58\x25\x00\
+const COMMIT: &[u8] =
+    b"\xa5\x63did\x6bdid:web:a.b\x63rev\x6d3jzfcijpj2z2a\x64data\xd8\x2a\x58\x25\x00\
     \x01\x71\x12\x20\x9d\xfe\xfe\x61\xdd\x76\xea\x3d\xca\xe5\x02\x38\x80\xb0\x83\x79\
     \xd5\x7a\xdf\x20\x48\x2d\x6f\xdb\xe2\x75\x92\x89\xf6\x47\x67\x7b\
     \x64prev\xf6\x67version\x03";

@@ -10,6 +10,8 @@ mod cores;
 #[cfg(test)]
 mod fixtures;
 #[cfg(test)]
+mod keys_and_stamps;
+#[cfg(test)]
 mod lists;
 #[cfg(test)]
 mod orders;

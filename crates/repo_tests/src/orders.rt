@@ -25,7 +25,7 @@ const ORDERS: [[usize; 3]; 6] = [
     [2, 1, 0],
 ];
 
-/// The root of the five nodes, and the CID of the commit after three batches of one write each.
+/// Whether a repository has the tree of five nodes, with its two records and its commit.
 fn is_tree_of_five_nodes(alloc: Global, shard: &Shard<Toy>, core: &Core<Toy, 2>) -> bool {
     let (one, empty) = (Cid::of::<Toy>(ONE), Cid::of::<Toy>(EMPTY));
     let pairs: [(&[u8], Cid); 3] = [(b"a/p0", one), (b"a/q2", one), (b"a/r0", empty)];
@@ -33,8 +33,7 @@ fn is_tree_of_five_nodes(alloc: Global, shard: &Shard<Toy>, core: &Core<Toy, 2>)
     is_of(alloc, core, &pairs, core.commit()) && held(shard, core) == Some(8) && holds(shard) == 8
 }
 
-/// Writes the three records in this order, each in a batch of its own, and answers whether they leave the tree of five
-/// nodes. The last commit is answered too.
+/// Whether the three records, written in this order and each in a batch of its own, leave the tree of five nodes.
 fn write_in(
     alloc: Global,
     shard: &mut Shard<Toy>,
@@ -77,7 +76,13 @@ fn six_orders_one_tree(rt: HostRuntime) {
 
 /// Whether a batch that the store has no room for is refused at one of its places, and leaves the node without entries alone.
 fn is_full(alloc: Global, shard: &mut Shard<Toy>, core: &mut Core<Toy, 2>) -> bool {
-    let ended = apply_steps(alloc, shard, core, 0, &[Put(b"a/b0", EMPTY), Put(b"a/c0", ONE)]);
+    let ended = apply_steps(
+        alloc,
+        shard,
+        core,
+        0,
+        &[Put(b"a/b0", EMPTY), Put(b"a/c0", ONE)],
+    );
     let full = [0, 1].map(|place| Some(Refused(place, Why::StoreFull)));
     full.contains(&ended)
         && held(shard, core) == Some(1)
@@ -93,7 +98,7 @@ fn full_shard(rt: HostRuntime) {
     end(&mut shard, core);
 }
 
-/// Whether a store without room for one more block refuses to open a core, and has it where another core holds the block.
+/// A second core needs no room where the first holds its block.
 #[test]
 fn opened_in_a_full_shard(rt: HostRuntime) {
     let mut shard: Shard<Toy> = Shard::new(rt.alloc(), 1);

@@ -3,8 +3,8 @@
 use crate::cores::{apply_steps, end, held, holds, opened};
 use crate::fixtures::{Ended, Step};
 use crate::trees::is_of;
-use cid::digests::Toy;
 use cid::Cid;
+use cid::digests::Toy;
 use repo::Core;
 use std::alloc::{AllocError, Global};
 use std::process::Abort;
@@ -19,10 +19,7 @@ pub(crate) struct Turn {
 }
 
 /// The pairs of these keys and records.
-fn pairs_of(
-    alloc: Global,
-    records: &[(&[u8], &[u8])],
-) -> Result<Vec<(Vec<u8>, Cid)>, AllocError> {
+fn pairs_of(alloc: Global, records: &[(&[u8], &[u8])]) -> Result<Vec<(Vec<u8>, Cid)>, AllocError> {
     let mut pairs = Vec::new(alloc);
     for (key, record) in records {
         pairs.push((Vec::from_slice(alloc, key)?, Cid::of::<Toy>(record)))?;
