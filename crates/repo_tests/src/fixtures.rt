@@ -61,6 +61,7 @@ pub(crate) fn rev_after(turns: u16) -> [u8; 13] {
     let mut rev = [b'2'; 13];
     rev[12] = digits[usize::from(turns % 32)];
     rev[11] = digits[usize::from(turns / 32 % 32)];
+    rev[10] = digits[usize::from(turns / 1024 % 32)];
     rev
 }
 

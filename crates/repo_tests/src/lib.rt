@@ -16,6 +16,8 @@ mod lists;
 #[cfg(test)]
 mod orders;
 #[cfg(test)]
+mod random_batches;
+#[cfg(test)]
 mod sharing;
 #[cfg(test)]
 mod stories;
