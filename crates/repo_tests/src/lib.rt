@@ -8,11 +8,17 @@ mod commits;
 #[cfg(test)]
 mod cores;
 #[cfg(test)]
+mod example;
+#[cfg(test)]
 mod fixtures;
+#[cfg(test)]
+mod kept_blocks;
 #[cfg(test)]
 mod keys_and_stamps;
 #[cfg(test)]
 mod lists;
+#[cfg(test)]
+mod memory;
 #[cfg(test)]
 mod orders;
 #[cfg(test)]

@@ -269,18 +269,18 @@ fn none(alloc: Global, room: usize) -> Wanted {
 
 #[test]
 fn under_the_toy_digest(rt: HostRuntime) {
-    assert!(rt; agrees::<_, Toy, 1>(&rt, rt.alloc(), 60, 1000));
-    assert!(rt; agrees::<_, Toy, 2>(&rt, rt.alloc(), 60, 1000));
-    assert!(rt; agrees::<_, Toy, 8>(&rt, rt.alloc(), 60, 1000));
+    assert!(rt; agrees::<_, Toy, 1>(&rt, rt.alloc(), 30, 1000));
+    assert!(rt; agrees::<_, Toy, 2>(&rt, rt.alloc(), 30, 1000));
+    assert!(rt; agrees::<_, Toy, 8>(&rt, rt.alloc(), 30, 1000));
 }
 
 #[test]
 fn under_sha_256(rt: HostRuntime) {
-    assert!(rt; agrees::<_, Sha256, 1>(&rt, rt.alloc(), 60, 1000));
-    assert!(rt; agrees::<_, Sha256, 2>(&rt, rt.alloc(), 60, 1000));
+    assert!(rt; agrees::<_, Sha256, 1>(&rt, rt.alloc(), 30, 1000));
+    assert!(rt; agrees::<_, Sha256, 2>(&rt, rt.alloc(), 30, 1000));
 }
 
 #[test]
 fn in_a_small_store(rt: HostRuntime) {
-    assert!(rt; agrees::<_, Toy, 2>(&rt, rt.alloc(), 60, 30));
+    assert!(rt; agrees::<_, Toy, 2>(&rt, rt.alloc(), 30, 30));
 }
