@@ -8,6 +8,8 @@ mod commits;
 #[cfg(test)]
 mod cores;
 #[cfg(test)]
+mod example;
+#[cfg(test)]
 mod fixtures;
 #[cfg(test)]
 mod keys_and_stamps;
