@@ -20,9 +20,13 @@ mod orders;
 #[cfg(test)]
 mod random_batches;
 #[cfg(test)]
+mod shards;
+#[cfg(test)]
 mod sharing;
 #[cfg(test)]
 mod stories;
+#[cfg(test)]
+mod thousand;
 #[cfg(test)]
 mod trees;
 #[cfg(test)]
