@@ -260,13 +260,14 @@ fn apply<R: Wait + Clock + Files + Print>(
 /// Prints the microseconds of a write, and the ratio in hundredths.
 fn took<R: Print>(rt: &R, name: &str, took: &Took, writes: u128) -> io::Result<()> {
     let (applied, alone) = (took.applied / writes.max(1), took.alone / writes.max(1));
+    let ratio = applied.saturating_mul(100) / alone.max(1);
     println!(rt;
         "{name}: {}.{} microseconds a write at the least, {}.{} by edit alone, ratio {}.{:02}",
         applied / 1000,
         applied % 1000 / 100,
         alone / 1000,
         alone % 1000 / 100,
-        applied / alone.max(1),
-        applied % alone.max(1) * 100 / alone.max(1)
+        ratio / 100,
+        ratio % 100
     )
 }
