@@ -1,6 +1,5 @@
 -- The blocks of a core as a source.
-use Rattle.std.proofs.Common.{◌≡◌, ℕ, List, subst, Option, None}
-use Rattle.std.specs.declared.option.Option.TheVariants.{Some}
+use Rattle.std.proofs.Common.{◌≡◌, ℕ, List, subst, Option}
 use Rattle.spec.specs.Cid.{cid, IsDigest}
 use Rattle.spec.specs.Blocks.{pairs}
 use Rattle.spec.specs.States.{State, records, state_blocks, state_root}

@@ -1,14 +1,13 @@
 -- A write tested and staged after those before it.
-use Rattle.std.proofs.Common.{◌≡◌, ℕ, Bool, true, false, zero, suc, ◌+◌, ◌<◌, ◌≤◌, not, ltb, List, [], ◌∷◌, ◌++◌, length, take, get_or, arith, refl, sym, ap, subst, ◌∙◌, Result, Ok, Err, Option, None}
+use Rattle.std.proofs.Common.{◌≡◌, ℕ, Bool, true, false, zero, suc, ◌+◌, ◌<◌, ◌≤◌, ltb, List, [], ◌∷◌, ◌++◌, length, take, get_or, arith, refl, sym, ap, ◌∙◌, Result, Ok, Option, None}
 use Rattle.std.specs.declared.option.Option.TheVariants.{Some}
-use Rattle.std.specs.Prelude.{is_some}
 use Rattle.std.proofs.lemmas.Bool.{ltb-true, ltb-false, lt-ltb, le-ltb}
 use Rattle.std.proofs.lemmas.List.{map-append, length-append, length-map, length-take-le}
 use Rattle.spec.specs.Cid.{IsDigest}
 use Rattle.spec.specs.Reading.{◌>>=◌, ensure}
 use Rattle.spec.specs.Blocks.{pairs, value_of}
-use Rattle.spec.specs.Writes.{Write, WriteFault, WritesFull, Put, Create, Update, Delete, key_of, record_of, test_when, record_test}
-use Rattle.spec.specs.Writes.{write_test, limited_test, BadKey}
+use Rattle.spec.specs.Writes.{Write, WriteFault, WritesFull, Put, Create, Update, Delete, key_of, test_when}
+use Rattle.spec.specs.Writes.{write_test, BadKey}
 use Rattle.spec.specs.Keys.{is_repository_key}
 use Rattle.spec.specs.NodeFormat.{is_key}
 use Rattle.spec.specs.States.{State}

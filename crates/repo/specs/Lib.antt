@@ -3,3 +3,5 @@ pub mod Keeping
 pub mod Staging
 pub mod Cores
 pub mod Refusals
+pub mod Readings
+pub mod Ending

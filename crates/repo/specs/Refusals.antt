@@ -1,9 +1,9 @@
 -- When a batch is refused.
-use Rattle.std.specs.Prelude.{◌≡◌, ◌⊎◌, ⊤, ℕ, ◌+◌, ◌<◌, ◌++◌, ◌==◌, if◌then◌else◌, List, [], ◌∷◌}
-use Rattle.std.specs.Prelude.{take, length, Bool, is_some, nat_lt, Contains, Option, Some, None, Result, Ok, Err}
+use Rattle.std.specs.Prelude.{◌≡◌, ⊤, ℕ, ◌+◌, ◌<◌, ◌++◌, ◌==◌, if◌then◌else◌, List, [], ◌∷◌}
+use Rattle.std.specs.Prelude.{take, length, Bool, is_some, nat_lt, Option, Some, None, Result, Ok, Err}
 use Rattle.spec.specs.Blocks.{blocks, repository_root}
 use Rattle.spec.specs.Stamps.{Stamp, last, rev_of}
-use Rattle.spec.specs.Writes.{Write, WriteFault, test_when, limited_test, batch_test, leaves}
+use Rattle.spec.specs.Writes.{Write, WriteFault, test_when, limited_test, batch_test}
 use Rattle.spec.specs.Commits.{commit_blocks}
 use Rattle.spec.specs.States.{State, BatchFault, after_batch, state_test, state_root, state_blocks, state_commit}
 use Rattle.paths.specs.Staged.{records_after}

@@ -1,5 +1,3 @@
-use Rattle.std.proofs.Common.{ℕ, List}
-use Rattle.spec.specs.Blocks.{pairs}
 use Rattle.paths.specs.Staged.{records_after}
 use Rattle.batches.specs.Values.{write_of}
 use Rattle.repo.proofs.Testing.{batch-tree, next-of, write-fault, test-fault}

@@ -1,6 +1,6 @@
-use Rattle.std.proofs.Common.{◌≡◌, Ok, Result, sym, subst, ◌∙◌}
+use Rattle.std.proofs.Common.{Result, sym, subst, ◌∙◌}
 use Rattle.spec.specs.Blocks.{pairs}
-use Rattle.spec.specs.Writes.{WriteFault, test_when}
+use Rattle.spec.specs.Writes.{WriteFault}
 use Rattle.paths.specs.Staged.{records_after}
 use Rattle.batches.specs.Tests.{write_fault, IsTestFault}
 use Rattle.batches.specs.Values.{write_of}

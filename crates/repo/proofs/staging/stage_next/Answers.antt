@@ -1,14 +1,10 @@
-use Rattle.std.proofs.Common.{◌≡◌, ◌++◌, ◌≤◌, ℕ, List, [], Option, map, sym, ap, ◌∙◌, subst, arith}
-use Rattle.std.specs.Prelude.{option_map, Contains}
+use Rattle.std.proofs.Common.{◌≤◌, ℕ, List, Option, map, subst}
 use Rattle.std.specs.Arc.{arc_value}
-use Rattle.std.proofs.lemmas.List.Elements.{Contains-append_left, Contains-append_right}
 use Rattle.std.proofs.lemmas.Result.{err_from_is_err_and}
-use Rattle.spec.specs.Cid.{cid as cid_of}
-use Rattle.spec.specs.Blocks.{nodes, pairs}
-use Rattle.spec.specs.Writes.{key_of, record_of, with_or_without}
-use Rattle.repo.specs.Staging.{IsTreeEdit, IsBlockFault, edit_reads}
+use Rattle.spec.specs.Blocks.{pairs}
+use Rattle.repo.specs.Staging.{edit_reads}
 use Rattle.batches.specs.Values.{write_of}
-use Rattle.repo.proofs.Nexting.{named, refitted, brought-is, left-fault, staged-write}
+use Rattle.repo.proofs.Nexting.{named, brought-is, left-fault, staged-write}
 use Rattle.repo.proofs.staging.stage_next.Goals as goal
 
 pub returns-in_err-made-clause-fault : goal.returns-in_err-made-clause-fault
