@@ -119,8 +119,10 @@ fn dids(rt: HostRuntime) {
     for did in NO_DIDS {
         assert!(rt; !is_did(did), "{did:?}");
     }
-    let did = long_did(rt.alloc(), 2049).expect(&rt, "a DID");
-    assert!(rt; did.len() == 2049 && is_did(&did[..2048]) && !is_did(&did));
+    for length in [2048, 2049] {
+        let did = long_did(rt.alloc(), length).expect(&rt, "a DID");
+        assert!(rt; did.len() == length && is_did(&did) == (length == 2048));
+    }
 }
 
 const TIDS: [&[u8]; 5] = [
