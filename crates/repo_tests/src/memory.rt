@@ -111,17 +111,19 @@ fn end_at_last<'h, D: Digest>(
 /// A batch on the first or the second of two repositories of one store, how it ends, and how many blocks they then have.
 type Turn = (bool, &'static [Step], Ended, u64, u64);
 
-/// Whether the batches of these turns end so, each after all its requests were refused in turn; and all memory is given back.
-fn are_turns<R: Abort, D: Digest>(rt: &R, alloc: Global, turns: &[Turn]) -> bool {
-    let heap = Refusing::new(alloc);
-    let mut shard: Shard<D, Heap<'_>> = Shard::new(&heap, 100);
-    let mut first = opened(rt, &heap, &mut shard, 0);
-    let mut second = opened(rt, &heap, &mut shard, 1);
+/// Whether the batches of these turns end so, each after all its requests were refused in turn, and all blocks are given back.
+fn end_so<'h, R: Abort, D: Digest>(rt: &R, heap: Heap<'h>, turns: &[Turn]) -> bool {
+    let mut shard = Shard::<D, Heap<'h>>::new(heap, 100);
+    let mut first = opened(rt, heap, &mut shard, 0);
+    let mut second = opened(rt, heap, &mut shard, 1);
     let mut is_right = true;
     let mut place = 0u16;
     for (is_second, steps, wanted, ones, others) in turns {
-        let core = if *is_second { &mut second } else { &mut first };
-        let ended = end_at_last(&heap, &mut shard, core, place, steps);
+        let ended = if *is_second {
+            end_at_last(heap, &mut shard, &mut second, place, steps)
+        } else {
+            end_at_last(heap, &mut shard, &mut first, place, steps)
+        };
         is_right = is_right
             && ended == Some(*wanted)
             && held(&shard, &first) == Some(*ones)
@@ -130,9 +132,13 @@ fn are_turns<R: Abort, D: Digest>(rt: &R, alloc: Global, turns: &[Turn]) -> bool
     }
     end(&mut shard, first);
     end(&mut shard, second);
-    is_right = is_right && holds(&shard) == 0;
-    drop(shard);
-    is_right && heap.live() == 0
+    is_right && holds(&shard) == 0
+}
+
+/// The same, and all memory is given back too.
+fn are_turns<R: Abort, D: Digest>(rt: &R, alloc: Global, turns: &[Turn]) -> bool {
+    let heap = Refusing::new(alloc);
+    end_so::<R, D>(rt, &heap, turns) && heap.live() == 0
 }
 
 #[test]

@@ -1,5 +1,7 @@
 //! Repositories over the sixteen locked shards. No contract can say what stands behind a lock.
 
+ghost use Rattle.std.specs.Prelude.{◌<◌};
+
 use crate::fixtures::Ended::{Accepted, Refused};
 use crate::fixtures::Step::{Delete, Put};
 use crate::fixtures::{DID, EMPTY_NODE, Ended, Step, Why, batch_of, end_of, rev_after, stamp_of};
