@@ -23,7 +23,6 @@
 //! use std::test::Fail;
 //! use store::{LentShard, Shard};
 //!
-//! #[test]
 //! fn a_batch_of_two_writes(rt: HostRuntime) -> Result<(), Fail> {
 //!     let alloc = rt.alloc();
 //!
