@@ -37,10 +37,42 @@ leaves-beginning old new newer all part rest p q =
 
 -- ---- at the end of a call
 
-pub takes-err : {T E : Type 0} (old new all : List ℕ) (r : Result T E) → IsErr r → TakesBeginning old new all
-    → Takes old new r all
-takes-err old new all (Ok x) err p = absurd cc
-takes-err old new all (Err e) err p = p
+-- a part of what was left failed
+pub stops : {T E : Type 0} (old new newer all part rest : List ℕ) (r : Result T E) → Leaves old new all (part ++ rest) → IsErr r
+    → TakesBeginning new newer part → Takes old newer r all
+stops old new newer all part rest (Ok x) p err q = absurd cc
+stops old new newer all part rest (Err e) p err q = leaves-beginning old new newer all part rest p q
+
+-- so did the last part
+pub stops-last : {T E : Type 0} (old new newer all part : List ℕ) (r : Result T E) → Leaves old new all part → IsErr r
+    → TakesBeginning new newer part → Takes old newer r all
+stops-last old new newer all part r p err q =
+    stops old new newer all part [] r (leaves-same old new all part (part ++ []) p (sym (append-nil part))) err q
+
+-- ---- three parts
+
+module _ (old p q s all : List ℕ) (parts : all ≡ p ++ (q ++ s)) where
+  leaves-two : (one : List ℕ) → one ≡ old ++ p → Leaves old one all (q ++ s)
+  leaves-two one a =
+      leaves-less old old one all p (q ++ s) (leaves-same old old all all _ (leaves-all old all) parts) a
+
+  leaves-one : (one two : List ℕ) → one ≡ old ++ p → two ≡ one ++ q → Leaves old two all s
+  leaves-one one two a b = leaves-less old one two all q s (leaves-two one a) b
+
+  pub stops-first : {T E : Type 0} (new : List ℕ) (r : Result T E) → IsErr r → TakesBeginning old new p → Takes old new r all
+  stops-first new r err t = stops old old new all p (q ++ s) r (leaves-same old old all all _ (leaves-all old all) parts) err t
+
+  pub stops-second : {T E : Type 0} (one new : List ℕ) (r : Result T E) → one ≡ old ++ p → IsErr r → TakesBeginning one new q
+      → Takes old new r all
+  stops-second one new r a err t = stops old one new all q s r (leaves-two one a) err t
+
+  pub stops-third : {T E : Type 0} (one two new : List ℕ) (r : Result T E) → one ≡ old ++ p → two ≡ one ++ q → IsErr r
+      → TakesBeginning two new s → Takes old new r all
+  stops-third one two new r a b err t = stops-last old two new all s r (leaves-one one two a b) err t
+
+  pub takes-three : (one two three : List ℕ) → one ≡ old ++ p → two ≡ one ++ q → three ≡ two ++ s → three ≡ old ++ all
+  takes-three one two three a b c =
+      leaves-none old three all [] (leaves-less old two three all s [] (leaves-same old two all s _ (leaves-one one two a b) (sym (append-nil s))) c) refl
 
 -- a list is what stands before a place and what is cut off from there on
 pub cut-at : (n : ℕ) (xs rest : List ℕ) → rest ≡ take (length xs - n) (drop n xs) → xs ≡ take n xs ++ rest

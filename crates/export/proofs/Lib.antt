@@ -1,4 +1,6 @@
 pub mod Finding
 pub mod Leaving
+pub mod Numbers
 pub mod OneNode
 pub mod Shown
+pub mod Spelled

@@ -25,8 +25,9 @@ pub(crate) fn write_header<W: Out>(out: &mut W, root: &Cid) -> Result<u64, Faile
     ensures failures { Fails (W.failures out.old) (W.failures out.new) result }
     ensures length { IfOk result (λ count. count ≡ length (header root.now)) }
 {
+    let cid = root.as_bytes();
     write_whole(out, BEFORE_ROOT)?;
-    write_whole(out, root.as_bytes())?;
+    write_whole(out, cid)?;
     write_whole(out, AFTER_ROOT)?;
     Ok(HEADER)
 }
@@ -41,10 +42,12 @@ pub(crate) fn write_section<D: Digest, A: Allocator, W: Out>(
     ensures length { IfOk result (λ count. count ≡ length (section D.digest_of block.now)) }
 {
     let bytes = block.bytes();
+    let cid = block.cid();
+    let name = cid.as_bytes();
     let size = 36 + bytes.len() as u64;
     let (length, count) = varint(size);
     write_whole(out, &length[..count])?;
-    write_whole(out, block.cid().as_bytes())?;
+    write_whole(out, name)?;
     write_whole(out, bytes)?;
     Ok(count as u64 + size)
 }
