@@ -2,5 +2,6 @@ pub mod Finding
 pub mod Leaving
 pub mod Numbers
 pub mod OneNode
+pub mod Paths
 pub mod Shown
 pub mod Spelled

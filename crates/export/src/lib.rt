@@ -13,6 +13,7 @@ mod hashed;
 mod log;
 mod out;
 mod proof_fault;
+mod proving;
 mod sections;
 mod to_memory;
 mod to_writer;
