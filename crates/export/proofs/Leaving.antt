@@ -1,5 +1,5 @@
 -- What an output took of some bytes, and what is left of them.
-use Rattle.std.proofs.Common.{◌≡◌, ℕ, List, [], ◌∷◌, ◌++◌, length, take, drop, ◌-◌, ◌==◌, true, arith, refl, sym, ap, ◌∙◌, append_assoc}
+use Rattle.std.proofs.Common.{◌≡◌, ℕ, List, [], ◌∷◌, ◌++◌, length, take, drop, ◌-◌, ◌==◌, true, arith, refl, sym, ap, subst, ◌∙◌, append_assoc}
 use Rattle.std.specs.Prelude.{Result, Ok, Err, IsErr, MatchResult}
 use Rattle.std.proofs.lemmas.List.{append-nil, take_all, take-append-drop, length-drop}
 use Rattle.export.specs.Outs.{Leaves, TakesBeginning, Takes, Fails}
@@ -79,3 +79,14 @@ pub cut-at : (n : ℕ) (xs rest : List ℕ) → rest ≡ take (length xs - n) (d
 cut-at n xs rest e =
     let all : take (length xs - n) (drop n xs) ≡ drop n xs = take_all (length xs - n) (drop n xs) (omega (arith, length-drop n xs)) in
     sym (take-append-drop n xs) ∙ ap (λ (t : List ℕ). take n xs ++ t) (sym (e ∙ all))
+
+-- nothing was taken
+pub takes-nothing : {T E : Type 0} (old all : List ℕ) (r : Result T E) → IsErr r → Takes old old r all
+takes-nothing old all (Ok x) err = absurd cc
+takes-nothing old all (Err e) err = leaves-some old old all all (leaves-all old all)
+
+-- the same bytes in other words
+pub takes-same : {T E : Type 0} (old new all other : List ℕ) (r : Result T E) → IsErr r → all ≡ other → TakesBeginning old new all
+    → Takes old new r other
+takes-same old new all other (Ok x) err e t = absurd cc
+takes-same old new all other (Err f) err e t = subst (TakesBeginning old new) e t

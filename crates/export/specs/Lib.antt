@@ -1,3 +1,4 @@
 pub mod Faults
 pub mod GivenBlocks
+pub mod Once
 pub mod Outs

@@ -1,5 +1,7 @@
 -- Outputs.
-use Rattle.std.specs.Prelude.{◌≡◌, ◌<◌, ◌++◌, ℕ, List, Result, MatchResult}
+use Rattle.std.specs.Prelude.{◌≡◌, ◌<◌, ◌++◌, ℕ, List, Result, Ok, Err, MatchResult}
+use Rattle.export.specs.declared.export_fault.ExportFault.{ExportFault}
+use Rattle.export.specs.declared.export_fault.ExportFault.TheVariants as faults
 
 -- a writer, the bytes that it has taken, and how often it has failed
 pub record Writing (W : Type 0) : Type 0 where
@@ -31,3 +33,10 @@ Takes old new result all =
 -- it failed where the call did, and nowhere else
 abbrev pub Fails : {T E : Type 0} → ℕ → ℕ → Result T E → Type 0
 Fails before after result = MatchResult result (λ _. after ≡ before) (λ _. before < after)
+
+-- A call that isn't whole for want of memory leaves the count as it was; one that is because an output
+-- failed does not.
+abbrev pub HasCause : {T : Type 0} → ℕ → ℕ → Result T ExportFault → Type 0
+HasCause before after (Ok x) = after ≡ before
+HasCause before after (Err faults.DeviceFault) = before < after
+HasCause before after (Err faults.NoMemory) = after ≡ before

@@ -8,19 +8,23 @@
 //! ```
 #![tactic(auto)]
 
+mod export_fault;
 mod given;
 mod hashed;
 mod log;
+mod once;
 mod out;
 mod proof_fault;
 mod proving;
 mod sections;
+mod seen;
 mod to_memory;
 mod to_writer;
 mod varint;
 mod verifying;
 mod whole;
 
+pub use export_fault::ExportFault;
 pub use log::Log;
 pub use out::{Failed, Out};
 pub use proof_fault::ProofFault;

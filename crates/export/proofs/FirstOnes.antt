@@ -1,0 +1,92 @@
+-- Blocks of which each CID is written once.
+use Rattle.std.proofs.Common.{◌≡◌, ◌&&◌, ◌||◌, ℕ, Bool, true, false, not, cond, List, [], ◌∷◌, ◌++◌, refl, sym, ap, ◌∙◌}
+use Rattle.std.specs.Prelude.{filter}
+use Rattle.std.specs.List.{list_any, flat_map}
+use Rattle.std.specs.Str.{bytes_eq}
+use Rattle.std.specs.Cmp.Lexicographic.{slice_cmp}
+use Rattle.std.specs.Ordering.{nat_cmp}
+use Rattle.std.specs.BTreeMap.{is_at}
+use Rattle.std.proofs.lemmas.Map.Text.{is_eq-slice_cmp}
+use Rattle.spec.specs.Cid.{cid}
+use Rattle.spec.specs.Blocks.{firsts}
+use Rattle.spec.specs.Car.{section}
+use Rattle.export.specs.Once.{has, HasMore, fresh, sections, section_once}
+
+-- what an ordered set contains
+pub contains-is : (cids : List (List ℕ)) (c : List ℕ) → list_any (is_at (slice_cmp nat_cmp c)) cids ≡ has cids c
+contains-is [] c = refl
+contains-is (d ∷ cids) c =
+    ap (λ b. b || list_any (is_at (slice_cmp nat_cmp c)) cids) (is_eq-slice_cmp c d) ∙ ap (λ b. bytes_eq c d || b) (contains-is cids c)
+
+one-more : (b has : Bool) → cond b true has ≡ (b || has)
+one-more true has = refl
+one-more false has = refl
+
+pub has-more : (old new : List (List ℕ)) (c : List ℕ)
+    → ((d : List ℕ) → list_any (is_at (slice_cmp nat_cmp d)) new ≡ cond (is_at (slice_cmp nat_cmp c) d) true (list_any (is_at (slice_cmp nat_cmp d)) old))
+    → HasMore old c new
+has-more old new c h d =
+    sym (contains-is new d) ∙ h d ∙ ap (λ b. cond b true (list_any (is_at (slice_cmp nat_cmp d)) old)) (is_eq-slice_cmp c d)
+    ∙ ap (λ b. cond (bytes_eq c d) true b) (contains-is old d) ∙ one-more (bytes_eq c d) (has old d)
+
+-- ---- blocks that come first
+
+-- an element in front, where it passes
+abbrev kept : Bool → List ℕ → List (List ℕ) → List (List ℕ)
+kept b x xs = cond b (x ∷ xs) xs
+
+both-at : (p : List ℕ → Bool) (b : List ℕ) (xs ys : List (List ℕ)) (x y : Bool) → y ≡ (x && p b) → filter p xs ≡ ys
+    → filter p (kept x b xs) ≡ kept y b ys
+both-at p b xs ys false y e h = h ∙ sym (ap (λ t. kept t b ys) e)
+both-at p b xs ys true y e h = ap (λ t. kept (p b) b t) h ∙ sym (ap (λ t. kept t b ys) e)
+
+-- two tests in a row are one test
+filter-both : (p q r : List ℕ → Bool) → ((b : List ℕ) → r b ≡ (q b && p b)) → (bs : List (List ℕ)) → filter p (filter q bs) ≡ filter r bs
+filter-both p q r h [] = refl
+filter-both p q r h (b ∷ bs) = both-at p b (filter q bs) (filter r bs) (q b) (r b) (h b) (filter-both p q r h bs)
+
+filter-none : (bs : List (List ℕ)) → filter (λ b. true) bs ≡ bs
+filter-none [] = refl
+filter-none (b ∷ bs) = ap (λ t. b ∷ t) (filter-none bs)
+
+pub fresh-all : (digest : List ℕ → List ℕ) (bs : List (List ℕ)) → fresh digest [] bs ≡ firsts (cid digest) bs
+fresh-all digest bs = filter-none (firsts (cid digest) bs)
+
+not-or : (a b : Bool) → not (a || b) ≡ (not a && not b)
+not-or true b = refl
+not-or false b = refl
+
+-- one block more: it is written unless its CID came before
+fresh-more : (digest : List ℕ → List ℕ) (old new : List (List ℕ)) (b : List ℕ) (bs : List (List ℕ)) → HasMore old (cid digest b) new
+    → fresh digest old (b ∷ bs) ≡ kept (not (has old (cid digest b))) b (fresh digest new bs)
+fresh-more digest old new b bs more =
+    ap (kept (not (has old (cid digest b))) b)
+    (filter-both (λ x. not (has old (cid digest x))) (λ x. not (bytes_eq (cid digest b) (cid digest x))) (λ x. not (has new (cid digest x)))
+    (λ x. ap not (more (cid digest x)) ∙ not-or (bytes_eq (cid digest b) (cid digest x)) (has old (cid digest x))) (firsts (cid digest) bs))
+
+flat-kept : (f : List ℕ → List ℕ) (t : Bool) (b : List ℕ) (bs : List (List ℕ))
+    → flat_map f (kept (not t) b bs) ≡ cond t [] (f b) ++ flat_map f bs
+flat-kept f true b bs = refl
+flat-kept f false b bs = refl
+
+pub sections-more : (digest : List ℕ → List ℕ) (old new : List (List ℕ)) (b : List ℕ) (bs : List (List ℕ)) → HasMore old (cid digest b) new
+    → sections digest old (b ∷ bs) ≡ section_once digest old b ++ sections digest new bs
+sections-more digest old new b bs more =
+    ap (flat_map (section digest)) (fresh-more digest old new b bs more)
+    ∙ flat-kept (section digest) (has old (cid digest b)) b (fresh digest new bs)
+
+old-one : (t new : Bool) (xs : List ℕ) → new ≡ not t → new ≡ false → cond t [] xs ≡ []
+old-one true new xs e h = refl
+old-one false new xs e h = absurd cc
+
+new-one : (t new : Bool) (xs : List ℕ) → new ≡ not t → new ≡ true → cond t [] xs ≡ xs
+new-one true new xs e h = absurd cc
+new-one false new xs e h = refl
+
+pub once-old : (digest : List ℕ → List ℕ) (cids : List (List ℕ)) (b c : List ℕ) (new : Bool) → c ≡ cid digest b → new ≡ not (has cids c)
+    → new ≡ false → section_once digest cids b ≡ []
+once-old digest cids b c new is e h = old-one (has cids (cid digest b)) new (section digest b) (e ∙ ap (λ d. not (has cids d)) is) h
+
+pub once-new : (digest : List ℕ → List ℕ) (cids : List (List ℕ)) (b c : List ℕ) (new : Bool) → c ≡ cid digest b → new ≡ not (has cids c)
+    → new ≡ true → section_once digest cids b ≡ section digest b
+once-new digest cids b c new is e h = new-one (has cids (cid digest b)) new (section digest b) (e ∙ ap (λ d. not (has cids d)) is) h
