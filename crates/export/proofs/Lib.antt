@@ -6,3 +6,4 @@ pub mod OneNode
 pub mod Paths
 pub mod Shown
 pub mod Spelled
+pub mod Walked

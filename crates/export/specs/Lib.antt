@@ -2,3 +2,4 @@ pub mod Faults
 pub mod GivenBlocks
 pub mod Once
 pub mod Outs
+pub mod Walks

@@ -22,6 +22,7 @@ mod to_memory;
 mod to_writer;
 mod varint;
 mod verifying;
+mod walk;
 mod whole;
 
 pub use export_fault::ExportFault;
