@@ -2,5 +2,6 @@ pub mod Entries
 pub mod Counting
 pub mod Outcomes
 pub mod Keepings
-pub mod Stagings
+pub mod LentTrees
 pub mod Listing
+pub mod Leaving

@@ -3,17 +3,13 @@
 #![tactic(auto)]
 
 mod blocks;
-mod fault;
 mod kept;
 mod kept_use;
 mod lender;
-mod staged;
-mod staging;
+mod trees;
 mod use_map;
 
 pub use blocks::Blocks;
-pub use fault::KeptFault;
 pub use kept::Kept;
 pub use lender::Lender;
-pub use staged::Staged;
-pub use staging::{stage_beside, stage_delete, stage_edit, stage_put};
+pub use trees::{delete_staged, pairs_accepted, put_staged, value_accepted, value_staged};

@@ -10,18 +10,17 @@ use Rattle.std.proofs.lemmas.Bool.{eq-eqb}
 use Rattle.std.proofs.lemmas.List.{append_assoc, length-append, take-append-drop}
 use Rattle.std.proofs.lemmas.List.Elements.{Contains-append_cases}
 use Rattle.std.proofs.Math.Seq.{take-append_seam}
-use Rattle.spec.specs.Cid.{cid, IsDigest}
+use Rattle.spec.specs.Cid.{cid}
 use Rattle.spec.specs.Reading.{◌>>=◌}
 use Rattle.spec.specs.Head as head
 use Rattle.spec.specs.Tree.{Pair}
-use Rattle.spec.specs.Blocks.{blocks, nodes, pairs, record_blocks, repository_root}
+use Rattle.spec.specs.Blocks.{blocks, nodes, pairs, repository_root}
 use Rattle.spec.specs.Writes as writes
 use Rattle.spec.specs.Writes.{Write, WriteFault, after_write, batch_test}
 use Rattle.spec.specs.Stamps as stamps
 use Rattle.spec.specs.Stamps.{Stamp, Stamped, StampFault, stamp_test, stamp_of, rev_of, last}
 use Rattle.spec.specs.Commits.{commit_bytes, commit_blocks, commit_cid}
-use Rattle.spec.specs.States.{State, BatchFault, OfStamp, OfWrite, after_batch, state_root, state_test, state_commit, at_first, of_writes}
-use Rattle.spec.specs.Laws.Writes.{EachPasses}
+use Rattle.spec.specs.States.{State, BatchFault, OfStamp, OfWrite, after_batch, state_root, state_test, at_first, of_writes}
 use Rattle.spec.proofs.BatchLaws.{EachPasses-from_test, test-from_EachPasses}
 use Rattle.spec.proofs.BatchSteps.{batch-goes_on}
 use Rattle.spec.proofs.RepositoryBlocks.{node-in, record-in, further-in}
@@ -34,12 +33,11 @@ use Rattle.paths.proofs.StagedBatches.{staged-passes, staged-ends}
 use Rattle.dagcbor.specs.Fault.{fault_of}
 use Rattle.kept.specs.Counts.{Counts}
 use Rattle.repo.specs.Keeping.{IsLost, IsExchanged}
-use Rattle.batches.specs.Tests.{stamp_fault, write_fault, IsNamed}
+use Rattle.batches.specs.Tests.{stamp_fault, IsNamed}
 use Rattle.repo.specs.Staging.{IsStagedBy, IsBlockFault, IsClashAt, blocks_left}
 use Rattle.repo.specs.Refusals.{PassesTo, PassesBefore, IsRefusal, IsRefusalBy, IsBatchOn, IsStagedBatch, IsRefusedWrite, IsWriteFault, IsWriteFaultBy, blocks_shown, next_test}
 use Rattle.batches.specs.declared.fault.RepoFault.{RepoFault}
 use Rattle.batches.specs.declared.fault.RepoFault.TheVariants as faults
-use Rattle.repo.proofs.Faults.{only-one}
 use Rattle.repo.proofs.Staged.{sorted-after, one-more, staged-commit}
 use Rattle.repo.proofs.Testing.{take-whole}
 

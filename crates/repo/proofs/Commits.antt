@@ -1,5 +1,5 @@
 -- The place of a batch's commit.
-use Rattle.std.proofs.Common.{◌≡◌, ◌-◌, ℕ, List, length, subst, ap}
+use Rattle.std.proofs.Common.{◌≡◌, ◌-◌, ℕ, List, length, subst}
 use Rattle.spec.specs.Stamps.{Stamp}
 use Rattle.spec.specs.States.{State}
 use Rattle.spec.specs.Writes.{Write}

@@ -1,5 +1,5 @@
 -- One use of a block more or less.
-use Rattle.std.proofs.Common.{◌≡◌, ℕ, zero, suc, ◌+◌, ◌-◌, ◌<◌, ◌≤◌, Bool, true, false, cond, List, [], ◌∷◌, ◌++◌, length, get_or, take, refl, sym, ap, subst, ◌∙◌, arith, inl, inr, Option, None}
+use Rattle.std.proofs.Common.{◌≡◌, ℕ, zero, suc, ◌+◌, ◌-◌, ◌<◌, ◌≤◌, true, false, cond, List, [], ◌∷◌, ◌++◌, length, get_or, take, refl, sym, ap, subst, ◌∙◌, arith, inl, inr, Option, None}
 use Rattle.std.specs.declared.option.Option.TheVariants.{Some}
 use Rattle.std.specs.Prelude.{◌⊎◌, Contains, option_map}
 use Rattle.std.specs.declared.cmp.Ordering.{Ordering}
@@ -19,7 +19,7 @@ use Rattle.paths.proofs.RecordCounts.{count-map_append}
 use Rattle.kept.specs.Counts.{Counts, with_count, count_of, count_at, bytes_at, raised, lowered, lowered_from, HasNoOther}
 use Rattle.paths.specs.Sources.{HasBlocks, Extends}
 use Rattle.paths.proofs.Using.{used as used-in}
-use Rattle.repo.specs.Keeping.{IsUsed, IsGained, IsLost}
+use Rattle.repo.specs.Keeping.{IsGained, IsLost}
 
 -- ---- two CIDs are the same, or no test takes them for the same
 

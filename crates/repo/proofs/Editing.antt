@@ -2,8 +2,8 @@
 use Rattle.std.proofs.Common.{◌≡◌, ℕ, List, ◌++◌, sym, subst, Option, None}
 use Rattle.std.specs.declared.option.Option.TheVariants.{Some}
 use Rattle.spec.specs.Tree.{Pair}
-use Rattle.spec.specs.Blocks.{nodes, value_of}
-use Rattle.spec.specs.Writes.{with_key, without_key, with_or_without}
+use Rattle.spec.specs.Blocks.{nodes}
+use Rattle.spec.specs.Writes.{with_key}
 use Rattle.paths.proofs.BlockSources.{source-free, clash-new}
 use Rattle.edit.specs.Edits.{IsEditOf}
 use Rattle.edit.specs.Deletes.{IsDeleteOf, nodes_read}

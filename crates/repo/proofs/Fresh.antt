@@ -1,5 +1,5 @@
 -- A repository without writes.
-use Rattle.std.proofs.Common.{◌≡◌, ◌+◌, ◌<◌, ◌≤◌, ℕ, List, [], ◌∷◌, sym, ap, subst, ◌∙◌, arith, Option, None}
+use Rattle.std.proofs.Common.{◌≡◌, ◌<◌, ◌≤◌, ℕ, List, [], ◌∷◌, sym, ap, subst, ◌∙◌, arith, Option, None}
 use Rattle.std.specs.declared.option.Option.TheVariants.{Some}
 use Rattle.std.specs.declared.sync.Arc.{Arc}
 use Rattle.std.specs.FinMap as finmap
@@ -9,8 +9,7 @@ use Rattle.spec.specs.Cid.{cid}
 use Rattle.spec.specs.NodeFormat.{node_spelling}
 use Rattle.spec.specs.States.{State, fresh}
 use Rattle.spec.proofs.StateLaws.{fresh-state}
-use Rattle.paths.specs.Uses.{uses}
-use Rattle.kept.specs.Counts.{Counts, Keeping, count_of, count_at}
+use Rattle.kept.specs.Counts.{Counts, Keeping, count_of}
 use Rattle.repo.specs.Cores.{IsCore}
 use Rattle.repo.specs.Keeping.{AreKept, IsGained}
 use Rattle.repo.specs.Refusals.{IsOpenRefusal}

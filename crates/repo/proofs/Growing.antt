@@ -1,5 +1,5 @@
 -- A core's lists after a batch.
-use Rattle.std.proofs.Common.{◌≡◌, ◌<◌, ◌+◌, ◌-◌, ℕ, zero, suc, List, [], ◌∷◌, ◌++◌, length, map, refl, sym, ap, subst, ◌∙◌, arith, Option, None, Ok}
+use Rattle.std.proofs.Common.{◌≡◌, ◌<◌, ◌-◌, ℕ, zero, suc, List, [], ◌∷◌, ◌++◌, length, map, refl, sym, ap, subst, ◌∙◌, arith, Option, Ok}
 use Rattle.std.specs.declared.option.Option.TheVariants.{Some}
 use Rattle.std.specs.Prelude.{slice_get, option_map}
 use Rattle.std.specs.Arc.{arc_value}
@@ -9,11 +9,10 @@ use Rattle.spec.specs.Stamps as stamps
 use Rattle.spec.specs.Stamps.{Stamped, rev_of, last}
 use Rattle.spec.specs.Writes as writes
 use Rattle.spec.specs.States.{State, after_batch, state_root, state_commit, state_test}
-use Rattle.kept.specs.Counts.{Counts, Keeping}
+use Rattle.kept.specs.Counts.{Counts}
 use Rattle.repo.specs.Refusals.{IsStagedBatch, IsApplied, IsRefusal}
 use Rattle.batches.specs.Values.{write_of, shared_writes, stamp_of, stamps_of}
 use Rattle.repo.specs.Views.{state_view}
-use Rattle.repo.specs.declared.applied.Applied.{Applied}
 use Rattle.batches.specs.declared.fault.RepoFault.{RepoFault}
 use Rattle.batches.specs.declared.stamp.Stamp.{Stamp}
 use Rattle.batches.specs.declared.write.Write.{Write}

@@ -1,18 +1,16 @@
 -- What a core's invariant says of its blocks.
-use Rattle.std.proofs.Common.{◌≡◌, ◌<◌, ◌+◌, ◌-◌, ℕ, Bool, true, false, cond, List, [], ◌∷◌, ◌++◌, length, map, refl, sym, ap, subst, ◌∙◌, arith, Option, None}
+use Rattle.std.proofs.Common.{◌≡◌, ◌+◌, ℕ, Bool, true, false, cond, List, [], ◌∷◌, length, refl, sym, ap, subst, ◌∙◌, arith, Option, None}
 use Rattle.std.specs.declared.option.Option.TheVariants.{Some}
 use Rattle.std.specs.Prelude.{Contains, option_map, nat_lt, if◌then◌else◌}
-use Rattle.std.specs.Arc.{arc_value}
-use Rattle.std.specs.declared.sync.Arc.{Arc}
 use Rattle.std.specs.FinMap as finmap
 use Rattle.std.specs.Cmp.Lexicographic.{slice_cmp}
 use Rattle.std.specs.Ordering.{nat_cmp, eq_by_cmp}
 use Rattle.std.specs.FinMap.{find}
-use Rattle.std.proofs.lemmas.Bool.{lt-ltb, ltb-false}
-use Rattle.std.proofs.lemmas.List.{append-nil, map-append, length-map}
+use Rattle.std.proofs.lemmas.Bool.{lt-ltb}
+use Rattle.std.proofs.lemmas.List.{append-nil}
 use Rattle.spec.specs.Cid.{cid, IsDigest}
-use Rattle.spec.specs.Blocks.{ArePairs, block_at, value_of, pairs, record_blocks}
-use Rattle.spec.specs.States.{State, IsLawful, after_batch, records, state_blocks, state_root, state_commit}
+use Rattle.spec.specs.Blocks.{block_at, value_of, pairs, record_blocks}
+use Rattle.spec.specs.States.{State, after_batch, records, state_blocks}
 use Rattle.spec.specs.Stamps.{Stamp, Stamped}
 use Rattle.spec.specs.Writes.{Write}
 use Rattle.spec.proofs.RootLaws.{in_head, in_tail}
@@ -23,13 +21,10 @@ use Rattle.paths.specs.Staged.{old_commit}
 use Rattle.paths.specs.Uses.{uses}
 use Rattle.paths.proofs.BlockSources.{source-gives, source-nodes}
 use Rattle.edit.specs.Trees.{HasTree}
-use Rattle.kept.specs.Counts.{Counts, Keeping, bytes_at, count_at, count_of}
+use Rattle.kept.specs.Counts.{Keeping, bytes_at, count_of}
 use Rattle.repo.specs.Cores.{IsCore}
 use Rattle.repo.specs.Keeping.{IsStillBefore}
-use Rattle.repo.specs.Refusals.{IsBatchOn, IsStagedBatch, IsApplied}
-use Rattle.batches.specs.Values.{write_of, shared_writes, stamps_of}
-use Rattle.repo.specs.Views.{state_view}
-use Rattle.repo.specs.declared.applied.Applied.{Applied}
+use Rattle.repo.specs.Refusals.{IsBatchOn, IsStagedBatch}
 use Rattle.repo.proofs.Staged.{sorted-after, staged-first}
 
 sorted-records : (s : State) → finmap.is_sorted (slice_cmp nat_cmp) (records s) ≡ true

@@ -1,13 +1,12 @@
 -- The blocks of a core as a source.
-use Rattle.std.proofs.Common.{◌≡◌, ℕ, List, subst, Option, None}
-use Rattle.std.specs.declared.option.Option.TheVariants.{Some}
+use Rattle.std.proofs.Common.{◌≡◌, ℕ, List, subst, Option}
 use Rattle.spec.specs.Cid.{cid, IsDigest}
 use Rattle.spec.specs.Blocks.{pairs}
 use Rattle.spec.specs.States.{State, records, state_blocks, state_root}
 use Rattle.paths.specs.Sources.{HasBlocks, Extends}
 use Rattle.edit.specs.Trees.{HasTree}
 use Rattle.kept.specs.Counts.{Keeping, bytes_at}
-use Rattle.kept.proofs.Stagings.{lent_tree}
+use Rattle.kept.proofs.LentTrees.{lent_tree}
 use Rattle.repo.specs.Cores.{IsCore}
 use Rattle.repo.proofs.Keeping.{core-tree}
 

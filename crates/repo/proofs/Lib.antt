@@ -12,4 +12,4 @@ pub mod Growing
 pub mod Fresh
 pub mod Listing
 pub mod Lending
-pub mod Seeing
+pub mod Ended

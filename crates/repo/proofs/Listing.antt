@@ -1,5 +1,5 @@
 -- The blocks that a core keeps, in the order of their CIDs.
-use Rattle.std.proofs.Common.{zero, suc, ◌≡◌, ◌<◌, ◌+◌, ℕ, ◌∷◌, [], List, refl, ap, sym, ◌∙◌, subst, cond, Bool, true, false, arith, Option, None}
+use Rattle.std.proofs.Common.{zero, suc, ◌≡◌, ℕ, ◌∷◌, [], List, refl, ap, sym, ◌∙◌, subst, cond, Bool, true, false, arith, Option, None}
 use Rattle.std.specs.declared.option.Option.TheVariants.{Some}
 use Rattle.std.specs.Prelude.{map as each, ◌&&◌, T, Contains, option_map}
 use Rattle.std.specs.Ordering.{nat_cmp, is_eq, is_lt}
@@ -11,7 +11,6 @@ use Rattle.std.specs.FinMap.{find, is_sorted, slice_cmp-IsAntisymmetric, nat_cmp
 use Rattle.std.specs.FinMap.Entries.{below_all}
 use Rattle.spec.specs.Cid.{cid}
 use Rattle.spec.specs.States.{State, state_blocks}
-use Rattle.paths.specs.Uses.{uses}
 use Rattle.paths.proofs.Orders.{order-same, order-is}
 use Rattle.paths.proofs.Using.{User, user}
 use Rattle.kept.specs.Counts.{Counts, Keeping, count_of, bytes_at, blocks_of}

@@ -1,5 +1,5 @@
 -- The edit of a write, and its record.
-use Rattle.std.proofs.Common.{◌≡◌, ◌++◌, ◌≤◌, ℕ, List, [], Option, None, refl, sym, ap, ◌∙◌, subst, arith, inl, inr}
+use Rattle.std.proofs.Common.{◌≡◌, ◌++◌, ℕ, List, [], Option, None, refl, ap, ◌∙◌, subst, arith, inl, inr}
 use Rattle.std.specs.declared.option.Option.TheVariants.{Some}
 use Rattle.std.specs.Prelude.{option_map, Contains}
 use Rattle.std.specs.List.{cons_option}

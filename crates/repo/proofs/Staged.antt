@@ -1,7 +1,6 @@
 -- One more write of a batch, and its commit, by the counts of the blocks that are kept.
-use Rattle.std.proofs.Common.{◌≡◌, ℕ, ◌+◌, ◌<◌, ◌≤◌, true, List, [], ◌∷◌, ◌++◌, length, map, refl, sym, ap, subst, ◌∙◌, arith, Option, None, Ok}
+use Rattle.std.proofs.Common.{◌≡◌, ℕ, ◌+◌, true, List, [], ◌∷◌, ◌++◌, length, refl, sym, ap, subst, ◌∙◌, arith, Option, None, Ok}
 use Rattle.std.specs.declared.option.Option.TheVariants.{Some}
-use Rattle.std.specs.Prelude.{option_map}
 use Rattle.std.specs.List.{cons_option}
 use Rattle.std.specs.Cmp.Lexicographic.{slice_cmp}
 use Rattle.std.specs.Ordering.{nat_cmp}
@@ -9,10 +8,10 @@ use Rattle.std.specs.FinMap.{is_sorted}
 use Rattle.std.proofs.lemmas.List.{append_assoc, length-append}
 use Rattle.std.proofs.lemmas.List.Elements.{Contains-append_left, Contains-append_right}
 use Rattle.spec.specs.Cid.{cid, IsDigest}
-use Rattle.spec.specs.Blocks.{ArePairs, blocks_in, record_at, nodes, pairs, root as root_of, value_of}
+use Rattle.spec.specs.Blocks.{ArePairs, blocks_in, record_at, nodes, pairs}
 use Rattle.spec.specs.Tree.{Pair, Sub, top}
 use Rattle.spec.specs.Layer.{layer}
-use Rattle.spec.specs.Writes.{Write, leaves, after_write, batch_test, limited_test, key_of}
+use Rattle.spec.specs.Writes.{Write, leaves, after_write, batch_test, limited_test}
 use Rattle.spec.specs.Stamps.{Stamp}
 use Rattle.spec.specs.Commits.{commit_bytes, commit_blocks, commit_cid}
 use Rattle.spec.specs.States.{State, IsLawful, after_batch, state_root, state_blocks, state_commit, last_stamp}
@@ -23,14 +22,14 @@ use Rattle.spec.proofs.BatchSteps.{batch-goes_on, leaves-go_on, room-from}
 use Rattle.spec.proofs.RecordPairs.{lawful-pairs}
 use Rattle.paths.specs.Changes.{AreChanges, count}
 use Rattle.paths.specs.Sources.{HasBlocks}
-use Rattle.paths.specs.Uses.{uses, brought, pairs_after}
-use Rattle.paths.specs.Staged.{IsStaged, HasStagedTree, records_after, old_commit, staged_blocks}
+use Rattle.paths.specs.Uses.{uses, brought}
+use Rattle.paths.specs.Staged.{IsStaged, records_after, old_commit, staged_blocks}
 use Rattle.paths.specs.Laws.Uses.{HasWritten}
 use Rattle.paths.proofs.Lists.{count-append}
 use Rattle.paths.proofs.RecordCounts.{count-map_append}
 use Rattle.paths.proofs.RecordTheorems.{pairs-go_on}
 use Rattle.paths.proofs.Writing.{write-uses}
-use Rattle.paths.proofs.StagedBatches.{state-staged, staged-tree, staged-goes_on, staged-state}
+use Rattle.paths.proofs.StagedBatches.{state-staged, staged-goes_on, staged-state}
 use Rattle.kept.specs.Counts.{Counts, bytes_at, count_at}
 use Rattle.repo.specs.Keeping.{AreKept, IsGained, IsLost}
 use Rattle.repo.specs.Staging.{IsStagedBy, IsEditFor}

@@ -1,14 +1,13 @@
 -- A write tested and staged after those before it.
-use Rattle.std.proofs.Common.{◌≡◌, ℕ, Bool, true, false, zero, suc, ◌+◌, ◌<◌, ◌≤◌, not, ltb, List, [], ◌∷◌, ◌++◌, length, take, get_or, arith, refl, sym, ap, subst, ◌∙◌, Result, Ok, Err, Option, None}
+use Rattle.std.proofs.Common.{◌≡◌, ℕ, Bool, true, false, zero, suc, ◌+◌, ◌<◌, ◌≤◌, ltb, List, [], ◌∷◌, ◌++◌, length, take, get_or, arith, refl, sym, ap, ◌∙◌, Result, Ok, Option, None}
 use Rattle.std.specs.declared.option.Option.TheVariants.{Some}
-use Rattle.std.specs.Prelude.{is_some}
 use Rattle.std.proofs.lemmas.Bool.{ltb-true, ltb-false, lt-ltb, le-ltb}
 use Rattle.std.proofs.lemmas.List.{map-append, length-append, length-map, length-take-le}
 use Rattle.spec.specs.Cid.{IsDigest}
 use Rattle.spec.specs.Reading.{◌>>=◌, ensure}
 use Rattle.spec.specs.Blocks.{pairs, value_of}
-use Rattle.spec.specs.Writes.{Write, WriteFault, WritesFull, Put, Create, Update, Delete, key_of, record_of, test_when, record_test}
-use Rattle.spec.specs.Writes.{write_test, limited_test, BadKey}
+use Rattle.spec.specs.Writes.{Write, WriteFault, WritesFull, Put, Create, Update, Delete, key_of, test_when}
+use Rattle.spec.specs.Writes.{write_test, BadKey}
 use Rattle.spec.specs.Keys.{is_repository_key}
 use Rattle.spec.specs.NodeFormat.{is_key}
 use Rattle.spec.specs.States.{State}
@@ -20,7 +19,7 @@ use Rattle.edit.specs.Trees.{HasTree}
 use Rattle.kept.specs.Counts.{Counts, bytes_at, count_at}
 use Rattle.batches.specs.Tests.{write_fault, IsTestFault, IsNamed}
 use Rattle.repo.specs.Staging.{IsStagedBy, IsStagedWrite, IsBlockFault, blocks_left}
-use Rattle.repo.specs.Refusals.{IsBatchAt, IsWriteFault, IsWriteFaultBy, next_test}
+use Rattle.repo.specs.Refusals.{IsBatchAt, IsWriteFault, IsWriteFaultBy, HasTestBy, next_test}
 use Rattle.batches.specs.declared.fault.RepoFault.{RepoFault}
 use Rattle.batches.specs.declared.fault.RepoFault.TheVariants as faults
 use Rattle.batches.specs.declared.write.Write as Code
@@ -38,16 +37,14 @@ batch-tree digest bits fits s before root m is =
 with-room : (room limited : Bool) (r : Result (Unit {0}) WriteFault) → room ≡ limited → room ≡ true → (ensure limited WritesFull >>= λ (u : Unit {0}). r) ≡ r
 with-room room limited r e t = ap (λ b. ensure b WritesFull >>= λ (u : Unit {0}). r) (sym e ∙ t)
 
--- with room, the test is that of the write, by whether its key has a value
-pub tested : (digest : List ℕ → List ℕ) (bits : ℕ) → IsDigest digest → (s : State) (before : List Write) (room : Bool) (root : List ℕ) (m : Counts) (w : Write) (there : Bool) (key : List ℕ) (got : Option (List ℕ))
-    → IsBatchAt digest bits s before room root m → room ≡ true → there ≡ is_some got → key ≡ key_of w
-    → ((es : List (List ℕ × List ℕ)) → HasTree digest bits (bytes_at m) root es → got ≡ value_of key es) → next_test s before w ≡ test_when there w
-tested digest bits fits s before room root m w there key got is some e k v =
+-- with room, the test is that of the write, by a presence that gives the same test as its key's value
+pub tested : (digest : List ℕ → List ℕ) (bits : ℕ) → IsDigest digest → (s : State) (before : List Write) (room : Bool) (root : List ℕ) (m : Counts) (w : Write) (there : Bool)
+    → IsBatchAt digest bits s before room root m → room ≡ true
+    → ((es : List (List ℕ × List ℕ)) → HasTree digest bits (bytes_at m) root es → HasTestBy there (value_of (key_of w) es) w) → next_test s before w ≡ test_when there w
+tested digest bits fits s before room root m w there is some v =
     let recs = records_after s before in
-    let same : is_some (value_of (key_of w) (pairs digest recs)) ≡ there =
-    ap (λ (x : List ℕ). is_some (value_of x (pairs digest recs))) (sym k)
-    ∙ ap (λ (o : Option (List ℕ)). is_some o) (sym (v (pairs digest recs) (batch-tree digest bits fits s before root m is.by))) ∙ sym e in
-    with-room room _ (write_test recs w) is.room_is some ∙ test-by_value digest recs w ∙ ap (λ t. test_when t w) same
+    with-room room _ (write_test recs w) is.room_is some ∙ test-by_value digest recs w
+    ∙ sym (v (pairs digest recs) (batch-tree digest bits fits s before root m is.by))
 
 key-tested : (key : List ℕ) (t : Bool) (r : Result (Unit {0}) WriteFault) → (ensure t BadKey >>= λ (u : Unit {0}). r) ≡ Ok tt → t ≡ true
 key-tested key true r h = refl

@@ -3,4 +3,5 @@ pub mod Keeping
 pub mod Staging
 pub mod Cores
 pub mod Refusals
-pub mod Seen
+pub mod Readings
+pub mod Ending

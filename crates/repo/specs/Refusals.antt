@@ -1,9 +1,9 @@
 -- When a batch is refused.
-use Rattle.std.specs.Prelude.{◌≡◌, ◌⊎◌, ⊤, ℕ, ◌+◌, ◌<◌, ◌++◌, ◌==◌, if◌then◌else◌, List, [], ◌∷◌}
-use Rattle.std.specs.Prelude.{take, length, Bool, nat_lt, Contains, Option, Some, None, Result, Ok, Err}
+use Rattle.std.specs.Prelude.{◌≡◌, ⊤, ℕ, ◌+◌, ◌<◌, ◌++◌, ◌==◌, if◌then◌else◌, List, [], ◌∷◌}
+use Rattle.std.specs.Prelude.{take, length, Bool, is_some, nat_lt, Option, Some, None, Result, Ok, Err}
 use Rattle.spec.specs.Blocks.{blocks, repository_root}
 use Rattle.spec.specs.Stamps.{Stamp, last, rev_of}
-use Rattle.spec.specs.Writes.{Write, WriteFault, limited_test, batch_test, leaves}
+use Rattle.spec.specs.Writes.{Write, WriteFault, test_when, limited_test, batch_test}
 use Rattle.spec.specs.Commits.{commit_blocks}
 use Rattle.spec.specs.States.{State, BatchFault, after_batch, state_test, state_root, state_blocks, state_commit}
 use Rattle.paths.specs.Staged.{records_after}
@@ -97,6 +97,10 @@ pub record IsBatchStart (digest : List ℕ → List ℕ) (bits : ℕ) (s : State
 abbrev pub next_test : State → List Write → Write → Result (Unit {0}) WriteFault
 next_test s before w =
     limited_test s.limit (length (s.accepted ++ before)) (records_after s before) w
+
+-- by this presence the write has the same test as by the value that its key has
+abbrev pub HasTestBy : Bool → Option (List ℕ) → Write → Type 0
+HasTestBy there value w = test_when there w ≡ test_when (is_some value) w
 
 abbrev pub IsWriteFaultBy : {D A : Type 0} → (List ℕ → List ℕ) → ℕ → State → List Write → Write
     → ℕ → ℕ → RepoFault D A → Option WriteFault → Type 0

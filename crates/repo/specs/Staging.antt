@@ -1,5 +1,5 @@
 -- A batch on its way, by the counts of the blocks that are staged.
-use Rattle.std.specs.Prelude.{◌≡◌, ◌⊎◌, ◌<◌, ⊤, ◌++◌, ℕ, List, [], Contains, Option, option_map}
+use Rattle.std.specs.Prelude.{◌≡◌, ◌⊎◌, ◌<◌, ◌+◌, ◌*◌, suc, ⊤, ◌++◌, ℕ, List, [], Contains, Option, Some, None, option_map}
 use Rattle.std.specs.List.{cons_option}
 use Rattle.spec.specs.Tree.{Pair}
 use Rattle.spec.specs.Cid.{cid}
@@ -12,6 +12,7 @@ use Rattle.paths.specs.Uses.{brought, pairs_after}
 use Rattle.edit.specs.declared.fault.EditFault.{EditFault}
 use Rattle.edit.specs.declared.fault.EditFault.TheVariants as edits
 use Rattle.kept.specs.Counts.{Counts, bytes_at, count_at}
+use Rattle.kept.specs.Trees.{top_layer}
 use Rattle.repo.specs.Keeping.{IsUsed, IsExchanged}
 use Rattle.batches.specs.declared.fault.RepoFault.{RepoFault}
 use Rattle.batches.specs.declared.fault.RepoFault.TheVariants as faults
@@ -49,6 +50,21 @@ pub record IsStagedWrite (digest : List ℕ → List ℕ) (bits : ℕ) (m : List
   pub previous : Option (List ℕ)
   pub edit : IsEditFor digest bits m w root add drop previous
   pub exchanged : IsExchanged digest (add ++ brought w) (drop ++ cons_option previous []) old new
+
+-- how many blocks a look-up reads at most: one a layer up to the top
+abbrev pub look_up_reads : (List ℕ → List ℕ) → ℕ → List (List ℕ × List ℕ) → ℕ
+look_up_reads digest bits m = suc (top_layer digest bits (pairs digest m))
+
+-- how many blocks an edit reads at most: one a layer up to the top for a value, and twice as many
+-- for a key that goes
+abbrev pub edit_reads : (List ℕ → List ℕ) → ℕ → List Pair → Option (List ℕ) → ℕ
+edit_reads digest bits es (Some value) = suc (top_layer digest bits es)
+edit_reads digest bits es None = 2 * top_layer digest bits es + 1
+
+-- the same for a write on these records
+abbrev pub write_reads : (List ℕ → List ℕ) → ℕ → List (List ℕ × List ℕ) → Write → ℕ
+write_reads digest bits m w =
+    edit_reads digest bits (pairs digest m) (option_map (cid digest) (record_of w))
 
 -- ---- why a write isn't staged
 

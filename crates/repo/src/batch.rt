@@ -1,28 +1,43 @@
 //! A batch, staged write by write.
 
-ghost use Rattle.std.specs.Prelude.{◌≡◌, ◌≤◌, ◌++◌, ◌∷◌, [], ℕ, List, true, Ok, IfOk, IfErr, OnOk};
+ghost use Rattle.std.specs.Prelude.{◌≡◌, ◌≤◌, ◌++◌, ◌∷◌, [], ℕ, suc, List, true, Ok, IfOk, IfErr, OnOk};
 ghost use Rattle.std.specs.List.{cons_option};
 ghost use Rattle.std.specs.Arc.{arc_value};
 ghost use Rattle.spec.specs.Cid.{cid as cid_of};
+ghost use Rattle.spec.specs.Tree.{Pair};
+ghost use Rattle.spec.specs.Blocks.{value_of};
+ghost use Rattle.paths.specs.Staged.{records_after};
+ghost use Rattle.edit.specs.Trees.{HasTree};
+ghost use Rattle.kept.specs.Counts.{bytes_at};
+ghost use Rattle.kept.specs.Trees.{top_layer};
 ghost use Rattle.spec.specs.NodeFormat.{is_key};
 ghost use Rattle.spec.specs.Writes.{Write as SpecWrite, key_of};
 ghost use Rattle.spec.specs.Commits.{commit_bytes};
 ghost use Rattle.spec.specs.States.{State};
 ghost use Rattle.repo.specs.Keeping.{IsExchanged, IsStillBefore};
-ghost use Rattle.repo.specs.Refusals.{IsBatchAt, IsBatchStart, IsWriteFault, IsRefusedWrite, next_test};
-ghost use Rattle.repo.specs.Staging.{IsStagedBy, IsBlockFault};
+ghost use Rattle.repo.specs.Refusals.{IsBatchAt, IsBatchStart, IsWriteFault, IsRefusedWrite, HasTestBy, next_test};
+ghost use Rattle.repo.specs.Staging.{IsStagedBy, IsBlockFault, look_up_reads, write_reads};
 ghost use Rattle.batches.specs.Tests.{write_fault, IsTestFault};
 ghost use Rattle.batches.specs.Values.{write_of, writes_of, shared_writes, stamp_of};
 ghost use Rattle.store.specs.Stores.{IsStore};
 
-use crate::lent::value_staged;
 use crate::staging::{gain, lose, stage_next};
 use batches::{RepoFault, Stamp, Write, commit_bytes, test_write};
 use cid::{Block, Cid, Digest};
-use kept::Kept;
+use edit::Asked;
+use kept::{Kept, value_staged};
 use std::alloc::{AllocError, Allocator};
 use std::sync::Arc;
 use store::{BlockStore, Hold, StoreFault};
+
+/// What came of a write that was staged: the root after it, and how many blocks were read to look its key up and to edit the
+/// tree, which proofs alone see.
+#[derive(Drop)]
+struct StagedWrite {
+    root: Cid,
+    looked: Asked,
+    read: Asked,
+}
 
 /// Stages all writes of a batch, where there is room for so many: the root after them, and their copies. Or the place of the
 /// first write that is refused.
@@ -93,10 +108,11 @@ fn stage_shared<
 {
     let copy = write.share(alloc)?;
     shared.push(copy)?;
-    stage_write::<D, B, A, S>(kept, store, alloc, room, root, write)
+    let staged = stage_write::<D, B, A, S>(kept, store, alloc, room, root, write)?;
+    Ok(staged.root)
 }
 
-/// Tests one write on what is staged, stages it, and answers the root after it.
+/// Tests one write on what is staged, and stages it.
 fn stage_write<
     D: Digest,
     const B: u8,
@@ -109,39 +125,73 @@ fn stage_write<
     room: bool,
     root: Cid,
     write: &Write<A>,
-) -> Result<Cid, RepoFault<D, A>>
+) -> Result<StagedWrite, RepoFault<D, A>>
     requires least { 1 ≤ B }
     requires most { B ≤ 8 }
     requires store { IsStore D.digest_of S.fulls S.answers }
-    ensures staged { (s : State) (before : List SpecWrite) → IsBatchAt D.digest_of B s before room root kept.old.staged → IfOk result (λ next. IsStagedBy D.digest_of B s (before ++ write_of write.now ∷ []) next kept.new.staged) }
+    ensures staged { (s : State) (before : List SpecWrite) → IsBatchAt D.digest_of B s before room root kept.old.staged → IfOk result (λ next. IsStagedBy D.digest_of B s (before ++ write_of write.now ∷ []) next.root kept.new.staged) }
+    ensures looked { (s : State) (before : List SpecWrite) → IsBatchAt D.digest_of B s before room root kept.old.staged → IfOk result (λ next. next.looked.times ≤ look_up_reads D.digest_of B (records_after s before)) }
+    ensures read { (s : State) (before : List SpecWrite) → IsBatchAt D.digest_of B s before room root kept.old.staged → IfOk result (λ next. next.read.times ≤ write_reads D.digest_of B (records_after s before) (write_of write.now)) }
     ensures fault { (s : State) (before : List SpecWrite) → IsBatchAt D.digest_of B s before room root kept.old.staged → IfErr result (IsWriteFault D.digest_of B s before (write_of write.now) (S.fulls store.old) (S.fulls store.new)) }
     ensures before { IsStillBefore kept.old kept.new }
     ensures grown { S.fulls store.old ≤ S.fulls store.new }
 {
     match test_next::<D, B, A>(kept, alloc, room, root, write) {
-        Ok(()) => stage_next::<D, B, A, S>(kept, store, alloc, root, write),
+        Ok(looked) => match stage_next::<D, B, A, S>(kept, store, alloc, root, write) {
+            Ok(next) => {
+                let (root, read) = next;
+                Ok(StagedWrite { root, looked, read })
+            }
+            Err(fault) => Err(fault),
+        },
         Err(fault) => Err(fault),
     }
 }
 
-/// Tests one write on what is staged: whether there is room, and then the write itself.
+/// Tests one write on what is staged: whether there is room, and then the write itself. It answers how many blocks were read.
 fn test_next<D: Digest, const B: u8, A: Allocator + Copy>(
     kept: &Kept<D, A>,
     alloc: A,
     room: bool,
     root: Cid,
     write: &Write<A>,
-) -> Result<(), RepoFault<D, A>>
+) -> Result<Asked, RepoFault<D, A>>
     requires { 1 ≤ B }
     ensures passed { (s : State) (before : List SpecWrite) → IsBatchAt D.digest_of B s before room root kept.now.staged → OnOk result (next_test s before (write_of write.now) ≡ Ok tt) }
+    ensures reads { (s : State) (before : List SpecWrite) → IsBatchAt D.digest_of B s before room root kept.now.staged → IfOk result (λ looked. looked.times ≤ look_up_reads D.digest_of B (records_after s before)) }
     ensures fault { (s : State) (before : List SpecWrite) → IsBatchAt D.digest_of B s before room root kept.now.staged → IfErr result (IsTestFault write_fault (next_test s before (write_of write.now))) }
     ensures key { OnOk result (is_key (key_of (write_of write.now)) ≡ true) }
 {
     if !room {
         return Err(RepoFault::WritesFull);
     }
-    let there = value_staged::<D, B, A>(kept, root, write.key()).is_some();
-    test_write(alloc, there, write)
+    let found = there_staged::<D, B, A>(kept, root, write);
+    let (there, looked) = found;
+    match test_write(alloc, there, write) {
+        Ok(()) => Ok(looked),
+        Err(fault) => Err(fault),
+    }
+}
+
+/// Whether the key of a write is there, and how many blocks were read to know it. A put is taken whether it is or not, so it
+/// isn't looked up for one.
+fn there_staged<D: Digest, const B: u8, A: Allocator>(
+    kept: &Kept<D, A>,
+    root: Cid,
+    write: &Write<A>,
+) -> (bool, Asked)
+    requires { 1 ≤ B }
+    ensures there { (es : List Pair) → HasTree D.digest_of B (bytes_at kept.now.staged) root es → HasTestBy result.0 (value_of (key_of (write_of write.now)) es) (write_of write.now) }
+    ensures reads { (es : List Pair) → HasTree D.digest_of B (bytes_at kept.now.staged) root es → result.1.times ≤ suc (top_layer D.digest_of B es) }
+{
+    match write {
+        Write::Put(_, _) => (false, Asked::never()),
+        Write::Create(key, _) | Write::Update(key, _) | Write::Delete(key) => {
+            let found = value_staged::<D, B, A>(kept, root, key);
+            let (value, looked) = found;
+            (value.is_some(), looked)
+        }
+    }
 }
 
 /// Stages a commit of a stamp and a root in the place of the one before, and answers its CID.

@@ -2,32 +2,26 @@
 
 ghost use Rattle.std.specs.Prelude.{◌≡◌, ◌≤◌, ◌<◌, ◌+◌, ◌++◌, ◌∷◌, [], ℕ, List, Some, Ok, length, option_map, IfOk, IfErr, OnOk, OnErr};
 ghost use Rattle.std.specs.Arc.{arc_value};
-ghost use Rattle.std.specs.Cmp.Lexicographic.{slice_cmp};
-ghost use Rattle.std.specs.Ordering.{nat_cmp};
-ghost use Rattle.std.specs.FinMap.{find};
-ghost use Rattle.spec.specs.Blocks.{block_at, listed, pairs};
-ghost use Rattle.edit.specs.Trees.{HasTree};
 ghost use Rattle.edit.specs.Walks.{pairs_given};
-ghost use Rattle.paths.specs.Sources.{HasBlocks};
-ghost use Rattle.spec.specs.States.{IsLawful, fresh, after_batch, records, state_root, state_blocks, state_commit, state_test};
+ghost use Rattle.spec.specs.States.{IsLawful, fresh, after_batch, state_root, state_commit, state_test};
 ghost use Rattle.spec.specs.Stamps.{last, rev_of};
-ghost use Rattle.kept.specs.Uses.{lent, used_blocks};
-ghost use Rattle.repo.specs.Cores.{AreEachOnce};
+ghost use Rattle.kept.specs.Uses.{used_blocks};
+ghost use Rattle.repo.specs.Ending.{IsEnded};
+ghost use Rattle.repo.specs.Readings.{AreBlocksOnce, LendsBlocks, LendsTree, pairs_from, record_at, state_block};
 ghost use Rattle.repo.specs.Refusals.{IsRefusal, IsApplied, IsOpenRefusal};
 ghost use Rattle.batches.specs.Values.{stamp_of, stamps_of, writes_of, shared_writes};
 ghost use Rattle.store.specs.Stores.{IsStore};
 
 use crate::applied::Applied;
-use crate::lent::{pairs_in, value_in};
 use crate::opening::{empty_node, kept_once};
 use crate::staged_batch::{StagedBatch, Start, stage_batch};
 use batches::{RepoFault, Stamp, Write};
 use cid::{Block, Cid, Digest};
-use kept::{Blocks, Kept, Lender};
+use kept::{Blocks, Kept, Lender, pairs_accepted, value_accepted};
 use std::alloc::{AllocError, Allocator, Global};
 use std::marker::Model;
 use std::sync::Arc;
-use store::{BlockStore, Hold, StoreFault};
+use store::{BlockStore, Hold, SHARDS, Shard, StoreFault};
 
 /// One repository: its accepted writes and their stamps, the root of its tree, and its blocks.
 ///
@@ -116,7 +110,7 @@ impl<D: Digest, const B: u8, A: Allocator> Core<D, B, A> {
 
     /// Its blocks, each once, in the order of their CIDs: the last commit, the nodes and the records. It takes no memory.
     pub fn blocks(&self) -> Blocks<'_, D, A>
-        ensures blocks { AreEachOnce D.digest_of (state_blocks D.digest_of B self.now) (used_blocks result.entries) }
+        ensures blocks { AreBlocksOnce D.digest_of B self.now (used_blocks result.entries) }
         ensures lawful { IsLawful self.now }
     {
         let _ = &self.root;
@@ -126,8 +120,8 @@ impl<D: Digest, const B: u8, A: Allocator> Core<D, B, A> {
     /// Its blocks as a source that wasn't asked for any so far, for look-ups, proofs and exports: it has each of them, and so
     /// the tree at the root. It takes no memory.
     pub fn lender(&self) -> Lender<'_, D, A>
-        ensures blocks { HasBlocks D.digest_of (λ cid. option_map arc_value (lent result.blocks.now cid)) (state_blocks D.digest_of B self.now) }
-        ensures tree { HasTree D.digest_of B (λ cid. option_map arc_value (lent result.blocks.now cid)) (state_root D.digest_of B self.now) (pairs D.digest_of (records self.now)) }
+        ensures blocks { LendsBlocks D.digest_of B self.now result.blocks.now }
+        ensures tree { LendsTree D.digest_of B self.now result.blocks.now }
         ensures asked { result.asked.times ≡ 0 }
         ensures lawful { IsLawful self.now }
     {
@@ -153,9 +147,26 @@ impl<D: Digest, const B: u8, A: Allocator> Core<D, B, A> {
         kept.end(store);
     }
 
+    /// Gives its blocks back to the sixteen shards, which its caller has for itself: in the table of its CID's shard each of
+    /// its blocks has its other cores left, and goes where there are none. Nothing else in the tables changes. It takes no
+    /// memory and can't fail.
+    pub fn end_in(self, tables: &mut [Shard<D, A>; SHARDS])
+        ensures { IsEnded D.digest_of B self tables.old tables.new }
+    {
+        let Core {
+            limit: _,
+            accepted: _,
+            stamps: _,
+            root: _,
+            commit: _,
+            kept,
+        } = self;
+        kept.end_in(tables);
+    }
+
     /// Its block with this CID: the last commit, a node or a record. It takes no memory.
     pub fn block(&self, cid: &Cid) -> Option<&Arc<Block<D, A>, A>>
-        ensures value { option_map (λ block. arc_value block.now) result ≡ block_at D.digest_of cid.now (state_blocks D.digest_of B self.now) }
+        ensures value { option_map (λ block. arc_value block.now) result ≡ state_block D.digest_of B self.now cid.now }
         ensures lawful { IsLawful self.now }
     {
         let _ = &self.root;
@@ -164,10 +175,10 @@ impl<D: Digest, const B: u8, A: Allocator> Core<D, B, A> {
 
     /// The record of a key, or `None` where there is none. It takes any key and no memory.
     pub fn get(&self, key: &[u8]) -> Option<&Block<D, A>>
-        ensures value { option_map (λ block. block.now) result ≡ find (slice_cmp nat_cmp) key.now (records self.now) }
+        ensures value { option_map (λ block. block.now) result ≡ record_at self.now key.now }
         ensures lawful { IsLawful self.now }
     {
-        match value_in::<D, B, A>(&self.kept, self.root, key) {
+        match value_accepted::<D, B, A>(&self.kept, self.root, key) {
             Some(cid) => match self.block(&cid) {
                 Some(block) => Some(block),
                 None => None,
@@ -187,10 +198,10 @@ impl<D: Digest, const B: u8, A: Allocator + Copy> Core<D, B, A> {
         from: &[u8],
         limit: usize,
     ) -> Result<Vec<(Vec<u8, A>, Cid), A>, AllocError>
-        ensures pairs { IfOk result (λ found. pairs_given found.items ≡ listed from.now limit (pairs D.digest_of (records self.now))) }
+        ensures pairs { IfOk result (λ found. pairs_given found.items ≡ pairs_from D.digest_of self.now from.now limit) }
         ensures lawful { IsLawful self.now }
     {
-        pairs_in::<D, B, A>(alloc, &self.kept, self.root, from, limit)
+        pairs_accepted::<D, B, A>(alloc, &self.kept, self.root, from, limit)
     }
 
     /// A repository without writes, which may have `limit` of them, under its own number in the store.
@@ -249,6 +260,7 @@ impl<D: Digest, const B: u8, A: Allocator + Copy> Core<D, B, A> {
     ) -> Result<Applied, (usize, RepoFault<D, A>)>
         requires store { IsStore D.digest_of S.fulls S.answers }
         ensures lawful { IsLawful self.old }
+        ensures still_lawful { IsLawful self.new }
         ensures accepted { OnOk result (self.new ≡ after_batch self.old (stamp_of stamp.now) (writes_of writes.now)) }
         ensures passes { OnOk result (state_test self.old (stamp_of stamp.now) (writes_of writes.now) ≡ Ok tt) }
         ensures applied { IfOk result (IsApplied D.digest_of B self.old self.new) }

@@ -11,22 +11,21 @@ ghost use Rattle.spec.specs.Writes.{key_of, record_of, with_or_without};
 ghost use Rattle.edit.specs.Trees.{HasTree};
 ghost use Rattle.kept.specs.Counts.{bytes_at};
 ghost use Rattle.repo.specs.Keeping.{IsGained, IsLost, IsExchanged, IsStillBefore};
-ghost use Rattle.repo.specs.Staging.{IsTreeEdit, IsTreeRefusal, IsStagedWrite, IsBlockFault, blocks_left};
+ghost use Rattle.repo.specs.Staging.{IsTreeEdit, IsTreeRefusal, IsStagedWrite, IsBlockFault, blocks_left, edit_reads, write_reads};
 ghost use Rattle.batches.specs.Values.{write_of};
 ghost use Rattle.store.specs.Stores.{IsStore};
 
-use crate::lent::{delete_over, put_over};
 use batches::{RepoFault, Write};
 use cid::{Block, Cid, Digest};
-use edit::{Edit, EditFault};
-use kept::Kept;
+use edit::{Asked, Edit, EditFault};
+use kept::{Kept, delete_staged, put_staged};
 use std::alloc::{AllocError, Allocator};
 use std::clone::Clone;
 use std::sync::Arc;
 use store::{BlockStore, Hold, StoreFault};
 
 /// Stages a write whose key is that of a record and, where it is a delete, is there: the record and the nodes that come,
-/// and then what goes. It answers the root.
+/// and then what goes. It answers the root, and how many blocks were read.
 pub(crate) fn stage_next<
     D: Digest,
     const B: u8,
@@ -38,21 +37,23 @@ pub(crate) fn stage_next<
     alloc: A,
     root: Cid,
     write: &Write<A>,
-) -> Result<Cid, RepoFault<D, A>>
+) -> Result<(Cid, Asked), RepoFault<D, A>>
     requires least { 1 ≤ B }
     requires most { B ≤ 8 }
     requires key { is_key (key_of (write_of write.now)) ≡ true }
     requires store { IsStore D.digest_of S.fulls S.answers }
-    ensures staged { (m : List (List ℕ × List ℕ)) → HasTree D.digest_of B (bytes_at kept.old.staged) root (pairs D.digest_of m) → IfOk result (λ next. IsStagedWrite D.digest_of B m (write_of write.now) next kept.old.staged kept.new.staged) }
+    ensures staged { (m : List (List ℕ × List ℕ)) → HasTree D.digest_of B (bytes_at kept.old.staged) root (pairs D.digest_of m) → IfOk result (λ next. IsStagedWrite D.digest_of B m (write_of write.now) next.0 kept.old.staged kept.new.staged) }
+    ensures reads { (m : List (List ℕ × List ℕ)) → HasTree D.digest_of B (bytes_at kept.old.staged) root (pairs D.digest_of m) → IfOk result (λ next. next.1.times ≤ write_reads D.digest_of B m (write_of write.now)) }
     ensures fault { (m : List (List ℕ × List ℕ)) → HasTree D.digest_of B (bytes_at kept.old.staged) root (pairs D.digest_of m) → IfErr result (IsBlockFault D.digest_of (blocks_left D.digest_of B m (write_of write.now)) (S.fulls store.old) (S.fulls store.new)) }
     ensures before { IsStillBefore kept.old kept.new }
     ensures grown { S.fulls store.old ≤ S.fulls store.new }
 {
     let record = record_block(alloc.clone()?, write)?;
-    let edit = edit_over::<D, B, A>(alloc, kept, root, write.key(), cid_of_record(&record))?;
+    let made = edit_over::<D, B, A>(alloc, kept, root, write.key(), cid_of_record(&record))?;
+    let (edit, read) = made;
     let next = edit.root;
     exchange(kept, store, record, edit)?;
-    Ok(next)
+    Ok((next, read))
 }
 
 /// The block of the record that a write leaves under its key.
@@ -70,32 +71,33 @@ fn record_block<D: Digest, A: Allocator + Clone>(
 }
 
 /// The CID of a record's block.
-fn cid_of_record<D: Digest, A: Allocator>(record: &Option<Arc<Block<D, A>, A>>) -> Option<Cid>
-    ensures { result ≡ option_map (λ block. cid_of D.digest_of (arc_value block)) record.now }
+fn cid_of_record<D: Digest, A: Allocator>(brought: &Option<Arc<Block<D, A>, A>>) -> Option<Cid>
+    ensures { result ≡ option_map (λ block. cid_of D.digest_of (arc_value block)) brought.now }
 {
-    match record {
+    match brought {
         Some(block) => Some(block.cid()),
         None => None,
     }
 }
 
 /// The edit of the tree that is staged: the value stands under the key, or the key, which is there, goes. It owns the blocks
-/// that come, so that nothing is lent after it.
+/// that come, so that nothing is lent after it. And how many blocks were read.
 fn edit_over<'a, D: Digest + 'a, const B: u8, A: Allocator + Clone + 'a>(
     alloc: A,
     kept: &'a Kept<D, A>,
     root: Cid,
     key: &[u8],
     value: Option<Cid>,
-) -> Result<Edit<D, A>, RepoFault<D, A>>
+) -> Result<(Edit<D, A>, Asked), RepoFault<D, A>>
     requires least { 1 ≤ B }
     requires most { B ≤ 8 }
     requires key { is_key key.now ≡ true }
-    ensures edit { (es : List Pair) → HasTree D.digest_of B (bytes_at kept.now.staged) root es → IfOk result (λ edit. IsTreeEdit D.digest_of B es key.now value edit.root (map arc_value edit.add.items) edit.drop.items edit.previous) }
+    ensures edit { (es : List Pair) → HasTree D.digest_of B (bytes_at kept.now.staged) root es → IfOk result (λ made. IsTreeEdit D.digest_of B es key.now value made.0.root (map arc_value made.0.add.items) made.0.drop.items made.0.previous) }
+    ensures reads { (es : List Pair) → HasTree D.digest_of B (bytes_at kept.now.staged) root es → IfOk result (λ made. made.1.times ≤ edit_reads D.digest_of B es value) }
     ensures fault { (es : List Pair) → HasTree D.digest_of B (bytes_at kept.now.staged) root es → IfErr result (IsBlockFault D.digest_of (nodes D.digest_of B (with_or_without es key.now value)) 0 0) }
 {
     match put_or_delete::<D, B, A>(alloc, kept, root, key, value) {
-        Ok(edit) => Ok(edit),
+        Ok(made) => Ok(made),
         Err(EditFault::Clash(pair)) => Err(RepoFault::Collision(pair)),
         // a key that is to go was found before
         Err(_) => Err(RepoFault::NoMemory),
@@ -109,16 +111,17 @@ fn put_or_delete<'a, D: Digest + 'a, const B: u8, A: Allocator + Clone + 'a>(
     root: Cid,
     key: &[u8],
     value: Option<Cid>,
-) -> Result<Edit<D, A>, EditFault<D, A>>
+) -> Result<(Edit<D, A>, Asked), EditFault<D, A>>
     requires least { 1 ≤ B }
     requires most { B ≤ 8 }
     requires key { is_key key.now ≡ true }
-    ensures edit { (es : List Pair) → HasTree D.digest_of B (bytes_at kept.now.staged) root es → IfOk result (λ edit. IsTreeEdit D.digest_of B es key.now value edit.root (map arc_value edit.add.items) edit.drop.items edit.previous) }
+    ensures edit { (es : List Pair) → HasTree D.digest_of B (bytes_at kept.now.staged) root es → IfOk result (λ made. IsTreeEdit D.digest_of B es key.now value made.0.root (map arc_value made.0.add.items) made.0.drop.items made.0.previous) }
+    ensures reads { (es : List Pair) → HasTree D.digest_of B (bytes_at kept.now.staged) root es → IfOk result (λ made. made.1.times ≤ edit_reads D.digest_of B es value) }
     ensures fault { (es : List Pair) → HasTree D.digest_of B (bytes_at kept.now.staged) root es → IfErr result (IsTreeRefusal D.digest_of (nodes D.digest_of B (with_or_without es key.now value))) }
 {
     match value {
-        Some(value) => put_over::<D, B, A>(alloc, kept, root, key, value),
-        None => delete_over::<D, B, A>(alloc, kept, root, key),
+        Some(value) => put_staged::<D, B, A>(alloc, kept, root, key, value),
+        None => delete_staged::<D, B, A>(alloc, kept, root, key),
     }
 }
 

@@ -1,4 +1,4 @@
-use Rattle.std.proofs.Common.{◌≡◌, ◌∙◌, ap, Some, List, ℕ}
+use Rattle.std.proofs.Common.{◌∙◌, ap, Some, List, ℕ}
 use Rattle.repo.proofs.Growing.{last-rev}
 use Rattle.repo.proofs.cores.last_rev.Goals as goal
 

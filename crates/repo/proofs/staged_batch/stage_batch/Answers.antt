@@ -1,4 +1,4 @@
-use Rattle.std.proofs.Common.{◌≡◌, length, sym, ◌∙◌, arith}
+use Rattle.std.proofs.Common.{length, sym, ◌∙◌, arith}
 use Rattle.std.proofs.lemmas.List.{length-map}
 use Rattle.batches.specs.Values.{stamp_of, write_of, writes_of}
 use Rattle.repo.proofs.Batching.{stamp-refused, not-zero}

@@ -1,5 +1,4 @@
-use Rattle.std.proofs.Common.{List, ℕ, subst, ap, ◌∙◌}
-use Rattle.std.specs.Arc.{arc_value}
+use Rattle.std.proofs.Common.{List, ℕ, subst, ◌∙◌}
 use Rattle.repo.specs.Keeping.{IsGained, IsLost}
 use Rattle.repo.proofs.staging.exchange.Goals as goal
 

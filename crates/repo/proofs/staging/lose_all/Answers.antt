@@ -1,4 +1,4 @@
-use Rattle.std.proofs.Common.{◌≡◌, ◌++◌, ◌∷◌, [], ◌+◌, ℕ, List, take, sym, ◌∙◌, subst, arith}
+use Rattle.std.proofs.Common.{◌≡◌, ◌++◌, ◌∷◌, [], ◌+◌, ℕ, List, take, sym, subst, arith}
 use Rattle.kept.specs.Counts.{Keeping}
 use Rattle.repo.specs.Keeping.{IsLost}
 use Rattle.repo.proofs.Counting.{lowered-lost, lost-then, one-further}

@@ -1,4 +1,4 @@
-use Rattle.std.proofs.Common.{◌≡◌, ◌+◌, ◌≤◌, ◌∙◌, List, length, sym, ap, subst, arith}
+use Rattle.std.proofs.Common.{◌+◌, ◌≤◌, ◌∙◌, length, sym, ap, subst, arith}
 use Rattle.std.specs.Arc.{arc_value}
 use Rattle.std.proofs.lemmas.List.{length-map}
 use Rattle.spec.specs.Stamps.{last, rev_of}
@@ -108,3 +108,20 @@ returns-in-Err-clause-fault g c =
     (c.last_rev-last.ensures ∙ ap (λ xs. rev_of (last (stamps_of xs))) c.deref-2.ensures.value) in
     refused-on dig g.row.B s c.args.self.now stamp batch (g.S.BlockStore.fulls c.args.store.now) (g.S.BlockStore.fulls c.stage_batch.new.store) (g.S.BlockStore.fulls c.refuse-in-Err.new.store) c.in-Err.refusal
     c.self.view_is c.refuse-in-Err.ensures.fulls (c.in-Err.ensures.fault s on)
+
+pub returns-in-Ok-grow-clause-still_lawful : goal.returns-in-Ok-grow-clause-still_lawful
+returns-in-Ok-grow-clause-still_lawful g c =
+    let dig = g.D.Digest.digest_of in
+    let old = c.self.inside in
+    let s = state_view old.kept.me old.limit old.accepted.items old.stamps.items in
+    let stamp = stamp_of c.args.stamp.now in
+    let batch = writes_of c.args.writes.now in
+    let on = core-on dig g.row.B s old.root old.commit old.kept c.self.invariant _ _
+    (ap (λ xs. length (shared_writes xs) + c.room_for.result) (sym c.deref.ensures.value) ∙ c.room_for.ensures)
+    (c.last_rev-last.ensures ∙ ap (λ xs. rev_of (last (stamps_of xs))) c.deref-2.ensures.value) in
+    let staged = c.in-Ok.ensures.staged s on in
+    let me = ap (λ (k : Keeping). k.me) c.accept.ensures.accepted ∙ c.in-Ok.ensures.before.me in
+    let grown = c.in-Ok-grow.ensures in
+    let e = state-after old.kept.me c.accept.new.self.me old.limit old.accepted.items c.grow.new.accepted.items old.stamps.items c.grow.new.stamps.items _ batch _ stamp
+    me grown.writes c.in-Ok.ensures.copies grown.stamps c.in-Ok.ensures.stamp in
+    (core-after dig g.row.B s _ stamp batch c.in-Ok.staged.root old.commit old.root c.in-Ok.staged.commit old.kept c.stage_batch.new.kept c.accept.new.self c.self.invariant e c.accept.ensures.accepted staged).lawful
