@@ -75,6 +75,18 @@ sections-more digest old new b bs more =
     ap (flat_map (section digest)) (fresh-more digest old new b bs more)
     ∙ flat-kept (section digest) (has old (cid digest b)) b (fresh digest new bs)
 
+-- whatever is left after it
+unfoldable pub later : (List ℕ → List ℕ) → List (List ℕ) → List ℕ → List (List ℕ) → List ℕ
+later digest old b bs =
+    flat_map (section digest) (filter (λ x. not (has old (cid digest x))) (filter (λ x. not (bytes_eq (cid digest b) (cid digest x))) (firsts (cid digest) bs)))
+
+pub sections-later : (digest : List ℕ → List ℕ) (old : List (List ℕ)) (b : List ℕ) (bs : List (List ℕ))
+    → sections digest old (b ∷ bs) ≡ section_once digest old b ++ later digest old b bs
+unfolding later
+sections-later digest old b bs =
+    flat-kept (section digest) (has old (cid digest b)) b
+    (filter (λ x. not (has old (cid digest x))) (filter (λ x. not (bytes_eq (cid digest b) (cid digest x))) (firsts (cid digest) bs)))
+
 old-one : (t new : Bool) (xs : List ℕ) → new ≡ not t → new ≡ false → cond t [] xs ≡ []
 old-one true new xs e h = refl
 old-one false new xs e h = absurd cc

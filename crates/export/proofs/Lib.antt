@@ -4,6 +4,7 @@ pub mod Numbers
 pub mod FirstOnes
 pub mod OneNode
 pub mod Paths
+pub mod Sectioned
 pub mod Shown
 pub mod Spelled
 pub mod Walked

@@ -5,6 +5,7 @@ use Rattle.std.specs.Arc.{arc_value}
 use Rattle.spec.specs.NodeFormat.{Entry, NodeFault, Shape, LastLink, MoreLinks}
 use Rattle.paths.specs.Sources.{shown_by}
 use Rattle.node.specs.Rows.{Row, rows}
+use Rattle.export.specs.Once.{sections}
 use Rattle.export.specs.declared.walk.Step.{Step}
 use Rattle.export.specs.declared.walk.Step.TheVariants as steps
 
@@ -29,6 +30,11 @@ cids_from shows (suc n) (Some c) = c ∷ cids_in (cids_from shows n) (shows c)
 -- the blocks of these CIDs, those that a source has
 abbrev pub blocks_at : (List ℕ → Option (List ℕ)) → List (List ℕ) → List (List ℕ)
 blocks_at gives cids = flat_map (λ c. cons_option (gives c) []) cids
+
+-- the block of a commit, if there is one and a source has it
+abbrev pub commit_block : (List ℕ → Option (List ℕ)) → Option (List ℕ) → List (List ℕ)
+commit_block gives None = []
+commit_block gives (Some c) = cons_option (gives c) []
 
 -- ---- a walk on its way
 
@@ -68,6 +74,10 @@ layers_left w = w.most - length w.stack
 abbrev pub cids_left : (List ℕ → Option Shape) → Walking → List (List ℕ)
 cids_left shows w =
     cids_from shows (layers_left w) w.link ++ cids_stacked shows (layers_left w) w.stack
+
+-- the sections that are still to be written, after those of these CIDs
+abbrev pub sections_left : (List ℕ → List ℕ) → (List ℕ → Option (List ℕ)) → List (List ℕ) → Walking → List ℕ
+sections_left digest gives cids w = sections digest cids (blocks_at gives (cids_left (shown_by gives) w))
 
 -- those with what is shown under the link, where the link was taken
 abbrev pub cids_entered : (List ℕ → Option Shape) → Walking → Option Shape → List (List ℕ)

@@ -8,6 +8,7 @@
 //! ```
 #![tactic(auto)]
 
+mod blocks;
 mod export_fault;
 mod given;
 mod hashed;
