@@ -1,5 +1,5 @@
 -- Blocks of which each CID is written once.
-use Rattle.std.proofs.Common.{◌≡◌, ◌&&◌, ◌||◌, ℕ, Bool, true, false, not, cond, List, [], ◌∷◌, ◌++◌, refl, sym, ap, ◌∙◌}
+use Rattle.std.proofs.Common.{◌≡◌, ◌&&◌, ◌||◌, ℕ, Bool, true, false, not, cond, List, [], ◌∷◌, ◌++◌, refl, sym, ap, ◌∙◌, append-nil}
 use Rattle.std.specs.Prelude.{filter}
 use Rattle.std.specs.List.{list_any, flat_map}
 use Rattle.std.specs.Str.{bytes_eq}
@@ -86,6 +86,11 @@ unfolding later
 sections-later digest old b bs =
     flat-kept (section digest) (has old (cid digest b)) b
     (filter (λ x. not (has old (cid digest x))) (filter (λ x. not (bytes_eq (cid digest b) (cid digest x))) (firsts (cid digest) bs)))
+
+-- a block by itself
+pub alone-section : (digest : List ℕ → List ℕ) (old : List (List ℕ)) (b : List ℕ) → section_once digest old b ≡ sections digest old (b ∷ [])
+alone-section digest old b =
+    sym (append-nil (section_once digest old b)) ∙ sym (flat-kept (section digest) (has old (cid digest b)) b [])
 
 old-one : (t new : Bool) (xs : List ℕ) → new ≡ not t → new ≡ false → cond t [] xs ≡ []
 old-one true new xs e h = refl

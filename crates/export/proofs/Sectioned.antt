@@ -9,7 +9,7 @@ use Rattle.paths.specs.Sources.{shown_by}
 use Rattle.export.specs.Once.{has, HasMore, capped, sections, section_once}
 use Rattle.export.specs.Outs.{Leaves, TakesBeginning, Takes}
 use Rattle.export.specs.Walks.{Walking, GoesBy, blocks_at, cids_left, commit_block, sections_left}
-use Rattle.export.proofs.FirstOnes.{later, sections-more, sections-later}
+use Rattle.export.proofs.FirstOnes.{later, alone-section, sections-more, sections-later}
 use Rattle.export.proofs.Leaving.{leaves-same, leaves-less, stops}
 
 module _ (digest : List ℕ → List ℕ) (gives : List ℕ → Option (List ℕ)) where
@@ -53,6 +53,35 @@ pub one-block : (digest : List ℕ → List ℕ) (cids more : List (List ℕ)) (
 one-block digest cids more b bs has =
     sections-more digest cids more b bs has
     ∙ ap (λ t. t ++ sections digest more bs) (sym (append-nil (section_once digest cids b)) ∙ sym (sections-more digest cids more b [] has))
+
+-- a commit that a source has
+pub commit-some : (gives : List ℕ → Option (List ℕ)) (commit : Option (List ℕ)) (c b : List ℕ) → commit ≡ Some c → gives c ≡ Some b
+    → commit_block gives commit ≡ b ∷ []
+commit-some gives commit c b is there = ap (commit_block gives) is ∙ ap (λ o. cons_option o []) there
+
+module _ (digest : List ℕ → List ℕ) (cids : List (List ℕ)) (found : List (List ℕ)) (b x : List ℕ) (is : x ≡ b) (e : found ≡ b ∷ []) where
+  commit-section : section_once digest cids x ≡ sections digest cids found
+  commit-section = alone-section digest cids x ∙ ap (λ t. sections digest cids (t ∷ [])) is ∙ ap (sections digest cids) (sym e)
+
+  pub commit-taken : {T E : Type 0} (old new : List ℕ) (r : Result T E) → Takes old new r (section_once digest cids x)
+      → Takes old new r (sections digest cids found)
+  commit-taken old new r t = subst (Takes old new r) commit-section t
+
+  pub commit-length : {E : Type 0} (r : Result ℕ E) → IfOk r (λ n. n ≡ length (section_once digest cids x))
+      → IfOk r (λ n. n ≡ length (sections digest cids found))
+  commit-length r h = subst (λ t. IfOk r (λ n. n ≡ length t)) commit-section h
+
+  one-more : (more : List (List ℕ)) → HasMore cids (cid digest x) more → (bs : List (List ℕ))
+      → sections digest cids (found ++ bs) ≡ sections digest cids found ++ sections digest more bs
+  one-more more has bs =
+      let at = subst (λ t. HasMore cids (cid digest t) more) is has in
+      ap (λ f. sections digest cids (f ++ bs)) e ∙ one-block digest cids more b bs at
+      ∙ ap (λ f. sections digest cids f ++ sections digest more bs) (sym e)
+
+  pub commit-seen : {T E : Type 0} (more : List (List ℕ)) (r : Result T E) → OnOk r (HasMore cids (cid digest x) more)
+      → OnOk r ((bs : List (List ℕ)) → sections digest cids (found ++ bs) ≡ sections digest cids found ++ sections digest more bs)
+  commit-seen more (Ok y) h = one-more more h
+  commit-seen more (Err f) h = tt
 
 -- ---- numbers of bytes
 
