@@ -1,0 +1,4 @@
+pub mod Tally
+pub mod Ending
+pub mod Settling
+pub mod Counts

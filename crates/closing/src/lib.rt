@@ -1,0 +1,7 @@
+//! The close of a host.
+#![tactic(auto)]
+
+mod comparing;
+mod mismatch;
+
+pub use mismatch::Mismatch;
