@@ -140,6 +140,15 @@ pub entered_at : (tables : List Table) (cid : List ℕ) (at : ℕ) (t : Table) �
 entered_at tables cid at t size e less is =
     ap (λ (x : Table). cores_at x cid) (ap (λ n. get_or tables n no_table) (sym e) ∙ sym (get_or_read tables at t (omega (arith, size)) is no_table) ∙ is)
 
+-- what a look-up for a block and a core answers
+pub looked_up : (tables : List Table) (cid name : List ℕ) (me core at : ℕ) (t : Table) (r : Bool) → length tables ≡ 16 → name ≡ cid → core ≡ me → at ≡ shard_of name → at < 16
+    → t ≡ get_or tables at t → r ≡ set.contains (cores_at (get_or tables at t) name) core → set.contains (entered tables cid) me ≡ r
+looked_up tables cid name me core at t r size named mine e less is answer =
+    ap (λ (c : List ℕ). set.contains (entered tables c) me) (sym named)
+    ∙ ap (λ (s : set.FinSet nat_cmp). set.contains s me) (entered_at tables name at t size e less is)
+    ∙ ap (λ (n : ℕ). set.contains (cores_at (get_or tables at t) name) n) (sym mine)
+    ∙ sym answer
+
 -- ---- the entries of a table
 
 -- the set under a CID

@@ -16,7 +16,7 @@ pub all_have-requires : goal.all_have-requires
 all_have-requires g c = (
   search rules,
   (
-    c.requires.numbered,
+    c.requires,
     λ number h.
         small_at g.D.Digest.digest_of c.args.table.now c.in-Some.cid number c.entries-cid-items.ensures.lawful
         (going_item g.D.Digest.digest_of g.row.B c.args.cores.now c.args.shard c.args.table.now c.in-Some.cid c.in-Some.entered.now c.next.new.self c.loop-cid.cid-iterator c.in-Some.ensures.steps c.loop-cid.invariant.2 number h),

@@ -5,7 +5,7 @@ use Rattle.closing.proofs.comparing.has_number.Goals as goal
 pub returns-in-Some : goal.returns-in-Some
 returns-in-Some g c =
     let h = c.in-Some.ensures.lookup in
-    c.is_some.ensures ∙ c.block.ensures.has
+    c.has_block.ensures
     ∙ have_at g.D.Digest.digest_of g.row.B c.args.cores.now c.args.cid.now c.args.number c.in-Some.core.now c.requires h.3.0 h.1
 
 pub returns-in-None : goal.returns-in-None
