@@ -2,6 +2,9 @@
 #![tactic(auto)]
 
 mod comparing;
+mod ended;
 mod mismatch;
+mod seeing;
 
+pub use ended::{Ended, Feed};
 pub use mismatch::Mismatch;
