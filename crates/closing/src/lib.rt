@@ -3,8 +3,11 @@
 
 mod comparing;
 mod ended;
+mod feed;
 mod mismatch;
 mod seeing;
+mod settled;
 
-pub use ended::{Ended, Feed};
+pub use ended::Ended;
+pub use feed::{Feed, Taker};
 pub use mismatch::Mismatch;
