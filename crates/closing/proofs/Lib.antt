@@ -1,3 +1,4 @@
 pub mod Having
 pub mod Tallies
 pub mod Entries
+pub mod Adding

@@ -2,6 +2,7 @@
 #![tactic(auto)]
 
 mod comparing;
+mod counts;
 mod ended;
 mod feed;
 mod mismatch;
