@@ -2,3 +2,4 @@ pub mod Having
 pub mod Tallies
 pub mod Entries
 pub mod Adding
+pub mod Closings

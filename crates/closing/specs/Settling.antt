@@ -1,12 +1,12 @@
 -- What a close finds.
-use Rattle.std.specs.Prelude.{◌≡◌, ℕ, ◌<◌, ◌≤◌, ◌++◌, List, length, All, Contains}
+use Rattle.std.specs.Prelude.{◌≡◌, ℕ, ◌<◌, ◌≤◌, ◌++◌, List, length, map, All, Contains}
 use Rattle.std.specs.Prelude.{slice_index, slice_index_or}
 use Rattle.spec.specs.States.{State}
 use Rattle.store.specs.Table.{Table}
 use Rattle.notices.specs.Numbering.{of}
-use Rattle.notices.specs.Views.{FeedView}
+use Rattle.notices.specs.Views.{QueueId, FeedView}
 use Rattle.closing.specs.Tally.{IsEven, IsMisnumbered, IsMiscounted}
-use Rattle.closing.specs.Ending.{EndedView, kept_by, told_by}
+use Rattle.closing.specs.Ending.{EndedView, account_of, kept_by, told_by}
 use Rattle.closing.specs.declared.mismatch.Mismatch.{Mismatch}
 use Rattle.closing.specs.declared.mismatch.Mismatch.TheVariants.{Numbers, Counts, Lists}
 
@@ -55,3 +55,10 @@ pub record UnevenView : Type 0 where
 abbrev pub AreSquare : FeedView → List EndedView → Type 0
 AreSquare feed ended = (writer : ℕ) → writer < feed.made
     → of writer feed.received ++ kept_by ended writer ≡ told_by ended writer
+
+-- what a host that has closed knows of its fields: each writer's pass has joined the feed
+pub record IsClosed (digest : List ℕ → List ℕ) (bits : ℕ) (queue_id : QueueId) (cores : List State) (tables : List Table) (feed : FeedView) (ended : List EndedView) : Type 0 where
+  pub queue : feed.queue_id ≡ queue_id
+  pub joined : feed.joined ≡ map account_of ended
+  pub all : length ended ≡ feed.made
+  pub settled : IsSettled digest bits cores tables ended

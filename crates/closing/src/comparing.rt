@@ -1,17 +1,47 @@
 //! The comparison of cores with tables. It walks by reference and looks up, and takes no memory.
 
-ghost use Rattle.std.specs.Prelude.{◌≡◌, ℕ, ◌<◌, true, MatchBool, length, All, Contains, slice_index_or};
+ghost use Rattle.std.specs.Prelude.{◌≡◌, ℕ, ◌<◌, true, MatchBool, OnOk, IfErr, length, All, slice_index_or};
 ghost use Rattle.std.specs.FinSet as set;
 ghost use Rattle.closing.specs.Tally.{has, have, no_table, NumberedFrom, IsMisnumbered, IsMiscounted};
 ghost use Rattle.closing.specs.Tally.{IsEntered, IsMissed, AreHad, AreAlien, AllHave, IsAlien};
 
+ghost use Rattle.closing.specs.Settling.{IsSettled, IsUneven};
+
+use crate::ended::Ended;
+use crate::mismatch::Mismatch;
+use crate::seeing::all_long;
 use cid::{Cid, Digest};
 use repo::Core;
 use std::alloc::Allocator;
 use store::{Cores, SHARDS, Shard, shard_number};
 
+/// Compares cores with tables, and with what writers have seen: where they don't agree, it tells in what.
+pub(crate) fn compare<D: Digest, const B: u8, A: Allocator>(
+    cores: &[Core<D, B, A>],
+    tables: &[Shard<D, A>; SHARDS],
+    ended: &[Ended<A>],
+) -> Result<(), Mismatch>
+    requires { All (λ e. length e.seen ≡ length cores.now) ended.now }
+    ensures settled { OnOk result (IsSettled D.digest_of B cores.now tables.now ended.now) }
+    ensures uneven { IfErr result (IsUneven D.digest_of B cores.now tables.now ended.now) }
+{
+    if !are_numbered(cores) {
+        return Err(Mismatch::Numbers);
+    }
+    if !all_entered(cores, tables) {
+        return Err(Mismatch::Counts);
+    }
+    if !all_had(cores, tables) {
+        return Err(Mismatch::Counts);
+    }
+    if !all_long(cores, ended) {
+        return Err(Mismatch::Lists);
+    }
+    Ok(())
+}
+
 /// Whether each core's number is its place.
-pub(crate) fn are_numbered<D: Digest, const B: u8, A: Allocator>(cores: &[Core<D, B, A>]) -> bool
+fn are_numbered<D: Digest, const B: u8, A: Allocator>(cores: &[Core<D, B, A>]) -> bool
     ensures { MatchBool result (NumberedFrom 0 cores.now) (IsMisnumbered cores.now) }
 {
     for (place, core) in cores.iter().enumerate() {
@@ -39,7 +69,7 @@ fn is_entered<D: Digest, const B: u8, A: Allocator>(
 }
 
 /// Whether each core is entered for each of its blocks.
-pub(crate) fn all_entered<D: Digest, const B: u8, A: Allocator>(
+fn all_entered<D: Digest, const B: u8, A: Allocator>(
     cores: &[Core<D, B, A>],
     tables: &[Shard<D, A>; SHARDS],
 ) -> bool
@@ -113,7 +143,7 @@ fn are_had<D: Digest, const B: u8, A: Allocator>(
 }
 
 /// Whether each core that is entered in these tables has the block.
-pub(crate) fn all_had<D: Digest, const B: u8, A: Allocator>(
+fn all_had<D: Digest, const B: u8, A: Allocator>(
     cores: &[Core<D, B, A>],
     tables: &[Shard<D, A>; SHARDS],
 ) -> bool

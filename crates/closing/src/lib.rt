@@ -1,6 +1,7 @@
 //! The close of a host.
 #![tactic(auto)]
 
+mod closed;
 mod comparing;
 mod counts;
 mod ended;
@@ -9,6 +10,7 @@ mod mismatch;
 mod seeing;
 mod settled;
 
+pub use closed::{Closed, Uneven, close};
 pub use ended::Ended;
 pub use feed::{Feed, Taker};
 pub use mismatch::Mismatch;

@@ -1,0 +1,112 @@
+//! A host that has closed, and one that hasn't.
+
+ghost use Rattle.std.specs.Prelude.{◌≡◌, ◌<◌, ℕ, List, [], length, map, All, IfOk, IfErr, IfSome, IfNone};
+ghost use Rattle.std.specs.List.Sorted.{IsStrictlySortedBy};
+ghost use Rattle.std.specs.Cmp.Lexicographic.{slice_cmp};
+ghost use Rattle.std.specs.Ordering.{nat_cmp};
+ghost use Rattle.notices.specs.Views.{received_one};
+ghost use Rattle.closing.specs.Tally.{tally, count};
+ghost use Rattle.closing.specs.Counts.{count_in, positive};
+ghost use Rattle.closing.specs.Ending.{IsEndedAt, joined_all, kept_by};
+ghost use Rattle.closing.specs.Settling.{IsSettled, IsUneven, AreSquare};
+
+use crate::comparing::compare;
+use crate::counts::{all_counts, listed};
+use crate::ended::Ended;
+use crate::feed::Feed;
+use crate::mismatch::Mismatch;
+use crate::settled::{Settled, settle_all};
+use cid::{Cid, Digest};
+use notices::{Notice, Queue};
+use repo::Core;
+use std::alloc::{AllocError, Allocator, Global};
+use std::marker::Model;
+use std::sync::Wait;
+use store::{SHARDS, Shard, shard_number};
+
+/// A host that has closed: its cores and the tables of its shards agree, so that each block's count is the number of cores
+/// that have it.
+pub struct Closed<D: Digest, const B: u8, A: Allocator = Global> {
+    queue: Queue<A>,
+    feed: notices::Feed,
+    settled: Vec<Settled<A>, A>,
+    cores: Vec<Core<D, B, A>, A>,
+    tables: [Shard<D, A>; SHARDS],
+}
+
+impl<D: Digest, const B: u8, A: Allocator> Model for Closed<D, B, A> {
+    ghost use Rattle.std.specs.Coded.{codes};
+    ghost use Rattle.store.specs.Table.{table_code};
+    ghost use Rattle.closing.specs.Settling.{ClosedView, IsClosed};
+
+    ghost Value = { ClosedView };
+
+    ghost coded = { Prim.hlevel (codes, table_code) };
+
+    ghost view = { λ c. record { cores = c.cores.items; tables = c.tables; feed = c.feed; ended = c.settled.items } };
+
+    ghost invariant = { λ c. IsClosed D.digest_of B c.queue.queue_id c.cores.items c.tables c.feed c.settled.items };
+}
+
+/// Cores and tables that don't agree.
+pub struct Uneven<D: Digest, const B: u8, A: Allocator = Global> {
+    cores: Vec<Core<D, B, A>, A>,
+    tables: [Shard<D, A>; SHARDS],
+    ended: Vec<Ended<A>, A>,
+    mismatch: Mismatch,
+}
+
+impl<D: Digest, const B: u8, A: Allocator> Model for Uneven<D, B, A> {
+    ghost use Rattle.std.specs.Coded.{codes};
+    ghost use Rattle.store.specs.Table.{table_code};
+    ghost use Rattle.closing.specs.Settling.{UnevenView, IsUneven};
+
+    ghost Value = { UnevenView };
+
+    ghost coded = { Prim.hlevel (codes, table_code) };
+
+    ghost view = { λ u. record { cores = u.cores.items; tables = u.tables; ended = u.ended.items; mismatch = u.mismatch } };
+
+    ghost invariant = { λ u. IsUneven D.digest_of B u.cores.items u.tables u.ended.items u.mismatch };
+}
+
+/// Compares cores with tables and with what writers have seen, and lets the writers' passes join the feed.
+pub fn close<D: Digest, const B: u8, A: Allocator>(
+    queue: Queue<A>,
+    feed: Feed<A>,
+    ended: Vec<Ended<A>, A>,
+    cores: Vec<Core<D, B, A>, A>,
+    tables: [Shard<D, A>; SHARDS],
+) -> Result<Closed<D, B, A>, Uneven<D, B, A>>
+    requires feed { feed.queue_id ≡ queue.queue_id }
+    requires fresh { feed.joined ≡ [] }
+    requires ended { All (IsEndedAt queue.queue_id (length cores.items)) ended.items }
+    requires all { length ended.items ≡ feed.made }
+    ensures cores { IfOk result (λ c. c.cores ≡ cores.items) }
+    ensures tables { IfOk result (λ c. c.tables ≡ tables) }
+    ensures ended { IfOk result (λ c. c.ended ≡ ended.items) }
+    ensures joined { IfOk result (λ c. c.feed ≡ joined_all feed ended.items) }
+    ensures settled { IfOk result (λ c. IsSettled D.digest_of B c.cores c.tables c.ended) }
+    ensures same { IfErr result (λ u. u ≡ record { cores = cores.items; tables = tables; ended = ended.items; mismatch = u.mismatch }) }
+    ensures uneven { IfErr result (λ u. IsUneven D.digest_of B u.cores u.tables u.ended u.mismatch) }
+{
+    match compare::<D, B, A>(&cores, &tables, &ended) {
+        Ok(()) => {
+            let Feed { mut feed, room } = feed;
+            let settled = settle_all(&queue, &mut feed, ended, room);
+            Ok(Closed {
+                queue,
+                feed,
+                settled,
+                cores,
+                tables,
+            })
+        }
+        Err(mismatch) => Err(Uneven {
+            cores,
+            tables,
+            ended,
+            mismatch,
+        }),
+    }
+}
