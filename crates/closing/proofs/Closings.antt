@@ -1,10 +1,18 @@
 -- What a close finds, at the values that it is given.
-use Rattle.std.proofs.Common.{◌≡◌, ℕ, List, [], ◌++◌, length, map, refl, sym, ap, ◌∙◌, subst}
+use Rattle.std.proofs.Common.{◌≡◌, ℕ, ◌<◌, List, [], ◌∷◌, ◌++◌, length, map, refl, sym, ap, ◌∙◌, subst, cond, nat_eq, Bool, true, false, Option, None, Some, Result, Ok, Err}
+use Rattle.std.specs.Prelude.{filter, IfOk, IfSome, IfNone}
+use Rattle.std.specs.declared.vec.Vec.{Vec}
+use Rattle.std.proofs.lemmas.List.{length-map}
 use Rattle.spec.specs.States.{State}
 use Rattle.store.specs.Table.{Table}
-use Rattle.notices.specs.Views.{QueueId, FeedView}
-use Rattle.closing.specs.Ending.{EndedView, account_of, joined_all}
-use Rattle.closing.specs.Settling.{IsSettled, IsUneven, IsClosed}
+use Rattle.notices.specs.declared.notice.Notice.{Notice}
+use Rattle.notices.specs.declared.rule.Account.{Account}
+use Rattle.notices.specs.Numbering.{of}
+use Rattle.notices.specs.Rule.{account}
+use Rattle.notices.specs.Views.{QueueId, FeedView, first_sent, received_one, HaveAllJoined, IsAllReceived}
+use Rattle.closing.specs.Counts.{count_in}
+use Rattle.closing.specs.Ending.{EndedView, account_of, joined_all, kept_by, told, told_by}
+use Rattle.closing.specs.Settling.{IsSettled, IsUneven, IsClosed, ClosedView, AreSquare}
 use Rattle.closing.specs.declared.mismatch.Mismatch.{Mismatch}
 
 module _ (digest : List ℕ → List ℕ) (bits : ℕ) (tables : List Table) where
@@ -27,3 +35,46 @@ module _ (digest : List ℕ → List ℕ) (bits : ℕ) (tables : List Table) whe
     all = ap length same ∙ all ∙ sym (ap (λ (f : FeedView). f.made) feed ∙ ap (λ (f : FeedView). f.made) view);
     settled = subst (λ x. IsSettled digest bits cores tables x) (sym same) h;
   }
+
+  -- after a look at what is left
+  pub closed_after : (queue_id : QueueId) (cores : List State) (old new : FeedView) (ended : List EndedView) → IsClosed digest bits queue_id cores tables old ended → (r : Option Notice)
+      → IfSome r (λ n. new ≡ received_one old n) → IfNone r (new ≡ old) → IsClosed digest bits queue_id cores tables new ended
+  closed_after queue_id cores old new ended h None some none = subst (λ (f : FeedView). IsClosed digest bits queue_id cores tables f ended) (sym none) h
+  closed_after queue_id cores old new ended h (Some n) some none =
+      subst (λ (f : FeedView). IsClosed digest bits queue_id cores tables f ended) (sym some) (record { queue = h.queue; joined = h.joined; all = h.all; settled = h.settled })
+
+pub received_at : (r : Option Notice) (v old : ClosedView) (f : FeedView) → v ≡ old → IfSome r (λ n. f ≡ received_one v.feed n)
+    → IfSome r (λ n. record v { feed = f } ≡ record old { feed = received_one old.feed n })
+received_at None v old f view h = tt
+received_at (Some n) v old f view h = subst (λ (o : ClosedView). record v { feed = f } ≡ record o { feed = received_one o.feed n }) view (λ i. record v { feed = h i })
+
+pub unchanged_at : (r : Option Notice) (v old : ClosedView) (f : FeedView) → v ≡ old → IfNone r (f ≡ v.feed) → IfNone r (record v { feed = f } ≡ old)
+unchanged_at None v old f view h = subst (λ (o : ClosedView). record v { feed = f } ≡ o) view (λ i. record v { feed = h i })
+unchanged_at (Some n) v old f view h = tt
+
+-- where the one account of a writer is what was received of it
+squared : (ended : List EndedView) (writer : ℕ) (sent : List Notice) → filter (λ (a : Account). nat_eq a.writer writer) (map account_of ended) ≡ account writer sent ∷ []
+    → sent ++ kept_by ended writer ≡ told_by ended writer
+squared [] writer sent h = absurd cc
+squared (e ∷ es) writer sent h = step (nat_eq e.pass.writer writer) (squared es writer sent) h
+  where
+    step : (b : Bool)
+        → (filter (λ (a : Account). nat_eq a.writer writer) (map account_of es) ≡ account writer sent ∷ [] → sent ++ kept_by es writer ≡ told_by es writer)
+        → cond b (account_of e ∷ filter (λ (a : Account). nat_eq a.writer writer) (map account_of es)) (filter (λ (a : Account). nat_eq a.writer writer) (map account_of es)) ≡ account writer sent ∷ []
+        → sent ++ cond b e.kept (kept_by es writer) ≡ cond b (told e.pass e.kept) (told_by es writer)
+    step true rest h = ap (λ l. l ++ e.kept) (sym (ap first_sent h))
+    step false rest h = rest h
+
+pub square_at : (r : Option Notice) (new old : FeedView) (ended : List EndedView) → old.joined ≡ map account_of ended → length ended ≡ old.made
+    → IfNone r (new ≡ old) → IfNone r (HaveAllJoined new → IsAllReceived new) → IfNone r (AreSquare new ended)
+square_at None new old ended joined all same received = λ writer less.
+    let here : new.joined ≡ map account_of ended = ap (λ (f : FeedView). f.joined) same ∙ joined in
+    let count : length new.joined ≡ new.made = ap length here ∙ length-map ended account_of ∙ all ∙ sym (ap (λ (f : FeedView). f.made) same) in
+    squared ended writer (of writer new.received)
+    (ap (filter (λ (a : Account). nat_eq a.writer writer)) (sym here) ∙ received count writer less)
+square_at (Some n) new old ended joined all same received = tt
+
+pub counts_at : {A E : Type 0} (r : Result (Vec (List ℕ × ℕ) A) E) (entries : List (List ℕ × ℕ)) (f : List ℕ → Option ℕ) → IfOk r (λ v. v.items ≡ entries)
+    → ((cid : List ℕ) → count_in entries cid ≡ f cid) → IfOk r (λ v. (cid : List ℕ) → count_in v.items cid ≡ f cid)
+counts_at (Ok v) entries f same h = λ cid. ap (λ es. count_in es cid) same ∙ h cid
+counts_at (Err e) entries f same h = tt

@@ -11,7 +11,7 @@ ghost use Rattle.closing.specs.Ending.{IsEndedAt, joined_all, kept_by};
 ghost use Rattle.closing.specs.Settling.{IsSettled, IsUneven, AreSquare};
 
 use crate::comparing::compare;
-use crate::counts::{all_counts, listed};
+use crate::counts::{all_counts, count_in_shard, listed};
 use crate::ended::Ended;
 use crate::feed::Feed;
 use crate::mismatch::Mismatch;
@@ -22,7 +22,7 @@ use repo::Core;
 use std::alloc::{AllocError, Allocator, Global};
 use std::marker::Model;
 use std::sync::Wait;
-use store::{SHARDS, Shard, shard_number};
+use store::{SHARDS, Shard};
 
 /// A host that has closed: its cores and the tables of its shards agree, so that each block's count is the number of cores
 /// that have it.
@@ -68,6 +68,62 @@ impl<D: Digest, const B: u8, A: Allocator> Model for Uneven<D, B, A> {
     ghost view = { λ u. record { cores = u.cores.items; tables = u.tables; ended = u.ended.items; mismatch = u.mismatch } };
 
     ghost invariant = { λ u. IsUneven D.digest_of B u.cores.items u.tables u.ended.items u.mismatch };
+}
+
+impl<D: Digest, const B: u8, A: Allocator> Closed<D, B, A> {
+    /// The cores, in the order of their numbers.
+    pub fn cores(&self) -> &[Core<D, B, A>]
+        ensures { result.now ≡ self.now.cores }
+    {
+        &self.cores
+    }
+
+    /// How many of the cores have a block with this CID, which is the count that its entry in the table of its shard has, 0
+    /// without an entry. It takes no memory.
+    pub fn count(&self, cid: &Cid) -> u64
+        ensures entry { result ≡ count self.now.tables cid.now }
+        ensures tally { result ≡ tally D.digest_of B self.now.cores cid.now }
+    {
+        count_in_shard(&self.tables, cid)
+    }
+
+    /// Takes the oldest notice that was left in the queue, or answers `None` only where the queue was empty at some moment of
+    /// the call. Then what was received of each writer, and after it what the writer kept, is what it told.
+    ///
+    /// It takes no memory, and waits for nothing but the queue's own steps.
+    pub fn next_left<R: Wait>(&mut self, rt: &R) -> Option<Notice>
+        ensures received { IfSome result (λ notice. self.new ≡ record self.old { feed = received_one self.old.feed notice }) }
+        ensures known { IfSome result (λ notice. notice.writer < self.new.feed.made) }
+        ensures unchanged { IfNone result (self.new ≡ self.old) }
+        ensures square { IfNone result (AreSquare self.new.feed self.new.ended) }
+    {
+        self.queue.take(rt, &mut self.feed)
+    }
+
+    /// The notices that the writer of this number kept, the oldest first: none where no writer has it. It takes no memory.
+    pub fn kept(&self, writer: u32) -> &[Notice]
+        ensures { result.now ≡ kept_by self.now.ended writer }
+    {
+        for settled in &self.settled {
+            if settled.writer() == writer {
+                return settled.kept();
+            }
+        }
+        &[]
+    }
+}
+
+impl<D: Digest, const B: u8, A: Allocator + Clone> Closed<D, B, A> {
+    /// Each CID of a count above 0, with its count, in ascending order of the CIDs.
+    ///
+    /// `AllocError` comes where memory was refused.
+    pub fn counts(&self, alloc: A) -> Result<Vec<(Cid, u64), A>, AllocError>
+        ensures ascending { IfOk result (λ v. IsStrictlySortedBy (slice_cmp nat_cmp) (map (λ e. e.0) v.items)) }
+        ensures counts { IfOk result (λ v. (cid : List ℕ) → count_in v.items cid ≡ positive (tally D.digest_of B self.now.cores cid)) }
+    {
+        let all = all_counts(alloc.clone()?, &self.tables)?;
+        listed(alloc, all)
+    }
 }
 
 /// Compares cores with tables and with what writers have seen, and lets the writers' passes join the feed.

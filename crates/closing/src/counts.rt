@@ -12,6 +12,13 @@ use std::alloc::{AllocError, Allocator};
 use std::collections::BTreeMap;
 use store::{SHARDS, Shard, shard_number};
 
+/// The count of a CID, by the table of its shard.
+pub(crate) fn count_in_shard<D: Digest, A: Allocator>(tables: &[Shard<D, A>; SHARDS], cid: &Cid) -> u64
+    ensures { result ≡ count tables.now cid.now }
+{
+    tables[shard_number(cid)].count(cid)
+}
+
 /// Puts the counts of a shard's table to the others.
 fn add_counts<D: Digest, A: Allocator + Clone>(
     all: &mut BTreeMap<Cid, u64, A>,
