@@ -1,8 +1,9 @@
 -- What a close finds, at the values that it is given.
-use Rattle.std.proofs.Common.{◌≡◌, ℕ, ◌<◌, List, [], ◌∷◌, ◌++◌, length, map, refl, sym, ap, ◌∙◌, subst, cond, nat_eq, Bool, true, false, Option, None, Some, Result, Ok, Err}
+use Rattle.std.proofs.Common.{◌≡◌, ◌≢◌, ℕ, ◌<◌, ◌+◌, drop, get_or, arith, List, [], ◌∷◌, ◌++◌, length, map, refl, sym, ap, ◌∙◌, subst, cond, nat_eq, Bool, true, false, Option, None, Some, Result, Ok, Err}
 use Rattle.std.specs.Prelude.{filter, IfOk, IfSome, IfNone}
 use Rattle.std.specs.declared.vec.Vec.{Vec}
-use Rattle.std.proofs.lemmas.List.{length-map}
+use Rattle.std.proofs.lemmas.List.{length-map, at_drop_more}
+use Rattle.std.proofs.lemmas.Bool.Decides.{nat_tests}
 use Rattle.spec.specs.States.{State}
 use Rattle.store.specs.Table.{Table}
 use Rattle.notices.specs.declared.notice.Notice.{Notice}
@@ -78,3 +79,20 @@ pub counts_at : {A E : Type 0} (r : Result (Vec (List ℕ × ℕ) A) E) (entries
     → ((cid : List ℕ) → count_in entries cid ≡ f cid) → IfOk r (λ v. (cid : List ℕ) → count_in v.items cid ≡ f cid)
 counts_at (Ok v) entries f same h = λ cid. ap (λ es. count_in es cid) same ∙ h cid
 counts_at (Err e) entries f same h = tt
+
+-- the writer at a place, in a search by its number
+module _ (ended : List EndedView) (place : ℕ) (e : EndedView) (writer : ℕ) (less : place < length ended) (is : e ≡ get_or ended place e) where
+  kept_step : kept_by (drop place ended) writer ≡ cond (nat_eq e.pass.writer writer) e.kept (kept_by (drop (place + 1) ended) writer)
+  kept_step =
+      at_drop_more (λ (es : List EndedView). kept_by es writer) ended place e less
+      ∙ ap (λ (x : EndedView). cond (nat_eq x.pass.writer writer) x.kept (kept_by (drop (place + 1) ended) writer)) (sym is)
+
+  pub kept_found : (number : ℕ) → number ≡ e.pass.writer → number ≡ writer → e.kept ≡ kept_by (drop place ended) writer
+  kept_found number mine same =
+      let found : nat_eq e.pass.writer writer ≡ true = grind (arith, nat_tests) in
+      sym (kept_step ∙ ap (λ b. cond b e.kept (kept_by (drop (place + 1) ended) writer)) found)
+
+  pub kept_further : (number : ℕ) → number ≡ e.pass.writer → number ≢ writer → kept_by (drop (place + 1) ended) writer ≡ kept_by (drop place ended) writer
+  kept_further number mine other =
+      let missed : nat_eq e.pass.writer writer ≡ false = grind (arith, nat_tests) in
+      sym (kept_step ∙ ap (λ b. cond b e.kept (kept_by (drop (place + 1) ended) writer)) missed)
