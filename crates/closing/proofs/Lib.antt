@@ -3,3 +3,4 @@ pub mod Tallies
 pub mod Entries
 pub mod Adding
 pub mod Closings
+pub mod FromScratch

@@ -1,21 +1,27 @@
 //! A host that has closed, and one that hasn't.
 
-ghost use Rattle.std.specs.Prelude.{◌≡◌, ◌<◌, ℕ, List, [], length, map, All, IfOk, IfErr, IfSome, IfNone};
+ghost use Rattle.std.specs.Prelude.{◌≡◌, ◌<◌, ℕ, List, [], length, map, All, slice_index_or, IfOk, IfErr, IfSome, IfNone};
 ghost use Rattle.std.specs.List.Sorted.{IsStrictlySortedBy};
 ghost use Rattle.std.specs.Cmp.Lexicographic.{slice_cmp};
 ghost use Rattle.std.specs.Ordering.{nat_cmp};
 ghost use Rattle.notices.specs.Views.{received_one};
+ghost use Rattle.spec.specs.States.{State};
+ghost use Rattle.batches.specs.Values.{shared_writes, stamps_of};
+ghost use Rattle.kept.specs.Uses.{used_blocks};
+ghost use Rattle.closing.specs.Headline.{IsFromScratch, AreTallies};
 ghost use Rattle.closing.specs.Tally.{tally, count};
 ghost use Rattle.closing.specs.Counts.{count_in, positive};
 ghost use Rattle.closing.specs.Ending.{IsEndedAt, joined_all, kept_by};
 ghost use Rattle.closing.specs.Settling.{IsSettled, IsUneven, AreSquare};
 
 use crate::comparing::compare;
+use crate::element::element;
 use crate::counts::{all_counts, count_in_shard, listed};
 use crate::ended::Ended;
 use crate::feed::Feed;
 use crate::mismatch::Mismatch;
 use crate::settled::{Settled, settle_all};
+use crate::shown::{Shown, show};
 use cid::{Cid, Digest};
 use notices::{Notice, Queue};
 use repo::Core;
@@ -76,6 +82,21 @@ impl<D: Digest, const B: u8, A: Allocator> Closed<D, B, A> {
         ensures { result.now ≡ self.now.cores }
     {
         &self.cores
+    }
+
+    /// The headline: the repository of this number as it is shown, and the counts of all blocks.
+    ///
+    /// Its root, its commit and its blocks are those, and no others, of the Merkle search tree built from scratch from the
+    /// records that its accepted writes leave, with the commit of its last stamp; and the count of each CID is the number of
+    /// the cores that have a block with it. It takes no memory.
+    pub fn shown(&self, number: usize) -> Shown<'_, D, A>
+        requires { number < length self.now.cores }
+        ensures accepted { (d : State) → shared_writes result.accepted.now ≡ (slice_index_or self.now.cores number d).accepted }
+        ensures stamps { (d : State) → stamps_of result.stamps.now ≡ (slice_index_or self.now.cores number d).stamps }
+        ensures from_scratch { IsFromScratch D.digest_of B (shared_writes result.accepted.now) (stamps_of result.stamps.now) result.root result.commit (used_blocks result.blocks.entries) }
+        ensures counts { AreTallies D.digest_of B self.now.cores self.now.tables }
+    {
+        show(element(&self.cores, number))
     }
 
     /// How many of the cores have a block with this CID, which is the count that its entry in the table of its shard has, 0
