@@ -26,6 +26,15 @@ pub enum Command {
         senders: u32,
         rounds: u32,
     },
+    Apply {
+        count: u32,
+        batch: u32,
+        rounds: u32,
+    },
+    ApplyFlat {
+        count: u32,
+        rounds: u32,
+    },
 }
 
 impl Command {
@@ -59,6 +68,21 @@ impl Command {
                     senders,
                     rounds,
                 })
+            }
+            ("apply", 4) => {
+                let count = number(words, 1)?;
+                let batch = number(words, 2)?;
+                let rounds = number(words, 3)?;
+                (count <= 1_000_000 && batch >= 1).then_some(Command::Apply {
+                    count,
+                    batch,
+                    rounds,
+                })
+            }
+            ("apply-flat", 3) => {
+                let count = number(words, 1)?;
+                let rounds = number(words, 2)?;
+                (count <= 500_000).then_some(Command::ApplyFlat { count, rounds })
             }
             _ => None,
         }

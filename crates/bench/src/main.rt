@@ -8,12 +8,15 @@ mod lookups;
 mod made;
 mod queues;
 mod records;
+mod repositories;
 mod trees;
 
 use crate::command::Command;
 use crate::edits::{Change, Done, Tree};
+use crate::repositories::{Plan, Took};
 use edit::BlockMap;
 use std::alloc::Global;
+use std::rt::Files;
 use std::sync::Wait;
 use std::thread::Threads;
 use std::time::{Clock, Instant};
@@ -32,7 +35,13 @@ usage: bench store COUNT ROUNDS
          makes a tree of COUNT keys, at most 1,048,576, puts a quarter as many more, at most 10,000, deletes these again
          and then as many of the first, ROUNDS times
        bench notices COUNT SENDERS ROUNDS
-         sends COUNT notices from SENDERS threads, 1 to 64, through a queue of 1,024 to one taker, ROUNDS times";
+         sends COUNT notices from SENDERS threads, 1 to 64, through a queue of 1,024 to one taker, ROUNDS times
+       bench apply COUNT BATCH ROUNDS
+         makes a repository of COUNT keys, at most 1,000,000, with records of 288 bytes, and puts a quarter as many more, at
+         most 10,000, and deletes these again, BATCH a batch, ROUNDS times, in turns with edits of its tree alone
+       bench apply-flat COUNT ROUNDS
+         makes a repository of COUNT keys, at most 500,000, that are all of layer 0, and puts ten more and deletes these
+         again, one a batch, ROUNDS times, in turns with edits of its tree alone";
 
 fn main(rt: HostRuntime) -> io::Result<()> {
     let words: Vec<String> = env::args(&rt)?.skip(1).collect(rt.alloc())?;
@@ -49,6 +58,20 @@ fn main(rt: HostRuntime) -> io::Result<()> {
                 rounds,
             },
         ) => notices(&rt, rt.alloc(), count, senders, rounds),
+        Some(
+            Command::Apply {
+                count,
+                batch,
+                rounds,
+            },
+        ) => {
+            let plan = Plan::usual(rt.alloc(), count)?;
+            apply(&rt, rt.alloc(), &plan, batch as usize, rounds)
+        }
+        Some(Command::ApplyFlat { count, rounds }) => {
+            let plan = Plan::flat(rt.alloc(), count)?;
+            apply(&rt, rt.alloc(), &plan, 1, rounds)
+        }
         None => println!(rt; "{USAGE}"),
     }
 }
@@ -198,5 +221,53 @@ fn notices<R: Threads + Wait + Sync + Clock + Print>(
         told.received,
         told.sum,
         told.least / u128::from(told.received).max(1)
+    )
+}
+
+/// Prints what a write to a repository took at the least, beside an edit of its tree alone, and what memory a record takes.
+fn apply<R: Wait + Clock + Files + Print>(
+    rt: &R,
+    alloc: Global,
+    plan: &Plan,
+    batch: usize,
+    rounds: u32,
+) -> io::Result<()> {
+    let Some(measured) = repositories::measure(rt, alloc, plan, batch, rounds)? else {
+        return println!(rt; "refused");
+    };
+    let (keys, writes) = (plan.keys() as u128, plan.new.len() as u128);
+    println!(rt; "{keys} keys, {writes} writes, {batch} a batch")?;
+    took(rt, "put", &measured.puts, writes)?;
+    took(rt, "delete", &measured.deletes, writes)?;
+    println!(rt;
+        "{} nodes come with the puts one by one, {} with their batches at once",
+        measured.added, measured.left
+    )?;
+    if let Some(grown) = measured.grown
+        && plan.gone.is_empty()
+    {
+        println!(rt;
+            "{} bytes of memory a key and its record of 288 bytes",
+            u128::from(grown) / keys.max(1)
+        )?;
+    }
+    match measured.commit {
+        Some(commit) => println!(rt; "the last commit is {commit}"),
+        None => Ok(()),
+    }
+}
+
+/// Prints the microseconds of a write, and the ratio in hundredths.
+fn took<R: Print>(rt: &R, name: &str, took: &Took, writes: u128) -> io::Result<()> {
+    let (applied, alone) = (took.applied / writes.max(1), took.alone / writes.max(1));
+    let ratio = applied.saturating_mul(100) / alone.max(1);
+    println!(rt;
+        "{name}: {}.{} microseconds a write at the least, {}.{} by edit alone, ratio {}.{:02}",
+        applied / 1000,
+        applied % 1000 / 100,
+        alone / 1000,
+        alone % 1000 / 100,
+        ratio / 100,
+        ratio % 100
     )
 }

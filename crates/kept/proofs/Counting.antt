@@ -1,5 +1,5 @@
 -- The counts of the kept blocks, and how they follow the changes of the map.
-use Rattle.std.proofs.Common.{zero, suc, ◌≡◌, ℕ, ◌<◌, ◌-◌, ◌∷◌, [], ◌++◌, List, refl, ap, sym, ◌∙◌, subst, cond, Bool, true, false, arith}
+use Rattle.std.proofs.Common.{zero, suc, ◌≡◌, ℕ, ◌<◌, ◌+◌, ◌-◌, ◌∷◌, [], ◌++◌, List, refl, ap, sym, ◌∙◌, subst, cond, Bool, true, false, arith}
 use Rattle.std.specs.Prelude.{Option, Some, None, option_map, not, ◌||◌}
 use Rattle.std.specs.Arc.{arc_value}
 use Rattle.std.specs.Ordering.{nat_cmp, is_eq}
@@ -269,7 +269,7 @@ module _ {D A : Type 0} where
       subst (λ (x : List ℕ). IsKept digest me fs (with_note ts x fresh)) (sym name)
       (kept_put digest me es fs ts (with_note ts (cid_of digest bytes) fresh) (cid_of digest bytes) (Some h.u) k h.updated
       (λ u e. subst (IsUse digest me (cid_of digest bytes)) (the_same h.u u e)
-      (record { named = ap (cid_of digest) (sym h.bytes_are); mine = h.mine }))
+      (record { named = ap (cid_of digest) (sym h.bytes_are); mine = h.mine; used = let n = h.next_is in omega (arith, n) }))
       (noted_raised digest me es ts (cid_of digest bytes) (Some h.u) fresh k (at es (cid_of digest bytes)) refl e))
 
   the_kept : (w u : Use D A) (m n : ℕ) → if_kept w m n ≡ Some u → w ≡ u
@@ -277,11 +277,16 @@ module _ {D A : Type 0} where
   the_kept w u zero (suc n) e = the_same w u e
   the_kept w u (suc m) n e = the_same w u e
 
+  still_used : (w u : Use D A) (m n : ℕ) → if_kept w m n ≡ Some u → 0 < m + n
+  still_used w u zero zero e = absurd cc
+  still_used w u zero (suc n) e = omega arith
+  still_used w u (suc m) n e = omega arith
+
   lowered_is : (digest : List ℕ → List ℕ) (me : ℕ) (c : List ℕ) (o : Option (Use D A)) → ((u : Use D A) → o ≡ Some u → IsUse digest me c u)
       → (u : Use D A) → lowered_in o ≡ Some u → IsUse digest me c u
   lowered_is digest me c None h u e = absurd cc
   lowered_is digest me c (Some v) h u e = subst (IsUse digest me c) (the_kept (lowered_use v) u v.uses (v.next - 1) e)
-      (let i = h v refl in record { named = i.named; mine = i.mine })
+      (let i = h v refl in record { named = i.named; mine = i.mine; used = still_used (lowered_use v) u v.uses (v.next - 1) e })
 
   pub kept_lowered : (digest : List ℕ → List ℕ) (me : ℕ) (es fs : Uses D A) (ts : List (List ℕ)) (c : List ℕ) (fresh : Bool)
       → IsKept digest me es ts → Updated (at es) (at fs) c (lowered_in (at es c)) → fresh ≡ is_unnoted (at es c)
@@ -354,13 +359,13 @@ module _ {D A : Type 0} where
       used Accept (suc n) z e =
           let i = is v refl in
           let s : IsSettled (settled_use Accept v) = record { same = refl; some = omega (arith, z); plain = refl } in (
-            subst (IsUse digest me c) (the_same (settled_use Accept v) u e) (record { named = i.named; mine = i.mine }),
+            subst (IsUse digest me c) (the_same (settled_use Accept v) u e) (record { named = i.named; mine = i.mine; used = omega (arith, z) }),
             subst (λ x. IsSettled x) (the_same (settled_use Accept v) u e) s,
           )
       used Refuse (suc n) z e =
           let i = is v refl in
           let s : IsSettled (settled_use Refuse v) = record { same = refl; some = omega (arith, z); plain = refl } in (
-            subst (IsUse digest me c) (the_same (settled_use Refuse v) u e) (record { named = i.named; mine = i.mine }),
+            subst (IsUse digest me c) (the_same (settled_use Refuse v) u e) (record { named = i.named; mine = i.mine; used = omega (arith, z) }),
             subst (λ x. IsSettled x) (the_same (settled_use Refuse v) u e) s,
           )
 

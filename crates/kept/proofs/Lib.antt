@@ -4,3 +4,4 @@ pub mod Outcomes
 pub mod Keepings
 pub mod LentTrees
 pub mod Listing
+pub mod Leaving

@@ -1,5 +1,5 @@
 -- What is kept, as the map of blocks that the code has.
-use Rattle.std.specs.Prelude.{◌≡◌, ◌<◌, ◌-◌, ℕ, zero, suc, List, [], ◌∷◌, ◌++◌, Bool, false, true, not, cond, Option, None, Some, option_map}
+use Rattle.std.specs.Prelude.{◌≡◌, ◌<◌, ◌+◌, ◌-◌, ℕ, zero, suc, List, [], ◌∷◌, ◌++◌, Bool, false, true, not, cond, Option, None, Some, option_map}
 use Rattle.std.specs.List.{list_any}
 use Rattle.std.specs.Arc.{arc_value}
 use Rattle.std.specs.Ordering.{nat_cmp}
@@ -8,7 +8,7 @@ use Rattle.std.specs.BTreeMap.{is_at}
 use Rattle.std.specs.FinMap as map
 use Rattle.std.specs.declared.sync.Arc.{Arc}
 use Rattle.spec.specs.Cid.{cid as cid_of}
-use Rattle.kept.specs.Counts.{Counts, Keeping, with_count}
+use Rattle.kept.specs.Counts.{Counts, Keeping, with_count, bytes_at}
 use Rattle.kept.specs.declared.kept_use.Use.{Use}
 use Rattle.kept.specs.declared.kept_use.End.{End}
 use Rattle.kept.specs.declared.kept_use.End.TheVariants.{Accept, Refuse}
@@ -26,7 +26,10 @@ abbrev pub settled_use : {D A : Type 0} → End → Use D A → Use D A
 settled_use Accept u = record u { uses = u.next; noted = false }
 settled_use Refuse u = record u { next = u.uses; noted = false }
 
--- the use with one less that is staged
+-- the use with one more that is staged, and with one less
+abbrev pub raised_use : {D A : Type 0} → Use D A → Use D A
+raised_use u = record u { next = suc u.next; noted = true }
+
 abbrev pub lowered_use : {D A : Type 0} → Use D A → Use D A
 lowered_use u = record u { next = u.next - 1; noted = true }
 
@@ -64,6 +67,18 @@ is_unnoted (Some u) = not u.noted
 abbrev pub Updated : {D A : Type 0} → (List ℕ → Option (Use D A)) → (List ℕ → Option (Use D A)) → List ℕ
     → Option (Use D A) → Type 0
 Updated f g k o = (q : List ℕ) → g q ≡ cond (is_at (slice_cmp nat_cmp k) q) o (f q)
+
+-- n has what m has, but what F makes of the entry under k
+abbrev pub IsChanged : {D A : Type 0} → (Option (Use D A) → Option (Use D A)) → Uses D A → Uses D A → List ℕ → Type 0
+IsChanged F m n k = Updated (at m) (at n) k (F (at m k))
+
+-- a block of these bytes is held and not noted, or not held
+abbrev pub is_fresh : {D A : Type 0} → (List ℕ → List ℕ) → Uses D A → List ℕ → Bool
+is_fresh digest m bytes = not (is_noted (at m (cid_of digest bytes)))
+
+-- two blocks have one CID
+abbrev pub HaveOneCid : (List ℕ → List ℕ) → List ℕ → List ℕ → Type 0
+HaveOneCid digest a b = cid_of digest a ≡ cid_of digest b
 
 -- the CIDs that are noted, with one that is fresh
 abbrev pub with_note : List (List ℕ) → List ℕ → Bool → List (List ℕ)
@@ -108,10 +123,15 @@ used_blocks (e ∷ es) = if_any (arc_value e.1.hold.0) e.1.uses (used_blocks es)
 abbrev pub lent : {D A : Type 0} → Uses D A → List ℕ → Option (Arc (List ℕ) A)
 lent m c = option_map (λ u. u.hold.0) (at m c)
 
--- a use stands under the CID of its block, and its hold is this core's
+-- each block that these counts have is lent
+abbrev pub HasAll : {D A : Type 0} → Uses D A → Counts → Type 0
+HasAll m counts = (c bytes : List ℕ) → bytes_at counts c ≡ Some bytes → option_map arc_value (lent m c) ≡ Some bytes
+
+-- a use stands under the CID of its block, its hold is this core's, and it is used
 pub record IsUse {D A : Type 0} (digest : List ℕ → List ℕ) (me : ℕ) (c : List ℕ) (u : Use D A) : Type 0 where
   pub named : c ≡ cid_of digest (arc_value u.hold.0)
   pub mine : u.hold.1 ≡ me
+  pub used : 0 < u.uses + u.next
 
 abbrev pub AreUses : {D A : Type 0} → (List ℕ → List ℕ) → ℕ → (List ℕ → Option (Use D A)) → Type 0
 AreUses digest me f = (q : List ℕ) (u : Use _ _) → f q ≡ Some u → IsUse digest me q u
@@ -144,3 +164,6 @@ pub record IsRaised {D A : Type 0} (digest : List ℕ → List ℕ) (me : ℕ) (
   pub next_is : u.next ≡ suc (next_of (f (cid_of digest bytes)))
   pub no_other : (v : Use D A) → f (cid_of digest bytes) ≡ Some v → arc_value v.hold.0 ≡ bytes
   pub updated : Updated f g (cid_of digest bytes) (Some u)
+
+abbrev pub IsRaisedIn : {D A : Type 0} → (List ℕ → List ℕ) → ℕ → Uses D A → Uses D A → List ℕ → Type 0
+IsRaisedIn digest me m n bytes = IsRaised digest me (at m) (at n) bytes

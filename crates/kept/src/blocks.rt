@@ -19,7 +19,7 @@ pub struct Blocks<'a, D: Digest, A: Allocator = Global> {
 impl<'a, D: Digest, A: Allocator> Iterator for Blocks<'a, D, A> {
     type Item = &'a Arc<Block<D, A>, A>;
 
-    ghost next_gives = { YieldsFirstBy (λ item. arc_value item.now) (λ left. used_blocks left.entries) };
+    ghost next_gives = { YieldsFirstBy (λ b. arc_value b.now) (λ left. used_blocks left.entries) };
 
     ghost remaining = { item_count (λ left. used_blocks left.entries) };
 

@@ -1,12 +1,12 @@
 //! What a core keeps.
 
-ghost use Rattle.std.specs.Prelude.{◌≡◌, ◌<◌, ℕ, List, Some, [], option_map, vec_len, vec_capacity, IfErr, IfOk, OnOk, OnErr};
+ghost use Rattle.std.specs.Prelude.{◌≡◌, ◌<◌, [], option_map, vec_len, vec_capacity, IfErr, IfOk, OnOk, OnErr};
 ghost use Rattle.std.specs.Arc.{arc_value};
-ghost use Rattle.std.specs.FinMap as map;
 ghost use Rattle.store.specs.Faults.{IsRefusalOf};
 ghost use Rattle.store.specs.Stores.{IsStore, fulls_after};
-ghost use Rattle.kept.specs.Counts.{raised, lowered, HasNoOther, count_at, bytes_at, blocks_of};
-ghost use Rattle.kept.specs.Uses.{lent, used_blocks, AreSettled, with_note};
+ghost use Rattle.kept.specs.Counts.{HasNoOther, count_at, bytes_at, blocks_of, none_kept, with_use_more, with_use_less};
+ghost use Rattle.kept.specs.Uses.{used_blocks, AreSettled, with_note, HasAll};
+ghost use Rattle.kept.specs.Leaving.{HasLeft};
 
 use crate::blocks::Blocks;
 use crate::kept_use::End;
@@ -17,13 +17,13 @@ use edit::Asked;
 use std::alloc::{AllocError, Allocator, Global};
 use std::marker::Model;
 use std::sync::Arc;
-use store::{BlockStore, Hold, StoreFault};
+use store::{BlockStore, Hold, SHARDS, Shard, StoreFault};
 
 /// The blocks that a core holds, each with how often it is used by what was accepted, and beside that how often it is used
 /// by what is staged, until all of it is accepted or refused at once.
 ///
-/// A block is held as long as it is used by one of the two. It can't be dropped, as no hold can: `end` gives all blocks
-/// back. A contract sees it as the core's number and two finite maps from CIDs to bytes and counts above 0.
+/// A block is held as long as it is used by one of the two. It can't be dropped, as no hold can: `end` and `end_in` give all
+/// blocks back. A contract sees it as the core's number and two finite maps from CIDs to bytes and counts above 0.
 pub struct Kept<D: Digest, A: Allocator = Global> {
     me: u32,
     blocks: UseMap<D, A>,
@@ -55,7 +55,7 @@ impl<D: Digest, A: Allocator> Kept<D, A> {
 
     /// The block of this CID, if what was accepted uses it.
     pub fn block(&self, cid: &Cid) -> Option<&Arc<Block<D, A>, A>>
-        ensures { option_map (λ block. arc_value block.now) result ≡ bytes_at self.now.before cid.now }
+        ensures { option_map (λ b. arc_value b.now) result ≡ bytes_at self.now.before cid.now }
     {
         let Some(held) = self.blocks.get(cid) else {
             return None;
@@ -87,8 +87,8 @@ impl<D: Digest, A: Allocator> Kept<D, A> {
 
     /// The blocks as a source that wasn't asked for any so far: what was accepted, and what is staged.
     pub fn lender(&self) -> Lender<'_, D, A>
-        ensures before { (c bytes : List ℕ) → bytes_at self.now.before c ≡ Some bytes → option_map arc_value (lent result.blocks.now c) ≡ Some bytes }
-        ensures staged { (c bytes : List ℕ) → bytes_at self.now.staged c ≡ Some bytes → option_map arc_value (lent result.blocks.now c) ≡ Some bytes }
+        ensures before { HasAll result.blocks.now self.now.before }
+        ensures staged { HasAll result.blocks.now self.now.staged }
         ensures asked { result.asked.times ≡ 0 }
     {
         Lender {
@@ -106,7 +106,7 @@ impl<D: Digest, A: Allocator> Kept<D, A> {
         store: &mut S,
         cid: Cid,
     ) -> Result<(), AllocError>
-        ensures dropped { OnOk result (self.new ≡ record self.old { staged = lowered self.old.staged cid }) }
+        ensures dropped { OnOk result (self.new ≡ with_use_less self.old cid) }
         ensures unchanged { OnErr result (self.new ≡ self.old) }
         ensures fulls { S.fulls store.new ≡ S.fulls store.old }
     {
@@ -152,13 +152,27 @@ impl<D: Digest, A: Allocator> Kept<D, A> {
         } = self;
         blocks.end(store);
     }
+
+    /// Gives all blocks back to the sixteen shards, which its caller has for itself: in the table of its CID's shard each
+    /// block has its other cores left, and goes where there are none. Nothing else in the tables changes. It takes no memory
+    /// and can't fail.
+    pub fn end_in(self, tables: &mut [Shard<D, A>; SHARDS])
+        ensures { HasLeft self tables.old tables.new }
+    {
+        let Kept {
+            me: _,
+            blocks,
+            touched: _,
+        } = self;
+        blocks.end_in(tables);
+    }
 }
 
 impl<D: Digest, A: Allocator + Clone> Kept<D, A> {
     /// No block yet, for the core with this number, below 1,024.
     pub fn open(alloc: A, me: u32) -> Result<Kept<D, A>, AllocError>
         requires { me < 1024 }
-        ensures { IfOk result (λ kept. kept ≡ record { me = me; before = map.empty; staged = map.empty }) }
+        ensures { IfOk result (λ kept. kept ≡ none_kept me) }
     {
         Ok(Kept {
             me,
@@ -178,7 +192,7 @@ impl<D: Digest, A: Allocator + Clone> Kept<D, A> {
         block: Arc<Block<D, A>, A>,
     ) -> Result<(), StoreFault<D, A>>
         requires { IsStore D.digest_of S.fulls S.answers }
-        ensures added { OnOk result (self.new ≡ record self.old { staged = raised D.digest_of self.old.staged (arc_value block) }) }
+        ensures added { OnOk result (self.new ≡ with_use_more D.digest_of self.old (arc_value block)) }
         ensures no_other_before { OnOk result (HasNoOther D.digest_of self.old.before (arc_value block)) }
         ensures no_other_staged { OnOk result (HasNoOther D.digest_of self.old.staged (arc_value block)) }
         ensures unchanged { OnErr result (self.new ≡ self.old) }

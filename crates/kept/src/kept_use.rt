@@ -1,16 +1,16 @@
 //! A block that is kept, with its uses.
 
-ghost use Rattle.std.specs.Prelude.{◌≡◌, suc, true, not, nat_lt, ◌||◌, IfOk, IfErr, OnOk, OnErr};
+ghost use Rattle.std.specs.Prelude.{◌≡◌, not, nat_lt, ◌||◌, IfOk, IfErr, OnOk, OnErr};
 ghost use Rattle.std.specs.Arc.{arc_value};
-ghost use Rattle.spec.specs.Cid.{cid as cid_of};
 ghost use Rattle.store.specs.Faults.{IsRefusalOf};
-ghost use Rattle.kept.specs.Uses.{settled_use, lowered_use};
+ghost use Rattle.kept.specs.Uses.{settled_use, lowered_use, HaveOneCid, raised_use};
 ghost use Rattle.kept.specs.Faults.{IsNotFull};
+ghost use Rattle.kept.specs.Leaving.{given_back};
 
 use cid::{Block, Collided, Digest};
 use std::alloc::Allocator;
 use std::sync::Arc;
-use store::{BlockStore, Hold, StoreFault};
+use store::{BlockStore, Hold, SHARDS, Shard, StoreFault, shard_number};
 
 /// How what is staged ends.
 #[derive(Clone, Copy)]
@@ -35,8 +35,8 @@ impl<D: Digest, A: Allocator> Use<D, A> {
     ///
     /// Another block with its CID is a collision.
     pub(crate) fn raise(&mut self, block: Arc<Block<D, A>, A>) -> Result<bool, StoreFault<D, A>>
-        requires { cid_of D.digest_of (arc_value block) ≡ cid_of D.digest_of (arc_value self.old.hold.0) }
-        ensures raised { OnOk result (self.new ≡ record self.old { next = suc self.old.next; noted = true }) }
+        requires { HaveOneCid D.digest_of (arc_value block) (arc_value self.old.hold.0) }
+        ensures raised { OnOk result (self.new ≡ raised_use self.old) }
         ensures fresh { IfOk result (λ fresh. fresh ≡ not self.old.noted) }
         ensures same_bytes { OnOk result (arc_value self.old.hold.0 ≡ arc_value block) }
         ensures unchanged { OnErr result (self.new ≡ self.old) }
@@ -96,5 +96,19 @@ impl<D: Digest, A: Allocator> Use<D, A> {
             noted: _,
         } = self;
         store.release(hold);
+    }
+
+    /// Gives the block back to the shard of its CID, of these sixteen. It takes no memory.
+    pub(crate) fn give_back_in(self, tables: &mut [Shard<D, A>; SHARDS])
+        ensures { tables.new ≡ given_back D.digest_of tables.old self.hold }
+    {
+        let Use {
+            hold,
+            uses: _,
+            next: _,
+            noted: _,
+        } = self;
+        let place = shard_number(&hold.cid());
+        tables[place].release(hold);
     }
 }

@@ -1,12 +1,12 @@
 //! The blocks that a core keeps, by their CIDs.
 
-ghost use Rattle.std.specs.Prelude.{◌≡◌, ◌<◌, true, not, option_map, IfOk, IfErr, OnOk, OnErr};
+ghost use Rattle.std.specs.Prelude.{◌≡◌, ◌<◌, option_map, IfOk, IfErr, OnOk, OnErr};
 ghost use Rattle.std.specs.Arc.{arc_value};
 ghost use Rattle.std.specs.FinMap as map;
-ghost use Rattle.spec.specs.Cid.{cid as cid_of};
 ghost use Rattle.store.specs.Faults.{IsRefusalOf};
 ghost use Rattle.store.specs.Stores.{IsStore, fulls_after};
-ghost use Rattle.kept.specs.Uses.{at, Updated, AreUses, IsRaised, lowered_in, settled, is_noted, is_unnoted};
+ghost use Rattle.kept.specs.Uses.{at, AreUses, lowered_in, settled, is_unnoted, IsChanged, IsRaisedIn, is_fresh};
+ghost use Rattle.kept.specs.Leaving.{AreNamed, AreGivenBack};
 
 use crate::kept_use::{End, Use};
 use cid::{Block, Cid, Digest};
@@ -15,7 +15,7 @@ use std::collections::BTreeMap;
 use std::collections::btree_map::Iter;
 use std::marker::Model;
 use std::sync::Arc;
-use store::{BlockStore, Hold, StoreFault};
+use store::{BlockStore, Hold, SHARDS, Shard, StoreFault};
 
 /// Each kept block under its CID, with its uses.
 ///
@@ -67,7 +67,7 @@ impl<D: Digest, A: Allocator> UseMap<D, A> {
         store: &mut S,
         cid: &Cid,
     ) -> bool
-        ensures lowered { Updated (at self.old) (at self.new) cid.now (lowered_in (at self.old cid.now)) }
+        ensures lowered { IsChanged lowered_in self.old self.new cid.now }
         ensures fresh { result ≡ is_unnoted (at self.old cid.now) }
         ensures fulls { S.fulls store.new ≡ S.fulls store.old }
     {
@@ -91,7 +91,7 @@ impl<D: Digest, A: Allocator> UseMap<D, A> {
         cid: &Cid,
         end: End,
     )
-        ensures settled { Updated (at self.old) (at self.new) cid.now (settled end (at self.old cid.now)) }
+        ensures settled { IsChanged (settled end) self.old self.new cid.now }
         ensures fulls { S.fulls store.new ≡ S.fulls store.old }
     {
         let Some(held) = self.blocks.get_mut(cid) else {
@@ -118,6 +118,18 @@ impl<D: Digest, A: Allocator> UseMap<D, A> {
         }
         blocks.destroy_empty();
     }
+
+    /// Gives all blocks back to these sixteen shards. It takes no memory.
+    pub(crate) fn end_in(self, tables: &mut [Shard<D, A>; SHARDS])
+        requires { AreNamed D.digest_of (at self) }
+        ensures { AreGivenBack (at self) tables.old tables.new }
+    {
+        let UseMap { mut blocks } = self;
+        while let Some((_, held)) = blocks.pop_first() {
+            held.give_back_in(tables);
+        }
+        blocks.destroy_empty();
+    }
 }
 
 impl<D: Digest, A: Allocator + Clone> UseMap<D, A> {
@@ -132,8 +144,8 @@ impl<D: Digest, A: Allocator + Clone> UseMap<D, A> {
         requires small { me < 1024 }
         requires uses { AreUses D.digest_of me (at self.old) }
         requires store { IsStore D.digest_of S.fulls S.answers }
-        ensures raised { OnOk result (IsRaised D.digest_of me (at self.old) (at self.new) (arc_value block)) }
-        ensures fresh { IfOk result (λ fresh. fresh ≡ not (is_noted (at self.old (cid_of D.digest_of (arc_value block))))) }
+        ensures raised { OnOk result (IsRaisedIn D.digest_of me self.old self.new (arc_value block)) }
+        ensures fresh { IfOk result (λ b. b ≡ is_fresh D.digest_of self.old (arc_value block)) }
         ensures unchanged { OnErr result (self.new ≡ self.old) }
         ensures fault { IfErr result (IsRefusalOf D.digest_of (arc_value block)) }
         ensures fulls { S.fulls store.new ≡ fulls_after (S.fulls store.old) result }

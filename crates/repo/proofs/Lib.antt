@@ -12,3 +12,4 @@ pub mod Growing
 pub mod Fresh
 pub mod Listing
 pub mod Lending
+pub mod Ended

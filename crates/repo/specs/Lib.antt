@@ -4,3 +4,4 @@ pub mod Staging
 pub mod Cores
 pub mod Refusals
 pub mod Readings
+pub mod Ending

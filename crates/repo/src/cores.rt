@@ -6,6 +6,7 @@ ghost use Rattle.edit.specs.Walks.{pairs_given};
 ghost use Rattle.spec.specs.States.{IsLawful, fresh, after_batch, state_root, state_commit, state_test};
 ghost use Rattle.spec.specs.Stamps.{last, rev_of};
 ghost use Rattle.kept.specs.Uses.{used_blocks};
+ghost use Rattle.repo.specs.Ending.{IsEnded};
 ghost use Rattle.repo.specs.Readings.{AreBlocksOnce, LendsBlocks, LendsTree, pairs_from, record_at, state_block};
 ghost use Rattle.repo.specs.Refusals.{IsRefusal, IsApplied, IsOpenRefusal};
 ghost use Rattle.batches.specs.Values.{stamp_of, stamps_of, writes_of, shared_writes};
@@ -20,7 +21,7 @@ use kept::{Blocks, Kept, Lender, pairs_accepted, value_accepted};
 use std::alloc::{AllocError, Allocator, Global};
 use std::marker::Model;
 use std::sync::Arc;
-use store::{BlockStore, Hold, StoreFault};
+use store::{BlockStore, Hold, SHARDS, Shard, StoreFault};
 
 /// One repository: its accepted writes and their stamps, the root of its tree, and its blocks.
 ///
@@ -144,6 +145,23 @@ impl<D: Digest, const B: u8, A: Allocator> Core<D, B, A> {
             kept,
         } = self;
         kept.end(store);
+    }
+
+    /// Gives its blocks back to the sixteen shards, which its caller has for itself: in the table of its CID's shard each of
+    /// its blocks has its other cores left, and goes where there are none. Nothing else in the tables changes. It takes no
+    /// memory and can't fail.
+    pub fn end_in(self, tables: &mut [Shard<D, A>; SHARDS])
+        ensures { IsEnded D.digest_of B self tables.old tables.new }
+    {
+        let Core {
+            limit: _,
+            accepted: _,
+            stamps: _,
+            root: _,
+            commit: _,
+            kept,
+        } = self;
+        kept.end_in(tables);
     }
 
     /// Its block with this CID: the last commit, a node or a record. It takes no memory.

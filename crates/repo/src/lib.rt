@@ -1,4 +1,66 @@
 //! One repository: its accepted writes, and what follows from them.
+//!
+//! A [`Core`] keeps the list of the writes that were accepted, the stamp of each batch, and the blocks of the repository:
+//! the last batch's commit, the nodes of the tree and the records (AT Protocol repository v3). Always these blocks, and no
+//! others, are those of the Merkle search tree built from scratch from the records that the accepted writes leave, with the
+//! commit of the last stamp; so equal records give equal roots, whatever order the writes came in.
+//!
+//! - `Core::open` begins a repository without writes, `apply` accepts a batch or refuses it whole, and `end` gives all
+//!   blocks back to the store. A core can't be dropped, as its blocks are counted there.
+//! - `get`, `list`, `block`, `blocks`, `root`, `commit`, `accepted` and `stamps` read; but for `list` none takes memory.
+//!   `lender` lends the blocks as a source, for `edit` and for exports.
+//! - What a core asks of the store goes through `store::BlockStore`: the sixteen locked shards, which several cores share, or
+//!   one shard that is lent. `end_in` gives the blocks back to shards that the caller has for itself.
+//! - [`Repository`] is a core behind a lock, for threads.
+//!
+//! Writes, stamps, their tests and the faults stand in the crate `batches`.
+//!
+//! ```rust
+//! use batches::{Stamp, Write};
+//! use cid::{Cid, Sha256};
+//! use repo::Core;
+//! use scratch::build;
+//! use std::test::Fail;
+//! use store::{LentShard, Shard};
+//!
+//! fn a_batch_of_two_writes(rt: HostRuntime) -> Result<(), Fail> {
+//!     let alloc = rt.alloc();
+//!
+//!     // A batch: a record is put, and another one takes its place. The stamp is for the commit.
+//!     let key = b"app.bsky.feed.post/3jzfcijpj2z2a".as_slice();
+//!     let [hello, bye] = [
+//!         b"\xa1\x64text\x65hello".as_slice(),
+//!         b"\xa1\x64text\x63bye".as_slice(),
+//!     ];
+//!     let mut writes = Vec::new(alloc);
+//!     for bytes in [hello, bye] {
+//!         writes.push(Write::Put(Vec::from_slice(alloc, key)?, Vec::from_slice(alloc, bytes)?))?;
+//!     }
+//!     let stamp = Stamp {
+//!         did: Vec::from_slice(alloc, b"did:web:example.com")?,
+//!         rev: Vec::from_slice(alloc, b"3jzfcijpj2z2a")?,
+//!     };
+//!
+//!     // A repository of at most 1,000 writes, under number 0, over one shard of at most 1,000 blocks.
+//!     let mut shard = Shard::new(alloc, 1000);
+//!     let mut store = LentShard::new(&mut shard);
+//!     let mut core = Core::<Sha256, 2, _>::open(alloc, &mut store, 0, 1000).expect(&rt, "a core");
+//!
+//!     // All writes of a batch are accepted, or none.
+//!     let applied = core.apply(alloc, &mut store, &stamp, &writes);
+//!     let root = core.root();
+//!     let found = core.get(key).is_some_and(|record| record.bytes() == bye);
+//!
+//!     // A core can't be dropped: its blocks go back to the store.
+//!     core.end(&mut store);
+//!     assert!(rt; applied.is_ok_and(|applied| applied.number == 2 && applied.root == root) && found);
+//!
+//!     // Its root was that of the tree from scratch of what the writes leave.
+//!     let built = build::<Sha256, 2, _, _>(alloc, &[(key, Cid::of::<Sha256>(bye))])?;
+//!     assert!(rt; root == built.root);
+//!     Ok(())
+//! }
+//! ```
 #![tactic(auto)]
 
 mod applied;

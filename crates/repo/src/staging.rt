@@ -71,10 +71,10 @@ fn record_block<D: Digest, A: Allocator + Clone>(
 }
 
 /// The CID of a record's block.
-fn cid_of_record<D: Digest, A: Allocator>(record: &Option<Arc<Block<D, A>, A>>) -> Option<Cid>
-    ensures { result ≡ option_map (λ block. cid_of D.digest_of (arc_value block)) record.now }
+fn cid_of_record<D: Digest, A: Allocator>(brought: &Option<Arc<Block<D, A>, A>>) -> Option<Cid>
+    ensures { result ≡ option_map (λ block. cid_of D.digest_of (arc_value block)) brought.now }
 {
-    match record {
+    match brought {
         Some(block) => Some(block.cid()),
         None => None,
     }
