@@ -1,5 +1,5 @@
 -- Blocks of which each CID is written once.
-use Rattle.std.proofs.Common.{◌≡◌, ◌&&◌, ◌||◌, ℕ, Bool, true, false, not, cond, List, [], ◌∷◌, ◌++◌, refl, sym, ap, ◌∙◌, append-nil}
+use Rattle.std.proofs.Common.{◌≡◌, ◌&&◌, ◌||◌, ℕ, Bool, true, false, not, cond, List, [], ◌∷◌, ◌++◌, refl, sym, ap, ◌∙◌, append-nil, append_assoc}
 use Rattle.std.specs.Prelude.{filter}
 use Rattle.std.specs.List.{list_any, flat_map}
 use Rattle.std.specs.Str.{bytes_eq}
@@ -107,3 +107,35 @@ once-old digest cids b c new is e h = old-one (has cids (cid digest b)) new (sec
 pub once-new : (digest : List ℕ → List ℕ) (cids : List (List ℕ)) (b c : List ℕ) (new : Bool) → c ≡ cid digest b → new ≡ not (has cids c)
     → new ≡ true → section_once digest cids b ≡ section digest b
 once-new digest cids b c new is e h = new-one (has cids (cid digest b)) new (section digest b) (e ∙ ap (λ d. not (has cids d)) is) h
+
+-- ---- the first of two lists
+
+abbrev Front : {X : Type 0} → List X → List X → Type 0
+Front {X = X} part whole = (rest : List X) × (whole ≡ part ++ rest)
+
+filter-append : (p : List ℕ → Bool) (xs ys : List (List ℕ)) → filter p (xs ++ ys) ≡ filter p xs ++ filter p ys
+filter-append p [] ys = refl
+filter-append p (x ∷ xs) ys = kept-append (p x) x (filter-append p xs ys)
+  where
+    kept-append : (t : Bool) (x : List ℕ) {zs bs cs : List (List ℕ)} → zs ≡ bs ++ cs → kept t x zs ≡ kept t x bs ++ cs
+    kept-append true x e = ap (λ t. x ∷ t) e
+    kept-append false x e = e
+
+filter-front : (p : List ℕ → Bool) (xs ys : List (List ℕ)) → Front xs ys → Front (filter p xs) (filter p ys)
+filter-front p xs ys f = (filter p f.0, ap (filter p) f.1 ∙ filter-append p xs f.0)
+
+firsts-front : (mark : List ℕ → List ℕ) (xs ys : List (List ℕ)) → Front (firsts mark xs) (firsts mark (xs ++ ys))
+firsts-front mark [] ys = (firsts mark ys, refl)
+firsts-front mark (x ∷ xs) ys =
+    let f = filter-front (λ c. not (bytes_eq (mark x) (mark c))) (firsts mark xs) (firsts mark (xs ++ ys)) (firsts-front mark xs ys) in
+    (f.0, ap (λ t. x ∷ t) f.1)
+
+flat-append : (f : List ℕ → List ℕ) (xs ys : List (List ℕ)) → flat_map f (xs ++ ys) ≡ flat_map f xs ++ flat_map f ys
+flat-append f [] ys = refl
+flat-append f (x ∷ xs) ys = ap (λ t. f x ++ t) (flat-append f xs ys) ∙ sym (append_assoc (f x) (flat_map f xs) (flat_map f ys))
+
+pub sections-front : (digest : List ℕ → List ℕ) (old xs ys : List (List ℕ))
+    → (rest : List ℕ) × (sections digest old (xs ++ ys) ≡ sections digest old xs ++ rest)
+sections-front digest old xs ys =
+    let f = filter-front (λ b. not (has old (cid digest b))) (firsts (cid digest) xs) (firsts (cid digest) (xs ++ ys)) (firsts-front (cid digest) xs ys) in
+    (flat_map (section digest) f.0, ap (flat_map (section digest)) f.1 ∙ flat-append (section digest) (fresh digest old xs) f.0)

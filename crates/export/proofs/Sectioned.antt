@@ -5,11 +5,14 @@ use Rattle.std.specs.declared.option.Option.TheVariants.{Some, None}
 use Rattle.std.proofs.lemmas.List.{append-nil, length-append}
 use Rattle.std.specs.List.{cons_option, flat_map}
 use Rattle.spec.specs.Cid.{cid}
+use Rattle.spec.specs.Blocks.{firsts}
+use Rattle.spec.specs.Car.{header, section}
+use Rattle.spec.specs.Commits.{car_root}
 use Rattle.paths.specs.Sources.{shown_by}
 use Rattle.export.specs.Once.{has, HasMore, capped, sections, section_once}
 use Rattle.export.specs.Outs.{Leaves, TakesBeginning, Takes}
-use Rattle.export.specs.Walks.{Walking, GoesBy, blocks_at, cids_left, commit_block, sections_left}
-use Rattle.export.proofs.FirstOnes.{later, alone-section, sections-more, sections-later}
+use Rattle.export.specs.Walks.{Walking, GoesBy, blocks_at, car_met, cids_from, cids_left, commit_block, sections_left}
+use Rattle.export.proofs.FirstOnes.{fresh-all, sections-front, later, alone-section, sections-more, sections-later}
 use Rattle.export.proofs.Leaving.{leaves-same, leaves-less, stops}
 
 module _ (digest : List ℕ → List ℕ) (gives : List ℕ → Option (List ℕ)) where
@@ -127,3 +130,36 @@ module _ (digest : List ℕ → List ℕ) (gives : List ℕ → Option (List ℕ
       ∙ ap (λ y. sections digest cids (y ∷ blocks_at gives (cids_left (shown_by gives) new))) (sym is)
       ∙ sections-later digest cids x (blocks_at gives (cids_left (shown_by gives) new)) in
       stops first now newer all (section_once digest cids x) rest r (leaves-same first now all (sections_left digest gives cids old) _ l e) err t
+
+-- ---- the whole file
+
+module _ (digest : List ℕ → List ℕ) (gives : List ℕ → Option (List ℕ)) (most : ℕ) (commit : Option (List ℕ)) (root : List ℕ) where
+  abbrev top : Walking
+  top = record { most = most; link = Some root; stack = [] }
+
+  cids-top : cids_left (shown_by gives) top ≡ cids_from (shown_by gives) most (Some root)
+  cids-top =
+      let e : most - 0 ≡ most = omega arith in
+      append-nil (cids_from (shown_by gives) (most - 0) (Some root)) ∙ ap (λ n. cids_from (shown_by gives) n (Some root)) e
+
+  abbrev found : List (List ℕ)
+  found = commit_block gives commit
+
+  abbrev others : List (List ℕ)
+  others = blocks_at gives (cids_left (shown_by gives) top)
+
+  car-sections : car_met digest gives most commit root ≡ header (car_root commit root) ++ sections digest [] (found ++ others)
+  car-sections =
+      ap (λ cs. header (car_root commit root) ++ flat_map (section digest) (firsts (cid digest) (found ++ blocks_at gives cs))) (sym cids-top)
+      ∙ ap (λ bs. header (car_root commit root) ++ flat_map (section digest) bs) (sym (fresh-all digest (found ++ others)))
+
+  -- what is left after the commit
+  pub car-front : (rest : List ℕ) × (car_met digest gives most commit root ≡ header (car_root commit root) ++ (sections digest [] found ++ rest))
+  car-front =
+      let f = sections-front digest [] found others in
+      (f.0, car-sections ∙ ap (λ t. header (car_root commit root) ++ t) f.1)
+
+  pub car-parts : (cids : List (List ℕ))
+      → ((bs : List (List ℕ)) → sections digest [] (found ++ bs) ≡ sections digest [] found ++ sections digest cids bs)
+      → car_met digest gives most commit root ≡ header (car_root commit root) ++ (sections digest [] found ++ sections_left digest gives cids top)
+  car-parts cids seen = car-sections ∙ ap (λ t. header (car_root commit root) ++ t) (seen others)

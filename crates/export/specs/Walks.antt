@@ -3,6 +3,8 @@ use Rattle.std.specs.Prelude.{◌≡◌, ◌-◌, ℕ, zero, suc, List, [], ◌�
 use Rattle.std.specs.List.{cons_option, flat_map}
 use Rattle.std.specs.Arc.{arc_value}
 use Rattle.spec.specs.NodeFormat.{Entry, NodeFault, Shape, LastLink, MoreLinks}
+use Rattle.spec.specs.Car.{car_of}
+use Rattle.spec.specs.Commits.{car_root}
 use Rattle.paths.specs.Sources.{shown_by}
 use Rattle.node.specs.Rows.{Row, rows}
 use Rattle.export.specs.Once.{sections}
@@ -35,6 +37,12 @@ blocks_at gives cids = flat_map (λ c. cons_option (gives c) []) cids
 abbrev pub commit_block : (List ℕ → Option (List ℕ)) → Option (List ℕ) → List (List ℕ)
 commit_block gives None = []
 commit_block gives (Some c) = cons_option (gives c) []
+
+-- the CAR of a commit and of what a walk from a root on comes to
+abbrev pub car_met : (List ℕ → List ℕ) → (List ℕ → Option (List ℕ)) → ℕ → Option (List ℕ) → List ℕ → List ℕ
+car_met digest gives most commit root =
+    car_of digest (car_root commit root)
+    (commit_block gives commit ++ blocks_at gives (cids_from (shown_by gives) most (Some root)))
 
 -- ---- a walk on its way
 

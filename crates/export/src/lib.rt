@@ -9,6 +9,7 @@
 #![tactic(auto)]
 
 mod blocks;
+mod cars;
 mod export_fault;
 mod given;
 mod hashed;
