@@ -1,14 +1,14 @@
 -- The tally of blocks over cores, and the counts in a store's tables.
 use Rattle.std.specs.Prelude.{◌≡◌, ◌≢◌, ℕ, suc, ◌==◌, ◌&&◌, Bool, true, false, List, [], ◌∷◌, ◌++◌}
-use Rattle.std.specs.Prelude.{length, count_by, slice_index_or}
+use Rattle.std.specs.Prelude.{length, count_by}
 use Rattle.std.specs.List.{list_any}
 use Rattle.std.specs.Str.{bytes_eq}
 use Rattle.std.specs.Ordering.{nat_cmp}
-use Rattle.std.specs.FinMap as map
 use Rattle.std.specs.FinSet as set
 use Rattle.spec.specs.Cid.{cid as cid_of}
 use Rattle.spec.specs.States.{State, state_blocks}
 use Rattle.store.specs.Table.{Table, cores_at, shard_of}
+use Rattle.kept.specs.Leaving.{cores_in}
 
 -- whether one of these blocks has this CID
 abbrev pub has_in : (List ℕ → List ℕ) → List (List ℕ) → List ℕ → Bool
@@ -24,12 +24,9 @@ tally digest bits cores cid = count_by (λ s. has digest bits s cid) cores
 
 -- ---- the tables of the shards
 
-abbrev pub no_table : Table
-no_table = record { entries = map.empty; limit = 0 }
-
 -- the cores that are entered for a CID in the table of its shard, none where it has no entry
 abbrev pub entered : List Table → List ℕ → set.FinSet nat_cmp
-entered tables cid = cores_at (slice_index_or tables (shard_of cid) no_table) cid
+entered tables cid = cores_in tables (shard_of cid) cid
 
 -- a CID's count: the size of its entry's set, 0 without an entry
 abbrev pub count : List Table → List ℕ → ℕ

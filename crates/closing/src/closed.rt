@@ -15,7 +15,7 @@ ghost use Rattle.closing.specs.Ending.{IsEndedAt, joined_all, kept_by};
 ghost use Rattle.closing.specs.Settling.{IsSettled, IsUneven, AreSquare};
 
 use crate::comparing::compare;
-use crate::element::element;
+use crate::fitting::element;
 use crate::counts::{all_counts, count_in_shard, listed};
 use crate::ended::Ended;
 use crate::feed::Feed;
@@ -144,6 +144,66 @@ impl<D: Digest, const B: u8, A: Allocator + Clone> Closed<D, B, A> {
     {
         let all = all_counts(alloc.clone()?, &self.tables)?;
         listed(alloc, all)
+    }
+}
+
+/// Gives the blocks of all cores back to the tables. It takes no lock and no memory.
+pub fn end_all<D: Digest, const B: u8, A: Allocator>(
+    mut cores: Vec<Core<D, B, A>, A>,
+    mut tables: [Shard<D, A>; SHARDS],
+) {
+    while let Some(core) = cores.pop() {
+        core.end_in(&mut tables);
+    }
+    cores.destroy_empty();
+}
+
+impl<D: Digest, const B: u8, A: Allocator> Closed<D, B, A> {
+    /// Gives all blocks back, as a drop does. It takes no lock and no memory.
+    pub fn end(self) {
+        drop(self);
+    }
+}
+
+impl<D: Digest, const B: u8, A: Allocator> Uneven<D, B, A> {
+    /// Where they don't agree.
+    pub fn mismatch(&self) -> Mismatch
+        ensures mismatch { result ≡ self.now.mismatch }
+        ensures uneven { IsUneven D.digest_of B self.now.cores self.now.tables self.now.ended result }
+    {
+        self.mismatch
+    }
+
+    /// The cores, in the order in which the host had them.
+    pub fn cores(&self) -> &[Core<D, B, A>]
+        ensures { result.now ≡ self.now.cores }
+    {
+        &self.cores
+    }
+}
+
+impl<D: Digest, const B: u8, A: Allocator> Drop for Closed<D, B, A> {
+    fn drop(self) {
+        let Closed {
+            queue: _,
+            feed: _,
+            settled: _,
+            cores,
+            tables,
+        } = self;
+        end_all(cores, tables);
+    }
+}
+
+impl<D: Digest, const B: u8, A: Allocator> Drop for Uneven<D, B, A> {
+    fn drop(self) {
+        let Uneven {
+            cores,
+            tables,
+            ended: _,
+            mismatch: _,
+        } = self;
+        end_all(cores, tables);
     }
 }
 

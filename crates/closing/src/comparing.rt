@@ -2,7 +2,8 @@
 
 ghost use Rattle.std.specs.Prelude.{◌≡◌, ℕ, ◌<◌, true, MatchBool, OnOk, IfErr, length, All, slice_index_or};
 ghost use Rattle.std.specs.FinSet as set;
-ghost use Rattle.closing.specs.Tally.{has, have, no_table, NumberedFrom, IsMisnumbered, IsMiscounted};
+ghost use Rattle.kept.specs.Leaving.{no_table};
+ghost use Rattle.closing.specs.Tally.{has, have, NumberedFrom, IsMisnumbered, IsMiscounted};
 ghost use Rattle.closing.specs.Tally.{IsEntered, IsMissed, AreHad, AreAlien, AllHave, IsAlien};
 
 ghost use Rattle.closing.specs.Settling.{IsSettled, IsUneven};

@@ -4,7 +4,7 @@
 mod closed;
 mod comparing;
 mod counts;
-mod element;
+mod fitting;
 mod ended;
 mod feed;
 mod mismatch;
@@ -12,7 +12,8 @@ mod seeing;
 mod settled;
 mod shown;
 
-pub use closed::{Closed, Uneven, close};
+pub use closed::{Closed, Uneven, close, end_all};
+pub use fitting::element;
 pub use ended::Ended;
 pub use feed::{Feed, Taker};
 pub use mismatch::Mismatch;

@@ -1,7 +1,8 @@
 use Rattle.std.proofs.Common.{subst, sym, ◌∙◌, get_or, below_more, arith}
 use Rattle.std.proofs.lemmas.List.{get_or_read}
 use Rattle.store.specs.Table.{Table}
-use Rattle.closing.specs.Tally.{AreHad, no_table}
+use Rattle.kept.specs.Leaving.{no_table}
+use Rattle.closing.specs.Tally.{AreHad}
 use Rattle.closing.proofs.comparing.all_had.Goals as goal
 
 pub loop-shard-preserved : goal.loop-shard-preserved

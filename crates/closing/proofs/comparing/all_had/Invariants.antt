@@ -1,5 +1,6 @@
 use Rattle.std.proofs.Common.{ℕ, ◌<◌, slice_index_or}
-use Rattle.closing.specs.Tally.{AreHad, no_table}
+use Rattle.kept.specs.Leaving.{no_table}
+use Rattle.closing.specs.Tally.{AreHad}
 use Rattle.closing.proofs.comparing.all_had.Given as goal
 
 abbrev pub invariant-loop-shard : goal.invariant-loop-shard
