@@ -2,15 +2,14 @@
 
 ghost use Rattle.std.specs.Prelude.{◌≤◌, ◌<◌};
 
-use crate::fixtures::{DID, Ended, Step, batch_of, end_of, rev_after, stamp_of};
-use batches::{Stamp, Write};
-use cid::{Block, Digest};
+use crate::fixtures::{Batch, Ended, Step, batch_at, end_of};
+use cid::Digest;
 use repo::Core;
 use std::alloc::Allocator;
 use std::process::Abort;
 use store::{LentShard, Shard};
 
-/// The core of a repository that may have 2,000 writes, under this number in the shard.
+/// The core of a repository that may have 1,000 writes, under this number in the shard.
 pub(crate) fn opened<R: Abort, D: Digest, const B: u8, A: Allocator + Copy>(
     rt: &R,
     alloc: A,
@@ -21,7 +20,7 @@ pub(crate) fn opened<R: Abort, D: Digest, const B: u8, A: Allocator + Copy>(
     requires most { B ≤ 8 }
     requires small { me < 1024 }
 {
-    Core::open(alloc, &mut LentShard::new(shard), me, 2000).expect(rt, "a core")
+    Core::open(alloc, &mut LentShard::new(shard), me, 1000).expect(rt, "a core")
 }
 
 /// Gives the core's blocks back to the shard.
@@ -37,13 +36,17 @@ pub(crate) fn apply<D: Digest, const B: u8, A: Allocator + Copy>(
     alloc: A,
     shard: &mut Shard<D, A>,
     core: &mut Core<D, B, A>,
-    stamp: &Stamp<A>,
-    writes: &[Write<A>],
+    batch: &Batch<A>,
 ) -> Ended {
-    end_of(core.apply(alloc, &mut LentShard::new(shard), stamp, writes))
+    end_of(core.apply(
+        alloc,
+        &mut LentShard::new(shard),
+        &batch.stamp,
+        &batch.writes,
+    ))
 }
 
-/// The same for a batch of these steps, with the timestamp identifier that comes so many after the first one; `None` where
+/// The same for the batch of these steps, with the timestamp identifier that comes so many after the first one; `None` where
 /// there was no memory for the batch.
 pub(crate) fn apply_steps<D: Digest, const B: u8, A: Allocator + Copy>(
     alloc: A,
@@ -52,20 +55,20 @@ pub(crate) fn apply_steps<D: Digest, const B: u8, A: Allocator + Copy>(
     turn: u16,
     steps: &[Step],
 ) -> Option<Ended> {
-    let stamp = stamp_of(alloc, DID, &rev_after(turn)).ok()?;
-    let writes = batch_of(alloc, steps).ok()?;
-    Some(apply(alloc, shard, core, &stamp, &writes))
+    match batch_at(alloc, turn, steps) {
+        Ok(batch) => Some(apply(alloc, shard, core, &batch)),
+        Err(_) => None,
+    }
 }
 
-/// How many blocks a core has, where it finds each of them under its CID and the shard has the core entered for it; else
-/// `None`.
+/// How many blocks a core has, where the shard has the core entered for each of them; else `None`.
 pub(crate) fn held<D: Digest, const B: u8, A: Allocator>(
     shard: &Shard<D, A>,
     core: &Core<D, B, A>,
 ) -> Option<u64> {
     let mut count = 0u64;
     for block in core.blocks() {
-        if !shard.has(&block.cid(), core.me()) || !is_found(core, block) {
+        if !shard.has(&block.cid(), core.me()) {
             return None;
         }
         count = count.saturating_add(1);
@@ -73,22 +76,12 @@ pub(crate) fn held<D: Digest, const B: u8, A: Allocator>(
     Some(count)
 }
 
-/// Whether the core finds this block under its CID.
-fn is_found<D: Digest, const B: u8, A: Allocator>(
-    core: &Core<D, B, A>,
-    block: &Block<D, A>,
-) -> bool {
-    match core.block(&block.cid()) {
-        Some(found) => found.bytes() == block.bytes(),
-        None => false,
-    }
-}
-
-/// How many holds of a shard's blocks are out.
-pub(crate) fn holds<D: Digest, A: Allocator>(shard: &Shard<D, A>) -> u64 {
-    let mut count = 0u64;
+/// How many blocks a shard has, and how many holds of them are out.
+pub(crate) fn counts<D: Digest, A: Allocator>(shard: &Shard<D, A>) -> (u64, u64) {
+    let (mut blocks, mut holds) = (0u64, 0u64);
     for (cid, _) in shard.entries() {
-        count = count.saturating_add(shard.count(&cid));
+        blocks = blocks.saturating_add(1);
+        holds = holds.saturating_add(shard.count(&cid));
     }
-    count
+    (blocks, holds)
 }

@@ -1,17 +1,16 @@
 //! The blocks that a core keeps: uses that are staged, accepted and refused.
 
-use crate::fixtures::{EMPTY, ONE, TWO};
-use cid::digests::{Size, Toy};
-use cid::{Block, Cid, Digest};
+use crate::fixtures::{ONE, TWO};
+use cid::digests::Toy;
+use cid::{Block, Cid};
 use edit::Source;
 use kept::Kept;
 use std::alloc::{AllocError, Global};
-use std::process::Abort;
 use std::sync::Arc;
-use store::{LentShard, Shard, StoreFault};
+use store::{LentShard, Shard};
 
 /// A block of these bytes.
-fn block_of<D: Digest>(alloc: Global, bytes: &[u8]) -> Result<Arc<Block<D>>, AllocError> {
+fn block_of(alloc: Global, bytes: &[u8]) -> Result<Arc<Block<Toy>>, AllocError> {
     Ok(Arc::new(alloc, Block::of(Vec::from_slice(alloc, bytes)?))?)
 }
 
@@ -26,11 +25,11 @@ enum Act {
     Refuse,
 }
 
-/// How often the block is used, and how many cores hold it.
+/// How often a block is used, and how many cores hold it.
 type Uses = (u64, u64);
 
 /// Acts one after the other, with the uses of `ONE` and of `TWO` after each.
-const ACTS: [(Act, Uses, Uses); 18] = [
+static ACTS: [(Act, Uses, Uses); 18] = [
     (Act::Add(ONE), (0, 1), (0, 0)),
     (Act::Add(ONE), (0, 1), (0, 0)),
     (Act::Accept, (2, 1), (0, 0)),
@@ -54,134 +53,60 @@ const ACTS: [(Act, Uses, Uses); 18] = [
     (Act::Accept, (0, 0), (0, 0)),
 ];
 
+/// Stages one use more of the block of these bytes, and answers whether that succeeded.
+fn adds(alloc: Global, shard: &mut Shard<Toy>, kept: &mut Kept<Toy>, bytes: &[u8]) -> bool {
+    match block_of(alloc, bytes) {
+        Ok(block) => kept.stage_add(&mut LentShard::new(shard), block).is_ok(),
+        Err(_) => false,
+    }
+}
+
 /// Does an act, and answers whether it succeeded.
-fn done(alloc: Global, shard: &mut Shard<Toy>, kept: &mut Kept<Toy>, act: Act) -> bool {
-    let mut store = LentShard::new(shard);
+fn does(alloc: Global, shard: &mut Shard<Toy>, kept: &mut Kept<Toy>, act: Act) -> bool {
     match act {
-        Act::Add(bytes) => match block_of(alloc, bytes) {
-            Ok(block) => kept.stage_add(&mut store, block).is_ok(),
-            Err(_) => false,
-        },
-        Act::Drop(bytes) => kept.stage_drop(&mut store, Cid::of::<Toy>(bytes)).is_ok(),
+        Act::Add(bytes) => adds(alloc, shard, kept, bytes),
+        Act::Drop(bytes) => kept
+            .stage_drop(&mut LentShard::new(shard), Cid::of::<Toy>(bytes))
+            .is_ok(),
         Act::Accept => {
-            kept.accept(&mut store);
+            kept.accept(&mut LentShard::new(shard));
             true
         }
         Act::Refuse => {
-            kept.refuse(&mut store);
+            kept.refuse(&mut LentShard::new(shard));
             true
         }
     }
 }
 
-/// Whether the block of these bytes is used so by what was accepted, and is found where it is used at all.
+/// Whether the block of these bytes is used so by what was accepted, is found where it is used at all, and is lent as long as
+/// the store holds it.
 fn is_used(shard: &Shard<Toy>, kept: &Kept<Toy>, bytes: &[u8], uses: Uses) -> bool {
     let cid = Cid::of::<Toy>(bytes);
-    let found = match kept.block(&cid) {
-        Some(block) => block.bytes() == bytes,
-        None => uses.0 == 0,
-    };
-    found && kept.uses(&cid) == uses.0 && shard.count(&cid) == uses.1
+    let (times, cores) = uses;
+    kept.uses(&cid) == times
+        && kept.block(&cid).is_some() == (times > 0)
+        && kept.lender().get(&cid).is_some() == (cores > 0)
+        && shard.count(&cid) == cores
 }
 
-/// Whether the source over what is kept lends the block, which it does as long as the store holds it.
-fn is_lent(kept: &Kept<Toy>, bytes: &[u8], uses: Uses) -> bool {
-    let mut source = kept.lender();
-    match source.get(&Cid::of::<Toy>(bytes)) {
-        Some(block) => uses.1 == 1 && block.bytes() == bytes,
-        None => uses.1 == 0,
-    }
-}
-
-#[test]
-fn uses(rt: HostRuntime) {
-    let mut shard = Shard::new(rt.alloc(), 2);
-    let mut kept = Kept::open(rt.alloc(), 5).expect(&rt, "memory");
-    for (place, (next, ones, twos)) in ACTS.iter().enumerate() {
-        assert!(rt;
-            done(rt.alloc(), &mut shard, &mut kept, *next),
-            "act {place}"
-        );
-        assert!(rt;
-            is_used(&shard, &kept, ONE, *ones) && is_lent(&kept, ONE, *ones),
-            "act {place}"
-        );
-        assert!(rt;
-            is_used(&shard, &kept, TWO, *twos) && is_lent(&kept, TWO, *twos),
-            "act {place}"
-        );
-    }
-    assert!(rt; kept.me() == 5);
-    kept.end(&mut LentShard::new(&mut shard));
-}
-
-/// Whether these are blocks whose CIDs ascend, so many of them.
-fn ascend(kept: &Kept<Toy>, wanted: u64) -> bool {
-    let mut before: Option<Cid> = None;
-    let mut count = 0u64;
-    for block in kept.blocks() {
-        if before >= Some(block.cid()) || kept.uses(&block.cid()) == 0 {
+/// Whether all acts succeed with these uses after each.
+fn are_done(alloc: Global, shard: &mut Shard<Toy>, kept: &mut Kept<Toy>) -> bool {
+    for (act, ones, twos) in &ACTS {
+        if !does(alloc, shard, kept, *act)
+            || !is_used(shard, kept, ONE, *ones)
+            || !is_used(shard, kept, TWO, *twos)
+        {
             return false;
         }
-        before = Some(block.cid());
-        count = count.saturating_add(1);
     }
-    count == wanted
-}
-
-/// Whether the blocks that are accepted are given in order, and those that are staged are not.
-fn are_in_order(alloc: Global, shard: &mut Shard<Toy>, kept: &mut Kept<Toy>) -> bool {
-    done(alloc, shard, kept, Act::Add(TWO))
-        && done(alloc, shard, kept, Act::Add(ONE))
-        && ascend(kept, 0)
-        && done(alloc, shard, kept, Act::Accept)
-        && done(alloc, shard, kept, Act::Add(EMPTY))
-        && ascend(kept, 2)
-        && done(alloc, shard, kept, Act::Accept)
-        && ascend(kept, 3)
+    kept.me() == 5
 }
 
 #[test]
-fn blocks_in_order(rt: HostRuntime) {
-    let mut shard = Shard::new(rt.alloc(), 3);
-    let mut kept = Kept::open(rt.alloc(), 0).expect(&rt, "memory");
-    assert!(rt; are_in_order(rt.alloc(), &mut shard, &mut kept));
-    kept.end(&mut LentShard::new(&mut shard));
-    assert!(rt; shard.entries().count() == 0);
-}
-
-/// The fault of staging a block of these bytes.
-fn fault_of<D: Digest>(
-    alloc: Global,
-    shard: &mut Shard<D>,
-    kept: &mut Kept<D>,
-    bytes: &[u8],
-) -> Option<StoreFault<D>> {
-    let block = block_of(alloc, bytes).ok()?;
-    kept.stage_add(&mut LentShard::new(shard), block).err()
-}
-
-/// Whether a block of the same length clashes with the one that is staged, and a longer one finds the store full.
-fn are_refused(alloc: Global, shard: &mut Shard<Size>, kept: &mut Kept<Size>) -> bool {
-    if fault_of(alloc, shard, kept, ONE).is_some() {
-        return false;
-    }
-    let clash = match fault_of(alloc, shard, kept, TWO) {
-        Some(StoreFault::Collision(pair)) => {
-            pair.one().bytes() == TWO && pair.other().bytes() == ONE
-        }
-        _ => false,
-    };
-    let full = matches!(fault_of(alloc, shard, kept, EMPTY), Some(StoreFault::Full));
-    clash && full && shard.count(&Cid::of::<Size>(ONE)) == 1
-}
-
-#[test]
-fn what_is_not_staged(rt: HostRuntime) {
-    let mut shard = Shard::new(rt.alloc(), 1);
-    let mut kept = Kept::open(rt.alloc(), 0).expect(&rt, "memory");
-    assert!(rt; are_refused(rt.alloc(), &mut shard, &mut kept));
-    kept.refuse(&mut LentShard::new(&mut shard));
-    assert!(rt; shard.entries().count() == 0);
+fn uses_of_blocks(rt: HostRuntime) {
+    let mut shard = Shard::new(rt.alloc(), 2);
+    let mut kept = Kept::open(rt.alloc(), 5).expect(&rt, "memory");
+    assert!(rt; are_done(rt.alloc(), &mut shard, &mut kept));
     kept.end(&mut LentShard::new(&mut shard));
 }

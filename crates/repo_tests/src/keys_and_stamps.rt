@@ -2,10 +2,10 @@
 
 ghost use Rattle.std.specs.Prelude.{◌≤◌};
 
-use crate::cores::{apply, apply_steps, end, held, opened};
+use crate::cores::{apply, end, opened};
 use crate::fixtures::Ended::{Accepted, Refused};
 use crate::fixtures::Step::{Create, Delete, Put, Update};
-use crate::fixtures::{DID, EMPTY, Ended, ONE, Step, Why, batch_of, end_of, rev_after, stamp_of};
+use crate::fixtures::{Batch, DID, EMPTY, Ended, ONE, Step, Why, batch_at, stamped};
 use batches::{Write, is_did, is_repository_key, is_tid};
 use cid::digests::Toy;
 use dagcbor::CborFault;
@@ -14,158 +14,197 @@ use std::alloc::{AllocError, Global};
 use std::process::Abort;
 use store::{LentShard, Shard};
 
-const KEYS: [&[u8]; 5] = [
-    b"a/b",
-    b"a/...",
-    b"a.b-c/x:~_",
-    b"A0/Z9",
-    b"com.example.feed/3jzfcijpj2z2a",
+/// Which of the tests pass some bytes: as a key, as a DID, as a timestamp identifier.
+type Passes = [bool; 3];
+
+const KEY: Passes = [true, false, false];
+
+const A_DID: Passes = [false, true, false];
+
+const TID: Passes = [false, false, true];
+
+const NONE: Passes = [false, false, false];
+
+static TEXTS: [(&[u8], Passes); 54] = [
+    (b"a/b", KEY),
+    (b"a/...", KEY),
+    (b"a.b-c/x:~_", KEY),
+    (b"A0/Z9", KEY),
+    (b"com.example.feed/3jzfcijpj2z2a", KEY),
+    (b"did:web:a.b", A_DID),
+    (b"did:web:a%3A", A_DID),
+    (b"did:web:a:b", A_DID),
+    (b"did:plc:ewvi7nxzyoun6zhxrhs64oiz", A_DID),
+    (b"did:x:A_-.%:9", A_DID),
+    (b"2222222222222", TID),
+    (b"3jzfcijpj2z2a", TID),
+    (b"7777777777777", TID),
+    (b"j222222222222", TID),
+    (b"jzzzzzzzzzzzz", TID),
+    // no keys
+    (b"", NONE),
+    (b"a", NONE),
+    (b"/", NONE),
+    (b"a/", NONE),
+    (b"/b", NONE),
+    (b"a/b/c", NONE),
+    (b"a/.", NONE),
+    (b"a/..", NONE),
+    (b"a_b/c", NONE),
+    (b"a:b/c", NONE),
+    (b"a~b/c", NONE),
+    (b"a b/c", NONE),
+    (b"a/b c", NONE),
+    (b"a/b@c", NONE),
+    (b"a/\xc3\xa9", NONE),
+    // no DIDs
+    (b"did", NONE),
+    (b"did:", NONE),
+    (b"did::", NONE),
+    (b"did::a", NONE),
+    (b"did:web", NONE),
+    (b"did:web:", NONE),
+    (b"DID:web:a", NONE),
+    (b"did:Web:a", NONE),
+    (b"did:w3b:a", NONE),
+    (b"did:web:a:", NONE),
+    (b"did:web:a%", NONE),
+    (b"did:web:a/b", NONE),
+    (b"did:web:a b", NONE),
+    (b"xdid:web:a", NONE),
+    // no timestamp identifiers
+    (b"k222222222222", NONE),
+    (b"z222222222222", NONE),
+    (b"222222222222", NONE),
+    (b"22222222222222", NONE),
+    (b"2222222222221", NONE),
+    (b"1222222222222", NONE),
+    (b"2222222222228", NONE),
+    (b"222222222222A", NONE),
+    (b"222222-222222", NONE),
+    (b"0222222222222", NONE),
 ];
 
-const NO_KEYS: [&[u8]; 14] = [
-    b"",
-    b"a",
-    b"/",
-    b"a/",
-    b"/b",
-    b"a/b/c",
-    b"a/.",
-    b"a/..",
-    b"a_b/c",
-    b"a:b/c",
-    b"a b/c",
-    b"a/b c",
-    b"a/b@c",
-    b"a/\xc3\xa9",
+/// Which tests pass these bytes.
+fn passes(bytes: &[u8]) -> Passes {
+    [is_repository_key(bytes), is_did(bytes), is_tid(bytes)]
+}
+
+#[test]
+fn texts(rt: HostRuntime) {
+    for (bytes, wanted) in &TEXTS {
+        assert!(rt; passes(bytes) == *wanted, "{bytes:?}");
+    }
+}
+
+/// Bytes with the number of times that each stands.
+type Runs = &'static [(u8, u32)];
+
+/// The bytes of these runs.
+fn bytes_of(alloc: Global, runs: Runs) -> Result<Vec<u8>, AllocError> {
+    let mut bytes = Vec::new(alloc);
+    for (byte, times) in runs {
+        for _ in 0..*times {
+            bytes.push(*byte)?;
+        }
+    }
+    Ok(bytes)
+}
+
+/// A key has at most 317 letters before the slash and 512 after it, a DID 2,048 in all.
+static LONG_TEXTS: [(Runs, Passes); 7] = [
+    (&[(b'c', 317), (b'/', 1), (b'r', 512)], KEY),
+    (&[(b'c', 318), (b'/', 1), (b'r', 1)], NONE),
+    (&[(b'c', 317), (b'/', 1), (b'r', 513)], NONE),
+    (&[(b'c', 1), (b'/', 1), (b'r', 513)], NONE),
+    (&[(b'c', 830)], NONE),
+    (
+        &[
+            (b'd', 1),
+            (b'i', 1),
+            (b'd', 1),
+            (b':', 1),
+            (b'x', 1),
+            (b':', 1),
+            (b'y', 2042),
+        ],
+        A_DID,
+    ),
+    (
+        &[
+            (b'd', 1),
+            (b'i', 1),
+            (b'd', 1),
+            (b':', 1),
+            (b'x', 1),
+            (b':', 1),
+            (b'y', 2043),
+        ],
+        NONE,
+    ),
 ];
 
 #[test]
-fn keys(rt: HostRuntime) {
-    for key in KEYS {
-        assert!(rt; is_repository_key(key), "{key:?}");
-    }
-    for key in NO_KEYS {
-        assert!(rt; !is_repository_key(key), "{key:?}");
+fn longest_texts(rt: HostRuntime) {
+    for (runs, wanted) in &LONG_TEXTS {
+        let bytes = bytes_of(rt.alloc(), runs).expect(&rt, "a text");
+        assert!(rt; passes(&bytes) == *wanted);
     }
 }
 
-/// A collection and a record key of so many letters.
-fn long_key(alloc: Global, collection: u16, record: u16) -> Result<Vec<u8>, AllocError> {
-    let mut key = Vec::new(alloc);
-    key.resize(usize::from(collection), b'c')?;
-    key.push(b'/')?;
-    key.resize(usize::from(collection) + 1 + usize::from(record), b'r')?;
-    Ok(key)
+/// A stamp's DID and revision, writes, and how their batch ends.
+type Row = (&'static [u8], &'static [u8], &'static [Step], Ended);
+
+/// Whether each batch of a table ends as it says, one after the other on a repository that may have so many writes.
+fn end_so<R: Abort>(rt: &R, alloc: Global, limit: usize, rows: &[Row]) -> bool
+    requires least { 1 ≤ limit }
+    requires most { limit ≤ 1000 }
+{
+    let mut shard: Shard<Toy> = Shard::new(alloc, 9);
+    let mut core: Core<Toy, 2> = Core::open(
+        alloc,
+        &mut LentShard::new(&mut shard),
+        0,
+        limit,
+    ).expect(rt, "a core");
+    let mut is_right = true;
+    for (did, rev, steps, wanted) in rows {
+        is_right = is_right
+            && ends(
+                alloc,
+                &mut shard,
+                &mut core,
+                stamped(alloc, did, rev, steps),
+                *wanted,
+            );
+    }
+    end(&mut shard, core);
+    is_right
 }
 
-/// The letters of a collection and of a record key, and whether they make a key.
-const LONG_KEYS: [(u16, u16, bool); 5] = [
-    (317, 512, true),
-    (1, 512, true),
-    (318, 1, false),
-    (317, 513, false),
-    (1, 513, false),
-];
-
-#[test]
-fn longest_keys(rt: HostRuntime) {
-    for (collection, record, wanted) in LONG_KEYS {
-        let key = long_key(rt.alloc(), collection, record).expect(&rt, "a key");
-        assert!(rt;
-            is_repository_key(&key) == wanted,
-            "{collection} and {record}"
-        );
-    }
-}
-
-/// A DID of so many bytes.
-fn long_did(alloc: Global, length: usize) -> Result<Vec<u8>, AllocError> {
-    let mut did = Vec::from_slice(alloc, b"did:web:")?;
-    did.resize(length, b'a')?;
-    Ok(did)
-}
-
-const DIDS: [&[u8]; 5] = [
-    b"did:web:a.b",
-    b"did:web:a%3A",
-    b"did:web:a:b",
-    b"did:plc:ewvi7nxzyoun6zhxrhs64oiz",
-    b"did:x:A_-.%:9",
-];
-
-const NO_DIDS: [&[u8]; 15] = [
-    b"",
-    b"did",
-    b"did:",
-    b"did::",
-    b"did::a",
-    b"did:web",
-    b"did:web:",
-    b"DID:web:a",
-    b"did:Web:a",
-    b"did:w3b:a",
-    b"did:web:a:",
-    b"did:web:a%",
-    b"did:web:a/b",
-    b"did:web:a b",
-    b"xdid:web:a",
-];
-
-#[test]
-fn dids(rt: HostRuntime) {
-    for did in DIDS {
-        assert!(rt; is_did(did), "{did:?}");
-    }
-    for did in NO_DIDS {
-        assert!(rt; !is_did(did), "{did:?}");
-    }
-    for length in [2048, 2049] {
-        let did = long_did(rt.alloc(), length).expect(&rt, "a DID");
-        assert!(rt; did.len() == length && is_did(&did) == (length == 2048));
+/// Whether there was memory for a batch, and it ends so.
+fn ends(
+    alloc: Global,
+    shard: &mut Shard<Toy>,
+    core: &mut Core<Toy, 2>,
+    batch: Result<Batch<Global>, AllocError>,
+    wanted: Ended,
+) -> bool {
+    match batch {
+        Ok(batch) => apply(alloc, shard, core, &batch) == wanted,
+        Err(_) => false,
     }
 }
 
-const TIDS: [&[u8]; 5] = [
-    b"2222222222222",
-    b"3jzfcijpj2z2a",
-    b"7777777777777",
-    b"j222222222222",
-    b"jzzzzzzzzzzzz",
-];
-
-const NO_TIDS: [&[u8]; 10] = [
-    b"",
-    b"k222222222222",
-    b"z222222222222",
-    b"222222222222",
-    b"22222222222222",
-    b"2222222222221",
-    b"1222222222222",
-    b"2222222222228",
-    b"222222222222A",
-    b"222222-222222",
-];
-
-#[test]
-fn timestamp_identifiers(rt: HostRuntime) {
-    for rev in TIDS {
-        assert!(rt; is_tid(rev), "{rev:?}");
-    }
-    for rev in NO_TIDS {
-        assert!(rt; !is_tid(rev), "{rev:?}");
-    }
-}
-
-/// A stamp, the only write of its batch, and how the batch ends.
-type Stamped = (&'static [u8], &'static [u8], &'static [Step], Ended);
-
-/// No key, and a record that is none.
+/// A batch that no test passes but those of its stamp.
 const BAD: &[Step] = &[Put(b"a", b"")];
 
 const GOOD: &[Step] = &[Put(b"a/b0", EMPTY)];
 
-/// Batches one after the other: tests of the stamp come after that for an empty batch and before those of the writes.
-const STAMPS: [Stamped; 13] = [
+const FIRST: &[u8] = b"2222222222222";
+
+/// The stamp is tested after the batch for emptiness, and before the writes. The DID may be another each time.
+static STAMPS: [Row; 13] = [
     (
         b"did:web:",
         b"k222222222222",
@@ -173,248 +212,170 @@ const STAMPS: [Stamped; 13] = [
         Refused(0, Why::EmptyBatch),
     ),
     (b"did:web:", b"k222222222222", BAD, Refused(0, Why::BadDid)),
-    (
-        b"did:Web:a",
-        b"2222222222222",
-        GOOD,
-        Refused(0, Why::BadDid),
-    ),
-    (
-        b"did:web:a:",
-        b"2222222222222",
-        GOOD,
-        Refused(0, Why::BadDid),
-    ),
-    (
-        b"did:web:a%",
-        b"2222222222222",
-        GOOD,
-        Refused(0, Why::BadDid),
-    ),
+    (b"did:Web:a", FIRST, GOOD, Refused(0, Why::BadDid)),
+    (b"did:web:a:", FIRST, GOOD, Refused(0, Why::BadDid)),
+    (b"did:web:a%", FIRST, GOOD, Refused(0, Why::BadDid)),
     (DID, b"k222222222222", BAD, Refused(0, Why::BadRev)),
     (DID, b"2222222222221", GOOD, Refused(0, Why::BadRev)),
     (DID, b"222222222222", GOOD, Refused(0, Why::BadRev)),
-    (DID, b"2222222222222", BAD, Refused(0, Why::BadKey)),
+    (DID, FIRST, BAD, Refused(0, Why::BadKey)),
     (DID, b"j222222222222", GOOD, Accepted(1)),
     (DID, b"j222222222222", BAD, Refused(0, Why::RevOrder)),
     (DID, b"izzzzzzzzzzzz", GOOD, Refused(0, Why::RevOrder)),
-    // the DID may be another
     (b"did:web:a%3A", b"j222222222223", GOOD, Accepted(2)),
 ];
 
-/// How a batch of these steps ends with a stamp of these bytes; `None` where there was no memory for it.
-fn stamped(
-    alloc: Global,
-    shard: &mut Shard<Toy>,
-    core: &mut Core<Toy, 2>,
-    did: &[u8],
-    rev: &[u8],
-    steps: &[Step],
-) -> Option<Ended> {
-    let stamp = stamp_of(alloc, did, rev).ok()?;
-    let writes = batch_of(alloc, steps).ok()?;
-    Some(apply(alloc, shard, core, &stamp, &writes))
-}
-
 #[test]
 fn stamps(rt: HostRuntime) {
-    let mut shard = Shard::new(rt.alloc(), 9);
-    let mut core = opened(&rt, rt.alloc(), &mut shard, 0);
-    for (did, rev, steps, wanted) in STAMPS {
-        let ended = stamped(rt.alloc(), &mut shard, &mut core, did, rev, steps);
-        assert!(rt; ended == Some(wanted), "{did:?} {rev:?}");
-    }
-    end(&mut shard, core);
+    assert!(rt; end_so(&rt, rt.alloc(), 1000, &STAMPS));
 }
 
-#[test]
-fn longest_did(rt: HostRuntime) {
-    let mut shard = Shard::new(rt.alloc(), 9);
-    let mut core = opened(&rt, rt.alloc(), &mut shard, 0);
-    for (length, wanted) in [(2049, Refused(0, Why::BadDid)), (2048, Accepted(1))] {
-        let did = long_did(rt.alloc(), length).expect(&rt, "a DID");
-        let ended = stamped(
-            rt.alloc(),
-            &mut shard,
-            &mut core,
-            &did,
-            b"2222222222222",
-            GOOD,
-        );
-        assert!(rt; ended == Some(wanted), "{length}");
-    }
-    end(&mut shard, core);
-}
-
-/// Records under a key, and how a put of each ends.
-const RECORDS: [(&[u8], Ended); 10] = [
-    (EMPTY, Accepted(1)),
-    (b"\xb8\x00", Refused(0, Why::BadRecord(CborFault::LongHead))),
+/// In a repository that may have two writes: room for the write is tested first, then its key, its record, and last whether
+/// the key is there.
+static WRITES: [Row; 20] = [
+    (DID, FIRST, &[Put(b"a/", EMPTY)], Refused(0, Why::BadKey)),
+    (DID, FIRST, &[Create(b"/b", b"")], Refused(0, Why::BadKey)),
     (
-        b"\xa2\x61b\x00\x61a\x00",
+        DID,
+        FIRST,
+        &[Update(b"a/b/c", EMPTY)],
+        Refused(0, Why::BadKey),
+    ),
+    (DID, FIRST, &[Delete(b"a/.")], Refused(0, Why::BadKey)),
+    (DID, FIRST, &[Delete(b"a/..")], Refused(0, Why::BadKey)),
+    (DID, FIRST, &[Put(b"a_b/c", EMPTY)], Refused(0, Why::BadKey)),
+    (
+        DID,
+        FIRST,
+        &[Put(b"a/b", b"\xb8\x00")],
+        Refused(0, Why::BadRecord(CborFault::LongHead)),
+    ),
+    (
+        DID,
+        FIRST,
+        &[Put(b"a/b", b"\xa2\x61b\x00\x61a\x00")],
         Refused(0, Why::BadRecord(CborFault::KeyOrder)),
     ),
-    (b"\xa2\x61b\x00\x62aa\x00", Accepted(2)),
     (
-        b"\xa1\x61a\xfb\x00\x00\x00\x00\x00\x00\x00\x00",
+        DID,
+        FIRST,
+        &[Put(b"a/b", b"\xa1\x61a\xfb\x00\x00\x00\x00\x00\x00\x00\x00")],
         Refused(0, Why::BadRecord(CborFault::Float)),
     ),
-    (b"\xa0\xa0", Refused(0, Why::BadRecord(CborFault::Trailing))),
-    (b"\x80", Refused(0, Why::NotAMap)),
     (
-        b"\xa1\x61",
+        DID,
+        FIRST,
+        &[Put(b"a/b", b"\xa0\xa0")],
+        Refused(0, Why::BadRecord(CborFault::Trailing)),
+    ),
+    (
+        DID,
+        FIRST,
+        &[Put(b"a/b", b"\xa1\x61")],
         Refused(0, Why::BadRecord(CborFault::Truncated)),
     ),
-    (b"", Refused(0, Why::BadRecord(CborFault::Truncated))),
-    (EMPTY, Accepted(3)),
-];
-
-/// Whether a put of each record ends as the table says.
-fn are_records(alloc: Global, shard: &mut Shard<Toy>, core: &mut Core<Toy, 2>) -> bool {
-    let mut turn = 0u16;
-    for (record, wanted) in RECORDS {
-        if apply_steps(alloc, shard, core, turn, &[Put(b"a/b", record)]) != Some(wanted) {
-            return false;
-        }
-        turn = turn.saturating_add(1);
-    }
-    true
-}
-
-#[test]
-fn record_faults(rt: HostRuntime) {
-    let mut shard = Shard::new(rt.alloc(), 9);
-    let mut core = opened(&rt, rt.alloc(), &mut shard, 0);
-    assert!(rt; are_records(rt.alloc(), &mut shard, &mut core));
-    end(&mut shard, core);
-}
-
-/// A key that is none is refused as such, whatever is written under it.
-fn is_refused(
-    alloc: Global,
-    shard: &mut Shard<Toy>,
-    core: &mut Core<Toy, 2>,
-    key: &'static [u8],
-) -> bool {
-    for step in [
-        Put(key, EMPTY),
-        Create(key, b""),
-        Update(key, EMPTY),
-        Delete(key),
-    ] {
-        let ended = apply_steps(alloc, shard, core, 0, &[step]);
-        if ended != Some(Refused(0, Why::BadKey)) {
-            return false;
-        }
-    }
-    true
-}
-
-#[test]
-fn keys_that_are_none(rt: HostRuntime) {
-    let mut shard = Shard::new(rt.alloc(), 9);
-    let mut core = opened(&rt, rt.alloc(), &mut shard, 0);
-    for key in NO_KEYS {
-        assert!(rt;
-            is_refused(rt.alloc(), &mut shard, &mut core, key),
-            "{key:?}"
-        );
-    }
-    end(&mut shard, core);
-}
-
-/// Batches one after the other where there is room for two writes, in the order of the tests.
-const TESTS: [(&[Step], Ended); 7] = [
-    // a record that is none under a key that is there, or isn't
     (
-        &[Create(b"a/b0", ONE), Create(b"a/b0", b"")],
+        DID,
+        FIRST,
+        &[Create(b"a/b", ONE), Create(b"a/b", b"")],
         Refused(1, Why::BadRecord(CborFault::Truncated)),
     ),
-    (&[Update(b"a/b0", b"\x80")], Refused(0, Why::NotAMap)),
-    (&[Delete(b"a/b0")], Refused(0, Why::NoSuchKey)),
-    // no room before all else
     (
-        &[Put(b"a/b0", ONE), Put(b"a/c0", ONE), Put(b"a", b"")],
+        DID,
+        FIRST,
+        &[Update(b"a/b", b"\x80")],
+        Refused(0, Why::NotAMap),
+    ),
+    (
+        DID,
+        FIRST,
+        &[Update(b"a/b", EMPTY)],
+        Refused(0, Why::NoSuchKey),
+    ),
+    (
+        DID,
+        FIRST,
+        &[Put(b"a/b", ONE), Put(b"a/c", ONE), Put(b"a", b"")],
         Refused(2, Why::WritesFull),
     ),
-    (&[Put(b"a/b0", ONE)], Accepted(1)),
     (
-        &[Put(b"a/b0", ONE), Put(b"a/c0", ONE)],
+        DID,
+        FIRST,
+        &[Put(b"a/...", b"\xa2\x61b\x00\x62aa\x00")],
+        Accepted(1),
+    ),
+    (
+        DID,
+        b"2222222222223",
+        &[Put(b"a/b", ONE), Put(b"a/c", ONE)],
         Refused(1, Why::WritesFull),
     ),
-    (&[Delete(b"a/b0")], Accepted(2)),
+    (
+        DID,
+        b"2222222222223",
+        &[Put(b"a.b-c/x:~_", ONE)],
+        Accepted(2),
+    ),
+    (DID, b"2222222222224", BAD, Refused(0, Why::WritesFull)),
+    (DID, b"2222222222224", &[], Refused(0, Why::EmptyBatch)),
 ];
 
-/// Whether the batches end as the table says, and no other is accepted then.
-fn are_tested_in_order(alloc: Global, shard: &mut Shard<Toy>, core: &mut Core<Toy, 2>) -> bool {
-    let mut turn = 0u16;
-    for (steps, wanted) in TESTS {
-        if apply_steps(alloc, shard, core, turn, steps) != Some(wanted) {
-            return false;
-        }
-        turn = turn.saturating_add(1);
-    }
-    apply_steps(alloc, shard, core, turn, BAD) == Some(Refused(0, Why::WritesFull))
-        && core.limit() == 2
-        && core.number() == 2
-        && held(shard, core) == Some(2)
-}
-
 #[test]
-fn order_of_tests(rt: HostRuntime) {
-    let mut shard = Shard::new(rt.alloc(), 9);
-    let mut core = Core::open(rt.alloc(), &mut LentShard::new(&mut shard), 0, 2).expect(
-        &rt, "a core",
-    );
-    assert!(rt; are_tested_in_order(rt.alloc(), &mut shard, &mut core));
-    end(&mut shard, core);
+fn writes(rt: HostRuntime) {
+    assert!(rt; end_so(&rt, rt.alloc(), 2, &WRITES));
 }
 
-/// The batch of one write of a record of so many bytes: the map of "Z" to a byte string, whose head this is.
-fn long_batch(alloc: Global, head: &[u8], length: usize) -> Result<Vec<Write>, AllocError> {
-    let mut record = Vec::from_slice(alloc, head)?;
-    record.resize(length, 0)?;
-    let mut writes = Vec::new(alloc);
-    writes.push(Write::Put(Vec::from_slice(alloc, b"a/b0")?, record))?;
-    Ok(writes)
-}
-
-/// How the put of such a record ends.
-fn long_record(
-    alloc: Global,
-    shard: &mut Shard<Toy>,
-    core: &mut Core<Toy, 2>,
-    head: &[u8],
-    length: usize,
-) -> Option<Ended> {
-    let stamp = stamp_of(alloc, DID, &rev_after(0)).ok()?;
-    let writes = long_batch(alloc, head, length).ok()?;
-    Some(apply(alloc, shard, core, &stamp, &writes))
-}
-
-/// Heads of records, their lengths, and how their puts end. The size is tested before the bytes are read.
-const LONG_RECORDS: [(&[u8], usize, Ended); 4] = [
+/// Records of the greatest size and of one byte more, and how their puts end. The size is tested before the bytes are read.
+static LONG_RECORDS: [(Runs, Ended); 4] = [
     (
-        b"\xa1\x61Z\x5a\x00\x0f\xff\xf9",
-        1_048_577,
+        &[
+            (0xa1, 1),
+            (0x61, 1),
+            (b'Z', 2),
+            (0x00, 1),
+            (0x0f, 1),
+            (0xff, 1),
+            (0xf9, 1),
+            (0, 1_048_569),
+        ],
         Refused(0, Why::RecordSize),
     ),
-    (b"\xff", 1_048_577, Refused(0, Why::RecordSize)),
+    (&[(0xff, 1_048_577)], Refused(0, Why::RecordSize)),
     (
-        b"\xff",
-        1_048_576,
+        &[(0xff, 1_048_576)],
         Refused(0, Why::BadRecord(CborFault::Indefinite)),
     ),
-    (b"\xa1\x61Z\x5a\x00\x0f\xff\xf8", 1_048_576, Accepted(1)),
+    (
+        &[
+            (0xa1, 1),
+            (0x61, 1),
+            (b'Z', 2),
+            (0x00, 1),
+            (0x0f, 1),
+            (0xff, 1),
+            (0xf8, 1),
+            (0, 1_048_568),
+        ],
+        Accepted(1),
+    ),
 ];
 
+/// The batch of a put of such a record.
+fn long_batch(alloc: Global, runs: Runs) -> Result<Batch<Global>, AllocError> {
+    let mut batch = batch_at(alloc, 0, &[])?;
+    let key = Vec::from_slice(alloc, b"a/b0")?;
+    let record = bytes_of(alloc, runs)?;
+    batch.writes.push(Write::Put(key, record))?;
+    Ok(batch)
+}
+
 #[test]
-fn longest_record(rt: HostRuntime) {
+fn longest_records(rt: HostRuntime) {
     let mut shard = Shard::new(rt.alloc(), 9);
     let mut core = opened(&rt, rt.alloc(), &mut shard, 0);
-    for (head, length, wanted) in LONG_RECORDS {
-        let ended = long_record(rt.alloc(), &mut shard, &mut core, head, length);
-        assert!(rt; ended == Some(wanted), "{head:?}, {length}");
+    for (runs, wanted) in &LONG_RECORDS {
+        let batch = long_batch(rt.alloc(), runs);
+        assert!(rt; ends(rt.alloc(), &mut shard, &mut core, batch, *wanted));
     }
     end(&mut shard, core);
 }

@@ -20,8 +20,6 @@ mod lists;
 #[cfg(test)]
 mod memory;
 #[cfg(test)]
-mod orders;
-#[cfg(test)]
 mod random_batches;
 #[cfg(test)]
 mod shards;

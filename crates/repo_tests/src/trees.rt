@@ -2,67 +2,44 @@
 
 ghost use Rattle.std.specs.Prelude.{◌≤◌};
 
-use cid::{Cid, Digest};
+use cid::{Block, Cid, Digest};
 use repo::Core;
 use scratch::{Built, build, is_ascending};
-use std::alloc::{AllocError, Allocator, Global};
-use std::convert::AsSlice;
+use std::alloc::{Allocator, Global};
+use std::sync::Arc;
+
+/// Keys in their order, each with the CID of its record.
+pub(crate) type Pairs = Vec<(&'static [u8], Cid)>;
 
 /// The tree of these pairs from scratch, where it can be built.
-pub(crate) fn tree_of<D: Digest, const B: u8, K: AsSlice<u8>>(
-    alloc: Global,
-    pairs: &[(K, Cid)],
-) -> Option<Built<D>>
+fn tree_of<D: Digest, const B: u8>(alloc: Global, pairs: &Pairs) -> Option<Built<D>>
     requires least { 1 ≤ B }
     requires most { B ≤ 8 }
 {
     if !is_ascending(pairs) {
         return None;
     }
-    build::<D, B, K, _>(alloc, pairs).ok()
+    build::<D, B, &[u8], _>(alloc, pairs).ok()
 }
 
-/// The CIDs of a tree's nodes, of the records of its pairs and of a commit, each once, in their order.
-fn cids_of<D: Digest, K>(
-    alloc: Global,
-    tree: &Built<D>,
-    pairs: &[(K, Cid)],
-    commit: Option<Cid>,
-) -> Result<Vec<Cid>, AllocError> {
-    let mut cids = Vec::new(alloc);
-    for block in &tree.blocks {
-        cids.push(block.cid())?;
-    }
-    for (_, record) in pairs {
-        cids.push(*record)?;
-    }
-    if let Some(commit) = commit {
-        cids.push(commit)?;
-    }
-    cids.sort()?;
-    cids.dedup();
-    Ok(cids)
-}
-
-/// The CIDs of a core's blocks, in the order in which it gives them.
-fn cids_in<D: Digest, const B: u8, A: Allocator>(
-    alloc: Global,
+/// Whether a core has each of these nodes.
+fn has_nodes<D: Digest, const B: u8, A: Allocator>(
     core: &Core<D, B, A>,
-) -> Result<Vec<Cid>, AllocError> {
-    let mut cids = Vec::new(alloc);
-    for block in core.blocks() {
-        cids.push(block.cid())?;
+    nodes: &[Arc<Block<D>>],
+) -> bool {
+    for node in nodes {
+        match core.block(&node.cid()) {
+            Some(block) if block.bytes() == node.bytes() => {}
+            _ => return false,
+        }
     }
-    Ok(cids)
+    true
 }
 
 /// Whether a core finds the record of each pair under its key.
-fn has_records<D: Digest, const B: u8, A: Allocator, K: AsSlice<u8>>(
-    core: &Core<D, B, A>,
-    pairs: &[(K, Cid)],
-) -> bool {
+fn has_records<D: Digest, const B: u8, A: Allocator>(core: &Core<D, B, A>, pairs: &Pairs) -> bool {
     for (key, record) in pairs {
-        match core.get(key.as_slice()) {
+        match core.get(key) {
             Some(block) if block.cid() == *record => {}
             _ => return false,
         }
@@ -70,32 +47,53 @@ fn has_records<D: Digest, const B: u8, A: Allocator, K: AsSlice<u8>>(
     true
 }
 
-/// Whether a core has the root of the tree of these pairs, this commit and, beside it, the tree's nodes, the pairs' records
-/// and no other blocks.
-pub(crate) fn is_of<D: Digest, const B: u8, A: Allocator, K: AsSlice<u8>>(
+/// Whether this is the CID of a node of the tree or of a record of its pairs.
+fn is_of_tree<D: Digest>(tree: &Built<D>, pairs: &Pairs, cid: Cid) -> bool {
+    for block in &tree.blocks {
+        if block.cid() == cid {
+            return true;
+        }
+    }
+    for (_, record) in pairs {
+        if *record == cid {
+            return true;
+        }
+    }
+    false
+}
+
+/// Whether each block of a core is its commit, a node of the tree or a record of its pairs.
+fn has_no_others<D: Digest, const B: u8, A: Allocator>(
+    core: &Core<D, B, A>,
+    tree: &Built<D>,
+    pairs: &Pairs,
+) -> bool {
+    for block in core.blocks() {
+        let cid = block.cid();
+        if core.commit() != Some(cid) && !is_of_tree(tree, pairs, cid) {
+            return false;
+        }
+    }
+    true
+}
+
+/// Whether a core has the root of the tree of these pairs, the tree's nodes, the pairs' records and, beside its commit, no
+/// other blocks.
+pub(crate) fn is_of<D: Digest, const B: u8, A: Allocator>(
     alloc: Global,
     core: &Core<D, B, A>,
-    pairs: &[(K, Cid)],
-    commit: Option<Cid>,
+    pairs: &Pairs,
 ) -> bool
     requires least { 1 ≤ B }
     requires most { B ≤ 8 }
 {
-    match tree_of::<D, B, K>(alloc, pairs) {
+    match tree_of::<D, B>(alloc, pairs) {
         Some(tree) => {
             core.root() == tree.root
-                && core.commit() == commit
+                && has_nodes(core, &tree.blocks)
                 && has_records(core, pairs)
-                && are_alike(cids_in(alloc, core), cids_of(alloc, &tree, pairs, commit))
+                && has_no_others(core, &tree, pairs)
         }
         None => false,
-    }
-}
-
-/// Whether there was memory for both, and they are the same CIDs.
-fn are_alike(ones: Result<Vec<Cid>, AllocError>, others: Result<Vec<Cid>, AllocError>) -> bool {
-    match (ones, others) {
-        (Ok(ones), Ok(others)) => ones == others,
-        _ => false,
     }
 }
