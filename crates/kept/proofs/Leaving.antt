@@ -14,7 +14,7 @@ use Rattle.spec.specs.Cid.{cid as cid_of}
 use Rattle.store.specs.Table.{Table, Held, entry_at, cores_of, cores_at, left, left_entry, shard_of}
 use Rattle.kept.specs.Counts.{Keeping, bytes_at}
 use Rattle.kept.specs.Uses.{Uses, at, Updated, IsKept, keeping_of, counted}
-use Rattle.kept.specs.Leaving.{no_table, table_at, without_core, is_held, leaves, HasLeft, given_back, entry_after, AreNamed, AreGivenBack}
+use Rattle.kept.specs.Leaving.{no_table, table_at, entry_in, without_core, is_held, leaves, HasLeft, given_back, entry_after, AreNamed, AreGivenBack}
 use Rattle.kept.specs.declared.kept_use.Use.{Use}
 use Rattle.kept.proofs.Entries.{turn, here, listed_at}
 use Rattle.kept.proofs.Counting.{count_in, some_if, get_counted}
@@ -135,7 +135,7 @@ module _ {A : Type 0} (digest : List ℕ → List ℕ) where
       in_place true = left_at (table_at tables place) k h.1 c
       in_place false = refl
 
-  pub given_limits : (tables : List Table) (h : Arc (List ℕ) A × ℕ) (place : ℕ)
+  given_limits : (tables : List Table) (h : Arc (List ℕ) A × ℕ) (place : ℕ)
       → (table_at (given_back digest tables h) place).limit ≡ (table_at tables place).limit
   given_limits tables h place =
       let k = cid_of digest (arc_value h.0) in
@@ -148,7 +148,7 @@ module _ {A : Type 0} (digest : List ℕ → List ℕ) where
 
 module _ {D A : Type 0} (digest : List ℕ → List ℕ) where
   -- what will be left in the end is the same, whether an entry is still to be given back or has been
-  pub given_step : (f g : List ℕ → Option (Use D A)) (tables : List Table) (k : List ℕ) (u : Use D A) → f k ≡ Some u
+  given_step : (f g : List ℕ → Option (Use D A)) (tables : List Table) (k : List ℕ) (u : Use D A) → f k ≡ Some u
       → k ≡ cid_of digest (arc_value u.hold.0) → Updated f g k None → (place : ℕ) (c : List ℕ)
       → entry_after (g c) (nat_eq place (shard_of c)) (entry_at (table_at (given_back digest tables u.hold) place) c)
       ≡ entry_after (f c) (nat_eq place (shard_of c)) (entry_at (table_at tables place) c)
@@ -172,19 +172,54 @@ module _ {D A : Type 0} (digest : List ℕ → List ℕ) where
           ∙ ap (λ (w : Option (Use D A)). entry_after w (nat_eq place (shard_of c)) o) (sym a ∙ ap f (here k c e))
       by_key false e = ap (entry_after (f c) (nat_eq place (shard_of c))) (either (nat_eq place (shard_of k)))
 
-  pub named_left : (f g : List ℕ → Option (Use D A)) (k : List ℕ) → AreNamed digest f → Updated f g k None → AreNamed digest g
+  named_left : (f g : List ℕ → Option (Use D A)) (k : List ℕ) → AreNamed digest f → Updated f g k None → AreNamed digest g
   named_left f g k is h q u e = by_key (is_at (slice_cmp nat_cmp k) q) (sym (h q) ∙ e)
     where
       by_key : (b : Bool) → cond b None (f q) ≡ Some u → q ≡ cid_of digest (arc_value u.hold.0)
       by_key true e = absurd cc
       by_key false e = is q u e
 
-  -- ---- the whole map
+  -- ---- one entry after the other
 
-  -- of an empty list nothing is to be given back
-  pub none_left : (es : List (List ℕ × Use D A)) (c : List ℕ) → (0 < length es → ⊥) → listed_at es c ≡ None
-  none_left [] c never = refl
-  none_left (e ∷ es) c never = absurd (never (omega arith))
+  -- of the entries f those of g are still to be given back
+  pub record Going (f g : List ℕ → Option (Use D A)) (old now : List Table) : Type 0 where
+    pub named : AreNamed digest g
+    pub entries : (place : ℕ) (c : List ℕ)
+        → entry_after (g c) (nat_eq place (shard_of c)) (entry_in now place c) ≡ entry_after (f c) (nat_eq place (shard_of c)) (entry_in old place c)
+    pub limits : (place : ℕ) → (table_at now place).limit ≡ (table_at old place).limit
+
+  pub going_first : (f g : List ℕ → Option (Use D A)) (tables : List Table) → AreNamed digest f → ((q : List ℕ) → g q ≡ f q) → Going f g tables tables
+  going_first f g tables is same = record {
+    named = λ q u e. is q u (sym (same q) ∙ e);
+    entries = λ place c. ap (λ (w : Option (Use D A)). entry_after w (nat_eq place (shard_of c)) (entry_in tables place c)) (same c);
+    limits = λ place. refl;
+  }
+
+  pub going_on : (f g h : List ℕ → Option (Use D A)) (old now after : List Table) (k : List ℕ) (u : Use D A) → Going f g old now
+      → g k ≡ Some u → Updated g h k None → after ≡ given_back digest now u.hold → Going f h old after
+  going_on f g h old now after k u is a gone e = record {
+    named = named_left g h k is.named gone;
+    entries = λ place c.
+        ap (λ (ts : List Table). entry_after (h c) (nat_eq place (shard_of c)) (entry_in ts place c)) e
+        ∙ given_step g h now k u a (is.named k u a) gone place c
+        ∙ is.entries place c;
+    limits = λ place. ap (λ (ts : List Table). (table_at ts place).limit) e ∙ given_limits digest now u.hold place ∙ is.limits place;
+  }
+
+  none_in : (es : List (List ℕ × Use D A)) (c : List ℕ) → (0 < length es → ⊥) → listed_at es c ≡ None
+  none_in [] c never = refl
+  none_in (e ∷ es) c never = absurd (never (omega arith))
+
+  pub going_last : (f : List ℕ → Option (Use D A)) (es : List (List ℕ × Use D A)) (old now : List Table) → Going f (listed_at es) old now
+      → (0 < length es → ⊥) → AreGivenBack f old now
+  going_last f es old now is never = record {
+    entries = λ place c.
+        sym (ap (λ (w : Option (Use D A)). entry_after w (nat_eq place (shard_of c)) (entry_in now place c)) (none_in es c never))
+        ∙ is.entries place c;
+    limits = is.limits;
+  }
+
+  -- ---- the whole map
 
   after_is : (w : Option (Use D A)) (core : ℕ) (held own : Bool) (o : Option Held) → (w ≡ None → held ≡ false)
       → ((u : Use D A) → w ≡ Some u → (held ≡ true) × (u.hold.1 ≡ core)) → entry_after w own o ≡ cond (own && held) (without_core core o) o

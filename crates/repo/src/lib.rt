@@ -23,13 +23,15 @@
 //! use std::test::Fail;
 //! use store::{LentShard, Shard};
 //!
-//! #[test]
 //! fn a_batch_of_two_writes(rt: HostRuntime) -> Result<(), Fail> {
 //!     let alloc = rt.alloc();
 //!
 //!     // A batch: a record is put, and another one takes its place. The stamp is for the commit.
 //!     let key = b"app.bsky.feed.post/3jzfcijpj2z2a".as_slice();
-//!     let [hello, bye] = [b"\xa1\x64text\x65hello".as_slice(), b"\xa1\x64text\x63bye".as_slice()];
+//!     let [hello, bye] = [
+//!         b"\xa1\x64text\x65hello".as_slice(),
+//!         b"\xa1\x64text\x63bye".as_slice(),
+//!     ];
 //!     let mut writes = Vec::new(alloc);
 //!     for bytes in [hello, bye] {
 //!         writes.push(Write::Put(Vec::from_slice(alloc, key)?, Vec::from_slice(alloc, bytes)?))?;
