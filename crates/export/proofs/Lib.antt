@@ -1,3 +1,10 @@
 pub mod Finding
+pub mod Leaving
+pub mod Numbers
+pub mod FirstOnes
 pub mod OneNode
+pub mod Paths
+pub mod Sectioned
 pub mod Shown
+pub mod Spelled
+pub mod Walked

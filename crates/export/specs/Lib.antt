@@ -1,2 +1,5 @@
 pub mod Faults
 pub mod GivenBlocks
+pub mod Once
+pub mod Outs
+pub mod Walks

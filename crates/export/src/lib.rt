@@ -8,10 +8,29 @@
 //! ```
 #![tactic(auto)]
 
+mod blocks;
+mod cars;
+mod export_fault;
 mod given;
 mod hashed;
+mod log;
+mod once;
+mod out;
 mod proof_fault;
+mod proving;
+mod sections;
+mod seen;
+mod to_memory;
+mod to_writer;
+mod varint;
 mod verifying;
+mod walk;
+mod whole;
 
+pub use export_fault::ExportFault;
+pub use log::Log;
+pub use out::{Failed, Out};
 pub use proof_fault::ProofFault;
+pub use to_memory::ToMemory;
+pub use to_writer::ToWriter;
 pub use verifying::verify;
