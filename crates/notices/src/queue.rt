@@ -46,14 +46,22 @@ impl<A: Allocator + Clone> Queue<A> {
         ensures feed { IfOk result (λ r. r.2 ≡ fresh_feed r.0.queue_id writers) }
     {
         let mut passes = Vec::with_capacity(alloc.clone()?, writers as usize)?;
-        let (ring, ticket) = Ring::ruled(alloc, room)?;
-        let queue = Queue { ring };
-        let mut feed = Feed { ticket };
+        let (queue, mut feed) = Queue::without_writers(alloc, room)?;
         for writer in 0..writers {
             let pass = queue.make_pass(&mut feed, writer);
             passes.push_reserved(pass);
         }
         Ok((queue, passes, feed))
+    }
+
+    /// A queue with room for so many notices and no pass so far, and the feed.
+    fn without_writers(alloc: A, room: usize) -> Result<(Queue<A>, Feed), AllocError>
+        requires { 0 < room }
+        ensures room { IfOk result (λ r. r.0.room ≡ room) }
+        ensures feed { IfOk result (λ r. r.1 ≡ fresh_feed r.0.queue_id 0) }
+    {
+        let (ring, ticket) = Ring::ruled(alloc, room)?;
+        Ok((Queue { ring }, Feed { ticket }))
     }
 }
 

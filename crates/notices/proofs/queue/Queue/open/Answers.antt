@@ -2,11 +2,7 @@ use Rattle.std.proofs.Common.{◌++◌, ◌∷◌, [], map, sym, ap, ◌∙◌, 
 use Rattle.std.proofs.lemmas.List.FromFn.{map-range_with_len_more}
 use Rattle.std.specs.List.{range_with_len}
 use Rattle.notices.specs.Views.{fresh, made_one}
-use Rattle.notices.proofs.Moves.{begins}
 use Rattle.notices.proofs.queue.Queue.open.Goals as goal
-
-pub ruled-requires-clause-rule : goal.ruled-requires-clause-rule
-ruled-requires-clause-rule g c = begins
 
 pub push_reserved-requires : goal.push_reserved-requires
 push_reserved-requires g c = let a = c.loop-writer.invariant.len in let b = c.loop-writer.invariant.room in let t = c.loop-writer-test.true in omega arith
@@ -14,7 +10,7 @@ push_reserved-requires g c = let a = c.loop-writer.invariant.len in let b = c.lo
 pub loop-writer-preserved : goal.loop-writer-preserved
 loop-writer-preserved g c =
     let i = c.loop-writer.invariant in
-    let t = c.in_ok-ring.ring.table.shared.table_id in
+    let t = c.in_ok-queue.queue.queue_id in
     let p = c.push_reserved.ensures in
     let s = c.make_pass-pass.ensures in record {
       passes = p.items ∙ ap (λ l. l ++ c.make_pass-pass.result ∷ []) i.passes ∙ ap (λ x. map (fresh t) (range_with_len 0 c.loop-writer.writer) ++ x ∷ []) s.pass ∙ sym (map-range_with_len_more (fresh t) 0 c.loop-writer.writer c.loop-writer.writer (omega arith));
