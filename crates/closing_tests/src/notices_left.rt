@@ -17,7 +17,7 @@ use store::{SHARDS, Shard, Shards};
 
 /// Two writers that left a queue of two, and its feed.
 #[derive(Drop)]
-struct Told<'h> {
+struct Left<'h> {
     first: SendPass,
     second: SendPass,
     feed: Feed<Heap<'h>>,
@@ -36,13 +36,13 @@ fn popped<'q, 'h, R: Wait>(rt: &R, taker: &mut Taker<'q, Heap<'h>>) -> Option<No
 
 /// Writer 0 tells a notice, writer 1 too, and the second of writer 0 is given back. One is taken, and there is room for it
 /// again; the second of writer 1 is kept.
-fn told<'h, R: Wait>(
+fn tell_in_turn<'h, R: Wait>(
     rt: &R,
     queue: &Queue<Heap<'h>>,
     first: SendPass,
     second: SendPass,
     feed: Feed<Heap<'h>>,
-) -> Told<'h>
+) -> Left<'h>
     requires first { first.queue_id ≡ queue.now.queue_id }
     requires nothing_first { first.sent ≡ [] }
     requires second { second.queue_id ≡ queue.now.queue_id }
@@ -65,7 +65,7 @@ fn told<'h, R: Wait>(
     ];
     let taken = popped(rt, &mut taker);
     let is_given_back = zero.tell(rt).is_some();
-    Told {
+    Left {
         kept: one.tell(rt),
         first: zero.end(),
         second: one.end(),
@@ -97,14 +97,14 @@ fn close_after_notices<'h, R: Wait + Abort>(
     let second = passes.pop().expect(rt, "a pass");
     let first = passes.pop().expect(rt, "a pass");
     let feed = Feed::with_room(heap, feed, 2).expect(rt, "room");
-    let told = told(rt, &queue, first, second, feed);
-    let Told {
+    let left = tell_in_turn(rt, &queue, first, second, feed);
+    let Left {
         first,
         second,
         feed,
         kept,
         is_right,
-    } = told;
+    } = left;
     let ended = two_ended(rt, heap, first, second, kept, cores.len(), 0);
     heap.refuse_from(1);
     match close(queue, feed, ended, cores, tables) {
