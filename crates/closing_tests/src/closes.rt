@@ -13,8 +13,10 @@ use std::sync::Wait;
 use store::{SHARDS, Shard, Shards};
 
 /// What a close answers.
-pub(crate) type Answer<'h, const B: u8> =
-    Result<Closed<Toy, B, Heap<'h>>, Uneven<Toy, B, Heap<'h>>>;
+pub(crate) type Answer<'h, const B: u8> = Result<
+    Closed<Toy, B, Heap<'h>>,
+    Uneven<Toy, B, Heap<'h>>,
+>;
 
 /// A writer that has ended: it keeps this notice, and has seen so many accepted writes in each repository.
 fn ended<'h, R: Abort>(

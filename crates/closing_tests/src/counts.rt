@@ -3,7 +3,7 @@
 ghost use Rattle.std.specs.Prelude.{◌≤◌};
 
 use crate::closes::closed_after;
-use crate::repositories::{Batch, EMPTY, EMPTY_NODE, Heap};
+use crate::repositories::{Batch, EMPTY, Heap};
 use cid::Cid;
 use cid::digests::Toy;
 use closing::Closed;
@@ -55,7 +55,10 @@ fn close_with<R: Wait + Abort, const B: u8>(
     let is_right = match closed_after::<R, B>(rt, &heap, (0, 1), batches, 0) {
         Ok(closed) => {
             are_counts(&heap, &closed, blocks, count)
-                && closed.cores().iter().all(|core| have_count(&closed, core, count))
+                && closed
+                    .cores()
+                    .iter()
+                    .all(|core| have_count(&closed, core, count))
                 && closed.count(&Cid::of::<Toy>(b"another")) == 0
         }
         Err(_) => false,

@@ -10,7 +10,6 @@ use closing::{Closed, Feed, Taker, close};
 use notices::{Notice, Queue, SendPass};
 use refusing::Refusing;
 use repo::Core;
-use std::alloc::Global;
 use std::process::Abort;
 use std::sync::Wait;
 use store::{SHARDS, Shard, Shards};

@@ -1,6 +1,6 @@
 //! Two repositories over the sixteen shards.
 
-ghost use Rattle.std.specs.Prelude.{◌≡◌, ◌≤◌, ◌<◌, length};
+ghost use Rattle.std.specs.Prelude.{◌≤◌, ◌<◌};
 
 use batches::{Stamp, Write};
 use cid::digests::Toy;

@@ -6,7 +6,6 @@ use cid::digests::Toy;
 use closing::Mismatch;
 use refusing::Refusing;
 use repo::Core;
-use std::alloc::Global;
 use std::process::Abort;
 use std::sync::Wait;
 use store::Shards;

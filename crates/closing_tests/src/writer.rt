@@ -1,6 +1,6 @@
 //! A writer that tells notices to a queue, and is given back what the full queue doesn't take.
 
-ghost use Rattle.std.specs.Prelude.{◌≡◌, ◌+◌, [], length};
+ghost use Rattle.std.specs.Prelude.{◌≡◌, [], length};
 
 use crate::repositories::Heap;
 use cid::Cid;
