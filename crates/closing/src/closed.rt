@@ -178,7 +178,7 @@ impl<D: Digest, const B: u8, A: Allocator> Uneven<D, B, A> {
     pub fn cores(&self) -> &[Core<D, B, A>]
         ensures { result.now ≡ self.now.cores }
     {
-        &self.cores
+        self.cores.as_slice()
     }
 }
 

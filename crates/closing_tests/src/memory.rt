@@ -1,7 +1,5 @@
 //! A close where memory is refused.
 
-ghost use Rattle.std.specs.Prelude.{◌<◌};
-
 use crate::closes::closed_after;
 use crate::repositories::{Batch, EMPTY, EMPTY_NODE, Heap};
 use cid::Cid;
