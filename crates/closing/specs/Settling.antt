@@ -22,20 +22,27 @@ abbrev pub NoneShort : List State → List ℕ → Type 0
 NoneShort cores seen = (place : ℕ) (d : State) → place < length cores
     → slice_index seen place ≤ length (slice_index_or cores place d).accepted
 
+-- none has, for any of the writers
+abbrev pub AreLong : List State → List EndedView → Type 0
+AreLong cores ended = All (λ e. NoneShort cores e.seen) ended
+
+-- some has, for one of them
+abbrev pub IsTooShort : List State → List EndedView → Type 0
+IsTooShort cores ended = (e : EndedView) × Contains ended e × IsShort cores e.seen
+
 -- ---- the comparison
 
 -- cores and tables agree, and no core has fewer accepted writes than a writer has seen there
 pub record IsSettled (digest : List ℕ → List ℕ) (bits : ℕ) (cores : List State) (tables : List Table) (ended : List EndedView) : Type 0 where
   pub even : IsEven digest bits cores tables
-  pub long : All (λ e. NoneShort cores e.seen) ended
+  pub long : AreLong cores ended
 
 -- in these cores and tables it is otherwise, and where
 abbrev pub IsUneven : (List ℕ → List ℕ) → ℕ → List State → List Table → List EndedView → Mismatch
     → Type 0
 IsUneven digest bits cores tables ended Numbers = IsMisnumbered cores
 IsUneven digest bits cores tables ended Counts = IsMiscounted digest bits cores tables
-IsUneven digest bits cores tables ended Lists =
-    (e : EndedView) × Contains ended e × IsShort cores e.seen
+IsUneven digest bits cores tables ended Lists = IsTooShort cores ended
 
 -- ---- a host that has closed, and one that hasn't
 

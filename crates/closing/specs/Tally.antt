@@ -1,6 +1,6 @@
 -- The tally of blocks over cores, and the counts in a store's tables.
-use Rattle.std.specs.Prelude.{◌≡◌, ◌≢◌, ℕ, suc, ◌==◌, ◌&&◌, Bool, true, false, List, [], ◌∷◌, ◌++◌}
-use Rattle.std.specs.Prelude.{length, count_by}
+use Rattle.std.specs.Prelude.{◌≡◌, ◌≢◌, ◌<◌, ℕ, suc, ◌==◌, ◌&&◌, Bool, true, false, List, [], ◌∷◌, ◌++◌}
+use Rattle.std.specs.Prelude.{length, count_by, All, slice_index_or}
 use Rattle.std.specs.List.{list_any}
 use Rattle.std.specs.Str.{bytes_eq}
 use Rattle.std.specs.Ordering.{nat_cmp}
@@ -8,7 +8,7 @@ use Rattle.std.specs.FinSet as set
 use Rattle.spec.specs.Cid.{cid as cid_of}
 use Rattle.spec.specs.States.{State, state_blocks}
 use Rattle.store.specs.Table.{Table, cores_at, shard_of}
-use Rattle.kept.specs.Leaving.{cores_in}
+use Rattle.kept.specs.Leaving.{cores_in, no_table}
 
 -- whether one of these blocks has this CID
 abbrev pub has_in : (List ℕ → List ℕ) → List (List ℕ) → List ℕ → Bool
@@ -90,3 +90,11 @@ AreHad digest bits cores shard table = (cid : List ℕ) → shard_of cid ≡ sha
 abbrev pub AreAlien : (List ℕ → List ℕ) → ℕ → List State → ℕ → Table → Type 0
 AreAlien digest bits cores shard table = (cid : List ℕ) × (shard_of cid ≡ shard)
     × IsAlien digest bits cores cid (cores_at table cid)
+
+-- the same of all cores, and of the tables of all sixteen shards
+abbrev pub AreEntered : (List ℕ → List ℕ) → ℕ → List State → List Table → Type 0
+AreEntered digest bits cores tables = All (λ s. IsEntered digest bits s tables) cores
+
+abbrev pub AreAllHad : (List ℕ → List ℕ) → ℕ → List State → List Table → Type 0
+AreAllHad digest bits cores tables = (shard : ℕ) → shard < 16
+    → AreHad digest bits cores shard (slice_index_or tables shard no_table)

@@ -1,10 +1,9 @@
 //! The comparison of cores with tables. It walks by reference and looks up, and takes no memory.
 
-ghost use Rattle.std.specs.Prelude.{◌≡◌, ℕ, ◌<◌, true, MatchBool, OnOk, IfErr, length, All, slice_index_or};
+ghost use Rattle.std.specs.Prelude.{◌≡◌, ℕ, ◌<◌, true, MatchBool, OnOk, IfErr, length, All};
 ghost use Rattle.std.specs.FinSet as set;
-ghost use Rattle.kept.specs.Leaving.{no_table};
 ghost use Rattle.closing.specs.Tally.{has, have, NumberedFrom, IsMisnumbered, IsMiscounted};
-ghost use Rattle.closing.specs.Tally.{IsEntered, IsMissed, AreHad, AreAlien, AllHave, IsAlien};
+ghost use Rattle.closing.specs.Tally.{IsEntered, IsMissed, AreEntered, AreHad, AreAlien, AreAllHad, AllHave, IsAlien};
 
 ghost use Rattle.closing.specs.Settling.{IsSettled, IsUneven};
 
@@ -74,7 +73,7 @@ fn all_entered<D: Digest, const B: u8, A: Allocator>(
     cores: &[Core<D, B, A>],
     tables: &[Shard<D, A>; SHARDS],
 ) -> bool
-    ensures { MatchBool result (All (λ s. IsEntered D.digest_of B s tables.now) cores.now) (IsMiscounted D.digest_of B cores.now tables.now) }
+    ensures { MatchBool result (AreEntered D.digest_of B cores.now tables.now) (IsMiscounted D.digest_of B cores.now tables.now) }
 {
     for core in cores {
         if !is_entered(core, tables) {
@@ -149,7 +148,7 @@ fn all_had<D: Digest, const B: u8, A: Allocator>(
     tables: &[Shard<D, A>; SHARDS],
 ) -> bool
     requires { NumberedFrom 0 cores.now }
-    ensures { MatchBool result ((shard : ℕ) → shard < 16 → AreHad D.digest_of B cores.now shard (slice_index_or tables.now shard no_table)) (IsMiscounted D.digest_of B cores.now tables.now) }
+    ensures { MatchBool result (AreAllHad D.digest_of B cores.now tables.now) (IsMiscounted D.digest_of B cores.now tables.now) }
 {
     for (shard, table) in tables.iter().enumerate() {
         if !are_had(cores, shard, table) {

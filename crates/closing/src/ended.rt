@@ -1,3 +1,4 @@
+//! Writers that have ended.
 ghost use Rattle.std.specs.Prelude.{◌≡◌};
 
 use notices::{Notice, SendPass};

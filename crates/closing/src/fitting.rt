@@ -1,3 +1,4 @@
+//! Elements whose type fits in memory.
 ghost use Rattle.std.specs.Prelude.{◌≡◌, ◌<◌, length, slice_index_or};
 ghost use Rattle.std.specs.Mem.{FitsInMemory};
 

@@ -1,3 +1,4 @@
+//! The faults of a close.
 /// Where cores and tables, or cores and what writers have seen, don't agree.
 #[derive(Clone, Copy, PartialEq, Eq, Debug)]
 pub enum Mismatch {

@@ -1,8 +1,7 @@
 //! The comparison of cores with what writers have seen.
 
-ghost use Rattle.std.specs.Prelude.{◌≡◌, MatchBool, length, All, Contains};
-ghost use Rattle.closing.specs.Ending.{EndedView};
-ghost use Rattle.closing.specs.Settling.{IsShort, NoneShort};
+ghost use Rattle.std.specs.Prelude.{◌≡◌, MatchBool, length, All};
+ghost use Rattle.closing.specs.Settling.{IsShort, NoneShort, AreLong, IsTooShort};
 
 use crate::ended::Ended;
 use cid::Digest;
@@ -28,7 +27,7 @@ pub(crate) fn all_long<D: Digest, const B: u8, A: Allocator>(
     ended: &[Ended<A>],
 ) -> bool
     requires { All (λ e. length e.seen ≡ length cores.now) ended.now }
-    ensures { MatchBool result (All (λ e. NoneShort cores.now e.seen) ended.now) ((e : EndedView) × Contains ended.now e × IsShort cores.now e.seen) }
+    ensures { MatchBool result (AreLong cores.now ended.now) (IsTooShort cores.now ended.now) }
 {
     for one in ended {
         if !none_short(cores, one.seen()) {

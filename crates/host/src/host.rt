@@ -46,6 +46,7 @@ impl<D: Digest, const B: u8> Model for Host<D, B> {
 }
 
 /// A host that was opened: a seat for each writer, in the order of their numbers, and the feed of its queue.
+#[derive(Drop)]
 pub struct Opened<D: Digest, const B: u8> {
     /// The host.
     pub host: Host<D, B>,

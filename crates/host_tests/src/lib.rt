@@ -1,0 +1,5 @@
+//! Tests of hosts.
+#![tactic(auto)]
+
+#[cfg(test)]
+mod opening;
