@@ -1,0 +1,2 @@
+//! Tests of batches.
+#![tactic(auto)]
