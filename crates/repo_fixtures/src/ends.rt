@@ -19,7 +19,7 @@ pub enum Named {
 }
 
 /// The name of these bytes.
-fn named(bytes: &[u8]) -> Named {
+fn name_of(bytes: &[u8]) -> Named {
     if bytes == EMPTY_NODE {
         Named::EmptyNode
     } else if bytes == EMPTY {
@@ -58,7 +58,7 @@ pub enum Why {
 /// Which two blocks clash.
 fn clash_of<D: Digest, A: Allocator>(pair: &Collided<D, A>) -> Why {
     if pair.one().cid() == pair.other().cid() {
-        Why::Collision(named(pair.one().bytes()), named(pair.other().bytes()))
+        Why::Collision(name_of(pair.one().bytes()), name_of(pair.other().bytes()))
     } else {
         Why::NoCollision
     }
