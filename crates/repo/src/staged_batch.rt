@@ -56,8 +56,8 @@ pub(crate) fn stage_batch<
         (λ staged. shared_writes staged.writes.items ≡ writes_of writes.now) }
     ensures stamp { IfOk result (λ staged. stamp_of staged.stamp ≡ stamp_of stamp.now) }
     ensures fault { OnState D.digest_of B start (option_map (λ rev. rev.now) last.entry)
-        kept.old.staged (λ s. IfErr result (IsRefusal D.digest_of B s (stamp_of stamp.now) (writes_of writes.now)
-        (S.fulls store.old) (S.fulls store.new))) }
+        kept.old.staged (λ s. IfErr result (IsRefusal D.digest_of B s
+        (stamp_of stamp.now) (writes_of writes.now) (S.fulls store.old) (S.fulls store.new))) }
     ensures before { IsStillBefore kept.old kept.new }
 {
     if writes.is_empty() {
@@ -94,8 +94,8 @@ fn stage_stamped<
         (λ staged. shared_writes staged.writes.items ≡ writes_of writes.now) }
     ensures stamp { IfOk result (λ staged. stamp_of staged.stamp ≡ stamp_of stamp.now) }
     ensures fault { OnPassed D.digest_of B start (stamp_of stamp.now) kept.old.staged
-        (λ s. IfErr result (IsRefusal D.digest_of B s (stamp_of stamp.now) (writes_of writes.now)
-        (S.fulls store.old) (S.fulls store.new))) }
+        (λ s. IfErr result (IsRefusal D.digest_of B s
+        (stamp_of stamp.now) (writes_of writes.now) (S.fulls store.old) (S.fulls store.new))) }
     ensures before { IsStillBefore kept.old kept.new }
 {
     let Ok(copy) = stamp.copied(alloc) else {
