@@ -35,7 +35,8 @@ pub fn commit_bytes<A: Allocator>(
 
 /// Puts the spelling of a text at the end of `out`.
 fn push_text<A: Allocator>(out: &mut Vec<u8, A>, text: &[u8]) -> Result<(), AllocError>
-    ensures { OnOk result (out.new.items ≡ out.old.items ++ (head 3 (length text.now) ++ text.now)) }
+    ensures { OnOk result (out.new.items ≡ out.old.items
+        ++ (head 3 (length text.now) ++ text.now)) }
 {
     push_head(out, 3, text.len() as u64)?;
     out.extend_from_slice(text)

@@ -19,8 +19,11 @@ pub fn test_stamp<D: Digest, A: Allocator>(
     last: Option<&[u8]>,
     stamp: &Stamp<A>,
 ) -> Result<(), RepoFault<D, A>>
-    ensures passed { OnOk result (stamp_test (option_map (λ rev. rev.now) last.entry) (stamp_of stamp.now) ≡ Ok tt) }
-    ensures fault { IfErr result (λ fault. IsNamed (stamp_test (option_map (λ rev. rev.now) last.entry) (stamp_of stamp.now)) (stamp_fault fault)) }
+    ensures passed { OnOk result (stamp_test (option_map (λ rev. rev.now) last.entry)
+        (stamp_of stamp.now) ≡ Ok tt) }
+    ensures fault { IfErr result (λ fault. IsNamed
+        (stamp_test (option_map (λ rev. rev.now) last.entry) (stamp_of stamp.now))
+        (stamp_fault fault)) }
 {
     if !is_did(&stamp.did) {
         return Err(RepoFault::BadDid);
@@ -91,7 +94,8 @@ fn is_method_specific_id(id: &[u8]) -> bool
 }
 
 fn are_id_letters(bytes: &[u8]) -> bool
-    ensures { result ≡ list_all (λ x. is_ascii_alphanumeric x || is_one_of (codes "._:%-") x) bytes.now }
+    ensures { result ≡ list_all (λ x. is_ascii_alphanumeric x || is_one_of (codes "._:%-") x)
+        bytes.now }
 {
     bytes
         .iter()

@@ -59,7 +59,8 @@ pub fn test_write<D: Digest, A: Allocator + Copy>(
 /// Tests a key.
 fn test_key<D: Digest, A: Allocator>(key: &[u8]) -> Result<(), RepoFault<D, A>>
     ensures passed { OnOk result (ensure (is_repository_key key.now) BadKey ≡ Ok tt) }
-    ensures fault { IfErr result (IsTestFault write_fault (ensure (is_repository_key key.now) BadKey)) }
+    ensures fault { IfErr result (IsTestFault write_fault
+        (ensure (is_repository_key key.now) BadKey)) }
 {
     if !is_repository_key(key) {
         return Err(RepoFault::BadKey);
@@ -115,7 +116,8 @@ fn is_collection(name: &[u8]) -> bool
 }
 
 fn are_collection_letters(bytes: &[u8]) -> bool
-    ensures { result ≡ list_all (λ x. is_ascii_alphanumeric x || is_one_of (codes ".-") x) bytes.now }
+    ensures { result ≡ list_all (λ x. is_ascii_alphanumeric x || is_one_of (codes ".-") x)
+        bytes.now }
 {
     bytes
         .iter()
@@ -134,7 +136,8 @@ fn is_record_key(name: &[u8]) -> bool
 }
 
 fn are_record_key_letters(bytes: &[u8]) -> bool
-    ensures { result ≡ list_all (λ x. is_ascii_alphanumeric x || is_one_of (codes "._:~-") x) bytes.now }
+    ensures { result ≡ list_all (λ x. is_ascii_alphanumeric x || is_one_of (codes "._:~-") x)
+        bytes.now }
 {
     bytes
         .iter()

@@ -41,7 +41,8 @@ fn five_bits(bytes: &[u8; 36], i: usize) -> usize
 /// What the letters stand for, or `None` where one isn't in the alphabet.
 pub(crate) fn values(letters: &[u8]) -> Option<[u8; 58]>
     requires { length letters.now ≡ 58 }
-    ensures { result ≡ (if list_all (λ v. nat_lt v 32) (map value_of letters.now) then Some (map value_of letters.now) else None) }
+    ensures { result ≡ (if list_all (λ v. nat_lt v 32) (map value_of letters.now)
+        then Some (map value_of letters.now) else None) }
 {
     let mut values = [0; 58];
     for (i, letter) in letters.iter().enumerate() {

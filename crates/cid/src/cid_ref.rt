@@ -18,7 +18,8 @@ impl<'a> CidRef<'a> {
 
     /// These bytes as an identifier, or `None` where they aren't 36 or don't begin with `01 71 12 20` (CIDv1).
     pub fn from_bytes(bytes: &'a [u8]) -> Option<CidRef<'a>>
-        ensures { option_map bytes_of result ≡ (if is_own_cid bytes.now then Some bytes.now else None) }
+        ensures { option_map bytes_of result
+            ≡ (if is_own_cid bytes.now then Some bytes.now else None) }
     {
         let bytes = <&[u8; 36]>::try_from(bytes).ok()?;
         if has_own_prefix(bytes) {

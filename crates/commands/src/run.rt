@@ -23,7 +23,8 @@ pub fn run_words<R: Read, W: Write, X: Write>(
     ensures status { result ≤ 4 }
 
     // A faulty line, a clash and a wrong command line write nothing.
-    ensures nothing { (result ≡ 1) ⊎ (result ≡ 2) → Keeps (W.contents out.old) (W.contents out.new) }
+    ensures nothing { (result ≡ 1) ⊎ (result ≡ 2)
+        → Keeps (W.contents out.old) (W.contents out.new) }
 {
     run_words_with::<Sha256, R, W, X>(alloc, words, input, out, err)
 }
@@ -39,7 +40,8 @@ pub fn run_words_with<D: Digest, R: Read, W: Write, X: Write>(
     ensures status { result ≤ 4 }
 
     // A faulty line, a clash and a wrong command line write nothing.
-    ensures nothing { (result ≡ 1) ⊎ (result ≡ 2) → Keeps (W.contents out.old) (W.contents out.new) }
+    ensures nothing { (result ≡ 1) ⊎ (result ≡ 2)
+        → Keeps (W.contents out.old) (W.contents out.new) }
 {
     match request_of(alloc, words) {
         Ok(Request::Tree(bits)) => tree::run::<D, R, W, X>(bits, alloc, input, out, err),
@@ -50,7 +52,8 @@ pub fn run_words_with<D: Digest, R: Read, W: Write, X: Write>(
 /// Shows help and the version on standard output, and what is wrong with a command line on standard error.
 fn show<W: Write, X: Write>(error: &Error, out: &mut W, err: &mut X) -> u8
     ensures status { result ≤ 4 }
-    ensures nothing { (result ≡ 1) ⊎ (result ≡ 2) → Keeps (W.contents out.old) (W.contents out.new) }
+    ensures nothing { (result ≡ 1) ⊎ (result ≡ 2)
+        → Keeps (W.contents out.old) (W.contents out.new) }
 {
     if error.kind() == ErrorKind::OutOfMemory {
         return no_memory(err);

@@ -57,7 +57,8 @@ impl<'a> Cursor<'a> {
     #[inline(always)]
     pub fn head(&mut self) -> Result<(u8, u64), CborFault>
         ensures read { Gives (λ h. (h, self.new.left)) fault_of result (head_at self.old.left) }
-        ensures place { self.new.place + length self.new.left ≡ self.old.place + length self.old.left }
+        ensures place { self.new.place + length self.new.left
+            ≡ self.old.place + length self.old.left }
         ensures unchanged { OnErr result (self.new ≡ self.old) }
         ensures takes_no_memory { result ≢ Err CborFault.NoMemory }
     {
@@ -76,8 +77,10 @@ impl<'a> Cursor<'a> {
 
     /// The next `n` bytes. `Truncated` where fewer are left, and then nothing was read.
     pub fn take(&mut self, n: u64) -> Result<&'a [u8], CborFault>
-        ensures read { Gives (λ taken. (taken.now, self.new.left)) fault_of result (front Truncated n self.old.left) }
-        ensures place { self.new.place + length self.new.left ≡ self.old.place + length self.old.left }
+        ensures read { Gives (λ taken. (taken.now, self.new.left)) fault_of result
+            (front Truncated n self.old.left) }
+        ensures place { self.new.place + length self.new.left
+            ≡ self.old.place + length self.old.left }
         ensures unchanged { OnErr result (self.new ≡ self.old) }
         ensures takes_no_memory { result ≢ Err CborFault.NoMemory }
     {

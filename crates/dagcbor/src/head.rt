@@ -144,7 +144,8 @@ pub(crate) fn front(n: u64, bytes: &[u8]) -> Result<(&[u8], &[u8]), CborFault>
 
 /// The argument of a head that has to have this major type, or else there is this fault.
 pub(crate) fn head_of(major: u8, fault: CborFault, bytes: &[u8]) -> Result<(u64, &[u8]), CborFault>
-    ensures { (f : heads.CborFault) → fault_of fault ≡ Some f → Gives (λ x. (x.0, x.1.now)) fault_of result (head_of major f bytes.now) }
+    ensures { (f : heads.CborFault) → fault_of fault ≡ Some f
+        → Gives (λ x. (x.0, x.1.now)) fault_of result (head_of major f bytes.now) }
 {
     match bytes {
         [] => Err(CborFault::Truncated),

@@ -23,7 +23,8 @@ use std::alloc::Allocator;
 /// A key that may follow the one before it, where there is one, and the bytes after it.
 #[inline(always)]
 fn key<'a>(before: Option<&str>, bytes: &'a [u8]) -> Result<(&'a str, &'a [u8]), CborFault>
-    ensures { Gives (λ x. (x.0.now, x.1.now)) fault_of result (key_of (option_map (λ s. s.now) before.entry) bytes.now) }
+    ensures { Gives (λ x. (x.0.now, x.1.now)) fault_of result
+        (key_of (option_map (λ s. s.now) before.entry) bytes.now) }
 {
     let (n, rest) = head_of(Major::TextString as u8, CborFault::KeyNotText, bytes)?;
     let (key, rest) = text(n, rest)?;
@@ -89,7 +90,8 @@ fn content<'a, A: Allocator + Copy>(
     n: u64,
     bytes: &'a [u8],
 ) -> Result<(Value<'a, A>, &'a [u8]), CborFault>
-    ensures { Gives (λ x. (view x.0, x.1.now)) fault_of result (content_of (within levels) (major_view major) n bytes.now) }
+    ensures { Gives (λ x. (view x.0, x.1.now)) fault_of result
+        (content_of (within levels) (major_view major) n bytes.now) }
 {
     match major {
         Major::UnsignedInteger => {
@@ -127,7 +129,8 @@ fn list<'a, A: Allocator + Copy>(
     n: u64,
     bytes: &'a [u8],
 ) -> Result<(Value<'a, A>, &'a [u8]), CborFault>
-    ensures { Gives (λ x. (view x.0, x.1.now)) fault_of result (content_of (within levels) Array n bytes.now) }
+    ensures { Gives (λ x. (view x.0, x.1.now)) fault_of result
+        (content_of (within levels) Array n bytes.now) }
 {
     if levels == 0 {
         return Err(CborFault::TooDeep);
@@ -145,7 +148,8 @@ fn map<'a, A: Allocator + Copy>(
     n: u64,
     bytes: &'a [u8],
 ) -> Result<(Value<'a, A>, &'a [u8]), CborFault>
-    ensures { Gives (λ x. (view x.0, x.1.now)) fault_of result (content_of (within levels) Map n bytes.now) }
+    ensures { Gives (λ x. (view x.0, x.1.now)) fault_of result
+        (content_of (within levels) Map n bytes.now) }
 {
     if levels == 0 {
         return Err(CborFault::TooDeep);
@@ -163,7 +167,8 @@ fn items<'a, A: Allocator + Copy>(
     n: u64,
     bytes: &'a [u8],
 ) -> Result<(Vec<Value<'a, A>, A>, &'a [u8]), CborFault>
-    ensures { Gives (λ x. (view_items x.0.items, x.1.now)) fault_of result (items_at (value_at levels) n bytes.now) }
+    ensures { Gives (λ x. (view_items x.0.items, x.1.now)) fault_of result
+        (items_at (value_at levels) n bytes.now) }
 {
     let mut items = Vec::new(alloc);
     let mut rest = bytes;
@@ -185,7 +190,8 @@ fn fields<'a, A: Allocator + Copy>(
     n: u64,
     bytes: &'a [u8],
 ) -> Result<(Vec<(&'a str, Value<'a, A>), A>, &'a [u8]), CborFault>
-    ensures { Gives (λ x. (view_fields x.0.items, x.1.now)) fault_of result (fields_at (value_at levels) None n bytes.now) }
+    ensures { Gives (λ x. (view_fields x.0.items, x.1.now)) fault_of result
+        (fields_at (value_at levels) None n bytes.now) }
 {
     let mut fields = Vec::new(alloc);
     let mut before = None;

@@ -110,7 +110,8 @@ fn push_items<A: Allocator, B: Allocator>(
     out: &mut Vec<u8, A>,
     items: &Vec<Value<'_, B>, B>,
 ) -> Result<(), AllocError>
-    ensures { OnOk result (out.new.items ≡ out.old.items ++ spelling_of_values (view_items items.now.items)) }
+    ensures { OnOk result (out.new.items ≡ out.old.items
+        ++ spelling_of_values (view_items items.now.items)) }
 {
     for item in items {
         push_value(out, item)?;
@@ -124,7 +125,8 @@ fn push_fields<A: Allocator, B: Allocator>(
     out: &mut Vec<u8, A>,
     fields: &Vec<(&str, Value<'_, B>), B>,
 ) -> Result<(), AllocError>
-    ensures { OnOk result (out.new.items ≡ out.old.items ++ spelling_of_entries (view_fields fields.now.items)) }
+    ensures { OnOk result (out.new.items ≡ out.old.items
+        ++ spelling_of_entries (view_fields fields.now.items)) }
 {
     for field in fields {
         push_text(out, field.0)?;

@@ -192,9 +192,12 @@ impl<D: Digest, A: Allocator + Clone> Kept<D, A> {
         block: Arc<Block<D, A>, A>,
     ) -> Result<(), StoreFault<D, A>>
         requires { IsStore D.digest_of S.fulls S.answers }
-        ensures added { OnOk result (self.new ≡ with_use_more D.digest_of self.old (arc_value block)) }
-        ensures no_other_before { OnOk result (HasNoOther D.digest_of self.old.before (arc_value block)) }
-        ensures no_other_staged { OnOk result (HasNoOther D.digest_of self.old.staged (arc_value block)) }
+        ensures added { OnOk result (self.new
+            ≡ with_use_more D.digest_of self.old (arc_value block)) }
+        ensures no_other_before { OnOk result
+            (HasNoOther D.digest_of self.old.before (arc_value block)) }
+        ensures no_other_staged { OnOk result
+            (HasNoOther D.digest_of self.old.staged (arc_value block)) }
         ensures unchanged { OnErr result (self.new ≡ self.old) }
         ensures fault { IfErr result (IsRefusalOf D.digest_of (arc_value block)) }
         ensures fulls { S.fulls store.new ≡ fulls_after (S.fulls store.old) result }

@@ -144,7 +144,8 @@ impl<D: Digest, A: Allocator + Clone> UseMap<D, A> {
         requires small { me < 1024 }
         requires uses { AreUses D.digest_of me (at self.old) }
         requires store { IsStore D.digest_of S.fulls S.answers }
-        ensures raised { OnOk result (IsRaisedIn D.digest_of me self.old self.new (arc_value block)) }
+        ensures raised { OnOk result (IsRaisedIn D.digest_of me self.old self.new
+            (arc_value block)) }
         ensures fresh { IfOk result (λ b. b ≡ is_fresh D.digest_of self.old (arc_value block)) }
         ensures unchanged { OnErr result (self.new ≡ self.old) }
         ensures fault { IfErr result (IsRefusalOf D.digest_of (arc_value block)) }

@@ -33,7 +33,8 @@ impl<'a, const ROOM: usize> Model for KeyBefore<'a, ROOM> {
 
     ghost view = { λ k. key_from [] k.parts.items };
 
-    ghost invariant = { λ k. AreParts 0 [] k.parts.items × (length (key_from [] k.parts.items) ≤ 1024) };
+    ghost invariant = { λ k. AreParts 0 [] k.parts.items
+        × (length (key_from [] k.parts.items) ≤ 1024) };
 }
 
 /// How many bytes the key has.
@@ -53,7 +54,8 @@ fn count_before(parts: &[Part<'_>], place: usize) -> usize
     requires are { AreParts 0 [] parts.now }
     requires within { place ≤ length (key_from [] parts.now) }
     ensures fits { result ≤ length parts.now }
-    ensures same { take place (key_from [] (take result parts.now)) ≡ take place (key_from [] parts.now) }
+    ensures same { take place (key_from [] (take result parts.now))
+        ≡ take place (key_from [] parts.now) }
     ensures within { place ≤ length (key_from [] (take result parts.now)) }
     ensures before { place_after 0 (take result parts.now) ≤ place }
 {
@@ -79,7 +81,8 @@ fn byte_at(parts: &[Part<'_>], place: usize) -> u8
 fn test(parts: &[Part<'_>], prefix: usize, suffix: &[u8]) -> Result<(), NodeFault>
     requires are { AreParts 0 [] parts.now }
     requires short { length (key_from [] parts.now) ≤ 1024 }
-    ensures { Gives (λ _. take prefix (key_from [] parts.now) ++ suffix.now) fault_of result (whole_key (key_from [] parts.now) prefix suffix.now) }
+    ensures { Gives (λ _. take prefix (key_from [] parts.now) ++ suffix.now) fault_of result
+        (whole_key (key_from [] parts.now) prefix suffix.now) }
 {
     let key_length = length_of(parts);
     if prefix > key_length {
@@ -119,8 +122,10 @@ impl<'a, const ROOM: usize> KeyBefore<'a, ROOM> {
     /// Tests an entry that was read whole, and takes its key. False where there is no room for one more part: there is
     /// for any key where there is for as many parts as the longest has bytes.
     pub(crate) fn next(&mut self, prefix: usize, suffix: &'a [u8]) -> Result<bool, NodeFault>
-        ensures fault { IfErr result (λ fault. Fails (fault_of fault) (whole_key self.old prefix suffix.now)) }
-        ensures taken { IfOk result (λ taken. taken ≡ true → whole_key self.old prefix suffix.now ≡ Ok self.new) }
+        ensures fault { IfErr result (λ fault. Fails (fault_of fault)
+            (whole_key self.old prefix suffix.now)) }
+        ensures taken { IfOk result (λ taken. taken ≡ true
+            → whole_key self.old prefix suffix.now ≡ Ok self.new) }
         ensures room { ROOM ≡ 1024 → IfOk result (λ taken. taken ≡ true) }
     {
         test(self.parts.as_slice(), prefix, suffix)?;

@@ -17,7 +17,9 @@ pub(crate) fn push_key<A: Allocator>(
     prefix: usize,
     suffix: &[u8],
 ) -> Result<(), AllocError>
-    ensures ok { OnOk result (out.new.items ≡ out.old.items ++ ((0xa4 ∷ 0x61 ∷ 0x6b ∷ head 2 (length suffix.now)) ++ suffix.now ++ (0x61 ∷ 0x70 ∷ head 0 prefix))) }
+    ensures ok { OnOk result (out.new.items ≡ out.old.items
+        ++ ((0xa4 ∷ 0x61 ∷ 0x6b ∷ head 2 (length suffix.now)) ++ suffix.now
+        ++ (0x61 ∷ 0x70 ∷ head 0 prefix))) }
     ensures kept { Extends out.old.items out.new.items }
 {
     out.extend_from_slice(&[0xa4, b'a', b'k'])?;
@@ -33,7 +35,8 @@ pub(crate) fn push_link<A: Allocator>(
     name: u8,
     link: Option<CidRef<'_>>,
 ) -> Result<(), AllocError>
-    ensures ok { OnOk result (out.new.items ≡ out.old.items ++ (0x61 ∷ name ∷ link_or_null (option_map bytes_of link.entry))) }
+    ensures ok { OnOk result (out.new.items ≡ out.old.items
+        ++ (0x61 ∷ name ∷ link_or_null (option_map bytes_of link.entry))) }
     ensures kept { Extends out.old.items out.new.items }
 {
     match link {
@@ -67,7 +70,8 @@ pub(crate) fn push_entry<A: Allocator>(
     value: CidRef<'_>,
     tree: Option<CidRef<'_>>,
 ) -> Result<(), AllocError>
-    ensures ok { OnOk result (out.new.items ≡ out.old.items ++ entry_text prefix suffix.now (bytes_of value.entry) (option_map bytes_of tree.entry)) }
+    ensures ok { OnOk result (out.new.items ≡ out.old.items
+        ++ entry_text prefix suffix.now (bytes_of value.entry) (option_map bytes_of tree.entry)) }
     ensures kept { Extends out.old.items out.new.items }
 {
     out.reserve(suffix.len().saturating_add(FIELDS))?;

@@ -64,7 +64,8 @@ pub(crate) fn link(bytes: &[u8]) -> Result<(CidRef<'_>, &[u8]), NodeFault>
 
 /// A link or null.
 pub(crate) fn link_or_null(bytes: &[u8]) -> Result<(Option<CidRef<'_>>, &[u8]), NodeFault>
-    ensures { Gives (λ x. (option_map bytes_of x.0, x.1.now)) fault_of result (link_or_null_at bytes.now) }
+    ensures { Gives (λ x. (option_map bytes_of x.0, x.1.now)) fault_of result
+        (link_or_null_at bytes.now) }
 {
     match bytes {
         [0xf6, rest @ ..] => Ok((None, rest)),

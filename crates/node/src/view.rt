@@ -42,7 +42,8 @@ impl<'a> Model for NodeView<'a> {
 
     ghost Value = { Contents };
 
-    ghost view = { λ v. record { left = option_map bytes_of v.left; entries = entries_shown v.count v.first.now } };
+    ghost view = { λ v. record {
+        left = option_map bytes_of v.left; entries = entries_shown v.count v.first.now } };
 
     ghost invariant = { λ v. IsRead (option_map bytes_of v.left) v.count v.first.now };
 }
@@ -87,7 +88,8 @@ impl<'a> NodeView<'a> {
     /// The bytes from the `from`-th entry on.
     pub(crate) fn bytes_from(&self, from: u64) -> &'a [u8]
         requires { from ≤ length self.now.entries }
-        ensures { Begins result.now (last_key [] (take from self.now.entries)) (drop from self.now.entries) }
+        ensures { Begins result.now (last_key [] (take from self.now.entries))
+            (drop from self.now.entries) }
     {
         after(from, self.first)
     }
@@ -117,7 +119,8 @@ impl<'a> NodeView<'a> {
 /// The left link of a node, the number of its entries and the bytes from the first entry on.
 #[tactic(auto, unfolding(crate::specs::Rows::shown_node))]
 fn node(bytes: &[u8]) -> Result<(Option<CidRef<'_>>, (u64, &[u8])), NodeFault>
-    ensures read { Gives (λ x. (option_map bytes_of x.0, entries_shown x.1.0 x.1.1.now)) fault_of result (shown_node bytes.now) }
+    ensures read { Gives (λ x. (option_map bytes_of x.0, entries_shown x.1.0 x.1.1.now))
+        fault_of result (shown_node bytes.now) }
     ensures all { IfOk result (λ x. IsOk (entries_at x.1.0 [] x.1.1.now)) }
     ensures fits { IfOk result (λ x. IsBytes x.1.1.now) }
 {
@@ -167,8 +170,10 @@ fn after_entries_within<const ROOM: usize>(
     bytes: &[u8],
 ) -> Result<Option<&[u8]>, NodeFault>
     requires { ROOM ≤ 1024 }
-    ensures fault { IfErr result (λ fault. Fails (fault_of fault) (after_entries count [] bytes.now)) }
-    ensures read { IfOk result (λ rest. IfSome rest (λ x. after_entries count [] bytes.now ≡ Ok x.now)) }
+    ensures fault { IfErr result (λ fault. Fails (fault_of fault)
+        (after_entries count [] bytes.now)) }
+    ensures read { IfOk result (λ rest. IfSome rest
+        (λ x. after_entries count [] bytes.now ≡ Ok x.now)) }
     ensures room { ROOM ≡ 1024 → IfOk result (λ rest. IsSome rest) }
 {
     let mut before = KeyBefore::<ROOM>::none();

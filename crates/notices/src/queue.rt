@@ -27,7 +27,8 @@ impl<A: Allocator> Model for Queue<A> {
 
     ghost Value = { QueueView };
 
-    ghost view = { λ q. record { queue_id = q.ring.table.shared.table_id; room = ruled_capacity q.ring } };
+    ghost view = { λ q. record {
+        queue_id = q.ring.table.shared.table_id; room = ruled_capacity q.ring } };
 }
 
 impl<A: Allocator + Clone> Queue<A> {

@@ -15,7 +15,9 @@ pub fn find_clash<D: Digest, A: Allocator + Clone>(
     alloc: A,
     blocks: &[Arc<Block<D, A>, A>],
 ) -> Result<Option<(usize, usize)>, AllocError>
-    ensures { IfOk result (λ found. MatchOption found (IsClashFree D.digest_of (map arc_value blocks.now)) (λ places. AreClashing D.digest_of (map arc_value blocks.now) places.0 places.1)) }
+    ensures { IfOk result (λ found. MatchOption found
+        (IsClashFree D.digest_of (map arc_value blocks.now))
+        (λ places. AreClashing D.digest_of (map arc_value blocks.now) places.0 places.1)) }
 {
     let mut seen = BTreeMap::new(alloc);
     for (place, block) in blocks.iter().enumerate() {

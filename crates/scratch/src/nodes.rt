@@ -26,9 +26,12 @@ pub fn push_part<D: Digest, const B: u8, A: Allocator + Clone>(
     layer: u16,
 ) -> Result<Option<Cid>, AllocError>
     requires { is_ascending unread.old ≡ true }
-    ensures link { IfOk result (λ link. link ≡ part_link D.digest_of (part_ahead (layer_of D.digest_of B) layer unread.old)) }
-    ensures blocks { OnOk result (map arc_value blocks.new.items ≡ map arc_value blocks.old.items ++ blocks_in D.digest_of no_record (part_ahead (layer_of D.digest_of B) layer unread.old)) }
-    ensures unread { OnOk result (unread.new ≡ from_layer (layer_of D.digest_of B) layer unread.old) }
+    ensures link { IfOk result (λ link. link
+        ≡ part_link D.digest_of (part_ahead (layer_of D.digest_of B) layer unread.old)) }
+    ensures blocks { OnOk result (map arc_value blocks.new.items ≡ map arc_value blocks.old.items
+        ++ blocks_in D.digest_of no_record (part_ahead (layer_of D.digest_of B) layer unread.old)) }
+    ensures unread { OnOk result (unread.new
+        ≡ from_layer (layer_of D.digest_of B) layer unread.old) }
 {
     if !unread.is_below(layer) {
         return Ok(None);
@@ -45,9 +48,13 @@ pub fn push_node<D: Digest, const B: u8, A: Allocator + Clone>(
     layer: u16,
 ) -> Result<Cid, AllocError>
     requires { is_ascending unread.old ≡ true }
-    ensures link { IfOk result (λ cid. Some cid ≡ part_link D.digest_of (Sub (node_ahead (layer_of D.digest_of B) layer unread.old))) }
-    ensures blocks { OnOk result (map arc_value blocks.new.items ≡ map arc_value blocks.old.items ++ blocks_in D.digest_of no_record (Sub (node_ahead (layer_of D.digest_of B) layer unread.old))) }
-    ensures unread { OnOk result (unread.new ≡ from_layer (layer_of D.digest_of B) (suc layer) unread.old) }
+    ensures link { IfOk result (λ cid. Some cid
+        ≡ part_link D.digest_of (Sub (node_ahead (layer_of D.digest_of B) layer unread.old))) }
+    ensures blocks { OnOk result (map arc_value blocks.new.items ≡ map arc_value blocks.old.items
+        ++ blocks_in D.digest_of no_record
+        (Sub (node_ahead (layer_of D.digest_of B) layer unread.old))) }
+    ensures unread { OnOk result (unread.new
+        ≡ from_layer (layer_of D.digest_of B) (suc layer) unread.old) }
 {
     let place = blocks.len();
     let left = push_part(blocks, unread, layer)?;

@@ -44,14 +44,20 @@ pub fn build<D: Digest, const B: u8, K: AsSlice<u8>, A: Allocator + Clone>(
     requires ascending { is_ascending (pairs_of K.items pairs.now) ≡ true }
     requires least { 1 ≤ B }
     requires most { B ≤ 8 }
-    ensures root { IfOk result (λ built. built.root ≡ root_of D.digest_of B (pairs_of K.items pairs.now)) }
-    ensures blocks { IfOk result (λ built. map arc_value built.blocks.items ≡ nodes D.digest_of B (pairs_of K.items pairs.now)) }
+    ensures root { IfOk result (λ built. built.root
+        ≡ root_of D.digest_of B (pairs_of K.items pairs.now)) }
+    ensures blocks { IfOk result (λ built. map arc_value built.blocks.items
+        ≡ nodes D.digest_of B (pairs_of K.items pairs.now)) }
 
     // Each node is there once, and no two clash.
-    ensures once { OnOk result (firsts (cid_of D.digest_of) (nodes D.digest_of B (pairs_of K.items pairs.now)) ≡ nodes D.digest_of B (pairs_of K.items pairs.now)) }
-    ensures clash_free { OnOk result (IsClashFree D.digest_of (nodes D.digest_of B (pairs_of K.items pairs.now))) }
+    ensures once { OnOk result (firsts (cid_of D.digest_of)
+        (nodes D.digest_of B (pairs_of K.items pairs.now))
+        ≡ nodes D.digest_of B (pairs_of K.items pairs.now)) }
+    ensures clash_free { OnOk result (IsClashFree D.digest_of
+        (nodes D.digest_of B (pairs_of K.items pairs.now))) }
 
-    ensures fault { IfErr result (IsFaultOf D.digest_of (nodes D.digest_of B (pairs_of K.items pairs.now))) }
+    ensures fault { IfErr result (IsFaultOf D.digest_of
+        (nodes D.digest_of B (pairs_of K.items pairs.now))) }
 {
     let rows = rows::<D, B, K, A>(alloc.clone()?, pairs)?;
     let built = write::<D, B, A>(alloc.clone()?, &rows)?;
@@ -68,8 +74,10 @@ fn write<D: Digest, const B: u8, A: Allocator + Clone>(
 ) -> Result<Built<D, A>, AllocError>
     requires layered { AreLayered (layer_of D.digest_of B) rows.now }
     requires ascending { is_ascending (map pair_of rows.now) ≡ true }
-    ensures root { IfOk result (λ built. built.root ≡ root_of D.digest_of B (map pair_of rows.now)) }
-    ensures blocks { IfOk result (λ built. map arc_value built.blocks.items ≡ nodes D.digest_of B (map pair_of rows.now)) }
+    ensures root { IfOk result (λ built. built.root
+        ≡ root_of D.digest_of B (map pair_of rows.now)) }
+    ensures blocks { IfOk result (λ built. map arc_value built.blocks.items
+        ≡ nodes D.digest_of B (map pair_of rows.now)) }
 {
     let mut blocks = Vec::new(alloc);
     let mut unread = Unread::<D, B>::new(rows);

@@ -51,10 +51,14 @@ impl<'a, D: Digest, A: Allocator + Clone> BlockStore<
         block: Arc<Block<D, A>, A>,
     ) -> Result<Hold<D, A>, StoreFault<D, A>>
         requires { core < 1024 }
-        ensures answer { IsAnswer D.digest_of (arc_value block) core self.old.fulls.times result self.new.fulls.times }
-        ensures entered { OnOk result (self.new.shard.now ≡ entered self.old.shard.now (cid_of D.digest_of (arc_value block)) (arc_value block) core) }
+        ensures answer { IsAnswer D.digest_of
+            (arc_value block) core self.old.fulls.times result self.new.fulls.times }
+        ensures entered { OnOk result (self.new.shard.now
+            ≡ entered self.old.shard.now (cid_of D.digest_of (arc_value block))
+            (arc_value block) core) }
         ensures unchanged { OnErr result (self.new.shard.now ≡ self.old.shard.now) }
-        ensures refused { IfErr result (IsRefusal D.digest_of self.old.shard.now (arc_value block)) }
+        ensures refused { IfErr result (IsRefusal D.digest_of self.old.shard.now
+            (arc_value block)) }
     {
         let answer = self.shard.acquire(core, block);
         if matches!(answer, Err(StoreFault::Full)) {
@@ -65,7 +69,8 @@ impl<'a, D: Digest, A: Allocator + Clone> BlockStore<
 
     fn release(&mut self, hold: Hold<D, A>)
         ensures counted { self.new.fulls.times ≡ self.old.fulls.times }
-        ensures left { self.new.shard.now ≡ left self.old.shard.now (cid_of D.digest_of (arc_value hold.0)) hold.1 }
+        ensures left { self.new.shard.now
+            ≡ left self.old.shard.now (cid_of D.digest_of (arc_value hold.0)) hold.1 }
     {
         self.shard.release(hold);
     }

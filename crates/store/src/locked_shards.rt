@@ -53,7 +53,8 @@ impl<'a, R: Wait, D: Digest, A: Allocator + Clone> BlockStore<
         block: Arc<Block<D, A>, A>,
     ) -> Result<Hold<D, A>, StoreFault<D, A>>
         requires { core < 1024 }
-        ensures { IsAnswer D.digest_of (arc_value block) core self.old.fulls.times result self.new.fulls.times }
+        ensures { IsAnswer D.digest_of (arc_value block) core self.old.fulls.times result
+            self.new.fulls.times }
     {
         let locks = self.locks.as_slice();
         let lock = locks[shard_number(&block.cid())];

@@ -113,8 +113,10 @@ impl<D: Digest, A: Allocator + Clone> Shard<D, A> {
     ) -> Result<Hold<D, A>, StoreFault<D, A>>
         requires { core < 1024 }
         ensures hold { IfOk result (IsHoldOf (arc_value block) core) }
-        ensures same_bytes { OnOk result (HasNoOther self.old (cid_of D.digest_of (arc_value block)) (arc_value block)) }
-        ensures entered { OnOk result (self.new ≡ entered self.old (cid_of D.digest_of (arc_value block)) (arc_value block) core) }
+        ensures same_bytes { OnOk result
+            (HasNoOther self.old (cid_of D.digest_of (arc_value block)) (arc_value block)) }
+        ensures entered { OnOk result (self.new
+            ≡ entered self.old (cid_of D.digest_of (arc_value block)) (arc_value block) core) }
         ensures unchanged { OnErr result (self.new ≡ self.old) }
         ensures fault { IfErr result (IsRefusal D.digest_of self.old (arc_value block)) }
     {
