@@ -8,8 +8,8 @@ use Rattle.spec.specs.States.{State, IsLawful, state_root, state_blocks, state_c
 use Rattle.kept.specs.Counts.{Keeping}
 use Rattle.repo.specs.Keeping.{AreKept}
 
--- A core's fields are those of its state, which is lawful: the root, the last commit, and the blocks
--- with their uses. Nothing is staged.
+-- A core's fields are those of its state, which is lawful: the root, the last commit, and the
+-- blocks with their uses. Nothing is staged.
 pub record IsCore (digest : List ℕ → List ℕ) (bits : ℕ) (s : State) (root : List ℕ)
     (commit : Option (List ℕ)) (k : Keeping) : Type 0 where
   pub least_bits : 1 ≤ bits

@@ -15,11 +15,14 @@ state_leaves digest bits s place c =
 -- A repository has ended on these tables: in that of its shard each of its CIDs has its other cores
 -- left, and no entry where there are none. All else is as it was: the cores of the other CIDs, each
 -- block's bytes, and the limits.
-pub record IsEnded (digest : List ℕ → List ℕ) (bits : ℕ) (s : State) (old new : List Table) : Type 0 where
+pub record IsEnded (digest : List ℕ → List ℕ) (bits : ℕ) (s : State) (old new : List Table)
+    : Type 0 where
   pub cores : (place : ℕ) (c : List ℕ) → cores_at (table_at new place) c
-      ≡ cond (state_leaves digest bits s place c) (set.remove (cores_at (table_at old place) c) s.me)
+      ≡ cond (state_leaves digest bits s place c)
+      (set.remove (cores_at (table_at old place) c) s.me)
       (cores_at (table_at old place) c)
   pub entries : (place : ℕ) (c : List ℕ) → entry_at (table_at new place) c
-      ≡ cond (state_leaves digest bits s place c) (without_core s.me (entry_at (table_at old place) c))
+      ≡ cond (state_leaves digest bits s place c)
+      (without_core s.me (entry_at (table_at old place) c))
       (entry_at (table_at old place) c)
   pub limits : (place : ℕ) → (table_at new place).limit ≡ (table_at old place).limit

@@ -18,7 +18,8 @@ pub record AreKept (digest : List ℕ → List ℕ) (bs : List (List ℕ)) (m : 
   pub used : IsUsed m
 
 -- one use more of each of these blocks
-pub record IsGained (digest : List ℕ → List ℕ) (bs : List (List ℕ)) (old new : Counts) : Type 0 where
+pub record IsGained (digest : List ℕ → List ℕ) (bs : List (List ℕ)) (old new : Counts)
+    : Type 0 where
   pub extends : Extends (bytes_at old) (bytes_at new)
   pub has : HasBlocks digest (bytes_at new) bs
   pub counted : (c : List ℕ) → count_at new c ≡ count_at old c + uses digest c bs
@@ -32,7 +33,8 @@ pub record IsLost (cids : List (List ℕ)) (old new : Counts) : Type 0 where
   pub used : IsUsed old → IsUsed new
 
 -- these blocks come, and then these go
-pub record IsExchanged (digest : List ℕ → List ℕ) (come go : List (List ℕ)) (old new : Counts) : Type 0 where
+pub record IsExchanged (digest : List ℕ → List ℕ) (come go : List (List ℕ)) (old new : Counts)
+    : Type 0 where
   pub between : Counts
   pub gained : IsGained digest come old between
   pub lost : IsLost go between new

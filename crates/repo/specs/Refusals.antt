@@ -2,7 +2,7 @@
 use Rattle.std.specs.Prelude.{◌≡◌, ⊤, ℕ, ◌+◌, ◌<◌, ◌++◌, ◌==◌, if◌then◌else◌, List, [], ◌∷◌}
 use Rattle.std.specs.Prelude.{take, length, Bool, is_some, nat_lt, Option, Some, None, Result, Ok, Err}
 use Rattle.spec.specs.Blocks.{blocks, repository_root}
-use Rattle.spec.specs.Stamps.{Stamp, last, rev_of}
+use Rattle.spec.specs.Stamps.{Stamp, last, rev_of, stamp_test}
 use Rattle.spec.specs.Writes.{Write, WriteFault, test_when, limited_test, batch_test}
 use Rattle.spec.specs.Commits.{commit_blocks}
 use Rattle.spec.specs.States.{State, BatchFault, after_batch, state_test, state_root, state_blocks, state_commit}
@@ -10,7 +10,10 @@ use Rattle.paths.specs.Staged.{records_after}
 use Rattle.kept.specs.Counts.{Counts}
 use Rattle.repo.specs.Keeping.{AreKept}
 use Rattle.batches.specs.Tests.{test_fault, write_fault}
-use Rattle.repo.specs.Staging.{IsStagedBy, IsBlockFault, IsClashAt, blocks_left}
+use Rattle.batches.specs.Values.{write_of}
+use Rattle.batches.specs.declared.write.Write as given
+use Rattle.repo.specs.Staging.{IsStagedBy, IsBlockFault, IsClashAt, blocks_left, look_up_reads, write_reads}
+use Rattle.repo.specs.declared.staged_batch.Start.{Start}
 use Rattle.repo.specs.declared.applied.Applied.{Applied}
 use Rattle.batches.specs.declared.fault.RepoFault.{RepoFault}
 use Rattle.batches.specs.declared.fault.RepoFault.TheVariants as faults
@@ -21,7 +24,8 @@ PassesTo s stamp batch i = (i < length batch) × (state_test s stamp (take (i + 
 
 -- the writes before a place are taken
 abbrev pub PassesBefore : State → Stamp → List Write → ℕ → Type 0
-PassesBefore s stamp batch i = (i < length batch) × (0 < i → state_test s stamp (take i batch) ≡ Ok tt)
+PassesBefore s stamp batch i =
+    (i < length batch) × (0 < i → state_test s stamp (take i batch) ≡ Ok tt)
 
 -- the nodes and records after the writes up to a place, and at the last place the commit
 abbrev pub blocks_shown : (List ℕ → List ℕ) → ℕ → State → Stamp → List Write → ℕ → List (List ℕ)
@@ -30,9 +34,9 @@ blocks_shown digest bits s stamp batch i =
     let commit = commit_blocks (Some stamp) (repository_root digest bits m) in
     blocks digest bits (if i + 1 == length batch then commit else []) m
 
--- What a refusal says that no test gives. At a clash the writes up to the place pass, and one of the
--- two blocks is of the repository after them. A store that is full has answered so in this call, and
--- those writes pass too. Where memory was refused, the writes before the place pass.
+-- What a refusal says that no test gives. At a clash the writes up to the place pass, and one of
+-- the two blocks is of the repository after them. A store that is full has answered so in this
+-- call, and those writes pass too. Where memory was refused, the writes before the place pass.
 abbrev pub IsOther : {D A : Type 0} → (List ℕ → List ℕ) → ℕ → State → Stamp → List Write → ℕ → ℕ
     → ℕ → RepoFault D A → Type 0
 IsOther digest bits s stamp batch full fuller i (faults.Collision pair) =
@@ -73,7 +77,8 @@ IsOpenRefusal digest bits s full fuller fault =
     IsBlockFault digest (state_blocks digest bits s) full fuller fault
 
 -- what an accepted batch answers: how many writes there are, the root, the one before, the commit
-pub record IsApplied (digest : List ℕ → List ℕ) (bits : ℕ) (old new : State) (a : Applied) : Type 0 where
+pub record IsApplied (digest : List ℕ → List ℕ) (bits : ℕ) (old new : State) (a : Applied)
+    : Type 0 where
   pub number : a.number ≡ length new.accepted
   pub root : a.root ≡ state_root digest bits new
   pub previous : a.previous ≡ state_root digest bits old
@@ -140,3 +145,39 @@ pub record IsStagedBatch (digest : List ℕ → List ℕ) (bits : ℕ) (s : Stat
   pub root_is : root ≡ state_root digest bits (after_batch s stamp batch)
   pub commit_is : Some commit ≡ state_commit digest bits (after_batch s stamp batch)
   pub kept : AreKept digest (state_blocks digest bits (after_batch s stamp batch)) m
+
+-- ---- what a step ensures, for every state that may be staged
+
+-- for every state on which a batch begins
+abbrev pub AtStart : (List ℕ → List ℕ) → ℕ → ℕ → List ℕ → Counts → (State → Type 0) → Type 0
+AtStart digest bits room root m P = (s : State) → IsBatchStart digest bits s room root m → P s
+
+-- for every state on which these writes of a batch are staged
+abbrev pub OnTheWay : (List ℕ → List ℕ) → ℕ → Bool → List ℕ → Counts
+    → (State → List Write → Type 0) → Type 0
+OnTheWay digest bits room root m P = (s : State) (before : List Write)
+    → IsBatchAt digest bits s before room root m → P s before
+
+-- for every state with this last commit and revision on which a batch begins
+abbrev pub OnState : (List ℕ → List ℕ) → ℕ → Start → Option (List ℕ) → Counts
+    → (State → Type 0) → Type 0
+OnState digest bits start rev m P = (s : State)
+    → IsBatchOn digest bits s start.room start.root start.commit rev m → P s
+
+-- the same where the stamp passes its test
+abbrev pub OnPassed : (List ℕ → List ℕ) → ℕ → Start → Stamp → Counts → (State → Type 0) → Type 0
+OnPassed digest bits start stamp m P = (s : State) (rev : Option (List ℕ))
+    → IsBatchOn digest bits s start.room start.root start.commit rev m
+    → stamp_test rev stamp ≡ Ok tt → P s
+
+-- the writes that are staged with one more
+abbrev pub one_more : {A : Type 0} → List Write → given.Write A → List Write
+one_more before w = before ++ write_of w ∷ []
+
+-- how many blocks a look-up after some writes reads at most, and a write
+abbrev pub looked_after : (List ℕ → List ℕ) → ℕ → State → List Write → ℕ
+looked_after digest bits s before = look_up_reads digest bits (records_after s before)
+
+abbrev pub read_after : {A : Type 0} → (List ℕ → List ℕ) → ℕ → State → List Write → given.Write A
+    → ℕ
+read_after digest bits s before w = write_reads digest bits (records_after s before) (write_of w)

@@ -1,5 +1,7 @@
 -- A batch on its way, by the counts of the blocks that are staged.
-use Rattle.std.specs.Prelude.{◌≡◌, ◌⊎◌, ◌<◌, ◌+◌, ◌*◌, suc, ⊤, ◌++◌, ℕ, List, [], Contains, Option, Some, None, option_map}
+use Rattle.std.specs.Prelude.{◌≡◌, ◌⊎◌, ◌<◌, ◌≤◌, ◌+◌, ◌*◌, suc, ⊤, ◌++◌, ℕ, List, [], Contains, map as each}
+use Rattle.std.specs.Prelude.{Option, Some, None, option_map, Result, IfOk, IfErr}
+use Rattle.std.specs.Arc.{arc_value}
 use Rattle.std.specs.List.{cons_option}
 use Rattle.spec.specs.Tree.{Pair}
 use Rattle.spec.specs.Cid.{cid}
@@ -9,10 +11,13 @@ use Rattle.spec.specs.States.{State, IsLawful}
 use Rattle.paths.specs.Changes.{AreChanges}
 use Rattle.paths.specs.Staged.{IsStaged}
 use Rattle.paths.specs.Uses.{brought, pairs_after}
+use Rattle.edit.specs.Trees.{HasTree}
+use Rattle.edit.specs.declared.asked.Asked.{Asked}
+use Rattle.edit.specs.declared.edited.Edit.{Edit}
 use Rattle.edit.specs.declared.fault.EditFault.{EditFault}
 use Rattle.edit.specs.declared.fault.EditFault.TheVariants as edits
 use Rattle.kept.specs.Counts.{Counts, bytes_at, count_at}
-use Rattle.kept.specs.Trees.{top_layer}
+use Rattle.kept.specs.Trees.{OfTree, top_layer}
 use Rattle.repo.specs.Keeping.{IsUsed, IsExchanged}
 use Rattle.batches.specs.declared.fault.RepoFault.{RepoFault}
 use Rattle.batches.specs.declared.fault.RepoFault.TheVariants as faults
@@ -69,7 +74,8 @@ write_reads digest bits m w =
 -- ---- why a write isn't staged
 
 -- two blocks that clash, of which one is among these
-pub record IsClashAt (digest : List ℕ → List ℕ) (bs : List (List ℕ)) (pair : List ℕ × List ℕ) : Type 0 where
+pub record IsClashAt (digest : List ℕ → List ℕ) (bs : List (List ℕ)) (pair : List ℕ × List ℕ)
+    : Type 0 where
   pub clash : IsClash digest pair.0 pair.1
   pub here : Contains bs pair.0 ⊎ Contains bs pair.1
 
@@ -95,9 +101,42 @@ IsBlockFault digest bs before after faults.BadDid = ⊥
 IsBlockFault digest bs before after faults.BadRev = ⊥
 IsBlockFault digest bs before after faults.RevOrder = ⊥
 
--- why an edit is refused: a clash of which one block is among these; nothing is said of other faults
+-- why an edit is refused: a clash of which one block is among these; of other faults nothing is said
 abbrev pub IsTreeRefusal : {D A : Type 0} → (List ℕ → List ℕ) → List (List ℕ) → EditFault D A
     → Type 0
 IsTreeRefusal digest bs edits.NoSuchKey = ⊤
 IsTreeRefusal digest bs (edits.Clash pair) = IsClashAt digest bs pair
 IsTreeRefusal digest bs edits.NoMemory = ⊤
+
+-- ---- what a step ensures, for all that may be staged
+
+-- for all records whose tree has this root among these blocks
+abbrev pub OfRecords : (List ℕ → List ℕ) → ℕ → Counts → List ℕ
+    → (List (List ℕ × List ℕ) → Type 0) → Type 0
+OfRecords digest bits m root P = (rs : List (List ℕ × List ℕ))
+    → HasTree digest bits (bytes_at m) root (pairs digest rs) → P rs
+
+-- the edit was made, over the tree that is staged
+abbrev pub IsEditMade : {D A E : Type 0} → (List ℕ → List ℕ) → ℕ → Counts → List ℕ → List ℕ
+    → Option (List ℕ) → Result (Edit D A × Asked) E → Type 0
+IsEditMade digest bits m root key value result = OfTree digest bits m root (λ es.
+    IfOk result (λ made. IsTreeEdit digest bits es key value made.0.root
+    (each arc_value made.0.add.items) made.0.drop.items made.0.previous))
+
+-- and so many blocks were read for it, at most
+abbrev pub IsEditRead : {D A E : Type 0} → (List ℕ → List ℕ) → ℕ → Counts → List ℕ
+    → Option (List ℕ) → Result (Edit D A × Asked) E → Type 0
+IsEditRead digest bits m root value result = OfTree digest bits m root (λ es. IfOk result (λ made.
+    made.1.times ≤ edit_reads digest bits es value))
+
+-- the nodes of the tree after an edit
+abbrev pub nodes_left : (List ℕ → List ℕ) → ℕ → List Pair → List ℕ → Option (List ℕ) → List (List ℕ)
+nodes_left digest bits es key value = nodes digest bits (with_or_without es key value)
+
+-- the blocks that come with an edit and with its record
+abbrev pub blocks_come : {D A : Type 0} → Edit D A → Option (List ℕ) → List (List ℕ)
+blocks_come edit brought = each arc_value edit.add.items ++ cons_option brought []
+
+-- the CIDs of the blocks that go with it
+abbrev pub cids_gone : {D A : Type 0} → Edit D A → List (List ℕ)
+cids_gone edit = edit.drop.items ++ cons_option edit.previous []

@@ -1,22 +1,18 @@
 //! A batch, staged write by write.
 
-ghost use Rattle.std.specs.Prelude.{◌≡◌, ◌≤◌, ◌++◌, ◌∷◌, [], ℕ, suc, List, true, Ok, IfOk, IfErr, OnOk};
+ghost use Rattle.std.specs.Prelude.{◌≡◌, ◌≤◌, ◌∷◌, [], true, Ok, IfOk, IfErr, OnOk};
 ghost use Rattle.std.specs.List.{cons_option};
 ghost use Rattle.std.specs.Arc.{arc_value};
 ghost use Rattle.spec.specs.Cid.{cid as cid_of};
-ghost use Rattle.spec.specs.Tree.{Pair};
 ghost use Rattle.spec.specs.Blocks.{value_of};
-ghost use Rattle.paths.specs.Staged.{records_after};
-ghost use Rattle.edit.specs.Trees.{HasTree};
-ghost use Rattle.kept.specs.Counts.{bytes_at};
-ghost use Rattle.kept.specs.Trees.{top_layer};
+ghost use Rattle.kept.specs.Trees.{OfTree, IsReadOnce};
 ghost use Rattle.spec.specs.NodeFormat.{is_key};
-ghost use Rattle.spec.specs.Writes.{Write as SpecWrite, key_of};
+ghost use Rattle.spec.specs.Writes.{key_of};
 ghost use Rattle.spec.specs.Commits.{commit_bytes};
-ghost use Rattle.spec.specs.States.{State};
 ghost use Rattle.repo.specs.Keeping.{IsExchanged, IsStillBefore};
-ghost use Rattle.repo.specs.Refusals.{IsBatchAt, IsBatchStart, IsWriteFault, IsRefusedWrite, HasTestBy, next_test};
-ghost use Rattle.repo.specs.Staging.{IsStagedBy, IsBlockFault, look_up_reads, write_reads};
+ghost use Rattle.repo.specs.Refusals.{AtStart, OnTheWay, IsWriteFault, IsRefusedWrite, HasTestBy};
+ghost use Rattle.repo.specs.Refusals.{next_test, one_more, looked_after, read_after};
+ghost use Rattle.repo.specs.Staging.{IsStagedBy, IsBlockFault};
 ghost use Rattle.batches.specs.Tests.{write_fault, IsTestFault};
 ghost use Rattle.batches.specs.Values.{write_of, writes_of, shared_writes, stamp_of};
 ghost use Rattle.store.specs.Stores.{IsStore};
@@ -57,9 +53,12 @@ pub(crate) fn stage_writes<
     requires least { 1 ≤ B }
     requires most { B ≤ 8 }
     requires store { IsStore D.digest_of S.fulls S.answers }
-    ensures staged { (s : State) → IsBatchStart D.digest_of B s room root kept.old.staged → IfOk result (λ staged. IsStagedBy D.digest_of B s (writes_of writes.now) staged.0 kept.new.staged) }
+    ensures staged { AtStart D.digest_of B room root kept.old.staged (λ s. IfOk result
+        (λ staged. IsStagedBy D.digest_of B s (writes_of writes.now) staged.0 kept.new.staged)) }
     ensures copies { IfOk result (λ staged. shared_writes staged.1.items ≡ writes_of writes.now) }
-    ensures fault { (s : State) → IsBatchStart D.digest_of B s room root kept.old.staged → IfErr result (IsRefusedWrite D.digest_of B s (writes_of writes.now) (S.fulls store.old) (S.fulls store.new)) }
+    ensures fault { AtStart D.digest_of B room root kept.old.staged (λ s. IfErr result
+        (IsRefusedWrite D.digest_of B s (writes_of writes.now)
+        (S.fulls store.old) (S.fulls store.new))) }
     ensures before { IsStillBefore kept.old kept.new }
     ensures grown { S.fulls store.old ≤ S.fulls store.new }
 {
@@ -100,9 +99,13 @@ fn stage_shared<
     requires least { 1 ≤ B }
     requires most { B ≤ 8 }
     requires store { IsStore D.digest_of S.fulls S.answers }
-    ensures staged { (s : State) (before : List SpecWrite) → IsBatchAt D.digest_of B s before room root kept.old.staged → IfOk result (λ next. IsStagedBy D.digest_of B s (before ++ write_of write.now ∷ []) next kept.new.staged) }
-    ensures copied { OnOk result (shared_writes shared.new.items ≡ shared_writes shared.old.items ++ write_of write.now ∷ []) }
-    ensures fault { (s : State) (before : List SpecWrite) → IsBatchAt D.digest_of B s before room root kept.old.staged → IfErr result (IsWriteFault D.digest_of B s before (write_of write.now) (S.fulls store.old) (S.fulls store.new)) }
+    ensures staged { OnTheWay D.digest_of B room root kept.old.staged (λ s before. IfOk result
+        (λ next. IsStagedBy D.digest_of B s (one_more before write.now) next kept.new.staged)) }
+    ensures copied { OnOk result
+        (shared_writes shared.new.items ≡ one_more (shared_writes shared.old.items) write.now) }
+    ensures fault { OnTheWay D.digest_of B room root kept.old.staged (λ s before. IfErr result
+        (IsWriteFault D.digest_of B s before (write_of write.now)
+        (S.fulls store.old) (S.fulls store.new))) }
     ensures before { IsStillBefore kept.old kept.new }
     ensures grown { S.fulls store.old ≤ S.fulls store.new }
 {
@@ -129,10 +132,16 @@ fn stage_write<
     requires least { 1 ≤ B }
     requires most { B ≤ 8 }
     requires store { IsStore D.digest_of S.fulls S.answers }
-    ensures staged { (s : State) (before : List SpecWrite) → IsBatchAt D.digest_of B s before room root kept.old.staged → IfOk result (λ next. IsStagedBy D.digest_of B s (before ++ write_of write.now ∷ []) next.root kept.new.staged) }
-    ensures looked { (s : State) (before : List SpecWrite) → IsBatchAt D.digest_of B s before room root kept.old.staged → IfOk result (λ next. next.looked.times ≤ look_up_reads D.digest_of B (records_after s before)) }
-    ensures read { (s : State) (before : List SpecWrite) → IsBatchAt D.digest_of B s before room root kept.old.staged → IfOk result (λ next. next.read.times ≤ write_reads D.digest_of B (records_after s before) (write_of write.now)) }
-    ensures fault { (s : State) (before : List SpecWrite) → IsBatchAt D.digest_of B s before room root kept.old.staged → IfErr result (IsWriteFault D.digest_of B s before (write_of write.now) (S.fulls store.old) (S.fulls store.new)) }
+    ensures staged { OnTheWay D.digest_of B room root kept.old.staged (λ s before. IfOk result
+        (λ next. IsStagedBy D.digest_of B s (one_more before write.now)
+        next.root kept.new.staged)) }
+    ensures looked { OnTheWay D.digest_of B room root kept.old.staged (λ s before. IfOk result
+        (λ next. next.looked.times ≤ looked_after D.digest_of B s before)) }
+    ensures read { OnTheWay D.digest_of B room root kept.old.staged (λ s before. IfOk result
+        (λ next. next.read.times ≤ read_after D.digest_of B s before write.now)) }
+    ensures fault { OnTheWay D.digest_of B room root kept.old.staged (λ s before. IfErr result
+        (IsWriteFault D.digest_of B s before (write_of write.now)
+        (S.fulls store.old) (S.fulls store.new))) }
     ensures before { IsStillBefore kept.old kept.new }
     ensures grown { S.fulls store.old ≤ S.fulls store.new }
 {
@@ -157,9 +166,12 @@ fn test_next<D: Digest, const B: u8, A: Allocator + Copy>(
     write: &Write<A>,
 ) -> Result<Asked, RepoFault<D, A>>
     requires { 1 ≤ B }
-    ensures passed { (s : State) (before : List SpecWrite) → IsBatchAt D.digest_of B s before room root kept.now.staged → OnOk result (next_test s before (write_of write.now) ≡ Ok tt) }
-    ensures reads { (s : State) (before : List SpecWrite) → IsBatchAt D.digest_of B s before room root kept.now.staged → IfOk result (λ looked. looked.times ≤ look_up_reads D.digest_of B (records_after s before)) }
-    ensures fault { (s : State) (before : List SpecWrite) → IsBatchAt D.digest_of B s before room root kept.now.staged → IfErr result (IsTestFault write_fault (next_test s before (write_of write.now))) }
+    ensures passed { OnTheWay D.digest_of B room root kept.now.staged (λ s before. OnOk result
+        (next_test s before (write_of write.now) ≡ Ok tt)) }
+    ensures reads { OnTheWay D.digest_of B room root kept.now.staged (λ s before. IfOk result
+        (λ looked. looked.times ≤ looked_after D.digest_of B s before)) }
+    ensures fault { OnTheWay D.digest_of B room root kept.now.staged (λ s before. IfErr result
+        (IsTestFault write_fault (next_test s before (write_of write.now)))) }
     ensures key { OnOk result (is_key (key_of (write_of write.now)) ≡ true) }
 {
     if !room {
@@ -181,8 +193,9 @@ fn there_staged<D: Digest, const B: u8, A: Allocator>(
     write: &Write<A>,
 ) -> (bool, Asked)
     requires { 1 ≤ B }
-    ensures there { (es : List Pair) → HasTree D.digest_of B (bytes_at kept.now.staged) root es → HasTestBy result.0 (value_of (key_of (write_of write.now)) es) (write_of write.now) }
-    ensures reads { (es : List Pair) → HasTree D.digest_of B (bytes_at kept.now.staged) root es → result.1.times ≤ suc (top_layer D.digest_of B es) }
+    ensures there { OfTree D.digest_of B kept.now.staged root (λ es.
+        HasTestBy result.0 (value_of (key_of (write_of write.now)) es) (write_of write.now)) }
+    ensures reads { IsReadOnce D.digest_of B kept.now.staged root result.1 }
 {
     match write {
         Write::Put(_, _) => (false, Asked::never()),
@@ -208,9 +221,14 @@ pub(crate) fn stage_commit<
     last: Option<Cid>,
 ) -> Result<Cid, RepoFault<D, A>>
     requires store { IsStore D.digest_of S.fulls S.answers }
-    ensures staged { OnOk result (IsExchanged D.digest_of (commit_bytes (stamp_of stamp.now) root ∷ []) (cons_option last []) kept.old.staged kept.new.staged) }
-    ensures cid { IfOk result (λ cid. cid ≡ cid_of D.digest_of (commit_bytes (stamp_of stamp.now) root)) }
-    ensures fault { IfErr result (IsBlockFault D.digest_of (commit_bytes (stamp_of stamp.now) root ∷ []) (S.fulls store.old) (S.fulls store.new)) }
+    ensures staged { OnOk result
+        (IsExchanged D.digest_of (commit_bytes (stamp_of stamp.now) root ∷ []) (cons_option last [])
+        kept.old.staged kept.new.staged) }
+    ensures cid { IfOk result
+        (λ cid. cid ≡ cid_of D.digest_of (commit_bytes (stamp_of stamp.now) root)) }
+    ensures fault { IfErr result
+        (IsBlockFault D.digest_of (commit_bytes (stamp_of stamp.now) root ∷ [])
+        (S.fulls store.old) (S.fulls store.new)) }
     ensures before { IsStillBefore kept.old kept.new }
     ensures grown { S.fulls store.old ≤ S.fulls store.new }
 {

@@ -48,7 +48,8 @@ impl<D: Digest, const B: u8, A: Allocator> Model for Core<D, B, A> {
 
     ghost view = { λ c. state_view c.kept.me c.limit c.accepted.items c.stamps.items };
 
-    ghost invariant = { λ c. IsCore D.digest_of B (state_view c.kept.me c.limit c.accepted.items c.stamps.items) c.root c.commit c.kept };
+    ghost invariant = { λ c. IsCore D.digest_of B
+        (state_view c.kept.me c.limit c.accepted.items c.stamps.items) c.root c.commit c.kept };
 }
 
 impl<D: Digest, const B: u8, A: Allocator> Core<D, B, A> {
@@ -166,7 +167,8 @@ impl<D: Digest, const B: u8, A: Allocator> Core<D, B, A> {
 
     /// Its block with this CID: the last commit, a node or a record. It takes no memory.
     pub fn block(&self, cid: &Cid) -> Option<&Arc<Block<D, A>, A>>
-        ensures value { option_map (λ block. arc_value block.now) result ≡ state_block D.digest_of B self.now cid.now }
+        ensures value { option_map (λ block. arc_value block.now) result
+            ≡ state_block D.digest_of B self.now cid.now }
         ensures lawful { IsLawful self.now }
     {
         let _ = &self.root;
@@ -198,7 +200,8 @@ impl<D: Digest, const B: u8, A: Allocator + Copy> Core<D, B, A> {
         from: &[u8],
         limit: usize,
     ) -> Result<Vec<(Vec<u8, A>, Cid), A>, AllocError>
-        ensures pairs { IfOk result (λ found. pairs_given found.items ≡ pairs_from D.digest_of self.now from.now limit) }
+        ensures pairs { IfOk result (λ found. pairs_given found.items
+            ≡ pairs_from D.digest_of self.now from.now limit) }
         ensures lawful { IsLawful self.now }
     {
         pairs_accepted::<D, B, A>(alloc, &self.kept, self.root, from, limit)
@@ -222,7 +225,8 @@ impl<D: Digest, const B: u8, A: Allocator + Copy> Core<D, B, A> {
         requires most { limit ≤ 1048576 }
         requires store { IsStore D.digest_of S.fulls S.answers }
         ensures fresh { IfOk result (λ core. core ≡ fresh me limit) }
-        ensures fault { IfErr result (IsOpenRefusal D.digest_of B (fresh me limit) (S.fulls store.old) (S.fulls store.new)) }
+        ensures fault { IfErr result (IsOpenRefusal D.digest_of B (fresh me limit)
+            (S.fulls store.old) (S.fulls store.new)) }
     {
         let node = empty_node(alloc)?;
         let root = node.cid();
@@ -261,11 +265,15 @@ impl<D: Digest, const B: u8, A: Allocator + Copy> Core<D, B, A> {
         requires store { IsStore D.digest_of S.fulls S.answers }
         ensures lawful { IsLawful self.old }
         ensures still_lawful { IsLawful self.new }
-        ensures accepted { OnOk result (self.new ≡ after_batch self.old (stamp_of stamp.now) (writes_of writes.now)) }
-        ensures passes { OnOk result (state_test self.old (stamp_of stamp.now) (writes_of writes.now) ≡ Ok tt) }
+        ensures accepted { OnOk result
+            (self.new ≡ after_batch self.old (stamp_of stamp.now) (writes_of writes.now)) }
+        ensures passes { OnOk result
+            (state_test self.old (stamp_of stamp.now) (writes_of writes.now) ≡ Ok tt) }
         ensures applied { IfOk result (IsApplied D.digest_of B self.old self.new) }
         ensures unchanged { OnErr result (self.new ≡ self.old) }
-        ensures fault { IfErr result (IsRefusal D.digest_of B self.old (stamp_of stamp.now) (writes_of writes.now) (S.fulls store.old) (S.fulls store.new)) }
+        ensures fault { IfErr result
+            (IsRefusal D.digest_of B self.old (stamp_of stamp.now) (writes_of writes.now)
+            (S.fulls store.old) (S.fulls store.new)) }
     {
         let start = Start {
             room: room_for(self.limit, &self.accepted),
@@ -333,8 +341,10 @@ fn grow<A: Allocator>(
     mut shared: Vec<Arc<Write<A>, A>, A>,
     stamp: Stamp<A>,
 ) -> Result<u64, AllocError>
-    ensures writes { OnOk result (shared_writes accepted.new.items ≡ shared_writes accepted.old.items ++ shared_writes shared.items) }
-    ensures stamps { OnOk result (stamps_of stamps.new.items ≡ stamps_of stamps.old.items ++ (stamp_of stamp, length accepted.new.items) ∷ []) }
+    ensures writes { OnOk result (shared_writes accepted.new.items
+        ≡ shared_writes accepted.old.items ++ shared_writes shared.items) }
+    ensures stamps { OnOk result (stamps_of stamps.new.items
+        ≡ stamps_of stamps.old.items ++ (stamp_of stamp, length accepted.new.items) ∷ []) }
     ensures number { IfOk result (λ number. number ≡ length accepted.new.items) }
     ensures same_writes { OnErr result (accepted.new.items ≡ accepted.old.items) }
     ensures same_stamps { OnErr result (stamps.new.items ≡ stamps.old.items) }

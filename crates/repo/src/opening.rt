@@ -42,7 +42,8 @@ pub(crate) fn kept_once<
     ensures kept { IfOk result (λ kept. AreKept D.digest_of (arc_value block ∷ []) kept.before) }
     ensures still { IfOk result (λ kept. kept.staged ≡ kept.before) }
     ensures me { IfOk result (λ kept. kept.me ≡ me) }
-    ensures fault { IfErr result (IsBlockFault D.digest_of (arc_value block ∷ []) (S.fulls store.old) (S.fulls store.new)) }
+    ensures fault { IfErr result (IsBlockFault D.digest_of (arc_value block ∷ [])
+        (S.fulls store.old) (S.fulls store.new)) }
 {
     let mut kept = Kept::open(alloc, me)?;
     match gain(&mut kept, store, block) {

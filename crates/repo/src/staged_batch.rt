@@ -1,10 +1,8 @@
 //! A batch, staged with its stamp and its commit.
 
-ghost use Rattle.std.specs.Prelude.{◌≡◌, ◌≤◌, ◌<◌, ℕ, List, Option, length, option_map, Ok, IfOk, IfErr};
-ghost use Rattle.spec.specs.States.{State};
-ghost use Rattle.spec.specs.Stamps.{stamp_test};
+ghost use Rattle.std.specs.Prelude.{◌≡◌, ◌≤◌, ◌<◌, length, option_map, IfOk, IfErr};
 ghost use Rattle.repo.specs.Keeping.{IsStillBefore};
-ghost use Rattle.repo.specs.Refusals.{IsBatchOn, IsStagedBatch, IsRefusal};
+ghost use Rattle.repo.specs.Refusals.{OnState, OnPassed, IsStagedBatch, IsRefusal};
 ghost use Rattle.batches.specs.Values.{writes_of, shared_writes, stamp_of};
 ghost use Rattle.store.specs.Stores.{IsStore};
 
@@ -51,10 +49,15 @@ pub(crate) fn stage_batch<
     requires least { 1 ≤ B }
     requires most { B ≤ 8 }
     requires store { IsStore D.digest_of S.fulls S.answers }
-    ensures staged { (s : State) → IsBatchOn D.digest_of B s start.room start.root start.commit (option_map (λ rev. rev.now) last.entry) kept.old.staged → IfOk result (λ staged. IsStagedBatch D.digest_of B s (stamp_of stamp.now) (writes_of writes.now) staged.root staged.commit kept.new.staged) }
-    ensures copies { IfOk result (λ staged. shared_writes staged.writes.items ≡ writes_of writes.now) }
+    ensures staged { OnState D.digest_of B start (option_map (λ rev. rev.now) last.entry)
+        kept.old.staged (λ s. IfOk result (λ staged. IsStagedBatch D.digest_of B s
+        (stamp_of stamp.now) (writes_of writes.now) staged.root staged.commit kept.new.staged)) }
+    ensures copies { IfOk result
+        (λ staged. shared_writes staged.writes.items ≡ writes_of writes.now) }
     ensures stamp { IfOk result (λ staged. stamp_of staged.stamp ≡ stamp_of stamp.now) }
-    ensures fault { (s : State) → IsBatchOn D.digest_of B s start.room start.root start.commit (option_map (λ rev. rev.now) last.entry) kept.old.staged → IfErr result (IsRefusal D.digest_of B s (stamp_of stamp.now) (writes_of writes.now) (S.fulls store.old) (S.fulls store.new)) }
+    ensures fault { OnState D.digest_of B start (option_map (λ rev. rev.now) last.entry)
+        kept.old.staged (λ s. IfErr result (IsRefusal D.digest_of B s
+        (stamp_of stamp.now) (writes_of writes.now) (S.fulls store.old) (S.fulls store.new))) }
     ensures before { IsStillBefore kept.old kept.new }
 {
     if writes.is_empty() {
@@ -84,10 +87,15 @@ fn stage_stamped<
     requires most { B ≤ 8 }
     requires some { 0 < length writes.now }
     requires store { IsStore D.digest_of S.fulls S.answers }
-    ensures staged { (s : State) (rev : Option (List ℕ)) → IsBatchOn D.digest_of B s start.room start.root start.commit rev kept.old.staged → stamp_test rev (stamp_of stamp.now) ≡ Ok tt → IfOk result (λ staged. IsStagedBatch D.digest_of B s (stamp_of stamp.now) (writes_of writes.now) staged.root staged.commit kept.new.staged) }
-    ensures copies { IfOk result (λ staged. shared_writes staged.writes.items ≡ writes_of writes.now) }
+    ensures staged { OnPassed D.digest_of B start (stamp_of stamp.now) kept.old.staged
+        (λ s. IfOk result (λ staged. IsStagedBatch D.digest_of B s
+        (stamp_of stamp.now) (writes_of writes.now) staged.root staged.commit kept.new.staged)) }
+    ensures copies { IfOk result
+        (λ staged. shared_writes staged.writes.items ≡ writes_of writes.now) }
     ensures stamp { IfOk result (λ staged. stamp_of staged.stamp ≡ stamp_of stamp.now) }
-    ensures fault { (s : State) (rev : Option (List ℕ)) → IsBatchOn D.digest_of B s start.room start.root start.commit rev kept.old.staged → stamp_test rev (stamp_of stamp.now) ≡ Ok tt → IfErr result (IsRefusal D.digest_of B s (stamp_of stamp.now) (writes_of writes.now) (S.fulls store.old) (S.fulls store.new)) }
+    ensures fault { OnPassed D.digest_of B start (stamp_of stamp.now) kept.old.staged
+        (λ s. IfErr result (IsRefusal D.digest_of B s
+        (stamp_of stamp.now) (writes_of writes.now) (S.fulls store.old) (S.fulls store.new))) }
     ensures before { IsStillBefore kept.old kept.new }
 {
     let Ok(copy) = stamp.copied(alloc) else {

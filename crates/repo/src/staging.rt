@@ -1,17 +1,15 @@
 //! One write, staged.
 
-ghost use Rattle.std.specs.Prelude.{◌≡◌, ◌≤◌, ◌++◌, ◌∷◌, [], ℕ, List, true, map, option_map, IfOk, IfErr, OnOk};
+ghost use Rattle.std.specs.Prelude.{◌≡◌, ◌≤◌, ◌++◌, ◌∷◌, [], true, map, option_map, IfOk, IfErr, OnOk};
 ghost use Rattle.std.specs.List.{cons_option};
 ghost use Rattle.std.specs.Arc.{arc_value};
 ghost use Rattle.spec.specs.Cid.{cid as cid_of};
-ghost use Rattle.spec.specs.Tree.{Pair};
 ghost use Rattle.spec.specs.NodeFormat.{is_key};
-ghost use Rattle.spec.specs.Blocks.{nodes, pairs};
-ghost use Rattle.spec.specs.Writes.{key_of, record_of, with_or_without};
-ghost use Rattle.edit.specs.Trees.{HasTree};
-ghost use Rattle.kept.specs.Counts.{bytes_at};
+ghost use Rattle.spec.specs.Writes.{key_of, record_of};
+ghost use Rattle.kept.specs.Trees.{OfTree};
 ghost use Rattle.repo.specs.Keeping.{IsGained, IsLost, IsExchanged, IsStillBefore};
-ghost use Rattle.repo.specs.Staging.{IsTreeEdit, IsTreeRefusal, IsStagedWrite, IsBlockFault, blocks_left, edit_reads, write_reads};
+ghost use Rattle.repo.specs.Staging.{OfRecords, IsEditMade, IsEditRead, IsTreeRefusal, IsStagedWrite};
+ghost use Rattle.repo.specs.Staging.{IsBlockFault, blocks_left, blocks_come, cids_gone, nodes_left, write_reads};
 ghost use Rattle.batches.specs.Values.{write_of};
 ghost use Rattle.store.specs.Stores.{IsStore};
 
@@ -42,9 +40,14 @@ pub(crate) fn stage_next<
     requires most { B ≤ 8 }
     requires key { is_key (key_of (write_of write.now)) ≡ true }
     requires store { IsStore D.digest_of S.fulls S.answers }
-    ensures staged { (m : List (List ℕ × List ℕ)) → HasTree D.digest_of B (bytes_at kept.old.staged) root (pairs D.digest_of m) → IfOk result (λ next. IsStagedWrite D.digest_of B m (write_of write.now) next.0 kept.old.staged kept.new.staged) }
-    ensures reads { (m : List (List ℕ × List ℕ)) → HasTree D.digest_of B (bytes_at kept.old.staged) root (pairs D.digest_of m) → IfOk result (λ next. next.1.times ≤ write_reads D.digest_of B m (write_of write.now)) }
-    ensures fault { (m : List (List ℕ × List ℕ)) → HasTree D.digest_of B (bytes_at kept.old.staged) root (pairs D.digest_of m) → IfErr result (IsBlockFault D.digest_of (blocks_left D.digest_of B m (write_of write.now)) (S.fulls store.old) (S.fulls store.new)) }
+    ensures staged { OfRecords D.digest_of B kept.old.staged root (λ rs. IfOk result
+        (λ next. IsStagedWrite D.digest_of B rs (write_of write.now) next.0
+        kept.old.staged kept.new.staged)) }
+    ensures reads { OfRecords D.digest_of B kept.old.staged root (λ rs. IfOk result
+        (λ next. next.1.times ≤ write_reads D.digest_of B rs (write_of write.now))) }
+    ensures fault { OfRecords D.digest_of B kept.old.staged root (λ rs. IfErr result
+        (IsBlockFault D.digest_of (blocks_left D.digest_of B rs (write_of write.now))
+        (S.fulls store.old) (S.fulls store.new))) }
     ensures before { IsStillBefore kept.old kept.new }
     ensures grown { S.fulls store.old ≤ S.fulls store.new }
 {
@@ -92,9 +95,10 @@ fn edit_over<'a, D: Digest + 'a, const B: u8, A: Allocator + Clone + 'a>(
     requires least { 1 ≤ B }
     requires most { B ≤ 8 }
     requires key { is_key key.now ≡ true }
-    ensures edit { (es : List Pair) → HasTree D.digest_of B (bytes_at kept.now.staged) root es → IfOk result (λ made. IsTreeEdit D.digest_of B es key.now value made.0.root (map arc_value made.0.add.items) made.0.drop.items made.0.previous) }
-    ensures reads { (es : List Pair) → HasTree D.digest_of B (bytes_at kept.now.staged) root es → IfOk result (λ made. made.1.times ≤ edit_reads D.digest_of B es value) }
-    ensures fault { (es : List Pair) → HasTree D.digest_of B (bytes_at kept.now.staged) root es → IfErr result (IsBlockFault D.digest_of (nodes D.digest_of B (with_or_without es key.now value)) 0 0) }
+    ensures edit { IsEditMade D.digest_of B kept.now.staged root key.now value result }
+    ensures reads { IsEditRead D.digest_of B kept.now.staged root value result }
+    ensures fault { OfTree D.digest_of B kept.now.staged root (λ es. IfErr result
+        (IsBlockFault D.digest_of (nodes_left D.digest_of B es key.now value) 0 0)) }
 {
     match put_or_delete::<D, B, A>(alloc, kept, root, key, value) {
         Ok(made) => Ok(made),
@@ -115,9 +119,10 @@ fn put_or_delete<'a, D: Digest + 'a, const B: u8, A: Allocator + Clone + 'a>(
     requires least { 1 ≤ B }
     requires most { B ≤ 8 }
     requires key { is_key key.now ≡ true }
-    ensures edit { (es : List Pair) → HasTree D.digest_of B (bytes_at kept.now.staged) root es → IfOk result (λ made. IsTreeEdit D.digest_of B es key.now value made.0.root (map arc_value made.0.add.items) made.0.drop.items made.0.previous) }
-    ensures reads { (es : List Pair) → HasTree D.digest_of B (bytes_at kept.now.staged) root es → IfOk result (λ made. made.1.times ≤ edit_reads D.digest_of B es value) }
-    ensures fault { (es : List Pair) → HasTree D.digest_of B (bytes_at kept.now.staged) root es → IfErr result (IsTreeRefusal D.digest_of (nodes D.digest_of B (with_or_without es key.now value))) }
+    ensures edit { IsEditMade D.digest_of B kept.now.staged root key.now value result }
+    ensures reads { IsEditRead D.digest_of B kept.now.staged root value result }
+    ensures fault { OfTree D.digest_of B kept.now.staged root (λ es. IfErr result
+        (IsTreeRefusal D.digest_of (nodes_left D.digest_of B es key.now value))) }
 {
     match value {
         Some(value) => put_staged::<D, B, A>(alloc, kept, root, key, value),
@@ -137,8 +142,12 @@ fn exchange<
     edit: Edit<D, A>,
 ) -> Result<(), RepoFault<D, A>>
     requires store { IsStore D.digest_of S.fulls S.answers }
-    ensures exchanged { OnOk result (IsExchanged D.digest_of (map arc_value edit.add.items ++ cons_option (option_map arc_value brought) []) (edit.drop.items ++ cons_option edit.previous []) kept.old.staged kept.new.staged) }
-    ensures fault { IfErr result (IsBlockFault D.digest_of (map arc_value edit.add.items ++ cons_option (option_map arc_value brought) []) (S.fulls store.old) (S.fulls store.new)) }
+    ensures exchanged { OnOk result
+        (IsExchanged D.digest_of (blocks_come edit (option_map arc_value brought)) (cids_gone edit)
+        kept.old.staged kept.new.staged) }
+    ensures fault { IfErr result
+        (IsBlockFault D.digest_of (blocks_come edit (option_map arc_value brought))
+        (S.fulls store.old) (S.fulls store.new)) }
     ensures before { IsStillBefore kept.old kept.new }
     ensures grown { S.fulls store.old ≤ S.fulls store.new }
 {
@@ -160,7 +169,8 @@ fn with_block<D: Digest, A: Allocator>(
     mut blocks: Vec<Arc<Block<D, A>, A>, A>,
     block: Option<Arc<Block<D, A>, A>>,
 ) -> Result<Vec<Arc<Block<D, A>, A>, A>, AllocError>
-    ensures { IfOk result (λ more. map arc_value more.items ≡ map arc_value blocks.items ++ cons_option (option_map arc_value block) []) }
+    ensures { IfOk result (λ more. map arc_value more.items
+        ≡ map arc_value blocks.items ++ cons_option (option_map arc_value block) []) }
 {
     match block {
         Some(block) => {
@@ -198,8 +208,11 @@ fn gain_all<
     blocks: Vec<Arc<Block<D, A>, A>, A>,
 ) -> Result<(), RepoFault<D, A>>
     requires store { IsStore D.digest_of S.fulls S.answers }
-    ensures gained { OnOk result (IsGained D.digest_of (map arc_value blocks.items) kept.old.staged kept.new.staged) }
-    ensures fault { IfErr result (IsBlockFault D.digest_of (map arc_value blocks.items) (S.fulls store.old) (S.fulls store.new)) }
+    ensures gained { OnOk result
+        (IsGained D.digest_of (map arc_value blocks.items) kept.old.staged kept.new.staged) }
+    ensures fault { IfErr result
+        (IsBlockFault D.digest_of (map arc_value blocks.items)
+        (S.fulls store.old) (S.fulls store.new)) }
     ensures before { IsStillBefore kept.old kept.new }
     ensures grown { S.fulls store.old ≤ S.fulls store.new }
 {
@@ -216,8 +229,10 @@ pub(crate) fn gain<
     S: BlockStore<Arc<Block<D, A>, A>, Hold<D, A>, StoreFault<D, A>>,
 >(kept: &mut Kept<D, A>, store: &mut S, block: Arc<Block<D, A>, A>) -> Result<(), RepoFault<D, A>>
     requires store { IsStore D.digest_of S.fulls S.answers }
-    ensures gained { OnOk result (IsGained D.digest_of (arc_value block ∷ []) kept.old.staged kept.new.staged) }
-    ensures fault { IfErr result (IsBlockFault D.digest_of (arc_value block ∷ []) (S.fulls store.old) (S.fulls store.new)) }
+    ensures gained { OnOk result
+        (IsGained D.digest_of (arc_value block ∷ []) kept.old.staged kept.new.staged) }
+    ensures fault { IfErr result (IsBlockFault D.digest_of (arc_value block ∷ [])
+        (S.fulls store.old) (S.fulls store.new)) }
     ensures before { IsStillBefore kept.old kept.new }
     ensures grown { S.fulls store.old ≤ S.fulls store.new }
 {
