@@ -115,11 +115,11 @@ Front {X = X} part whole = (rest : List X) × (whole ≡ part ++ rest)
 
 filter-append : (p : List ℕ → Bool) (xs ys : List (List ℕ)) → filter p (xs ++ ys) ≡ filter p xs ++ filter p ys
 filter-append p [] ys = refl
-filter-append p (x ∷ xs) ys = kept-append (p x) x (filter-append p xs ys)
+filter-append p (x ∷ xs) ys = kept-append (p x) x (filter p (xs ++ ys)) (filter p xs) (filter p ys) (filter-append p xs ys)
   where
-    kept-append : (t : Bool) (x : List ℕ) {zs bs cs : List (List ℕ)} → zs ≡ bs ++ cs → kept t x zs ≡ kept t x bs ++ cs
-    kept-append true x e = ap (λ t. x ∷ t) e
-    kept-append false x e = e
+    kept-append : (t : Bool) (x : List ℕ) (zs bs cs : List (List ℕ)) → zs ≡ bs ++ cs → kept t x zs ≡ kept t x bs ++ cs
+    kept-append true x zs bs cs e = ap (λ t. x ∷ t) e
+    kept-append false x zs bs cs e = e
 
 filter-front : (p : List ℕ → Bool) (xs ys : List (List ℕ)) → Front xs ys → Front (filter p xs) (filter p ys)
 filter-front p xs ys f = (filter p f.0, ap (filter p) f.1 ∙ filter-append p xs f.0)

@@ -1,3 +1,4 @@
+pub mod Exports
 pub mod Faults
 pub mod GivenBlocks
 pub mod Once

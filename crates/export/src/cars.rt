@@ -1,8 +1,9 @@
 //! CAR files (CARv1).
 
-ghost use Rattle.std.specs.Prelude.{◌≡◌, length, option_map, IfOk};
+ghost use Rattle.std.specs.Prelude.{◌≡◌, ◌≤◌, length, option_map, IfOk};
 ghost use Rattle.std.specs.Arc.{arc_value};
 ghost use Rattle.spec.specs.Commits.{car_root};
+ghost use Rattle.export.specs.Exports.{TakesCar, car_length};
 ghost use Rattle.export.specs.Once.{capped};
 ghost use Rattle.export.specs.Outs.{HasCause, Takes};
 ghost use Rattle.export.specs.Walks.{car_met};
@@ -15,8 +16,33 @@ use crate::seen::Seen;
 use crate::walk::Walk;
 use cid::{Block, Cid, Digest};
 use edit::Source;
+use repo::Core;
 use std::alloc::Allocator;
 use std::sync::Arc;
+
+/// Writes a repository as one file, and answers how many bytes that are (`u64::MAX` where they are more).
+///
+/// The root that the file names is the last batch's commit, and before the first batch the root of the tree. Then comes a
+/// section for each block: the commit, and each node of the tree with what is below its first link, and for each of its
+/// entries the record and what is below the link after it. Of several blocks with one CID the first alone is written.
+///
+/// `ExportFault::DeviceFault` comes only where the output failed in this call, and `ExportFault::NoMemory` where memory was
+/// refused to the call itself. After either the output took a beginning of the file.
+pub fn car<D: Digest, const B: u8, A: Allocator + Clone, W: Out>(
+    alloc: A,
+    core: &Core<D, B, A>,
+    out: &mut W,
+) -> Result<u64, ExportFault>
+    requires { 1 ≤ B }
+    ensures taken { TakesCar D.digest_of B core.now (W.taken out.old) (W.taken out.new) result }
+    ensures length { IfOk result (λ count. count ≡ car_length D.digest_of B core.now) }
+    ensures cause { HasCause (W.failures out.old) (W.failures out.new) result }
+{
+    let commit = core.commit();
+    let root = core.root();
+    let mut lender = core.lender();
+    car_within(alloc, &mut lender, commit, root, 256 / B as u16 + 1, out)
+}
 
 /// Writes the CAR of a commit, if there is one, and of the tree with this root, over `most` layers at most: of each
 /// block that the source has.

@@ -9,12 +9,32 @@ ghost use Rattle.paths.specs.Sources.{gap, path_from, shape_of_bytes, shown_by};
 ghost use Rattle.paths.specs.Laws.Lookups.{found_at};
 ghost use Rattle.node.specs.Views.{place_of};
 ghost use Rattle.edit.specs.Trees.{HasTree};
+ghost use Rattle.export.specs.Exports.{ArePathOf};
 
 use cid::{Block, Cid, Digest};
 use edit::Source;
+use kept::Lender;
 use node::{NodeView, Place};
+use repo::Core;
 use std::alloc::{AllocError, Allocator};
 use std::sync::Arc;
+
+/// The proof of a key: the nodes of its path in the repository's tree, from the top down to the node that has the key, or to
+/// a gap without a subtree in which it would stand. It takes any key, and shares the blocks with the repository.
+///
+/// `AllocError` comes where memory was refused.
+pub fn prove<D: Digest, const B: u8, A: Allocator>(
+    alloc: A,
+    core: &Core<D, B, A>,
+    key: &[u8],
+) -> Result<Vec<Arc<Block<D, A>, A>, A>, AllocError>
+    requires { 1 ≤ B }
+    ensures { IfOk result (λ nodes. ArePathOf D.digest_of B core.now key.now nodes.items) }
+{
+    let root = core.root();
+    let mut lender = core.lender();
+    path_over::<D, B, A, Lender<'_, D, A>>(alloc, &mut lender, root, key)
+}
 
 /// The nodes of a key's path in the tree with this root, from the top, over a source that has all nodes of the tree.
 pub(crate) fn path_over<
