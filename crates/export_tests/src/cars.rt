@@ -1,9 +1,9 @@
 //! CAR files of small repositories.
 
-use crate::fixtures::{Checked, FIVE_NODES, ONE, THREE, TWO, accepts, end, opened, takes};
+use crate::fixtures::{Checked, FIVE_NODES, ONE, THREE, TWO, end, file_of, opened, takes};
 use cid::digests::Toy;
-use cid::{Cid, Digest, Sha256};
-use export::{ExportFault, ToMemory, ToWriter, car};
+use cid::{Cid, Sha256};
+use export::{ExportFault, ToWriter, car};
 use repo::Core;
 use std::alloc::Global;
 use store::Shard;
@@ -18,23 +18,11 @@ const EMPTY: &[u8] = b"\x3a\xa2\x65roots\x81\xd8\x2a\x58\x25\x00\
     \xd5\x7a\xdf\x20\x48\x2d\x6f\xdb\xe2\x75\x92\x89\xf6\x47\x67\x7b\
     \xa2\x61e\x80\x61l\xf6";
 
-/// The bytes of a core's CAR, where it is answered with their number.
-fn file_of<D: Digest>(alloc: Global, core: &Core<D, 2>) -> Option<Vec<u8>> {
-    let mut out = ToMemory::new(alloc);
-    let length = car(alloc, core, &mut out).ok()?;
-    let file = out.into_bytes();
-    if length == file.len() as u64 {
-        Some(file)
-    } else {
-        None
-    }
-}
-
 #[test]
 fn the_repository_without_records(rt: HostRuntime) {
     let mut shard = Shard::<Sha256>::new(rt.alloc(), 9);
     let core = opened(&rt, rt.alloc(), &mut shard);
-    let file = file_of(rt.alloc(), &core);
+    let file = file_of(rt.alloc(), rt.alloc(), &core);
     end(&mut shard, core);
     assert!(rt; EMPTY.len() == 103 && file.is_some_and(|file| file.as_slice() == EMPTY));
 }
@@ -138,7 +126,7 @@ fn written(alloc: Global, core: &Core<Toy, 2>, file: &[u8], room: usize) -> (Res
 
 /// Whether the CAR of five nodes is as it is to be, over outputs of each kind.
 fn is_written(alloc: Global, core: &Core<Toy, 2>) -> bool {
-    let Some(file) = file_of(alloc, core) else {
+    let Some(file) = file_of(alloc, alloc, core) else {
         return false;
     };
     is_of_five_nodes(&file, core.commit())

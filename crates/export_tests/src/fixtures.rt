@@ -1,17 +1,18 @@
 //! Repositories of a few records, and an output that is told what to expect.
 
-ghost use Rattle.std.specs.Prelude.{◌≡◌};
-
 use batches::{Stamp, Write};
 use cid::Digest;
-use export::{Failed, Log, Out};
+use export::{Failed, Log, Out, ToMemory, car};
 use repo::Core;
-use std::alloc::{AllocError, Allocator};
+use std::alloc::{AllocError, Allocator, Global};
 use std::process::Abort;
 use store::{LentShard, Shard};
 
 /// A key and its record.
 pub(crate) type Record = (&'static [u8], &'static [u8]);
+
+/// The DAG-CBOR bytes of the node without entries and without a left link.
+pub(crate) const EMPTY_NODE: &[u8] = b"\xa2\x61e\x80\x61l\xf6";
 
 /// The DAG-CBOR bytes of the maps of "a" to 1, 2 and 3.
 pub(crate) const ONE: &[u8] = b"\xa1\x61a\x01";
@@ -75,6 +76,22 @@ pub(crate) fn takes<D: Digest, A: Allocator + Copy>(
     match puts_of(alloc, records) {
         Ok(puts) => accepts(alloc, shard, core, &puts),
         Err(_) => false,
+    }
+}
+
+/// The bytes of a core's CAR, where it is answered with their number.
+pub(crate) fn file_of<D: Digest, A: Allocator + Clone>(
+    global: Global,
+    alloc: A,
+    core: &Core<D, 2, A>,
+) -> Option<Vec<u8>> {
+    let mut out = ToMemory::new(global);
+    let length = car(alloc, core, &mut out).ok()?;
+    let file = out.into_bytes();
+    if length == file.len() as u64 {
+        Some(file)
+    } else {
+        None
     }
 }
 

@@ -130,15 +130,52 @@ fn lacks_each_bit(root: &Cid, proof: &mut Proof, key: &[u8], place: usize, size:
     true
 }
 
+/// A proof without one of its nodes.
+fn without(alloc: Global, proof: &Proof, place: usize) -> Option<Proof> {
+    let mut others = Vec::new(alloc);
+    for (at, node) in proof.iter().enumerate() {
+        if at != place {
+            others.push(Vec::from_slice(alloc, node).ok()?).ok()?;
+        }
+    }
+    Some(others)
+}
+
 /// Whether it lacks one where this node is taken away.
-fn lacks_the_node(root: &Cid, proof: &mut Proof, key: &[u8], place: usize) -> bool {
-    let mut taken = Vec::new(*proof.allocator());
-    if let Some(node) = proof.get_mut(place) {
-        swap(node, &mut taken);
+fn lacks_the_node(alloc: Global, root: &Cid, proof: &Proof, key: &[u8], place: usize) -> bool {
+    match without(alloc, proof, place) {
+        Some(others) => lacks(root, &others, key),
+        None => false,
     }
-    let is_right = lacks(root, proof, key);
-    if let Some(node) = proof.get_mut(place) {
-        swap(node, &mut taken);
+}
+
+/// Whether the proof of a number's key lacks a node without any one of its nodes, and with any one bit of it changed.
+fn is_whole_or_nothing(alloc: Global, core: &Core<Toy, 2>, number: u16) -> bool {
+    let Some((key, _)) = pair_of(alloc, number, "") else {
+        return false;
+    };
+    let Some(mut proof) = proof_of(alloc, core, &key) else {
+        return false;
+    };
+    let root = core.root();
+    for place in 0..proof.len() {
+        let size = proof.get(place).map_or(0, |node| node.len());
+        if !lacks_the_node(alloc, &root, &proof, &key, place)
+            || !lacks_each_bit(&root, &mut proof, &key, place, size)
+        {
+            return false;
+        }
     }
-    is_right
+    !proof.is_empty()
+}
+
+#[test]
+fn proofs_without_a_node_or_with_a_bit_changed(rt: HostRuntime) {
+    let mut shard = Shard::new(rt.alloc(), 100);
+    let mut core = opened(&rt, rt.alloc(), &mut shard);
+    let filled = is_filled(rt.alloc(), &mut shard, &mut core, 20);
+    for number in 0..20u16 {
+        assert!(rt; filled && is_whole_or_nothing(rt.alloc(), &core, number));
+    }
+    end(&mut shard, core);
 }
