@@ -164,3 +164,9 @@ module _ (digest : List ℕ → List ℕ) (gives : List ℕ → Option (List ℕ
     car-is =
         ap (λ bs. car_of digest (car_root (state_commit digest bits s) (state_root digest bits s)) (bs ++ blocks_at gives (cids_from (shown_by gives) (layers bits) (Some (state_root digest bits s))))) of-commit
         ∙ ap (λ bs. car_of digest (car_root (state_commit digest bits s) (state_root digest bits s)) (further ++ bs)) of-tree
+
+    -- what is written where the root and the commit are asked for first
+    pub car-met : (commit : Option (List ℕ)) (root : List ℕ) → commit ≡ state_commit digest bits s → root ≡ state_root digest bits s
+        → car_met digest gives (layers bits) commit root ≡ state_car digest bits s
+    car-met commit root e f =
+        ap (λ c. car_met digest gives (layers bits) c root) e ∙ ap (λ r. car_met digest gives (layers bits) (state_commit digest bits s) r) f ∙ car-is
