@@ -15,10 +15,10 @@ ghost use Rattle.closing.specs.Ending.{IsEndedAt, joined_all, kept_by};
 ghost use Rattle.closing.specs.Settling.{IsSettled, IsUneven, AreSquare};
 
 use crate::comparing::compare;
-use crate::fitting::element;
 use crate::counts::{all_counts, count_in_shard, listed};
 use crate::ended::Ended;
 use crate::feed::Feed;
+use crate::fitting::element;
 use crate::mismatch::Mismatch;
 use crate::settled::{Settled, settle_all};
 use crate::shown::{Shown, show};
@@ -178,7 +178,7 @@ impl<D: Digest, const B: u8, A: Allocator> Uneven<D, B, A> {
     pub fn cores(&self) -> &[Core<D, B, A>]
         ensures { result.now ≡ self.now.cores }
     {
-        &self.cores
+        self.cores.as_slice()
     }
 }
 

@@ -4,7 +4,6 @@ ghost use Rattle.std.specs.Prelude.{◌≡◌, ℕ, ◌<◌, true, MatchBool, On
 ghost use Rattle.std.specs.FinSet as set;
 ghost use Rattle.closing.specs.Tally.{has, have, NumberedFrom, IsMisnumbered, IsMiscounted};
 ghost use Rattle.closing.specs.Tally.{IsEntered, IsMissed, AreEntered, AreHad, AreAlien, AreAllHad, AllHave, IsAlien};
-
 ghost use Rattle.closing.specs.Settling.{IsSettled, IsUneven};
 
 use crate::ended::Ended;

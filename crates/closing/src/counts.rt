@@ -13,7 +13,10 @@ use std::collections::BTreeMap;
 use store::{SHARDS, Shard, shard_number};
 
 /// The count of a CID, by the table of its shard.
-pub(crate) fn count_in_shard<D: Digest, A: Allocator>(tables: &[Shard<D, A>; SHARDS], cid: &Cid) -> u64
+pub(crate) fn count_in_shard<D: Digest, A: Allocator>(
+    tables: &[Shard<D, A>; SHARDS],
+    cid: &Cid,
+) -> u64
     ensures { result ≡ count tables.now cid.now }
 {
     tables[shard_number(cid)].count(cid)

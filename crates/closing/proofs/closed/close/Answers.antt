@@ -4,9 +4,14 @@ use Rattle.closing.proofs.Closings.{settled_at, uneven_at, is_closed}
 use Rattle.closing.proofs.closed.close.Goals as goal
 
 pub compare-requires : goal.compare-requires
-compare-requires g c = (search rules, (search rules,
-  subst (All (λ (e : EndedView). length e.seen ≡ length c.deref.result.now)) (sym c.deref-2.ensures.value)
-      (λ k d less. (c.requires.ended k d less).places ∙ ap length (sym c.deref.ensures.value))))
+compare-requires g c = (
+  search rules,
+  (
+    search rules,
+    subst (All (λ (e : EndedView). length e.seen ≡ length c.deref.result.now)) (sym c.deref-2.ensures.value)
+        (λ k d less. (c.requires.ended k d less).places ∙ ap length (sym c.deref.ensures.value)),
+  ),
+)
 
 pub settle_all-settled-requires-clause-ended : goal.settle_all-settled-requires-clause-ended
 settle_all-settled-requires-clause-ended g c k d less = (c.requires.ended k d less).queue
