@@ -24,15 +24,27 @@ pub enum Step<'a> {
     Delete(&'a [u8]),
 }
 
+impl<'a> Step<'a> {
+    /// The key, and the record where there is one, else no bytes.
+    fn parts(self) -> (&'a [u8], &'a [u8]) {
+        match self {
+            Step::Put(key, record) | Step::Create(key, record) | Step::Update(key, record) => {
+                (key, record)
+            }
+            Step::Delete(key) => (key, b""),
+        }
+    }
+}
+
 /// The write of a step.
 pub fn write_of<A: Allocator + Copy>(alloc: A, step: Step<'_>) -> Result<Write<A>, AllocError> {
-    let (Step::Put(key, _) | Step::Create(key, _) | Step::Update(key, _) | Step::Delete(key)) =
-        step;
+    let (key, record) = step.parts();
     let key = Vec::from_slice(alloc, key)?;
+    let record = Vec::from_slice(alloc, record)?;
     Ok(match step {
-        Step::Put(_, record) => Write::Put(key, Vec::from_slice(alloc, record)?),
-        Step::Create(_, record) => Write::Create(key, Vec::from_slice(alloc, record)?),
-        Step::Update(_, record) => Write::Update(key, Vec::from_slice(alloc, record)?),
+        Step::Put(_, _) => Write::Put(key, record),
+        Step::Create(_, _) => Write::Create(key, record),
+        Step::Update(_, _) => Write::Update(key, record),
         Step::Delete(_) => Write::Delete(key),
     })
 }

@@ -1,37 +1,11 @@
 //! How batches end.
 
+use crate::batch::{ONE, TWO};
 use batches::RepoFault;
 use cid::{Collided, Digest};
 use dagcbor::CborFault;
 use repo::Applied;
 use std::alloc::Allocator;
-
-use crate::batch::{EMPTY, EMPTY_NODE, ONE, TWO};
-
-/// A block by its bytes.
-#[derive(Clone, Copy, PartialEq, Eq)]
-pub enum Named {
-    EmptyNode,
-    Empty,
-    One,
-    Two,
-    Another,
-}
-
-/// The name of these bytes.
-fn name_of(bytes: &[u8]) -> Named {
-    if bytes == EMPTY_NODE {
-        Named::EmptyNode
-    } else if bytes == EMPTY {
-        Named::Empty
-    } else if bytes == ONE {
-        Named::One
-    } else if bytes == TWO {
-        Named::Two
-    } else {
-        Named::Another
-    }
-}
 
 /// Why a batch was refused.
 #[derive(Clone, Copy, PartialEq, Eq)]
@@ -43,9 +17,11 @@ pub enum Why {
     KeyExists,
     NoSuchKey,
     WritesFull,
-    /// Two blocks with one CID: the one that is given, and the one that is held.
-    Collision(Named, Named),
-    /// The two blocks that are shown have different CIDs.
+    /// The given block is `TWO` and the held one `ONE`, under one CID.
+    CollisionOfRecords,
+    /// Other two blocks of different bytes under one CID.
+    Collision,
+    /// The two blocks that are shown have different CIDs, or the same bytes.
     NoCollision,
     StoreFull,
     NoMemory,
@@ -57,10 +33,13 @@ pub enum Why {
 
 /// Which two blocks clash.
 fn clash_of<D: Digest, A: Allocator>(pair: &Collided<D, A>) -> Why {
-    if pair.one().cid() == pair.other().cid() {
-        Why::Collision(name_of(pair.one().bytes()), name_of(pair.other().bytes()))
-    } else {
+    let (one, other) = (pair.one(), pair.other());
+    if one.cid() != other.cid() || one.bytes() == other.bytes() {
         Why::NoCollision
+    } else if one.bytes() == TWO && other.bytes() == ONE {
+        Why::CollisionOfRecords
+    } else {
+        Why::Collision
     }
 }
 

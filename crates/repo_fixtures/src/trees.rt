@@ -44,15 +44,22 @@ fn cids_of<D: Digest, K>(
     Ok(cids)
 }
 
-/// Whether a core has the blocks of these CIDs, in this order, and no others.
-fn has_blocks<D: Digest, const B: u8, A: Allocator>(core: &Core<D, B, A>, cids: &[Cid]) -> bool {
-    let mut rest = cids.iter();
+/// Whether there was memory for these CIDs, and a core has their blocks, in this order, and no others.
+fn has_blocks<D: Digest, const B: u8, A: Allocator>(
+    core: &Core<D, B, A>,
+    cids: Result<Vec<Cid>, AllocError>,
+) -> bool {
+    let Ok(cids) = cids else {
+        return false;
+    };
+    let mut count = 0usize;
     for block in core.blocks() {
-        if rest.next() != Some(&block.cid()) {
+        if cids.get(count) != Some(&block.cid()) {
             return false;
         }
+        count = count.saturating_add(1);
     }
-    rest.next().is_none()
+    count == cids.len()
 }
 
 /// Whether a core finds the record of each pair under its key.
@@ -80,11 +87,13 @@ pub fn is_of<D: Digest, const B: u8, A: Allocator, K: AsSlice<u8>>(
     requires least { 1 ≤ B }
     requires most { B ≤ 8 }
 {
-    let Some(tree) = tree_of::<D, B, K>(alloc, pairs) else {
-        return false;
-    };
-    core.root() == tree.root
-        && core.commit() == commit
-        && has_records(core, pairs)
-        && cids_of(alloc, &tree, pairs, commit).is_ok_and(|cids| has_blocks(core, &cids))
+    match tree_of::<D, B, K>(alloc, pairs) {
+        Some(tree) => {
+            core.root() == tree.root
+                && core.commit() == commit
+                && has_records(core, pairs)
+                && has_blocks(core, cids_of(alloc, &tree, pairs, commit))
+        }
+        None => false,
+    }
 }

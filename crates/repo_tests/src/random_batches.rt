@@ -244,12 +244,19 @@ fn agrees<R: Abort, D: Digest, const B: u8>(rt: &R, alloc: Global, room: usize) 
 }
 
 #[test]
-fn random_batches(rt: HostRuntime) {
+fn under_the_toy_digest(rt: HostRuntime) {
     assert!(rt; agrees::<_, Toy, 1>(&rt, rt.alloc(), 1000));
     assert!(rt; agrees::<_, Toy, 2>(&rt, rt.alloc(), 1000));
     assert!(rt; agrees::<_, Toy, 8>(&rt, rt.alloc(), 1000));
+}
+
+#[test]
+fn under_sha_256(rt: HostRuntime) {
     assert!(rt; agrees::<_, Sha256, 1>(&rt, rt.alloc(), 1000));
     assert!(rt; agrees::<_, Sha256, 2>(&rt, rt.alloc(), 1000));
-    // in a small store
+}
+
+#[test]
+fn in_a_small_store(rt: HostRuntime) {
     assert!(rt; agrees::<_, Toy, 2>(&rt, rt.alloc(), 30));
 }

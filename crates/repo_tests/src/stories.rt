@@ -6,7 +6,7 @@ use cid::digests::{Clash, Size, Toy};
 use repo_fixtures::batch::Step::{Create, Delete, Put, Update};
 use repo_fixtures::batch::{EMPTY, EMPTY_NODE, ONE, TWO};
 use repo_fixtures::ends::Ended::{Accepted, Refused};
-use repo_fixtures::ends::{Named, Why};
+use repo_fixtures::ends::Why;
 
 /// Nothing of a batch is accepted that is refused.
 const REFUSED_BATCHES: [Turn; 4] = [
@@ -321,7 +321,7 @@ const TWO_RECORDS_OF_ONE_REPOSITORY: [Turn; 2] = [
         second: false,
         rev: 1,
         batch: &[Put(b"a/c0", TWO)],
-        ended: Refused(0, Why::Collision(Named::Two, Named::One)),
+        ended: Refused(0, Why::CollisionOfRecords),
         records: &[(b"a/b0", ONE)],
         blocks: (3, 1, 4),
     },
@@ -341,7 +341,7 @@ const RECORDS_OF_TWO_REPOSITORIES: [Turn; 2] = [
         second: true,
         rev: 0,
         batch: &[Put(b"a/b0", TWO)],
-        ended: Refused(0, Why::Collision(Named::Two, Named::One)),
+        ended: Refused(0, Why::CollisionOfRecords),
         records: &[],
         blocks: (3, 1, 4),
     },
@@ -353,7 +353,7 @@ const COLLIDING_RECORD: [Turn; 1] = [
         second: false,
         rev: 0,
         batch: &[Put(b"a/b", EMPTY)],
-        ended: Refused(0, Why::Collision(Named::Empty, Named::EmptyNode)),
+        ended: Refused(0, Why::Collision),
         records: &[],
         blocks: (1, 1, 1),
     },
