@@ -191,6 +191,8 @@ impl<D: Digest, const B: u8, A: Allocator> Drop for Closed<D, B, A> {
             cores,
             tables,
         } = self;
+        // so a proof knows that the tables fit in memory
+        let _ = element(&tables, 0);
         end_all(cores, tables);
     }
 }
@@ -203,6 +205,8 @@ impl<D: Digest, const B: u8, A: Allocator> Drop for Uneven<D, B, A> {
             ended: _,
             mismatch: _,
         } = self;
+        // so a proof knows that the tables fit in memory
+        let _ = element(&tables, 0);
         end_all(cores, tables);
     }
 }
