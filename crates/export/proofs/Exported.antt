@@ -1,8 +1,8 @@
 -- What is written over a source that has a repository's blocks is the repository's CAR.
-use Rattle.std.proofs.Common.{◌≡◌, ℕ, zero, suc, ◌+◌, ◌/◌, ◌<◌, ◌≤◌, Bool, true, false, cond, List, [], ◌∷◌, ◌++◌, refl, sym, ap, ◌∙◌, append_assoc, arith, Option, None}
+use Rattle.std.proofs.Common.{◌≡◌, ℕ, zero, suc, true, false, cond, List, [], ◌∷◌, ◌++◌, refl, sym, ap, ◌∙◌, append_assoc, arith, Option, None}
 use Rattle.std.specs.declared.option.Option.TheVariants.{Some}
 use Rattle.std.specs.Prelude.{Contains, option_and_then}
-use Rattle.std.specs.List.{AllByRecursion, cons_option, flat_map}
+use Rattle.std.specs.List.{cons_option, flat_map}
 use Rattle.std.specs.Cmp.Lexicographic.{slice_cmp, nat_list_cmp_total}
 use Rattle.std.specs.Ordering.{nat_cmp, is_lt, is_eq, eq_by_cmp, ordering_reverse}
 use Rattle.std.specs.declared.cmp.Ordering.{Ordering}
@@ -14,9 +14,9 @@ use Rattle.spec.specs.Cid.{cid, IsDigest}
 use Rattle.spec.specs.Layer.{layer}
 use Rattle.spec.specs.Tree.{Pair, Node, Last, More, Part, Nothing, Sub, EachNode, EachUnder, top, pairs_in, pairs_under}
 use Rattle.spec.specs.NodeFormat.{node_bytes, part_link, shape, shape_bytes, shape_cid}
-use Rattle.spec.specs.Blocks.{ArePairs, blocks, blocks_in, blocks_under, nodes, pairs, record_at, record_blocks, repository_root, root as root_of}
+use Rattle.spec.specs.Blocks.{ArePairs, blocks_in, blocks_under, nodes, pairs, record_at, record_blocks}
 use Rattle.spec.specs.Car.{car_of}
-use Rattle.spec.specs.Commits.{car_root, commit_blocks, commit_bytes, commit_cid, committed_blocks}
+use Rattle.spec.specs.Commits.{car_root, commit_blocks, commit_bytes, commit_cid}
 use Rattle.spec.specs.Stamps.{Stamp}
 use Rattle.spec.specs.States.{State, last_stamp, records, state_blocks, state_car, state_commit, state_root}
 use Rattle.spec.proofs.Bools.{both, from_T}

@@ -1,8 +1,8 @@
 -- What an output took of some bytes, and what is left of them.
-use Rattle.std.proofs.Common.{◌≡◌, ℕ, List, [], ◌∷◌, ◌++◌, length, take, drop, ◌-◌, ◌==◌, true, arith, refl, sym, ap, subst, ◌∙◌, append_assoc}
-use Rattle.std.specs.Prelude.{Result, Ok, Err, IsErr, MatchResult}
+use Rattle.std.proofs.Common.{◌≡◌, ℕ, List, [], ◌++◌, length, take, drop, ◌-◌, arith, refl, sym, ap, subst, ◌∙◌, append_assoc}
+use Rattle.std.specs.Prelude.{Result, Ok, Err, IsErr}
 use Rattle.std.proofs.lemmas.List.{append-nil, take_all, take-append-drop, length-drop}
-use Rattle.export.specs.Outs.{Leaves, TakesBeginning, Takes, Fails}
+use Rattle.export.specs.Outs.{Leaves, TakesBeginning, Takes}
 
 pub leaves-all : (old all : List ℕ) → Leaves old old all all
 leaves-all old all = record { done = []; parts = refl; taken = sym (append-nil old) }

@@ -1,5 +1,5 @@
 -- The three parts of a file: its header, its commit, and the blocks of a tree.
-use Rattle.std.proofs.Common.{◌≡◌, ℕ, ◌+◌, ◌-◌, ◌^◌, List, [], ◌++◌, length, Option, option_map, Result, min, refl, sym, ap, subst, ◌∙◌, arith}
+use Rattle.std.proofs.Common.{◌≡◌, ℕ, ◌+◌, ◌-◌, ◌^◌, List, [], ◌++◌, length, Option, option_map, Result, min, ap, subst, ◌∙◌, arith}
 use Rattle.std.specs.Prelude.{IsErr}
 use Rattle.std.specs.declared.option.Option.TheVariants.{Some}
 use Rattle.std.proofs.lemmas.List.{length-append}

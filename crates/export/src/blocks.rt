@@ -23,12 +23,7 @@ pub(crate) fn write_commit<
     A: Allocator + Clone + 'a,
     S: Source<'a, Arc<Block<D, A>, A>>,
     W: Out,
->(
-    src: &mut S,
-    seen: &mut Seen<A>,
-    out: &mut W,
-    commit: Option<Cid>,
-) -> Result<u64, ExportFault>
+>(src: &mut S, seen: &mut Seen<A>, out: &mut W, commit: Option<Cid>) -> Result<u64, ExportFault>
     ensures taken { Takes (W.taken out.old) (W.taken out.new) result (sections D.digest_of seen.old (commit_block (λ c. option_map arc_value (S.gives src.old c)) commit)) }
     ensures length { IfOk result (λ count. count ≡ length (sections D.digest_of seen.old (commit_block (λ c. option_map arc_value (S.gives src.old c)) commit))) }
     ensures seen { OnOk result ((bs : List (List ℕ)) → let found = commit_block (λ c. option_map arc_value (S.gives src.old c)) commit in sections D.digest_of seen.old (found ++ bs) ≡ sections D.digest_of seen.old found ++ sections D.digest_of seen.new bs) }
@@ -51,12 +46,7 @@ pub(crate) fn write_blocks<
     A: Allocator + Clone + 'a,
     S: Source<'a, Arc<Block<D, A>, A>>,
     W: Out,
->(
-    src: &mut S,
-    mut walk: Walk<'a, A>,
-    seen: &mut Seen<A>,
-    out: &mut W,
-) -> Result<u64, ExportFault>
+>(src: &mut S, mut walk: Walk<'a, A>, seen: &mut Seen<A>, out: &mut W) -> Result<u64, ExportFault>
     ensures taken { Takes (W.taken out.old) (W.taken out.new) result (sections_left D.digest_of (λ c. option_map arc_value (S.gives src.old c)) seen.old walk.entry) }
     ensures length { IfOk result (λ count. count ≡ capped (length (sections_left D.digest_of (λ c. option_map arc_value (S.gives src.old c)) seen.old walk.entry))) }
     ensures cause { HasCause (W.failures out.old) (W.failures out.new) result }

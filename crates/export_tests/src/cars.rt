@@ -43,7 +43,7 @@ fn section_of(file: &[u8]) -> Option<(&[u8], &[u8])> {
     let (length, rest) = length_of(file)?;
     let (section, rest) = rest.split_at_checked(length)?;
     let (cid, data) = section.split_at_checked(36)?;
-    if Cid::of::<Toy>(data).as_bytes() == cid {
+    if Cid::of::<Toy>(data).as_bytes().as_slice() == cid {
         Some((data, rest))
     } else {
         None
@@ -78,13 +78,21 @@ fn are_sections(file: &[u8]) -> bool {
     rest.is_empty()
 }
 
+/// Whether a header of 59 bytes names this root.
+fn names(header: &[u8], root: Cid) -> bool {
+    match header.get(14..50) {
+        Some(cid) => cid == root.as_bytes().as_slice(),
+        None => false,
+    }
+}
+
 /// Whether this is the file of five nodes and the commit.
 fn is_of_five_nodes(file: &[u8], commit: Option<Cid>) -> bool {
     let Some((header, sections)) = file.split_at_checked(59) else {
         return false;
     };
     file.len() == 868
-        && commit.is_some_and(|cid| header[14..50] == *cid.as_bytes())
+        && commit.is_some_and(|cid| names(header, cid))
         && sections.starts_with(b"\x84\x01")
         && are_sections(sections)
 }
@@ -114,7 +122,12 @@ fn fails_at_each(alloc: Global, core: &Core<Toy, 2>, file: &[u8]) -> bool {
 }
 
 /// What a writer over room for so many bytes answers, and whether they are a beginning of the file.
-fn written(alloc: Global, core: &Core<Toy, 2>, file: &[u8], room: usize) -> (Result<u64, ExportFault>, bool) {
+fn written(
+    alloc: Global,
+    core: &Core<Toy, 2>,
+    file: &[u8],
+    room: usize,
+) -> (Result<u64, ExportFault>, bool) {
     let mut bytes = [0; 900];
     let Some(part) = bytes.get_mut(..room) else {
         return (Ok(0), false);

@@ -39,10 +39,7 @@ fn chain<A: Allocator + Clone>(alloc: A, count: usize) -> Result<Vec<Vec<u8, A>,
 }
 
 /// Each node twice, and after each time another block.
-fn twice<A: Allocator + Clone>(
-    alloc: A,
-    nodes: &[Vec<u8, A>],
-) -> Result<Vec<Vec<u8, A>, A>, Fail> {
+fn twice<A: Allocator + Clone>(alloc: A, nodes: &[Vec<u8, A>]) -> Result<Vec<Vec<u8, A>, A>, Fail> {
     let mut blocks = Vec::new(alloc.clone()?);
     for node in nodes {
         for bytes in [node.as_slice(), b"other", node.as_slice(), b"\xa0"] {

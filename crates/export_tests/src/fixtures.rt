@@ -16,7 +16,9 @@ pub(crate) const EMPTY_NODE: &[u8] = b"\xa2\x61e\x80\x61l\xf6";
 
 /// The DAG-CBOR bytes of the maps of "a" to 1, 2 and 3.
 pub(crate) const ONE: &[u8] = b"\xa1\x61a\x01";
+
 pub(crate) const TWO: &[u8] = b"\xa1\x61a\x02";
+
 pub(crate) const THREE: &[u8] = b"\xa1\x61a\x03";
 
 /// Records whose tree has five nodes under the digest `Toy`.
@@ -37,10 +39,16 @@ pub(crate) fn end<D: Digest, A: Allocator + Clone>(shard: &mut Shard<D, A>, core
 }
 
 /// Puts of these records.
-fn puts_of<A: Allocator + Copy>(alloc: A, records: &[Record]) -> Result<Vec<Write<A>, A>, AllocError> {
+fn puts_of<A: Allocator + Copy>(
+    alloc: A,
+    records: &[Record],
+) -> Result<Vec<Write<A>, A>, AllocError> {
     let mut puts = Vec::new(alloc);
     for (key, record) in records {
-        puts.push(Write::Put(Vec::from_slice(alloc, key)?, Vec::from_slice(alloc, record)?))?;
+        puts.push(Write::Put(
+            Vec::from_slice(alloc, key)?,
+            Vec::from_slice(alloc, record)?,
+        ))?;
     }
     Ok(puts)
 }
@@ -61,7 +69,9 @@ pub(crate) fn accepts<D: Digest, A: Allocator + Copy>(
     writes: &[Write<A>],
 ) -> bool {
     match stamp(alloc) {
-        Ok(stamp) => core.apply(alloc, &mut LentShard::new(shard), &stamp, writes).is_ok(),
+        Ok(stamp) => core
+            .apply(alloc, &mut LentShard::new(shard), &stamp, writes)
+            .is_ok(),
         Err(_) => false,
     }
 }

@@ -13,7 +13,11 @@ use store::Shard;
 type Heap<'h> = &'h Refusing<Global>;
 
 /// Why there was no CAR into this memory, or that it was right; `None` where what was taken is no beginning of the file.
-fn taken<'h>(heap: Heap<'h>, core: &Core<Toy, 2, Heap<'h>>, file: &[u8]) -> Option<Option<ExportFault>> {
+fn taken<'h>(
+    heap: Heap<'h>,
+    core: &Core<Toy, 2, Heap<'h>>,
+    file: &[u8],
+) -> Option<Option<ExportFault>> {
     let mut out = ToMemory::new(heap);
     match car(heap, core, &mut out) {
         Ok(868) if out.bytes() == file => Some(None),

@@ -2,7 +2,6 @@ use Rattle.std.proofs.Common.{◌+◌, length, option_map, sym, ap, ◌∙◌, a
 use Rattle.std.specs.declared.option.Option.TheVariants.{Some, None}
 use Rattle.std.specs.Arc.{arc_value}
 use Rattle.export.specs.Once.{capped}
-use Rattle.export.specs.Walks.{sections_left}
 use Rattle.export.proofs.Leaving.{leaves-same, leaves-none}
 use Rattle.export.proofs.Sectioned.{shorter, left-missing, left-end, by-same, ends-same, found-leaves, found-count, found-stops, count-end}
 use Rattle.export.proofs.blocks.write_blocks.Goals as goal

@@ -1,5 +1,4 @@
-use Rattle.std.proofs.Common.{length, option_map, sym, ap, ◌∙◌}
-use Rattle.std.specs.declared.option.Option.TheVariants.{Some}
+use Rattle.std.proofs.Common.{option_map, sym, ap}
 use Rattle.std.specs.Arc.{arc_value}
 use Rattle.export.proofs.Sectioned.{commit-some, commit-taken, commit-length, commit-seen}
 use Rattle.export.proofs.blocks.write_commit.Goals as goal

@@ -1,6 +1,5 @@
 use Rattle.std.proofs.Common.{◌≡◌, List, ℕ, length, subst}
 use Rattle.std.specs.Prelude.{IfOk}
-use Rattle.export.specs.Exports.{car_length}
 use Rattle.export.specs.Once.{capped}
 use Rattle.export.specs.Outs.{Takes}
 use Rattle.repo.specs.Readings.{bytes_lent}

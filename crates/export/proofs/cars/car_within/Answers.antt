@@ -1,4 +1,3 @@
-use Rattle.std.proofs.Common.{◌∙◌, sym}
 use Rattle.std.specs.Arc.{arc_value}
 use Rattle.export.proofs.Leaving.{takes-nothing}
 use Rattle.export.proofs.WholeFile.{stops-header, stops-commit, stops-blocks, file-taken, file-length}

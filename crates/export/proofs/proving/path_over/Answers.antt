@@ -1,7 +1,6 @@
-use Rattle.std.proofs.Common.{ap, ◌∙◌, option_map, Some}
-use Rattle.std.specs.Arc.{arc_value}
+use Rattle.std.proofs.Common.{◌∙◌}
 use Rattle.export.proofs.Paths.{path-is}
-use Rattle.std.proofs.lemmas.Result.{IfOk-equal, IfOk-weaker}
+use Rattle.std.proofs.lemmas.Result.{IfOk-weaker}
 use Rattle.export.proofs.proving.path_over.Goals as goal
 
 pub returns : goal.returns

@@ -1,7 +1,7 @@
 use Rattle.std.proofs.Common.{◌-◌, ◌∷◌, map, sym, ap, ◌∙◌}
 use Rattle.std.specs.declared.option.Option.TheVariants.{Some, None}
 use Rattle.std.specs.Arc.{arc_value}
-use Rattle.export.proofs.Paths.{ahead, ahead-zero, ahead-none, ahead-missing, ahead-other, ahead-node, given, ends, goes}
+use Rattle.export.proofs.Paths.{ahead, ahead-none, ahead-missing, ahead-other, ahead-node, given, ends, goes}
 use Rattle.export.proofs.proving.path_within.Goals as goal
 
 pub returns-in_default : goal.returns-in_default

@@ -1,6 +1,6 @@
-use Rattle.std.proofs.Common.{◌+◌, ◌%◌, ◌∙◌, ◌<◌, length, take, arith, slice_set}
+use Rattle.std.proofs.Common.{◌+◌, ◌%◌, ◌∙◌, ◌<◌, length, take, arith}
 use Rattle.std.proofs.lemmas.List.{take_more_set, length-set}
-use Rattle.export.proofs.Numbers.{spells-none, spells-more, spells-last}
+use Rattle.export.proofs.Numbers.{spells-more, spells-last}
 use Rattle.export.proofs.varint.varint.Goals as goal
 
 pub loop-left-preserved : goal.loop-left-preserved

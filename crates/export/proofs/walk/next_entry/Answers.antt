@@ -1,4 +1,4 @@
-use Rattle.std.proofs.Common.{◌≡◌, ◌++◌, ◌∷◌, [], ap, ◌∙◌, length, arith}
+use Rattle.std.proofs.Common.{◌∷◌, [], ap, ◌∙◌, length, arith}
 use Rattle.std.proofs.lemmas.List.{length-append}
 use Rattle.node.specs.Views.{row_of}
 use Rattle.export.proofs.Walked.{next-below, next-here}

@@ -1,5 +1,5 @@
-use Rattle.std.proofs.Common.{not, sym, ap, ◌∙◌}
-use Rattle.export.specs.Once.{has, HasMore}
+use Rattle.std.proofs.Common.{not, ap, ◌∙◌}
+use Rattle.export.specs.Once.{has}
 use Rattle.export.proofs.FirstOnes.{contains-is, has-more}
 use Rattle.export.proofs.seen.Seen.insert.Goals as goal
 

@@ -1,6 +1,6 @@
-use Rattle.std.proofs.Common.{◌≡◌, ◌<◌, ◌∷◌, [], Ok, sym, ap, ◌∙◌, length, arith}
+use Rattle.std.proofs.Common.{◌<◌, ◌∷◌, [], ap, ◌∙◌, length, arith}
 use Rattle.std.proofs.lemmas.List.{length-append}
-use Rattle.export.specs.Walks.{Walking, entered, turned}
+use Rattle.export.specs.Walks.{turned}
 use Rattle.export.proofs.Walked.{turned-push, turned-size}
 use Rattle.export.proofs.walk.Walk.enter.Goals as goal
 

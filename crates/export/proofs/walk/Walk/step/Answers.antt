@@ -2,7 +2,7 @@ use Rattle.std.proofs.Common.{◌≤◌, length, option_map, arith, sym, ap, ◌
 use Rattle.std.specs.declared.option.Option.TheVariants.{Some, None}
 use Rattle.std.specs.Arc.{arc_value}
 use Rattle.spec.specs.NodeFormat.{read_node}
-use Rattle.export.specs.Walks.{Walking, IsNext, entered}
+use Rattle.export.specs.Walks.{entered}
 use Rattle.export.proofs.Walked.{turned-size, goes-missing, goes-down, goes-on, goes-nowhere}
 use Rattle.export.proofs.walk.Walk.step.Goals as goal
 
