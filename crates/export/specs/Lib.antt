@@ -1,6 +1,8 @@
 pub mod Exports
 pub mod Faults
 pub mod GivenBlocks
+pub mod Logs
 pub mod Once
 pub mod Outs
+pub mod Shown
 pub mod Walks

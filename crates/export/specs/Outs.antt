@@ -1,5 +1,6 @@
 -- Outputs.
-use Rattle.std.specs.Prelude.{◌≡◌, ◌<◌, ◌++◌, ℕ, List, Result, Ok, Err, MatchResult}
+use Rattle.std.specs.Prelude.{◌≡◌, ◌<◌, ◌++◌, ℕ, List, Option, Result, Ok, Err, MatchResult, take}
+use Rattle.std.specs.Io.KnownBytes.{WriteAppends}
 use Rattle.export.specs.declared.export_fault.ExportFault.{ExportFault}
 use Rattle.export.specs.declared.export_fault.ExportFault.TheVariants as faults
 
@@ -13,6 +14,14 @@ pub record Writing (W : Type 0) : Type 0 where
 pub record Filling : Type 0 where
   pub taken : List ℕ
   pub failures : ℕ
+
+-- it took so many of these bytes, from the first on
+abbrev pub TakesFirst : List ℕ → List ℕ → List ℕ → ℕ → Type 0
+TakesFirst old new bytes count = new ≡ old ++ take count bytes
+
+-- a writer did, where it is known what it holds
+abbrev pub WriterTakes : {W E : Type 0} → (W → Option (List ℕ)) → Writing W → Writing W → Result ℕ E → List ℕ → Type 0
+WriterTakes contents old new result bytes = WriteAppends (contents old.writer) (contents new.writer) result bytes
 
 -- of these bytes an output took all but the rest
 pub record Leaves (old new all rest : List ℕ) : Type 0 where

@@ -2,6 +2,7 @@
 
 ghost use Rattle.std.specs.Prelude.{◌≡◌, ◌++◌, ℕ, List, [], suc};
 ghost use Rattle.std.specs.Borrow.{ftrue};
+ghost use Rattle.export.specs.Logs.{logged};
 
 use std::marker::Model;
 
@@ -27,7 +28,7 @@ impl Log {
 
     /// With these bytes after the others.
     pub fn with(&self, _bytes: &[u8]) -> Log
-        ensures { result ≡ record { taken = self.now.taken ++ _bytes.now; failures = self.now.failures } }
+        ensures { result ≡ logged (self.now.taken ++ _bytes.now) self.now.failures }
     {
         Log {}
     }

@@ -1,6 +1,7 @@
 //! Where an export goes.
 
-ghost use Rattle.std.specs.Prelude.{◌≡◌, ◌<◌, ◌≤◌, ◌++◌, ℕ, List, suc, length, take, IfOk, OnOk, OnErr};
+ghost use Rattle.std.specs.Prelude.{◌≡◌, ◌<◌, ◌≤◌, ℕ, List, suc, length, IfOk, OnOk, OnErr};
+ghost use Rattle.export.specs.Outs.{TakesFirst};
 
 /// A write that was refused: nothing of the bytes was taken.
 #[derive(Clone, Copy, Debug, PartialEq, Eq)]
@@ -21,7 +22,7 @@ pub trait Out {
     fn write(&mut self, bytes: &[u8]) -> Result<usize, Failed>
         ensures some { 0 < length bytes.now → IfOk result (λ count. 0 < count) }
         ensures within { IfOk result (λ count. count ≤ length bytes.now) }
-        ensures taken { IfOk result (λ count. taken self.new ≡ taken self.old ++ take count bytes.now) }
+        ensures taken { IfOk result (TakesFirst (taken self.old) (taken self.new) bytes.now) }
         ensures went { OnOk result (failures self.new ≡ failures self.old) }
         ensures refused { OnErr result (taken self.new ≡ taken self.old) }
         ensures failed { OnErr result (failures self.new ≡ suc (failures self.old)) };

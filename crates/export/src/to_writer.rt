@@ -1,7 +1,7 @@
 //! A writer of the standard library as an output.
 
 ghost use Rattle.std.specs.Prelude.{◌≡◌, ◌<◌, ◌≤◌, ◌++◌, [], suc, length, take, IfOk, OnOk, OnErr};
-ghost use Rattle.std.specs.Io.KnownBytes.{WriteAppends};
+ghost use Rattle.export.specs.Outs.{TakesFirst, WriterTakes};
 
 use crate::log::Log;
 use crate::out::{Failed, Out};
@@ -54,11 +54,11 @@ impl<W: Write> Out for ToWriter<W> {
     fn write(&mut self, bytes: &[u8]) -> Result<usize, Failed>
         ensures some { 0 < length bytes.now → IfOk result (λ count. 0 < count) }
         ensures within { IfOk result (λ count. count ≤ length bytes.now) }
-        ensures taken { IfOk result (λ count. self.new.taken ≡ self.old.taken ++ take count bytes.now) }
+        ensures taken { IfOk result (TakesFirst self.old.taken self.new.taken bytes.now) }
         ensures went { OnOk result (self.new.failures ≡ self.old.failures) }
         ensures refused { OnErr result (self.new.taken ≡ self.old.taken) }
         ensures failed { OnErr result (self.new.failures ≡ suc self.old.failures) }
-        ensures writer { WriteAppends (W.contents self.old.writer) (W.contents self.new.writer) result bytes.now }
+        ensures writer { WriterTakes (λ w. W.contents w) self.old self.new result bytes.now }
     {
         if bytes.is_empty() {
             return Ok(0);

@@ -9,8 +9,8 @@ mod chains;
 #[cfg(test)]
 mod fixtures;
 #[cfg(test)]
-mod memory;
+mod key_proofs;
 #[cfg(test)]
-mod paths;
+mod memory;
 #[cfg(test)]
 mod proofs;
