@@ -1,5 +1,7 @@
 //! Repositories of a few records, and an output that is told what to expect.
 
+ghost use Rattle.std.specs.Prelude.{◌≤◌};
+
 use batches::{Stamp, Write};
 use cid::Digest;
 use export::{Failed, Log, Out, ToMemory, car};
@@ -25,16 +27,22 @@ pub(crate) const THREE: &[u8] = b"\xa1\x61a\x03";
 pub(crate) const FIVE_NODES: &[Record] = &[(b"a/p0", ONE), (b"a/q2", TWO), (b"a/r0", THREE)];
 
 /// The core of a repository without records, the only one of its store.
-pub(crate) fn opened<R: Abort, D: Digest, A: Allocator + Copy>(
+pub(crate) fn opened<R: Abort, D: Digest, const B: u8, A: Allocator + Copy>(
     rt: &R,
     alloc: A,
     shard: &mut Shard<D, A>,
-) -> Core<D, 2, A> {
+) -> Core<D, B, A>
+    requires least { 1 ≤ B }
+    requires most { B ≤ 8 }
+{
     Core::open(alloc, &mut LentShard::new(shard), 0, 2000).expect(rt, "a core")
 }
 
 /// Gives the core's blocks back.
-pub(crate) fn end<D: Digest, A: Allocator + Clone>(shard: &mut Shard<D, A>, core: Core<D, 2, A>) {
+pub(crate) fn end<D: Digest, const B: u8, A: Allocator + Clone>(
+    shard: &mut Shard<D, A>,
+    core: Core<D, B, A>,
+) {
     core.end(&mut LentShard::new(shard));
 }
 
@@ -62,10 +70,10 @@ fn stamp<A: Allocator + Copy>(alloc: A) -> Result<Stamp<A>, AllocError> {
 }
 
 /// Whether a batch of these writes is accepted.
-pub(crate) fn accepts<D: Digest, A: Allocator + Copy>(
+pub(crate) fn accepts<D: Digest, const B: u8, A: Allocator + Copy>(
     alloc: A,
     shard: &mut Shard<D, A>,
-    core: &mut Core<D, 2, A>,
+    core: &mut Core<D, B, A>,
     writes: &[Write<A>],
 ) -> bool {
     match stamp(alloc) {
@@ -77,10 +85,10 @@ pub(crate) fn accepts<D: Digest, A: Allocator + Copy>(
 }
 
 /// Whether a batch of puts of these records is.
-pub(crate) fn takes<D: Digest, A: Allocator + Copy>(
+pub(crate) fn takes<D: Digest, const B: u8, A: Allocator + Copy>(
     alloc: A,
     shard: &mut Shard<D, A>,
-    core: &mut Core<D, 2, A>,
+    core: &mut Core<D, B, A>,
     records: &[Record],
 ) -> bool {
     match puts_of(alloc, records) {
@@ -90,11 +98,13 @@ pub(crate) fn takes<D: Digest, A: Allocator + Copy>(
 }
 
 /// The bytes of a core's CAR, where it is answered with their number.
-pub(crate) fn file_of<D: Digest, A: Allocator + Clone>(
+pub(crate) fn file_of<D: Digest, const B: u8, A: Allocator + Clone>(
     global: Global,
     alloc: A,
-    core: &Core<D, 2, A>,
-) -> Option<Vec<u8>> {
+    core: &Core<D, B, A>,
+) -> Option<Vec<u8>>
+    requires { 1 ≤ B }
+{
     let mut out = ToMemory::new(global);
     let length = car(alloc, core, &mut out).ok()?;
     let file = out.into_bytes();
@@ -135,15 +145,6 @@ impl<'a> Checked<'a> {
             None
         }
     }
-
-    /// Takes these bytes.
-    fn take(&mut self, bytes: &[u8]) {
-        self.in_all = self.in_all.saturating_sub(bytes.len());
-        match self.rest.strip_prefix(bytes) {
-            Some(rest) => self.rest = rest,
-            None => self.is_right = false,
-        }
-    }
 }
 
 impl<'a> Out for Checked<'a> {
@@ -158,7 +159,11 @@ impl<'a> Out for Checked<'a> {
             return Err(Failed);
         }
         let part = &bytes[..count];
-        self.take(part);
+        match self.rest.strip_prefix(part) {
+            Some(rest) => self.rest = rest,
+            None => self.is_right = false,
+        }
+        self.in_all -= count;
         self.log = self.log.with(part);
         Ok(count)
     }
