@@ -11,17 +11,20 @@ ghost use Rattle.kept.specs.Leaving.{AreNamed, AreGivenBack};
 use crate::kept_use::{End, Use};
 use cid::{Block, Cid, Digest};
 use std::alloc::{AllocFailed, Allocator};
-use std::collections::BTreeMap;
-use std::collections::btree_map::Iter;
+use std::collections::HashMap;
+use std::collections::hash_map::Iter;
+use std::hash::{BuildHasherDefault, FoldHasher};
 use std::marker::Model;
 use std::sync::Arc;
 use store::{BlockStore, Hold, SHARDS, Shard, StoreFault};
+
+type Blocks<D, A> = HashMap<Cid, Use<D, A>, BuildHasherDefault<FoldHasher>, A>;
 
 /// Each kept block under its CID, with its uses.
 ///
 /// A contract sees it as a finite map.
 pub(crate) struct UseMap<D: Digest, A: Allocator> {
-    blocks: BTreeMap<Cid, Use<D, A>, A>,
+    blocks: Blocks<D, A>,
 }
 
 impl<D: Digest, A: Allocator> Model for UseMap<D, A> {
@@ -36,13 +39,22 @@ impl<D: Digest, A: Allocator> Model for UseMap<D, A> {
     ghost view = { λ m. map.from_entries m.blocks.entries };
 }
 
+/// Takes an entry out, where there is one.
+fn take_one<D: Digest, A: Allocator>(blocks: &mut Blocks<D, A>) -> Option<(Cid, Use<D, A>)>
+    ensures taken { IfSome result (λ e. IsTaken blocks.old.entries e blocks.new.entries) }
+    ensures none { IfNone result (blocks.new.entries ≡ []) }
+{
+    let cid = *blocks.keys().next()?;
+    blocks.remove_entry(&cid)
+}
+
 impl<D: Digest, A: Allocator> UseMap<D, A> {
     /// No block so far. It takes no memory yet.
     pub(crate) fn new(alloc: A) -> UseMap<D, A>
         ensures { result ≡ map.empty }
     {
         UseMap {
-            blocks: BTreeMap::new(alloc),
+            blocks: HashMap::new(alloc),
         }
     }
 
@@ -113,7 +125,7 @@ impl<D: Digest, A: Allocator> UseMap<D, A> {
         ensures { S.fulls store.new ≡ S.fulls store.old }
     {
         let UseMap { mut blocks } = self;
-        while let Some((_, held)) = blocks.pop_first() {
+        while let Some((_, held)) = take_one(&mut blocks) {
             held.give_back(store);
         }
         blocks.destroy_empty();
@@ -125,7 +137,7 @@ impl<D: Digest, A: Allocator> UseMap<D, A> {
         ensures { AreGivenBack (at self) tables.old tables.new }
     {
         let UseMap { mut blocks } = self;
-        while let Some((_, held)) = blocks.pop_first() {
+        while let Some((_, held)) = take_one(&mut blocks) {
             held.give_back_in(tables);
         }
         blocks.destroy_empty();
