@@ -1,11 +1,11 @@
 //! The blocks that a core keeps, by their CIDs.
 
-ghost use Rattle.std.specs.Prelude.{◌≡◌, ◌<◌, option_map, IfOk, IfErr, OnOk, OnErr};
+ghost use Rattle.std.specs.Prelude.{◌≡◌, ◌<◌, option_map, [], IfSome, IfNone, IfOk, IfErr, OnOk, OnErr};
 ghost use Rattle.std.specs.Arc.{arc_value};
 ghost use Rattle.std.specs.FinMap as map;
 ghost use Rattle.store.specs.Faults.{IsRefusalOf};
 ghost use Rattle.store.specs.Stores.{IsStore, fulls_after};
-ghost use Rattle.kept.specs.Uses.{at, AreUses, lowered_in, settled, is_unnoted, IsChanged, IsRaisedIn, is_fresh};
+ghost use Rattle.kept.specs.Uses.{at, AreUses, lowered_in, settled, is_unnoted, IsChanged, IsRaisedIn, IsTaken, is_fresh};
 ghost use Rattle.kept.specs.Leaving.{AreNamed, AreGivenBack};
 
 use crate::kept_use::{End, Use};
