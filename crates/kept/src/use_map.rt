@@ -1,7 +1,10 @@
 //! The blocks that a core keeps, by their CIDs.
 
-ghost use Rattle.std.specs.Prelude.{◌≡◌, ◌<◌, option_map, [], IfSome, IfNone, IfOk, IfErr, OnOk, OnErr};
+ghost use Rattle.std.specs.Prelude.{◌≡◌, ◌<◌, nat_eq, option_map, [], IfSome, IfNone, IfOk, IfErr, OnOk, OnErr};
 ghost use Rattle.std.specs.Arc.{arc_value};
+ghost use Rattle.std.specs.Cmp.Lexicographic.{pointwise};
+ghost use Rattle.std.specs.List.{IsDistinct};
+ghost use Rattle.std.specs.Map.{keys_of};
 ghost use Rattle.std.specs.FinMap as map;
 ghost use Rattle.store.specs.Faults.{IsRefusalOf};
 ghost use Rattle.store.specs.Stores.{IsStore, fulls_after};
@@ -65,9 +68,10 @@ impl<D: Digest, A: Allocator> UseMap<D, A> {
         self.blocks.get(cid)
     }
 
-    /// Each block with its uses under its CID, in the order of the CIDs.
+    /// Each block with its uses under its CID, once.
     pub(crate) fn iter(&self) -> Iter<'_, Cid, Use<D, A>>
-        ensures { result ≡ map.entries self.now }
+        ensures entries { map.from_entries result ≡ self.now }
+        ensures distinct { IsDistinct (pointwise nat_eq) (keys_of result) }
     {
         self.blocks.iter()
     }
