@@ -115,37 +115,48 @@ fn uses(rt: HostRuntime) {
     kept.end(&mut LentShard::new(&mut shard));
 }
 
-/// Whether these are blocks whose CIDs ascend, so many of them.
-fn ascend(kept: &Kept<Toy>, wanted: u64) -> bool {
-    let mut before: Option<Cid> = None;
-    let mut count = 0u64;
+/// The CIDs of the kept blocks, in their order.
+fn cids_in(alloc: Global, kept: &Kept<Toy>) -> Result<Vec<Cid>, AllocError> {
+    let mut cids = Vec::new(alloc);
     for block in kept.blocks() {
-        if before >= Some(block.cid()) || kept.uses(&block.cid()) == 0 {
-            return false;
-        }
-        before = Some(block.cid());
-        count = count.saturating_add(1);
+        cids.push(block.cid())?;
     }
-    count == wanted
+    cids.sort()?;
+    Ok(cids)
 }
 
-/// Whether the blocks that are accepted are given in order, and those that are staged are not.
-fn are_in_order(alloc: Global, shard: &mut Shard<Toy>, kept: &mut Kept<Toy>) -> bool {
+/// Whether these are blocks with a use, no two alike, so many of them.
+fn are_each_once(alloc: Global, kept: &Kept<Toy>, wanted: usize) -> bool {
+    let Ok(cids) = cids_in(alloc, kept) else {
+        return false;
+    };
+    let mut before: Option<Cid> = None;
+    for cid in &cids {
+        if before >= Some(*cid) || kept.uses(cid) == 0 {
+            return false;
+        }
+        before = Some(*cid);
+    }
+    cids.len() == wanted
+}
+
+/// Whether the blocks that are accepted are given, each once, and those that are staged are not.
+fn are_given_once(alloc: Global, shard: &mut Shard<Toy>, kept: &mut Kept<Toy>) -> bool {
     done(alloc, shard, kept, Act::Add(TWO))
         && done(alloc, shard, kept, Act::Add(ONE))
-        && ascend(kept, 0)
+        && are_each_once(alloc, kept, 0)
         && done(alloc, shard, kept, Act::Accept)
         && done(alloc, shard, kept, Act::Add(EMPTY))
-        && ascend(kept, 2)
+        && are_each_once(alloc, kept, 2)
         && done(alloc, shard, kept, Act::Accept)
-        && ascend(kept, 3)
+        && are_each_once(alloc, kept, 3)
 }
 
 #[test]
-fn blocks_in_order(rt: HostRuntime) {
+fn blocks_each_once(rt: HostRuntime) {
     let mut shard = Shard::new(rt.alloc(), 3);
     let mut kept = Kept::open(rt.alloc(), 0).expect(&rt, "memory");
-    assert!(rt; are_in_order(rt.alloc(), &mut shard, &mut kept));
+    assert!(rt; are_given_once(rt.alloc(), &mut shard, &mut kept));
     kept.end(&mut LentShard::new(&mut shard));
     assert!(rt; shard.entries().count() == 0);
 }

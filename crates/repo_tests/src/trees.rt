@@ -44,7 +44,7 @@ fn cids_of<D: Digest, K>(
     Ok(cids)
 }
 
-/// The CIDs of a core's blocks, in the order in which it gives them.
+/// The CIDs of a core's blocks, in their order.
 fn cids_in<D: Digest, const B: u8, A: Allocator>(
     alloc: Global,
     core: &Core<D, B, A>,
@@ -53,6 +53,7 @@ fn cids_in<D: Digest, const B: u8, A: Allocator>(
     for block in core.blocks() {
         cids.push(block.cid())?;
     }
+    cids.sort()?;
     Ok(cids)
 }
 
