@@ -191,9 +191,13 @@ impl<D: Digest, const B: u8, A: Allocator> Drop for Closed<D, B, A> {
             cores,
             tables,
         } = self;
-        // so a proof knows that the tables fit in memory
-        let _ = element(&tables, 0);
-        end_all(cores, tables);
+        if cores.is_empty() {
+            cores.destroy_empty();
+        } else {
+            // where there is a core, its type fits in memory
+            let _ = element(&cores, 0);
+            end_all(cores, tables);
+        }
     }
 }
 
@@ -205,9 +209,13 @@ impl<D: Digest, const B: u8, A: Allocator> Drop for Uneven<D, B, A> {
             ended: _,
             mismatch: _,
         } = self;
-        // so a proof knows that the tables fit in memory
-        let _ = element(&tables, 0);
-        end_all(cores, tables);
+        if cores.is_empty() {
+            cores.destroy_empty();
+        } else {
+            // where there is a core, its type fits in memory
+            let _ = element(&cores, 0);
+            end_all(cores, tables);
+        }
     }
 }
 
