@@ -19,11 +19,15 @@ fn is_shown<'h>(closed: &Closed<Toy, 2, Heap<'h>>, number: usize) -> bool {
         return false;
     };
     let shown = closed.shown(number);
+    let mut blocks = 0u64;
+    for _ in shown.blocks {
+        blocks = blocks.saturating_add(1);
+    }
     shown.root == core.root()
         && shown.commit == core.commit()
         && shown.accepted.len() == 1
         && shown.stamps.len() == 1
-        && shown.blocks.count() == 3
+        && blocks == 3
 }
 
 /// Whether what takes no memory answers as ever, and the counts are refused.

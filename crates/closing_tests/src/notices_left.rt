@@ -52,7 +52,7 @@ fn tell_in_turn<'h, R: Wait>(
     ensures second { result.second.queue_id ≡ queue.now.queue_id }
     ensures feed { result.feed.queue_id ≡ queue.now.queue_id }
     ensures joined { result.feed.joined ≡ [] }
-    ensures made { result.feed.made ≡ feed.made }
+    ensures made { result.feed.made ≡ feed.entry.made }
 {
     let mut zero = Writer::new(queue, first);
     let mut one = Writer::new(queue, second);
