@@ -1,7 +1,6 @@
 pub mod Exports
 pub mod Faults
 pub mod GivenBlocks
-pub mod Logs
 pub mod Once
 pub mod Outs
 pub mod Shown

@@ -2,7 +2,6 @@
 
 ghost use Rattle.std.specs.Prelude.{◌≡◌, ◌++◌, ℕ, List, [], suc};
 ghost use Rattle.std.specs.Borrow.{ftrue};
-ghost use Rattle.export.specs.Logs.{logged};
 
 use std::marker::Model;
 
@@ -28,7 +27,7 @@ impl Log {
 
     /// With these bytes after the others.
     pub fn with(&self, _bytes: &[u8]) -> Log
-        ensures { result ≡ logged (self.now.taken ++ _bytes.now) self.now.failures }
+        ensures { result ≡ record { taken = self.now.taken ++ _bytes.now; failures = self.now.failures } }
     {
         Log {}
     }
