@@ -21,7 +21,7 @@ const EMPTY: &[u8] = b"\x3a\xa2\x65roots\x81\xd8\x2a\x58\x25\x00\
 #[test]
 fn the_repository_without_records(rt: HostRuntime) {
     let mut shard = Shard::<Sha256>::new(rt.alloc(), 9);
-    let core = opened(&rt, rt.alloc(), &mut shard);
+    let core = opened::<_, _, 2, _>(&rt, rt.alloc(), &mut shard);
     let file = file_of(rt.alloc(), rt.alloc(), &core);
     end(&mut shard, core);
     assert!(rt; EMPTY.len() == 103 && file.is_some_and(|file| file.as_slice() == EMPTY));

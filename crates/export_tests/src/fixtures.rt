@@ -16,11 +16,13 @@ pub(crate) type Record = (&'static [u8], &'static [u8]);
 /// The DAG-CBOR bytes of the node without entries and without a left link.
 pub(crate) const EMPTY_NODE: &[u8] = b"\xa2\x61e\x80\x61l\xf6";
 
-/// The DAG-CBOR bytes of the maps of "a" to 1, 2 and 3.
+/// The DAG-CBOR bytes of the map of "a" to 1.
 pub(crate) const ONE: &[u8] = b"\xa1\x61a\x01";
 
+/// The DAG-CBOR bytes of the map of "a" to 2.
 pub(crate) const TWO: &[u8] = b"\xa1\x61a\x02";
 
+/// The DAG-CBOR bytes of the map of "a" to 3.
 pub(crate) const THREE: &[u8] = b"\xa1\x61a\x03";
 
 /// Records whose tree has five nodes under the digest `Toy`.

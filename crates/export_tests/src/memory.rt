@@ -26,48 +26,39 @@ fn taken<'h>(
     }
 }
 
-/// How often a CAR ended with each fault where each of its requests was refused in turn, before it came to its end. Each time
+/// Whether a CAR ended with both faults where each of its requests was refused in turn, before it came to its end. Each time
 /// all memory was given back.
-fn refusals<'h>(heap: Heap<'h>, core: &Core<Toy, 2, Heap<'h>>, file: &[u8]) -> Option<[u32; 2]> {
+fn is_taken_at_last<'h>(heap: Heap<'h>, core: &Core<Toy, 2, Heap<'h>>, file: &[u8]) -> bool {
     let live = heap.live();
-    let mut counts = [0u32; 2];
+    let mut had_faults = false;
+    let mut had_refusals = false;
     for request in 1..200u64 {
         heap.refuse(request);
-        let answer = taken(heap, core, file)?;
+        let answer = taken(heap, core, file);
         heap.refuse(0);
         if heap.live() != live {
-            return None;
+            return false;
         }
         match answer {
-            None => return Some(counts),
-            Some(ExportFault::DeviceFault) => counts[0] = counts[0].saturating_add(1),
-            Some(ExportFault::NoMemory) => counts[1] = counts[1].saturating_add(1),
+            Some(None) => return had_faults && had_refusals,
+            Some(Some(ExportFault::DeviceFault)) => had_faults = true,
+            Some(Some(ExportFault::NoMemory)) => had_refusals = true,
+            None => return false,
         }
     }
-    None
-}
-
-/// Whether a CAR of five nodes fails for want of memory in both ways, and comes to its end.
-fn is_taken_at_last<'h>(alloc: Global, heap: Heap<'h>, core: &Core<Toy, 2, Heap<'h>>) -> bool {
-    match file_of(alloc, heap, core) {
-        Some(file) => match refusals(heap, core, &file) {
-            Some([faults, refused]) => faults > 0 && refused > 0,
-            None => false,
-        },
-        None => false,
-    }
+    false
 }
 
 /// Whether the proof of the top's key shows it, with all memory refused; `None` where there was none for the proof.
 fn shows<'h>(heap: Heap<'h>, core: &Core<Toy, 2, Heap<'h>>, value: Cid) -> Option<bool> {
-    let proof = prove(heap, core, b"a/q2").ok()?;
-    heap.refuse_from(1);
+    let mut proof = Vec::new(heap);
+    for node in &prove(heap, core, b"a/q2").ok()? {
+        proof.push(Vec::from_slice(heap, node.bytes()).ok()?).ok()?;
+    }
     let refused = heap.refused();
-    let [top] = proof.as_slice() else {
-        return Some(false);
-    };
-    let shown = verify::<Toy, 2, &[u8]>(&core.root(), &[top.bytes()], b"a/q2");
-    Some(shown == Ok(Some(value)) && heap.refused() == refused)
+    heap.refuse_from(1);
+    let shown = verify::<Toy, 2, Vec<u8, Heap<'h>>>(&core.root(), &proof, b"a/q2");
+    Some(proof.len() == 1 && shown == Ok(Some(value)) && heap.refused() == refused)
 }
 
 /// Whether there is a proof at last, after each of its requests was refused in turn.
@@ -93,7 +84,8 @@ fn each_request_refused(rt: HostRuntime) {
     let mut shard = Shard::new(&heap, 20);
     let mut core = opened(&rt, &heap, &mut shard);
     let filled = takes(&heap, &mut shard, &mut core, FIVE_NODES);
-    assert!(rt; filled && is_taken_at_last(rt.alloc(), &heap, &core));
+    let file = file_of(rt.alloc(), &heap, &core).expect(&rt, "the file");
+    assert!(rt; filled && is_taken_at_last(&heap, &core, &file));
     assert!(rt; is_shown_at_last(&heap, &core, Cid::of::<Toy>(FIVE_NODES[1].1)));
     end(&mut shard, core);
     drop(shard);
