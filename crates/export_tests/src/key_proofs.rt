@@ -54,12 +54,13 @@ fn no_record_and_one(rt: HostRuntime) {
 }
 
 /// The key of a number, with this behind it, and the record of that number.
-fn pair_of(alloc: Global, number: u16, behind: &str) -> Option<(Vec<u8>, [u8; 6])> {
+fn pair_of(alloc: Global, number: u16, behind: &str) -> Option<(Vec<u8>, Vec<u8>)> {
     let key = format!(in alloc; "k/{number:03}{behind}")
         .ok()?
         .into_bytes();
     let [high, low] = number.to_be_bytes();
-    Some((key, [0xa1, 0x61, b'n', 0x42, high, low]))
+    let record = Vec::from_slice(alloc, &[0xa1, 0x61, b'n', 0x42, high, low]).ok()?;
+    Some((key, record))
 }
 
 /// The puts of the first so many numbers.
@@ -67,9 +68,7 @@ fn puts(alloc: Global, count: u16) -> Option<Vec<Write>> {
     let mut writes = Vec::new(alloc);
     for number in 0..count {
         let (key, record) = pair_of(alloc, number, "")?;
-        writes
-            .push(Write::Put(key, Vec::from_slice(alloc, &record).ok()?))
-            .ok()?;
+        writes.push(Write::Put(key, record)).ok()?;
     }
     Some(writes)
 }
