@@ -45,7 +45,8 @@ impl<D: Digest, A: Allocator> Model for UseMap<D, A> {
 /// Takes an entry out, where there is one.
 fn take_one<D: Digest, A: Allocator>(blocks: &mut Blocks<D, A>) -> Option<(Cid, Use<D, A>)>
     ensures taken { IfSome result (λ e. IsTaken blocks.old.entries e blocks.new.entries) }
-    ensures none { IfNone result (blocks.new.entries ≡ []) }
+    ensures none { IfNone result (blocks.old.entries ≡ []) }
+    ensures empty { IfNone result (blocks.new.entries ≡ []) }
 {
     let cid = *blocks.keys().next()?;
     blocks.remove_entry(&cid)
