@@ -44,15 +44,15 @@ returns-clause-lowered g c =
 
 pub returns-in_default-clause-fresh : goal.returns-in_default-clause-fresh
 returns-in_default-clause-fresh g c =
-    let none : None ≡ listed_at c.self.inside.blocks.entries c.args.cid.now = c.in_default.ensures.value in
+    let none : None ≡ listed_at c.self.inside.blocks.entries c.args.cid.now = c.in_default.ensures.value ∙ seen_at c.self.inside.blocks.entries c.args.cid.now in
     ap is_unnoted none ∙ ap is_unnoted (shown_at c.self.inside.blocks.entries c.args.self.now c.self.view_is c.args.cid.now)
 
 pub returns-then-lower-clause-fresh : goal.returns-then-lower-clause-fresh
 returns-then-lower-clause-fresh g c =
-    let here : Some c.in-Some.held.now ≡ listed_at c.self.inside.blocks.entries c.args.cid.now = c.in-Some.ensures.value in
+    let here : Some c.in-Some.held.now ≡ listed_at c.self.inside.blocks.entries c.args.cid.now = c.in-Some.ensures.value ∙ seen_at c.self.inside.blocks.entries c.args.cid.now in
     ap is_unnoted here ∙ ap is_unnoted (shown_at c.self.inside.blocks.entries c.args.self.now c.self.view_is c.args.cid.now)
 
 pub returns-clause-fresh : goal.returns-clause-fresh
 returns-clause-fresh g c =
-    let here : Some c.in-Some.held.now ≡ listed_at c.self.inside.blocks.entries c.args.cid.now = c.in-Some.ensures.value in
+    let here : Some c.in-Some.held.now ≡ listed_at c.self.inside.blocks.entries c.args.cid.now = c.in-Some.ensures.value ∙ seen_at c.self.inside.blocks.entries c.args.cid.now in
     ap is_unnoted here ∙ ap is_unnoted (shown_at c.self.inside.blocks.entries c.args.self.now c.self.view_is c.args.cid.now)
