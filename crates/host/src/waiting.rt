@@ -5,6 +5,7 @@
 //! over one that isn't the wanted one.
 
 ghost use Rattle.std.specs.Prelude.{◌≡◌, ◌<◌, IfOk, IfErr, option_map};
+ghost use Rattle.boxcar.specs.Table.{Shows};
 ghost use Rattle.batches.specs.Values.{stamp_of, writes_of};
 ghost use Rattle.edit.specs.Walks.{pairs_given};
 ghost use Rattle.host.specs.Seeing.{IsAcceptance, IsRefusalAfter, IsFound, IsListed};
@@ -12,7 +13,7 @@ ghost use Rattle.host.specs.Versions.{IsVersion, IsOfState};
 
 use crate::host::Host;
 use crate::locked::{Wanted, apply_at, pairs_in, record_in};
-use crate::version::{Version, version_in};
+use crate::version::{Receipt, Version, version_in};
 use batches::{RepoFault, Stamp, Write};
 use cid::{Cid, Digest};
 use repo::Applied;
@@ -124,5 +125,19 @@ impl<D: Digest, const B: u8> Host<D, B> {
             }
         }
         unreachable!()
+    }
+
+    /// Publishes a version. It comes back where memory was refused.
+    pub(crate) fn publish<R: Wait>(
+        &self,
+        rt: &R,
+        version: Version,
+    ) -> Result<Receipt<D, B>, Version>
+        requires { IsVersion D.digest_of B version }
+        ensures shown { IfOk result (Shows self.now.shelf) }
+        ensures value { IfOk result (λ receipt. receipt.value ≡ version) }
+        ensures back { IfErr result (λ back. back ≡ version) }
+    {
+        self.shelf.publish(rt, version)
     }
 }

@@ -193,7 +193,7 @@ impl<'a, D: Digest, const B: u8> Writer<'a, D, B> {
             return Err(HostFault::NoMemory);
         };
         let number = version.number;
-        match self.host.shelf.publish(rt, version) {
+        match self.host.publish(rt, version) {
             Ok(receipt) => {
                 self.seen[repo] = number;
                 Ok(receipt)
