@@ -59,12 +59,12 @@ static RECORDS: [&[u8]; 7] = [
 ];
 
 /// Keys in their order, each with the CID of its record.
-type Pairs = Vec<(&'static [u8], Cid)>;
+type Pairs = Vec<(Vec<u8>, Cid)>;
 
 /// The place of a key among the pairs, and whether it is there.
 fn place_of(pairs: &Pairs, key: &[u8]) -> (usize, bool) {
     for (place, (other, _)) in pairs.iter().enumerate() {
-        match other.cmp(&key) {
+        match other.as_slice().cmp(key) {
             Ordering::Less => {}
             Ordering::Equal => return (place, true),
             Ordering::Greater => return (place, false),
@@ -88,6 +88,7 @@ fn random_step(numbers: &mut Numbers, pairs: &Pairs) -> Step<'static> {
 
 /// Does a write to the pairs, or tells why it is refused.
 fn write_pairs<D: Digest>(
+    alloc: Global,
     pairs: &mut Pairs,
     step: Step<'static>,
 ) -> Result<Option<Why>, AllocError> {
@@ -104,6 +105,7 @@ fn write_pairs<D: Digest>(
     if let Put(_, record) | Create(_, record) | Update(_, record) = step
         && place <= pairs.len()
     {
+        let key = Vec::from_slice(alloc, key)?;
         pairs.insert(place, (key, Cid::of::<D>(record)))?;
     }
     Ok(None)
@@ -132,7 +134,7 @@ fn draw<D: Digest>(
         let step = random_step(numbers, &after);
         steps.push(step)?;
         if let Accepted(count) = ended {
-            ended = match write_pairs::<D>(&mut after, step)? {
+            ended = match write_pairs::<D>(alloc, &mut after, step)? {
                 Some(why) => Refused(place, why),
                 None => Accepted(count.saturating_add(1)),
             };

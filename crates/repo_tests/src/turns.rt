@@ -115,11 +115,11 @@ fn end_at_last<'h, D: Digest>(
 /// The pairs of these keys and records.
 fn pairs_of<D: Digest>(
     alloc: Global,
-    records: &[(&'static [u8], &'static [u8])],
-) -> Result<Vec<(&'static [u8], Cid)>, AllocError> {
+    records: &[(&[u8], &[u8])],
+) -> Result<Vec<(Vec<u8>, Cid)>, AllocError> {
     let mut pairs = Vec::new(alloc);
     for (key, record) in records {
-        pairs.push((*key, Cid::of::<D>(record)))?;
+        pairs.push((Vec::from_slice(alloc, key)?, Cid::of::<D>(record)))?;
     }
     Ok(pairs)
 }
