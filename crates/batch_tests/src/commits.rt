@@ -1,12 +1,12 @@
 //! Unsigned commits.
 
-use repo_fixtures::batch::Step::{Delete, Put};
-use repo_fixtures::batch::{Batch, EMPTY, EMPTY_NODE, batch_at, stamp_of, stamped};
-use repo_fixtures::cores::{counts, end, held};
 use crate::opened::opened;
 use batches::commit_bytes;
 use cid::{Cid, Sha256};
 use repo::{Applied, Core};
+use repo_fixtures::batch::Step::{Delete, Put};
+use repo_fixtures::batch::{Batch, EMPTY, EMPTY_NODE, batch_at, stamp_of, stamped};
+use repo_fixtures::cores::{counts, end, held};
 use std::alloc::{AllocError, Global};
 use store::{LentShard, Shard};
 

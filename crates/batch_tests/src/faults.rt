@@ -4,20 +4,25 @@ ghost use Rattle.std.specs.Prelude.{◌≤◌};
 
 use crate::opened::opened;
 use crate::texts::NO_KEYS;
+use cid::digests::Toy;
+use dagcbor::CborFault;
+use repo::Core;
 use repo_fixtures::batch::Step::{Create, Delete, Put, Update};
 use repo_fixtures::batch::{DID, EMPTY, ONE, Step, stamped};
 use repo_fixtures::cores::{apply_made, apply_steps, end, held};
 use repo_fixtures::ends::Ended::{Accepted, Refused};
 use repo_fixtures::ends::{Ended, Why};
-use cid::digests::Toy;
-use dagcbor::CborFault;
-use repo::Core;
 use std::alloc::Global;
 use std::process::Abort;
 use store::Shard;
 
 /// A stamp's DID and revision, writes, and how their batch ends.
-type Row = (&'static [u8], &'static [u8], &'static [Step<'static>], Ended);
+type Row = (
+    &'static [u8],
+    &'static [u8],
+    &'static [Step<'static>],
+    Ended,
+);
 
 /// No key, and a record that is none.
 const BAD: &[Step<'static>] = &[Put(b"a", b"")];

@@ -2,11 +2,11 @@
 
 ghost use Rattle.std.specs.Prelude.{◌≤◌};
 
-use repo_fixtures::batch::{EMPTY, ONE, TWO};
 use cid::digests::{Size, Toy};
 use cid::{Block, Cid, Digest};
 use edit::Source;
 use kept::Kept;
+use repo_fixtures::batch::{EMPTY, ONE, TWO};
 use std::alloc::{AllocError, Global};
 use std::process::Abort;
 use std::sync::Arc;
@@ -44,10 +44,7 @@ fn end_of<D: Digest>(answer: Result<(), StoreFault<D>>) -> End {
         Ok(()) => End::Done,
         Err(StoreFault::Full) => End::Full,
         Err(StoreFault::Collision(pair))
-            if pair.one().bytes() == TWO && pair.other().bytes() == ONE =>
-        {
-            End::Clash
-        }
+            if pair.one().bytes() == TWO && pair.other().bytes() == ONE => { End::Clash }
         Err(_) => End::Other,
     }
 }

@@ -1,14 +1,13 @@
 //! Long DIDs and records.
 
 use crate::opened::opened;
-use repo_fixtures::batch::{DID, EMPTY, Step, stamped};
-use repo_fixtures::cores::{apply_made, end};
-use repo_fixtures::ends::Ended;
-use repo_fixtures::ends::Ended::{Accepted, Refused};
-use repo_fixtures::ends::Why;
 use cid::digests::Toy;
 use dagcbor::CborFault;
 use repo::Core;
+use repo_fixtures::batch::{DID, EMPTY, Step, stamped};
+use repo_fixtures::cores::{apply_made, end};
+use repo_fixtures::ends::Ended::{Accepted, Refused};
+use repo_fixtures::ends::{Ended, Why};
 use std::alloc::{AllocError, Global};
 use store::Shard;
 

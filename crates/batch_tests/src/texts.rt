@@ -106,6 +106,9 @@ fn texts(rt: HostRuntime) {
     }
     for (parts, length, wanted) in &LONG_TEXTS {
         let bytes = joined(rt.alloc(), parts).expect(&rt, "a text");
-        assert!(rt; bytes.len() == *length && passes(&bytes) == *wanted, "{length}");
+        assert!(rt;
+            bytes.len() == *length && passes(&bytes) == *wanted,
+            "{length}"
+        );
     }
 }
