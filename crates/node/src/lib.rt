@@ -1,4 +1,17 @@
 //! Nodes of a tree as blocks of bytes (AT Protocol repository v3, MST node data format).
+//!
+//! A node has a link to its left subtree, and entries: a key, the CID of its record, and a link to the subtree after it.
+//! In its bytes a key is spelt without what it has in common with the key before.
+//!
+//! - [`NodeView::parse`] takes exactly the bytes of nodes and lends their parts, without memory and without a copy. It
+//!   names the first fault, [`NodeFault`].
+//! - `entries` goes through the entries one by one, each an [`EntryView`]; [`KeyBuf`] puts whole keys together on the
+//!   way.
+//! - `find` says where a key stands, [`Place`]: in this node with its value, or below a link, or nowhere.
+//! - [`NodeWriter`] writes a node entry by entry, in the order of the keys, or copies runs of entries from a view.
+//!
+//! Which nodes make a tree is for the crates above: `scratch` builds whole trees, `edit` changes one path. README.md has
+//! an example that reads the top of a tree.
 #![tactic(auto)]
 
 mod common;

@@ -43,7 +43,9 @@ impl<'a> Model for NodeView<'a> {
     ghost Value = { Contents };
 
     ghost view = { λ v. record {
-        left = option_map bytes_of v.left; entries = entries_shown v.count v.first.now } };
+      left = option_map bytes_of v.left;
+      entries = entries_shown v.count v.first.now;
+    } };
 
     ghost invariant = { λ v. IsRead (option_map bytes_of v.left) v.count v.first.now };
 }

@@ -76,8 +76,11 @@ impl<A: Allocator + Clone> NodeWriter<A> {
     ) -> Result<(), AllocError>
         requires { is_next_key self.old.entries key.now ≡ true }
         ensures ok { OnOk result (self.new
-            ≡ record { left = self.old.left; entries = self.old.entries
-            ++ record { key = key.now; value = bytes_of value.entry; tree = tree } ∷ [] }) }
+            ≡ record {
+              left = self.old.left;
+              entries = self.old.entries
+                  ++ record { key = key.now; value = bytes_of value.entry; tree = tree } ∷ [];
+            }) }
         ensures unchanged { OnErr result (self.new ≡ self.old) }
     {
         let prefix = common_len(self.last.key(), key);
@@ -105,8 +108,11 @@ impl<A: Allocator + Clone> NodeWriter<A> {
         requires within { to ≤ length node.now.entries }
         requires follows { last_key [] self.old.entries ≡ last_key [] (take from node.now.entries) }
         ensures ok { OnOk result (self.new
-            ≡ record { left = self.old.left; entries = self.old.entries
-            ++ take (to - from) (drop from node.now.entries) }) }
+            ≡ record {
+              left = self.old.left;
+              entries = self.old.entries
+                  ++ take (to - from) (drop from node.now.entries);
+            }) }
         ensures unchanged { OnErr result (self.new ≡ self.old) }
     {
         let start = node.bytes_from(from);

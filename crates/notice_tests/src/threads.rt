@@ -154,7 +154,8 @@ fn run<R: Threads + Wait + Sync>(
         rt,
         move ||
             requires { All (λ p. (p.queue_id ≡ queue.now.queue_id) × (p.sent ≡ [])) passes.items }
-            ensures { IfOk result (λ v. All (λ e. e.pass.queue_id ≡ queue.entry.now.queue_id) v.items) }
+            ensures { IfOk result (λ v. All
+                (λ e. e.pass.queue_id ≡ queue.entry.now.queue_id) v.items) }
         { write_all(rt, alloc, queue, passes, count, patience, done) },
         move ||
             requires { feed.queue_id ≡ queue.now.queue_id }

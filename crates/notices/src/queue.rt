@@ -28,7 +28,9 @@ impl<A: Allocator> Model for Queue<A> {
     ghost Value = { QueueView };
 
     ghost view = { λ q. record {
-        queue_id = q.ring.table.shared.table_id; room = ruled_capacity q.ring } };
+      queue_id = q.ring.table.shared.table_id;
+      room = ruled_capacity q.ring;
+    } };
 }
 
 impl<A: Allocator + Clone> Queue<A> {

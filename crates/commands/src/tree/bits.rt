@@ -52,11 +52,12 @@ pub(crate) fn tree_text_with<D: Digest, A: Allocator + Clone, R: Read, W: Write>
     ensures text { OnOk result (IfSome (R.remaining input.old) (λ xs.
         AppendsText (W.contents out.old) (W.contents out.new) (tree_text_of D.digest_of bits.number xs))) }
     ensures read { OnOk result (IsAtEnd (R.remaining input.new)) }
-    ensures judged { IfErr result (λ e. is_some (fault_of e) ≡ true → IsAtEnd (R.remaining input.new)) }
+    ensures judged { IfErr result (λ e. is_some (fault_of e) ≡ true
+        → IsAtEnd (R.remaining input.new)) }
     ensures fault { IfErr result (λ e. IfSome (R.remaining input.old) (λ xs.
         Fails (fault_of e) (tree_text_of D.digest_of bits.number xs))) }
-    ensures write_failed { result ≡ Err TreeFault.WriteFailed → IfSome (R.remaining input.old) (λ xs.
-        is_ok (tree_text_of D.digest_of bits.number xs) ≡ true) }
+    ensures write_failed { result ≡ Err TreeFault.WriteFailed
+        → IfSome (R.remaining input.old) (λ xs. is_ok (tree_text_of D.digest_of bits.number xs) ≡ true) }
     ensures nothing { IfErr result (λ e. may_have_written e ≡ false →
         Keeps (W.contents out.old) (W.contents out.new)) }
     ensures beginning { OnErr result (IfSome (R.remaining input.old) (λ xs.

@@ -16,7 +16,8 @@ pub(crate) fn pairs_of_input<A: Allocator + Clone>(
     alloc: A,
     input: &[u8],
 ) -> Result<Vec<(Vec<u8, A>, Cid), A>, TreeFault>
-    ensures pairs { Gives (λ pairs. pairs_of pairs.items) fault_of result (pairs_of_lines 1 (lines input.now)) }
+    ensures pairs { Gives (λ pairs. pairs_of pairs.items) fault_of result
+        (pairs_of_lines 1 (lines input.now)) }
     ensures kind { IfErr result (λ e. is_of_input e ≡ true) }
 {
     let mut pairs = Vec::new(alloc.clone()?);
@@ -40,7 +41,8 @@ fn push_pair<A: Allocator>(
     alloc: A,
     pair: (&[u8], Cid),
 ) -> Result<(), AllocError>
-    ensures { OnOk result (pairs_of pairs.new.items ≡ pairs_of pairs.old.items ++ (pair.entry.0.now, pair.entry.1) ∷ []) }
+    ensures { OnOk result (pairs_of pairs.new.items ≡ pairs_of pairs.old.items
+        ++ (pair.entry.0.now, pair.entry.1) ∷ []) }
 {
     let key = Vec::from_slice(alloc, pair.0)?;
     pairs.push((key, pair.1))?;

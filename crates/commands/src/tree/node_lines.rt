@@ -45,7 +45,8 @@ fn write_block<D: Digest, A: Allocator, W: Write>(
     out: &mut W,
     block: &Block<D, A>,
 ) -> Result<(), WriteFault>
-    ensures { Writes (W.contents out.old) (W.contents out.new) result (block_line D.digest_of block.now) }
+    ensures { Writes (W.contents out.old) (W.contents out.new) result
+        (block_line D.digest_of block.now) }
 {
     write_whole(out, &block.cid().text())?;
     write_whole(out, b" ")?;

@@ -22,7 +22,8 @@ pub(crate) fn run<D: Digest, R: Read, W: Write, X: Write>(
     err: &mut X,
 ) -> u8
     ensures status { result ≤ 4 }
-    ensures nothing { (result ≡ 1) ⊎ (result ≡ 2) → Keeps (W.contents out.old) (W.contents out.new) }
+    ensures nothing { (result ≡ 1) ⊎ (result ≡ 2)
+        → Keeps (W.contents out.old) (W.contents out.new) }
 {
     match write_listing::<D, R, W>(bits, alloc, input, out) {
         Ok(()) => DONE,

@@ -40,15 +40,16 @@ pub fn tree_text<D: Digest, const B: u8, A: Allocator + Clone, R: Read, W: Write
     ensures text { OnOk result (IfSome (R.remaining input.old) (λ xs.
         AppendsText (W.contents out.old) (W.contents out.new) (tree_text_of D.digest_of B xs))) }
     ensures read { OnOk result (IsAtEnd (R.remaining input.new)) }
-    ensures judged { IfErr result (λ e. is_some (fault_of e) ≡ true → IsAtEnd (R.remaining input.new)) }
+    ensures judged { IfErr result (λ e. is_some (fault_of e) ≡ true
+        → IsAtEnd (R.remaining input.new)) }
 
     // A fault of the input is the one that its text has.
     ensures fault { IfErr result (λ e. IfSome (R.remaining input.old) (λ xs.
         Fails (fault_of e) (tree_text_of D.digest_of B xs))) }
 
     // A write fails only where there is a text.
-    ensures write_failed { result ≡ Err TreeFault.WriteFailed → IfSome (R.remaining input.old) (λ xs.
-        is_ok (tree_text_of D.digest_of B xs) ≡ true) }
+    ensures write_failed { result ≡ Err TreeFault.WriteFailed
+        → IfSome (R.remaining input.old) (λ xs. is_ok (tree_text_of D.digest_of B xs) ≡ true) }
 
     // How much of the text was written.
     ensures nothing { IfErr result (λ e. may_have_written e ≡ false →
