@@ -1,3 +1,12 @@
+pub mod Exported
 pub mod Finding
+pub mod FirstOnes
+pub mod Leaving
+pub mod Numbers
 pub mod OneNode
+pub mod Paths
+pub mod Sectioned
 pub mod Shown
+pub mod Spelled
+pub mod Walked
+pub mod WholeFile

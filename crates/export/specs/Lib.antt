@@ -1,2 +1,7 @@
+pub mod Exports
 pub mod Faults
 pub mod GivenBlocks
+pub mod Once
+pub mod Outs
+pub mod Shown
+pub mod Walks

@@ -1,17 +1,46 @@
-//! Proofs about single keys of a repository.
+//! Exports of a repository, and proofs about its single keys.
 //!
-//! A proof that a tree has a value under a key, or none, is the list of the nodes on the key's path. [`verify`] tells
-//! what such blocks prove to someone who knows the tree's root alone: nothing of the host that gave them is trusted.
+//! [`car`] writes a repository as one file (CARv1) to whatever is an [`Out`]: [`ToMemory`], or [`ToWriter`] over a writer of
+//! the standard library.
+//!
+//! A proof that a tree has a value under a key, or none, is the list of the nodes on the key's path. [`prove`] makes it, and
+//! [`verify`] tells what such blocks prove to someone who knows the tree's root alone: nothing of the host that gave them is
+//! trusted.
 //!
 //! ```text
+//! let mut out = ToMemory::new(alloc);
+//! let length: u64 = car(alloc, &core, &mut out)?;
+//!
+//! let proof = prove(alloc, &core, b"app.bsky.feed.post/3k")?;
 //! let value: Option<Cid> = verify::<Sha256, 2, _>(&root, &blocks, b"app.bsky.feed.post/3k")?;
 //! ```
 #![tactic(auto)]
 
+mod blocks;
+mod cars;
+mod export_fault;
 mod given;
 mod hashed;
+mod log;
+mod once;
+mod out;
 mod proof_fault;
+mod proving;
+mod sections;
+mod seen;
+mod to_memory;
+mod to_writer;
+mod varint;
 mod verifying;
+mod walk;
+mod whole;
 
+pub use cars::car;
+pub use export_fault::ExportFault;
+pub use log::Log;
+pub use out::{Failed, Out};
 pub use proof_fault::ProofFault;
+pub use proving::prove;
+pub use to_memory::ToMemory;
+pub use to_writer::ToWriter;
 pub use verifying::verify;

@@ -1,14 +1,12 @@
 //! What a proof shows.
 
-ghost use Rattle.std.specs.Prelude.{◌≡◌, ◌≤◌, ℕ, List, Option, Some, Ok, true, map, IfOk, Contains};
-ghost use Rattle.spec.specs.Tree.{Pair};
-ghost use Rattle.spec.specs.NodeFormat.{is_key as is_key_of};
-ghost use Rattle.spec.specs.Blocks.{ArePairs, ClashesWithNone, value_of, nodes, root as root_of};
-ghost use Rattle.spec.specs.Proof.{path, verified, verified_within};
+ghost use Rattle.std.specs.Prelude.{◌≤◌, map};
+ghost use Rattle.spec.specs.Proof.{verified_within};
 ghost use Rattle.spec.specs.Reading.{Gives};
 ghost use Rattle.node.specs.Views.{place_of};
 ghost use Rattle.export.specs.Faults.{fault_of};
 ghost use Rattle.export.specs.GivenBlocks.{AreHashed, place_below};
+ghost use Rattle.export.specs.Shown.{IsAnswer, IsRight, IsWhole};
 
 use crate::given::find;
 use crate::hashed::Hashed;
@@ -41,13 +39,13 @@ pub fn verify<D: Digest, const B: u8, K: AsSlice<u8>>(
     key: &[u8],
 ) -> Result<Option<Cid>, ProofFault>
     requires { 1 ≤ B }
-    ensures answer { Gives (λ value. value) fault_of result (verified D.digest_of B root.now (map K.items blocks.now) key.now) }
+    ensures answer { IsAnswer D.digest_of B root.now (map K.items blocks.now) key.now result }
 
     // An answer is the key's value in each list of pairs with this root.
-    ensures right { (es : List Pair) → ArePairs es → root.now ≡ root_of D.digest_of B es → ClashesWithNone D.digest_of (nodes D.digest_of B es) (map K.items blocks.now) → IfOk result (λ value. value_of key.now es ≡ value) }
+    ensures right { IsRight D.digest_of B root.now (map K.items blocks.now) key.now result }
 
     // Where the key's path is given, there is an answer.
-    ensures comes { (es : List Pair) → ArePairs es → root.now ≡ root_of D.digest_of B es → ClashesWithNone D.digest_of (nodes D.digest_of B es) (map K.items blocks.now) → is_key_of key.now ≡ true → ((b : List ℕ) → Contains (path D.digest_of B es key.now) b → Contains (map K.items blocks.now) b) → result ≡ Ok (value_of key.now es) }
+    ensures comes { IsWhole D.digest_of B root.now (map K.items blocks.now) key.now result }
 {
     if !is_key(key) {
         return Err(ProofFault::KeyLength);

@@ -38,6 +38,17 @@ fn chain<A: Allocator + Clone>(alloc: A, count: usize) -> Result<Vec<Vec<u8, A>,
     Ok(nodes)
 }
 
+/// Each node twice, and after each time another block.
+fn twice<A: Allocator + Clone>(alloc: A, nodes: &[Vec<u8, A>]) -> Result<Vec<Vec<u8, A>, A>, Fail> {
+    let mut blocks = Vec::new(alloc.clone()?);
+    for node in nodes {
+        for bytes in [node.as_slice(), b"other", node.as_slice(), b"\xa0"] {
+            blocks.push(Vec::from_slice(alloc.clone()?, bytes)?)?;
+        }
+    }
+    Ok(blocks)
+}
+
 /// What the first so many nodes of a chain prove from the one at a place on, in their order.
 fn answer<const B: u8, A: Allocator>(
     nodes: &[Vec<u8, A>],
@@ -64,5 +75,8 @@ fn the_deepest_proof_and_deeper(rt: HostRuntime) -> Result<(), Fail> {
     nodes.reverse();
     assert!(rt; answer::<2, _>(&nodes, 1) == absent);
     assert!(rt; answer::<2, _>(&nodes, 0) == too_deep);
+    let mixed = twice(rt.alloc(), &nodes)?;
+    assert!(rt; answer::<2, _>(&mixed, 4) == absent);
+    assert!(rt; answer::<2, _>(&mixed, 0) == too_deep);
     Ok(())
 }

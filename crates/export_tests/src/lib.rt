@@ -1,7 +1,16 @@
-//! Tests of proofs about single keys: worked examples, chains of nodes without keys, and hostile blocks.
+//! Tests of exports and of proofs about single keys: worked examples, chains of nodes without keys, hostile blocks, outputs that
+//! fail, and want of memory.
 #![tactic(auto)]
 
 #[cfg(test)]
+mod cars;
+#[cfg(test)]
 mod chains;
+#[cfg(test)]
+mod fixtures;
+#[cfg(test)]
+mod key_proofs;
+#[cfg(test)]
+mod memory;
 #[cfg(test)]
 mod proofs;

@@ -14,11 +14,11 @@ returns-clause-answer g c =
     c.value_below.ensures
 
 pub returns-clause-right : goal.returns-clause-right
-returns-clause-right g c =
+returns-clause-right g c es r =
     shown_right g.D.Digest.digest_of g.row.B g.met.D.Digest.digest_len c.args.root.now (map g.K.AsSlice.items c.args.blocks.now) c.args.key.now
-    c.value_below.result (returns-clause-answer g c)
+    c.value_below.result (returns-clause-answer g c) es r.pairs r.root_is r.free
 
 pub returns-clause-comes : goal.returns-clause-comes
-returns-clause-comes g c =
+returns-clause-comes g c es r key whole =
     shown_all g.D.Digest.digest_of g.row.B g.met.D.Digest.digest_len c.args.root.now (map g.K.AsSlice.items c.args.blocks.now) c.args.key.now
-    c.value_below.result (returns-clause-answer g c)
+    c.value_below.result (returns-clause-answer g c) es r.pairs r.root_is r.free key whole

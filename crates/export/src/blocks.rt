@@ -1,0 +1,62 @@
+//! The sections of a repository's blocks.
+
+ghost use Rattle.std.specs.Prelude.{◌≡◌, ◌++◌, ℕ, List, length, option_map, IfOk, OnOk};
+ghost use Rattle.std.specs.Arc.{arc_value};
+ghost use Rattle.export.specs.Once.{capped, sections};
+ghost use Rattle.export.specs.Outs.{HasCause, Takes};
+ghost use Rattle.export.specs.Walks.{commit_block, sections_left};
+
+use crate::export_fault::ExportFault;
+use crate::once::write_once;
+use crate::out::Out;
+use crate::seen::Seen;
+use crate::walk::{Step, Walk};
+use cid::{Block, Cid, Digest};
+use edit::Source;
+use std::alloc::Allocator;
+use std::sync::Arc;
+
+/// Writes the section of the commit, if there is one, and answers how many bytes that are.
+pub(crate) fn write_commit<
+    'a,
+    D: Digest + 'a,
+    A: Allocator + Clone + 'a,
+    S: Source<'a, Arc<Block<D, A>, A>>,
+    W: Out,
+>(src: &mut S, seen: &mut Seen<A>, out: &mut W, commit: Option<Cid>) -> Result<u64, ExportFault>
+    ensures taken { Takes (W.taken out.old) (W.taken out.new) result (sections D.digest_of seen.old (commit_block (λ c. option_map arc_value (S.gives src.old c)) commit)) }
+    ensures length { IfOk result (λ count. count ≡ length (sections D.digest_of seen.old (commit_block (λ c. option_map arc_value (S.gives src.old c)) commit))) }
+    ensures seen { OnOk result ((bs : List (List ℕ)) → let found = commit_block (λ c. option_map arc_value (S.gives src.old c)) commit in sections D.digest_of seen.old (found ++ bs) ≡ sections D.digest_of seen.old found ++ sections D.digest_of seen.new bs) }
+    ensures cause { HasCause (W.failures out.old) (W.failures out.new) result }
+    ensures same { S.gives src.new ≡ S.gives src.old }
+{
+    let Some(cid) = commit else {
+        return Ok(0);
+    };
+    let Some(block) = src.get(&cid) else {
+        return Ok(0);
+    };
+    write_once(seen, out, block)
+}
+
+/// Writes the sections of the blocks that a walk is still to come to, and answers how many bytes that are.
+pub(crate) fn write_blocks<
+    'a,
+    D: Digest + 'a,
+    A: Allocator + Clone + 'a,
+    S: Source<'a, Arc<Block<D, A>, A>>,
+    W: Out,
+>(src: &mut S, mut walk: Walk<'a, A>, seen: &mut Seen<A>, out: &mut W) -> Result<u64, ExportFault>
+    ensures taken { Takes (W.taken out.old) (W.taken out.new) result (sections_left D.digest_of (λ c. option_map arc_value (S.gives src.old c)) seen.old walk.entry) }
+    ensures length { IfOk result (λ count. count ≡ capped (length (sections_left D.digest_of (λ c. option_map arc_value (S.gives src.old c)) seen.old walk.entry))) }
+    ensures cause { HasCause (W.failures out.old) (W.failures out.new) result }
+{
+    let mut written: u64 = 0;
+    'steps: loop {
+        match walk.step(src)? {
+            Step::Found(block) => written = written.saturating_add(write_once(seen, out, block)?),
+            Step::Missing => {}
+            Step::End => return Ok(written),
+        }
+    }
+}

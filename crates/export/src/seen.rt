@@ -1,0 +1,45 @@
+//! The CIDs whose sections were written.
+
+ghost use Rattle.std.specs.Prelude.{◌≡◌, [], not, IfOk, OnOk};
+ghost use Rattle.export.specs.Once.{has, HasMore};
+
+use cid::Cid;
+use std::alloc::{AllocError, Allocator};
+use std::collections::BTreeSet;
+use std::marker::Model;
+
+/// The CIDs whose sections were written.
+///
+/// A contract sees it as a list of them.
+#[derive(Drop)]
+pub(crate) struct Seen<A: Allocator> {
+    cids: BTreeSet<Cid, A>,
+}
+
+impl<A: Allocator> Model for Seen<A> {
+    ghost use Rattle.std.specs.Prelude.{ℕ, List};
+    ghost use Rattle.std.specs.BTreeSet.{keys};
+
+    ghost Value = { List (List ℕ) };
+
+    ghost view = { λ s. keys s.cids };
+}
+
+impl<A: Allocator + Clone> Seen<A> {
+    /// None so far.
+    pub(crate) fn none(alloc: A) -> Seen<A>
+        ensures { result ≡ [] }
+    {
+        Seen {
+            cids: BTreeSet::new(alloc),
+        }
+    }
+
+    /// One more, and whether it is new.
+    pub(crate) fn insert(&mut self, cid: Cid) -> Result<bool, AllocError>
+        ensures new { IfOk result (λ new. new ≡ not (has self.old cid)) }
+        ensures more { OnOk result (HasMore self.old cid self.new) }
+    {
+        Ok(self.cids.insert(cid)?)
+    }
+}

@@ -1,0 +1,77 @@
+//! A writer of the standard library as an output.
+
+ghost use Rattle.std.specs.Prelude.{◌≡◌, ◌<◌, ◌≤◌, ◌++◌, [], suc, length, take, IfOk, OnOk, OnErr};
+ghost use Rattle.export.specs.Outs.{TakesFirst, WriterTakes};
+
+use crate::log::Log;
+use crate::out::{Failed, Out};
+use std::io::Write;
+use std::marker::Model;
+
+/// A writer of the standard library as an output. It fails where the writer answers an error of whatever kind, and where
+/// it takes none of the bytes.
+///
+/// A contract sees it as the writer, the bytes that it has taken, and how often it has failed.
+#[derive(Drop)]
+pub struct ToWriter<W: Write> {
+    writer: W,
+    log: Log,
+}
+
+impl<W: Write> Model for ToWriter<W> {
+    ghost use Rattle.export.specs.Outs.{Writing};
+
+    ghost Value = { Writing W };
+
+    ghost view = { λ w. record { writer = w.writer; taken = w.log.taken; failures = w.log.failures } };
+}
+
+impl<W: Write> ToWriter<W> {
+    /// This writer, of which nothing was asked so far.
+    pub fn new(writer: W) -> ToWriter<W>
+        ensures { result ≡ record { writer = writer; taken = []; failures = 0 } }
+    {
+        ToWriter {
+            writer,
+            log: Log::empty(),
+        }
+    }
+
+    /// The writer.
+    pub fn into_writer(self) -> W
+        ensures { result ≡ self.writer }
+    {
+        self.writer
+    }
+}
+
+impl<W: Write> Out for ToWriter<W> {
+    ghost taken = { λ w. w.taken };
+
+    ghost failures = { λ w. w.failures };
+
+    /// Hands the bytes to the writer. What is taken is then among what it holds, where that is known.
+    fn write(&mut self, bytes: &[u8]) -> Result<usize, Failed>
+        ensures some { 0 < length bytes.now → IfOk result (λ count. 0 < count) }
+        ensures within { IfOk result (λ count. count ≤ length bytes.now) }
+        ensures taken { IfOk result (TakesFirst self.old.taken self.new.taken bytes.now) }
+        ensures went { OnOk result (self.new.failures ≡ self.old.failures) }
+        ensures refused { OnErr result (self.new.taken ≡ self.old.taken) }
+        ensures failed { OnErr result (self.new.failures ≡ suc self.old.failures) }
+        ensures writer { WriterTakes (λ w. W.contents w) self.old self.new result bytes.now }
+    {
+        if bytes.is_empty() {
+            return Ok(0);
+        }
+        match self.writer.write(bytes) {
+            Ok(count) if count > 0 => {
+                self.log = self.log.with(&bytes[..count]);
+                Ok(count)
+            }
+            _ => {
+                self.log = self.log.failed();
+                Err(Failed)
+            }
+        }
+    }
+}
