@@ -40,6 +40,16 @@ fn have_count<'h, const B: u8>(
     true
 }
 
+/// Whether each block of each core has this count.
+fn all_have_count<'h, const B: u8>(closed: &Closed<Toy, B, Heap<'h>>, count: u64) -> bool {
+    for core in closed.cores() {
+        if !have_count(closed, core, count) {
+            return false;
+        }
+    }
+    true
+}
+
 /// Whether of two repositories, after these batches, so many blocks have this count, and no others have one.
 fn close_with<R: Wait + Abort, const B: u8>(
     rt: &R,
@@ -55,10 +65,7 @@ fn close_with<R: Wait + Abort, const B: u8>(
     let is_right = match closed_after::<R, B>(rt, &heap, (0, 1), batches, 0) {
         Ok(closed) => {
             are_counts(&heap, &closed, blocks, count)
-                && closed
-                    .cores()
-                    .iter()
-                    .all(|core| have_count(&closed, core, count))
+                && all_have_count(&closed, count)
                 && closed.count(&Cid::of::<Toy>(b"another")) == 0
         }
         Err(_) => false,

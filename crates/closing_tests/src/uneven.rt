@@ -12,11 +12,13 @@ use store::Shards;
 
 /// In what the two cores don't agree with the rest; `None` where they do.
 fn mismatch_of<'h>(answer: Answer<'h, 2>) -> Option<Mismatch> {
-    match answer {
-        Ok(_) => None,
-        Err(uneven) if uneven.cores().len() == 2 => Some(uneven.mismatch()),
-        Err(_) => None,
+    let Err(uneven) = answer else {
+        return None;
+    };
+    if uneven.cores().len() != 2 {
+        return None;
     }
+    Some(uneven.mismatch())
 }
 
 /// Each of the two repositories accepted one write.
