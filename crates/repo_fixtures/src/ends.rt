@@ -74,9 +74,7 @@ pub enum Ended {
 }
 
 /// How a batch ended that was answered so.
-pub fn end_of<D: Digest, A: Allocator>(
-    answer: Result<Applied, (usize, RepoFault<D, A>)>,
-) -> Ended {
+pub fn end_of<D: Digest, A: Allocator>(answer: Result<Applied, (usize, RepoFault<D, A>)>) -> Ended {
     match answer {
         Ok(applied) => Ended::Accepted(applied.number),
         Err((place, fault)) => Ended::Refused(place, why_of(fault)),

@@ -40,12 +40,12 @@ impl Numbers {
 
 /// Keys, whose last digit is their layer under `Toy`.
 static KEYS: [&[u8]; 48] = [
-    b"k/000", b"k/001", b"k/002", b"k/003", b"k/010", b"k/011", b"k/012", b"k/013",
-    b"k/020", b"k/021", b"k/022", b"k/023", b"k/030", b"k/031", b"k/032", b"k/033",
-    b"k/040", b"k/041", b"k/042", b"k/043", b"k/050", b"k/051", b"k/052", b"k/053",
-    b"k/060", b"k/061", b"k/062", b"k/063", b"k/070", b"k/071", b"k/072", b"k/073",
-    b"k/080", b"k/081", b"k/082", b"k/083", b"k/090", b"k/091", b"k/092", b"k/093",
-    b"k/100", b"k/101", b"k/102", b"k/103", b"k/110", b"k/111", b"k/112", b"k/113",
+    b"k/000", b"k/001", b"k/002", b"k/003", b"k/010", b"k/011", b"k/012", b"k/013", b"k/020",
+    b"k/021", b"k/022", b"k/023", b"k/030", b"k/031", b"k/032", b"k/033", b"k/040", b"k/041",
+    b"k/042", b"k/043", b"k/050", b"k/051", b"k/052", b"k/053", b"k/060", b"k/061", b"k/062",
+    b"k/063", b"k/070", b"k/071", b"k/072", b"k/073", b"k/080", b"k/081", b"k/082", b"k/083",
+    b"k/090", b"k/091", b"k/092", b"k/093", b"k/100", b"k/101", b"k/102", b"k/103", b"k/110",
+    b"k/111", b"k/112", b"k/113",
 ];
 
 static RECORDS: [&[u8]; 7] = [
@@ -224,7 +224,15 @@ fn agrees<R: Abort, D: Digest, const B: u8>(rt: &R, alloc: Global, room: usize) 
     let full = room < 100;
     let mut is_right = true;
     for turn in 0..30u16 {
-        let one = agrees_next(alloc, &mut shard, &mut first, &mut numbers, &mut ones, turn, full);
+        let one = agrees_next(
+            alloc,
+            &mut shard,
+            &mut first,
+            &mut numbers,
+            &mut ones,
+            turn,
+            full,
+        );
         let other = agrees_next(
             alloc,
             &mut shard,

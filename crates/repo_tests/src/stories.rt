@@ -253,28 +253,24 @@ const TWO_REPOSITORIES_WITH_TWO_STAMPS: [Turn; 3] = [
 ];
 
 /// A store with room for two blocks has none for a record and its node beside the node without entries.
-const FULL_SHARD: [Turn; 1] = [
-    Turn {
-        second: false,
-        rev: 0,
-        batch: &[Put(b"a/b0", EMPTY), Put(b"a/c0", ONE)],
-        ended: Refused(0, Why::StoreFull),
-        records: &[],
-        blocks: (1, 1, 1),
-    },
-];
+const FULL_SHARD: [Turn; 1] = [Turn {
+    second: false,
+    rev: 0,
+    batch: &[Put(b"a/b0", EMPTY), Put(b"a/c0", ONE)],
+    ended: Refused(0, Why::StoreFull),
+    records: &[],
+    blocks: (1, 1, 1),
+}];
 
 /// A store with room for one block is full once the first repository is opened; the second needs no room.
-const OPENED_IN_A_FULL_SHARD: [Turn; 1] = [
-    Turn {
-        second: true,
-        rev: 0,
-        batch: &[Put(b"a/b0", EMPTY)],
-        ended: Refused(0, Why::StoreFull),
-        records: &[],
-        blocks: (1, 1, 1),
-    },
-];
+const OPENED_IN_A_FULL_SHARD: [Turn; 1] = [Turn {
+    second: true,
+    rev: 0,
+    batch: &[Put(b"a/b0", EMPTY)],
+    ended: Refused(0, Why::StoreFull),
+    records: &[],
+    blocks: (1, 1, 1),
+}];
 
 /// Stories under `Toy`, with the room that their stores have beside the one block of repositories without writes.
 const STORIES: [(&str, u8, &[Turn]); 11] = [
@@ -288,11 +284,7 @@ const STORIES: [(&str, u8, &[Turn]); 11] = [
         99,
         &NODE_AND_RECORD_IN_ONE_BLOCK,
     ),
-    (
-        "one record under two keys",
-        99,
-        &ONE_RECORD_UNDER_TWO_KEYS,
-    ),
+    ("one record under two keys", 99, &ONE_RECORD_UNDER_TWO_KEYS),
     (
         "two repositories share blocks",
         4,
@@ -348,16 +340,14 @@ const RECORDS_OF_TWO_REPOSITORIES: [Turn; 2] = [
 ];
 
 /// All blocks have one CID: the record clashes with the node without entries.
-const COLLIDING_RECORD: [Turn; 1] = [
-    Turn {
-        second: false,
-        rev: 0,
-        batch: &[Put(b"a/b", EMPTY)],
-        ended: Refused(0, Why::Collision),
-        records: &[],
-        blocks: (1, 1, 1),
-    },
-];
+const COLLIDING_RECORD: [Turn; 1] = [Turn {
+    second: false,
+    rev: 0,
+    batch: &[Put(b"a/b", EMPTY)],
+    ended: Refused(0, Why::Collision),
+    records: &[],
+    blocks: (1, 1, 1),
+}];
 
 #[test]
 fn stories(rt: HostRuntime) {

@@ -18,9 +18,17 @@ type Pairs = Vec<(Vec<u8>, Cid)>;
 
 /// The key of a number, whose last digit is its layer where it is from 0 to 3.
 fn key_of(number: u16) -> [u8; 5] {
-    let digits = [number / 100 % 10, number / 10 % 10, number % 10];
-    let [first, second, third] = digits.map(|digit| b'0' + digit as u8);
-    [b'k', b'/', first, second, third]
+    [
+        b'k',
+        b'/',
+        last_digit(number / 100),
+        last_digit(number / 10),
+        last_digit(number),
+    ]
+}
+
+fn last_digit(number: u16) -> u8 {
+    b'0' + (number % 10) as u8
 }
 
 /// The record of a number: the map of a letter to its two bytes.
@@ -43,7 +51,9 @@ fn puts(
     for number in 0..1000u16 {
         if number % apart == 0 {
             let (key, record) = (key_of(number), record_of(number, letter));
-            batch.writes.push(write_of(alloc, Step::Put(&key, &record))?)?;
+            batch
+                .writes
+                .push(write_of(alloc, Step::Put(&key, &record))?)?;
             pairs.push((Vec::from_slice(alloc, &key)?, Cid::of::<Toy>(&record)))?;
         }
     }
@@ -53,7 +63,11 @@ fn puts(
 /// How many blocks a repository of these pairs has, each with a record of its own: nodes, records and the commit.
 fn count_of(alloc: Global, pairs: &Pairs) -> usize {
     match tree_of::<Toy, 2, Vec<u8>>(alloc, pairs) {
-        Some(tree) => tree.blocks.len().saturating_add(pairs.len()).saturating_add(1),
+        Some(tree) => tree
+            .blocks
+            .len()
+            .saturating_add(pairs.len())
+            .saturating_add(1),
         None => usize::MAX,
     }
 }
@@ -86,6 +100,15 @@ fn a_thousand_puts(rt: HostRuntime) {
     let mut shard = Shard::new(rt.alloc(), before + after + 8);
     let mut core = opened(&rt, rt.alloc(), &mut shard, 0);
     let batches = [&few, &all];
-    assert!(rt; are_taken(rt.alloc(), &mut shard, &mut core, batches, &pairs, after as u64));
+    assert!(rt;
+        are_taken(
+            rt.alloc(),
+            &mut shard,
+            &mut core,
+            batches,
+            &pairs,
+            after as u64
+        )
+    );
     end(&mut shard, core);
 }
