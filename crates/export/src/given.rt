@@ -9,7 +9,7 @@ use cid::{Cid, Digest};
 use std::convert::AsSlice;
 
 /// The first of the blocks with this CID. A block's CID is kept once it is known, if those before it are and there is
-/// room: so a proof whose blocks stand in the order of the path has each of them hashed once.
+/// room: so of a proof of at most 32 blocks in the order of the path each is hashed once.
 pub(crate) fn find<'a, D: Digest, K: AsSlice<u8>>(
     blocks: &'a [K],
     hashed: &mut Hashed,

@@ -5,7 +5,7 @@
 //!
 //! A proof that a tree has a value under a key, or none, is the list of the nodes on the key's path. [`prove`] makes it, and
 //! [`verify`] tells what such blocks prove to someone who knows the tree's root alone: nothing of the host that gave them is
-//! trusted.
+//! trusted, but that it found no other bytes with the CID of a block of the tree.
 //!
 //! ```text
 //! let mut out = ToMemory::new(alloc);

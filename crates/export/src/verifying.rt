@@ -24,15 +24,16 @@ use std::convert::AsSlice;
 /// count for one layer, at least 1 (AT Protocol repository v3, MST structure; the order of the tests is this host's own).
 ///
 /// An answer holds of every list of pairs whose tree has this root and whose nodes clash with none of the given blocks;
-/// and where the key's whole path is given there is an answer. So whoever trusts a root needs to trust nothing else.
+/// and where the key's whole path is given there is an answer. So whoever trusts a root needs to trust nothing else, but
+/// that no given block has the CID of another block of the tree.
 ///
 /// The first of these faults is the answer, from the root down: `ProofFault::KeyLength` for the key, and then for each
 /// node of the path `ProofFault::TooDeep` where more nodes would be read than a tree has layers (`256 / B + 1`),
 /// `ProofFault::BlockMissing` where no block has the CID, and `ProofFault::BadNode` where the block is no node.
 ///
-/// It takes no memory. The CIDs of the first 32 blocks are kept on the stack once they are known, so a proof whose
-/// blocks stand in the order of the path has each of them hashed once; at worst each block is hashed once for each node
-/// of the path.
+/// It takes no memory. The CIDs of the first 32 blocks are kept on the stack once they are known, so of a
+/// proof of at most 32 blocks in the order of the path each is hashed once; at worst each block is hashed once for each
+/// node of the path.
 pub fn verify<D: Digest, const B: u8, K: AsSlice<u8>>(
     root: &Cid,
     blocks: &[K],

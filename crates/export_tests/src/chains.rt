@@ -49,7 +49,7 @@ fn twice<A: Allocator + Clone>(alloc: A, nodes: &[Vec<u8, A>]) -> Result<Vec<Vec
     Ok(blocks)
 }
 
-/// What the first so many nodes of a chain prove from the one at a place on, in their order.
+/// What these blocks prove of the key `a` under the CID of the block at a place.
 fn answer<const B: u8, A: Allocator>(
     nodes: &[Vec<u8, A>],
     root: usize,

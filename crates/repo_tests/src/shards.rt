@@ -1,13 +1,15 @@
 //! Repositories over the sixteen locked shards. No contract can say what stands behind a lock.
 
-ghost use Rattle.std.specs.Prelude.{◌<◌};
+ghost use Rattle.std.specs.Prelude.{◌≤◌, ◌<◌};
 
-use crate::fixtures::Ended::{Accepted, Refused};
-use crate::fixtures::Step::{Delete, Put};
-use crate::fixtures::{DID, EMPTY_NODE, Ended, Step, Why, batch_of, end_of, rev_after, stamp_of};
 use cid::Cid;
 use cid::digests::Toy;
 use repo::{Core, Repository};
+use repo_fixtures::batch::Step::{Delete, Put};
+use repo_fixtures::batch::{Batch, EMPTY_NODE, Step, batch_at};
+use repo_fixtures::cores::counts;
+use repo_fixtures::ends::Ended::{Accepted, Refused, Unmade};
+use repo_fixtures::ends::{Ended, Why, end_of};
 use std::alloc::Global;
 use std::process::Abort;
 use std::sync::{RwLock, Wait};
@@ -24,19 +26,20 @@ fn opened<R: Wait + Abort>(rt: &R, alloc: Global, shards: &Shards<Toy>, me: u32)
     Core::open(alloc, &mut LockedShards::new(rt, shards), me, 9).expect(rt, "a core")
 }
 
-/// How a batch ends; `None` where there was no memory for it.
+/// How a batch of one write ends.
 fn ended<R: Wait>(
     rt: &R,
     alloc: Global,
     shards: &Shards<Toy>,
     core: &mut Core<Toy, 2>,
     turn: u16,
-    steps: &[Step],
-) -> Option<Ended> {
-    let stamp = stamp_of(alloc, DID, &rev_after(turn)).ok()?;
-    let writes = batch_of(alloc, steps).ok()?;
+    step: Step<'_>,
+) -> Ended {
     let mut store = LockedShards::new(rt, shards);
-    Some(end_of(core.apply(alloc, &mut store, &stamp, &writes)))
+    match batch_at(alloc, turn, &[step]) {
+        Ok(Batch { stamp, writes }) => end_of(core.apply(alloc, &mut store, &stamp, &writes)),
+        Err(_) => Unmade,
+    }
 }
 
 /// Whether the block of this CID stands in the shard of this number, held by so many cores.
@@ -55,17 +58,56 @@ fn stand_apart<R: Wait>(rt: &R, shards: &Shards<Toy>, core: &Core<Toy, 2>) -> bo
         && stands(rt, shards, Cid::of::<Toy>(EMPTY_NODE), 15, 0)
 }
 
-#[test]
-fn each_block_in_its_shard(rt: HostRuntime) {
-    let shards: Shards<Toy> = Shards::open(rt.alloc(), 3);
-    let mut core = opened(&rt, rt.alloc(), &shards, 0);
-    let batch = [Put(b"a/b0", THREE)];
-    assert!(rt; ended(&rt, rt.alloc(), &shards, &mut core, 0, &batch) == Some(Accepted(1)));
-    assert!(rt; stand_apart(&rt, &shards, &core));
-    core.end(&mut LockedShards::new(&rt, &shards));
+/// Whether no shard has a block.
+fn are_empty(shards: Shards<Toy>) -> bool {
     for table in &shards.tables() {
-        assert!(rt; table.entries().count() == 0);
+        if counts(table) != (0, 0) {
+            return false;
+        }
     }
+    true
+}
+
+/// Whether a batch on a repository behind its lock ends so, in shards with so much room, and a reader then sees what it left.
+fn is_seen<R: Wait>(
+    rt: &R,
+    alloc: Global,
+    shards: &Shards<Toy>,
+    repository: &Repository<Toy, 2>,
+    wanted: Ended,
+) -> bool {
+    let step = Put(b"a/b0", THREE);
+    if ended(rt, alloc, shards, &mut repository.lock.write(rt), 0, step) != wanted {
+        return false;
+    }
+    let core = repository.lock.read(rt);
+    match wanted {
+        Accepted(number) => core.number() == number && stand_apart(rt, shards, &core),
+        _ => core.number() == 0 && stands(rt, shards, core.root(), 15, 1),
+    }
+}
+
+/// Whether this is so for a repository without writes, whose blocks all go back.
+fn is_so<R: Wait + Abort>(rt: &R, alloc: Global, room: usize, wanted: Ended) -> bool
+    requires least { 1 ≤ room }
+    requires most { room ≤ 9 }
+{
+    let shards: Shards<Toy> = Shards::open(alloc, room);
+    let repository = Repository {
+        lock: RwLock::new(opened(rt, alloc, &shards, 0)),
+    };
+    let is_right = is_seen(rt, alloc, &shards, &repository, wanted);
+    let Repository { lock } = repository;
+    lock.into_inner().end(&mut LockedShards::new(rt, &shards));
+    is_right && are_empty(shards)
+}
+
+/// The node before, the node and the commit are in one shard, the record in another: where the first is full, the batch is
+/// refused, though the second has room.
+#[test]
+fn a_repository_behind_its_lock(rt: HostRuntime) {
+    assert!(rt; is_so(&rt, rt.alloc(), 3, Accepted(1)));
+    assert!(rt; is_so(&rt, rt.alloc(), 2, Refused(0, Why::StoreFull)));
 }
 
 /// Whether each block of the core is held by so many cores, each in its shard.
@@ -87,11 +129,10 @@ fn share_blocks<R: Wait>(
     first: &mut Core<Toy, 2>,
     second: &mut Core<Toy, 2>,
 ) -> bool {
-    let batch = [Put(b"a/b0", THREE)];
-    ended(rt, alloc, shards, first, 0, &batch) == Some(Accepted(1))
-        && ended(rt, alloc, shards, second, 0, &batch) == Some(Accepted(1))
+    ended(rt, alloc, shards, first, 0, Put(b"a/b0", THREE)) == Accepted(1)
+        && ended(rt, alloc, shards, second, 0, Put(b"a/b0", THREE)) == Accepted(1)
         && have_count(rt, shards, first, 2)
-        && ended(rt, alloc, shards, second, 1, &[Delete(b"a/b0")]) == Some(Accepted(2))
+        && ended(rt, alloc, shards, second, 1, Delete(b"a/b0")) == Accepted(2)
         && have_count(rt, shards, first, 1)
         && have_count(rt, shards, second, 1)
 }
@@ -105,60 +146,5 @@ fn two_repositories_in_the_shards(rt: HostRuntime) {
     first.end(&mut LockedShards::new(&rt, &shards));
     assert!(rt; have_count(&rt, &shards, &second, 1));
     second.end(&mut LockedShards::new(&rt, &shards));
-    for table in &shards.tables() {
-        assert!(rt; table.entries().count() == 0);
-    }
-}
-
-/// Whether a shard that is full refuses what another still has room for.
-#[test]
-fn a_full_shard_among_others(rt: HostRuntime) {
-    let shards: Shards<Toy> = Shards::open(rt.alloc(), 2);
-    let mut core = opened(&rt, rt.alloc(), &shards, 0);
-    // node, commit and the node before are in one shard
-    let full = Some(Refused(0, Why::StoreFull));
-    assert!(rt;
-        ended(
-            &rt,
-            rt.alloc(),
-            &shards,
-            &mut core,
-            0,
-            &[Put(b"a/b0", THREE)]
-        ) == full
-    );
-    assert!(rt; stands(&rt, &shards, core.root(), 15, 1));
-    core.end(&mut LockedShards::new(&rt, &shards));
-}
-
-/// Applies a batch to a repository behind its lock: how it ends, and how many writes a reader then sees.
-fn ended_behind_a_lock<R: Wait>(
-    rt: &R,
-    alloc: Global,
-    shards: &Shards<Toy>,
-    repository: &Repository<Toy, 2>,
-) -> (Option<Ended>, u64) {
-    let ended = ended(
-        rt,
-        alloc,
-        shards,
-        &mut repository.lock.write(rt),
-        0,
-        &[Put(b"a/b0", THREE)],
-    );
-    (ended, repository.lock.read(rt).number())
-}
-
-#[test]
-fn a_repository_behind_its_lock(rt: HostRuntime) {
-    let shards: Shards<Toy> = Shards::open(rt.alloc(), 3);
-    let core = opened(&rt, rt.alloc(), &shards, 0);
-    let repository = Repository {
-        lock: RwLock::new(core),
-    };
-    let answer = ended_behind_a_lock(&rt, rt.alloc(), &shards, &repository);
-    let Repository { lock } = repository;
-    let core = lock.into_inner();
-    assert!(rt; answer == (Some(Accepted(1)), 1) && stand_apart(&rt, &shards, &core));
-    core.end(&mut LockedShards::new(&rt, &shards));
+    assert!(rt; are_empty(shards));
 }

@@ -1,73 +1,191 @@
-//! Batches one after the other on one repository, as tables give them.
+//! Batches one after the other on two repositories of one store. Each is tried with each of its requests for memory refused
+//! in turn, and ends at last as it is to.
 
-use crate::cores::{apply_steps, end, held, holds, opened};
-use crate::fixtures::{Ended, Step};
-use crate::trees::is_of;
-use cid::Cid;
-use cid::digests::Toy;
+use crate::opened::opened;
+use cid::{Cid, Digest};
+use refusing::Refusing;
 use repo::Core;
+use repo_fixtures::batch::{Batch, Step, batch_at};
+use repo_fixtures::cores::{apply, counts, end, held};
+use repo_fixtures::ends::Ended::{Refused, Unmade};
+use repo_fixtures::ends::{Ended, Why};
+use repo_fixtures::trees::is_of;
 use std::alloc::{AllocError, Global};
 use std::process::Abort;
 use store::Shard;
 
-/// A batch, how it ends, the keys with the records that there are after it, and how many blocks.
+/// Memory that refuses requests.
+pub(crate) type Heap<'h> = &'h Refusing<Global>;
+
+/// A batch, how it ends, and what is left after it.
 pub(crate) struct Turn {
-    pub(crate) batch: &'static [Step],
+    /// Whether the batch is for the second repository.
+    pub(crate) second: bool,
+    /// How many timestamp identifiers its own comes after the first one.
+    pub(crate) rev: u16,
+    pub(crate) batch: &'static [Step<'static>],
     pub(crate) ended: Ended,
+    /// The records that the repository has.
     pub(crate) records: &'static [(&'static [u8], &'static [u8])],
-    pub(crate) blocks: u64,
+    /// How many blocks the first and the second repository have, and how many the store.
+    pub(crate) blocks: (u64, u64, u64),
+}
+
+/// What is seen of a core and its store.
+#[derive(Clone, Copy, PartialEq, Eq)]
+struct Seen {
+    root: Cid,
+    commit: Option<Cid>,
+    writes: (u64, usize, usize),
+    held: Option<u64>,
+    counts: (u64, u64),
+}
+
+/// What is seen of a core and its store.
+fn see<'h, D: Digest>(shard: &Shard<D, Heap<'h>>, core: &Core<D, 2, Heap<'h>>) -> Seen {
+    Seen {
+        root: core.root(),
+        commit: core.commit(),
+        writes: (core.number(), core.accepted().len(), core.stamps().len()),
+        held: held(shard, core),
+        counts: counts(shard),
+    }
+}
+
+/// How a batch ends where this request for memory is refused; `None` where it came to the request. Where it is refused, all
+/// that is seen is as before, else it ends as `Unmade`.
+fn end_without<'h, D: Digest>(
+    heap: Heap<'h>,
+    shard: &mut Shard<D, Heap<'h>>,
+    core: &mut Core<D, 2, Heap<'h>>,
+    batch: &Batch<Heap<'h>>,
+    request: u64,
+) -> Option<Ended> {
+    let before = see(shard, core);
+    let refused = heap.refused();
+    heap.refuse(request);
+    let ended = apply(heap, shard, core, batch);
+    heap.refuse(0);
+    match ended {
+        Refused(_, _) if see(shard, core) != before => Some(Unmade),
+        Refused(_, Why::NoMemory) if heap.refused() != refused => None,
+        _ => Some(ended),
+    }
+}
+
+/// The same for four tries. The fourth leaves as many blocks of memory out as the third, since containers keep the room that
+/// they made; else it ends as `Unmade`.
+fn end_of_four<'h, D: Digest>(
+    heap: Heap<'h>,
+    shard: &mut Shard<D, Heap<'h>>,
+    core: &mut Core<D, 2, Heap<'h>>,
+    batch: &Batch<Heap<'h>>,
+    request: u64,
+) -> Option<Ended> {
+    let mut live = 0;
+    for _ in 0..4u8 {
+        live = heap.live();
+        let ended = end_without(heap, shard, core, batch, request);
+        if ended.is_some() {
+            return ended;
+        }
+    }
+    if heap.live() == live {
+        None
+    } else {
+        Some(Unmade)
+    }
+}
+
+/// How a batch ends at last, after each of its requests was refused in turn.
+fn end_at_last<'h, D: Digest>(
+    heap: Heap<'h>,
+    shard: &mut Shard<D, Heap<'h>>,
+    core: &mut Core<D, 2, Heap<'h>>,
+    batch: &Batch<Heap<'h>>,
+) -> Ended {
+    for request in 1..400u64 {
+        if let Some(ended) = end_of_four(heap, shard, core, batch, request) {
+            return ended;
+        }
+    }
+    Unmade
 }
 
 /// The pairs of these keys and records.
-fn pairs_of(alloc: Global, records: &[(&[u8], &[u8])]) -> Result<Vec<(Vec<u8>, Cid)>, AllocError> {
+fn pairs_of<D: Digest>(
+    alloc: Global,
+    records: &[(&[u8], &[u8])],
+) -> Result<Vec<(Vec<u8>, Cid)>, AllocError> {
     let mut pairs = Vec::new(alloc);
     for (key, record) in records {
-        pairs.push((Vec::from_slice(alloc, key)?, Cid::of::<Toy>(record)))?;
+        pairs.push((Vec::from_slice(alloc, key)?, Cid::of::<D>(record)))?;
     }
     Ok(pairs)
 }
 
-/// Whether a repository, the only one of its store, has these records, so many blocks and no others, and no more holds.
-fn has(
+/// Whether a batch ends at last as its turn says, and leaves its records.
+fn is_turn<'h, D: Digest>(
     alloc: Global,
-    shard: &Shard<Toy>,
-    core: &Core<Toy, 2>,
-    records: &[(&[u8], &[u8])],
-    blocks: u64,
-) -> bool {
-    match pairs_of(alloc, records) {
-        Ok(pairs) => {
-            is_of(alloc, core, &pairs, core.commit())
-                && held(shard, core) == Some(blocks)
-                && holds(shard) == blocks
-        }
-        Err(_) => false,
-    }
-}
-
-/// Whether a batch ends as its turn says.
-fn is_turn(
-    alloc: Global,
-    shard: &mut Shard<Toy>,
-    core: &mut Core<Toy, 2>,
-    place: u16,
+    heap: Heap<'h>,
+    shard: &mut Shard<D, Heap<'h>>,
+    core: &mut Core<D, 2, Heap<'h>>,
     turn: &Turn,
 ) -> bool {
-    apply_steps(alloc, shard, core, place, turn.batch) == Some(turn.ended)
-        && has(alloc, shard, core, turn.records, turn.blocks)
+    match (
+        pairs_of::<D>(alloc, turn.records),
+        batch_at(heap, turn.rev, turn.batch),
+    ) {
+        (Ok(pairs), Ok(batch)) => {
+            end_at_last(heap, shard, core, &batch) == turn.ended
+                && is_of(alloc, core, &pairs, core.commit())
+        }
+        _ => false,
+    }
 }
 
-/// Whether the batches of these turns end as they say, one after the other on a repository without writes, which in the end
-/// gives all its blocks back.
-pub(crate) fn are_turns<R: Abort>(rt: &R, alloc: Global, turns: &[Turn]) -> bool {
-    let mut shard = Shard::new(alloc, 100);
-    let mut core = opened(rt, alloc, &mut shard, 0);
-    let mut is_right = has(alloc, &shard, &core, &[], 1);
-    let mut place = 0u16;
+/// Whether both repositories and the store have so many blocks, and the store no other holds.
+fn are_held<'h, D: Digest>(
+    shard: &Shard<D, Heap<'h>>,
+    first: &Core<D, 2, Heap<'h>>,
+    second: &Core<D, 2, Heap<'h>>,
+    blocks: (u64, u64, u64),
+) -> bool {
+    let (ones, others, all) = blocks;
+    held(shard, first) == Some(ones)
+        && held(shard, second) == Some(others)
+        && counts(shard) == (all, ones.saturating_add(others))
+}
+
+/// Whether the batches of these turns end as they say, in a store with room for so many blocks beside the one of repositories
+/// without writes. The second repository then
+/// still has its blocks when the first is gone, and all memory is given back in the end.
+pub(crate) fn are_turns<R: Abort, D: Digest>(
+    rt: &R,
+    alloc: Global,
+    spare: u8,
+    turns: &[Turn],
+) -> bool {
+    let heap = Refusing::new(alloc);
+    let mut shard: Shard<D, Heap<'_>> = Shard::new(&heap, 1 + usize::from(spare));
+    let mut first = opened(rt, &heap, &mut shard, 0);
+    let mut second = opened(rt, &heap, &mut shard, 1023);
+    let mut is_right = is_of::<_, _, _, &[u8]>(alloc, &first, &[], None)
+        && is_of::<_, _, _, &[u8]>(alloc, &second, &[], None)
+        && are_held(&shard, &first, &second, (1, 1, 1));
     for turn in turns {
-        is_right = is_right && is_turn(alloc, &mut shard, &mut core, place, turn);
-        place = place.saturating_add(1);
+        let is_so = if turn.second {
+            is_turn(alloc, &heap, &mut shard, &mut second, turn)
+        } else {
+            is_turn(alloc, &heap, &mut shard, &mut first, turn)
+        };
+        is_right = is_right && is_so && are_held(&shard, &first, &second, turn.blocks);
     }
-    end(&mut shard, core);
-    is_right && holds(&shard) == 0
+    end(&mut shard, first);
+    let left = held(&shard, &second).unwrap_or(0);
+    is_right = is_right && counts(&shard) == (left, left);
+    end(&mut shard, second);
+    is_right = is_right && counts(&shard) == (0, 0);
+    drop(shard);
+    is_right && heap.live() == 0
 }

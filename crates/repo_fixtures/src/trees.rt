@@ -9,7 +9,7 @@ use std::alloc::{AllocError, Allocator, Global};
 use std::convert::AsSlice;
 
 /// The tree of these pairs from scratch, where it can be built.
-pub(crate) fn tree_of<D: Digest, const B: u8, K: AsSlice<u8>>(
+pub fn tree_of<D: Digest, const B: u8, K: AsSlice<u8>>(
     alloc: Global,
     pairs: &[(K, Cid)],
 ) -> Option<Built<D>>
@@ -44,16 +44,22 @@ fn cids_of<D: Digest, K>(
     Ok(cids)
 }
 
-/// The CIDs of a core's blocks, in the order in which it gives them.
-fn cids_in<D: Digest, const B: u8, A: Allocator>(
-    alloc: Global,
+/// Whether there was memory for these CIDs, and a core has their blocks, in this order, and no others.
+fn has_blocks<D: Digest, const B: u8, A: Allocator>(
     core: &Core<D, B, A>,
-) -> Result<Vec<Cid>, AllocError> {
-    let mut cids = Vec::new(alloc);
+    cids: Result<Vec<Cid>, AllocError>,
+) -> bool {
+    let Ok(cids) = cids else {
+        return false;
+    };
+    let mut count = 0usize;
     for block in core.blocks() {
-        cids.push(block.cid())?;
+        if cids.get(count) != Some(&block.cid()) {
+            return false;
+        }
+        count = count.saturating_add(1);
     }
-    Ok(cids)
+    count == cids.len()
 }
 
 /// Whether a core finds the record of each pair under its key.
@@ -72,7 +78,7 @@ fn has_records<D: Digest, const B: u8, A: Allocator, K: AsSlice<u8>>(
 
 /// Whether a core has the root of the tree of these pairs, this commit and, beside it, the tree's nodes, the pairs' records
 /// and no other blocks.
-pub(crate) fn is_of<D: Digest, const B: u8, A: Allocator, K: AsSlice<u8>>(
+pub fn is_of<D: Digest, const B: u8, A: Allocator, K: AsSlice<u8>>(
     alloc: Global,
     core: &Core<D, B, A>,
     pairs: &[(K, Cid)],
@@ -86,16 +92,8 @@ pub(crate) fn is_of<D: Digest, const B: u8, A: Allocator, K: AsSlice<u8>>(
             core.root() == tree.root
                 && core.commit() == commit
                 && has_records(core, pairs)
-                && are_alike(cids_in(alloc, core), cids_of(alloc, &tree, pairs, commit))
+                && has_blocks(core, cids_of(alloc, &tree, pairs, commit))
         }
         None => false,
-    }
-}
-
-/// Whether there was memory for both, and they are the same CIDs.
-fn are_alike(ones: Result<Vec<Cid>, AllocError>, others: Result<Vec<Cid>, AllocError>) -> bool {
-    match (ones, others) {
-        (Ok(ones), Ok(others)) => ones == others,
-        _ => false,
     }
 }
