@@ -16,11 +16,13 @@ positive (suc n) = Some (suc n)
 abbrev pub count_in : List (List ℕ × ℕ) → List ℕ → Option ℕ
 count_in es cid = lookup (is_at (slice_cmp nat_cmp cid)) es
 
+-- the first of two counts, and the second where there is none
 abbrev pub or_else : Option ℕ → Option ℕ → Option ℕ
 or_else None o = o
 or_else (Some n) o = Some n
 
--- the same after the counts of a shard's table joined it
+-- what a list has under a CID after the counts of a shard's table were put to it, those of the CIDs of
+-- this shard
 abbrev pub counted : List (List ℕ × ℕ) → ℕ → Table → List ℕ → Option ℕ
 counted es shard table cid = if shard_of cid == shard
     then or_else (positive (set.len (cores_at table cid))) (count_in es cid)

@@ -16,11 +16,12 @@ pub record EndedView : Type 0 where
 abbrev pub told : PassView → List Notice → List Notice
 told pass kept = pass.sent ++ kept
 
--- the writer is one at this queue, and has seen so many repositories
+-- the writer is one at this queue, and has a number of accepted writes for each of so many repositories
 pub record IsEndedAt (queue_id : QueueId) (repos : ℕ) (e : EndedView) : Type 0 where
   pub queue : e.pass.queue_id ≡ queue_id
   pub places : length e.seen ≡ repos
 
+-- the account of the writer's pass
 abbrev pub account_of : EndedView → Account
 account_of e = account e.pass.writer e.pass.sent
 

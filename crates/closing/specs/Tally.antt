@@ -82,19 +82,21 @@ abbrev pub IsAlien : (List ℕ → List ℕ) → ℕ → List State → List ℕ
 IsAlien digest bits cores cid numbers = (number : ℕ) × (set.contains numbers number ≡ true)
     × (have digest bits cores cid number ≡ false)
 
--- the same of each entry of a shard's table, in its own shard
+-- in a shard's table, of each CID of this shard: the cores that are entered have it
 abbrev pub AreHad : (List ℕ → List ℕ) → ℕ → List State → ℕ → Table → Type 0
 AreHad digest bits cores shard table = (cid : List ℕ) → shard_of cid ≡ shard
     → AllHave digest bits cores cid (cores_at table cid)
 
+-- of some CID of this shard a core is entered that doesn't have it
 abbrev pub AreAlien : (List ℕ → List ℕ) → ℕ → List State → ℕ → Table → Type 0
 AreAlien digest bits cores shard table = (cid : List ℕ) × (shard_of cid ≡ shard)
     × IsAlien digest bits cores cid (cores_at table cid)
 
--- the same of all cores, and of the tables of all sixteen shards
+-- each core is entered for each of its CIDs
 abbrev pub AreEntered : (List ℕ → List ℕ) → ℕ → List State → List Table → Type 0
 AreEntered digest bits cores tables = All (λ s. IsEntered digest bits s tables) cores
 
+-- in the tables of all sixteen shards, the cores that are entered have the CID
 abbrev pub AreAllHad : (List ℕ → List ℕ) → ℕ → List State → List Table → Type 0
 AreAllHad digest bits cores tables = (shard : ℕ) → shard < 16
     → AreHad digest bits cores shard (slice_index_or tables shard no_table)

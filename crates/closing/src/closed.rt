@@ -31,7 +31,9 @@ use std::sync::Wait;
 use store::{SHARDS, Shard};
 
 /// A host that has closed: its cores and the tables of its shards agree, so that each block's count is the number of cores
-/// that have it.
+/// that have it. Where it goes, all blocks are given back.
+///
+/// A contract sees it as the states of its cores, the tables, the feed, and the writers as they ended.
 pub struct Closed<D: Digest, const B: u8, A: Allocator = Global> {
     queue: Queue<A>,
     feed: notices::Feed,
@@ -54,7 +56,10 @@ impl<D: Digest, const B: u8, A: Allocator> Model for Closed<D, B, A> {
     ghost invariant = { λ c. IsClosed D.digest_of B c.queue.queue_id c.cores.items c.tables c.feed c.settled.items };
 }
 
-/// Cores and tables that don't agree.
+/// Cores and tables that don't agree, or cores that have fewer accepted writes than a writer has seen there. Where it goes,
+/// all blocks are given back.
+///
+/// A contract sees it as the states of the cores, the tables, the writers as they ended, and in what they don't agree.
 pub struct Uneven<D: Digest, const B: u8, A: Allocator = Global> {
     cores: Vec<Core<D, B, A>, A>,
     tables: [Shard<D, A>; SHARDS],
@@ -84,7 +89,7 @@ impl<D: Digest, const B: u8, A: Allocator> Closed<D, B, A> {
         &self.cores
     }
 
-    /// The headline: the repository of this number as it is shown, and the counts of all blocks.
+    /// The headline: the repository of this number, which is below that of the cores, and the counts of all blocks.
     ///
     /// Its root, its commit and its blocks are those, and no others, of the Merkle search tree built from scratch from the
     /// records that its accepted writes leave, with the commit of its last stamp; and the count of each CID is the number of
@@ -166,7 +171,7 @@ impl<D: Digest, const B: u8, A: Allocator> Closed<D, B, A> {
 }
 
 impl<D: Digest, const B: u8, A: Allocator> Uneven<D, B, A> {
-    /// Where they don't agree.
+    /// In what they don't agree. Where there is more than one such thing, it is one of them.
     pub fn mismatch(&self) -> Mismatch
         ensures mismatch { result ≡ self.now.mismatch }
         ensures uneven { IsUneven D.digest_of B self.now.cores self.now.tables self.now.ended result }
@@ -174,7 +179,7 @@ impl<D: Digest, const B: u8, A: Allocator> Uneven<D, B, A> {
         self.mismatch
     }
 
-    /// The cores, in the order in which the host had them.
+    /// The cores, in the order in which they were given.
     pub fn cores(&self) -> &[Core<D, B, A>]
         ensures { result.now ≡ self.now.cores }
     {
@@ -220,6 +225,16 @@ impl<D: Digest, const B: u8, A: Allocator> Drop for Uneven<D, B, A> {
 }
 
 /// Compares cores with tables and with what writers have seen, and lets the writers' passes join the feed.
+///
+/// The feed is the queue's and has joined no pass so far; the writers are all that the queue made a pass for, and each has
+/// a number of accepted writes for each core.
+///
+/// `Uneven` comes only where a core's number isn't its place, the cores that are entered for some CID aren't those that
+/// have a block with it, or a core has fewer accepted writes than a writer has seen there: it holds cores, tables and
+/// writers as they were given, and names one of these faults that stands in them. The queue is gone then, with what was
+/// left in it.
+///
+/// It takes no lock and no memory.
 pub fn close<D: Digest, const B: u8, A: Allocator>(
     queue: Queue<A>,
     feed: Feed<A>,

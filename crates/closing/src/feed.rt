@@ -33,7 +33,7 @@ impl<A: Allocator> Model for Feed<A> {
 impl<A: Allocator> Feed<A> {
     /// The queue's feed, with room for so many writers, at least as many as there are passes.
     ///
-    /// `AllocError` comes where memory was refused.
+    /// `AllocError` comes where memory was refused. The queue's feed is gone then.
     pub fn with_room(alloc: A, feed: notices::Feed, writers: u32) -> Result<Feed<A>, AllocError>
         requires { feed.made ≤ writers }
         ensures { IfOk result (λ made. made ≡ feed) }
