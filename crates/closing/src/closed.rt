@@ -89,7 +89,7 @@ impl<D: Digest, const B: u8, A: Allocator> Closed<D, B, A> {
         &self.cores
     }
 
-    /// The headline: the repository of this number, which is below that of the cores, and the counts of all blocks.
+    /// The headline: the repository of this number, less than there are cores, and the counts of all blocks.
     ///
     /// Its root, its commit and its blocks are those, and no others, of the Merkle search tree built from scratch from the
     /// records that its accepted writes leave, with the commit of its last stamp; and the count of each CID is the number of
