@@ -1,0 +1,31 @@
+use Rattle.std.proofs.Common.{◌≡◌, ◌∙◌, sym, ap, subst, length, All, rules}
+use Rattle.closing.specs.Ending.{EndedView}
+use Rattle.closing.proofs.Closings.{settled_at, uneven_at, is_closed}
+use Rattle.closing.proofs.closed.close.Goals as goal
+
+pub compare-requires : goal.compare-requires
+compare-requires g c = (
+  search rules,
+  (
+    search rules,
+    subst (All (λ (e : EndedView). length e.seen ≡ length c.deref.result.now)) (sym c.deref-2.ensures.value)
+        (λ k d less. (c.requires.ended k d less).places ∙ ap length (sym c.deref.ensures.value)),
+  ),
+)
+
+pub settle_all-settled-requires-clause-ended : goal.settle_all-settled-requires-clause-ended
+settle_all-settled-requires-clause-ended g c k d less = (c.requires.ended k d less).queue
+
+pub invariant_of-result : goal.invariant_of-result
+invariant_of-result g c =
+    is_closed g.D.Digest.digest_of g.row.B c.args.tables c.args.queue.queue_id c.args.cores.items c.args.feed c.feed.inside.feed c.settle_all-settled.new.feed c.args.ended.items c.settle_all-settled.result.items
+    c.feed.view_is c.requires.feed c.requires.fresh c.requires.all c.settle_all-settled.ensures.feed c.settle_all-settled.ensures.same
+    (settled_at g.D.Digest.digest_of g.row.B c.args.tables c.deref.result.now c.args.cores.items c.deref-2.result.now c.args.ended.items c.deref.ensures.value c.deref-2.ensures.value c.in-Ok.ensures.settled)
+
+pub invariant_of-result-in-Err : goal.invariant_of-result-in-Err
+invariant_of-result-in-Err g c =
+    uneven_at g.D.Digest.digest_of g.row.B c.args.tables c.in-Err.mismatch c.deref.result.now c.args.cores.items c.deref-2.result.now c.args.ended.items c.deref.ensures.value c.deref-2.ensures.value c.in-Err.ensures.uneven
+
+pub returns-in-Err-clause-uneven : goal.returns-in-Err-clause-uneven
+returns-in-Err-clause-uneven g c =
+    uneven_at g.D.Digest.digest_of g.row.B c.args.tables c.in-Err.mismatch c.deref.result.now c.args.cores.items c.deref-2.result.now c.args.ended.items c.deref.ensures.value c.deref-2.ensures.value c.in-Err.ensures.uneven

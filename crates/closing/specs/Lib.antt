@@ -1,0 +1,5 @@
+pub mod Tally
+pub mod Ending
+pub mod Settling
+pub mod Counts
+pub mod Headline

@@ -1,0 +1,91 @@
+//! A close where memory is refused.
+
+use crate::closes::closed_after;
+use crate::repositories::{Batch, EMPTY, EMPTY_NODE, Heap};
+use cid::Cid;
+use cid::digests::Toy;
+use closing::{Closed, Feed};
+use notices::Queue;
+use refusing::Refusing;
+use std::process::Abort;
+use std::sync::Wait;
+
+/// The same record put into both repositories by the same stamp.
+const SHARED: [Batch; 2] = [(0, b'2', Some(EMPTY)), (1, b'2', Some(EMPTY))];
+
+/// Whether a repository with one write is shown as its core has it.
+fn is_shown<'h>(closed: &Closed<Toy, 2, Heap<'h>>, number: usize) -> bool {
+    let Some(core) = closed.cores().get(number) else {
+        return false;
+    };
+    let shown = closed.shown(number);
+    let mut blocks = 0u64;
+    for _ in shown.blocks {
+        blocks = blocks.saturating_add(1);
+    }
+    shown.root == core.root()
+        && shown.commit == core.commit()
+        && shown.accepted.len() == 1
+        && shown.stamps.len() == 1
+        && blocks == 3
+}
+
+/// Whether what takes no memory answers as ever, and the counts are refused.
+fn answer_without_memory<'h>(closed: &Closed<Toy, 2, Heap<'h>>, heap: Heap<'h>) -> bool {
+    is_shown(closed, 0)
+        && is_shown(closed, 1)
+        && closed.count(&Cid::of::<Toy>(EMPTY)) == 2
+        && closed.count(&Cid::of::<Toy>(EMPTY_NODE)) == 0
+        && closed.kept(0).is_empty()
+        && closed.counts(heap).is_err()
+}
+
+/// Whether three counts of 2 come at last, after each request for memory was refused in turn, and each time all memory was
+/// given back.
+fn counts_at_last<'h>(closed: &Closed<Toy, 2, Heap<'h>>, heap: Heap<'h>) -> bool {
+    let live = heap.live();
+    for request in 1..50u64 {
+        heap.refuse(request);
+        let answer = closed.counts(heap);
+        heap.refuse(0);
+        if let Ok(counts) = answer {
+            return request > 1 && counts.len() == 3 && counts.iter().all(|(_, count)| *count == 2);
+        }
+        if heap.live() != live {
+            return false;
+        }
+    }
+    false
+}
+
+/// Whether a close of two repositories answers all that, and its end takes no memory.
+fn close_without_memory<'h, R: Wait + Abort>(rt: &R, heap: Heap<'h>) -> bool {
+    let Ok(closed) = closed_after(rt, heap, (0, 1), &SHARED, 1) else {
+        return false;
+    };
+    let is_right = counts_at_last(&closed, heap);
+    heap.refuse_from(1);
+    let still_right = answer_without_memory(&closed, heap);
+    let refused = heap.refused();
+    closed.end();
+    is_right && still_right && heap.refused() == refused
+}
+
+#[test]
+fn refused_in_a_close(rt: HostRuntime) {
+    let heap = Refusing::new(rt.alloc());
+    assert!(rt; close_without_memory(&rt, &heap));
+    assert!(rt; heap.live() == 0);
+}
+
+#[test]
+fn refused_for_the_room(rt: HostRuntime) {
+    let heap = Refusing::new(rt.alloc());
+    let (queue, passes, feed) = Queue::open(&heap, 2, 2).expect(&rt, "a queue");
+    let live = heap.live();
+    heap.refuse(1);
+    assert!(rt; Feed::with_room(&heap, feed, 2).is_err() && heap.live() == live);
+    drop(passes);
+    drop(queue);
+    assert!(rt; heap.live() == 0);
+}
