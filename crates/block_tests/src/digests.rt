@@ -2,7 +2,7 @@
 
 use crate::fixtures::EMPTY_NODE;
 use cid::digests::{Clash, Size, Toy};
-use cid::{Digest, Sha256, layer};
+use cid::{Digest, Sha256, layer, layer_four};
 
 /// SHA-256 of the bytes of the empty node, by another program.
 const EMPTY_NODE_DIGEST: [u8; 32] = [
@@ -38,6 +38,13 @@ fn layers_of_keys(rt: HostRuntime) {
             layers
         );
     }
+}
+
+#[test]
+fn layers_of_four_keys(rt: HostRuntime) {
+    let [a, b, c, d] = KEYS.map(|key| key.as_bytes());
+    assert!(rt; layer_four::<Sha256, 2>(a, b, c, d) == [0, 1, 4, 8]);
+    assert!(rt; layer_four::<Toy, 2>(b"k0", b"k1", b"k2", b"k3") == [0, 1, 2, 3]);
 }
 
 #[test]

@@ -1,4 +1,5 @@
-//! Tests of digests, identifiers, counted blocks with their shards, and the allocator for tests.
+//! Tests of digests, one by one and side by side, identifiers, counted blocks with their shards, and the allocator for
+//! tests.
 #![tactic(auto)]
 
 #[cfg(test)]
@@ -13,5 +14,7 @@ mod fixtures;
 mod identifiers;
 #[cfg(test)]
 mod shards;
+#[cfg(test)]
+mod side_by_side;
 #[cfg(test)]
 mod stores;
