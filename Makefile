@@ -12,8 +12,8 @@ help:
 	@echo 'make gate-times        the gate, and the processor time that it took, crate by crate'
 	@echo 'make clean             takes away what was built'
 	@echo
-	@echo 'Tests stand in crates of their own: of dagcbor and node in format_tests, of cid, store and refusing in'
-	@echo 'block_tests, of scratch and edit in tree_tests, of notices in notice_tests, of commands in command_tests,'
+	@echo 'Tests stand in crates of their own: of dagcbor and node in format_tests, of lanes, cid, store and refusing'
+	@echo 'in block_tests, of scratch and edit in tree_tests, of notices in notice_tests, of commands in command_tests,'
 	@echo 'of batches, kept and repo in repo_tests, of export in export_tests, across crates in conformance.'
 
 demo:
