@@ -125,7 +125,10 @@ fn lists_without_memory(rt: HostRuntime) {
     for request in 1..=2u64 {
         let heap = Refusing::new(rt.alloc());
         heap.refuse(request);
-        assert!(rt; digest_sorted(&heap, &messages).is_err(), "at request {request}");
+        assert!(rt;
+            digest_sorted(&heap, &messages).is_err(),
+            "at request {request}"
+        );
         assert!(rt; heap.live() == 0, "at request {request}");
     }
     let heap = Refusing::new(rt.alloc());
