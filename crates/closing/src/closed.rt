@@ -51,9 +51,15 @@ impl<D: Digest, const B: u8, A: Allocator> Model for Closed<D, B, A> {
 
     ghost coded = { Prim.hlevel (codes, table_code) };
 
-    ghost view = { λ c. record { cores = c.cores.items; tables = c.tables; feed = c.feed; ended = c.settled.items } };
+    ghost view = { λ c. record {
+      cores = c.cores.items;
+      tables = c.tables;
+      feed = c.feed;
+      ended = c.settled.items;
+    } };
 
-    ghost invariant = { λ c. IsClosed D.digest_of B c.queue.queue_id c.cores.items c.tables c.feed c.settled.items };
+    ghost invariant = { λ c. IsClosed D.digest_of B c.queue.queue_id c.cores.items c.tables c.feed
+        c.settled.items };
 }
 
 /// Cores and tables that don't agree, or cores that have fewer accepted writes than a writer has seen there. Where it goes,
@@ -76,7 +82,12 @@ impl<D: Digest, const B: u8, A: Allocator> Model for Uneven<D, B, A> {
 
     ghost coded = { Prim.hlevel (codes, table_code) };
 
-    ghost view = { λ u. record { cores = u.cores.items; tables = u.tables; ended = u.ended.items; mismatch = u.mismatch } };
+    ghost view = { λ u. record {
+      cores = u.cores.items;
+      tables = u.tables;
+      ended = u.ended.items;
+      mismatch = u.mismatch;
+    } };
 
     ghost invariant = { λ u. IsUneven D.digest_of B u.cores.items u.tables u.ended.items u.mismatch };
 }
@@ -96,9 +107,13 @@ impl<D: Digest, const B: u8, A: Allocator> Closed<D, B, A> {
     /// the cores that have a block with it. It takes no memory.
     pub fn shown(&self, number: usize) -> Shown<'_, D, A>
         requires { number < length self.now.cores }
-        ensures accepted { (d : State) → shared_writes result.accepted.now ≡ (slice_index_or self.now.cores number d).accepted }
-        ensures stamps { (d : State) → stamps_of result.stamps.now ≡ (slice_index_or self.now.cores number d).stamps }
-        ensures from_scratch { IsFromScratch D.digest_of B (shared_writes result.accepted.now) (stamps_of result.stamps.now) result.root result.commit (used_blocks result.blocks.entries) }
+        ensures accepted { (d : State) → shared_writes result.accepted.now
+            ≡ (slice_index_or self.now.cores number d).accepted }
+        ensures stamps { (d : State) → stamps_of result.stamps.now
+            ≡ (slice_index_or self.now.cores number d).stamps }
+        ensures from_scratch { IsFromScratch D.digest_of B (shared_writes result.accepted.now)
+            (stamps_of result.stamps.now) result.root result.commit
+            (used_blocks result.blocks.entries) }
         ensures counts { AreTallies D.digest_of B self.now.cores self.now.tables }
     {
         show(element(&self.cores, number))
@@ -118,7 +133,8 @@ impl<D: Digest, const B: u8, A: Allocator> Closed<D, B, A> {
     ///
     /// It takes no memory, and waits for nothing but the queue's own steps.
     pub fn next_left<R: Wait>(&mut self, rt: &R) -> Option<Notice>
-        ensures received { IfSome result (λ notice. self.new ≡ record self.old { feed = received_one self.old.feed notice }) }
+        ensures received { IfSome result
+            (λ notice. self.new ≡ record self.old { feed = received_one self.old.feed notice }) }
         ensures known { IfSome result (λ notice. notice.writer < self.new.feed.made) }
         ensures unchanged { IfNone result (self.new ≡ self.old) }
         ensures square { IfNone result (AreSquare self.new.feed self.new.ended) }
@@ -144,8 +160,10 @@ impl<D: Digest, const B: u8, A: Allocator + Clone> Closed<D, B, A> {
     ///
     /// `AllocError` comes where memory was refused.
     pub fn counts(&self, alloc: A) -> Result<Vec<(Cid, u64), A>, AllocError>
-        ensures ascending { IfOk result (λ v. IsStrictlySortedBy (slice_cmp nat_cmp) (map (λ e. e.0) v.items)) }
-        ensures counts { IfOk result (λ v. (cid : List ℕ) → count_in v.items cid ≡ positive (tally D.digest_of B self.now.cores cid)) }
+        ensures ascending { IfOk result (λ v. IsStrictlySortedBy (slice_cmp nat_cmp)
+            (map (λ e. e.0) v.items)) }
+        ensures counts { IfOk result (λ v. (cid : List ℕ) → count_in v.items cid
+            ≡ positive (tally D.digest_of B self.now.cores cid)) }
     {
         let all = all_counts(alloc.clone()?, &self.tables)?;
         listed(alloc, all)
@@ -174,7 +192,8 @@ impl<D: Digest, const B: u8, A: Allocator> Uneven<D, B, A> {
     /// In what they don't agree. Where there is more than one such thing, it is one of them.
     pub fn mismatch(&self) -> Mismatch
         ensures mismatch { result ≡ self.now.mismatch }
-        ensures uneven { IsUneven D.digest_of B self.now.cores self.now.tables self.now.ended result }
+        ensures uneven { IsUneven D.digest_of B self.now.cores self.now.tables self.now.ended
+            result }
     {
         self.mismatch
     }
@@ -251,8 +270,10 @@ pub fn close<D: Digest, const B: u8, A: Allocator>(
     ensures ended { IfOk result (λ c. c.ended ≡ ended.items) }
     ensures joined { IfOk result (λ c. c.feed ≡ joined_all feed ended.items) }
     ensures settled { IfOk result (λ c. IsSettled D.digest_of B c.cores c.tables c.ended) }
-    ensures same { IfErr result (λ u. u ≡ record { cores = cores.items; tables = tables; ended = ended.items; mismatch = u.mismatch }) }
-    ensures uneven { IfErr result (λ u. IsUneven D.digest_of B u.cores u.tables u.ended u.mismatch) }
+    ensures same { IfErr result (λ u. u ≡ record
+        { cores = cores.items; tables = tables; ended = ended.items; mismatch = u.mismatch }) }
+    ensures uneven { IfErr result (λ u. IsUneven D.digest_of B u.cores u.tables u.ended
+        u.mismatch) }
 {
     match compare::<D, B, A>(&cores, &tables, &ended) {
         Ok(()) => {

@@ -56,7 +56,8 @@ fn is_entered<D: Digest, const B: u8, A: Allocator>(
     core: &Core<D, B, A>,
     tables: &[Shard<D, A>; SHARDS],
 ) -> bool
-    ensures { MatchBool result (IsEntered D.digest_of B core.now tables.now) (IsMissed D.digest_of B core.now tables.now) }
+    ensures { MatchBool result (IsEntered D.digest_of B core.now tables.now)
+        (IsMissed D.digest_of B core.now tables.now) }
 {
     for block in core.blocks() {
         let cid = block.cid();
@@ -72,7 +73,8 @@ fn all_entered<D: Digest, const B: u8, A: Allocator>(
     cores: &[Core<D, B, A>],
     tables: &[Shard<D, A>; SHARDS],
 ) -> bool
-    ensures { MatchBool result (AreEntered D.digest_of B cores.now tables.now) (IsMiscounted D.digest_of B cores.now tables.now) }
+    ensures { MatchBool result (AreEntered D.digest_of B cores.now tables.now)
+        (IsMiscounted D.digest_of B cores.now tables.now) }
 {
     for core in cores {
         if !is_entered(core, tables) {
@@ -112,7 +114,8 @@ fn all_have<D: Digest, const B: u8, A: Allocator>(
 ) -> bool
     requires numbered { NumberedFrom 0 cores.now }
     requires small { (number : ℕ) → set.contains entered.now number ≡ true → number < 1024 }
-    ensures { MatchBool result (AllHave D.digest_of B cores.now cid.now entered.now) (IsAlien D.digest_of B cores.now cid.now entered.now) }
+    ensures { MatchBool result (AllHave D.digest_of B cores.now cid.now entered.now)
+        (IsAlien D.digest_of B cores.now cid.now entered.now) }
 {
     let mut from = 0;
     while let Some(number) = entered.next_from(from) {
@@ -131,7 +134,8 @@ fn are_had<D: Digest, const B: u8, A: Allocator>(
     table: &Shard<D, A>,
 ) -> bool
     requires { NumberedFrom 0 cores.now }
-    ensures { MatchBool result (AreHad D.digest_of B cores.now shard table.now) (AreAlien D.digest_of B cores.now shard table.now) }
+    ensures { MatchBool result (AreHad D.digest_of B cores.now shard table.now)
+        (AreAlien D.digest_of B cores.now shard table.now) }
 {
     for (cid, entered) in table.entries() {
         if shard_number(&cid) == shard && !all_have(cores, &cid, entered) {
@@ -147,7 +151,8 @@ fn all_had<D: Digest, const B: u8, A: Allocator>(
     tables: &[Shard<D, A>; SHARDS],
 ) -> bool
     requires { NumberedFrom 0 cores.now }
-    ensures { MatchBool result (AreAllHad D.digest_of B cores.now tables.now) (IsMiscounted D.digest_of B cores.now tables.now) }
+    ensures { MatchBool result (AreAllHad D.digest_of B cores.now tables.now)
+        (IsMiscounted D.digest_of B cores.now tables.now) }
 {
     for (shard, table) in tables.iter().enumerate() {
         if !are_had(cores, shard, table) {

@@ -28,7 +28,8 @@ fn add_counts<D: Digest, A: Allocator + Clone>(
     shard: usize,
     table: &Shard<D, A>,
 ) -> Result<(), AllocError>
-    ensures { OnOk result ((cid : List ℕ) → count_in all.new.entries cid ≡ counted all.old.entries shard table.now cid) }
+    ensures { OnOk result ((cid : List ℕ) → count_in all.new.entries cid
+        ≡ counted all.old.entries shard table.now cid) }
 {
     for (cid, _) in table.entries() {
         let count = table.count(&cid);
@@ -50,7 +51,8 @@ pub(crate) fn all_counts<D: Digest, A: Allocator + Clone>(
     alloc: A,
     tables: &[Shard<D, A>; SHARDS],
 ) -> Result<BTreeMap<Cid, u64, A>, AllocError>
-    ensures { IfOk result (λ m. (cid : List ℕ) → count_in m.entries cid ≡ positive (count tables.now cid)) }
+    ensures { IfOk result (λ m. (cid : List ℕ) → count_in m.entries cid
+        ≡ positive (count tables.now cid)) }
 {
     let mut all = BTreeMap::new(alloc);
     for (shard, table) in tables.iter().enumerate() {
@@ -65,7 +67,8 @@ pub(crate) fn listed<A: Allocator>(
     all: BTreeMap<Cid, u64, A>,
 ) -> Result<Vec<(Cid, u64), A>, AllocError>
     ensures items { IfOk result (λ v. v.items ≡ all.entries) }
-    ensures ascending { IfOk result (λ v. IsStrictlySortedBy (slice_cmp nat_cmp) (map (λ e. e.0) v.items)) }
+    ensures ascending { IfOk result (λ v. IsStrictlySortedBy (slice_cmp nat_cmp)
+        (map (λ e. e.0) v.items)) }
 {
     all.into_iter().collect(alloc)
 }

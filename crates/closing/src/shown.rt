@@ -31,7 +31,9 @@ pub struct Shown<'a, D: Digest, A: Allocator = Global> {
 pub(crate) fn show<D: Digest, const B: u8, A: Allocator>(core: &Core<D, B, A>) -> Shown<'_, D, A>
     ensures accepted { shared_writes result.accepted.now ≡ core.now.accepted }
     ensures stamps { stamps_of result.stamps.now ≡ core.now.stamps }
-    ensures from_scratch { IsFromScratch D.digest_of B (shared_writes result.accepted.now) (stamps_of result.stamps.now) result.root result.commit (used_blocks result.blocks.entries) }
+    ensures from_scratch { IsFromScratch D.digest_of B (shared_writes result.accepted.now)
+        (stamps_of result.stamps.now) result.root result.commit
+        (used_blocks result.blocks.entries) }
 {
     Shown {
         accepted: core.accepted(),

@@ -24,9 +24,16 @@ pub(crate) fn write_commit<
     S: Source<'a, Arc<Block<D, A>, A>>,
     W: Out,
 >(src: &mut S, seen: &mut Seen<A>, out: &mut W, commit: Option<Cid>) -> Result<u64, ExportFault>
-    ensures taken { Takes (W.taken out.old) (W.taken out.new) result (sections D.digest_of seen.old (commit_block (λ c. option_map arc_value (S.gives src.old c)) commit)) }
-    ensures length { IfOk result (λ count. count ≡ length (sections D.digest_of seen.old (commit_block (λ c. option_map arc_value (S.gives src.old c)) commit))) }
-    ensures seen { OnOk result ((bs : List (List ℕ)) → let found = commit_block (λ c. option_map arc_value (S.gives src.old c)) commit in sections D.digest_of seen.old (found ++ bs) ≡ sections D.digest_of seen.old found ++ sections D.digest_of seen.new bs) }
+    ensures taken { Takes (W.taken out.old) (W.taken out.new) result
+        (sections D.digest_of seen.old (commit_block
+        (λ c. option_map arc_value (S.gives src.old c)) commit)) }
+    ensures length { IfOk result (λ count. count
+        ≡ length (sections D.digest_of seen.old
+        (commit_block (λ c. option_map arc_value (S.gives src.old c)) commit))) }
+    ensures seen { OnOk result ((bs : List (List ℕ))
+        → let found = commit_block (λ c. option_map arc_value (S.gives src.old c)) commit in
+        sections D.digest_of seen.old (found ++ bs) ≡ sections D.digest_of seen.old found
+        ++ sections D.digest_of seen.new bs) }
     ensures cause { HasCause (W.failures out.old) (W.failures out.new) result }
     ensures same { S.gives src.new ≡ S.gives src.old }
 {
@@ -47,8 +54,12 @@ pub(crate) fn write_blocks<
     S: Source<'a, Arc<Block<D, A>, A>>,
     W: Out,
 >(src: &mut S, mut walk: Walk<'a, A>, seen: &mut Seen<A>, out: &mut W) -> Result<u64, ExportFault>
-    ensures taken { Takes (W.taken out.old) (W.taken out.new) result (sections_left D.digest_of (λ c. option_map arc_value (S.gives src.old c)) seen.old walk.entry) }
-    ensures length { IfOk result (λ count. count ≡ capped (length (sections_left D.digest_of (λ c. option_map arc_value (S.gives src.old c)) seen.old walk.entry))) }
+    ensures taken { Takes (W.taken out.old) (W.taken out.new) result
+        (sections_left D.digest_of (λ c. option_map arc_value (S.gives src.old c)) seen.old
+        walk.entry) }
+    ensures length { IfOk result (λ count. count
+        ≡ capped (length (sections_left D.digest_of
+        (λ c. option_map arc_value (S.gives src.old c)) seen.old walk.entry))) }
     ensures cause { HasCause (W.failures out.old) (W.failures out.new) result }
 {
     let mut written: u64 = 0;

@@ -60,8 +60,11 @@ fn car_within<
     most: u16,
     out: &mut W,
 ) -> Result<u64, ExportFault>
-    ensures taken { Takes (W.taken out.old) (W.taken out.new) result (car_met D.digest_of (λ c. option_map arc_value (S.gives src.old c)) most commit root) }
-    ensures length { IfOk result (λ count. count ≡ capped (length (car_met D.digest_of (λ c. option_map arc_value (S.gives src.old c)) most commit root))) }
+    ensures taken { Takes (W.taken out.old) (W.taken out.new) result
+        (car_met D.digest_of (λ c. option_map arc_value (S.gives src.old c)) most commit root) }
+    ensures length { IfOk result (λ count. count
+        ≡ capped (length (car_met D.digest_of
+        (λ c. option_map arc_value (S.gives src.old c)) most commit root))) }
     ensures cause { HasCause (W.failures out.old) (W.failures out.new) result }
 {
     let mut seen = Seen::none(alloc.clone()?);

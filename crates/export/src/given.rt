@@ -16,7 +16,8 @@ pub(crate) fn find<'a, D: Digest, K: AsSlice<u8>>(
     cid: &Cid,
 ) -> Option<&'a [u8]>
     requires { AreHashed D.digest_of (map K.items blocks.now) hashed.now }
-    ensures found { option_map (λ b. b.now) result ≡ first_with D.digest_of cid.now (map K.items blocks.now) }
+    ensures found { option_map (λ b. b.now) result
+        ≡ first_with D.digest_of cid.now (map K.items blocks.now) }
     ensures hashed { AreHashed D.digest_of (map K.items blocks.now) hashed.new }
 {
     let mut place = 0;

@@ -58,7 +58,8 @@ impl Hashed {
 
     /// Adds one after the others, where there is room.
     pub(crate) fn push(&mut self, cid: Cid)
-        ensures { self.new ≡ (if nat_lt (length self.old) 32 then self.old ++ cid ∷ [] else self.old) }
+        ensures { self.new
+            ≡ (if nat_lt (length self.old) 32 then self.old ++ cid ∷ [] else self.old) }
     {
         if self.count < ROOM {
             self.cids[self.count] = cid;

@@ -27,7 +27,10 @@ impl Log {
 
     /// With these bytes after the others.
     pub fn with(&self, _bytes: &[u8]) -> Log
-        ensures { result ≡ record { taken = self.now.taken ++ _bytes.now; failures = self.now.failures } }
+        ensures { result ≡ record {
+          taken = self.now.taken ++ _bytes.now;
+          failures = self.now.failures;
+        } }
     {
         Log {}
     }

@@ -18,8 +18,10 @@ pub(crate) fn write_once<D: Digest, A: Allocator + Clone, W: Out>(
     out: &mut W,
     block: &Block<D, A>,
 ) -> Result<u64, ExportFault>
-    ensures taken { Takes (W.taken out.old) (W.taken out.new) result (section_once D.digest_of seen.old block.now) }
-    ensures length { IfOk result (λ count. count ≡ length (section_once D.digest_of seen.old block.now)) }
+    ensures taken { Takes (W.taken out.old) (W.taken out.new) result
+        (section_once D.digest_of seen.old block.now) }
+    ensures length { IfOk result (λ count. count
+        ≡ length (section_once D.digest_of seen.old block.now)) }
     ensures seen { OnOk result (HasMore seen.old (cid_of D.digest_of block.now) seen.new) }
     ensures cause { HasCause (W.failures out.old) (W.failures out.new) result }
 {

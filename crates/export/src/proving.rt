@@ -45,7 +45,9 @@ pub(crate) fn path_over<
     S: Source<'a, Arc<Block<D, A>, A>>,
 >(alloc: A, src: &mut S, root: Cid, key: &[u8]) -> Result<Vec<Arc<Block<D, A>, A>, A>, AllocError>
     requires { 1 ≤ B }
-    ensures { (es : List Pair) → HasTree D.digest_of B (λ c. option_map arc_value (S.gives src.old c)) root es → IfOk result (λ nodes. map arc_value nodes.items ≡ path D.digest_of B es key.now) }
+    ensures { (es : List Pair) → HasTree D.digest_of B
+        (λ c. option_map arc_value (S.gives src.old c)) root es
+        → IfOk result (λ nodes. map arc_value nodes.items ≡ path D.digest_of B es key.now) }
 {
     path_within(alloc, src, root, key, 256 / B as u16 + 1)
 }
@@ -58,7 +60,9 @@ fn path_within<'a, D: Digest + 'a, A: Allocator + 'a, S: Source<'a, Arc<Block<D,
     key: &[u8],
     most: u16,
 ) -> Result<Vec<Arc<Block<D, A>, A>, A>, AllocError>
-    ensures { IfOk result (λ nodes. map arc_value nodes.items ≡ map shape_bytes (path_from (shown_by (λ c. option_map arc_value (S.gives src.old c))) most key.now (Some root))) }
+    ensures { IfOk result (λ nodes. map arc_value nodes.items
+        ≡ map shape_bytes (path_from (shown_by (λ c. option_map arc_value (S.gives src.old c))) most
+        key.now (Some root))) }
 {
     let mut nodes = Vec::new(alloc);
     let mut link = Some(root);
@@ -83,7 +87,8 @@ fn path_within<'a, D: Digest + 'a, A: Allocator + 'a, S: Source<'a, Arc<Block<D,
 /// The link below which a key lies in the node of a block, or `None` where the bytes are no node.
 fn link_in(block: &[u8], key: &[u8]) -> Option<Option<Cid>>
     ensures link { result ≡ option_map (gap key.now) (shape_of_bytes block.now) }
-    ensures bytes { IfSome result (λ link. option_map shape_bytes (shape_of_bytes block.now) ≡ Some block.now) }
+    ensures bytes { IfSome result (λ link. option_map shape_bytes (shape_of_bytes block.now)
+        ≡ Some block.now) }
 {
     match NodeView::parse(block) {
         Ok(node) => Some(link_at(node.find(key))),

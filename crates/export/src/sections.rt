@@ -37,7 +37,8 @@ pub(crate) fn write_section<D: Digest, A: Allocator, W: Out>(
     out: &mut W,
     block: &Block<D, A>,
 ) -> Result<u64, Failed>
-    ensures taken { Takes (W.taken out.old) (W.taken out.new) result (section D.digest_of block.now) }
+    ensures taken { Takes (W.taken out.old) (W.taken out.new) result
+        (section D.digest_of block.now) }
     ensures failures { Fails (W.failures out.old) (W.failures out.new) result }
     ensures length { IfOk result (λ count. count ≡ length (section D.digest_of block.now)) }
 {

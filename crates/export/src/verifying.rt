@@ -61,7 +61,8 @@ fn value_below<D: Digest, K: AsSlice<u8>>(
     key: &[u8],
     most: u16,
 ) -> Result<Option<Cid>, ProofFault>
-    ensures { Gives (λ value. value) fault_of result (verified_within most D.digest_of (map K.items blocks.now) key.now top) }
+    ensures { Gives (λ value. value) fault_of result
+        (verified_within most D.digest_of (map K.items blocks.now) key.now top) }
 {
     let mut hashed = Hashed::none(top);
     let mut cid = top;
@@ -86,7 +87,8 @@ fn place_below<'a, D: Digest, K: AsSlice<u8>>(
     key: &[u8],
 ) -> Result<Place<'a>, ProofFault>
     requires { AreHashed D.digest_of (map K.items blocks.now) hashed.now }
-    ensures place { Gives (place_of key.now) fault_of result (place_below D.digest_of (map K.items blocks.now) key.now cid.now) }
+    ensures place { Gives (place_of key.now) fault_of result
+        (place_below D.digest_of (map K.items blocks.now) key.now cid.now) }
     ensures hashed { AreHashed D.digest_of (map K.items blocks.now) hashed.new }
 {
     let Some(block) = find::<D, K>(blocks, hashed, cid) else {

@@ -67,7 +67,8 @@ impl<'a, A: Allocator> Walk<'a, A> {
     ) -> Result<Step<'a, D, A>, AllocError>
     where
         A: 'a,
-        ensures step { IfOk result (IsStep (λ c. option_map arc_value (S.gives src.old c)) self.old self.new) }
+        ensures step { IfOk result (IsStep
+            (λ c. option_map arc_value (S.gives src.old c)) self.old self.new) }
         ensures same { S.gives src.new ≡ S.gives src.old }
     {
         let _ = &self.most;
@@ -89,7 +90,8 @@ impl<'a, A: Allocator> Walk<'a, A> {
 
     /// Takes the link to go down from, unless it is too deep.
     fn take_link(&mut self) -> Option<Cid>
-        ensures link { result ≡ (if nat_lt (length self.old.stack) self.old.most then self.old.link else None) }
+        ensures link { result
+            ≡ (if nat_lt (length self.old.stack) self.old.most then self.old.link else None) }
         ensures taken { self.new ≡ without_link self.old }
     {
         let link = self.link;
@@ -129,7 +131,8 @@ fn next_entry<'a, A: Allocator>(
     stack: &mut Vec<Entries<'a>, A>,
 ) -> Result<Option<EntryView<'a>>, AllocError>
     ensures none { IfOk result (λ entry. IfNone entry (next_row (turned stack.old.items) ≡ None)) }
-    ensures some { IfOk result (λ entry. IfSome entry (λ e. next_row (turned stack.old.items) ≡ Some (row_of e, turned stack.new.items))) }
+    ensures some { IfOk result (λ entry. IfSome entry
+        (λ e. next_row (turned stack.old.items) ≡ Some (row_of e, turned stack.new.items))) }
     ensures shorter { length stack.new.items ≤ length stack.old.items }
 {
     while let Some(mut entries) = stack.pop() {

@@ -158,8 +158,8 @@ fn are_held<'h, D: Digest>(
 }
 
 /// Whether the batches of these turns end as they say, in a store with room for so many blocks beside the one of repositories
-/// without writes. The second repository then
-/// still has its blocks when the first is gone, and all memory is given back in the end.
+/// without writes. The second repository then still has its blocks when the first is gone, and all memory is given back in
+/// the end.
 pub(crate) fn are_turns<R: Abort, D: Digest>(
     rt: &R,
     alloc: Global,
