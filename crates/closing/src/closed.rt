@@ -4,6 +4,7 @@ ghost use Rattle.std.specs.Prelude.{◌≡◌, ◌<◌, ℕ, List, [], length, m
 ghost use Rattle.std.specs.List.Sorted.{IsStrictlySortedBy};
 ghost use Rattle.std.specs.Cmp.Lexicographic.{slice_cmp};
 ghost use Rattle.std.specs.Ordering.{nat_cmp};
+ghost use Rattle.notices.specs.Numbering.{IsNumbered};
 ghost use Rattle.notices.specs.Views.{received_one};
 ghost use Rattle.spec.specs.States.{State};
 ghost use Rattle.batches.specs.Values.{shared_writes, stamps_of};
@@ -12,7 +13,7 @@ ghost use Rattle.closing.specs.Headline.{IsFromScratch, AreTallies};
 ghost use Rattle.closing.specs.Tally.{tally, count};
 ghost use Rattle.closing.specs.Counts.{count_in, positive};
 ghost use Rattle.closing.specs.Ending.{IsEndedAt, joined_all, kept_by};
-ghost use Rattle.closing.specs.Settling.{IsSettled, IsUneven, AreSquare};
+ghost use Rattle.closing.specs.Settling.{IsSettled, IsUneven, IsAllTold};
 
 use crate::comparing::compare;
 use crate::counts::{all_counts, count_in_shard, listed};
@@ -129,7 +130,8 @@ impl<D: Digest, const B: u8, A: Allocator> Closed<D, B, A> {
     }
 
     /// Takes the oldest notice that was left in the queue, or answers `None` only where the queue was empty at some moment of
-    /// the call. Then what was received of each writer, and after it what the writer kept, is what it told.
+    /// the call. Then what was received of each writer, and after it what the writer kept, is what it told. What was received
+    /// of a writer is numbered 1, 2, .. in order.
     ///
     /// It takes no memory, and waits for nothing but the queue's own steps.
     pub fn next_left<R: Wait>(&mut self, rt: &R) -> Option<Notice>
@@ -137,7 +139,8 @@ impl<D: Digest, const B: u8, A: Allocator> Closed<D, B, A> {
             (λ notice. self.new ≡ record self.old { feed = received_one self.old.feed notice }) }
         ensures known { IfSome result (λ notice. notice.writer < self.new.feed.made) }
         ensures unchanged { IfNone result (self.new ≡ self.old) }
-        ensures square { IfNone result (AreSquare self.new.feed self.new.ended) }
+        ensures told { IfNone result (IsAllTold self.new.feed self.new.ended) }
+        ensures numbered { IsNumbered self.new.feed.received }
     {
         self.queue.take(rt, &mut self.feed)
     }
