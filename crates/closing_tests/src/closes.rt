@@ -13,10 +13,7 @@ use std::sync::Wait;
 use store::{SHARDS, Shard, Shards};
 
 /// What a close answers.
-pub(crate) type Answer<'h, D, const B: u8> = Result<
-    Closed<D, B, Heap<'h>>,
-    Uneven<D, B, Heap<'h>>,
->;
+pub(crate) type Answer<'h, D, const B: u8> = Result<Closed<D, B, Heap<'h>>, Uneven<D, B, Heap<'h>>>;
 
 /// A writer that has ended: it keeps this notice, and has seen so many accepted writes in each repository.
 fn ended<'h, R: Abort>(

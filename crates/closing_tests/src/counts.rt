@@ -87,7 +87,8 @@ fn two_repositories_share_blocks(rt: HostRuntime) {
 }
 
 /// The CID of the node without entries. Its digest is SHA-256 of the node, by another program.
-const EMPTY_NODE_CID: &[u8] = b"\x01\x71\x12\x20\x9d\xfe\xfe\x61\xdd\x76\xea\x3d\xca\xe5\x02\x38\x80\xb0\x83\x79\
+const EMPTY_NODE_CID: &[u8] =
+    b"\x01\x71\x12\x20\x9d\xfe\xfe\x61\xdd\x76\xea\x3d\xca\xe5\x02\x38\x80\xb0\x83\x79\
     \xd5\x7a\xdf\x20\x48\x2d\x6f\xdb\xe2\x75\x92\x89\xf6\x47\x67\x7b";
 
 /// Whether two repositories without writes, under the protocol's digest and with its zero bits a layer, have one block in

@@ -15,7 +15,12 @@ use std::sync::Wait;
 const SHARED: [Batch; 2] = [(0, b'2', Some(EMPTY)), (1, b'2', Some(EMPTY))];
 
 /// The CID of the block that has a link to this CID between these bytes.
-fn linking<'h>(heap: Heap<'h>, before: &[u8], link: &Cid, behind: &[u8]) -> Result<Cid, AllocError> {
+fn linking<'h>(
+    heap: Heap<'h>,
+    before: &[u8],
+    link: &Cid,
+    behind: &[u8],
+) -> Result<Cid, AllocError> {
     let mut bytes = Vec::from_slice(heap, before)?;
     bytes.extend_from_slice(link.as_bytes())?;
     bytes.extend_from_slice(behind)?;
@@ -30,7 +35,8 @@ fn one_root<'h>(heap: Heap<'h>) -> Result<Cid, AllocError> {
 
 /// The CID of its commit, by the commit's bytes.
 fn one_commit<'h>(heap: Heap<'h>, root: &Cid) -> Result<Cid, AllocError> {
-    let before = b"\xa5\x63did\x71did:web:localhost\x63rev\x6d2222222222222\x64data\xd8\x2a\x58\x25\x00";
+    let before =
+        b"\xa5\x63did\x71did:web:localhost\x63rev\x6d2222222222222\x64data\xd8\x2a\x58\x25\x00";
     linking(heap, before, root, b"\x64prev\xf6\x67version\x03")
 }
 

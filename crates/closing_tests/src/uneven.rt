@@ -39,7 +39,10 @@ fn numbers_and_lists(rt: HostRuntime) {
     for (numbers, seen, wanted) in ROWS {
         let heap = Refusing::new(rt.alloc());
         let answer = closed_after(&rt, &heap, numbers, &ONE_EACH, seen);
-        assert!(rt; compared(answer) == (2, wanted) && heap.live() == 0, "{seen}");
+        assert!(rt;
+            compared(answer) == (2, wanted) && heap.live() == 0,
+            "{seen}"
+        );
     }
 }
 
