@@ -5,9 +5,9 @@ ghost use Rattle.std.specs.Prelude.{◌<◌};
 use crate::closes::{Answer, closed, closed_after};
 use crate::counts::are_counts;
 use crate::repositories::{Batch, EMPTY, Heap, is_taken, opened, two_cores};
-use cid::Block;
 use cid::digests::Toy;
-use closing::Mismatch;
+use cid::{Block, Cid};
+use closing::{Mismatch, end_all};
 use refusing::Refusing;
 use repo::Core;
 use std::process::Abort;
@@ -98,15 +98,31 @@ fn closes_with_an_entry_elsewhere<'h, R: Wait + Abort>(rt: &R, heap: Heap<'h>) -
     let block = Arc::new(heap, Block::of(bytes)).expect(rt, "room");
     let cid = block.cid();
     let elsewhere = (shard_number(&cid) + 1) % SHARDS;
-    let Ok(hold) = tables[elsewhere].acquire(0, block) else {
-        return false;
-    };
-    let is_right = match closed::<Toy, R, 2>(rt, heap, cores, tables, 0) {
-        Ok(closed) => closed.count(&cid) == 0 && are_counts(heap, &closed, 1, 2),
+    match tables[elsewhere].acquire(0, block) {
+        Ok(hold) => {
+            let is_right = closes_without(rt, heap, cores, tables, &cid);
+            Shard::new(heap, 1).release(hold);
+            is_right
+        }
+        Err(_) => {
+            end_all(cores, tables);
+            false
+        }
+    }
+}
+
+/// Whether a close of these cores and tables counts one block, held by two cores, and none of this CID.
+fn closes_without<'h, R: Abort>(
+    rt: &R,
+    heap: Heap<'h>,
+    cores: Vec<Core<Toy, 2, Heap<'h>>, Heap<'h>>,
+    tables: [Shard<Toy, Heap<'h>>; SHARDS],
+    cid: &Cid,
+) -> bool {
+    match closed(rt, heap, cores, tables, 0) {
+        Ok(closed) => closed.count(cid) == 0 && are_counts(heap, &closed, 1, 2),
         Err(_) => false,
-    };
-    Shard::new(heap, 1).release(hold);
-    is_right
+    }
 }
 
 #[test]
