@@ -25,7 +25,15 @@ impl Log {
         Log {}
     }
 
-    /// With these bytes after the others.
+    /// After these bytes, which whoever calls it names in a proof: what an output holds from the start.
+    pub(crate) fn after() -> Log
+        ghost bytes: { List ℕ }
+        ensures { result ≡ record { taken = bytes; failures = 0 } }
+    {
+        Log {}
+    }
+
+    /// With these bytes after the others. They are read by proofs alone.
     pub fn with(&self, _bytes: &[u8]) -> Log
         ensures { result ≡ record {
           taken = self.now.taken ++ _bytes.now;
