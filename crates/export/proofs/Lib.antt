@@ -1,7 +1,6 @@
 pub mod Exported
 pub mod Finding
 pub mod FirstOnes
-pub mod Holding
 pub mod Leaving
 pub mod Numbers
 pub mod OneNode

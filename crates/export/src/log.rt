@@ -25,8 +25,8 @@ impl Log {
         Log {}
     }
 
-    /// After these bytes, which whoever calls it names in a proof: what an output holds from the start.
-    pub(crate) fn after() -> Log
+    /// After these bytes: those that an output holds from the start, which a proof names by what it knows of it.
+    pub(crate) fn after<T>(_output: &T) -> Log
         ghost bytes: { List ℕ }
         ensures { result ≡ record { taken = bytes; failures = 0 } }
     {

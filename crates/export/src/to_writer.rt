@@ -39,7 +39,7 @@ impl<W: Write> ToWriter<W> {
           failures = 0;
         } }
     {
-        let log = Log::after();
+        let log = Log::after(&writer);
         ToWriter { writer, log }
     }
 
