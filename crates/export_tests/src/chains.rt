@@ -1,9 +1,11 @@
-//! Chains of nodes without pairs, each with a link to the one before, as deep as a proof may be and deeper.
+//! Chains of nodes without pairs, each with a link to the one before, as deep as a proof may be and deeper, with all memory
+//! refused while they are read.
 
 ghost use Rattle.std.specs.Prelude.{◌≤◌};
 
 use cid::{Cid, Sha256};
 use export::{ProofFault, verify};
+use refusing::Refusing;
 use std::alloc::{AllocFailed, Allocator};
 use std::test::Fail;
 
@@ -62,8 +64,11 @@ fn answer<const B: u8, A: Allocator>(
 
 #[test]
 fn the_deepest_proof_and_deeper(rt: HostRuntime) -> Result<(), Fail> {
-    let mut nodes = chain(rt.alloc(), 130)?;
+    let heap = Refusing::new(rt.alloc());
+    let mut nodes = chain(&heap, 130)?;
+    let mixed = twice(&heap, &nodes)?;
     assert!(rt; nodes.len() == 130);
+    heap.refuse_from(1);
     let absent = Some(Ok(None));
     let too_deep = Some(Err(ProofFault::TooDeep));
     assert!(rt; answer::<2, _>(&nodes, 128) == absent);
@@ -75,8 +80,8 @@ fn the_deepest_proof_and_deeper(rt: HostRuntime) -> Result<(), Fail> {
     nodes.reverse();
     assert!(rt; answer::<2, _>(&nodes, 1) == absent);
     assert!(rt; answer::<2, _>(&nodes, 0) == too_deep);
-    let mixed = twice(rt.alloc(), &nodes)?;
-    assert!(rt; answer::<2, _>(&mixed, 4) == absent);
-    assert!(rt; answer::<2, _>(&mixed, 0) == too_deep);
+    assert!(rt; answer::<2, _>(&mixed, 4 * 128) == absent);
+    assert!(rt; answer::<2, _>(&mixed, 4 * 129) == too_deep);
+    assert!(rt; heap.refused() == 0);
     Ok(())
 }
