@@ -1,5 +1,4 @@
 -- The kept blocks, each once.
-use mathlib.Core.List as List
 use Rattle.std.proofs.Common.{zero, suc, ◌≡◌, ℕ, ◌∷◌, [], List, refl, ap, sym, ◌∙◌, subst, cond, Bool, true, false, arith, nat_eq}
 use Rattle.std.specs.Prelude.{Some, None, map as each, ◌&&◌, T}
 use Rattle.std.specs.Arc.{arc_value}

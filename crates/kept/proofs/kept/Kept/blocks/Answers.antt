@@ -1,4 +1,4 @@
-use Rattle.std.proofs.Common.{ap, subst, List, ℕ}
+use Rattle.std.proofs.Common.{subst}
 use Rattle.std.specs.List.Sorted.{IsPermutation}
 use Rattle.kept.specs.Counts.{Keeping, blocks_of}
 use Rattle.kept.specs.Uses.{used_blocks}

@@ -1,6 +1,5 @@
 use Rattle.std.proofs.Common.{◌≡◌, ◌<◌, [], arith, length, subst}
-use Rattle.std.specs.Prelude.{Some, None}
-use Rattle.kept.specs.Uses.{at, Updated}
+use Rattle.kept.specs.Uses.{at}
 use Rattle.kept.proofs.Entries.{listed_at, shown_at}
 use Rattle.kept.proofs.Leaving.{going_first, going_on, going_last}
 use Rattle.kept.proofs.use_map.UseMap.end_in.Goals as goal
