@@ -40,9 +40,15 @@ impl<D: Digest, const B: u8> Model for Host<D, B> {
 
     ghost Value = { HostView };
 
-    ghost view = { λ h. record { queue = h.queue; shelf = h.shelf; repos = length h.repositories.items; limit = h.limit } };
+    ghost view = { λ h. record {
+      queue = h.queue;
+      shelf = h.shelf;
+      repos = length h.repositories.items;
+      limit = h.limit;
+    } };
 
-    ghost invariant = { λ h. (vec_len h.room ≡ 0) × (vec_len h.repositories ≤ vec_capacity h.room) × (length h.repositories.items ≤ 1024) };
+    ghost invariant = { λ h. (vec_len h.room ≡ 0) × (vec_len h.repositories ≤ vec_capacity h.room)
+        × (length h.repositories.items ≤ 1024) };
 }
 
 /// A host that was opened: a seat for each writer, in the order of their numbers, and the feed of its queue.
@@ -145,7 +151,8 @@ impl<D: Digest, const B: u8> Host<D, B> {
         ensures joined { IfOk result (λ c. c.feed ≡ joined_all feed ended.items) }
         ensures settled { IfOk result (λ c. IsSettled D.digest_of B c.cores c.tables c.ended) }
         ensures same { IfErr result (λ u. u.ended ≡ ended.items) }
-        ensures uneven { IfErr result (λ u. IsUneven D.digest_of B u.cores u.tables u.ended u.mismatch) }
+        ensures uneven { IfErr result (λ u. IsUneven D.digest_of B u.cores u.tables u.ended
+            u.mismatch) }
     {
         let Host {
             queue,

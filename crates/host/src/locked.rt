@@ -5,9 +5,8 @@
 //! again.
 
 ghost use Rattle.std.specs.Prelude.{◌≡◌, IsTrue, IfOk, IfErr, IfSome, option_map};
-ghost use Rattle.batches.specs.Values.{stamp_of, writes_of};
 ghost use Rattle.edit.specs.Walks.{pairs_given};
-ghost use Rattle.host.specs.Seeing.{IsSeen, IsAcceptance, IsRefusalAfter, IsFound, IsListed};
+ghost use Rattle.host.specs.Seeing.{IsSeen, IsTaken, IsRefusedSo, IsFound, IsListed};
 
 use batches::{RepoFault, Stamp, Write};
 use cid::{Cid, Digest};
@@ -27,7 +26,7 @@ pub(crate) struct Wanted {
 
 /// Whether the core is of the wanted repository, and has no fewer accepted writes than were seen there.
 pub(crate) fn is_wanted<D: Digest, const B: u8>(core: &Core<D, B>, wanted: Wanted) -> bool
-    ensures { IsTrue result → IsSeen wanted.limit wanted.repo wanted.seen core.now }
+    ensures { IsTrue result → IsSeen wanted core.now }
 {
     core.me() == wanted.repo && core.limit() == wanted.limit && wanted.seen <= core.number()
 }
@@ -42,8 +41,10 @@ pub(crate) fn apply_at<D: Digest, const B: u8, R: Wait>(
     stamp: &Stamp,
     writes: &[Write],
 ) -> Option<Result<Applied, (usize, RepoFault<D>)>>
-    ensures accepted { IfSome result (λ r. IfOk r (λ a. IsAcceptance D.digest_of B wanted.limit wanted.repo wanted.seen (stamp_of stamp.now) (writes_of writes.now) a.number a.root)) }
-    ensures refused { IfSome result (λ r. IfErr r (IsRefusalAfter D.digest_of B wanted.limit wanted.repo wanted.seen (stamp_of stamp.now) (writes_of writes.now))) }
+    ensures accepted { IfSome result
+        (λ r. IfOk r (IsTaken D.digest_of B wanted stamp.now writes.now)) }
+    ensures refused { IfSome result
+        (λ r. IfErr r (IsRefusedSo D.digest_of B wanted stamp.now writes.now)) }
 {
     if !is_wanted(core, wanted) {
         return None;
@@ -59,7 +60,8 @@ pub(crate) fn record_in<D: Digest, const B: u8>(
     wanted: Wanted,
     key: &[u8],
 ) -> Option<Result<(u64, Option<Vec<u8>>), AllocError>>
-    ensures { IfSome result (λ o. IfOk o (λ r. IsFound wanted.limit wanted.repo wanted.seen key.now r.0 (option_map (λ v. v.items) r.1))) }
+    ensures { IfSome result (λ o. IfOk o (λ r.
+        IsFound wanted key.now r.0 (option_map (λ v. v.items) r.1))) }
 {
     if !is_wanted(core, wanted) {
         return None;
@@ -82,7 +84,8 @@ pub(crate) fn pairs_in<D: Digest, const B: u8>(
     from: &[u8],
     limit: usize,
 ) -> Option<Result<(u64, Vec<(Vec<u8>, Cid)>), AllocError>>
-    ensures { IfSome result (λ o. IfOk o (λ r. IsListed D.digest_of wanted.limit wanted.repo wanted.seen from.now limit r.0 (pairs_given r.1.items))) }
+    ensures { IfSome result (λ o. IfOk o (λ r.
+        IsListed D.digest_of wanted from.now limit r.0 (pairs_given r.1.items))) }
 {
     if !is_wanted(core, wanted) {
         return None;

@@ -125,8 +125,10 @@ impl<D: Digest, const B: u8> Host<D, B> {
         ensures repos { IfOk result (λ o. o.host.repos ≡ limits.repos) }
         ensures limit { IfOk result (λ o. o.host.limit ≡ limits.repo_writes) }
         ensures room { IfOk result (λ o. o.host.queue.room ≡ limits.queue) }
-        ensures feed { IfOk result (λ o. o.feed ≡ fresh_feed o.host.queue.queue_id limits.writers) }
-        ensures seats { IfOk result (λ o. o.seats.items ≡ fresh_seats o.host.queue.queue_id limits.writers limits.repos) }
+        ensures feed { IfOk result (λ o.
+            o.feed ≡ fresh_feed o.host.queue.queue_id limits.writers) }
+        ensures seats { IfOk result (λ o. o.seats.items
+            ≡ fresh_seats o.host.queue.queue_id limits.writers limits.repos) }
     {
         tested(&limits)?;
         let (queue, passes, feed) = Queue::open(alloc, limits.writers, limits.queue)?;

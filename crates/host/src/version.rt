@@ -114,7 +114,7 @@ pub(crate) fn version_in<D: Digest, const B: u8>(
     wanted: Wanted,
 ) -> Option<Result<Version, AllocError>>
     ensures lawful { IfSome result (λ r. IfOk r (IsVersion D.digest_of B)) }
-    ensures state { IfSome result (λ r. IfOk r (IsOfState D.digest_of B wanted.limit wanted.repo wanted.seen)) }
+    ensures state { IfSome result (λ r. IfOk r (IsOfState D.digest_of B wanted)) }
 {
     if !is_wanted(core, wanted) {
         return None;

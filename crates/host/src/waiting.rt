@@ -6,9 +6,8 @@
 
 ghost use Rattle.std.specs.Prelude.{◌≡◌, ◌<◌, IfOk, IfErr, option_map};
 ghost use Rattle.boxcar.specs.Table.{Shows};
-ghost use Rattle.batches.specs.Values.{stamp_of, writes_of};
 ghost use Rattle.edit.specs.Walks.{pairs_given};
-ghost use Rattle.host.specs.Seeing.{IsAcceptance, IsRefusalAfter, IsFound, IsListed};
+ghost use Rattle.host.specs.Seeing.{IsTaken, IsRefusedSo, IsFound, IsListed, wanted_of};
 ghost use Rattle.host.specs.Versions.{IsVersion, IsOfState};
 
 use crate::host::Host;
@@ -24,7 +23,7 @@ impl<D: Digest, const B: u8> Host<D, B> {
     /// The repository of this number, of which so many accepted writes were seen.
     fn wanted(&self, repo: usize, seen: u64) -> Wanted
         requires { repo < self.now.repos }
-        ensures { result ≡ record { repo = repo; limit = self.now.limit; seen = seen } }
+        ensures { result ≡ wanted_of self.now repo seen }
     {
         Wanted {
             repo: repo as u32,
@@ -44,8 +43,10 @@ impl<D: Digest, const B: u8> Host<D, B> {
         writes: &[Write],
     ) -> Result<Applied, (usize, RepoFault<D>)>
         requires { repo < self.now.repos }
-        ensures accepted { IfOk result (λ a. IsAcceptance D.digest_of B self.now.limit repo seen (stamp_of stamp.now) (writes_of writes.now) a.number a.root) }
-        ensures refused { IfErr result (IsRefusalAfter D.digest_of B self.now.limit repo seen (stamp_of stamp.now) (writes_of writes.now)) }
+        ensures accepted { IfOk result
+            (IsTaken D.digest_of B (wanted_of self.now repo seen) stamp.now writes.now) }
+        ensures refused { IfErr result
+            (IsRefusedSo D.digest_of B (wanted_of self.now repo seen) stamp.now writes.now) }
     {
         let wanted = self.wanted(repo, seen);
         for _ in rt.forever() {
@@ -69,7 +70,8 @@ impl<D: Digest, const B: u8> Host<D, B> {
         key: &[u8],
     ) -> Result<(u64, Option<Vec<u8>>), AllocError>
         requires { repo < self.now.repos }
-        ensures { IfOk result (λ r. IsFound self.now.limit repo seen key.now r.0 (option_map (λ v. v.items) r.1)) }
+        ensures { IfOk result (λ r.
+            IsFound (wanted_of self.now repo seen) key.now r.0 (option_map (λ v. v.items) r.1)) }
     {
         let wanted = self.wanted(repo, seen);
         for _ in rt.forever() {
@@ -93,7 +95,8 @@ impl<D: Digest, const B: u8> Host<D, B> {
         limit: usize,
     ) -> Result<(u64, Vec<(Vec<u8>, Cid)>), AllocError>
         requires { repo < self.now.repos }
-        ensures { IfOk result (λ r. IsListed D.digest_of self.now.limit repo seen from.now limit r.0 (pairs_given r.1.items)) }
+        ensures { IfOk result (λ r. IsListed D.digest_of (wanted_of self.now repo seen)
+            from.now limit r.0 (pairs_given r.1.items)) }
     {
         let wanted = self.wanted(repo, seen);
         for _ in rt.forever() {
@@ -115,7 +118,7 @@ impl<D: Digest, const B: u8> Host<D, B> {
     ) -> Result<Version, AllocError>
         requires { repo < self.now.repos }
         ensures lawful { IfOk result (IsVersion D.digest_of B) }
-        ensures state { IfOk result (IsOfState D.digest_of B self.now.limit repo seen) }
+        ensures state { IfOk result (IsOfState D.digest_of B (wanted_of self.now repo seen)) }
     {
         let wanted = self.wanted(repo, seen);
         for _ in rt.forever() {

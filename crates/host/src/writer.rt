@@ -2,13 +2,13 @@
 
 ghost use Rattle.std.specs.Prelude.{◌≡◌, ◌<◌, ◌≤◌, ◌+◌, ◌++◌, ◌∷◌, [], length, IfOk, IfErr, OnErr, OnOk, Err, slice_index, option_map, vec_len, vec_capacity};
 ghost use Rattle.boxcar.specs.Table.{Shows};
-ghost use Rattle.batches.specs.Values.{stamp_of, writes_of};
 ghost use Rattle.edit.specs.Walks.{pairs_given};
-ghost use Rattle.closing.specs.Ending.{IsEndedAt, told};
-ghost use Rattle.host.specs.Seeing.{IsAcceptance};
+ghost use Rattle.closing.specs.Ending.{IsEndedAt};
+ghost use Rattle.host.specs.Seeing.{wanted_by};
 ghost use Rattle.host.specs.Versions.{IsVersion, IsOfState};
 ghost use Rattle.host.specs.Views.{ended_of, with_seen};
-ghost use Rattle.host.specs.Telling.{IsFault, IsReadFault, IsPushed, IsSame, IsTold, HasNoNumber, HasFound, HasListed};
+ghost use Rattle.host.specs.Telling.{IsFault, IsReadFault, IsPushed, IsSame, IsTold, IsOfBatch};
+ghost use Rattle.host.specs.Telling.{HasNoNumber, HasFound, HasListed, told_by_writer};
 ghost use Rattle.host.specs.declared.fault.HostFault.TheVariants as faults;
 
 use crate::fault::HostFault;
@@ -43,7 +43,13 @@ impl<'a, D: Digest, const B: u8> Model for Writer<'a, D, B> {
 
     ghost Value = { WriterView };
 
-    ghost view = { λ w. record { host = w.host.now; refused = w.sender.refused; pass = w.sender.pass; kept = w.kept.items; seen = w.seen.items } };
+    ghost view = { λ w. record {
+      host = w.host.now;
+      refused = w.sender.refused;
+      pass = w.sender.pass;
+      kept = w.kept.items;
+      seen = w.seen.items;
+    } };
 
     ghost invariant = { λ w. IsWriting w.host.now w.sender w.kept.items w.last w.seen.items };
 }
@@ -66,16 +72,19 @@ impl<'a, D: Digest, const B: u8> Writer<'a, D, B> {
         stamp: &Stamp,
         writes: &[Write],
     ) -> Result<Notice, HostFault<D>>
-        ensures told { IfOk result (λ n. told self.new.pass self.new.kept ≡ told self.old.pass self.old.kept ++ n ∷ []) }
+        ensures told { IfOk result
+            (λ n. told_by_writer self.new ≡ told_by_writer self.old ++ n ∷ []) }
         ensures notice { IfOk result (IsTold self.old repo) }
-        ensures accepted { IfOk result (λ n. IsAcceptance D.digest_of B self.old.host.limit repo (slice_index self.old.seen repo) (stamp_of stamp.now) (writes_of writes.now) n.number n.root) }
+        ensures accepted { IfOk result
+            (IsOfBatch D.digest_of B self.old repo stamp.now writes.now) }
         ensures seen { IfOk result (λ n. self.new.seen ≡ (with_seen self.old repo n.number).seen) }
         ensures pushed { OnOk result (IsPushed self.old self.new) }
         ensures same { IsSame self.old self.new }
         ensures unchanged { OnErr result (self.new ≡ self.old) }
-        ensures fault { IfErr result (IsFault D.digest_of B self.old repo (stamp_of stamp.now) (writes_of writes.now)) }
+        ensures fault { IfErr result (IsFault D.digest_of B self.old repo stamp.now writes.now) }
         ensures missing { self.old.host.repos ≤ repo → result ≡ Err faults.NoSuchRepository }
-        ensures seq_full { repo < self.old.host.repos → HasNoNumber self.old → result ≡ Err faults.SeqFull }
+        ensures seq_full { repo < self.old.host.repos → HasNoNumber self.old
+            → result ≡ Err faults.SeqFull }
     {
         if repo >= self.host.repos() {
             return Err(HostFault::NoSuchRepository);
@@ -119,7 +128,8 @@ impl<'a, D: Digest, const B: u8> Writer<'a, D, B> {
         repo: usize,
         key: &[u8],
     ) -> Result<Option<Vec<u8>>, HostFault<D>>
-        ensures found { IfOk result (λ o. HasFound self.old self.new repo key.now (option_map (λ v. v.items) o)) }
+        ensures found { IfOk result (λ o.
+            HasFound self.old self.new repo key.now (option_map (λ v. v.items) o)) }
         ensures unchanged { OnErr result (self.new ≡ self.old) }
         ensures fault { IfErr result (IsReadFault self.old.host repo) }
         ensures missing { self.old.host.repos ≤ repo → result ≡ Err faults.NoSuchRepository }
@@ -148,7 +158,8 @@ impl<'a, D: Digest, const B: u8> Writer<'a, D, B> {
         from: &[u8],
         limit: usize,
     ) -> Result<Vec<(Vec<u8>, Cid)>, HostFault<D>>
-        ensures found { IfOk result (λ v. HasListed D.digest_of self.old self.new repo from.now limit (pairs_given v.items)) }
+        ensures found { IfOk result (λ v.
+            HasListed D.digest_of self.old self.new repo from.now limit (pairs_given v.items)) }
         ensures unchanged { OnErr result (self.new ≡ self.old) }
         ensures fault { IfErr result (IsReadFault self.old.host repo) }
         ensures missing { self.old.host.repos ≤ repo → result ≡ Err faults.NoSuchRepository }
@@ -180,7 +191,8 @@ impl<'a, D: Digest, const B: u8> Writer<'a, D, B> {
     ) -> Result<Receipt<D, B>, HostFault<D>>
         ensures shown { IfOk result (Shows self.new.host.shelf) }
         ensures lawful { IfOk result (λ r. IsVersion D.digest_of B r.value) }
-        ensures state { IfOk result (λ r. IsOfState D.digest_of B self.old.host.limit repo (slice_index self.old.seen repo) r.value) }
+        ensures state { IfOk result (λ r.
+            IsOfState D.digest_of B (wanted_by self.old repo) r.value) }
         ensures seen { IfOk result (λ r. self.new ≡ with_seen self.old repo r.value.number) }
         ensures unchanged { OnErr result (self.new ≡ self.old) }
         ensures fault { IfErr result (IsReadFault self.old.host repo) }
@@ -205,7 +217,7 @@ impl<'a, D: Digest, const B: u8> Writer<'a, D, B> {
     /// Pushes the kept notices in order until the queue is full, and answers how many are still kept. It takes no memory, and waits
     /// for nothing but the queue's own steps.
     pub fn flush<R: Wait>(&mut self, rt: &R) -> usize
-        ensures told { told self.new.pass self.new.kept ≡ told self.old.pass self.old.kept }
+        ensures told { told_by_writer self.new ≡ told_by_writer self.old }
         ensures same { IsSame self.old self.new }
         ensures seen { self.new.seen ≡ self.old.seen }
         ensures kept { result ≡ length self.new.kept }
