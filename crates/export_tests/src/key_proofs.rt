@@ -204,24 +204,38 @@ fn lacks_the_node(alloc: Global, root: &Cid, proof: &Proof, key: &[u8], place: u
     }
 }
 
-/// Whether the proof of a number's key lacks a node without any one of its nodes, and with any one bit changed.
-fn is_whole_or_nothing(alloc: Global, core: &Core<Toy, 2>, number: u16) -> bool {
-    let Some((key, _)) = pair_of(alloc, number, "") else {
+/// The key of a number and its proof.
+fn key_with_proof(alloc: Global, core: &Core<Toy, 2>, number: u16) -> Option<(Vec<u8>, Proof)> {
+    let (key, _) = pair_of(alloc, number, "")?;
+    let proof = proof_of(alloc, core, &key)?;
+    Some((key, proof))
+}
+
+/// Whether the proof of a number's key lacks a node without any one of its nodes.
+fn needs_each_node(alloc: Global, core: &Core<Toy, 2>, number: u16) -> bool {
+    let Some((key, proof)) = key_with_proof(alloc, core, number) else {
         return false;
     };
-    let Some(mut proof) = proof_of(alloc, core, &key) else {
-        return false;
-    };
-    let root = core.root();
     for place in 0..proof.len() {
-        let size = proof.get(place).map_or(0, |node| node.len());
-        if !lacks_the_node(alloc, &root, &proof, &key, place)
-            || !lacks_each_bit(&root, &mut proof, &key, place, size)
-        {
+        if !lacks_the_node(alloc, &core.root(), &proof, &key, place) {
             return false;
         }
     }
     !proof.is_empty()
+}
+
+/// Whether it lacks one with any one bit changed.
+fn needs_each_bit(alloc: Global, core: &Core<Toy, 2>, number: u16) -> bool {
+    let Some((key, mut proof)) = key_with_proof(alloc, core, number) else {
+        return false;
+    };
+    for place in 0..proof.len() {
+        let size = proof.get(place).map_or(0, |node| node.len());
+        if !lacks_each_bit(&core.root(), &mut proof, &key, place, size) {
+            return false;
+        }
+    }
+    proof.len() > 1
 }
 
 #[test]
@@ -230,7 +244,8 @@ fn proofs_without_a_node_or_with_a_bit_changed(rt: HostRuntime) {
     let mut core = opened(&rt, rt.alloc(), &mut shard);
     let filled = is_filled(rt.alloc(), &mut shard, &mut core, 20);
     for number in 0..20u16 {
-        assert!(rt; filled && is_whole_or_nothing(rt.alloc(), &core, number));
+        assert!(rt; filled && needs_each_node(rt.alloc(), &core, number));
     }
+    assert!(rt; needs_each_bit(rt.alloc(), &core, 3) && needs_each_bit(rt.alloc(), &core, 11));
     end(&mut shard, core);
 }
