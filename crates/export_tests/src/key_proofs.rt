@@ -246,6 +246,6 @@ fn proofs_without_a_node_or_with_a_bit_changed(rt: HostRuntime) {
     for number in 0..20u16 {
         assert!(rt; filled && needs_each_node(rt.alloc(), &core, number));
     }
-    assert!(rt; needs_each_bit(rt.alloc(), &core, 3) && needs_each_bit(rt.alloc(), &core, 11));
+    assert!(rt; needs_each_bit(rt.alloc(), &core, 10) && needs_each_bit(rt.alloc(), &core, 11));
     end(&mut shard, core);
 }
