@@ -146,7 +146,7 @@ module _ (digest : List ℕ → List ℕ) (bs : List (List ℕ)) (m : Counts) (i
     among = among-entries digest bs (map.entries m) (map.entries_sorted m) facts;
     whole = λ b h. found-block (cid digest b) (map.entries m) b (ap (option_map (λ (v : List ℕ × ℕ). v.0)) (sym (map.get-entries m (cid digest b))) ∙ is.has b h);
     apart = subst (IsDistinct (pointwise nat_eq)) (names digest (each (λ e. e.1.0) (map.entries m)))
-    (distinct_sorted (named_blocks digest bs (map.entries m)) (sorted-named digest bs (map.entries m) (map.entries_sorted m) facts));
+        (distinct_sorted (named_blocks digest bs (map.entries m)) (sorted-named digest bs (map.entries m) (map.entries_sorted m) facts));
   }
 
 -- the same in another order
@@ -155,7 +155,7 @@ turned digest all once list is p = record {
   among = λ b h. is.among b (Contains-permutation list once b (IsPermutation-sym once list p) h);
   whole = λ b h. Contains-permutation once list b p (is.whole b h);
   apart = IsDistinct-IsPermutation (pointwise nat_eq) nat_list_eq_equiv.symm (each (cid digest) once) (each (cid digest) list)
-  (IsPermutation-map (cid digest) once list p) is.apart;
+      (IsPermutation-map (cid digest) once list p) is.apart;
 }
 
 pub core-blocks : (digest : List ℕ → List ℕ) (bits : ℕ) (s given : State) (root : List ℕ) (commit : Option (List ℕ)) (k : Keeping) (list : List (List ℕ)) → IsCore digest bits s root commit k → s ≡ given
