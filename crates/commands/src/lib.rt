@@ -14,14 +14,9 @@
 #![tactic(auto)]
 
 mod command_line;
-mod decimal;
-mod reading;
 mod run;
 mod starting;
-mod status;
-mod telling;
 mod tree;
-mod writing;
 
 pub use run::{run_words, run_words_with};
 pub use starting::not_started;

@@ -3,8 +3,8 @@ ghost use Rattle.std.specs.Prelude.{◌≡◌, ◌≤◌, ◌⊎◌};
 ghost use Rattle.std.specs.Io.KnownBytes.{Keeps};
 
 use crate::command_line::{Request, request_of};
-use crate::status::{DONE, USAGE};
-use crate::telling::{no_memory, write_failed};
+use console::{DONE, USAGE};
+use console::{no_memory, write_failed};
 use crate::tree;
 use cid::{Digest, Sha256};
 use clap::Error;

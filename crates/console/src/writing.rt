@@ -2,13 +2,13 @@
 ghost use Rattle.std.specs.Prelude.{◌≡◌, ◌≢◌, ◌≤◌, ◌*◌, length};
 ghost use Rattle.std.specs.IoError.{error_kind};
 ghost use Rattle.hex.specs.Hex.{encode_lower};
-ghost use Rattle.commands.specs.Written.{Writes};
+ghost use Rattle.console.specs.Written.{Writes};
 
 use std::io::{Error, ErrorKind, Write};
 
 /// Why an output can't be written. A beginning of it may have been.
 #[derive(Clone, Copy)]
-pub(crate) enum WriteFault {
+pub enum WriteFault {
     /// The writer had no memory.
     NoMemory,
     /// The writer failed.
@@ -16,7 +16,7 @@ pub(crate) enum WriteFault {
 }
 
 /// Writes all of the bytes, in as many calls as the writer needs. At `Err` a beginning of them was written.
-pub(crate) fn write_whole<W: Write>(out: &mut W, bytes: &[u8]) -> Result<(), WriteFault>
+pub fn write_whole<W: Write>(out: &mut W, bytes: &[u8]) -> Result<(), WriteFault>
     ensures { Writes (W.contents out.old) (W.contents out.new) result bytes.now }
 {
     let mut rest = bytes;
@@ -53,7 +53,7 @@ fn write_fault(error: &Error) -> WriteFault
 const PIECE: usize = 512;
 
 /// Writes the bytes in hexadecimal, in lower case. At `Err` a beginning of the digits was written.
-pub(crate) fn write_hex<W: Write>(out: &mut W, bytes: &[u8]) -> Result<(), WriteFault>
+pub fn write_hex<W: Write>(out: &mut W, bytes: &[u8]) -> Result<(), WriteFault>
     ensures { Writes (W.contents out.old) (W.contents out.new) result (encode_lower bytes.now) }
 {
     let mut rest = bytes;

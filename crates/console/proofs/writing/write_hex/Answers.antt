@@ -1,7 +1,7 @@
 use Rattle.std.proofs.Common.{sym, ◌∙◌}
 use Rattle.hex.specs.Hex.{encode_lower}
-use Rattle.commands.proofs.Leaving.{fails, leaves-less, leaves-beginning, leaves-nothing, encode_lower-parts, encode_lower-nothing}
-use Rattle.commands.proofs.writing.write_hex.Goals as goal
+use Rattle.console.proofs.Leaving.{fails, leaves-less, leaves-beginning, leaves-nothing, encode_lower-parts, encode_lower-nothing}
+use Rattle.console.proofs.writing.write_hex.Goals as goal
 
 pub returns-in_err-write_piece : goal.returns-in_err-write_piece
 returns-in_err-write_piece g c =

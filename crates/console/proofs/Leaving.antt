@@ -4,7 +4,7 @@ use Rattle.std.specs.Prelude.{Option, Result, Ok, Err, IsErr, ◌/◌, ◌%◌, 
 use Rattle.std.proofs.lemmas.List.{append-nil, take_all, take-append-drop, length-drop}
 use Rattle.std.specs.Io.KnownBytes.{Appends, Keeps}
 use Rattle.hex.specs.Hex.{encode_with, encode_lower, lower_digits}
-use Rattle.commands.specs.Written.{AppendsBeginning, Writes}
+use Rattle.console.specs.Written.{AppendsBeginning, Writes}
 
 -- known contents grew by all of the whole but for what is left
 pub record Leaves (old new : Option (List ℕ)) (whole left : List ℕ) : Type 0 where

@@ -1,7 +1,7 @@
 use Rattle.std.proofs.Common.{take, ap}
-use Rattle.commands.proofs.Leaving.{leaves-less, leaves-same, cut-at}
-use Rattle.commands.proofs.writing.write_whole.Goals as goal
-use Rattle.commands.proofs.writing.write_whole.Goals.{in-Ok, in-Err+else-ne}
+use Rattle.console.proofs.Leaving.{leaves-less, leaves-same, cut-at}
+use Rattle.console.proofs.writing.write_whole.Goals as goal
+use Rattle.console.proofs.writing.write_whole.Goals.{in-Ok, in-Err+else-ne}
 
 pub tries-preserved : goal.tries-preserved
 tries-preserved g c =

@@ -8,7 +8,7 @@ use std::io::{Error, ErrorKind, Read};
 
 /// Why an input can't be read.
 #[derive(Clone, Copy)]
-pub(crate) enum ReadFault {
+pub enum ReadFault {
     /// The bytes had no room.
     NoMemory,
     /// The reader failed.
@@ -16,7 +16,7 @@ pub(crate) enum ReadFault {
 }
 
 /// All that the reader still gives.
-pub(crate) fn read_all<A: Allocator, R: Read>(
+pub fn read_all<A: Allocator, R: Read>(
     alloc: A,
     input: &mut R,
 ) -> Result<Vec<u8, A>, ReadFault>

@@ -6,7 +6,7 @@ use std::fmt;
 
 /// A number that is shown in decimal digits.
 #[derive(Drop)]
-pub(crate) struct Decimal(pub(crate) u64);
+pub struct Decimal(pub u64);
 
 impl fmt::Display for Decimal {
     ghost output = { λ number. Some (decimal number.0) };

@@ -6,12 +6,12 @@ use std::fmt::Display;
 use std::io::Write;
 
 /// Writes a line on standard error. Where that can't be written there is nobody to tell.
-pub(crate) fn tell<F: Display, X: Write>(fault: &F, err: &mut X) {
+pub fn tell<F: Display, X: Write>(fault: &F, err: &mut X) {
     let _ = writeln!(err, "msthost: {fault}");
 }
 
 /// Tells that memory is refused, and answers the status.
-pub(crate) fn no_memory<X: Write>(err: &mut X) -> u8
+pub fn no_memory<X: Write>(err: &mut X) -> u8
     ensures { result ≡ NO_MEMORY }
 {
     tell(&"no memory", err);
@@ -19,7 +19,7 @@ pub(crate) fn no_memory<X: Write>(err: &mut X) -> u8
 }
 
 /// Tells that a write failed, and answers the status.
-pub(crate) fn write_failed<X: Write>(err: &mut X) -> u8
+pub fn write_failed<X: Write>(err: &mut X) -> u8
     ensures { result ≡ IO_FAILED }
 {
     tell(&"write failed", err);

@@ -1,0 +1,5 @@
+pub mod Puts
+pub mod Faults
+pub mod Texts
+pub mod Views
+pub mod Refusals
