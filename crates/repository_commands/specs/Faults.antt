@@ -1,11 +1,16 @@
 -- Why there is no text (the names are a choice of this project).
-use Rattle.std.specs.Prelude.{ℕ, Bool, true, false, Option, Some, None, option_map}
+use Rattle.std.specs.Prelude.{⊤, ℕ, Bool, true, false, Option, Some, None, option_map}
 use Rattle.spec.specs.Cid as cids
 use Rattle.spec.specs.Proof as proofs
 use Rattle.spec.specs.Writes.{WriteFault}
 use Rattle.cid.specs.CidFault as of_cid
 use Rattle.batches.specs.Tests.{write_fault}
 use Rattle.export.specs.Faults as of_proof
+use Rattle.export.specs.declared.proof_fault.ProofFault.TheVariants as proof_faults
+use Rattle.console.specs.declared.reading.ReadFault.{ReadFault}
+use Rattle.console.specs.declared.reading.ReadFault.TheVariants as reads
+use Rattle.console.specs.declared.writing.WriteFault.{WriteFault}
+use Rattle.console.specs.declared.writing.WriteFault.TheVariants as writes
 use Rattle.repository_commands.specs.declared.fault.LineFault.{LineFault as GivenLineFault}
 use Rattle.repository_commands.specs.declared.fault.LineFault.TheVariants as lines
 use Rattle.repository_commands.specs.declared.fault.CommandFault.{CommandFault}
@@ -35,7 +40,7 @@ line_fault_of (lines.Refused f) = option_map OfWrite (write_fault f)
 abbrev pub fault_of : {D A : Type 0} → CommandFault D A → Option Fault
 fault_of errors.BadDid = Some BadDid
 fault_of errors.BadRev = Some BadRev
-fault_of (errors.Root f) = Some (OfRoot (of_cid.fault_of f))
+fault_of (errors.Root f) = option_map OfRoot (of_cid.fault_of f)
 fault_of (errors.Proof f) = option_map OfProof (of_proof.fault_of f)
 fault_of (errors.Line n f) = option_map (Line n) (line_fault_of f)
 fault_of errors.NoMemory = None
@@ -53,13 +58,37 @@ may_have_written errors.NoMemory = true
 may_have_written errors.ReadFailed = false
 may_have_written errors.WriteFailed = true
 
--- whether it is a fault of the words, of the lines or of what comes of them, or want of memory
-abbrev pub is_of_input : {D A : Type 0} → CommandFault D A → Bool
-is_of_input errors.BadDid = true
-is_of_input errors.BadRev = true
-is_of_input (errors.Root f) = true
-is_of_input (errors.Proof f) = true
-is_of_input (errors.Line n f) = true
-is_of_input errors.NoMemory = true
-is_of_input errors.ReadFailed = false
-is_of_input errors.WriteFailed = false
+-- whether it is a fault of the words, which are judged before the input is read
+abbrev pub is_of_words : {D A : Type 0} → CommandFault D A → Bool
+is_of_words errors.BadDid = true
+is_of_words errors.BadRev = true
+is_of_words (errors.Root f) = true
+is_of_words (errors.Proof proof_faults.KeyLength) = true
+is_of_words fault = false
+
+-- whether a write failed
+abbrev pub is_write_failure : {D A : Type 0} → CommandFault D A → Bool
+is_write_failure errors.WriteFailed = true
+is_write_failure fault = false
+
+-- what a failed read and a failed write are called
+abbrev pub of_read : {D A : Type 0} → ReadFault → CommandFault D A
+of_read reads.NoMemory = errors.NoMemory
+of_read reads.Failed = errors.ReadFailed
+
+abbrev pub of_write : {D A : Type 0} → WriteFault → CommandFault D A
+of_write writes.NoMemory = errors.NoMemory
+of_write writes.Failed = errors.WriteFailed
+
+-- the status that the program ends with
+abbrev pub status_of : {D A : Type 0} → CommandFault D A → ℕ
+status_of errors.NoMemory = 3
+status_of errors.ReadFailed = 4
+status_of errors.WriteFailed = 4
+status_of fault = 1
+
+-- want of memory or a failed read, of which the definitions know nothing
+abbrev pub IsOfReading : {D A : Type 0} → CommandFault D A → Type 0
+IsOfReading errors.NoMemory = ⊤
+IsOfReading errors.ReadFailed = ⊤
+IsOfReading fault = ⊥

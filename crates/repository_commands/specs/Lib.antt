@@ -3,3 +3,4 @@ pub mod Faults
 pub mod Texts
 pub mod Views
 pub mod Refusals
+pub mod Outcomes

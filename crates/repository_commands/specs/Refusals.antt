@@ -42,3 +42,8 @@ IsRefusedLine digest stamp given (errors.Proof f) = ⊤
 IsRefusedLine digest stamp given errors.NoMemory = ⊤
 IsRefusedLine digest stamp given errors.ReadFailed = ⊤
 IsRefusedLine digest stamp given errors.WriteFailed = ⊤
+
+-- the fault of a line that is refused
+abbrev pub refused : {D A : Type 0} → ℕ → RepoFault D A → CommandFault D A
+refused n faults.NoMemory = errors.NoMemory
+refused n fault = errors.Line n (lines.Refused fault)
