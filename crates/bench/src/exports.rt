@@ -79,7 +79,7 @@ pub fn measure<R: Clock>(
         let Some((bytes, nanos)) = written(rt, alloc, core)? else {
             return Ok(None);
         };
-        let Some(proofs) = proofs(rt, alloc, core, pairs, places)? else {
+        let Some(proofs) = proofs_of(rt, alloc, core, pairs, places)? else {
             return Ok(None);
         };
         exported.bytes = bytes;
@@ -103,7 +103,7 @@ fn written<R: Clock>(
 }
 
 /// The proofs of the keys at these places, one after the other.
-fn proofs<R: Clock>(
+fn proofs_of<R: Clock>(
     rt: &R,
     alloc: Global,
     core: &Core<Sha256, 2>,
@@ -119,7 +119,7 @@ fn proofs<R: Clock>(
     };
     for place in places {
         if let Some((key, value)) = pairs.get(*place) {
-            let Some(one) = proof(rt, alloc, core, key, value)? else {
+            let Some(one) = proof_of(rt, alloc, core, key, value)? else {
                 return Ok(None);
             };
             all = all.and(one);
@@ -129,7 +129,7 @@ fn proofs<R: Clock>(
 }
 
 /// The proof of one key, made and verified.
-fn proof<R: Clock>(
+fn proof_of<R: Clock>(
     rt: &R,
     alloc: Global,
     core: &Core<Sha256, 2>,
