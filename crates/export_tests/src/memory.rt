@@ -93,17 +93,24 @@ fn refusals<'h>(
     None
 }
 
+/// Whether each request of a CAR was refused.
+fn is_each_refused<'h>(alloc: Global, heap: Heap<'h>, core: &Core<Toy, 2, Heap<'h>>) -> bool {
+    match file_of(alloc, heap, core) {
+        Some(file) => is_taken_at_last(heap, core, &file),
+        None => false,
+    }
+}
+
 #[test]
-fn each_request_refused(rt: HostRuntime) {
+fn each_request_of_a_car_refused(rt: HostRuntime) {
     let heap = Refusing::new(rt.alloc());
     let mut shard = Shard::new(&heap, 20);
     let mut core = opened(&rt, &heap, &mut shard);
     let filled = takes(&heap, &mut shard, &mut core, FIVE_NODES);
-    let file = file_of(rt.alloc(), &heap, &core).expect(&rt, "the file");
-    assert!(rt; filled && is_taken_at_last(&heap, &core, &file));
+    let right = is_each_refused(rt.alloc(), &heap, &core);
     end(&mut shard, core);
     drop(shard);
-    assert!(rt; heap.live() == 0);
+    assert!(rt; filled && right && heap.live() == 0);
 }
 
 #[test]
