@@ -3,6 +3,7 @@ use Rattle.std.proofs.lemmas.List.{get_or_read}
 use Rattle.store.specs.Table.{Table}
 use Rattle.kept.specs.Leaving.{no_table}
 use Rattle.closing.specs.Tally.{AreHad}
+use Rattle.closing.proofs.Entries.{alien_is}
 use Rattle.closing.proofs.comparing.all_had.Goals as goal
 
 pub loop-shard-preserved : goal.loop-shard-preserved
@@ -15,3 +16,8 @@ loop-shard-preserved g c shard less =
 
 pub returns : goal.returns
 returns g c shard less = c.loop-shard.invariant shard (omega (arith, c.loop-shard-test.false, c.type_inv.tables))
+
+pub returns-then-not-are_had : goal.returns-then-not-are_had
+returns-then-not-are_had g c =
+    alien_is g.D.Digest.digest_of g.row.B c.args.cores.now c.args.tables.now c.loop-shard.shard c.index-tables-shard.result c.type_inv.tables
+    (omega (arith, c.loop-shard-test.true)) c.index-tables-shard.is c.if-not-are_had.ensures
