@@ -1,6 +1,7 @@
 //! Many repositories, many writers, and one taker of what they tell.
 #![tactic(auto)]
 
+mod exporting;
 mod fault;
 mod host;
 mod limits;
@@ -11,7 +12,7 @@ mod version;
 mod waiting;
 mod writer;
 
-pub use fault::{HostFault, OpenFault};
+pub use fault::{CarFault, HostFault, OpenFault, ProveFault};
 pub use host::{Host, Opened};
 pub use limits::Limits;
 pub use seat::Seat;

@@ -21,7 +21,7 @@ use std::sync::Wait;
 
 impl<D: Digest, const B: u8> Host<D, B> {
     /// The repository of this number, of which so many accepted writes were seen.
-    fn wanted(&self, repo: usize, seen: u64) -> Wanted
+    pub(crate) fn wanted(&self, repo: usize, seen: u64) -> Wanted
         requires { repo < self.now.repos }
         ensures { result ≡ wanted_of self.now repo seen }
     {
