@@ -1,7 +1,6 @@
 //! Many repositories, many writers, and one taker of what they tell.
 #![tactic(auto)]
 
-mod exporting;
 mod fault;
 mod host;
 mod limits;
@@ -12,7 +11,7 @@ mod version;
 mod waiting;
 mod writer;
 
-pub use fault::{CarFault, HostFault, OpenFault, ProveFault};
+pub use fault::{HostFault, OpenFault};
 pub use host::{Host, Opened};
 pub use limits::Limits;
 pub use seat::Seat;

@@ -12,4 +12,6 @@ mod refusals;
 #[cfg(test)]
 mod sharing;
 #[cfg(test)]
+mod threads;
+#[cfg(test)]
 mod versions;
