@@ -4,3 +4,4 @@ pub mod Texts
 pub mod Views
 pub mod Refusals
 pub mod Outcomes
+pub mod Commands

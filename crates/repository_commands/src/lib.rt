@@ -6,7 +6,8 @@
 //! - `verify_text` reads such nodes and writes what they show of a key under a root.
 //! - `CommandFault` says why there is no text, or not all of it; a line of the input is named by its number.
 //!
-//! Each command has a module of its own, with its words on a command line and its run to the exit status.
+//! A program has them by `with_words`, `command_of` and `run`: what help shows of them, which of them a command line asks
+//! for, and its run to the exit status.
 #![tactic(auto)]
 
 mod blocks;
@@ -17,11 +18,15 @@ mod filling;
 mod proving;
 mod puts;
 mod refusal_name;
+mod run;
 mod tables;
 mod verifying;
+mod words;
 
 pub use car::car_text;
 pub use fault::{CommandFault, LineFault};
 pub use proving::prove_text;
 pub use refusal_name::RefusalName;
+pub use run::run;
 pub use verifying::verify_text;
+pub use words::{RepositoryCommand, command_of, with_words};
