@@ -1,5 +1,5 @@
 -- What a close finds, at the values that it is given.
-use Rattle.std.proofs.Common.{◌≡◌, ◌≢◌, ℕ, ◌<◌, ◌+◌, drop, get_or, arith, List, [], ◌∷◌, ◌++◌, length, map, refl, sym, ap, ◌∙◌, subst, cond, nat_eq, Bool, true, false, Option, None, Some, Result, Ok, Err}
+use Rattle.std.proofs.Common.{◌≡◌, ◌≢◌, ℕ, ◌<◌, ◌+◌, drop, get_or, arith, List, [], ◌∷◌, ◌++◌, length, map, sym, ap, ◌∙◌, subst, cond, nat_eq, Bool, true, false, Option, None, Some, Result, Ok, Err}
 use Rattle.std.specs.Prelude.{filter, IfOk, IfSome, IfNone}
 use Rattle.std.specs.declared.vec.Vec.{Vec}
 use Rattle.std.proofs.lemmas.List.{length-map, at_drop_more}

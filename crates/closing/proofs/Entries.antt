@@ -1,6 +1,6 @@
 -- The steps of the comparison of cores with tables.
 use mathlib.Core.Bool.{true≢false}
-use Rattle.std.proofs.Common.{zero, suc, ◌≡◌, ◌≢◌, ℕ, ◌<◌, ◌≤◌, ◌+◌, ◌∷◌, [], ◌++◌, List, length, take, drop, get_or, refl, ap, sym, ◌∙◌, subst, cond, nat_eq, Bool, true, false, arith, Option, Some, None, ◌⊎◌, inl, inr, ⊎_elim, bytes_eq, All, ◌%◌, MatchBool, Contains}
+use Rattle.std.proofs.Common.{zero, suc, ◌≡◌, ◌≢◌, ℕ, ◌<◌, ◌≤◌, ◌+◌, ◌∷◌, [], ◌++◌, List, length, take, drop, get_or, refl, ap, sym, ◌∙◌, subst, cond, nat_eq, Bool, true, false, arith, Option, Some, None, ◌⊎◌, inl, inr, ⊎_elim, bytes_eq, All, ◌%◌}
 use Rattle.std.specs.Prelude.{◌&&◌, ◌||◌, T}
 use Rattle.std.specs.List.{AllByRecursion}
 use Rattle.std.proofs.lemmas.List.Elements.{recursion_from_All}

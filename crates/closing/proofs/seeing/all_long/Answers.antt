@@ -1,4 +1,4 @@
-use Rattle.std.proofs.Common.{subst, sym, ◌∙◌, ap, get_or, below_more, arith}
+use Rattle.std.proofs.Common.{subst, ◌∙◌, ap, get_or, below_more, arith}
 use Rattle.std.proofs.lemmas.List.{get_or_read}
 use Rattle.closing.specs.Ending.{EndedView}
 use Rattle.closing.specs.Settling.{NoneShort}

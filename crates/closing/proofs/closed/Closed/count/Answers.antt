@@ -1,4 +1,4 @@
-use Rattle.std.proofs.Common.{◌≡◌, ap, ◌∙◌}
+use Rattle.std.proofs.Common.{ap, ◌∙◌}
 use Rattle.closing.specs.Settling.{ClosedView}
 use Rattle.closing.specs.Tally.{tally, count}
 use Rattle.closing.proofs.Tallies.{count_is_tally}

@@ -1,8 +1,7 @@
-use Rattle.std.proofs.Common.{ℕ, List, ◌≡◌, ap, ◌∙◌}
-use Rattle.std.specs.Prelude.{IfOk}
+use Rattle.std.proofs.Common.{ap, ◌∙◌}
 use Rattle.closing.specs.Settling.{ClosedView}
 use Rattle.closing.specs.Tally.{tally}
-use Rattle.closing.specs.Counts.{count_in, positive}
+use Rattle.closing.specs.Counts.{positive}
 use Rattle.closing.proofs.Tallies.{count_is_tally}
 use Rattle.closing.proofs.Closings.{counts_at}
 use Rattle.closing.proofs.closed.Closed.counts.Goals as goal

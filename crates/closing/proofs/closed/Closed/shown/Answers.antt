@@ -1,4 +1,4 @@
-use Rattle.std.proofs.Common.{◌≡◌, List, length, get_or, ap, ◌∙◌, subst, arith, rules}
+use Rattle.std.proofs.Common.{List, length, get_or, ap, ◌∙◌, subst, arith}
 use Rattle.spec.specs.States.{State}
 use Rattle.closing.specs.Settling.{ClosedView}
 use Rattle.closing.specs.Headline.{AreTallies}
