@@ -11,9 +11,7 @@ use std::alloc::{Allocator, Global};
 /// The block of the node without pairs and with this link.
 fn node_above<A: Allocator>(alloc: A, link: Option<Cid>) -> Option<Vec<u8, A>> {
     let mut bytes = Vec::new(alloc);
-    bytes
-        .extend_from_slice(b"\xa2\x61\x65\x80\x61\x6c")
-        .ok()?;
+    bytes.extend_from_slice(b"\xa2\x61\x65\x80\x61\x6c").ok()?;
     let Some(cid) = link else {
         bytes.push(0xf6).ok()?;
         return Some(bytes);
@@ -73,7 +71,9 @@ fn are_answered<const B: u8, A: Allocator>(nodes: &[Vec<u8, A>], rows: &[Row]) -
 }
 
 const ABSENT: Result<Option<Cid>, ProofFault> = Ok(None);
+
 const TOO_DEEP: Result<Option<Cid>, ProofFault> = Err(ProofFault::TooDeep);
+
 const MISSING: Result<Option<Cid>, ProofFault> = Err(ProofFault::BlockMissing);
 
 /// Whether 130 nodes prove what they are to prove: all of them, without the first, without the last, and among others.
