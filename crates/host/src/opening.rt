@@ -1,9 +1,9 @@
 //! The opening of a host. The room that its close and its writers' places need is made here.
 
-ghost use Rattle.std.specs.Prelude.{◌≡◌, ◌≤◌, ◌<◌, [], length, map, IfOk, IfErr, OnOk, vec_len, vec_capacity};
+ghost use Rattle.std.specs.Prelude.{◌≡◌, ◌≤◌, ◌<◌, [], All, length, map, IfOk, IfErr, OnOk, vec_len, vec_capacity};
 ghost use Rattle.notices.specs.Views.{fresh_feed};
 ghost use Rattle.host.specs.Opening.{AreLawful, IsOutOfRange};
-ghost use Rattle.host.specs.Views.{fresh_seat, fresh_seats};
+ghost use Rattle.host.specs.Views.{IsSeatOf, fresh_seat, fresh_seats};
 
 use crate::fault::OpenFault;
 use crate::host::{Host, Opened};
@@ -129,6 +129,7 @@ impl<D: Digest, const B: u8> Host<D, B> {
             o.feed ≡ fresh_feed o.host.queue.queue_id limits.writers) }
         ensures seats { IfOk result (λ o. o.seats.items
             ≡ fresh_seats o.host.queue.queue_id limits.writers limits.repos) }
+        ensures places { IfOk result (λ o. All (IsSeatOf o.host) o.seats.items) }
     {
         tested(&limits)?;
         let (queue, passes, feed) = Queue::open(alloc, limits.writers, limits.queue)?;

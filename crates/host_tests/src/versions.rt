@@ -10,6 +10,7 @@ use repo_fixtures::batch::{EMPTY, Step};
 use std::alloc::Global;
 use std::process::Abort;
 use std::sync::Wait;
+use std::thread;
 use std::thread::Threads;
 
 /// Whether the version is of repository 0, and has so many writes.
@@ -63,6 +64,43 @@ fn are_as_published(
         && one.root == two.root
 }
 
+/// Whether two threads read three versions right while the writer goes on.
+fn are_read_beside<R: Threads + Wait + Sync>(
+    rt: &R,
+    alloc: Global,
+    host: &Host<Toy, 2>,
+    zero: &Receipt<Toy, 2>,
+    one: &Receipt<Toy, 2>,
+    two: &Receipt<Toy, 2>,
+    writer: &mut Writer<'_, Toy, 2>,
+) -> bool
+    requires zero { Shows host.now.shelf zero.now }
+    requires one { Shows host.now.shelf one.now }
+    requires two { Shows host.now.shelf two.now }
+{
+    let (first, (second, goes_on)) = thread::join(
+        rt,
+        || -> bool
+            requires { (Shows host.now.shelf zero.now) × (Shows host.now.shelf one.now)
+                × (Shows host.now.shelf two.now) }
+        { are_as_published(host, zero, one, two) },
+        || -> (bool, bool)
+            requires { (Shows host.now.shelf zero.now) × (Shows host.now.shelf one.now)
+                × (Shows host.now.shelf two.now) }
+        {
+            thread::join(
+                rt,
+                || -> bool
+                    requires { (Shows host.now.shelf zero.now) × (Shows host.now.shelf one.now)
+                        × (Shows host.now.shelf two.now) }
+                { are_as_published(host, zero, one, two) },
+                || puts(rt, alloc, writer, 3),
+            )
+        },
+    );
+    first && second && goes_on
+}
+
 /// Whether two threads find three versions as they were published, while the writer goes on.
 fn are_read_by_two<R: Threads + Wait + Abort + Sync>(rt: &R, alloc: Global) -> bool {
     let opened = Host::<Toy, 2>::open(rt, alloc, limits(1, 1, 9)).expect(rt, "a host");
@@ -76,8 +114,7 @@ fn are_read_by_two<R: Threads + Wait + Abort + Sync>(rt: &R, alloc: Global) -> b
     let zero = published(rt, alloc, &mut writer, 0);
     let one = published(rt, alloc, &mut writer, 1);
     let two = published(rt, alloc, &mut writer, 2);
-    are_as_published(&host, &zero, &one, &two)
-        && puts(rt, alloc, &mut writer, 3)
+    are_read_beside(rt, alloc, &host, &zero, &one, &two, &mut writer)
         && are_as_published(&host, &zero, &one, &two)
 }
 
