@@ -13,12 +13,12 @@ pub returns-clause-ok : goal.returns-clause-ok
 returns-clause-ok g c =
     let key = c.args.key.now in
     let s = shape_from c.args.node.now.left c.args.node.now.entries in
-    let before : Cut key s c.in_ok-writer.writer c.in_ok-writer.field-0.0 = record { before = c.in_ok-writer.ensures.written; here = c.in_ok-writer.ensures.left } in
+    let before : Cut key s c.in_ok-writer.writer c.in_ok-writer.field-0-0 = record { before = c.in_ok-writer.ensures.written; here = c.in_ok-writer.ensures.left } in
     drafted c.finish.result _ _ (keep_before-cut key c.args.new s _ _ before) c.finish.ensures.ok
 
 pub returns-clause-fault : goal.returns-clause-fault
 returns-clause-fault g c =
     let key = c.args.key.now in
     let s = shape_from c.args.node.now.left c.args.node.now.entries in
-    let before : Cut key s c.in_ok-writer.writer c.in_ok-writer.field-0.0 = record { before = c.in_ok-writer.ensures.written; here = c.in_ok-writer.ensures.left } in
+    let before : Cut key s c.in_ok-writer.writer c.in_ok-writer.field-0-0 = record { before = c.in_ok-writer.ensures.written; here = c.in_ok-writer.ensures.left } in
     faulted c.finish.result _ _ (keep_before-cut key c.args.new s _ _ before) c.finish.ensures.fault
