@@ -1,5 +1,5 @@
 -- Why there is no text (the names are a choice of this project).
-use Rattle.std.specs.Prelude.{⊤, ℕ, Bool, true, false, Option, Some, None, option_map}
+use Rattle.std.specs.Prelude.{ℕ, Bool, true, false, Option, Some, None, option_map}
 use Rattle.spec.specs.Cid as cids
 use Rattle.spec.specs.Proof as proofs
 use Rattle.spec.specs.Writes.{WriteFault}
@@ -86,9 +86,3 @@ status_of errors.NoMemory = 3
 status_of errors.ReadFailed = 4
 status_of errors.WriteFailed = 4
 status_of fault = 1
-
--- want of memory or a failed read, of which the definitions know nothing
-abbrev pub IsOfReading : {D A : Type 0} → CommandFault D A → Type 0
-IsOfReading errors.NoMemory = ⊤
-IsOfReading errors.ReadFailed = ⊤
-IsOfReading fault = ⊥

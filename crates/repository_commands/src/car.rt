@@ -64,7 +64,7 @@ fn car_made<D: Digest, A: Allocator + Copy, R: Read>(
     ensures unread { IfErr result (λ e. is_of_words e ≡ true → input.new ≡ input.old) }
     ensures kind { IfErr result (λ e. is_write_failure e ≡ false) }
 {
-    check_stamp(stamp)?;
+    check_stamp::<D, A>(stamp)?;
     let puts = read_puts(alloc, input)?;
     car_of_puts(alloc, stamp, puts)
 }
@@ -98,9 +98,7 @@ fn car_of_puts<D: Digest, A: Allocator + Copy>(
     ensures kind { IfErr result (λ e. is_write_failure e ≡ false) }
 {
     let mut store = Tables::new(alloc)?;
-    let core = filled(alloc, &mut store, stamp, &puts)?;
-    // The puts are let go here: the repository has copies of its own.
-    drop(puts);
+    let core = filled::<D, A, Tables<D, A>>(alloc, &mut store, stamp, puts)?;
     let file = car_in_memory(alloc, &core);
     core.end(&mut store);
     Ok(file?)

@@ -21,7 +21,8 @@ use store::{BlockStore, Hold, StoreFault};
 const MOST_WRITES: usize = 1_048_576;
 
 /// The repository that has all puts as one batch under a stamp, and none where there are no puts; or the first line at
-/// fault. The puts before a line that is none are tried first. At `Err` no block is held.
+/// fault. The puts before a line that is none are tried first. At `Err` no block is held. The puts are let go: the repository
+/// has copies of its own.
 pub(crate) fn filled<
     D: Digest,
     A: Allocator + Copy,
@@ -30,18 +31,18 @@ pub(crate) fn filled<
     alloc: A,
     store: &mut S,
     stamp: &Stamp<A>,
-    puts: &Puts<A>,
+    puts: Puts<A>,
 ) -> Result<Core<D, 2, A>, CommandFault<D, A>>
     requires store { IsStore D.digest_of S.fulls S.answers }
     ensures state { Gives (λ core. core) fault_of result
-        (state_of_given (stamp_of stamp.now) (given_of puts.now)) }
+        (state_of_given (stamp_of stamp.now) (given_of puts)) }
     ensures refused { IfErr result
-        (IsRefusedLine D.digest_of (stamp_of stamp.now) (given_of puts.now)) }
+        (IsRefusedLine D.digest_of (stamp_of stamp.now) (given_of puts)) }
     ensures input { IfErr result (λ e. is_of_words e ≡ false) }
     ensures kind { IfErr result (λ e. is_write_failure e ≡ false) }
 {
     let mut core = empty::<D, A, S>(alloc, store)?;
-    match apply_puts::<D, A, S>(alloc, store, &mut core, stamp, puts) {
+    match apply_puts::<D, A, S>(alloc, store, &mut core, stamp, &puts) {
         Ok(()) => Ok(core),
         Err(fault) => {
             core.end(store);

@@ -59,9 +59,9 @@ fn proof_made<D: Digest, A: Allocator + Copy, R: Read>(
     ensures unread { IfErr result (λ e. is_of_words e ≡ true → input.new ≡ input.old) }
     ensures kind { IfErr result (λ e. is_write_failure e ≡ false) }
 {
-    check_key(key)?;
+    check_key::<D, A>(key)?;
     let puts = read_puts(alloc, input)?;
-    let path = path_of_puts(alloc, stamp, key, puts)?;
+    let path = path_of_puts::<D, A>(alloc, stamp, key, puts)?;
     Ok(text_of(alloc, &path)?)
 }
 
@@ -99,7 +99,7 @@ fn path_of_puts<D: Digest, A: Allocator + Copy>(
     ensures kind { IfErr result (λ e. is_write_failure e ≡ false) }
 {
     let mut store = Tables::new(alloc)?;
-    let core = filled(alloc, &mut store, stamp, &puts)?;
+    let core = filled::<D, A, Tables<D, A>>(alloc, &mut store, stamp, puts)?;
     let root = core.root();
     let nodes = prove(alloc, &core, key);
     core.end(&mut store);
@@ -119,10 +119,23 @@ fn text_of<D: Digest, A: Allocator + Copy>(
     let mut text = Vec::new(alloc);
     text.extend_from_slice(&path.root.text())?;
     text.push(b'\n')?;
-    for node in &path.nodes {
-        push_line(alloc, &mut text, node.bytes())?;
-    }
+    push_lines(alloc, &mut text, &path.nodes)?;
     Ok(text)
+}
+
+/// Puts a line for each block at the end.
+fn push_lines<D: Digest, A: Allocator + Copy>(
+    alloc: A,
+    text: &mut Vec<u8, A>,
+    blocks: &[Arc<Block<D, A>, A>],
+) -> Result<(), AllocError>
+    ensures { OnOk result (text.new.items ≡ text.old.items
+        ++ flat_map hex_line (map arc_value blocks.now)) }
+{
+    for block in blocks {
+        push_line(alloc, text, block.bytes())?;
+    }
+    Ok(())
 }
 
 /// Puts the line of a block at the end.

@@ -1,17 +1,14 @@
 //! The puts that the lines of an input give.
-ghost use Rattle.std.specs.Prelude.{◌≡◌, ◌≤◌, length, option_map, IfOk, IfErr, IfSome, OnOk};
+ghost use Rattle.std.specs.Prelude.{◌≡◌, ◌≤◌, length, option_map, IfOk, IfSome, OnOk};
 ghost use Rattle.std.specs.List.{position_or_len};
 ghost use Rattle.batches.specs.Values.{write_of};
 ghost use Rattle.console.specs.Lines.{bytes_of_hex as bytes_of, is_space};
-ghost use Rattle.repository_commands.specs.Faults.{IsOfReading};
 ghost use Rattle.repository_commands.specs.Puts.{given_in, nothing_given, put_of, put_of_line as put_of_line_of};
 ghost use Rattle.repository_commands.specs.Views.{added, given_of};
 
-use crate::fault::CommandFault;
 use batches::Write;
 use bstr::ByteSlice;
-use cid::Digest;
-use console::{bytes_of_hex, read_all};
+use console::{ReadFault, bytes_of_hex, read_all};
 use std::alloc::{AllocError, Allocator};
 use std::io::Read;
 
@@ -50,16 +47,18 @@ impl<A: Allocator + Copy> Puts<A> {
 }
 
 /// The puts of all that the reader still gives. The input is let go before they are used.
-pub(crate) fn read_puts<D: Digest, A: Allocator + Copy, R: Read>(
+pub(crate) fn read_puts<A: Allocator + Copy, R: Read>(
     alloc: A,
     input: &mut R,
-) -> Result<Puts<A>, CommandFault<D, A>>
-    ensures puts { IfOk result (λ puts. IfSome (R.remaining input.old)
+) -> Result<Puts<A>, ReadFault>
+    ensures { IfOk result (λ puts. IfSome (R.remaining input.old)
         (λ xs. given_of puts ≡ given_in xs)) }
-    ensures fault { IfErr result IsOfReading }
 {
     let bytes = read_all(alloc, input)?;
-    Ok(puts_of_input(alloc, &bytes)?)
+    match puts_of_input(alloc, &bytes) {
+        Ok(puts) => Ok(puts),
+        Err(_) => Err(ReadFault::NoMemory),
+    }
 }
 
 /// The puts of the lines of an input.

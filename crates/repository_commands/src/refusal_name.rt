@@ -6,6 +6,7 @@ use std::fmt;
 
 /// A refusal, shown by its name, as `KeyExists`; a fault inside it stands in parentheses, as `BadRecord(Float)`. The names
 /// are those of the variants.
+#[derive(Drop)]
 pub struct RefusalName<'a, D: Digest, A: Allocator = Global>(pub &'a RepoFault<D, A>);
 
 impl<D: Digest, A: Allocator> fmt::Display for RefusalName<'_, D, A> {

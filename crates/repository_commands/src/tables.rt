@@ -54,7 +54,8 @@ impl<D: Digest, A: Allocator + Clone> BlockStore<
         ensures { IsAnswer D.digest_of (arc_value block) core self.old.fulls.times result
             self.new.fulls.times }
     {
-        let answer = self.shards[shard_number(&block.cid())].acquire(core, block);
+        let number = shard_number(&block.cid());
+        let answer = self.shards[number].acquire(core, block);
         if matches!(answer, Err(StoreFault::Full)) {
             self.fulls = self.fulls.once_more();
         }
@@ -64,6 +65,7 @@ impl<D: Digest, A: Allocator + Clone> BlockStore<
     fn release(&mut self, hold: Hold<D, A>)
         ensures { self.new.fulls.times ≡ self.old.fulls.times }
     {
-        self.shards[shard_number(&hold.cid())].release(hold);
+        let number = shard_number(&hold.cid());
+        self.shards[number].release(hold);
     }
 }

@@ -47,9 +47,9 @@ fn answer_made<D: Digest, A: Allocator + Copy, R: Read>(
         (R.remaining input.old) result }
     ensures kind { IfErr result (λ e. is_write_failure e ≡ false) }
 {
-    let root = root_of(root)?;
-    check_key(key)?;
-    let blocks = read_blocks(alloc, input)?;
+    let root = root_of::<D, A>(root)?;
+    check_key::<D, A>(key)?;
+    let blocks = read_blocks::<D, A, R>(alloc, input)?;
     let value = shown::<D, A>(root, &blocks, key)?;
     Ok(line_of(alloc, value)?)
 }
