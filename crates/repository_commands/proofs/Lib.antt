@@ -1,3 +1,3 @@
 pub mod Putting
-pub mod Filling
-pub mod Ending
+pub mod Repositories
+pub mod Endings

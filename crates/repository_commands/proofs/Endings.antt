@@ -1,13 +1,13 @@
 -- How a command ends, from what was made and what was written.
-use Rattle.std.proofs.Common.{◌≡◌, ℕ, List, [], ◌∷◌, true, false, Some, None, refl, sym, ap, subst, ◌∙◌}
-use Rattle.std.specs.Prelude.{Option, Result, Ok, Err, is_ok, IfSome}
+use Rattle.std.proofs.Common.{◌≡◌, ℕ, List, [], ◌∷◌, true, false, Some, None, refl, sym, ap, ◌∙◌, arith}
+use Rattle.std.specs.Prelude.{Bool, Option, Result, Ok, Err, is_ok, IfSome}
 use Rattle.std.specs.Io.KnownBytes.{Appends, Keeps}
 use Rattle.spec.specs.Reading.{Fails}
 use Rattle.console.specs.Written.{AppendsBeginning, AppendsText}
 use Rattle.console.specs.declared.writing.WriteFault.{WriteFault}
 use Rattle.console.specs.declared.writing.WriteFault.TheVariants as writes
 use Rattle.console.proofs.Leaving.{Appends-kept}
-use Rattle.repository_commands.specs.Faults.{Fault, fault_of, is_write_failure, of_write, status_of}
+use Rattle.repository_commands.specs.Faults.{Fault, fault_of, is_write_failure, may_have_written, of_write, status_of}
 use Rattle.repository_commands.specs.Texts.{text_or_nothing}
 use Rattle.repository_commands.specs.Outcomes.{IsOutcome, IsStatusOf, Texts}
 use Rattle.repository_commands.specs.declared.fault.CommandFault.{CommandFault}
@@ -31,7 +31,7 @@ wrote-some : (old new : Option (List ℕ)) (r : Result (List ℕ) Fault) (t : Li
 wrote-some old new r t e p = rw e p
 
 module _ {D A : Type 0} (text : Texts) (input old new : Option (List ℕ)) where
-  fails-writing : Result (Unit {0}) (CommandFault D A) → _
+  fails-writing : Result (Unit {0}) (CommandFault D A) → Bool
   fails-writing (Ok ok) = false
   fails-writing (Err f) = is_write_failure f
 
@@ -71,3 +71,45 @@ module _ {D A : Type 0} (text : Texts) (input old new : Option (List ℕ)) where
     nothing = λ e. absurd cc;
     beginning = for-known _ _ input (λ xs m. wrote-some old new (text xs) t m wrote-it) made;
   }
+
+-- ---- the exit status
+
+module _ {D A : Type 0} (text : Texts) (input old new : Option (List ℕ)) where
+  pub status-done : (status : ℕ) → status ≡ 0 → IfSome input (λ xs. AppendsText old new (text xs)) → IsStatusOf text input old new status
+  status-done status is written = record {
+    one_of = omega (arith, is);
+    done = λ _. written;
+    nothing = λ e. absurd (omega (arith, is, e));
+    usage = λ e. omega (arith, is, e);
+  }
+
+  pub status-failed : (status : ℕ) → status ≡ 4 → IsStatusOf text input old new status
+  status-failed status is = record {
+    one_of = omega (arith, is);
+    done = λ e. absurd (omega (arith, is, e));
+    nothing = λ e. absurd (omega (arith, is, e));
+    usage = λ e. omega (arith, is, e);
+  }
+
+  status-told : (status : ℕ) → status ≡ 1 → Keeps old new → IsStatusOf text input old new status
+  status-told status is kept = record {
+    one_of = omega (arith, is);
+    done = λ e. absurd (omega (arith, is, e));
+    nothing = λ _. kept;
+    usage = λ e. omega (arith, is, e);
+  }
+
+  pub status-faulty : (f : CommandFault D A) (status : ℕ) → status ≡ status_of f → (may_have_written f ≡ false → Keeps old new) → IsStatusOf text input old new status
+  status-faulty errors.NoMemory status is nothing = record {
+    one_of = omega (arith, is);
+    done = λ e. absurd (omega (arith, is, e));
+    nothing = λ e. absurd (omega (arith, is, e));
+    usage = λ e. omega (arith, is, e);
+  }
+  status-faulty errors.ReadFailed status is nothing = status-failed status is
+  status-faulty errors.WriteFailed status is nothing = status-failed status is
+  status-faulty errors.BadDid status is nothing = status-told status is (nothing refl)
+  status-faulty errors.BadRev status is nothing = status-told status is (nothing refl)
+  status-faulty (errors.Root f) status is nothing = status-told status is (nothing refl)
+  status-faulty (errors.Proof f) status is nothing = status-told status is (nothing refl)
+  status-faulty (errors.Line n f) status is nothing = status-told status is (nothing refl)
