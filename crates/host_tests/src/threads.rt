@@ -1,6 +1,6 @@
 //! Writers and the taker, each in a thread of its own.
 
-ghost use Rattle.std.specs.Prelude.{◌≡◌, IfOk, All, [], length};
+ghost use Rattle.std.specs.Prelude.{◌≡◌, IfOk, IfSome, All, length, map};
 ghost use Rattle.closing.specs.Ending.{IsEndedAt};
 ghost use Rattle.host.specs.Views.{IsSeatOf};
 
@@ -149,7 +149,74 @@ fn are_all_told<R: Wait>(
         && are_in_order([received, &left, closed.kept(1)], 1, count)
 }
 
-/// Two writers and the taker, over a queue with this room.
+/// How the writers ended, where each had so many batches accepted.
+fn ended_of(alloc: Global, done: Vec<Done>, count: u16) -> Option<Vec<Ended>>
+    ensures { IfSome result (λ all. all.items ≡ map (λ d. d.ended) done.items) }
+{
+    let Ok(mut all) = Vec::with_capacity(alloc, done.len()) else {
+        return None;
+    };
+    for one in done {
+        let Done { ended, accepted } = one;
+        if accepted != count {
+            return None;
+        }
+        all.push_reserved(ended);
+    }
+    Some(all)
+}
+
+/// What the writers and the taker leave.
+#[derive(Drop)]
+struct Left {
+    done: Vec<Done>,
+    feed: Feed,
+    received: Vec<Notice>,
+}
+
+/// Two writers and the taker, each in a thread of its own.
+fn run<R: Threads + Wait + Abort + Sync>(
+    rt: &R,
+    alloc: Global,
+    host: &Host<Toy, 2>,
+    seats: Vec<Seat>,
+    feed: Feed,
+    count: u16,
+) -> Left
+    requires seats { All (IsSeatOf host.now) seats.items }
+    requires feed { feed.queue_id ≡ host.now.queue.queue_id }
+    ensures len { length result.done.items ≡ length seats.items }
+    ensures ended { All (λ d. IsEndedAt host.now.queue.queue_id host.now.repos d.ended)
+        result.done.items }
+    ensures queue { result.feed.queue_id ≡ feed.queue_id }
+    ensures made { result.feed.made ≡ feed.made }
+    ensures joined { result.feed.joined ≡ feed.joined }
+{
+    let writers = AtomicU64::new(0);
+    let ended = &writers;
+    let (done, (feed, received)) = thread::join(
+        rt,
+        move || -> Result<Vec<Done>, AllocError>
+            requires { All (IsSeatOf host.now) seats.items }
+            ensures { IfOk result (λ v. (length v.items ≡ length seats.entry.items)
+                × All (λ d. IsEndedAt host.entry.now.queue.queue_id host.entry.now.repos d.ended)
+                v.items) }
+        { write_all(rt, host, alloc, seats, count, ended) },
+        move || -> (Feed, Vec<Notice>)
+            requires { feed.queue_id ≡ host.now.queue.queue_id }
+            ensures { (result.0.queue_id ≡ feed.entry.queue_id)
+                × (result.0.made ≡ feed.entry.made)
+                × (result.0.joined ≡ feed.entry.joined) }
+        { take_all(rt, alloc, host, feed, ended, 2) },
+    );
+    Left {
+        done: done.expect(rt, "writers"),
+        feed,
+        received,
+    }
+}
+
+/// Whether all notices of two writers are there, over a queue with this room.
 fn is_told<R: Threads + Wait + Abort + Sync>(
     rt: &R,
     alloc: Global,
@@ -158,17 +225,15 @@ fn is_told<R: Threads + Wait + Abort + Sync>(
 ) -> bool {
     let opened = Host::<Toy, 2>::open(rt, alloc, limits(2, 2, room)).expect(rt, "a host");
     let Opened { host, seats, feed } = opened;
-    let writers = AtomicU64::new(0);
-    let (done, (feed, received)) = thread::join(
-        rt,
-        || write_all(rt, &host, alloc, seats, count, &writers),
-        || take_all(rt, alloc, &host, feed, &writers, 2),
-    );
-    let mut all = Vec::with_capacity(alloc, 2).expect(rt, "room");
-    for one in done.expect(rt, "writers") {
-        assert!(rt; one.accepted == count);
-        all.push_reserved(one.ended);
-    }
+    let left = run(rt, alloc, &host, seats, feed, count);
+    let Left {
+        done,
+        feed,
+        received,
+    } = left;
+    let Some(all) = ended_of(alloc, done, count) else {
+        return false;
+    };
     match host.close(all, feed) {
         Ok(closed) => are_all_told(rt, alloc, closed, &received, u64::from(count)),
         Err(_) => false,
