@@ -1,7 +1,0 @@
-use Rattle.std.proofs.Common.{◌<◌, vec_len, subst, sym}
-use Rattle.closing.proofs.Numbers.{some_left}
-use Rattle.closing.proofs.closed.Uneven.drop.Goals as goal
-
-pub element-requires : goal.element-requires
-element-requires g c =
-    subst (λ n. 0 < n) (sym c.deref.ensures.len) (some_left (vec_len c.self.inside.cores) c.is_empty.result c.is_empty.ensures c.if-is_empty.false)
