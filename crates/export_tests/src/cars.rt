@@ -132,8 +132,7 @@ fn is_written(alloc: Global, core: &Core<Toy, 2>) -> bool {
     let Some(file) = file_of(alloc, alloc, core) else {
         return false;
     };
-    is_file(&file, core.commit(), 868, SECTIONS)
-        && fails_at_each(alloc, core, &file)
+    is_file(&file, core.commit(), 868, SECTIONS) && fails_at_each(alloc, core, &file)
 }
 
 #[test]

@@ -26,7 +26,11 @@ pub(crate) const TWO: &[u8] = b"\xa1\x61a\x02";
 pub(crate) const THREE: &[u8] = b"\xa1\x61a\x03";
 
 /// Records whose tree has five nodes under the digest `Toy`.
-pub(crate) const FIVE_NODES: &[Record<'static>] = &[(b"a/p0", ONE), (b"a/q2", TWO), (b"a/r0", THREE)];
+pub(crate) const FIVE_NODES: &[Record<'static>] = &[
+    (b"a/p0", ONE),
+    (b"a/q2", TWO),
+    (b"a/r0", THREE),
+];
 
 /// The core of a repository without records, the only one of its store.
 pub(crate) fn opened<R: Abort, D: Digest, const B: u8, A: Allocator + Copy>(

@@ -15,11 +15,7 @@ use store::Shard;
 type Proof = Vec<Vec<u8>>;
 
 /// The proof that a core gives of a key.
-fn proof_of<D: Digest, const B: u8>(
-    alloc: Global,
-    core: &Core<D, B>,
-    key: &[u8],
-) -> Option<Proof>
+fn proof_of<D: Digest, const B: u8>(alloc: Global, core: &Core<D, B>, key: &[u8]) -> Option<Proof>
     requires { 1 ≤ B }
 {
     let mut proof = Vec::new(alloc);

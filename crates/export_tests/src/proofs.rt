@@ -10,12 +10,14 @@ use std::alloc::Global;
 const EMPTY: &[u8] = b"\xa2\x61e\x80\x61l\xf6";
 
 /// The block of the node with the key `a/b` alone, whose record is the byte `a0`. The record's digest is of another program.
-const ONE_KEY: &[u8] = b"\xa2\x61e\x81\xa4\x61kCa/b\x61p\x00\x61t\xf6\x61v\xd8\x2a\x58\x25\x00\x01\x71\x12\x20\
+const ONE_KEY: &[u8] =
+    b"\xa2\x61e\x81\xa4\x61kCa/b\x61p\x00\x61t\xf6\x61v\xd8\x2a\x58\x25\x00\x01\x71\x12\x20\
     \xc1\x9a\x79\x7f\xa1\xfd\x59\x0c\xd2\xe5\xb4\x2d\x1c\xf5\xf2\x46\
     \xe2\x9b\x91\x68\x4e\x2f\x87\x40\x4b\x81\xdc\x34\x5c\x7a\x56\xa0\x61l\xf6";
 
 /// The longest key there is, and one that is longer.
 const LONGEST: [u8; 1024] = [b'a'; 1024];
+
 const LONGER: [u8; 1025] = [b'a'; 1025];
 
 /// The block of the root, the blocks that are given, the key, and what they prove of it: its record, or none.
@@ -37,7 +39,12 @@ const ROWS: [Row; 11] = [
     (ONE_KEY, &[ONE_KEY], b"a/a", Ok(None)),
     (ONE_KEY, &[ONE_KEY], b"a/b", Ok(Some(b"\xa0"))),
     (ONE_KEY, &[ONE_KEY], b"a/c", Ok(None)),
-    (b"\xa0", &[b"\xa0"], b"a/b", Err(ProofFault::BadNode(NodeFault::NotNode))),
+    (
+        b"\xa0",
+        &[b"\xa0"],
+        b"a/b",
+        Err(ProofFault::BadNode(NodeFault::NotNode)),
+    ),
 ];
 
 /// Copies of some blocks.
