@@ -91,20 +91,24 @@ pub fn with_words<'a>(
 
 /// The command of this name, with what its words say; or `None` where it is another.
 pub fn command_of<'a>(name: &str, words: &ArgMatches<'a>) -> Option<RepositoryCommand<'a>> {
-    match name {
-        "car" => Some(RepositoryCommand::Car {
+    if name == "car" {
+        return Some(RepositoryCommand::Car {
             did: words.get_str("did").unwrap_or(DID),
             rev: words.get_str("rev").unwrap_or(REV),
-        }),
-        "prove" => Some(RepositoryCommand::Prove {
+        });
+    }
+    if name == "prove" {
+        return Some(RepositoryCommand::Prove {
             key: words.get_str("key").unwrap_or(""),
-        }),
-        "verify" => Some(RepositoryCommand::Verify {
+        });
+    }
+    if name == "verify" {
+        return Some(RepositoryCommand::Verify {
             root: words.get_str("root").unwrap_or(""),
             key: words.get_str("key").unwrap_or(""),
-        }),
-        _ => None,
+        });
     }
+    None
 }
 
 /// The words that `car` takes, with what help shows of them.
