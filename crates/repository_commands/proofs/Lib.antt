@@ -1,3 +1,4 @@
 pub mod Putting
 pub mod Repositories
 pub mod Endings
+pub mod Making

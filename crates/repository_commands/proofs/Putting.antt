@@ -14,34 +14,34 @@ onto g h = record { numbers = g.numbers ++ h.numbers; writes = g.writes ++ h.wri
 abbrev pub stopped : Given → Option ℕ → Given
 stopped g stop = record { numbers = g.numbers; writes = g.writes; stop = stop }
 
-onto-stopped : (g : Given) (stop : Option ℕ) → onto g (record { numbers = []; writes = []; stop = stop }) ≡ stopped g stop
-onto-stopped g stop = λ i. record { numbers = append-nil g.numbers i; writes = append-nil g.writes i; stop = stop }
+onto_stopped : (g : Given) (stop : Option ℕ) → onto g (record { numbers = []; writes = []; stop = stop }) ≡ stopped g stop
+onto_stopped g stop = λ i. record { numbers = append-nil g.numbers i; writes = append-nil g.writes i; stop = stop }
 
-onto-onto : (g : Given) (n : ℕ) (w : Write) (h : Given) → onto g (with_put n (Some w) h) ≡ onto (added g n w) h
-onto-onto g n w h = λ i. record {
+onto_onto : (g : Given) (n : ℕ) (w : Write) (h : Given) → onto g (with_put n (Some w) h) ≡ onto (added g n w) h
+onto_onto g n w h = λ i. record {
   numbers = sym (append_assoc g.numbers (n ∷ []) h.numbers) i;
   writes = sym (append_assoc g.writes (w ∷ []) h.writes) i;
   stop = h.stop;
 }
 
-pub onto-empty : (n : ℕ) (g : Given) (l : List ℕ) (ls : List (List ℕ)) → (length l == 0) ≡ true → onto g (given_from n (l ∷ ls)) ≡ onto g (given_from (n + 1) ls)
+pub onto_empty : (n : ℕ) (g : Given) (l : List ℕ) (ls : List (List ℕ)) → (length l == 0) ≡ true → onto g (given_from n (l ∷ ls)) ≡ onto g (given_from (n + 1) ls)
 unfolding given_from
-onto-empty n g [] ls e = refl
-onto-empty n g (c ∷ l) ls e = absurd (omega (arith, eqb-true _ _ e))
+onto_empty n g [] ls e = refl
+onto_empty n g (c ∷ l) ls e = absurd (omega (arith, eqb-true _ _ e))
 
-pub onto-put : (n : ℕ) (g : Given) (l : List ℕ) (ls : List (List ℕ)) (w : Write) → (length l == 0) ≡ false → Some w ≡ put_of_line l → onto g (given_from n (l ∷ ls)) ≡ onto (added g n w) (given_from (n + 1) ls)
+pub onto_put : (n : ℕ) (g : Given) (l : List ℕ) (ls : List (List ℕ)) (w : Write) → (length l == 0) ≡ false → Some w ≡ put_of_line l → onto g (given_from n (l ∷ ls)) ≡ onto (added g n w) (given_from (n + 1) ls)
 unfolding given_from
-onto-put n g [] ls w some is = absurd cc
-onto-put n g (c ∷ l) ls w some is = ap (λ (o : Option Write). onto g (with_put n o (given_from (n + 1) ls))) (sym is) ∙ onto-onto g n w (given_from (n + 1) ls)
+onto_put n g [] ls w some is = absurd cc
+onto_put n g (c ∷ l) ls w some is = ap (λ (o : Option Write). onto g (with_put n o (given_from (n + 1) ls))) (sym is) ∙ onto_onto g n w (given_from (n + 1) ls)
 
-pub onto-stop : (n : ℕ) (g : Given) (l : List ℕ) (ls : List (List ℕ)) → (length l == 0) ≡ false → None ≡ put_of_line l → onto g (given_from n (l ∷ ls)) ≡ stopped g (Some n)
+pub onto_stop : (n : ℕ) (g : Given) (l : List ℕ) (ls : List (List ℕ)) → (length l == 0) ≡ false → None ≡ put_of_line l → onto g (given_from n (l ∷ ls)) ≡ stopped g (Some n)
 unfolding given_from
-onto-stop n g [] ls some is = absurd cc
-onto-stop n g (c ∷ l) ls some is = ap (λ (o : Option Write). onto g (with_put n o (given_from (n + 1) ls))) (sym is) ∙ onto-stopped g (Some n)
+onto_stop n g [] ls some is = absurd cc
+onto_stop n g (c ∷ l) ls some is = ap (λ (o : Option Write). onto g (with_put n o (given_from (n + 1) ls))) (sym is) ∙ onto_stopped g (Some n)
 
-pub onto-done : (n : ℕ) (g : Given) → g.stop ≡ None → onto g (given_from n []) ≡ g
+pub onto_done : (n : ℕ) (g : Given) → g.stop ≡ None → onto g (given_from n []) ≡ g
 unfolding given_from
-onto-done n g open = onto-stopped g None ∙ (λ i. record { numbers = g.numbers; writes = g.writes; stop = sym open i })
+onto_done n g open = onto_stopped g None ∙ (λ i. record { numbers = g.numbers; writes = g.writes; stop = sym open i })
 
 -- the reading of all lines, seen after some of them
 pub record Remains (all : Given) (most number : ℕ) (g : Given) (ls : List (List ℕ)) : Type 0 where

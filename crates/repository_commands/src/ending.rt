@@ -19,9 +19,13 @@ pub(crate) fn write_made<D: Digest, A: Allocator, W: Write>(
         → IsMade (λ bytes. bytes.items) text input made
         → IsOutcome text input (W.contents out.old) (W.contents out.new) result }
 {
-    let text = made?;
-    write_whole(out, &text)?;
-    Ok(())
+    match made {
+        Ok(text) => match write_whole(out, &text) {
+            Ok(()) => Ok(()),
+            Err(fault) => Err(CommandFault::from(fault)),
+        },
+        Err(fault) => Err(fault),
+    }
 }
 
 /// The exit status of a command that ended so: what was written reaches the writer's end, and a fault is told on standard
