@@ -102,13 +102,16 @@ module _ {D A : Type 0} (text : Texts) (input old new : Option (List ℕ)) where
     usage = λ e. omega (arith, is, e);
   }
 
-  pub status_faulty : (f : CommandFault D A) (status : ℕ) → status ≡ status_of f → (may_have_written f ≡ false → Keeps old new) → IsStatusOf text input old new status
-  status_faulty errors.NoMemory status is nothing = record {
+  status_without_memory : (status : ℕ) → status ≡ 3 → IsStatusOf text input old new status
+  status_without_memory status is = record {
     one_of = omega (arith, is);
     done = λ e. absurd (omega (arith, is, e));
     nothing = λ e. absurd (omega (arith, is, e));
     usage = λ e. omega (arith, is, e);
   }
+
+  pub status_faulty : (f : CommandFault D A) (status : ℕ) → status ≡ status_of f → (may_have_written f ≡ false → Keeps old new) → IsStatusOf text input old new status
+  status_faulty errors.NoMemory status is nothing = status_without_memory status is
   status_faulty errors.ReadFailed status is nothing = status_failed status is
   status_faulty errors.WriteFailed status is nothing = status_failed status is
   status_faulty errors.BadDid status is nothing = status_told status is (nothing refl)

@@ -41,10 +41,10 @@ onto_stop n g (c ∷ l) ls some is = ap (λ (o : Option Write). onto g (with_put
 
 pub onto_done : (n : ℕ) (g : Given) → g.stop ≡ None → onto g (given_from n []) ≡ g
 unfolding given_from
-onto_done n g open = onto_stopped g None ∙ (λ i. record { numbers = g.numbers; writes = g.writes; stop = sym open i })
+onto_done n g going_on = onto_stopped g None ∙ (λ i. record { numbers = g.numbers; writes = g.writes; stop = sym going_on i })
 
 -- the reading of all lines, seen after some of them
 pub record Remains (all : Given) (most number : ℕ) (g : Given) (ls : List (List ℕ)) : Type 0 where
   pub reading : all ≡ onto g (given_from (number + 1) ls)
-  pub open : g.stop ≡ None
+  pub going_on : g.stop ≡ None
   pub bound : number + length ls ≤ most

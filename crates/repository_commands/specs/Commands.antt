@@ -1,6 +1,5 @@
 -- What each command writes, by its words.
 use Rattle.std.specs.Prelude.{ℕ, List, codes}
-use Rattle.std.specs.Borrow.{Bor}
 use Rattle.spec.specs.Stamps.{Stamp}
 use Rattle.repository_commands.specs.Outcomes.{Texts}
 use Rattle.repository_commands.specs.Texts.{car_text, prove_text, verify_text}

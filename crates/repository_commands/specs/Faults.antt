@@ -9,7 +9,7 @@ use Rattle.export.specs.Faults as of_proof
 use Rattle.export.specs.declared.proof_fault.ProofFault.TheVariants as proof_faults
 use Rattle.console.specs.declared.reading.ReadFault.{ReadFault}
 use Rattle.console.specs.declared.reading.ReadFault.TheVariants as reads
-use Rattle.console.specs.declared.writing.WriteFault.{WriteFault}
+use Rattle.console.specs.declared.writing.WriteFault.{WriteFault as OutputFault}
 use Rattle.console.specs.declared.writing.WriteFault.TheVariants as writes
 use Rattle.repository_commands.specs.declared.fault.LineFault.{LineFault as GivenLineFault}
 use Rattle.repository_commands.specs.declared.fault.LineFault.TheVariants as lines
@@ -76,7 +76,7 @@ abbrev pub of_read : {D A : Type 0} → ReadFault → CommandFault D A
 of_read reads.NoMemory = errors.NoMemory
 of_read reads.Failed = errors.ReadFailed
 
-abbrev pub of_write : {D A : Type 0} → WriteFault → CommandFault D A
+abbrev pub of_write : {D A : Type 0} → OutputFault → CommandFault D A
 of_write writes.NoMemory = errors.NoMemory
 of_write writes.Failed = errors.WriteFailed
 
