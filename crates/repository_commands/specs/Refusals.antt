@@ -47,3 +47,7 @@ IsRefusedLine digest stamp given errors.WriteFailed = ⊤
 abbrev pub refused : {D A : Type 0} → ℕ → RepoFault D A → CommandFault D A
 refused n faults.NoMemory = errors.NoMemory
 refused n fault = errors.Line n (lines.Refused fault)
+
+-- the fault of a line that is no put
+abbrev pub bad_line : {D A : Type 0} → ℕ → CommandFault D A
+bad_line n = errors.Line n lines.BadLine

@@ -40,11 +40,15 @@ abbrev pub unless_stopped : Option ℕ → Result (Unit {0}) Fault
 unless_stopped None = Ok tt
 unless_stopped (Some n) = Err (Line n BadLine)
 
+-- the writes are tested in their order, on a repository without writes
+abbrev pub writes_check : Given → Result (Unit {0}) Fault
+writes_check given = at_its_line given.numbers (batch_test most_writes [] given.writes)
+
 -- The repository of these puts, or the first line at fault. The puts before a line that is none are
 -- tried first.
 unfoldable pub state_of_given : Stamp → Given → Result State Fault
 state_of_given stamp given = do
-  writes_ok ← at_its_line given.numbers (batch_test most_writes [] given.writes)
+  writes_ok ← writes_check given
   all_puts ← unless_stopped given.stop
   Ok (state_of stamp given.writes)
 

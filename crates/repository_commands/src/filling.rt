@@ -1,11 +1,11 @@
 //! A repository that is filled with the puts of an input.
-ghost use Rattle.std.specs.Prelude.{◌≡◌, false, IfErr, IfOk};
+ghost use Rattle.std.specs.Prelude.{◌≡◌, false, slice_index, IfErr, IfOk, IfSome, OnOk};
 ghost use Rattle.spec.specs.Reading.{Gives};
-ghost use Rattle.batches.specs.Values.{stamp_of};
+ghost use Rattle.batches.specs.Values.{stamp_of, writes_of};
 ghost use Rattle.store.specs.Stores.{IsStore};
 ghost use Rattle.repository_commands.specs.Faults.{fault_of, is_of_words, is_write_failure};
-ghost use Rattle.repository_commands.specs.Refusals.{IsRefusedLine, refused as refused_by};
-ghost use Rattle.repository_commands.specs.Texts.{no_writes, state_of_given};
+ghost use Rattle.repository_commands.specs.Refusals.{IsRefusedLine, bad_line, refused as refused_by};
+ghost use Rattle.repository_commands.specs.Texts.{no_writes, state_of, state_of_given, unless_stopped, writes_check};
 ghost use Rattle.repository_commands.specs.Views.{given_of};
 
 use crate::fault::{CommandFault, LineFault};
@@ -70,6 +70,7 @@ fn empty<
 }
 
 /// Applies the puts to a repository without writes, or names the first line at fault.
+#[tactic(auto, unfolding(crate::specs::Texts::state_of_given))]
 fn apply_puts<
     D: Digest,
     A: Allocator + Copy,
@@ -90,12 +91,55 @@ fn apply_puts<
     ensures input { IfErr result (λ e. is_of_words e ≡ false) }
     ensures kind { IfErr result (λ e. is_write_failure e ≡ false) }
 {
-    if !puts.writes.is_empty() {
-        if let Err((place, fault)) = core.apply(alloc, store, stamp, &puts.writes) {
-            return Err(refused(puts.numbers.get(place).copied().unwrap_or(0), fault));
-        }
+    apply_writes::<D, A, S>(alloc, store, core, stamp, puts)?;
+    check_end::<D, A>(puts.stop)
+}
+
+/// Applies the puts before the line that is none, if there is one, or names the line of the first that is refused.
+fn apply_writes<
+    D: Digest,
+    A: Allocator + Copy,
+    S: BlockStore<Arc<Block<D, A>, A>, Hold<D, A>, StoreFault<D, A>>,
+>(
+    alloc: A,
+    store: &mut S,
+    core: &mut Core<D, 2, A>,
+    stamp: &Stamp<A>,
+    puts: &Puts<A>,
+) -> Result<(), CommandFault<D, A>>
+    requires store { IsStore D.digest_of S.fulls S.answers }
+    requires empty { core.old ≡ no_writes }
+    ensures passes { Gives (λ ok. ok) fault_of result
+        (writes_check (given_of puts.now)) }
+    ensures state { OnOk result
+        (core.new ≡ state_of (stamp_of stamp.now) (writes_of puts.now.writes.items)) }
+    ensures refused { IfErr result
+        (IsRefusedLine D.digest_of (stamp_of stamp.now) (given_of puts.now)) }
+    ensures input { IfErr result (λ e. is_of_words e ≡ false) }
+    ensures kind { IfErr result (λ e. is_write_failure e ≡ false) }
+{
+    if puts.writes.is_empty() {
+        return Ok(());
     }
-    match puts.stop {
+    match core.apply(alloc, store, stamp, &puts.writes) {
+        Ok(_) => Ok(()),
+        Err((place, fault)) => Err(refused(number_at(&puts.numbers, place), fault)),
+    }
+}
+
+/// The number of the line of the put at a place.
+fn number_at(numbers: &[u64], place: usize) -> u64
+    ensures { result ≡ slice_index numbers.now place }
+{
+    numbers.get(place).copied().unwrap_or(0)
+}
+
+/// Whether each line was a put.
+fn check_end<D: Digest, A: Allocator>(stop: Option<u64>) -> Result<(), CommandFault<D, A>>
+    ensures check { Gives (λ ok. ok) fault_of result (unless_stopped stop) }
+    ensures line { IfErr result (λ e. IfSome stop (λ n. e ≡ bad_line n)) }
+{
+    match stop {
         None => Ok(()),
         Some(number) => {
             let fault = LineFault::BadLine;
