@@ -80,8 +80,8 @@ static USES: [Row; 18] = [
     (Act::Accept, End::Done, (0, 0), (0, 0), 0),
 ];
 
-/// The blocks that are accepted are listed, in the order of their CIDs, and those that are staged are not.
-static BLOCKS_IN_ORDER: [Row; 5] = [
+/// The blocks that are accepted are listed, and those that are staged are not.
+static LISTED_BLOCKS: [Row; 5] = [
     (Act::Add(TWO), End::Done, (0, 0), (0, 1), 0),
     (Act::Add(ONE), End::Done, (0, 1), (0, 1), 0),
     (Act::Accept, End::Done, (1, 1), (1, 1), 2),
@@ -145,15 +145,24 @@ fn is_used<D: Digest>(shard: &Shard<D>, kept: &Kept<D>, bytes: &[u8], uses: Uses
         && is_block(kept.lender().get(&cid), bytes, cores > 0)
 }
 
-/// Whether these are so many blocks that are used, and their CIDs ascend.
-fn ascend<D: Digest>(kept: &Kept<D>, wanted: u64) -> bool {
-    let mut before: Option<Cid> = None;
+/// How often the list of blocks has one with this CID.
+fn times_listed<D: Digest>(kept: &Kept<D>, cid: Cid) -> u64 {
+    let mut times = 0u64;
+    for block in kept.blocks() {
+        if block.cid() == cid {
+            times = times.saturating_add(1);
+        }
+    }
+    times
+}
+
+/// Whether so many blocks are listed, each of them once, and each is used.
+fn are_listed<D: Digest>(kept: &Kept<D>, wanted: u64) -> bool {
     let mut count = 0u64;
     for block in kept.blocks() {
-        if before >= Some(block.cid()) || kept.uses(&block.cid()) == 0 {
+        if times_listed(kept, block.cid()) != 1 || kept.uses(&block.cid()) == 0 {
             return false;
         }
-        before = Some(block.cid());
         count = count.saturating_add(1);
     }
     count == wanted
@@ -171,7 +180,7 @@ fn end_so<D: Digest>(
         if done(alloc, shard, kept, *next) != *end
             || !is_used(shard, kept, blocks[0], *ones)
             || !is_used(shard, kept, blocks[1], *others)
-            || !ascend(kept, *count)
+            || !are_listed(kept, *count)
         {
             return false;
         }
@@ -200,6 +209,6 @@ fn are_acts<R: Abort, D: Digest>(
 #[test]
 fn uses_of_blocks(rt: HostRuntime) {
     assert!(rt; are_acts::<_, Toy>(&rt, rt.alloc(), 2, [ONE, TWO], &USES));
-    assert!(rt; are_acts::<_, Toy>(&rt, rt.alloc(), 3, [ONE, TWO], &BLOCKS_IN_ORDER));
+    assert!(rt; are_acts::<_, Toy>(&rt, rt.alloc(), 3, [ONE, TWO], &LISTED_BLOCKS));
     assert!(rt; are_acts::<_, Size>(&rt, rt.alloc(), 1, [ONE, EMPTY], &WHAT_IS_NOT_STAGED));
 }

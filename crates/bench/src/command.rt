@@ -35,6 +35,10 @@ pub enum Command {
         count: u32,
         rounds: u32,
     },
+    Export {
+        count: u32,
+        rounds: u32,
+    },
 }
 
 impl Command {
@@ -83,6 +87,11 @@ impl Command {
                 let count = number(words, 1)?;
                 let rounds = number(words, 2)?;
                 (count <= 500_000).then_some(Command::ApplyFlat { count, rounds })
+            }
+            ("export", 3) => {
+                let count = number(words, 1)?;
+                let rounds = number(words, 2)?;
+                (count <= 1_000_000).then_some(Command::Export { count, rounds })
             }
             _ => None,
         }

@@ -4,6 +4,7 @@
 mod blocks;
 mod command;
 mod edits;
+mod exports;
 mod lookups;
 mod made;
 mod queues;
@@ -41,7 +42,10 @@ usage: bench store COUNT ROUNDS
          most 10,000, and deletes these again, BATCH a batch, ROUNDS times, in turns with edits of its tree alone
        bench apply-flat COUNT ROUNDS
          makes a repository of COUNT keys, at most 500,000, that are all of layer 0, and puts ten more and deletes these
-         again, one a batch, ROUNDS times, in turns with edits of its tree alone";
+         again, one a batch, ROUNDS times, in turns with edits of its tree alone
+       bench export COUNT ROUNDS
+         makes a repository of COUNT keys, at most 1,000,000, with records of 288 bytes, writes its CAR to memory, and proves
+         10,000 of its keys and verifies the proofs, ROUNDS times";
 
 fn main(rt: HostRuntime) -> io::Result<()> {
     let words: Vec<String> = env::args(&rt)?.skip(1).collect(rt.alloc())?;
@@ -71,6 +75,10 @@ fn main(rt: HostRuntime) -> io::Result<()> {
         Some(Command::ApplyFlat { count, rounds }) => {
             let plan = Plan::flat(rt.alloc(), count)?;
             apply(&rt, rt.alloc(), &plan, 1, rounds)
+        }
+        Some(Command::Export { count, rounds }) => {
+            let plan = Plan::usual(rt.alloc(), count)?;
+            export(&rt, rt.alloc(), &plan, rounds)
         }
         None => println!(rt; "{USAGE}"),
     }
@@ -269,5 +277,33 @@ fn took<R: Print>(rt: &R, name: &str, took: &Took, writes: u128) -> io::Result<(
         alone % 1000 / 100,
         ratio / 100,
         ratio % 100
+    )
+}
+
+/// Prints what the CAR of a repository took at the least, and the proof of one of its keys.
+fn export<R: Wait + Clock + Print>(
+    rt: &R,
+    alloc: Global,
+    plan: &Plan,
+    rounds: u32,
+) -> io::Result<()> {
+    let Some(exported) = repositories::export(rt, alloc, plan, rounds)? else {
+        return println!(rt; "refused");
+    };
+    println!(rt;
+        "{} keys, a CAR of {} bytes, {} microseconds at the least",
+        plan.keys(),
+        exported.bytes,
+        exported.car / 1000
+    )?;
+    let proofs = &exported.proofs;
+    let keys = u128::from(proofs.keys).max(1);
+    println!(rt;
+        "{} proofs of {} nodes, each {} ns to prove and {} ns to verify at the least, {} ns its digests alone",
+        proofs.keys,
+        proofs.nodes,
+        proofs.prove / keys,
+        proofs.verify / keys,
+        proofs.hash / keys
     )
 }

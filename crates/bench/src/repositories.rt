@@ -1,6 +1,7 @@
 //! Writes to one repository, beside edits of its tree alone.
 
 use crate::edits::{Change, Tree};
+use crate::exports::{self, Exported};
 use crate::{made, trees};
 use batches::{Stamp, Write};
 use cid::{Cid, Sha256, layer};
@@ -268,6 +269,46 @@ pub fn measure<R: Wait + Clock + Files>(
         }
         Err(_) => Ok(None),
     }
+}
+
+/// Makes the repository of a plan in a store of sixteen shards, and then so many times writes its CAR, and proves and verifies
+/// its first 10,000 keys. `None` where a batch was refused or a proof was wrong.
+pub fn export<R: Wait + Clock>(
+    rt: &R,
+    alloc: Global,
+    plan: &Plan,
+    rounds: u32,
+) -> io::Result<Option<Exported>> {
+    let shards = Shards::open(alloc, 1_048_576);
+    let mut store = LockedShards::new(rt, &shards);
+    match Core::open(alloc, &mut store, 0, 1_048_576) {
+        Ok(mut core) => {
+            let mut desk = Desk {
+                core: &mut core,
+                store: &mut store,
+                last: 0,
+            };
+            let exported = export_at(rt, alloc, plan, &mut desk, rounds);
+            core.end(&mut store);
+            exported
+        }
+        Err(_) => Ok(None),
+    }
+}
+
+/// The same for a repository without writes.
+fn export_at<R: Wait + Clock>(
+    rt: &R,
+    alloc: Global,
+    plan: &Plan,
+    desk: &mut Desk<'_, '_, R>,
+    rounds: u32,
+) -> io::Result<Option<Exported>> {
+    if !desk.fill(alloc, plan)? {
+        return Ok(None);
+    }
+    let (places, _) = plan.first.split_at(plan.first.len().min(10_000));
+    exports::measure(rt, alloc, desk.core, &plan.pairs, places, rounds)
 }
 
 /// The same for a repository without writes and the tree alone.

@@ -1,5 +1,5 @@
 -- What a close finds, at the values that it is given.
-use Rattle.std.proofs.Common.{◌≡◌, ◌≢◌, ℕ, ◌<◌, ◌+◌, drop, get_or, arith, List, [], ◌∷◌, ◌++◌, length, map, refl, sym, ap, ◌∙◌, subst, cond, nat_eq, Bool, true, false, Option, None, Some, Result, Ok, Err}
+use Rattle.std.proofs.Common.{◌≡◌, ◌≢◌, ℕ, ◌<◌, ◌+◌, drop, get_or, arith, List, [], ◌∷◌, ◌++◌, length, map, sym, ap, ◌∙◌, subst, cond, nat_eq, Bool, true, false, Option, None, Some, Result, Ok, Err}
 use Rattle.std.specs.Prelude.{filter, IfOk, IfSome, IfNone}
 use Rattle.std.specs.declared.vec.Vec.{Vec}
 use Rattle.std.proofs.lemmas.List.{length-map, at_drop_more}
@@ -13,7 +13,7 @@ use Rattle.notices.specs.Rule.{account}
 use Rattle.notices.specs.Views.{QueueId, FeedView, first_sent, received_one, HaveAllJoined, IsAllReceived}
 use Rattle.closing.specs.Counts.{count_in}
 use Rattle.closing.specs.Ending.{EndedView, account_of, joined_all, kept_by, told, told_by}
-use Rattle.closing.specs.Settling.{IsSettled, IsUneven, IsClosed, ClosedView, AreSquare}
+use Rattle.closing.specs.Settling.{IsSettled, IsUneven, IsClosed, ClosedView, IsAllTold}
 use Rattle.closing.specs.declared.mismatch.Mismatch.{Mismatch}
 
 module _ (digest : List ℕ → List ℕ) (bits : ℕ) (tables : List Table) where
@@ -54,10 +54,10 @@ unchanged_at None v old f view h = subst (λ (o : ClosedView). record v { feed =
 unchanged_at (Some n) v old f view h = tt
 
 -- where the one account of a writer is what was received of it
-squared : (ended : List EndedView) (writer : ℕ) (sent : List Notice) → filter (λ (a : Account). nat_eq a.writer writer) (map account_of ended) ≡ account writer sent ∷ []
+told_whole : (ended : List EndedView) (writer : ℕ) (sent : List Notice) → filter (λ (a : Account). nat_eq a.writer writer) (map account_of ended) ≡ account writer sent ∷ []
     → sent ++ kept_by ended writer ≡ told_by ended writer
-squared [] writer sent h = absurd cc
-squared (e ∷ es) writer sent h = step (nat_eq e.pass.writer writer) (squared es writer sent) h
+told_whole [] writer sent h = absurd cc
+told_whole (e ∷ es) writer sent h = step (nat_eq e.pass.writer writer) (told_whole es writer sent) h
   where
     step : (b : Bool)
         → (filter (λ (a : Account). nat_eq a.writer writer) (map account_of es) ≡ account writer sent ∷ [] → sent ++ kept_by es writer ≡ told_by es writer)
@@ -66,14 +66,14 @@ squared (e ∷ es) writer sent h = step (nat_eq e.pass.writer writer) (squared e
     step true rest h = ap (λ l. l ++ e.kept) (sym (ap first_sent h))
     step false rest h = rest h
 
-pub square_at : (r : Option Notice) (new old : FeedView) (ended : List EndedView) → old.joined ≡ map account_of ended → length ended ≡ old.made
-    → IfNone r (new ≡ old) → IfNone r (HaveAllJoined new → IsAllReceived new) → IfNone r (AreSquare new ended)
-square_at None new old ended joined all same received = λ writer less.
+pub told_at : (r : Option Notice) (new old : FeedView) (ended : List EndedView) → old.joined ≡ map account_of ended → length ended ≡ old.made
+    → IfNone r (new ≡ old) → IfNone r (HaveAllJoined new → IsAllReceived new) → IfNone r (IsAllTold new ended)
+told_at None new old ended joined all same received = λ writer less.
     let here : new.joined ≡ map account_of ended = ap (λ (f : FeedView). f.joined) same ∙ joined in
     let count : length new.joined ≡ new.made = ap length here ∙ length-map ended account_of ∙ all ∙ sym (ap (λ (f : FeedView). f.made) same) in
-    squared ended writer (of writer new.received)
+    told_whole ended writer (of writer new.received)
     (ap (filter (λ (a : Account). nat_eq a.writer writer)) (sym here) ∙ received count writer less)
-square_at (Some n) new old ended joined all same received = tt
+told_at (Some n) new old ended joined all same received = tt
 
 pub counts_at : {A E : Type 0} (r : Result (Vec (List ℕ × ℕ) A) E) (entries : List (List ℕ × ℕ)) (f : List ℕ → Option ℕ) → IfOk r (λ v. v.items ≡ entries)
     → ((cid : List ℕ) → count_in entries cid ≡ f cid) → IfOk r (λ v. (cid : List ℕ) → count_in v.items cid ≡ f cid)

@@ -1,6 +1,6 @@
 -- The steps of the comparison of cores with tables.
 use mathlib.Core.Bool.{true≢false}
-use Rattle.std.proofs.Common.{zero, suc, ◌≡◌, ◌≢◌, ℕ, ◌<◌, ◌≤◌, ◌+◌, ◌∷◌, [], ◌++◌, List, length, take, drop, get_or, refl, ap, sym, ◌∙◌, subst, cond, nat_eq, Bool, true, false, arith, Option, Some, None, ◌⊎◌, inl, inr, ⊎_elim, bytes_eq, All, ◌%◌, MatchBool, Contains}
+use Rattle.std.proofs.Common.{zero, suc, ◌≡◌, ◌≢◌, ℕ, ◌<◌, ◌≤◌, ◌+◌, ◌∷◌, [], ◌++◌, List, length, take, drop, get_or, refl, ap, sym, ◌∙◌, subst, cond, nat_eq, Bool, true, false, arith, Option, Some, None, ◌⊎◌, inl, inr, ⊎_elim, bytes_eq, All, ◌%◌}
 use Rattle.std.specs.Prelude.{◌&&◌, ◌||◌, T}
 use Rattle.std.specs.List.{AllByRecursion}
 use Rattle.std.proofs.lemmas.List.Elements.{recursion_from_All}
@@ -20,7 +20,7 @@ use Rattle.spec.specs.Cid.{cid as cid_of}
 use Rattle.store.specs.Table.{Table, Held, cores_at, cores_of, shard_of, listed, with_cores, entry_at, IsLawful}
 use Rattle.spec.specs.States.{State}
 use Rattle.kept.specs.Leaving.{no_table}
-use Rattle.closing.specs.Tally.{has, has_in, entered, have, NumberedFrom, IsEven, IsMiscounted, IsMisnumbered, IsEntered, IsMissed, AllHave, IsAlien, AreHad, AreAlien}
+use Rattle.closing.specs.Tally.{has, has_in, entered, have, NumberedFrom, IsEven, IsMiscounted, IsMisnumbered, IsEntered, IsMissed, AllHave, IsWithout, AreHad, AreWithout}
 
 -- ---- numbers
 
@@ -252,9 +252,9 @@ module _ (digest : List ℕ → List ℕ) (bits : ℕ) (cores : List State) (sha
       let g : Going digest bits cores shard table ((k, s) ∷ left) = subst (Going digest bits cores shard table) e h in
       g.rest k number (ap (λ o. set.contains (cond (is_eq o) s (look left k)) number) (tied_itself nat_list_cmp_total k) ∙ x)
 
-  pub going_alien : (k : List ℕ) (s : set.FinSet nat_cmp) (left whole : List (List ℕ × set.FinSet nat_cmp)) → whole ≡ (k, s) ∷ left
-      → Going digest bits cores shard table whole → shard_of k ≡ shard → IsAlien digest bits cores k s → AreAlien digest bits cores shard table
-  going_alien k s left whole e h in_shard a = (k, in_shard, (a.0, going_item k s left whole e h a.0 a.1, a.2))
+  pub going_without : (k : List ℕ) (s : set.FinSet nat_cmp) (left whole : List (List ℕ × set.FinSet nat_cmp)) → whole ≡ (k, s) ∷ left
+      → Going digest bits cores shard table whole → shard_of k ≡ shard → IsWithout digest bits cores k s → AreWithout digest bits cores shard table
+  going_without k s left whole e h in_shard a = (k, in_shard, (a.0, going_item k s left whole e h a.0 a.1, a.2))
 
   pub going_end : (left : List (List ℕ × set.FinSet nat_cmp)) → left ≡ [] → Going digest bits cores shard table left → AreHad digest bits cores shard table
   going_end left e h cid in_shard number x =
@@ -329,9 +329,9 @@ pub missed_is : (digest : List ℕ → List ℕ) (bits : ℕ) (cores : List Stat
 missed_is digest bits cores tables at s less e m =
     (m.0, s.me, λ same. true≢false (sym (have_own digest bits tables m.0 s.me cores at s less e m.1 refl) ∙ sym same ∙ m.2))
 
-pub alien_is : (digest : List ℕ → List ℕ) (bits : ℕ) (cores : List State) (tables : List Table) (shard : ℕ) (t : Table) → length tables ≡ 16 → shard < 16 → t ≡ get_or tables shard t
-    → AreAlien digest bits cores shard t → IsMiscounted digest bits cores tables
-alien_is digest bits cores tables shard t size less e a = (
+pub without_is : (digest : List ℕ → List ℕ) (bits : ℕ) (cores : List State) (tables : List Table) (shard : ℕ) (t : Table) → length tables ≡ 16 → shard < 16 → t ≡ get_or tables shard t
+    → AreWithout digest bits cores shard t → IsMiscounted digest bits cores tables
+without_is digest bits cores tables shard t size less e a = (
   a.0,
   a.2.0,
   λ same. true≢false (sym a.2.1 ∙ ap (λ (x : Table). set.contains (cores_at x a.0) a.2.0)

@@ -1,7 +1,7 @@
 -- What a core shows is what its accepted writes leave.
 use Rattle.std.proofs.Common.{◌≡◌, ℕ, List, Option, sym, ap, ◌∙◌, subst}
 use Rattle.spec.specs.Writes.{Write}
-use Rattle.spec.specs.Stamps.{Stamped, last, stamp_of}
+use Rattle.spec.specs.Stamps.{Stamped}
 use Rattle.spec.specs.Commits.{commit_cid}
 use Rattle.spec.specs.States.{State, IsLawful, state_root, state_commit, last_stamp}
 use Rattle.repo.specs.Readings.{AreBlocksOnce}

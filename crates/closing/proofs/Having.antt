@@ -1,6 +1,6 @@
 -- Whether a core has a block with a CID, by what it answers and by what it lists.
 use mathlib.Core.Bool.{true≢false}
-use Rattle.std.proofs.Common.{zero, suc, ◌≡◌, ◌<◌, ℕ, List, [], ◌∷◌, length, refl, sym, ap, ◌∙◌, Bool, true, false, cond, arith, Option, Some, None}
+use Rattle.std.proofs.Common.{zero, suc, ◌≡◌, ℕ, List, [], ◌∷◌, refl, sym, ap, ◌∙◌, Bool, true, false, cond, arith, Option, Some, None}
 use Rattle.std.specs.Prelude.{◌||◌, Contains, is_some, option_map, find}
 use Rattle.std.specs.List.{list_any}
 use Rattle.std.specs.Str.{bytes_eq}

@@ -4,3 +4,4 @@ pub mod Entries
 pub mod Adding
 pub mod Closings
 pub mod FromScratch
+pub mod Numbers

@@ -59,8 +59,8 @@ pub record UnevenView : Type 0 where
   pub mismatch : Mismatch
 
 -- what was received of each writer, and then what it kept, is what it told
-abbrev pub AreSquare : FeedView → List EndedView → Type 0
-AreSquare feed ended = (writer : ℕ) → writer < feed.made
+abbrev pub IsAllTold : FeedView → List EndedView → Type 0
+IsAllTold feed ended = (writer : ℕ) → writer < feed.made
     → of writer feed.received ++ kept_by ended writer ≡ told_by ended writer
 
 -- what a host that has closed knows of its fields: each writer's pass has joined the feed

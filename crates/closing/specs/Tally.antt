@@ -78,8 +78,8 @@ AllHave digest bits cores cid numbers = (number : ℕ) → set.contains numbers 
     → have digest bits cores cid number ≡ true
 
 -- one of the numbers is that of no core that has the CID
-abbrev pub IsAlien : (List ℕ → List ℕ) → ℕ → List State → List ℕ → set.FinSet nat_cmp → Type 0
-IsAlien digest bits cores cid numbers = (number : ℕ) × (set.contains numbers number ≡ true)
+abbrev pub IsWithout : (List ℕ → List ℕ) → ℕ → List State → List ℕ → set.FinSet nat_cmp → Type 0
+IsWithout digest bits cores cid numbers = (number : ℕ) × (set.contains numbers number ≡ true)
     × (have digest bits cores cid number ≡ false)
 
 -- in a shard's table, of each CID of this shard: the cores that are entered have it
@@ -88,9 +88,9 @@ AreHad digest bits cores shard table = (cid : List ℕ) → shard_of cid ≡ sha
     → AllHave digest bits cores cid (cores_at table cid)
 
 -- of some CID of this shard a core is entered that doesn't have it
-abbrev pub AreAlien : (List ℕ → List ℕ) → ℕ → List State → ℕ → Table → Type 0
-AreAlien digest bits cores shard table = (cid : List ℕ) × (shard_of cid ≡ shard)
-    × IsAlien digest bits cores cid (cores_at table cid)
+abbrev pub AreWithout : (List ℕ → List ℕ) → ℕ → List State → ℕ → Table → Type 0
+AreWithout digest bits cores shard table = (cid : List ℕ) × (shard_of cid ≡ shard)
+    × IsWithout digest bits cores cid (cores_at table cid)
 
 -- each core is entered for each of its CIDs
 abbrev pub AreEntered : (List ℕ → List ℕ) → ℕ → List State → List Table → Type 0

@@ -4,6 +4,7 @@ ghost use Rattle.std.specs.Prelude.{◌≡◌, ◌<◌, ℕ, List, [], length, m
 ghost use Rattle.std.specs.List.Sorted.{IsStrictlySortedBy};
 ghost use Rattle.std.specs.Cmp.Lexicographic.{slice_cmp};
 ghost use Rattle.std.specs.Ordering.{nat_cmp};
+ghost use Rattle.notices.specs.Numbering.{IsNumbered};
 ghost use Rattle.notices.specs.Views.{received_one};
 ghost use Rattle.spec.specs.States.{State};
 ghost use Rattle.batches.specs.Values.{shared_writes, stamps_of};
@@ -12,7 +13,7 @@ ghost use Rattle.closing.specs.Headline.{IsFromScratch, AreTallies};
 ghost use Rattle.closing.specs.Tally.{tally, count};
 ghost use Rattle.closing.specs.Counts.{count_in, positive};
 ghost use Rattle.closing.specs.Ending.{IsEndedAt, joined_all, kept_by};
-ghost use Rattle.closing.specs.Settling.{IsSettled, IsUneven, AreSquare};
+ghost use Rattle.closing.specs.Settling.{IsSettled, IsUneven, IsAllTold};
 
 use crate::comparing::compare;
 use crate::counts::{all_counts, count_in_shard, listed};
@@ -20,6 +21,7 @@ use crate::ended::Ended;
 use crate::feed::Feed;
 use crate::fitting::element;
 use crate::mismatch::Mismatch;
+use crate::repositories::Repositories;
 use crate::settled::{Settled, settle_all};
 use crate::shown::{Shown, show};
 use cid::{Cid, Digest};
@@ -34,12 +36,12 @@ use store::{SHARDS, Shard};
 /// that have it. Where it goes, all blocks are given back.
 ///
 /// A contract sees it as the states of its cores, the tables, the feed, and the writers as they ended.
+#[derive(Drop)]
 pub struct Closed<D: Digest, const B: u8, A: Allocator = Global> {
     queue: Queue<A>,
     feed: notices::Feed,
     settled: Vec<Settled<A>, A>,
-    cores: Vec<Core<D, B, A>, A>,
-    tables: [Shard<D, A>; SHARDS],
+    repositories: Repositories<D, B, A>,
 }
 
 impl<D: Digest, const B: u8, A: Allocator> Model for Closed<D, B, A> {
@@ -52,23 +54,23 @@ impl<D: Digest, const B: u8, A: Allocator> Model for Closed<D, B, A> {
     ghost coded = { Prim.hlevel (codes, table_code) };
 
     ghost view = { λ c. record {
-      cores = c.cores.items;
-      tables = c.tables;
+      cores = c.repositories.cores.items;
+      tables = c.repositories.tables;
       feed = c.feed;
       ended = c.settled.items;
     } };
 
-    ghost invariant = { λ c. IsClosed D.digest_of B c.queue.queue_id c.cores.items c.tables c.feed
-        c.settled.items };
+    ghost invariant = { λ c. IsClosed D.digest_of B c.queue.queue_id c.repositories.cores.items
+        c.repositories.tables c.feed c.settled.items };
 }
 
 /// Cores and tables that don't agree, or cores that have fewer accepted writes than a writer has seen there. Where it goes,
 /// all blocks are given back.
 ///
 /// A contract sees it as the states of the cores, the tables, the writers as they ended, and in what they don't agree.
+#[derive(Drop)]
 pub struct Uneven<D: Digest, const B: u8, A: Allocator = Global> {
-    cores: Vec<Core<D, B, A>, A>,
-    tables: [Shard<D, A>; SHARDS],
+    repositories: Repositories<D, B, A>,
     ended: Vec<Ended<A>, A>,
     mismatch: Mismatch,
 }
@@ -83,13 +85,14 @@ impl<D: Digest, const B: u8, A: Allocator> Model for Uneven<D, B, A> {
     ghost coded = { Prim.hlevel (codes, table_code) };
 
     ghost view = { λ u. record {
-      cores = u.cores.items;
-      tables = u.tables;
+      cores = u.repositories.cores.items;
+      tables = u.repositories.tables;
       ended = u.ended.items;
       mismatch = u.mismatch;
     } };
 
-    ghost invariant = { λ u. IsUneven D.digest_of B u.cores.items u.tables u.ended.items u.mismatch };
+    ghost invariant = { λ u. IsUneven D.digest_of B u.repositories.cores.items
+        u.repositories.tables u.ended.items u.mismatch };
 }
 
 impl<D: Digest, const B: u8, A: Allocator> Closed<D, B, A> {
@@ -97,7 +100,7 @@ impl<D: Digest, const B: u8, A: Allocator> Closed<D, B, A> {
     pub fn cores(&self) -> &[Core<D, B, A>]
         ensures { result.now ≡ self.now.cores }
     {
-        &self.cores
+        &self.repositories.cores
     }
 
     /// The headline: the repository of this number, less than there are cores, and the counts of all blocks.
@@ -116,7 +119,7 @@ impl<D: Digest, const B: u8, A: Allocator> Closed<D, B, A> {
             (used_blocks result.blocks.entries) }
         ensures counts { AreTallies D.digest_of B self.now.cores self.now.tables }
     {
-        show(element(&self.cores, number))
+        show(element(&self.repositories.cores, number))
     }
 
     /// How many of the cores have a block with this CID, which is the count that its entry in the table of its shard has, 0
@@ -125,11 +128,12 @@ impl<D: Digest, const B: u8, A: Allocator> Closed<D, B, A> {
         ensures entry { result ≡ count self.now.tables cid.now }
         ensures tally { result ≡ tally D.digest_of B self.now.cores cid.now }
     {
-        count_in_shard(&self.tables, cid)
+        count_in_shard(&self.repositories.tables, cid)
     }
 
     /// Takes the oldest notice that was left in the queue, or answers `None` only where the queue was empty at some moment of
-    /// the call. Then what was received of each writer, and after it what the writer kept, is what it told.
+    /// the call. Then what was received of each writer, and after it what the writer kept, is what it told. What was received
+    /// of a writer is numbered 1, 2, .. in order.
     ///
     /// It takes no memory, and waits for nothing but the queue's own steps.
     pub fn next_left<R: Wait>(&mut self, rt: &R) -> Option<Notice>
@@ -137,7 +141,8 @@ impl<D: Digest, const B: u8, A: Allocator> Closed<D, B, A> {
             (λ notice. self.new ≡ record self.old { feed = received_one self.old.feed notice }) }
         ensures known { IfSome result (λ notice. notice.writer < self.new.feed.made) }
         ensures unchanged { IfNone result (self.new ≡ self.old) }
-        ensures square { IfNone result (AreSquare self.new.feed self.new.ended) }
+        ensures told { IfNone result (IsAllTold self.new.feed self.new.ended) }
+        ensures numbered { IsNumbered self.new.feed.received }
     {
         self.queue.take(rt, &mut self.feed)
     }
@@ -165,20 +170,9 @@ impl<D: Digest, const B: u8, A: Allocator + Clone> Closed<D, B, A> {
         ensures counts { IfOk result (λ v. (cid : List ℕ) → count_in v.items cid
             ≡ positive (tally D.digest_of B self.now.cores cid)) }
     {
-        let all = all_counts(alloc.clone()?, &self.tables)?;
+        let all = all_counts(alloc.clone()?, &self.repositories.tables)?;
         listed(alloc, all)
     }
-}
-
-/// Gives the blocks of all cores back to the tables. It takes no lock and no memory.
-pub fn end_all<D: Digest, const B: u8, A: Allocator>(
-    mut cores: Vec<Core<D, B, A>, A>,
-    mut tables: [Shard<D, A>; SHARDS],
-) {
-    while let Some(core) = cores.pop() {
-        core.end_in(&mut tables);
-    }
-    cores.destroy_empty();
 }
 
 impl<D: Digest, const B: u8, A: Allocator> Closed<D, B, A> {
@@ -202,44 +196,7 @@ impl<D: Digest, const B: u8, A: Allocator> Uneven<D, B, A> {
     pub fn cores(&self) -> &[Core<D, B, A>]
         ensures { result.now ≡ self.now.cores }
     {
-        self.cores.as_slice()
-    }
-}
-
-impl<D: Digest, const B: u8, A: Allocator> Drop for Closed<D, B, A> {
-    fn drop(self) {
-        let Closed {
-            queue: _,
-            feed: _,
-            settled: _,
-            cores,
-            tables,
-        } = self;
-        if cores.is_empty() {
-            cores.destroy_empty();
-        } else {
-            // where there is a core, its type fits in memory
-            let _ = element(&cores, 0);
-            end_all(cores, tables);
-        }
-    }
-}
-
-impl<D: Digest, const B: u8, A: Allocator> Drop for Uneven<D, B, A> {
-    fn drop(self) {
-        let Uneven {
-            cores,
-            tables,
-            ended: _,
-            mismatch: _,
-        } = self;
-        if cores.is_empty() {
-            cores.destroy_empty();
-        } else {
-            // where there is a core, its type fits in memory
-            let _ = element(&cores, 0);
-            end_all(cores, tables);
-        }
+        self.repositories.cores.as_slice()
     }
 }
 
@@ -283,13 +240,11 @@ pub fn close<D: Digest, const B: u8, A: Allocator>(
                 queue,
                 feed,
                 settled,
-                cores,
-                tables,
+                repositories: Repositories { cores, tables },
             })
         }
         Err(mismatch) => Err(Uneven {
-            cores,
-            tables,
+            repositories: Repositories { cores, tables },
             ended,
             mismatch,
         }),

@@ -3,7 +3,7 @@
 ghost use Rattle.std.specs.Prelude.{◌≡◌, ℕ, ◌<◌, true, MatchBool, OnOk, IfErr, length, All};
 ghost use Rattle.std.specs.FinSet as set;
 ghost use Rattle.closing.specs.Tally.{has, have, NumberedFrom, IsMisnumbered, IsMiscounted};
-ghost use Rattle.closing.specs.Tally.{IsEntered, IsMissed, AreEntered, AreHad, AreAlien, AreAllHad, AllHave, IsAlien};
+ghost use Rattle.closing.specs.Tally.{IsEntered, IsMissed, AreEntered, AreHad, AreWithout, AreAllHad, AllHave, IsWithout};
 ghost use Rattle.closing.specs.Settling.{IsSettled, IsUneven};
 
 use crate::ended::Ended;
@@ -115,7 +115,7 @@ fn all_have<D: Digest, const B: u8, A: Allocator>(
     requires numbered { NumberedFrom 0 cores.now }
     requires small { (number : ℕ) → set.contains entered.now number ≡ true → number < 1024 }
     ensures { MatchBool result (AllHave D.digest_of B cores.now cid.now entered.now)
-        (IsAlien D.digest_of B cores.now cid.now entered.now) }
+        (IsWithout D.digest_of B cores.now cid.now entered.now) }
 {
     let mut from = 0;
     while let Some(number) = entered.next_from(from) {
@@ -135,7 +135,7 @@ fn are_had<D: Digest, const B: u8, A: Allocator>(
 ) -> bool
     requires { NumberedFrom 0 cores.now }
     ensures { MatchBool result (AreHad D.digest_of B cores.now shard table.now)
-        (AreAlien D.digest_of B cores.now shard table.now) }
+        (AreWithout D.digest_of B cores.now shard table.now) }
 {
     for (cid, entered) in table.entries() {
         if shard_number(&cid) == shard && !all_have(cores, &cid, entered) {

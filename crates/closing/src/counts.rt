@@ -32,13 +32,10 @@ fn add_counts<D: Digest, A: Allocator + Clone>(
         ≡ counted all.old.entries shard table.now cid) }
 {
     for (cid, _) in table.entries() {
-        let count = table.count(&cid);
-        if count == 0 {
-            continue;
-        }
         if shard_number(&cid) != shard {
             continue;
         }
+        let count = table.count(&cid);
         let Ok(_) = all.insert(cid, count) else {
             return Err(AllocError);
         };

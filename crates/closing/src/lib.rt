@@ -24,13 +24,15 @@ mod ended;
 mod feed;
 mod fitting;
 mod mismatch;
+mod repositories;
 mod seeing;
 mod settled;
 mod shown;
 
-pub use closed::{Closed, Uneven, close, end_all};
+pub use closed::{Closed, Uneven, close};
 pub use ended::Ended;
 pub use feed::{Feed, Taker};
 pub use fitting::element;
 pub use mismatch::Mismatch;
+pub use repositories::end_all;
 pub use shown::Shown;

@@ -23,7 +23,7 @@ pub struct Shown<'a, D: Digest, A: Allocator = Global> {
     pub root: Cid,
     /// The CID of the last batch's commit, or `None` before the first one.
     pub commit: Option<Cid>,
-    /// The blocks, each once, in the order of their CIDs.
+    /// The blocks, each once, in some order.
     pub blocks: Blocks<'a, D, A>,
 }
 

@@ -4,7 +4,7 @@ ghost use Rattle.std.specs.Prelude.{◌≡◌, ◌≤◌, ◌<◌, All, length};
 ghost use Rattle.closing.specs.Ending.{IsEndedAt};
 
 use crate::repositories::{Batch, Heap, two_cores};
-use cid::digests::Toy;
+use cid::Digest;
 use closing::{Closed, Ended, Feed, Uneven, close};
 use notices::{Notice, Queue, SendPass};
 use repo::Core;
@@ -13,10 +13,7 @@ use std::sync::Wait;
 use store::{SHARDS, Shard, Shards};
 
 /// What a close answers.
-pub(crate) type Answer<'h, const B: u8> = Result<
-    Closed<Toy, B, Heap<'h>>,
-    Uneven<Toy, B, Heap<'h>>,
->;
+pub(crate) type Answer<'h, D, const B: u8> = Result<Closed<D, B, Heap<'h>>, Uneven<D, B, Heap<'h>>>;
 
 /// A writer that has ended: it keeps this notice, and has seen so many accepted writes in each repository.
 fn ended<'h, R: Abort>(
@@ -59,13 +56,13 @@ pub(crate) fn two_ended<'h, R: Abort>(
 
 /// Closes these cores and tables, with all memory refused. Each of two writers has told nothing, and seen so many accepted
 /// writes in each repository.
-pub(crate) fn closed<'h, R: Abort, const B: u8>(
+pub(crate) fn closed<'h, D: Digest, R: Abort, const B: u8>(
     rt: &R,
     heap: Heap<'h>,
-    cores: Vec<Core<Toy, B, Heap<'h>>, Heap<'h>>,
-    tables: [Shard<Toy, Heap<'h>>; SHARDS],
+    cores: Vec<Core<D, B, Heap<'h>>, Heap<'h>>,
+    tables: [Shard<D, Heap<'h>>; SHARDS],
     seen: u64,
-) -> Answer<'h, B> {
+) -> Answer<'h, D, B> {
     let (queue, mut passes, feed) = Queue::open(heap, 2, 2).expect(rt, "a queue");
     let second = passes.pop().expect(rt, "a pass");
     let first = passes.pop().expect(rt, "a pass");
@@ -78,13 +75,13 @@ pub(crate) fn closed<'h, R: Abort, const B: u8>(
 }
 
 /// Closes two repositories of these numbers, after these batches.
-pub(crate) fn closed_after<'h, R: Wait + Abort, const B: u8>(
+pub(crate) fn closed_after<'h, D: Digest, R: Wait + Abort, const B: u8>(
     rt: &R,
     heap: Heap<'h>,
     numbers: (u32, u32),
     batches: &[Batch],
     seen: u64,
-) -> Answer<'h, B>
+) -> Answer<'h, D, B>
     requires least { 1 ≤ B }
     requires most { B ≤ 8 }
     requires first { numbers.0 < 1024 }

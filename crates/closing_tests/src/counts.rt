@@ -4,8 +4,8 @@ ghost use Rattle.std.specs.Prelude.{◌≤◌};
 
 use crate::closes::closed_after;
 use crate::repositories::{Batch, EMPTY, Heap};
-use cid::Cid;
 use cid::digests::Toy;
+use cid::{Cid, Sha256};
 use closing::Closed;
 use refusing::Refusing;
 use repo::Core;
@@ -14,7 +14,7 @@ use std::process::Abort;
 use std::sync::Wait;
 
 /// Whether so many blocks have a count, each of them this one.
-fn are_counts<'h, const B: u8>(
+pub(crate) fn are_counts<'h, const B: u8>(
     heap: Heap<'h>,
     closed: &Closed<Toy, B, Heap<'h>>,
     blocks: usize,
@@ -62,7 +62,7 @@ fn close_with<R: Wait + Abort, const B: u8>(
     requires most { B ≤ 8 }
 {
     let heap = Refusing::new(alloc);
-    let is_right = match closed_after::<R, B>(rt, &heap, (0, 1), batches, 0) {
+    let is_right = match closed_after::<Toy, R, B>(rt, &heap, (0, 1), batches, 0) {
         Ok(closed) => {
             are_counts(&heap, &closed, blocks, count)
                 && all_have_count(&closed, count)
@@ -86,8 +86,32 @@ fn two_repositories_share_blocks(rt: HostRuntime) {
     assert!(rt; close_with::<_, 2>(&rt, rt.alloc(), &SHARED, 5, 1));
 }
 
+/// The CID of the node without entries. Its digest is SHA-256 of the node, by another program.
+const EMPTY_NODE_CID: &[u8] =
+    b"\x01\x71\x12\x20\x9d\xfe\xfe\x61\xdd\x76\xea\x3d\xca\xe5\x02\x38\x80\xb0\x83\x79\
+    \xd5\x7a\xdf\x20\x48\x2d\x6f\xdb\xe2\x75\x92\x89\xf6\x47\x67\x7b";
+
+/// Whether two repositories without writes, under the protocol's digest and with its zero bits a layer, have one block in
+/// common and no others, which is the node without entries.
+fn close_without_writes<'h, R: Wait + Abort>(rt: &R, heap: Heap<'h>) -> bool {
+    let Ok(closed) = closed_after::<Sha256, R, 2>(rt, heap, (0, 1), &[], 0) else {
+        return false;
+    };
+    match closed.counts(heap) {
+        Ok(counts) => match counts.as_slice() {
+            [(cid, count)] => {
+                cid.as_bytes().as_slice() == EMPTY_NODE_CID && (*count, closed.count(cid)) == (2, 2)
+            }
+            _ => false,
+        },
+        Err(_) => false,
+    }
+}
+
 #[test]
 fn run_of_nothing(rt: HostRuntime) {
+    let heap = Refusing::new(rt.alloc());
+    assert!(rt; close_without_writes(&rt, &heap) && heap.live() == 0);
     assert!(rt; close_with::<_, 1>(&rt, rt.alloc(), &[], 1, 2));
     assert!(rt; close_with::<_, 8>(&rt, rt.alloc(), &[], 1, 2));
 }

@@ -6,7 +6,7 @@ use crate::closes::two_ended;
 use crate::repositories::{Heap, two_cores};
 use crate::writer::{Writer, notice};
 use cid::digests::Toy;
-use closing::{Closed, Feed, Taker, close};
+use closing::{Closed, Ended, Feed, Taker, close};
 use notices::{Notice, Queue, SendPass};
 use refusing::Refusing;
 use repo::Core;
@@ -75,6 +75,11 @@ fn tell_in_turn<'h, R: Wait>(
     }
 }
 
+/// Whether a writer has ended under this number, keeps these notices, and has seen nothing in either repository.
+fn is_ended<'h>(ended: &Ended<Heap<'h>>, writer: u32, kept: &[Notice]) -> bool {
+    ended.writer() == writer && ended.kept() == kept && ended.seen() == [0, 0].as_slice()
+}
+
 /// Whether one notice of each writer is left, and writer 1 kept another one.
 fn are_left<'h, R: Wait>(rt: &R, mut closed: Closed<Toy, 2, Heap<'h>>) -> bool {
     closed.next_left(rt) == Some(notice(1, 1))
@@ -105,9 +110,13 @@ fn close_after_notices<'h, R: Wait + Abort>(
         is_right,
     } = left;
     let ended = two_ended(rt, heap, first, second, kept, cores.len(), 0);
+    let have_ended = match ended.as_slice() {
+        [zero, one] => is_ended(zero, 0, &[]) && is_ended(one, 1, &[notice(1, 2)]),
+        _ => false,
+    };
     heap.refuse_from(1);
     match close(queue, feed, ended, cores, tables) {
-        Ok(closed) => are_left(rt, closed) && is_right,
+        Ok(closed) => are_left(rt, closed) && is_right && have_ended,
         Err(_) => false,
     }
 }

@@ -3,7 +3,7 @@
 ghost use Rattle.std.specs.Prelude.{◌≤◌, ◌<◌};
 
 use batches::{Stamp, Write};
-use cid::digests::Toy;
+use cid::Digest;
 use refusing::Refusing;
 use repo::Core;
 use std::alloc::{AllocError, Allocator, Global};
@@ -50,11 +50,11 @@ fn stamp_of<A: Allocator + Copy>(alloc: A, last: u8) -> Result<Stamp<A>, AllocEr
 }
 
 /// Whether a core takes this batch.
-fn is_taken<'h, R: Wait, const B: u8>(
+pub(crate) fn is_taken<'h, D: Digest, R: Wait, const B: u8>(
     rt: &R,
     heap: Heap<'h>,
-    shards: &Shards<Toy, Heap<'h>>,
-    core: &mut Core<Toy, B, Heap<'h>>,
+    shards: &Shards<D, Heap<'h>>,
+    core: &mut Core<D, B, Heap<'h>>,
     last: u8,
     record: Option<&[u8]>,
 ) -> bool {
@@ -69,12 +69,12 @@ fn is_taken<'h, R: Wait, const B: u8>(
 }
 
 /// A core without writes.
-pub(crate) fn opened<'h, R: Wait + Abort, const B: u8>(
+pub(crate) fn opened<'h, D: Digest, R: Wait + Abort, const B: u8>(
     rt: &R,
     heap: Heap<'h>,
-    shards: &Shards<Toy, Heap<'h>>,
+    shards: &Shards<D, Heap<'h>>,
     me: u32,
-) -> Core<Toy, B, Heap<'h>>
+) -> Core<D, B, Heap<'h>>
     requires least { 1 ≤ B }
     requires most { B ≤ 8 }
     requires small { me < 1024 }
@@ -83,13 +83,13 @@ pub(crate) fn opened<'h, R: Wait + Abort, const B: u8>(
 }
 
 /// Two cores of these numbers, after these batches.
-pub(crate) fn two_cores<'h, R: Wait + Abort, const B: u8>(
+pub(crate) fn two_cores<'h, D: Digest, R: Wait + Abort, const B: u8>(
     rt: &R,
     heap: Heap<'h>,
-    shards: &Shards<Toy, Heap<'h>>,
+    shards: &Shards<D, Heap<'h>>,
     numbers: (u32, u32),
     batches: &[Batch],
-) -> Vec<Core<Toy, B, Heap<'h>>, Heap<'h>>
+) -> Vec<Core<D, B, Heap<'h>>, Heap<'h>>
     requires least { 1 ≤ B }
     requires most { B ≤ 8 }
     requires first { numbers.0 < 1024 }

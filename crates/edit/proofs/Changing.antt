@@ -7,7 +7,7 @@ use Rattle.spec.specs.Tree.{Pair}
 use Rattle.spec.specs.NodeFormat.{Shape, LastLink, MoreLinks, first_link}
 use Rattle.paths.specs.Order.{order}
 use Rattle.paths.specs.ShapeEdit.{keep_before, keep_before_at, keep_after, keep_after_at, go_shape, go_shape_at, insert_shape, insert_shape_at, remove_shape, remove_shape_at, with_first_link, join_shape}
-use Rattle.edit.specs.Ahead.{after_pair, all_pairs, before_key, before_key_at, from_key, from_key_at, is_first_at}
+use Rattle.edit.specs.Ahead.{after_pair, all_pairs, before_key, before_key_at, from_key, from_key_at, is_first_at, pairs_before}
 use Rattle.edit.specs.declared.draft_fault.DraftFault.{DraftFault}
 use Rattle.edit.specs.Drafts.{onto, IsFaultOf, IsFaultOfAll}
 use Rattle.edit.proofs.Cutting.{with-own, grows-onto, fault-at}
@@ -124,16 +124,9 @@ pub record Cut (key : List ℕ) (s : Shape) (w : Links) (f : Shape) : Type 0 whe
   pub before : w ≡ before_key key s
   pub here : f ≡ from_key key s
 
-pub begun : (key : List ℕ) (s a : Shape) (none : Links) → a ≡ s → none ≡ []
-    → none ++ before_key key a ≡ before_key key s
-begun key s a none h k = ap (λ (xs : Links). xs ++ before_key key a) k ∙ ap (before_key key) h
-
-pub cut : (key : List ℕ) (s a f : Shape) (none w : Links) → a ≡ s → none ≡ [] → w ≡ none ++ before_key key a
-    → f ≡ from_key key a → Cut key s w f
-cut key s a f none w h k written here = record {
-  before = written ∙ begun key s a none h k;
-  here = here ∙ ap (from_key key) h;
-}
+pub begun : (key : Option (List ℕ)) (s a : Shape) (none : Links) → a ≡ s → none ≡ []
+    → none ++ pairs_before key a ≡ pairs_before key s
+begun key s a none h k = ap (λ (xs : Links). xs ++ pairs_before key a) k ∙ ap (pairs_before key) h
 
 -- a node that begins with some pairs
 pub record Begins (xs : Links) (s : Shape) : Type 0 where
@@ -215,17 +208,17 @@ module _ (p : Pair) (t : Option (List ℕ) × Option (List ℕ)) (s : Shape) whe
         ∙ sym (added p t s (sym (ap (is_first_at p.0) c.here) ∙ h))
 
 -- the pairs before a key could not be written
-pub fault-begins : (f : DraftFault) (key : List ℕ) (s a t : Shape) (none : Links) → a ≡ s → none ≡ []
-    → Begins (before_key key s) t → IsFaultOfAll (none ++ before_key key a) f → IsFaultOf t f
-fault-begins f key s a t none h k b fault =
-    fault-at f (none ++ before_key key a) b.rest t
-    (ap (λ (xs : Links). onto xs b.rest) (begun key s a none h k) ∙ b.is) fault
+pub fault-begins : (f : DraftFault) (key : List ℕ) (s t : Shape) → Begins (before_key key s) t
+    → IsFaultOfAll (before_key key s) f → IsFaultOf t f
+fault-begins f key s t b fault = fault-at f (before_key key s) b.rest t b.is fault
 
-pub joined : (s t a b : Shape) (x : Option (List ℕ)) (none w : Links) → a ≡ s → b ≡ t → none ≡ []
-    → w ≡ none ++ all_pairs a → onto w (with_first_link x b) ≡ join_shape s t x
-joined s t a b x none w h i k written =
-    ap (λ (xs : Links). onto xs (with_first_link x b))
-    (written ∙ ap (λ (xs : Links). xs ++ all_pairs a) k ∙ ap all_pairs h)
+pub fault-before : (f : DraftFault) (xs ys : Links) → xs ≡ ys → IsFaultOfAll xs f → IsFaultOfAll ys f
+fault-before f xs ys e fault = subst (λ (zs : Links). IsFaultOfAll zs f) e fault
+
+pub joined : (s t b : Shape) (x : Option (List ℕ)) (w : Links) → b ≡ t → w ≡ all_pairs s
+    → onto w (with_first_link x b) ≡ join_shape s t x
+joined s t b x w i written =
+    ap (λ (xs : Links). onto xs (with_first_link x b)) written
     ∙ ap (λ u. onto (all_pairs s) (with_first_link x u)) i
     ∙ sym (join-is s t x)
 

@@ -2,6 +2,7 @@
 //! node.
 
 mod bare;
+mod cut;
 mod go;
 mod insert;
 mod join;

@@ -1,10 +1,11 @@
 -- Outputs.
-use Rattle.std.specs.Prelude.{◌≡◌, ◌<◌, ◌++◌, ℕ, List, Option, Result, Ok, Err, MatchResult, take}
+use Rattle.std.specs.Prelude.{◌≡◌, ◌<◌, ◌++◌, ℕ, List, [], Option, None, Some, Result, Ok, Err, MatchResult, take}
 use Rattle.std.specs.Io.KnownBytes.{WriteAppends}
 use Rattle.export.specs.declared.export_fault.ExportFault.{ExportFault}
 use Rattle.export.specs.declared.export_fault.ExportFault.TheVariants as faults
 
--- a writer, the bytes that it has taken, and how often it has failed
+-- A writer, the bytes that it held from the start, where these are known, with those that it has taken since, and how
+-- often it has failed.
 pub record Writing (W : Type 0) : Type 0 where
   pub writer : W
   pub taken : List ℕ
@@ -22,6 +23,19 @@ TakesFirst old new bytes count = new ≡ old ++ take count bytes
 -- a writer did, where it is known what it holds
 abbrev pub WriterTakes : {W E : Type 0} → (W → Option (List ℕ)) → Writing W → Writing W → Result ℕ E → List ℕ → Type 0
 WriterTakes contents old new result bytes = WriteAppends (contents old.writer) (contents new.writer) result bytes
+
+-- what a writer holds, as far as it is known
+abbrev pub held : Option (List ℕ) → List ℕ
+held None = []
+held (Some bytes) = bytes
+
+-- what each writer of a type holds is known, as it is of a vector
+abbrev pub AreKnown : {W : Type 0} → (W → Option (List ℕ)) → Type 0
+AreKnown {W = W} contents = (w : W) → contents w ≡ Some (held (contents w))
+
+-- a writer of such a type holds these bytes and no others
+abbrev pub Holds : {W : Type 0} → (W → Option (List ℕ)) → W → List ℕ → Type 0
+Holds contents w bytes = AreKnown contents → contents w ≡ Some bytes
 
 -- of these bytes an output took all but the rest
 pub record Leaves (old new all rest : List ℕ) : Type 0 where

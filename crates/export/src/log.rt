@@ -25,10 +25,18 @@ impl Log {
         Log {}
     }
 
-    /// With these bytes after the others.
-    pub fn with(&self, _bytes: &[u8]) -> Log
+    /// After these bytes: those that an output holds from the start, which a proof names by what it knows of it.
+    pub(crate) fn after<T>(output: &T) -> Log
+        ghost bytes: { List ℕ }
+        ensures { result ≡ record { taken = bytes; failures = 0 } }
+    {
+        Log {}
+    }
+
+    /// With these bytes after the others. They are read by proofs alone.
+    pub fn with(&self, bytes: &[u8]) -> Log
         ensures { result ≡ record {
-          taken = self.now.taken ++ _bytes.now;
+          taken = self.now.taken ++ bytes.now;
           failures = self.now.failures;
         } }
     {

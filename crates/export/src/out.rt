@@ -11,7 +11,7 @@ pub struct Failed;
 ///
 /// A contract sees it as the bytes that it has taken, and how often it has failed.
 pub trait Out {
-    /// The bytes that it has taken so far.
+    /// The bytes that it has taken so far, with those in front that it held from the start, if it counts them.
     ghost taken: { Self → List ℕ };
 
     /// How often it has failed so far.

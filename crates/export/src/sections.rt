@@ -44,11 +44,11 @@ pub(crate) fn write_section<D: Digest, A: Allocator, W: Out>(
 {
     let bytes = block.bytes();
     let cid = block.cid();
-    let name = cid.as_bytes();
+    let identifier = cid.as_bytes();
     let size = 36 + bytes.len() as u64;
     let (length, count) = varint(size);
     write_whole(out, &length[..count])?;
-    write_whole(out, name)?;
+    write_whole(out, identifier)?;
     write_whole(out, bytes)?;
     Ok(count as u64 + size)
 }

@@ -1,7 +1,7 @@
 //! A writer of the standard library as an output.
 
 ghost use Rattle.std.specs.Prelude.{◌≡◌, ◌<◌, ◌≤◌, ◌++◌, [], suc, length, take, IfOk, OnOk, OnErr};
-ghost use Rattle.export.specs.Outs.{TakesFirst, WriterTakes};
+ghost use Rattle.export.specs.Outs.{held, Holds, TakesFirst, WriterTakes};
 
 use crate::log::Log;
 use crate::out::{Failed, Out};
@@ -11,7 +11,9 @@ use std::marker::Model;
 /// A writer of the standard library as an output. It fails where the writer answers an error of whatever kind, and where
 /// it takes none of the bytes.
 ///
-/// A contract sees it as the writer, the bytes that it has taken, and how often it has failed.
+/// A contract sees it as the writer, its bytes, and how often it has failed. The bytes are those that the writer held from
+/// the start, where a contract knows what it holds, and after them those that it has taken. So of a writer of a type that
+/// always tells what it holds, as a vector, these bytes are what it holds.
 #[derive(Drop)]
 pub struct ToWriter<W: Write> {
     writer: W,
@@ -19,27 +21,33 @@ pub struct ToWriter<W: Write> {
 }
 
 impl<W: Write> Model for ToWriter<W> {
-    ghost use Rattle.export.specs.Outs.{Writing};
+    ghost use Rattle.export.specs.Outs.{Holds, Writing};
 
     ghost Value = { Writing W };
 
     ghost view = { λ w. record { writer = w.writer; taken = w.log.taken; failures = w.log.failures } };
+
+    ghost invariant = { λ w. Holds (λ v. W.contents v) w.writer w.log.taken };
 }
 
 impl<W: Write> ToWriter<W> {
     /// This writer, of which nothing was asked so far.
     pub fn new(writer: W) -> ToWriter<W>
-        ensures { result ≡ record { writer = writer; taken = []; failures = 0 } }
+        ensures { result ≡ record {
+          writer = writer;
+          taken = held (W.contents writer);
+          failures = 0;
+        } }
     {
-        ToWriter {
-            writer,
-            log: Log::empty(),
-        }
+        let log = Log::after(&writer);
+        ToWriter { writer, log }
     }
 
-    /// The writer.
+    /// The writer. It holds what it held from the start, and then what was taken: so a contract knows of a vector that a
+    /// file was written behind what stood in it.
     pub fn into_writer(self) -> W
-        ensures { result ≡ self.writer }
+        ensures writer { result ≡ self.writer }
+        ensures bytes { Holds (λ w. W.contents w) result self.taken }
     {
         self.writer
     }

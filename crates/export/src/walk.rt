@@ -71,6 +71,7 @@ impl<'a, A: Allocator> Walk<'a, A> {
             (λ c. option_map arc_value (S.gives src.old c)) self.old self.new) }
         ensures same { S.gives src.new ≡ S.gives src.old }
     {
+        // Opens the walk: from here on it is known that its stack has no more than its layers.
         let _ = &self.most;
         if let Some(cid) = self.take_link() {
             let Some(block) = src.get(&cid) else {

@@ -1,11 +1,14 @@
 //! CAR files of small repositories.
 
-use crate::fixtures::{Checked, FIVE_NODES, ONE, THREE, TWO, end, file_of, opened, takes};
+ghost use Rattle.std.specs.Prelude.{◌≤◌};
+
+use crate::fixtures::{Checked, FIVE_NODES, ONE, Record, THREE, TWO, end, file_of, opened, takes};
 use cid::digests::Toy;
 use cid::{Cid, Sha256};
-use export::{ExportFault, ToWriter, car};
+use export::{ExportFault, car};
 use repo::Core;
 use std::alloc::Global;
+use std::process::Abort;
 use store::Shard;
 
 /// The CAR of the repository without records: a header of 59 bytes, and the section of the node without entries. The digest
@@ -50,8 +53,11 @@ fn section_of(file: &[u8]) -> Option<(&[u8], &[u8])> {
     }
 }
 
-/// The sections of five nodes: how long their data are, and what they are where it is a record.
-const SECTIONS: [(usize, &[u8]); 9] = [
+/// How long the data of a section are, and how they end.
+type Section = (usize, &'static [u8]);
+
+/// The sections of five nodes.
+const SECTIONS: &[Section] = &[
     (96, b""),
     (144, b""),
     (47, b""),
@@ -64,13 +70,13 @@ const SECTIONS: [(usize, &[u8]); 9] = [
 ];
 
 /// Whether these are those sections and no others.
-fn are_sections(file: &[u8]) -> bool {
+fn are_sections(file: &[u8], sections: &[Section]) -> bool {
     let mut rest = file;
-    for (length, record) in &SECTIONS {
+    for (length, end) in sections {
         let Some((data, behind)) = section_of(rest) else {
             return false;
         };
-        if data.len() != *length || !data.ends_with(record) {
+        if data.len() != *length || !data.ends_with(end) {
             return false;
         }
         rest = behind;
@@ -79,22 +85,22 @@ fn are_sections(file: &[u8]) -> bool {
 }
 
 /// Whether a header of 59 bytes names this root.
-fn names(header: &[u8], root: Cid) -> bool {
-    match header.get(14..50) {
-        Some(cid) => cid == root.as_bytes().as_slice(),
-        None => false,
+fn names(header: &[u8], root: Option<Cid>) -> bool {
+    match (header.get(14..50), root) {
+        (Some(cid), Some(root)) => cid == root.as_bytes().as_slice(),
+        _ => false,
     }
 }
 
-/// Whether this is the file of five nodes and the commit.
-fn is_of_five_nodes(file: &[u8], commit: Option<Cid>) -> bool {
-    let Some((header, sections)) = file.split_at_checked(59) else {
+/// Whether this is a file of so many bytes with this root and these sections, the first of which has 132 bytes.
+fn is_file(file: &[u8], root: Option<Cid>, size: usize, sections: &[Section]) -> bool {
+    let Some((header, behind)) = file.split_at_checked(59) else {
         return false;
     };
-    file.len() == 868
-        && commit.is_some_and(|cid| names(header, cid))
-        && sections.starts_with(b"\x84\x01")
-        && are_sections(sections)
+    file.len() == size
+        && names(header, root)
+        && behind.starts_with(b"\x84\x01")
+        && are_sections(behind, sections)
 }
 
 /// What is answered where the output takes so many bytes a call and in all, and whether they were a beginning of the file.
@@ -121,31 +127,12 @@ fn fails_at_each(alloc: Global, core: &Core<Toy, 2>, file: &[u8]) -> bool {
         && answer(alloc, core, file, 1, 868) == (Ok(868), true)
 }
 
-/// What a writer over room for so many bytes answers, and whether they are a beginning of the file.
-fn written(
-    alloc: Global,
-    core: &Core<Toy, 2>,
-    file: &[u8],
-    room: usize,
-) -> (Result<u64, ExportFault>, bool) {
-    let mut bytes = [0; 900];
-    let Some(part) = bytes.get_mut(..room) else {
-        return (Ok(0), false);
-    };
-    let mut out = ToWriter::new(part);
-    let answer = car(alloc, core, &mut out);
-    (answer, file.starts_with(&bytes[..room]))
-}
-
 /// Whether the CAR of five nodes is as it is to be, over outputs of each kind.
 fn is_written(alloc: Global, core: &Core<Toy, 2>) -> bool {
     let Some(file) = file_of(alloc, alloc, core) else {
         return false;
     };
-    is_of_five_nodes(&file, core.commit())
-        && fails_at_each(alloc, core, &file)
-        && written(alloc, core, &file, 868) == (Ok(868), true)
-        && written(alloc, core, &file, 500) == (Err(ExportFault::DeviceFault), true)
+    is_file(&file, core.commit(), 868, SECTIONS) && fails_at_each(alloc, core, &file)
 }
 
 #[test]
@@ -155,4 +142,80 @@ fn five_nodes_and_outputs_that_fail(rt: HostRuntime) {
     let taken = takes(rt.alloc(), &mut shard, &mut core, FIVE_NODES);
     assert!(rt; taken && is_written(rt.alloc(), &core));
     end(&mut shard, core);
+}
+
+/// Whether these records have this file.
+fn have_file<R: Abort, const B: u8>(
+    rt: &R,
+    alloc: Global,
+    records: &[Record<'_>],
+    size: usize,
+    sections: &[Section],
+) -> bool
+    requires least { 1 ≤ B }
+    requires most { B ≤ 8 }
+{
+    let mut shard = Shard::new(alloc, 20);
+    let mut core = opened::<R, Toy, B, Global>(rt, alloc, &mut shard);
+    let taken = takes(alloc, &mut shard, &mut core, records);
+    let file = file_of(alloc, alloc, &core);
+    let root = core.commit();
+    end(&mut shard, core);
+    match file {
+        Some(file) => taken && is_file(&file, root, size, sections),
+        None => false,
+    }
+}
+
+/// The records of five nodes where a layer is eight zero bits: one node of 174 bytes has all three.
+const ONE_NODE: &[Section] = &[(96, b""), (174, b""), (4, ONE), (4, TWO), (4, THREE)];
+
+/// One record under the first key and the third.
+const ONE_RECORD_TWICE: &[Record<'static>] = &[(b"a/p0", ONE), (b"a/q2", TWO), (b"a/r0", ONE)];
+
+/// Its sections: the record stands where its first key does.
+const ONCE: &[Section] = &[(96, b""), (174, b""), (4, ONE), (4, TWO)];
+
+#[test]
+fn one_node_and_one_record_under_two_keys(rt: HostRuntime) {
+    let alloc = rt.alloc();
+    assert!(rt; have_file::<_, 8>(&rt, alloc, FIVE_NODES, 528, ONE_NODE));
+    assert!(rt; have_file::<_, 8>(&rt, alloc, ONE_RECORD_TWICE, 487, ONCE));
+}
+
+/// The node that has the key `a/p0` alone, with its record.
+fn low_node(alloc: Global) -> Option<Vec<u8>> {
+    let record = Cid::of::<Toy>(ONE);
+    let mut bytes = Vec::new(alloc);
+    for part in [
+        b"\xa2\x61e\x81\xa4\x61kDa/p0\x61p\x00\x61t\xf6\x61v\xd8\x2a\x58\x25\x00".as_slice(),
+        record.as_bytes().as_slice(),
+        b"\x61l\xf6",
+    ] {
+        bytes.extend_from_slice(part).ok()?;
+    }
+    Some(bytes)
+}
+
+/// Five nodes, of which the one with the key `a/p0` is also the record of `a/q2`: it stands where the node does.
+const NODE_ONCE: &[Section] = &[
+    (96, b""),
+    (144, b""),
+    (47, b""),
+    (64, b"\x61l\xf6"),
+    (4, ONE),
+    (47, b""),
+    (64, b""),
+    (4, THREE),
+];
+
+#[test]
+fn a_record_that_is_a_node(rt: HostRuntime) {
+    let node = low_node(rt.alloc()).expect(&rt, "the node");
+    let records = [
+        (b"a/p0".as_slice(), ONE),
+        (b"a/q2".as_slice(), node.as_slice()),
+        (b"a/r0".as_slice(), THREE),
+    ];
+    assert!(rt; node.len() == 64 && have_file::<_, 2>(&rt, rt.alloc(), &records, 827, NODE_ONCE));
 }

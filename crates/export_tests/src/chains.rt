@@ -1,52 +1,47 @@
-//! Chains of nodes without pairs, each with a link to the one before, as deep as a proof may be and deeper.
+//! Chains of nodes without pairs, each with a link to the one before, as deep as a proof may be and deeper, with all memory
+//! refused while they are read.
 
 ghost use Rattle.std.specs.Prelude.{◌≤◌};
 
 use cid::{Cid, Sha256};
 use export::{ProofFault, verify};
-use std::alloc::{AllocFailed, Allocator};
-use std::test::Fail;
+use refusing::Refusing;
+use std::alloc::{Allocator, Global};
 
 /// The block of the node without pairs and with this link.
-fn node_above<A: Allocator>(alloc: A, link: Option<Cid>) -> Result<Vec<u8, A>, AllocFailed<u8>> {
+fn node_above<A: Allocator>(alloc: A, link: Option<Cid>) -> Option<Vec<u8, A>> {
     let mut bytes = Vec::new(alloc);
-    for byte in b"\xa2\x61\x65\x80\x61\x6c" {
-        bytes.push(*byte)?;
-    }
+    bytes.extend_from_slice(b"\xa2\x61\x65\x80\x61\x6c").ok()?;
     let Some(cid) = link else {
-        bytes.push(0xf6)?;
-        return Ok(bytes);
+        bytes.push(0xf6).ok()?;
+        return Some(bytes);
     };
-    for byte in b"\xd8\x2a\x58\x25\x00" {
-        bytes.push(*byte)?;
-    }
-    for byte in cid.as_bytes() {
-        bytes.push(*byte)?;
-    }
-    Ok(bytes)
+    bytes.extend_from_slice(b"\xd8\x2a\x58\x25\x00").ok()?;
+    bytes.extend_from_slice(cid.as_bytes()).ok()?;
+    Some(bytes)
 }
 
 /// So many nodes, the one without a link first.
-fn chain<A: Allocator + Clone>(alloc: A, count: usize) -> Result<Vec<Vec<u8, A>, A>, Fail> {
-    let mut nodes = Vec::new(alloc.clone()?);
+fn chain<A: Allocator + Copy>(alloc: A, count: usize) -> Option<Vec<Vec<u8, A>, A>> {
+    let mut nodes = Vec::new(alloc);
     let mut below = None;
     for _ in 0..count {
-        let node = node_above(alloc.clone()?, below)?;
+        let node = node_above(alloc, below)?;
         below = Some(Cid::of::<Sha256>(&node));
-        nodes.push(node)?;
+        nodes.push(node).ok()?;
     }
-    Ok(nodes)
+    Some(nodes)
 }
 
 /// Each node twice, and after each time another block.
-fn twice<A: Allocator + Clone>(alloc: A, nodes: &[Vec<u8, A>]) -> Result<Vec<Vec<u8, A>, A>, Fail> {
-    let mut blocks = Vec::new(alloc.clone()?);
+fn twice<A: Allocator + Copy>(alloc: A, nodes: &[Vec<u8, A>]) -> Option<Vec<Vec<u8, A>, A>> {
+    let mut blocks = Vec::new(alloc);
     for node in nodes {
         for bytes in [node.as_slice(), b"other", node.as_slice(), b"\xa0"] {
-            blocks.push(Vec::from_slice(alloc.clone()?, bytes)?)?;
+            blocks.push(Vec::from_slice(alloc, bytes).ok()?).ok()?;
         }
     }
-    Ok(blocks)
+    Some(blocks)
 }
 
 /// What these blocks prove of the key `a` under the CID of the block at a place.
@@ -60,23 +55,47 @@ fn answer<const B: u8, A: Allocator>(
     Some(verify::<Sha256, B, Vec<u8, A>>(&root, nodes, b"a"))
 }
 
+/// A place of a root, and what is proved under it.
+type Row = (usize, Result<Option<Cid>, ProofFault>);
+
+/// Whether these blocks prove so.
+fn are_answered<const B: u8, A: Allocator>(nodes: &[Vec<u8, A>], rows: &[Row]) -> bool
+    requires { 1 ≤ B }
+{
+    for (root, wanted) in rows {
+        if answer::<B, A>(nodes, *root) != Some(*wanted) {
+            return false;
+        }
+    }
+    true
+}
+
+const ABSENT: Result<Option<Cid>, ProofFault> = Ok(None);
+
+const TOO_DEEP: Result<Option<Cid>, ProofFault> = Err(ProofFault::TooDeep);
+
+const MISSING: Result<Option<Cid>, ProofFault> = Err(ProofFault::BlockMissing);
+
+/// Whether 130 nodes prove what they are to prove: all of them, without the first, without the last, and among others.
+fn are_right<A: Allocator>(nodes: &[Vec<u8, A>], mixed: &[Vec<u8, A>]) -> bool {
+    if nodes.len() != 130 {
+        return false;
+    }
+    are_answered::<2, A>(nodes, &[(128, ABSENT), (129, TOO_DEEP)])
+        && are_answered::<8, A>(nodes, &[(32, ABSENT), (33, TOO_DEEP)])
+        && are_answered::<2, A>(&nodes[1..], &[(128, TOO_DEEP)])
+        && are_answered::<2, A>(&nodes[1..129], &[(127, MISSING)])
+        && are_answered::<2, A>(mixed, &[(4 * 128, ABSENT), (4 * 129, TOO_DEEP)])
+}
+
 #[test]
-fn the_deepest_proof_and_deeper(rt: HostRuntime) -> Result<(), Fail> {
-    let mut nodes = chain(rt.alloc(), 130)?;
-    assert!(rt; nodes.len() == 130);
-    let absent = Some(Ok(None));
-    let too_deep = Some(Err(ProofFault::TooDeep));
-    assert!(rt; answer::<2, _>(&nodes, 128) == absent);
-    assert!(rt; answer::<2, _>(&nodes, 129) == too_deep);
-    assert!(rt; answer::<8, _>(&nodes, 32) == absent);
-    assert!(rt; answer::<8, _>(&nodes, 33) == too_deep);
-    assert!(rt; answer::<2, _>(&nodes[1..], 128) == too_deep);
-    assert!(rt; answer::<2, _>(&nodes[1..129], 127) == Some(Err(ProofFault::BlockMissing)));
+fn the_deepest_proof_and_deeper(rt: HostRuntime) {
+    let heap: Refusing<Global> = Refusing::new(rt.alloc());
+    let mut nodes = chain(&heap, 130).expect(&rt, "a chain");
+    let mixed = twice(&heap, &nodes).expect(&rt, "a chain among others");
+    heap.refuse_from(1);
+    let right = are_right(&nodes, &mixed);
     nodes.reverse();
-    assert!(rt; answer::<2, _>(&nodes, 1) == absent);
-    assert!(rt; answer::<2, _>(&nodes, 0) == too_deep);
-    let mixed = twice(rt.alloc(), &nodes)?;
-    assert!(rt; answer::<2, _>(&mixed, 4) == absent);
-    assert!(rt; answer::<2, _>(&mixed, 0) == too_deep);
-    Ok(())
+    assert!(rt; right && are_answered::<2, _>(&nodes, &[(1, ABSENT), (0, TOO_DEEP)]));
+    assert!(rt; heap.refused() == 0);
 }

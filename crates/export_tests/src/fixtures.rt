@@ -11,7 +11,7 @@ use std::process::Abort;
 use store::{LentShard, Shard};
 
 /// A key and its record.
-pub(crate) type Record = (&'static [u8], &'static [u8]);
+pub(crate) type Record<'a> = (&'a [u8], &'a [u8]);
 
 /// The DAG-CBOR bytes of the node without entries and without a left link.
 pub(crate) const EMPTY_NODE: &[u8] = b"\xa2\x61e\x80\x61l\xf6";
@@ -26,7 +26,11 @@ pub(crate) const TWO: &[u8] = b"\xa1\x61a\x02";
 pub(crate) const THREE: &[u8] = b"\xa1\x61a\x03";
 
 /// Records whose tree has five nodes under the digest `Toy`.
-pub(crate) const FIVE_NODES: &[Record] = &[(b"a/p0", ONE), (b"a/q2", TWO), (b"a/r0", THREE)];
+pub(crate) const FIVE_NODES: &[Record<'static>] = &[
+    (b"a/p0", ONE),
+    (b"a/q2", TWO),
+    (b"a/r0", THREE),
+];
 
 /// The core of a repository without records, the only one of its store.
 pub(crate) fn opened<R: Abort, D: Digest, const B: u8, A: Allocator + Copy>(
@@ -51,7 +55,7 @@ pub(crate) fn end<D: Digest, const B: u8, A: Allocator + Clone>(
 /// Puts of these records.
 fn puts_of<A: Allocator + Copy>(
     alloc: A,
-    records: &[Record],
+    records: &[Record<'_>],
 ) -> Result<Vec<Write<A>, A>, AllocError> {
     let mut puts = Vec::new(alloc);
     for (key, record) in records {
@@ -91,7 +95,7 @@ pub(crate) fn takes<D: Digest, const B: u8, A: Allocator + Copy>(
     alloc: A,
     shard: &mut Shard<D, A>,
     core: &mut Core<D, B, A>,
-    records: &[Record],
+    records: &[Record<'_>],
 ) -> bool {
     match puts_of(alloc, records) {
         Ok(puts) => accepts(alloc, shard, core, &puts),

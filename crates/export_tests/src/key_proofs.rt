@@ -1,6 +1,8 @@
 //! Proofs that a repository gives, verified again.
 
-use crate::fixtures::{EMPTY_NODE, accepts, end, opened, takes};
+ghost use Rattle.std.specs.Prelude.{◌≤◌};
+
+use crate::fixtures::{EMPTY_NODE, FIVE_NODES, accepts, end, opened, takes};
 use batches::Write;
 use cid::digests::Toy;
 use cid::{Cid, Digest, Sha256};
@@ -13,7 +15,9 @@ use store::Shard;
 type Proof = Vec<Vec<u8>>;
 
 /// The proof that a core gives of a key.
-fn proof_of<D: Digest>(alloc: Global, core: &Core<D, 2>, key: &[u8]) -> Option<Proof> {
+fn proof_of<D: Digest, const B: u8>(alloc: Global, core: &Core<D, B>, key: &[u8]) -> Option<Proof>
+    requires { 1 ≤ B }
+{
     let mut proof = Vec::new(alloc);
     for node in &prove(alloc, core, key).ok()? {
         proof.push(Vec::from_slice(alloc, node.bytes()).ok()?).ok()?;
@@ -22,9 +26,16 @@ fn proof_of<D: Digest>(alloc: Global, core: &Core<D, 2>, key: &[u8]) -> Option<P
 }
 
 /// Whether a core proves that a key has this value, or none.
-fn is_proved<D: Digest>(alloc: Global, core: &Core<D, 2>, key: &[u8], value: Option<Cid>) -> bool {
+fn is_proved<D: Digest, const B: u8>(
+    alloc: Global,
+    core: &Core<D, B>,
+    key: &[u8],
+    value: Option<Cid>,
+) -> bool
+    requires { 1 ≤ B }
+{
     match proof_of(alloc, core, key) {
-        Some(proof) => verify::<D, 2, Vec<u8>>(&core.root(), &proof, key) == Ok(value),
+        Some(proof) => verify::<D, B, Vec<u8>>(&core.root(), &proof, key) == Ok(value),
         None => false,
     }
 }
@@ -104,28 +115,67 @@ fn five_hundred_records_and_as_many_absent_keys(rt: HostRuntime) {
     end(&mut shard, core);
 }
 
+/// Whether each key of five nodes is proved, and one beside them that has no record.
+fn are_proved<const B: u8>(alloc: Global, core: &Core<Toy, B>) -> bool
+    requires { 1 ≤ B }
+{
+    for (key, record) in FIVE_NODES {
+        if !is_proved(alloc, core, key, Some(Cid::of::<Toy>(record))) {
+            return false;
+        }
+    }
+    is_proved(alloc, core, b"a/q3", None)
+}
+
+#[test]
+fn layers_of_one_bit_and_of_eight(rt: HostRuntime) {
+    let mut shard = Shard::new(rt.alloc(), 50);
+    let mut low = opened::<_, Toy, 8, _>(&rt, rt.alloc(), &mut shard);
+    let mut deep = opened::<_, Toy, 1, _>(&rt, rt.alloc(), &mut shard);
+    let taken = takes(rt.alloc(), &mut shard, &mut low, FIVE_NODES)
+        && takes(rt.alloc(), &mut shard, &mut deep, FIVE_NODES);
+    let right = are_proved(rt.alloc(), &low) && are_proved(rt.alloc(), &deep);
+    end(&mut shard, low);
+    end(&mut shard, deep);
+    assert!(rt; taken && right);
+}
+
 /// Whether a proof lacks a node.
 fn lacks(root: &Cid, proof: &Proof, key: &[u8]) -> bool {
     verify::<Toy, 2, Vec<u8>>(root, proof, key) == Err(ProofFault::BlockMissing)
 }
 
-/// Changes one bit of a byte of a proof's node, another one from byte to byte.
-fn flip(proof: &mut Proof, place: usize, at: usize) {
+/// Changes one bit of a byte of a proof's node.
+fn flip(proof: &mut Proof, place: usize, at: usize, bit: u8) {
     if let Some(node) = proof.get_mut(place) {
         if let Some(byte) = node.get_mut(at) {
-            *byte ^= 1 << (at % 8);
+            *byte ^= bit;
         }
     }
 }
 
-/// Whether a proof lacks a node where a bit of any one byte of this node is changed.
-fn lacks_each_byte(root: &Cid, proof: &mut Proof, key: &[u8], place: usize, size: usize) -> bool {
+/// Whether a proof lacks a node where this bit of a byte of this node is changed.
+fn lacks_the_bit(
+    root: &Cid,
+    proof: &mut Proof,
+    key: &[u8],
+    place: usize,
+    at: usize,
+    bit: u8,
+) -> bool {
+    flip(proof, place, at, bit);
+    let is_right = lacks(root, proof, key);
+    flip(proof, place, at, bit);
+    is_right
+}
+
+/// Whether it does for each bit of each byte of this node.
+fn lacks_each_bit(root: &Cid, proof: &mut Proof, key: &[u8], place: usize, size: usize) -> bool {
     for at in 0..size {
-        flip(proof, place, at);
-        let is_right = lacks(root, proof, key);
-        flip(proof, place, at);
-        if !is_right {
-            return false;
+        for bit in [1u8, 2, 4, 8, 16, 32, 64, 128] {
+            if !lacks_the_bit(root, proof, key, place, at, bit) {
+                return false;
+            }
         }
     }
     true
@@ -150,24 +200,38 @@ fn lacks_the_node(alloc: Global, root: &Cid, proof: &Proof, key: &[u8], place: u
     }
 }
 
-/// Whether the proof of a number's key lacks a node without any one of its nodes, and with a bit of any one byte changed.
-fn is_whole_or_nothing(alloc: Global, core: &Core<Toy, 2>, number: u16) -> bool {
-    let Some((key, _)) = pair_of(alloc, number, "") else {
+/// The key of a number and its proof.
+fn key_with_proof(alloc: Global, core: &Core<Toy, 2>, number: u16) -> Option<(Vec<u8>, Proof)> {
+    let (key, _) = pair_of(alloc, number, "")?;
+    let proof = proof_of(alloc, core, &key)?;
+    Some((key, proof))
+}
+
+/// Whether the proof of a number's key lacks a node without any one of its nodes.
+fn needs_each_node(alloc: Global, core: &Core<Toy, 2>, number: u16) -> bool {
+    let Some((key, proof)) = key_with_proof(alloc, core, number) else {
         return false;
     };
-    let Some(mut proof) = proof_of(alloc, core, &key) else {
-        return false;
-    };
-    let root = core.root();
     for place in 0..proof.len() {
-        let size = proof.get(place).map_or(0, |node| node.len());
-        if !lacks_the_node(alloc, &root, &proof, &key, place)
-            || !lacks_each_byte(&root, &mut proof, &key, place, size)
-        {
+        if !lacks_the_node(alloc, &core.root(), &proof, &key, place) {
             return false;
         }
     }
     !proof.is_empty()
+}
+
+/// Whether it lacks one with any one bit changed.
+fn needs_each_bit(alloc: Global, core: &Core<Toy, 2>, number: u16) -> bool {
+    let Some((key, mut proof)) = key_with_proof(alloc, core, number) else {
+        return false;
+    };
+    for place in 0..proof.len() {
+        let size = proof.get(place).map_or(0, |node| node.len());
+        if !lacks_each_bit(&core.root(), &mut proof, &key, place, size) {
+            return false;
+        }
+    }
+    proof.len() > 1
 }
 
 #[test]
@@ -176,7 +240,8 @@ fn proofs_without_a_node_or_with_a_bit_changed(rt: HostRuntime) {
     let mut core = opened(&rt, rt.alloc(), &mut shard);
     let filled = is_filled(rt.alloc(), &mut shard, &mut core, 20);
     for number in 0..20u16 {
-        assert!(rt; filled && is_whole_or_nothing(rt.alloc(), &core, number));
+        assert!(rt; filled && needs_each_node(rt.alloc(), &core, number));
     }
+    assert!(rt; needs_each_bit(rt.alloc(), &core, 10) && needs_each_bit(rt.alloc(), &core, 11));
     end(&mut shard, core);
 }

@@ -14,3 +14,5 @@ mod key_proofs;
 mod memory;
 #[cfg(test)]
 mod proofs;
+#[cfg(test)]
+mod writers;

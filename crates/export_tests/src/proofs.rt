@@ -1,55 +1,86 @@
-//! Proofs of small trees.
+//! What given blocks prove, row by row, with all memory refused.
 
 use cid::{Cid, Sha256};
 use export::{ProofFault, verify};
 use node::NodeFault;
-use scratch::{Built, build, is_ascending};
-use std::test::Fail;
+use refusing::Refusing;
+use std::alloc::Global;
 
 /// The block of the node without pairs.
-const EMPTY: &[u8] = &[0xa2, 0x61, 0x65, 0x80, 0x61, 0x6c, 0xf6];
+const EMPTY: &[u8] = b"\xa2\x61e\x80\x61l\xf6";
 
-#[test]
-fn proofs_of_the_empty_tree(rt: HostRuntime) -> Result<(), Fail> {
-    let root = Cid::of::<Sha256>(EMPTY);
-    let longest = [b'a'; 1025];
-    let rows: [(&[&[u8]], &[u8], Result<Option<Cid>, ProofFault>); 7] = [
-        (&[EMPTY], b"a/b", Ok(None)),
-        (&[EMPTY], &longest[..1024], Ok(None)),
-        (&[b"other", EMPTY, EMPTY], b"a/b", Ok(None)),
-        (&[], b"a/b", Err(ProofFault::BlockMissing)),
-        (&[b"\xa2"], b"a/b", Err(ProofFault::BlockMissing)),
-        (&[EMPTY], b"", Err(ProofFault::KeyLength)),
-        (&[], &longest, Err(ProofFault::KeyLength)),
-    ];
-    for (blocks, key, wanted) in &rows {
-        assert!(rt; verify::<Sha256, 2, &[u8]>(&root, blocks, key) == *wanted);
+/// The block of the node with the key `a/b` alone, whose record is the byte `a0`. The record's digest is of another program.
+const ONE_KEY: &[u8] =
+    b"\xa2\x61e\x81\xa4\x61kCa/b\x61p\x00\x61t\xf6\x61v\xd8\x2a\x58\x25\x00\x01\x71\x12\x20\
+    \xc1\x9a\x79\x7f\xa1\xfd\x59\x0c\xd2\xe5\xb4\x2d\x1c\xf5\xf2\x46\
+    \xe2\x9b\x91\x68\x4e\x2f\x87\x40\x4b\x81\xdc\x34\x5c\x7a\x56\xa0\x61l\xf6";
+
+/// The longest key there is, and one that is longer.
+const LONGEST: [u8; 1024] = [b'a'; 1024];
+
+const LONGER: [u8; 1025] = [b'a'; 1025];
+
+/// The block of the root, the blocks that are given, the key, and what they prove of it: its record, or none.
+type Row = (
+    &'static [u8],
+    &'static [&'static [u8]],
+    &'static [u8],
+    Result<Option<&'static [u8]>, ProofFault>,
+);
+
+const ROWS: [Row; 11] = [
+    (EMPTY, &[EMPTY], b"a/b", Ok(None)),
+    (EMPTY, &[EMPTY], &LONGEST, Ok(None)),
+    (EMPTY, &[b"other", EMPTY, EMPTY], b"a/b", Ok(None)),
+    (EMPTY, &[], b"a/b", Err(ProofFault::BlockMissing)),
+    (EMPTY, &[b"\xa2"], b"a/b", Err(ProofFault::BlockMissing)),
+    (EMPTY, &[EMPTY], b"", Err(ProofFault::KeyLength)),
+    (EMPTY, &[], &LONGER, Err(ProofFault::KeyLength)),
+    (ONE_KEY, &[ONE_KEY], b"a/a", Ok(None)),
+    (ONE_KEY, &[ONE_KEY], b"a/b", Ok(Some(b"\xa0"))),
+    (ONE_KEY, &[ONE_KEY], b"a/c", Ok(None)),
+    (
+        b"\xa0",
+        &[b"\xa0"],
+        b"a/b",
+        Err(ProofFault::BadNode(NodeFault::NotNode)),
+    ),
+];
+
+/// Copies of some blocks.
+fn copied<'h>(
+    heap: &'h Refusing<Global>,
+    blocks: &[&[u8]],
+) -> Option<Vec<Vec<u8, &'h Refusing<Global>>, &'h Refusing<Global>>> {
+    let mut copies = Vec::new(heap);
+    for block in blocks {
+        copies.push(Vec::from_slice(heap, block).ok()?).ok()?;
     }
-    Ok(())
+    Some(copies)
 }
 
-#[test]
-fn proofs_of_one_key(rt: HostRuntime) -> Result<(), Fail> {
-    let record = Cid::of::<Sha256>(b"\xa0");
-    let pairs: [(&[u8], Cid); 1] = [(b"a/b", record)];
-    assert!(rt; is_ascending(&pairs));
-    let Built { root, blocks } = build::<Sha256, 2, &[u8], _>(rt.alloc(), &pairs)?;
-    let [top] = blocks.as_slice() else {
-        return Err(Fail::from("one node"));
+/// Whether a row is answered so, with all memory refused.
+fn is_answered(heap: &Refusing<Global>, row: &Row) -> bool {
+    let (root, blocks, key, wanted) = row;
+    let Some(given) = copied(heap, blocks) else {
+        return false;
     };
-    let given = [top.bytes()];
-    let rows: [(&[u8], Option<Cid>); 3] = [(b"a/a", None), (b"a/b", Some(record)), (b"a/c", None)];
-    for (key, value) in &rows {
-        assert!(rt; verify::<Sha256, 2, &[u8]>(&root, &given, key) == Ok(*value));
+    let root = Cid::of::<Sha256>(root);
+    heap.refuse_from(1);
+    let answer = verify::<Sha256, 2, Vec<u8, &Refusing<Global>>>(&root, &given, key);
+    heap.refuse(0);
+    match (answer, wanted) {
+        (Ok(Some(cid)), Ok(Some(record))) => cid == Cid::of::<Sha256>(record),
+        (Ok(None), Ok(None)) => true,
+        (Err(fault), Err(other)) => fault == *other,
+        _ => false,
     }
-    Ok(())
 }
 
 #[test]
-fn a_block_that_is_no_node(rt: HostRuntime) -> Result<(), Fail> {
-    let other: &[u8] = b"\xa0";
-    let root = Cid::of::<Sha256>(other);
-    let fault = ProofFault::BadNode(NodeFault::NotNode);
-    assert!(rt; verify::<Sha256, 2, &[u8]>(&root, &[other], b"a/b") == Err(fault));
-    Ok(())
+fn proofs_of_no_key_and_of_one(rt: HostRuntime) {
+    let heap = Refusing::new(rt.alloc());
+    for row in &ROWS {
+        assert!(rt; is_answered(&heap, row) && heap.refused() == 0);
+    }
 }

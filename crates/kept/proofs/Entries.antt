@@ -1,19 +1,20 @@
 -- The entries of the map of kept blocks, as a function of the CID, and how they follow the code's changes.
-use Rattle.std.proofs.Common.{zero, suc, ◌≡◌, ℕ, ◌∷◌, [], List, refl, ap, sym, ◌∙◌, subst, cond, Bool, true, false, arith, nat_lt}
-use Rattle.std.specs.Prelude.{Option, Some, None, ◌||◌}
+use Rattle.std.proofs.Common.{zero, suc, ◌≡◌, ℕ, ◌∷◌, [], List, refl, ap, sym, ◌∙◌, subst, cond, Bool, true, false, arith, nat_lt, nat_eq}
+use Rattle.std.specs.Prelude.{Option, Some, None, ◌||◌, ◌+◌, option_map, is_some, length, IfSome, IsTrue}
 use Rattle.std.specs.Arc.{arc_value}
 use Rattle.std.proofs.lemmas.Bool.Decides.{nat_tests}
 use Rattle.std.specs.Ordering.{nat_cmp, is_eq}
 use Rattle.std.specs.declared.cmp.Ordering.{Ordering}
 use Rattle.std.specs.declared.cmp.Ordering.TheVariants.{Less, Equal, Greater}
 use Rattle.std.specs.Cmp.{eq_by_cmp_equiv}
-use Rattle.std.specs.Cmp.Lexicographic.{slice_cmp, nat_list_cmp_total}
+use Rattle.std.specs.Cmp.Lexicographic.{slice_cmp, nat_list_cmp_total, pointwise, texts_ties, bytes_decides}
 use Rattle.std.specs.Map.{lookup}
 use Rattle.std.specs.BTreeMap.{is_at}
 use Rattle.std.specs.FinMap as map
 use Rattle.std.specs.FinMap.{find, slice_cmp-IsAntisymmetric, nat_cmp-IsAntisymmetric}
 use Rattle.spec.specs.Cid.{cid as cid_of}
-use Rattle.kept.specs.Uses.{Uses, settled_use, lowered_use, lowered_in, if_kept, if_used, settled, at, Updated, IsUse, IsRaised, next_of, uses_of}
+pub use Rattle.kept.specs.Uses.{listed_at}
+use Rattle.kept.specs.Uses.{Uses, settled_use, lowered_use, lowered_in, if_kept, if_used, settled, at, Updated, IsTaken, IsUse, IsRaised, next_of, uses_of}
 use Rattle.kept.specs.declared.kept_use.Use.{Use}
 use Rattle.kept.specs.declared.kept_use.End.{End}
 
@@ -38,9 +39,14 @@ module _ {D A : Type 0} where
 
   -- ---- the list of entries that the code has, and the map that contracts see
 
-  -- what a list of entries has under a CID
-  abbrev pub listed_at : List (List ℕ × Use D A) → List ℕ → Option (Use D A)
-  listed_at es q = lookup (is_at (slice_cmp nat_cmp q)) es
+  -- the code's map asks whether two CIDs are equal
+  pub seen_at : (es : List (List ℕ × Use D A)) (q : List ℕ) → lookup (pointwise nat_eq q) es ≡ listed_at es q
+  seen_at es q = λ i. lookup (λ k. texts_ties q k i) es
+
+  pub seen_updated : (es fs : List (List ℕ × Use D A)) (k : List ℕ) (o : Option (Use D A))
+      → ((q : List ℕ) → lookup (pointwise nat_eq q) fs ≡ cond (pointwise nat_eq k q) o (lookup (pointwise nat_eq q) es))
+      → Updated (listed_at es) (listed_at fs) k o
+  seen_updated es fs k o h q = sym (seen_at fs q) ∙ h q ∙ (λ i. cond (texts_ties k q i) o (seen_at es q i))
 
   find_at : (es : List (List ℕ × Use D A)) (q : List ℕ) → find (slice_cmp nat_cmp) q es ≡ listed_at es q
   find_at [] q = refl
@@ -59,6 +65,19 @@ module _ {D A : Type 0} where
   pub shown_updated : (es fs : List (List ℕ × Use D A)) (m : Uses D A) (k : List ℕ) (o : Option (Use D A)) → map.from_entries es ≡ m
       → Updated (listed_at es) (listed_at fs) k o → Updated (at m) (at (map.from_entries fs)) k o
   shown_updated es fs m k o e h q = view_at fs q ∙ h q ∙ ap (cond (is_at (slice_cmp nat_cmp k) q) o) (shown_at es m e q)
+
+  -- an entry is taken out that a key names
+  pub taken_is : (es fs : List (List ℕ × Use D A)) (k : List ℕ) (r : Option (List ℕ × Use D A)) → IfSome r (λ e. IsTrue (pointwise nat_eq k e.0))
+      → option_map (λ e. e.1) r ≡ lookup (pointwise nat_eq k) es
+      → ((q : List ℕ) → lookup (pointwise nat_eq q) fs ≡ cond (pointwise nat_eq k q) None (lookup (pointwise nat_eq q) es))
+      → length fs + cond (is_some r) 1 0 ≡ length es → IfSome r (λ e. IsTaken es e fs)
+  taken_is es fs k None s v u n = tt
+  taken_is es fs k (Some e) s v u n =
+      let named : k ≡ e.0 = (bytes_decides k e.0).0 s in record {
+        here = ap (listed_at es) (sym named) ∙ sym (seen_at es k) ∙ sym v;
+        gone = subst (λ (x : List ℕ). Updated (listed_at es) (listed_at fs) x None) named (seen_updated es fs k None u);
+        fewer = omega (arith, n);
+      }
 
   -- an entry changes by a function
   pub shown_change : (F : Option (Use D A) → Option (Use D A)) (es fs : List (List ℕ × Use D A)) (m : Uses D A) (k : List ℕ)

@@ -1,21 +1,24 @@
--- The kept blocks in the order of their CIDs.
-use mathlib.Core.List as List
-use Rattle.std.proofs.Common.{zero, suc, ◌≡◌, ℕ, ◌∷◌, [], List, refl, ap, sym, ◌∙◌, subst, cond, Bool, true, false}
+-- The kept blocks, each once.
+use Rattle.std.proofs.Common.{zero, suc, ◌≡◌, ℕ, ◌∷◌, [], List, refl, ap, sym, ◌∙◌, subst, cond, Bool, true, false, arith, nat_eq}
 use Rattle.std.specs.Prelude.{Some, None, map as each, ◌&&◌, T}
 use Rattle.std.specs.Arc.{arc_value}
 use Rattle.std.specs.Ordering.{nat_cmp, is_eq, is_lt}
 use Rattle.std.specs.declared.cmp.Ordering.{Ordering}
 use Rattle.std.specs.declared.cmp.Ordering.TheVariants.{Less, Equal, Greater}
-use Rattle.std.specs.Cmp.Lexicographic.{slice_cmp, nat_list_cmp_total}
-use Rattle.std.specs.List.Sorted.{IsStrictlySortedBy}
-use Rattle.std.specs.List.{AllByRecursion}
+use Rattle.std.specs.Cmp.Lexicographic.{slice_cmp, nat_list_cmp_total, nat_list_eq_equiv, pointwise, texts_ties}
+use Rattle.std.specs.List.Sorted.{IsPermutation}
+use Rattle.std.specs.List.{AllByRecursion, IsDistinct}
+use Rattle.std.specs.Map.{keys_of, lookup, remove_entry}
+use Rattle.std.proofs.lemmas.List.Sorted.{IsPermutation-refl, IsPermutation-sym, IsPermutation-trans, IsPermutation-cons, IsPermutation-swap}
+use Rattle.std.proofs.lemmas.Map.{lookup-remove_entry}
+use Rattle.std.proofs.lemmas.Map.Keys.{IsDistinct-head, IsDistinct-tail, IsDistinct-cons}
 use Rattle.std.specs.FinMap as map
 use Rattle.std.specs.FinMap.{find, is_sorted}
 use Rattle.std.specs.FinMap.Entries.{same_entries, below_all}
 use Rattle.kept.specs.Counts.{blocks_of}
 use Rattle.kept.specs.Uses.{Uses, counted, if_any, used_blocks}
 use Rattle.kept.specs.declared.kept_use.Use.{Use}
-use Rattle.kept.proofs.Entries.{same}
+use Rattle.kept.proofs.Entries.{same, the_same, seen_at, entries_at, shown_at}
 use Rattle.kept.proofs.Counting.{count_in, some_if, get_counted}
 
 both : (a b : Bool) → T a → T b → T (a && b)
@@ -30,25 +33,9 @@ second : (a b : Bool) → T (a && b) → T b
 second true b p = p
 second false b p = absurd p
 
--- ---- a list in order is that of its map
+-- ---- what isn't found
 
 module _ {X : Type 0} where
-  below : (k : List ℕ) (es : List (List ℕ × X)) → AllByRecursion (λ y. slice_cmp nat_cmp k y ≡ Less) (List.map (λ e. e.0) es) → T (below_all (slice_cmp nat_cmp) k es)
-  below k [] h = tt
-  below k (e ∷ es) h = both _ _ (subst (λ r. T (is_lt r)) (sym h.0) tt) (below k es h.1)
-
-  sorted : (es : List (List ℕ × X)) → IsStrictlySortedBy (slice_cmp nat_cmp) (List.map (λ e. e.0) es) → T (is_sorted (slice_cmp nat_cmp) es)
-  unfolding IsStrictlySortedBy
-  sorted [] h = tt
-  sorted (e ∷ es) h = both _ _ (below e.0 es h.0) (sorted es h.1)
-
-  pub entries_view : (es rest : List (List ℕ × X)) (m : map.FinMap (slice_cmp nat_cmp) X) → IsStrictlySortedBy (slice_cmp nat_cmp) (List.map (λ e. e.0) es)
-      → rest ≡ es → map.from_entries es ≡ m → rest ≡ map.entries m
-  entries_view es rest m h r v = r
-      ∙ sym (same_entries (slice_cmp nat_cmp) nat_list_cmp_total same _ es (map.entries_sorted (map.from_entries es)) (sorted es h)
-      (λ q. sym (map.get-entries (map.from_entries es) q) ∙ map.get-from_entries nat_list_cmp_total es q))
-      ∙ ap (λ (n : map.FinMap (slice_cmp nat_cmp) X). map.entries n) v
-
   -- a key below each key of a list isn't found in it
   missed : (q : List ℕ) (es : List (List ℕ × X)) → T (below_all (slice_cmp nat_cmp) q es) → find (slice_cmp nat_cmp) q es ≡ None
   missed q [] h = refl
@@ -134,3 +121,88 @@ module _ {D A : Type 0} where
       ∙ ap (count_in (λ u. u.uses)) (sym (map.get-entries m q))
       ∙ sym (get_counted (λ u. u.uses) m q)
       ∙ map.get-entries (counted (λ u. u.uses) m) q))
+
+-- ---- the entries in another order
+
+apart_from : (r : Ordering) → T (is_lt r) → is_eq r ≡ false
+apart_from Less h = refl
+apart_from Equal h = absurd h
+apart_from Greater h = absurd h
+
+module _ {X : Type 0} where
+  apart_below : (k : List ℕ) (es : List (List ℕ × X)) → T (below_all (slice_cmp nat_cmp) k es) → AllByRecursion (λ y. pointwise nat_eq k y ≡ false) (keys_of es)
+  apart_below k [] h = tt
+  apart_below k (e ∷ es) h = (texts_ties k e.0 ∙ apart_from (slice_cmp nat_cmp k e.0) (first _ _ h), apart_below k es (second _ _ h))
+
+  -- what ascends is distinct
+  pub distinct_sorted : (es : List (List ℕ × X)) → T (is_sorted (slice_cmp nat_cmp) es) → IsDistinct (pointwise nat_eq) (keys_of es)
+  unfolding IsDistinct
+  distinct_sorted [] h = tt
+  distinct_sorted (e ∷ es) h = (apart_below e.0 es (first _ _ h), distinct_sorted es (second _ _ h))
+
+  all_without : (P : List ℕ → Type 0) (test : List ℕ → Bool) (es : List (List ℕ × X)) → AllByRecursion P (keys_of es) → AllByRecursion P (keys_of (remove_entry test es))
+  all_without P test [] a = tt
+  all_without P test (e ∷ es) a = step (test e.0) (all_without P test es a.1)
+    where
+      step : (b : Bool) → AllByRecursion P (keys_of (remove_entry test es)) → AllByRecursion P (keys_of (cond b es (e ∷ remove_entry test es)))
+      step true r = a.1
+      step false r = (a.0, r)
+
+  distinct_without : (test : List ℕ → Bool) (es : List (List ℕ × X)) → IsDistinct (pointwise nat_eq) (keys_of es) → IsDistinct (pointwise nat_eq) (keys_of (remove_entry test es))
+  distinct_without test [] d = d
+  distinct_without test (e ∷ es) d =
+      step (test e.0) (distinct_without test es (IsDistinct-tail (pointwise nat_eq) e.0 (keys_of es) d))
+    where
+      step : (b : Bool) → IsDistinct (pointwise nat_eq) (keys_of (remove_entry test es)) → IsDistinct (pointwise nat_eq) (keys_of (cond b es (e ∷ remove_entry test es)))
+      step true r = IsDistinct-tail (pointwise nat_eq) e.0 (keys_of es) d
+      step false r = IsDistinct-cons (pointwise nat_eq) e.0 _ (all_without (λ y. pointwise nat_eq e.0 y ≡ false) test es (IsDistinct-head (pointwise nat_eq) e.0 (keys_of es) d)) r
+
+any_cons : (b : List ℕ) (n : ℕ) (xs ys : List (List ℕ)) → IsPermutation xs ys → IsPermutation (if_any b n xs) (if_any b n ys)
+any_cons b zero xs ys p = p
+any_cons b (suc n) xs ys p = IsPermutation-cons b xs ys p
+
+any_swap : (a : List ℕ) (m : ℕ) (b : List ℕ) (n : ℕ) (xs : List (List ℕ)) → IsPermutation (if_any a m (if_any b n xs)) (if_any b n (if_any a m xs))
+any_swap a zero b n xs = IsPermutation-refl _
+any_swap a (suc m) b zero xs = IsPermutation-refl _
+any_swap a (suc m) b (suc n) xs = IsPermutation-swap (a ∷ b ∷ xs) (b ∷ a ∷ xs) 0 1 (omega arith) (omega arith) refl
+
+module _ {D A : Type 0} where
+  pulled : (q : List ℕ) (v : Use D A) (es : List (List ℕ × Use D A)) → lookup (pointwise nat_eq q) es ≡ Some v
+      → IsPermutation (used_blocks es) (if_any (arc_value v.hold.0) v.uses (used_blocks (remove_entry (pointwise nat_eq q) es)))
+  pulled q v [] h = absurd cc
+  pulled q v (e ∷ es) h = step (pulled q v es) (pointwise nat_eq q e.0) h
+    where
+      step : (lookup (pointwise nat_eq q) es ≡ Some v → IsPermutation (used_blocks es) (if_any (arc_value v.hold.0) v.uses (used_blocks (remove_entry (pointwise nat_eq q) es))))
+          → (b : Bool) → cond b (Some e.1) (lookup (pointwise nat_eq q) es) ≡ Some v
+          → IsPermutation (used_blocks (e ∷ es)) (if_any (arc_value v.hold.0) v.uses (used_blocks (cond b es (e ∷ remove_entry (pointwise nat_eq q) es))))
+      step again true is =
+          subst (λ (u : Use D A). IsPermutation (used_blocks (e ∷ es)) (if_any (arc_value u.hold.0) u.uses (used_blocks es))) (the_same e.1 v is)
+          (IsPermutation-refl (used_blocks (e ∷ es)))
+      step again false is =
+          IsPermutation-trans _ _ _ (any_cons (arc_value e.1.hold.0) e.1.uses _ _ (again is))
+          (any_swap (arc_value e.1.hold.0) e.1.uses (arc_value v.hold.0) v.uses (used_blocks (remove_entry (pointwise nat_eq q) es)))
+
+  -- two lists of distinct entries with the same under each CID have the same blocks
+  shuffled : (es fs : List (List ℕ × Use D A)) → IsDistinct (pointwise nat_eq) (keys_of es) → IsDistinct (pointwise nat_eq) (keys_of fs)
+      → ((q : List ℕ) → lookup (pointwise nat_eq q) es ≡ lookup (pointwise nat_eq q) fs) → IsPermutation (used_blocks es) (used_blocks fs)
+  shuffled [] [] c d h = IsPermutation-refl []
+  shuffled [] (y ∷ ys) c d h =
+      absurd (let never : None ≡ Some y.1 = h y.0 ∙ ap (λ b. cond b (Some y.1) (lookup (pointwise nat_eq y.0) ys)) (nat_list_eq_equiv.refl y.0) in cc)
+  shuffled (x ∷ xs) fs c d h =
+      let eq = pointwise nat_eq in
+      let k = x.0 in
+      let o = nat_list_eq_equiv in
+      let gone : remove_entry (eq k) (x ∷ xs) ≡ xs = ap (λ b. cond b xs (x ∷ remove_entry (eq k) xs)) (o.refl k) in
+      let others = shuffled xs (remove_entry (eq k) fs) (IsDistinct-tail eq k (keys_of xs) c) (distinct_without (eq k) fs d)
+      (λ q. ap (lookup (eq q)) (sym gone) ∙ lookup-remove_entry o (eq k) (o.congr k) q (x ∷ xs) c ∙ ap (cond (eq k q) None) (h q)
+      ∙ sym (lookup-remove_entry o (eq k) (o.congr k) q fs d)) in
+      IsPermutation-trans _ _ _ (any_cons (arc_value x.1.hold.0) x.1.uses _ _ others)
+      (IsPermutation-sym _ _ (pulled k x.1 fs (sym (h k) ∙ ap (λ b. cond b (Some x.1) (lookup (eq k) xs)) (o.refl k))))
+
+  -- the blocks of the code's entries are those of the counts before, in some order
+  pub used_shuffled : (es : List (List ℕ × Use D A)) (m : Uses D A) → map.from_entries es ≡ m → IsDistinct (pointwise nat_eq) (keys_of es)
+      → IsPermutation (blocks_of (counted (λ u. u.uses) m)) (used_blocks es)
+  used_shuffled es m e d =
+      subst (λ (xs : List (List ℕ)). IsPermutation xs (used_blocks es)) (used_before m)
+      (shuffled (map.entries m) es (distinct_sorted (map.entries m) (map.entries_sorted m)) d
+      (λ q. seen_at (map.entries m) q ∙ entries_at m q ∙ sym (shown_at es m e q) ∙ sym (seen_at es q)))

@@ -1,10 +1,11 @@
 -- What is kept, as the map of blocks that the code has.
-use Rattle.std.specs.Prelude.{◌≡◌, ◌<◌, ◌+◌, ◌-◌, ℕ, zero, suc, List, [], ◌∷◌, ◌++◌, Bool, false, true, not, cond, Option, None, Some, option_map}
+use Rattle.std.specs.Prelude.{◌≡◌, ◌<◌, ◌+◌, ◌-◌, ℕ, zero, suc, List, [], ◌∷◌, ◌++◌, Bool, false, true, not, cond, Option, None, Some, option_map, length}
 use Rattle.std.specs.List.{list_any}
 use Rattle.std.specs.Arc.{arc_value}
 use Rattle.std.specs.Ordering.{nat_cmp}
 use Rattle.std.specs.Cmp.Lexicographic.{slice_cmp}
 use Rattle.std.specs.BTreeMap.{is_at}
+use Rattle.std.specs.Map.{lookup}
 use Rattle.std.specs.FinMap as map
 use Rattle.std.specs.declared.sync.Arc.{Arc}
 use Rattle.spec.specs.Cid.{cid as cid_of}
@@ -71,6 +72,16 @@ Updated f g k o = (q : List ℕ) → g q ≡ cond (is_at (slice_cmp nat_cmp k) q
 -- n has what m has, but what F makes of the entry under k
 abbrev pub IsChanged : {D A : Type 0} → (Option (Use D A) → Option (Use D A)) → Uses D A → Uses D A → List ℕ → Type 0
 IsChanged F m n k = Updated (at m) (at n) k (F (at m k))
+
+-- what a list of entries has under a CID
+abbrev pub listed_at : {D A : Type 0} → List (List ℕ × Use D A) → List ℕ → Option (Use D A)
+listed_at es q = lookup (is_at (slice_cmp nat_cmp q)) es
+
+-- one of the entries is taken out
+pub record IsTaken {D A : Type 0} (es : List (List ℕ × Use D A)) (e : List ℕ × Use D A) (fs : List (List ℕ × Use D A)) : Type 0 where
+  pub here : listed_at es e.0 ≡ Some e.1
+  pub gone : Updated (listed_at es) (listed_at fs) e.0 None
+  pub fewer : length fs < length es
 
 -- a block of these bytes is held and not noted, or not held
 abbrev pub is_fresh : {D A : Type 0} → (List ℕ → List ℕ) → Uses D A → List ℕ → Bool

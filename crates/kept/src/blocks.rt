@@ -1,4 +1,4 @@
-//! The kept blocks in their order.
+//! The kept blocks one by one.
 
 ghost use Rattle.std.specs.Arc.{arc_value};
 ghost use Rattle.std.specs.Iterator.{YieldsFirstBy, item_count};
@@ -7,10 +7,10 @@ ghost use Rattle.kept.specs.Uses.{used_blocks};
 use crate::kept_use::Use;
 use cid::{Block, Cid, Digest};
 use std::alloc::{Allocator, Global};
-use std::collections::btree_map::Iter;
+use std::collections::hash_map::Iter;
 use std::sync::Arc;
 
-/// The blocks that what was accepted uses, in the order of their CIDs: those that are left.
+/// The blocks that what was accepted uses: those that are left.
 #[derive(Drop)]
 pub struct Blocks<'a, D: Digest, A: Allocator = Global> {
     pub(crate) entries: Iter<'a, Cid, Use<D, A>>,

@@ -2,6 +2,7 @@
 
 ghost use Rattle.std.specs.Prelude.{◌≡◌, ◌<◌, [], option_map, vec_len, vec_capacity, IfErr, IfOk, OnOk, OnErr};
 ghost use Rattle.std.specs.Arc.{arc_value};
+ghost use Rattle.std.specs.List.Sorted.{IsPermutation};
 ghost use Rattle.store.specs.Faults.{IsRefusalOf};
 ghost use Rattle.store.specs.Stores.{IsStore, fulls_after};
 ghost use Rattle.kept.specs.Counts.{HasNoOther, count_at, bytes_at, blocks_of, none_kept, with_use_more, with_use_less};
@@ -76,9 +77,9 @@ impl<D: Digest, A: Allocator> Kept<D, A> {
         }
     }
 
-    /// The blocks that what was accepted uses, each once, in the order of their CIDs. It takes no memory.
+    /// The blocks that what was accepted uses, each once, in some order. It takes no memory.
     pub fn blocks(&self) -> Blocks<'_, D, A>
-        ensures { used_blocks result.entries ≡ blocks_of self.now.before }
+        ensures { IsPermutation (blocks_of self.now.before) (used_blocks result.entries) }
     {
         Blocks {
             entries: self.blocks.iter(),

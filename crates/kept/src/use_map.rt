@@ -1,27 +1,33 @@
 //! The blocks that a core keeps, by their CIDs.
 
-ghost use Rattle.std.specs.Prelude.{◌≡◌, ◌<◌, option_map, IfOk, IfErr, OnOk, OnErr};
+ghost use Rattle.std.specs.Prelude.{◌≡◌, ◌<◌, nat_eq, option_map, [], IfSome, IfNone, IfOk, IfErr, OnOk, OnErr};
 ghost use Rattle.std.specs.Arc.{arc_value};
+ghost use Rattle.std.specs.Cmp.Lexicographic.{pointwise};
+ghost use Rattle.std.specs.List.{IsDistinct};
+ghost use Rattle.std.specs.Map.{keys_of};
 ghost use Rattle.std.specs.FinMap as map;
 ghost use Rattle.store.specs.Faults.{IsRefusalOf};
 ghost use Rattle.store.specs.Stores.{IsStore, fulls_after};
-ghost use Rattle.kept.specs.Uses.{at, AreUses, lowered_in, settled, is_unnoted, IsChanged, IsRaisedIn, is_fresh};
+ghost use Rattle.kept.specs.Uses.{at, AreUses, lowered_in, settled, is_unnoted, IsChanged, IsRaisedIn, IsTaken, is_fresh};
 ghost use Rattle.kept.specs.Leaving.{AreNamed, AreGivenBack};
 
 use crate::kept_use::{End, Use};
 use cid::{Block, Cid, Digest};
 use std::alloc::{AllocFailed, Allocator};
-use std::collections::BTreeMap;
-use std::collections::btree_map::Iter;
+use std::collections::HashMap;
+use std::collections::hash_map::Iter;
+use std::hash::{BuildHasherDefault, FoldHasher};
 use std::marker::Model;
 use std::sync::Arc;
 use store::{BlockStore, Hold, SHARDS, Shard, StoreFault};
+
+type Blocks<D, A> = HashMap<Cid, Use<D, A>, BuildHasherDefault<FoldHasher>, A>;
 
 /// Each kept block under its CID, with its uses.
 ///
 /// A contract sees it as a finite map.
 pub(crate) struct UseMap<D: Digest, A: Allocator> {
-    blocks: BTreeMap<Cid, Use<D, A>, A>,
+    blocks: Blocks<D, A>,
 }
 
 impl<D: Digest, A: Allocator> Model for UseMap<D, A> {
@@ -36,13 +42,23 @@ impl<D: Digest, A: Allocator> Model for UseMap<D, A> {
     ghost view = { λ m. map.from_entries m.blocks.entries };
 }
 
+/// Takes an entry out, where there is one.
+fn take_one<D: Digest, A: Allocator>(blocks: &mut Blocks<D, A>) -> Option<(Cid, Use<D, A>)>
+    ensures taken { IfSome result (λ e. IsTaken blocks.old.entries e blocks.new.entries) }
+    ensures none { IfNone result (blocks.old.entries ≡ []) }
+    ensures empty { IfNone result (blocks.new.entries ≡ []) }
+{
+    let cid = *blocks.keys().next()?;
+    blocks.remove_entry(&cid)
+}
+
 impl<D: Digest, A: Allocator> UseMap<D, A> {
     /// No block so far. It takes no memory yet.
     pub(crate) fn new(alloc: A) -> UseMap<D, A>
         ensures { result ≡ map.empty }
     {
         UseMap {
-            blocks: BTreeMap::new(alloc),
+            blocks: HashMap::new(alloc),
         }
     }
 
@@ -53,9 +69,10 @@ impl<D: Digest, A: Allocator> UseMap<D, A> {
         self.blocks.get(cid)
     }
 
-    /// Each block with its uses under its CID, in the order of the CIDs.
+    /// Each block with its uses under its CID, once.
     pub(crate) fn iter(&self) -> Iter<'_, Cid, Use<D, A>>
-        ensures { result ≡ map.entries self.now }
+        ensures entries { map.from_entries result ≡ self.now }
+        ensures distinct { IsDistinct (pointwise nat_eq) (keys_of result) }
     {
         self.blocks.iter()
     }
@@ -113,7 +130,7 @@ impl<D: Digest, A: Allocator> UseMap<D, A> {
         ensures { S.fulls store.new ≡ S.fulls store.old }
     {
         let UseMap { mut blocks } = self;
-        while let Some((_, held)) = blocks.pop_first() {
+        while let Some((_, held)) = take_one(&mut blocks) {
             held.give_back(store);
         }
         blocks.destroy_empty();
@@ -125,7 +142,7 @@ impl<D: Digest, A: Allocator> UseMap<D, A> {
         ensures { AreGivenBack (at self) tables.old tables.new }
     {
         let UseMap { mut blocks } = self;
-        while let Some((_, held)) = blocks.pop_first() {
+        while let Some((_, held)) = take_one(&mut blocks) {
             held.give_back_in(tables);
         }
         blocks.destroy_empty();

@@ -1,11 +1,16 @@
--- The blocks that a core keeps, in the order of their CIDs.
-use Rattle.std.proofs.Common.{zero, suc, ◌≡◌, ℕ, ◌∷◌, [], List, refl, ap, sym, ◌∙◌, subst, cond, Bool, true, false, arith, Option, None}
+-- The blocks that a core keeps, each once.
+use Rattle.std.proofs.Common.{zero, suc, ◌≡◌, ℕ, ◌∷◌, [], List, refl, ap, sym, ◌∙◌, subst, cond, Bool, true, false, arith, nat_eq, Option, None}
 use Rattle.std.specs.declared.option.Option.TheVariants.{Some}
 use Rattle.std.specs.Prelude.{map as each, ◌&&◌, T, Contains, option_map}
 use Rattle.std.specs.Ordering.{nat_cmp, is_eq, is_lt}
 use Rattle.std.specs.declared.cmp.Ordering.{Ordering}
 use Rattle.std.specs.declared.cmp.Ordering.TheVariants.{Less, Equal, Greater}
-use Rattle.std.specs.Cmp.Lexicographic.{slice_cmp}
+use Rattle.std.specs.Cmp.Lexicographic.{slice_cmp, nat_list_eq_equiv, pointwise}
+use Rattle.std.specs.List.{IsDistinct}
+use Rattle.std.specs.List.Sorted.{IsPermutation}
+use Rattle.std.specs.Map.{keys_of}
+use Rattle.std.proofs.lemmas.List.Sorted.{IsPermutation-sym, IsPermutation-map, Contains-permutation}
+use Rattle.std.proofs.lemmas.Map.Keys.{IsDistinct-IsPermutation}
 use Rattle.std.specs.FinMap as map
 use Rattle.std.specs.FinMap.{find, is_sorted, slice_cmp-IsAntisymmetric, nat_cmp-IsAntisymmetric}
 use Rattle.std.specs.FinMap.Entries.{below_all}
@@ -14,6 +19,7 @@ use Rattle.spec.specs.States.{State, state_blocks}
 use Rattle.paths.proofs.Orders.{order-same, order-is}
 use Rattle.paths.proofs.Using.{User, user}
 use Rattle.kept.specs.Counts.{Counts, Keeping, count_of, bytes_at, blocks_of}
+use Rattle.kept.proofs.Listing.{distinct_sorted}
 use Rattle.repo.specs.Cores.{IsCore, AreEachOnce}
 use Rattle.repo.specs.Keeping.{AreKept}
 
@@ -31,10 +37,6 @@ first false b p = absurd p
 second : (a b : Bool) → T (a && b) → T b
 second true b p = p
 second false b p = absurd p
-
-is-true : (b : Bool) → T b → b ≡ true
-is-true true p = refl
-is-true false p = absurd p
 
 some-is : (x y : List ℕ) → ◌≡◌ {A = Option (List ℕ)} (Some x) (Some y) → x ≡ y
 some-is x y e = cc
@@ -121,6 +123,11 @@ found-block q (e ∷ es) b h = step (λ f. found-block q es b f) (is_eq (slice_c
     step again true f = (zero, omega arith, some-is e.1.0 b f)
     step again false f = later (again f)
 
+-- the keys of blocks under their CIDs
+names : (digest : List ℕ → List ℕ) (xs : List (List ℕ)) → keys_of (each (λ b. (cid digest b, b)) xs) ≡ each (cid digest) xs
+names digest [] = refl
+names digest (x ∷ xs) = ap (λ ys. cid digest x ∷ ys) (names digest xs)
+
 module _ (digest : List ℕ → List ℕ) (bs : List (List ℕ)) (m : Counts) (is : AreKept digest bs m) where
   entry-stands : (c : List ℕ) (u : List ℕ × ℕ) → map.get m c ≡ Some u → Stands digest bs c u.0
   entry-stands c u e =
@@ -138,11 +145,21 @@ module _ (digest : List ℕ → List ℕ) (bs : List (List ℕ)) (m : Counts) (i
   kept-once = record {
     among = among-entries digest bs (map.entries m) (map.entries_sorted m) facts;
     whole = λ b h. found-block (cid digest b) (map.entries m) b (ap (option_map (λ (v : List ℕ × ℕ). v.0)) (sym (map.get-entries m (cid digest b))) ∙ is.has b h);
-    sorted = is-true (is_sorted (slice_cmp nat_cmp) (named_blocks digest bs (map.entries m))) (sorted-named digest bs (map.entries m) (map.entries_sorted m) facts);
+    apart = subst (IsDistinct (pointwise nat_eq)) (names digest (each (λ e. e.1.0) (map.entries m)))
+        (distinct_sorted (named_blocks digest bs (map.entries m)) (sorted-named digest bs (map.entries m) (map.entries_sorted m) facts));
   }
 
+-- the same in another order
+turned : (digest : List ℕ → List ℕ) (all once list : List (List ℕ)) → AreEachOnce digest all once → IsPermutation once list → AreEachOnce digest all list
+turned digest all once list is p = record {
+  among = λ b h. is.among b (Contains-permutation list once b (IsPermutation-sym once list p) h);
+  whole = λ b h. Contains-permutation once list b p (is.whole b h);
+  apart = IsDistinct-IsPermutation (pointwise nat_eq) nat_list_eq_equiv.symm (each (cid digest) once) (each (cid digest) list)
+      (IsPermutation-map (cid digest) once list p) is.apart;
+}
+
 pub core-blocks : (digest : List ℕ → List ℕ) (bits : ℕ) (s given : State) (root : List ℕ) (commit : Option (List ℕ)) (k : Keeping) (list : List (List ℕ)) → IsCore digest bits s root commit k → s ≡ given
-    → list ≡ blocks_of k.before → AreEachOnce digest (state_blocks digest bits given) list
-core-blocks digest bits s given root commit k list is e l =
-    subst (AreEachOnce digest (state_blocks digest bits given)) (sym l)
-    (subst (λ (x : State). AreEachOnce digest (state_blocks digest bits x) (blocks_of k.before)) e (kept-once digest (state_blocks digest bits s) k.before is.kept))
+    → IsPermutation (blocks_of k.before) list → AreEachOnce digest (state_blocks digest bits given) list
+core-blocks digest bits s given root commit k list is e p =
+    subst (λ (x : State). AreEachOnce digest (state_blocks digest bits x) list) e
+    (turned digest (state_blocks digest bits s) (blocks_of k.before) list (kept-once digest (state_blocks digest bits s) k.before is.kept) p)

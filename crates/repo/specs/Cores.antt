@@ -1,8 +1,7 @@
 -- What a core keeps of its state.
-use Rattle.std.specs.Prelude.{◌≡◌, ◌≤◌, ℕ, List, Option, Contains, map, true}
-use Rattle.std.specs.Cmp.Lexicographic.{slice_cmp}
-use Rattle.std.specs.FinMap.{is_sorted}
-use Rattle.std.specs.Ordering.{nat_cmp}
+use Rattle.std.specs.Prelude.{◌≡◌, ◌≤◌, ℕ, List, Option, Contains, map, nat_eq}
+use Rattle.std.specs.Cmp.Lexicographic.{pointwise}
+use Rattle.std.specs.List.{IsDistinct}
 use Rattle.spec.specs.Cid.{cid}
 use Rattle.spec.specs.States.{State, IsLawful, state_root, state_blocks, state_commit}
 use Rattle.kept.specs.Counts.{Keeping}
@@ -20,8 +19,8 @@ pub record IsCore (digest : List ℕ → List ℕ) (bits : ℕ) (s : State) (roo
   pub still : k.staged ≡ k.before
   pub kept : AreKept digest (state_blocks digest bits s) k.before
 
--- the second list has the blocks of the first, each once, in the order of their CIDs
+-- the second list has the blocks of the first, each once: no two of it have one CID
 pub record AreEachOnce (digest : List ℕ → List ℕ) (all once : List (List ℕ)) : Type 0 where
   pub among : (b : List ℕ) → Contains once b → Contains all b
   pub whole : (b : List ℕ) → Contains all b → Contains once b
-  pub sorted : is_sorted (slice_cmp nat_cmp) (map (λ b. (cid digest b, b)) once) ≡ true
+  pub apart : IsDistinct (pointwise nat_eq) (map (cid digest) once)

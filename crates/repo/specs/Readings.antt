@@ -28,7 +28,7 @@ pairs_from digest s from limit = listed from limit (pairs digest (records s))
 abbrev pub bytes_lent : {D A : Type 0} → Uses D A → List ℕ → Option (List ℕ)
 bytes_lent uses cid = option_map arc_value (lent uses cid)
 
--- a list has each block of the state once, in the order of their CIDs, and no other
+-- a list has each block of the state once, and no other
 abbrev pub AreBlocksOnce : (List ℕ → List ℕ) → ℕ → State → List (List ℕ) → Type 0
 AreBlocksOnce digest bits s once = AreEachOnce digest (state_blocks digest bits s) once
 

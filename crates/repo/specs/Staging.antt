@@ -1,6 +1,6 @@
 -- A batch on its way, by the counts of the blocks that are staged.
 use Rattle.std.specs.Prelude.{◌≡◌, ◌⊎◌, ◌<◌, ◌≤◌, ◌+◌, ◌*◌, suc, ⊤, ◌++◌, ℕ, List, [], Contains, map as each}
-use Rattle.std.specs.Prelude.{Option, Some, None, option_map, Result, IfOk, IfErr}
+use Rattle.std.specs.Prelude.{Option, Some, None, option_map, Result, IfOk}
 use Rattle.std.specs.Arc.{arc_value}
 use Rattle.std.specs.List.{cons_option}
 use Rattle.spec.specs.Tree.{Pair}

@@ -109,7 +109,7 @@ impl<D: Digest, const B: u8, A: Allocator> Core<D, B, A> {
         &self.stamps
     }
 
-    /// Its blocks, each once, in the order of their CIDs: the last commit, the nodes and the records. It takes no memory.
+    /// Its blocks, each once, in some order: the last commit, the nodes and the records. It takes no memory.
     pub fn blocks(&self) -> Blocks<'_, D, A>
         ensures blocks { AreBlocksOnce D.digest_of B self.now (used_blocks result.entries) }
         ensures lawful { IsLawful self.now }

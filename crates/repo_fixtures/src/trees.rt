@@ -44,22 +44,25 @@ fn cids_of<D: Digest, K>(
     Ok(cids)
 }
 
-/// Whether there was memory for these CIDs, and a core has their blocks, in this order, and no others.
-fn has_blocks<D: Digest, const B: u8, A: Allocator>(
+/// The CIDs of a core's blocks, in their order.
+fn cids_in<D: Digest, const B: u8, A: Allocator>(
+    alloc: Global,
     core: &Core<D, B, A>,
-    cids: Result<Vec<Cid>, AllocError>,
-) -> bool {
-    let Ok(cids) = cids else {
-        return false;
-    };
-    let mut count = 0usize;
+) -> Result<Vec<Cid>, AllocError> {
+    let mut cids = Vec::new(alloc);
     for block in core.blocks() {
-        if cids.get(count) != Some(&block.cid()) {
-            return false;
-        }
-        count = count.saturating_add(1);
+        cids.push(block.cid())?;
     }
-    count == cids.len()
+    cids.sort()?;
+    Ok(cids)
+}
+
+/// Whether there was memory for both, and they are the same CIDs.
+fn are_alike(ones: Result<Vec<Cid>, AllocError>, others: Result<Vec<Cid>, AllocError>) -> bool {
+    match (ones, others) {
+        (Ok(ones), Ok(others)) => ones == others,
+        _ => false,
+    }
 }
 
 /// Whether a core finds the record of each pair under its key.
@@ -92,7 +95,7 @@ pub fn is_of<D: Digest, const B: u8, A: Allocator, K: AsSlice<u8>>(
             core.root() == tree.root
                 && core.commit() == commit
                 && has_records(core, pairs)
-                && has_blocks(core, cids_of(alloc, &tree, pairs, commit))
+                && are_alike(cids_in(alloc, core), cids_of(alloc, &tree, pairs, commit))
         }
         None => false,
     }

@@ -5,11 +5,10 @@ ghost use Rattle.paths.specs.Sources.{shape_from};
 ghost use Rattle.paths.specs.ShapeEdit.{go_shape};
 ghost use Rattle.edit.specs.Drafts.{IsFaultOf};
 
-use crate::ahead::Ahead;
-use crate::copying::{copy_before, copy_from};
+use crate::changed::cut::cut_before;
+use crate::copying::copy_from;
 use crate::draft::Draft;
 use crate::draft_fault::DraftFault;
-use crate::draft_writer::DraftWriter;
 use cid::Cid;
 use node::NodeView;
 use std::alloc::Allocator;
@@ -25,8 +24,6 @@ pub(crate) fn go<A: Allocator + Clone>(
     ensures ok { IfOk result (λ draft. draft ≡ go_shape key.now (shape_from node.now.left node.now.entries) new) }
     ensures fault { IfErr result (IsFaultOf (go_shape key.now (shape_from node.now.left node.now.entries) new)) }
 {
-    let mut ahead = Ahead::of(alloc.clone()?, node)?;
-    let mut writer = DraftWriter::new(alloc);
-    copy_before(&mut ahead, Some(key), &mut writer)?;
+    let (ahead, writer) = cut_before(alloc, node, Some(key))?;
     copy_from(ahead, new, writer)
 }

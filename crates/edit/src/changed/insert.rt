@@ -5,11 +5,10 @@ ghost use Rattle.paths.specs.Sources.{shape_from};
 ghost use Rattle.paths.specs.ShapeEdit.{insert_shape};
 ghost use Rattle.edit.specs.Drafts.{IsFaultOf};
 
-use crate::ahead::Ahead;
-use crate::copying::{copy_before, copy_from};
+use crate::changed::cut::cut_before;
+use crate::copying::copy_from;
 use crate::draft::Draft;
 use crate::draft_fault::DraftFault;
-use crate::draft_writer::DraftWriter;
 use cid::{Cid, CidRef};
 use node::NodeView;
 use std::alloc::Allocator;
@@ -28,9 +27,7 @@ pub(crate) fn insert<A: Allocator + Clone>(
     ensures ok { IfOk result (λ draft. draft ≡ insert_shape (key.now, value) (shape_from node.now.left node.now.entries) (left, right)) }
     ensures fault { IfErr result (IsFaultOf (insert_shape (key.now, value) (shape_from node.now.left node.now.entries) (left, right))) }
 {
-    let mut ahead = Ahead::of(alloc.clone()?, node)?;
-    let mut writer = DraftWriter::new(alloc);
-    copy_before(&mut ahead, Some(key), &mut writer)?;
+    let (mut ahead, mut writer) = cut_before(alloc, node, Some(key))?;
     if ahead.is_at(key) {
         writer.pair(ahead.link(), key, CidRef::from(&value))?;
         ahead.skip();

@@ -6,10 +6,10 @@ ghost use Rattle.paths.specs.ShapeEdit.{join_shape};
 ghost use Rattle.edit.specs.Drafts.{IsFaultOf};
 
 use crate::ahead::Ahead;
-use crate::copying::{copy_before, copy_from};
+use crate::changed::cut::cut_before;
+use crate::copying::copy_from;
 use crate::draft::Draft;
 use crate::draft_fault::DraftFault;
-use crate::draft_writer::DraftWriter;
 use cid::Cid;
 use node::NodeView;
 use std::alloc::Allocator;
@@ -25,8 +25,6 @@ pub(crate) fn join<A: Allocator + Clone>(
     ensures ok { IfOk result (λ draft. draft ≡ join_shape (shape_from one.now.left one.now.entries) (shape_from other.now.left other.now.entries) link) }
     ensures fault { IfErr result (IsFaultOf (join_shape (shape_from one.now.left one.now.entries) (shape_from other.now.left other.now.entries) link)) }
 {
-    let mut writer = DraftWriter::new(alloc.clone()?);
-    let mut ahead = Ahead::of(alloc.clone()?, one)?;
-    copy_before(&mut ahead, None, &mut writer)?;
+    let (_, writer) = cut_before(alloc.clone()?, one, None)?;
     copy_from(Ahead::of(alloc, other)?, link, writer)
 }

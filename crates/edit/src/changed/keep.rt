@@ -6,7 +6,8 @@ ghost use Rattle.paths.specs.ShapeEdit.{keep_before, keep_after};
 ghost use Rattle.edit.specs.Drafts.{IsFaultOf};
 
 use crate::ahead::Ahead;
-use crate::copying::{copy_before, copy_from, skip_before};
+use crate::changed::cut::cut_before;
+use crate::copying::{copy_from, skip_before};
 use crate::draft::Draft;
 use crate::draft_fault::DraftFault;
 use crate::draft_writer::DraftWriter;
@@ -25,9 +26,7 @@ pub(crate) fn keep_before<A: Allocator + Clone>(
     ensures ok { IfOk result (λ draft. draft ≡ keep_before key.now (shape_from node.now.left node.now.entries) new) }
     ensures fault { IfErr result (IsFaultOf (keep_before key.now (shape_from node.now.left node.now.entries) new)) }
 {
-    let mut ahead = Ahead::of(alloc.clone()?, node)?;
-    let mut writer = DraftWriter::new(alloc);
-    copy_before(&mut ahead, Some(key), &mut writer)?;
+    let (_, writer) = cut_before(alloc, node, Some(key))?;
     writer.finish(new)
 }
 

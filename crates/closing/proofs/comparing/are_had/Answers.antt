@@ -1,5 +1,5 @@
 use Rattle.std.proofs.Common.{rules, ◌∙◌, sym, subst}
-use Rattle.closing.proofs.Entries.{Going, going_start, going_step, going_alien, going_item, going_end, small_at}
+use Rattle.closing.proofs.Entries.{Going, going_start, going_step, going_without, going_item, going_end, small_at}
 use Rattle.closing.proofs.comparing.are_had.Goals as goal
 use Rattle.closing.proofs.comparing.are_had.Goals.{else-shard_number-shard-via-then-shard_number-shard+else-not-all_have, else-shard_number-shard-via-else-shard_number-shard}
 
@@ -25,7 +25,7 @@ all_have-requires g c = (
 
 pub returns-then-not-all_have : goal.returns-then-not-all_have
 returns-then-not-all_have g c =
-    going_alien g.D.Digest.digest_of g.row.B c.args.cores.now c.args.shard c.args.table.now c.in-Some.cid c.in-Some.entered.now c.next.new.self c.loop-cid.cid-iterator c.in-Some.ensures.steps c.loop-cid.invariant.2
+    going_without g.D.Digest.digest_of g.row.B c.args.cores.now c.args.shard c.args.table.now c.in-Some.cid c.in-Some.entered.now c.next.new.self c.loop-cid.cid-iterator c.in-Some.ensures.steps c.loop-cid.invariant.2
     (sym c.shard_number.ensures.value ∙ c.if-shard_number-shard.true) c.if-not-all_have.ensures
 
 pub loop-cid-preserved : goal.loop-cid-preserved

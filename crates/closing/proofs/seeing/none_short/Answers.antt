@@ -1,4 +1,4 @@
-use Rattle.std.proofs.Common.{◌≤◌, ap, ◌∙◌, get_or, slice_index, length, below_more, arith}
+use Rattle.std.proofs.Common.{◌≤◌, ap, get_or, slice_index, length, below_more, arith}
 use Rattle.std.proofs.lemmas.List.{get_or_read}
 use Rattle.spec.specs.States.{State}
 use Rattle.closing.proofs.seeing.none_short.Goals as goal

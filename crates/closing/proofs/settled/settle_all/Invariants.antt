@@ -1,5 +1,5 @@
 use Rattle.std.proofs.Common.{◌≡◌, length}
-use Rattle.std.specs.Prelude.{All, vec_capacity, vec_len}
+use Rattle.std.specs.Prelude.{vec_capacity, vec_len}
 use Rattle.closing.specs.Ending.{joined_all}
 use Rattle.closing.proofs.settled.settle_all.Given as goal
 

@@ -1,8 +1,7 @@
-use Rattle.std.proofs.Common.{ℕ, List, ◌≡◌, ap, ◌∙◌}
-use Rattle.std.specs.Prelude.{IfOk}
+use Rattle.std.proofs.Common.{ap, ◌∙◌}
 use Rattle.closing.specs.Settling.{ClosedView}
 use Rattle.closing.specs.Tally.{tally}
-use Rattle.closing.specs.Counts.{count_in, positive}
+use Rattle.closing.specs.Counts.{positive}
 use Rattle.closing.proofs.Tallies.{count_is_tally}
 use Rattle.closing.proofs.Closings.{counts_at}
 use Rattle.closing.proofs.closed.Closed.counts.Goals as goal
@@ -12,5 +11,5 @@ returns-clause-counts g c =
     counts_at c.listed.result c.in_ok-all.all.entries (λ cid. positive (tally g.D.Digest.digest_of g.row.B c.args.self.now.cores cid)) c.listed.ensures.items
     (λ cid.
     c.in_ok-all.ensures cid
-    ∙ ap positive (count_is_tally g.D.Digest.digest_of g.row.B c.self.inside.cores.items c.self.inside.tables c.self.invariant.settled.even cid
+    ∙ ap positive (count_is_tally g.D.Digest.digest_of g.row.B c.self.inside.repositories.cores.items c.self.inside.repositories.tables c.self.invariant.settled.even cid
     ∙ ap (λ (v : ClosedView). tally g.D.Digest.digest_of g.row.B v.cores cid) c.self.view_is))

@@ -1,5 +1,5 @@
-use Rattle.std.proofs.Common.{ap, sym, ◌∙◌}
-use Rattle.closing.specs.Ending.{EndedView, kept_by}
+use Rattle.std.proofs.Common.{ap, ◌∙◌}
+use Rattle.closing.specs.Ending.{kept_by}
 use Rattle.closing.specs.Settling.{ClosedView}
 use Rattle.closing.proofs.Closings.{kept_found, kept_further}
 use Rattle.closing.proofs.closed.Closed.kept.Goals as goal

@@ -1,4 +1,4 @@
-use Rattle.std.proofs.Common.{◌≡◌, List, length, get_or, ap, ◌∙◌, subst, arith, rules}
+use Rattle.std.proofs.Common.{List, length, get_or, ap, ◌∙◌, subst, arith}
 use Rattle.spec.specs.States.{State}
 use Rattle.closing.specs.Settling.{ClosedView}
 use Rattle.closing.specs.Headline.{AreTallies}
@@ -26,4 +26,4 @@ returns-clause-stamps g c d =
 pub returns-clause-counts : goal.returns-clause-counts
 returns-clause-counts g c =
     subst (λ (v : ClosedView). AreTallies g.D.Digest.digest_of g.row.B v.cores v.tables) c.self.view_is
-    (λ cid. count_is_tally g.D.Digest.digest_of g.row.B c.self.inside.cores.items c.self.inside.tables c.self.invariant.settled.even cid)
+    (λ cid. count_is_tally g.D.Digest.digest_of g.row.B c.self.inside.repositories.cores.items c.self.inside.repositories.tables c.self.invariant.settled.even cid)

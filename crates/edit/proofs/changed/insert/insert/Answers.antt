@@ -6,29 +6,26 @@ use Rattle.paths.specs.ShapeEdit.{with_first_link}
 use Rattle.paths.specs.Sources.{shape_from}
 use Rattle.edit.specs.Ahead.{after_pair}
 use Rattle.edit.specs.Drafts.{onto}
-use Rattle.edit.proofs.Changing.{cut, fault-begins, insert-begins, replaced-cut, added-cut, drafted, faulted}
+use Rattle.edit.proofs.Changing.{Cut, fault-begins, insert-begins, replaced-cut, added-cut, drafted, faulted}
 use Rattle.edit.proofs.Cutting.{with-own, fault-at}
 use Rattle.edit.proofs.changed.insert.insert.Goals as goal
 
-pub returns-in_err-copy_before-clause-fault : goal.returns-in_err-copy_before-clause-fault
-returns-in_err-copy_before-clause-fault g c =
-    let p = err_from_is_err_and c.from_residual-in_err-copy_before.result c.from_residual-in_err-copy_before.ensures.1 in
+pub returns-in_err-ahead-clause-fault : goal.returns-in_err-ahead-clause-fault
+returns-in_err-ahead-clause-fault g c =
+    let p = err_from_is_err_and c.from_residual.result c.from_residual.ensures.1 in
     let s = shape_from c.args.node.now.left c.args.node.now.entries in
-    rw (p.1, p.2) (fault-begins c.in_err-copy_before.field-0.0 c.args.key.now s c.in_ok-ahead.ahead _ c.new-writer.result
-    c.in_ok-ahead.ensures c.new-writer.ensures
-    (insert-begins (c.args.key.now, c.args.value) (c.args.left, c.args.right) s) c.in_err-copy_before.ensures.fault)
+    rw (p.1, p.2) (fault-begins c.in_err-ahead.field-0.0 c.args.key.now s _ (insert-begins (c.args.key.now, c.args.value) (c.args.left, c.args.right) s) c.in_err-ahead.ensures.fault)
 
 pub returns-in_err-pair-clause-fault : goal.returns-in_err-pair-clause-fault
 returns-in_err-pair-clause-fault g c =
     let e = err_from_is_err_and c.from_residual-in_err-pair.result c.from_residual-in_err-pair.ensures.1 in
     let key = c.args.key.now in
     let s = shape_from c.args.node.now.left c.args.node.now.entries in
-    let before = cut key s c.in_ok-ahead.ahead c.copy_before.new.ahead c.new-writer.result c.copy_before.new.writer
-    c.in_ok-ahead.ensures c.new-writer.ensures c.in_ok-copy_before.ensures.written c.in_ok-copy_before.ensures.ahead in
+    let before : Cut key s c.in_ok-ahead.writer c.in_ok-ahead.ahead = record { before = c.in_ok-ahead.ensures.written; here = c.in_ok-ahead.ensures.left } in
     let p : Pair = (key, c.args.value) in
     let t : Option (List ℕ) × Option (List ℕ) = (c.args.left, c.args.right) in
-    let f = c.copy_before.new.ahead in
-    let now = c.copy_before.new.writer ++ (c.link.result, (key, bytes_of c.from.result)) ∷ [] in
+    let f = c.in_ok-ahead.ahead in
+    let now = c.in_ok-ahead.writer ++ (c.link.result, (key, bytes_of c.from.result)) ∷ [] in
     rw (e.1, e.2) (fault-at c.in_err-pair.field-0.0 now (after_pair f) _
     (replaced-cut p t s _ f before c.link.result (bytes_of c.from.result) now refl c.from.ensures
     (sym c.is_at.ensures ∙ c.if-is_at.true) c.link.ensures)
@@ -39,12 +36,11 @@ returns-in_err-pair-2-clause-fault g c =
     let e = err_from_is_err_and c.from_residual-in_err-pair-2.result c.from_residual-in_err-pair-2.ensures.1 in
     let key = c.args.key.now in
     let s = shape_from c.args.node.now.left c.args.node.now.entries in
-    let before = cut key s c.in_ok-ahead.ahead c.copy_before.new.ahead c.new-writer.result c.copy_before.new.writer
-    c.in_ok-ahead.ensures c.new-writer.ensures c.in_ok-copy_before.ensures.written c.in_ok-copy_before.ensures.ahead in
+    let before : Cut key s c.in_ok-ahead.writer c.in_ok-ahead.ahead = record { before = c.in_ok-ahead.ensures.written; here = c.in_ok-ahead.ensures.left } in
     let p : Pair = (key, c.args.value) in
     let t : Option (List ℕ) × Option (List ℕ) = (c.args.left, c.args.right) in
-    let f = c.copy_before.new.ahead in
-    let now = c.copy_before.new.writer ++ (c.args.left, (key, bytes_of c.from-else-is_at.result)) ∷ [] in
+    let f = c.in_ok-ahead.ahead in
+    let now = c.in_ok-ahead.writer ++ (c.args.left, (key, bytes_of c.from-else-is_at.result)) ∷ [] in
     rw (e.1, e.2) (fault-at c.in_err-pair-2.field-0.0 now (with_first_link c.args.right f) _
     (added-cut p t s _ f before c.args.left (bytes_of c.from-else-is_at.result) now refl c.from-else-is_at.ensures
     (sym c.is_at.ensures ∙ c.if-is_at.false) refl)
@@ -54,11 +50,10 @@ pub returns-in_ok-pair-clause-ok : goal.returns-in_ok-pair-clause-ok
 returns-in_ok-pair-clause-ok g c =
     let key = c.args.key.now in
     let s = shape_from c.args.node.now.left c.args.node.now.entries in
-    let before = cut key s c.in_ok-ahead.ahead c.copy_before.new.ahead c.new-writer.result c.copy_before.new.writer
-    c.in_ok-ahead.ensures c.new-writer.ensures c.in_ok-copy_before.ensures.written c.in_ok-copy_before.ensures.ahead in
+    let before : Cut key s c.in_ok-ahead.writer c.in_ok-ahead.ahead = record { before = c.in_ok-ahead.ensures.written; here = c.in_ok-ahead.ensures.left } in
     let p : Pair = (key, c.args.value) in
     let t : Option (List ℕ) × Option (List ℕ) = (c.args.left, c.args.right) in
-    let f = c.copy_before.new.ahead in
+    let f = c.in_ok-ahead.ahead in
     let w = c.pair.new.self in
     drafted c.copy_from.result _ _
     (ap (λ (x : Option (List ℕ)). onto w (with_first_link x c.skip.new.self)) c.link-link.ensures
@@ -71,11 +66,10 @@ pub returns-in_ok-pair-clause-fault : goal.returns-in_ok-pair-clause-fault
 returns-in_ok-pair-clause-fault g c =
     let key = c.args.key.now in
     let s = shape_from c.args.node.now.left c.args.node.now.entries in
-    let before = cut key s c.in_ok-ahead.ahead c.copy_before.new.ahead c.new-writer.result c.copy_before.new.writer
-    c.in_ok-ahead.ensures c.new-writer.ensures c.in_ok-copy_before.ensures.written c.in_ok-copy_before.ensures.ahead in
+    let before : Cut key s c.in_ok-ahead.writer c.in_ok-ahead.ahead = record { before = c.in_ok-ahead.ensures.written; here = c.in_ok-ahead.ensures.left } in
     let p : Pair = (key, c.args.value) in
     let t : Option (List ℕ) × Option (List ℕ) = (c.args.left, c.args.right) in
-    let f = c.copy_before.new.ahead in
+    let f = c.in_ok-ahead.ahead in
     let w = c.pair.new.self in
     faulted c.copy_from.result _ _
     (ap (λ (x : Option (List ℕ)). onto w (with_first_link x c.skip.new.self)) c.link-link.ensures
@@ -88,12 +82,11 @@ pub returns-in_ok-pair-2-clause-ok : goal.returns-in_ok-pair-2-clause-ok
 returns-in_ok-pair-2-clause-ok g c =
     let key = c.args.key.now in
     let s = shape_from c.args.node.now.left c.args.node.now.entries in
-    let before = cut key s c.in_ok-ahead.ahead c.copy_before.new.ahead c.new-writer.result c.copy_before.new.writer
-    c.in_ok-ahead.ensures c.new-writer.ensures c.in_ok-copy_before.ensures.written c.in_ok-copy_before.ensures.ahead in
+    let before : Cut key s c.in_ok-ahead.writer c.in_ok-ahead.ahead = record { before = c.in_ok-ahead.ensures.written; here = c.in_ok-ahead.ensures.left } in
     let p : Pair = (key, c.args.value) in
     let t : Option (List ℕ) × Option (List ℕ) = (c.args.left, c.args.right) in
     drafted c.copy_from-else-is_at.result _ _
-    (added-cut p t s _ c.copy_before.new.ahead before c.args.left (bytes_of c.from-else-is_at.result)
+    (added-cut p t s _ c.in_ok-ahead.ahead before c.args.left (bytes_of c.from-else-is_at.result)
     c.pair-else-is_at.new.self c.in_ok-pair-2.ensures.ok c.from-else-is_at.ensures
     (sym c.is_at.ensures ∙ c.if-is_at.false) refl)
     c.copy_from-else-is_at.ensures.ok
@@ -102,12 +95,11 @@ pub returns-in_ok-pair-2-clause-fault : goal.returns-in_ok-pair-2-clause-fault
 returns-in_ok-pair-2-clause-fault g c =
     let key = c.args.key.now in
     let s = shape_from c.args.node.now.left c.args.node.now.entries in
-    let before = cut key s c.in_ok-ahead.ahead c.copy_before.new.ahead c.new-writer.result c.copy_before.new.writer
-    c.in_ok-ahead.ensures c.new-writer.ensures c.in_ok-copy_before.ensures.written c.in_ok-copy_before.ensures.ahead in
+    let before : Cut key s c.in_ok-ahead.writer c.in_ok-ahead.ahead = record { before = c.in_ok-ahead.ensures.written; here = c.in_ok-ahead.ensures.left } in
     let p : Pair = (key, c.args.value) in
     let t : Option (List ℕ) × Option (List ℕ) = (c.args.left, c.args.right) in
     faulted c.copy_from-else-is_at.result _ _
-    (added-cut p t s _ c.copy_before.new.ahead before c.args.left (bytes_of c.from-else-is_at.result)
+    (added-cut p t s _ c.in_ok-ahead.ahead before c.args.left (bytes_of c.from-else-is_at.result)
     c.pair-else-is_at.new.self c.in_ok-pair-2.ensures.ok c.from-else-is_at.ensures
     (sym c.is_at.ensures ∙ c.if-is_at.false) refl)
     c.copy_from-else-is_at.ensures.fault

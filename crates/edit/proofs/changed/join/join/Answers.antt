@@ -1,29 +1,26 @@
-use Rattle.std.proofs.Common.{◌++◌, refl}
+use Rattle.std.proofs.Common.{sym}
 use Rattle.std.proofs.lemmas.Result.{err_from_is_err_and}
 use Rattle.paths.specs.ShapeEdit.{with_first_link}
 use Rattle.paths.specs.Sources.{shape_from}
 use Rattle.edit.specs.Ahead.{all_pairs}
-use Rattle.edit.proofs.Changing.{joined, drafted, faulted}
+use Rattle.edit.proofs.Changing.{join-is, joined, drafted, faulted}
 use Rattle.edit.proofs.Cutting.{fault-at}
 use Rattle.edit.proofs.changed.join.join.Goals as goal
 
-pub returns-in_err-copy_before-clause-fault : goal.returns-in_err-copy_before-clause-fault
-returns-in_err-copy_before-clause-fault g c =
-    let e = err_from_is_err_and c.from_residual-in_err-copy_before.result c.from_residual-in_err-copy_before.ensures.1 in
+pub returns-in_err-writer-clause-fault : goal.returns-in_err-writer-clause-fault
+returns-in_err-writer-clause-fault g c =
+    let e = err_from_is_err_and c.from_residual-in_err-writer.result c.from_residual-in_err-writer.ensures.1 in
     let s = shape_from c.args.one.now.left c.args.one.now.entries in
     let t = shape_from c.args.other.now.left c.args.other.now.entries in
-    let w = c.new-writer.result ++ all_pairs c.in_ok-ahead.ahead in
-    rw (e.1, e.2) (fault-at c.in_err-copy_before.field-0.0 w (with_first_link c.args.link t) _
-    (joined s t c.in_ok-ahead.ahead t c.args.link c.new-writer.result w c.in_ok-ahead.ensures refl c.new-writer.ensures refl)
-    c.in_err-copy_before.ensures.fault)
+    rw (e.1, e.2) (fault-at c.in_err-writer.field-0.0 (all_pairs s) (with_first_link c.args.link t) _
+    (sym (join-is s t c.args.link)) c.in_err-writer.ensures.fault)
 
 pub returns-clause-ok : goal.returns-clause-ok
 returns-clause-ok g c =
     let s = shape_from c.args.one.now.left c.args.one.now.entries in
     let t = shape_from c.args.other.now.left c.args.other.now.entries in
     drafted c.copy_from.result _ _
-    (joined s t c.in_ok-ahead.ahead c.in_ok-of.field-0 c.args.link c.new-writer.result c.copy_before.new.writer
-    c.in_ok-ahead.ensures c.in_ok-of.ensures c.new-writer.ensures c.in_ok-copy_before.ensures.written)
+    (joined s t c.in_ok-of.field-0 c.args.link c.in_ok-writer.writer c.in_ok-of.ensures c.in_ok-writer.ensures.written)
     c.copy_from.ensures.ok
 
 pub returns-clause-fault : goal.returns-clause-fault
@@ -31,6 +28,5 @@ returns-clause-fault g c =
     let s = shape_from c.args.one.now.left c.args.one.now.entries in
     let t = shape_from c.args.other.now.left c.args.other.now.entries in
     faulted c.copy_from.result _ _
-    (joined s t c.in_ok-ahead.ahead c.in_ok-of.field-0 c.args.link c.new-writer.result c.copy_before.new.writer
-    c.in_ok-ahead.ensures c.in_ok-of.ensures c.new-writer.ensures c.in_ok-copy_before.ensures.written)
+    (joined s t c.in_ok-of.field-0 c.args.link c.in_ok-writer.writer c.in_ok-of.ensures c.in_ok-writer.ensures.written)
     c.copy_from.ensures.fault

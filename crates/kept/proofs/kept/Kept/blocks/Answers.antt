@@ -1,9 +1,11 @@
-use Rattle.std.proofs.Common.{◌∙◌, ap}
+use Rattle.std.proofs.Common.{subst}
+use Rattle.std.specs.List.Sorted.{IsPermutation}
 use Rattle.kept.specs.Counts.{Keeping, blocks_of}
 use Rattle.kept.specs.Uses.{used_blocks}
-use Rattle.kept.proofs.Listing.{used_before}
+use Rattle.kept.proofs.Listing.{used_shuffled}
 use Rattle.kept.proofs.kept.Kept.blocks.Goals as goal
 
 pub returns : goal.returns
 returns g c =
-    ap used_blocks c.iter.ensures ∙ used_before c.self.inside.blocks ∙ ap (λ (k : Keeping). blocks_of k.before) c.self.view_is
+    subst (λ (k : Keeping). IsPermutation (blocks_of k.before) (used_blocks c.iter.result)) c.self.view_is
+    (used_shuffled c.iter.result c.self.inside.blocks c.iter.ensures.entries c.iter.ensures.distinct)

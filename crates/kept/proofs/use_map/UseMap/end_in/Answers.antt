@@ -1,6 +1,5 @@
-use Rattle.std.proofs.Common.{◌≡◌, true, false}
-use Rattle.std.specs.Prelude.{Some, None}
-use Rattle.kept.specs.Uses.{at, Updated}
+use Rattle.std.proofs.Common.{◌≡◌, ◌<◌, [], arith, length, subst}
+use Rattle.kept.specs.Uses.{at}
 use Rattle.kept.proofs.Entries.{listed_at, shown_at}
 use Rattle.kept.proofs.Leaving.{going_first, going_on, going_last}
 use Rattle.kept.proofs.use_map.UseMap.end_in.Goals as goal
@@ -13,14 +12,13 @@ loop-held-init g c =
 pub loop-held-preserved : goal.loop-held-preserved
 loop-held-preserved g c =
     let es = c.loop-held.blocks.entries in
-    let fs = c.pop_first.new.self.entries in
-    let k = c.in-Some.field-0-0 in
-    let here : listed_at es k ≡ Some c.in-Some.held = c.in-Some.ensures.value in
-    let gone : Updated (listed_at es) (listed_at fs) k None = c.in-Some.ensures.updates.0 in
+    let fs = c.take_one.new.blocks.entries in
+    let taken = c.in-Some.ensures.taken in
     going_on g.D.Digest.digest_of (at c.args.self) (listed_at es) (listed_at fs) c.args.tables.now c.loop-held.tables c.give_back_in.new.tables
-    k c.in-Some.held c.loop-held.invariant here gone c.give_back_in.ensures
+    c.in-Some.field-0-0 c.in-Some.held c.loop-held.invariant taken.here taken.gone c.give_back_in.ensures
 
 pub returns : goal.returns
 returns g c =
     going_last g.D.Digest.digest_of (at c.args.self) c.loop-held.blocks.entries c.args.tables.now c.loop-held.tables c.loop-held.invariant
-    (λ some. let never : false ≡ true = c.in_default.ensures.variant.1 some in absurd cc)
+    (λ some. let none : c.loop-held.blocks.entries ≡ [] = c.in_default.ensures.none in
+    absurd (let never : 0 < 0 = subst (λ xs. 0 < length xs) none some in omega (arith, never)))

@@ -5,14 +5,14 @@ use Rattle.std.proofs.lemmas.Result.{on_err_weaker, IfOk-weaker}
 use Rattle.spec.specs.Cid.{cid as cid_of}
 use Rattle.kept.specs.Uses.{at, Updated, IsUse, is_noted}
 use Rattle.kept.specs.declared.kept_use.Use.{Use}
-use Rattle.kept.proofs.Entries.{listed_at, raised_held, raised_new, same_entry, shown_at, shown_same, shown_raised}
+use Rattle.kept.proofs.Entries.{listed_at, seen_at, seen_updated, raised_held, raised_new, same_entry, shown_at, shown_same, shown_raised}
 use Rattle.kept.proofs.Outcomes.{on_ok_two}
 use Rattle.kept.proofs.use_map.UseMap.raise.Goals as goal
 
 pub raise-requires : goal.raise-requires
 raise-requires g c =
     let k = c.cid-cid.result in
-    let here : Some c.in-Some.held.now ≡ listed_at c.self.inside.blocks.entries k = c.in-Some.ensures.value in
+    let here : Some c.in-Some.held.now ≡ listed_at c.self.inside.blocks.entries k = c.in-Some.ensures.value ∙ seen_at c.self.inside.blocks.entries k in
     let name : k ≡ cid_of g.D.Digest.digest_of (arc_value c.args.block) = c.cid-cid.ensures ∙ ap (cid_of g.D.Digest.digest_of) c.deref.ensures in
     let is = c.requires.uses k c.in-Some.held.now (sym (here ∙ shown_at c.self.inside.blocks.entries c.args.self.now c.self.view_is k)) in
     sym name ∙ is.named
@@ -22,10 +22,11 @@ returns-in-Some-clause-raised g c =
     let es = c.self.inside.blocks.entries in
     let fs = (c.get_mut.follows.lender c.raise.new.self).entries in
     let k = c.cid-cid.result in
-    let here : listed_at es k ≡ Some c.in-Some.held.now = sym c.in-Some.ensures.value in
+    let seen = c.in-Some.ensures.value in
+    let here : listed_at es k ≡ Some c.in-Some.held.now = sym (seen_at es k) ∙ sym seen in
     let name : k ≡ cid_of g.D.Digest.digest_of (arc_value c.args.block) = c.cid-cid.ensures ∙ ap (cid_of g.D.Digest.digest_of) c.deref.ensures in
     let w = c.get_mut.follows.holds c.raise.new.self in
-    let put : Updated (listed_at es) (listed_at fs) k (Some c.raise.new.self) = (w.3 (rw here refl)).0 in
+    let put : Updated (listed_at es) (listed_at fs) k (Some c.raise.new.self) = seen_updated es fs k _ (w.3 (rw (sym seen) refl)).0 in
     let is : IsUse g.D.Digest.digest_of c.args.me k c.in-Some.held.now =
     c.requires.uses k c.in-Some.held.now (sym (shown_at es c.args.self.now c.self.view_is k) ∙ here) in
     on_ok_two c.raise.result
@@ -37,7 +38,7 @@ pub returns-in-Some-clause-fresh : goal.returns-in-Some-clause-fresh
 returns-in-Some-clause-fresh g c =
     let es = c.self.inside.blocks.entries in
     let k = c.cid-cid.result in
-    let here : Some c.in-Some.held.now ≡ listed_at es k = c.in-Some.ensures.value in
+    let here : Some c.in-Some.held.now ≡ listed_at es k = c.in-Some.ensures.value ∙ seen_at es k in
     let name : k ≡ cid_of g.D.Digest.digest_of (arc_value c.args.block) = c.cid-cid.ensures ∙ ap (cid_of g.D.Digest.digest_of) c.deref.ensures in
     IfOk-weaker c.raise.result _ _
     (λ fresh e. e ∙ ap (λ o. not (is_noted o)) (here ∙ shown_at es c.args.self.now c.self.view_is k ∙ ap (at c.args.self.now) name))
@@ -48,9 +49,10 @@ returns-in-Some-clause-unchanged g c =
     let es = c.self.inside.blocks.entries in
     let fs = (c.get_mut.follows.lender c.raise.new.self).entries in
     let k = c.cid-cid.result in
-    let here : listed_at es k ≡ Some c.in-Some.held.now = sym c.in-Some.ensures.value in
+    let seen = c.in-Some.ensures.value in
+    let here : listed_at es k ≡ Some c.in-Some.held.now = sym (seen_at es k) ∙ sym seen in
     let w = c.get_mut.follows.holds c.raise.new.self in
-    let put : Updated (listed_at es) (listed_at fs) k (Some c.raise.new.self) = (w.3 (rw here refl)).0 in
+    let put : Updated (listed_at es) (listed_at fs) k (Some c.raise.new.self) = seen_updated es fs k _ (w.3 (rw (sym seen) refl)).0 in
     on_err_weaker c.raise.result
     (λ e. shown_same es fs c.args.self.now c.self.view_is (same_entry (listed_at es) (listed_at fs) k c.in-Some.held.now c.raise.new.self here put e))
     c.raise.ensures.unchanged
@@ -61,19 +63,19 @@ returns-clause-raised g c =
     let fs = c.insert.new.self.entries in
     let k = c.cid-cid.result in
     let name : k ≡ cid_of g.D.Digest.digest_of (arc_value c.args.block) = c.cid-cid.ensures ∙ ap (cid_of g.D.Digest.digest_of) c.deref.ensures in
-    let none : listed_at es k ≡ None = sym c.in_default.ensures.value in
+    let none : listed_at es k ≡ None = sym (seen_at es k) ∙ sym c.in_default.ensures.value in
     let kept : c.get_mut.follows.lender-at-none.entries ≡ es = ap (λ m. m.entries) c.get_mut.follows.holds-at-none in
     let w : Use g.row.D.Denot g.row.A.Denot = record { hold = c.in_ok-hold.hold; uses = 0; next = 1; noted = true } in
     let a = c.requires.store c.args.store.now c.args.block c.args.me (Ok c.in_ok-hold.hold) c.acquire.new.self c.in_ok-hold.ensures in
     shown_raised g.D.Digest.digest_of c.args.me es fs c.args.self.now (arc_value c.args.block) c.self.view_is
     (raised_new g.D.Digest.digest_of c.args.me (listed_at es) (listed_at fs) (arc_value c.args.block) k w name
     a.hold.0 a.hold.1 refl refl none
-    (subst (λ (xs : List (List ℕ × Use g.row.D.Denot g.row.A.Denot)). Updated (listed_at xs) (listed_at fs) k (Some w)) kept c.in-Ok.ensures.updates.0))
+    (subst (λ (xs : List (List ℕ × Use g.row.D.Denot g.row.A.Denot)). Updated (listed_at xs) (listed_at fs) k (Some w)) kept (seen_updated c.get_mut.follows.lender-at-none.entries fs k _ c.in-Ok.ensures.updates.0)))
 
 pub returns-clause-fresh : goal.returns-clause-fresh
 returns-clause-fresh g c =
     let es = c.self.inside.blocks.entries in
     let k = c.cid-cid.result in
     let name : k ≡ cid_of g.D.Digest.digest_of (arc_value c.args.block) = c.cid-cid.ensures ∙ ap (cid_of g.D.Digest.digest_of) c.deref.ensures in
-    let none : None ≡ listed_at es k = c.in_default.ensures.value in
+    let none : None ≡ listed_at es k = c.in_default.ensures.value ∙ seen_at es k in
     ap (λ o. not (is_noted o)) (none ∙ shown_at es c.args.self.now c.self.view_is k ∙ ap (at c.args.self.now) name)
