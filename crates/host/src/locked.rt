@@ -50,7 +50,10 @@ pub(crate) fn apply_at<D: Digest, const B: u8, R: Wait>(
         return None;
     }
     let mut store = LockedShards::new(rt, shards);
-    Some(core.apply(alloc, &mut store, stamp, writes))
+    match core.apply(alloc, &mut store, stamp, writes) {
+        Ok(applied) => Some(Ok(applied)),
+        Err(refusal) => Some(Err(refusal)),
+    }
 }
 
 /// The record of a key, with the number of accepted writes, where the core is the wanted one.

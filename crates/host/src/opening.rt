@@ -3,7 +3,7 @@
 ghost use Rattle.std.specs.Prelude.{◌≡◌, ◌≤◌, ◌<◌, [], All, length, map, IfOk, IfErr, OnOk, vec_len, vec_capacity};
 ghost use Rattle.notices.specs.Views.{fresh_feed};
 ghost use Rattle.host.specs.Opening.{AreLawful, IsOutOfRange};
-ghost use Rattle.host.specs.Views.{IsSeatOf, fresh_seat, fresh_seats};
+ghost use Rattle.host.specs.Views.{fresh_seat, fresh_seats};
 
 use crate::fault::OpenFault;
 use crate::host::{Host, Opened};
@@ -43,6 +43,7 @@ fn tested(limits: &Limits) -> Result<(), OpenFault>
 
 /// A seat for each pass, with a place for each repository.
 fn seats_of(alloc: Global, passes: Vec<SendPass>, repos: usize) -> Result<Vec<Seat>, AllocError>
+    requires { All (λ p. p.sent ≡ []) passes.items }
     ensures { IfOk result (λ seats. seats.items ≡ map (fresh_seat repos) passes.items) }
 {
     let mut seats = Vec::with_capacity(alloc, passes.len())?;
@@ -129,7 +130,6 @@ impl<D: Digest, const B: u8> Host<D, B> {
             o.feed ≡ fresh_feed o.host.queue.queue_id limits.writers) }
         ensures seats { IfOk result (λ o. o.seats.items
             ≡ fresh_seats o.host.queue.queue_id limits.writers limits.repos) }
-        ensures places { IfOk result (λ o. All (IsSeatOf o.host) o.seats.items) }
     {
         tested(&limits)?;
         let (queue, passes, feed) = Queue::open(alloc, limits.writers, limits.queue)?;

@@ -25,6 +25,8 @@ impl<D: Digest, const B: u8> Host<D, B> {
         requires { repo < self.now.repos }
         ensures { result ≡ wanted_of self.now repo seen }
     {
+        // it is known there that they are few
+        let _ = self.repos();
         Wanted {
             repo: repo as u32,
             limit: self.limit,
