@@ -1,0 +1,17 @@
+//! Tests of hosts: many repositories, writers, what they tell, versions, and the close.
+#![tactic(auto)]
+
+#[cfg(test)]
+mod hosts;
+#[cfg(test)]
+mod opening;
+#[cfg(test)]
+mod queue_of_two;
+#[cfg(test)]
+mod refusals;
+#[cfg(test)]
+mod sharing;
+#[cfg(test)]
+mod threads;
+#[cfg(test)]
+mod versions;
