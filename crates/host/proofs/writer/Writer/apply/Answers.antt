@@ -1,5 +1,10 @@
 use Rattle.std.proofs.Common.{◌≡◌, ◌+◌, ◌∷◌, ◌++◌, [], length, sym, ap, ◌∙◌, subst, arith, length-append, length-set}
 use Rattle.notices.specs.declared.notice.Notice.{Notice}
+use Rattle.std.proofs.Common.{rules}
+use Rattle.std.specs.Prelude.{slice_index}
+use Rattle.batches.specs.Values.{stamp_of, writes_of}
+use Rattle.host.specs.Seeing.{IsAcceptance, wanted_of, wanted_by}
+use Rattle.host.specs.declared.locked.Wanted.{Wanted}
 use Rattle.host.specs.Views.{IsOrderly}
 use Rattle.host.proofs.Keeping.{orderly_push}
 use Rattle.host.proofs.writer.Writer.apply.Goals as goal
@@ -17,3 +22,11 @@ invariant_of-self-2 g c =
       room = i.room;
       places = length-set c.self.inside.seen.items c.args.repo a.number ∙ i.places;
     }
+
+pub returns-clause-accepted : goal.returns-clause-accepted
+returns-clause-accepted g c =
+    let a = c.in-Ok-apply.applied in
+    let host : c.self.inside.host.now ≡ c.args.self.now.host = search rules in
+    let seen : c.index.result.now ≡ slice_index c.args.self.now.seen c.args.repo = search rules in
+    let same : wanted_of c.self.inside.host.now c.args.repo c.index.result.now ≡ wanted_by c.args.self.now c.args.repo = λ j. wanted_of (host j) c.args.repo (seen j) in
+    subst (λ (w : Wanted). IsAcceptance g.D.Digest.digest_of g.row.B w (stamp_of c.args.stamp.now) (writes_of c.args.writes.now) a.number a.root) same c.in-Ok-apply.ensures.accepted
