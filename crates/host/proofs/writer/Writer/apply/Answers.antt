@@ -1,6 +1,7 @@
 use Rattle.std.proofs.Common.{◌≡◌, ◌+◌, ◌∷◌, ◌++◌, [], length, sym, ap, ◌∙◌, subst, arith, length-append, length-set}
 use Rattle.notices.specs.declared.notice.Notice.{Notice}
-use Rattle.std.proofs.Common.{rules}
+use Rattle.std.proofs.Common.{rules, ◌<◌}
+use Rattle.std.proofs.lemmas.List.{get_or_default}
 use Rattle.std.specs.Prelude.{slice_index}
 use Rattle.batches.specs.Values.{stamp_of, writes_of}
 use Rattle.host.specs.Seeing.{IsAcceptance, wanted_of, wanted_by}
@@ -27,6 +28,8 @@ pub returns-clause-accepted : goal.returns-clause-accepted
 returns-clause-accepted g c =
     let a = c.in-Ok-apply.applied in
     let host : c.self.inside.host.now ≡ c.args.self.now.host = search rules in
-    let seen : c.index.result.now ≡ slice_index c.args.self.now.seen c.args.repo = search rules in
+    let same_seen : c.self.inside.seen.items ≡ c.args.self.now.seen = search rules in
+    let place : c.args.repo < length c.self.inside.seen.items = search rules in
+    let seen : c.index.result.now ≡ slice_index c.args.self.now.seen c.args.repo = c.index.ensures ∙ get_or_default c.self.inside.seen.items c.args.repo c.index.result.now 0 place ∙ ap (λ xs. slice_index xs c.args.repo) same_seen in
     let same : wanted_of c.self.inside.host.now c.args.repo c.index.result.now ≡ wanted_by c.args.self.now c.args.repo = λ j. wanted_of (host j) c.args.repo (seen j) in
     subst (λ (w : Wanted). IsAcceptance g.D.Digest.digest_of g.row.B w (stamp_of c.args.stamp.now) (writes_of c.args.writes.now) a.number a.root) same c.in-Ok-apply.ensures.accepted
