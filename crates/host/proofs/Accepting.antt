@@ -8,7 +8,7 @@ use Rattle.spec.specs.States.{State, IsLawful, after_batch, state_test, state_ro
 use Rattle.repo.specs.Refusals.{IsApplied}
 use Rattle.repo.specs.declared.applied.Applied.{Applied}
 use Rattle.host.specs.Seeing.{IsSeen, IsAcceptance}
-use Rattle.host.specs.Versions.{IsVersion, IsOfState, version_writes}
+use Rattle.host.specs.Versions.{IsVersion, version_writes}
 use Rattle.host.specs.declared.locked.Wanted.{Wanted}
 use Rattle.host.specs.declared.version.Version.{Version}
 

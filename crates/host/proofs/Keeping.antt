@@ -4,7 +4,7 @@ use Rattle.std.proofs.lemmas.List.Elements.{All-push}
 use Rattle.notices.specs.declared.notice.Notice.{Notice}
 use Rattle.notices.specs.Numbering.{NumberedFrom}
 use Rattle.notices.specs.Views.{PassView, sent_one}
-use Rattle.std.proofs.Common.{ℕ, ◌∙◌, sym, ap}
+use Rattle.std.proofs.Common.{ℕ}
 use Rattle.closing.specs.Ending.{told}
 use Rattle.host.specs.Views.{IsOrderly}
 

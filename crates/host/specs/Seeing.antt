@@ -1,5 +1,5 @@
 -- What a call sees of a repository: each answer is right for a lawful state of this repository.
-use Rattle.std.specs.Prelude.{◌≡◌, ◌≤◌, ◌<◌, ℕ, List, length, Option, Ok, slice_index}
+use Rattle.std.specs.Prelude.{◌≡◌, ◌≤◌, ℕ, List, length, Option, Ok, slice_index}
 use Rattle.spec.specs.Stamps as stamps
 use Rattle.spec.specs.Writes as writes
 use Rattle.spec.specs.Tree.{Pair}

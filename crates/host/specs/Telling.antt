@@ -1,5 +1,5 @@
 -- What a writer's calls tell and refuse.
-use Rattle.std.specs.Prelude.{◌≡◌, ◌≤◌, ◌<◌, ◌-◌, ◌^◌, ◌+◌, ◌%◌, ◌++◌, ◌∷◌, [], ℕ, List, Option, length}
+use Rattle.std.specs.Prelude.{◌≡◌, ◌≤◌, ◌<◌, ◌-◌, ◌^◌, ◌+◌, ◌%◌, ℕ, List, Option, length}
 use Rattle.spec.specs.Tree.{Pair}
 use Rattle.batches.specs.Values.{stamp_of, writes_of}
 use Rattle.batches.specs.declared.stamp.Stamp.{Stamp}

@@ -1,5 +1,5 @@
 -- What a contract sees of a host and of its writers.
-use Rattle.std.specs.Prelude.{◌≡◌, ◌+◌, ℕ, List, [], ◌∷◌, length, map, replicate, slice_set, All}
+use Rattle.std.specs.Prelude.{◌≡◌, ◌+◌, ℕ, List, [], length, map, replicate, slice_set, All}
 use Rattle.boxcar.specs.Table.{Shelves}
 use Rattle.notices.specs.declared.notice.Notice.{Notice}
 use Rattle.notices.specs.Numbering.{NumberedFrom}

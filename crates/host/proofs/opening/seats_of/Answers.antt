@@ -2,7 +2,7 @@ use Rattle.std.proofs.Common.{◌≡◌, ◌∙◌, ◌∷◌, ◌++◌, [], sym
 use Rattle.std.proofs.lemmas.List.{map-append}
 use Rattle.std.proofs.lemmas.List.Elements.{All-rest}
 use Rattle.notices.specs.Views.{PassView}
-use Rattle.host.specs.Views.{SeatView, fresh_seat}
+use Rattle.host.specs.Views.{fresh_seat}
 use Rattle.host.proofs.opening.seats_of.Goals as goal
 
 pub loop-pass-preserved : goal.loop-pass-preserved
