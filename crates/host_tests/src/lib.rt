@@ -12,6 +12,4 @@ mod refusals;
 #[cfg(test)]
 mod sharing;
 #[cfg(test)]
-mod threads;
-#[cfg(test)]
 mod versions;
