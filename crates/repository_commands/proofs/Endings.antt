@@ -36,7 +36,7 @@ module _ {D A : Type 0} (text : Texts) (input old new : Option (List ℕ)) where
   fails_writing (Err f) = is_write_failure f
 
   -- there is no text
-  pub no_text : (f : CommandFault D A) → is_write_failure f ≡ false → Keeps old new → IfSome input (λ xs. Fails (fault_of f) (text xs)) → IsOutcome {D} {A} text input old new (Err f)
+  pub no_text : (f : CommandFault D A) → is_write_failure f ≡ false → Keeps old new → IfSome input (λ xs. Fails (fault_of f) (text xs)) → IsOutcome {D = D} {A = A} text input old new (Err f)
   no_text f kind kept fault = record {
     written = tt;
     fault = fault;
@@ -46,7 +46,7 @@ module _ {D A : Type 0} (text : Texts) (input old new : Option (List ℕ)) where
   }
 
   -- it was written
-  pub whole_text : (t : List ℕ) → IfSome input (λ xs. text xs ≡ Ok t) → Appends old new t → IsOutcome {D} {A} text input old new (Ok tt)
+  pub whole_text : (t : List ℕ) → IfSome input (λ xs. text xs ≡ Ok t) → Appends old new t → IsOutcome {D = D} {A = A} text input old new (Ok tt)
   whole_text t made wrote_it = record {
     written = for_known _ _ input (λ xs e. wrote old new (text xs) t e wrote_it) made;
     fault = tt;
@@ -55,7 +55,7 @@ module _ {D A : Type 0} (text : Texts) (input old new : Option (List ℕ)) where
     beginning = tt;
   }
 
-  some_written : (t : List ℕ) (w : WriteFault) → IfSome input (λ xs. text xs ≡ Ok t) → AppendsBeginning old new t → IsOutcome {D} {A} text input old new (Err (of_write w))
+  some_written : (t : List ℕ) (w : WriteFault) → IfSome input (λ xs. text xs ≡ Ok t) → AppendsBeginning old new t → IsOutcome {D = D} {A = A} text input old new (Err (of_write w))
   some_written t writes.NoMemory made wrote_it = record {
     written = tt;
     fault = always_known _ input (λ xs. tt);
@@ -72,12 +72,12 @@ module _ {D A : Type 0} (text : Texts) (input old new : Option (List ℕ)) where
   }
 
   -- a beginning of it was
-  pub some_text : (t : List ℕ) (w : WriteFault) (f : CommandFault D A) → f ≡ of_write w → IfSome input (λ xs. text xs ≡ Ok t) → AppendsBeginning old new t → IsOutcome {D} {A} text input old new (Err f)
-  some_text t w f e made wrote_it = subst (λ (g : CommandFault D A). IsOutcome {D} {A} text input old new (Err g)) (sym e) (some_written t w made wrote_it)
+  pub some_text : (t : List ℕ) (w : WriteFault) (f : CommandFault D A) → f ≡ of_write w → IfSome input (λ xs. text xs ≡ Ok t) → AppendsBeginning old new t → IsOutcome {D = D} {A = A} text input old new (Err f)
+  some_text t w f e made wrote_it = subst (λ (g : CommandFault D A). IsOutcome {D = D} {A = A} text input old new (Err g)) (sym e) (some_written t w made wrote_it)
 
 -- ---- the exit status
 
-module _ {D A : Type 0} (text : Texts) (input old new : Option (List ℕ)) where
+module _ (text : Texts) (input old new : Option (List ℕ)) where
   pub status_done : (status : ℕ) → status ≡ 0 → IfSome input (λ xs. AppendsText old new (text xs)) → IsStatusOf text input old new status
   status_done status is written = record {
     one_of = omega (arith, is);
@@ -110,7 +110,7 @@ module _ {D A : Type 0} (text : Texts) (input old new : Option (List ℕ)) where
     usage = λ e. omega (arith, is, e);
   }
 
-  pub status_faulty : (f : CommandFault D A) (status : ℕ) → status ≡ status_of f → (may_have_written f ≡ false → Keeps old new) → IsStatusOf text input old new status
+  pub status_faulty : {D A : Type 0} (f : CommandFault D A) (status : ℕ) → status ≡ status_of f → (may_have_written f ≡ false → Keeps old new) → IsStatusOf text input old new status
   status_faulty errors.NoMemory status is nothing = status_without_memory status is
   status_faulty errors.ReadFailed status is nothing = status_failed status is
   status_faulty errors.WriteFailed status is nothing = status_failed status is

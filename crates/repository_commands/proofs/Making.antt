@@ -36,7 +36,7 @@ module _ {X D A : Type 0} (view : X → List ℕ) (text : Texts) (input : Option
   pub made_by_fault : (f : CommandFault D A) → IsErrAnd r (λ e. e ≡ f) → ((xs : List ℕ) → Fails (fault_of f) (text xs)) → IsMade view text input r
   made_by_fault f e fails = passed (IsMade view text input) r f e (always_known (λ xs. Fails (fault_of f) (text xs)) input fails)
 
-  unread : (w : ReadFault) → IsMade view text input (Err (of_read {D} {A} w))
+  unread : (w : ReadFault) → IsMade view text input (Err (of_read {D = D} {A = A} w))
   unread reads.NoMemory = always_known _ input (λ xs. tt)
   unread reads.Failed = always_known _ input (λ xs. tt)
 

@@ -138,6 +138,8 @@ fn number_at(numbers: &[u64], place: usize) -> u64
 fn check_end<D: Digest, A: Allocator>(stop: Option<u64>) -> Result<(), CommandFault<D, A>>
     ensures check { Gives (λ ok. ok) fault_of result (unless_stopped stop) }
     ensures line { IfErr result (λ e. IfSome stop (λ n. e ≡ bad_line n)) }
+    ensures input { IfErr result (λ e. is_of_words e ≡ false) }
+    ensures kind { IfErr result (λ e. is_write_failure e ≡ false) }
 {
     match stop {
         None => Ok(()),

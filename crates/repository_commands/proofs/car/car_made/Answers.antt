@@ -22,4 +22,4 @@ returns-clause-made g c =
     let stamp = stamp_of c.args.stamp.now in
     let given = given_of c.in_ok-puts.puts in
     made_of (λ v. v.items) (car_text digest stamp) (g.R.Read.remaining c.args.input.now) c.car_of_puts.result (λ xs. given ≡ given_in xs) c.in_ok-puts.ensures
-    (λ xs e. subst (Gives (λ v. v.items) fault_of c.car_of_puts.result) (sym (car_checked digest stamp given xs c.in_ok-check_stamp.ensures e)) c.car_of_puts.ensures.file)
+    (λ xs e. subst (Gives (λ v. v.items) fault_of c.car_of_puts.result) (sym (car_checked digest stamp given xs c.in_ok-check_stamp.ensures.check e)) c.car_of_puts.ensures.file)
