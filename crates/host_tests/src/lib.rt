@@ -10,6 +10,4 @@ mod queue_of_two;
 #[cfg(test)]
 mod refusals;
 #[cfg(test)]
-mod sharing;
-#[cfg(test)]
 mod versions;

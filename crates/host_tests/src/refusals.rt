@@ -55,9 +55,9 @@ fn are_refused<R: Wait + Abort>(rt: &R, alloc: Global) -> bool {
     } = opened;
     let seat = seats.pop().expect(rt, "a seat");
     let mut writer = host.writer(seat);
-    let mut turn = 0;
+    let mut turn = 0u16;
     for (repo, steps, wanted) in ROWS {
-        turn += 1;
+        turn = turn.saturating_add(1);
         if apply_steps(rt, alloc, &mut writer, repo, turn, steps) != wanted {
             return false;
         }
