@@ -1,0 +1,5 @@
+pub mod Opening
+pub mod Views
+pub mod Seeing
+pub mod Versions
+pub mod Telling

@@ -1,0 +1,67 @@
+-- What a call sees of a repository: each answer is right for a lawful state of this repository.
+use Rattle.std.specs.Prelude.{◌≡◌, ◌≤◌, ℕ, List, length, Option, Ok, slice_index}
+use Rattle.spec.specs.Stamps as stamps
+use Rattle.spec.specs.Writes as writes
+use Rattle.spec.specs.Tree.{Pair}
+use Rattle.spec.specs.States.{State, IsLawful, after_batch, state_test, state_root}
+use Rattle.batches.specs.Values.{stamp_of, writes_of}
+use Rattle.batches.specs.declared.stamp.Stamp.{Stamp}
+use Rattle.batches.specs.declared.write.Write.{Write}
+use Rattle.batches.specs.declared.fault.RepoFault.{RepoFault}
+use Rattle.repo.specs.Readings.{record_at, pairs_from}
+use Rattle.repo.specs.Refusals.{IsRefusal}
+use Rattle.repo.specs.declared.applied.Applied.{Applied}
+use Rattle.host.specs.Views.{HostView, WriterView}
+use Rattle.host.specs.declared.locked.Wanted.{Wanted}
+
+-- the repository of this number, of which so many accepted writes were seen
+abbrev pub wanted_of : HostView → ℕ → ℕ → Wanted
+wanted_of host repo seen = record { repo = repo; limit = host.limit; seen = seen }
+
+-- the same by what a writer has seen there
+abbrev pub wanted_by : WriterView → ℕ → Wanted
+wanted_by w repo = wanted_of w.host repo (slice_index w.seen repo)
+
+-- a lawful state of the wanted repository, of at least as many writes as were seen there
+pub record IsSeen (w : Wanted) (s : State) : Type 0 where
+  pub lawful : IsLawful s
+  pub me_is : s.me ≡ w.repo
+  pub limit_is : s.limit ≡ w.limit
+  pub long : w.seen ≤ length s.accepted
+
+-- the batch was taken after such a state, and these are the number of writes and the root after it
+abbrev pub IsAcceptance : (List ℕ → List ℕ) → ℕ → Wanted → stamps.Stamp → List writes.Write → ℕ
+    → List ℕ → Type 0
+IsAcceptance digest bits w stamp batch number root = (before : State)
+    × IsSeen w before
+    × (state_test before stamp batch ≡ Ok tt)
+    × IsLawful (after_batch before stamp batch)
+    × (number ≡ length (after_batch before stamp batch).accepted)
+    × (root ≡ state_root digest bits (after_batch before stamp batch))
+
+-- the batch was refused after such a state, at this write with this fault
+abbrev pub IsRefusalAfter : {D A : Type 0} → (List ℕ → List ℕ) → ℕ → Wanted → stamps.Stamp
+    → List writes.Write → ℕ × RepoFault D A → Type 0
+IsRefusalAfter digest bits w stamp batch e = (before : State) × IsSeen w before
+    × ((full : ℕ) × (fuller : ℕ) × IsRefusal digest bits before stamp batch full fuller e)
+
+-- both, of a batch as it is given
+abbrev pub IsTaken : {A : Type 0} → (List ℕ → List ℕ) → ℕ → Wanted → Stamp A → List (Write A)
+    → Applied → Type 0
+IsTaken digest bits w stamp batch a =
+    IsAcceptance digest bits w (stamp_of stamp) (writes_of batch) a.number a.root
+
+abbrev pub IsRefusedSo : {A D X : Type 0} → (List ℕ → List ℕ) → ℕ → Wanted → Stamp A
+    → List (Write A) → ℕ × RepoFault D X → Type 0
+IsRefusedSo digest bits w stamp batch e =
+    IsRefusalAfter digest bits w (stamp_of stamp) (writes_of batch) e
+
+-- the record of a key by such a state, and how many writes that has
+abbrev pub IsFound : Wanted → List ℕ → ℕ → Option (List ℕ) → Type 0
+IsFound w key number found = (s : State) × IsSeen w s
+    × (number ≡ length s.accepted) × (found ≡ record_at s key)
+
+-- the first pairs from a key on by such a state, and how many writes that has
+abbrev pub IsListed : (List ℕ → List ℕ) → Wanted → List ℕ → ℕ → ℕ → List Pair → Type 0
+IsListed digest w from most number found = (s : State) × IsSeen w s
+    × (number ≡ length s.accepted) × (found ≡ pairs_from digest s from most)

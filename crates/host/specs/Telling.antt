@@ -1,0 +1,77 @@
+-- What a writer's calls tell and refuse.
+use Rattle.std.specs.Prelude.{◌≡◌, ◌≤◌, ◌<◌, ◌-◌, ◌^◌, ◌+◌, ◌%◌, ℕ, List, Option, length}
+use Rattle.spec.specs.Tree.{Pair}
+use Rattle.batches.specs.Values.{stamp_of, writes_of}
+use Rattle.batches.specs.declared.stamp.Stamp.{Stamp}
+use Rattle.batches.specs.declared.write.Write.{Write}
+use Rattle.notices.specs.Views.{WasFull}
+use Rattle.notices.specs.declared.notice.Notice.{Notice}
+use Rattle.closing.specs.Ending.{told}
+use Rattle.host.specs.declared.fault.HostFault.{HostFault}
+use Rattle.host.specs.declared.fault.HostFault.TheVariants as faults
+use Rattle.host.specs.Views.{HostView, WriterView, with_seen}
+use Rattle.host.specs.Seeing.{IsAcceptance, IsRefusedSo, IsFound, IsListed, wanted_by}
+
+-- the notices of a writer's accepted calls, in order
+abbrev pub told_by_writer : WriterView → List Notice
+told_by_writer w = told w.pass w.kept
+
+-- the number of the last accepted call is the greatest one
+abbrev pub HasNoNumber : WriterView → Type 0
+HasNoNumber w = length (told_by_writer w) ≡ 2 ^ 64 - 1
+
+-- What each fault of a batch says: there is no such repository; the batch is refused after a lawful
+-- state of this repository and this limit, of at least as many writes as were seen; want of memory;
+-- there is no number for one more accepted call.
+abbrev pub IsFault : {A D X : Type 0} → (List ℕ → List ℕ) → ℕ → WriterView → ℕ → Stamp A
+    → List (Write A) → HostFault D X → Type 0
+IsFault digest bits w repo stamp batch faults.NoSuchRepository = w.host.repos ≤ repo
+IsFault digest bits w repo stamp batch (faults.Refused place fault) = (repo < w.host.repos)
+    × IsRefusedSo digest bits (wanted_by w repo) stamp batch (place, fault)
+IsFault digest bits w repo stamp batch faults.NoMemory = repo < w.host.repos
+IsFault digest bits w repo stamp batch faults.SeqFull = (repo < w.host.repos) × HasNoNumber w
+
+-- what each fault of a reading call says
+abbrev pub IsReadFault : {D A : Type 0} → HostView → ℕ → HostFault D A → Type 0
+IsReadFault h repo faults.NoSuchRepository = h.repos ≤ repo
+IsReadFault h repo (faults.Refused place fault) = ⊥
+IsReadFault h repo faults.NoMemory = repo < h.repos
+IsReadFault h repo faults.SeqFull = ⊥
+
+-- the host and the writer's number are as before
+pub record IsSame (old new : WriterView) : Type 0 where
+  pub host : new.host ≡ old.host
+  pub queue : new.pass.queue_id ≡ old.pass.queue_id
+  pub writer : new.pass.writer ≡ old.pass.writer
+
+-- the notice is this writer's next one, and of this repository
+pub record IsTold (old : WriterView) (repo : ℕ) (n : Notice) : Type 0 where
+  pub writer : n.writer ≡ old.pass.writer
+  pub seq : n.seq ≡ length (told_by_writer old) + 1
+  pub repo_is : n.repo ≡ repo
+
+-- the notice is of a batch that was taken after a lawful state of this repository, of at least as
+-- many writes as were seen
+abbrev pub IsOfBatch : {A : Type 0} → (List ℕ → List ℕ) → ℕ → WriterView → ℕ → Stamp A
+    → List (Write A) → Notice → Type 0
+IsOfBatch digest bits w repo stamp batch n =
+    IsAcceptance digest bits (wanted_by w repo) (stamp_of stamp) (writes_of batch) n.number n.root
+
+-- The record of the key by a lawful state of this repository, of at least as many writes as were
+-- seen; and how many it has is what was seen now.
+abbrev pub HasFound : WriterView → WriterView → ℕ → List ℕ → Option (List ℕ) → Type 0
+HasFound old new repo key found = (number : ℕ)
+    × IsFound (wanted_by old repo) key number found
+    × (new ≡ with_seen old repo number)
+
+-- the first pairs from a key on, likewise
+abbrev pub HasListed : (List ℕ → List ℕ) → WriterView → WriterView → ℕ → List ℕ → ℕ → List Pair
+    → Type 0
+HasListed digest old new repo from most found = (number : ℕ)
+    × IsListed digest (wanted_by old repo) from most number found
+    × (new ≡ with_seen old repo number)
+
+-- a notice is kept only where the queue was full, and gave one back
+abbrev pub IsPushed : WriterView → WriterView → Type 0
+IsPushed old new = 0 < length new.kept
+    → WasFull new.host.queue.room new.pass × (new.refused ≡ (old.refused + 1) % 2 ^ 64)

@@ -1,0 +1,168 @@
+//! The host, and its close.
+
+ghost use Rattle.std.specs.Prelude.{◌≡◌, ◌≤◌, [], length, All, IfOk, IfErr, vec_len, vec_capacity};
+ghost use Rattle.boxcar.specs.Table.{Shows};
+ghost use Rattle.closing.specs.Ending.{IsEndedAt, joined_all};
+ghost use Rattle.closing.specs.Settling.{IsSettled, IsUneven};
+ghost use Rattle.host.specs.Versions.{IsVersion};
+ghost use Rattle.host.specs.Views.{IsSeatOf, beginning};
+
+use crate::seat::Seat;
+use crate::version::{Receipt, Shelf, Version};
+use crate::writer::Writer;
+use cid::Digest;
+use closing::{Closed, Ended, Feed, Taker, Uneven, close, end_all};
+use notices::Queue;
+use repo::{Core, Repository};
+use std::alloc::Global;
+use std::marker::Model;
+use store::Shards;
+
+/// Many repositories, each behind its own lock, the shards with their blocks, the queue of notices, and the published versions.
+///
+/// Threads share it by reference. A call takes the lock of its repository first, and then that of one shard at a time. One that
+/// is dropped gives its blocks back, as one that closes does.
+///
+/// A contract sees its queue, its published versions, how many repositories it has, and how many writes each may have.
+pub struct Host<D: Digest, const B: u8> {
+    pub(crate) queue: Queue,
+    pub(crate) repositories: Vec<Repository<D, B>>,
+    pub(crate) limit: usize,
+    pub(crate) shards: Shards<D>,
+    // for the cores, at the close
+    pub(crate) room: Vec<Core<D, B>>,
+    pub(crate) shelf: Shelf<D, B>,
+}
+
+impl<D: Digest, const B: u8> Model for Host<D, B> {
+    ghost use Rattle.std.specs.Prelude.{◌≡◌, ◌≤◌, length, vec_len, vec_capacity};
+    ghost use Rattle.host.specs.Views.{HostView};
+
+    ghost Value = { HostView };
+
+    ghost view = { λ h. record {
+      queue = h.queue;
+      shelf = h.shelf;
+      repos = length h.repositories.items;
+      limit = h.limit;
+    } };
+
+    ghost invariant = { λ h. (vec_len h.room ≡ 0) × (vec_len h.repositories ≤ vec_capacity h.room)
+        × (length h.repositories.items ≤ 1024) };
+}
+
+/// A host that was opened: a seat for each writer, in the order of their numbers, and the feed of its queue.
+#[derive(Drop)]
+pub struct Opened<D: Digest, const B: u8> {
+    /// The host.
+    pub host: Host<D, B>,
+    /// The seat of each writer, at the place of its number.
+    pub seats: Vec<Seat>,
+    /// The feed.
+    pub feed: Feed,
+}
+
+impl<D: Digest, const B: u8> Host<D, B> {
+    /// How many repositories there are.
+    pub fn repos(&self) -> usize
+        ensures repos { result ≡ self.now.repos }
+        ensures few { result ≤ 1024 }
+    {
+        self.repositories.len()
+    }
+
+    /// The writer of this seat, which must be of this host. It takes no memory.
+    pub fn writer(&self, seat: Seat) -> Writer<'_, D, B>
+        requires { IsSeatOf self.now seat }
+        ensures { result ≡ beginning self.now seat }
+    {
+        let Seat { pass, kept, seen } = seat;
+        Writer {
+            host: self,
+            sender: self.queue.sender(pass),
+            kept,
+            last: 0,
+            seen,
+        }
+    }
+
+    /// The one that takes notices, by this feed, which must be of this host. It takes no memory.
+    pub fn taker(&self, feed: Feed) -> Taker<'_>
+        requires { feed.queue_id ≡ self.now.queue.queue_id }
+        ensures { result ≡ feed }
+    {
+        feed.taker(&self.queue)
+    }
+
+    /// The version of a receipt, which must be of this host: the same for good, on any thread. It takes no lock and no memory.
+    pub fn version<'a>(&'a self, receipt: &Receipt<D, B>) -> &'a Version
+        requires { Shows self.now.shelf receipt.now }
+        ensures value { result.now ≡ receipt.now.value }
+        ensures lawful { IsVersion D.digest_of B result.now }
+    {
+        self.shelf.version(receipt)
+    }
+}
+
+/// The cores, out of their locks, in order. There is room for all of them.
+fn take_out<D: Digest, const B: u8>(
+    repositories: Vec<Repository<D, B>>,
+    mut room: Vec<Core<D, B>>,
+) -> Vec<Core<D, B>>
+    requires empty { vec_len room ≡ 0 }
+    requires enough { vec_len repositories ≤ vec_capacity room }
+    ensures { vec_len result ≡ vec_len repositories }
+{
+    let mut left = repositories.into_iter();
+    while let Some(repository) = left.next() {
+        let Repository { lock } = repository;
+        room.push_reserved(lock.into_inner());
+    }
+    left.destroy_empty();
+    room
+}
+
+impl<D: Digest, const B: u8> Drop for Host<D, B> {
+    fn drop(self) {
+        let Host {
+            queue: _,
+            repositories,
+            limit: _,
+            shards,
+            room,
+            shelf: _,
+        } = self;
+        end_all(take_out(repositories, room), shards.tables());
+    }
+}
+
+impl<D: Digest, const B: u8> Host<D, B> {
+    /// Takes cores and tables out of their locks, and compares them with each other and with what writers have seen.
+    ///
+    /// These must be all writers and the feed that `Host::open` gave. Where all agree, it answers the closed host; otherwise
+    /// `Uneven`, which shows in what they don't agree, and holds these very cores and tables. It takes no memory.
+    pub fn close(self, ended: Vec<Ended>, feed: Feed) -> Result<Closed<D, B>, Uneven<D, B>>
+        requires feed { feed.queue_id ≡ self.queue.queue_id }
+        requires fresh { feed.joined ≡ [] }
+        requires ended { All (IsEndedAt self.queue.queue_id self.repos) ended.items }
+        requires all { length ended.items ≡ feed.made }
+        ensures cores { IfOk result (λ c. length c.cores ≡ self.repos) }
+        ensures ended { IfOk result (λ c. c.ended ≡ ended.items) }
+        ensures joined { IfOk result (λ c. c.feed ≡ joined_all feed ended.items) }
+        ensures settled { IfOk result (λ c. IsSettled D.digest_of B c.cores c.tables c.ended) }
+        ensures same { IfErr result (λ u. u.ended ≡ ended.items) }
+        ensures uneven { IfErr result (λ u. IsUneven D.digest_of B u.cores u.tables u.ended
+            u.mismatch) }
+    {
+        let Host {
+            queue,
+            repositories,
+            limit: _,
+            shards,
+            room,
+            shelf: _,
+        } = self;
+        let cores = take_out(repositories, room);
+        close(queue, feed, ended, cores, shards.tables())
+    }
+}

@@ -1,0 +1,101 @@
+//! What a call does to a core whose lock it has.
+//!
+//! No contract can say which lock was taken. So each of these passes over a core that isn't the wanted one: one of another
+//! number, of another limit, or of fewer accepted writes than its caller has seen. The caller then lets the lock go and tries
+//! again.
+
+ghost use Rattle.std.specs.Prelude.{◌≡◌, IsTrue, IfOk, IfErr, IfSome, option_map};
+ghost use Rattle.edit.specs.Walks.{pairs_given};
+ghost use Rattle.host.specs.Seeing.{IsSeen, IsTaken, IsRefusedSo, IsFound, IsListed};
+
+use batches::{RepoFault, Stamp, Write};
+use cid::{Cid, Digest};
+use repo::{Applied, Core};
+use std::alloc::{AllocError, Global};
+use std::sync::Wait;
+use store::{LockedShards, Shards};
+
+/// Which repository a call wants: its number, how many writes it may have, and how many accepted writes the caller has seen
+/// there.
+#[derive(Clone, Copy)]
+pub(crate) struct Wanted {
+    pub(crate) repo: u32,
+    pub(crate) limit: usize,
+    pub(crate) seen: u64,
+}
+
+/// Whether the core is of the wanted repository, and has no fewer accepted writes than were seen there.
+pub(crate) fn is_wanted<D: Digest, const B: u8>(core: &Core<D, B>, wanted: Wanted) -> bool
+    ensures { IsTrue result → IsSeen wanted core.now }
+{
+    core.me() == wanted.repo && core.limit() == wanted.limit && wanted.seen <= core.number()
+}
+
+/// Applies the batch, where the core is the wanted one.
+pub(crate) fn apply_at<D: Digest, const B: u8, R: Wait>(
+    rt: &R,
+    alloc: Global,
+    shards: &Shards<D>,
+    core: &mut Core<D, B>,
+    wanted: Wanted,
+    stamp: &Stamp,
+    writes: &[Write],
+) -> Option<Result<Applied, (usize, RepoFault<D>)>>
+    ensures accepted { IfSome result
+        (λ r. IfOk r (IsTaken D.digest_of B wanted stamp.now writes.now)) }
+    ensures refused { IfSome result
+        (λ r. IfErr r (IsRefusedSo D.digest_of B wanted stamp.now writes.now)) }
+{
+    if !is_wanted(core, wanted) {
+        return None;
+    }
+    let mut store = LockedShards::new(rt, shards);
+    match core.apply(alloc, &mut store, stamp, writes) {
+        Ok(applied) => Some(Ok(applied)),
+        Err(refusal) => Some(Err(refusal)),
+    }
+}
+
+/// The record of a key, with the number of accepted writes, where the core is the wanted one.
+pub(crate) fn record_in<D: Digest, const B: u8>(
+    alloc: Global,
+    core: &Core<D, B>,
+    wanted: Wanted,
+    key: &[u8],
+) -> Option<Result<(u64, Option<Vec<u8>>), AllocError>>
+    ensures { IfSome result (λ o. IfOk o (λ r.
+        IsFound wanted key.now r.0 (option_map (λ v. v.items) r.1))) }
+{
+    if !is_wanted(core, wanted) {
+        return None;
+    }
+    let number = core.number();
+    match core.get(key) {
+        None => Some(Ok((number, None))),
+        Some(block) => match Vec::from_slice(alloc, block.bytes()) {
+            Ok(bytes) => Some(Ok((number, Some(bytes)))),
+            Err(_) => Some(Err(AllocError)),
+        },
+    }
+}
+
+/// The first pairs from a key on, with the number of accepted writes, where the core is the wanted one.
+pub(crate) fn pairs_in<D: Digest, const B: u8>(
+    alloc: Global,
+    core: &Core<D, B>,
+    wanted: Wanted,
+    from: &[u8],
+    limit: usize,
+) -> Option<Result<(u64, Vec<(Vec<u8>, Cid)>), AllocError>>
+    ensures { IfSome result (λ o. IfOk o (λ r.
+        IsListed D.digest_of wanted from.now limit r.0 (pairs_given r.1.items))) }
+{
+    if !is_wanted(core, wanted) {
+        return None;
+    }
+    let number = core.number();
+    match core.list(alloc, from, limit) {
+        Ok(pairs) => Some(Ok((number, pairs))),
+        Err(refused) => Some(Err(refused)),
+    }
+}

@@ -1,0 +1,143 @@
+//! Published versions, which are read without a lock.
+
+ghost use Rattle.std.specs.Prelude.{◌≡◌, IfOk, IfErr, IfSome};
+ghost use Rattle.boxcar.specs.Table.{Shows};
+ghost use Rattle.batches.specs.Values.{shared_writes};
+ghost use Rattle.host.specs.Versions.{IsVersion, IsOfState};
+
+use crate::locked::{Wanted, is_wanted};
+use batches::Write;
+use boxcar::tag::Tag;
+use boxcar::{Keeps, Pushed};
+use cid::{Cid, Digest};
+use repo::Core;
+use std::alloc::{AllocError, Global};
+use std::marker::{Model, PhantomData};
+use std::sync::{Arc, Wait};
+
+/// What a repository was at some moment.
+#[derive(Drop)]
+pub struct Version {
+    /// The repository's number.
+    pub repo: u32,
+    /// How many writes were accepted.
+    pub number: u64,
+    /// The root of its tree.
+    pub root: Cid,
+    /// The accepted writes, the oldest first.
+    pub writes: Vec<Arc<Write>>,
+}
+
+/// The rule that each published version keeps.
+pub struct Lawful<D: Digest, const B: u8> {
+    digest: PhantomData<D>,
+}
+
+impl<D: Digest, const B: u8> Keeps<Version> for Lawful<D, B> {
+    ghost use Rattle.host.specs.Versions.{IsVersion};
+
+    ghost holds = { λ tag index version. IsVersion D.digest_of B version };
+}
+
+/// The versions that were published.
+#[derive(Drop)]
+pub(crate) struct Shelf<D: Digest, const B: u8> {
+    versions: boxcar::Vec<Version, Global, Lawful<D, B>>,
+}
+
+impl<D: Digest, const B: u8> Model for Shelf<D, B> {
+    ghost use Rattle.boxcar.specs.Table.{Shelves, shelves_coded};
+
+    ghost Value = { Shelves };
+
+    ghost coded = { shelves_coded };
+
+    ghost view = { λ s. s.versions };
+}
+
+/// What shows a published version.
+///
+/// A contract sees the version, and where it stands.
+#[derive(Drop)]
+pub struct Receipt<D: Digest, const B: u8> {
+    pushed: Pushed<Version, Global, Lawful<D, B>>,
+}
+
+impl<D: Digest, const B: u8> Model for Receipt<D, B> {
+    ghost use Rattle.boxcar.specs.Table.{Where};
+    ghost use Rattle.host.specs.declared.version.Version.{Version};
+    ghost use Rattle.host.specs.Versions.{IsVersion};
+
+    ghost Value = { Where Version };
+
+    ghost view = { λ r. r.pushed };
+
+    ghost invariant = { λ r. IsVersion D.digest_of B r.pushed.value };
+}
+
+impl<D: Digest, const B: u8> Shelf<D, B> {
+    /// No versions so far.
+    pub(crate) fn open(alloc: Global) -> Result<Shelf<D, B>, AllocError> {
+        let versions = boxcar::Vec::with_rule(alloc, Tag::empty())?;
+        Ok(Shelf { versions })
+    }
+
+    /// Publishes a version. It comes back where memory was refused.
+    pub(crate) fn publish<R: Wait>(
+        &self,
+        rt: &R,
+        version: Version,
+    ) -> Result<Receipt<D, B>, Version>
+        requires { IsVersion D.digest_of B version }
+        ensures shown { IfOk result (Shows self.now) }
+        ensures value { IfOk result (λ receipt. receipt.value ≡ version) }
+        ensures back { IfErr result (λ back. back ≡ version) }
+    {
+        let pushed = self.versions.push_shown(rt, version)?;
+        Ok(Receipt { pushed })
+    }
+
+    /// The version of a receipt.
+    pub(crate) fn version<'a>(&'a self, receipt: &Receipt<D, B>) -> &'a Version
+        requires { Shows self.now receipt.now }
+        ensures value { result.now ≡ receipt.now.value }
+        ensures lawful { IsVersion D.digest_of B result.now }
+    {
+        self.versions.value(&receipt.pushed)
+    }
+}
+
+/// The core's version, where the core is the wanted one.
+pub(crate) fn version_in<D: Digest, const B: u8>(
+    alloc: Global,
+    core: &Core<D, B>,
+    wanted: Wanted,
+) -> Option<Result<Version, AllocError>>
+    ensures lawful { IfSome result (λ r. IfOk r (IsVersion D.digest_of B)) }
+    ensures state { IfSome result (λ r. IfOk r (IsOfState D.digest_of B wanted)) }
+{
+    if !is_wanted(core, wanted) {
+        return None;
+    }
+    match shared(alloc, core.accepted()) {
+        Ok(writes) => Some(Ok(Version {
+            repo: wanted.repo,
+            number: core.number(),
+            root: core.root(),
+            writes,
+        })),
+        Err(refused) => Some(Err(refused)),
+    }
+}
+
+/// The same writes, shared once more.
+fn shared(alloc: Global, accepted: &[Arc<Write>]) -> Result<Vec<Arc<Write>>, AllocError>
+    ensures { IfOk result (λ v. shared_writes v.items ≡ shared_writes accepted.now) }
+{
+    let mut writes = Vec::with_capacity(alloc, accepted.len())?;
+    for write in accepted {
+        let write = Arc::try_clone(write)?;
+        writes.push_reserved(write);
+    }
+    Ok(writes)
+}

@@ -1,0 +1,259 @@
+//! A writer: what it has told, what it keeps, and what it has seen.
+
+ghost use Rattle.std.specs.Prelude.{◌≡◌, ◌<◌, ◌≤◌, ◌+◌, ◌++◌, ◌∷◌, [], length, IfOk, IfErr, OnErr, OnOk, Err, slice_index, option_map, vec_len, vec_capacity};
+ghost use Rattle.boxcar.specs.Table.{Shows};
+ghost use Rattle.edit.specs.Walks.{pairs_given};
+ghost use Rattle.closing.specs.Ending.{IsEndedAt};
+ghost use Rattle.host.specs.Seeing.{wanted_by};
+ghost use Rattle.host.specs.Versions.{IsVersion, IsOfState};
+ghost use Rattle.host.specs.Views.{ended_of, with_seen};
+ghost use Rattle.host.specs.Telling.{IsFault, IsReadFault, IsPushed, IsSame, IsTold, IsOfBatch};
+ghost use Rattle.host.specs.Telling.{HasNoNumber, HasFound, HasListed, told_by_writer};
+ghost use Rattle.host.specs.declared.fault.HostFault.TheVariants as faults;
+
+use crate::fault::HostFault;
+use crate::host::Host;
+use crate::version::Receipt;
+use batches::{Stamp, Write};
+use cid::{Cid, Digest};
+use closing::Ended;
+use notices::{Notice, Sender};
+use std::alloc::Global;
+use std::marker::Model;
+use std::sync::Wait;
+
+/// A writer: one thread's way to change repositories and to read them.
+///
+/// It tells of each accepted batch by a notice, which it keeps until the queue takes it; so what it told is what it sent and then
+/// what it keeps. For each repository it knows the greatest number of accepted writes that its calls have shown there, and no
+/// later answer of its own goes behind that.
+///
+/// A contract sees its host, how often the queue was full, modulo 2^64, its pass, the notices that it keeps, and what it has seen.
+#[derive(Drop)]
+pub struct Writer<'a, D: Digest, const B: u8> {
+    pub(crate) host: &'a Host<D, B>,
+    pub(crate) sender: Sender<'a>,
+    pub(crate) kept: Vec<Notice>,
+    pub(crate) last: u64,
+    pub(crate) seen: Vec<u64>,
+}
+
+impl<'a, D: Digest, const B: u8> Model for Writer<'a, D, B> {
+    ghost use Rattle.host.specs.Views.{WriterView, IsWriting};
+
+    ghost Value = { WriterView };
+
+    ghost view = { λ w. record {
+      host = w.host.now;
+      refused = w.sender.refused;
+      pass = w.sender.pass;
+      kept = w.kept.items;
+      seen = w.seen.items;
+    } };
+
+    ghost invariant = { λ w. IsWriting w.host.now w.sender w.kept.items w.last w.seen.items };
+}
+
+impl<'a, D: Digest, const B: u8> Writer<'a, D, B> {
+    /// Applies a batch to a repository, all its writes or none, and tells of it where it is accepted.
+    ///
+    /// `HostFault::NoSuchRepository` comes first, then `HostFault::SeqFull`, which says that this writer's last accepted call has
+    /// the number 2^64 - 1. `HostFault::NoMemory` says that there was no room for one more notice: a place is made before the
+    /// repository's lock is taken, so that nothing can be refused once the batch is accepted. `HostFault::Refused` has the place
+    /// and the fault that the repository answered. After a refusal the writer is as before.
+    ///
+    /// It waits for the repository's lock, and then for that of one shard at a time. Last, it pushes the kept notices in order,
+    /// as `flush` does.
+    pub fn apply<R: Wait>(
+        &mut self,
+        rt: &R,
+        alloc: Global,
+        repo: usize,
+        stamp: &Stamp,
+        writes: &[Write],
+    ) -> Result<Notice, HostFault<D>>
+        ensures told { IfOk result
+            (λ n. told_by_writer self.new ≡ told_by_writer self.old ++ n ∷ []) }
+        ensures notice { IfOk result (IsTold self.old repo) }
+        ensures accepted { IfOk result
+            (IsOfBatch D.digest_of B self.old repo stamp.now writes.now) }
+        ensures seen { IfOk result (λ n. self.new.seen ≡ (with_seen self.old repo n.number).seen) }
+        ensures pushed { OnOk result (IsPushed self.old self.new) }
+        ensures same { IsSame self.old self.new }
+        ensures unchanged { OnErr result (self.new ≡ self.old) }
+        ensures fault { IfErr result (IsFault D.digest_of B self.old repo stamp.now writes.now) }
+        ensures missing { self.old.host.repos ≤ repo → result ≡ Err faults.NoSuchRepository }
+        ensures seq_full { repo < self.old.host.repos → HasNoNumber self.old
+            → result ≡ Err faults.SeqFull }
+    {
+        if repo >= self.host.repos() {
+            return Err(HostFault::NoSuchRepository);
+        }
+        if self.last == u64::MAX {
+            return Err(HostFault::SeqFull);
+        }
+        let Ok(()) = self.kept.reserve(1) else {
+            return Err(HostFault::NoMemory);
+        };
+        let applied = match self
+            .host
+            .apply(rt, alloc, repo, self.seen[repo], stamp, writes)
+        {
+            Ok(applied) => applied,
+            Err((place, fault)) => return Err(HostFault::Refused(place, fault)),
+        };
+        self.seen[repo] = applied.number;
+        self.last += 1;
+        let notice = Notice {
+            writer: self.sender.writer(),
+            seq: self.last,
+            repo: repo as u32,
+            number: applied.number,
+            root: applied.root,
+        };
+        keep(&mut self.kept, &notice);
+        self.flush(rt);
+        Ok(notice)
+    }
+
+    /// The record of a key, or `None` where there is none, by a state of the repository with no fewer accepted writes than this
+    /// writer has seen there.
+    ///
+    /// `HostFault::NoSuchRepository` says that there is no such repository, and `HostFault::NoMemory` comes where memory was
+    /// refused. It waits for the repository's lock, which it shares with other readers.
+    pub fn get<R: Wait>(
+        &mut self,
+        rt: &R,
+        alloc: Global,
+        repo: usize,
+        key: &[u8],
+    ) -> Result<Option<Vec<u8>>, HostFault<D>>
+        ensures found { IfOk result (λ o.
+            HasFound self.old self.new repo key.now (option_map (λ v. v.items) o)) }
+        ensures unchanged { OnErr result (self.new ≡ self.old) }
+        ensures fault { IfErr result (IsReadFault self.old.host repo) }
+        ensures missing { self.old.host.repos ≤ repo → result ≡ Err faults.NoSuchRepository }
+    {
+        if repo >= self.host.repos() {
+            return Err(HostFault::NoSuchRepository);
+        }
+        match self.host.record(rt, alloc, repo, self.seen[repo], key) {
+            Ok((number, record)) => {
+                self.seen[repo] = number;
+                Ok(record)
+            }
+            Err(_) => Err(HostFault::NoMemory),
+        }
+    }
+
+    /// The first `limit` pairs of a key and its record's CID, from a key on, in the order of the keys, by a state of the repository
+    /// with no fewer accepted writes than this writer has seen there.
+    ///
+    /// It refuses and waits as `get` does.
+    pub fn list<R: Wait>(
+        &mut self,
+        rt: &R,
+        alloc: Global,
+        repo: usize,
+        from: &[u8],
+        limit: usize,
+    ) -> Result<Vec<(Vec<u8>, Cid)>, HostFault<D>>
+        ensures found { IfOk result (λ v.
+            HasListed D.digest_of self.old self.new repo from.now limit (pairs_given v.items)) }
+        ensures unchanged { OnErr result (self.new ≡ self.old) }
+        ensures fault { IfErr result (IsReadFault self.old.host repo) }
+        ensures missing { self.old.host.repos ≤ repo → result ≡ Err faults.NoSuchRepository }
+    {
+        if repo >= self.host.repos() {
+            return Err(HostFault::NoSuchRepository);
+        }
+        match self
+            .host
+            .pairs(rt, alloc, repo, self.seen[repo], from, limit)
+        {
+            Ok((number, pairs)) => {
+                self.seen[repo] = number;
+                Ok(pairs)
+            }
+            Err(_) => Err(HostFault::NoMemory),
+        }
+    }
+
+    /// Publishes the repository as it is, with no fewer accepted writes than this writer has seen there. `Host::version` lends
+    /// the version to any thread.
+    ///
+    /// It refuses and waits as `get` does.
+    pub fn publish<R: Wait>(
+        &mut self,
+        rt: &R,
+        alloc: Global,
+        repo: usize,
+    ) -> Result<Receipt<D, B>, HostFault<D>>
+        ensures shown { IfOk result (Shows self.new.host.shelf) }
+        ensures lawful { IfOk result (λ r. IsVersion D.digest_of B r.value) }
+        ensures state { IfOk result (λ r.
+            IsOfState D.digest_of B (wanted_by self.old repo) r.value) }
+        ensures seen { IfOk result (λ r. self.new ≡ with_seen self.old repo r.value.number) }
+        ensures unchanged { OnErr result (self.new ≡ self.old) }
+        ensures fault { IfErr result (IsReadFault self.old.host repo) }
+        ensures missing { self.old.host.repos ≤ repo → result ≡ Err faults.NoSuchRepository }
+    {
+        if repo >= self.host.repos() {
+            return Err(HostFault::NoSuchRepository);
+        }
+        let Ok(version) = self.host.version_from(rt, alloc, repo, self.seen[repo]) else {
+            return Err(HostFault::NoMemory);
+        };
+        let number = version.number;
+        match self.host.publish(rt, version) {
+            Ok(receipt) => {
+                self.seen[repo] = number;
+                Ok(receipt)
+            }
+            Err(_) => Err(HostFault::NoMemory),
+        }
+    }
+
+    /// Pushes the kept notices in order until the queue is full, and answers how many are still kept. It takes no memory, and waits
+    /// for nothing but the queue's own steps.
+    pub fn flush<R: Wait>(&mut self, rt: &R) -> usize
+        ensures told { told_by_writer self.new ≡ told_by_writer self.old }
+        ensures same { IsSame self.old self.new }
+        ensures seen { self.new.seen ≡ self.old.seen }
+        ensures kept { result ≡ length self.new.kept }
+        ensures pushed { IsPushed self.old self.new }
+    {
+        while let Some(first) = self.kept.first() {
+            let notice = *first;
+            match self.sender.push(rt, notice) {
+                Ok(()) => {}
+                Err(_) => return self.kept.len(),
+            }
+            self.kept.remove(0);
+        }
+        0
+    }
+
+    /// Ends the writer. It drops nothing, and takes no memory.
+    pub fn end(self) -> Ended
+        ensures same { result ≡ ended_of self.entry }
+        ensures ended { IsEndedAt self.entry.host.queue.queue_id self.entry.host.repos result }
+    {
+        let Writer {
+            host: _,
+            sender,
+            kept,
+            last: _,
+            seen,
+        } = self;
+        Ended::new(sender.end(), kept, seen)
+    }
+}
+
+/// Keeps one more notice, for which there is room.
+fn keep(kept: &mut Vec<Notice>, notice: &Notice)
+    requires { vec_len kept.old < vec_capacity kept.old }
+    ensures { kept.new.items ≡ kept.old.items ++ notice.now ∷ [] }
+{
+    kept.push_reserved(*notice);
+}

@@ -1,0 +1,13 @@
+//! Tests of hosts: many repositories, writers, what they tell, versions, and the close.
+#![tactic(auto)]
+
+#[cfg(test)]
+mod hosts;
+#[cfg(test)]
+mod opening;
+#[cfg(test)]
+mod queue_of_two;
+#[cfg(test)]
+mod refusals;
+#[cfg(test)]
+mod versions;

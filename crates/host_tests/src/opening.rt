@@ -1,0 +1,65 @@
+//! Hosts that aren't opened, and the smallest and greatest ones.
+
+use crate::hosts::limits;
+use cid::digests::Toy;
+use host::{Host, Limits, OpenFault};
+use std::alloc::Global;
+use std::sync::Wait;
+
+/// How a host is opened.
+#[derive(Clone, Copy, PartialEq, Eq)]
+enum Opening {
+    Opened,
+    BadRepos,
+    BadWriters,
+    BadQueue,
+    BadBlocks,
+    BadWrites,
+    NoMemory,
+}
+
+/// How a host of these limits is opened.
+fn opening_of<R: Wait>(rt: &R, alloc: Global, limits: Limits) -> Opening {
+    match Host::<Toy, 2>::open(rt, alloc, limits) {
+        Ok(_) => Opening::Opened,
+        Err(OpenFault::BadRepos) => Opening::BadRepos,
+        Err(OpenFault::BadWriters) => Opening::BadWriters,
+        Err(OpenFault::BadQueue) => Opening::BadQueue,
+        Err(OpenFault::BadBlocks) => Opening::BadBlocks,
+        Err(OpenFault::BadWrites) => Opening::BadWrites,
+        Err(OpenFault::NoMemory) => Opening::NoMemory,
+    }
+}
+
+/// Limits in the order of their fields, and how a host of them is opened.
+const ROWS: [([u32; 5], Opening); 13] = [
+    ([0, 0, 0, 0, 0], Opening::BadRepos),
+    ([1025, 1, 1, 1, 1], Opening::BadRepos),
+    ([1, 0, 0, 0, 0], Opening::BadWriters),
+    ([1, 65, 1, 1, 1], Opening::BadWriters),
+    ([1, 1, 0, 0, 0], Opening::BadQueue),
+    ([1, 1, 65537, 1, 1], Opening::BadQueue),
+    ([1, 1, 1, 0, 0], Opening::BadBlocks),
+    ([1, 1, 1, 1048577, 1], Opening::BadBlocks),
+    ([1, 1, 1, 1, 0], Opening::BadWrites),
+    ([1, 1, 1, 1, 1048577], Opening::BadWrites),
+    ([1, 1, 1, 1, 1], Opening::Opened),
+    ([1, 64, 65536, 1048576, 1048576], Opening::Opened),
+    ([1024, 1, 1, 1, 1], Opening::Opened),
+];
+
+#[test]
+fn limits_are_tested_in_their_order(rt: HostRuntime) {
+    let alloc = rt.alloc();
+    for ([repos, writers, queue, blocks, writes], wanted) in ROWS {
+        let given = Limits {
+            shard_blocks: blocks as usize,
+            repo_writes: writes as usize,
+            ..limits(repos, writers, queue as usize)
+        };
+        assert!(rt;
+            opening_of(&rt, alloc, given) == wanted,
+            "{repos} {writers} {queue} {blocks} {writes}"
+        );
+    }
+}

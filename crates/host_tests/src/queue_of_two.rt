@@ -1,0 +1,119 @@
+//! A queue of two, and a writer that tells three notices.
+
+ghost use Rattle.std.specs.Prelude.{◌≡◌, length, All, []};
+ghost use Rattle.closing.specs.Ending.{IsEndedAt};
+
+use crate::hosts::{Answer, apply_steps, finds, limits};
+use cid::digests::Toy;
+use closing::{Closed, Ended, Feed, Taker};
+use host::{Host, Opened, Writer};
+use notices::Notice;
+use repo_fixtures::batch::{ONE, Step, TWO};
+use std::alloc::Global;
+use std::process::Abort;
+use std::sync::Wait;
+
+/// The DAG-CBOR bytes of the map of "a" to 3.
+const THREE: &[u8] = b"\xa1\x61a\x03";
+
+/// The number of a notice, 0 without one.
+fn seq_of(notice: Option<Notice>) -> u64 {
+    match notice {
+        Some(notice) => notice.seq,
+        None => 0,
+    }
+}
+
+/// The number of the next notice, 0 where there is none.
+fn popped<R: Wait>(rt: &R, taker: &mut Taker<'_>) -> u64
+    ensures queue { taker.new.queue_id ≡ taker.old.queue_id }
+    ensures made { taker.new.made ≡ taker.old.made }
+    ensures joined { taker.new.joined ≡ taker.old.joined }
+{
+    seq_of(taker.pop(rt))
+}
+
+/// Whether three puts are told by the numbers 1 to 3, and the last one is found.
+fn tells_three<R: Wait>(rt: &R, alloc: Global, writer: &mut Writer<'_, Toy, 2>) -> bool
+    ensures { writer.new.host ≡ writer.old.host }
+{
+    let one = apply_steps(rt, alloc, writer, 0, 1, &[Step::Put(b"a/b0", ONE)]);
+    let two = apply_steps(rt, alloc, writer, 0, 2, &[Step::Put(b"a/b0", TWO)]);
+    let three = apply_steps(rt, alloc, writer, 0, 3, &[Step::Put(b"a/b0", THREE)]);
+    let are_told = one == Answer::Told(1, 1)
+        && two == Answer::Told(2, 2)
+        && three == Answer::Told(3, 3);
+    finds(rt, alloc, writer, 0, Some(THREE)) && are_told
+}
+
+/// What a writer and a taker leave, and whether all was right so far.
+#[derive(Drop)]
+struct Left {
+    ended: Ended,
+    feed: Feed,
+    is_right: bool,
+}
+
+/// The row: two notices are in the queue and one is kept, until one is taken.
+fn take_all<R: Wait>(
+    rt: &R,
+    alloc: Global,
+    mut writer: Writer<'_, Toy, 2>,
+    mut taker: Taker<'_>,
+) -> Left
+    ensures ended { IsEndedAt writer.entry.host.queue.queue_id writer.entry.host.repos result.ended }
+    ensures queue { result.feed.queue_id ≡ taker.entry.queue_id }
+    ensures made { result.feed.made ≡ taker.entry.made }
+    ensures joined { result.feed.joined ≡ taker.entry.joined }
+{
+    let are_told = tells_three(rt, alloc, &mut writer);
+    let first = popped(rt, &mut taker);
+    let left = writer.flush(rt);
+    let others = [
+        popped(rt, &mut taker),
+        popped(rt, &mut taker),
+        popped(rt, &mut taker),
+    ];
+    Left {
+        ended: writer.end(),
+        feed: taker.end(),
+        is_right: are_told && first == 1 && left == 0 && others == [2, 3, 0],
+    }
+}
+
+/// Whether a host that closed has this one repository of three writes, and nothing was left.
+fn is_closed<R: Wait>(rt: &R, mut closed: Closed<Toy, 2>) -> bool {
+    let number = match closed.cores().first() {
+        Some(core) => core.number(),
+        None => 0,
+    };
+    number == 3 && closed.next_left(rt).is_none() && closed.kept(0).is_empty()
+}
+
+/// Whether all this is so from opening to close.
+fn is_right<R: Wait + Abort>(rt: &R, alloc: Global) -> bool {
+    let opened = Host::<Toy, 2>::open(rt, alloc, limits(1, 1, 2)).expect(rt, "a host");
+    let Opened {
+        host,
+        mut seats,
+        feed,
+    } = opened;
+    let seat = seats.pop().expect(rt, "a seat");
+    let left = take_all(rt, alloc, host.writer(seat), host.taker(feed));
+    let Left {
+        ended,
+        feed,
+        is_right,
+    } = left;
+    let mut all = Vec::with_capacity(alloc, 1).expect(rt, "room");
+    all.push_reserved(ended);
+    match host.close(all, feed) {
+        Ok(closed) => is_closed(rt, closed) && is_right,
+        Err(_) => false,
+    }
+}
+
+#[test]
+fn a_queue_of_two(rt: HostRuntime) {
+    assert!(rt; is_right(&rt, rt.alloc()));
+}

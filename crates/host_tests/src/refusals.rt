@@ -1,0 +1,71 @@
+//! Calls that are refused.
+
+use crate::hosts::{Answer, apply_steps, finds, limits};
+use cid::digests::Toy;
+use host::{Host, HostFault, Opened, Writer};
+use repo_fixtures::batch::{EMPTY, Step};
+use std::alloc::Global;
+use std::process::Abort;
+use std::sync::Wait;
+
+/// Whether each reading call says that there is no such repository.
+fn none_is_there<R: Wait>(
+    rt: &R,
+    alloc: Global,
+    writer: &mut Writer<'_, Toy, 2>,
+    repo: usize,
+) -> bool {
+    matches!(
+        writer.get(rt, alloc, repo, b"a/b0"),
+        Err(HostFault::NoSuchRepository)
+    ) && matches!(
+        writer.list(rt, alloc, repo, b"", 9),
+        Err(HostFault::NoSuchRepository)
+    ) && matches!(
+        writer.publish(rt, alloc, repo),
+        Err(HostFault::NoSuchRepository)
+    )
+}
+
+/// A repository's number, a batch's steps, and how the batch is answered.
+const ROWS: [(usize, &[Step<'static>], Answer); 6] = [
+    (1, &[Step::Put(b"a/b0", EMPTY)], Answer::NoSuchRepository),
+    (0, &[], Answer::Refused(0)),
+    (0, &[Step::Delete(b"a/b0")], Answer::Refused(0)),
+    (
+        0,
+        &[Step::Put(b"a/b0", EMPTY), Step::Delete(b"a/c0")],
+        Answer::Refused(1),
+    ),
+    (0, &[Step::Put(b"a/b0", EMPTY)], Answer::Told(1, 1)),
+    (
+        0,
+        &[Step::Create(b"a/c0", EMPTY), Step::Delete(b"a/b0")],
+        Answer::Told(2, 3),
+    ),
+];
+
+/// Whether each row is answered so, and nothing that was refused is there.
+fn are_refused<R: Wait + Abort>(rt: &R, alloc: Global) -> bool {
+    let opened = Host::<Toy, 2>::open(rt, alloc, limits(1, 1, 9)).expect(rt, "a host");
+    let Opened {
+        host,
+        mut seats,
+        feed: _,
+    } = opened;
+    let seat = seats.pop().expect(rt, "a seat");
+    let mut writer = host.writer(seat);
+    let mut turn = 0u16;
+    for (repo, steps, wanted) in ROWS {
+        turn = turn.saturating_add(1);
+        if apply_steps(rt, alloc, &mut writer, repo, turn, steps) != wanted {
+            return false;
+        }
+    }
+    finds(rt, alloc, &mut writer, 0, None) && none_is_there(rt, alloc, &mut writer, 1)
+}
+
+#[test]
+fn refused_calls(rt: HostRuntime) {
+    assert!(rt; are_refused(&rt, rt.alloc()));
+}
