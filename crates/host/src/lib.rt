@@ -1,4 +1,116 @@
 //! Many repositories, many writers, and one taker of what they tell.
+//!
+//! A [`Host`] keeps repositories behind locks of their own, and equal blocks once for all of them. Threads share it by
+//! reference:
+//!
+//! - [`Host::open`] gives a [`Seat`] for each writer and the feed of the queue. A seat goes to the thread that writes, and
+//!   `Host::writer` makes a [`Writer`] of it there.
+//! - `Writer::apply` accepts a batch or refuses it whole, and tells of it by a notice. `get` and `list` read, and never show
+//!   less of a repository than this writer has seen there.
+//! - `Writer::publish` makes a version, which `Host::version` shows for good and without a lock: what is to be read often,
+//!   or over a long time, is read by a version.
+//! - `Host::taker` makes the one that takes notices out of the queue. What a full queue doesn't take a writer keeps, in
+//!   order, until `apply` or `flush` finds room.
+//! - `Writer::end` and the taker's `end` leave what `Host::close` wants of all of them. A host that has closed tells how many
+//!   repositories have each block, and what each repository is (the crate `closing`). One that isn't closed gives its blocks
+//!   back when it is dropped.
+//!
+//! A call takes the lock of its repository, and under it one shard's lock at a time. Writers of one repository wait for each
+//! other, and a long batch holds up those that read there; those of other repositories meet it in the shards alone, for the
+//! time of one block.
+//!
+//! ```rust
+//! ghost use Rattle.closing.specs.Ending.{IsEndedAt};
+//! ghost use Rattle.host.specs.Views.{IsSeatOf};
+//!
+//! use batches::{Stamp, Write};
+//! use cid::{Cid, Sha256};
+//! use closing::Ended;
+//! use host::{Host, Limits, Opened, Seat};
+//! use std::alloc::{AllocError, Global};
+//! use std::process::Abort;
+//! use std::sync::Wait;
+//!
+//! /// The key of a post, and its record in DAG-CBOR.
+//! const KEY: &[u8] = b"app.bsky.feed.post/3jzfcijpj2z2a";
+//!
+//! const RECORD: &[u8] = b"\xa1\x64text\x65hello";
+//!
+//! /// A batch of one put, with the stamp for its commit.
+//! fn a_put(alloc: Global) -> Result<(Stamp, Vec<Write>), AllocError> {
+//!     let did = Vec::from_slice(alloc, b"did:web:example.com")?;
+//!     let rev = Vec::from_slice(alloc, b"3jzfcijpj2z2a")?;
+//!     let stamp = Stamp { did, rev };
+//!     let (key, record) = (
+//!         Vec::from_slice(alloc, KEY)?,
+//!         Vec::from_slice(alloc, RECORD)?,
+//!     );
+//!     Ok((stamp, Vec::from_array(alloc, [Write::Put(key, record)])?))
+//! }
+//!
+//! /// A writer that puts a record into repository 0. It would stand in a thread of its own, as the other one would.
+//! fn puts<R: Wait + Abort>(rt: &R, alloc: Global, host: &Host<Sha256, 2>, seat: Seat) -> Ended
+//!     requires { IsSeatOf host.now seat }
+//!     ensures { IsEndedAt host.now.queue.queue_id host.now.repos result }
+//! {
+//!     let mut writer = host.writer(seat);
+//!     let (stamp, writes) = a_put(alloc).expect(rt, "memory");
+//!     let notice = writer
+//!         .apply(rt, alloc, 0, &stamp, &writes)
+//!         .expect(rt, "a notice");
+//!     assert!(rt; notice.seq == 1 && notice.number == 1);
+//!     writer.end()
+//! }
+//!
+//! /// A writer that finds the record and publishes a version, which stays as it is and is read without a lock.
+//! fn finds<R: Wait + Abort>(rt: &R, alloc: Global, host: &Host<Sha256, 2>, seat: Seat) -> Ended
+//!     requires { IsSeatOf host.now seat }
+//!     ensures { IsEndedAt host.now.queue.queue_id host.now.repos result }
+//! {
+//!     let mut writer = host.writer(seat);
+//!     let found = writer.get(rt, alloc, 0, KEY).expect(rt, "an answer");
+//!     assert!(rt; found.is_some_and(|record| record.as_slice() == RECORD));
+//!     let receipt = writer.publish(rt, alloc, 0).expect(rt, "a version");
+//!     assert!(rt; host.version(&receipt).number == 1);
+//!     writer.end()
+//! }
+//!
+//! fn two_writers_and_a_version(rt: HostRuntime) {
+//!     let alloc = rt.alloc();
+//!
+//!     // Two repositories, and a seat for each of two writers.
+//!     let limits = Limits {
+//!         repos: 2,
+//!         writers: 2,
+//!         queue: 10,
+//!         shard_blocks: 1000,
+//!         repo_writes: 1000,
+//!     };
+//!     let opened = Host::<Sha256, 2>::open(&rt, alloc, limits).expect(&rt, "a host");
+//!     let Opened {
+//!         host,
+//!         mut seats,
+//!         feed,
+//!     } = opened;
+//!     let other = seats.pop().expect(&rt, "a seat");
+//!     let seat = seats.pop().expect(&rt, "a seat");
+//!     let mut ended = Vec::with_capacity(alloc, 2).expect(&rt, "memory");
+//!     ended.push_reserved(puts(&rt, alloc, &host, seat));
+//!     ended.push_reserved(finds(&rt, alloc, &host, other));
+//!
+//!     // The notice of the put comes to the one that takes them.
+//!     let mut taker = host.taker(feed);
+//!     let taken = taker.pop(&rt);
+//!     let feed = taker.end();
+//!
+//!     // Once all writers have ended the host closes, and tells how many repositories have a block.
+//!     let count = match host.close(ended, feed) {
+//!         Ok(closed) => closed.count(&Cid::of::<Sha256>(RECORD)),
+//!         Err(_) => 0,
+//!     };
+//!     assert!(rt; count == 1 && taken.is_some_and(|notice| notice.seq == 1));
+//! }
+//! ```
 #![tactic(auto)]
 
 mod fault;
