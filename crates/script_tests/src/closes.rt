@@ -1,5 +1,8 @@
 //! Scripts on a host that is opened for them, and closed.
 
+ghost use Rattle.std.specs.Prelude.{◌≡◌, [], length, All};
+ghost use Rattle.host.specs.Views.{IsSeatOf};
+
 use cid::digests::Toy;
 use closing::Closed;
 use host::{Host, Limits, Opened};
@@ -20,6 +23,19 @@ pub(crate) fn limits(repos: u32, writers: u32, queue: usize) -> Limits {
     }
 }
 
+/// A host of these limits.
+pub(crate) fn open<R: Wait + Abort>(rt: &R, alloc: Global, limits: Limits) -> Opened<Toy, 2>
+    ensures seats { All (IsSeatOf result.host) result.seats.items }
+    ensures all { length result.seats.items ≡ result.feed.made }
+    ensures feed { result.feed.queue_id ≡ result.host.queue.queue_id }
+    ensures fresh { result.feed.joined ≡ [] }
+{
+    match Host::<Toy, 2>::open(rt, alloc, limits) {
+        Ok(opened) => opened,
+        Err(_) => panic!(rt; "no host"),
+    }
+}
+
 /// What came of a script, and the host after it.
 #[derive(Drop)]
 pub(crate) struct Ran {
@@ -35,9 +51,11 @@ pub(crate) fn run<G: Gate, R: Threads + Wait + Abort + Sync>(
     gate: &G,
     lines: &[Line],
 ) -> Ran {
-    let opened = Host::<Toy, 2>::open(rt, alloc, limits).expect(rt, "a host");
+    let opened = open(rt, alloc, limits);
     let Opened { host, seats, feed } = opened;
-    assert!(rt; have_workers(lines, seats.len()));
+    if !have_workers(lines, seats.len()) {
+        panic!(rt; "a line without a worker");
+    }
     let report = run_script(rt, alloc, &host, seats, gate, lines).expect(rt, "a report");
     let Report { answers, ended } = report;
     match host.close(ended, feed) {

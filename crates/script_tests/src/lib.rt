@@ -10,8 +10,8 @@ mod example;
 #[cfg(test)]
 mod gates;
 #[cfg(test)]
-mod notices;
-#[cfg(test)]
 mod random;
 #[cfg(test)]
 mod rows;
+#[cfg(test)]
+mod taking;

@@ -4,7 +4,7 @@ ghost use Rattle.std.specs.Prelude.{◌≡◌, IfOk, All, length, [], ◌<◌};
 ghost use Rattle.closing.specs.Ending.{IsEndedAt};
 ghost use Rattle.host.specs.Views.{IsSeatOf};
 
-use crate::closes::limits;
+use crate::closes::{limits, open};
 use crate::rows::{Doing, line_of};
 use cid::digests::Toy;
 use closing::{Closed, Feed};
@@ -128,9 +128,11 @@ fn are_all_told<R: Threads + Wait + Abort + Sync>(
     lines: &[Line],
     queue: usize,
 ) -> bool {
-    let opened = Host::<Toy, 2>::open(rt, alloc, limits(2, 2, queue)).expect(rt, "a host");
+    let opened = open(rt, alloc, limits(2, 2, queue));
     let Opened { host, seats, feed } = opened;
-    assert!(rt; have_workers(lines, seats.len()));
+    if !have_workers(lines, seats.len()) {
+        panic!(rt; "a line without a worker");
+    }
     let ended = AtomicBool::new(false);
     let (lent, is_done) = (&host, &ended);
     let (report, (feed, mut counted)) = thread::join(
