@@ -1,0 +1,17 @@
+//! Tests of scripts: what lines are answered, threads that meet, random lines, and notices beside a taker.
+#![tactic(auto)]
+
+#[cfg(test)]
+mod answers;
+#[cfg(test)]
+mod closes;
+#[cfg(test)]
+mod example;
+#[cfg(test)]
+mod gates;
+#[cfg(test)]
+mod random;
+#[cfg(test)]
+mod rows;
+#[cfg(test)]
+mod taking;
