@@ -9,6 +9,8 @@ mod listings;
 #[cfg(test)]
 mod memory;
 #[cfg(test)]
+mod one_repository;
+#[cfg(test)]
 mod running;
 #[cfg(test)]
 mod streams;

@@ -1,0 +1,32 @@
+//! The commands on one repository, over any reader and writers: its export, proofs of its keys, and what such proofs show
+//! (AT Protocol repository v3, CARv1; the forms of the texts are this repository's own).
+//!
+//! - `car_text` puts the lines of an input into a repository and writes it as one file.
+//! - `prove_text` does the same and writes the nodes on the path of a key.
+//! - `verify_text` reads such nodes and writes what they show of a key under a root.
+//! - `CommandFault` says why there is no text, or not all of it; a line of the input is named by its number.
+//!
+//! A program has them by `with_words`, `command_of` and `run`: what help shows of them, which of them a command line asks
+//! for, and its run to the exit status.
+#![tactic(auto)]
+
+mod blocks;
+mod car;
+mod ending;
+mod fault;
+mod filling;
+mod proving;
+mod puts;
+mod refusal_name;
+mod running;
+mod tables;
+mod verifying;
+mod words;
+
+pub use car::car_text;
+pub use fault::{CommandFault, LineFault};
+pub use proving::prove_text;
+pub use refusal_name::RefusalName;
+pub use running::run;
+pub use verifying::verify_text;
+pub use words::{RepositoryCommand, command_of, with_words};
