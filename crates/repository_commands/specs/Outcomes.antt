@@ -1,5 +1,5 @@
 -- How a command ends.
-use Rattle.std.specs.Prelude.{◌≡◌, ◌≤◌, ℕ, Bool, true, false, List, Option, Result, Ok, Err, is_ok, IfSome, IfErr, OnOk, OnErr}
+use Rattle.std.specs.Prelude.{◌≡◌, ◌≤◌, ℕ, true, false, List, Option, Result, Err, is_ok, IfSome, IfErr, OnOk, OnErr}
 use Rattle.std.specs.Io.KnownBytes.{Keeps}
 use Rattle.spec.specs.Reading.{Gives, Fails}
 use Rattle.console.specs.Written.{AppendsBeginning, AppendsText}
