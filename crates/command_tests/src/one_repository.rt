@@ -70,7 +70,14 @@ fn whole(alloc: Global, parts: &[&[u8]]) -> Result<Vec<u8>, Fail> {
 
 #[test]
 fn files(rt: HostRuntime) -> Result<(), Fail> {
-    let named = ["msthost", "car", "--rev", "3jzfcijpj2z2a", "--did", "did:web:a.b"];
+    let named = [
+        "msthost",
+        "car",
+        "--rev",
+        "3jzfcijpj2z2a",
+        "--did",
+        "did:web:a.b",
+    ];
     let cases: [(&[&str], &[u8], &[&[u8]]); 7] = [
         (&["msthost", "car"], b"", &EMPTY_CAR),
         (&["msthost", "car"], b"\n\r\n", &EMPTY_CAR),
@@ -82,7 +89,10 @@ fn files(rt: HostRuntime) -> Result<(), Fail> {
     ];
     for (words, input, parts) in cases {
         let wanted = whole(rt.alloc(), parts)?;
-        assert!(rt; run(rt.alloc(), words, input).is(0, &wanted, ""), "of {input:?}");
+        assert!(rt;
+            run(rt.alloc(), words, input).is(0, &wanted, ""),
+            "of {input:?}"
+        );
     }
     Ok(())
 }
@@ -90,19 +100,46 @@ fn files(rt: HostRuntime) -> Result<(), Fail> {
 #[test]
 fn proofs_and_what_they_show(rt: HostRuntime) -> Result<(), Fail> {
     let cases: [(&[&str], &[&str], &[&str]); 8] = [
-        (&["msthost", "prove", "a/b"], &[], &["E", "\na2616580616cf6\n"]),
-        (&["msthost", "prove", "a/b"], &["a/b a0"], &[ROOT, "\n", NODE, "\n"]),
-        (&["msthost", "prove", "zz"], &["a/b a0\n"], &[ROOT, "\n", NODE, "\n"]),
-        (&["msthost", "verify", EMPTY, "a/b"], &["a2616580616cf6"], &["absent\n"]),
-        (&["msthost", "verify", ROOT, "a/b"], &[NODE], &["found ", RECORD, "\n"]),
-        (&["msthost", "verify", ROOT, "a/b"], &["\nA0\n", NODE, "\r\n"], &["found ", RECORD, "\n"]),
+        (
+            &["msthost", "prove", "a/b"],
+            &[],
+            &["E", "\na2616580616cf6\n"],
+        ),
+        (
+            &["msthost", "prove", "a/b"],
+            &["a/b a0"],
+            &[ROOT, "\n", NODE, "\n"],
+        ),
+        (
+            &["msthost", "prove", "zz"],
+            &["a/b a0\n"],
+            &[ROOT, "\n", NODE, "\n"],
+        ),
+        (
+            &["msthost", "verify", EMPTY, "a/b"],
+            &["a2616580616cf6"],
+            &["absent\n"],
+        ),
+        (
+            &["msthost", "verify", ROOT, "a/b"],
+            &[NODE],
+            &["found ", RECORD, "\n"],
+        ),
+        (
+            &["msthost", "verify", ROOT, "a/b"],
+            &["\nA0\n", NODE, "\r\n"],
+            &["found ", RECORD, "\n"],
+        ),
         (&["msthost", "verify", ROOT, "a/a"], &[NODE], &["absent\n"]),
         (&["msthost", "verify", ROOT, "a/c"], &[NODE], &["absent\n"]),
     ];
     for (words, lines, wanted) in cases {
         let input = joined(rt.alloc(), lines)?;
         let wanted = joined(rt.alloc(), wanted)?;
-        assert!(rt; run(rt.alloc(), words, &input).is(0, &wanted, ""), "at {words:?}");
+        assert!(rt;
+            run(rt.alloc(), words, &input).is(0, &wanted, ""),
+            "at {words:?}"
+        );
     }
     Ok(())
 }
@@ -121,15 +158,24 @@ fn faulty_lines(rt: HostRuntime) {
         (b"a a0", "msthost: line 1: BadKey\n"),
         (b"a/b 80", "msthost: line 1: NotAMap\n"),
         (b"a/b b800", "msthost: line 1: BadRecord(LongHead)\n"),
-        (b"a/b a16161fb0000000000000000", "msthost: line 1: BadRecord(Float)\n"),
-        (b"a/b a0\n\na/c a161\na/d 80", "msthost: line 3: BadRecord(Truncated)\n"),
+        (
+            b"a/b a16161fb0000000000000000",
+            "msthost: line 1: BadRecord(Float)\n",
+        ),
+        (
+            b"a/b a0\n\na/c a161\na/d 80",
+            "msthost: line 3: BadRecord(Truncated)\n",
+        ),
         (b"a/b 80\nx", "msthost: line 1: NotAMap\n"),
         (b"x\na/b 80", "msthost: line 1: BadLine\n"),
         (b"a/b a0\nx\na/b 80", "msthost: line 2: BadLine\n"),
     ];
     for (input, told) in cases {
         for words in [["msthost", "car"].as_slice(), &["msthost", "prove", "a/b"]] {
-            assert!(rt; run(rt.alloc(), words, input).is(1, b"", told), "of {input:?}");
+            assert!(rt;
+                run(rt.alloc(), words, input).is(1, b"", told),
+                "of {input:?}"
+            );
         }
     }
 }
@@ -137,22 +183,69 @@ fn faulty_lines(rt: HostRuntime) {
 #[test]
 fn faulty_words_and_proofs(rt: HostRuntime) {
     let cases: [(&[&str], &[u8], &str); 13] = [
-        (&["msthost", "car", "--did", "did:web:"], b"x", "msthost: BadDid\n"),
-        (&["msthost", "car", "--rev", "2222222222221"], b"x", "msthost: BadRev\n"),
-        (&["msthost", "car", "--rev", "", "--did", ""], b"x", "msthost: BadDid\n"),
+        (
+            &["msthost", "car", "--did", "did:web:"],
+            b"x",
+            "msthost: BadDid\n",
+        ),
+        (
+            &["msthost", "car", "--rev", "2222222222221"],
+            b"x",
+            "msthost: BadRev\n",
+        ),
+        (
+            &["msthost", "car", "--rev", "", "--did", ""],
+            b"x",
+            "msthost: BadDid\n",
+        ),
         (&["msthost", "prove", ""], b"x", "msthost: KeyLength\n"),
-        (&["msthost", "verify", "b", "a/b"], b"x", "msthost: BadLength\n"),
+        (
+            &["msthost", "verify", "b", "a/b"],
+            b"x",
+            "msthost: BadLength\n",
+        ),
         (&["msthost", "verify", "", ""], b"x", "msthost: BadLength\n"),
-        (&["msthost", "verify", EMPTY, ""], b"x", "msthost: KeyLength\n"),
-        (&["msthost", "verify", EMPTY, "a/b"], b"x", "msthost: line 1: BadLine\n"),
-        (&["msthost", "verify", EMPTY, "a/b"], b"\na0\na0 a0", "msthost: line 3: BadLine\n"),
-        (&["msthost", "verify", EMPTY, "a/b"], b"", "msthost: BlockMissing\n"),
-        (&["msthost", "verify", EMPTY, "a/b"], b"a2", "msthost: BlockMissing\n"),
-        (&["msthost", "verify", RECORD, "a/b"], b"a0", "msthost: BadNode(NotNode)\n"),
-        (&["msthost", "verify", ROOT, "a/b"], b"a2616580616cf6", "msthost: BlockMissing\n"),
+        (
+            &["msthost", "verify", EMPTY, ""],
+            b"x",
+            "msthost: KeyLength\n",
+        ),
+        (
+            &["msthost", "verify", EMPTY, "a/b"],
+            b"x",
+            "msthost: line 1: BadLine\n",
+        ),
+        (
+            &["msthost", "verify", EMPTY, "a/b"],
+            b"\na0\na0 a0",
+            "msthost: line 3: BadLine\n",
+        ),
+        (
+            &["msthost", "verify", EMPTY, "a/b"],
+            b"",
+            "msthost: BlockMissing\n",
+        ),
+        (
+            &["msthost", "verify", EMPTY, "a/b"],
+            b"a2",
+            "msthost: BlockMissing\n",
+        ),
+        (
+            &["msthost", "verify", RECORD, "a/b"],
+            b"a0",
+            "msthost: BadNode(NotNode)\n",
+        ),
+        (
+            &["msthost", "verify", ROOT, "a/b"],
+            b"a2616580616cf6",
+            "msthost: BlockMissing\n",
+        ),
     ];
     for (words, input, told) in cases {
-        assert!(rt; run(rt.alloc(), words, input).is(1, b"", told), "at {words:?}");
+        assert!(rt;
+            run(rt.alloc(), words, input).is(1, b"", told),
+            "at {words:?}"
+        );
     }
 }
 
@@ -170,6 +263,9 @@ fn wrong_command_lines(rt: HostRuntime) {
     for words in lines {
         let ended = run(rt.alloc(), words, b"");
         let told = ended.err.starts_with(b"error: ");
-        assert!(rt; ended.status == 2 && told && ended.out.is_empty(), "at {words:?}");
+        assert!(rt;
+            ended.status == 2 && told && ended.out.is_empty(),
+            "at {words:?}"
+        );
     }
 }
