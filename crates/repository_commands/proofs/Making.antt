@@ -1,5 +1,5 @@
 -- What is made of an input, where it is known.
-use Rattle.std.proofs.Common.{◌≡◌, ℕ, List, Some, None, refl, sym, ap, subst, ◌∙◌}
+use Rattle.std.proofs.Common.{◌≡◌, ℕ, List, true, false, Some, None, refl, sym, ap, subst, ◌∙◌}
 use Rattle.std.specs.Prelude.{Option, Result, Ok, Err, IfSome, IfErr, IsErrAnd}
 use Rattle.spec.specs.Reading.{◌>>=◌, Gives, Fails}
 use Rattle.spec.specs.Cid.{cid_of_text}
@@ -9,11 +9,12 @@ use Rattle.console.specs.Lines.{lines}
 use Rattle.console.specs.declared.reading.ReadFault.{ReadFault}
 use Rattle.console.specs.declared.reading.ReadFault.TheVariants as reads
 use Rattle.repository_commands.specs.Puts.{Given, given_in}
-use Rattle.repository_commands.specs.Faults.{Fault, fault_of, of_read}
+use Rattle.repository_commands.specs.Faults.{Fault, fault_of, is_of_words, may_have_written, of_read}
 use Rattle.repository_commands.specs.Refusals.{IsRefusedLine}
 use Rattle.repository_commands.specs.Outcomes.{IsMade, Texts}
-use Rattle.repository_commands.specs.Texts.{Path, stamp_check, key_check, car_of_given, car_text, path_of_given, text_of_path, prove_text, blocks_of_lines, or_bad_root, or_no_proof, answer_line, verify_text}
+use Rattle.repository_commands.specs.Texts.{stamp_check, key_check, car_of_given, car_text, proof_of_given, prove_text, blocks_of_lines, or_bad_root, answer_of_blocks, words_check, verify_text}
 use Rattle.repository_commands.specs.declared.fault.CommandFault.{CommandFault}
+use Rattle.repository_commands.specs.declared.fault.CommandFault.TheVariants as errors
 use Rattle.repository_commands.proofs.Endings.{always_known, for_known}
 
 -- ---- one step of a reading
@@ -60,17 +61,84 @@ car_checked digest stamp given xs e is = gives_then (stamp_check stamp) tt (λ _
 
 pub prove_unchecked : (digest : List ℕ → List ℕ) (stamp : Stamp) (key : List ℕ) (o : Option Fault) → Fails o (key_check key) → (xs : List ℕ) → Fails o (prove_text digest stamp key xs)
 unfolding prove_text
-prove_unchecked digest stamp key o e xs = fails_then o (key_check key) (λ _. path_of_given digest stamp key (given_in xs) >>= (λ p. Ok (text_of_path p))) e
+prove_unchecked digest stamp key o e xs = fails_then o (key_check key) (λ _. proof_of_given digest stamp key (given_in xs)) e
 
-pub prove_checked : (digest : List ℕ → List ℕ) (stamp : Stamp) (key : List ℕ) (given : Given) (xs : List ℕ) → key_check key ≡ Ok tt → given ≡ given_in xs
-    → prove_text digest stamp key xs ≡ (path_of_given digest stamp key given >>= (λ p. Ok (text_of_path p)))
+pub prove_checked : (digest : List ℕ → List ℕ) (stamp : Stamp) (key : List ℕ) (given : Given) (xs : List ℕ) → key_check key ≡ Ok tt → given ≡ given_in xs → prove_text digest stamp key xs ≡ proof_of_given digest stamp key given
 unfolding prove_text
-prove_checked digest stamp key given xs e is =
-    gives_then (key_check key) tt (λ _. path_of_given digest stamp key (given_in xs) >>= (λ p. Ok (text_of_path p))) e
-    ∙ ap (λ g. path_of_given digest stamp key g >>= (λ p. Ok (text_of_path p))) (sym is)
+prove_checked digest stamp key given xs e is = gives_then (key_check key) tt (λ _. proof_of_given digest stamp key (given_in xs)) e ∙ ap (proof_of_given digest stamp key) (sym is)
 
--- ---- refusals of a line, over an input that is known
+module _ (digest : List ℕ → List ℕ) (root key : List ℕ) where
+  -- a faulty root, a faulty key
+  pub verify_unrooted : (o : Option Fault) → Fails o (or_bad_root (cid_of_text root)) → (xs : List ℕ) → Fails o (verify_text digest root key xs)
+  unfolding verify_text
+  verify_unrooted o e xs = fails_then o (or_bad_root (cid_of_text root)) (λ r. key_check key >>= (λ _. blocks_of_lines 1 (lines xs) >>= answer_of_blocks digest r key)) e
 
-pub refused_of : {D A : Type 0} (digest : List ℕ → List ℕ) (stamp : Stamp) (given : Given) (input : Option (List ℕ)) (f : CommandFault D A)
-    → IfSome input (λ xs. given ≡ given_in xs) → IsRefusedLine digest stamp given f → IfSome input (λ xs. IsRefusedLine digest stamp (given_in xs) f)
-refused_of digest stamp given input f known is = for_known _ _ input (λ xs e. subst (λ g. IsRefusedLine digest stamp g f) e is) known
+  module _ (r : List ℕ) (rooted : or_bad_root (cid_of_text root) ≡ Ok r) where
+    verify_rooted : (xs : List ℕ) → verify_text digest root key xs ≡ (key_check key >>= (λ _. blocks_of_lines 1 (lines xs) >>= answer_of_blocks digest r key))
+    unfolding verify_text
+    verify_rooted xs = gives_then (or_bad_root (cid_of_text root)) r (λ r. key_check key >>= (λ _. blocks_of_lines 1 (lines xs) >>= answer_of_blocks digest r key)) rooted
+
+    pub verify_unkeyed : (o : Option Fault) → Fails o (key_check key) → (xs : List ℕ) → Fails o (verify_text digest root key xs)
+    verify_unkeyed o e xs = subst (Fails o) (sym (verify_rooted xs)) (fails_then o (key_check key) (λ _. blocks_of_lines 1 (lines xs) >>= answer_of_blocks digest r key) e)
+
+    -- both words pass
+    module _ (keyed : key_check key ≡ Ok tt) where
+      pub words_pass : words_check root key ≡ Ok tt
+      words_pass = gives_then (or_bad_root (cid_of_text root)) r (λ _. key_check key) rooted ∙ keyed
+
+      verify_keyed : (xs : List ℕ) → verify_text digest root key xs ≡ (blocks_of_lines 1 (lines xs) >>= answer_of_blocks digest r key)
+      verify_keyed xs = verify_rooted xs ∙ gives_then (key_check key) tt (λ _. blocks_of_lines 1 (lines xs) >>= answer_of_blocks digest r key) keyed
+
+      pub verify_unlined : (o : Option Fault) (xs : List ℕ) → Fails o (blocks_of_lines 1 (lines xs)) → Fails o (verify_text digest root key xs)
+      verify_unlined o xs e = subst (Fails o) (sym (verify_keyed xs)) (fails_then o (blocks_of_lines 1 (lines xs)) (answer_of_blocks digest r key) e)
+
+      pub verify_lined : (xs : List ℕ) (bs : List (List ℕ)) → blocks_of_lines 1 (lines xs) ≡ Ok bs → verify_text digest root key xs ≡ answer_of_blocks digest r key bs
+      verify_lined xs bs e = verify_keyed xs ∙ gives_then (blocks_of_lines 1 (lines xs)) bs (answer_of_blocks digest r key) e
+
+-- ---- refusals of a line
+
+module _ {D A : Type 0} (digest : List ℕ → List ℕ) (stamp : Stamp) where
+  -- the fault of a word is of no line
+  pub word_refused : (given : Given) (f : CommandFault D A) → is_of_words f ≡ true → IsRefusedLine digest stamp given f
+  word_refused given errors.BadDid e = tt
+  word_refused given errors.BadRev e = tt
+  word_refused given (errors.Root f) e = tt
+  word_refused given (errors.Proof f) e = tt
+  word_refused given (errors.Line n f) e = absurd cc
+  word_refused given errors.NoMemory e = tt
+  word_refused given errors.ReadFailed e = tt
+  word_refused given errors.WriteFailed e = tt
+
+  unread_refused : (given : Given) (w : ReadFault) → IsRefusedLine {D = D} {A = A} digest stamp given (of_read w)
+  unread_refused given reads.NoMemory = tt
+  unread_refused given reads.Failed = tt
+
+  module _ (input : Option (List ℕ)) where
+    -- of an input that is known
+    abbrev pub IsRefusedKnown : CommandFault D A → Type 0
+    IsRefusedKnown f = IfSome input (λ xs. IsRefusedLine digest stamp (given_in xs) f)
+
+    refused_unless_written : {X : Type 0} (made : Result X (CommandFault D A)) (f : CommandFault D A) → (may_have_written f ≡ false → made ≡ Err f) → IfErr made IsRefusedKnown → IsRefusedKnown f
+    refused_unless_written made errors.BadDid p k = always_known _ input (λ xs. tt)
+    refused_unless_written made errors.BadRev p k = always_known _ input (λ xs. tt)
+    refused_unless_written made (errors.Root f) p k = always_known _ input (λ xs. tt)
+    refused_unless_written made (errors.Proof f) p k = always_known _ input (λ xs. tt)
+    refused_unless_written made (errors.Line n f) p k = subst (λ m. IfErr m IsRefusedKnown) (p refl) k
+    refused_unless_written made errors.NoMemory p k = always_known _ input (λ xs. tt)
+    refused_unless_written made errors.ReadFailed p k = always_known _ input (λ xs. tt)
+    refused_unless_written made errors.WriteFailed p k = always_known _ input (λ xs. tt)
+
+    -- a fault that leaves the output as it was is that of what was made
+    pub refused_passed : {X Y : Type 0} (made : Result X (CommandFault D A)) (r : Result Y (CommandFault D A)) → IfErr r (λ e. may_have_written e ≡ false → made ≡ Err e) → IfErr made IsRefusedKnown → IfErr r IsRefusedKnown
+    refused_passed made (Ok y) p k = tt
+    refused_passed made (Err f) p k = refused_unless_written made f p k
+
+    pub refused_by_word : {X : Type 0} (r : Result X (CommandFault D A)) (f : CommandFault D A) → IsErrAnd r (λ e. e ≡ f) → is_of_words f ≡ true → IfErr r IsRefusedKnown
+    refused_by_word r f e word = passed (λ q. IfErr q IsRefusedKnown) r f e (always_known _ input (λ xs. word_refused (given_in xs) f word))
+
+    pub refused_unread : {X : Type 0} (r : Result X (CommandFault D A)) (w : ReadFault) → IsErrAnd r (λ e. e ≡ of_read w) → IfErr r IsRefusedKnown
+    refused_unread r w e = passed (λ q. IfErr q IsRefusedKnown) r (of_read w) e (always_known _ input (λ xs. unread_refused (given_in xs) w))
+
+    pub refused_known : {X : Type 0} (r : Result X (CommandFault D A)) (given : Given) → IfSome input (λ xs. given ≡ given_in xs) → IfErr r (IsRefusedLine digest stamp given) → IfErr r IsRefusedKnown
+    refused_known (Ok x) given known is = tt
+    refused_known (Err f) given known is = for_known _ _ input (λ xs e. subst (λ g. IsRefusedLine digest stamp g f) e is) known

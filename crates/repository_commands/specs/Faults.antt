@@ -58,7 +58,7 @@ may_have_written errors.NoMemory = true
 may_have_written errors.ReadFailed = false
 may_have_written errors.WriteFailed = true
 
--- whether it is a fault of the words, which are judged before the input is read
+-- whether it is a fault of a word
 abbrev pub is_of_words : {D A : Type 0} → CommandFault D A → Bool
 is_of_words errors.BadDid = true
 is_of_words errors.BadRev = true

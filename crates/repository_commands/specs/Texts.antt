@@ -98,11 +98,15 @@ text_of_path p = text p.0 ++ (10 ∷ []) ++ flat_map hex_line p.1
 abbrev pub key_check : List ℕ → Result (Unit {0}) Fault
 key_check key = ensure (is_key key) (OfProof KeyLength)
 
+abbrev pub proof_of_given : (List ℕ → List ℕ) → Stamp → List ℕ → Given → Result (List ℕ) Fault
+proof_of_given digest stamp key given = do
+  p ← path_of_given digest stamp key given
+  Ok (text_of_path p)
+
 unfoldable pub prove_text : (List ℕ → List ℕ) → Stamp → List ℕ → List ℕ → Result (List ℕ) Fault
 prove_text digest stamp key input = do
   key_ok ← key_check key
-  p ← path_of_given digest stamp key (given_in input)
-  Ok (text_of_path p)
+  proof_of_given digest stamp key (given_in input)
 
 -- ---- `verify`
 
@@ -139,13 +143,24 @@ abbrev pub answer_line : Option (List ℕ) → List ℕ
 answer_line None = codes "absent" ++ (10 ∷ [])
 answer_line (Some c) = codes "found " ++ text c ++ (10 ∷ [])
 
+-- the line for these blocks
+abbrev pub answer_of_blocks : (List ℕ → List ℕ) → List ℕ → List ℕ → List (List ℕ) → Result (List ℕ) Fault
+answer_of_blocks digest root key bs = do
+  value ← or_no_proof (verified digest 2 root bs key)
+  Ok (answer_line value)
+
+-- the words, which are judged before the input is read
+abbrev pub words_check : List ℕ → List ℕ → Result (Unit {0}) Fault
+words_check root key = do
+  r ← or_bad_root (cid_of_text root)
+  key_check key
+
 unfoldable pub verify_text : (List ℕ → List ℕ) → List ℕ → List ℕ → List ℕ → Result (List ℕ) Fault
 verify_text digest root key input = do
   r ← or_bad_root (cid_of_text root)
   key_ok ← key_check key
   bs ← blocks_of_lines 1 (lines input)
-  value ← or_no_proof (verified digest 2 r bs key)
-  Ok (answer_line value)
+  answer_of_blocks digest r key bs
 
 -- ---- a text that may not be there
 

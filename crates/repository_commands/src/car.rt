@@ -1,5 +1,5 @@
 //! The command `car`: it puts the lines of its input into a repository and writes it as one file.
-ghost use Rattle.std.specs.Prelude.{◌≡◌, true, false, IfErr, IfOk, IfSome};
+ghost use Rattle.std.specs.Prelude.{◌≡◌, true, false, IfErr, IfOk, IfSome, IsErr};
 ghost use Rattle.spec.specs.Reading.{Gives};
 ghost use Rattle.spec.specs.States.{state_car};
 ghost use Rattle.batches.specs.Values.{stamp_of};
@@ -46,7 +46,7 @@ pub fn car_text<D: Digest, A: Allocator + Copy, R: Read, W: Write>(
         IsRefusedLine D.digest_of (stamp_of stamp.now) (given_in xs) e)) }
 
     // A faulty stamp is told before the input is read.
-    ensures unread { IfErr result (λ e. is_of_words e ≡ true → input.new ≡ input.old) }
+    ensures unread { IsErr (stamp_check (stamp_of stamp.now)) → input.new ≡ input.old }
 {
     write_made(car_made(alloc, stamp, input), out)
 }
@@ -61,7 +61,7 @@ fn car_made<D: Digest, A: Allocator + Copy, R: Read>(
         (R.remaining input.old) result }
     ensures refused { IfErr result (λ e. IfSome (R.remaining input.old) (λ xs.
         IsRefusedLine D.digest_of (stamp_of stamp.now) (given_in xs) e)) }
-    ensures unread { IfErr result (λ e. is_of_words e ≡ true → input.new ≡ input.old) }
+    ensures unread { IsErr (stamp_check (stamp_of stamp.now)) → input.new ≡ input.old }
     ensures kind { IfErr result (λ e. is_write_failure e ≡ false) }
 {
     check_stamp::<D, A>(stamp)?;
@@ -94,7 +94,6 @@ fn car_of_puts<D: Digest, A: Allocator + Copy>(
         (car_of_given D.digest_of (stamp_of stamp.now) (given_of puts)) }
     ensures refused { IfErr result
         (IsRefusedLine D.digest_of (stamp_of stamp.now) (given_of puts)) }
-    ensures input { IfErr result (λ e. is_of_words e ≡ false) }
     ensures kind { IfErr result (λ e. is_write_failure e ≡ false) }
 {
     let mut store = Tables::new(alloc)?;

@@ -1,6 +1,6 @@
 //! How a command ends: its text is written, or the fault is told; to the exit status.
-ghost use Rattle.std.specs.Prelude.{◌≡◌, List, ℕ, Option, false, IfErr};
-ghost use Rattle.repository_commands.specs.Faults.{is_write_failure};
+ghost use Rattle.std.specs.Prelude.{◌≡◌, List, ℕ, Option, Err, false, IfErr};
+ghost use Rattle.repository_commands.specs.Faults.{is_write_failure, may_have_written};
 ghost use Rattle.repository_commands.specs.Outcomes.{IsMade, IsOutcome, IsStatusOf, Texts};
 
 use crate::fault::CommandFault;
@@ -15,9 +15,12 @@ pub(crate) fn write_made<D: Digest, A: Allocator, W: Write>(
     out: &mut W,
 ) -> Result<(), CommandFault<D, A>>
     requires kind { IfErr made (λ e. is_write_failure e ≡ false) }
-    ensures { (text : Texts) (input : Option (List ℕ))
+    ensures outcome { (text : Texts) (input : Option (List ℕ))
         → IsMade (λ bytes. bytes.items) text input made
         → IsOutcome text input (W.contents out.old) (W.contents out.new) result }
+
+    // A fault that leaves the output as it was is that of the text.
+    ensures fault { IfErr result (λ e. may_have_written e ≡ false → made ≡ Err e) }
 {
     match made {
         Ok(text) => match write_whole(out, &text) {

@@ -3,7 +3,7 @@ ghost use Rattle.std.specs.Prelude.{◌≡◌, false, slice_index, IfErr, IfOk, 
 ghost use Rattle.spec.specs.Reading.{Gives};
 ghost use Rattle.batches.specs.Values.{stamp_of, writes_of};
 ghost use Rattle.store.specs.Stores.{IsStore};
-ghost use Rattle.repository_commands.specs.Faults.{fault_of, is_of_words, is_write_failure};
+ghost use Rattle.repository_commands.specs.Faults.{fault_of, is_write_failure};
 ghost use Rattle.repository_commands.specs.Refusals.{IsRefusedLine, bad_line, refused as refused_by};
 ghost use Rattle.repository_commands.specs.Texts.{no_writes, state_of, state_of_given, unless_stopped, writes_check};
 ghost use Rattle.repository_commands.specs.Views.{given_of};
@@ -38,7 +38,6 @@ pub(crate) fn filled<
         (state_of_given (stamp_of stamp.now) (given_of puts)) }
     ensures refused { IfErr result
         (IsRefusedLine D.digest_of (stamp_of stamp.now) (given_of puts)) }
-    ensures input { IfErr result (λ e. is_of_words e ≡ false) }
     ensures kind { IfErr result (λ e. is_write_failure e ≡ false) }
 {
     let mut core = empty::<D, A, S>(alloc, store)?;
@@ -88,7 +87,6 @@ fn apply_puts<
         (state_of_given (stamp_of stamp.now) (given_of puts.now)) }
     ensures refused { IfErr result
         (IsRefusedLine D.digest_of (stamp_of stamp.now) (given_of puts.now)) }
-    ensures input { IfErr result (λ e. is_of_words e ≡ false) }
     ensures kind { IfErr result (λ e. is_write_failure e ≡ false) }
 {
     apply_writes::<D, A, S>(alloc, store, core, stamp, puts)?;
@@ -115,7 +113,6 @@ fn apply_writes<
         (core.new ≡ state_of (stamp_of stamp.now) (writes_of puts.now.writes.items)) }
     ensures refused { IfErr result
         (IsRefusedLine D.digest_of (stamp_of stamp.now) (given_of puts.now)) }
-    ensures input { IfErr result (λ e. is_of_words e ≡ false) }
     ensures kind { IfErr result (λ e. is_write_failure e ≡ false) }
 {
     if puts.writes.is_empty() {
@@ -138,7 +135,6 @@ fn number_at(numbers: &[u64], place: usize) -> u64
 fn check_end<D: Digest, A: Allocator>(stop: Option<u64>) -> Result<(), CommandFault<D, A>>
     ensures check { Gives (λ ok. ok) fault_of result (unless_stopped stop) }
     ensures line { IfErr result (λ e. IfSome stop (λ n. e ≡ bad_line n)) }
-    ensures input { IfErr result (λ e. is_of_words e ≡ false) }
     ensures kind { IfErr result (λ e. is_write_failure e ≡ false) }
 {
     match stop {

@@ -1,5 +1,5 @@
 //! The command `prove`: it puts the lines of its input into a repository and writes the proof of a key.
-ghost use Rattle.std.specs.Prelude.{◌≡◌, ◌++◌, true, false, map, IfErr, IfOk, IfSome, OnOk};
+ghost use Rattle.std.specs.Prelude.{◌≡◌, ◌++◌, true, false, map, IfErr, IfOk, IfSome, IsErr, OnOk};
 ghost use Rattle.std.specs.Arc.{arc_value};
 ghost use Rattle.std.specs.List.{flat_map};
 ghost use Rattle.spec.specs.Reading.{Gives};
@@ -8,7 +8,7 @@ ghost use Rattle.repository_commands.specs.Faults.{fault_of, is_of_words, is_wri
 ghost use Rattle.repository_commands.specs.Outcomes.{IsMade, IsOutcome};
 ghost use Rattle.repository_commands.specs.Puts.{given_in};
 ghost use Rattle.repository_commands.specs.Refusals.{IsRefusedLine};
-ghost use Rattle.repository_commands.specs.Texts.{hex_line, key_check, path_of_given, prove_text as prove_text_of, text_of_path};
+ghost use Rattle.repository_commands.specs.Texts.{hex_line, key_check, path_of_given, proof_of_given, prove_text as prove_text_of, text_of_path};
 ghost use Rattle.repository_commands.specs.Views.{given_of, nodes_of};
 
 use crate::ending::write_made;
@@ -40,7 +40,7 @@ pub fn prove_text<D: Digest, A: Allocator + Copy, R: Read, W: Write>(
         (R.remaining input.old) (W.contents out.old) (W.contents out.new) result }
     ensures refused { IfErr result (λ e. IfSome (R.remaining input.old) (λ xs.
         IsRefusedLine D.digest_of (stamp_of stamp.now) (given_in xs) e)) }
-    ensures unread { IfErr result (λ e. is_of_words e ≡ true → input.new ≡ input.old) }
+    ensures unread { IsErr (key_check key.now) → input.new ≡ input.old }
 {
     write_made(proof_made(alloc, stamp, key, input), out)
 }
@@ -56,13 +56,12 @@ fn proof_made<D: Digest, A: Allocator + Copy, R: Read>(
         (prove_text_of D.digest_of (stamp_of stamp.now) key.now) (R.remaining input.old) result }
     ensures refused { IfErr result (λ e. IfSome (R.remaining input.old) (λ xs.
         IsRefusedLine D.digest_of (stamp_of stamp.now) (given_in xs) e)) }
-    ensures unread { IfErr result (λ e. is_of_words e ≡ true → input.new ≡ input.old) }
+    ensures unread { IsErr (key_check key.now) → input.new ≡ input.old }
     ensures kind { IfErr result (λ e. is_write_failure e ≡ false) }
 {
     check_key::<D, A>(key)?;
     let puts = read_puts(alloc, input)?;
-    let path = path_of_puts::<D, A>(alloc, stamp, key, puts)?;
-    Ok(text_of(alloc, &path)?)
+    proof_of_puts(alloc, stamp, key, puts)
 }
 
 /// Tests a key.
@@ -75,6 +74,23 @@ pub(crate) fn check_key<D: Digest, A: Allocator>(key: &[u8]) -> Result<(), Comma
         return Err(CommandFault::Proof(ProofFault::KeyLength));
     }
     Ok(())
+}
+
+/// The text of the proof of a key in the repository of these puts.
+fn proof_of_puts<D: Digest, A: Allocator + Copy>(
+    alloc: A,
+    stamp: &Stamp<A>,
+    key: &[u8],
+    puts: Puts<A>,
+) -> Result<Vec<u8, A>, CommandFault<D, A>>
+    ensures text { Gives (λ bytes. bytes.items) fault_of result
+        (proof_of_given D.digest_of (stamp_of stamp.now) key.now (given_of puts)) }
+    ensures refused { IfErr result
+        (IsRefusedLine D.digest_of (stamp_of stamp.now) (given_of puts)) }
+    ensures kind { IfErr result (λ e. is_write_failure e ≡ false) }
+{
+    let path = path_of_puts::<D, A>(alloc, stamp, key, puts)?;
+    Ok(text_of(alloc, &path)?)
 }
 
 /// A root and the nodes of a key's path below it.
@@ -95,7 +111,6 @@ fn path_of_puts<D: Digest, A: Allocator + Copy>(
         (path_of_given D.digest_of (stamp_of stamp.now) key.now (given_of puts)) }
     ensures refused { IfErr result
         (IsRefusedLine D.digest_of (stamp_of stamp.now) (given_of puts)) }
-    ensures input { IfErr result (λ e. is_of_words e ≡ false) }
     ensures kind { IfErr result (λ e. is_write_failure e ≡ false) }
 {
     let mut store = Tables::new(alloc)?;

@@ -1,11 +1,11 @@
 //! The command `verify`: it reads the blocks of a proof and writes what they show.
-ghost use Rattle.std.specs.Prelude.{◌≡◌, ◌++◌, true, false, IfErr, IfOk, IfSome, OnOk};
+ghost use Rattle.std.specs.Prelude.{◌≡◌, false, IfErr, IfOk, IsErr};
 ghost use Rattle.spec.specs.Reading.{Gives};
 ghost use Rattle.spec.specs.Cid.{cid_of_text};
 ghost use Rattle.spec.specs.Proof.{verified};
-ghost use Rattle.repository_commands.specs.Faults.{fault_of, is_of_words, is_write_failure};
+ghost use Rattle.repository_commands.specs.Faults.{fault_of, is_write_failure};
 ghost use Rattle.repository_commands.specs.Outcomes.{IsMade, IsOutcome};
-ghost use Rattle.repository_commands.specs.Texts.{answer_line, or_bad_root, or_no_proof, verify_text as verify_text_of};
+ghost use Rattle.repository_commands.specs.Texts.{answer_line, answer_of_blocks as answer_of_blocks_of, or_bad_root, or_no_proof, verify_text as verify_text_of, words_check};
 ghost use Rattle.repository_commands.specs.Views.{blocks_of};
 
 use crate::blocks::read_blocks;
@@ -32,6 +32,9 @@ pub fn verify_text<D: Digest, A: Allocator + Copy, R: Read, W: Write>(
 ) -> Result<(), CommandFault<D, A>>
     ensures outcome { IsOutcome (verify_text_of D.digest_of root.now key.now)
         (R.remaining input.old) (W.contents out.old) (W.contents out.new) result }
+
+    // A faulty root or key is told before the input is read.
+    ensures unread { IsErr (words_check root.now key.now) → input.new ≡ input.old }
 {
     write_made(answer_made(alloc, root, key, input), out)
 }
@@ -45,12 +48,27 @@ fn answer_made<D: Digest, A: Allocator + Copy, R: Read>(
 ) -> Result<Vec<u8, A>, CommandFault<D, A>>
     ensures made { IsMade (λ bytes. bytes.items) (verify_text_of D.digest_of root.now key.now)
         (R.remaining input.old) result }
+    ensures unread { IsErr (words_check root.now key.now) → input.new ≡ input.old }
     ensures kind { IfErr result (λ e. is_write_failure e ≡ false) }
 {
     let root = root_of::<D, A>(root)?;
     check_key::<D, A>(key)?;
     let blocks = read_blocks::<D, A, R>(alloc, input)?;
-    let value = shown::<D, A>(root, &blocks, key)?;
+    answer_of_blocks(alloc, root, &blocks, key)
+}
+
+/// The line that answers for these blocks.
+fn answer_of_blocks<D: Digest, A: Allocator>(
+    alloc: A,
+    root: Cid,
+    blocks: &[Vec<u8, A>],
+    key: &[u8],
+) -> Result<Vec<u8, A>, CommandFault<D, A>>
+    ensures line { Gives (λ bytes. bytes.items) fault_of result
+        (answer_of_blocks_of D.digest_of root key.now (blocks_of blocks.now)) }
+    ensures kind { IfErr result (λ e. is_write_failure e ≡ false) }
+{
+    let value = shown::<D, A>(root, blocks, key)?;
     Ok(line_of(alloc, value)?)
 }
 
