@@ -109,10 +109,6 @@ module _ {D A : Type 0} (digest : List ℕ → List ℕ) (stamp : Stamp) where
   word_refused given errors.ReadFailed e = tt
   word_refused given errors.WriteFailed e = tt
 
-  unread_refused : (given : Given) (w : ReadFault) → IsRefusedLine {D = D} {A = A} digest stamp given (of_read w)
-  unread_refused given reads.NoMemory = tt
-  unread_refused given reads.Failed = tt
-
   module _ (input : Option (List ℕ)) where
     -- of an input that is known
     abbrev pub IsRefusedKnown : CommandFault D A → Type 0
@@ -136,8 +132,12 @@ module _ {D A : Type 0} (digest : List ℕ → List ℕ) (stamp : Stamp) where
     pub refused_by_word : {X : Type 0} (r : Result X (CommandFault D A)) (f : CommandFault D A) → IsErrAnd r (λ e. e ≡ f) → is_of_words f ≡ true → IfErr r IsRefusedKnown
     refused_by_word r f e word = passed (λ q. IfErr q IsRefusedKnown) r f e (always_known _ input (λ xs. word_refused (given_in xs) f word))
 
+    unread_refused : (w : ReadFault) → IsRefusedKnown (of_read w)
+    unread_refused reads.NoMemory = always_known _ input (λ xs. tt)
+    unread_refused reads.Failed = always_known _ input (λ xs. tt)
+
     pub refused_unread : {X : Type 0} (r : Result X (CommandFault D A)) (w : ReadFault) → IsErrAnd r (λ e. e ≡ of_read w) → IfErr r IsRefusedKnown
-    refused_unread r w e = passed (λ q. IfErr q IsRefusedKnown) r (of_read w) e (always_known _ input (λ xs. unread_refused (given_in xs) w))
+    refused_unread r w e = passed (λ q. IfErr q IsRefusedKnown) r (of_read w) e (unread_refused w)
 
     pub refused_known : {X : Type 0} (r : Result X (CommandFault D A)) (given : Given) → IfSome input (λ xs. given ≡ given_in xs) → IfErr r (IsRefusedLine digest stamp given) → IfErr r IsRefusedKnown
     refused_known (Ok x) given known is = tt

@@ -18,7 +18,7 @@ abbrev pub added : Given → ℕ → Write → Given
 added g n w = record { numbers = g.numbers ++ n ∷ []; writes = g.writes ++ w ∷ []; stop = g.stop }
 
 -- the nodes of a path
-abbrev pub nodes_of : {D A : Type 0} → PathNodes D A → Path
+abbrev pub nodes_of : {D : Type 0} → PathNodes D → Path
 nodes_of p = (p.root, map arc_value p.nodes.items)
 
 -- blocks in memory

@@ -19,7 +19,7 @@ use batches::{Stamp, is_did, is_tid};
 use cid::Digest;
 use export::ToMemory;
 use repo::Core;
-use std::alloc::{AllocError, Allocator};
+use std::alloc::{AllocError, Global};
 use std::io::{Read, Write};
 
 /// Reads lines `KEY HEX`, puts each record under its key into one repository, all in one batch under a stamp, and writes
@@ -32,12 +32,12 @@ use std::io::{Read, Write};
 /// The stamp is tested before the input is read, all of the input is read before a line is judged, and all is judged
 /// before a byte is written: only at `CommandFault::NoMemory` and `CommandFault::WriteFailed` a beginning of the file
 /// was written.
-pub fn car_text<D: Digest, A: Allocator + Copy, R: Read, W: Write>(
-    alloc: A,
-    stamp: &Stamp<A>,
+pub fn car_text<D: Digest, R: Read, W: Write>(
+    alloc: Global,
+    stamp: &Stamp,
     input: &mut R,
     out: &mut W,
-) -> Result<(), CommandFault<D, A>>
+) -> Result<(), CommandFault<D>>
     ensures outcome { IsOutcome (car_text_of D.digest_of (stamp_of stamp.now))
         (R.remaining input.old) (W.contents out.old) (W.contents out.new) result }
 
@@ -52,11 +52,11 @@ pub fn car_text<D: Digest, A: Allocator + Copy, R: Read, W: Write>(
 }
 
 /// The file of the lines of the input.
-fn car_made<D: Digest, A: Allocator + Copy, R: Read>(
-    alloc: A,
-    stamp: &Stamp<A>,
+fn car_made<D: Digest, R: Read>(
+    alloc: Global,
+    stamp: &Stamp,
     input: &mut R,
-) -> Result<Vec<u8, A>, CommandFault<D, A>>
+) -> Result<Vec<u8>, CommandFault<D>>
     ensures made { IsMade (λ bytes. bytes.items) (car_text_of D.digest_of (stamp_of stamp.now))
         (R.remaining input.old) result }
     ensures refused { IfErr result (λ e. IfSome (R.remaining input.old) (λ xs.
@@ -64,13 +64,13 @@ fn car_made<D: Digest, A: Allocator + Copy, R: Read>(
     ensures unread { IsErr (stamp_check (stamp_of stamp.now)) → input.new ≡ input.old }
     ensures kind { IfErr result (λ e. is_write_failure e ≡ false) }
 {
-    check_stamp::<D, A>(stamp)?;
+    check_stamp::<D>(stamp)?;
     let puts = read_puts(alloc, input)?;
     car_of_puts(alloc, stamp, puts)
 }
 
 /// Tests a stamp: whose repository it is, and then the revision.
-fn check_stamp<D: Digest, A: Allocator>(stamp: &Stamp<A>) -> Result<(), CommandFault<D, A>>
+fn check_stamp<D: Digest>(stamp: &Stamp) -> Result<(), CommandFault<D>>
     ensures check { Gives (λ ok. ok) fault_of result (stamp_check (stamp_of stamp.now)) }
     ensures words { IfErr result (λ e. is_of_words e ≡ true) }
     ensures kind { IfErr result (λ e. is_write_failure e ≡ false) }
@@ -85,11 +85,11 @@ fn check_stamp<D: Digest, A: Allocator>(stamp: &Stamp<A>) -> Result<(), CommandF
 }
 
 /// The file of the repository of these puts.
-fn car_of_puts<D: Digest, A: Allocator + Copy>(
-    alloc: A,
-    stamp: &Stamp<A>,
-    puts: Puts<A>,
-) -> Result<Vec<u8, A>, CommandFault<D, A>>
+fn car_of_puts<D: Digest>(
+    alloc: Global,
+    stamp: &Stamp,
+    puts: Puts<Global>,
+) -> Result<Vec<u8>, CommandFault<D>>
     ensures file { Gives (λ bytes. bytes.items) fault_of result
         (car_of_given D.digest_of (stamp_of stamp.now) (given_of puts)) }
     ensures refused { IfErr result
@@ -97,17 +97,17 @@ fn car_of_puts<D: Digest, A: Allocator + Copy>(
     ensures kind { IfErr result (λ e. is_write_failure e ≡ false) }
 {
     let mut store = Tables::new(alloc)?;
-    let core = filled::<D, A, Tables<D, A>>(alloc, &mut store, stamp, puts)?;
+    let core = filled::<D, Tables<D, Global>>(alloc, &mut store, stamp, puts)?;
     let file = car_in_memory(alloc, &core);
     core.end(&mut store);
     Ok(file?)
 }
 
 /// The file of a repository, in memory.
-fn car_in_memory<D: Digest, A: Allocator + Copy>(
-    alloc: A,
-    core: &Core<D, 2, A>,
-) -> Result<Vec<u8, A>, AllocError>
+fn car_in_memory<D: Digest>(
+    alloc: Global,
+    core: &Core<D, 2>,
+) -> Result<Vec<u8>, AllocError>
     ensures { IfOk result (λ bytes. bytes.items ≡ state_car D.digest_of 2 core.now) }
 {
     let mut file = ToMemory::new(alloc);

@@ -13,7 +13,7 @@ use crate::puts::Puts;
 use batches::{RepoFault, Stamp};
 use cid::{Block, Digest};
 use repo::Core;
-use std::alloc::{AllocError, Allocator};
+use std::alloc::{AllocError, Global};
 use std::sync::Arc;
 use store::{BlockStore, Hold, StoreFault};
 
@@ -25,14 +25,13 @@ const MOST_WRITES: usize = 1_048_576;
 /// has copies of its own.
 pub(crate) fn filled<
     D: Digest,
-    A: Allocator + Copy,
-    S: BlockStore<Arc<Block<D, A>, A>, Hold<D, A>, StoreFault<D, A>>,
+    S: BlockStore<Arc<Block<D>>, Hold<D>, StoreFault<D>>,
 >(
-    alloc: A,
+    alloc: Global,
     store: &mut S,
-    stamp: &Stamp<A>,
-    puts: Puts<A>,
-) -> Result<Core<D, 2, A>, CommandFault<D, A>>
+    stamp: &Stamp,
+    puts: Puts<Global>,
+) -> Result<Core<D, 2>, CommandFault<D>>
     requires store { IsStore D.digest_of S.fulls S.answers }
     ensures state { Gives (λ core. core) fault_of result
         (state_of_given (stamp_of stamp.now) (given_of puts)) }
@@ -40,8 +39,8 @@ pub(crate) fn filled<
         (IsRefusedLine D.digest_of (stamp_of stamp.now) (given_of puts)) }
     ensures kind { IfErr result (λ e. is_write_failure e ≡ false) }
 {
-    let mut core = empty::<D, A, S>(alloc, store)?;
-    match apply_puts::<D, A, S>(alloc, store, &mut core, stamp, &puts) {
+    let mut core = empty::<D, S>(alloc, store)?;
+    match apply_puts::<D, S>(alloc, store, &mut core, stamp, &puts) {
         Ok(()) => Ok(core),
         Err(fault) => {
             core.end(store);
@@ -56,9 +55,8 @@ pub(crate) fn filled<
 /// memory.
 fn empty<
     D: Digest,
-    A: Allocator + Copy,
-    S: BlockStore<Arc<Block<D, A>, A>, Hold<D, A>, StoreFault<D, A>>,
->(alloc: A, store: &mut S) -> Result<Core<D, 2, A>, AllocError>
+    S: BlockStore<Arc<Block<D>>, Hold<D>, StoreFault<D>>,
+>(alloc: Global, store: &mut S) -> Result<Core<D, 2>, AllocError>
     requires store { IsStore D.digest_of S.fulls S.answers }
     ensures { IfOk result (λ core. core ≡ no_writes) }
 {
@@ -72,15 +70,14 @@ fn empty<
 #[tactic(auto, unfolding(crate::specs::Texts::state_of_given))]
 fn apply_puts<
     D: Digest,
-    A: Allocator + Copy,
-    S: BlockStore<Arc<Block<D, A>, A>, Hold<D, A>, StoreFault<D, A>>,
+    S: BlockStore<Arc<Block<D>>, Hold<D>, StoreFault<D>>,
 >(
-    alloc: A,
+    alloc: Global,
     store: &mut S,
-    core: &mut Core<D, 2, A>,
-    stamp: &Stamp<A>,
-    puts: &Puts<A>,
-) -> Result<(), CommandFault<D, A>>
+    core: &mut Core<D, 2>,
+    stamp: &Stamp,
+    puts: &Puts<Global>,
+) -> Result<(), CommandFault<D>>
     requires store { IsStore D.digest_of S.fulls S.answers }
     requires empty { core.old ≡ no_writes }
     ensures state { Gives (λ _. core.new) fault_of result
@@ -89,22 +86,21 @@ fn apply_puts<
         (IsRefusedLine D.digest_of (stamp_of stamp.now) (given_of puts.now)) }
     ensures kind { IfErr result (λ e. is_write_failure e ≡ false) }
 {
-    apply_writes::<D, A, S>(alloc, store, core, stamp, puts)?;
-    check_end::<D, A>(puts.stop)
+    apply_writes::<D, S>(alloc, store, core, stamp, puts)?;
+    check_end::<D>(puts.stop)
 }
 
 /// Applies the puts before the line that is none, if there is one, or names the line of the first that is refused.
 fn apply_writes<
     D: Digest,
-    A: Allocator + Copy,
-    S: BlockStore<Arc<Block<D, A>, A>, Hold<D, A>, StoreFault<D, A>>,
+    S: BlockStore<Arc<Block<D>>, Hold<D>, StoreFault<D>>,
 >(
-    alloc: A,
+    alloc: Global,
     store: &mut S,
-    core: &mut Core<D, 2, A>,
-    stamp: &Stamp<A>,
-    puts: &Puts<A>,
-) -> Result<(), CommandFault<D, A>>
+    core: &mut Core<D, 2>,
+    stamp: &Stamp,
+    puts: &Puts<Global>,
+) -> Result<(), CommandFault<D>>
     requires store { IsStore D.digest_of S.fulls S.answers }
     requires empty { core.old ≡ no_writes }
     ensures passes { Gives (λ ok. ok) fault_of result
@@ -132,7 +128,7 @@ fn number_at(numbers: &[u64], place: usize) -> u64
 }
 
 /// Whether each line was a put.
-fn check_end<D: Digest, A: Allocator>(stop: Option<u64>) -> Result<(), CommandFault<D, A>>
+fn check_end<D: Digest>(stop: Option<u64>) -> Result<(), CommandFault<D>>
     ensures check { Gives (λ ok. ok) fault_of result (unless_stopped stop) }
     ensures line { IfErr result (λ e. IfSome stop (λ n. e ≡ bad_line n)) }
     ensures kind { IfErr result (λ e. is_write_failure e ≡ false) }
@@ -147,7 +143,7 @@ fn check_end<D: Digest, A: Allocator>(stop: Option<u64>) -> Result<(), CommandFa
 }
 
 /// The fault of a line that is refused; want of memory has no line.
-fn refused<D: Digest, A: Allocator>(number: u64, fault: RepoFault<D, A>) -> CommandFault<D, A>
+fn refused<D: Digest>(number: u64, fault: RepoFault<D>) -> CommandFault<D>
     ensures { result ≡ refused_by number fault }
 {
     match fault {

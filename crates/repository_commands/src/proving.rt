@@ -20,7 +20,7 @@ use batches::Stamp;
 use cid::{Block, Cid, Digest};
 use export::{ProofFault, prove};
 use node::is_key;
-use std::alloc::{AllocError, Allocator};
+use std::alloc::{AllocError, Allocator, Global};
 use std::io::{Read, Write};
 use std::sync::Arc;
 
@@ -29,13 +29,13 @@ use std::sync::Arc;
 ///
 /// The key has 1 to 1,024 bytes, else it is `ProofFault::KeyLength` before the input is read. The stamp is one that passes
 /// its test, as the program's own does.
-pub fn prove_text<D: Digest, A: Allocator + Copy, R: Read, W: Write>(
-    alloc: A,
-    stamp: &Stamp<A>,
+pub fn prove_text<D: Digest, R: Read, W: Write>(
+    alloc: Global,
+    stamp: &Stamp,
     key: &[u8],
     input: &mut R,
     out: &mut W,
-) -> Result<(), CommandFault<D, A>>
+) -> Result<(), CommandFault<D>>
     ensures outcome { IsOutcome (prove_text_of D.digest_of (stamp_of stamp.now) key.now)
         (R.remaining input.old) (W.contents out.old) (W.contents out.new) result }
     ensures refused { IfErr result (λ e. IfSome (R.remaining input.old) (λ xs.
@@ -46,12 +46,12 @@ pub fn prove_text<D: Digest, A: Allocator + Copy, R: Read, W: Write>(
 }
 
 /// The text of the proof over the lines of the input.
-fn proof_made<D: Digest, A: Allocator + Copy, R: Read>(
-    alloc: A,
-    stamp: &Stamp<A>,
+fn proof_made<D: Digest, R: Read>(
+    alloc: Global,
+    stamp: &Stamp,
     key: &[u8],
     input: &mut R,
-) -> Result<Vec<u8, A>, CommandFault<D, A>>
+) -> Result<Vec<u8>, CommandFault<D>>
     ensures made { IsMade (λ bytes. bytes.items)
         (prove_text_of D.digest_of (stamp_of stamp.now) key.now) (R.remaining input.old) result }
     ensures refused { IfErr result (λ e. IfSome (R.remaining input.old) (λ xs.
@@ -59,7 +59,7 @@ fn proof_made<D: Digest, A: Allocator + Copy, R: Read>(
     ensures unread { IsErr (key_check key.now) → input.new ≡ input.old }
     ensures kind { IfErr result (λ e. is_write_failure e ≡ false) }
 {
-    check_key::<D, A>(key)?;
+    check_key::<D, Global>(key)?;
     let puts = read_puts(alloc, input)?;
     proof_of_puts(alloc, stamp, key, puts)
 }
@@ -77,36 +77,36 @@ pub(crate) fn check_key<D: Digest, A: Allocator>(key: &[u8]) -> Result<(), Comma
 }
 
 /// The text of the proof of a key in the repository of these puts.
-fn proof_of_puts<D: Digest, A: Allocator + Copy>(
-    alloc: A,
-    stamp: &Stamp<A>,
+fn proof_of_puts<D: Digest>(
+    alloc: Global,
+    stamp: &Stamp,
     key: &[u8],
-    puts: Puts<A>,
-) -> Result<Vec<u8, A>, CommandFault<D, A>>
+    puts: Puts<Global>,
+) -> Result<Vec<u8>, CommandFault<D>>
     ensures text { Gives (λ bytes. bytes.items) fault_of result
         (proof_of_given D.digest_of (stamp_of stamp.now) key.now (given_of puts)) }
     ensures refused { IfErr result
         (IsRefusedLine D.digest_of (stamp_of stamp.now) (given_of puts)) }
     ensures kind { IfErr result (λ e. is_write_failure e ≡ false) }
 {
-    let path = path_of_puts::<D, A>(alloc, stamp, key, puts)?;
+    let path = path_of_puts::<D>(alloc, stamp, key, puts)?;
     Ok(text_of(alloc, &path)?)
 }
 
 /// A root and the nodes of a key's path below it.
 #[derive(Drop)]
-pub(crate) struct PathNodes<D: Digest, A: Allocator> {
+pub(crate) struct PathNodes<D: Digest> {
     root: Cid,
-    nodes: Vec<Arc<Block<D, A>, A>, A>,
+    nodes: Vec<Arc<Block<D>>>,
 }
 
 /// The path of a key in the repository of these puts.
-fn path_of_puts<D: Digest, A: Allocator + Copy>(
-    alloc: A,
-    stamp: &Stamp<A>,
+fn path_of_puts<D: Digest>(
+    alloc: Global,
+    stamp: &Stamp,
     key: &[u8],
-    puts: Puts<A>,
-) -> Result<PathNodes<D, A>, CommandFault<D, A>>
+    puts: Puts<Global>,
+) -> Result<PathNodes<D>, CommandFault<D>>
     ensures path { Gives nodes_of fault_of result
         (path_of_given D.digest_of (stamp_of stamp.now) key.now (given_of puts)) }
     ensures refused { IfErr result
@@ -114,7 +114,7 @@ fn path_of_puts<D: Digest, A: Allocator + Copy>(
     ensures kind { IfErr result (λ e. is_write_failure e ≡ false) }
 {
     let mut store = Tables::new(alloc)?;
-    let core = filled::<D, A, Tables<D, A>>(alloc, &mut store, stamp, puts)?;
+    let core = filled::<D, Tables<D, Global>>(alloc, &mut store, stamp, puts)?;
     let root = core.root();
     let nodes = prove(alloc, &core, key);
     core.end(&mut store);
@@ -125,10 +125,10 @@ fn path_of_puts<D: Digest, A: Allocator + Copy>(
 }
 
 /// The text of a path.
-fn text_of<D: Digest, A: Allocator + Copy>(
-    alloc: A,
-    path: &PathNodes<D, A>,
-) -> Result<Vec<u8, A>, AllocError>
+fn text_of<D: Digest>(
+    alloc: Global,
+    path: &PathNodes<D>,
+) -> Result<Vec<u8>, AllocError>
     ensures { IfOk result (λ bytes. bytes.items ≡ text_of_path (nodes_of path.now)) }
 {
     let mut text = Vec::new(alloc);
@@ -139,10 +139,10 @@ fn text_of<D: Digest, A: Allocator + Copy>(
 }
 
 /// Puts a line for each block at the end.
-fn push_lines<D: Digest, A: Allocator + Copy>(
-    alloc: A,
-    text: &mut Vec<u8, A>,
-    blocks: &[Arc<Block<D, A>, A>],
+fn push_lines<D: Digest>(
+    alloc: Global,
+    text: &mut Vec<u8>,
+    blocks: &[Arc<Block<D>>],
 ) -> Result<(), AllocError>
     ensures { OnOk result (text.new.items ≡ text.old.items
         ++ flat_map hex_line (map arc_value blocks.now)) }
@@ -154,9 +154,9 @@ fn push_lines<D: Digest, A: Allocator + Copy>(
 }
 
 /// Puts the line of a block at the end.
-fn push_line<A: Allocator + Copy>(
-    alloc: A,
-    text: &mut Vec<u8, A>,
+fn push_line(
+    alloc: Global,
+    text: &mut Vec<u8>,
     block: &[u8],
 ) -> Result<(), AllocError>
     ensures { OnOk result (text.new.items ≡ text.old.items ++ hex_line block.now) }
