@@ -45,7 +45,11 @@ module _ {X D A : Type 0} (view : X → List ℕ) (text : Texts) (input : Option
   pub made_unread : (w : ReadFault) → IsErrAnd r (λ e. e ≡ of_read w) → IsMade view text input r
   made_unread w e = passed (IsMade view text input) r (of_read w) e (unread w)
 
-  -- it was, and what was made of it is its text
+  -- what was read of it is at fault
+  pub made_by_input : (f : CommandFault D A) → IsErrAnd r (λ e. e ≡ f) → IfSome input (λ xs. Fails (fault_of f) (text xs)) → IsMade view text input r
+  made_by_input f e known = passed (IsMade view text input) r f e known
+
+  -- it was read, and what was made of it is its text
   pub made_of : (P : List ℕ → Type 0) → IfSome input P → ((xs : List ℕ) → P xs → Gives view fault_of r (text xs)) → IsMade view text input r
   made_of P known gives = for_known P (λ xs. Gives view fault_of r (text xs)) input gives known
 
@@ -94,51 +98,3 @@ module _ (digest : List ℕ → List ℕ) (root key : List ℕ) where
 
       pub verify_lined : (xs : List ℕ) (bs : List (List ℕ)) → blocks_of_lines 1 (lines xs) ≡ Ok bs → verify_text digest root key xs ≡ answer_of_blocks digest r key bs
       verify_lined xs bs e = verify_keyed xs ∙ gives_then (blocks_of_lines 1 (lines xs)) bs (answer_of_blocks digest r key) e
-
--- ---- refusals of a line
-
-module _ {D A : Type 0} (digest : List ℕ → List ℕ) (stamp : Stamp) where
-  -- the fault of a word is of no line
-  pub word_refused : (given : Given) (f : CommandFault D A) → is_of_words f ≡ true → IsRefusedLine digest stamp given f
-  word_refused given errors.BadDid e = tt
-  word_refused given errors.BadRev e = tt
-  word_refused given (errors.Root f) e = tt
-  word_refused given (errors.Proof f) e = tt
-  word_refused given (errors.Line n f) e = absurd cc
-  word_refused given errors.NoMemory e = tt
-  word_refused given errors.ReadFailed e = tt
-  word_refused given errors.WriteFailed e = tt
-
-  module _ (input : Option (List ℕ)) where
-    -- of an input that is known
-    abbrev pub IsRefusedKnown : CommandFault D A → Type 0
-    IsRefusedKnown f = IfSome input (λ xs. IsRefusedLine digest stamp (given_in xs) f)
-
-    refused_unless_written : {X : Type 0} (made : Result X (CommandFault D A)) (f : CommandFault D A) → (may_have_written f ≡ false → made ≡ Err f) → IfErr made IsRefusedKnown → IsRefusedKnown f
-    refused_unless_written made errors.BadDid p k = always_known _ input (λ xs. tt)
-    refused_unless_written made errors.BadRev p k = always_known _ input (λ xs. tt)
-    refused_unless_written made (errors.Root f) p k = always_known _ input (λ xs. tt)
-    refused_unless_written made (errors.Proof f) p k = always_known _ input (λ xs. tt)
-    refused_unless_written made (errors.Line n f) p k = subst (λ m. IfErr m IsRefusedKnown) (p refl) k
-    refused_unless_written made errors.NoMemory p k = always_known _ input (λ xs. tt)
-    refused_unless_written made errors.ReadFailed p k = always_known _ input (λ xs. tt)
-    refused_unless_written made errors.WriteFailed p k = always_known _ input (λ xs. tt)
-
-    -- a fault that leaves the output as it was is that of what was made
-    pub refused_passed : {X Y : Type 0} (made : Result X (CommandFault D A)) (r : Result Y (CommandFault D A)) → IfErr r (λ e. may_have_written e ≡ false → made ≡ Err e) → IfErr made IsRefusedKnown → IfErr r IsRefusedKnown
-    refused_passed made (Ok y) p k = tt
-    refused_passed made (Err f) p k = refused_unless_written made f p k
-
-    pub refused_by_word : {X : Type 0} (r : Result X (CommandFault D A)) (f : CommandFault D A) → IsErrAnd r (λ e. e ≡ f) → is_of_words f ≡ true → IfErr r IsRefusedKnown
-    refused_by_word r f e word = passed (λ q. IfErr q IsRefusedKnown) r f e (always_known _ input (λ xs. word_refused (given_in xs) f word))
-
-    unread_refused : (w : ReadFault) → IsRefusedKnown (of_read w)
-    unread_refused reads.NoMemory = always_known _ input (λ xs. tt)
-    unread_refused reads.Failed = always_known _ input (λ xs. tt)
-
-    pub refused_unread : {X : Type 0} (r : Result X (CommandFault D A)) (w : ReadFault) → IsErrAnd r (λ e. e ≡ of_read w) → IfErr r IsRefusedKnown
-    refused_unread r w e = passed (λ q. IfErr q IsRefusedKnown) r (of_read w) e (unread_refused w)
-
-    pub refused_known : {X : Type 0} (r : Result X (CommandFault D A)) (given : Given) → IfSome input (λ xs. given ≡ given_in xs) → IfErr r (IsRefusedLine digest stamp given) → IfErr r IsRefusedKnown
-    refused_known (Ok x) given known is = tt
-    refused_known (Err f) given known is = for_known _ _ input (λ xs e. subst (λ g. IsRefusedLine digest stamp g f) e is) known

@@ -48,6 +48,7 @@ abbrev pub refused : {D A : Type 0} → ℕ → RepoFault D A → CommandFault D
 refused n faults.NoMemory = errors.NoMemory
 refused n fault = errors.Line n (lines.Refused fault)
 
--- the fault of a line that is no put
-abbrev pub bad_line : {D A : Type 0} → ℕ → CommandFault D A
-bad_line n = errors.Line n lines.BadLine
+-- a line that is none of the command's
+abbrev pub is_bad_line : {D A : Type 0} → CommandFault D A → Bool
+is_bad_line (errors.Line n lines.BadLine) = true
+is_bad_line fault = false

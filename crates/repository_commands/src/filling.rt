@@ -1,10 +1,10 @@
 //! A repository that is filled with the puts of an input.
-ghost use Rattle.std.specs.Prelude.{◌≡◌, false, slice_index, IfErr, IfOk, IfSome, OnOk};
+ghost use Rattle.std.specs.Prelude.{◌≡◌, true, false, slice_index, IfErr, IfOk, OnOk};
 ghost use Rattle.spec.specs.Reading.{Gives};
 ghost use Rattle.batches.specs.Values.{stamp_of, writes_of};
 ghost use Rattle.store.specs.Stores.{IsStore};
 ghost use Rattle.repository_commands.specs.Faults.{fault_of, is_write_failure};
-ghost use Rattle.repository_commands.specs.Refusals.{IsRefusedLine, bad_line, refused as refused_by};
+ghost use Rattle.repository_commands.specs.Refusals.{IsRefusedLine, is_bad_line, refused as refused_by};
 ghost use Rattle.repository_commands.specs.Texts.{no_writes, state_of, state_of_given, unless_stopped, writes_check};
 ghost use Rattle.repository_commands.specs.Views.{given_of};
 
@@ -130,7 +130,7 @@ fn number_at(numbers: &[u64], place: usize) -> u64
 /// Whether each line was a put.
 fn check_end<D: Digest>(stop: Option<u64>) -> Result<(), CommandFault<D>>
     ensures check { Gives (λ ok. ok) fault_of result (unless_stopped stop) }
-    ensures line { IfErr result (λ e. IfSome stop (λ n. e ≡ bad_line n)) }
+    ensures line { IfErr result (λ e. is_bad_line e ≡ true) }
     ensures kind { IfErr result (λ e. is_write_failure e ≡ false) }
 {
     match stop {
