@@ -3,12 +3,11 @@ ghost use Rattle.std.specs.Prelude.{◌≡◌, ◌≤◌, ◌⊎◌};
 ghost use Rattle.std.specs.Io.KnownBytes.{Keeps};
 
 use crate::command_line::{Request, request_of};
-use console::{DONE, USAGE};
-use console::{no_memory, write_failed};
 use crate::tree;
 use cid::{Digest, Sha256};
 use clap::Error;
 use clap::error::ErrorKind;
+use console::{DONE, USAGE, no_memory, write_failed};
 use std::alloc::Global;
 use std::io::{self, Read, Write};
 

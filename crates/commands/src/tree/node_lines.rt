@@ -6,8 +6,8 @@ ghost use Rattle.spec.specs.Cid.{text};
 ghost use Rattle.commands.specs.TreeText.{block_line};
 ghost use Rattle.console.specs.Written.{Writes};
 
-use console::{WriteFault, write_hex, write_whole};
 use cid::{Block, Cid, Digest};
+use console::{WriteFault, write_hex, write_whole};
 use std::alloc::Allocator;
 use std::io::Write;
 use std::sync::Arc;

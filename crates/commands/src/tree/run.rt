@@ -5,11 +5,10 @@ ghost use Rattle.commands.specs.Fault.{may_have_written, status_of};
 ghost use Rattle.commands.specs.TreeText.{tree_text};
 ghost use Rattle.console.specs.Written.{AppendsText};
 
-use console::{DONE, FAULTY, IO_FAILED, NO_MEMORY};
-use console::tell;
 use crate::tree::bits::{Bits, tree_text_with};
 use crate::tree::fault::TreeFault;
 use cid::Digest;
+use console::{DONE, FAULTY, IO_FAILED, NO_MEMORY, tell};
 use std::alloc::Global;
 use std::io::{Read, Write};
 

@@ -9,11 +9,11 @@ ghost use Rattle.console.specs.Written.{AppendsBeginning, AppendsText};
 ghost use Rattle.commands.specs.Fault.{fault_of, is_of_input, may_have_written};
 ghost use Rattle.commands.specs.Pairs.{pairs_of};
 
-use console::read_all;
 use crate::tree::fault::TreeFault;
 use crate::tree::listing::map_of_input;
 use crate::tree::node_lines::write_tree;
 use cid::{Cid, Digest};
+use console::read_all;
 use scratch::{Built, ScratchFault, build};
 use std::alloc::Allocator;
 use std::io::{Read, Write};
