@@ -129,10 +129,22 @@ fn help(rt: HostRuntime) {
             "Exit status: 0 done, 1 a faulty line",
         ),
         (&["msthost", "tree", "--help"], "$ printf '' | msthost tree"),
-        (&["msthost", "car", "--help"], "$ printf '' | msthost car | wc -c\n  103"),
-        (&["msthost", "car", "--help"], "[default: did:web:localhost]"),
-        (&["msthost", "prove", "--help"], "$ printf '' | msthost prove a/b\n  bafyreie5737"),
-        (&["msthost", "verify", "--help"], "| msthost verify $root a/b\n  absent"),
+        (
+            &["msthost", "car", "--help"],
+            "$ printf '' | msthost car | wc -c\n  103",
+        ),
+        (
+            &["msthost", "car", "--help"],
+            "[default: did:web:localhost]",
+        ),
+        (
+            &["msthost", "prove", "--help"],
+            "$ printf '' | msthost prove a/b\n  bafyreie5737",
+        ),
+        (
+            &["msthost", "verify", "--help"],
+            "| msthost verify $root a/b\n  absent",
+        ),
     ];
     for (words, shown) in cases {
         let ended = run(rt.alloc(), words, b"a/b");

@@ -43,7 +43,13 @@ fn each_request_of_verify_refused(rt: HostRuntime) {
         let mut nodes: &[u8] = b"a0\na2616580616cf6";
         let mut out = Vec::new(rt.alloc());
         heap.refuse(number);
-        match verify_text::<Sha256, _, _, _>(&heap, EMPTY.as_bytes(), b"a/b", &mut nodes, &mut out) {
+        match verify_text::<Sha256, _, _, _>(
+            &heap,
+            EMPTY.as_bytes(),
+            b"a/b",
+            &mut nodes,
+            &mut out,
+        ) {
             Ok(()) => {
                 refused = number - 1;
                 break;
