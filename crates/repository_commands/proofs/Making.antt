@@ -37,14 +37,6 @@ module _ {X D A : Type 0} (view : X → List ℕ) (text : Texts) (input : Option
   pub made_by_fault : (f : CommandFault D A) → IsErrAnd r (λ e. e ≡ f) → ((xs : List ℕ) → Fails (fault_of f) (text xs)) → IsMade view text input r
   made_by_fault f e fails = passed (IsMade view text input) r f e (always_known (λ xs. Fails (fault_of f) (text xs)) input fails)
 
-  unread : (w : ReadFault) → IsMade view text input (Err (of_read {D = D} {A = A} w))
-  unread reads.NoMemory = always_known _ input (λ xs. tt)
-  unread reads.Failed = always_known _ input (λ xs. tt)
-
-  -- the input wasn't read
-  pub made_unread : (w : ReadFault) → IsErrAnd r (λ e. e ≡ of_read w) → IsMade view text input r
-  made_unread w e = passed (IsMade view text input) r (of_read w) e (unread w)
-
   -- what was read of it is at fault
   pub made_by_input : (f : CommandFault D A) → IsErrAnd r (λ e. e ≡ f) → IfSome input (λ xs. Fails (fault_of f) (text xs)) → IsMade view text input r
   made_by_input f e known = passed (IsMade view text input) r f e known
@@ -87,9 +79,6 @@ module _ (digest : List ℕ → List ℕ) (root key : List ℕ) where
 
     -- both words pass
     module _ (keyed : key_check key ≡ Ok tt) where
-      pub words_pass : words_check root key ≡ Ok tt
-      words_pass = gives_then (or_bad_root (cid_of_text root)) r (λ _. key_check key) rooted ∙ keyed
-
       verify_keyed : (xs : List ℕ) → verify_text digest root key xs ≡ (blocks_of_lines 1 (lines xs) >>= answer_of_blocks digest r key)
       verify_keyed xs = verify_rooted xs ∙ gives_then (key_check key) tt (λ _. blocks_of_lines 1 (lines xs) >>= answer_of_blocks digest r key) keyed
 

@@ -52,28 +52,15 @@ pub writes-passed : (stamp : Stamp) (ws : List Write) → state_test no_writes s
 writes-passed stamp [] e = absurd cc
 writes-passed stamp (w ∷ ws) e = write-passed (stamp_test None stamp) (batch_test most_writes [] (w ∷ ws)) e
 
-after-writes : (stamp : Stamp) (ws : List Write) → state_test no_writes stamp ws ≡ Ok tt → state_of stamp ws ≡ after_batch no_writes stamp ws
-after-writes stamp [] e = absurd cc
-after-writes stamp (w ∷ ws) e = refl
-
 -- ---- the writes
-
-pub no_puts : (stamp : Stamp) (ws : List Write) → ws ≡ [] → state_of stamp ws ≡ no_writes
-no_puts stamp ws e = ap (state_of stamp) e
-
-pub nothing_passes : (given : Given) → given.writes ≡ [] → writes_check given ≡ Ok tt
-nothing_passes given e = ap (λ ws. at_its_line given.numbers (batch_test most_writes [] ws)) e
 
 pub all_pass : (stamp : Stamp) (given : Given) → state_test no_writes stamp given.writes ≡ Ok tt → writes_check given ≡ Ok tt
 all_pass stamp given e = ap (at_its_line given.numbers) (writes-passed stamp given.writes e)
 
--- the same of the writes that a repository without writes has taken
+-- the same of writes that a repository without writes has taken
 pub all_taken : (stamp : Stamp) (given : Given) (s : State) (ws : List Write) → s ≡ no_writes → ws ≡ given.writes → state_test s stamp ws ≡ Ok tt → writes_check given ≡ Ok tt
 all_taken stamp given s ws es ew e =
     all_pass stamp given (subst (λ vs. state_test no_writes stamp vs ≡ Ok tt) ew (subst (λ t. state_test t stamp ws ≡ Ok tt) es e))
-
-pub after_all : (stamp : Stamp) (ws : List Write) (s : State) → state_test no_writes stamp ws ≡ Ok tt → s ≡ after_batch no_writes stamp ws → s ≡ state_of stamp ws
-after_all stamp ws s e is = is ∙ sym (after-writes stamp ws e)
 
 -- ---- refusals
 

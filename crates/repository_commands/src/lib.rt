@@ -8,6 +8,15 @@
 //!
 //! A program has them by `with_words`, `command_of` and `run`: what help shows of them, which of them a command line asks
 //! for, and its run to the exit status.
+//!
+//! ```text
+//! let mut lines: &[u8] = b"a/b a0";
+//! let stamp = Stamp { did, rev };
+//! car_text::<Sha256, _, _>(Global, &stamp, &mut lines, &mut out)?;
+//!
+//! let mut nodes: &[u8] = b"a2616580616cf6";
+//! verify_text::<Sha256, _, _, _>(Global, root, b"a/b", &mut nodes, &mut out)?;
+//! ```
 #![tactic(auto)]
 
 mod blocks;
