@@ -3,7 +3,7 @@
 .PHONY: demo test check edits plant bench gate-times clean help
 
 help:
-	@echo 'make demo              builds msthost and runs it on an example'
+	@echo 'make demo              builds msthost and runs it on examples'
 	@echo 'make test              the gate: every proof, must-fail edit, test and program, from nothing'
 	@echo 'make check             every crate, quickly, over what earlier checks kept'
 	@echo 'make edits             the wrong bodies of the folder edits, before a release; CRATE=name: of one crate'

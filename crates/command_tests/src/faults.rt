@@ -120,7 +120,7 @@ fn bits_out_of_range_are_named(rt: HostRuntime) {
 
 #[test]
 fn help(rt: HostRuntime) {
-    let cases: [(&[&str], &str); 5] = [
+    let cases: [(&[&str], &str); 9] = [
         (&["msthost", "--help"], "$ printf '' | msthost tree"),
         (&["msthost", "-h"], "$ printf '' | msthost tree"),
         (&["msthost", "tree", "--help"], "--bits <B>"),
@@ -129,6 +129,22 @@ fn help(rt: HostRuntime) {
             "Exit status: 0 done, 1 a faulty line",
         ),
         (&["msthost", "tree", "--help"], "$ printf '' | msthost tree"),
+        (
+            &["msthost", "car", "--help"],
+            "$ printf '' | msthost car | wc -c\n  103",
+        ),
+        (
+            &["msthost", "car", "--help"],
+            "[default: did:web:localhost]",
+        ),
+        (
+            &["msthost", "prove", "--help"],
+            "$ printf '' | msthost prove a/b\n  bafyreie5737",
+        ),
+        (
+            &["msthost", "verify", "--help"],
+            "| msthost verify $root a/b\n  absent",
+        ),
     ];
     for (words, shown) in cases {
         let ended = run(rt.alloc(), words, b"a/b");

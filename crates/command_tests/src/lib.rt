@@ -3,11 +3,15 @@
 #![tactic(auto)]
 
 #[cfg(test)]
+mod fault_names;
+#[cfg(test)]
 mod faults;
 #[cfg(test)]
 mod listings;
 #[cfg(test)]
 mod memory;
+#[cfg(test)]
+mod one_repository;
 #[cfg(test)]
 mod running;
 #[cfg(test)]

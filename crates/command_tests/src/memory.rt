@@ -1,8 +1,9 @@
 //! Memory that is refused.
-use crate::running::joined;
+use crate::running::{EMPTY, joined};
 use cid::Sha256;
 use commands::{TreeFault, tree_text};
 use refusing::Refusing;
+use repository_commands::{CommandFault, verify_text};
 use std::test::Fail;
 
 #[test]
@@ -32,4 +33,32 @@ fn each_request_refused(rt: HostRuntime) -> Result<(), Fail> {
     }
     assert!(rt; refused > 10);
     Ok(())
+}
+
+#[test]
+fn each_request_of_verify_refused(rt: HostRuntime) {
+    let heap = Refusing::new(rt.alloc());
+    let mut refused = 0u64;
+    for number in 1..1000 {
+        let mut nodes: &[u8] = b"a0\na2616580616cf6";
+        let mut out = Vec::new(rt.alloc());
+        heap.refuse(number);
+        match verify_text::<Sha256, _, _, _>(
+            &heap,
+            EMPTY.as_bytes(),
+            b"a/b",
+            &mut nodes,
+            &mut out,
+        ) {
+            Ok(()) => {
+                refused = number - 1;
+                break;
+            }
+            Err(fault) => {
+                let named = matches!(fault, CommandFault::NoMemory);
+                assert!(rt; named && out.is_empty(), "at {number}");
+            }
+        }
+    }
+    assert!(rt; refused > 4 && heap.live() == 0);
 }

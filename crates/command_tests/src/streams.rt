@@ -1,7 +1,7 @@
 //! Readers and writers that fail, or move few bytes at a time.
 ghost use Rattle.std.specs.Prelude.{Some};
 
-use crate::running::{Ended, TREE, joined, run, run_over};
+use crate::running::{EMPTY, Ended, TREE, joined, run, run_over};
 use commands::run_words;
 use std::alloc::Global;
 use std::io::{self, ErrorKind, Read, Write};
@@ -26,21 +26,53 @@ impl Read for FailingReader<'_> {
     }
 }
 
+/// The commands, each with a short input and with one whose last line is faulty.
+const COMMANDS: [(&[&str], &[u8]); 5] = [
+    (&TREE, b"a/b"),
+    (&["msthost", "car"], b"a/b a0\r\n\na/b a1616100\nx"),
+    (&["msthost", "prove", "a/b"], b"a/b a0\r\n\na/b a1616100\nx"),
+    (
+        &["msthost", "verify", EMPTY, "a/b"],
+        b"a2616580616cf6\n\nA0\nx",
+    ),
+    (&["msthost", "verify", EMPTY, "a/b"], b"a2616580616cf6"),
+];
+
+/// Whether a command over a reader that gives these bytes and then fails ends with this, and writes nothing.
+fn fails_after(alloc: Global, words: &[&str], left: &[u8], kind: ErrorKind) -> bool {
+    let (status, told) = match kind {
+        ErrorKind::OutOfMemory => (3, "msthost: no memory\n"),
+        _ => (4, "msthost: read failed\n"),
+    };
+    run_over(alloc, words, &mut FailingReader { left, kind }).is(status, b"", told)
+}
+
 #[test]
 fn a_read_that_fails(rt: HostRuntime) -> Result<(), Fail> {
     let whole = joined(rt.alloc(), &["a/b ", "E", "\nb/c ", "E", "\n"])?;
     let cut = whole.get(..70).ok_or("too short")?;
     // at the first byte, in the middle of a line, after the last line, and after a line that is faulty
     for left in [b"".as_slice(), cut, whole.as_slice(), b"a/b\n".as_slice()] {
-        for (kind, status, told) in [
-            (ErrorKind::Other, 4, "msthost: read failed\n"),
-            (ErrorKind::OutOfMemory, 3, "msthost: no memory\n"),
-        ] {
-            let ended = run_over(rt.alloc(), &TREE, &mut FailingReader { left, kind });
-            assert!(rt; ended.is(status, b"", told), "after {left:?}");
+        for kind in [ErrorKind::Other, ErrorKind::OutOfMemory] {
+            assert!(rt;
+                fails_after(rt.alloc(), &TREE, left, kind),
+                "after {left:?}"
+            );
         }
     }
     Ok(())
+}
+
+#[test]
+fn a_read_that_fails_at_any_byte(rt: HostRuntime) {
+    for (words, input) in COMMANDS {
+        for end in 0..=input.len() {
+            for kind in [ErrorKind::Other, ErrorKind::OutOfMemory] {
+                let fails = fails_after(rt.alloc(), words, &input[..end], kind);
+                assert!(rt; fails, "of {words:?} after {end} bytes");
+            }
+        }
+    }
 }
 
 /// Gives these bytes, one at a time, and is interrupted before each.
@@ -120,9 +152,9 @@ fn narrow(alloc: Global, room: usize, flushes: bool) -> NarrowWriter {
     }
 }
 
-/// Runs a command on an empty input, over such a writer.
-fn run_into(alloc: Global, words: &[&str], out: NarrowWriter) -> Ended {
-    let mut input: &[u8] = b"";
+/// Runs a command on an input in memory, over such a writer.
+fn run_into(alloc: Global, words: &[&str], input: &[u8], out: NarrowWriter) -> Ended {
+    let mut input = input;
     let mut out = out;
     let mut err = Vec::new(alloc);
     let status = run_words(alloc, words, &mut input, &mut out, &mut err);
@@ -133,25 +165,47 @@ fn run_into(alloc: Global, words: &[&str], out: NarrowWriter) -> Ended {
     }
 }
 
-#[test]
-fn a_writer_that_takes_little_or_fails(rt: HostRuntime) -> Result<(), Fail> {
-    let wanted = joined(rt.alloc(), &["E", "\n", "E", " a2616580616cf6\n"])?;
-    let ended = run_into(rt.alloc(), &TREE, narrow(rt.alloc(), 1000, true));
-    assert!(rt; ended.is(0, &wanted, ""));
-    for room in 0..wanted.len() {
-        let ended = run_into(rt.alloc(), &TREE, narrow(rt.alloc(), room, true));
-        assert!(rt;
-            ended.is(4, &wanted[..room], "msthost: write failed\n"),
-            "at {room}"
-        );
+/// Whether a command writes all of its output, or just what the writer has room for.
+fn writes_what_fits(alloc: Global, words: &[&str], input: &[u8], room: usize) -> bool {
+    let whole = run(alloc, words, input);
+    let ended = run_into(alloc, words, input, narrow(alloc, room, true));
+    match whole.out.get(..room) {
+        Some(front) if room < whole.out.len() => ended.is(4, front, "msthost: write failed\n"),
+        _ => whole.status == 0 && ended.is(0, &whole.out, ""),
     }
-    Ok(())
+}
+
+#[test]
+fn a_writer_that_takes_little_or_fails(rt: HostRuntime) {
+    let cases: [(&[&str], &[u8], usize); 5] = [
+        (&TREE, b"", 135),
+        (&["msthost", "car"], b"", 103),
+        (&["msthost", "car"], b"a/b a0", 337),
+        (&["msthost", "prove", "a/b"], b"a/b a0", 187),
+        (&["msthost", "verify", EMPTY, "a/b"], b"a2616580616cf6", 7),
+    ];
+    for (words, input, length) in cases {
+        assert!(rt;
+            run(rt.alloc(), words, input).out.len() == length,
+            "of {words:?}"
+        );
+        for room in 0..=length {
+            let fits = writes_what_fits(rt.alloc(), words, input, room);
+            assert!(rt; fits, "of {words:?} at {room}");
+        }
+    }
 }
 
 #[test]
 fn a_flush_that_fails(rt: HostRuntime) {
-    for words in [TREE, ["msthost", "--help"]] {
-        let ended = run_into(rt.alloc(), &words, narrow(rt.alloc(), 10000, false));
+    let commands: [&[&str]; 4] = [
+        &TREE,
+        &["msthost", "--help"],
+        &["msthost", "car"],
+        &["msthost", "prove", "a/b"],
+    ];
+    for words in commands {
+        let ended = run_into(rt.alloc(), words, b"", narrow(rt.alloc(), 10000, false));
         let told = ended.err.as_slice() == b"msthost: write failed\n".as_slice();
         assert!(rt; ended.status == 4 && told, "at {words:?}");
     }

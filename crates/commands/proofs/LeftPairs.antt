@@ -8,7 +8,8 @@ use Rattle.spec.specs.Cid.{CidFault, is_own_cid, cid_of_text}
 use Rattle.spec.specs.NodeFormat.{is_key, is_ascending}
 use Rattle.spec.proofs.Taking.{bind_then, ensure_ok, ok_is}
 use Rattle.spec.proofs.CidTexts.{cid_of_text_takes}
-use Rattle.commands.specs.TreeText.{LineFault, TreeFault, BadLine, BadKey, is_space, or_bad_cid, pair_of_line, at_line, pairs_on_line, pairs_of_lines, lines, last_of_each_key, map_of_input}
+use Rattle.console.specs.Lines.{lines, is_space}
+use Rattle.commands.specs.TreeText.{LineFault, TreeFault, BadLine, BadKey, or_bad_cid, pair_of_line, at_line, pairs_on_line, pairs_of_lines, last_of_each_key, map_of_input}
 use Rattle.commands.proofs.LastLines.{order, is_sorted-last_of_each_key}
 
 -- ---- a line's pair

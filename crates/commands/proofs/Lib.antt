@@ -1,5 +1,4 @@
 pub mod Spaces
-pub mod Leaving
 pub mod Remaining
 pub mod LastLines
 pub mod LeftPairs

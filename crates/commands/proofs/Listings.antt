@@ -9,7 +9,7 @@ use Rattle.spec.specs.Laws.Clashes.{HasClash}
 use Rattle.spec.proofs.BlockLaws.{test-from_IsClashFree, test-from_HasClash}
 use Rattle.std.specs.Io.KnownBytes.{Appends}
 use Rattle.commands.specs.TreeText.{TreeFault, Clash, map_of_input, tree_of_map, tree_of_input, text_of_tree, tree_text, text_or_nothing}
-use Rattle.commands.specs.Written.{AppendsBeginning, AppendsText}
+use Rattle.console.specs.Written.{AppendsBeginning, AppendsText}
 
 -- ---- the tree
 

@@ -5,7 +5,7 @@ use Rattle.std.proofs.lemmas.List.{take_all, length-drop}
 use Rattle.std.proofs.lemmas.List.Folds.{list_any_at}
 use Rattle.std.proofs.lemmas.List.Sums.{suffix_len_is}
 use Rattle.bstr.specs.Find.{is_byte, Passes, IsLastByte}
-use Rattle.commands.specs.TreeText.{is_space}
+use Rattle.console.specs.Lines.{is_space}
 
 not_true : (t : _) → (t ≡ true → ⊥) → t ≡ false
 not_true true h = absurd (h refl)

@@ -6,10 +6,10 @@ use Rattle.commands.specs.declared.tree.fault.LineFault.{LineFault}
 use Rattle.commands.specs.declared.tree.fault.LineFault.TheVariants as lines
 use Rattle.commands.specs.declared.tree.fault.TreeFault.{TreeFault}
 use Rattle.commands.specs.declared.tree.fault.TreeFault.TheVariants as errors
-use Rattle.commands.specs.declared.reading.ReadFault.{ReadFault}
-use Rattle.commands.specs.declared.reading.ReadFault.TheVariants as reads
-use Rattle.commands.specs.declared.writing.WriteFault.{WriteFault}
-use Rattle.commands.specs.declared.writing.WriteFault.TheVariants as writes
+use Rattle.console.specs.declared.reading.ReadFault.{ReadFault}
+use Rattle.console.specs.declared.reading.ReadFault.TheVariants as reads
+use Rattle.console.specs.declared.writing.WriteFault.{WriteFault}
+use Rattle.console.specs.declared.writing.WriteFault.TheVariants as writes
 
 abbrev pub line_fault_of : LineFault → text.LineFault
 line_fault_of lines.BadLine = text.BadLine

@@ -1,4 +1,3 @@
 pub mod TreeText
 pub mod Fault
-pub mod Written
 pub mod Pairs

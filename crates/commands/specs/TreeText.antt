@@ -4,8 +4,8 @@ use Rattle.std.specs.List.{list_any, flat_map, before_last, after_last}
 use Rattle.std.specs.Cmp.Lexicographic.{slice_cmp}
 use Rattle.std.specs.Ordering.{nat_cmp}
 use Rattle.std.specs.FinMap.{put}
-use Rattle.bstr.specs.Text.{lines_of, without_terminator}
 use Rattle.hex.specs.Hex.{encode_lower}
+use Rattle.console.specs.Lines.{lines, is_space}
 use Rattle.spec.specs.Reading.{◌>>=◌, ensure}
 use Rattle.spec.specs.Tree.{Pair}
 use Rattle.spec.specs.Cid.{CidFault, cid, text, cid_of_text}
@@ -24,13 +24,6 @@ pub data LineFault : Type 0 where
 pub data TreeFault : Type 0 where
   Line : ℕ → LineFault → TreeFault
   Clash : TreeFault
-
--- the lines, each without the LF or CR LF that ends it; a last line needs no end
-abbrev pub lines : List ℕ → List (List ℕ)
-lines input = map without_terminator (lines_of input)
-
-abbrev pub is_space : ℕ → Bool
-is_space c = c == 32
 
 abbrev pub or_bad_cid : Result (List ℕ) CidFault → Result (List ℕ) LineFault
 or_bad_cid (Ok c) = Ok c

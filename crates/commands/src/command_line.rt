@@ -1,34 +1,45 @@
 //! What the words of a command line ask for.
 use crate::tree::{self, Bits};
-use clap::{Command, Error};
+use clap::{ArgMatches, Command, Error};
+use repository_commands::{RepositoryCommand, command_of, with_words};
 use std::alloc::{AllocError, Global};
 
 /// What is to be done: for each command what its words say.
 #[derive(Clone, Copy)]
-pub(crate) enum Request {
+pub(crate) enum Request<'a> {
     /// List the tree of the lines of the input, with so many zero bits a layer.
     Tree(Bits),
+    /// Do a command on one repository.
+    OnRepository(RepositoryCommand<'a>),
 }
 
 const ABOUT: &str = "Merkle search trees of AT Protocol repositories";
 
 /// What the words ask for, of which the first is the program's name; or the text for the user, as an error.
-pub(crate) fn request_of<'a>(alloc: Global, words: &'a [&'a str]) -> Result<Request, Error> {
+pub(crate) fn request_of<'a>(alloc: Global, words: &'a [&'a str]) -> Result<Request<'a>, Error> {
     let matches = command(alloc)?.try_get_matches_from(words)?;
-    let bits = match matches.subcommand() {
-        Some((_, words)) => tree::bits_of(words),
-        None => Bits::default(),
-    };
-    Ok(Request::Tree(bits))
+    Ok(match matches.subcommand() {
+        Some((name, words)) => request_by(name, words),
+        None => Request::Tree(Bits::default()),
+    })
+}
+
+/// What the command of this name is to do.
+fn request_by<'a>(name: &str, words: &ArgMatches<'a>) -> Request<'a> {
+    match command_of(name, words) {
+        Some(command) => Request::OnRepository(command),
+        None => Request::Tree(tree::bits_of(words)),
+    }
 }
 
 /// The commands, with what help shows of them.
 fn command<'a>(alloc: Global) -> Result<Command<'a>, AllocError> {
-    Command::new(alloc, "msthost")
+    let program = Command::new(alloc, "msthost")
         .version("0.1.0")
         .about(ABOUT)
         .after_help(tree::EXAMPLE)
         .subcommand_required(true)
         .disable_help_subcommand(true)
-        .subcommand(tree::words(alloc)?)
+        .subcommand(tree::words(alloc)?)?;
+    with_words(alloc, program)
 }

@@ -3,12 +3,11 @@ ghost use Rattle.std.specs.Prelude.{◌≡◌, ◌≤◌, ◌⊎◌};
 ghost use Rattle.std.specs.Io.KnownBytes.{Keeps};
 
 use crate::command_line::{Request, request_of};
-use crate::status::{DONE, USAGE};
-use crate::telling::{no_memory, write_failed};
 use crate::tree;
 use cid::{Digest, Sha256};
 use clap::Error;
 use clap::error::ErrorKind;
+use console::{DONE, USAGE, no_memory, write_failed};
 use std::alloc::Global;
 use std::io::{self, Read, Write};
 
@@ -22,7 +21,7 @@ pub fn run_words<R: Read, W: Write, X: Write>(
 ) -> u8
     ensures status { result ≤ 4 }
 
-    // A faulty line, a clash and a wrong command line write nothing.
+    // A faulty line or word, what comes of them, and a wrong command line write nothing.
     ensures nothing { (result ≡ 1) ⊎ (result ≡ 2)
         → Keeps (W.contents out.old) (W.contents out.new) }
 {
@@ -39,12 +38,15 @@ pub fn run_words_with<D: Digest, R: Read, W: Write, X: Write>(
 ) -> u8
     ensures status { result ≤ 4 }
 
-    // A faulty line, a clash and a wrong command line write nothing.
+    // A faulty line or word, what comes of them, and a wrong command line write nothing.
     ensures nothing { (result ≡ 1) ⊎ (result ≡ 2)
         → Keeps (W.contents out.old) (W.contents out.new) }
 {
     match request_of(alloc, words) {
         Ok(Request::Tree(bits)) => tree::run::<D, R, W, X>(bits, alloc, input, out, err),
+        Ok(Request::OnRepository(command)) => {
+            repository_commands::run::<D, R, W, X>(command, alloc, input, out, err)
+        }
         Err(error) => show(&error, out, err),
     }
 }

@@ -2,8 +2,7 @@
 ghost use Rattle.std.specs.Prelude.{◌≡◌, ◌≢◌};
 ghost use Rattle.std.specs.IoError.{error_kind};
 
-use crate::status::USAGE;
-use crate::telling::no_memory;
+use console::{USAGE, no_memory};
 use std::io::{Error, ErrorKind, Write};
 
 /// The status where the words or room for buffers can't be had, and a line on standard error: there is no memory, or

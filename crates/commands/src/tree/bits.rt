@@ -3,7 +3,7 @@ ghost use Rattle.std.specs.Prelude.{◌≡◌, ◌≤◌, ◌↔◌, is_some, is
 ghost use Rattle.std.specs.Io.KnownBytes.{IsAtEnd, Keeps};
 ghost use Rattle.spec.specs.Reading.{Fails};
 ghost use Rattle.commands.specs.TreeText.{tree_text as tree_text_of, text_or_nothing};
-ghost use Rattle.commands.specs.Written.{AppendsBeginning, AppendsText};
+ghost use Rattle.console.specs.Written.{AppendsBeginning, AppendsText};
 ghost use Rattle.commands.specs.Fault.{fault_of, may_have_written};
 
 use crate::tree::fault::TreeFault;

@@ -3,9 +3,7 @@ ghost use Rattle.std.specs.Prelude.{◌≡◌};
 ghost use Rattle.commands.specs.declared.tree.fault.TreeFault.TheVariants as errors;
 ghost use Rattle.commands.specs.Fault.{of_read, of_write};
 
-use crate::decimal::Decimal;
-use crate::reading::ReadFault;
-use crate::writing::WriteFault;
+use console::{Decimal, ReadFault, WriteFault};
 use std::alloc::{AllocError, AllocFailed};
 use thiserror::Error;
 

@@ -2,7 +2,8 @@
 ghost use Rattle.std.specs.Prelude.{◌≡◌, true, false, IfNone, IfSome};
 ghost use Rattle.std.specs.List.{list_any, before_last, after_last};
 ghost use Rattle.spec.specs.Reading.{Gives};
-ghost use Rattle.commands.specs.TreeText.{is_space, pair_of_line as pair_of_line_of};
+ghost use Rattle.console.specs.Lines.{is_space};
+ghost use Rattle.commands.specs.TreeText.{pair_of_line as pair_of_line_of};
 ghost use Rattle.commands.specs.Fault.{some_line_fault_of};
 
 use crate::tree::fault::LineFault;

@@ -1,7 +1,8 @@
 //! The pairs of key and CID that the lines of an input leave.
 ghost use Rattle.std.specs.Prelude.{◌≡◌, [], ◌∷◌, ◌++◌, true, IfErr, OnOk};
 ghost use Rattle.spec.specs.Reading.{Gives};
-ghost use Rattle.commands.specs.TreeText.{lines, pairs_of_lines, last_of_each_key, map_of_input as map_of};
+ghost use Rattle.console.specs.Lines.{lines};
+ghost use Rattle.commands.specs.TreeText.{pairs_of_lines, last_of_each_key, map_of_input as map_of};
 ghost use Rattle.commands.specs.Fault.{fault_of, is_of_input};
 ghost use Rattle.commands.specs.Pairs.{pairs_of};
 

@@ -4,10 +4,10 @@ ghost use Rattle.std.specs.Arc.{arc_value};
 ghost use Rattle.std.specs.List.{flat_map};
 ghost use Rattle.spec.specs.Cid.{text};
 ghost use Rattle.commands.specs.TreeText.{block_line};
-ghost use Rattle.commands.specs.Written.{Writes};
+ghost use Rattle.console.specs.Written.{Writes};
 
-use crate::writing::{WriteFault, write_hex, write_whole};
 use cid::{Block, Cid, Digest};
+use console::{WriteFault, write_hex, write_whole};
 use std::alloc::Allocator;
 use std::io::Write;
 use std::sync::Arc;

@@ -3,13 +3,12 @@ ghost use Rattle.std.specs.Prelude.{◌≡◌, ◌≤◌, ◌⊎◌, false, IfEr
 ghost use Rattle.std.specs.Io.KnownBytes.{Keeps};
 ghost use Rattle.commands.specs.Fault.{may_have_written, status_of};
 ghost use Rattle.commands.specs.TreeText.{tree_text};
-ghost use Rattle.commands.specs.Written.{AppendsText};
+ghost use Rattle.console.specs.Written.{AppendsText};
 
-use crate::status::{DONE, FAULTY, IO_FAILED, NO_MEMORY};
-use crate::telling::tell;
 use crate::tree::bits::{Bits, tree_text_with};
 use crate::tree::fault::TreeFault;
 use cid::Digest;
+use console::{DONE, FAULTY, IO_FAILED, NO_MEMORY, tell};
 use std::alloc::Global;
 use std::io::{Read, Write};
 

@@ -5,15 +5,15 @@ ghost use Rattle.std.specs.Io.KnownBytes.{IsAtEnd, Keeps};
 ghost use Rattle.spec.specs.NodeFormat.{is_ascending};
 ghost use Rattle.spec.specs.Reading.{Gives, Fails};
 ghost use Rattle.commands.specs.TreeText.{tree_of_map, tree_of_input as tree_of, tree_text as tree_text_of, text_or_nothing};
-ghost use Rattle.commands.specs.Written.{AppendsBeginning, AppendsText};
+ghost use Rattle.console.specs.Written.{AppendsBeginning, AppendsText};
 ghost use Rattle.commands.specs.Fault.{fault_of, is_of_input, may_have_written};
 ghost use Rattle.commands.specs.Pairs.{pairs_of};
 
-use crate::reading::read_all;
 use crate::tree::fault::TreeFault;
 use crate::tree::listing::map_of_input;
 use crate::tree::node_lines::write_tree;
 use cid::{Cid, Digest};
+use console::read_all;
 use scratch::{Built, ScratchFault, build};
 use std::alloc::Allocator;
 use std::io::{Read, Write};

@@ -1,6 +1,7 @@
 use Rattle.std.proofs.Common.{rules, ◌+◌, length, sym, ap, ◌∙◌, arith}
 use Rattle.commands.specs.Pairs.{pairs_of}
-use Rattle.commands.specs.TreeText.{lines, pairs_of_lines}
+use Rattle.console.specs.Lines.{lines}
+use Rattle.commands.specs.TreeText.{pairs_of_lines}
 use Rattle.commands.proofs.Remaining.{onto, onto-nothing, onto-empty, onto-pair, onto-fault, onto-done}
 use Rattle.commands.proofs.tree.listing.pairs_of_input.Goals as goal
 

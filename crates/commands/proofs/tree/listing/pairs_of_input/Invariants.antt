@@ -1,5 +1,6 @@
 use Rattle.std.proofs.Common.{length}
-use Rattle.commands.specs.TreeText.{lines, pairs_of_lines}
+use Rattle.console.specs.Lines.{lines}
+use Rattle.commands.specs.TreeText.{pairs_of_lines}
 use Rattle.commands.specs.Pairs.{pairs_of}
 use Rattle.commands.proofs.Remaining.{Remains}
 use Rattle.commands.proofs.tree.listing.pairs_of_input.Given as goal

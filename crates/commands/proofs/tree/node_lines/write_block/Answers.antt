@@ -2,8 +2,8 @@ use Rattle.std.proofs.Common.{◌≡◌, ℕ, List, [], ◌∷◌, ◌++◌, ref
 use Rattle.hex.specs.Hex.{encode_lower}
 use Rattle.spec.specs.Cid.{cid, text}
 use Rattle.commands.specs.TreeText.{block_line}
-use Rattle.commands.specs.Written.{Writes}
-use Rattle.commands.proofs.Leaving.{leaves-all, leaves-less, stops, ends}
+use Rattle.console.specs.Written.{Writes}
+use Rattle.console.proofs.Leaving.{leaves-all, leaves-less, stops, ends}
 use Rattle.commands.proofs.tree.node_lines.write_block.Goals as goal
 
 -- the line of a CID's text and the digits of a block, cut before its three ends

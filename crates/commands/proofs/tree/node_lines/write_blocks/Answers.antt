@@ -3,7 +3,7 @@ use Rattle.std.specs.Arc.{arc_value}
 use Rattle.std.specs.List.{flat_map}
 use Rattle.std.proofs.Math.Seq.{drop-cons}
 use Rattle.commands.specs.TreeText.{block_line}
-use Rattle.commands.proofs.Leaving.{leaves-less, stops}
+use Rattle.console.proofs.Leaving.{leaves-less, stops}
 use Rattle.commands.proofs.tree.node_lines.write_blocks.Goals as goal
 
 -- the lines of the blocks from a place on are that of the first of them and those of the others

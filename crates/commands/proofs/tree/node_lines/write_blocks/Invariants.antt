@@ -2,7 +2,7 @@ use Rattle.std.proofs.Common.{map, drop}
 use Rattle.std.specs.Arc.{arc_value}
 use Rattle.std.specs.List.{flat_map}
 use Rattle.commands.specs.TreeText.{block_line}
-use Rattle.commands.proofs.Leaving.{Leaves}
+use Rattle.console.proofs.Leaving.{Leaves}
 use Rattle.commands.proofs.tree.node_lines.write_blocks.Given as goal
 
 abbrev pub invariant-loop-block : goal.invariant-loop-block

@@ -2,8 +2,8 @@ use Rattle.std.proofs.Common.{◌≡◌, ℕ, List, [], ◌∷◌, ◌++◌, map
 use Rattle.std.specs.Arc.{arc_value}
 use Rattle.std.specs.List.{flat_map}
 use Rattle.commands.specs.TreeText.{block_line}
-use Rattle.commands.specs.Written.{Writes}
-use Rattle.commands.proofs.Leaving.{leaves-all, leaves-less, stops, ends}
+use Rattle.console.specs.Written.{Writes}
+use Rattle.console.proofs.Leaving.{leaves-all, leaves-less, stops, ends}
 use Rattle.commands.proofs.tree.node_lines.write_tree.Goals as goal
 
 abbrev whole_of : List ℕ → List ℕ → List ℕ

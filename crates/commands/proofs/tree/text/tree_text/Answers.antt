@@ -4,7 +4,7 @@ use Rattle.std.specs.Arc.{arc_value}
 use Rattle.spec.specs.Reading.{Fails}
 use Rattle.commands.specs.Fault.{fault_of}
 use Rattle.std.specs.Io.KnownBytes.{Appends}
-use Rattle.commands.specs.Written.{AppendsBeginning}
+use Rattle.console.specs.Written.{AppendsBeginning}
 use Rattle.commands.specs.TreeText.{tree_of_input, text_of_tree, text_or_nothing, tree_text as text_of}
 use Rattle.commands.proofs.Listings.{passed_on, at_error, fault-known, text-written, beginning-written, there-is-text}
 use Rattle.commands.proofs.tree.text.tree_text.Goals as goal

@@ -1,0 +1,143 @@
+-- The repository of some puts, from what a repository answers to their batch.
+use Rattle.std.proofs.Common.{◌≡◌, ℕ, List, [], ◌∷◌, true, false, refl, sym, ap, subst, ◌∙◌}
+use Rattle.std.specs.Prelude.{Option, Some, None, option_map, Result, Ok, Err, IfErr, slice_index}
+use Rattle.spec.specs.Reading.{◌>>=◌, Fails}
+use Rattle.spec.specs.Head.{CborFault}
+use Rattle.spec.specs.Stamps.{Stamp, StampFault, stamp_test}
+use Rattle.spec.specs.Writes.{Write, WriteFault, BadRecord, batch_test}
+use Rattle.spec.specs.States.{State, BatchFault, EmptyBatch, OfStamp, OfWrite as OfBatchWrite, after_batch, at_first, of_writes, state_test}
+use Rattle.dagcbor.specs.Fault as cbor
+use Rattle.batches.specs.declared.fault.RepoFault.{RepoFault}
+use Rattle.batches.specs.declared.fault.RepoFault.TheVariants as faults
+use Rattle.repo.specs.Refusals.{IsRefusal, IsRefusalBy}
+use Rattle.repository_commands.specs.Puts.{Given}
+use Rattle.repository_commands.specs.Faults.{Line, OfWrite, fault_of}
+use Rattle.repository_commands.specs.Refusals.{IsRefusedAt, IsRefusedLine, is_bad_line, is_want_of_memory, refused}
+use Rattle.repository_commands.specs.Texts.{most_writes, no_writes, state_of, at_its_line, writes_check}
+use Rattle.repository_commands.specs.declared.fault.LineFault.TheVariants as lines
+use Rattle.repository_commands.specs.declared.fault.CommandFault.{CommandFault}
+use Rattle.repository_commands.specs.declared.fault.CommandFault.TheVariants as errors
+
+-- ---- the test of a batch and that of its writes
+
+-- the refusal of a write, if it is one
+abbrev refusal_at : ℕ → BatchFault → Result (Unit {0}) (ℕ × WriteFault)
+refusal_at i EmptyBatch = Ok tt
+refusal_at i (OfStamp f) = Ok tt
+refusal_at i (OfBatchWrite f) = Err (i, f)
+
+abbrev refusal : Result (Unit {0}) (ℕ × BatchFault) → Result (Unit {0}) (ℕ × WriteFault)
+refusal (Ok ok) = Ok ok
+refusal (Err f) = refusal_at f.0 f.1
+
+passed-or-not : {A E : Type 0} (x : A) (f : E) → Ok x ≡ Err f → ⊥
+passed-or-not x f e = absurd cc
+
+write-refused : (r : Result (Unit {0}) StampFault) (b : Result (Unit {0}) (ℕ × WriteFault)) (i : ℕ) (f : WriteFault)
+    → (at_first r >>= (λ _. of_writes b)) ≡ Err (i, OfBatchWrite f) → b ≡ Err (i, f)
+write-refused (Err g) b i f e = absurd (passed-or-not tt (i, f) (ap refusal e))
+write-refused (Ok ok) (Ok fine) i f e = absurd cc
+write-refused (Ok ok) (Err g) i f e = ap refusal e
+
+pub writes-refused : (stamp : Stamp) (ws : List Write) (i : ℕ) (f : WriteFault) → state_test no_writes stamp ws ≡ Err (i, OfBatchWrite f) → batch_test most_writes [] ws ≡ Err (i, f)
+writes-refused stamp [] i f e = absurd (passed-or-not tt (i, f) (ap refusal e))
+writes-refused stamp (w ∷ ws) i f e = write-refused (stamp_test None stamp) (batch_test most_writes [] (w ∷ ws)) i f e
+
+write-passed : (r : Result (Unit {0}) StampFault) (b : Result (Unit {0}) (ℕ × WriteFault)) → (at_first r >>= (λ _. of_writes b)) ≡ Ok tt → b ≡ Ok tt
+write-passed (Err g) b e = absurd cc
+write-passed (Ok ok) (Ok fine) e = refl
+write-passed (Ok ok) (Err g) e = absurd cc
+
+pub writes-passed : (stamp : Stamp) (ws : List Write) → state_test no_writes stamp ws ≡ Ok tt → batch_test most_writes [] ws ≡ Ok tt
+writes-passed stamp [] e = absurd cc
+writes-passed stamp (w ∷ ws) e = write-passed (stamp_test None stamp) (batch_test most_writes [] (w ∷ ws)) e
+
+-- ---- the writes
+
+pub all_pass : (stamp : Stamp) (given : Given) → state_test no_writes stamp given.writes ≡ Ok tt → writes_check given ≡ Ok tt
+all_pass stamp given e = ap (at_its_line given.numbers) (writes-passed stamp given.writes e)
+
+-- the same of writes that a repository without writes has taken
+pub all_taken : (stamp : Stamp) (given : Given) (s : State) (ws : List Write) → s ≡ no_writes → ws ≡ given.writes → state_test s stamp ws ≡ Ok tt → writes_check given ≡ Ok tt
+all_taken stamp given s ws es ew e =
+    all_pass stamp given (subst (λ vs. state_test no_writes stamp vs ≡ Ok tt) ew (subst (λ t. state_test t stamp ws ≡ Ok tt) es e))
+
+-- ---- refusals
+
+line-refused_at : (stamp : Stamp) (given : Given) (place : ℕ) (f : WriteFault) → state_test no_writes stamp given.writes ≡ Err (place, OfBatchWrite f) → writes_check given ≡ Err (Line (slice_index given.numbers place) (OfWrite f))
+line-refused_at stamp given place f e = ap (at_its_line given.numbers) (writes-refused stamp given.writes place f e)
+
+module _ {D A : Type 0} (digest : List ℕ → List ℕ) (stamp : Stamp) (given : Given) (full fuller place : ℕ) where
+  record-refused : (fault : RepoFault D A) (o : Option CborFault) → IsRefusalBy digest 2 no_writes stamp given.writes full fuller place fault (option_map (λ g. OfBatchWrite (BadRecord g)) o)
+      → Fails (option_map (Line (slice_index given.numbers place)) (option_map OfWrite (option_map BadRecord o))) (writes_check given)
+  record-refused fault None e = tt
+  record-refused fault (Some f) e = line-refused_at stamp given place (BadRecord f) e
+
+  refused_fails : (fault : RepoFault D A) → IsRefusal digest 2 no_writes stamp given.writes full fuller (place, fault) → Fails (fault_of (refused (slice_index given.numbers place) fault)) (writes_check given)
+  refused_fails faults.BadKey e = line-refused_at stamp given place _ e
+  refused_fails (faults.BadRecord f) e = record-refused (faults.BadRecord f) (cbor.fault_of f) e
+  refused_fails faults.NotAMap e = line-refused_at stamp given place _ e
+  refused_fails faults.RecordSize e = line-refused_at stamp given place _ e
+  refused_fails faults.KeyExists e = line-refused_at stamp given place _ e
+  refused_fails faults.NoSuchKey e = line-refused_at stamp given place _ e
+  refused_fails faults.WritesFull e = line-refused_at stamp given place _ e
+  refused_fails (faults.Collision pair) e = tt
+  refused_fails faults.StoreFull e = tt
+  refused_fails faults.NoMemory e = tt
+  refused_fails faults.EmptyBatch e = tt
+  refused_fails faults.BadDid e = tt
+  refused_fails faults.BadRev e = tt
+  refused_fails faults.RevOrder e = tt
+
+  refusal_of : (s : State) (ws : List Write) (fault : RepoFault D A) → s ≡ no_writes → ws ≡ given.writes → IsRefusal digest 2 s stamp ws full fuller (place, fault)
+      → IsRefusal digest 2 no_writes stamp given.writes full fuller (place, fault)
+  refusal_of s ws fault es ew is =
+      subst (λ vs. IsRefusal digest 2 no_writes stamp vs full fuller (place, fault)) ew (subst (λ t. IsRefusal digest 2 t stamp ws full fuller (place, fault)) es is)
+
+  -- a refusal of the repository is one of the lines' test, or none of a test
+  pub refusal_fails : (s : State) (ws : List Write) (n : ℕ) (fault : RepoFault D A) (f : CommandFault D A) → s ≡ no_writes → ws ≡ given.writes
+      → IsRefusal digest 2 s stamp ws full fuller (place, fault) → n ≡ slice_index given.numbers place → f ≡ refused n fault → Fails (fault_of f) (writes_check given)
+  refusal_fails s ws n fault f es ew is en ef =
+      subst (λ h. Fails (fault_of h) (writes_check given)) (sym (ef ∙ ap (λ m. refused m fault) en)) (refused_fails fault (refusal_of s ws fault es ew is))
+
+  module _ (n : ℕ) (en : n ≡ slice_index given.numbers place) where
+    at_line : (fault : RepoFault D A) → is_want_of_memory fault ≡ false → IsRefusal digest 2 no_writes stamp given.writes full fuller (place, fault) → IsRefusedAt digest stamp given n fault
+    at_line fault named is = record { place = place; full = full; fuller = fuller; number = en; refusal = is; named = named }
+
+    refused_line : (fault : RepoFault D A) → IsRefusal digest 2 no_writes stamp given.writes full fuller (place, fault) → IsRefusedLine digest stamp given (refused n fault)
+    refused_line faults.NoMemory is = tt
+    refused_line faults.BadKey is = at_line faults.BadKey refl is
+    refused_line (faults.BadRecord f) is = at_line (faults.BadRecord f) refl is
+    refused_line faults.NotAMap is = at_line faults.NotAMap refl is
+    refused_line faults.RecordSize is = at_line faults.RecordSize refl is
+    refused_line faults.KeyExists is = at_line faults.KeyExists refl is
+    refused_line faults.NoSuchKey is = at_line faults.NoSuchKey refl is
+    refused_line faults.WritesFull is = at_line faults.WritesFull refl is
+    refused_line (faults.Collision pair) is = at_line (faults.Collision pair) refl is
+    refused_line faults.StoreFull is = at_line faults.StoreFull refl is
+    refused_line faults.EmptyBatch is = at_line faults.EmptyBatch refl is
+    refused_line faults.BadDid is = at_line faults.BadDid refl is
+    refused_line faults.BadRev is = at_line faults.BadRev refl is
+    refused_line faults.RevOrder is = at_line faults.RevOrder refl is
+
+    -- and its line is named
+    pub refusal_names : (s : State) (ws : List Write) (fault : RepoFault D A) (f : CommandFault D A) → s ≡ no_writes → ws ≡ given.writes → IsRefusal digest 2 s stamp ws full fuller (place, fault)
+        → f ≡ refused n fault → IsRefusedLine digest stamp given f
+    refusal_names s ws fault f es ew is ef = subst (λ h. IsRefusedLine digest stamp given h) (sym ef) (refused_line fault (refusal_of s ws fault es ew is))
+
+-- ---- a line that is no put
+
+bad_line_named : {D A : Type 0} (digest : List ℕ → List ℕ) (stamp : Stamp) (given : Given) (f : CommandFault D A) → is_bad_line f ≡ true → IsRefusedLine digest stamp given f
+bad_line_named digest stamp given (errors.Line n lines.BadLine) e = tt
+bad_line_named digest stamp given (errors.Line n (lines.Refused f)) e = absurd cc
+bad_line_named digest stamp given errors.BadDid e = absurd cc
+bad_line_named digest stamp given errors.BadRev e = absurd cc
+bad_line_named digest stamp given (errors.Root f) e = absurd cc
+bad_line_named digest stamp given (errors.Proof f) e = absurd cc
+bad_line_named digest stamp given errors.NoMemory e = absurd cc
+bad_line_named digest stamp given errors.ReadFailed e = absurd cc
+bad_line_named digest stamp given errors.WriteFailed e = absurd cc
+
+pub bad_line_refused : {X D A : Type 0} (digest : List ℕ → List ℕ) (stamp : Stamp) (given : Given) (r : Result X (CommandFault D A)) → IfErr r (λ e. is_bad_line e ≡ true) → IfErr r (IsRefusedLine digest stamp given)
+bad_line_refused digest stamp given (Ok x) e = tt
+bad_line_refused digest stamp given (Err f) e = bad_line_named digest stamp given f e

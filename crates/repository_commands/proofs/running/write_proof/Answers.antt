@@ -1,0 +1,20 @@
+use Rattle.std.proofs.Common.{subst}
+use Rattle.repository_commands.specs.Commands.{own_stamp}
+use Rattle.repository_commands.specs.Outcomes.{IsOutcome}
+use Rattle.repository_commands.specs.Texts.{prove_text}
+use Rattle.repository_commands.proofs.Endings.{without_memory}
+use Rattle.repository_commands.proofs.running.write_proof.Goals as goal
+
+pub returns-in_err-stamp : goal.returns-in_err-stamp
+returns-in_err-stamp g c =
+    let text = prove_text g.D.Digest.digest_of own_stamp c.args.key.now in
+    without_memory text (g.R.Read.remaining c.args.input.now) (g.W.Write.contents c.args.out.now) c.from_residual.result c.from_residual.ensures.1
+
+pub returns : goal.returns
+returns g c =
+    let read = g.R.Read.remaining c.args.input.now in
+    let before = g.W.Write.contents c.args.out.now in
+    let after = g.W.Write.contents c.prove_text.new.out in
+    let digest = g.D.Digest.digest_of in
+    subst (λ key. IsOutcome (prove_text digest own_stamp key) read before after c.prove_text.result) c.as_bytes.ensures.value
+    (subst (λ stamp. IsOutcome (prove_text digest stamp c.as_bytes.result.now) read before after c.prove_text.result) c.in_ok-stamp.ensures c.prove_text.ensures.outcome)

@@ -1,0 +1,170 @@
+-- What the commands write for an input, or why nothing (the forms of the texts are a choice of this
+-- project).
+use Rattle.std.specs.Prelude.{ℕ, ◌+◌, List, [], ◌∷◌, ◌++◌, codes, slice_index, Option, Some, None, Result, Ok, Err}
+use Rattle.std.specs.List.{flat_map}
+use Rattle.hex.specs.Hex.{encode_lower}
+use Rattle.spec.specs.Reading.{◌>>=◌, ensure}
+use Rattle.spec.specs.Cid.{CidFault, text, cid_of_text}
+use Rattle.spec.specs.NodeFormat.{is_key}
+use Rattle.spec.specs.Blocks.{pairs}
+use Rattle.spec.specs.Proof.{ProofFault, KeyLength, path, verified}
+use Rattle.spec.specs.Stamps.{Stamp, is_did, is_tid}
+use Rattle.spec.specs.Writes.{Write, WriteFault, batch_test}
+use Rattle.spec.specs.States.{State, fresh, after_batch, records, state_root, state_car}
+use Rattle.console.specs.Lines.{lines, bytes_of_hex}
+use Rattle.repository_commands.specs.Puts.{Given, given_in}
+use Rattle.repository_commands.specs.Faults.{Fault, BadDid, BadRev, OfRoot, OfProof, Line, BadLine, OfWrite}
+
+-- ---- the repository of some puts
+
+-- how many writes a repository may have, and how many blocks a shard
+abbrev pub most_writes : ℕ
+most_writes = 1048576
+
+-- before the first write
+abbrev pub no_writes : State
+no_writes = fresh 0 most_writes
+
+-- all puts as one batch under a stamp, and none where there are no puts
+abbrev pub state_of : Stamp → List Write → State
+state_of stamp [] = no_writes
+state_of stamp (w ∷ ws) = after_batch no_writes stamp (w ∷ ws)
+
+-- a write that isn't taken is told by the number of its line
+abbrev pub at_its_line : List ℕ → Result (Unit {0}) (ℕ × WriteFault) → Result (Unit {0}) Fault
+at_its_line numbers (Ok ok) = Ok ok
+at_its_line numbers (Err f) = Err (Line (slice_index numbers f.0) (OfWrite f.1))
+
+-- and a line that is no put by its own
+abbrev pub unless_stopped : Option ℕ → Result (Unit {0}) Fault
+unless_stopped None = Ok tt
+unless_stopped (Some n) = Err (Line n BadLine)
+
+-- the writes are tested in their order, on a repository without writes
+abbrev pub writes_check : Given → Result (Unit {0}) Fault
+writes_check given = at_its_line given.numbers (batch_test most_writes [] given.writes)
+
+-- The repository of these puts, or the first line at fault. The puts before a line that is none are
+-- tried first.
+unfoldable pub state_of_given : Stamp → Given → Result State Fault
+state_of_given stamp given = do
+  writes_ok ← writes_check given
+  all_puts ← unless_stopped given.stop
+  Ok (state_of stamp given.writes)
+
+-- ---- `car`
+
+-- whose repository it is, and then the revision
+abbrev pub stamp_check : Stamp → Result (Unit {0}) Fault
+stamp_check stamp = do
+  did_ok ← ensure (is_did stamp.did) BadDid
+  ensure (is_tid stamp.rev) BadRev
+
+-- the export of the repository
+abbrev pub car_of_given : (List ℕ → List ℕ) → Stamp → Given → Result (List ℕ) Fault
+car_of_given digest stamp given = do
+  s ← state_of_given stamp given
+  Ok (state_car digest 2 s)
+
+unfoldable pub car_text : (List ℕ → List ℕ) → Stamp → List ℕ → Result (List ℕ) Fault
+car_text digest stamp input = do
+  stamp_ok ← stamp_check stamp
+  car_of_given digest stamp (given_in input)
+
+-- ---- `prove`
+
+-- a root, and the nodes of a key's path
+abbrev pub Path : Type 0
+Path = List ℕ × List (List ℕ)
+
+-- those of a key in a repository
+abbrev pub path_of : (List ℕ → List ℕ) → List ℕ → State → Path
+path_of digest key s = (state_root digest 2 s, path digest 2 (pairs digest (records s)) key)
+
+abbrev pub path_of_given : (List ℕ → List ℕ) → Stamp → List ℕ → Given → Result Path Fault
+path_of_given digest stamp key given = do
+  s ← state_of_given stamp given
+  Ok (path_of digest key s)
+
+-- the line of a block
+abbrev pub hex_line : List ℕ → List ℕ
+hex_line block = encode_lower block ++ (10 ∷ [])
+
+-- the root's CID, and then a line for each node
+abbrev pub text_of_path : Path → List ℕ
+text_of_path p = text p.0 ++ (10 ∷ []) ++ flat_map hex_line p.1
+
+-- a key has 1 to 1,024 bytes
+abbrev pub key_check : List ℕ → Result (Unit {0}) Fault
+key_check key = ensure (is_key key) (OfProof KeyLength)
+
+abbrev pub proof_of_given : (List ℕ → List ℕ) → Stamp → List ℕ → Given → Result (List ℕ) Fault
+proof_of_given digest stamp key given = do
+  p ← path_of_given digest stamp key given
+  Ok (text_of_path p)
+
+unfoldable pub prove_text : (List ℕ → List ℕ) → Stamp → List ℕ → List ℕ → Result (List ℕ) Fault
+prove_text digest stamp key input = do
+  key_ok ← key_check key
+  proof_of_given digest stamp key (given_in input)
+
+-- ---- `verify`
+
+-- the block on a line in hexadecimal, or that it's none
+abbrev pub or_bad_line : ℕ → Option (List ℕ) → Result (List (List ℕ)) Fault
+or_bad_line n None = Err (Line n BadLine)
+or_bad_line n (Some block) = Ok (block ∷ [])
+
+-- an empty line is passed over
+abbrev pub blocks_on_line : ℕ → List ℕ → Result (List (List ℕ)) Fault
+blocks_on_line n [] = Ok []
+blocks_on_line n (c ∷ l) = or_bad_line n (bytes_of_hex (c ∷ l))
+
+-- the blocks in the order of their lines, of which the first has this number, or the first faulty line
+unfoldable pub blocks_of_lines : ℕ → List (List ℕ) → Result (List (List ℕ)) Fault
+blocks_of_lines n [] = Ok []
+blocks_of_lines n (l ∷ ls) = do
+  bs ← blocks_on_line n l
+  more ← blocks_of_lines (n + 1) ls
+  Ok (bs ++ more)
+
+-- the root of a text, or what is wrong with it
+abbrev pub or_bad_root : Result (List ℕ) CidFault → Result (List ℕ) Fault
+or_bad_root (Ok c) = Ok c
+or_bad_root (Err f) = Err (OfRoot f)
+
+-- what the blocks show, or why they show nothing
+abbrev pub or_no_proof : Result (Option (List ℕ)) ProofFault → Result (Option (List ℕ)) Fault
+or_no_proof (Ok value) = Ok value
+or_no_proof (Err f) = Err (OfProof f)
+
+-- the line that says what the key has
+abbrev pub answer_line : Option (List ℕ) → List ℕ
+answer_line None = codes "absent" ++ (10 ∷ [])
+answer_line (Some c) = codes "found " ++ text c ++ (10 ∷ [])
+
+-- the line for these blocks
+abbrev pub answer_of_blocks : (List ℕ → List ℕ) → List ℕ → List ℕ → List (List ℕ) → Result (List ℕ) Fault
+answer_of_blocks digest root key bs = do
+  value ← or_no_proof (verified digest 2 root bs key)
+  Ok (answer_line value)
+
+-- the words, which are judged before the input is read
+abbrev pub words_check : List ℕ → List ℕ → Result (Unit {0}) Fault
+words_check root key = do
+  r ← or_bad_root (cid_of_text root)
+  key_check key
+
+unfoldable pub verify_text : (List ℕ → List ℕ) → List ℕ → List ℕ → List ℕ → Result (List ℕ) Fault
+verify_text digest root key input = do
+  r ← or_bad_root (cid_of_text root)
+  key_ok ← key_check key
+  bs ← blocks_of_lines 1 (lines input)
+  answer_of_blocks digest r key bs
+
+-- ---- a text that may not be there
+
+-- nothing where there is none
+abbrev pub text_or_nothing : Result (List ℕ) Fault → List ℕ
+text_or_nothing (Ok t) = t
+text_or_nothing (Err f) = []

@@ -1,0 +1,54 @@
+//! The blocks that the lines of an input give.
+ghost use Rattle.std.specs.Prelude.{◌≡◌, false, IfErr, IfSome};
+ghost use Rattle.spec.specs.Reading.{Gives};
+ghost use Rattle.console.specs.Lines.{lines};
+ghost use Rattle.repository_commands.specs.Faults.{fault_of, is_write_failure};
+ghost use Rattle.repository_commands.specs.Texts.{blocks_of_lines};
+ghost use Rattle.repository_commands.specs.Views.{blocks_of};
+
+use crate::fault::{CommandFault, LineFault};
+use bstr::ByteSlice;
+use cid::Digest;
+use console::{bytes_of_hex, read_all};
+use std::alloc::Allocator;
+use std::io::Read;
+
+/// The blocks of all that the reader still gives, a line `HEX` each, or the first line that is none.
+pub(crate) fn read_blocks<D: Digest, A: Allocator + Copy, R: Read>(
+    alloc: A,
+    input: &mut R,
+) -> Result<Vec<Vec<u8, A>, A>, CommandFault<D, A>>
+    ensures blocks { IfSome (R.remaining input.old) (λ xs. Gives
+        (λ blocks. blocks_of blocks.items) fault_of result (blocks_of_lines 1 (lines xs))) }
+    ensures kind { IfErr result (λ e. is_write_failure e ≡ false) }
+{
+    let bytes = read_all(alloc, input)?;
+    blocks_of_input(alloc, &bytes)
+}
+
+/// The blocks in the order of their lines, or the first line that is none.
+fn blocks_of_input<D: Digest, A: Allocator + Copy>(
+    alloc: A,
+    input: &[u8],
+) -> Result<Vec<Vec<u8, A>, A>, CommandFault<D, A>>
+    ensures blocks { Gives (λ blocks. blocks_of blocks.items) fault_of result
+        (blocks_of_lines 1 (lines input.now)) }
+    ensures kind { IfErr result (λ e. is_write_failure e ≡ false) }
+{
+    let mut blocks = Vec::new(alloc);
+    let mut number = 0;
+    for line in input.lines() {
+        number += 1;
+        if line.is_empty() {
+            continue;
+        }
+        match bytes_of_hex(alloc, line)? {
+            Some(block) => blocks.push(block)?,
+            None => {
+                let fault = LineFault::BadLine;
+                return Err(CommandFault::Line { number, fault });
+            }
+        }
+    }
+    Ok(blocks)
+}

@@ -1,0 +1,118 @@
+//! The command `car`: it puts the lines of its input into a repository and writes it as one file.
+ghost use Rattle.std.specs.Prelude.{◌≡◌, true, false, IfErr, IfOk, IfSome, IsErr};
+ghost use Rattle.spec.specs.Reading.{Gives};
+ghost use Rattle.spec.specs.States.{state_car};
+ghost use Rattle.batches.specs.Values.{stamp_of};
+ghost use Rattle.repository_commands.specs.Faults.{fault_of, is_of_words, is_write_failure};
+ghost use Rattle.repository_commands.specs.Outcomes.{IsMade, IsOutcome};
+ghost use Rattle.repository_commands.specs.Puts.{given_in};
+ghost use Rattle.repository_commands.specs.Refusals.{IsRefusedLine};
+ghost use Rattle.repository_commands.specs.Texts.{car_of_given, car_text as car_text_of, stamp_check};
+ghost use Rattle.repository_commands.specs.Views.{given_of};
+
+use crate::ending::write_made;
+use crate::fault::CommandFault;
+use crate::filling::filled;
+use crate::puts::{Puts, read_puts};
+use crate::tables::Tables;
+use batches::{Stamp, is_did, is_tid};
+use cid::Digest;
+use export::ToMemory;
+use repo::Core;
+use std::alloc::{AllocError, Global};
+use std::io::{Read, Write};
+
+/// Reads lines `KEY HEX`, puts each record under its key into one repository, all in one batch under a stamp, and writes
+/// the repository as one file (CARv1; AT Protocol repository v3, unsigned commits). Without lines there is no batch.
+///
+/// Lines end at LF or CR LF, and a last line needs no end. An empty line is passed over, and counted. The key is all before
+/// the first space, and the record's bytes stand after it in hexadecimal, in either case. A line of another shape is
+/// `LineFault::BadLine`; the puts before it are tried first, and where one is refused its own line is named.
+///
+/// The stamp is tested before the input is read, all of the input is read before a line is judged, and all is judged
+/// before a byte is written: only at `CommandFault::NoMemory` and `CommandFault::WriteFailed` a beginning of the file
+/// was written.
+pub fn car_text<D: Digest, R: Read, W: Write>(
+    alloc: Global,
+    stamp: &Stamp,
+    input: &mut R,
+    out: &mut W,
+) -> Result<(), CommandFault<D>>
+    ensures outcome { IsOutcome (car_text_of D.digest_of (stamp_of stamp.now))
+        (R.remaining input.old) (W.contents out.old) (W.contents out.new) result }
+
+    // Where a line is refused, it is so by a test, by a clash that is shown, or by a full store.
+    ensures refused { IfErr result (λ e. IfSome (R.remaining input.old) (λ xs.
+        IsRefusedLine D.digest_of (stamp_of stamp.now) (given_in xs) e)) }
+
+    // A faulty stamp is told before the input is read.
+    ensures unread { IsErr (stamp_check (stamp_of stamp.now)) → input.new ≡ input.old }
+{
+    write_made(car_made(alloc, stamp, input), out)
+}
+
+/// The file of the lines of the input.
+fn car_made<D: Digest, R: Read>(
+    alloc: Global,
+    stamp: &Stamp,
+    input: &mut R,
+) -> Result<Vec<u8>, CommandFault<D>>
+    ensures made { IsMade (λ bytes. bytes.items) (car_text_of D.digest_of (stamp_of stamp.now))
+        (R.remaining input.old) result }
+    ensures refused { IfErr result (λ e. IfSome (R.remaining input.old) (λ xs.
+        IsRefusedLine D.digest_of (stamp_of stamp.now) (given_in xs) e)) }
+    ensures unread { IsErr (stamp_check (stamp_of stamp.now)) → input.new ≡ input.old }
+    ensures kind { IfErr result (λ e. is_write_failure e ≡ false) }
+{
+    check_stamp::<D>(stamp)?;
+    let puts = read_puts(alloc, input)?;
+    car_of_puts(alloc, stamp, puts)
+}
+
+/// Tests a stamp: whose repository it is, and then the revision.
+fn check_stamp<D: Digest>(stamp: &Stamp) -> Result<(), CommandFault<D>>
+    ensures check { Gives (λ ok. ok) fault_of result (stamp_check (stamp_of stamp.now)) }
+    ensures words { IfErr result (λ e. is_of_words e ≡ true) }
+    ensures kind { IfErr result (λ e. is_write_failure e ≡ false) }
+{
+    if !is_did(&stamp.did) {
+        return Err(CommandFault::BadDid);
+    }
+    if !is_tid(&stamp.rev) {
+        return Err(CommandFault::BadRev);
+    }
+    Ok(())
+}
+
+/// The file of the repository of these puts.
+fn car_of_puts<D: Digest>(
+    alloc: Global,
+    stamp: &Stamp,
+    puts: Puts<Global>,
+) -> Result<Vec<u8>, CommandFault<D>>
+    ensures file { Gives (λ bytes. bytes.items) fault_of result
+        (car_of_given D.digest_of (stamp_of stamp.now) (given_of puts)) }
+    ensures refused { IfErr result
+        (IsRefusedLine D.digest_of (stamp_of stamp.now) (given_of puts)) }
+    ensures kind { IfErr result (λ e. is_write_failure e ≡ false) }
+{
+    let mut store = Tables::new(alloc)?;
+    let core = filled::<D, Tables<D, Global>>(alloc, &mut store, stamp, puts)?;
+    let file = car_in_memory(alloc, &core);
+    core.end(&mut store);
+    Ok(file?)
+}
+
+/// The file of a repository, in memory.
+fn car_in_memory<D: Digest>(
+    alloc: Global,
+    core: &Core<D, 2>,
+) -> Result<Vec<u8>, AllocError>
+    ensures { IfOk result (λ bytes. bytes.items ≡ state_car D.digest_of 2 core.now) }
+{
+    let mut file = ToMemory::new(alloc);
+    match export::car(alloc, core, &mut file) {
+        Ok(_) => Ok(file.into_bytes()),
+        Err(_) => Err(AllocError),
+    }
+}

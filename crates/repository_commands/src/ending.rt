@@ -1,0 +1,55 @@
+//! How a command ends: its text is written, or the fault is told; to the exit status.
+ghost use Rattle.std.specs.Prelude.{◌≡◌, List, ℕ, Option, Err, false, IfErr};
+ghost use Rattle.repository_commands.specs.Faults.{is_write_failure, may_have_written};
+ghost use Rattle.repository_commands.specs.Outcomes.{IsMade, IsOutcome, IsStatusOf, Texts};
+
+use crate::fault::CommandFault;
+use cid::Digest;
+use console::{DONE, tell, write_failed, write_whole};
+use std::alloc::Allocator;
+use std::io::Write;
+
+/// Writes the text that was made, if one was.
+pub(crate) fn write_made<D: Digest, A: Allocator, W: Write>(
+    made: Result<Vec<u8, A>, CommandFault<D, A>>,
+    out: &mut W,
+) -> Result<(), CommandFault<D, A>>
+    requires kind { IfErr made (λ e. is_write_failure e ≡ false) }
+    ensures outcome { (text : Texts) (input : Option (List ℕ))
+        → IsMade (λ bytes. bytes.items) text input made
+        → IsOutcome text input (W.contents out.old) (W.contents out.new) result }
+
+    // A fault that leaves the output as it was is that of the text.
+    ensures fault { IfErr result (λ e. may_have_written e ≡ false → made ≡ Err e) }
+{
+    match made {
+        Ok(text) => match write_whole(out, &text) {
+            Ok(()) => Ok(()),
+            Err(fault) => Err(CommandFault::from(fault)),
+        },
+        Err(fault) => Err(fault),
+    }
+}
+
+/// The exit status of a command that ended so: what was written reaches the writer's end, and a fault is told on standard
+/// error.
+pub(crate) fn status_of<D: Digest, A: Allocator, W: Write, X: Write>(
+    ended: Result<(), CommandFault<D, A>>,
+    out: &mut W,
+    err: &mut X,
+) -> u8
+    ensures { (text : Texts) (input old : Option (List ℕ))
+        → IsOutcome text input old (W.contents out.old) ended
+        → IsStatusOf text input old (W.contents out.new) result }
+{
+    match ended {
+        Ok(()) => match out.flush() {
+            Ok(()) => DONE,
+            Err(_) => write_failed(err),
+        },
+        Err(fault) => {
+            tell(&fault, err);
+            fault.status()
+        }
+    }
+}

@@ -1,0 +1,156 @@
+//! A repository that is filled with the puts of an input.
+ghost use Rattle.std.specs.Prelude.{◌≡◌, true, false, slice_index, IfErr, IfOk, OnOk};
+ghost use Rattle.spec.specs.Reading.{Gives};
+ghost use Rattle.batches.specs.Values.{stamp_of, writes_of};
+ghost use Rattle.store.specs.Stores.{IsStore};
+ghost use Rattle.repository_commands.specs.Faults.{fault_of, is_write_failure};
+ghost use Rattle.repository_commands.specs.Refusals.{IsRefusedLine, is_bad_line, refused as refused_by};
+ghost use Rattle.repository_commands.specs.Texts.{no_writes, state_of, state_of_given, unless_stopped, writes_check};
+ghost use Rattle.repository_commands.specs.Views.{given_of};
+
+use crate::fault::{CommandFault, LineFault};
+use crate::puts::Puts;
+use batches::{RepoFault, Stamp};
+use cid::{Block, Digest};
+use repo::Core;
+use std::alloc::{AllocError, Global};
+use std::sync::Arc;
+use store::{BlockStore, Hold, StoreFault};
+
+/// How many writes the repository may have.
+const MOST_WRITES: usize = 1_048_576;
+
+/// The repository that has all puts as one batch under a stamp, and none where there are no puts; or the first line at
+/// fault. The puts before a line that is none are tried first. At `Err` no block is held. The puts are let go: the repository
+/// has copies of its own.
+pub(crate) fn filled<
+    D: Digest,
+    S: BlockStore<Arc<Block<D>>, Hold<D>, StoreFault<D>>,
+>(
+    alloc: Global,
+    store: &mut S,
+    stamp: &Stamp,
+    puts: Puts<Global>,
+) -> Result<Core<D, 2>, CommandFault<D>>
+    requires store { IsStore D.digest_of S.fulls S.answers }
+    ensures state { Gives (λ core. core) fault_of result
+        (state_of_given (stamp_of stamp.now) (given_of puts)) }
+    ensures refused { IfErr result
+        (IsRefusedLine D.digest_of (stamp_of stamp.now) (given_of puts)) }
+    ensures kind { IfErr result (λ e. is_write_failure e ≡ false) }
+{
+    let mut core = empty::<D, S>(alloc, store)?;
+    match apply_puts::<D, S>(alloc, store, &mut core, stamp, &puts) {
+        Ok(()) => Ok(core),
+        Err(fault) => {
+            core.end(store);
+            Err(fault)
+        }
+    }
+}
+
+/// A repository without writes.
+///
+/// Its one block has room in a store without blocks, and there is no other under its CID: so what may be refused is
+/// memory.
+fn empty<
+    D: Digest,
+    S: BlockStore<Arc<Block<D>>, Hold<D>, StoreFault<D>>,
+>(alloc: Global, store: &mut S) -> Result<Core<D, 2>, AllocError>
+    requires store { IsStore D.digest_of S.fulls S.answers }
+    ensures { IfOk result (λ core. core ≡ no_writes) }
+{
+    match Core::open(alloc, store, 0, MOST_WRITES) {
+        Ok(core) => Ok(core),
+        Err(_) => Err(AllocError),
+    }
+}
+
+/// Applies the puts to a repository without writes, or names the first line at fault.
+#[tactic(auto, unfolding(crate::specs::Texts::state_of_given))]
+fn apply_puts<
+    D: Digest,
+    S: BlockStore<Arc<Block<D>>, Hold<D>, StoreFault<D>>,
+>(
+    alloc: Global,
+    store: &mut S,
+    core: &mut Core<D, 2>,
+    stamp: &Stamp,
+    puts: &Puts<Global>,
+) -> Result<(), CommandFault<D>>
+    requires store { IsStore D.digest_of S.fulls S.answers }
+    requires empty { core.old ≡ no_writes }
+    ensures state { Gives (λ _. core.new) fault_of result
+        (state_of_given (stamp_of stamp.now) (given_of puts.now)) }
+    ensures refused { IfErr result
+        (IsRefusedLine D.digest_of (stamp_of stamp.now) (given_of puts.now)) }
+    ensures kind { IfErr result (λ e. is_write_failure e ≡ false) }
+{
+    apply_writes::<D, S>(alloc, store, core, stamp, puts)?;
+    check_end::<D>(puts.stop)
+}
+
+/// Applies the puts before the line that is none, if there is one, or names the line of the first that is refused.
+fn apply_writes<
+    D: Digest,
+    S: BlockStore<Arc<Block<D>>, Hold<D>, StoreFault<D>>,
+>(
+    alloc: Global,
+    store: &mut S,
+    core: &mut Core<D, 2>,
+    stamp: &Stamp,
+    puts: &Puts<Global>,
+) -> Result<(), CommandFault<D>>
+    requires store { IsStore D.digest_of S.fulls S.answers }
+    requires empty { core.old ≡ no_writes }
+    ensures passes { Gives (λ ok. ok) fault_of result
+        (writes_check (given_of puts.now)) }
+    ensures state { OnOk result
+        (core.new ≡ state_of (stamp_of stamp.now) (writes_of puts.now.writes.items)) }
+    ensures refused { IfErr result
+        (IsRefusedLine D.digest_of (stamp_of stamp.now) (given_of puts.now)) }
+    ensures kind { IfErr result (λ e. is_write_failure e ≡ false) }
+{
+    if puts.writes.is_empty() {
+        return Ok(());
+    }
+    match core.apply(alloc, store, stamp, &puts.writes) {
+        Ok(_) => Ok(()),
+        Err((place, fault)) => Err(refused(number_at(&puts.numbers, place), fault)),
+    }
+}
+
+/// The number of the line of the put at a place.
+fn number_at(numbers: &[u64], place: usize) -> u64
+    ensures { result ≡ slice_index numbers.now place }
+{
+    numbers.get(place).copied().unwrap_or(0)
+}
+
+/// Whether each line was a put.
+fn check_end<D: Digest>(stop: Option<u64>) -> Result<(), CommandFault<D>>
+    ensures check { Gives (λ ok. ok) fault_of result (unless_stopped stop) }
+    ensures line { IfErr result (λ e. is_bad_line e ≡ true) }
+    ensures kind { IfErr result (λ e. is_write_failure e ≡ false) }
+{
+    match stop {
+        None => Ok(()),
+        Some(number) => {
+            let fault = LineFault::BadLine;
+            Err(CommandFault::Line { number, fault })
+        }
+    }
+}
+
+/// The fault of a line that is refused; want of memory has no line.
+fn refused<D: Digest>(number: u64, fault: RepoFault<D>) -> CommandFault<D>
+    ensures { result ≡ refused_by number fault }
+{
+    match fault {
+        RepoFault::NoMemory => CommandFault::NoMemory,
+        fault => {
+            let fault = LineFault::Refused(fault);
+            CommandFault::Line { number, fault }
+        }
+    }
+}

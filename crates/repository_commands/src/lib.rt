@@ -1,0 +1,41 @@
+//! The commands on one repository, over any reader and writers: its export, proofs of its keys, and what such proofs show
+//! (AT Protocol repository v3, CARv1; the forms of the texts are this repository's own).
+//!
+//! - `car_text` puts the lines of an input into a repository and writes it as one file.
+//! - `prove_text` does the same and writes the nodes on the path of a key.
+//! - `verify_text` reads such nodes and writes what they show of a key under a root.
+//! - `CommandFault` says why there is no text, or not all of it; a line of the input is named by its number.
+//!
+//! A program has them by `with_words`, `command_of` and `run`: what help shows of them, which of them a command line asks
+//! for, and its run to the exit status.
+//!
+//! ```text
+//! let mut lines: &[u8] = b"a/b a0";
+//! let stamp = Stamp { did, rev };
+//! car_text::<Sha256, _, _>(Global, &stamp, &mut lines, &mut out)?;
+//!
+//! let mut nodes: &[u8] = b"a2616580616cf6";
+//! verify_text::<Sha256, _, _, _>(Global, root, b"a/b", &mut nodes, &mut out)?;
+//! ```
+#![tactic(auto)]
+
+mod blocks;
+mod car;
+mod ending;
+mod fault;
+mod filling;
+mod proving;
+mod puts;
+mod refusal_name;
+mod running;
+mod tables;
+mod verifying;
+mod words;
+
+pub use car::car_text;
+pub use fault::{CommandFault, LineFault};
+pub use proving::prove_text;
+pub use refusal_name::RefusalName;
+pub use running::run;
+pub use verifying::verify_text;
+pub use words::{RepositoryCommand, command_of, with_words};

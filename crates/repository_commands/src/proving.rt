@@ -1,0 +1,168 @@
+//! The command `prove`: it puts the lines of its input into a repository and writes the proof of a key.
+ghost use Rattle.std.specs.Prelude.{◌≡◌, ◌++◌, true, false, map, IfErr, IfOk, IfSome, IsErr, OnOk};
+ghost use Rattle.std.specs.Arc.{arc_value};
+ghost use Rattle.std.specs.List.{flat_map};
+ghost use Rattle.spec.specs.Reading.{Gives};
+ghost use Rattle.batches.specs.Values.{stamp_of};
+ghost use Rattle.repository_commands.specs.Faults.{fault_of, is_of_words, is_write_failure};
+ghost use Rattle.repository_commands.specs.Outcomes.{IsMade, IsOutcome};
+ghost use Rattle.repository_commands.specs.Puts.{given_in};
+ghost use Rattle.repository_commands.specs.Refusals.{IsRefusedLine};
+ghost use Rattle.repository_commands.specs.Texts.{hex_line, key_check, path_of_given, proof_of_given, prove_text as prove_text_of, text_of_path};
+ghost use Rattle.repository_commands.specs.Views.{given_of, nodes_of};
+
+use crate::ending::write_made;
+use crate::fault::CommandFault;
+use crate::filling::filled;
+use crate::puts::{Puts, read_puts};
+use crate::tables::Tables;
+use batches::Stamp;
+use cid::{Block, Cid, Digest};
+use export::{ProofFault, prove};
+use node::is_key;
+use std::alloc::{AllocError, Allocator, Global};
+use std::io::{Read, Write};
+use std::sync::Arc;
+
+/// Reads lines `KEY HEX` into one repository, as `car_text` does, and writes the proof of a key: the text of the CID of the
+/// tree's root, and then a line in hexadecimal for each node of the key's path, from the top.
+///
+/// The key has 1 to 1,024 bytes, else it is `ProofFault::KeyLength` before the input is read. The stamp is one that passes
+/// its test, as the program's own does.
+pub fn prove_text<D: Digest, R: Read, W: Write>(
+    alloc: Global,
+    stamp: &Stamp,
+    key: &[u8],
+    input: &mut R,
+    out: &mut W,
+) -> Result<(), CommandFault<D>>
+    ensures outcome { IsOutcome (prove_text_of D.digest_of (stamp_of stamp.now) key.now)
+        (R.remaining input.old) (W.contents out.old) (W.contents out.new) result }
+    ensures refused { IfErr result (λ e. IfSome (R.remaining input.old) (λ xs.
+        IsRefusedLine D.digest_of (stamp_of stamp.now) (given_in xs) e)) }
+    ensures unread { IsErr (key_check key.now) → input.new ≡ input.old }
+{
+    write_made(proof_made(alloc, stamp, key, input), out)
+}
+
+/// The text of the proof over the lines of the input.
+fn proof_made<D: Digest, R: Read>(
+    alloc: Global,
+    stamp: &Stamp,
+    key: &[u8],
+    input: &mut R,
+) -> Result<Vec<u8>, CommandFault<D>>
+    ensures made { IsMade (λ bytes. bytes.items)
+        (prove_text_of D.digest_of (stamp_of stamp.now) key.now) (R.remaining input.old) result }
+    ensures refused { IfErr result (λ e. IfSome (R.remaining input.old) (λ xs.
+        IsRefusedLine D.digest_of (stamp_of stamp.now) (given_in xs) e)) }
+    ensures unread { IsErr (key_check key.now) → input.new ≡ input.old }
+    ensures kind { IfErr result (λ e. is_write_failure e ≡ false) }
+{
+    check_key::<D, Global>(key)?;
+    let puts = read_puts(alloc, input)?;
+    proof_of_puts(alloc, stamp, key, puts)
+}
+
+/// Tests a key.
+pub(crate) fn check_key<D: Digest, A: Allocator>(key: &[u8]) -> Result<(), CommandFault<D, A>>
+    ensures check { Gives (λ ok. ok) fault_of result (key_check key.now) }
+    ensures words { IfErr result (λ e. is_of_words e ≡ true) }
+    ensures kind { IfErr result (λ e. is_write_failure e ≡ false) }
+{
+    if !is_key(key) {
+        return Err(CommandFault::Proof(ProofFault::KeyLength));
+    }
+    Ok(())
+}
+
+/// The text of the proof of a key in the repository of these puts.
+fn proof_of_puts<D: Digest>(
+    alloc: Global,
+    stamp: &Stamp,
+    key: &[u8],
+    puts: Puts<Global>,
+) -> Result<Vec<u8>, CommandFault<D>>
+    ensures text { Gives (λ bytes. bytes.items) fault_of result
+        (proof_of_given D.digest_of (stamp_of stamp.now) key.now (given_of puts)) }
+    ensures refused { IfErr result
+        (IsRefusedLine D.digest_of (stamp_of stamp.now) (given_of puts)) }
+    ensures kind { IfErr result (λ e. is_write_failure e ≡ false) }
+{
+    let path = path_of_puts::<D>(alloc, stamp, key, puts)?;
+    Ok(text_of(alloc, &path)?)
+}
+
+/// A root and the nodes of a key's path below it.
+#[derive(Drop)]
+pub(crate) struct PathNodes<D: Digest> {
+    root: Cid,
+    nodes: Vec<Arc<Block<D>>>,
+}
+
+/// The path of a key in the repository of these puts.
+fn path_of_puts<D: Digest>(
+    alloc: Global,
+    stamp: &Stamp,
+    key: &[u8],
+    puts: Puts<Global>,
+) -> Result<PathNodes<D>, CommandFault<D>>
+    ensures path { Gives nodes_of fault_of result
+        (path_of_given D.digest_of (stamp_of stamp.now) key.now (given_of puts)) }
+    ensures refused { IfErr result
+        (IsRefusedLine D.digest_of (stamp_of stamp.now) (given_of puts)) }
+    ensures kind { IfErr result (λ e. is_write_failure e ≡ false) }
+{
+    let mut store = Tables::new(alloc)?;
+    let core = filled::<D, Tables<D, Global>>(alloc, &mut store, stamp, puts)?;
+    let root = core.root();
+    let nodes = prove(alloc, &core, key);
+    core.end(&mut store);
+    Ok(PathNodes {
+        root,
+        nodes: nodes?,
+    })
+}
+
+/// The text of a path.
+fn text_of<D: Digest>(
+    alloc: Global,
+    path: &PathNodes<D>,
+) -> Result<Vec<u8>, AllocError>
+    ensures { IfOk result (λ bytes. bytes.items ≡ text_of_path (nodes_of path.now)) }
+{
+    let mut text = Vec::new(alloc);
+    text.extend_from_slice(&path.root.text())?;
+    text.push(b'\n')?;
+    push_lines(alloc, &mut text, &path.nodes)?;
+    Ok(text)
+}
+
+/// Puts a line for each block at the end.
+fn push_lines<D: Digest>(
+    alloc: Global,
+    text: &mut Vec<u8>,
+    blocks: &[Arc<Block<D>>],
+) -> Result<(), AllocError>
+    ensures { OnOk result (text.new.items ≡ text.old.items
+        ++ flat_map hex_line (map arc_value blocks.now)) }
+{
+    for block in blocks {
+        push_line(alloc, text, block.bytes())?;
+    }
+    Ok(())
+}
+
+/// Puts the line of a block at the end.
+fn push_line(
+    alloc: Global,
+    text: &mut Vec<u8>,
+    block: &[u8],
+) -> Result<(), AllocError>
+    ensures { OnOk result (text.new.items ≡ text.old.items ++ hex_line block.now) }
+{
+    let digits = hex::encode(alloc, block)?;
+    text.extend_from_slice(digits.as_bytes())?;
+    text.push(b'\n')?;
+    Ok(())
+}

@@ -1,0 +1,120 @@
+//! The puts that the lines of an input give.
+ghost use Rattle.std.specs.Prelude.{◌≡◌, ◌≤◌, length, option_map, IfOk, IfSome, OnOk};
+ghost use Rattle.std.specs.List.{position_or_len};
+ghost use Rattle.batches.specs.Values.{write_of};
+ghost use Rattle.console.specs.Lines.{bytes_of_hex as bytes_of, is_space};
+ghost use Rattle.repository_commands.specs.Puts.{given_in, nothing_given, put_of, put_of_line as put_of_line_of};
+ghost use Rattle.repository_commands.specs.Views.{added, given_of};
+
+use batches::Write;
+use bstr::ByteSlice;
+use console::{ReadFault, bytes_of_hex, read_all};
+use std::alloc::{AllocError, Allocator};
+use std::io::Read;
+
+/// The puts of the lines of an input, up to the first line that is none.
+#[derive(Drop)]
+pub(crate) struct Puts<A: Allocator> {
+    /// The number of each put's line.
+    pub(crate) numbers: Vec<u64, A>,
+    /// The puts.
+    pub(crate) writes: Vec<Write<A>, A>,
+    /// The number of the line that is none, if there is one.
+    pub(crate) stop: Option<u64>,
+}
+
+impl<A: Allocator + Copy> Puts<A> {
+    /// None so far.
+    fn none(alloc: A) -> Puts<A>
+        ensures { given_of result ≡ nothing_given }
+    {
+        Puts {
+            numbers: Vec::new(alloc),
+            writes: Vec::new(alloc),
+            stop: None,
+        }
+    }
+
+    /// With the put of this line after the others.
+    fn add(&mut self, number: u64, put: Write<A>) -> Result<(), AllocError>
+        ensures { OnOk result (given_of self.new
+            ≡ added (given_of self.old) number (write_of put)) }
+    {
+        self.numbers.push(number)?;
+        self.writes.push(put)?;
+        Ok(())
+    }
+}
+
+/// The puts of all that the reader still gives. The input is let go before they are used.
+pub(crate) fn read_puts<A: Allocator + Copy, R: Read>(
+    alloc: A,
+    input: &mut R,
+) -> Result<Puts<A>, ReadFault>
+    ensures { IfOk result (λ puts. IfSome (R.remaining input.old)
+        (λ xs. given_of puts ≡ given_in xs)) }
+{
+    let bytes = read_all(alloc, input)?;
+    match puts_of_input(alloc, &bytes) {
+        Ok(puts) => Ok(puts),
+        Err(_) => Err(ReadFault::NoMemory),
+    }
+}
+
+/// The puts of the lines of an input.
+fn puts_of_input<A: Allocator + Copy>(alloc: A, input: &[u8]) -> Result<Puts<A>, AllocError>
+    ensures { IfOk result (λ puts. given_of puts ≡ given_in input.now) }
+{
+    let mut puts = Puts::none(alloc);
+    let mut number = 0;
+    for line in input.lines() {
+        number += 1;
+        if line.is_empty() {
+            continue;
+        }
+        match put_of_line(alloc, line)? {
+            Some(put) => puts.add(number, put)?,
+            None => {
+                puts.stop = Some(number);
+                return Ok(puts);
+            }
+        }
+    }
+    Ok(puts)
+}
+
+/// The put of a line `KEY HEX`, or `None` where it is none.
+fn put_of_line<A: Allocator + Copy>(alloc: A, line: &[u8]) -> Result<Option<Write<A>>, AllocError>
+    ensures { IfOk result (λ put. option_map write_of put ≡ put_of_line_of line.now) }
+{
+    let space = space_in(line);
+    if space == line.len() {
+        return Ok(None);
+    }
+    put_of_words(alloc, &line[..space], &line[space + 1..])
+}
+
+/// The place of the first space, or the length where there is none.
+fn space_in(line: &[u8]) -> usize
+    ensures place { result ≡ position_or_len is_space line.now }
+    ensures within { result ≤ length line.now }
+{
+    line.iter().position(|c| *c == b' ').unwrap_or(line.len())
+}
+
+/// The put of a key and a word in hexadecimal, or `None` where either is none.
+fn put_of_words<A: Allocator + Copy>(
+    alloc: A,
+    key: &[u8],
+    word: &[u8],
+) -> Result<Option<Write<A>>, AllocError>
+    ensures { IfOk result (λ put. option_map write_of put ≡ put_of key.now (bytes_of word.now)) }
+{
+    if key.is_empty() {
+        return Ok(None);
+    }
+    let Some(bytes) = bytes_of_hex(alloc, word)? else {
+        return Ok(None);
+    };
+    Ok(Some(Write::Put(Vec::from_slice(alloc, key)?, bytes)))
+}

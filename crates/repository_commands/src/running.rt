@@ -1,0 +1,93 @@
+//! The run of a command on one repository, to the exit status.
+ghost use Rattle.std.specs.Prelude.{◌≡◌, IfOk};
+ghost use Rattle.batches.specs.Values.{stamp_of};
+ghost use Rattle.repository_commands.specs.Commands.{own_stamp, stamp_of_words, texts_of};
+ghost use Rattle.repository_commands.specs.Outcomes.{IsOutcome, IsStatusOf};
+ghost use Rattle.repository_commands.specs.Texts.{car_text as car_text_of, prove_text as prove_text_of};
+
+use crate::car::car_text;
+use crate::ending::status_of;
+use crate::fault::CommandFault;
+use crate::proving::prove_text;
+use crate::verifying::verify_text;
+use crate::words::{DID, REV, RepositoryCommand};
+use batches::Stamp;
+use cid::Digest;
+use std::alloc::{AllocError, Global};
+use std::io::{Read, Write};
+
+/// Does the command, or says on standard error why not, and answers the exit status.
+///
+/// At 0 the text of the input was written, and at 1, where a word, a line or what comes of them is at fault, nothing. At 3
+/// memory was refused, and at 4 reading or writing failed.
+pub fn run<D: Digest, R: Read, W: Write, X: Write>(
+    command: RepositoryCommand<'_>,
+    alloc: Global,
+    input: &mut R,
+    out: &mut W,
+    err: &mut X,
+) -> u8
+    ensures { IsStatusOf (texts_of D.digest_of command.entry) (R.remaining input.old)
+        (W.contents out.old) (W.contents out.new) result }
+{
+    let ended = write_text::<D, R, W>(command, alloc, input, out);
+    status_of(ended, out, err)
+}
+
+/// Writes the text of the command.
+fn write_text<D: Digest, R: Read, W: Write>(
+    command: RepositoryCommand<'_>,
+    alloc: Global,
+    input: &mut R,
+    out: &mut W,
+) -> Result<(), CommandFault<D>>
+    ensures { IsOutcome (texts_of D.digest_of command.entry) (R.remaining input.old)
+        (W.contents out.old) (W.contents out.new) result }
+{
+    match command {
+        RepositoryCommand::Car { did, rev } => write_car(did, rev, alloc, input, out),
+        RepositoryCommand::Prove { key } => write_proof(key, alloc, input, out),
+        RepositoryCommand::Verify { root, key } => {
+            verify_text(alloc, root.as_bytes(), key.as_bytes(), input, out)
+        }
+    }
+}
+
+/// Writes the repository of the lines, under the stamp of these words.
+fn write_car<D: Digest, R: Read, W: Write>(
+    did: &str,
+    rev: &str,
+    alloc: Global,
+    input: &mut R,
+    out: &mut W,
+) -> Result<(), CommandFault<D>>
+    ensures { IsOutcome (car_text_of D.digest_of (stamp_of_words did.now rev.now))
+        (R.remaining input.old) (W.contents out.old) (W.contents out.new) result }
+{
+    let stamp = stamp_of_words(did, rev, alloc)?;
+    car_text(alloc, &stamp, input, out)
+}
+
+/// Writes the proof of a key in the repository of the lines, under the program's own stamp.
+fn write_proof<D: Digest, R: Read, W: Write>(
+    key: &str,
+    alloc: Global,
+    input: &mut R,
+    out: &mut W,
+) -> Result<(), CommandFault<D>>
+    ensures { IsOutcome (prove_text_of D.digest_of own_stamp key.now)
+        (R.remaining input.old) (W.contents out.old) (W.contents out.new) result }
+{
+    let stamp = stamp_of_words(DID, REV, alloc)?;
+    prove_text(alloc, &stamp, key.as_bytes(), input, out)
+}
+
+/// The stamp of these words.
+fn stamp_of_words(did: &str, rev: &str, alloc: Global) -> Result<Stamp, AllocError>
+    ensures { IfOk result (λ stamp. stamp_of stamp ≡ stamp_of_words did.now rev.now) }
+{
+    Ok(Stamp {
+        did: Vec::from_slice(alloc, did.as_bytes())?,
+        rev: Vec::from_slice(alloc, rev.as_bytes())?,
+    })
+}

@@ -1,0 +1,159 @@
+//! What the commands are told on a command line.
+use clap::{Arg, ArgMatches, Command};
+use std::alloc::{AllocError, Global};
+
+/// A command on one repository, with what its words say.
+#[derive(Clone, Copy)]
+pub enum RepositoryCommand<'a> {
+    /// Write the repository of the lines of the input as one file.
+    Car {
+        /// Whose repository it is.
+        did: &'a str,
+        /// The revision of its one batch.
+        rev: &'a str,
+    },
+    /// Write the proof of a key in the repository of the lines of the input.
+    Prove {
+        /// The key.
+        key: &'a str,
+    },
+    /// Write what the blocks of the input show of a key.
+    Verify {
+        /// The text of the CID of the tree's root.
+        root: &'a str,
+        /// The key.
+        key: &'a str,
+    },
+}
+
+/// Whose repository it is where no word says so.
+pub(crate) const DID: &str = "did:web:localhost";
+
+/// The revision where no word says which: the least of all.
+pub(crate) const REV: &str = "2222222222222";
+
+const CAR: &str = "Reads lines KEY HEX and writes their repository as one CAR file";
+
+const LONG_CAR: &str = "\
+Reads lines KEY HEX from standard input, puts each record under its key into one repository, all in one batch, and
+writes the repository as one CAR file: the commit, the nodes of the tree and the records.
+
+A key is a collection, a slash and a record key. HEX is a record in hexadecimal: one DAG-CBOR map. One space stands
+between them. Of lines with one key the last decides, and empty lines are passed over. Without lines there is no commit.
+
+Exit status: 0 done, 1 a faulty line, DID or revision, 2 a wrong command line, 3 no memory, 4 reading or writing failed.";
+
+const CAR_EXAMPLE: &str = "\
+Example:
+  $ printf '' | msthost car | wc -c
+  103";
+
+const PROVE: &str = "Reads lines KEY HEX and writes the proof of a key in their tree";
+
+const LONG_PROVE: &str = "\
+Reads lines KEY HEX from standard input as car does, and writes the text of the CID of the tree's root, and then the
+nodes on the path of KEY from the top, a line in hexadecimal each. They show what the tree has under KEY, or that it has
+nothing.
+
+Exit status: 0 done, 1 a faulty line or key, 2 a wrong command line, 3 no memory, 4 reading or writing failed.";
+
+const PROVE_EXAMPLE: &str = "\
+Example:
+  $ printf '' | msthost prove a/b
+  bafyreie5737gdxlw5i64vzichcalba3z2v5n6icifvx5xytvske7mr3hpm
+  a2616580616cf6";
+
+const VERIFY: &str = "Reads the blocks of a proof and writes what they show of a key";
+
+const LONG_VERIFY: &str = "\
+Reads blocks from standard input, a line in hexadecimal each, and writes what they show of KEY in the tree whose root's
+CID is ROOT: 'found CID', the CID of its record, or 'absent'. Nothing but ROOT is trusted.
+
+Exit status: 0 done, 1 a faulty line, root or key, or blocks that show nothing, 2 a wrong command line, 3 no memory,
+4 reading or writing failed.";
+
+const VERIFY_EXAMPLE: &str = "\
+Example:
+  $ root=bafyreie5737gdxlw5i64vzichcalba3z2v5n6icifvx5xytvske7mr3hpm
+  $ printf 'a2616580616cf6' | msthost verify $root a/b
+  absent";
+
+/// Adds the commands on one repository to a program's.
+pub fn with_words<'a>(
+    alloc: Global,
+    program: Command<'a>,
+) -> Result<Command<'a>, AllocError> {
+    program
+        .subcommand(car_words(alloc)?)?
+        .subcommand(prove_words(alloc)?)?
+        .subcommand(verify_words(alloc)?)
+}
+
+/// The command of this name, with what its words say; or `None` where it is another.
+pub fn command_of<'a>(name: &str, words: &ArgMatches<'a>) -> Option<RepositoryCommand<'a>> {
+    if name == "car" {
+        return Some(RepositoryCommand::Car {
+            did: words.get_str("did").unwrap_or(DID),
+            rev: words.get_str("rev").unwrap_or(REV),
+        });
+    }
+    if name == "prove" {
+        return Some(RepositoryCommand::Prove {
+            key: words.get_str("key").unwrap_or(""),
+        });
+    }
+    if name == "verify" {
+        return Some(RepositoryCommand::Verify {
+            root: words.get_str("root").unwrap_or(""),
+            key: words.get_str("key").unwrap_or(""),
+        });
+    }
+    None
+}
+
+/// The words that `car` takes, with what help shows of them.
+fn car_words<'a>(alloc: Global) -> Result<Command<'a>, AllocError> {
+    let did = Arg::new(alloc, "did")
+        .long("did")
+        .value_name("DID")
+        .default_value(DID)
+        .help("Whose repository it is");
+    let rev = Arg::new(alloc, "rev")
+        .long("rev")
+        .value_name("REV")
+        .default_value(REV)
+        .help("The revision of its commit");
+    Command::new(alloc, "car")
+        .about(CAR)
+        .long_about(LONG_CAR)
+        .after_help(CAR_EXAMPLE)
+        .arg(did)?
+        .arg(rev)
+}
+
+/// The words that `prove` takes.
+fn prove_words<'a>(alloc: Global) -> Result<Command<'a>, AllocError> {
+    Command::new(alloc, "prove")
+        .about(PROVE)
+        .long_about(LONG_PROVE)
+        .after_help(PROVE_EXAMPLE)
+        .arg(required(alloc, "key", "KEY", "The key, of 1 to 1,024 bytes"))
+}
+
+/// The words that `verify` takes.
+fn verify_words<'a>(alloc: Global) -> Result<Command<'a>, AllocError> {
+    Command::new(alloc, "verify")
+        .about(VERIFY)
+        .long_about(LONG_VERIFY)
+        .after_help(VERIFY_EXAMPLE)
+        .arg(required(alloc, "root", "ROOT", "The text of the CID of the tree's root"))?
+        .arg(required(alloc, "key", "KEY", "The key, of 1 to 1,024 bytes"))
+}
+
+/// A word that must be there.
+fn required<'a>(alloc: Global, id: &'a str, name: &'a str, help: &'a str) -> Arg<'a> {
+    Arg::new(alloc, id)
+        .value_name(name)
+        .required(true)
+        .help(help)
+}
