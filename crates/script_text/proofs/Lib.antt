@@ -1,0 +1,4 @@
+pub mod Mapped
+pub mod Digits
+pub mod Parts
+pub mod Remaining

@@ -1,0 +1,4 @@
+pub mod Calls
+pub mod Merging
+pub mod Working
+pub mod Scripts
