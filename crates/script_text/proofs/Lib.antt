@@ -2,3 +2,4 @@ pub mod Mapped
 pub mod Digits
 pub mod Parts
 pub mod Remaining
+pub mod Pushing
