@@ -10,5 +10,5 @@ mod tokens;
 mod words;
 mod writes;
 
-pub use report::{push_answers, push_blocks, push_notices, push_repository};
+pub use report::{push_answers, push_blocks, push_notices, push_notices_of, push_repository};
 pub use script::{ScriptFault, script_of};

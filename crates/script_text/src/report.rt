@@ -1,6 +1,7 @@
 //! The lines of a report.
 ghost use Rattle.std.specs.Prelude.{◌≡◌, ◌∷◌, [], ◌++◌, codes, decimal, length, map, OnOk};
 ghost use Rattle.hex.specs.Hex.{encode_lower};
+ghost use Rattle.notices.specs.Numbering.{of as notices_of};
 ghost use Rattle.spec.specs.Cid.{text as text_of};
 ghost use Rattle.script_text.specs.Report.{answer_line, answer_lines, block_line, block_lines, notice_line, notice_lines, refusal_of, refused_line, repository_line, words_line};
 
@@ -195,6 +196,23 @@ pub fn push_notices(text: &mut Vec<u8>, notices: &[Notice]) -> Result<(), AllocE
 {
     for notice in notices {
         push_notice(text, notice)?;
+    }
+    Ok(())
+}
+
+/// Adds a line for each notice of one writer.
+pub fn push_notices_of(
+    text: &mut Vec<u8>,
+    writer: u32,
+    notices: &[Notice],
+) -> Result<(), AllocError>
+    ensures { OnOk result (text.new.items ≡ text.old.items
+        ++ notice_lines (notices_of writer notices.now)) }
+{
+    for notice in notices {
+        if notice.writer == writer {
+            push_notice(text, notice)?;
+        }
     }
     Ok(())
 }

@@ -25,7 +25,10 @@ pub(crate) fn writes_of(alloc: Global, tokens: &[&[u8]]) -> Result<Option<Vec<Wr
 }
 
 /// The tokens of each write.
-fn parts_of<'a, 't>(alloc: Global, tokens: &'a [&'t [u8]]) -> Result<Vec<&'a [&'t [u8]]>, AllocError>
+fn parts_of<'a, 't>(
+    alloc: Global,
+    tokens: &'a [&'t [u8]],
+) -> Result<Vec<&'a [&'t [u8]]>, AllocError>
     ensures { IfOk result (λ parts. map (λ part. map (λ t. t.now) part.now) parts.items
         ≡ slice_split is_mark_of (map (λ t. t.now) tokens.now)) }
 {

@@ -8,4 +8,4 @@ abbrev pub invariant-loop-line : goal.invariant-loop-line
 invariant-loop-line g l =
     (length (iter_rest (zip_first l.line-iterator)) ≡ length (iter_rest (zip_second l.line-iterator)))
     × (l.text.items ++ answer_lines (map (λ x. x.number) (iter_rest (zip_first l.line-iterator))) (iter_rest (zip_second l.line-iterator))
-      ≡ l.initial.text.items ++ answer_lines (map (λ x. x.number) l.lines) l.answers)
+    ≡ l.initial.text.items ++ answer_lines (map (λ x. x.number) l.lines) l.answers)

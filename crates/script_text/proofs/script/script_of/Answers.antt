@@ -33,7 +33,7 @@ loop-line-preserved c =
         reading = c.loop-line.invariant.2.reading
             ∙ ap (λ ls. onto (view_of_lines c.loop-line.lines.items) (script_from c.args.workers c.args.did.now (c.loop-line.number + 1) ls)) c.in-Some.ensures.steps
             ∙ onto_line c.args.workers c.args.did.now (c.loop-line.number + 1) (view_of_lines c.loop-line.lines.items) c.in-Some.line.now c.next.new.self (view_of_line c.in-Some-2.line) (sym c.is_empty.ensures ∙ c.if-is_empty.false)
-              (ap (option_map view_of_line) (sym c.in-Some-2.is) ∙ c.in_ok-line.ensures.line)
+            (ap (option_map view_of_line) (sym c.in-Some-2.is) ∙ c.in_ok-line.ensures.line)
             ∙ ap (λ bs. onto bs (script_from c.args.workers c.args.did.now (c.loop-line.number + 1 + 1) c.next.new.self)) (sym all);
         bound = omega (arith, ap length c.in-Some.ensures.steps, c.loop-line.invariant.2.bound);
       },
@@ -46,7 +46,7 @@ returns-in-None-2-clause-script c =
     c.loop-line.invariant.2.reading
     ∙ ap (λ ls. onto (view_of_lines c.loop-line.lines.items) (script_from c.args.workers c.args.did.now (c.loop-line.number + 1) ls)) c.in-Some.ensures.steps
     ∙ onto_fault c.args.workers c.args.did.now (c.loop-line.number + 1) (view_of_lines c.loop-line.lines.items) c.in-Some.line.now c.next.new.self (sym c.is_empty.ensures ∙ c.if-is_empty.false)
-      (ap (option_map view_of_line) (sym c.in-None-2.is) ∙ c.in_ok-line.ensures.line)
+    (ap (option_map view_of_line) (sym c.in-None-2.is) ∙ c.in_ok-line.ensures.line)
 
 pub returns-clause-script : goal.returns-clause-script
 returns-clause-script c =

@@ -16,7 +16,7 @@ loop-c-preserved c =
 
 pub returns : goal.returns
 returns c = sym (
-  c.loop-c.invariant
-  ∙ at_drop_all (number_after (Some c.loop-c.number)) c.args.word.now c.loop-c.c-index c.loop-c-test.false
-  ∙ digits-done c.loop-c.number
-)
+    c.loop-c.invariant
+    ∙ at_drop_all (number_after (Some c.loop-c.number)) c.args.word.now c.loop-c.c-index c.loop-c-test.false
+    ∙ digits-done c.loop-c.number
+    )
