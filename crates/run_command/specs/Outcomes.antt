@@ -44,7 +44,7 @@ pub record IsOutcome (D : Type 0) (digest : List ℕ → List ℕ) (s : Settings
   pub nothing : IfErr result (λ e. may_have_written e ≡ false → Keeps old new)
   pub beginning : OnErr result (IfSome input (λ xs.
       Keeps old new ⊎ ReportsBeginning D digest s did old new xs))
-  pub did : OnOk result (is_did did ≡ true)
+  pub lawful_did : OnOk result (is_did did ≡ true)
   pub bad_did : result ≡ Err errors.BadDid → is_did did ≡ false
 
 -- The exit status of a run. At 0 the report of a run of the script was written. At 1 the DID or a line

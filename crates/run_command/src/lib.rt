@@ -11,15 +11,15 @@
 
 mod drained;
 mod fault;
+mod hosting;
 mod report;
-mod run;
 mod running;
 mod settings;
 mod text;
 mod words;
 
 pub use fault::RunFault;
-pub use run::run;
+pub use running::run;
 pub use settings::Settings;
 pub use text::run_text;
 pub use words::{RunCommand, command_of, with_words};

@@ -1,42 +1,49 @@
-//! A host that does the lines of a script and closes.
-ghost use Rattle.std.specs.Prelude.{◌<◌, All, IfErr, IfOk};
-ghost use Rattle.run_command.specs.Faults.{IsOfHost};
-ghost use Rattle.run_command.specs.Reports.{IsReport};
+//! The run of the command, to the exit status.
+ghost use Rattle.run_command.specs.Outcomes.{IsStatusAfter, IsStatusOf};
 
 use crate::fault::RunFault;
-use crate::report::report_of;
-use crate::settings::Settings;
+use crate::text::run_text;
+use crate::words::RunCommand;
 use cid::Digest;
-use host::{Host, Opened};
-use scripts::{Line, OpenGate, Report, run_script};
+use console::{DONE, tell, write_failed};
 use std::alloc::Global;
+use std::io::{Read, Write};
 use std::sync::Wait;
 use std::thread::Threads;
 
-/// The report of a run of these lines: a host is opened, its workers do the lines, each its own in a thread of its own, and
-/// the host closes.
-pub(crate) fn report_of_lines<D: Digest + Send + Sync, T: Threads + Wait + Sync>(
+/// Does the command, or says on standard error why not, and answers the exit status.
+///
+/// At 0 the report was written. At 1 the DID or a line is faulty, or the host didn't close, and nothing was written. At 3
+/// memory was refused, and at 4 reading or writing failed.
+pub fn run<D: Digest + Send + Sync, T: Threads + Wait + Sync, R: Read, W: Write, X: Write>(
+    command: RunCommand<'_>,
     rt: &T,
     alloc: Global,
-    settings: &Settings,
-    lines: &[Line],
-) -> Result<Vec<u8>, RunFault>
-    requires { All (λ l. l.worker < settings.now.workers) lines.now }
-    ensures report { IfOk result (λ text. IsReport D D.digest_of settings.now.repos
-        settings.now.workers lines.now text.items) }
-    ensures kind { IfErr result IsOfHost }
+    input: &mut R,
+    out: &mut W,
+    err: &mut X,
+) -> u8
+    ensures { IsStatusOf D D.digest_of command.entry.settings command.entry.did.now
+        (R.remaining input.old) (W.contents out.old) (W.contents out.new) result }
 {
-    let Ok(opened) = Host::<D, 2>::open(rt, alloc, settings.limits()) else {
-        // all limits are in their ranges, so memory was refused
-        return Err(RunFault::NoMemory);
-    };
-    let Opened { host, seats, feed } = opened;
-    let Report { answers, ended } = run_script(rt, alloc, &host, seats, &OpenGate, lines)?;
-    match host.close(ended, feed) {
-        Ok(mut closed) => {
-            let text = report_of(rt, alloc, settings.workers(), lines, &answers, &mut closed)?;
-            Ok(text)
+    let RunCommand { settings, did } = command;
+    let ended = run_text::<D, T, R, W>(rt, alloc, &settings, did.as_bytes(), input, out);
+    status_of(ended, out, err)
+}
+
+/// The exit status of a run that ended so: what was written reaches the writer's end, and a fault is told on standard
+/// error.
+fn status_of<W: Write, X: Write>(ended: Result<(), RunFault>, out: &mut W, err: &mut X) -> u8
+    ensures { IsStatusAfter ended (W.contents out.old) (W.contents out.new) result }
+{
+    match ended {
+        Ok(()) => match out.flush() {
+            Ok(()) => DONE,
+            Err(_) => write_failed(err),
+        },
+        Err(fault) => {
+            tell(&fault, err);
+            fault.status()
         }
-        Err(_) => Err(RunFault::Uneven),
     }
 }

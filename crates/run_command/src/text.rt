@@ -8,7 +8,7 @@ ghost use Rattle.run_command.specs.Faults.{fault_of, IsOfScript};
 ghost use Rattle.run_command.specs.Outcomes.{IsOutcome};
 
 use crate::fault::RunFault;
-use crate::running::report_of_lines;
+use crate::hosting::report_of_lines;
 use crate::settings::Settings;
 use batches::is_did;
 use cid::Digest;

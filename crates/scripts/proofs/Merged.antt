@@ -62,10 +62,10 @@ merged_by {X} start left lines i xs l x t m lt is small at =
       workers = length-set left l.worker t ∙ m.workers;
       all = length-append xs (x ∷ []) ∙ omega (arith, m.all);
       enough = λ k d lt'. enough_by (l.worker == k) left l.worker k x t d l (own_lines k (drop (i + 1) lines)) refl small (at d)
-      (m.enough k d (omega (arith, length-set left l.worker t)) ∙ ap (λ ls. length (own_lines k ls)) cut);
+          (m.enough k d (omega (arith, length-set left l.worker t)) ∙ ap (λ ls. length (own_lines k ls)) cut);
       own = λ k d lt'. ap (λ ls. own_answers k ls (xs ++ x ∷ []) ++ get_or (set left l.worker t) k d) more
-      ∙ ap (λ ys. ys ++ get_or (set left l.worker t) k d) (own_snoc k (take i lines) xs l x (m.all ∙ sym (length-take-le i lines (omega arith))))
-      ∙ own_by (l.worker == k) left l.worker k x t d (own_answers k (take i lines) xs) (get_or start k d) refl small (at d) (m.own k d lt');
+          ∙ ap (λ ys. ys ++ get_or (set left l.worker t) k d) (own_snoc k (take i lines) xs l x (m.all ∙ sym (length-take-le i lines (omega arith))))
+          ∙ own_by (l.worker == k) left l.worker k x t d (own_answers k (take i lines) xs) (get_or start k d) refl small (at d) (m.own k d lt');
     }
 
 -- ---- over queues
@@ -98,8 +98,8 @@ has_one {X} start given lines i xs l q m lt is small here =
     let at : get_or (lists given) l.worker q.items ≡ q.items = get_or-map (λ (p : VecDeque X Global). p.items) given l.worker q q.items small ∙ ap (λ (p : VecDeque X Global). p.items) (sym here) in
     let same : (l.worker == l.worker) ≡ true = grind (arith, nat_tests) in
     let many : length (get_or (lists given) l.worker q.items) ≡ suc (length (own_lines l.worker (drop (i + 1) lines))) =
-      m.enough l.worker q.items (omega (arith, length-map given (λ (p : VecDeque X Global). p.items))) ∙ ap (λ ls. length (own_lines l.worker ls)) cut
-      ∙ ap (λ b. length (cond b (l ∷ own_lines l.worker (drop (i + 1) lines)) (own_lines l.worker (drop (i + 1) lines)))) same in
+    m.enough l.worker q.items (omega (arith, length-map given (λ (p : VecDeque X Global). p.items))) ∙ ap (λ ls. length (own_lines l.worker ls)) cut
+    ∙ ap (λ b. length (cond b (l ∷ own_lines l.worker (drop (i + 1) lines)) (own_lines l.worker (drop (i + 1) lines)))) same in
     omega (arith, many, ap length at)
 
 -- a list that loses its first element and stays the same is empty

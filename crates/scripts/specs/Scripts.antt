@@ -6,6 +6,7 @@ use Rattle.scripts.specs.Merging.{own_lines, own_answers}
 use Rattle.scripts.specs.Working.{IsDone, IsWork}
 use Rattle.scripts.specs.declared.script.Line.{Line}
 use Rattle.scripts.specs.declared.script.Answer.{Answer}
+use Rattle.scripts.specs.declared.running.Place.{Place}
 use Rattle.scripts.specs.declared.working.Done.{Done}
 
 -- For each seat: the answers at the places of its worker's lines are those of its writer's calls, in
@@ -15,7 +16,12 @@ abbrev pub AreDone : {D : Type 0} → (List ℕ → List ℕ) → ℕ → HostVi
 AreDone digest bits host seats lines given ended = (k : ℕ) (s : SeatView) (e : EndedView)
     → k < length seats
     → IsDone digest bits host (slice_index_or seats k s) (own_lines k lines)
-        (own_answers k lines given) (slice_index_or ended k e)
+    (own_answers k lines given) (slice_index_or ended k e)
+
+-- each worker's number is its place
+abbrev pub AreByPlace : List Place → Type 0
+AreByPlace places = (k : ℕ) (p : Place) → k < length places
+    → (slice_index_or places k p).worker ≡ k
 
 -- each worker did its lines, where memory wasn't refused to it
 abbrev pub AreEachDone : {D E : Type 0} → (List ℕ → List ℕ) → ℕ → HostView → List SeatView

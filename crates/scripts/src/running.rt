@@ -1,11 +1,10 @@
 //! A whole script, each worker in a thread of its own.
 
 ghost use Rattle.std.specs.Prelude.{◌≡◌, ◌<◌, length, map, All, IfOk, Ok};
-ghost use Rattle.std.specs.List.{range_with_len};
 ghost use Rattle.closing.specs.Ending.{IsEndedAt};
 ghost use Rattle.host.specs.Views.{IsSeatOf};
 ghost use Rattle.scripts.specs.Working.{IsWork};
-ghost use Rattle.scripts.specs.Scripts.{AreDone, AreEachDone, AreEachEnded};
+ghost use Rattle.scripts.specs.Scripts.{AreByPlace, AreDone, AreEachDone, AreEachEnded};
 
 use crate::gate::Gate;
 use crate::merging::in_order;
@@ -30,11 +29,11 @@ struct Place {
 /// The seats with their places.
 fn placed(alloc: Global, seats: Vec<Seat>) -> Result<Vec<Place>, AllocError>
     ensures seats { IfOk result (λ v. map (λ p. p.seat) v.items ≡ seats.items) }
-    ensures workers { IfOk result (λ v.
-        map (λ p. p.worker) v.items ≡ range_with_len 0 (length seats.items)) }
+    ensures places { IfOk result (λ v. AreByPlace v.items) }
 {
     let mut places = Vec::with_capacity(alloc, seats.len())?;
-    for (worker, seat) in seats.into_iter().enumerate() {
+    for seat in seats {
+        let worker = places.len();
         places.push_reserved(Place { worker, seat });
     }
     Ok(places)

@@ -1,5 +1,7 @@
 //! The lines of a script, and what comes of them.
 
+ghost use Rattle.std.specs.Prelude.{◌<◌, ◌↔◌, All, IsTrue};
+
 use batches::{Stamp, Write};
 use cid::Digest;
 use closing::Ended;
@@ -48,4 +50,16 @@ pub struct Report<D: Digest> {
     pub answers: Vec<Answer<D>>,
     /// Each writer as it ended, in the order of the seats.
     pub ended: Vec<Ended>,
+}
+
+/// Whether each line's worker is below this count, which `run_script` asks of the count of seats.
+pub fn have_workers(lines: &[Line], workers: usize) -> bool
+    ensures { IsTrue result ↔ All (λ l. l.worker < workers) lines.now }
+{
+    for line in lines {
+        if line.worker as usize >= workers {
+            return false;
+        }
+    }
+    true
 }

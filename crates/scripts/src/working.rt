@@ -1,6 +1,6 @@
 //! What one worker does: its own lines, in their order.
 
-ghost use Rattle.std.specs.Prelude.{IfOk};
+ghost use Rattle.std.specs.Prelude.{◌≡◌, IfOk};
 ghost use Rattle.closing.specs.Ending.{IsEndedAt};
 ghost use Rattle.host.specs.Views.{IsSeatOf};
 ghost use Rattle.scripts.specs.Calls.{IsCall};
@@ -29,7 +29,8 @@ fn do_line<D: Digest, const B: u8, R: Wait>(
     writer: &mut Writer<'_, D, B>,
     line: &Line,
 ) -> Answer<D>
-    ensures { IsCall D.digest_of B writer.old line.now.repo line.now.call result writer.new }
+    ensures call { IsCall D.digest_of B writer.old line.now.repo line.now.call result writer.new }
+    ensures host { writer.new.host ≡ writer.old.host }
 {
     let repo = line.repo as usize;
     match &line.call {
