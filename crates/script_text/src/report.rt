@@ -43,7 +43,7 @@ fn push_answer<D: Digest>(
     match answer {
         Answer::Accepted(notice) => push_accepted(text, number, notice.number),
         Answer::Refused(fault) => push_refused(text, number, fault),
-        Answer::Found(record) => push_found(text, alloc, number, record),
+        Answer::Found(bytes) => push_found(text, alloc, number, bytes),
         Answer::Absent => push_absent(text, number),
     }
 }
@@ -103,12 +103,12 @@ fn push_found(
     text: &mut Vec<u8>,
     alloc: Global,
     number: usize,
-    record: &[u8],
+    bytes: &[u8],
 ) -> Result<(), AllocError>
     ensures { OnOk result (text.new.items ≡ text.old.items
-        ++ words_line (decimal number ∷ codes "found" ∷ encode_lower record.now ∷ [])) }
+        ++ words_line (decimal number ∷ codes "found" ∷ encode_lower bytes.now ∷ [])) }
 {
-    let digits = hex::encode(alloc, record)?;
+    let digits = hex::encode(alloc, bytes)?;
     let mut line = Buffer::new();
     push_words(
         text,

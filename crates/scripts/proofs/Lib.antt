@@ -1,3 +1,4 @@
 pub mod Merged
 pub mod Runs
 pub mod Parts
+pub mod Called

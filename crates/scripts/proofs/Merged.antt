@@ -5,7 +5,7 @@ use Rattle.std.proofs.lemmas.Grind.{get_or-set_at}
 use Rattle.std.proofs.lemmas.Bool.Decides.{nat_tests}
 use Rattle.std.specs.declared.collections.VecDeque.{VecDeque}
 use Rattle.std.proofs.Common.{length-drop, Global, append-nil, All}
-use Rattle.scripts.specs.Merging.{AreEnough, AreOwn, own_answers, own_lines}
+use Rattle.scripts.specs.Merging.{AreEnough, own_answers, own_lines}
 use Rattle.scripts.specs.declared.script.Line.{Line}
 
 -- So many lines are answered. For each worker its answers there and those that are left are those

@@ -1,4 +1,4 @@
-use Rattle.std.proofs.Common.{rules, arith, length, ◌<◌, ap, sym, ◌∙◌, subst}
+use Rattle.std.proofs.Common.{rules, length, ◌<◌, sym, subst}
 use Rattle.std.proofs.Common.{◌+◌, slice_set}
 use Rattle.scripts.proofs.Merged.{AreMerged, is_there, merged_more, has_one, no_rest, lists}
 use Rattle.scripts.proofs.merging.in_order.Goals as goal

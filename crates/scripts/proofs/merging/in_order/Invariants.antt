@@ -1,4 +1,4 @@
-use Rattle.std.proofs.Common.{◌≡◌, length, map, All, ◌<◌}
+use Rattle.std.proofs.Common.{◌≡◌, map}
 use Rattle.std.specs.Prelude.{vec_capacity}
 use Rattle.scripts.proofs.Merged.{AreMerged}
 use Rattle.scripts.proofs.merging.in_order.Given as goal

@@ -1,7 +1,6 @@
-use Rattle.std.proofs.Common.{◌≡◌, ◌<◌, length, map, All, IfOk, rules, get_or, subst, ℕ}
+use Rattle.std.proofs.Common.{◌<◌, length, IfOk, rules, get_or, subst, ℕ}
 use Rattle.host.specs.Views.{SeatView}
 use Rattle.scripts.specs.Working.{IsWork}
-use Rattle.scripts.specs.Scripts.{AreByPlace, AreEachDone}
 use Rattle.scripts.proofs.Parts.{seat_there, small_there, place_there, if_ok_one}
 use Rattle.scripts.proofs.running.work_all.Goals as goal
 

@@ -1,4 +1,4 @@
-use Rattle.std.proofs.Common.{◌≡◌, ◌+◌, ◌++◌, ◌∷◌, [], sym, ◌∙◌, subst, arith}
+use Rattle.std.proofs.Common.{◌≡◌, ◌+◌, sym, ◌∙◌, subst, arith}
 use Rattle.host.specs.Views.{beginning}
 use Rattle.scripts.proofs.Runs.{IsRunTo, answered}
 use Rattle.scripts.proofs.working.work.Goals as goal
