@@ -1,0 +1,4 @@
+pub mod Reports
+pub mod Draining
+pub mod Faults
+pub mod Outcomes

@@ -1,0 +1,99 @@
+//! The report of a host that has closed.
+ghost use Rattle.std.specs.Prelude.{◌≡◌, ◌<◌, ◌++◌, [], length, All, IfOk, OnOk};
+ghost use Rattle.spec.specs.States.{IsLawful};
+ghost use Rattle.closing.specs.Settling.{IsAllTold};
+ghost use Rattle.run_command.specs.Reports.{AddsCounts, IsTextOf, state_lines, told_lines, told_lines_of};
+
+use crate::drained::drained;
+use cid::Digest;
+use closing::Closed;
+use notices::Notice;
+use repo::Core;
+use script_text::{push_answers, push_blocks, push_notices, push_notices_of, push_repository};
+use scripts::{Answer, Line};
+use std::alloc::{AllocError, Global};
+use std::sync::Wait;
+
+/// The report of a script of these lines with these answers, whose host has closed with so many writers.
+pub(crate) fn report_of<D: Digest, T: Wait>(
+    rt: &T,
+    alloc: Global,
+    writers: u32,
+    lines: &[Line],
+    answers: &[Answer<D>],
+    closed: &mut Closed<D, 2>,
+) -> Result<Vec<u8>, AllocError>
+    requires answered { length answers.now ≡ length lines.now }
+    requires writers { closed.old.feed.made ≡ writers }
+    requires fresh { closed.old.feed.received ≡ [] }
+    ensures { IfOk result (λ text. IsTextOf D.digest_of writers lines.now answers.now
+        closed.old.cores closed.old.ended text.items) }
+{
+    let mut text = Vec::new(alloc);
+    push_answers(&mut text, alloc, lines, answers)?;
+    push_states(&mut text, closed.cores())?;
+    push_counts(&mut text, alloc, closed)?;
+    let left = drained(rt, alloc, closed)?;
+    push_told(&mut text, writers, closed, &left)?;
+    Ok(text)
+}
+
+/// Adds a line for each repository.
+fn push_states<D: Digest>(text: &mut Vec<u8>, cores: &[Core<D, 2>]) -> Result<(), AllocError>
+    ensures lines { OnOk result (text.new.items ≡ text.old.items
+        ++ state_lines D.digest_of 0 cores.now) }
+    ensures lawful { OnOk result (All IsLawful cores.now) }
+{
+    for (number, core) in cores.iter().enumerate() {
+        push_repository(text, number, &core.root(), core.number(), core.commit())?;
+    }
+    Ok(())
+}
+
+/// Adds a line for each block that a repository has.
+fn push_counts<D: Digest>(
+    text: &mut Vec<u8>,
+    alloc: Global,
+    closed: &Closed<D, 2>,
+) -> Result<(), AllocError>
+    ensures { OnOk result (AddsCounts D.digest_of closed.now.cores text.old.items text.new.items) }
+{
+    let counts = closed.counts(alloc)?;
+    push_blocks(text, &counts)
+}
+
+/// Adds what each writer told: what was received of it, and then what it kept.
+fn push_told<D: Digest>(
+    text: &mut Vec<u8>,
+    writers: u32,
+    closed: &Closed<D, 2>,
+    received: &[Notice],
+) -> Result<(), AllocError>
+    requires writers { closed.now.feed.made ≡ writers }
+    requires received { closed.now.feed.received ≡ received.now }
+    requires told { IsAllTold closed.now.feed closed.now.ended }
+    ensures { OnOk result (text.new.items ≡ text.old.items
+        ++ told_lines writers closed.now.ended) }
+{
+    for writer in 0..writers {
+        push_told_by(text, writer, closed, received)?;
+    }
+    Ok(())
+}
+
+/// Adds what the writer of this number told.
+fn push_told_by<D: Digest>(
+    text: &mut Vec<u8>,
+    writer: u32,
+    closed: &Closed<D, 2>,
+    received: &[Notice],
+) -> Result<(), AllocError>
+    requires known { writer < closed.now.feed.made }
+    requires received { closed.now.feed.received ≡ received.now }
+    requires told { IsAllTold closed.now.feed closed.now.ended }
+    ensures { OnOk result (text.new.items ≡ text.old.items
+        ++ told_lines_of closed.now.ended writer) }
+{
+    push_notices_of(text, writer, received)?;
+    push_notices(text, closed.kept(writer))
+}

@@ -1,0 +1,49 @@
+//! The run of the command, to the exit status.
+ghost use Rattle.run_command.specs.Outcomes.{IsStatusAfter, IsStatusOf};
+
+use crate::fault::RunFault;
+use crate::text::run_text;
+use crate::words::RunCommand;
+use cid::Digest;
+use console::{DONE, tell, write_failed};
+use std::alloc::Global;
+use std::io::{Read, Write};
+use std::sync::Wait;
+use std::thread::Threads;
+
+/// Does the command, or says on standard error why not, and answers the exit status.
+///
+/// At 0 the report was written. At 1 the DID or a line is faulty, or the host didn't close, and nothing was written. At 3
+/// memory was refused, and at 4 reading or writing failed.
+pub fn run<D: Digest + Send + Sync, T: Threads + Wait + Sync, R: Read, W: Write, X: Write>(
+    command: RunCommand<'_>,
+    rt: &T,
+    alloc: Global,
+    input: &mut R,
+    out: &mut W,
+    err: &mut X,
+) -> u8
+    ensures { IsStatusOf D D.digest_of command.entry.settings command.entry.did.now
+        (R.remaining input.old) (W.contents out.old) (W.contents out.new) result }
+{
+    let RunCommand { settings, did } = command;
+    let ended = run_text::<D, T, R, W>(rt, alloc, &settings, did.as_bytes(), input, out);
+    status_of(ended, out, err)
+}
+
+/// The exit status of a run that ended so: what was written reaches the writer's end, and a fault is told on standard
+/// error.
+fn status_of<W: Write, X: Write>(ended: Result<(), RunFault>, out: &mut W, err: &mut X) -> u8
+    ensures { IsStatusAfter ended (W.contents out.old) (W.contents out.new) result }
+{
+    match ended {
+        Ok(()) => match out.flush() {
+            Ok(()) => DONE,
+            Err(_) => write_failed(err),
+        },
+        Err(fault) => {
+            tell(&fault, err);
+            fault.status()
+        }
+    }
+}

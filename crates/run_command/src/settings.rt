@@ -1,0 +1,81 @@
+//! How many of each a run has.
+ghost use Rattle.std.specs.Prelude.{◌≡◌, ◌≤◌, ◌↔◌, IsSome, IfSome};
+ghost use Rattle.host.specs.Opening.{AreLawful};
+
+use host::Limits;
+
+/// How many repositories and workers a run has, and how many notices its queue has room for.
+#[derive(Clone, Copy, PartialEq, Eq, Debug)]
+pub struct Settings {
+    repos: u32,
+    workers: u32,
+    queue: u32,
+    pub ghost least_repos: { 1 ≤ repos },
+    pub ghost most_repos: { repos ≤ 1024 },
+    pub ghost least_workers: { 1 ≤ workers },
+    pub ghost most_workers: { workers ≤ 64 },
+    pub ghost least_queue: { 1 ≤ queue },
+    pub ghost most_queue: { queue ≤ 65536 },
+}
+
+/// How many blocks a shard may have.
+const SHARD_BLOCKS: usize = 1_048_576;
+
+/// How many writes a repository may have.
+const REPO_WRITES: usize = 1_048_576;
+
+impl Settings {
+    /// So many repositories, 1 to 1,024, and workers, 1 to 64, with room for so many notices, 1 to 65,536; or `None` where
+    /// one of them is out of its range.
+    pub fn new(repos: u32, workers: u32, queue: u32) -> Option<Settings>
+        ensures repos { IfSome result (λ s. s.repos ≡ repos) }
+        ensures workers { IfSome result (λ s. s.workers ≡ workers) }
+        ensures queue { IfSome result (λ s. s.queue ≡ queue) }
+        ensures valid { IsSome result ↔ ((1 ≤ repos) × (repos ≤ 1024) × (1 ≤ workers)
+            × (workers ≤ 64) × (1 ≤ queue) × (queue ≤ 65536)) }
+    {
+        if repos < 1 || repos > 1024 || workers < 1 || workers > 64 || queue < 1 || queue > 65536 {
+            return None;
+        }
+        Some(Settings {
+            repos,
+            workers,
+            queue,
+        })
+    }
+
+    /// How many workers there are.
+    pub(crate) fn workers(&self) -> u32
+        ensures { result ≡ self.now.workers }
+    {
+        self.workers
+    }
+
+    /// The limits of the host.
+    pub(crate) fn limits(&self) -> Limits
+        ensures repos { result.repos ≡ self.now.repos }
+        ensures writers { result.writers ≡ self.now.workers }
+        ensures lawful { AreLawful result }
+    {
+        Limits {
+            repos: self.repos,
+            writers: self.workers,
+            queue: self.queue as usize,
+            shard_blocks: SHARD_BLOCKS,
+            repo_writes: REPO_WRITES,
+        }
+    }
+}
+
+impl Default for Settings {
+    ghost is_default = { λ s. (s.repos ≡ 1) × (s.workers ≡ 1) × (s.queue ≡ 1024) };
+
+    /// One repository, one worker, and room for 1,024 notices.
+    fn default() -> Settings {
+        Settings {
+            repos: 1,
+            workers: 1,
+            queue: 1024,
+        }
+    }
+}

@@ -1,0 +1,77 @@
+//! The command: a script is read, run, and its report written.
+ghost use Rattle.std.specs.Prelude.{◌≡◌, ◌<◌, true, false, Err, All, IfErr, IfOk, IfSome, OnOk};
+ghost use Rattle.spec.specs.Reading.{Gives};
+ghost use Rattle.spec.specs.Stamps.{is_did as is_did_of};
+ghost use Rattle.script_text.specs.Script.{script_in};
+ghost use Rattle.script_text.specs.Views.{view_of_lines};
+ghost use Rattle.run_command.specs.Faults.{fault_of, IsOfScript};
+ghost use Rattle.run_command.specs.Outcomes.{IsOutcome};
+
+use crate::fault::RunFault;
+use crate::hosting::report_of_lines;
+use crate::settings::Settings;
+use batches::is_did;
+use cid::Digest;
+use console::{read_all, write_whole};
+use script_text::script_of;
+use scripts::Line;
+use std::alloc::Global;
+use std::io::{Read, Write};
+use std::sync::Wait;
+use std::thread::Threads;
+
+/// Reads a script, lets a host's workers do its lines, each worker its own in a thread of its own, and writes what came of
+/// it: what each line was answered, each repository, each block, and what each writer told.
+///
+/// The DID is that of all batches, and is tested before the input is read. All of the script is read and judged before a
+/// line of it is done, and the host has closed before a byte is written: only at `RunFault::NoMemory` and
+/// `RunFault::WriteFailed` a beginning of the report was written.
+pub fn run_text<D: Digest + Send + Sync, T: Threads + Wait + Sync, R: Read, W: Write>(
+    rt: &T,
+    alloc: Global,
+    settings: &Settings,
+    did: &[u8],
+    input: &mut R,
+    out: &mut W,
+) -> Result<(), RunFault>
+    ensures outcome { IsOutcome D D.digest_of settings.now did.now (R.remaining input.old)
+        (W.contents out.old) (W.contents out.new) result }
+
+    // A faulty DID is told before the input is read.
+    ensures unread { result ≡ Err RunFault.BadDid → input.new ≡ input.old }
+{
+    check_did(did)?;
+    let lines = read_script(alloc, settings, did, input)?;
+    let text = report_of_lines::<D, T>(rt, alloc, settings, &lines)?;
+    write_whole(out, &text)?;
+    Ok(())
+}
+
+/// Tests the DID.
+fn check_did(did: &[u8]) -> Result<(), RunFault>
+    ensures lawful { OnOk result (is_did_of did.now ≡ true) }
+    ensures fault { IfErr result (λ e. (e ≡ RunFault.BadDid) × (is_did_of did.now ≡ false)) }
+{
+    if is_did(did) {
+        Ok(())
+    } else {
+        Err(RunFault::BadDid)
+    }
+}
+
+/// The lines of all that the reader still gives, or the first faulty one.
+fn read_script<R: Read>(
+    alloc: Global,
+    settings: &Settings,
+    did: &[u8],
+    input: &mut R,
+) -> Result<Vec<Line>, RunFault>
+    ensures script { IfSome (R.remaining input.old) (λ xs. Gives
+        (λ lines. view_of_lines lines.items) fault_of result
+        (script_in settings.now.workers did.now xs)) }
+    ensures workers { IfOk result (λ lines. All (λ l. l.worker < settings.now.workers) lines.items) }
+    ensures kind { IfErr result IsOfScript }
+{
+    let bytes = read_all(alloc, input)?;
+    Ok(script_of(alloc, settings.workers(), did, &bytes)?)
+}

@@ -1,0 +1,92 @@
+//! What the command is told on a command line.
+use crate::settings::Settings;
+use clap::{Arg, ArgMatches, Command, value_parser};
+use std::alloc::{AllocError, Global};
+
+/// The command, with what its words say.
+#[derive(Clone, Copy)]
+pub struct RunCommand<'a> {
+    /// How many of each there are.
+    pub settings: Settings,
+    /// The DID of all batches.
+    pub did: &'a str,
+}
+
+/// The DID where no word says which.
+const DID: &str = "did:web:localhost";
+
+const ABOUT: &str =
+    "Reads a script, lets workers do it in repositories of one host, and writes what came of it";
+
+const LONG_ABOUT: &str = "\
+Reads a script from standard input. Each worker does its own lines in their order, in a thread of its own. Then a line
+says what each line was answered, and after them stand the repositories, the blocks with the number of repositories that
+have them, and the notices that each worker told, in their order.
+
+A line is WORKER REPO REV WRITE, or WORKER REPO REV WRITE ; WRITE .. for a batch, or WORKER REPO get KEY. A WRITE is
+put KEY HEX, create KEY HEX, update KEY HEX or delete KEY, with a record in hexadecimal: one DAG-CBOR map. One space
+stands between two words, and empty lines are passed over.
+
+Exit status: 0 done, 1 a faulty line or DID, or a host that doesn't close, 2 a wrong command line, 3 no memory,
+4 reading or writing failed.";
+
+const EXAMPLE: &str = "\
+Example:
+  $ printf '0 0 get a/b\\n' | msthost run
+  1 none
+  repo 0 bafyreie5737gdxlw5i64vzichcalba3z2v5n6icifvx5xytvske7mr3hpm 0 none
+  block bafyreie5737gdxlw5i64vzichcalba3z2v5n6icifvx5xytvske7mr3hpm 1";
+
+/// Adds the command to a program's.
+pub fn with_words<'a>(alloc: Global, program: Command<'a>) -> Result<Command<'a>, AllocError> {
+    program.subcommand(words(alloc)?)
+}
+
+/// The words that `run` takes, with what help shows of them.
+fn words<'a>(alloc: Global) -> Result<Command<'a>, AllocError> {
+    let repos = Arg::new(alloc, "repos")
+        .long("repos")
+        .value_name("N")
+        .value_parser(value_parser!(u32).range(1..=1024))
+        .default_value("1")
+        .help("How many repositories there are");
+    let workers = Arg::new(alloc, "workers")
+        .long("workers")
+        .value_name("W")
+        .value_parser(value_parser!(u32).range(1..=64))
+        .default_value("1")
+        .help("How many workers there are");
+    let queue = Arg::new(alloc, "queue")
+        .long("queue")
+        .value_name("Q")
+        .value_parser(value_parser!(u32).range(1..=65536))
+        .default_value("1024")
+        .help("How many notices the host's queue has room for");
+    let did = Arg::new(alloc, "did")
+        .long("did")
+        .value_name("DID")
+        .default_value(DID)
+        .help("Whose repositories they are");
+    Command::new(alloc, "run")
+        .about(ABOUT)
+        .long_about(LONG_ABOUT)
+        .after_help(EXAMPLE)
+        .arg(repos)?
+        .arg(workers)?
+        .arg(queue)?
+        .arg(did)
+}
+
+/// The command of this name, with what its words say; or `None` where it is another.
+pub fn command_of<'a>(name: &str, words: &ArgMatches<'a>) -> Option<RunCommand<'a>> {
+    if name != "run" {
+        return None;
+    }
+    let repos = words.get_one::<u32>("repos").unwrap_or(1);
+    let workers = words.get_one::<u32>("workers").unwrap_or(1);
+    let queue = words.get_one::<u32>("queue").unwrap_or(1024);
+    Some(RunCommand {
+        settings: Settings::new(repos, workers, queue).unwrap_or_default(),
+        did: words.get_str("did").unwrap_or(DID),
+    })
+}

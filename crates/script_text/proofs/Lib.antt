@@ -1,0 +1,5 @@
+pub mod Mapped
+pub mod Digits
+pub mod Parts
+pub mod Remaining
+pub mod Pushing

@@ -1,0 +1,4 @@
+pub mod Script
+pub mod Views
+pub mod Names
+pub mod Report
