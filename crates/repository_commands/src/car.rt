@@ -104,10 +104,7 @@ fn car_of_puts<D: Digest>(
 }
 
 /// The file of a repository, in memory.
-fn car_in_memory<D: Digest>(
-    alloc: Global,
-    core: &Core<D, 2>,
-) -> Result<Vec<u8>, AllocError>
+fn car_in_memory<D: Digest>(alloc: Global, core: &Core<D, 2>) -> Result<Vec<u8>, AllocError>
     ensures { IfOk result (λ bytes. bytes.items ≡ state_car D.digest_of 2 core.now) }
 {
     let mut file = ToMemory::new(alloc);

@@ -23,10 +23,7 @@ const MOST_WRITES: usize = 1_048_576;
 /// The repository that has all puts as one batch under a stamp, and none where there are no puts; or the first line at
 /// fault. The puts before a line that is none are tried first. At `Err` no block is held. The puts are let go: the repository
 /// has copies of its own.
-pub(crate) fn filled<
-    D: Digest,
-    S: BlockStore<Arc<Block<D>>, Hold<D>, StoreFault<D>>,
->(
+pub(crate) fn filled<D: Digest, S: BlockStore<Arc<Block<D>>, Hold<D>, StoreFault<D>>>(
     alloc: Global,
     store: &mut S,
     stamp: &Stamp,
@@ -53,10 +50,10 @@ pub(crate) fn filled<
 ///
 /// Its one block has room in a store without blocks, and there is no other under its CID: so what may be refused is
 /// memory.
-fn empty<
-    D: Digest,
-    S: BlockStore<Arc<Block<D>>, Hold<D>, StoreFault<D>>,
->(alloc: Global, store: &mut S) -> Result<Core<D, 2>, AllocError>
+fn empty<D: Digest, S: BlockStore<Arc<Block<D>>, Hold<D>, StoreFault<D>>>(
+    alloc: Global,
+    store: &mut S,
+) -> Result<Core<D, 2>, AllocError>
     requires store { IsStore D.digest_of S.fulls S.answers }
     ensures { IfOk result (λ core. core ≡ no_writes) }
 {
@@ -68,10 +65,7 @@ fn empty<
 
 /// Applies the puts to a repository without writes, or names the first line at fault.
 #[tactic(auto, unfolding(crate::specs::Texts::state_of_given))]
-fn apply_puts<
-    D: Digest,
-    S: BlockStore<Arc<Block<D>>, Hold<D>, StoreFault<D>>,
->(
+fn apply_puts<D: Digest, S: BlockStore<Arc<Block<D>>, Hold<D>, StoreFault<D>>>(
     alloc: Global,
     store: &mut S,
     core: &mut Core<D, 2>,
@@ -91,10 +85,7 @@ fn apply_puts<
 }
 
 /// Applies the puts before the line that is none, if there is one, or names the line of the first that is refused.
-fn apply_writes<
-    D: Digest,
-    S: BlockStore<Arc<Block<D>>, Hold<D>, StoreFault<D>>,
->(
+fn apply_writes<D: Digest, S: BlockStore<Arc<Block<D>>, Hold<D>, StoreFault<D>>>(
     alloc: Global,
     store: &mut S,
     core: &mut Core<D, 2>,

@@ -125,10 +125,7 @@ fn path_of_puts<D: Digest>(
 }
 
 /// The text of a path.
-fn text_of<D: Digest>(
-    alloc: Global,
-    path: &PathNodes<D>,
-) -> Result<Vec<u8>, AllocError>
+fn text_of<D: Digest>(alloc: Global, path: &PathNodes<D>) -> Result<Vec<u8>, AllocError>
     ensures { IfOk result (λ bytes. bytes.items ≡ text_of_path (nodes_of path.now)) }
 {
     let mut text = Vec::new(alloc);
@@ -154,11 +151,7 @@ fn push_lines<D: Digest>(
 }
 
 /// Puts the line of a block at the end.
-fn push_line(
-    alloc: Global,
-    text: &mut Vec<u8>,
-    block: &[u8],
-) -> Result<(), AllocError>
+fn push_line(alloc: Global, text: &mut Vec<u8>, block: &[u8]) -> Result<(), AllocError>
     ensures { OnOk result (text.new.items ≡ text.old.items ++ hex_line block.now) }
 {
     let digits = hex::encode(alloc, block)?;

@@ -33,11 +33,8 @@ impl<D: Digest, A: Allocator + Copy> Tables<D, A> {
     }
 }
 
-impl<D: Digest, A: Allocator + Clone> BlockStore<
-    Arc<Block<D, A>, A>,
-    Hold<D, A>,
-    StoreFault<D, A>,
-> for Tables<D, A> {
+impl<D: Digest, A: Allocator + Clone> BlockStore<Arc<Block<D, A>, A>, Hold<D, A>, StoreFault<D, A>>
+    for Tables<D, A> {
     ghost use Rattle.std.specs.Arc.{arc_value};
     ghost use Rattle.store.specs.Stores.{IsAnswer};
 

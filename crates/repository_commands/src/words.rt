@@ -79,10 +79,7 @@ Example:
   absent";
 
 /// Adds the commands on one repository to a program's.
-pub fn with_words<'a>(
-    alloc: Global,
-    program: Command<'a>,
-) -> Result<Command<'a>, AllocError> {
+pub fn with_words<'a>(alloc: Global, program: Command<'a>) -> Result<Command<'a>, AllocError> {
     program
         .subcommand(car_words(alloc)?)?
         .subcommand(prove_words(alloc)?)?
@@ -146,7 +143,12 @@ fn verify_words<'a>(alloc: Global) -> Result<Command<'a>, AllocError> {
         .about(VERIFY)
         .long_about(LONG_VERIFY)
         .after_help(VERIFY_EXAMPLE)
-        .arg(required(alloc, "root", "ROOT", "The text of the CID of the tree's root"))?
+        .arg(required(
+            alloc,
+            "root",
+            "ROOT",
+            "The text of the CID of the tree's root",
+        ))?
         .arg(required(alloc, "key", "KEY", "The key, of 1 to 1,024 bytes"))
 }
 

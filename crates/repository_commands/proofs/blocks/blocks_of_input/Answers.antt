@@ -27,7 +27,7 @@ loop-line-preserved g c =
         reading = c.loop-line.invariant.2.reading
             ∙ ap (λ ls. onto (blocks_of c.loop-line.blocks.items) (blocks_of_lines (c.loop-line.number + 1) ls)) c.in-Some.ensures.steps
             ∙ onto_block (c.loop-line.number + 1) (blocks_of c.loop-line.blocks.items) c.in-Some.line.now c.next.new.self c.in-Some-2.block.items (sym c.is_empty.ensures ∙ c.if-is_empty.false)
-              (ap (option_map (λ v. v.items)) (sym c.in-Some-2.is) ∙ c.in_ok-block.ensures)
+            (ap (option_map (λ v. v.items)) (sym c.in-Some-2.is) ∙ c.in_ok-block.ensures)
             ∙ ap (λ bs. onto bs (blocks_of_lines (c.loop-line.number + 1 + 1) c.next.new.self)) (sym all);
         bound = omega (arith, ap length c.in-Some.ensures.steps, c.loop-line.invariant.2.bound);
       },
@@ -38,7 +38,7 @@ returns-in-None-2-clause-blocks g c =
     c.loop-line.invariant.2.reading
     ∙ ap (λ ls. onto (blocks_of c.loop-line.blocks.items) (blocks_of_lines (c.loop-line.number + 1) ls)) c.in-Some.ensures.steps
     ∙ onto_fault (c.loop-line.number + 1) (blocks_of c.loop-line.blocks.items) c.in-Some.line.now c.next.new.self (sym c.is_empty.ensures ∙ c.if-is_empty.false)
-      (ap (option_map (λ v. v.items)) (sym c.in-None-2.is) ∙ c.in_ok-block.ensures)
+    (ap (option_map (λ v. v.items)) (sym c.in-None-2.is) ∙ c.in_ok-block.ensures)
 
 pub returns-clause-blocks : goal.returns-clause-blocks
 returns-clause-blocks g c =

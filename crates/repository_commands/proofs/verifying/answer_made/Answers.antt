@@ -45,5 +45,5 @@ returns-clause-made g c =
     let given = blocks_of c.in_ok-blocks.blocks.items in
     made_of (λ v. v.items) (verify_text digest root key) (g.R.Read.remaining c.args.input.now) c.answer_of_blocks.result (λ xs. blocks_of_lines 1 (lines xs) ≡ Ok given) c.in_ok-blocks.ensures.blocks
     (λ xs e. subst (Gives (λ v. v.items) fault_of c.answer_of_blocks.result)
-      (sym (verify_lined digest root key c.in_ok-root.root c.in_ok-root.ensures.root c.in_ok-check_key.ensures.check xs lent (e ∙ ap (λ vs. Ok (blocks_of vs)) (sym c.deref.ensures.value))))
-      c.answer_of_blocks.ensures.line)
+    (sym (verify_lined digest root key c.in_ok-root.root c.in_ok-root.ensures.root c.in_ok-check_key.ensures.check xs lent (e ∙ ap (λ vs. Ok (blocks_of vs)) (sym c.deref.ensures.value))))
+    c.answer_of_blocks.ensures.line)

@@ -20,11 +20,25 @@ run_script-requires-after_bounds g c κs within =
 
 pub close-requires : goal.close-requires
 close-requires g c =
-    let opened = c.in-Ok.ensures in
-    (lit< tt, (lit< tt, (lit< tt, (ap (λ f. f.queue_id) opened.feed, (ap (λ f. f.joined) opened.feed, (
-      c.in_ok-answers.ensures.ended,
-      c.in_ok-answers.ensures.workers ∙ seats_count c.in-Ok.opened.host.queue.queue_id c.in-Ok.opened.seats.items _ _ opened.seats ∙ sym (ap (λ f. f.made) opened.feed),
-    ))))))
+    let opened = c.in-Ok.ensures in (
+      lit< tt,
+      (
+        lit< tt,
+        (
+          lit< tt,
+          (
+            ap (λ f. f.queue_id) opened.feed,
+            (
+              ap (λ f. f.joined) opened.feed,
+              (
+                c.in_ok-answers.ensures.ended,
+                c.in_ok-answers.ensures.workers ∙ seats_count c.in-Ok.opened.host.queue.queue_id c.in-Ok.opened.seats.items _ _ opened.seats ∙ sym (ap (λ f. f.made) opened.feed),
+              ),
+            ),
+          ),
+        ),
+      ),
+    )
 
 pub returns-in-Ok-close-clause-report : goal.returns-in-Ok-close-clause-report
 returns-in-Ok-close-clause-report g c =
