@@ -3,7 +3,9 @@ use crate::running::{joined, run, run_with};
 use cid::digests::Size;
 use cid::{Cid, Sha256};
 use std::alloc::Global;
+use std::sync::Wait;
 use std::test::Fail;
+use std::thread::Threads;
 
 /// The words of `car`.
 const CAR: [&str; 2] = ["msthost", "car"];
@@ -29,17 +31,22 @@ const RECORDS: [(&[&str], &str); 13] = [
 ];
 
 /// Whether a record on line 2 is refused by this name.
-fn is_refused(alloc: Global, record: &[&str], name: &str) -> Result<bool, Fail> {
+fn is_refused<T: Threads + Wait + Sync>(
+    rt: &T,
+    alloc: Global,
+    record: &[&str],
+    name: &str,
+) -> Result<bool, Fail> {
     let mut input = Vec::from_slice(alloc, b"\na/b ")?;
     input.extend_from_slice(&joined(alloc, record)?)?;
     let told = format!(in alloc; "msthost: line 2: BadRecord({name})\n")?;
-    Ok(run(alloc, &CAR, &input).is(1, b"", &told))
+    Ok(run(rt, alloc, &CAR, &input).is(1, b"", &told))
 }
 
 #[test]
 fn records(rt: HostRuntime) -> Result<(), Fail> {
     for (record, name) in RECORDS {
-        assert!(rt; is_refused(rt.alloc(), record, name)?, "at {name}");
+        assert!(rt; is_refused(&rt, rt.alloc(), record, name)?, "at {name}");
     }
     Ok(())
 }
@@ -50,13 +57,13 @@ fn a_record_that_is_too_long(rt: HostRuntime) -> Result<(), Fail> {
     for _ in 0..0x10_0000 {
         input.extend_from_slice(b"00")?;
     }
-    assert!(rt; run(rt.alloc(), &CAR, &input).is(1, b"", "msthost: line 1: RecordSize\n"));
+    assert!(rt; run(&rt, rt.alloc(), &CAR, &input).is(1, b"", "msthost: line 1: RecordSize\n"));
     Ok(())
 }
 
 #[test]
 fn records_that_clash(rt: HostRuntime) {
-    let ended = run_with::<Size>(rt.alloc(), &CAR, b"a/b a1616100\n\na/c a1616101");
+    let ended = run_with::<Size, _>(&rt, rt.alloc(), &CAR, b"a/b a1616100\n\na/c a1616101");
     assert!(rt; ended.is(1, b"", "msthost: line 3: Collision\n"));
 }
 
@@ -85,7 +92,7 @@ fn texts_that_are_no_roots(rt: HostRuntime) -> Result<(), Fail> {
         ),
     ];
     for (root, told) in cases {
-        let ended = run(rt.alloc(), &["msthost", "verify", root, ""], b"x");
+        let ended = run(&rt, rt.alloc(), &["msthost", "verify", root, ""], b"x");
         assert!(rt; ended.is(1, b"", told), "at {told}");
     }
     Ok(())
@@ -120,7 +127,7 @@ fn blocks_that_are_no_nodes(rt: HostRuntime) -> Result<(), Fail> {
     ];
     for (root, parts, told) in cases {
         let input = joined(rt.alloc(), parts)?;
-        let ended = run(rt.alloc(), &["msthost", "verify", root, "a/b"], &input);
+        let ended = run(&rt, rt.alloc(), &["msthost", "verify", root, "a/b"], &input);
         assert!(rt; ended.is(1, b"", told), "at {told}");
     }
     Ok(())
@@ -155,11 +162,22 @@ fn node_above(alloc: Global, link: &Cid) -> Result<Vec<u8>, Fail> {
 }
 
 /// Whether the nodes of such a chain from a place of the text on show this of the key `a`.
-fn shows(alloc: Global, more: u8, from: usize, wanted: (u8, &[u8], &str)) -> Result<bool, Fail> {
+fn shows<T: Threads + Wait + Sync>(
+    rt: &T,
+    alloc: Global,
+    more: u8,
+    from: usize,
+    wanted: (u8, &[u8], &str),
+) -> Result<bool, Fail> {
     let chain = chain_of(alloc, more)?;
     let top = chain.top.text();
     let words = ["msthost", "verify", str::from_utf8(&top)?, "a"];
-    let ended = run(alloc, &words, chain.lines.get(from..).ok_or("too short")?);
+    let ended = run(
+        rt,
+        alloc,
+        &words,
+        chain.lines.get(from..).ok_or("too short")?,
+    );
     Ok(ended.is(wanted.0, wanted.1, wanted.2))
 }
 
@@ -173,7 +191,7 @@ fn chains_of_nodes(rt: HostRuntime) -> Result<(), Fail> {
     ];
     for (more, from, wanted) in cases {
         assert!(rt;
-            shows(rt.alloc(), more, from, wanted)?,
+            shows(&rt, rt.alloc(), more, from, wanted)?,
             "of {more} from {from}"
         );
     }

@@ -5,7 +5,9 @@ use cid::digests::Size;
 use commands::not_started;
 use std::alloc::Global;
 use std::io::{self, ErrorKind};
+use std::sync::Wait;
 use std::test::Fail;
+use std::thread::Threads;
 
 #[test]
 fn faulty_lines(rt: HostRuntime) -> Result<(), Fail> {
@@ -22,15 +24,20 @@ fn faulty_lines(rt: HostRuntime) -> Result<(), Fail> {
         (&["a/b ", "E", "\nx\n", " y"], "msthost: line 2: BadLine\n"),
     ];
     for (parts, told) in cases {
-        assert!(rt; are_refused(rt.alloc(), parts, told)?, "at {parts:?}");
+        assert!(rt; are_refused(&rt, rt.alloc(), parts, told)?, "at {parts:?}");
     }
     Ok(())
 }
 
 /// Whether the lines are refused with just this on standard error, and nothing is written.
-fn are_refused(alloc: Global, parts: &[&str], told: &str) -> Result<bool, Fail> {
+fn are_refused<T: Threads + Wait + Sync>(
+    rt: &T,
+    alloc: Global,
+    parts: &[&str],
+    told: &str,
+) -> Result<bool, Fail> {
     let input = joined(alloc, parts)?;
-    Ok(run(alloc, &TREE, &input).is(1, b"", told))
+    Ok(run(rt, alloc, &TREE, &input).is(1, b"", told))
 }
 
 #[test]
@@ -55,7 +62,7 @@ fn faulty_cids(rt: HostRuntime) -> Result<(), Fail> {
             ("\r\n", "", "msthost: line 2: BadCid\n"),
         ] {
             let parts = [before, "a/b ", text, after];
-            assert!(rt; are_refused(rt.alloc(), &parts, told)?, "at {parts:?}");
+            assert!(rt; are_refused(&rt, rt.alloc(), &parts, told)?, "at {parts:?}");
         }
     }
     Ok(())
@@ -65,7 +72,7 @@ fn faulty_cids(rt: HostRuntime) -> Result<(), Fail> {
 fn the_longest_key(rt: HostRuntime) -> Result<(), Fail> {
     let key = [b'k'; 1024];
     let input = joined(rt.alloc(), &[str::from_utf8(&key)?, " ", "E"])?;
-    let ended = run(rt.alloc(), &TREE, &input);
+    let ended = run(&rt, rt.alloc(), &TREE, &input);
     assert!(rt; ended.lists("bafyreig37hu6jop2zw2hyng2t7crys3wo7c2cro6hmyvtygf5foi2v3xni"));
     Ok(())
 }
@@ -75,15 +82,15 @@ fn keys_that_are_longer(rt: HostRuntime) -> Result<(), Fail> {
     let key = [b'k'; 1025];
     let key = str::from_utf8(&key)?;
     let told = "msthost: line 1: BadKey\n";
-    assert!(rt; are_refused(rt.alloc(), &[key, " ", "E"], told)?);
-    assert!(rt; are_refused(rt.alloc(), &[key, " x", "\na"], told)?);
+    assert!(rt; are_refused(&rt, rt.alloc(), &[key, " ", "E"], told)?);
+    assert!(rt; are_refused(&rt, rt.alloc(), &[key, " x", "\na"], told)?);
     Ok(())
 }
 
 #[test]
 fn nodes_that_clash(rt: HostRuntime) -> Result<(), Fail> {
     let input = joined(rt.alloc(), &["a/p0 ", "E", "\na/q2 ", "E", "\na/r0 ", "E"])?;
-    let ended = run_with::<Size>(rt.alloc(), &TREE, &input);
+    let ended = run_with::<Size, _>(&rt, rt.alloc(), &TREE, &input);
     assert!(rt; ended.is(1, b"", "msthost: Clash\n"));
     Ok(())
 }
@@ -101,7 +108,7 @@ fn wrong_command_lines(rt: HostRuntime) {
         &["msthost", "tree", "--bits", "two"],
     ];
     for words in lines {
-        let ended = run(rt.alloc(), words, b"a/b");
+        let ended = run(&rt, rt.alloc(), words, b"a/b");
         let told = ended.err.starts_with(b"error: ");
         assert!(rt;
             ended.status == 2 && told && ended.out.is_empty(),
@@ -112,7 +119,7 @@ fn wrong_command_lines(rt: HostRuntime) {
 
 #[test]
 fn bits_out_of_range_are_named(rt: HostRuntime) {
-    let ended = run(rt.alloc(), &["msthost", "tree", "--bits", "9"], b"");
+    let ended = run(&rt, rt.alloc(), &["msthost", "tree", "--bits", "9"], b"");
     let told =
         "error: invalid value '9' for '--bits <B>': 9 is not in 1..=8\n\nFor more information, try '--help'.\n";
     assert!(rt; ended.is(2, b"", told));
@@ -147,7 +154,7 @@ fn help(rt: HostRuntime) {
         ),
     ];
     for (words, shown) in cases {
-        let ended = run(rt.alloc(), words, b"a/b");
+        let ended = run(&rt, rt.alloc(), words, b"a/b");
         let shows = ended.out.as_slice().contains_str(shown.as_bytes());
         assert!(rt;
             ended.status == 0 && shows && ended.err.is_empty(),
@@ -158,7 +165,7 @@ fn help(rt: HostRuntime) {
 
 #[test]
 fn version(rt: HostRuntime) {
-    let ended = run(rt.alloc(), &["msthost", "--version"], b"a/b");
+    let ended = run(&rt, rt.alloc(), &["msthost", "--version"], b"a/b");
     assert!(rt; ended.is(0, b"msthost 0.1.0\n", ""));
 }
 

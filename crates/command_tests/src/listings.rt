@@ -10,7 +10,7 @@ const RECORD: &str = "bafyreie5cvv4h45feadgeuwhbcutmh6t2ceseocckahdoe6uat64zmz45
 #[test]
 fn status_0_of_run_words_means_that_the_listing_is_written(rt: HostRuntime) -> Result<(), Fail> {
     let wanted = joined(rt.alloc(), &["E", "\n", "E", " a2616580616cf6\n"])?;
-    let ended = run(rt.alloc(), &TREE, b"");
+    let ended = run(&rt, rt.alloc(), &TREE, b"");
     assert!(rt; ended.is(0, &wanted, ""));
     Ok(())
 }
@@ -23,7 +23,7 @@ fn one_line(rt: HostRuntime) -> Result<(), Fail> {
     let wanted = joined(rt.alloc(), &[root, "\n", root, " ", node, "\n"])?;
     for end in ["", "\n", "\r\n", "\n\n\r\n"] {
         let input = joined(rt.alloc(), &["a/b ", "E", end])?;
-        let ended = run(rt.alloc(), &TREE, &input);
+        let ended = run(&rt, rt.alloc(), &TREE, &input);
         assert!(rt; ended.is(0, &wanted, ""), "after {end:?}");
     }
     Ok(())
@@ -42,7 +42,7 @@ fn published_roots_of_one_key(rt: HostRuntime) -> Result<(), Fail> {
         ),
     ] {
         let input = joined(rt.alloc(), &[key, RECORD, "\n"])?;
-        assert!(rt; run(rt.alloc(), &TREE, &input).lists(root), "at {key}");
+        assert!(rt; run(&rt, rt.alloc(), &TREE, &input).lists(root), "at {key}");
     }
     Ok(())
 }
@@ -76,7 +76,10 @@ fn each_number_of_bits(rt: HostRuntime) -> Result<(), Fail> {
         (&["msthost", "tree", "--bits", "8"], more),
     ];
     for (words, root) in cases {
-        assert!(rt; run(rt.alloc(), words, &input).lists(root), "at {words:?}");
+        assert!(rt;
+            run(&rt, rt.alloc(), words, &input).lists(root),
+            "at {words:?}"
+        );
     }
     Ok(())
 }
@@ -88,10 +91,10 @@ fn the_last_line_of_a_key_decides(rt: HostRuntime) -> Result<(), Fail> {
     ];
     let once = ["a/1 ", "E", "\nb/1 ", RECORD];
     let input = joined(rt.alloc(), &once)?;
-    let wanted = run(rt.alloc(), &TREE, &input);
+    let wanted = run(&rt, rt.alloc(), &TREE, &input);
     assert!(rt; wanted.lists("bafyreiafwufgom6kgt2oj43ilqgnilld6ypuu7wj2qsot5z5wonconecta"));
     let input = joined(rt.alloc(), &twice)?;
-    assert!(rt; run(rt.alloc(), &TREE, &input).is(0, &wanted.out, ""));
+    assert!(rt; run(&rt, rt.alloc(), &TREE, &input).is(0, &wanted.out, ""));
     Ok(())
 }
 
@@ -107,7 +110,10 @@ fn keys_with_spaces_and_carriage_returns(rt: HostRuntime) -> Result<(), Fail> {
     ];
     for (parts, root) in cases {
         let input = joined(rt.alloc(), parts)?;
-        assert!(rt; run(rt.alloc(), &TREE, &input).lists(root), "at {parts:?}");
+        assert!(rt;
+            run(&rt, rt.alloc(), &TREE, &input).lists(root),
+            "at {parts:?}"
+        );
     }
     Ok(())
 }
@@ -122,7 +128,12 @@ fn nodes_and_bytes_of_each_number_of_bits(rt: HostRuntime) -> Result<(), Fail> {
         ("4", 4, 787),
         ("8", 2, 469),
     ] {
-        let ended = run_with::<Toy>(rt.alloc(), &["msthost", "tree", "--bits", bits], &input);
+        let ended = run_with::<Toy, _>(
+            &rt,
+            rt.alloc(),
+            &["msthost", "tree", "--bits", bits],
+            &input,
+        );
         let ends = ended.out.iter().filter(|byte| **byte == b'\n').count();
         assert!(rt; ends == lines && ended.out.len() == length, "at {bits}");
     }
@@ -132,7 +143,7 @@ fn nodes_and_bytes_of_each_number_of_bits(rt: HostRuntime) -> Result<(), Fail> {
 #[test]
 fn nodes_without_keys(rt: HostRuntime) -> Result<(), Fail> {
     let input = joined(rt.alloc(), &["a/p0 ", "E", "\na/q2 ", "E", "\na/r0 ", "E"])?;
-    let ended = run_with::<Toy>(rt.alloc(), &TREE, &input);
+    let ended = run_with::<Toy, _>(&rt, rt.alloc(), &TREE, &input);
     let mut lengths = Vec::new(rt.alloc());
     for line in ended.out.split(|byte| *byte == b'\n') {
         lengths.push(line.len())?;

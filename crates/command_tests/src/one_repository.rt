@@ -90,7 +90,7 @@ fn files(rt: HostRuntime) -> Result<(), Fail> {
     for (words, input, parts) in cases {
         let wanted = whole(rt.alloc(), parts)?;
         assert!(rt;
-            run(rt.alloc(), words, input).is(0, &wanted, ""),
+            run(&rt, rt.alloc(), words, input).is(0, &wanted, ""),
             "of {input:?}"
         );
     }
@@ -137,7 +137,7 @@ fn proofs_and_what_they_show(rt: HostRuntime) -> Result<(), Fail> {
         let input = joined(rt.alloc(), lines)?;
         let wanted = joined(rt.alloc(), wanted)?;
         assert!(rt;
-            run(rt.alloc(), words, &input).is(0, &wanted, ""),
+            run(&rt, rt.alloc(), words, &input).is(0, &wanted, ""),
             "at {words:?}"
         );
     }
@@ -173,7 +173,7 @@ fn faulty_lines(rt: HostRuntime) {
     for (input, told) in cases {
         for words in [["msthost", "car"].as_slice(), &["msthost", "prove", "a/b"]] {
             assert!(rt;
-                run(rt.alloc(), words, input).is(1, b"", told),
+                run(&rt, rt.alloc(), words, input).is(1, b"", told),
                 "of {input:?}"
             );
         }
@@ -243,7 +243,7 @@ fn faulty_words_and_proofs(rt: HostRuntime) {
     ];
     for (words, input, told) in cases {
         assert!(rt;
-            run(rt.alloc(), words, input).is(1, b"", told),
+            run(&rt, rt.alloc(), words, input).is(1, b"", told),
             "at {words:?}"
         );
     }
@@ -261,7 +261,7 @@ fn wrong_command_lines(rt: HostRuntime) {
         &["msthost", "verify", EMPTY, "a/b", "a/c"],
     ];
     for words in lines {
-        let ended = run(rt.alloc(), words, b"");
+        let ended = run(&rt, rt.alloc(), words, b"");
         let told = ended.err.starts_with(b"error: ");
         assert!(rt;
             ended.status == 2 && told && ended.out.is_empty(),

@@ -3,7 +3,9 @@ use cid::Digest;
 use commands::{run_words, run_words_with};
 use std::alloc::Global;
 use std::io::Read;
+use std::sync::Wait;
 use std::test::Fail;
+use std::thread::Threads;
 
 /// The command line of `tree`.
 pub(crate) const TREE: [&str; 2] = ["msthost", "tree"];
@@ -32,25 +34,40 @@ impl Ended {
 }
 
 /// Runs a command over an input in memory.
-pub(crate) fn run(alloc: Global, words: &[&str], input: &[u8]) -> Ended {
+pub(crate) fn run<T: Threads + Wait + Sync>(
+    rt: &T,
+    alloc: Global,
+    words: &[&str],
+    input: &[u8],
+) -> Ended {
     let mut input = input;
-    run_over(alloc, words, &mut input)
+    run_over(rt, alloc, words, &mut input)
 }
 
 /// Runs a command over any reader.
-pub(crate) fn run_over<R: Read>(alloc: Global, words: &[&str], input: &mut R) -> Ended {
+pub(crate) fn run_over<T: Threads + Wait + Sync, R: Read>(
+    rt: &T,
+    alloc: Global,
+    words: &[&str],
+    input: &mut R,
+) -> Ended {
     let mut out = Vec::new(alloc);
     let mut err = Vec::new(alloc);
-    let status = run_words(alloc, words, input, &mut out, &mut err);
+    let status = run_words(rt, alloc, words, input, &mut out, &mut err);
     Ended { status, out, err }
 }
 
 /// Runs a command over an input in memory, under the digest `D`.
-pub(crate) fn run_with<D: Digest>(alloc: Global, words: &[&str], input: &[u8]) -> Ended {
+pub(crate) fn run_with<D: Digest + Send + Sync, T: Threads + Wait + Sync>(
+    rt: &T,
+    alloc: Global,
+    words: &[&str],
+    input: &[u8],
+) -> Ended {
     let mut input = input;
     let mut out = Vec::new(alloc);
     let mut err = Vec::new(alloc);
-    let status = run_words_with::<D, _, _, _>(alloc, words, &mut input, &mut out, &mut err);
+    let status = run_words_with::<D, _, _, _, _>(rt, alloc, words, &mut input, &mut out, &mut err);
     Ended { status, out, err }
 }
 

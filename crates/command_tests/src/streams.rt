@@ -5,7 +5,9 @@ use crate::running::{EMPTY, Ended, TREE, joined, run, run_over};
 use commands::run_words;
 use std::alloc::Global;
 use std::io::{self, ErrorKind, Read, Write};
+use std::sync::Wait;
 use std::test::Fail;
+use std::thread::Threads;
 
 /// Gives these bytes, a few at a time, and fails at their end.
 #[derive(Drop)]
@@ -39,12 +41,18 @@ const COMMANDS: [(&[&str], &[u8]); 5] = [
 ];
 
 /// Whether a command over a reader that gives these bytes and then fails ends with this, and writes nothing.
-fn fails_after(alloc: Global, words: &[&str], left: &[u8], kind: ErrorKind) -> bool {
+fn fails_after<T: Threads + Wait + Sync>(
+    rt: &T,
+    alloc: Global,
+    words: &[&str],
+    left: &[u8],
+    kind: ErrorKind,
+) -> bool {
     let (status, told) = match kind {
         ErrorKind::OutOfMemory => (3, "msthost: no memory\n"),
         _ => (4, "msthost: read failed\n"),
     };
-    run_over(alloc, words, &mut FailingReader { left, kind }).is(status, b"", told)
+    run_over(rt, alloc, words, &mut FailingReader { left, kind }).is(status, b"", told)
 }
 
 #[test]
@@ -55,7 +63,7 @@ fn a_read_that_fails(rt: HostRuntime) -> Result<(), Fail> {
     for left in [b"".as_slice(), cut, whole.as_slice(), b"a/b\n".as_slice()] {
         for kind in [ErrorKind::Other, ErrorKind::OutOfMemory] {
             assert!(rt;
-                fails_after(rt.alloc(), &TREE, left, kind),
+                fails_after(&rt, rt.alloc(), &TREE, left, kind),
                 "after {left:?}"
             );
         }
@@ -68,7 +76,7 @@ fn a_read_that_fails_at_any_byte(rt: HostRuntime) {
     for (words, input) in COMMANDS {
         for end in 0..=input.len() {
             for kind in [ErrorKind::Other, ErrorKind::OutOfMemory] {
-                let fails = fails_after(rt.alloc(), words, &input[..end], kind);
+                let fails = fails_after(&rt, rt.alloc(), words, &input[..end], kind);
                 assert!(rt; fails, "of {words:?} after {end} bytes");
             }
         }
@@ -98,12 +106,12 @@ impl Read for InterruptedReader<'_> {
 #[test]
 fn a_read_that_is_interrupted(rt: HostRuntime) -> Result<(), Fail> {
     let lines = joined(rt.alloc(), &["a/b ", "E", "\nb/c ", "E", "\n"])?;
-    let wanted = run(rt.alloc(), &TREE, &lines);
+    let wanted = run(&rt, rt.alloc(), &TREE, &lines);
     let mut input = InterruptedReader {
         left: &lines,
         is_interrupted: false,
     };
-    let ended = run_over(rt.alloc(), &TREE, &mut input);
+    let ended = run_over(&rt, rt.alloc(), &TREE, &mut input);
     let root = "bafyreih7eb3fragavwgi36466egdtd46zgb37qhjfatkoygoofir4t3mvq";
     assert!(rt; wanted.lists(root) && ended.is(0, &wanted.out, ""));
     Ok(())
@@ -153,11 +161,17 @@ fn narrow(alloc: Global, room: usize, flushes: bool) -> NarrowWriter {
 }
 
 /// Runs a command on an input in memory, over such a writer.
-fn run_into(alloc: Global, words: &[&str], input: &[u8], out: NarrowWriter) -> Ended {
+fn run_into<T: Threads + Wait + Sync>(
+    rt: &T,
+    alloc: Global,
+    words: &[&str],
+    input: &[u8],
+    out: NarrowWriter,
+) -> Ended {
     let mut input = input;
     let mut out = out;
     let mut err = Vec::new(alloc);
-    let status = run_words(alloc, words, &mut input, &mut out, &mut err);
+    let status = run_words(rt, alloc, words, &mut input, &mut out, &mut err);
     Ended {
         status,
         out: out.written,
@@ -166,9 +180,15 @@ fn run_into(alloc: Global, words: &[&str], input: &[u8], out: NarrowWriter) -> E
 }
 
 /// Whether a command writes all of its output, or just what the writer has room for.
-fn writes_what_fits(alloc: Global, words: &[&str], input: &[u8], room: usize) -> bool {
-    let whole = run(alloc, words, input);
-    let ended = run_into(alloc, words, input, narrow(alloc, room, true));
+fn writes_what_fits<T: Threads + Wait + Sync>(
+    rt: &T,
+    alloc: Global,
+    words: &[&str],
+    input: &[u8],
+    room: usize,
+) -> bool {
+    let whole = run(rt, alloc, words, input);
+    let ended = run_into(rt, alloc, words, input, narrow(alloc, room, true));
     match whole.out.get(..room) {
         Some(front) if room < whole.out.len() => ended.is(4, front, "msthost: write failed\n"),
         _ => whole.status == 0 && ended.is(0, &whole.out, ""),
@@ -186,11 +206,11 @@ fn a_writer_that_takes_little_or_fails(rt: HostRuntime) {
     ];
     for (words, input, length) in cases {
         assert!(rt;
-            run(rt.alloc(), words, input).out.len() == length,
+            run(&rt, rt.alloc(), words, input).out.len() == length,
             "of {words:?}"
         );
         for room in 0..=length {
-            let fits = writes_what_fits(rt.alloc(), words, input, room);
+            let fits = writes_what_fits(&rt, rt.alloc(), words, input, room);
             assert!(rt; fits, "of {words:?} at {room}");
         }
     }
@@ -205,7 +225,13 @@ fn a_flush_that_fails(rt: HostRuntime) {
         &["msthost", "prove", "a/b"],
     ];
     for words in commands {
-        let ended = run_into(rt.alloc(), words, b"", narrow(rt.alloc(), 10000, false));
+        let ended = run_into(
+            &rt,
+            rt.alloc(),
+            words,
+            b"",
+            narrow(rt.alloc(), 10000, false),
+        );
         let told = ended.err.as_slice() == b"msthost: write failed\n".as_slice();
         assert!(rt; ended.status == 4 && told, "at {words:?}");
     }
@@ -216,6 +242,6 @@ fn standard_error_that_fails(rt: HostRuntime) {
     let mut input: &[u8] = b"a/b";
     let mut out = Vec::new(rt.alloc());
     let mut err = narrow(rt.alloc(), 0, true);
-    let status = run_words(rt.alloc(), &TREE, &mut input, &mut out, &mut err);
+    let status = run_words(&rt, rt.alloc(), &TREE, &mut input, &mut out, &mut err);
     assert!(rt; status == 1 && out.is_empty());
 }

@@ -1,7 +1,8 @@
 //! What the words of a command line ask for.
 use crate::tree::{self, Bits};
 use clap::{ArgMatches, Command, Error};
-use repository_commands::{RepositoryCommand, command_of, with_words};
+use repository_commands::RepositoryCommand;
+use run_command::RunCommand;
 use std::alloc::{AllocError, Global};
 
 /// What is to be done: for each command what its words say.
@@ -11,6 +12,8 @@ pub(crate) enum Request<'a> {
     Tree(Bits),
     /// Do a command on one repository.
     OnRepository(RepositoryCommand<'a>),
+    /// Let a host's workers do the script of the input.
+    Run(RunCommand<'a>),
 }
 
 const ABOUT: &str = "Merkle search trees of AT Protocol repositories";
@@ -26,8 +29,11 @@ pub(crate) fn request_of<'a>(alloc: Global, words: &'a [&'a str]) -> Result<Requ
 
 /// What the command of this name is to do.
 fn request_by<'a>(name: &str, words: &ArgMatches<'a>) -> Request<'a> {
-    match command_of(name, words) {
-        Some(command) => Request::OnRepository(command),
+    if let Some(command) = repository_commands::command_of(name, words) {
+        return Request::OnRepository(command);
+    }
+    match run_command::command_of(name, words) {
+        Some(command) => Request::Run(command),
         None => Request::Tree(tree::bits_of(words)),
     }
 }
@@ -41,5 +47,6 @@ fn command<'a>(alloc: Global) -> Result<Command<'a>, AllocError> {
         .subcommand_required(true)
         .disable_help_subcommand(true)
         .subcommand(tree::words(alloc)?)?;
-    with_words(alloc, program)
+    let program = repository_commands::with_words(alloc, program)?;
+    run_command::with_words(alloc, program)
 }

@@ -10,9 +10,12 @@ use clap::error::ErrorKind;
 use console::{DONE, USAGE, no_memory, write_failed};
 use std::alloc::Global;
 use std::io::{self, Read, Write};
+use std::sync::Wait;
+use std::thread::Threads;
 
 /// Does what the words ask for, of which the first is the program's name, under SHA-256, and answers the status.
-pub fn run_words<R: Read, W: Write, X: Write>(
+pub fn run_words<T: Threads + Wait + Sync, R: Read, W: Write, X: Write>(
+    rt: &T,
     alloc: Global,
     words: &[&str],
     input: &mut R,
@@ -25,11 +28,18 @@ pub fn run_words<R: Read, W: Write, X: Write>(
     ensures nothing { (result ≡ 1) ⊎ (result ≡ 2)
         → Keeps (W.contents out.old) (W.contents out.new) }
 {
-    run_words_with::<Sha256, R, W, X>(alloc, words, input, out, err)
+    run_words_with::<Sha256, T, R, W, X>(rt, alloc, words, input, out, err)
 }
 
 /// `run_words` under the digest `D`.
-pub fn run_words_with<D: Digest, R: Read, W: Write, X: Write>(
+pub fn run_words_with<
+    D: Digest + Send + Sync,
+    T: Threads + Wait + Sync,
+    R: Read,
+    W: Write,
+    X: Write,
+>(
+    rt: &T,
     alloc: Global,
     words: &[&str],
     input: &mut R,
@@ -46,6 +56,9 @@ pub fn run_words_with<D: Digest, R: Read, W: Write, X: Write>(
         Ok(Request::Tree(bits)) => tree::run::<D, R, W, X>(bits, alloc, input, out, err),
         Ok(Request::OnRepository(command)) => {
             repository_commands::run::<D, R, W, X>(command, alloc, input, out, err)
+        }
+        Ok(Request::Run(command)) => {
+            run_command::run::<D, T, R, W, X>(command, rt, alloc, input, out, err)
         }
         Err(error) => show(&error, out, err),
     }

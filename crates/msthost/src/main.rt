@@ -25,5 +25,5 @@ fn run_on_streams<X: Write>(rt: &HostRuntime, alloc: Global, err: &mut X) -> io:
     }
     let mut input = BufReader::new(alloc, rt.stdin())?;
     let mut out = BufWriter::new(alloc, rt.stdout())?;
-    Ok(run_words(alloc, &lent, &mut input, &mut out, err))
+    Ok(run_words(rt, alloc, &lent, &mut input, &mut out, err))
 }
