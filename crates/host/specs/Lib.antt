@@ -3,3 +3,4 @@ pub mod Views
 pub mod Seeing
 pub mod Versions
 pub mod Telling
+pub mod Exporting

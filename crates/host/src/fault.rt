@@ -5,6 +5,7 @@ ghost use Rattle.host.specs.declared.fault.OpenFault.TheVariants as faults;
 
 use batches::RepoFault;
 use cid::Digest;
+use export::ExportFault;
 use std::alloc::{AllocError, Allocator, Global};
 use thiserror::Error;
 
@@ -24,6 +25,28 @@ pub enum HostFault<D: Digest, A: Allocator = Global> {
     /// The writer's last accepted call has the number 2^64 - 1.
     #[error("the writer has no number for one more accepted call")]
     SeqFull,
+}
+
+/// Why there is no CAR of a host's repository.
+#[derive(Clone, Copy, Debug, PartialEq, Eq, Error)]
+pub enum CarFault {
+    /// There is no repository of this number. Nothing was written.
+    #[error("there is no such repository")]
+    NoSuchRepository,
+    /// The CAR wasn't written, or not all of it.
+    #[error("{0}")]
+    Export(ExportFault),
+}
+
+/// Why there is no proof of a key in a host's repository.
+#[derive(Clone, Copy, Debug, PartialEq, Eq, Error)]
+pub enum ProveFault {
+    /// There is no repository of this number.
+    #[error("there is no such repository")]
+    NoSuchRepository,
+    /// Memory was refused.
+    #[error("out of memory")]
+    NoMemory,
 }
 
 /// Why a host wasn't opened.

@@ -9,6 +9,8 @@
 //!   less of a repository than this writer has seen there.
 //! - `Writer::publish` makes a version, which `Host::version` shows for good and without a lock: what is to be read often,
 //!   or over a long time, is read by a version.
+//! - `Host::car` writes a repository as one file, and `Host::prove` gives the nodes that prove what a key holds, each while it
+//!   shares the repository's lock with readers.
 //! - `Host::taker` makes the one that takes notices out of the queue. What a full queue doesn't take a writer keeps, in
 //!   order, until `apply` or `flush` finds room.
 //! - `Writer::end` and the taker's `end` leave what `Host::close` wants of all of them. A host that has closed tells how many
@@ -17,7 +19,7 @@
 //!
 //! A call takes the lock of its repository, and under it one shard's lock at a time. Writers of one repository wait for each
 //! other, and a long batch holds up those that read there; those of other repositories meet it in the shards alone, for the
-//! time of one block.
+//! time of one block. A `car` into a slow output holds up the writers of its repository until all is written.
 //!
 //! ```rust
 //! ghost use Rattle.closing.specs.Ending.{IsEndedAt};
@@ -113,6 +115,7 @@
 //! ```
 #![tactic(auto)]
 
+mod exporting;
 mod fault;
 mod host;
 mod limits;
@@ -123,7 +126,7 @@ mod version;
 mod waiting;
 mod writer;
 
-pub use fault::{HostFault, OpenFault};
+pub use fault::{CarFault, HostFault, OpenFault, ProveFault};
 pub use host::{Host, Opened};
 pub use limits::Limits;
 pub use seat::Seat;

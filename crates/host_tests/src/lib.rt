@@ -4,6 +4,8 @@
 #[cfg(test)]
 mod example;
 #[cfg(test)]
+mod exports;
+#[cfg(test)]
 mod hosts;
 #[cfg(test)]
 mod opening;

@@ -88,11 +88,15 @@
 //!         shard_blocks: 1000,
 //!         repo_writes: 1000,
 //!     };
-//!     let opened = Host::<Sha256, 2>::open(&rt, alloc, limits).expect(&rt, "a host");
+//!     let Ok(opened) = Host::<Sha256, 2>::open(&rt, alloc, limits) else {
+//!         panic!(&rt; "no host");
+//!     };
 //!     let Opened { host, seats, feed } = opened;
 //!
 //!     // Each worker does its lines in a thread of its own. The answers come in the order of the lines.
-//!     assert!(&rt; have_workers(&lines, seats.len()));
+//!     if !have_workers(&lines, seats.len()) {
+//!         panic!(&rt; "a line without a worker");
+//!     }
 //!     let report = run_script(&rt, alloc, &host, seats, &OpenGate, &lines).expect(&rt, "a report");
 //!     assert!(&rt; are_right(&report.answers));
 //!

@@ -1,0 +1,41 @@
+-- Exports and proofs of a repository: each is right for a lawful state of this repository.
+use Rattle.std.specs.Prelude.{◌≡◌, ◌≤◌, ◌<◌, ℕ, List, Result, Ok, Err, IfOk}
+use Rattle.std.specs.declared.sync.Arc.{Arc}
+use Rattle.spec.specs.States.{State}
+use Rattle.export.specs.Exports.{TakesCar, ArePathOf, car_length}
+use Rattle.export.specs.declared.export_fault.ExportFault.{ExportFault}
+use Rattle.host.specs.Seeing.{IsSeen, wanted_of}
+use Rattle.host.specs.Views.{HostView}
+use Rattle.host.specs.declared.locked.Wanted.{Wanted}
+use Rattle.host.specs.declared.fault.CarFault.{CarFault}
+use Rattle.host.specs.declared.fault.CarFault.TheVariants as cars
+use Rattle.host.specs.declared.fault.ProveFault.{ProveFault}
+use Rattle.host.specs.declared.fault.ProveFault.TheVariants as proofs
+
+-- what was taken in the call is the CAR of such a state, or after a fault a beginning of it; and the
+-- number is its length
+abbrev pub IsCarOf : (List ℕ → List ℕ) → ℕ → Wanted → List ℕ → List ℕ → Result ℕ ExportFault
+    → Type 0
+IsCarOf digest bits w old new result = (s : State) × IsSeen w s
+    × TakesCar digest bits s old new result
+    × IfOk result (λ count. count ≡ car_length digest bits s)
+
+-- these are the nodes of the key's path by such a state
+abbrev pub IsProofOf : {A : Type 0} → (List ℕ → List ℕ) → ℕ → Wanted → List ℕ
+    → List (Arc (List ℕ) A) → Type 0
+IsProofOf digest bits w key nodes = (s : State) × IsSeen w s × ArePathOf digest bits s key nodes
+
+-- What a host answers: the CAR of such a state; that there is no such repository, and nothing was
+-- written; or a fault, and what was taken is a beginning of the CAR.
+abbrev pub IsCarAnswer : (List ℕ → List ℕ) → ℕ → HostView → ℕ → List ℕ → List ℕ → Result ℕ CarFault
+    → Type 0
+IsCarAnswer digest bits h repo old new (Ok count) = (repo < h.repos)
+    × IsCarOf digest bits (wanted_of h repo 0) old new (Ok count)
+IsCarAnswer digest bits h repo old new (Err cars.NoSuchRepository) = (h.repos ≤ repo) × (new ≡ old)
+IsCarAnswer digest bits h repo old new (Err (cars.Export fault)) = (repo < h.repos)
+    × IsCarOf digest bits (wanted_of h repo 0) old new (Err fault)
+
+-- what each fault of a proof says
+abbrev pub IsProveFault : HostView → ℕ → ProveFault → Type 0
+IsProveFault h repo proofs.NoSuchRepository = h.repos ≤ repo
+IsProveFault h repo proofs.NoMemory = repo < h.repos
