@@ -18,27 +18,27 @@ const TURNS: u64 = 1_000_000;
 
 /// Something that happens once, in any thread.
 #[derive(Drop)]
-struct Event {
+pub(crate) struct Event {
     happened: AtomicBool,
 }
 
 impl Event {
-    fn new() -> Event {
+    pub(crate) fn new() -> Event {
         Event {
             happened: AtomicBool::new(false),
         }
     }
 
-    fn happens(&self) {
+    pub(crate) fn happens(&self) {
         self.happened.store(true, Ordering::SeqCst);
     }
 
-    fn has_happened(&self) -> bool {
+    pub(crate) fn has_happened(&self) -> bool {
         self.happened.load(Ordering::SeqCst)
     }
 
     /// Waits until it has happened, or for so many turns, and answers whether it has.
-    fn comes(&self) -> bool {
+    pub(crate) fn comes(&self) -> bool {
         for _ in 0..TURNS {
             if self.has_happened() {
                 return true;

@@ -10,6 +10,8 @@ mod example;
 #[cfg(test)]
 mod gates;
 #[cfg(test)]
+mod locks;
+#[cfg(test)]
 mod random;
 #[cfg(test)]
 mod rows;
