@@ -17,9 +17,12 @@ pub(crate) struct Ended {
 impl Ended {
     /// Whether it ended with this status, and wrote this and nothing else.
     pub(crate) fn is(&self, status: u8, out: &str, err: &str) -> bool {
-        self.status == status
-            && self.out.as_slice() == out.as_bytes()
-            && self.err.as_slice() == err.as_bytes()
+        self.wrote(status, out.as_bytes(), err)
+    }
+
+    /// The same with the bytes of what it wrote.
+    pub(crate) fn wrote(&self, status: u8, out: &[u8], err: &str) -> bool {
+        self.status == status && self.out.as_slice() == out && self.err.as_slice() == err.as_bytes()
     }
 
     /// Whether it was done, and what it wrote begins so.
