@@ -38,14 +38,7 @@ pub fn run_words_with<
     R: Read,
     W: Write,
     X: Write,
->(
-    rt: &T,
-    alloc: Global,
-    words: &[&str],
-    input: &mut R,
-    out: &mut W,
-    err: &mut X,
-) -> u8
+>(rt: &T, alloc: Global, words: &[&str], input: &mut R, out: &mut W, err: &mut X) -> u8
     ensures status { result ≤ 4 }
 
     // A faulty line or word, what comes of them, and a wrong command line write nothing.
