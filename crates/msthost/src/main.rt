@@ -4,26 +4,43 @@
 use commands::{not_started, run_words};
 use std::alloc::Global;
 use std::env;
-use std::io::{self, BufReader, BufWriter, Write};
+use std::io::{self, BufReader, BufWriter, Read, Write};
 use std::process::ExitCode;
+use std::sync::Wait;
+use std::thread::Threads;
 
 fn main(rt: HostRuntime) -> ExitCode {
     let mut err = rt.stderr();
-    let status = match run_on_streams(&rt, rt.alloc(), &mut err) {
+    let ended = match words_of(&rt, rt.alloc()) {
+        Ok(words) => run_on_streams(&rt, rt.alloc(), &words, rt.stdin(), rt.stdout(), &mut err),
+        Err(error) => Err(error),
+    };
+    let status = match ended {
         Ok(status) => status,
         Err(error) => not_started(&error, &mut err),
     };
     ExitCode::from(status)
 }
 
-/// The status of the program's own words over the standard streams, or why the words or room for buffers can't be had.
-fn run_on_streams<X: Write>(rt: &HostRuntime, alloc: Global, err: &mut X) -> io::Result<u8> {
-    let words: Vec<String> = env::args(rt)?.collect(alloc)?;
+/// The words of the command line, the program's name first.
+fn words_of(rt: &HostRuntime, alloc: Global) -> io::Result<Vec<String>> {
+    Ok(env::args(rt)?.collect(alloc)?)
+}
+
+/// The status of these words over these streams, or why room for buffers can't be had.
+fn run_on_streams<T: Threads + Wait + Sync, R: Read + Drop, W: Write + Drop, X: Write>(
+    rt: &T,
+    alloc: Global,
+    words: &[String],
+    input: R,
+    out: W,
+    err: &mut X,
+) -> io::Result<u8> {
     let mut lent = Vec::with_capacity(alloc, words.len())?;
-    for word in &words {
+    for word in words {
         lent.push(word.as_str())?;
     }
-    let mut input = BufReader::new(alloc, rt.stdin())?;
-    let mut out = BufWriter::new(alloc, rt.stdout())?;
+    let mut input = BufReader::new(alloc, input)?;
+    let mut out = BufWriter::new(alloc, out)?;
     Ok(run_words(rt, alloc, &lent, &mut input, &mut out, err))
 }
