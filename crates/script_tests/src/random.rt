@@ -20,7 +20,7 @@ use std::sync::{Arc, Wait};
 use std::thread::Threads;
 
 /// How many lines.
-const LINES: usize = 5_000;
+const LINES: usize = 10_000;
 
 /// Numbers that look random, the same in each run.
 #[derive(Drop)]
