@@ -14,4 +14,6 @@ mod queue_of_two;
 #[cfg(test)]
 mod refusals;
 #[cfg(test)]
+mod sharing;
+#[cfg(test)]
 mod versions;
