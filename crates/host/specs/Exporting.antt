@@ -4,6 +4,7 @@ use Rattle.std.specs.declared.sync.Arc.{Arc}
 use Rattle.spec.specs.States.{State}
 use Rattle.export.specs.Exports.{TakesCar, ArePathOf, car_length}
 use Rattle.export.specs.declared.export_fault.ExportFault.{ExportFault}
+use Rattle.export.specs.declared.export_fault.ExportFault.TheVariants as exports
 use Rattle.host.specs.Seeing.{IsSeen, wanted_of}
 use Rattle.host.specs.Views.{HostView}
 use Rattle.host.specs.declared.locked.Wanted.{Wanted}
@@ -34,6 +35,13 @@ IsCarAnswer digest bits h repo old new (Ok count) = (repo < h.repos)
 IsCarAnswer digest bits h repo old new (Err cars.NoSuchRepository) = (h.repos ≤ repo) × (new ≡ old)
 IsCarAnswer digest bits h repo old new (Err (cars.Export fault)) = (repo < h.repos)
     × IsCarOf digest bits (wanted_of h repo 0) old new (Err fault)
+
+-- The output failed in the call where `DeviceFault` says so, and nowhere else.
+abbrev pub HasCarCause : ℕ → ℕ → Result ℕ CarFault → Type 0
+HasCarCause before after (Ok count) = after ≡ before
+HasCarCause before after (Err cars.NoSuchRepository) = after ≡ before
+HasCarCause before after (Err (cars.Export exports.DeviceFault)) = before < after
+HasCarCause before after (Err (cars.Export exports.NoMemory)) = after ≡ before
 
 -- what each fault of a proof says
 abbrev pub IsProveFault : HostView → ℕ → ProveFault → Type 0

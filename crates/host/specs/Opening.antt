@@ -19,11 +19,14 @@ pub record AreLawful (l : Limits) : Type 0 where
   pub shard_blocks : IsUpTo 1048576 l.shard_blocks
   pub repo_writes : IsUpTo 1048576 l.repo_writes
 
--- the limit that the fault names is out of its range; want of memory comes only where none is
+-- The fault names the first limit, in the order of the fields, that is out of its range. Want of memory
+-- comes only where none is.
 abbrev pub IsOutOfRange : Limits → OpenFault → Type 0
 IsOutOfRange l faults.BadRepos = IsOutside 1024 l.repos
-IsOutOfRange l faults.BadWriters = IsOutside 64 l.writers
-IsOutOfRange l faults.BadQueue = IsOutside 65536 l.queue
-IsOutOfRange l faults.BadBlocks = IsOutside 1048576 l.shard_blocks
-IsOutOfRange l faults.BadWrites = IsOutside 1048576 l.repo_writes
+IsOutOfRange l faults.BadWriters = IsUpTo 1024 l.repos × IsOutside 64 l.writers
+IsOutOfRange l faults.BadQueue = IsUpTo 1024 l.repos × IsUpTo 64 l.writers × IsOutside 65536 l.queue
+IsOutOfRange l faults.BadBlocks = IsUpTo 1024 l.repos × IsUpTo 64 l.writers × IsUpTo 65536 l.queue
+    × IsOutside 1048576 l.shard_blocks
+IsOutOfRange l faults.BadWrites = IsUpTo 1024 l.repos × IsUpTo 64 l.writers × IsUpTo 65536 l.queue
+    × IsUpTo 1048576 l.shard_blocks × IsOutside 1048576 l.repo_writes
 IsOutOfRange l faults.NoMemory = AreLawful l

@@ -5,7 +5,7 @@
 
 ghost use Rattle.std.specs.Prelude.{◌≡◌, ◌≤◌, ◌<◌, IfOk, IfErr, IfNone, IfSome, Err};
 ghost use Rattle.export.specs.Outs.{HasCause};
-ghost use Rattle.host.specs.Exporting.{IsCarOf, IsCarAnswer, IsProofOf, IsProveFault};
+ghost use Rattle.host.specs.Exporting.{IsCarOf, IsCarAnswer, HasCarCause, IsProofOf, IsProveFault};
 ghost use Rattle.host.specs.declared.fault.CarFault.TheVariants as cars;
 ghost use Rattle.host.specs.declared.fault.ProveFault.TheVariants as proofs;
 ghost use Rattle.host.specs.Seeing.{wanted_of};
@@ -83,7 +83,8 @@ impl<D: Digest, const B: u8> Host<D, B> {
     /// Writes the repository's CAR, as `export::car` does, and answers how many bytes that are.
     ///
     /// `CarFault::NoSuchRepository` says that there is no such repository, and nothing was written. `CarFault::Export` has the
-    /// fault that `export::car` answered, and a beginning of the CAR was written. It waits for the repository's lock, shares
+    /// fault that `export::car` answered, and a beginning of the CAR was written; `ExportFault::DeviceFault` comes only where
+    /// the output failed. It waits for the repository's lock, shares
     /// it with readers, and holds it until all is written.
     pub fn car<W: Out, R: Wait>(
         &self,
@@ -95,6 +96,7 @@ impl<D: Digest, const B: u8> Host<D, B> {
         requires { 1 ≤ B }
         ensures car { IsCarAnswer D.digest_of B self.now repo (W.taken out.old) (W.taken out.new)
             result }
+        ensures cause { HasCarCause (W.failures out.old) (W.failures out.new) result }
         ensures missing { self.now.repos ≤ repo → result ≡ Err cars.NoSuchRepository }
     {
         if repo >= self.repos() {

@@ -115,6 +115,7 @@
 //! ```
 #![tactic(auto)]
 
+mod atproto;
 mod exporting;
 mod fault;
 mod host;
@@ -126,6 +127,9 @@ mod version;
 mod waiting;
 mod writer;
 
+pub use atproto::{
+    AtprotoClosed, AtprotoHost, AtprotoOpened, AtprotoReceipt, AtprotoUneven, AtprotoWriter,
+};
 pub use fault::{CarFault, HostFault, OpenFault, ProveFault};
 pub use host::{Host, Opened};
 pub use limits::Limits;

@@ -32,10 +32,10 @@ seats_count q seats writers repos is =
 -- the report of a run over these seats
 pub reported : {D : Type 0} (digest : List ℕ → List ℕ) (repos writers : ℕ) (lines : List Line) (h : HostView) (seats : List SeatView)
     (given lent : List (Answer D)) (ended ended' : List EndedView) (cores : List State) (tables : List Table) (text : List ℕ)
-    → h.repos ≡ repos → seats ≡ fresh_seats h.queue.queue_id writers repos → length given ≡ length lines → length ended ≡ length seats
+    → h.repos ≡ repos → h.limit ≡ 1048576 → seats ≡ fresh_seats h.queue.queue_id writers repos → length given ≡ length lines → length ended ≡ length seats
     → AreDone digest 2 h seats lines given ended → length cores ≡ h.repos → ended' ≡ ended → IsSettled digest 2 cores tables ended'
     → lent ≡ given → IsTextOf digest writers lines lent cores ended' text → IsReport D digest repos writers lines text
-reported digest repos writers lines h seats given lent ended ended' cores tables text e is answered ends done count same settled lends made = record {
+reported digest repos writers lines h seats given lent ended ended' cores tables text e limit is answered ends done count same settled lends made = record {
   given = given;
   cores = cores;
   ended = ended;
@@ -43,6 +43,7 @@ reported digest repos writers lines h seats given lent ended ended' cores tables
     host = h;
     tables = tables;
     host_repos = e;
+    host_limit = limit;
     answered = answered;
     writers_are = ends ∙ seats_count h.queue.queue_id seats writers repos is;
     done = subst (λ ss. AreDone digest 2 h ss lines given ended) is done;

@@ -64,6 +64,8 @@ pub record IsRun {D : Type 0} (digest : List ℕ → List ℕ) (repos writers : 
   pub host : HostView
   pub tables : List Table
   pub host_repos : host.repos ≡ repos
+  -- the greatest number of writes that a repository may have
+  pub host_limit : host.limit ≡ 1048576
   pub answered : length given ≡ length lines
   pub writers_are : length ended ≡ writers
   pub done : AreDone digest 2 host (fresh_seats host.queue.queue_id writers repos) lines given ended

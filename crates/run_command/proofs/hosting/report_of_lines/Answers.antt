@@ -48,6 +48,7 @@ returns-in-Ok-close-clause-report g c =
     reported g.D.Digest.digest_of c.args.settings.now.repos c.args.settings.now.workers c.args.lines.now c.in-Ok.opened.host c.in-Ok.opened.seats.items
     c.in_ok-answers.field-0.answers.items c.deref.result.now c.in_ok-answers.field-0.ended.items c.in-Ok-close.closed.ended c.in-Ok-close.closed.cores c.in-Ok-close.closed.tables c.in_ok-text-in-Ok-close.text.items
     (opened.repos ∙ c.limits.ensures.repos)
+    (opened.limit ∙ c.limits.ensures.writes)
     (opened.seats ∙ (λ i. fresh_seats c.in-Ok.opened.host.queue.queue_id (c.limits.ensures.writers i) (c.limits.ensures.repos i)))
     done.all done.workers done.done closed.cores
     closed.ended
