@@ -1,9 +1,11 @@
 //! Hosts that aren't opened, and the smallest and greatest ones.
 
-use crate::hosts::limits;
+use crate::hosts::{Answer, apply_steps, limits};
 use cid::digests::Toy;
-use host::{Host, Limits, OpenFault};
+use host::{Host, Limits, OpenFault, Opened};
+use repo_fixtures::batch::Step;
 use std::alloc::Global;
+use std::process::Abort;
 use std::sync::Wait;
 
 /// How a host is opened.
@@ -62,4 +64,31 @@ fn limits_are_tested_in_their_order(rt: HostRuntime) {
             "{repos} {writers} {queue} {blocks} {writes}"
         );
     }
+}
+
+/// A record whose block stands in shard 3. Those of the node before it, of its node and of its commit stand in shard 15.
+const THREE: &[u8] = b"\xa1\x61a\x33";
+
+/// How a put is answered on a host whose shards may have so many blocks.
+fn put_with_room<R: Wait + Abort>(rt: &R, alloc: Global, shard_blocks: usize) -> Answer {
+    let given = Limits {
+        shard_blocks,
+        ..limits(1, 1, 9)
+    };
+    let opened = Host::<Toy, 2>::open(rt, alloc, given).expect(rt, "a host");
+    let Opened {
+        host,
+        mut seats,
+        feed: _,
+    } = opened;
+    let seat = seats.pop().expect(rt, "a seat");
+    let mut writer = host.writer(seat);
+    apply_steps(rt, alloc, &mut writer, 0, 1, &[Step::Put(b"a/b0", THREE)])
+}
+
+#[test]
+fn each_shard_has_its_limit(rt: HostRuntime) {
+    let alloc = rt.alloc();
+    let (two, three) = (put_with_room(&rt, alloc, 2), put_with_room(&rt, alloc, 3));
+    assert!(rt; two == Answer::Refused(0) && three == Answer::Told(1, 1));
 }

@@ -120,10 +120,10 @@ fn are_answered_beside<R: Threads + Wait + Sync>(
     }
 }
 
-/// Whether this is so on a host of two repositories.
-fn is_right<R: Threads + Wait + Abort + Sync>(rt: &R, alloc: Global) -> bool {
+/// Whether this is so on a host of two repositories whose queue has this room.
+fn is_right<R: Threads + Wait + Abort + Sync>(rt: &R, alloc: Global, queue: usize) -> bool {
     let lines = lines_of(alloc, &ROWS).expect(rt, "lines");
-    let opened = open(rt, alloc, limits(2, 1, 9));
+    let opened = open(rt, alloc, limits(2, 1, queue));
     let Opened {
         host,
         seats,
@@ -137,5 +137,7 @@ fn is_right<R: Threads + Wait + Abort + Sync>(rt: &R, alloc: Global) -> bool {
 
 #[test]
 fn a_slow_output_holds_up_no_reader(rt: HostRuntime) {
-    assert!(rt; is_right(&rt, rt.alloc()));
+    for queue in [9, 1] {
+        assert!(rt; is_right(&rt, rt.alloc(), queue), "with room for {queue}");
+    }
 }
