@@ -13,10 +13,10 @@ help:
 	@echo 'make clean             takes away what was built'
 	@echo
 	@echo 'Tests stand in crates of their own: of dagcbor and node in format_tests, of cid, store and refusing in'
-	@echo 'block_tests, of scratch and edit in tree_tests, of notices in notice_tests, of console, repository_commands and commands in'
-	@echo 'command_tests, of batches and kept in batch_tests, of repo in repo_tests, both over repo_fixtures, of closing in'
-	@echo 'closing_tests, of host in host_tests, of scripts in script_tests, of script_text and run_command in run_tests,'
-	@echo 'of export in export_tests, across crates in conformance.'
+	@echo 'block_tests, of scratch and edit in tree_tests, of notices in notice_tests, of batches and kept in batch_tests, of repo in'
+	@echo 'repo_tests, both over repo_fixtures, of closing in closing_tests, of host in host_tests, of scripts in script_tests, of'
+	@echo 'export in export_tests, of console, script_text, repository_commands, run_command and commands in command_tests,'
+	@echo 'across crates in conformance.'
 
 demo:
 	@bash tools/demo

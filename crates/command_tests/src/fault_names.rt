@@ -1,4 +1,5 @@
-//! Each name of a fault that `car`, `prove` and `verify` print, once. Nodes and CIDs come from a program in another language.
+//! Faults that need records, blocks or a digest of their own: each name of what is wrong with a record, and proofs of many
+//! nodes.
 use crate::running::{joined, run, run_with};
 use cid::digests::Size;
 use cid::{Cid, Sha256};
@@ -7,8 +8,10 @@ use std::sync::Wait;
 use std::test::Fail;
 use std::thread::Threads;
 
-/// The words of `car`.
-const CAR: [&str; 2] = ["msthost", "car"];
+/// The commands that put lines into one repository, and the one that does a script.
+const ON_ONE: [&[&str]; 2] = [&["msthost", "car"], &["msthost", "prove", "a/b"]];
+
+const RUN: [&str; 2] = ["msthost", "run"];
 
 /// Thirty-five lists, one in another.
 const LISTS: &str = "8181818181818181818181818181818181818181818181818181818181818181818181";
@@ -30,107 +33,64 @@ const RECORDS: [(&[&str], &str); 13] = [
     (&["a000"], "Trailing"),
 ];
 
-/// Whether a record on line 2 is refused by this name.
+/// This text, and after it a record in hexadecimal.
+fn with_record(alloc: Global, text: &str, record: &[&str]) -> Result<Vec<u8>, Fail> {
+    let mut input = Vec::from_slice(alloc, text.as_bytes())?;
+    input.extend_from_slice(&joined(alloc, record)?)?;
+    Ok(input)
+}
+
+/// Whether each command refuses a record on line 2 by this name.
 fn is_refused<T: Threads + Wait + Sync>(
     rt: &T,
     alloc: Global,
     record: &[&str],
     name: &str,
 ) -> Result<bool, Fail> {
-    let mut input = Vec::from_slice(alloc, b"\na/b ")?;
-    input.extend_from_slice(&joined(alloc, record)?)?;
-    let told = format!(in alloc; "msthost: line 2: BadRecord({name})\n")?;
-    Ok(run(rt, alloc, &CAR, &input).is(1, b"", &told))
+    let input = with_record(alloc, "\na/b ", record)?;
+    let told = format!(in alloc; "msthost: line 2: {name}\n")?;
+    for words in ON_ONE {
+        if !run(rt, alloc, words, &input).is(1, b"", &told) {
+            return Ok(false);
+        }
+    }
+    let script = with_record(alloc, "\n0 0 2222222222222 put a/b ", record)?;
+    let front = format!(in alloc; "2 refused 0 {name}\n")?;
+    Ok(run(rt, alloc, &RUN, &script).begins(&front))
 }
 
 #[test]
 fn records(rt: HostRuntime) -> Result<(), Fail> {
     for (record, name) in RECORDS {
-        assert!(rt; is_refused(&rt, rt.alloc(), record, name)?, "at {name}");
+        let name = format!(in rt.alloc(); "BadRecord({name})")?;
+        assert!(rt; is_refused(&rt, rt.alloc(), record, &name)?, "at {name}");
     }
     Ok(())
 }
 
 #[test]
 fn a_record_that_is_too_long(rt: HostRuntime) -> Result<(), Fail> {
-    let mut input = Vec::from_slice(rt.alloc(), b"a/b a161615a00100000")?;
-    for _ in 0..0x10_0000 {
-        input.extend_from_slice(b"00")?;
-    }
-    assert!(rt; run(&rt, rt.alloc(), &CAR, &input).is(1, b"", "msthost: line 1: RecordSize\n"));
+    let bytes = vec![in rt.alloc(); b'0'; 0x20_0000]?;
+    let record = ["a161615a00100000", str::from_utf8(&bytes)?];
+    assert!(rt; is_refused(&rt, rt.alloc(), &record, "RecordSize")?);
     Ok(())
+}
+
+/// Whether each command tells that the records of two lines clash.
+fn clash<T: Threads + Wait + Sync>(rt: &T, alloc: Global) -> bool {
+    for words in ON_ONE {
+        let ended = run_with::<Size, _>(rt, alloc, words, b"a/b a1616100\n\na/c a1616101");
+        if !ended.is(1, b"", "msthost: line 3: Collision\n") {
+            return false;
+        }
+    }
+    let script = b"0 0 2222222222222 put a/b a1616100 ; put a/c a1616101";
+    run_with::<Size, _>(rt, alloc, &RUN, script).begins("1 refused 1 Collision\n")
 }
 
 #[test]
 fn records_that_clash(rt: HostRuntime) {
-    let ended = run_with::<Size, _>(&rt, rt.alloc(), &CAR, b"a/b a1616100\n\na/c a1616101");
-    assert!(rt; ended.is(1, b"", "msthost: line 3: Collision\n"));
-}
-
-#[test]
-fn texts_that_are_no_roots(rt: HostRuntime) -> Result<(), Fail> {
-    let cases = [
-        (
-            "bafyreie5737gdxlw5i64vzichcalba3z2v5n6icifvx5xytvske7mr3hp",
-            "msthost: BadLength\n",
-        ),
-        (
-            "zafyreie5737gdxlw5i64vzichcalba3z2v5n6icifvx5xytvske7mr3hpm",
-            "msthost: BadPrefix\n",
-        ),
-        (
-            "b1fyreie5737gdxlw5i64vzichcalba3z2v5n6icifvx5xytvske7mr3hpm",
-            "msthost: BadLetter\n",
-        ),
-        (
-            "bafyreie5737gdxlw5i64vzichcalba3z2v5n6icifvx5xytvske7mr3hpn",
-            "msthost: BadBits\n",
-        ),
-        (
-            "bajyreie5737gdxlw5i64vzichcalba3z2v5n6icifvx5xytvske7mr3hpm",
-            "msthost: NotThisProfile\n",
-        ),
-    ];
-    for (root, told) in cases {
-        let ended = run(&rt, rt.alloc(), &["msthost", "verify", root, ""], b"x");
-        assert!(rt; ended.is(1, b"", told), "at {told}");
-    }
-    Ok(())
-}
-
-/// The first entry of the nodes below, `a/b`.
-const ENTRY: &str =
-    "a4616b43612f626170006174f66176d82a58250001711220c19a797fa1fd590cd2e5b42d1cf5f246e29b91684e2f87404b81dc345c7a56a0";
-
-/// What stands in an entry after its prefix, and the end of the node.
-const END: &str =
-    "6174f66176d82a58250001711220c19a797fa1fd590cd2e5b42d1cf5f246e29b91684e2f87404b81dc345c7a56a0616cf6";
-
-#[test]
-fn blocks_that_are_no_nodes(rt: HostRuntime) -> Result<(), Fail> {
-    let cases: [(&str, &[&str], &str); 3] = [
-        (
-            "bafyreicsvq2gjh2aohvdo3zp2lymfmtphqrhhqxrdgm2z7o5gzayv6f7cy",
-            &["a2616582", ENTRY, "a4616b432f6364617001", END],
-            "msthost: BadNode(BadPrefix)\n",
-        ),
-        (
-            "bafyreihbhjazmaso7qu5zsoanvhqtr7ztvcth3q7tuvqkkv4qsdwvci3le",
-            &["a2616582", ENTRY, "a4616b4161617002", END],
-            "msthost: BadNode(KeyOrder)\n",
-        ),
-        (
-            "bafyreicf5p7qa3ofxouz2twx7guefw5i3ner22emkoskuusnfzvkte4miu",
-            &["a2616581a4616b40617000", END],
-            "msthost: BadNode(KeyLength)\n",
-        ),
-    ];
-    for (root, parts, told) in cases {
-        let input = joined(rt.alloc(), parts)?;
-        let ended = run(&rt, rt.alloc(), &["msthost", "verify", root, "a/b"], &input);
-        assert!(rt; ended.is(1, b"", told), "at {told}");
-    }
-    Ok(())
+    assert!(rt; clash(&rt, rt.alloc()));
 }
 
 /// The nodes of a chain, a line each, and the CID of its top.

@@ -7,12 +7,18 @@ mod fault_names;
 #[cfg(test)]
 mod faults;
 #[cfg(test)]
+mod files;
+#[cfg(test)]
 mod listings;
 #[cfg(test)]
 mod memory;
 #[cfg(test)]
-mod one_repository;
-#[cfg(test)]
 mod running;
 #[cfg(test)]
+mod scripts;
+#[cfg(test)]
 mod streams;
+#[cfg(test)]
+mod texts;
+#[cfg(test)]
+mod words;

@@ -1,4 +1,4 @@
-//! Listings that are made.
+//! Roots of listings, and how long they are.
 use crate::running::{TREE, joined, run, run_with};
 use cid::digests::Toy;
 use std::alloc::Global;
@@ -6,28 +6,6 @@ use std::test::Fail;
 
 /// The record of every key of the published trees.
 const RECORD: &str = "bafyreie5cvv4h45feadgeuwhbcutmh6t2ceseocckahdoe6uat64zmz454";
-
-#[test]
-fn status_0_of_run_words_means_that_the_listing_is_written(rt: HostRuntime) -> Result<(), Fail> {
-    let wanted = joined(rt.alloc(), &["E", "\n", "E", " a2616580616cf6\n"])?;
-    let ended = run(&rt, rt.alloc(), &TREE, b"");
-    assert!(rt; ended.is(0, &wanted, ""));
-    Ok(())
-}
-
-#[test]
-fn one_line(rt: HostRuntime) -> Result<(), Fail> {
-    let root = "bafyreifuhkx5lbdj4wnqqsagcm57l5xtrofgmpdykv332q7b5hyqccjeoi";
-    let node =
-        "a2616581a4616b43612f626170006174f66176d82a582500017112209dfefe61dd76ea3dcae5023880b08379d57adf20482d6fdbe2759289f647677b616cf6";
-    let wanted = joined(rt.alloc(), &[root, "\n", root, " ", node, "\n"])?;
-    for end in ["", "\n", "\r\n", "\n\n\r\n"] {
-        let input = joined(rt.alloc(), &["a/b ", "E", end])?;
-        let ended = run(&rt, rt.alloc(), &TREE, &input);
-        assert!(rt; ended.is(0, &wanted, ""), "after {end:?}");
-    }
-    Ok(())
-}
 
 #[test]
 fn published_roots_of_one_key(rt: HostRuntime) -> Result<(), Fail> {

@@ -27,6 +27,11 @@ impl Ended {
         self.status == status && self.out.as_slice() == out && self.err.as_slice() == err.as_bytes()
     }
 
+    /// Whether it was done, told no fault, and what it wrote begins so.
+    pub(crate) fn begins(&self, front: &str) -> bool {
+        self.status == 0 && self.out.starts_with(front.as_bytes()) && self.err.is_empty()
+    }
+
     /// Whether it listed a tree with this root, and told no fault.
     pub(crate) fn lists(&self, root: &str) -> bool {
         self.status == 0 && first_line(&self.out) == root.as_bytes() && self.err.is_empty()

@@ -28,9 +28,13 @@ impl Read for FailingReader<'_> {
     }
 }
 
+/// Two lines of a listing, and one that is faulty.
+const LINES: &[u8] =
+    b"a/b bafyreie5737gdxlw5i64vzichcalba3z2v5n6icifvx5xytvske7mr3hpm\nb/c bafyreie5737gdxlw5i64vzichcalba3z2v5n6icifvx5xytvske7mr3hpm\na/b\n";
+
 /// The commands, each with a short input and with one whose last line is faulty.
-const COMMANDS: [(&[&str], &[u8]); 5] = [
-    (&TREE, b"a/b"),
+const COMMANDS: [(&[&str], &[u8]); 6] = [
+    (&TREE, LINES),
     (&["msthost", "car"], b"a/b a0\r\n\na/b a1616100\nx"),
     (&["msthost", "prove", "a/b"], b"a/b a0\r\n\na/b a1616100\nx"),
     (
@@ -38,6 +42,7 @@ const COMMANDS: [(&[&str], &[u8]); 5] = [
         b"a2616580616cf6\n\nA0\nx",
     ),
     (&["msthost", "verify", EMPTY, "a/b"], b"a2616580616cf6"),
+    (&["msthost", "run"], b"0 0 get a/b\nfaulty\n"),
 ];
 
 /// Whether a command over a reader that gives these bytes and then fails ends with this, and writes nothing.
@@ -53,22 +58,6 @@ fn fails_after<T: Threads + Wait + Sync>(
         _ => (4, "msthost: read failed\n"),
     };
     run_over(rt, alloc, words, &mut FailingReader { left, kind }).is(status, b"", told)
-}
-
-#[test]
-fn a_read_that_fails(rt: HostRuntime) -> Result<(), Fail> {
-    let whole = joined(rt.alloc(), &["a/b ", "E", "\nb/c ", "E", "\n"])?;
-    let cut = whole.get(..70).ok_or("too short")?;
-    // at the first byte, in the middle of a line, after the last line, and after a line that is faulty
-    for left in [b"".as_slice(), cut, whole.as_slice(), b"a/b\n".as_slice()] {
-        for kind in [ErrorKind::Other, ErrorKind::OutOfMemory] {
-            assert!(rt;
-                fails_after(&rt, rt.alloc(), &TREE, left, kind),
-                "after {left:?}"
-            );
-        }
-    }
-    Ok(())
 }
 
 #[test]
@@ -197,12 +186,13 @@ fn writes_what_fits<T: Threads + Wait + Sync>(
 
 #[test]
 fn a_writer_that_takes_little_or_fails(rt: HostRuntime) {
-    let cases: [(&[&str], &[u8], usize); 5] = [
+    let cases: [(&[&str], &[u8], usize); 6] = [
         (&TREE, b"", 135),
         (&["msthost", "car"], b"", 103),
         (&["msthost", "car"], b"a/b a0", 337),
         (&["msthost", "prove", "a/b"], b"a/b a0", 187),
         (&["msthost", "verify", EMPTY, "a/b"], b"a2616580616cf6", 7),
+        (&["msthost", "run"], b"0 0 get a/b", 149),
     ];
     for (words, input, length) in cases {
         assert!(rt;
@@ -218,22 +208,22 @@ fn a_writer_that_takes_little_or_fails(rt: HostRuntime) {
 
 #[test]
 fn a_flush_that_fails(rt: HostRuntime) {
-    let commands: [&[&str]; 4] = [
-        &TREE,
-        &["msthost", "--help"],
-        &["msthost", "car"],
-        &["msthost", "prove", "a/b"],
+    let commands: [(&[&str], &[u8]); 6] = [
+        (&TREE, b""),
+        (&["msthost", "--help"], b""),
+        (&["msthost", "car"], b""),
+        (&["msthost", "prove", "a/b"], b""),
+        (&["msthost", "verify", EMPTY, "a/b"], b"a2616580616cf6"),
+        (&["msthost", "run"], b"0 0 get a/b"),
     ];
-    for words in commands {
-        let ended = run_into(
-            &rt,
-            rt.alloc(),
-            words,
-            b"",
-            narrow(rt.alloc(), 10000, false),
+    for (words, input) in commands {
+        let whole = run(&rt, rt.alloc(), words, input);
+        let out = narrow(rt.alloc(), 10000, false);
+        let ended = run_into(&rt, rt.alloc(), words, input, out);
+        assert!(rt;
+            ended.is(4, &whole.out, "msthost: write failed\n"),
+            "at {words:?}"
         );
-        let told = ended.err.as_slice() == b"msthost: write failed\n".as_slice();
-        assert!(rt; ended.status == 4 && told, "at {words:?}");
     }
 }
 

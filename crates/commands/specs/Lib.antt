@@ -1,3 +1,4 @@
 pub mod TreeText
 pub mod Fault
 pub mod Pairs
+pub mod Requests

@@ -1,15 +1,16 @@
 //! The commands, over any reader and writers.
 ghost use Rattle.std.specs.Prelude.{◌≡◌, ◌≤◌, ◌⊎◌};
 ghost use Rattle.std.specs.Io.KnownBytes.{Keeps};
+ghost use Rattle.commands.specs.Requests.{IsDone};
 
 use crate::command_line::{Request, request_of};
 use crate::tree;
 use cid::{Digest, Sha256};
 use clap::Error;
 use clap::error::ErrorKind;
-use console::{DONE, USAGE, no_memory, write_failed};
+use console::{USAGE, done, no_memory, write_failed};
 use std::alloc::Global;
-use std::io::{self, Read, Write};
+use std::io::{Read, Write};
 use std::sync::Wait;
 use std::thread::Threads;
 
@@ -46,14 +47,34 @@ pub fn run_words_with<
         → Keeps (W.contents out.old) (W.contents out.new) }
 {
     match request_of(alloc, words) {
-        Ok(Request::Tree(bits)) => tree::run::<D, R, W, X>(bits, alloc, input, out, err),
-        Ok(Request::OnRepository(command)) => {
+        Ok(request) => do_request::<D, T, R, W, X>(request, rt, alloc, input, out, err),
+        Err(error) => show(&error, out, err),
+    }
+}
+
+/// Does what is asked for, and answers the status.
+fn do_request<D: Digest + Send + Sync, T: Threads + Wait + Sync, R: Read, W: Write, X: Write>(
+    request: Request<'_>,
+    rt: &T,
+    alloc: Global,
+    input: &mut R,
+    out: &mut W,
+    err: &mut X,
+) -> u8
+    ensures status { result ≤ 4 }
+    ensures done { result ≡ 0 → IsDone D D.digest_of request.entry (R.remaining input.old)
+        (W.contents out.old) (W.contents out.new) }
+    ensures nothing { (result ≡ 1) ⊎ (result ≡ 2)
+        → Keeps (W.contents out.old) (W.contents out.new) }
+{
+    match request {
+        Request::Tree(bits) => tree::run::<D, R, W, X>(bits, alloc, input, out, err),
+        Request::OnRepository(command) => {
             repository_commands::run::<D, R, W, X>(command, alloc, input, out, err)
         }
-        Ok(Request::Run(command)) => {
+        Request::Run(command) => {
             run_command::run::<D, T, R, W, X>(command, rt, alloc, input, out, err)
         }
-        Err(error) => show(&error, out, err),
     }
 }
 
@@ -70,14 +91,8 @@ fn show<W: Write, X: Write>(error: &Error, out: &mut W, err: &mut X) -> u8
         let _ = write!(err, "{error}");
         return USAGE;
     }
-    match print(error, out) {
-        Ok(()) => DONE,
+    match write!(out, "{error}") {
+        Ok(()) => done(out, err),
         Err(_) => write_failed(err),
     }
-}
-
-/// Writes the text for the user, to the writer's end.
-fn print<W: Write>(text: &Error, out: &mut W) -> io::Result<()> {
-    write!(out, "{text}")?;
-    out.flush()
 }

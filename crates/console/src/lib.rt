@@ -4,8 +4,8 @@
 //!   is cut into lines.
 //! - `write_whole` and `write_hex` write a run of bytes and its digits, with a word on what was written where they fail.
 //!   `Decimal` shows a number.
-//! - `DONE`, `FAULTY`, `USAGE`, `NO_MEMORY` and `IO_FAILED` are the exit statuses. `tell` says on standard error what is
-//!   wrong; `no_memory` and `write_failed` do so and answer the status.
+//! - `DONE`, `FAULTY`, `USAGE`, `NO_MEMORY` and `IO_FAILED` are the exit statuses. `done` ends what has written its text.
+//!   `tell` says on standard error what is wrong; `no_memory` and `write_failed` do so and answer the status.
 #![tactic(auto)]
 
 mod decimal;
@@ -19,5 +19,5 @@ pub use decimal::Decimal;
 pub use hexadecimal::bytes_of_hex;
 pub use reading::{ReadFault, read_all};
 pub use status::{DONE, FAULTY, IO_FAILED, NO_MEMORY, USAGE};
-pub use telling::{no_memory, tell, write_failed};
+pub use telling::{done, no_memory, tell, write_failed};
 pub use writing::{WriteFault, write_hex, write_whole};

@@ -1,13 +1,25 @@
-//! What standard error is told of a fault.
-ghost use Rattle.std.specs.Prelude.{◌≡◌};
+//! How a command ends: what standard error is told, and the exit status.
+ghost use Rattle.std.specs.Prelude.{◌≡◌, ◌⊎◌};
+ghost use Rattle.std.specs.Io.KnownBytes.{Keeps};
 
-use crate::status::{IO_FAILED, NO_MEMORY};
+use crate::status::{DONE, IO_FAILED, NO_MEMORY};
 use std::fmt::Display;
 use std::io::Write;
 
 /// Writes a line on standard error. Where that can't be written there is nobody to tell.
 pub fn tell<F: Display, X: Write>(fault: &F, err: &mut X) {
     let _ = writeln!(err, "msthost: {fault}");
+}
+
+/// Ends what has written all of its text: that reaches the writer's end, or it is told that it didn't; and answers the status.
+pub fn done<W: Write, X: Write>(out: &mut W, err: &mut X) -> u8
+    ensures status { (result ≡ DONE) ⊎ (result ≡ IO_FAILED) }
+    ensures kept { Keeps (W.contents out.old) (W.contents out.new) }
+{
+    match out.flush() {
+        Ok(()) => DONE,
+        Err(_) => write_failed(err),
+    }
 }
 
 /// Tells that memory is refused, and answers the status.

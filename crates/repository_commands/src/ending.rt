@@ -5,7 +5,7 @@ ghost use Rattle.repository_commands.specs.Outcomes.{IsMade, IsOutcome, IsStatus
 
 use crate::fault::CommandFault;
 use cid::Digest;
-use console::{DONE, tell, write_failed, write_whole};
+use console::{done, tell, write_whole};
 use std::alloc::Allocator;
 use std::io::Write;
 
@@ -43,10 +43,7 @@ pub(crate) fn status_of<D: Digest, A: Allocator, W: Write, X: Write>(
         → IsStatusOf text input old (W.contents out.new) result }
 {
     match ended {
-        Ok(()) => match out.flush() {
-            Ok(()) => DONE,
-            Err(_) => write_failed(err),
-        },
+        Ok(()) => done(out, err),
         Err(fault) => {
             tell(&fault, err);
             fault.status()

@@ -105,14 +105,14 @@ module _ (D : Type 0) (digest : List ℕ → List ℕ) (s : Settings) (did : Lis
   unwritten errors.ReadFailed e = absurd (omega arith)
   unwritten errors.WriteFailed e = absurd (omega arith)
 
-  flushed : (input a b c : Option (List ℕ)) (status : ℕ) → IfSome input (Reports D digest s did a b) → ((status ≡ 0) × Keeps b c) ⊎ (status ≡ 4) → IsStatusOf D digest s did input a c status
-  flushed input a b c status h (inl p) = record {
+  flushed : (input a b c : Option (List ℕ)) (status : ℕ) → IfSome input (Reports D digest s did a b) → (status ≡ 0) ⊎ (status ≡ 4) → Keeps b c → IsStatusOf D digest s did input a c status
+  flushed input a b c status h (inl p) k = record {
     one_of = omega arith;
-    done = λ e. reports-kept input a b c p.1 h;
-    nothing = λ e. absurd (omega (arith, p.0));
-    usage = λ e. omega (arith, p.0);
+    done = λ e. reports-kept input a b c k h;
+    nothing = λ e. absurd (omega (arith, p));
+    usage = λ e. omega (arith, p);
   }
-  flushed input a b c status h (inr p) = record {
+  flushed input a b c status h (inr p) k = record {
     one_of = omega arith;
     done = λ e. absurd (omega arith);
     nothing = λ e. absurd (omega arith);
@@ -120,7 +120,7 @@ module _ (D : Type 0) (digest : List ℕ → List ℕ) (s : Settings) (did : Lis
   }
 
   status-after : (input a b c : Option (List ℕ)) (ended : Result (Unit {0}) RunFault) (status : ℕ) → IsOutcome D digest s did input a b ended → IsStatusAfter ended b c status → IsStatusOf D digest s did input a c status
-  status-after input a b c (Ok ok) status o h = flushed input a b c status o.written h
+  status-after input a b c (Ok ok) status o h = flushed input a b c status o.written h.0 h.1
   status-after input a b c (Err f) status o h = record {
     one_of = let m = most f in omega (arith, h.0);
     done = λ e. absurd (not_done f (sym h.0 ∙ e));

@@ -59,5 +59,5 @@ pub record IsStatusOf (D : Type 0) (digest : List ℕ → List ℕ) (s : Setting
 
 -- the status that a run which ended so has, once what was written reached the writer's end
 abbrev pub IsStatusAfter : Result (Unit {0}) RunFault → Option (List ℕ) → Option (List ℕ) → ℕ → Type 0
-IsStatusAfter (Ok ok) old new status = ((status ≡ 0) × Keeps old new) ⊎ (status ≡ 4)
+IsStatusAfter (Ok ok) old new status = ((status ≡ 0) ⊎ (status ≡ 4)) × Keeps old new
 IsStatusAfter (Err fault) old new status = (status ≡ status_of fault) × (new ≡ old)

@@ -5,7 +5,7 @@ ghost use Rattle.run_command.specs.declared.fault.RunFault.TheVariants as errors
 
 use console::{Decimal, FAULTY, IO_FAILED, NO_MEMORY, ReadFault, WriteFault};
 use script_text::ScriptFault;
-use std::alloc::{AllocError, AllocFailed};
+use std::alloc::AllocError;
 use thiserror::Error;
 
 /// Why there is no report, or not all of it. Standard error shows these names, which are this repository's own.
@@ -49,14 +49,6 @@ impl From<AllocError> for RunFault {
     ghost from_gives = { λ _ e. e ≡ errors.NoMemory };
 
     fn from(_refused: AllocError) -> RunFault {
-        RunFault::NoMemory
-    }
-}
-
-impl<T: Drop> From<AllocFailed<T>> for RunFault {
-    ghost from_gives = { λ _ e. e ≡ errors.NoMemory };
-
-    fn from(_refused: AllocFailed<T>) -> RunFault {
         RunFault::NoMemory
     }
 }

@@ -5,7 +5,7 @@ use crate::fault::RunFault;
 use crate::text::run_text;
 use crate::words::RunCommand;
 use cid::Digest;
-use console::{DONE, tell, write_failed};
+use console::{done, tell};
 use std::alloc::Global;
 use std::io::{Read, Write};
 use std::sync::Wait;
@@ -37,10 +37,7 @@ fn status_of<W: Write, X: Write>(ended: Result<(), RunFault>, out: &mut W, err: 
     ensures { IsStatusAfter ended (W.contents out.old) (W.contents out.new) result }
 {
     match ended {
-        Ok(()) => match out.flush() {
-            Ok(()) => DONE,
-            Err(_) => write_failed(err),
-        },
+        Ok(()) => done(out, err),
         Err(fault) => {
             tell(&fault, err);
             fault.status()

@@ -4,7 +4,7 @@ ghost use Rattle.commands.specs.declared.tree.fault.TreeFault.TheVariants as err
 ghost use Rattle.commands.specs.Fault.{of_read, of_write};
 
 use console::{Decimal, ReadFault, WriteFault};
-use std::alloc::{AllocError, AllocFailed};
+use std::alloc::AllocError;
 use thiserror::Error;
 
 /// What is wrong with a line `KEY CID`. Standard error shows these names, which are this repository's own.
@@ -51,14 +51,6 @@ impl From<AllocError> for TreeFault {
     ghost from_gives = { λ _ e. e ≡ errors.NoMemory };
 
     fn from(_refused: AllocError) -> TreeFault {
-        TreeFault::NoMemory
-    }
-}
-
-impl<T: Drop> From<AllocFailed<T>> for TreeFault {
-    ghost from_gives = { λ _ e. e ≡ errors.NoMemory };
-
-    fn from(_refused: AllocFailed<T>) -> TreeFault {
         TreeFault::NoMemory
     }
 }

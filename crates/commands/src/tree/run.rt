@@ -21,6 +21,8 @@ pub(crate) fn run<D: Digest, R: Read, W: Write, X: Write>(
     err: &mut X,
 ) -> u8
     ensures status { result ≤ 4 }
+    ensures done { result ≡ 0 → IfSome (R.remaining input.old) (λ xs.
+        AppendsText (W.contents out.old) (W.contents out.new) (tree_text D.digest_of bits.number xs)) }
     ensures nothing { (result ≡ 1) ⊎ (result ≡ 2)
         → Keeps (W.contents out.old) (W.contents out.new) }
 {
@@ -49,6 +51,7 @@ fn write_listing<D: Digest, R: Read, W: Write>(
 /// Tells a fault, and answers its status.
 fn failed<X: Write>(fault: TreeFault, err: &mut X) -> u8
     ensures status { result ≡ status_of fault }
+    ensures faulty { 1 ≤ result }
     ensures nothing { (result ≡ 1) ⊎ (result ≡ 2) → may_have_written fault ≡ false }
 {
     tell(&fault, err);

@@ -1,0 +1,143 @@
+//! Command lines that are refused, help, the version, and programs that are not started.
+use crate::running::{EMPTY, run};
+use bstr::ByteSlice;
+use commands::not_started;
+use std::io::{self, ErrorKind};
+
+/// Wrong command lines.
+const WRONG: &[&[&str]] = &[
+    &[],
+    &["msthost"],
+    &["msthost", "trees"],
+    &["msthost", "tree", "file"],
+    &["msthost", "tree", "--bits"],
+    &["msthost", "tree", "--bits", "0"],
+    &["msthost", "tree", "--bits", "9"],
+    &["msthost", "tree", "--bits", "two"],
+    &["msthost", "car", "x"],
+    &["msthost", "car", "--did"],
+    &["msthost", "prove"],
+    &["msthost", "prove", "a/b", "a/c"],
+    &["msthost", "prove", "a/b", "--did", "did:web:a.b"],
+    &["msthost", "verify", EMPTY],
+    &["msthost", "verify", EMPTY, "a/b", "a/c"],
+    &["msthost", "run", "x"],
+    &["msthost", "run", "--did"],
+    &["msthost", "run", "--rev", "2222222222222"],
+    &["msthost", "run", "--repos", "0"],
+    &["msthost", "run", "--repos", "1025"],
+    &["msthost", "run", "--workers", "0"],
+    &["msthost", "run", "--workers", "65"],
+    &["msthost", "run", "--queue", "0"],
+    &["msthost", "run", "--queue", "65537"],
+    &["msthost", "run", "--queue", "4294967297"],
+];
+
+#[test]
+fn wrong_command_lines(rt: HostRuntime) {
+    for words in WRONG {
+        let ended = run(&rt, rt.alloc(), words, b"a/b");
+        let told = ended.err.starts_with(b"error: ");
+        assert!(rt;
+            ended.status == 2 && told && ended.out.is_empty(),
+            "at {words:?}"
+        );
+    }
+}
+
+#[test]
+fn bits_out_of_range_are_named(rt: HostRuntime) {
+    let ended = run(&rt, rt.alloc(), &["msthost", "tree", "--bits", "9"], b"");
+    let told =
+        "error: invalid value '9' for '--bits <B>': 9 is not in 1..=8\n\nFor more information, try '--help'.\n";
+    assert!(rt; ended.is(2, b"", told));
+}
+
+/// Command lines that ask for help, and what it shows.
+const HELP: &[(&[&str], &str)] = &[
+    (&["msthost", "--help"], "$ printf '' | msthost tree"),
+    (&["msthost", "-h"], "$ printf '' | msthost tree"),
+    (&["msthost", "tree", "--help"], "--bits <B>"),
+    (
+        &["msthost", "tree", "--help"],
+        "Exit status: 0 done, 1 a faulty line",
+    ),
+    (
+        &["msthost", "tree", "--help"],
+        "$ printf '' | msthost tree\n  bafyreie5737gdxlw5i64vzichcalba3z2v5n6icifvx5xytvske7mr3hpm\n  bafyreie5737gdxlw5i64vzichcalba3z2v5n6icifvx5xytvske7mr3hpm a2616580616cf6\n",
+    ),
+    (
+        &["msthost", "car", "--help"],
+        "$ printf '' | msthost car | wc -c\n  103\n",
+    ),
+    (
+        &["msthost", "car", "--help"],
+        "[default: did:web:localhost]",
+    ),
+    (
+        &["msthost", "car", "--help"],
+        "Exit status: 0 done, 1 a faulty line, DID or revision",
+    ),
+    (
+        &["msthost", "prove", "--help"],
+        "$ printf '' | msthost prove a/b\n  bafyreie5737gdxlw5i64vzichcalba3z2v5n6icifvx5xytvske7mr3hpm\n  a2616580616cf6\n",
+    ),
+    (
+        &["msthost", "prove", "--help"],
+        "Exit status: 0 done, 1 a faulty line or key",
+    ),
+    (
+        &["msthost", "verify", "--help"],
+        "$ printf 'a2616580616cf6' | msthost verify $root a/b\n  absent\n",
+    ),
+    (
+        &["msthost", "verify", "--help"],
+        "Exit status: 0 done, 1 a faulty line, root or key, or blocks that show nothing",
+    ),
+    (
+        &["msthost", "run", "--help"],
+        "$ printf '0 0 get a/b\\n' | msthost run\n  1 none\n  repo 0 bafyreie5737gdxlw5i64vzichcalba3z2v5n6icifvx5xytvske7mr3hpm 0 none\n  block bafyreie5737gdxlw5i64vzichcalba3z2v5n6icifvx5xytvske7mr3hpm 1\n",
+    ),
+    (&["msthost", "run", "--help"], "[default: 1024]"),
+    (
+        &["msthost", "run", "--help"],
+        "Exit status: 0 done, 1 a faulty line or DID, or a host that doesn't close",
+    ),
+];
+
+#[test]
+fn help(rt: HostRuntime) {
+    for (words, shown) in HELP {
+        let ended = run(&rt, rt.alloc(), words, b"a/b");
+        let shows = ended.out.as_slice().contains_str(shown.as_bytes());
+        assert!(rt;
+            ended.status == 0 && shows && ended.err.is_empty(),
+            "at {words:?} for {shown}"
+        );
+    }
+}
+
+#[test]
+fn version(rt: HostRuntime) {
+    let ended = run(&rt, rt.alloc(), &["msthost", "--version"], b"a/b");
+    assert!(rt; ended.is(0, b"msthost 0.1.0\n", ""));
+}
+
+#[test]
+fn programs_that_are_not_started(rt: HostRuntime) {
+    for (kind, status, told) in [
+        (ErrorKind::OutOfMemory, 3, "msthost: no memory\n"),
+        (
+            ErrorKind::InvalidData,
+            2,
+            "error: the arguments are not UTF-8\n",
+        ),
+    ] {
+        let mut err = Vec::new(rt.alloc());
+        let answered = not_started(&io::Error::from(kind), &mut err);
+        assert!(rt;
+            answered == status && err.as_slice() == told.as_bytes(),
+            "at {kind:?}"
+        );
+    }
+}
