@@ -1,5 +1,5 @@
 use cid::{Block, Sha256};
-use std::alloc::Global;
+use std::alloc::{AllocError, Global};
 use std::sync::Arc;
 use store::{Hold, Shard, StoreFault};
 
@@ -9,24 +9,41 @@ pub fn measure(alloc: Global, count: u32, rounds: u32) -> Result<u64, StoreFault
     let mut shard = Shard::new(alloc, 1_048_576);
     let mut acquired = 0u64;
     for _ in 0..rounds {
-        let mut holds = Vec::new(alloc);
-        let outcome = acquire_all(&mut shard, &blocks, &mut holds);
-        acquired = acquired.saturating_add(holds.len() as u64);
-        release_all(&mut shard, holds);
-        outcome?;
+        acquired = acquired.saturating_add(round(alloc, &mut shard, &blocks)?);
     }
     Ok(acquired)
 }
 
 /// Blocks of 128 bytes, no two alike.
-fn blocks(alloc: Global, count: u32) -> Result<Vec<Arc<Block<Sha256>>>, StoreFault<Sha256>> {
+fn blocks(alloc: Global, count: u32) -> Result<Vec<Arc<Block<Sha256>>>, AllocError> {
     let mut blocks = Vec::new(alloc);
     for number in 0..count {
-        let mut bytes = [0; 128];
-        bytes[..4].copy_from_slice(&number.to_le_bytes());
-        blocks.push(Arc::new(alloc, Block::of(Vec::from_slice(alloc, &bytes)?))?)?;
+        blocks.push(block(alloc, number)?)?;
     }
     Ok(blocks)
+}
+
+/// The block with this number.
+fn block(alloc: Global, number: u32) -> Result<Arc<Block<Sha256>>, AllocError> {
+    let mut bytes = [0; 128];
+    bytes[..4].copy_from_slice(&number.to_le_bytes());
+    let bytes = Vec::from_slice(alloc, &bytes)?;
+    let block = Arc::new(alloc, Block::of(bytes))?;
+    Ok(block)
+}
+
+/// Acquires all blocks, releases them, and counts the holds.
+fn round(
+    alloc: Global,
+    shard: &mut Shard<Sha256>,
+    blocks: &[Arc<Block<Sha256>>],
+) -> Result<u64, StoreFault<Sha256>> {
+    let mut holds = Vec::new(alloc);
+    let outcome = acquire_all(shard, blocks, &mut holds);
+    let acquired = holds.len() as u64;
+    release_all(shard, holds);
+    outcome?;
+    Ok(acquired)
 }
 
 fn acquire_all(

@@ -1,15 +1,15 @@
 //! The CAR of a repository, and proofs of its keys.
 
+use crate::watch::Watch;
 use cid::{Block, Cid, Sha256};
 use export::{ToMemory, car, prove, verify};
 use repo::Core;
 use std::alloc::{AllocError, Global};
-use std::io;
 use std::sync::Arc;
-use std::time::{Clock, Instant};
+use std::time::Clock;
 
 /// What was measured of a repository's exports, in nanoseconds of the quickest round.
-#[derive(Drop)]
+#[derive(Clone, Copy, Drop)]
 pub struct Exported {
     /// How many bytes its CAR has.
     pub bytes: u64,
@@ -29,23 +29,14 @@ pub struct Proofs {
 }
 
 impl Proofs {
-    fn of(nodes: u64, prove: u128, verify: u128, hash: u128) -> Proofs {
+    /// No keys, and this in place of each time.
+    fn none(nanos: u128) -> Proofs {
         Proofs {
-            keys: 1,
-            nodes,
-            prove,
-            verify,
-            hash,
-        }
-    }
-
-    fn and(&self, other: Proofs) -> Proofs {
-        Proofs {
-            keys: self.keys.saturating_add(other.keys),
-            nodes: self.nodes.saturating_add(other.nodes),
-            prove: self.prove.saturating_add(other.prove),
-            verify: self.verify.saturating_add(other.verify),
-            hash: self.hash.saturating_add(other.hash),
+            keys: 0,
+            nodes: 0,
+            prove: nanos,
+            verify: nanos,
+            hash: nanos,
         }
     }
 
@@ -58,6 +49,48 @@ impl Proofs {
             hash: self.hash.min(other.hash),
         }
     }
+
+    /// Makes the proof of one key, and answers whether it shows the key's value.
+    fn add<R: Clock>(
+        &mut self,
+        rt: &R,
+        alloc: Global,
+        core: &Core<Sha256, 2>,
+        key: &[u8],
+        value: Cid,
+    ) -> bool {
+        let watch = Watch::start(rt);
+        let made = prove(alloc, core, key);
+        self.prove = self.prove.saturating_add(watch.nanos(rt));
+        match made {
+            Ok(nodes) => self.check(rt, alloc, core.root(), &nodes, key, value),
+            Err(_) => false,
+        }
+    }
+
+    /// Verifies a proof of one key, and answers whether it shows this value.
+    fn check<R: Clock>(
+        &mut self,
+        rt: &R,
+        alloc: Global,
+        root: Cid,
+        nodes: &[Arc<Block<Sha256>>],
+        key: &[u8],
+        value: Cid,
+    ) -> bool {
+        let Ok(blocks) = bytes_of(alloc, nodes) else {
+            return false;
+        };
+        let watch = Watch::start(rt);
+        let answer = verify::<Sha256, 2, &[u8]>(&root, &blocks, key);
+        self.verify = self.verify.saturating_add(watch.nanos(rt));
+        let watch = Watch::start(rt);
+        let are_hashed = are_hashed(nodes);
+        self.hash = self.hash.saturating_add(watch.nanos(rt));
+        self.keys = self.keys.saturating_add(1);
+        self.nodes = self.nodes.saturating_add(nodes.len() as u64);
+        answer == Ok(Some(value)) && are_hashed
+    }
 }
 
 /// Writes a repository's CAR to memory, and proves and verifies the keys at these places, so many times. `None` where memory
@@ -69,37 +102,32 @@ pub fn measure<R: Clock>(
     pairs: &[(Vec<u8>, Cid)],
     places: &[usize],
     rounds: u32,
-) -> io::Result<Option<Exported>> {
+) -> Option<Exported> {
     let mut exported = Exported {
         bytes: 0,
         car: u128::MAX,
-        proofs: Proofs::of(0, u128::MAX, u128::MAX, u128::MAX),
+        proofs: Proofs::none(u128::MAX),
     };
     for _ in 0..rounds {
-        let Some((bytes, nanos)) = written(rt, alloc, core)? else {
-            return Ok(None);
-        };
-        let Some(proofs) = proofs_of(rt, alloc, core, pairs, places)? else {
-            return Ok(None);
-        };
+        let (bytes, nanos) = written(rt, alloc, core)?;
+        let proofs = proofs_of(rt, alloc, core, pairs, places)?;
         exported.bytes = bytes;
         exported.car = exported.car.min(nanos);
         exported.proofs = exported.proofs.quickest(proofs);
     }
-    Ok(Some(exported))
+    Some(exported)
 }
 
 /// How many bytes the CAR has, and how long it took to write it to memory.
-fn written<R: Clock>(
-    rt: &R,
-    alloc: Global,
-    core: &Core<Sha256, 2>,
-) -> io::Result<Option<(u64, u128)>> {
+fn written<R: Clock>(rt: &R, alloc: Global, core: &Core<Sha256, 2>) -> Option<(u64, u128)> {
     let mut out = ToMemory::new(alloc);
-    let start = Instant::now(rt)?;
+    let watch = Watch::start(rt);
     let answer = car(alloc, core, &mut out);
-    let nanos = start.elapsed(rt)?.as_nanos();
-    Ok(answer.ok().map(|bytes| (bytes, nanos)))
+    let nanos = watch.nanos(rt);
+    match answer {
+        Ok(bytes) => Some((bytes, nanos)),
+        Err(_) => None,
+    }
 }
 
 /// The proofs of the keys at these places, one after the other.
@@ -109,46 +137,15 @@ fn proofs_of<R: Clock>(
     core: &Core<Sha256, 2>,
     pairs: &[(Vec<u8>, Cid)],
     places: &[usize],
-) -> io::Result<Option<Proofs>> {
-    let mut all = Proofs {
-        keys: 0,
-        nodes: 0,
-        prove: 0,
-        verify: 0,
-        hash: 0,
-    };
+) -> Option<Proofs> {
+    let mut proofs = Proofs::none(0);
     for place in places {
-        if let Some((key, value)) = pairs.get(*place) {
-            let Some(one) = proof_of(rt, alloc, core, key, value)? else {
-                return Ok(None);
-            };
-            all = all.and(one);
+        let (key, value) = pairs.get(*place)?;
+        if !proofs.add(rt, alloc, core, key, *value) {
+            return None;
         }
     }
-    Ok(Some(all))
-}
-
-/// The proof of one key, made and verified.
-fn proof_of<R: Clock>(
-    rt: &R,
-    alloc: Global,
-    core: &Core<Sha256, 2>,
-    key: &[u8],
-    value: &Cid,
-) -> io::Result<Option<Proofs>> {
-    let root = core.root();
-    let start = Instant::now(rt)?;
-    let nodes = prove(alloc, core, key)?;
-    let proved = start.elapsed(rt)?.as_nanos();
-    let blocks = bytes_of(alloc, &nodes)?;
-    let start = Instant::now(rt)?;
-    let answer = verify::<Sha256, 2, &[u8]>(&root, &blocks, key);
-    let verified = start.elapsed(rt)?.as_nanos();
-    let start = Instant::now(rt)?;
-    let are_hashed = are_hashed(&nodes);
-    let hashed = start.elapsed(rt)?.as_nanos();
-    let is_right = answer == Ok(Some(*value)) && are_hashed;
-    Ok(is_right.then_some(Proofs::of(nodes.len() as u64, proved, verified, hashed)))
+    Some(proofs)
 }
 
 /// The bytes of these nodes.

@@ -5,35 +5,44 @@ mod blocks;
 mod command;
 mod edits;
 mod exports;
+mod hosts;
 mod lookups;
 mod made;
+mod plans;
 mod queues;
 mod records;
 mod repositories;
 mod trees;
+mod versions;
+mod watch;
+mod writers;
 
 use crate::command::Command;
-use crate::edits::{Change, Done, Tree};
-use crate::repositories::{Plan, Took};
-use edit::BlockMap;
-use std::alloc::Global;
+use crate::edits::Turn;
+use crate::exports::Exported;
+use crate::plans::Plan;
+use crate::repositories::{Measured, Took};
+use crate::versions::Reading;
+use crate::watch::Watch;
+use crate::writers::Load;
+use std::alloc::{AllocError, Global};
 use std::rt::Files;
 use std::sync::Wait;
 use std::thread::Threads;
-use std::time::{Clock, Instant};
+use std::time::Clock;
 use std::{env, io};
 
 const USAGE: &str = "\
 usage: bench store COUNT ROUNDS
-         makes COUNT blocks, at most 1,048,576, and then ROUNDS times acquires and releases all of them in one shard
+         makes COUNT blocks, at most 1,000,000, and then ROUNDS times acquires and releases all of them in one shard
        bench read ROUNDS
          reads each of three records of about 300 bytes ROUNDS times
        bench build ROUNDS < LISTING
          reads lines of key and CID, sorts them, and builds their tree ROUNDS times
        bench get COUNT ROUNDS
-         makes a tree of COUNT keys, at most 1,048,576, and looks 10,000 of them up ROUNDS times
+         makes a tree of COUNT keys, at most 1,000,000, and looks 10,000 of them up ROUNDS times
        bench edit COUNT ROUNDS
-         makes a tree of COUNT keys, at most 1,048,576, puts a quarter as many more, at most 10,000, deletes these again
+         makes a tree of COUNT keys, at most 1,000,000, puts a quarter as many more, at most 10,000, deletes these again
          and then as many of the first, ROUNDS times
        bench notices COUNT SENDERS ROUNDS
          sends COUNT notices from SENDERS threads, 1 to 64, through a queue of 1,024 to one taker, ROUNDS times
@@ -45,46 +54,60 @@ usage: bench store COUNT ROUNDS
          again, one a batch, ROUNDS times, in turns with edits of its tree alone
        bench export COUNT ROUNDS
          makes a repository of COUNT keys, at most 1,000,000, with records of 288 bytes, writes its CAR to memory, and proves
-         10,000 of its keys and verifies the proofs, ROUNDS times";
+         10,000 of its keys and verifies the proofs, ROUNDS times
+       bench hosts REPOS WRITERS BATCHES SIZE
+         opens a host of REPOS repositories, 1 to 1,024, and WRITERS writers, 1 to 64, each in a thread of its own, which
+         put BATCHES batches, at most 1,000,000, of SIZE records of 288 bytes each: one batch after the other goes to the
+         next writer and to the next repository; then closes the host
+       bench versions READERS READINGS BATCHES
+         opens a host of one repository, puts half of BATCHES records, at most 1,000,000, and has READERS threads, 1 to 64,
+         read a version READINGS times each, while nobody writes, and then while the other half is put";
 
 fn main(rt: HostRuntime) -> io::Result<()> {
-    let words: Vec<String> = env::args(&rt)?.skip(1).collect(rt.alloc())?;
-    match Command::from_words(&words) {
-        Some(Command::Store { count, rounds }) => store(&rt, count, rounds),
-        Some(Command::Read { rounds }) => read(&rt, rounds),
-        Some(Command::Build { rounds }) => build(&rt, rounds),
-        Some(Command::Get { count, rounds }) => get(&rt, count, rounds),
-        Some(Command::Edit { count, rounds }) => edit(&rt, count, rounds),
+    let alloc = rt.alloc();
+    match command_of(&rt)? {
+        Some(Command::Store { count, rounds }) => print_store(&rt, count, rounds),
+        Some(Command::Read { rounds }) => print_read(&rt, rounds),
+        Some(Command::Build { rounds }) => print_build(&rt, rounds),
+        Some(Command::Get { count, rounds }) => print_get(&rt, count, rounds),
+        Some(Command::Edit { count, rounds }) => print_edit(&rt, count, rounds),
         Some(
             Command::Notices {
                 count,
                 senders,
                 rounds,
             },
-        ) => notices(&rt, rt.alloc(), count, senders, rounds),
+        ) => print_notices(&rt, alloc, count, senders, rounds),
         Some(
             Command::Apply {
                 count,
                 batch,
                 rounds,
             },
-        ) => {
-            let plan = Plan::usual(rt.alloc(), count)?;
-            apply(&rt, rt.alloc(), &plan, batch as usize, rounds)
-        }
+        ) => print_apply(
+            &rt,
+            alloc,
+            Plan::usual(alloc, count),
+            batch as usize,
+            rounds,
+        ),
         Some(Command::ApplyFlat { count, rounds }) => {
-            let plan = Plan::flat(rt.alloc(), count)?;
-            apply(&rt, rt.alloc(), &plan, 1, rounds)
+            print_apply(&rt, alloc, Plan::flat(alloc, count), 1, rounds)
         }
-        Some(Command::Export { count, rounds }) => {
-            let plan = Plan::usual(rt.alloc(), count)?;
-            export(&rt, rt.alloc(), &plan, rounds)
-        }
+        Some(Command::Export { count, rounds }) => print_export(&rt, alloc, count, rounds),
+        Some(Command::Hosts(load)) => print_hosts(&rt, alloc, load),
+        Some(Command::Versions(reading)) => print_versions(&rt, alloc, reading),
         None => println!(rt; "{USAGE}"),
     }
 }
 
-fn store(rt: &HostRuntime, count: u32, rounds: u32) -> io::Result<()> {
+/// The command that the program's words are.
+fn command_of(rt: &HostRuntime) -> io::Result<Option<Command>> {
+    let words: Vec<String> = env::args(rt)?.skip(1).collect(rt.alloc())?;
+    Ok(Command::from_words(&words))
+}
+
+fn print_store(rt: &HostRuntime, count: u32, rounds: u32) -> io::Result<()> {
     match blocks::measure(rt.alloc(), count, rounds) {
         Ok(held) => println!(rt; "{held} acquired and released"),
         Err(fault) => println!(rt; "refused: {fault}"),
@@ -92,28 +115,34 @@ fn store(rt: &HostRuntime, count: u32, rounds: u32) -> io::Result<()> {
 }
 
 /// Prints for each record how many millions of bytes a second were read.
-fn read(rt: &HostRuntime, rounds: u32) -> io::Result<()> {
+fn print_read(rt: &HostRuntime, rounds: u32) -> io::Result<()> {
     for record in &records::RECORDS {
         let bytes = hex::decode(rt.alloc(), record.text).unwrap_or(Vec::new(rt.alloc()));
-        let start = Instant::now(rt)?;
+        let watch = Watch::start(rt);
         let found = records::measure(rt.alloc(), &bytes, rounds);
-        let micros = start.elapsed(rt)?.as_micros();
+        let micros = watch.nanos(rt) / 1000;
         let read = u128::from(found) * bytes.len() as u128;
-        let (name, length) = (record.name, bytes.len());
-        println!(rt; "{name}: {length} bytes, {} MB/s", read / micros.max(1))?;
+        println!(rt;
+            "{}: {} bytes, {} MB/s",
+            record.name,
+            bytes.len(),
+            read / micros.max(1)
+        )?;
     }
     Ok(())
 }
 
 /// Prints how long the tree of the listing on standard input took.
-fn build(rt: &HostRuntime, rounds: u32) -> io::Result<()> {
+fn print_build(rt: &HostRuntime, rounds: u32) -> io::Result<()> {
     let listing = io::read_to_string(rt.alloc(), rt.stdin())?;
     let pairs = trees::pairs(rt.alloc(), listing.as_bytes())?;
-    match trees::measure(rt, &pairs, rounds)? {
-        Some(built) => {
-            let (nodes, least) = (built.nodes, built.least);
-            println!(rt; "{} keys, {nodes} nodes, {least} microseconds", pairs.len())
-        }
+    match trees::measure(rt, rt.alloc(), &pairs, rounds) {
+        Some(built) => println!(rt;
+            "{} keys, {} nodes, {} microseconds",
+            pairs.len(),
+            built.nodes,
+            built.least / 1000
+        ),
         None => println!(rt; "the tree can't be built"),
     }
 }
@@ -122,101 +151,50 @@ fn build(rt: &HostRuntime, rounds: u32) -> io::Result<()> {
 const ASKED: usize = 10_000;
 
 /// Prints how long a look-up took, at the least, over all nodes of a tree in memory.
-fn get(rt: &HostRuntime, count: u32, rounds: u32) -> io::Result<()> {
+fn print_get(rt: &HostRuntime, count: u32, rounds: u32) -> io::Result<()> {
     let pairs = made::pairs(rt.alloc(), count)?;
-    let places = made::some(rt.alloc(), &pairs, ASKED)?;
+    let places = made::some(rt.alloc(), pairs.len(), ASKED)?;
     let blocks = trees::nodes(rt.alloc(), &pairs).unwrap_or(Vec::new(rt.alloc()));
-    let Some(top) = blocks.first() else {
+    let Some(found) = lookups::measure(rt, rt.alloc(), &blocks, &pairs, &places, rounds) else {
         return println!(rt; "refused");
     };
-    let root = top.cid();
-    let mut map = BlockMap::new(rt.alloc(), &blocks)?;
-    let mut least = u128::MAX;
-    let mut found = 0;
-    for _ in 0..rounds {
-        let start = Instant::now(rt)?;
-        found = lookups::found(&mut map, root, &pairs, &places);
-        least = least.min(start.elapsed(rt)?.as_nanos());
-    }
     println!(rt;
-        "{} keys, {} nodes, {found} of {} found, {} reads in all, {} ns a look-up at the least",
+        "{} keys, {} nodes, {} of {} found, {} reads in all, {} ns a look-up at the least",
         pairs.len(),
         blocks.len(),
+        found.found,
         places.len(),
-        map.reads(),
-        least / (places.len() as u128).max(1)
+        found.reads,
+        found.least / (places.len() as u128).max(1)
     )
 }
 
-/// What the edits of one kind did in one round, and the nanoseconds of their quickest round.
-#[derive(Drop)]
-struct Turn {
-    done: Done,
-    least: u128,
-}
-
-impl Turn {
-    fn none() -> Turn {
-        Turn {
-            done: Done::nothing(),
-            least: u128::MAX,
-        }
-    }
-
-    fn took(&mut self, nanos: u128, done: Done) {
-        self.least = self.least.min(nanos);
-        self.done = done;
-    }
-
-    fn print(&self, rt: &HostRuntime, name: &str) -> io::Result<()> {
-        let done = &self.done;
-        println!(rt;
-            "{name}: {} edits, {} blocks read, {} added, {} dropped, {} ns an edit at the least",
-            done.edits,
-            done.reads,
-            done.added,
-            done.dropped,
-            self.least / u128::from(done.edits).max(1)
-        )
-    }
-}
-
 /// Prints how long a put, its delete and a delete of a first key took, at the least.
-fn edit(rt: &HostRuntime, count: u32, rounds: u32) -> io::Result<()> {
-    let alloc = rt.alloc();
-    let more = (count / 4).min(10_000);
-    let pairs = made::pairs(alloc, count.saturating_add(more))?;
-    let places = made::some(alloc, &pairs, 2 * more as usize)?;
-    let (new, first) = places.split_at(places.len() / 2);
-    let blocks = trees::nodes(alloc, &made::without(alloc, &pairs, new)?).unwrap_or(Vec::new(
-        alloc,
-    ));
-    let Some(top) = blocks.first() else {
+fn print_edit(rt: &HostRuntime, count: u32, rounds: u32) -> io::Result<()> {
+    let plan = Plan::usual(rt.alloc(), count)?;
+    let Some(edits) = edits::measure(rt, rt.alloc(), &plan, rounds) else {
         return println!(rt; "refused");
     };
-    let (mut puts, mut undone, mut deletes) = (Turn::none(), Turn::none(), Turn::none());
-    for _ in 0..rounds {
-        let mut tree = Tree::new(alloc, top.cid(), &blocks)?;
-        let start = Instant::now(rt)?;
-        let done = tree.change_all(alloc, Change::Put, &pairs, new)?;
-        puts.took(start.elapsed(rt)?.as_nanos(), done);
-        let start = Instant::now(rt)?;
-        let done = tree.change_all(alloc, Change::Delete, &pairs, new)?;
-        undone.took(start.elapsed(rt)?.as_nanos(), done);
-        if tree.root != top.cid() {
-            return println!(rt; "another root");
-        }
-        let start = Instant::now(rt)?;
-        let done = tree.change_all(alloc, Change::Delete, &pairs, first)?;
-        deletes.took(start.elapsed(rt)?.as_nanos(), done);
-    }
-    puts.print(rt, "put")?;
-    undone.print(rt, "delete of what was put")?;
-    deletes.print(rt, "delete of a first key")
+    print_turn(rt, "put", &edits.puts)?;
+    print_turn(rt, "delete of what was put", &edits.undone)?;
+    print_turn(rt, "delete of a first key", &edits.deletes)
+}
+
+/// Prints what the edits of one kind did.
+fn print_turn(rt: &HostRuntime, name: &str, turn: &Turn) -> io::Result<()> {
+    let done = &turn.done;
+    println!(rt;
+        "{name}: {} edits, {} blocks read, {} added, {} dropped, {} ns an edit at the least",
+        done.edits,
+        done.reads,
+        done.added,
+        done.dropped,
+        turn.least / u128::from(done.edits).max(1)
+    )
 }
 
 /// Prints how long a notice took from its sender to the taker, at the least.
-fn notices<R: Threads + Wait + Sync + Clock + Print>(
+fn print_notices<R: Threads + Wait + Sync + Clock + Print>(
     rt: &R,
     alloc: Global,
     count: u32,
@@ -233,27 +211,39 @@ fn notices<R: Threads + Wait + Sync + Clock + Print>(
 }
 
 /// Prints what a write to a repository took at the least, beside an edit of its tree alone, and what memory a record takes.
-fn apply<R: Wait + Clock + Files + Print>(
+fn print_apply<R: Wait + Clock + Files + Print>(
     rt: &R,
     alloc: Global,
-    plan: &Plan,
+    plan: Result<Plan, AllocError>,
     batch: usize,
     rounds: u32,
 ) -> io::Result<()> {
-    let Some(measured) = repositories::measure(rt, alloc, plan, batch, rounds)? else {
-        return println!(rt; "refused");
-    };
-    let (keys, writes) = (plan.keys() as u128, plan.new.len() as u128);
+    let plan = plan?;
+    match repositories::measure(rt, alloc, &plan, batch, rounds) {
+        Some(measured) => {
+            let writes = plan.places.new.len() as u128;
+            print_applied(rt, plan.keys() as u128, writes, batch, &measured)
+        }
+        None => println!(rt; "refused"),
+    }
+}
+
+/// Prints what was measured of a repository with so many keys and so many writes.
+fn print_applied<R: Print>(
+    rt: &R,
+    keys: u128,
+    writes: u128,
+    batch: usize,
+    measured: &Measured,
+) -> io::Result<()> {
     println!(rt; "{keys} keys, {writes} writes, {batch} a batch")?;
-    took(rt, "put", &measured.puts, writes)?;
-    took(rt, "delete", &measured.deletes, writes)?;
+    print_took(rt, "put", &measured.puts, writes)?;
+    print_took(rt, "delete", &measured.deletes, writes)?;
     println!(rt;
         "{} nodes come with the puts one by one, {} with their batches at once",
         measured.added, measured.left
     )?;
-    if let Some(grown) = measured.grown
-        && plan.gone.is_empty()
-    {
+    if let Some(grown) = measured.grown {
         println!(rt;
             "{} bytes of memory a key and its record of 288 bytes",
             u128::from(grown) / keys.max(1)
@@ -266,7 +256,7 @@ fn apply<R: Wait + Clock + Files + Print>(
 }
 
 /// Prints the microseconds of a write, and the ratio in hundredths.
-fn took<R: Print>(rt: &R, name: &str, took: &Took, writes: u128) -> io::Result<()> {
+fn print_took<R: Print>(rt: &R, name: &str, took: &Took, writes: u128) -> io::Result<()> {
     let (applied, alone) = (took.applied / writes.max(1), took.alone / writes.max(1));
     let ratio = applied.saturating_mul(100) / alone.max(1);
     println!(rt;
@@ -281,18 +271,23 @@ fn took<R: Print>(rt: &R, name: &str, took: &Took, writes: u128) -> io::Result<(
 }
 
 /// Prints what the CAR of a repository took at the least, and the proof of one of its keys.
-fn export<R: Wait + Clock + Print>(
+fn print_export<R: Wait + Clock + Print>(
     rt: &R,
     alloc: Global,
-    plan: &Plan,
+    count: u32,
     rounds: u32,
 ) -> io::Result<()> {
-    let Some(exported) = repositories::export(rt, alloc, plan, rounds)? else {
-        return println!(rt; "refused");
-    };
+    let plan = Plan::usual(alloc, count)?;
+    match repositories::export(rt, alloc, &plan, rounds) {
+        Some(exported) => print_exported(rt, plan.keys(), &exported),
+        None => println!(rt; "refused"),
+    }
+}
+
+/// Prints what was measured of the exports of a repository with so many keys.
+fn print_exported<R: Print>(rt: &R, keys: usize, exported: &Exported) -> io::Result<()> {
     println!(rt;
-        "{} keys, a CAR of {} bytes, {} microseconds at the least",
-        plan.keys(),
+        "{keys} keys, a CAR of {} bytes, {} microseconds at the least",
         exported.bytes,
         exported.car / 1000
     )?;
@@ -306,4 +301,54 @@ fn export<R: Wait + Clock + Print>(
         proofs.verify / keys,
         proofs.hash / keys
     )
+}
+
+/// Prints how long the writers of a host took, and how long its close.
+fn print_hosts<R: Threads + Wait + Sync + Clock + Print>(
+    rt: &R,
+    alloc: Global,
+    load: Load,
+) -> io::Result<()> {
+    let Some(measured) = hosts::measure(rt, alloc, load) else {
+        return println!(rt; "refused");
+    };
+    println!(rt;
+        "{} repositories, {} writers: {} writes accepted by {} revisions in {} microseconds",
+        load.repos,
+        load.writers,
+        measured.accepted,
+        measured.revisions,
+        measured.puts / 1000
+    )?;
+    println!(rt;
+        "{} blocks, closed in {} microseconds, ended in {}",
+        measured.blocks,
+        measured.close / 1000,
+        measured.end / 1000
+    )
+}
+
+/// Prints how many readings of a version there were a second.
+fn print_versions<R: Threads + Wait + Sync + Clock + Print>(
+    rt: &R,
+    alloc: Global,
+    reading: Reading,
+) -> io::Result<()> {
+    let Some(measured) = versions::measure(rt, alloc, reading) else {
+        return println!(rt; "refused");
+    };
+    println!(rt;
+        "{} readers: {} readings a second while nobody writes, {} beside {} writes in {} microseconds",
+        reading.readers,
+        a_second(reading, measured.alone),
+        a_second(reading, measured.beside),
+        measured.accepted,
+        measured.beside / 1000
+    )
+}
+
+/// How many readings of all readers there were a second, where they took so many nanoseconds.
+fn a_second(reading: Reading, nanos: u128) -> u128 {
+    let readings = u128::from(reading.readers) * u128::from(reading.readings);
+    readings.saturating_mul(1_000_000_000) / nanos.max(1)
 }

@@ -1,13 +1,14 @@
 //! Notices through a queue, from many senders to one taker, each in a thread of its own.
 ghost use Rattle.std.specs.Prelude.{◌≡◌, ◌<◌, [], length, All};
 
+use crate::watch::Watch;
 use cid::{Cid, Sha256};
 use notices::{Feed, Notice, Queue, SendPass, Sender};
 use std::alloc::{AllocError, Global};
 use std::sync::Wait;
+use std::thread;
 use std::thread::Threads;
-use std::time::{Clock, Instant};
-use std::{io, thread};
+use std::time::Clock;
 
 /// How many notices the queue has room for.
 const ROOM: usize = 1024;
@@ -136,7 +137,7 @@ fn run<R: Threads + Wait + Sync>(
 }
 
 /// Notices that were sent and received some times.
-#[derive(Drop)]
+#[derive(Clone, Copy, Drop)]
 pub struct Told {
     pub received: u64,
     /// The sum of their `seq`.
@@ -152,7 +153,7 @@ pub fn measure<R: Threads + Wait + Sync + Clock>(
     count: u32,
     senders: u32,
     rounds: u32,
-) -> io::Result<Told> {
+) -> Result<Told, AllocError> {
     let each = u64::from(count / senders.max(1));
     let mut told = Told {
         received: 0,
@@ -160,12 +161,23 @@ pub fn measure<R: Threads + Wait + Sync + Clock>(
         least: u128::MAX,
     };
     for _ in 0..rounds {
-        let (queue, passes, feed) = Queue::open(alloc, senders, ROOM)?;
-        let start = Instant::now(rt)?;
-        let received = run(rt, alloc, &queue, passes, feed, each)?;
-        told.least = told.least.min(start.elapsed(rt)?.as_nanos());
+        let (received, nanos) = round(rt, alloc, senders, each)?;
+        told.least = told.least.min(nanos);
         told.received = received.notices;
         told.sum = received.sum;
     }
     Ok(told)
+}
+
+/// One round, in which each sender sends so many notices, and its nanoseconds.
+fn round<R: Threads + Wait + Sync + Clock>(
+    rt: &R,
+    alloc: Global,
+    senders: u32,
+    each: u64,
+) -> Result<(Received, u128), AllocError> {
+    let (queue, passes, feed) = Queue::open(alloc, senders, ROOM)?;
+    let watch = Watch::start(rt);
+    let received = run(rt, alloc, &queue, passes, feed, each)?;
+    Ok((received, watch.nanos(rt)))
 }

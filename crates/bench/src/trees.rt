@@ -1,26 +1,31 @@
 //! Trees from listings of keys and CIDs.
 
+use crate::watch::Watch;
 use bstr::ByteSlice;
 use cid::{Block, Cid, Sha256};
 use scratch::{build, is_ascending};
 use std::alloc::{AllocError, Global};
-use std::io;
 use std::sync::Arc;
-use std::time::Instant;
+use std::time::Clock;
 
 /// The pairs of the lines `KEY CID` of a listing, in the order of their keys; other lines are left out.
 pub fn pairs(alloc: Global, listing: &[u8]) -> Result<Vec<(Vec<u8>, Cid)>, AllocError> {
+    let mut pairs = unsorted(alloc, listing)?;
+    pairs.sort()?;
+    Ok(pairs)
+}
+
+fn unsorted(alloc: Global, listing: &[u8]) -> Result<Vec<(Vec<u8>, Cid)>, AllocError> {
     let mut pairs = Vec::new(alloc);
     for line in listing.lines() {
         if let Some((key, cid)) = pair(line) {
             pairs.push((Vec::from_slice(alloc, key)?, cid))?;
         }
     }
-    pairs.sort_by(|a, b| a.0.cmp(&b.0))?;
-    pairs.dedup_by(|later, kept| later.0 == kept.0);
     Ok(pairs)
 }
 
+/// The pair of a line.
 fn pair(line: &[u8]) -> Option<(&[u8], Cid)> {
     let space = line.rfind_byte(b' ')?;
     let cid = Cid::from_text(&line[space + 1..]).ok()?;
@@ -28,35 +33,36 @@ fn pair(line: &[u8]) -> Option<(&[u8], Cid)> {
 }
 
 /// A tree that was built some times.
-#[derive(Drop)]
+#[derive(Clone, Copy, Drop)]
 pub struct Built {
     pub nodes: usize,
-    /// Microseconds, of the quickest time.
+    /// Nanoseconds, of the quickest time.
     pub least: u128,
 }
 
 /// Builds the tree of these pairs so many times; `None` where they don't ascend, two nodes clash or memory is refused.
-pub fn measure(
-    rt: &HostRuntime,
+pub fn measure<R: Clock>(
+    rt: &R,
+    alloc: Global,
     pairs: &[(Vec<u8>, Cid)],
     rounds: u32,
-) -> io::Result<Option<Built>> {
+) -> Option<Built> {
     if !is_ascending(pairs) {
-        return Ok(None);
+        return None;
     }
     let mut measured = Built {
         nodes: 0,
         least: u128::MAX,
     };
     for _ in 0..rounds {
-        let start = Instant::now(rt)?;
-        let Ok(built) = build::<Sha256, 2, _, _>(rt.alloc(), pairs) else {
-            return Ok(None);
+        let watch = Watch::start(rt);
+        let Ok(built) = build::<Sha256, 2, _, _>(alloc, pairs) else {
+            return None;
         };
-        measured.least = measured.least.min(start.elapsed(rt)?.as_micros());
+        measured.least = measured.least.min(watch.nanos(rt));
         measured.nodes = built.blocks.len();
     }
-    Ok(Some(measured))
+    Some(measured)
 }
 
 /// The nodes of the tree of these pairs, or `None` where there is none or no memory for it.
@@ -64,5 +70,8 @@ pub fn nodes(alloc: Global, pairs: &[(Vec<u8>, Cid)]) -> Option<Vec<Arc<Block<Sh
     if !is_ascending(pairs) {
         return None;
     }
-    Some(build::<Sha256, 2, _, _>(alloc, pairs).ok()?.blocks)
+    match build::<Sha256, 2, _, _>(alloc, pairs) {
+        Ok(built) => Some(built.blocks),
+        Err(_) => None,
+    }
 }

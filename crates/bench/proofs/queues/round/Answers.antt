@@ -2,7 +2,7 @@ use Rattle.std.proofs.Common.{◌≡◌, [], sym, subst}
 use Rattle.std.specs.Prelude.{All}
 use Rattle.notices.specs.Views.{PassView}
 use Rattle.notices.proofs.Told.{fresh_all}
-use Rattle.bench.proofs.queues.measure.Goals as goal
+use Rattle.bench.proofs.queues.round.Goals as goal
 
 pub run-requires-clause-passes : goal.run-requires-clause-passes
 run-requires-clause-passes g c κs within =
