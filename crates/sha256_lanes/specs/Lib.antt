@@ -1,0 +1,3 @@
+pub mod Lanes
+pub mod Blocks
+pub mod Digests
