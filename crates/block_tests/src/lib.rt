@@ -1,4 +1,4 @@
-//! Tests of digests, identifiers, counted blocks with their shards, and the allocator for tests.
+//! Tests of digests, also side by side, of identifiers, counted blocks with their shards, and the allocator for tests.
 #![tactic(auto)]
 
 #[cfg(test)]
@@ -8,10 +8,14 @@ mod counted_blocks;
 #[cfg(test)]
 mod digests;
 #[cfg(test)]
+mod example;
+#[cfg(test)]
 mod fixtures;
 #[cfg(test)]
 mod identifiers;
 #[cfg(test)]
 mod shards;
+#[cfg(test)]
+mod side_by_side;
 #[cfg(test)]
 mod stores;
