@@ -2,12 +2,13 @@
 
 ghost use Rattle.std.specs.Prelude.{◌≡◌};
 
-use crate::hosts::limits;
+use crate::seated::{Alone, close_one, open_one};
 use cid::Cid;
 use cid::digests::Toy;
-use export::{ToMemory, car, verify};
-use host::{CarFault, Host, Opened, ProveFault, Writer};
+use export::{ExportFault, ToMemory, car, verify};
+use host::{CarFault, Host, ProveFault, Writer};
 use notices::Notice;
+use refusing::Refusing;
 use repo::Core;
 use repo_fixtures::batch::{ONE, Step, TWO, stamped};
 use std::alloc::Global;
@@ -102,30 +103,61 @@ fn none_is_there<R: Wait>(rt: &R, alloc: Global, host: &Host<Toy, 2>) -> bool {
         )
 }
 
+/// Whether the output of repository 1 took a beginning of the file where its own memory was refused for this request, or the
+/// file where it did without.
+fn is_beginning<R: Wait>(
+    rt: &R,
+    alloc: Global,
+    host: &Host<Toy, 2>,
+    file: &[u8],
+    number: u64,
+) -> Option<bool> {
+    let heap = Refusing::new(alloc);
+    heap.refuse(number);
+    let mut out = ToMemory::new(&heap);
+    match host.car(rt, alloc, 1, &mut out) {
+        Ok(_) if out.bytes() == file => Some(true),
+        Err(CarFault::Export(ExportFault::DeviceFault)) if file.starts_with(out.bytes()) => {
+            Some(false)
+        }
+        _ => None,
+    }
+}
+
+/// Whether the file comes at last, once each request of the output for memory was refused in turn.
+fn is_cut_where_memory_is_refused<R: Wait>(
+    rt: &R,
+    alloc: Global,
+    host: &Host<Toy, 2>,
+    file: &[u8],
+) -> bool {
+    for number in 1..50u64 {
+        match is_beginning(rt, alloc, host, file, number) {
+            Some(true) => return number > 1,
+            Some(false) => {}
+            None => return false,
+        }
+    }
+    false
+}
+
 /// Whether a repository of five nodes is exported as its core is once the host has closed, and proves its records.
 fn is_exported<R: Wait + Abort>(rt: &R, alloc: Global) -> bool {
-    let opened = Host::<Toy, 2>::open(rt, alloc, limits(2, 1, 9)).expect(rt, "a host");
-    let Opened {
-        host,
-        mut seats,
-        feed,
-    } = opened;
-    let seat = seats.pop().expect(rt, "a seat");
-    let mut all = Vec::with_capacity(alloc, 1).expect(rt, "room");
+    let opened = open_one::<2, R>(rt, alloc, 2, 9);
+    let Alone { host, seat, feed } = opened;
     let mut writer = host.writer(seat);
     let root = puts(rt, alloc, &mut writer).expect(rt, "a notice").root;
-    all.push_reserved(writer.end());
+    let ended = writer.end();
     let empty = car_of(rt, alloc, &host, 0).expect(rt, "a file");
     let file = car_of(rt, alloc, &host, 1).expect(rt, "a file");
     let is_proved = proves_all(rt, alloc, &host, &root) && none_is_there(rt, alloc, &host);
-    let are_cars = match host.close(all, feed) {
-        Ok(closed) => match closed.cores() {
-            [first, second] => is_car_of(alloc, first, &empty) && is_car_of(alloc, second, &file),
-            _ => false,
-        },
-        Err(_) => false,
+    let are_cut = is_cut_where_memory_is_refused(rt, alloc, &host, &file);
+    let closed = close_one(rt, alloc, host, ended, feed);
+    let are_cars = match closed.cores() {
+        [first, second] => is_car_of(alloc, first, &empty) && is_car_of(alloc, second, &file),
+        _ => false,
     };
-    is_proved && are_cars && empty.len() == 103 && file.len() == 868
+    is_proved && are_cut && are_cars && empty.len() == 103 && file.len() == 868
 }
 
 #[test]

@@ -14,6 +14,10 @@ mod queue_of_two;
 #[cfg(test)]
 mod refusals;
 #[cfg(test)]
+mod seated;
+#[cfg(test)]
 mod sharing;
+#[cfg(test)]
+mod two_writers;
 #[cfg(test)]
 mod versions;

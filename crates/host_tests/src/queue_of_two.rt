@@ -3,10 +3,11 @@
 ghost use Rattle.std.specs.Prelude.{◌≡◌, length, All, []};
 ghost use Rattle.closing.specs.Ending.{IsEndedAt};
 
-use crate::hosts::{Answer, apply_steps, finds, limits};
+use crate::hosts::{Answer, apply_steps, finds};
+use crate::seated::{Alone, close_one, open_one};
 use cid::digests::Toy;
 use closing::{Closed, Ended, Feed, Taker};
-use host::{Host, Opened, Writer};
+use host::Writer;
 use notices::Notice;
 use repo_fixtures::batch::{ONE, Step, TWO};
 use std::alloc::Global;
@@ -92,25 +93,15 @@ fn is_closed<R: Wait>(rt: &R, mut closed: Closed<Toy, 2>) -> bool {
 
 /// Whether all this is so from opening to close.
 fn is_right<R: Wait + Abort>(rt: &R, alloc: Global) -> bool {
-    let opened = Host::<Toy, 2>::open(rt, alloc, limits(1, 1, 2)).expect(rt, "a host");
-    let Opened {
-        host,
-        mut seats,
-        feed,
-    } = opened;
-    let seat = seats.pop().expect(rt, "a seat");
+    let opened = open_one::<2, R>(rt, alloc, 1, 2);
+    let Alone { host, seat, feed } = opened;
     let left = take_all(rt, alloc, host.writer(seat), host.taker(feed));
     let Left {
         ended,
         feed,
         is_right,
     } = left;
-    let mut all = Vec::with_capacity(alloc, 1).expect(rt, "room");
-    all.push_reserved(ended);
-    match host.close(all, feed) {
-        Ok(closed) => is_closed(rt, closed) && is_right,
-        Err(_) => false,
-    }
+    is_closed(rt, close_one(rt, alloc, host, ended, feed)) && is_right
 }
 
 #[test]

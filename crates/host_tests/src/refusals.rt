@@ -1,8 +1,9 @@
 //! Calls that are refused.
 
-use crate::hosts::{Answer, apply_steps, finds, limits};
+use crate::hosts::{Answer, apply_steps, finds};
+use crate::seated::{Alone, open_one};
 use cid::digests::Toy;
-use host::{Host, HostFault, Opened, Writer};
+use host::{HostFault, Writer};
 use repo_fixtures::batch::{EMPTY, Step};
 use std::alloc::Global;
 use std::process::Abort;
@@ -47,13 +48,12 @@ const ROWS: [(usize, &[Step<'static>], Answer); 6] = [
 
 /// Whether each row is answered so, and nothing that was refused is there.
 fn are_refused<R: Wait + Abort>(rt: &R, alloc: Global) -> bool {
-    let opened = Host::<Toy, 2>::open(rt, alloc, limits(1, 1, 9)).expect(rt, "a host");
-    let Opened {
+    let opened = open_one::<2, R>(rt, alloc, 1, 9);
+    let Alone {
         host,
-        mut seats,
+        seat,
         feed: _,
     } = opened;
-    let seat = seats.pop().expect(rt, "a seat");
     let mut writer = host.writer(seat);
     let mut turn = 0u16;
     for (repo, steps, wanted) in ROWS {

@@ -3,11 +3,12 @@
 ghost use Rattle.std.specs.Prelude.{◌≡◌, ◌≤◌};
 ghost use Rattle.closing.specs.Ending.{IsEndedAt};
 
-use crate::hosts::{Answer, apply_steps, limits};
+use crate::hosts::{Answer, apply_steps};
+use crate::seated::{Alone, close_one, open_one};
 use cid::Cid;
 use cid::digests::Toy;
 use closing::{Closed, Ended};
-use host::{Host, Opened, Writer};
+use host::Writer;
 use repo_fixtures::batch::{EMPTY, EMPTY_NODE, Step};
 use std::alloc::Global;
 use std::process::Abort;
@@ -57,20 +58,11 @@ fn closed_after<const B: u8, R: Wait + Abort>(
     requires least { 1 ≤ B }
     requires most { B ≤ 8 }
 {
-    let opened = Host::<Toy, B>::open(rt, alloc, limits(2, 1, 9)).expect(rt, "a host");
-    let Opened {
-        host,
-        mut seats,
-        feed,
-    } = opened;
-    let seat = seats.pop().expect(rt, "a seat");
+    let opened = open_one::<B, R>(rt, alloc, 2, 9);
+    let Alone { host, seat, feed } = opened;
     let (ended, are_accepted) = done(rt, alloc, host.writer(seat), rows);
-    let mut all = Vec::with_capacity(alloc, 1).expect(rt, "room");
-    all.push_reserved(ended);
-    match host.close(all, feed) {
-        Ok(closed) if are_accepted => Some(closed),
-        _ => None,
-    }
+    let closed = close_one(rt, alloc, host, ended, feed);
+    if are_accepted { Some(closed) } else { None }
 }
 
 /// Whether a host that closed has so many blocks, each with this count, and this count of the record.
