@@ -1,7 +1,7 @@
 //! Exports and proofs of a host's repositories.
 //!
 //! Each holds its repository's read lock until it has answered, and no other lock. So a slow output holds back the writers of
-//! its repository, and neither its readers nor those of another one.
+//! its repository, and those that come to read there after one of these, as they wait behind it; nobody in another one.
 
 ghost use Rattle.std.specs.Prelude.{◌≡◌, ◌≤◌, ◌<◌, IfOk, IfErr, IfNone, IfSome, Err};
 ghost use Rattle.export.specs.Outs.{HasCause};
@@ -84,7 +84,8 @@ impl<D: Digest, const B: u8> Host<D, B> {
     ///
     /// `CarFault::NoSuchRepository` says that there is no such repository, and nothing was written. `CarFault::Export` has the
     /// fault that `export::car` answered, and a beginning of the CAR was written. It waits for the repository's lock, shares
-    /// it with readers, and holds it until all is written.
+    /// it with readers, and holds it until all is written: an output that waits for a call on this repository may wait for
+    /// ever.
     pub fn car<W: Out, R: Wait>(
         &self,
         rt: &R,

@@ -17,9 +17,29 @@
 //!   repositories have each block, and what each repository is (the crate `closing`). One that isn't closed gives its blocks
 //!   back when it is dropped.
 //!
-//! A call takes the lock of its repository, and under it one shard's lock at a time. Writers of one repository wait for each
-//! other, and a long batch holds up those that read there; those of other repositories meet it in the shards alone, for the
-//! time of one block. A `car` into a slow output holds up the writers of its repository until all is written.
+//! # Who waits for whom
+//!
+//! A call takes the lock of its repository first, and under it that of one shard at a time. None takes those of two
+//! repositories.
+//!
+//! - Writers of one repository wait for each other, and a long batch holds back those that read there. Writers of different
+//!   repositories meet in the shards alone, each time for one block.
+//! - Those that read a repository share its lock. Whoever comes while a writer waits there waits behind it.
+//! - `car` shares the lock until all is written. So a slow output holds back the writers of its repository, and those that
+//!   come to read there after one of these; nobody elsewhere. An output that itself waits for a call on this repository may
+//!   wait for ever.
+//! - `version` takes no lock: it has no leave to wait, so that a host behind one lock couldn't offer it. `flush` and the taker
+//!   wait for nothing but the queue's own steps, and `close` for nothing.
+//!
+//! # What is proved
+//!
+//! Each answer is right for a lawful list of accepted writes of this repository, of no fewer writes than its writer has seen
+//! there. Once the host has closed, each repository is what its accepted writes leave, by the Merkle search tree built from
+//! scratch from their records, and each block's count is the number of repositories that have it.
+//!
+//! No proof says that a lock is got or that a thread runs, nor which lock a call took and what stood behind it. So each call
+//! passes over a repository of another number, of another limit, or of fewer writes than were seen. Nor does one say that the
+//! repositories and counts of a host that has closed are those that stood behind its locks. Tests show these.
 //!
 //! ```rust
 //! ghost use Rattle.closing.specs.Ending.{IsEndedAt};
