@@ -15,7 +15,7 @@ mod memory;
 #[cfg(test)]
 mod running;
 #[cfg(test)]
-mod scripts;
+mod runs;
 #[cfg(test)]
 mod streams;
 #[cfg(test)]
