@@ -1,4 +1,4 @@
-//! Tests of scripts: what lines are answered, threads that meet, random lines, and notices beside a taker.
+//! Tests of scripts: what lines are answered, threads that meet, random lines, notices beside a taker, and the greatest host.
 #![tactic(auto)]
 
 #[cfg(test)]
@@ -9,6 +9,8 @@ mod closes;
 mod example;
 #[cfg(test)]
 mod gates;
+#[cfg(test)]
+mod greatest;
 #[cfg(test)]
 mod locks;
 #[cfg(test)]

@@ -19,9 +19,6 @@ use std::process::Abort;
 use std::sync::{Arc, Wait};
 use std::thread::Threads;
 
-/// How many lines.
-const LINES: usize = 10_000;
-
 /// Numbers that look random, the same in each run.
 #[derive(Drop)]
 struct Numbers {
@@ -69,11 +66,11 @@ fn random_line(alloc: Global, numbers: &mut Numbers, number: usize) -> Result<Li
     }
 }
 
-/// So many random lines.
-fn random_lines(alloc: Global) -> Result<Vec<Line>, AllocError> {
-    let mut numbers = Numbers { state: 88_172_645 };
-    let mut lines = Vec::with_capacity(alloc, LINES)?;
-    for number in 1..=LINES {
+/// So many random lines, the same for the same seed, which is no 0.
+fn random_lines(alloc: Global, seed: u64, count: u16) -> Result<Vec<Line>, AllocError> {
+    let mut numbers = Numbers { state: seed };
+    let mut lines = Vec::with_capacity(alloc, usize::from(count))?;
+    for number in 1..=usize::from(count) {
         lines.push(random_line(alloc, &mut numbers, number)?)?;
     }
     Ok(lines)
@@ -184,7 +181,7 @@ fn accepted_in(answers: &[Answer<Toy>]) -> u64 {
 
 /// Whether each core is from scratch, and all have so many accepted writes. Whichever worker is ahead has the latest stamps, so
 /// that its batches aren't refused for these: some are accepted in any order of the threads.
-fn are_from_scratch(alloc: Global, cores: &[Core<Toy, 2>], accepted: u64) -> bool {
+fn are_from_scratch(alloc: Global, cores: &[Core<Toy, 2>], accepted: u64, lines: u64) -> bool {
     let mut number = 0u64;
     for core in cores {
         if !is_from_scratch(alloc, core) {
@@ -192,18 +189,29 @@ fn are_from_scratch(alloc: Global, cores: &[Core<Toy, 2>], accepted: u64) -> boo
         }
         number = number.saturating_add(core.number());
     }
-    number == accepted && accepted > LINES as u64 / 16
+    number == accepted && accepted > lines / 16
 }
 
 /// Whether the host is as it should be after a script of so many random lines.
-fn agrees<R: Threads + Wait + Abort + Sync>(rt: &R, alloc: Global) -> bool {
-    let lines = random_lines(alloc).expect(rt, "lines");
+fn agrees<R: Threads + Wait + Abort + Sync>(rt: &R, alloc: Global, seed: u64, count: u16) -> bool {
+    let lines = random_lines(alloc, seed, count).expect(rt, "lines");
     let Ran { answers, closed } = run(rt, alloc, limits(8, 4, 100), &OpenGate, &lines);
-    are_from_scratch(alloc, closed.cores(), accepted_in(&answers))
+    let accepted = accepted_in(&answers);
+    are_from_scratch(alloc, closed.cores(), accepted, u64::from(count))
         && has_plain_counts(alloc, &closed)
 }
 
 #[test]
 fn random_lines_by_four_workers(rt: HostRuntime) {
-    assert!(rt; agrees(&rt, rt.alloc()));
+    assert!(rt; agrees(&rt, rt.alloc(), 88_172_645, 10_000));
+}
+
+#[test]
+fn many_small_scripts(rt: HostRuntime) {
+    for seed in 1..=20u64 {
+        assert!(rt;
+            agrees(&rt, rt.alloc(), 88_172_645 * seed, 200),
+            "seed {seed}"
+        );
+    }
 }
