@@ -2,7 +2,7 @@
 
 use crate::fixtures::EMPTY_NODE;
 use cid::digests::{Clash, Size, Toy};
-use cid::{Digest, Sha256, layer};
+use cid::{Digest, Sha256, layer, layer_four};
 
 /// SHA-256 of the bytes of the empty node, by another program.
 const EMPTY_NODE_DIGEST: [u8; 32] = [
@@ -38,6 +38,14 @@ fn layers_of_keys(rt: HostRuntime) {
             layers
         );
     }
+}
+
+#[test]
+fn four_at_once(rt: HostRuntime) {
+    let [a, b, c, d] = KEYS.map(|key| key.as_bytes());
+    assert!(rt; layer_four::<Sha256, 2>(a, b, c, d) == [0, 1, 4, 8]);
+    assert!(rt; layer_four::<Toy, 2>(b"k3", b"k2", b"k1", b"k0") == [3, 2, 1, 0]);
+    assert!(rt; Sha256::digest_four(a, &EMPTY_NODE, c, d)[1] == EMPTY_NODE_DIGEST);
 }
 
 #[test]

@@ -1,4 +1,4 @@
-ghost use Rattle.std.specs.Prelude.{◌≡◌, ℕ, List, length};
+ghost use Rattle.std.specs.Prelude.{◌≡◌, ℕ, List, [], ◌∷◌, length};
 ghost use Rattle.spec.specs.Reading.{IsBytes};
 ghost use Rattle.sha2.specs.Sha256.{sha256};
 ghost use Rattle.sha2.proofs.Facts256.{length-sha256};
@@ -14,6 +14,19 @@ pub trait Digest: Drop {
     /// The digest of these bytes.
     fn digest(bytes: &[u8]) -> [u8; 32]
         ensures { result ≡ digest_of bytes.now };
+
+    /// The digests of four lists of bytes, in their order. A digest that can work on several lists side by side has its
+    /// own body for it.
+    fn digest_four(a: &[u8], b: &[u8], c: &[u8], d: &[u8]) -> [[u8; 32]; 4]
+        ensures { result ≡ digest_of a.now ∷ digest_of b.now ∷ digest_of c.now ∷ digest_of d.now ∷ [] }
+    {
+        [
+            Self::digest(a),
+            Self::digest(b),
+            Self::digest(c),
+            Self::digest(d),
+        ]
+    }
 
     /// Each digest has 32 numbers.
     ghost digest_len: { (bytes : List ℕ) → length (digest_of bytes) ≡ 32 };
@@ -31,6 +44,10 @@ impl Digest for Sha256 {
 
     fn digest(bytes: &[u8]) -> [u8; 32] {
         <sha2::Sha256 as sha2::Digest>::digest(bytes)
+    }
+
+    fn digest_four(a: &[u8], b: &[u8], c: &[u8], d: &[u8]) -> [[u8; 32]; 4] {
+        sha256_lanes::digest_four(a, b, c, d)
     }
 
     ghost digest_len = { length-sha256 };

@@ -1,4 +1,4 @@
-ghost use Rattle.std.specs.Prelude.{◌≡◌, ◌≤◌, length};
+ghost use Rattle.std.specs.Prelude.{◌≡◌, ◌≤◌, [], ◌∷◌, length};
 ghost use Rattle.spec.specs.Layer.{layer as layer_of, zero_bits as zero_bits_of};
 
 use crate::digest::Digest;
@@ -13,6 +13,24 @@ pub fn layer<D: Digest, const B: u8>(key: &[u8]) -> u16
     ensures { result ≡ layer_of D.digest_of B key.now }
 {
     zero_bits(&D::digest(key)) / u16::from(B)
+}
+
+/// The layers of four keys, whose digests are made side by side. For SHA-256 that takes about half of the time of four
+/// calls of [`layer`].
+pub fn layer_four<D: Digest, const B: u8>(a: &[u8], b: &[u8], c: &[u8], d: &[u8]) -> [u16; 4]
+    requires least { 1 ≤ B }
+    requires most { B ≤ 8 }
+    ensures { result ≡ layer_of D.digest_of B a.now ∷ layer_of D.digest_of B b.now
+        ∷ layer_of D.digest_of B c.now ∷ layer_of D.digest_of B d.now ∷ [] }
+{
+    let [a, b, c, d] = D::digest_four(a, b, c, d);
+    let bits = u16::from(B);
+    [
+        zero_bits(&a) / bits,
+        zero_bits(&b) / bits,
+        zero_bits(&c) / bits,
+        zero_bits(&d) / bits,
+    ]
 }
 
 /// How many zero bits the bytes begin with.

@@ -10,7 +10,7 @@
 //! - [`Digest`] is the hash that all is generic in. [`Sha256`] is the one of the protocol; those in [`digests`] are for
 //!   tests, where layers and collisions are wanted at will.
 //! - [`layer`] is the number of zero bits that a key's digest begins with, divided by the zero bits a layer, `B`, which
-//!   is 2 in the AT Protocol.
+//!   is 2 in the AT Protocol. [`layer_four`] hashes four keys side by side.
 //!
 //! README.md has an example that hashes a record and builds a tree over it.
 #![tactic(auto)]
@@ -31,4 +31,4 @@ pub use cid_fault::CidFault;
 pub use cid_ref::CidRef;
 pub use collided::Collided;
 pub use digest::{Digest, Sha256};
-pub use layers::layer;
+pub use layers::{layer, layer_four};

@@ -6,7 +6,7 @@ ghost use Rattle.spec.specs.Tree.{top_layer as top_layer_of};
 ghost use Rattle.scratch.specs.Pairs.{pairs_of};
 ghost use Rattle.scratch.specs.Rows.{pair_of, AreLayered};
 
-use cid::{Cid, CidRef, Digest, layer};
+use cid::{Cid, CidRef, Digest, layer, layer_four};
 use std::alloc::{AllocError, Allocator};
 use std::convert::AsSlice;
 
@@ -18,7 +18,8 @@ pub struct Row<'a> {
     pub value: CidRef<'a>,
 }
 
-/// The pairs in their order. Each key is hashed here for its layer, and nowhere else.
+/// The pairs in their order. Each key is hashed here for its layer, and nowhere else: four at a time, and the last ones
+/// by themselves.
 pub fn rows<'a, D: Digest, const B: u8, K: AsSlice<u8>, A: Allocator>(
     alloc: A,
     pairs: &'a [(K, Cid)],
@@ -29,15 +30,34 @@ pub fn rows<'a, D: Digest, const B: u8, K: AsSlice<u8>, A: Allocator>(
     ensures layered { IfOk result (λ rows. AreLayered (layer_of D.digest_of B) rows.items) }
 {
     let mut rows = Vec::with_capacity(alloc, pairs.len())?;
-    for (key, value) in pairs {
+    let mut rest = pairs;
+    'fours: while let [a, b, c, d, after @ ..] = rest {
+        let (k, l, m, n) = (a.0.as_slice(), b.0.as_slice(), c.0.as_slice(), d.0.as_slice());
+        let layers = layer_four::<D, B>(k, l, m, n);
+        rows.push(row_of(layers[0], k, &a.1))?;
+        rows.push(row_of(layers[1], l, &b.1))?;
+        rows.push(row_of(layers[2], m, &c.1))?;
+        rows.push(row_of(layers[3], n, &d.1))?;
+        rest = after;
+    }
+    'last: for (key, value) in rest {
         let key = key.as_slice();
-        rows.push(Row {
-            layer: layer::<D, B>(key),
-            key,
-            value: CidRef::from(value),
-        })?;
+        rows.push(row_of(layer::<D, B>(key), key, value))?;
     }
     Ok(rows)
+}
+
+/// The row of this layer, key and value.
+fn row_of<'a>(layer: u16, key: &'a [u8], value: &'a Cid) -> Row<'a>
+    ensures layer { result.layer ≡ layer }
+    ensures pair { pair_of result ≡ (key.now, value.now) }
+    ensures key { result.key.now ≡ key.now }
+{
+    Row {
+        layer,
+        key,
+        value: CidRef::from(value),
+    }
 }
 
 /// The greatest layer, and 0 without rows.
