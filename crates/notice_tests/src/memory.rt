@@ -2,11 +2,50 @@
 ghost use Rattle.std.specs.Prelude.{◌≡◌, ◌<◌, []};
 
 use crate::writer::{Pushed, Writer, notice};
-use notices::{Feed, Notice, Queue, SendPass};
+use notices::{Feed, Notice, Queue, SendPass, Taker};
 use refusing::Refusing;
 use std::alloc::{AllocError, Allocator, Global};
 use std::sync::Wait;
 use std::test::Fail;
+
+/// Three notices for a queue of two: whether the third is given back.
+fn send_three<R: Wait, A: Allocator>(
+    rt: &R,
+    zero: &mut Writer<'_, A>,
+    one: &mut Writer<'_, A>,
+) -> bool
+    ensures zero { zero.new.sender.pass.queue_id ≡ zero.old.sender.pass.queue_id }
+    ensures one { one.new.sender.pass.queue_id ≡ one.old.sender.pass.queue_id }
+{
+    zero.push(rt, notice(0, 1)) == Pushed::Put
+        && one.push(rt, notice(1, 1)) == Pushed::Put
+        && zero.push(rt, notice(0, 2)) == Pushed::GivenBack
+}
+
+/// Whether there is room for one more once the oldest is taken, and for no other.
+fn take_and_send<R: Wait, A: Allocator>(
+    rt: &R,
+    zero: &mut Writer<'_, A>,
+    one: &mut Writer<'_, A>,
+    taker: &mut Taker<'_, A>,
+) -> bool
+    ensures zero { zero.new.sender.pass.queue_id ≡ zero.old.sender.pass.queue_id }
+    ensures one { one.new.sender.pass.queue_id ≡ one.old.sender.pass.queue_id }
+    ensures taker { taker.new.queue_id ≡ taker.old.queue_id }
+{
+    taker.pop(rt) == Some(notice(0, 1))
+        && zero.push(rt, notice(0, 2)) == Pushed::Put
+        && one.push(rt, notice(1, 2)) == Pushed::GivenBack
+}
+
+/// Whether what is left in the queue is what was sent and not yet taken.
+fn take_the_rest<R: Wait, A: Allocator>(rt: &R, queue: &Queue<A>, feed: &mut Feed) -> bool
+    requires { feed.old.queue_id ≡ queue.now.queue_id }
+{
+    queue.take(rt, feed) == Some(notice(1, 1))
+        && queue.take(rt, feed) == Some(notice(0, 2))
+        && queue.take(rt, feed).is_none()
+}
 
 /// Each call after `open`, by two writers over a queue of two: whether each answered as it is to.
 fn each_call<R: Wait, A: Allocator>(
@@ -24,24 +63,14 @@ fn each_call<R: Wait, A: Allocator>(
     let mut zero = Writer::new(queue, first);
     let mut one = Writer::new(queue, second);
     let mut taker = queue.taker(feed);
-    let sent = zero.writer() == 0
-        && zero.push(rt, notice(0, 1)) == Pushed::Put
-        && one.push(rt, notice(1, 1)) == Pushed::Put
-        && zero.push(rt, notice(0, 2)) == Pushed::GivenBack
-        && taker.pop(rt) == Some(notice(0, 1))
-        && zero.push(rt, notice(0, 2)) == Pushed::Put
-        && one.push(rt, notice(1, 2)) == Pushed::GivenBack
-        && zero.refused() == 1
-        && one.refused() == 1;
+    let sent = send_three(rt, &mut zero, &mut one)
+        && take_and_send(rt, &mut zero, &mut one, &mut taker);
+    let refused = zero.writer() == 0 && zero.refused() == 1 && one.refused() == 1;
     let mut feed = taker.end();
     queue.join(&mut feed, zero.end());
     queue.join(&mut feed, one.end());
     queue.look(&mut feed);
-    named
-        && sent
-        && queue.take(rt, &mut feed) == Some(notice(1, 1))
-        && queue.take(rt, &mut feed) == Some(notice(0, 2))
-        && queue.take(rt, &mut feed).is_none()
+    named && sent && refused && take_the_rest(rt, queue, &mut feed)
 }
 
 #[test]
