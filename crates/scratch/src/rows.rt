@@ -32,7 +32,12 @@ pub fn rows<'a, D: Digest, const B: u8, K: AsSlice<u8>, A: Allocator>(
     let mut rows = Vec::with_capacity(alloc, pairs.len())?;
     let mut rest = pairs;
     'fours: while let [a, b, c, d, after @ ..] = rest {
-        let (k, l, m, n) = (a.0.as_slice(), b.0.as_slice(), c.0.as_slice(), d.0.as_slice());
+        let (k, l, m, n) = (
+            a.0.as_slice(),
+            b.0.as_slice(),
+            c.0.as_slice(),
+            d.0.as_slice(),
+        );
         let layers = layer_four::<D, B>(k, l, m, n);
         rows.push(row_of(layers[0], k, &a.1))?;
         rows.push(row_of(layers[1], l, &b.1))?;
