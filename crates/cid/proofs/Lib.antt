@@ -2,3 +2,4 @@ pub mod Filling
 pub mod Texts
 pub mod Letters
 pub mod Ordering
+pub mod Groups

@@ -1,8 +1,8 @@
 -- A text of a CID that passes the first tests.
-use Rattle.std.proofs.Common.{◌≡◌, ℕ, ◌%◌, ◌-◌, eqb, Bool, true, false, List, length, get_or, take, drop, Result, Ok, Err, arith, cond, refl, subst, sym}
+use Rattle.std.proofs.Common.{◌≡◌, ℕ, ◌%◌, ◌-◌, eqb, Bool, true, false, List, length, get_or, take, drop, Result, Ok, Err, arith, cond, refl, subst, sym, ap, ◌∙◌}
 use Rattle.std.specs.Prelude.{nat_lt, IfOk}
 use Rattle.std.proofs.Common.{length-drop}
-use Rattle.std.proofs.lemmas.List.{take_all}
+use Rattle.std.proofs.lemmas.List.{take_all, get_or-drop, get_or-map}
 use Rattle.std.specs.List.{list_all}
 use Rattle.std.specs.Str.{bytes_eq}
 use Rattle.spec.specs.Reading.{◌>>=◌, ensure, Gives}
@@ -10,7 +10,7 @@ use Rattle.spec.proofs.CidTexts.{cid_of_text_takes}
 use Rattle.cid.specs.CidFault.{fault_of}
 use Rattle.cid.specs.declared.cid_fault.CidFault.{CidFault as Fault}
 use Rattle.cid.specs.declared.cid_fault.CidFault.TheVariants.{NotThisProfile as OtherProfile}
-use Rattle.spec.specs.Cid.{prefix, is_own_cid, BadLetter, BadBits, NotThisProfile, letter_values, bytes_of_text, cid_of_text, text, CidFault}
+use Rattle.spec.specs.Cid.{prefix, is_own_cid, letter_value, BadLetter, BadBits, NotThisProfile, letter_values, bytes_of_text, cid_of_text, text, CidFault}
 
 pub text_bad_letter : (s : List ℕ) → length s ≡ 59 → get_or s 0 0 ≡ 98 → list_all (λ v. nat_lt v 32) (letter_values s) ≡ false → cid_of_text s ≡ Err BadLetter
 unfolding cid_of_text
@@ -56,3 +56,8 @@ text_read s c r size begins passes bits is gave =
 pub read_text : (s : List ℕ) (r : Result (List ℕ) Fault) → Gives (λ cid. cid) fault_of r (cid_of_text s) → IfOk r (λ cid. s ≡ text cid)
 read_text s (Ok c) read = (cid_of_text_takes s c read).0
 read_text s (Err f) read = tt
+
+-- the last letter's value
+pub last_value : (s : List ℕ) (v : ℕ) → length s ≡ 59 → v ≡ letter_value (get_or s 58 0) → get_or (letter_values s) 57 0 ≡ v
+last_value s v size is =
+    get_or-map letter_value (drop 1 s) 57 0 0 (omega (arith, length-drop 1 s)) ∙ ap letter_value (get_or-drop 1 s 57 0) ∙ sym is

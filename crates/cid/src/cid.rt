@@ -94,13 +94,13 @@ impl Cid {
         if text[0] != b'b' {
             return Err(CidFault::BadPrefix);
         }
-        let Some(values) = base32::values(&text[1..]) else {
+        let Some(bytes) = base32::bytes(&text[1..]) else {
             return Err(CidFault::BadLetter);
         };
-        if values[57] % 4 != 0 {
+        if base32::value(text[58]) % 4 != 0 {
             return Err(CidFault::BadBits);
         }
-        Cid::try_from(base32::bytes(&values))
+        Cid::try_from(bytes)
     }
 }
 
