@@ -3,3 +3,4 @@ pub mod Texts
 pub mod Letters
 pub mod Ordering
 pub mod Groups
+pub mod Together

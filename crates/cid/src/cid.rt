@@ -1,11 +1,11 @@
-ghost use Rattle.std.specs.Prelude.{◌≡◌, refl, ◌↔◌, ℕ, List, length, take, drop, true, IsTrue, IfOk, Some, None, Ok, Err, if◌then◌else◌};
+ghost use Rattle.std.specs.Prelude.{◌≡◌, refl, ◌↔◌, ◌++◌, ℕ, List, length, take, drop, true, IsTrue, IfOk, Some, None, Ok, Err, if◌then◌else◌};
 ghost use Rattle.std.specs.Int.{w64, from_be_bytes, from_le_bytes};
 ghost use Rattle.std.specs.Hash as fed;
 ghost use Rattle.std.specs.Cmp.Lexicographic.{slice_cmp, nat_list_cmp_total, texts_po, texts_ties};
 ghost use Rattle.std.specs.Ordering.{nat_cmp};
 ghost use Rattle.std.specs.Cmp.Rules.{comparing, hashing};
 ghost use Rattle.std.proofs.Common.{rules};
-ghost use Rattle.spec.specs.Cid.{cid as cid_of, is_own_cid, text as text_of, cid_of_text};
+ghost use Rattle.spec.specs.Cid.{cid as cid_of, prefix, is_own_cid, text as text_of, cid_of_text};
 ghost use Rattle.spec.specs.Reading.{Gives, IsBytes};
 ghost use Rattle.cid.specs.CidFault.{fault_of};
 ghost use Rattle.cid.specs.declared.cid_fault.CidFault.TheVariants.{NotThisProfile};
@@ -47,9 +47,16 @@ impl Cid {
     pub fn of<D: Digest>(bytes: &[u8]) -> Cid
         ensures value { result ≡ cid_of D.digest_of bytes.now }
     {
+        Cid::of_digest(&D::digest(bytes))
+    }
+
+    /// The CID of a block with this digest.
+    pub(crate) fn of_digest(digest: &[u8; 32]) -> Cid
+        ensures value { result ≡ prefix ++ digest.now }
+    {
         let mut whole = [0; 36];
         whole[..4].copy_from_slice(&PREFIX);
-        whole[4..].copy_from_slice(&D::digest(bytes));
+        whole[4..].copy_from_slice(digest);
         Cid { bytes: whole }
     }
 

@@ -1,8 +1,15 @@
-ghost use Rattle.std.specs.Prelude.{◌≡◌, ℕ, List, [], ◌∷◌, length};
+ghost use Rattle.std.specs.Prelude.{◌≡◌, ℕ, List, [], ◌∷◌, length, map, IfOk};
 ghost use Rattle.spec.specs.Reading.{IsBytes};
 ghost use Rattle.sha2.specs.Sha256.{sha256};
 ghost use Rattle.sha2.proofs.Facts256.{length-sha256};
 ghost use Rattle.cid.specs.Digests.{IsBytes-sha256};
+
+use sha256_lanes::digest_sorted;
+use std::alloc::{AllocError, Allocator};
+use std::convert::AsSlice;
+
+/// How many messages are sorted by their lengths at once. Sorting more would cost more than it saves.
+const PART: usize = 256;
 
 /// A digest: one fixed function from bytes to 32 bytes.
 ///
@@ -28,6 +35,22 @@ pub trait Digest: Drop {
         ]
     }
 
+    /// The digest of each of these lists of bytes, in their order. A digest that can work on several lists side by side
+    /// has its own body for it.
+    fn digest_each<T: AsSlice<u8>, A: Allocator + Clone>(
+        alloc: A,
+        messages: &[T],
+    ) -> Result<Vec<[u8; 32], A>, AllocError>
+        ensures { IfOk result (λ digests. digests.items
+            ≡ map (λ message. digest_of (T.items message)) messages.now) }
+    {
+        let mut digests = Vec::with_capacity(alloc, messages.len())?;
+        for message in messages {
+            digests.push(Self::digest(message.as_slice()))?;
+        }
+        Ok(digests)
+    }
+
     /// Each digest has 32 numbers.
     ghost digest_len: { (bytes : List ℕ) → length (digest_of bytes) ≡ 32 };
 
@@ -48,6 +71,21 @@ impl Digest for Sha256 {
 
     fn digest_four(a: &[u8], b: &[u8], c: &[u8], d: &[u8]) -> [[u8; 32]; 4] {
         sha256_lanes::digest_four(a, b, c, d)
+    }
+
+    fn digest_each<T: AsSlice<u8>, A: Allocator + Clone>(
+        alloc: A,
+        messages: &[T],
+    ) -> Result<Vec<[u8; 32], A>, AllocError> {
+        let mut digests = Vec::with_capacity(alloc.clone()?, messages.len())?;
+        let mut rest = messages;
+        while rest.len() > PART {
+            let (part, after) = rest.split_at(PART);
+            digests.extend_from_slice(&digest_sorted(alloc.clone()?, part)?)?;
+            rest = after;
+        }
+        digests.extend_from_slice(&digest_sorted(alloc, rest)?)?;
+        Ok(digests)
     }
 
     ghost digest_len = { length-sha256 };
