@@ -14,6 +14,8 @@ mod fixtures;
 #[cfg(test)]
 mod identifiers;
 #[cfg(test)]
+mod many_lists;
+#[cfg(test)]
 mod shards;
 #[cfg(test)]
 mod side_by_side;

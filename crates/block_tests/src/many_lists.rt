@@ -1,0 +1,39 @@
+//! Digests and blocks of many lists of bytes at once.
+
+use crate::fixtures::EMPTY_NODE;
+use cid::digests::Toy;
+use cid::{Block, Cid, Digest, Sha256};
+use std::test::Fail;
+
+const LISTS: [&[u8]; 5] = [b"", b"a", &EMPTY_NODE, b"a", b"blue"];
+
+/// Whether each digest is that of its list.
+fn are_digests<D: Digest>(digests: &[[u8; 32]]) -> bool {
+    let mut right = digests.len() == LISTS.len();
+    for (digest, list) in digests.iter().zip(LISTS) {
+        right &= *digest == D::digest(list);
+    }
+    right
+}
+
+#[test]
+fn digests_of_many_lists(rt: HostRuntime) -> Result<(), Fail> {
+    assert!(rt; are_digests::<Sha256>(&Sha256::digest_each(rt.alloc(), &LISTS)?));
+    assert!(rt; are_digests::<Toy>(&Toy::digest_each(rt.alloc(), &LISTS)?));
+    Ok(())
+}
+
+#[test]
+fn blocks_of_many_lists(rt: HostRuntime) -> Result<(), Fail> {
+    let mut lists = Vec::new(rt.alloc());
+    for list in LISTS {
+        lists.push(Vec::from_slice(rt.alloc(), list)?)?;
+    }
+    let blocks = Block::<Sha256>::of_each(lists)?;
+    let mut right = blocks.len() == LISTS.len();
+    for (block, list) in blocks.iter().zip(LISTS) {
+        right &= block.bytes() == list && block.cid() == Cid::of::<Sha256>(list);
+    }
+    assert!(rt; right);
+    Ok(())
+}
