@@ -1,5 +1,5 @@
 -- The node that lies ahead is the part before its first entry, and then entry by entry the part after it.
-use Rattle.std.proofs.Common.{◌≡◌, ◌≢◌, ℕ, suc, ◌<◌, Bool, true, false, cond, nat_lt, List, [], ◌∷◌, ◌++◌, refl, sym, ap, ◌∙◌, arith}
+use Rattle.std.proofs.Common.{◌≡◌, ◌≢◌, ℕ, suc, ◌-◌, ◌<◌, Bool, true, false, cond, nat_lt, List, [], ◌∷◌, ◌++◌, refl, sym, ap, subst, ◌∙◌, arith}
 use Rattle.std.specs.List.{AllByRecursion}
 use Rattle.std.proofs.lemmas.Bool.{ltb-true, ltb-false, lt-ltb, le-ltb, eqb-false}
 use Rattle.std.proofs.lemmas.List.{append-nil}
@@ -150,3 +150,9 @@ module _ (layer : List ℕ → ℕ) where
   pub first-suc : (n : ℕ) (es : List Pair) → is_first_below layer n es ≡ true → 0 < n
   first-suc n [] h = absurd cc
   first-suc n (e ∷ es) h = let lt = ltb-true (layer e.0) n h in omega arith
+
+  pub part-is : (n k : ℕ) (es : List Pair) → is_first_below layer n es ≡ true → k ≡ n - 1 → part_ahead layer n es ≡ Sub (node_ahead layer k es)
+  part-is n k es h e =
+      let some = first-suc n es h in
+      let p : suc k ≡ n = omega arith in
+      ap (λ i. part_ahead layer i es) (sym p) ∙ part-some_at k es (subst (λ i. is_first_below layer i es ≡ true) (sym p) h)

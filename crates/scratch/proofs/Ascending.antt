@@ -40,13 +40,24 @@ pub record Rises (before : List ℕ) (es : List Pair) : Type 0 where
   pub sorted : is_sorted (slice_cmp nat_cmp) es ≡ true
   pub keys : list_all (λ e. is_key e.0) es ≡ true
 
+-- the first pair left out, or one put in front
+pub Rises-tail : (before : List ℕ) (e : Pair) (es : List Pair) → Rises before (e ∷ es) → Rises before es
+Rises-tail before e es r =
+    let below = both (is_lt (slice_cmp nat_cmp before e.0)) (below_all (slice_cmp nat_cmp) before es) r.below in
+    let sorted = both (below_all (slice_cmp nat_cmp) e.0 es) (is_sorted (slice_cmp nat_cmp) es) r.sorted in
+    let keys = both (is_key e.0) (list_all (λ x. is_key x.0) es) r.keys in
+    record { below = below.1; sorted = sorted.1; keys = keys.1 }
+
+pub Rises-cons : (before : List ℕ) (e : Pair) (es : List Pair) → is_lt (slice_cmp nat_cmp before e.0) ≡ true → is_key e.0 ≡ true → Rises e.0 es → Rises before (e ∷ es)
+Rises-cons before e es less key r =
+    record { below = and _ _ less (below-smaller before e.0 es less r.below); sorted = and _ _ r.below r.sorted; keys = and _ _ key r.keys }
+
 pub Rises-ascends : (before : List ℕ) (es : List Pair) → ascends before es ≡ true → Rises before es
 Rises-ascends before [] h = record { below = refl; sorted = refl; keys = refl }
 Rises-ascends before (e ∷ es) h =
     let p = both (is_lt (slice_cmp nat_cmp before e.0) && is_key e.0) (ascends e.0 es) h in
     let q = both (is_lt (slice_cmp nat_cmp before e.0)) (is_key e.0) p.0 in
-    let r = Rises-ascends e.0 es p.1 in
-    record { below = and _ _ q.0 (below-smaller before e.0 es q.0 r.below); sorted = and _ _ r.below r.sorted; keys = and _ _ q.1 r.keys }
+    Rises-cons before e es q.0 q.1 (Rises-ascends e.0 es p.1)
 
 -- the first pair, and those after it
 pub record Begins (before : List ℕ) (e : Pair) (es : List Pair) : Type 0 where

@@ -4,3 +4,7 @@ pub mod Writing
 pub mod Seen
 pub mod Steps
 pub mod Whole
+pub mod Cuts
+pub mod Kept
+pub mod Moved
+pub mod Raising

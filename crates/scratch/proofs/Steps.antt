@@ -1,52 +1,15 @@
 -- The steps by which a node is written.
-use Rattle.std.proofs.Common.{◌≡◌, ℕ, suc, ◌-◌, ◌<◌, ◌≤◌, Bool, true, false, cond, nat_lt, List, [], ◌∷◌, ◌++◌, map, length, take, drop, Option, Some, refl, sym, ap, subst, ◌∙◌, arith}
-use Rattle.std.specs.List.{insert, list_all}
-use Rattle.std.specs.Cmp.Lexicographic.{slice_cmp}
-use Rattle.std.specs.Ordering.{nat_cmp, is_lt}
-use Rattle.std.specs.FinMap.{is_sorted}
-use Rattle.std.specs.FinMap.Entries.{below_all}
-use Rattle.std.proofs.lemmas.List.{take_at, drop_at, length-append, length-map, map-append, take-map, drop-map}
-use Rattle.spec.specs.Cid.{cid}
-use Rattle.spec.specs.Tree.{Pair, Sub}
-use Rattle.spec.specs.NodeFormat.{Entry, is_key, part_link, node_spelling}
-use Rattle.spec.specs.Blocks.{blocks_in, blocks_under, no_record}
-use Rattle.spec.proofs.Bools.{both}
+use Rattle.std.proofs.Common.{◌≡◌, ℕ, ◌<◌, ◌≤◌, Bool, true, false, cond, nat_eq, List, [], ◌∷◌, ◌++◌, map, take, length, Option, refl, sym, ap, subst, ◌∙◌, append_assoc, arith}
+use Rattle.std.proofs.lemmas.List.{append-nil, map_push}
+use Rattle.spec.specs.Tree.{Pair}
+use Rattle.spec.specs.NodeFormat.{Entry, node_spelling}
 use Rattle.node.specs.Contents.{last_key}
-use Rattle.scratch.specs.Ahead.{is_first_below, is_first_at, from_layer, node_ahead, part_ahead}
-use Rattle.scratch.proofs.Ascending.{Rises, Begins-cons}
-use Rattle.scratch.proofs.Aheads.{part-some_at, first-suc}
-use Rattle.scratch.proofs.Writing.{Written, Written-begun, Written-more, Written-whole, IsWhole}
-
--- ---- what is left
-
-module _ (layer : List ℕ → ℕ) where
-  length-from_step : (n : ℕ) (e : Pair) (es : List Pair) (b : Bool) → length (from_layer layer n es) ≤ length es → length (cond b (from_layer layer n es) (e ∷ es)) ≤ length (e ∷ es)
-  length-from_step n e es true h = omega arith
-  length-from_step n e es false h = omega arith
-
-  length-from : (n : ℕ) (es : List Pair) → length (from_layer layer n es) ≤ length es
-  length-from n [] = omega arith
-  length-from n (e ∷ es) = length-from_step n e es (nat_lt (layer e.0) n) (length-from n es)
-
-  -- an entry and the part after it are fewer
-  pub fewer : (n : ℕ) (now after rest : List Pair) (e : Pair) → now ≡ e ∷ rest → after ≡ from_layer layer n rest → length after < length now
-  fewer n now after rest e is left =
-      let long : length now ≡ length (e ∷ rest) = ap length is in
-      let short : length after ≡ length (from_layer layer n rest) = ap length left in
-      omega (arith, length-from n rest)
-
-  Rises-from_step : (before : List ℕ) (n : ℕ) (e : Pair) (es : List Pair) (b : Bool) → Rises before (e ∷ es) → (Rises before es → Rises before (from_layer layer n es)) → Rises before (cond b (from_layer layer n es) (e ∷ es))
-  Rises-from_step before n e es true r further =
-      let below = both (is_lt (slice_cmp nat_cmp before e.0)) (below_all (slice_cmp nat_cmp) before es) r.below in
-      let sorted = both (below_all (slice_cmp nat_cmp) e.0 es) (is_sorted (slice_cmp nat_cmp) es) r.sorted in
-      let keys = both (is_key e.0) (list_all (λ x. is_key x.0) es) r.keys in
-      further (record { below = below.1; sorted = sorted.1; keys = keys.1 })
-  Rises-from_step before n e es false r further = r
-
-  -- what is left still ascends
-  pub Rises-from : (before : List ℕ) (n : ℕ) (es : List Pair) → Rises before es → Rises before (from_layer layer n es)
-  Rises-from before n [] r = r
-  Rises-from before n (e ∷ es) r = Rises-from_step before n e es (nat_lt (layer e.0) n) r (Rises-from before n es)
+use Rattle.scratch.specs.Cut.{Nodes, counted, pairs_of_rows, link_to, is_row_at, entries_next, rows_beyond, node_next, part_next, raised, rows_raised, tops_after, tops_of}
+use Rattle.scratch.specs.Level.{pair_and_count}
+use Rattle.scratch.specs.Rows.{pair_of, AreLayered}
+use Rattle.scratch.specs.declared.rows.Row.{Row}
+use Rattle.scratch.proofs.Ascending.{Rises, Begins-cons, Rises-tail}
+use Rattle.scratch.proofs.Cuts.{entries-none, entries-row, beyond-none, beyond-row, beyond-first, raised-beyond, raised-row}
 
 pub Rises-same : (a b : List ℕ) (es fs : List Pair) → a ≡ b → es ≡ fs → Rises b fs → Rises a es
 Rises-same a b es fs p q r = subst (λ x. Rises x es) (sym p) (subst (λ (xs : List Pair). Rises b xs) (sym q) r)
@@ -55,75 +18,117 @@ last_key-append : (before : List ℕ) (es : List Entry) (e : Entry) → last_key
 last_key-append before [] e = refl
 last_key-append before (d ∷ es) e = last_key-append d.key es e
 
--- after an entry the keys that are left are above its key
-pub Rises-next : (layer : List ℕ → ℕ) (n : ℕ) (entries : List Entry) (e : Entry) (x : Pair) (es : List Pair) → e.key ≡ x.0 → Rises (last_key [] entries) (x ∷ es)
-    → Rises (last_key [] (entries ++ e ∷ [])) (from_layer layer n es)
-Rises-next layer n entries e x es same r =
-    Rises-same (last_key [] (entries ++ e ∷ [])) x.0 _ _ (last_key-append [] entries e ∙ same) refl
-    (Rises-from layer x.0 n es (Begins-cons (last_key [] entries) x es r).rest)
+-- ---- a row becomes an entry
 
--- ---- an element put in front of those that were added
+module _ (digest : List ℕ → List ℕ) (layer : List ℕ → ℕ) (n : ℕ) (rs rest : List (Pair × Nodes)) (r : Pair × Nodes) (taken : rs ≡ r ∷ rest) where
+  pub fewer : length rest < length rs
+  fewer = let long : length rs ≡ length (r ∷ rest) = ap length taken in omega arith
 
-pub insert-added : {X : Type 0} (f : X → List ℕ) (old now : List X) (added : List (List ℕ)) (x : X) (i : ℕ) → i ≡ length old → map f now ≡ map f old ++ added
-    → map f (insert now i x) ≡ map f old ++ f x ∷ added
-insert-added f old now added x i at is =
-    let place : length (map f old) ≡ i = length-map old f ∙ sym at in
-    map-append f (take i now) (x ∷ drop i now)
-    ∙ ap (λ (xs : List (List ℕ)). xs ++ f x ∷ map f (drop i now)) (sym (take-map f i now) ∙ ap (take i) is ∙ take_at (map f old) added i place)
-    ∙ ap (λ (xs : List (List ℕ)). map f old ++ f x ∷ xs) (sym (drop-map f i now) ∙ ap (drop i) is ∙ drop_at (map f old) added i place)
+  -- the keys that are left are above the new entry's
+  pub rises-on : (es after : List Entry) (e : Entry) → Rises (last_key [] es) (pairs_of_rows rs) → after ≡ es ++ e ∷ [] → e.key ≡ r.0.0 → Rises (last_key [] after) (pairs_of_rows rest)
+  rises-on es after e up more same =
+      Rises-same (last_key [] after) r.0.0 (pairs_of_rows rest) (pairs_of_rows rest) (ap (last_key []) more ∙ last_key-append [] es e ∙ same) refl
+      (Begins-cons (last_key [] es) r.0 (pairs_of_rows rest) (Rises-same (last_key [] es) (last_key [] es) (r.0 ∷ pairs_of_rows rest) (pairs_of_rows rs) refl (ap pairs_of_rows (sym taken)) up)).rest
 
-pub place-within : {X : Type 0} (f : X → List ℕ) (old now : List X) (added : List (List ℕ)) (i : ℕ) → i ≡ length old → map f now ≡ map f old ++ added → i ≤ length now
-place-within f old now added i at is =
-    let a : length (map f old) ≡ length old = length-map old f in
-    let b : length (map f now) ≡ length now = length-map now f in
-    let c = length-append (map f old) added in
-    let d : length (map f now) ≡ length (map f old ++ added) = ap length is in
-    omega arith
+  module _ (same : layer r.0.0 ≡ n) where
+    pub entries-on : (all es after : List Entry) (link : Option (List ℕ)) → all ≡ es ++ entries_next digest layer n rs → after ≡ es ++ record { key = r.0.0; value = r.0.1; tree = link } ∷ [] → link ≡ link_to digest r.1
+        → all ≡ after ++ entries_next digest layer n rest
+    entries-on all es after link is more linked =
+        is ∙ ap (λ (xs : List (Pair × Nodes)). es ++ entries_next digest layer n xs) taken
+        ∙ ap (λ (xs : List Entry). es ++ xs) (entries-row layer n digest r rest same)
+        ∙ ap (λ (l : Option (List ℕ)). es ++ record { key = r.0.0; value = r.0.1; tree = l } ∷ entries_next digest layer n rest) (sym linked)
+        ∙ sym (append_assoc es (record { key = r.0.0; value = r.0.1; tree = link } ∷ []) _)
+        ∙ ap (λ (xs : List Entry). xs ++ entries_next digest layer n rest) (sym more)
 
--- ---- the node, step by step
+    pub beyond-on : (all : List (Pair × Nodes)) → all ≡ rows_beyond layer n rs → all ≡ rows_beyond layer n rest
+    beyond-on all is = is ∙ ap (rows_beyond layer n) taken ∙ beyond-row layer n r rest same
 
-module _ (digest : List ℕ → List ℕ) (layer : List ℕ → ℕ) (n : ℕ) (es : List Pair) (old : List (List ℕ)) where
-  Written-same : (left left' : Option (List ℕ)) (entries entries' : List Entry) (now now' : List Pair) (blocks blocks' : List (List ℕ))
-      → left ≡ left' → entries ≡ entries' → now ≡ now' → blocks ≡ blocks' → Written digest layer n es old left' entries' now' blocks' → Written digest layer n es old left entries now blocks
-  Written-same left left' entries entries' now now' blocks blocks' a b c d w =
-      let p : ◌≡◌ {A = Option (List ℕ) × List Entry × List Pair × List (List ℕ)} (left, entries, now, blocks) (left', entries', now', blocks') = λ i. (a i, b i, c i, d i) in
-      subst (λ (x : Option (List ℕ) × List Entry × List Pair × List (List ℕ)). Written digest layer n es old x.0 x.1 x.2 x.3) (sym p) w
+-- ---- no further row
 
-  -- after the part before the first entry
-  pub begin : (left : Option (List ℕ)) (entries : List Entry) (now : List Pair) (blocks : List (List ℕ)) → left ≡ part_link digest (part_ahead layer n es) → entries ≡ [] → now ≡ from_layer layer n es
-      → blocks ≡ old ++ blocks_in digest no_record (part_ahead layer n es) → Written digest layer n es old left entries now blocks
-  begin left entries now blocks a b c d = Written-same left _ entries [] now _ blocks _ a b c d (Written-begun digest layer n es old)
+module _ (digest : List ℕ → List ℕ) (layer : List ℕ → ℕ) (n : ℕ) (rs : List (Pair × Nodes)) (none : is_row_at layer n rs ≡ false) where
+  pub spelled : (first : Nodes) (all : List (Pair × Nodes)) (bytes : List ℕ) (left : Option (List ℕ)) (es : List Entry) → bytes ≡ node_spelling left es → left ≡ link_to digest first
+      → entries_next digest layer n all ≡ es ++ entries_next digest layer n rs → bytes ≡ node_next digest layer n first all
+  spelled first all bytes left es written linked are =
+      let whole : es ≡ entries_next digest layer n all = sym (append-nil es) ∙ ap (λ (xs : List Entry). es ++ xs) (sym (entries-none layer n digest rs none)) ∙ sym are in
+      written ∙ ap (λ (l : Option (List ℕ)). node_spelling l es) linked ∙ ap (node_spelling (link_to digest first)) whole
 
-  -- after an entry and the part after it
-  pub more : (left left' : Option (List ℕ)) (entries entries' : List Entry) (now now' : List Pair) (blocks blocks' : List (List ℕ)) (e : Pair) (rest : List Pair) (link : Option (List ℕ))
-      → Written digest layer n es old left entries now blocks → now ≡ e ∷ rest → layer e.0 ≡ n → left' ≡ left → entries' ≡ entries ++ record { key = e.0; value = e.1; tree = link } ∷ []
-      → link ≡ part_link digest (part_ahead layer n rest) → now' ≡ from_layer layer n rest → blocks' ≡ blocks ++ blocks_in digest no_record (part_ahead layer n rest)
-      → Written digest layer n es old left' entries' now' blocks'
-  more left left' entries entries' now now' blocks blocks' e rest link w is same a b l c d =
-      Written-same left' left entries' _ now' _ blocks' _ a (b ∙ ap (λ (o : Option (List ℕ)). entries ++ record { key = e.0; value = e.1; tree = o } ∷ []) l) c d
-      (Written-more digest layer n es old left entries e rest blocks same (Written-same left left entries entries (e ∷ rest) now blocks blocks refl refl (sym is) refl w))
+  pub left-beyond : (all after : List (Pair × Nodes)) → all ≡ rows_beyond layer n rs → after ≡ rs → after ≡ all
+  left-beyond all after is same = same ∙ sym (beyond-none layer n rs none) ∙ sym is
 
-  pub whole : (left : Option (List ℕ)) (entries : List Entry) (now : List Pair) (blocks : List (List ℕ)) → is_first_at layer n now ≡ false → Written digest layer n es old left entries now blocks
-      → IsWhole digest layer n es old left entries now blocks
-  whole left entries now blocks other w = Written-whole digest layer n es old left entries now blocks other w
+-- ---- the layer, part by part
 
--- ---- the part
+module _ (layer : List ℕ → ℕ) (n : ℕ) where
+  Rises-beyond_step : (before : List ℕ) (r : Pair × Nodes) (rs : List (Pair × Nodes)) (b : Bool) → Rises before (r.0 ∷ pairs_of_rows rs)
+      → (Rises before (pairs_of_rows rs) → Rises before (pairs_of_rows (rows_beyond layer n rs))) → Rises before (pairs_of_rows (cond b (rows_beyond layer n rs) (r ∷ rs)))
+  Rises-beyond_step before r rs true up further = further (Rises-tail before r.0 (pairs_of_rows rs) up)
+  Rises-beyond_step before r rs false up further = up
 
-pub part-is : (layer : List ℕ → ℕ) (n k : ℕ) (es : List Pair) → is_first_below layer n es ≡ true → k ≡ n - 1 → part_ahead layer n es ≡ Sub (node_ahead layer k es)
-part-is layer n k es h e =
-    let some = first-suc layer n es h in
-    let p : suc k ≡ n = omega arith in
-    ap (λ i. part_ahead layer i es) (sym p) ∙ part-some_at layer k es (subst (λ i. is_first_below layer i es ≡ true) (sym p) h)
+  Rises-beyond : (before : List ℕ) (rs : List (Pair × Nodes)) → Rises before (pairs_of_rows rs) → Rises before (pairs_of_rows (rows_beyond layer n rs))
+  Rises-beyond before [] up = up
+  Rises-beyond before (r ∷ rs) up = Rises-beyond_step before r rs (nat_eq (layer r.0.0) n) up (Rises-beyond before rs)
 
--- the link of a node from the bytes that were written
-pub link-is : (digest : List ℕ → List ℕ) (layer : List ℕ → ℕ) (n : ℕ) (es : List Pair) (old : List (List ℕ)) (left : Option (List ℕ)) (entries : List Entry) (now : List Pair) (blocks : List (List ℕ)) (bytes link : List ℕ)
-    → IsWhole digest layer n es old left entries now blocks → bytes ≡ node_spelling left entries → link ≡ cid digest bytes → Some link ≡ part_link digest (Sub (node_ahead layer n es))
-link-is digest layer n es old left entries now blocks bytes link w b l = ap Some (l ∙ ap (cid digest) (b ∙ w.spelled))
+  length-beyond_step : (r : Pair × Nodes) (rs : List (Pair × Nodes)) (b : Bool) → length (rows_beyond layer n rs) ≤ length rs → length (cond b (rows_beyond layer n rs) (r ∷ rs)) ≤ length (r ∷ rs)
+  length-beyond_step r rs true h = omega arith
+  length-beyond_step r rs false h = omega arith
 
--- the blocks with the node's own before those under it
-pub blocks-are : {X : Type 0} (f : X → List ℕ) (digest : List ℕ → List ℕ) (layer : List ℕ → ℕ) (n : ℕ) (es : List Pair) (old : List X) (left : Option (List ℕ)) (entries : List Entry) (now : List Pair) (before after : List X) (x : X) (i : ℕ)
-    → IsWhole digest layer n es (map f old) left entries now (map f before) → f x ≡ node_spelling left entries → i ≡ length old → after ≡ insert before i x
-    → map f after ≡ map f old ++ blocks_in digest no_record (Sub (node_ahead layer n es))
-blocks-are f digest layer n es old left entries now before after x i w b at is =
-    ap (map f) is ∙ insert-added f old before (blocks_under digest no_record (node_ahead layer n es)) x i at w.under
-    ∙ ap (λ (y : List ℕ). map f old ++ y ∷ blocks_under digest no_record (node_ahead layer n es)) (b ∙ w.spelled)
+  length-beyond : (rs : List (Pair × Nodes)) → length (rows_beyond layer n rs) ≤ length rs
+  length-beyond [] = omega arith
+  length-beyond (r ∷ rs) = length-beyond_step r rs (nat_eq (layer r.0.0) n) (length-beyond rs)
+
+  pub rises-left : (rest left : List (Pair × Nodes)) → left ≡ rows_beyond layer n rest → Rises [] (pairs_of_rows rest) → Rises [] (pairs_of_rows left)
+  rises-left rest left is up = Rises-same [] [] (pairs_of_rows left) (pairs_of_rows (rows_beyond layer n rest)) refl (ap pairs_of_rows is) (Rises-beyond [] rest up)
+
+  pub above-left : (rest left : List (Pair × Nodes)) → left ≡ rows_beyond layer n rest → is_row_at layer n left ≡ false
+  above-left rest left is = ap (is_row_at layer n) is ∙ beyond-first layer n rest
+
+  pub rises-rest : (rs rest : List (Pair × Nodes)) (r : Pair × Nodes) → rs ≡ r ∷ rest → Rises [] (pairs_of_rows rs) → Rises [] (pairs_of_rows rest)
+  rises-rest rs rest r taken up =
+      Rises-tail [] r.0 (pairs_of_rows rest) (Rises-same [] [] (r.0 ∷ pairs_of_rows rest) (pairs_of_rows rs) refl (ap pairs_of_rows (sym taken)) up)
+
+  pub fewer-left : (rs rest left : List (Pair × Nodes)) (r : Pair × Nodes) → rs ≡ r ∷ rest → left ≡ rows_beyond layer n rest → length left < length rs
+  fewer-left rs rest left r taken is =
+      let long : length rs ≡ length (r ∷ rest) = ap length taken in
+      let short : length left ≡ length (rows_beyond layer n rest) = ap length is in
+      omega (arith, length-beyond rest)
+
+pub layered-on : (layer : List ℕ → ℕ) (rows after : List Row) (row : Row) → AreLayered layer rows → row.layer ≡ layer row.key.now → after ≡ rows ++ row ∷ [] → AreLayered layer after
+layered-on layer rows after row are is more = subst (AreLayered layer) (sym more) (all rows are)
+  where
+    all : (xs : List Row) → AreLayered layer xs → AreLayered layer (xs ++ row ∷ [])
+    all [] h = (is, tt)
+    all (x ∷ xs) h = (h.0, all xs h.1)
+
+module _ (digest : List ℕ → List ℕ) (layer : List ℕ → ℕ) (n : ℕ) where
+  module _ (all left : List (Pair × Nodes)) (is : left ≡ rows_beyond layer n all) where
+    raised-left : rows_raised digest layer n left ≡ rows_raised digest layer n all
+    raised-left = ap (rows_raised digest layer n) is ∙ raised-beyond layer n digest all
+
+    pub counted-begun : (none : List Row) → none ≡ [] → map pair_and_count none ++ counted (rows_raised digest layer n left) ≡ counted (rows_raised digest layer n all)
+    counted-begun none empty = ap (λ (xs : List Row). map pair_and_count xs ++ counted (rows_raised digest layer n left)) empty ∙ ap counted raised-left
+
+    pub tops-begun : {X : Type 0} (f : X → List ℕ) (none some : List X) (first : Nodes) → none ≡ [] → map f some ≡ map f none ++ take 1 (part_next digest layer n first all)
+        → map f some ++ tops_after (rows_raised digest layer n left) ≡ tops_of (raised digest layer n (record { first = first; rows = all }))
+    tops-begun f none some first empty more =
+        ap (λ (xs : Nodes). xs ++ tops_after (rows_raised digest layer n left)) (more ∙ ap (λ xs. map f xs ++ take 1 (part_next digest layer n first all)) empty)
+        ∙ ap (λ (rs : List (Pair × Nodes)). take 1 (part_next digest layer n first all) ++ tops_after rs) raised-left
+
+  module _ (rs rest left : List (Pair × Nodes)) (r : Pair × Nodes) (taken : rs ≡ r ∷ rest) (above : is_row_at layer n rs ≡ false) (is : left ≡ rows_beyond layer n rest) where
+    raised-on : rows_raised digest layer n rs ≡ (r.0, part_next digest layer n r.1 rest) ∷ rows_raised digest layer n left
+    raised-on =
+        ap (rows_raised digest layer n) taken ∙ raised-row layer n digest r rest (ap (is_row_at layer n) (sym taken) ∙ above)
+        ∙ ap (λ (xs : List (Pair × Nodes)). (r.0, part_next digest layer n r.1 rest) ∷ xs) (sym (raised-left rest left is))
+
+    pub counted-on : (rows after : List Row) (row : Row) (all : List (Pair × ℕ)) → map pair_and_count rows ++ counted (rows_raised digest layer n rs) ≡ all → after ≡ rows ++ row ∷ []
+        → pair_of row ≡ r.0 → row.nodes_after ≡ length (part_next digest layer n r.1 rest) → map pair_and_count after ++ counted (rows_raised digest layer n left) ≡ all
+    counted-on rows after row all are more pair count =
+        let same : ◌≡◌ {A = Pair × ℕ} (pair_of row, row.nodes_after) (r.0, length (part_next digest layer n r.1 rest)) = λ i. (pair i, count i) in
+        ap (λ (xs : List Row). map pair_and_count xs ++ counted (rows_raised digest layer n left)) more
+        ∙ ap (λ (xs : List (Pair × ℕ)). xs ++ counted (rows_raised digest layer n left)) (map_push pair_and_count rows row)
+        ∙ append_assoc (map pair_and_count rows) (pair_and_count row ∷ []) _
+        ∙ ap (λ (x : Pair × ℕ). map pair_and_count rows ++ x ∷ counted (rows_raised digest layer n left)) same
+        ∙ ap (λ (xs : List (Pair × Nodes)). map pair_and_count rows ++ counted xs) (sym raised-on) ∙ are
+
+    pub tops-on : (old new all : Nodes) → old ++ tops_after (rows_raised digest layer n rs) ≡ all → new ≡ old ++ take 1 (part_next digest layer n r.1 rest) → new ++ tops_after (rows_raised digest layer n left) ≡ all
+    tops-on old new all are more =
+        ap (λ (xs : Nodes). xs ++ tops_after (rows_raised digest layer n left)) more ∙ append_assoc old _ _
+        ∙ ap (λ (xs : List (Pair × Nodes)). old ++ tops_after xs) (sym raised-on) ∙ are

@@ -1,5 +1,5 @@
 -- The whole tree, from the rows of its pairs.
-use Rattle.std.proofs.Common.{◌≡◌, ℕ, suc, ◌<◌, ◌^◌, true, List, [], ◌∷◌, ◌++◌, map, length, slice_index_or, Option, Some, None, MatchOption, sym, ap, subst, ◌∙◌, arith}
+use Rattle.std.proofs.Common.{◌≡◌, ℕ, suc, ◌<◌, ◌^◌, true, List, [], ◌∷◌, map, length, slice_index_or, Option, Some, None, MatchOption, sym, ap, subst, ◌∙◌, arith}
 use Rattle.std.specs.Prelude.{Contains}
 use Rattle.std.specs.List.{AllByRecursion, list_all}
 use Rattle.std.specs.FinMap.{is_sorted}
@@ -9,9 +9,9 @@ use Rattle.std.proofs.lemmas.List.{length-map, get_or-map}
 use Rattle.std.proofs.lemmas.List.Elements.{Contains-get_or}
 use Rattle.spec.specs.Cid.{cid, is_own_cid, IsDigest}
 use Rattle.spec.specs.Layer.{layer}
-use Rattle.spec.specs.Tree.{Pair, Sub, tree, top, top_layer}
-use Rattle.spec.specs.NodeFormat.{is_key, is_ascending, part_link}
-use Rattle.spec.specs.Blocks.{ArePairs, IsClashFree, IsClash, blocks_in, no_record, nodes, root, firsts}
+use Rattle.spec.specs.Tree.{Pair, tree, top, top_layer}
+use Rattle.spec.specs.NodeFormat.{is_key, is_ascending, node_bytes}
+use Rattle.spec.specs.Blocks.{ArePairs, IsClashFree, IsClash, nodes, root, firsts}
 use Rattle.spec.proofs.Bools.{both}
 use Rattle.spec.proofs.TreeLaws.{lower-from_top}
 use Rattle.spec.proofs.RootLaws.{all_of}
@@ -26,21 +26,17 @@ use Rattle.scratch.proofs.Aheads.{before-all}
 pub node-top : (of : List ℕ → ℕ) (es : List Pair) → node_ahead of (top_layer of es) es ≡ top of es
 node-top of es = ap (tree of (top_layer of es)) (before-all of (suc (top_layer of es)) es (lower-from_top of (top_layer of es) es (omega arith)))
 
-one_of : (a b : List ℕ) → Some a ≡ Some b → a ≡ b
-one_of a b e = cc
+-- the first of the nodes is the root's
+pub first-is_root : {X : Type 0} (f : X → List ℕ) (digest : List ℕ → List ℕ) (bits : ℕ) (es : List Pair) (xs : List X) (x : X) (root_is : List ℕ) → map f xs ≡ nodes digest bits es → x ≡ slice_index_or xs 0 x
+    → root_is ≡ cid digest (f x) → root_is ≡ root digest bits es
+first-is_root f digest bits es [] x root_is are is e = absurd cc
+first-is_root f digest bits es (y ∷ ys) x root_is are is e =
+    let top : f y ≡ node_bytes digest (top (layer digest bits) es) = cc in
+    e ∙ ap (λ z. cid digest (f z)) is ∙ ap (cid digest) top
 
--- from the node that lies ahead in all pairs
-module _ (digest : List ℕ → List ℕ) (bits : ℕ) (es all : List Pair) (n : ℕ) (same : all ≡ es) (is_top : n ≡ top_layer (layer digest bits) es) where
-  ahead : node_ahead (layer digest bits) n all ≡ top (layer digest bits) es
-  ahead = ap (node_ahead (layer digest bits) n) same ∙ ap (λ i. node_ahead (layer digest bits) i es) is_top ∙ node-top (layer digest bits) es
-
-  pub root-is : (link : List ℕ) → Some link ≡ part_link digest (Sub (node_ahead (layer digest bits) n all)) → link ≡ root digest bits es
-  root-is link e = one_of link (root digest bits es) (e ∙ ap (λ m. part_link digest (Sub m)) ahead)
-
-  pub nodes-are : (none blocks : List (List ℕ)) → none ≡ [] → blocks ≡ none ++ blocks_in digest no_record (Sub (node_ahead (layer digest bits) n all)) → blocks ≡ nodes digest bits es
-  nodes-are none blocks empty e =
-      e ∙ ap (λ (bs : List (List ℕ)). bs ++ blocks_in digest no_record (Sub (node_ahead (layer digest bits) n all))) empty
-      ∙ ap (λ m. blocks_in digest no_record (Sub m)) ahead
+pub some-nodes : {X : Type 0} (f : X → List ℕ) (digest : List ℕ → List ℕ) (bits : ℕ) (es : List Pair) (xs : List X) → map f xs ≡ nodes digest bits es → 0 < length xs
+some-nodes f digest bits es [] are = absurd cc
+some-nodes f digest bits es (y ∷ ys) are = omega arith
 
 -- ---- each node once
 

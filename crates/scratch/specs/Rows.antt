@@ -11,3 +11,7 @@ pair_of r = (r.key.now, bytes_of r.value)
 -- each row has the layer of its key
 abbrev pub AreLayered : (List ℕ → ℕ) → List Row → Type 0
 AreLayered layer rows = AllByRecursion (λ r. r.layer ≡ layer r.key.now) rows
+
+-- no row has a node after it yet
+abbrev pub HaveNothingBelow : List Row → Type 0
+HaveNothingBelow rows = AllByRecursion (λ r. r.nodes_after ≡ 0) rows

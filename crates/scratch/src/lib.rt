@@ -11,6 +11,8 @@
 mod clashes;
 mod fault;
 mod keys;
+mod level;
+mod merging;
 mod nodes;
 mod rows;
 mod tree;

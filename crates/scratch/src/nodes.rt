@@ -1,71 +1,91 @@
-//! The nodes of a tree, written in one pass over the rows of its pairs.
+//! The nodes of one layer, written over those below it.
 
-ghost use Rattle.std.specs.Prelude.{◌≡◌, ℕ, ◌≤◌, ◌++◌, true, suc, map, Some, IfOk, OnOk};
-ghost use Rattle.std.specs.Arc.{arc_value};
+ghost use Rattle.std.specs.Prelude.{◌≡◌, ◌++◌, true, map, take, length, IfOk, OnOk};
 ghost use Rattle.spec.specs.Layer.{layer as layer_of};
-ghost use Rattle.spec.specs.Tree.{Sub};
-ghost use Rattle.spec.specs.NodeFormat.{is_ascending, part_link};
-ghost use Rattle.spec.specs.Blocks.{blocks_in, no_record};
-ghost use Rattle.scratch.specs.Ahead.{from_layer, node_ahead, part_ahead};
+ghost use Rattle.spec.specs.NodeFormat.{is_ascending};
+ghost use Rattle.scratch.specs.Cut.{counted, node_next, pairs_of_rows, part_next, raised, rows_beyond, rows_raised, tops_of};
+ghost use Rattle.scratch.specs.Level.{pair_and_count};
+ghost use Rattle.scratch.specs.Rows.{AreLayered};
 
+use crate::rows::Row;
 use crate::unread::Unread;
-use cid::{Block, Cid, Digest};
+use cid::Digest;
 use node::NodeWriter;
 use std::alloc::{AllocError, Allocator};
-use std::sync::Arc;
 
-/// The nodes of a tree, in the order of the export.
-pub type Blocks<D, A> = Vec<Arc<Block<D, A>, A>, A>;
-
-/// Takes the next rows of layers below `layer` and adds the nodes of their subtree, whose link is answered, if there
-/// are such rows.
-#[cycle(nodes)]
-pub fn push_part<D: Digest, const B: u8, A: Allocator + Clone>(
-    blocks: &mut Blocks<D, A>,
-    unread: &mut Unread<'_, D, B>,
-    layer: u16,
-) -> Result<Option<Cid>, AllocError>
-    requires { is_ascending unread.old ≡ true }
-    ensures link { IfOk result (λ link. link
-        ≡ part_link D.digest_of (part_ahead (layer_of D.digest_of B) layer unread.old)) }
-    ensures blocks { OnOk result (map arc_value blocks.new.items ≡ map arc_value blocks.old.items
-        ++ blocks_in D.digest_of no_record (part_ahead (layer_of D.digest_of B) layer unread.old)) }
-    ensures unread { OnOk result (unread.new
-        ≡ from_layer (layer_of D.digest_of B) layer unread.old) }
-{
-    if !unread.is_below(layer) {
-        return Ok(None);
-    }
-    Ok(Some(push_node(blocks, unread, layer - 1)?))
+/// The bytes of the nodes of one layer, and the rows above it, each with how many nodes the part after it has now.
+#[derive(Drop)]
+pub struct Written<'a, A: Allocator> {
+    pub first: usize,
+    pub rows: Vec<Row<'a>, A>,
+    pub nodes: Vec<Vec<u8, A>, A>,
 }
 
-/// Takes the next rows of layers up to `layer` and adds their node of this layer and the nodes under it. The node has
-/// its place before those under it, although its bytes are known last; the open nodes stand on the call stack.
-#[cycle(nodes)]
-pub fn push_node<D: Digest, const B: u8, A: Allocator + Clone>(
-    blocks: &mut Blocks<D, A>,
-    unread: &mut Unread<'_, D, B>,
+/// Writes the nodes of this layer, in the order of their keys, over the parts below it.
+pub fn write_layer<'a, D: Digest, const B: u8, A: Allocator + Clone>(
+    alloc: A,
+    mut unread: Unread<'_, 'a, D, B, A>,
     layer: u16,
-) -> Result<Cid, AllocError>
-    requires { is_ascending unread.old ≡ true }
-    ensures link { IfOk result (λ cid. Some cid
-        ≡ part_link D.digest_of (Sub (node_ahead (layer_of D.digest_of B) layer unread.old))) }
-    ensures blocks { OnOk result (map arc_value blocks.new.items ≡ map arc_value blocks.old.items
-        ++ blocks_in D.digest_of no_record
-        (Sub (node_ahead (layer_of D.digest_of B) layer unread.old))) }
-    ensures unread { OnOk result (unread.new
-        ≡ from_layer (layer_of D.digest_of B) (suc layer) unread.old) }
+) -> Result<Written<'a, A>, AllocError>
+    requires { is_ascending (pairs_of_rows unread.rows) ≡ true }
+    ensures first { IfOk result (λ written. written.first
+        ≡ length (part_next D.digest_of (layer_of D.digest_of B) layer unread.entry.first unread.entry.rows)) }
+    ensures rows { IfOk result (λ written. map pair_and_count written.rows.items
+        ≡ counted (rows_raised D.digest_of (layer_of D.digest_of B) layer unread.entry.rows)) }
+    ensures layered { IfOk result (λ written. AreLayered (layer_of D.digest_of B) written.rows.items) }
+    ensures nodes { IfOk result (λ written. map (λ bytes. bytes.items) written.nodes.items
+        ≡ tops_of (raised D.digest_of (layer_of D.digest_of B) layer unread.entry)) }
 {
-    let place = blocks.len();
-    let left = push_part(blocks, unread, layer)?;
-    let mut writer = NodeWriter::begin(blocks.allocator().clone()?, left)?;
-    while let Some(row) = unread.next_of(layer) {
-        let tree = push_part(blocks, unread, layer)?;
-        writer.entry(row.key, row.value, tree)?;
+    let mut nodes = Vec::new(alloc.clone()?);
+    let mut rows = Vec::new(alloc);
+    let first = write_part(&mut nodes, &mut unread, layer)?;
+    while let Some(row) = unread.next() {
+        let nodes_after = write_part(&mut nodes, &mut unread, layer)?;
+        rows.push(Row { nodes_after, ..row })?;
     }
-    let block = Block::of(writer.finish()?);
-    let cid = block.cid();
-    let alloc = blocks.allocator().clone()?;
-    blocks.insert(place, Arc::new(alloc, block)?)?;
-    Ok(cid)
+    Ok(Written { first, rows, nodes })
+}
+
+/// Takes the next rows of this layer and adds their node of this layer, with the part before them and the parts after each
+/// of them below it. The answer is how many nodes that part has then: none, where there is neither a row nor a part.
+fn write_part<D: Digest, const B: u8, A: Allocator + Clone>(
+    nodes: &mut Vec<Vec<u8, A>, A>,
+    unread: &mut Unread<'_, '_, D, B, A>,
+    layer: u16,
+) -> Result<usize, AllocError>
+    requires { is_ascending (pairs_of_rows unread.old.rows) ≡ true }
+    ensures count { IfOk result (λ count. count
+        ≡ length (part_next D.digest_of (layer_of D.digest_of B) layer unread.old.first unread.old.rows)) }
+    ensures nodes { OnOk result (map (λ bytes. bytes.items) nodes.new.items
+        ≡ map (λ bytes. bytes.items) nodes.old.items
+        ++ take 1 (part_next D.digest_of (layer_of D.digest_of B) layer unread.old.first unread.old.rows)) }
+    ensures unread { OnOk result (unread.new.rows
+        ≡ rows_beyond (layer_of D.digest_of B) layer unread.old.rows) }
+{
+    if !unread.is_node_next(layer) {
+        return Ok(0);
+    }
+    let before = unread.node_count();
+    let node = write_node(nodes.allocator().clone()?, unread, layer)?;
+    nodes.push(node)?;
+    Ok(before - unread.later_count() + 1)
+}
+
+/// Takes the next rows of this layer and writes their node.
+fn write_node<D: Digest, const B: u8, A: Allocator + Clone>(
+    alloc: A,
+    unread: &mut Unread<'_, '_, D, B, A>,
+    layer: u16,
+) -> Result<Vec<u8, A>, AllocError>
+    requires { is_ascending (pairs_of_rows unread.old.rows) ≡ true }
+    ensures bytes { IfOk result (λ bytes. bytes.items
+        ≡ node_next D.digest_of (layer_of D.digest_of B) layer unread.old.first unread.old.rows) }
+    ensures unread { OnOk result (unread.new.rows
+        ≡ rows_beyond (layer_of D.digest_of B) layer unread.old.rows) }
+{
+    let mut writer = NodeWriter::begin(alloc, unread.link())?;
+    while let Some(row) = unread.next_of(layer) {
+        writer.entry(row.key, row.value, unread.link())?;
+    }
+    Ok(writer.finish()?)
 }

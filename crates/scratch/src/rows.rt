@@ -4,18 +4,19 @@ ghost use Rattle.std.specs.Prelude.{◌≡◌, ◌≤◌, ℕ, List, map, IfOk};
 ghost use Rattle.spec.specs.Layer.{layer as layer_of};
 ghost use Rattle.spec.specs.Tree.{top_layer as top_layer_of};
 ghost use Rattle.scratch.specs.Pairs.{pairs_of};
-ghost use Rattle.scratch.specs.Rows.{pair_of, AreLayered};
+ghost use Rattle.scratch.specs.Rows.{pair_of, AreLayered, HaveNothingBelow};
 
 use cid::{Cid, CidRef, Digest, layer, layer_four};
 use std::alloc::{AllocError, Allocator};
 use std::convert::AsSlice;
 
-/// A pair with the layer of its key.
+/// A pair with the layer of its key, and how many nodes stand between it and the next row.
 #[derive(Clone, Copy)]
 pub struct Row<'a> {
     pub layer: u16,
     pub key: &'a [u8],
     pub value: CidRef<'a>,
+    pub nodes_after: usize,
 }
 
 /// The pairs in their order. Each key is hashed here for its layer, and nowhere else: four at a time, and the last ones
@@ -28,6 +29,7 @@ pub fn rows<'a, D: Digest, const B: u8, K: AsSlice<u8>, A: Allocator>(
     requires most { B ≤ 8 }
     ensures same { IfOk result (λ rows. map pair_of rows.items ≡ pairs_of K.items pairs.now) }
     ensures layered { IfOk result (λ rows. AreLayered (layer_of D.digest_of B) rows.items) }
+    ensures nothing_below { IfOk result (λ rows. HaveNothingBelow rows.items) }
 {
     let mut rows = Vec::with_capacity(alloc, pairs.len())?;
     let mut rest = pairs;
@@ -52,16 +54,18 @@ pub fn rows<'a, D: Digest, const B: u8, K: AsSlice<u8>, A: Allocator>(
     Ok(rows)
 }
 
-/// The row of this layer, key and value.
+/// The row of this layer, key and value, with no nodes after it.
 fn row_of<'a>(layer: u16, key: &'a [u8], value: &'a Cid) -> Row<'a>
     ensures layer { result.layer ≡ layer }
     ensures pair { pair_of result ≡ (key.now, value.now) }
     ensures key { result.key.now ≡ key.now }
+    ensures nodes_after { result.nodes_after ≡ 0 }
 {
     Row {
         layer,
         key,
         value: CidRef::from(value),
+        nodes_after: 0,
     }
 }
 

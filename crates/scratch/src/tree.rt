@@ -1,20 +1,21 @@
 //! The tree of sorted pairs.
 
-ghost use Rattle.std.specs.Prelude.{◌≡◌, ◌≤◌, true, map, IfOk, IfErr, OnOk};
+ghost use Rattle.std.specs.Prelude.{◌≡◌, ◌<◌, ◌≤◌, [], true, map, length, IfOk, IfErr, OnOk};
 ghost use Rattle.std.specs.Arc.{arc_value};
 ghost use Rattle.spec.specs.Cid.{cid as cid_of};
 ghost use Rattle.spec.specs.Layer.{layer as layer_of};
 ghost use Rattle.spec.specs.NodeFormat.{is_ascending};
 ghost use Rattle.spec.specs.Blocks.{IsClashFree, firsts, nodes, root as root_of};
 ghost use Rattle.scratch.specs.Pairs.{pairs_of};
-ghost use Rattle.scratch.specs.Rows.{pair_of, AreLayered};
+ghost use Rattle.scratch.specs.Rows.{pair_of, AreLayered, HaveNothingBelow};
 ghost use Rattle.scratch.specs.Faults.{IsFaultOf};
 
 use crate::clashes::{find_clash, show_clash};
 use crate::fault::ScratchFault;
-use crate::nodes::{Blocks, push_node};
+use crate::level::{Level, raise};
+use crate::merging::Blocks;
 use crate::rows::{Row, rows, top_layer};
-use crate::unread::Unread;
+use node::NodeWriter;
 use cid::{Block, Cid, Digest};
 use std::alloc::{AllocError, Allocator, Global};
 use std::convert::AsSlice;
@@ -60,7 +61,7 @@ pub fn build<D: Digest, const B: u8, K: AsSlice<u8>, A: Allocator + Clone>(
         (nodes D.digest_of B (pairs_of K.items pairs.now))) }
 {
     let rows = rows::<D, B, K, A>(alloc.clone()?, pairs)?;
-    let built = write::<D, B, A>(alloc.clone()?, &rows)?;
+    let built = write::<D, B, A>(alloc.clone()?, rows)?;
     match find_clash(alloc, &built.blocks)? {
         None => Ok(built),
         Some((one, other)) => Err(ScratchFault::Clash(show_clash(&built.blocks, one, other)?)),
@@ -70,17 +71,60 @@ pub fn build<D: Digest, const B: u8, K: AsSlice<u8>, A: Allocator + Clone>(
 /// The tree of these rows, of which nothing is known of clashes.
 fn write<D: Digest, const B: u8, A: Allocator + Clone>(
     alloc: A,
-    rows: &[Row<'_>],
+    rows: Vec<Row<'_>, A>,
 ) -> Result<Built<D, A>, AllocError>
-    requires layered { AreLayered (layer_of D.digest_of B) rows.now }
-    requires ascending { is_ascending (map pair_of rows.now) ≡ true }
+    requires layered { AreLayered (layer_of D.digest_of B) rows.items }
+    requires nothing_below { HaveNothingBelow rows.items }
+    requires ascending { is_ascending (map pair_of rows.items) ≡ true }
     ensures root { IfOk result (λ built. built.root
-        ≡ root_of D.digest_of B (map pair_of rows.now)) }
+        ≡ root_of D.digest_of B (map pair_of rows.entry.items)) }
     ensures blocks { IfOk result (λ built. map arc_value built.blocks.items
-        ≡ nodes D.digest_of B (map pair_of rows.now)) }
+        ≡ nodes D.digest_of B (map pair_of rows.entry.items)) }
 {
-    let mut blocks = Vec::new(alloc);
-    let mut unread = Unread::<D, B>::new(rows);
-    let root = push_node(&mut blocks, &mut unread, top_layer::<D, B>(rows))?;
+    if rows.is_empty() {
+        return write_empty::<D, B, A>(alloc);
+    }
+    let blocks = write_rows::<D, B, A>(alloc, rows)?;
+    let root = blocks[0].cid();
     Ok(Built { root, blocks })
+}
+
+/// The tree without pairs: one node, without an entry and without a link.
+fn write_empty<D: Digest, const B: u8, A: Allocator + Clone>(
+    alloc: A,
+) -> Result<Built<D, A>, AllocError>
+    ensures root { IfOk result (λ built. built.root ≡ root_of D.digest_of B []) }
+    ensures blocks { IfOk result (λ built. map arc_value built.blocks.items
+        ≡ nodes D.digest_of B []) }
+{
+    let node = Block::of(NodeWriter::begin(alloc.clone()?, None)?.finish()?);
+    let root = node.cid();
+    let mut blocks = Vec::new(alloc.clone()?);
+    blocks.push(Arc::new(alloc, node)?)?;
+    Ok(Built { root, blocks })
+}
+
+/// The nodes of these rows, of which there are some, layer by layer from the lowest up.
+fn write_rows<D: Digest, const B: u8, A: Allocator + Clone>(
+    alloc: A,
+    rows: Vec<Row<'_>, A>,
+) -> Result<Blocks<D, A>, AllocError>
+    requires some { 0 < length rows.items }
+    requires layered { AreLayered (layer_of D.digest_of B) rows.items }
+    requires nothing_below { HaveNothingBelow rows.items }
+    requires ascending { is_ascending (map pair_of rows.items) ≡ true }
+    ensures { IfOk result (λ blocks. map arc_value blocks.items
+        ≡ nodes D.digest_of B (map pair_of rows.entry.items)) }
+{
+    let top = top_layer::<D, B>(&rows);
+    let mut level = Level {
+        first: 0,
+        rows,
+        nodes: Vec::new(alloc),
+    };
+    for layer in 0..top {
+        level = raise::<D, B, A>(level, layer)?;
+    }
+    let whole = raise::<D, B, A>(level, top)?;
+    Ok(whole.nodes)
 }
