@@ -1,11 +1,39 @@
--- The node that lies ahead is the part before its first entry, and then entry by entry the part after it.
-use Rattle.std.proofs.Common.{◌≡◌, ◌≢◌, ℕ, suc, ◌-◌, ◌<◌, Bool, true, false, cond, nat_lt, List, [], ◌∷◌, ◌++◌, refl, sym, ap, subst, ◌∙◌, arith}
+-- What lies ahead in a list of pairs that is taken from the front: a node is the part before its first entry, and then
+-- entry by entry the part after it.
+use Rattle.std.proofs.Common.{◌≡◌, ◌≢◌, ℕ, suc, ◌-◌, ◌<◌, Bool, true, false, cond, nat_lt, nat_eq, List, [], ◌∷◌, ◌++◌, refl, sym, ap, subst, ◌∙◌, arith}
 use Rattle.std.specs.List.{AllByRecursion}
 use Rattle.std.proofs.lemmas.Bool.{ltb-true, ltb-false, lt-ltb, le-ltb, eqb-false}
 use Rattle.std.proofs.lemmas.List.{append-nil}
 use Rattle.spec.specs.Tree.{Pair, Node, Last, More, Part, Nothing, Sub, LastGroup, MoreGroups, cut, node_of, below, tree, EachLayer}
 use Rattle.spec.proofs.TreeLaws.{IsLower, IsCut-cut, joined-cut, only_cut, below-nothing}
-use Rattle.scratch.specs.Ahead.{is_first_below, is_first_at, before_layer, from_layer, node_ahead, part_ahead}
+
+-- whether the first pair is of a layer below n, or of layer n
+abbrev pub is_first_below : (List ℕ → ℕ) → ℕ → List Pair → Bool
+is_first_below layer n [] = false
+is_first_below layer n (e ∷ es) = nat_lt (layer e.0) n
+
+abbrev pub is_first_at : (List ℕ → ℕ) → ℕ → List Pair → Bool
+is_first_at layer n [] = false
+is_first_at layer n (e ∷ es) = nat_eq (layer e.0) n
+
+-- the pairs before the first of layer n or above
+abbrev pub before_layer : (List ℕ → ℕ) → ℕ → List Pair → List Pair
+before_layer layer n [] = []
+before_layer layer n (e ∷ es) = cond (nat_lt (layer e.0) n) (e ∷ before_layer layer n es) []
+
+-- the pairs from the first of layer n or above on
+abbrev pub from_layer : (List ℕ → ℕ) → ℕ → List Pair → List Pair
+from_layer layer n [] = []
+from_layer layer n (e ∷ es) = cond (nat_lt (layer e.0) n) (from_layer layer n es) (e ∷ es)
+
+-- the node of layer n, and the part below layer n, of the pairs up to the first that is too high for it
+abbrev pub node_ahead : (List ℕ → ℕ) → ℕ → List Pair → Node
+node_ahead layer n es = tree layer n (before_layer layer (suc n) es)
+
+abbrev pub part_ahead : (List ℕ → ℕ) → ℕ → List Pair → Part
+part_ahead layer n es = below layer n (before_layer layer n es)
+
+-- ---- another first part
 
 -- the same node with another first part
 abbrev pub with_first : Part → Node → Node

@@ -8,15 +8,29 @@ use Rattle.spec.specs.Tree.{Pair, Node, Part, Nothing, Sub, top_layer}
 use Rattle.spec.specs.NodeFormat.{Entry, is_ascending, entries_of, part_link, shape, node_bytes, node_spelling, first_link}
 use Rattle.spec.specs.Blocks.{blocks_in, blocks_under, no_record, nodes}
 use Rattle.spec.proofs.TreeLaws.{IsLower, lower-from_top}
-use Rattle.scratch.specs.Ahead.{is_first_below, from_layer, node_ahead, part_ahead}
-use Rattle.scratch.specs.Cut.{Nodes, Cut, nodes_after, nodes_of, pairs_of_rows, first_of, rows_of, cut_of, link_to, entries_next, under_next, is_node_next, node_next, part_next, rows_raised, raised}
+use Rattle.scratch.specs.Cut.{Nodes, Cut, nodes_after, nodes_of, pairs_of_rows, link_to, entries_next, under_next, is_node_next, node_next, part_next, rows_raised, raised}
 use Rattle.scratch.specs.Rows.{pair_of, HaveNothingBelow}
 use Rattle.scratch.specs.Level.{rows_with, cut_with, count_after}
 use Rattle.scratch.specs.declared.rows.Row.{Row}
 use Rattle.scratch.proofs.Ascending.{Rises, Begins-cons, Rises-tail, Rises-cons, Rises-ascending, ascending-Rises}
-use Rattle.scratch.proofs.Aheads.{part-none, part-some_at, part-is, node-end, not-first}
+use Rattle.scratch.proofs.Aheads.{is_first_below, from_layer, node_ahead, part_ahead, part-none, part-some_at, part-is, node-end, not-first}
 use Rattle.scratch.proofs.Writing.{entries-ahead, link-ahead, blocks-ahead, entries-entry, blocks-entry}
 use Rattle.scratch.proofs.Whole.{node-top}
+
+-- ---- of the pairs of a tree: those of layer n and above, with the parts below layer n
+
+module _ (digest : List ℕ → List ℕ) (layer : List ℕ → ℕ) (n : ℕ) where
+  abbrev pub first_of : List Pair → Nodes
+  first_of es = blocks_in digest no_record (part_ahead layer n es)
+
+  abbrev pub rows_of : List Pair → List (Pair × Nodes)
+  rows_of [] = []
+  rows_of (e ∷ es) = cond (nat_lt (layer e.0) n) (rows_of es) ((e, first_of es) ∷ rows_of es)
+
+  abbrev pub cut_of : List Pair → Cut
+  cut_of es = record { first = first_of es; rows = rows_of es }
+
+-- ---- one layer more
 
 link-part : (digest : List ℕ → List ℕ) (p : Part) → link_to digest (blocks_in digest no_record p) ≡ part_link digest p
 link-part digest Nothing = refl

@@ -16,11 +16,10 @@ use Rattle.spec.proofs.Bools.{both}
 use Rattle.spec.proofs.TreeLaws.{lower-from_top}
 use Rattle.spec.proofs.RootLaws.{all_of}
 use Rattle.spec.proofs.Once.{firsts-nodes}
-use Rattle.scratch.specs.Ahead.{node_ahead}
 use Rattle.scratch.specs.Rows.{pair_of}
 use Rattle.scratch.specs.Faults.{AreClashing, IsClashIn}
 use Rattle.scratch.specs.declared.rows.Row.{Row}
-use Rattle.scratch.proofs.Aheads.{before-all}
+use Rattle.scratch.proofs.Aheads.{node_ahead, before-all}
 
 -- all pairs lie ahead of the top
 pub node-top : (of : List ℕ → ℕ) (es : List Pair) → node_ahead of (top_layer of es) es ≡ top of es

@@ -5,8 +5,7 @@ use Rattle.spec.specs.Tree.{Pair, Node, Last, More, Part, Nothing}
 use Rattle.spec.specs.NodeFormat.{Entry, first_link, entries_of, part_link, shape}
 use Rattle.spec.specs.Blocks.{blocks_in, blocks_under, no_record}
 use Rattle.spec.proofs.Once.{blocks_under-More}
-use Rattle.scratch.specs.Ahead.{from_layer, node_ahead, part_ahead}
-use Rattle.scratch.proofs.Aheads.{with_first, first_part, first-from, node-first, node-entry, first_part-ahead}
+use Rattle.scratch.proofs.Aheads.{from_layer, node_ahead, part_ahead, with_first, first_part, first-from, node-first, node-entry, first_part-ahead}
 
 -- ---- a node whose first part is another
 

@@ -1,10 +1,8 @@
 -- A tree cut at a layer: the nodes below it, and how those of the layer itself are put on top of them.
-use Rattle.std.specs.Prelude.{ℕ, Bool, true, false, cond, List, [], ◌∷◌, ◌++◌, take, length, nat_lt, nat_eq, Option, Some, None}
+use Rattle.std.specs.Prelude.{ℕ, Bool, true, false, cond, List, [], ◌∷◌, ◌++◌, map, take, length, nat_eq, Option, Some, None}
 use Rattle.spec.specs.Cid.{cid}
 use Rattle.spec.specs.Tree.{Pair}
 use Rattle.spec.specs.NodeFormat.{Entry, node_spelling}
-use Rattle.spec.specs.Blocks.{blocks_in, no_record}
-use Rattle.scratch.specs.Ahead.{part_ahead}
 
 -- the nodes of a part in the order of the export, its top first; none, where it is no part
 abbrev pub Nodes : Type 0
@@ -33,26 +31,11 @@ tops_of c = take 1 c.first ++ tops_after c.rows
 
 -- the pairs
 abbrev pub pairs_of_rows : List (Pair × Nodes) → List Pair
-pairs_of_rows [] = []
-pairs_of_rows (r ∷ rs) = r.0 ∷ pairs_of_rows rs
+pairs_of_rows rs = map (λ r. r.0) rs
 
 -- each pair with how many nodes the part after it has
 abbrev pub counted : List (Pair × Nodes) → List (Pair × ℕ)
-counted [] = []
-counted (r ∷ rs) = (r.0, length r.1) ∷ counted rs
-
--- ---- of the pairs of a tree: those of layer n and above, with the parts below layer n
-
-module _ (digest : List ℕ → List ℕ) (layer : List ℕ → ℕ) (n : ℕ) where
-  abbrev pub first_of : List Pair → Nodes
-  first_of es = blocks_in digest no_record (part_ahead layer n es)
-
-  abbrev pub rows_of : List Pair → List (Pair × Nodes)
-  rows_of [] = []
-  rows_of (e ∷ es) = cond (nat_lt (layer e.0) n) (rows_of es) ((e, first_of es) ∷ rows_of es)
-
-  abbrev pub cut_of : List Pair → Cut
-  cut_of es = record { first = first_of es; rows = rows_of es }
+counted rs = map (λ r. (r.0, length r.1)) rs
 
 -- ---- the nodes of layer n
 
@@ -100,6 +83,9 @@ module _ (digest : List ℕ → List ℕ) (layer : List ℕ → ℕ) (n : ℕ) w
   rows_raised [] = []
   rows_raised (r ∷ rs) = cond (nat_eq (layer r.0.0) n) (rows_raised rs) ((r.0, part_next r.1 rs) ∷ rows_raised rs)
 
+  abbrev pub part_next_of : Cut → Nodes
+  part_next_of c = part_next c.first c.rows
+
   -- the cut at the next layer
   abbrev pub raised : Cut → Cut
-  raised c = record { first = part_next c.first c.rows; rows = rows_raised c.rows }
+  raised c = record { first = part_next_of c; rows = rows_raised c.rows }

@@ -1,6 +1,5 @@
 -- In the order in which a newcomer reads them.
 pub mod Pairs
-pub mod Ahead
 pub mod Cut
 pub mod Rows
 pub mod Level

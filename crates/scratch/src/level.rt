@@ -15,8 +15,8 @@ use crate::unread::Unread;
 use cid::{Block, Digest};
 use std::alloc::{AllocError, Allocator};
 
-/// A tree cut at a layer: all nodes below it, in the order of the export, and the rows of this layer and above. `first` of
-/// the nodes stand before the first row, and each row says how many stand between it and the next one.
+/// A tree cut at a layer: all nodes below it, in the order of the export, and the rows of this layer and above. So many
+/// of the nodes as `first` says stand before the first row, and each row says how many stand between it and the next.
 #[derive(Drop)]
 pub struct Level<'a, D: Digest, A: Allocator> {
     pub first: usize,
@@ -36,8 +36,8 @@ pub fn raise<'a, D: Digest, const B: u8, A: Allocator + Clone>(
         higher.rows.items (length higher.nodes.items)) }
     ensures cut { IfOk result (λ higher.
         cut_with higher.first higher.rows.items (map arc_value higher.nodes.items)
-        ≡ raised D.digest_of (layer_of D.digest_of B) layer
-        (cut_with level.entry.first level.entry.rows.items (map arc_value level.entry.nodes.items))) }
+        ≡ raised D.digest_of (layer_of D.digest_of B) layer (cut_with level.entry.first
+        level.entry.rows.items (map arc_value level.entry.nodes.items))) }
 {
     let alloc = level.nodes.allocator().clone()?;
     let unread = Unread::<D, B, A>::new(level.first, &level.rows, &level.nodes);

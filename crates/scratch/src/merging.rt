@@ -22,7 +22,8 @@ pub fn merge<D: Digest, A: Allocator + Clone>(
     under: Blocks<D, A>,
 ) -> Result<Blocks<D, A>, AllocError>
     ensures { IfOk result (λ nodes. map arc_value nodes.items
-        ≡ parts_from (first ∷ map (λ r. r.nodes_after) rows.now) tops.items (map arc_value under.items)) }
+        ≡ parts_from (first ∷ map (λ r. r.nodes_after) rows.now) tops.items
+        (map arc_value under.items)) }
 {
     let mut nodes = Vec::new(under.allocator().clone()?);
     let mut tops = tops.into_iter();
@@ -43,7 +44,8 @@ fn push_part<D: Digest, A: Allocator + Clone>(
 ) -> Result<(), AllocError>
     ensures nodes { OnOk result (map arc_value nodes.new.items ≡ map arc_value nodes.old.items
         ++ part_from count (into_iter_items tops.old) (map arc_value (into_iter_items under.old))) }
-    ensures tops { OnOk result (into_iter_items tops.new ≡ tops_left count (into_iter_items tops.old)) }
+    ensures tops { OnOk result (into_iter_items tops.new
+        ≡ tops_left count (into_iter_items tops.old)) }
     ensures under { OnOk result (map arc_value (into_iter_items under.new)
         ≡ under_left count (map arc_value (into_iter_items under.old))) }
 {

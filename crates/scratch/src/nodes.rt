@@ -3,7 +3,8 @@
 ghost use Rattle.std.specs.Prelude.{◌≡◌, ◌++◌, true, map, take, length, IfOk, OnOk};
 ghost use Rattle.spec.specs.Layer.{layer as layer_of};
 ghost use Rattle.spec.specs.NodeFormat.{is_ascending};
-ghost use Rattle.scratch.specs.Cut.{counted, node_next, pairs_of_rows, part_next, raised, rows_beyond, rows_raised, tops_of};
+ghost use Rattle.scratch.specs.Cut.{counted, node_next, pairs_of_rows, part_next_of};
+ghost use Rattle.scratch.specs.Cut.{raised, rows_beyond, rows_raised, tops_of};
 ghost use Rattle.scratch.specs.Level.{pair_and_count};
 ghost use Rattle.scratch.specs.Rows.{AreLayered};
 
@@ -29,10 +30,11 @@ pub fn write_layer<'a, D: Digest, const B: u8, A: Allocator + Clone>(
 ) -> Result<Written<'a, A>, AllocError>
     requires { is_ascending (pairs_of_rows unread.rows) ≡ true }
     ensures first { IfOk result (λ written. written.first
-        ≡ length (part_next D.digest_of (layer_of D.digest_of B) layer unread.entry.first unread.entry.rows)) }
+        ≡ length (part_next_of D.digest_of (layer_of D.digest_of B) layer unread.entry)) }
     ensures rows { IfOk result (λ written. map pair_and_count written.rows.items
         ≡ counted (rows_raised D.digest_of (layer_of D.digest_of B) layer unread.entry.rows)) }
-    ensures layered { IfOk result (λ written. AreLayered (layer_of D.digest_of B) written.rows.items) }
+    ensures layered { IfOk result (λ written.
+        AreLayered (layer_of D.digest_of B) written.rows.items) }
     ensures nodes { IfOk result (λ written. map (λ bytes. bytes.items) written.nodes.items
         ≡ tops_of (raised D.digest_of (layer_of D.digest_of B) layer unread.entry)) }
 {
@@ -46,8 +48,8 @@ pub fn write_layer<'a, D: Digest, const B: u8, A: Allocator + Clone>(
     Ok(Written { first, rows, nodes })
 }
 
-/// Takes the next rows of this layer and adds their node of this layer, with the part before them and the parts after each
-/// of them below it. The answer is how many nodes that part has then: none, where there is neither a row nor a part.
+/// Takes the next rows of this layer and adds their node, over the part before them and the parts after each of them. The
+/// answer is how many nodes it has with those under it: none, where there is neither such a row nor a part before it.
 fn write_part<D: Digest, const B: u8, A: Allocator + Clone>(
     nodes: &mut Vec<Vec<u8, A>, A>,
     unread: &mut Unread<'_, '_, D, B, A>,
@@ -55,10 +57,10 @@ fn write_part<D: Digest, const B: u8, A: Allocator + Clone>(
 ) -> Result<usize, AllocError>
     requires { is_ascending (pairs_of_rows unread.old.rows) ≡ true }
     ensures count { IfOk result (λ count. count
-        ≡ length (part_next D.digest_of (layer_of D.digest_of B) layer unread.old.first unread.old.rows)) }
+        ≡ length (part_next_of D.digest_of (layer_of D.digest_of B) layer unread.old)) }
     ensures nodes { OnOk result (map (λ bytes. bytes.items) nodes.new.items
         ≡ map (λ bytes. bytes.items) nodes.old.items
-        ++ take 1 (part_next D.digest_of (layer_of D.digest_of B) layer unread.old.first unread.old.rows)) }
+        ++ take 1 (part_next_of D.digest_of (layer_of D.digest_of B) layer unread.old)) }
     ensures unread { OnOk result (unread.new.rows
         ≡ rows_beyond (layer_of D.digest_of B) layer unread.old.rows) }
 {

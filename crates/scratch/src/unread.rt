@@ -32,7 +32,8 @@ impl<'l, 'a, D: Digest, const B: u8, A: Allocator> Model for Unread<'l, 'a, D, B
 
     ghost view = { λ u. cut_with u.first u.rows.now (map arc_value u.nodes.now) };
 
-    ghost invariant = { λ u. IsLevel (layer_of D.digest_of B) u.first u.rows.now (length u.nodes.now) };
+    ghost invariant = { λ u. IsLevel (layer_of D.digest_of B) u.first u.rows.now
+        (length u.nodes.now) };
 }
 
 impl<'l, 'a, D: Digest, const B: u8, A: Allocator> Unread<'l, 'a, D, B, A> {
@@ -74,7 +75,8 @@ impl<'l, 'a, D: Digest, const B: u8, A: Allocator> Unread<'l, 'a, D, B, A> {
 
     /// Whether there is a node of this layer next: a part below it, or a row of it.
     pub fn is_node_next(&self, layer: u16) -> bool
-        ensures { result ≡ is_node_next (layer_of D.digest_of B) layer self.now.first self.now.rows }
+        ensures { result
+            ≡ is_node_next (layer_of D.digest_of B) layer self.now.first self.now.rows }
     {
         self.first != 0 || self.is_at(layer)
     }
@@ -96,7 +98,8 @@ impl<'l, 'a, D: Digest, const B: u8, A: Allocator> Unread<'l, 'a, D, B, A> {
 
     /// Takes the next row, if it is of this layer.
     pub fn next_of(&mut self, layer: u16) -> Option<Row<'a>>
-        ensures none { IfNone result (is_row_at (layer_of D.digest_of B) layer self.old.rows ≡ false) }
+        ensures none { IfNone result
+            (is_row_at (layer_of D.digest_of B) layer self.old.rows ≡ false) }
         ensures left { IfNone result (self.new ≡ self.old) }
         ensures some { IfSome result (λ row. self.old.rows
             ≡ (pair_of row, self.new.first) ∷ self.new.rows) }

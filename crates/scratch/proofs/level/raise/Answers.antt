@@ -10,9 +10,10 @@ use Rattle.scratch.proofs.Kept.{pairs-with, all-kept, raised-kept, raised-count}
 use Rattle.scratch.proofs.level.raise.Goals as goal
 
 pub write_layer-requires : goal.write_layer-requires
-write_layer-requires g c =
-    (search rules,
-    ap is_ascending (ap (λ (u : Cut). pairs_of_rows u.rows) c.new-unread.ensures ∙ pairs-with c.deref.result.now _ ∙ ap (map pair_of) c.deref.ensures.value) ∙ c.requires.ascending)
+write_layer-requires g c = (
+  search rules,
+  ap is_ascending (ap (λ (u : Cut). pairs_of_rows u.rows) c.new-unread.ensures ∙ pairs-with c.deref.result.now _ ∙ ap (map pair_of) c.deref.ensures.value) ∙ c.requires.ascending,
+)
 
 pub returns : goal.returns
 returns g c =

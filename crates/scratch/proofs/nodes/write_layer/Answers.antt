@@ -46,7 +46,8 @@ loop-row-preserved g c =
     }
 
 pub write_part-requires-in-Some : goal.write_part-requires-in-Some
-write_part-requires-in-Some g c =
-    (search rules,
-    ascending-Rises [] (pairs_of_rows c.next.new.self.rows)
-    (rises-rest (layer_of g.D.Digest.digest_of g.row.B) c.args.layer c.loop-row.unread.rows c.next.new.self.rows (pair_of c.in-Some.row, c.next.new.self.first) c.in-Some.ensures.some c.loop-row.invariant.rises))
+write_part-requires-in-Some g c = (
+  search rules,
+  ascending-Rises [] (pairs_of_rows c.next.new.self.rows)
+      (rises-rest (layer_of g.D.Digest.digest_of g.row.B) c.args.layer c.loop-row.unread.rows c.next.new.self.rows (pair_of c.in-Some.row, c.next.new.self.first) c.in-Some.ensures.some c.loop-row.invariant.rises),
+)

@@ -3,11 +3,11 @@ use Rattle.std.specs.Arc.{arc_value}
 use Rattle.std.proofs.lemmas.List.{length-map}
 use Rattle.spec.specs.Layer.{layer as layer_of}
 use Rattle.spec.specs.Tree.{top_layer}
-use Rattle.scratch.specs.Cut.{Cut, cut_of, pairs_of_rows}
+use Rattle.scratch.specs.Cut.{Cut, pairs_of_rows}
 use Rattle.scratch.specs.Level.{cut_with, count_after}
 use Rattle.scratch.specs.Rows.{pair_of}
 use Rattle.scratch.proofs.Kept.{pairs-with, all-kept}
-use Rattle.scratch.proofs.Raising.{ascending-cut, cut-lowest, count-lowest, cut-next, nodes-raised}
+use Rattle.scratch.proofs.Raising.{cut_of, ascending-cut, cut-lowest, count-lowest, cut-next, nodes-raised}
 use Rattle.scratch.proofs.tree.write_rows.Goals as goal
 
 pub loop-layer-init : goal.loop-layer-init

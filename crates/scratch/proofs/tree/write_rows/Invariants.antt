@@ -1,9 +1,9 @@
 use Rattle.std.proofs.Common.{◌≡◌, map, length}
 use Rattle.std.specs.Arc.{arc_value}
 use Rattle.spec.specs.Layer.{layer as layer_of}
-use Rattle.scratch.specs.Cut.{cut_of}
 use Rattle.scratch.specs.Level.{cut_with, IsLevel}
 use Rattle.scratch.specs.Rows.{pair_of}
+use Rattle.scratch.proofs.Raising.{cut_of}
 use Rattle.scratch.proofs.tree.write_rows.Given as goal
 
 -- the cut at the layer
