@@ -67,8 +67,8 @@ impl<D: Digest, A: Allocator> Block<D, A> {
 }
 
 impl<D: Digest, A: Allocator + Clone> Block<D, A> {
-    /// The blocks of these lists of bytes, in their order. Each is hashed once, here, and not copied; where the digest can
-    /// work on several side by side, it does.
+    /// The blocks of these lists of bytes, in their order. Each is hashed once, here, several side by side where the digest
+    /// can do that, and none is copied.
     pub fn of_each(lists: Vec<Vec<u8, A>, A>) -> Result<Vec<Block<D, A>, A>, AllocError>
         ensures { IfOk result (λ blocks. blocks.items ≡ map (λ bytes. bytes.items) lists.items) }
     {
