@@ -3,12 +3,17 @@
 use refusing::Refusing;
 use std::alloc::{AllocError, Allocator, Global};
 
+/// A list of one number, in a block of its own.
+fn list_of<A: Allocator>(alloc: A, number: u8) -> Result<Vec<u8, A>, AllocError> {
+    let mut list = Vec::new(alloc);
+    list.push(number)?;
+    Ok(list)
+}
+
 /// Takes three blocks that live at once: two lists and a box.
-fn three_blocks<A: Allocator + Clone>(alloc: A) -> Result<u8, AllocError> {
-    let mut ones = Vec::new(alloc.clone()?);
-    ones.push(1u8)?;
-    let mut twos = Vec::new(alloc.clone()?);
-    twos.push(2u8)?;
+fn three_blocks<A: Allocator + Copy>(alloc: A) -> Result<u8, AllocError> {
+    let _ones = list_of(alloc, 1)?;
+    let _twos = list_of(alloc, 2)?;
     let boxed = Box::new(alloc, 4u8)?;
     Ok(Box::into_inner(boxed))
 }
@@ -49,8 +54,17 @@ fn refuses_one_request_and_then_grants_again(rt: HostRuntime) {
     let heap = Refusing::new(rt.alloc());
     let mut list = Vec::new(&heap);
     heap.refuse(1);
-    assert!(rt; list.push(1u8).is_err() && list.push(2).is_ok());
-    assert!(rt; has_counts(&heap, 1, 1));
+    assert!(rt; list.push(1u8).is_err() && list.push(2).is_ok() && has_counts(&heap, 1, 1));
+}
+
+/// Whether each of five requests is refused.
+fn refuses_five_times(heap: &Refusing<Global>) -> bool {
+    for _ in 0..5u8 {
+        if three_blocks(heap).is_ok() {
+            return false;
+        }
+    }
+    heap.refused() == 5
 }
 
 #[test]
@@ -58,22 +72,22 @@ fn refuses_from_a_request_on(rt: HostRuntime) {
     let heap = Refusing::new(rt.alloc());
     let mut list = Vec::new(&heap);
     heap.refuse_from(2);
-    assert!(rt; list.push(1u8).is_ok());
-    for time in 0..5u8 {
-        assert!(rt; three_blocks(&heap).is_err(), "at time {time}");
-    }
-    assert!(rt; heap.refused() == 5);
+    assert!(rt; list.push(1u8).is_ok() && refuses_five_times(&heap));
     heap.refuse(0);
     assert!(rt; grants_three(&heap) && heap.live() == 1);
+}
+
+/// Whether this list, whose room is one block, can't grow at first and then can, with one block out both times.
+fn grows_at_last(heap: &Refusing<Global>, list: &mut Vec<u64, &Refusing<Global>>) -> bool {
+    heap.refuse(1);
+    let refused = list.reserve(100).is_err() && heap.live() == 1;
+    refused && list.reserve(100).is_ok() && heap.live() == 1
 }
 
 #[test]
 fn a_growth_takes_a_block_and_gives_one_back(rt: HostRuntime) {
     let heap = Refusing::new(rt.alloc());
     let mut list = Vec::with_capacity(&heap, 1).expect(&rt, "room for one number");
-    assert!(rt; list.push(1u64).is_ok() && heap.live() == 1);
-    heap.refuse(1);
-    assert!(rt; list.reserve(100).is_err() && heap.live() == 1);
-    assert!(rt; list.reserve(100).is_ok() && heap.live() == 1);
-    assert!(rt; list.as_slice() == [1].as_slice());
+    assert!(rt; list.push(1).is_ok() && heap.live() == 1);
+    assert!(rt; grows_at_last(&heap, &mut list) && list.as_slice() == [1].as_slice());
 }

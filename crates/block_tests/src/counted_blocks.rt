@@ -1,6 +1,6 @@
 //! One table of counted blocks: who holds them, its limit, collisions, want of memory, and that equal blocks are shared.
 
-use crate::fixtures::{EMPTY, ONE, acquired, block, keep};
+use crate::fixtures::{EMPTY, ONE, acquired, block, keep, release_each};
 use cid::digests::{Clash, Toy};
 use cid::{Block, Cid, Digest};
 use refusing::Refusing;
@@ -25,20 +25,31 @@ fn is_hold_of(hold: &Hold<Toy>, core: u32, cid: Cid, bytes: &[u8]) -> bool {
     hold.core() == core && hold.cid() == cid && hold.block().bytes() == bytes
 }
 
+/// Whether the block is refused since the table is full.
+fn is_full(shard: &mut Shard<Toy>, block: Arc<Block<Toy>>) -> bool {
+    matches!(fault_of(shard, block), Some(StoreFault::Full))
+}
+
+/// Takes a block for two cores and releases it: whether its count is right after each step, and the table is full for
+/// another block while both hold it.
+fn counts_two_cores<R: Abort>(rt: &R, alloc: Global, shard: &mut Shard<Toy>) -> bool {
+    let cid = Cid::of::<Toy>(&EMPTY);
+    let first = acquired(rt, shard, 0, block(rt, alloc, &EMPTY));
+    let one = shard.count(&cid);
+    let second = acquired(rt, shard, 1, block(rt, alloc, &EMPTY));
+    let two = shard.count(&cid);
+    let full = is_full(shard, block(rt, alloc, &ONE));
+    shard.release(first);
+    let left = shard.count(&cid);
+    shard.release(second);
+    full && [one, two, left, shard.count(&cid)] == [1, 2, 1, 0]
+}
+
 #[test]
 fn counts_at_limit_one(rt: HostRuntime) {
     let mut shard: Shard<Toy> = Shard::new(rt.alloc(), 1);
-    let (empty, other) = (Cid::of::<Toy>(&EMPTY), Cid::of::<Toy>(&ONE));
-    let first = acquired(&rt, &mut shard, 0, block(&rt, rt.alloc(), &EMPTY));
-    assert!(rt; shard.count(&empty) == 1);
-    let second = acquired(&rt, &mut shard, 1, block(&rt, rt.alloc(), &EMPTY));
-    assert!(rt; shard.count(&empty) == 2);
-    let fault = fault_of(&mut shard, block(&rt, rt.alloc(), &ONE));
-    assert!(rt; matches!(fault, Some(StoreFault::Full)));
-    shard.release(first);
-    assert!(rt; shard.count(&empty) == 1);
-    shard.release(second);
-    assert!(rt; shard.count(&empty) == 0);
+    assert!(rt; counts_two_cores(&rt, rt.alloc(), &mut shard));
+    let other = Cid::of::<Toy>(&ONE);
     let hold = acquired(&rt, &mut shard, 0, block(&rt, rt.alloc(), &ONE));
     assert!(rt; shard.count(&other) == 1 && is_hold_of(&hold, 0, other, &ONE));
     shard.release(hold);
@@ -59,8 +70,7 @@ fn collision_shows_both(rt: HostRuntime) {
     let mut shard: Shard<Clash> = Shard::new(rt.alloc(), 2);
     let hold = acquired(&rt, &mut shard, 0, block(&rt, rt.alloc(), &EMPTY));
     let fault = fault_of(&mut shard, block(&rt, rt.alloc(), &ONE));
-    assert!(rt; is_collision(&fault, &ONE, &EMPTY));
-    assert!(rt; shard.count(&Cid::of::<Clash>(&EMPTY)) == 1);
+    assert!(rt; is_collision(&fault, &ONE, &EMPTY) && shard.count(&Cid::of::<Clash>(&EMPTY)) == 1);
     shard.release(hold);
 }
 
@@ -74,6 +84,13 @@ fn count_without(shard: &Shard<Toy>, cid: Cid, core: u32) -> Option<u64> {
     Some(shard.count(&cid))
 }
 
+/// Whether so many cores hold the block of this CID once this hold is released, and its core not.
+fn leaves(shard: &mut Shard<Toy>, cid: Cid, hold: Hold<Toy>, left: u64) -> bool {
+    let core = hold.core();
+    shard.release(hold);
+    count_without(shard, cid, core) == Some(left)
+}
+
 #[test]
 fn holds_all_cores(rt: HostRuntime) {
     let mut shard: Shard<Toy> = Shard::new(rt.alloc(), 1);
@@ -83,13 +100,14 @@ fn holds_all_cores(rt: HostRuntime) {
         let given = block(&rt, rt.alloc(), &EMPTY);
         let hold = acquired(&rt, &mut shard, (core * 5 + 3) % 1024, given);
         keep(&rt, &mut holds, hold);
-        assert_eq!(rt; shard.count(&cid), u64::from(core) + 1);
+        assert!(rt;
+            shard.count(&cid) == u64::from(core) + 1,
+            "with {core} others"
+        );
     }
     for left in (0..1024u64).rev() {
         let hold = holds.pop().expect(&rt, "a hold for each core");
-        let core = hold.core();
-        shard.release(hold);
-        assert_eq!(rt; count_without(&shard, cid, core), Some(left));
+        assert!(rt; leaves(&mut shard, cid, hold, left), "with {left} left");
     }
     assert!(rt; holds.is_empty() && shard.entries().count() == 0);
     holds.destroy_empty();
@@ -104,18 +122,24 @@ fn is_entry_of(cid: Cid, cores: &Cores, first: Cid, second: Cid) -> bool {
         && !cores.has(u32::MAX)
 }
 
+/// Whether the table lists two entries in the order of their CIDs, each with its core.
+fn lists_both(shard: &Shard<Toy>, first: Cid, second: Cid) -> bool {
+    let mut before: Option<Cid> = None;
+    for (cid, cores) in shard.entries() {
+        if before >= Some(cid) || !is_entry_of(cid, cores, first, second) {
+            return false;
+        }
+        before = Some(cid);
+    }
+    shard.entries().count() == 2
+}
+
 #[test]
 fn lists_entries_in_order(rt: HostRuntime) {
     let mut shard: Shard<Toy> = Shard::new(rt.alloc(), 2);
-    let (empty, other) = (Cid::of::<Toy>(&EMPTY), Cid::of::<Toy>(&ONE));
     let first = acquired(&rt, &mut shard, 1023, block(&rt, rt.alloc(), &EMPTY));
     let second = acquired(&rt, &mut shard, 64, block(&rt, rt.alloc(), &ONE));
-    let mut before: Option<Cid> = None;
-    for (cid, cores) in shard.entries() {
-        assert!(rt; before < Some(cid) && is_entry_of(cid, cores, empty, other));
-        before = Some(cid);
-    }
-    assert!(rt; shard.entries().count() == 2);
+    assert!(rt; lists_both(&shard, Cid::of::<Toy>(&EMPTY), Cid::of::<Toy>(&ONE)));
     shard.release(first);
     shard.release(second);
 }
@@ -126,57 +150,84 @@ fn steps_to_each(cores: &Cores) -> bool {
     steps == [Some(0), Some(63), Some(64), Some(1023), None, None]
 }
 
+/// Whether the empty map is held by core 63 and not by core 62, nothing else is, and the steps in each entry are right.
+fn has_the_cores(shard: &Shard<Toy>) -> bool {
+    for (_, cores) in shard.entries() {
+        if !steps_to_each(cores) {
+            return false;
+        }
+    }
+    let cid = Cid::of::<Toy>(&EMPTY);
+    shard.has(&cid, 63) && !shard.has(&cid, 62) && !shard.has(&Cid::of::<Toy>(&ONE), 63)
+}
+
 #[test]
 fn steps_from_core_to_core(rt: HostRuntime) {
     let mut shard: Shard<Toy> = Shard::new(rt.alloc(), 1);
-    let cid = Cid::of::<Toy>(&EMPTY);
     let mut holds = Vec::new(rt.alloc());
     for core in [1023, 0, 64, 63] {
         let hold = acquired(&rt, &mut shard, core, block(&rt, rt.alloc(), &EMPTY));
         keep(&rt, &mut holds, hold);
     }
-    assert!(rt; shard.has(&cid, 63) && !shard.has(&cid, 62));
-    assert!(rt; !shard.has(&Cid::of::<Toy>(&ONE), 63));
-    for (_, cores) in shard.entries() {
-        assert!(rt; steps_to_each(cores));
-    }
-    for _ in 0..4u8 {
-        shard.release(holds.pop().expect(&rt, "a hold of each core"));
-    }
-    assert!(rt; holds.is_empty());
-    holds.destroy_empty();
+    assert!(rt; has_the_cores(&shard));
+    release_each(&rt, &mut shard, holds, 4);
 }
 
 type Heap<'a> = &'a Refusing<Global>;
 
-/// A block that is acquired again, by another core and from other memory, stands once: the memory that the second core
-/// gave is given back, and both holds show the block of the table.
+/// How many times the block of a hold is used.
+fn uses<'a>(hold: &Hold<Toy, Heap<'a>>) -> usize {
+    Arc::strong_count(hold.block())
+}
+
+/// Whether a block that is acquired again, by another core and from other memory, stands once: the memory that the second
+/// core gave is given back, and both holds show the block of the table.
+fn shares_equal_blocks<R: Abort>(rt: &R, heap: Heap<'_>) -> bool {
+    let mut shard: Shard<Toy, Heap<'_>> = Shard::new(heap, 1);
+    let first = acquired(rt, &mut shard, 0, block(rt, heap, &EMPTY));
+    let live = heap.live();
+    let equal = block(rt, heap, &EMPTY);
+    let taken = heap.live() > live;
+    let second = acquired(rt, &mut shard, 1, equal);
+    let given_back = heap.live() == live;
+    // The uses of the block are the table's and the two holds'.
+    let shared = uses(&first) == 3 && uses(&second) == 3;
+    shard.release(first);
+    shard.release(second);
+    taken && given_back && shared
+}
+
 #[test]
 fn equal_blocks_are_shared(rt: HostRuntime) {
     let heap = Refusing::new(rt.alloc());
-    let mut shard: Shard<Toy, Heap<'_>> = Shard::new(&heap, 1);
-    let first = acquired(&rt, &mut shard, 0, block(&rt, &heap, &EMPTY));
-    let live = heap.live();
-    let equal = block(&rt, &heap, &EMPTY);
-    assert!(rt; heap.live() > live);
-    let second = acquired(&rt, &mut shard, 1, equal);
-    assert!(rt; heap.live() == live);
-    // The uses of the block are the table's and the two holds'.
-    assert!(rt; Arc::strong_count(first.block()) == 3 && Arc::strong_count(second.block()) == 3);
-    shard.release(first);
-    shard.release(second);
-    drop(shard);
-    assert!(rt; heap.live() == 0);
+    assert!(rt; shares_equal_blocks(&rt, &heap) && heap.live() == 0);
+}
+
+/// Whether core 1 holds the block of this entry, core 2 doesn't, and no other does.
+fn is_of_core_one(shard: &Shard<Toy, Heap<'_>>, cid: Cid, cores: &Cores) -> bool {
+    cores.has(1) && !cores.has(2) && shard.count(&cid) == 1
 }
 
 /// Whether the table has this many entries, each held by core 1 and not by core 2, and none of this CID.
 fn has_others_only(shard: &Shard<Toy, Heap<'_>>, others: u8, cid: Cid) -> bool {
     for (held, cores) in shard.entries() {
-        if !cores.has(1) || cores.has(2) || shard.count(&held) != 1 {
+        if !is_of_core_one(shard, held, cores) {
             return false;
         }
     }
     shard.entries().count() == usize::from(others) && shard.count(&cid) == 0
+}
+
+/// The hold of core 1 on one more use of this block, or whether it is refused for want of memory.
+fn acquired_or_refused<'a, R: Abort>(
+    rt: &R,
+    shard: &mut Shard<Toy, Heap<'a>>,
+    block: &Arc<Block<Toy, Heap<'a>>, Heap<'a>>,
+) -> Result<Hold<Toy, Heap<'a>>, bool> {
+    match shard.acquire(1, Arc::try_clone(block).expect(rt, "one more use")) {
+        Ok(hold) => Ok(hold),
+        Err(fault) => Err(matches!(fault, StoreFault::NoMemory)),
+    }
 }
 
 /// The hold of core 1, after each request for memory of the acquire was refused in turn, until there was none more that
@@ -191,11 +242,13 @@ fn acquired_at_last<'a, R: Abort>(
 ) -> Result<Hold<Toy, Heap<'a>>, u64> {
     for request in 1..9u64 {
         heap.refuse(request);
-        let given = Arc::try_clone(block).expect(rt, "one more use");
-        match shard.acquire(1, given) {
+        match acquired_or_refused(rt, shard, block) {
             Ok(hold) => return Ok(hold),
-            Err(StoreFault::NoMemory) if has_others_only(shard, others, block.cid()) => {}
-            Err(_) => return Err(request),
+            Err(refused) => {
+                if !refused || !has_others_only(shard, others, block.cid()) {
+                    return Err(request);
+                }
+            }
         }
     }
     Err(9)
@@ -215,30 +268,30 @@ fn acquired_without_memory<'a, R: Abort>(
         rt,
         "refusals that change nothing, and then a hold",
     );
-    assert!(rt; shard.count(&cid) == 1, "after {others} others");
+    let once = shard.count(&cid) == 1;
     heap.refuse_from(1);
     let again = acquired(rt, shard, 2, block);
-    assert!(rt; shard.count(&cid) == 2, "after {others} others");
+    assert!(rt; once && shard.count(&cid) == 2, "after {others} others");
     shard.release(again);
     heap.refuse(0);
     hold
 }
 
+/// Acquires 40 blocks as above and releases them: whether the table is empty then.
+fn fill_and_empty<R: Abort>(rt: &R, alloc: Global, heap: Heap<'_>) -> bool {
+    let mut shard: Shard<Toy, Heap<'_>> = Shard::new(heap, 64);
+    let mut holds = Vec::new(alloc);
+    for others in 0..40u8 {
+        let hold = acquired_without_memory(rt, heap, &mut shard, others);
+        keep(rt, &mut holds, hold);
+    }
+    release_each(rt, &mut shard, holds, 40);
+    shard.entries().count() == 0
+}
+
 #[test]
 fn memory_refused(rt: HostRuntime) {
     let heap = Refusing::new(rt.alloc());
-    let mut shard: Shard<Toy, Heap<'_>> = Shard::new(&heap, 64);
-    let mut holds = Vec::new(rt.alloc());
-    for others in 0..40u8 {
-        let hold = acquired_without_memory(&rt, &heap, &mut shard, others);
-        keep(&rt, &mut holds, hold);
-    }
-    assert!(rt; heap.refused() >= 4);
-    for _ in 0..40u8 {
-        shard.release(holds.pop().expect(&rt, "a hold of each block"));
-    }
-    assert!(rt; holds.is_empty() && shard.entries().count() == 0);
-    holds.destroy_empty();
-    drop(shard);
-    assert!(rt; heap.live() == 0);
+    assert!(rt; fill_and_empty(&rt, rt.alloc(), &heap));
+    assert!(rt; heap.refused() >= 4 && heap.live() == 0);
 }

@@ -49,3 +49,17 @@ pub(crate) fn keep<R: Abort, D: Digest, A: Allocator>(
     holds.reserve(1).expect(rt, "room for a hold");
     holds.push_reserved(hold);
 }
+
+/// Releases this many holds, which must be all.
+pub(crate) fn release_each<R: Abort, D: Digest, A: Allocator>(
+    rt: &R,
+    shard: &mut Shard<D, A>,
+    mut holds: Vec<Hold<D, A>>,
+    count: u8,
+) {
+    for _ in 0..count {
+        shard.release(holds.pop().expect(rt, "as many holds"));
+    }
+    assert!(rt; holds.is_empty());
+    holds.destroy_empty();
+}

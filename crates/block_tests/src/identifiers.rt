@@ -8,20 +8,21 @@ use std::cmp::Ordering;
 use std::hash::{DefaultHasher, Hash, Hasher};
 use std::str::FromStr;
 use std::sync::Arc;
-use std::test::Fail;
 
 /// The text of the CID of the empty node.
 const EMPTY_NODE_TEXT: [u8; 59] = *b"bafyreie5737gdxlw5i64vzichcalba3z2v5n6icifvx5xytvske7mr3hpm";
 
 #[test]
-fn text_of_the_empty_node(rt: HostRuntime) -> Result<(), Fail> {
+fn text_of_the_empty_node(rt: HostRuntime) {
     let cid = Cid::of::<Sha256>(&EMPTY_NODE);
     let text = "bafyreie5737gdxlw5i64vzichcalba3z2v5n6icifvx5xytvske7mr3hpm";
-    assert!(rt; cid.text() == EMPTY_NODE_TEXT);
-    assert!(rt; Cid::from_text(&EMPTY_NODE_TEXT) == Ok(cid) && Cid::from_str(text) == Ok(cid));
-    let shown = format!(in rt.alloc(); "{cid} {}", CidRef::from(&cid))?;
+    assert!(rt;
+        cid.text() == EMPTY_NODE_TEXT
+            && Cid::from_text(&EMPTY_NODE_TEXT) == Ok(cid)
+            && Cid::from_str(text) == Ok(cid)
+    );
+    let shown = format!(in rt.alloc(); "{cid} {}", CidRef::from(&cid)).expect(&rt, "memory");
     assert!(rt; shown.split_once(' ') == Some((text, text)));
-    Ok(())
 }
 
 /// The text of the empty node's CID with another byte at one place.
@@ -33,17 +34,20 @@ fn with_byte(at: usize, byte: u8) -> [u8; 59]
     text
 }
 
+/// Whether a text has this fault.
+fn has_fault(text: &[u8], fault: CidFault) -> bool {
+    Cid::from_text(text) == Err(fault)
+}
+
 #[test]
 fn cid_text_faults(rt: HostRuntime) {
-    for (text, fault) in [
-        (&EMPTY_NODE_TEXT[..58], CidFault::BadLength),
-        (&with_byte(0, b'z'), CidFault::BadPrefix),
-        (&with_byte(1, b'1'), CidFault::BadLetter),
-        (&with_byte(58, b'n'), CidFault::BadBits),
-        (&with_byte(3, b'k'), CidFault::NotThisProfile),
-    ] {
-        assert_eq!(rt; Cid::from_text(text), Err(fault));
-    }
+    assert!(rt;
+        has_fault(&EMPTY_NODE_TEXT[..58], CidFault::BadLength)
+            && has_fault(&with_byte(0, b'z'), CidFault::BadPrefix)
+            && has_fault(&with_byte(1, b'1'), CidFault::BadLetter)
+            && has_fault(&with_byte(58, b'n'), CidFault::BadBits)
+            && has_fault(&with_byte(3, b'k'), CidFault::NotThisProfile)
+    );
 }
 
 #[test]
@@ -52,22 +56,19 @@ fn faults_come_in_their_order(rt: HostRuntime) {
     low_bits[0] = b'b';
     let mut letter = low_bits;
     letter[30] = 0xff;
-    for (text, fault) in [
-        (b"".as_slice(), CidFault::BadLength),
-        (&[b'!'; 58], CidFault::BadLength),
-        (&[b'!'; 59], CidFault::BadPrefix),
-        (&low_bits, CidFault::BadBits),
-        (&letter, CidFault::BadLetter),
-    ] {
-        assert_eq!(rt; Cid::from_text(text), Err(fault));
-    }
+    assert!(rt;
+        has_fault(b"", CidFault::BadLength)
+            && has_fault(&[b'!'; 58], CidFault::BadLength)
+            && has_fault(&[b'!'; 59], CidFault::BadPrefix)
+            && has_fault(&low_bits, CidFault::BadBits)
+            && has_fault(&letter, CidFault::BadLetter)
+    );
 }
 
 #[test]
-fn a_fault_tells_what_is_wrong(rt: HostRuntime) -> Result<(), Fail> {
-    let shown = format!(in rt.alloc(); "{}", CidFault::BadLetter)?;
+fn a_fault_tells_what_is_wrong(rt: HostRuntime) {
+    let shown = format!(in rt.alloc(); "{}", CidFault::BadLetter).expect(&rt, "memory");
     assert!(rt; shown.as_str() == "a CID has only the letters a to z and the digits 2 to 7");
-    Ok(())
 }
 
 /// The CID with this digest.
@@ -97,31 +98,43 @@ fn texts_read_back(rt: HostRuntime) {
     assert!(rt; zeros.text() == *b"bafyreiaaaaaaaaaaaaaaaaaaaaaaaaaaaaaaaaaaaaaaaaaaaaaaaaaaaa");
 }
 
-/// Whether each way from these bytes to a CID, of its own or lent, gives this one.
+/// Whether each way from these bytes to a CID of its own gives this one.
 fn become_cid(bytes: [u8; 36], cid: Cid) -> bool {
-    if Cid::from_bytes(bytes) != Some(cid) || Cid::try_from(bytes) != Ok(cid) {
-        return false;
-    }
-    let Some(lent) = CidRef::from_bytes(&bytes) else {
-        return false;
-    };
-    *lent.as_bytes() == bytes
+    Cid::from_bytes(bytes) == Some(cid) && Cid::try_from(bytes) == Ok(cid)
+}
+
+/// Whether a lent CID has these bytes, and is this one.
+fn is_lent(lent: CidRef<'_>, bytes: &[u8; 36], cid: Cid) -> bool {
+    lent.as_bytes() == bytes
         && lent.to_cid() == cid
         && Cid::from(lent) == cid
         && lent == CidRef::from(&cid)
+}
+
+/// Whether these bytes become a lent CID, which is this one.
+fn become_lent_cid(bytes: &[u8; 36], cid: Cid) -> bool {
+    match CidRef::from_bytes(bytes) {
+        Some(lent) => is_lent(lent, bytes, cid),
+        None => false,
+    }
+}
+
+/// Whether no way from these bytes to a CID gives one.
+fn become_none(bytes: [u8; 36]) -> bool {
+    Cid::from_bytes(bytes).is_none()
+        && Cid::try_from(bytes) == Err(CidFault::NotThisProfile)
+        && CidRef::from_bytes(&bytes).is_none()
 }
 
 #[test]
 fn bytes_become_cids(rt: HostRuntime) {
     let cid = Cid::of::<Sha256>(b"a");
     let bytes = *cid.as_bytes();
-    assert!(rt; become_cid(bytes, cid));
+    assert!(rt; become_cid(bytes, cid) && become_lent_cid(&bytes, cid));
 
     let mut raw = bytes;
     raw[1] = 0x55;
-    assert!(rt; Cid::from_bytes(raw).is_none());
-    assert!(rt; Cid::try_from(raw) == Err(CidFault::NotThisProfile));
-    assert!(rt; CidRef::from_bytes(&raw).is_none() && CidRef::from_bytes(&bytes[1..]).is_none());
+    assert!(rt; become_none(raw) && CidRef::from_bytes(&bytes[1..]).is_none());
 }
 
 /// Whether this CID is the lower one, of its own and lent, from both sides.
@@ -132,20 +145,33 @@ fn is_lower(less: Cid, more: Cid) -> bool {
         && CidRef::from(&less) < CidRef::from(&more)
 }
 
+/// The digest with bytes 0x55 before this place, a lower one at it and greater ones after it.
+fn lower_at(place: usize) -> [u8; 32]
+    requires { place < 32 }
+{
+    let mut digest = [0xff; 32];
+    digest[..place].fill(0x55);
+    digest[place] = 0x54;
+    digest
+}
+
+/// Whether the CID with one digest is lower than that with the other.
+fn are_ordered(less: [u8; 32], more: [u8; 32]) -> bool {
+    match (with_digest(less), with_digest(more)) {
+        (Some(less), Some(more)) => is_lower(less, more) && less.cmp(&less) == Ordering::Equal,
+        _ => false,
+    }
+}
+
 #[test]
 fn cids_are_ordered_bytewise(rt: HostRuntime) {
-    let low = with_digest([0x00; 32]).expect(&rt, "this profile");
-    let high = with_digest([0xff; 32]).expect(&rt, "this profile");
-    assert!(rt; is_lower(low, high) && low.cmp(&low) == Ordering::Equal);
-
-    let middle = with_digest([0x55; 32]).expect(&rt, "this profile");
+    assert!(rt; are_ordered([0x00; 32], [0xff; 32]));
     for place in 0..32 {
         // The first byte that differs decides, whatever comes after it.
-        let mut digest = [0xff; 32];
-        digest[..place].fill(0x55);
-        digest[place] = 0x54;
-        let less = with_digest(digest).expect(&rt, "this profile");
-        assert!(rt; is_lower(less, middle), "at byte {place} of the digest");
+        assert!(rt;
+            are_ordered(lower_at(place), [0x55; 32]),
+            "at byte {place} of the digest"
+        );
     }
 }
 
@@ -161,15 +187,19 @@ fn a_cid_hashes_as_the_first_eight_bytes_of_its_digest(rt: HostRuntime) {
     assert!(rt; hash_of(&cid) == hash_of(&0x0707_0707_0707_0707u64));
 }
 
+/// Whether the pair shows the blocks of these bytes.
+fn shows_both(pair: &Collided<Clash>, one: &[u8], other: &[u8]) -> bool {
+    pair.one().bytes() == one && pair.other().bytes() == other
+}
+
 #[test]
 fn blocks_and_collisions(rt: HostRuntime) {
     let one: Arc<Block<Clash>> = block(&rt, rt.alloc(), b"one");
     let other = block(&rt, rt.alloc(), b"other");
-    assert!(rt; one.cid() == Cid::of::<Clash>(b"one"));
-    assert!(rt; one.cid() == other.cid() && one.bytes() != other.bytes());
+    let cid = one.cid();
+    assert!(rt; cid == other.cid() && one.bytes() != other.bytes());
     let pair = Collided::new(one, other);
-    assert!(rt; pair.one().bytes() == b"one".as_slice());
-    assert!(rt; pair.other().bytes() == b"other".as_slice());
+    assert!(rt; cid == Cid::of::<Clash>(b"one") && shows_both(&pair, b"one", b"other"));
 }
 
 fn is_shared_by_threads<T: Send + Sync>() {}

@@ -4,6 +4,7 @@
 use crate::fixtures::{EMPTY, block, keep};
 use cid::digests::Toy;
 use cid::{Block, Cid, Digest, Sha256};
+use std::alloc::Global;
 use std::process::Abort;
 use std::sync::{Arc, Wait};
 use store::{Hold, SHARDS, Shard, Shards, StoreFault, shard_number};
@@ -51,21 +52,32 @@ fn has_the_record_alone(tables: &[Shard<Toy>; SHARDS], record: Cid, other: Cid) 
     true
 }
 
+/// Whether the block of this CID is held in the shard of this number, which is full with it, as another block of that
+/// shard is refused.
+fn is_held_alone<R: Wait>(
+    rt: &R,
+    shards: &Shards<Toy>,
+    number: usize,
+    cid: Cid,
+    other: Arc<Block<Toy>>,
+) -> bool {
+    let in_shard = shard_number(&cid) == number && shard_number(&other.cid()) == number;
+    let before = is_held(rt, shards, cid);
+    let full = is_full(rt, shards, other);
+    in_shard && before && full && is_held(rt, shards, cid)
+}
+
 /// The record that ends in the digit 3 stands in shard 3, and the empty map in shard 15.
 #[test]
 fn stands_in_its_shard(rt: HostRuntime) {
     let shards: Shards<Toy> = Shards::open(rt.alloc(), 1);
     let (record_cid, empty_cid) = (Cid::of::<Toy>(&record(b'a')), Cid::of::<Toy>(&EMPTY));
-    let other_record = block(&rt, rt.alloc(), &record(b'b'));
-    let empty_list = block(&rt, rt.alloc(), &[0x80]);
-    assert!(rt; shard_number(&record_cid) == 3 && shard_number(&other_record.cid()) == 3);
-    assert!(rt; shard_number(&empty_cid) == 15 && shard_number(&empty_list.cid()) == 15);
     let first = acquired(&rt, &shards, block(&rt, rt.alloc(), &record(b'a')));
     let second = acquired(&rt, &shards, block(&rt, rt.alloc(), &EMPTY));
-    assert!(rt; is_held(&rt, &shards, record_cid));
-    // Each of the two shards is full with its one block.
-    assert!(rt; is_full(&rt, &shards, other_record) && is_full(&rt, &shards, empty_list));
-    assert!(rt; is_held(&rt, &shards, record_cid) && is_held(&rt, &shards, empty_cid));
+    let other_record = block(&rt, rt.alloc(), &record(b'b'));
+    assert!(rt; is_held_alone(&rt, &shards, 3, record_cid, other_record));
+    let empty_list = block(&rt, rt.alloc(), &[0x80]);
+    assert!(rt; is_held_alone(&rt, &shards, 15, empty_cid, empty_list));
     shards.release(&rt, second);
     let mut tables = shards.tables();
     assert!(rt; has_the_record_alone(&tables, record_cid, empty_cid));
@@ -73,18 +85,23 @@ fn stands_in_its_shard(rt: HostRuntime) {
     assert!(rt; tables[3].count(&record_cid) == 0);
 }
 
+/// The CID of the record of this letter.
+fn record_cid(letter: u8) -> Cid {
+    Cid::of::<Toy>(&record(letter))
+}
+
 /// No contract can say how many blocks a shard behind its lock may have.
 #[test]
 fn each_shard_has_the_limit(rt: HostRuntime) {
-    let shards: Shards<Toy> = Shards::open(rt.alloc(), 2);
-    let cids = [b'a', b'b', b'c'].map(|letter| Cid::of::<Toy>(&record(letter)));
-    for cid in &cids {
-        assert!(rt; shard_number(cid) == 3);
+    for letter in [b'a', b'b', b'c'] {
+        assert!(rt; shard_number(&record_cid(letter)) == 3);
     }
+    let shards: Shards<Toy> = Shards::open(rt.alloc(), 2);
     let first = acquired(&rt, &shards, block(&rt, rt.alloc(), &record(b'a')));
     let second = acquired(&rt, &shards, block(&rt, rt.alloc(), &record(b'b')));
-    assert!(rt; is_full(&rt, &shards, block(&rt, rt.alloc(), &record(b'c'))));
-    assert!(rt; is_held(&rt, &shards, cids[0]) && is_held(&rt, &shards, cids[1]));
+    let full = is_full(&rt, &shards, block(&rt, rt.alloc(), &record(b'c')));
+    let held = is_held(&rt, &shards, record_cid(b'a')) && is_held(&rt, &shards, record_cid(b'b'));
+    assert!(rt; full && held);
     shards.release(&rt, first);
     shards.release(&rt, second);
 }
@@ -111,24 +128,50 @@ fn has_its_own_alone(table: &Shard<Sha256>, number: usize) -> bool {
     table.entries().count() == 1
 }
 
+/// The holds of one block in each shard.
+fn one_in_each<R: Wait + Abort>(
+    rt: &R,
+    alloc: Global,
+    shards: &Shards<Sha256>,
+) -> Vec<Hold<Sha256>> {
+    let mut holds = Vec::new(alloc);
+    for (number, integer) in INTEGERS.iter().enumerate() {
+        let block = block(rt, alloc, &spelling(*integer));
+        assert!(rt; shard_number(&block.cid()) == number, "for shard {number}");
+        keep(rt, &mut holds, acquired(rt, shards, block));
+    }
+    holds
+}
+
+/// Whether each of these blocks is held.
+fn are_held<R: Wait>(rt: &R, shards: &Shards<Sha256>) -> bool {
+    for integer in &INTEGERS {
+        if !is_held(rt, shards, Cid::of::<Sha256>(&spelling(*integer))) {
+            return false;
+        }
+    }
+    true
+}
+
+/// Whether the table has the block of its own number alone until its hold is released, and none then.
+fn is_emptied(table: &mut Shard<Sha256>, number: usize, hold: Hold<Sha256>) -> bool {
+    let alone = has_its_own_alone(table, number);
+    table.release(hold);
+    alone && table.entries().count() == 0
+}
+
 #[test]
 fn each_shard_has_its_own_block(rt: HostRuntime) {
     let shards: Shards<Sha256> = Shards::open(rt.alloc(), 1);
-    let mut holds = Vec::new(rt.alloc());
-    for (number, integer) in INTEGERS.iter().enumerate() {
-        let block = block(&rt, rt.alloc(), &spelling(*integer));
-        assert_eq!(rt; shard_number(&block.cid()), number);
-        keep(&rt, &mut holds, acquired(&rt, &shards, block));
-    }
-    for (number, integer) in INTEGERS.iter().enumerate() {
-        let cid = Cid::of::<Sha256>(&spelling(*integer));
-        assert!(rt; is_held(&rt, &shards, cid), "in shard {number}");
-    }
+    let mut holds = one_in_each(&rt, rt.alloc(), &shards);
+    assert!(rt; are_held(&rt, &shards));
     let mut tables = shards.tables();
-    for (number, table) in tables.iter_mut().enumerate().rev() {
-        assert!(rt; has_its_own_alone(table, number), "in table {number}");
-        table.release(holds.pop().expect(&rt, "a hold of each block"));
-        assert!(rt; table.entries().count() == 0, "in table {number}");
+    for number in (0..SHARDS).rev() {
+        let hold = holds.pop().expect(&rt, "a hold of each block");
+        assert!(rt;
+            is_emptied(&mut tables[number], number, hold),
+            "in table {number}"
+        );
     }
     assert!(rt; holds.is_empty());
     holds.destroy_empty();

@@ -6,7 +6,7 @@ use cid::{Block, Cid};
 use std::alloc::Global;
 use std::process::Abort;
 use std::sync::Arc;
-use store::{BlockStore, Hold, LentShard, LockedShards, Shard, Shards, StoreFault};
+use store::{BlockStore, Hold, LentShard, LockedShards, SHARDS, Shard, Shards, StoreFault};
 
 /// Whether the store is full for this block.
 fn is_full<S: BlockStore<Arc<Block<Toy>>, Hold<Toy>, StoreFault<Toy>>>(
@@ -46,34 +46,29 @@ fn holds_one<S: BlockStore<Arc<Block<Toy>>, Hold<Toy>, StoreFault<Toy>>, R: Abor
 #[test]
 fn one_shard_is_lent(rt: HostRuntime) {
     let mut shard: Shard<Toy> = Shard::new(rt.alloc(), 1);
-    assert!(rt;
-        holds_one(
-            &rt,
-            rt.alloc(),
-            &mut LentShard::new(&mut shard),
-            &EMPTY,
-            &ONE
-        )
-    );
-    assert!(rt; shard.count(&Cid::of::<Toy>(&EMPTY)) == 0 && shard.entries().count() == 0);
+    let mut lent = LentShard::new(&mut shard);
+    let held = holds_one(&rt, rt.alloc(), &mut lent, &EMPTY, &ONE);
+    let left = shard.count(&Cid::of::<Toy>(&EMPTY));
+    assert!(rt; held && left == 0 && shard.entries().count() == 0);
 }
 
 /// The DAG-CBOR bytes of the empty list, which stands in one shard with the empty map.
 const EMPTY_LIST: [u8; 1] = [0x80];
 
+/// Whether no table has an entry.
+fn are_empty(tables: &[Shard<Toy>; SHARDS]) -> bool {
+    for table in tables {
+        if table.entries().count() != 0 {
+            return false;
+        }
+    }
+    true
+}
+
 #[test]
 fn locked_shards_are_a_store(rt: HostRuntime) {
     let shards: Shards<Toy> = Shards::open(rt.alloc(), 1);
-    assert!(rt;
-        holds_one(
-            &rt,
-            rt.alloc(),
-            &mut LockedShards::new(&rt, &shards),
-            &EMPTY,
-            &EMPTY_LIST
-        )
-    );
-    for table in &shards.tables() {
-        assert!(rt; table.entries().count() == 0);
-    }
+    let mut locked = LockedShards::new(&rt, &shards);
+    assert!(rt; holds_one(&rt, rt.alloc(), &mut locked, &EMPTY, &EMPTY_LIST));
+    assert!(rt; are_empty(&shards.tables()));
 }
