@@ -49,12 +49,17 @@ fn refuses_each_request_in_turn(rt: HostRuntime) {
     assert!(rt; grants_three(&heap) && heap.refused() == 0);
 }
 
+/// Whether a list of this heap's memory gets its block at the second request.
+fn refuses_the_first<A: Allocator>(heap: &Refusing<Global>, alloc: A) -> bool {
+    let mut list = Vec::new(alloc);
+    list.push(1u8).is_err() && list.push(2).is_ok() && has_counts(heap, 1, 1)
+}
+
 #[test]
 fn refuses_one_request_and_then_grants_again(rt: HostRuntime) {
     let heap = Refusing::new(rt.alloc());
-    let mut list = Vec::new(&heap);
     heap.refuse(1);
-    assert!(rt; list.push(1u8).is_err() && list.push(2).is_ok() && has_counts(&heap, 1, 1));
+    assert!(rt; refuses_the_first(&heap, &heap));
 }
 
 /// Whether each of five requests is refused.
@@ -77,17 +82,20 @@ fn refuses_from_a_request_on(rt: HostRuntime) {
     assert!(rt; grants_three(&heap) && heap.live() == 1);
 }
 
-/// Whether this list, whose room is one block, can't grow at first and then can, with one block out both times.
-fn grows_at_last(heap: &Refusing<Global>, list: &mut Vec<u64, &Refusing<Global>>) -> bool {
+/// Whether a list of this heap's memory takes a block, can't grow at first and then can, with one block out all the time.
+fn grows_at_last<A: Allocator>(heap: &Refusing<Global>, alloc: A) -> bool {
+    let Ok(mut list) = Vec::with_capacity(alloc, 1) else {
+        return false;
+    };
+    let pushed = list.push(1u64).is_ok() && heap.live() == 1;
     heap.refuse(1);
     let refused = list.reserve(100).is_err() && heap.live() == 1;
-    refused && list.reserve(100).is_ok() && heap.live() == 1
+    let grown = list.reserve(100).is_ok() && heap.live() == 1;
+    pushed && refused && grown && list.as_slice() == [1].as_slice()
 }
 
 #[test]
 fn a_growth_takes_a_block_and_gives_one_back(rt: HostRuntime) {
     let heap = Refusing::new(rt.alloc());
-    let mut list = Vec::with_capacity(&heap, 1).expect(&rt, "room for one number");
-    assert!(rt; list.push(1).is_ok() && heap.live() == 1);
-    assert!(rt; grows_at_last(&heap, &mut list) && list.as_slice() == [1].as_slice());
+    assert!(rt; grows_at_last(&heap, &heap));
 }

@@ -4,7 +4,7 @@ use crate::fixtures::{EMPTY, ONE, acquired, block, keep, release_each};
 use cid::digests::{Clash, Toy};
 use cid::{Block, Cid, Digest};
 use refusing::Refusing;
-use std::alloc::Global;
+use std::alloc::{Allocator, Global};
 use std::process::Abort;
 use std::sync::Arc;
 use store::{Cores, Hold, Shard, StoreFault};
@@ -91,6 +91,16 @@ fn leaves(shard: &mut Shard<Toy>, cid: Cid, hold: Hold<Toy>, left: u64) -> bool 
     count_without(shard, cid, core) == Some(left)
 }
 
+/// Releases the holds of all cores on the block of this CID, each of which must leave the others there.
+fn leave_one_by_one<R: Abort>(rt: &R, shard: &mut Shard<Toy>, cid: Cid, mut holds: Vec<Hold<Toy>>) {
+    for left in (0..1024u64).rev() {
+        let hold = holds.pop().expect(rt, "a hold for each core");
+        assert!(rt; leaves(shard, cid, hold, left));
+    }
+    assert!(rt; holds.is_empty());
+    holds.destroy_empty();
+}
+
 #[test]
 fn holds_all_cores(rt: HostRuntime) {
     let mut shard: Shard<Toy> = Shard::new(rt.alloc(), 1);
@@ -100,17 +110,10 @@ fn holds_all_cores(rt: HostRuntime) {
         let given = block(&rt, rt.alloc(), &EMPTY);
         let hold = acquired(&rt, &mut shard, (core * 5 + 3) % 1024, given);
         keep(&rt, &mut holds, hold);
-        assert!(rt;
-            shard.count(&cid) == u64::from(core) + 1,
-            "with {core} others"
-        );
+        assert!(rt; shard.count(&cid) == u64::from(core) + 1);
     }
-    for left in (0..1024u64).rev() {
-        let hold = holds.pop().expect(&rt, "a hold for each core");
-        assert!(rt; leaves(&mut shard, cid, hold, left), "with {left} left");
-    }
-    assert!(rt; holds.is_empty() && shard.entries().count() == 0);
-    holds.destroy_empty();
+    leave_one_by_one(&rt, &mut shard, cid, holds);
+    assert!(rt; shard.entries().count() == 0);
 }
 
 /// Whether core 1023 alone of these holds the first block, and core 64 alone of these the second.
@@ -124,14 +127,16 @@ fn is_entry_of(cid: Cid, cores: &Cores, first: Cid, second: Cid) -> bool {
 
 /// Whether the table lists two entries in the order of their CIDs, each with its core.
 fn lists_both(shard: &Shard<Toy>, first: Cid, second: Cid) -> bool {
-    let mut before: Option<Cid> = None;
-    for (cid, cores) in shard.entries() {
-        if before >= Some(cid) || !is_entry_of(cid, cores, first, second) {
-            return false;
+    let mut entries = shard.entries();
+    match (entries.next(), entries.next()) {
+        (Some((lower, of_lower)), Some((upper, of_upper))) => {
+            lower < upper
+                && is_entry_of(lower, of_lower, first, second)
+                && is_entry_of(upper, of_upper, first, second)
+                && shard.entries().count() == 2
         }
-        before = Some(cid);
+        _ => false,
     }
-    shard.entries().count() == 2
 }
 
 #[test]
@@ -173,20 +178,22 @@ fn steps_from_core_to_core(rt: HostRuntime) {
     release_each(&rt, &mut shard, holds, 4);
 }
 
-type Heap<'a> = &'a Refusing<Global>;
-
 /// How many times the block of a hold is used.
-fn uses<'a>(hold: &Hold<Toy, Heap<'a>>) -> usize {
+fn uses<A: Allocator>(hold: &Hold<Toy, A>) -> usize {
     Arc::strong_count(hold.block())
 }
 
-/// Whether a block that is acquired again, by another core and from other memory, stands once: the memory that the second
-/// core gave is given back, and both holds show the block of the table.
-fn shares_equal_blocks<R: Abort>(rt: &R, heap: Heap<'_>) -> bool {
-    let mut shard: Shard<Toy, Heap<'_>> = Shard::new(heap, 1);
-    let first = acquired(rt, &mut shard, 0, block(rt, heap, &EMPTY));
+/// Whether a block that is acquired again, by another core and from other memory of this heap, stands once: the memory
+/// that the second core gave is given back, and both holds show the block of the table.
+fn shares_equal_blocks<R: Abort, A: Allocator + Copy>(
+    rt: &R,
+    heap: &Refusing<Global>,
+    alloc: A,
+) -> bool {
+    let mut shard: Shard<Toy, A> = Shard::new(alloc, 1);
+    let first = acquired(rt, &mut shard, 0, block(rt, alloc, &EMPTY));
     let live = heap.live();
-    let equal = block(rt, heap, &EMPTY);
+    let equal = block(rt, alloc, &EMPTY);
     let taken = heap.live() > live;
     let second = acquired(rt, &mut shard, 1, equal);
     let given_back = heap.live() == live;
@@ -200,16 +207,16 @@ fn shares_equal_blocks<R: Abort>(rt: &R, heap: Heap<'_>) -> bool {
 #[test]
 fn equal_blocks_are_shared(rt: HostRuntime) {
     let heap = Refusing::new(rt.alloc());
-    assert!(rt; shares_equal_blocks(&rt, &heap) && heap.live() == 0);
+    assert!(rt; shares_equal_blocks(&rt, &heap, &heap) && heap.live() == 0);
 }
 
 /// Whether core 1 holds the block of this entry, core 2 doesn't, and no other does.
-fn is_of_core_one(shard: &Shard<Toy, Heap<'_>>, cid: Cid, cores: &Cores) -> bool {
+fn is_of_core_one<A: Allocator>(shard: &Shard<Toy, A>, cid: Cid, cores: &Cores) -> bool {
     cores.has(1) && !cores.has(2) && shard.count(&cid) == 1
 }
 
 /// Whether the table has this many entries, each held by core 1 and not by core 2, and none of this CID.
-fn has_others_only(shard: &Shard<Toy, Heap<'_>>, others: u8, cid: Cid) -> bool {
+fn has_others_only<A: Allocator>(shard: &Shard<Toy, A>, others: u8, cid: Cid) -> bool {
     for (held, cores) in shard.entries() {
         if !is_of_core_one(shard, held, cores) {
             return false;
@@ -219,11 +226,11 @@ fn has_others_only(shard: &Shard<Toy, Heap<'_>>, others: u8, cid: Cid) -> bool {
 }
 
 /// The hold of core 1 on one more use of this block, or whether it is refused for want of memory.
-fn acquired_or_refused<'a, R: Abort>(
+fn acquired_or_refused<R: Abort, A: Allocator + Copy>(
     rt: &R,
-    shard: &mut Shard<Toy, Heap<'a>>,
-    block: &Arc<Block<Toy, Heap<'a>>, Heap<'a>>,
-) -> Result<Hold<Toy, Heap<'a>>, bool> {
+    shard: &mut Shard<Toy, A>,
+    block: &Arc<Block<Toy, A>, A>,
+) -> Result<Hold<Toy, A>, bool> {
     match shard.acquire(1, Arc::try_clone(block).expect(rt, "one more use")) {
         Ok(hold) => Ok(hold),
         Err(fault) => Err(matches!(fault, StoreFault::NoMemory)),
@@ -233,13 +240,13 @@ fn acquired_or_refused<'a, R: Abort>(
 /// The hold of core 1, after each request for memory of the acquire was refused in turn, until there was none more that
 /// could be. After each refusal the table must be as it was, with this many entries: the error is the request after which
 /// it wasn't, or 9 where no acquire succeeds.
-fn acquired_at_last<'a, R: Abort>(
+fn acquired_at_last<R: Abort, A: Allocator + Copy>(
     rt: &R,
-    heap: Heap<'a>,
-    shard: &mut Shard<Toy, Heap<'a>>,
+    heap: &Refusing<Global>,
+    shard: &mut Shard<Toy, A>,
     others: u8,
-    block: &Arc<Block<Toy, Heap<'a>>, Heap<'a>>,
-) -> Result<Hold<Toy, Heap<'a>>, u64> {
+    block: &Arc<Block<Toy, A>, A>,
+) -> Result<Hold<Toy, A>, u64> {
     for request in 1..9u64 {
         heap.refuse(request);
         match acquired_or_refused(rt, shard, block) {
@@ -256,13 +263,14 @@ fn acquired_at_last<'a, R: Abort>(
 
 /// Acquires a new block as above, and answers the hold. Then it stands there once, and neither another core's acquire of
 /// it nor the release wants memory.
-fn acquired_without_memory<'a, R: Abort>(
+fn acquired_without_memory<R: Abort, A: Allocator + Copy>(
     rt: &R,
-    heap: Heap<'a>,
-    shard: &mut Shard<Toy, Heap<'a>>,
+    heap: &Refusing<Global>,
+    alloc: A,
+    shard: &mut Shard<Toy, A>,
     others: u8,
-) -> Hold<Toy, Heap<'a>> {
-    let block = block(rt, heap, &[0xa1, 0x61, 0x61, others]);
+) -> Hold<Toy, A> {
+    let block = block(rt, alloc, &[0xa1, 0x61, 0x61, others]);
     let cid = block.cid();
     let hold = acquired_at_last(rt, heap, shard, others, &block).expect(
         rt,
@@ -277,12 +285,16 @@ fn acquired_without_memory<'a, R: Abort>(
     hold
 }
 
-/// Acquires 40 blocks as above and releases them: whether the table is empty then.
-fn fill_and_empty<R: Abort>(rt: &R, alloc: Global, heap: Heap<'_>) -> bool {
-    let mut shard: Shard<Toy, Heap<'_>> = Shard::new(heap, 64);
-    let mut holds = Vec::new(alloc);
+/// Acquires 40 blocks of this heap's memory as above and releases them: whether the table is empty then.
+fn fill_and_empty<R: Abort, A: Allocator + Copy>(
+    rt: &R,
+    heap: &Refusing<Global>,
+    alloc: A,
+    mut holds: Vec<Hold<Toy, A>>,
+) -> bool {
+    let mut shard: Shard<Toy, A> = Shard::new(alloc, 64);
     for others in 0..40u8 {
-        let hold = acquired_without_memory(rt, heap, &mut shard, others);
+        let hold = acquired_without_memory(rt, heap, alloc, &mut shard, others);
         keep(rt, &mut holds, hold);
     }
     release_each(rt, &mut shard, holds, 40);
@@ -292,6 +304,6 @@ fn fill_and_empty<R: Abort>(rt: &R, alloc: Global, heap: Heap<'_>) -> bool {
 #[test]
 fn memory_refused(rt: HostRuntime) {
     let heap = Refusing::new(rt.alloc());
-    assert!(rt; fill_and_empty(&rt, rt.alloc(), &heap));
+    assert!(rt; fill_and_empty(&rt, &heap, &heap, Vec::new(rt.alloc())));
     assert!(rt; heap.refused() >= 4 && heap.live() == 0);
 }

@@ -4,6 +4,7 @@ ghost use Rattle.std.specs.Prelude.{◌<◌};
 use crate::fixtures::{EMPTY_NODE, block};
 use cid::digests::Clash;
 use cid::{Block, Cid, CidFault, CidRef, Collided, Sha256};
+use std::alloc::Global;
 use std::cmp::Ordering;
 use std::hash::{DefaultHasher, Hash, Hasher};
 use std::str::FromStr;
@@ -12,17 +13,24 @@ use std::sync::Arc;
 /// The text of the CID of the empty node.
 const EMPTY_NODE_TEXT: [u8; 59] = *b"bafyreie5737gdxlw5i64vzichcalba3z2v5n6icifvx5xytvske7mr3hpm";
 
+/// Whether this is the CID of these texts.
+fn is_cid_of(cid: Cid, text: &str, bytes: &[u8; 59]) -> bool {
+    cid.text() == *bytes && Cid::from_text(bytes) == Ok(cid) && Cid::from_str(text) == Ok(cid)
+}
+
+/// Whether a CID, of its own and lent, is printed as this text.
+fn is_printed_as(alloc: Global, cid: Cid, text: &str) -> bool {
+    match format!(in alloc; "{cid} {}", CidRef::from(&cid)) {
+        Ok(shown) => shown.split_once(' ') == Some((text, text)),
+        Err(_) => false,
+    }
+}
+
 #[test]
 fn text_of_the_empty_node(rt: HostRuntime) {
     let cid = Cid::of::<Sha256>(&EMPTY_NODE);
     let text = "bafyreie5737gdxlw5i64vzichcalba3z2v5n6icifvx5xytvske7mr3hpm";
-    assert!(rt;
-        cid.text() == EMPTY_NODE_TEXT
-            && Cid::from_text(&EMPTY_NODE_TEXT) == Ok(cid)
-            && Cid::from_str(text) == Ok(cid)
-    );
-    let shown = format!(in rt.alloc(); "{cid} {}", CidRef::from(&cid)).expect(&rt, "memory");
-    assert!(rt; shown.split_once(' ') == Some((text, text)));
+    assert!(rt; is_cid_of(cid, text, &EMPTY_NODE_TEXT) && is_printed_as(rt.alloc(), cid, text));
 }
 
 /// The text of the empty node's CID with another byte at one place.

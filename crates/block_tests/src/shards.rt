@@ -67,6 +67,14 @@ fn is_held_alone<R: Wait>(
     in_shard && before && full && is_held(rt, shards, cid)
 }
 
+/// Whether the tables have the record of this hold alone, and not once the hold is released.
+fn loses_the_record(mut tables: [Shard<Toy>; SHARDS], hold: Hold<Toy>, other: Cid) -> bool {
+    let record = hold.cid();
+    let alone = has_the_record_alone(&tables, record, other);
+    tables[3].release(hold);
+    alone && tables[3].count(&record) == 0
+}
+
 /// The record that ends in the digit 3 stands in shard 3, and the empty map in shard 15.
 #[test]
 fn stands_in_its_shard(rt: HostRuntime) {
@@ -79,10 +87,7 @@ fn stands_in_its_shard(rt: HostRuntime) {
     let empty_list = block(&rt, rt.alloc(), &[0x80]);
     assert!(rt; is_held_alone(&rt, &shards, 15, empty_cid, empty_list));
     shards.release(&rt, second);
-    let mut tables = shards.tables();
-    assert!(rt; has_the_record_alone(&tables, record_cid, empty_cid));
-    tables[3].release(first);
-    assert!(rt; tables[3].count(&record_cid) == 0);
+    assert!(rt; loses_the_record(shards.tables(), first, empty_cid));
 }
 
 /// The CID of the record of this letter.
@@ -90,12 +95,15 @@ fn record_cid(letter: u8) -> Cid {
     Cid::of::<Toy>(&record(letter))
 }
 
+/// Whether the record of this letter stands in shard 3.
+fn is_in_shard_3(letter: u8) -> bool {
+    shard_number(&record_cid(letter)) == 3
+}
+
 /// No contract can say how many blocks a shard behind its lock may have.
 #[test]
 fn each_shard_has_the_limit(rt: HostRuntime) {
-    for letter in [b'a', b'b', b'c'] {
-        assert!(rt; shard_number(&record_cid(letter)) == 3);
-    }
+    assert!(rt; is_in_shard_3(b'a') && is_in_shard_3(b'b') && is_in_shard_3(b'c'));
     let shards: Shards<Toy> = Shards::open(rt.alloc(), 2);
     let first = acquired(&rt, &shards, block(&rt, rt.alloc(), &record(b'a')));
     let second = acquired(&rt, &shards, block(&rt, rt.alloc(), &record(b'b')));

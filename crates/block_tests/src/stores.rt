@@ -43,13 +43,16 @@ fn holds_one<S: BlockStore<Arc<Block<Toy>>, Hold<Toy>, StoreFault<Toy>>, R: Abor
     full_before && !is_full(store, block(rt, alloc, other))
 }
 
+/// Whether this shard, lent out, is such a store.
+fn lends_one<R: Abort>(rt: &R, alloc: Global, shard: &mut Shard<Toy>) -> bool {
+    holds_one(rt, alloc, &mut LentShard::new(shard), &EMPTY, &ONE)
+}
+
 #[test]
 fn one_shard_is_lent(rt: HostRuntime) {
     let mut shard: Shard<Toy> = Shard::new(rt.alloc(), 1);
-    let mut lent = LentShard::new(&mut shard);
-    let held = holds_one(&rt, rt.alloc(), &mut lent, &EMPTY, &ONE);
-    let left = shard.count(&Cid::of::<Toy>(&EMPTY));
-    assert!(rt; held && left == 0 && shard.entries().count() == 0);
+    assert!(rt; lends_one(&rt, rt.alloc(), &mut shard));
+    assert!(rt; shard.count(&Cid::of::<Toy>(&EMPTY)) == 0 && shard.entries().count() == 0);
 }
 
 /// The DAG-CBOR bytes of the empty list, which stands in one shard with the empty map.
