@@ -1,11 +1,12 @@
 //! Bytes that are no node.
+ghost use Rattle.std.specs.Prelude.{◌<◌, length};
 
 use crate::nodes::{identifier, two_entries};
 use cid::{Cid, CidRef};
 use dagcbor::push_head;
 use node::{NodeFault, NodeView, NodeWriter};
 use std::alloc::{AllocError, Global};
-use std::test::Fail;
+use std::process::Abort;
 
 /// What an entry shows: how many bytes its key keeps of the key before, and the bytes after these.
 type Shown<'a> = (usize, &'a [u8]);
@@ -22,16 +23,14 @@ fn push_entry(out: &mut Vec<u8>, shown: Shown<'_>, value: CidRef<'_>) -> Result<
     out.extend_from_slice(value.as_bytes())
 }
 
-/// A node's bytes from what its entries show, lawful or not.
-fn node_of(alloc: Global, value: &Cid, entries: &[Shown<'_>]) -> Result<Vec<u8>, AllocError> {
-    let mut bytes = Vec::new(alloc);
-    bytes.extend_from_slice(&[0xa2, b'a', b'e'])?;
-    push_head(&mut bytes, 4, entries.len() as u64)?;
+/// Puts a node of these entries at the end of `out`, whether or not it is lawful.
+fn push_node(out: &mut Vec<u8>, value: &Cid, entries: &[Shown<'_>]) -> Result<(), AllocError> {
+    out.extend_from_slice(&[0xa2, b'a', b'e'])?;
+    push_head(out, 4, entries.len() as u64)?;
     for shown in entries {
-        push_entry(&mut bytes, *shown, CidRef::from(value))?;
+        push_entry(out, *shown, CidRef::from(value))?;
     }
-    bytes.extend_from_slice(&[b'a', b'l', 0xf6])?;
-    Ok(bytes)
+    out.extend_from_slice(&[b'a', b'l', 0xf6])
 }
 
 /// The fault of some bytes, or none.
@@ -40,102 +39,153 @@ fn fault(bytes: &[u8]) -> Option<NodeFault> {
 }
 
 /// The fault of a node of these entries, or none.
-fn fault_of(alloc: Global, entries: &[Shown<'_>]) -> Result<Option<NodeFault>, Fail> {
-    let bytes = node_of(alloc, &identifier(0x11)?, entries)?;
-    Ok(fault(&bytes))
+fn fault_of(rt: &impl Abort, alloc: Global, entries: &[Shown<'_>]) -> Option<NodeFault> {
+    let mut bytes = Vec::new(alloc);
+    push_node(&mut bytes, &identifier(rt, 0x11), entries).expect(rt, "memory for a node");
+    fault(&bytes)
 }
 
-#[test]
-fn node_faults(rt: HostRuntime) -> Result<(), Fail> {
-    let nodes: [(&[u8], Option<NodeFault>); 3] = [
-        (b"\xa2ae\x80al\xf6", None),
-        (b"\xa2al\xf6ae\x80", Some(NodeFault::NotNode)),
-        (b"\xa2ae\x80al\xf6\x00", Some(NodeFault::NotNode)),
-    ];
-    for (bytes, wanted) in nodes {
-        assert!(rt; fault(bytes) == wanted, "at {bytes:?}");
-    }
-    let long = [0xff; 1024];
-    let cases: [(&[Shown<'_>], Option<NodeFault>); 7] = [
-        (&[(0, b"a/b"), (2, b"cd")], None),
-        (&[(0, b"a/b"), (1, b"/cd")], Some(NodeFault::BadPrefix)),
-        (&[(0, b"a/b"), (2, b"a")], Some(NodeFault::KeyOrder)),
-        (&[(1, b"a/b"), (2, b"cd")], Some(NodeFault::BadPrefix)),
-        (&[(0, b"")], Some(NodeFault::KeyLength)),
-        (&[(0, &long), (1024, b"")], Some(NodeFault::KeyOrder)),
-        (&[(0, &long), (1024, b"a")], Some(NodeFault::KeyLength)),
-    ];
-    for (entries, wanted) in cases {
-        assert!(rt; fault_of(rt.alloc(), entries)? == wanted, "at {entries:?}");
-    }
-    Ok(())
-}
+/// Bytes of an empty node, with its parts in the other order and with one byte more, each with its fault.
+const NODES: [(&[u8], Option<NodeFault>); 3] = [
+    (b"\xa2ae\x80al\xf6", None),
+    (b"\xa2al\xf6ae\x80", Some(NodeFault::NotNode)),
+    (b"\xa2ae\x80al\xf6\x00", Some(NodeFault::NotNode)),
+];
+
+/// A key as long as may be.
+const LONG: [u8; 1024] = [0xff; 1024];
+
+/// What the entries of a node show, with the node's fault.
+const ENTRIES: [(&[Shown<'static>], Option<NodeFault>); 7] = [
+    (&[(0, b"a/b"), (2, b"cd")], None),
+    (&[(0, b"a/b"), (1, b"/cd")], Some(NodeFault::BadPrefix)),
+    (&[(0, b"a/b"), (2, b"a")], Some(NodeFault::KeyOrder)),
+    (&[(1, b"a/b"), (2, b"cd")], Some(NodeFault::BadPrefix)),
+    (&[(0, b"")], Some(NodeFault::KeyLength)),
+    (&[(0, &LONG), (1024, b"")], Some(NodeFault::KeyOrder)),
+    (&[(0, &LONG), (1024, b"a")], Some(NodeFault::KeyLength)),
+];
 
 #[test]
-fn keys_of_as_many_parts_as_bytes(rt: HostRuntime) -> Result<(), Fail> {
-    let mut entries: Vec<Shown<'_>> = Vec::new(rt.alloc());
+fn node_faults(rt: HostRuntime) {
+    for (bytes, wanted) in &NODES {
+        assert!(rt; fault(bytes) == *wanted, "at {bytes:?}");
+    }
+    for (entries, wanted) in &ENTRIES {
+        assert!(rt;
+            fault_of(&rt, rt.alloc(), entries) == *wanted,
+            "at {entries:?}"
+        );
+    }
+}
+
+/// Entries whose keys have one byte more each, up to the longest.
+fn keys_of_each_length(rt: &impl Abort, alloc: Global) -> Vec<Shown<'static>> {
+    let mut entries: Vec<Shown<'static>> = Vec::new(alloc);
     for prefix in 0..1024 {
-        entries.push((prefix, b"b"))?;
+        entries.push((prefix, b"b")).expect(rt, "room for an entry");
     }
-    assert!(rt; fault_of(rt.alloc(), &entries)?.is_none());
-    let last: [(Shown<'_>, Option<NodeFault>); 6] = [
-        ((0, b"c"), None),
-        ((1023, b"c"), None),
-        ((20, b"a"), Some(NodeFault::KeyOrder)),
-        ((20, b"b"), Some(NodeFault::BadPrefix)),
-        ((1024, b"b"), Some(NodeFault::KeyLength)),
-        ((1025, b"b"), Some(NodeFault::BadPrefix)),
-    ];
-    for (shown, wanted) in last {
-        entries.push(shown)?;
-        assert!(rt; fault_of(rt.alloc(), &entries)? == wanted, "with {shown:?}");
-        entries.pop();
-    }
-    Ok(())
+    entries
 }
 
+/// The fault of a node of these entries and one more, or none.
+fn fault_with(
+    rt: &impl Abort,
+    alloc: Global,
+    entries: &mut Vec<Shown<'static>>,
+    last: Shown<'static>,
+) -> Option<NodeFault> {
+    entries.push(last).expect(rt, "room for an entry");
+    let found = fault_of(rt, alloc, entries);
+    entries.pop();
+    found
+}
+
+/// What an entry after those shows, with the fault of the node.
+const LAST: [(Shown<'static>, Option<NodeFault>); 6] = [
+    ((0, b"c"), None),
+    ((1023, b"c"), None),
+    ((20, b"a"), Some(NodeFault::KeyOrder)),
+    ((20, b"b"), Some(NodeFault::BadPrefix)),
+    ((1024, b"b"), Some(NodeFault::KeyLength)),
+    ((1025, b"b"), Some(NodeFault::BadPrefix)),
+];
+
 #[test]
-fn cut_nodes(rt: HostRuntime) -> Result<(), Fail> {
-    let empty = NodeWriter::begin(rt.alloc(), None)?.finish()?;
-    for bytes in [two_entries(rt.alloc())?, empty] {
-        assert!(rt; fault(&bytes).is_none());
-        for length in 0..bytes.len() {
-            assert!(rt;
-                fault(&bytes[..length]) == Some(NodeFault::NotNode),
-                "of {length} bytes"
-            );
+fn keys_of_as_many_parts_as_bytes(rt: HostRuntime) {
+    let mut entries = keys_of_each_length(&rt, rt.alloc());
+    assert!(rt; fault_of(&rt, rt.alloc(), &entries).is_none());
+    for (shown, wanted) in &LAST {
+        let found = fault_with(&rt, rt.alloc(), &mut entries, *shown);
+        assert!(rt; found == *wanted, "with {shown:?}");
+    }
+}
+
+/// Whether these are the bytes of a node, and no fewer of them are.
+fn is_node_uncut(bytes: &[u8]) -> bool {
+    for length in 0..bytes.len() {
+        if fault(&bytes[..length]) != Some(NodeFault::NotNode) {
+            return false;
         }
     }
-    Ok(())
+    fault(bytes).is_none()
 }
 
 #[test]
-fn nodes_with_one_byte_changed(rt: HostRuntime) -> Result<(), Fail> {
-    let mut bytes = two_entries(rt.alloc())?;
-    let bytes = &mut bytes[..];
-    let mut accepted = 0_u32;
-    let mut refused = [0_u32; 4];
-    for place in 0..bytes.len() {
+fn cut_nodes(rt: HostRuntime) {
+    assert!(rt; is_node_uncut(&two_entries(&rt, rt.alloc())));
+    let writer = NodeWriter::begin(rt.alloc(), None).expect(&rt, "memory for a node");
+    let empty = writer.finish().expect(&rt, "memory for the last part");
+    assert!(rt; is_node_uncut(&empty));
+}
+
+/// How many nodes were accepted and how many refused, by their fault.
+#[derive(Drop)]
+struct Counts {
+    accepted: u32,
+    refused: [u32; 4],
+}
+
+impl Counts {
+    /// Counts one more, by its fault.
+    fn count(&mut self, fault: Option<NodeFault>) {
+        let count = match fault {
+            None => &mut self.accepted,
+            Some(fault) => &mut self.refused[fault as usize],
+        };
+        *count = count.saturating_add(1);
+    }
+
+    /// Counts the bytes with each other byte at this place.
+    fn count_changes(&mut self, bytes: &mut [u8], place: usize)
+        requires { place < length bytes.old }
+    {
         let was = bytes[place];
         for byte in 0..=u8::MAX {
-            if byte == was {
-                continue;
-            }
-            bytes[place] = byte;
-            match fault(bytes) {
-                None => accepted = accepted.saturating_add(1),
-                Some(fault) => {
-                    let count = &mut refused[fault as usize];
-                    *count = count.saturating_add(1);
-                }
+            if byte != was {
+                bytes[place] = byte;
+                self.count(fault(bytes));
             }
         }
         bytes[place] = was;
     }
+}
+
+#[test]
+fn nodes_with_one_byte_changed(rt: HostRuntime) {
+    let mut bytes = two_entries(&rt, rt.alloc());
+    let bytes = &mut bytes[..];
+    let mut counts = Counts {
+        accepted: 0,
+        refused: [0; 4],
+    };
+    for place in 0..bytes.len() {
+        counts.count_changes(bytes, place);
+    }
+    let Counts { accepted, refused } = counts;
     // NotNode, BadPrefix, KeyOrder, KeyLength
     assert!(rt;
         accepted == 17_342 && refused == [12_449, 45, 254, 0],
         "{accepted} accepted, {refused:?} refused"
     );
-    Ok(())
 }

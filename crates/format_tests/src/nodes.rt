@@ -1,15 +1,15 @@
 //! Nodes of worked examples.
 
 use cid::{Cid, CidRef};
-use node::{KeyBuf, NodeView, NodeWriter, Place};
-use std::alloc::{AllocError, Global};
-use std::test::Fail;
+use node::{EntryView, KeyBuf, NodeView, NodeWriter, Place};
+use std::alloc::Global;
+use std::process::Abort;
 
 /// The identifier `01 71 12 20` and 32 bytes of one value.
-pub fn identifier(byte: u8) -> Result<Cid, &'static str> {
+pub fn identifier(rt: &impl Abort, byte: u8) -> Cid {
     let mut bytes = [byte; 36];
     bytes[..4].copy_from_slice(&[0x01, 0x71, 0x12, 0x20]);
-    Cid::from_bytes(bytes).ok_or("no CID")
+    Cid::from_bytes(bytes).expect(rt, "this profile")
 }
 
 /// What stands after the suffix of the first entry of an example: `p`, no subtree, and its value's link up to the digest.
@@ -19,17 +19,24 @@ const AFTER_FIRST: [u8; 17] = [
 ];
 
 /// The node of two entries, `a/b` and `a/cd`, byte for byte.
-pub fn two_entries(alloc: Global) -> Result<Vec<u8>, AllocError> {
+pub fn two_entries(rt: &impl Abort, alloc: Global) -> Vec<u8> {
+    let parts: [&[u8]; 8] = [
+        &[0xa2, 0x61, 0x65, 0x82],
+        &[0xa4, 0x61, 0x6b, 0x43, 0x61, 0x2f, 0x62],
+        &AFTER_FIRST,
+        &[0x11; 32],
+        &[0xa4, 0x61, 0x6b, 0x42, 0x63, 0x64, 0x61, 0x70, 0x02],
+        &AFTER_FIRST[3..],
+        &[0x11; 32],
+        &[0x61, 0x6c, 0xf6],
+    ];
     let mut bytes = Vec::new(alloc);
-    bytes.extend_from_slice(&[0xa2, 0x61, 0x65, 0x82])?;
-    bytes.extend_from_slice(&[0xa4, 0x61, 0x6b, 0x43, 0x61, 0x2f, 0x62])?;
-    bytes.extend_from_slice(&AFTER_FIRST)?;
-    bytes.extend_from_slice(&[0x11; 32])?;
-    bytes.extend_from_slice(&[0xa4, 0x61, 0x6b, 0x42, 0x63, 0x64, 0x61, 0x70, 0x02])?;
-    bytes.extend_from_slice(&AFTER_FIRST[3..])?;
-    bytes.extend_from_slice(&[0x11; 32])?;
-    bytes.extend_from_slice(&[0x61, 0x6c, 0xf6])?;
-    Ok(bytes)
+    for part in parts {
+        bytes
+            .extend_from_slice(part)
+            .expect(rt, "memory for a part");
+    }
+    bytes
 }
 
 /// The link before all keys of a node, or none.
@@ -38,41 +45,40 @@ type Left = Option<Cid>;
 /// An entry to be written: its key, its value and the link after it.
 type Entry<'a> = (&'a [u8], Cid, Option<Cid>);
 
-/// The bytes of a node of these entries, each of whose keys can be next before it is written, and can't after that.
-fn written(alloc: Global, left: Left, entries: &[Entry<'_>]) -> Result<Vec<u8>, Fail> {
-    let mut writer = NodeWriter::begin(alloc, left)?;
-    for (key, value, tree) in entries {
-        if !writer.is_next(key) {
-            return Err(Fail::from("a key can't be next"));
-        }
-        writer.entry(key, CidRef::from(value), *tree)?;
-        if writer.is_next(key) {
-            return Err(Fail::from("a key can be next after itself"));
-        }
+/// Writes an entry whose key can be next before it is written, and can't after that.
+fn write_entry(rt: &impl Abort, writer: &mut NodeWriter, entry: &Entry<'_>) {
+    let (key, value, tree) = entry;
+    assert!(rt; writer.is_next(key), "a key that can't be next");
+    writer
+        .entry(key, CidRef::from(value), *tree)
+        .expect(rt, "memory for an entry");
+    assert!(rt; !writer.is_next(key), "a key that can be next after itself");
+}
+
+/// The bytes of a node of these entries.
+fn written(rt: &impl Abort, alloc: Global, left: Left, entries: &[Entry<'_>]) -> Vec<u8> {
+    let mut writer = NodeWriter::begin(alloc, left).expect(rt, "memory for a node");
+    for entry in entries {
+        write_entry(rt, &mut writer, entry);
     }
-    Ok(writer.finish()?)
+    writer.finish().expect(rt, "memory for the last part")
 }
 
 #[test]
-fn node_of_two_entries(rt: HostRuntime) -> Result<(), Fail> {
-    let value = identifier(0x11)?;
+fn node_of_two_entries(rt: HostRuntime) {
+    let value = identifier(&rt, 0x11);
     let entries: [Entry<'_>; 2] = [(b"a/b", value, None), (b"a/cd", value, None)];
-    let bytes = written(rt.alloc(), None, &entries)?;
-    assert!(rt; bytes.len() == 118 && bytes == two_entries(rt.alloc())?);
-    Ok(())
+    let bytes = written(&rt, rt.alloc(), None, &entries);
+    assert!(rt; bytes.len() == 118 && bytes == two_entries(&rt, rt.alloc()));
 }
 
 /// The bytes of a node of the keys `ka` to `kz`, with this one identifier for each value and each link.
-fn of_letters(alloc: Global, link: Cid) -> Result<Vec<u8>, Fail> {
-    let mut writer = NodeWriter::begin(alloc, Some(link))?;
+fn of_letters(rt: &impl Abort, alloc: Global, link: Cid) -> Vec<u8> {
+    let mut writer = NodeWriter::begin(alloc, Some(link)).expect(rt, "memory for a node");
     for last in b'a'..=b'z' {
-        let key = [b'k', last];
-        if !writer.is_next(&key) {
-            return Err(Fail::from("a key can't be next"));
-        }
-        writer.entry(&key, CidRef::from(&link), Some(link))?;
+        write_entry(rt, &mut writer, &(&[b'k', last], link, Some(link)));
     }
-    Ok(writer.finish()?)
+    writer.finish().expect(rt, "memory for the last part")
 }
 
 /// The suffix of a node's last entry.
@@ -84,19 +90,23 @@ fn last_suffix<'a>(view: &NodeView<'a>) -> Option<&'a [u8]> {
     last
 }
 
+/// Whether these are the bytes of a node with this link before all keys and this last suffix.
+fn is_node(bytes: &[u8], left: &Cid, last: &[u8]) -> bool {
+    match NodeView::parse(bytes) {
+        Ok(view) => view.left() == Some(CidRef::from(left)) && last_suffix(&view) == Some(last),
+        Err(_) => false,
+    }
+}
+
 #[test]
-fn lengths_of_nodes(rt: HostRuntime) -> Result<(), Fail> {
-    let link = identifier(0x22)?;
-    let empty = written(rt.alloc(), None, &[])?;
+fn lengths_of_nodes(rt: HostRuntime) {
+    let link = identifier(&rt, 0x22);
+    let empty = written(&rt, rt.alloc(), None, &[]);
     assert!(rt; empty.as_slice() == b"\xa2ae\x80al\xf6".as_slice());
-    assert!(rt; written(rt.alloc(), Some(link), &[])?.len() == 47);
+    assert!(rt; written(&rt, rt.alloc(), Some(link), &[]).len() == 47);
     // 26 entries take a head of two bytes; the suffix of the first key has two bytes, of the others one.
-    let bytes = of_letters(rt.alloc(), link)?;
-    assert!(rt; bytes.len() == 8 + 26 * 94 + 1 + 40);
-    let view = NodeView::parse(&bytes).expect(&rt, "a node");
-    assert!(rt; view.left() == Some(CidRef::from(&link)));
-    assert!(rt; last_suffix(&view) == Some(b"z".as_slice()));
-    Ok(())
+    let bytes = of_letters(&rt, rt.alloc(), link);
+    assert!(rt; bytes.len() == 8 + 26 * 94 + 1 + 40 && is_node(&bytes, &link, b"z"));
 }
 
 /// Whether an entry of this suffix stands here, after so many bytes of the key before, with this value and this link.
@@ -112,129 +122,148 @@ fn is_here(place: Place<'_>, prefix: usize, suffix: &[u8], value: &Cid, tree: &C
     }
 }
 
-/// Whether this is a gap with this link.
-fn is_below(place: Place<'_>, link: &Cid) -> bool {
-    match place {
-        Place::Below(found) => found == CidRef::from(link),
-        _ => false,
-    }
-}
-
-#[test]
-fn places_in_a_node(rt: HostRuntime) -> Result<(), Fail> {
-    let (left, middle, right) = (identifier(0x01)?, identifier(0x02)?, identifier(0x03)?);
-    let (one, two) = (identifier(0x11)?, identifier(0x12)?);
-    let entries: [Entry<'_>; 2] = [(b"a/b", one, Some(middle)), (b"a/cd", two, Some(right))];
-    let bytes = written(rt.alloc(), Some(left), &entries)?;
-    let view = NodeView::parse(&bytes).expect(&rt, "a node");
-    for (key, prefix, suffix, value, tree) in [
-        (b"a/b".as_slice(), 0, b"a/b".as_slice(), &one, &middle),
-        (b"a/cd", 2, b"cd", &two, &right),
-    ] {
-        let place = view.find(key);
-        assert!(rt;
-            is_here(place, prefix, suffix, value, tree),
-            "{place:?} of {key:?}"
-        );
-    }
-    for (key, link) in [
-        (b"".as_slice(), &left),
-        (b"a/a", &left),
-        (b"a/b0", &middle),
-        (b"a/c", &middle),
-        (b"a/cc", &middle),
-        (b"a/cd0", &right),
-        (b"a/d", &right),
-        (b"b", &right),
-    ] {
-        let place = view.find(key);
-        assert!(rt; is_below(place, link), "{place:?} of {key:?}");
-    }
-    Ok(())
-}
-
-/// The suffix of the entry at this place, or none at a gap without a link.
-fn suffix_at<'a>(place: Place<'a>) -> Result<Option<&'a [u8]>, Fail> {
-    match place {
-        Place::Here(entry) => Ok(Some(entry.suffix)),
-        Place::Gap => Ok(None),
-        Place::Below(_) => Err(Fail::from("a link")),
-    }
-}
-
-#[test]
-fn parts_of_the_node_of_two_entries(rt: HostRuntime) -> Result<(), Fail> {
-    let bytes = two_entries(rt.alloc())?;
-    let view = NodeView::parse(&bytes).expect(&rt, "a node");
-    assert!(rt; view.left().is_none());
-    let mut entries = view.entries();
-    for (prefix, suffix, value) in [(0, 8..11, 24..60), (2, 64..66, 79..115)] {
-        let entry = entries.next().expect(&rt, "an entry");
-        assert!(rt;
-            entry.prefix == prefix
-                && Some(entry.suffix) == bytes.get(suffix)
-                && Some(entry.value.as_bytes().as_slice()) == bytes.get(value)
-                && entry.tree.is_none(),
-            "{entry:?}"
-        );
-    }
-    assert!(rt; entries.next().is_none());
-    for (key, suffix) in [
-        (b"a/b".as_slice(), Some(b"a/b".as_slice())),
-        (b"a/cd", Some(b"cd")),
-        (b"a/a", None),
-        (b"a/c", None),
-        (b"b", None),
-    ] {
-        assert!(rt; suffix_at(view.find(key))? == suffix, "at {key:?}");
-    }
-    Ok(())
-}
-
-#[test]
-fn keys_put_together(rt: HostRuntime) -> Result<(), Fail> {
-    let bytes = two_entries(rt.alloc())?;
-    let view = NodeView::parse(&bytes).expect(&rt, "a node");
-    let keys = [b"a/b".as_slice(), b"a/cd"];
-    let mut key = KeyBuf::new(rt.alloc())?;
-    for _ in 0..2 {
-        key.reset();
-        let mut wanted = keys.iter();
-        for entry in view.entries() {
-            assert!(rt; entry.prefix <= key.key().len());
-            assert!(rt; entry.prefix <= 1024 && entry.suffix.len() <= 1024 - entry.prefix);
-            key.step(&entry);
-            assert!(rt;
-                Some(&key.key()) == wanted.next(),
-                "in place of {:?}",
-                key.key()
-            );
+/// Whether each of these keys stands in the gap with this link.
+fn are_below(view: &NodeView<'_>, keys: &[&[u8]], link: &Cid) -> bool {
+    for key in keys {
+        match view.find(key) {
+            Place::Below(found) if found == CidRef::from(link) => {}
+            _ => return false,
         }
     }
-    Ok(())
+    true
+}
+
+/// Whether eight keys stand in the gaps with these links.
+fn finds_gaps(view: &NodeView<'_>, left: &Cid, middle: &Cid, right: &Cid) -> bool {
+    are_below(view, &[b"", b"a/a"], left)
+        && are_below(view, &[b"a/b0", b"a/c", b"a/cc"], middle)
+        && are_below(view, &[b"a/cd0", b"a/d", b"b"], right)
 }
 
 #[test]
-fn entries_copied(rt: HostRuntime) -> Result<(), Fail> {
-    let bytes = two_entries(rt.alloc())?;
+fn places_in_a_node(rt: HostRuntime) {
+    let (left, middle) = (identifier(&rt, 0x01), identifier(&rt, 0x02));
+    let right = identifier(&rt, 0x03);
+    let (one, two) = (identifier(&rt, 0x11), identifier(&rt, 0x12));
+    let entries: [Entry<'_>; 2] = [(b"a/b", one, Some(middle)), (b"a/cd", two, Some(right))];
+    let bytes = written(&rt, rt.alloc(), Some(left), &entries);
+    let view = NodeView::parse(&bytes).expect(&rt, "a node");
+    assert!(rt;
+        is_here(view.find(b"a/b"), 0, b"a/b", &one, &middle)
+            && is_here(view.find(b"a/cd"), 2, b"cd", &two, &right)
+            && finds_gaps(&view, &left, &middle, &right)
+    );
+}
+
+/// Whether an entry without a link shows so many bytes of the key before, this suffix and this value.
+fn is_entry(
+    entry: Option<EntryView<'_>>,
+    prefix: usize,
+    suffix: Option<&[u8]>,
+    value: Option<&[u8]>,
+) -> bool {
+    match entry {
+        Some(entry) => {
+            entry.prefix == prefix
+                && Some(entry.suffix) == suffix
+                && Some(entry.value.as_bytes().as_slice()) == value
+                && entry.tree.is_none()
+        }
+        None => false,
+    }
+}
+
+/// Whether the node of these bytes has no link before all keys and two entries, which are parts of the bytes.
+fn shows_its_parts(view: &NodeView<'_>, bytes: &[u8]) -> bool {
+    let mut entries = view.entries();
+    let first = is_entry(entries.next(), 0, bytes.get(8..11), bytes.get(24..60));
+    let second = is_entry(entries.next(), 2, bytes.get(64..66), bytes.get(79..115));
+    first && second && entries.next().is_none() && view.left().is_none()
+}
+
+/// Whether an entry of this suffix stands here, or none and no link.
+fn has_suffix(place: Place<'_>, suffix: Option<&[u8]>) -> bool {
+    match place {
+        Place::Here(entry) => suffix == Some(entry.suffix),
+        Place::Gap => suffix.is_none(),
+        Place::Below(_) => false,
+    }
+}
+
+/// Whether `a/b` and `a/cd` are found, and three other keys not.
+fn finds_two_keys(view: &NodeView<'_>) -> bool {
+    has_suffix(view.find(b"a/b"), Some(b"a/b"))
+        && has_suffix(view.find(b"a/cd"), Some(b"cd"))
+        && has_suffix(view.find(b"a/a"), None)
+        && has_suffix(view.find(b"a/c"), None)
+        && has_suffix(view.find(b"b"), None)
+}
+
+#[test]
+fn parts_of_the_node_of_two_entries(rt: HostRuntime) {
+    let bytes = two_entries(&rt, rt.alloc());
+    let view = NodeView::parse(&bytes).expect(&rt, "a node");
+    assert!(rt; shows_its_parts(&view, &bytes) && finds_two_keys(&view));
+}
+
+/// Whether the key of this entry can be put together by what is kept of the key before, and is this one.
+fn steps_to(key: &mut KeyBuf, entry: &EntryView<'_>, wanted: Option<&&[u8]>) -> bool {
+    if entry.prefix > key.key().len() || entry.prefix > 1024 {
+        return false;
+    }
+    if entry.suffix.len() > 1024 - entry.prefix {
+        return false;
+    }
+    key.step(entry);
+    Some(&key.key()) == wanted
+}
+
+/// Whether the keys of the node, put together one by one, are these.
+fn puts_together(key: &mut KeyBuf, view: &NodeView<'_>, keys: &[&[u8]]) -> bool {
+    key.reset();
+    let mut wanted = keys.iter();
+    for entry in view.entries() {
+        if !steps_to(key, &entry, wanted.next()) {
+            return false;
+        }
+    }
+    wanted.next().is_none()
+}
+
+/// The keys of the node of two entries.
+const TWO_KEYS: [&[u8]; 2] = [b"a/b", b"a/cd"];
+
+#[test]
+fn keys_put_together(rt: HostRuntime) {
+    let bytes = two_entries(&rt, rt.alloc());
+    let view = NodeView::parse(&bytes).expect(&rt, "a node");
+    let mut key = KeyBuf::new(rt.alloc()).expect(&rt, "memory for a key");
+    assert!(rt;
+        puts_together(&mut key, &view, &TWO_KEYS) && puts_together(&mut key, &view, &TWO_KEYS)
+    );
+}
+
+#[test]
+fn entries_copied(rt: HostRuntime) {
+    let bytes = two_entries(&rt, rt.alloc());
     let view = NodeView::parse(&bytes).expect(&rt, "a node");
     assert!(rt; view.entry_count() == 2);
-    let mut writer = NodeWriter::begin(rt.alloc(), None)?;
-    writer.copy(&view, 0, 2)?;
-    assert!(rt; writer.finish()? == bytes);
-    Ok(())
+    let mut writer = NodeWriter::begin(rt.alloc(), None).expect(&rt, "memory for a node");
+    writer.copy(&view, 0, 2).expect(&rt, "memory for entries");
+    assert!(rt; writer.finish().expect(&rt, "memory for the last part") == bytes);
 }
 
 #[test]
-fn entries_copied_after_one_written(rt: HostRuntime) -> Result<(), Fail> {
-    let bytes = two_entries(rt.alloc())?;
+fn entries_copied_after_one_written(rt: HostRuntime) {
+    let bytes = two_entries(&rt, rt.alloc());
     let view = NodeView::parse(&bytes).expect(&rt, "a node");
     assert!(rt; view.entry_count() == 2);
     let first = view.entries().next().expect(&rt, "an entry");
-    let mut writer = NodeWriter::begin(rt.alloc(), None)?;
+    let mut writer = NodeWriter::begin(rt.alloc(), None).expect(&rt, "memory for a node");
     assert!(rt; writer.is_next(first.suffix));
-    writer.entry(first.suffix, first.value, None)?;
-    writer.copy(&view, 1, 2)?;
-    assert!(rt; writer.finish()? == bytes);
-    Ok(())
+    writer
+        .entry(first.suffix, first.value, None)
+        .expect(&rt, "memory for an entry");
+    writer.copy(&view, 1, 2).expect(&rt, "memory for entries");
+    assert!(rt; writer.finish().expect(&rt, "memory for the last part") == bytes);
 }

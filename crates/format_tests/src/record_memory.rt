@@ -1,11 +1,10 @@
 //! Records where memory is refused.
 
-use crate::records::read_and_write;
-use dagcbor::{CborFault, push_head, read};
+use crate::records::{fault_of, read_and_write};
+use dagcbor::{CborFault, push_head};
 use refusing::Refusing;
 use std::alloc::{Allocator, Global};
 use std::process::Abort;
-use std::test::Fail;
 
 /// A map with each kind of value: both booleans, null, a number of each sign with a head of nine bytes, a byte string, a
 /// text, a link, a list of numbers with the shorter heads, and a map.
@@ -20,30 +19,43 @@ fn requests_refused(rt: &impl Abort, heap: &Refusing<Global>, bytes: &[u8]) -> u
         heap.refuse(number);
         let before = heap.refused();
         let answer = read_and_write(heap, bytes);
-        assert!(rt; heap.live() == 0, "after request {number}");
-        if heap.refused() == before {
-            assert!(rt; answer == Ok(true), "{number} requests");
+        let refused = heap.refused() != before;
+        let wanted = if refused {
+            Err(CborFault::NoMemory)
+        } else {
+            Ok(true)
+        };
+        assert!(rt; answer == wanted && heap.live() == 0, "at request {number}");
+        if !refused {
             return number - 1;
         }
-        assert!(rt; answer == Err(CborFault::NoMemory), "at request {number}");
     }
     0
+}
+
+/// The map with each kind of value within so many lists.
+fn within_lists(rt: &impl Abort, alloc: Global, depth: u8) -> Vec<u8> {
+    let mut bytes = Vec::new(alloc);
+    bytes
+        .resize(usize::from(depth), 0x81)
+        .expect(rt, "memory for the lists");
+    bytes
+        .extend_from_slice(EACH_KIND)
+        .expect(rt, "memory for the map");
+    bytes
 }
 
 // Each list around the map moves it along by one byte, so that what is written grows at each of the map's parts in turn.
 // Reading asks once for each list and map of few items: the map, the list in it, and those around it; writing five times
 // or more.
 #[test]
-fn answers_each_refusal_of_memory(rt: HostRuntime) -> Result<(), Fail> {
+fn answers_each_refusal_of_memory(rt: HostRuntime) {
     let heap = Refusing::new(rt.alloc());
     for depth in 0..61u8 {
-        let mut bytes = Vec::new(rt.alloc());
-        bytes.resize(usize::from(depth), 0x81)?;
-        bytes.extend_from_slice(EACH_KIND)?;
+        let bytes = within_lists(&rt, rt.alloc(), depth);
         let requests = requests_refused(&rt, &heap, &bytes);
         assert!(rt; requests >= 7 + u64::from(depth), "{requests} requests");
     }
-    Ok(())
 }
 
 /// The beginnings of lists and maps whose items are missing, each with the number of its items in another length.
@@ -60,23 +72,32 @@ const STATED_NUMBERS: [&[u8]; 10] = [
     b"\xb7",
 ];
 
+/// How many lists can be around these bytes, up to 64, while no room is asked for up to where they end.
+fn levels_without_room(
+    rt: &impl Abort,
+    alloc: Global,
+    heap: &Refusing<Global>,
+    stated: &[u8],
+) -> u8 {
+    let mut bytes = Vec::from_slice(alloc, stated).expect(rt, "memory for the beginning");
+    for levels in 0..64u8 {
+        if fault_of(heap, &bytes) != Some(CborFault::Truncated) || heap.refused() != 0 {
+            return levels;
+        }
+        bytes.insert(0, 0x81).expect(rt, "memory for a level");
+    }
+    64
+}
+
 // A list asks for room only when its first item has been read, so none is asked for up to where the bytes end.
 #[test]
-fn asks_for_no_room_by_a_stated_number(rt: HostRuntime) -> Result<(), Fail> {
+fn asks_for_no_room_by_a_stated_number(rt: HostRuntime) {
     let heap = Refusing::new(rt.alloc());
     heap.refuse_from(1);
-    for stated in STATED_NUMBERS {
-        let mut bytes = Vec::new(rt.alloc());
-        bytes.extend_from_slice(stated)?;
-        for levels in 0..64u8 {
-            assert!(rt;
-                read(&heap, &bytes).err() == Some(CborFault::Truncated) && heap.refused() == 0,
-                "{levels} levels around {stated:?}"
-            );
-            bytes.insert(0, 0x81)?;
-        }
+    for stated in &STATED_NUMBERS {
+        let levels = levels_without_room(&rt, rt.alloc(), &heap, stated);
+        assert!(rt; levels == 64, "{levels} levels around {stated:?}");
     }
-    Ok(())
 }
 
 /// Puts heads of each length, over a heap that refuses one request: how many bytes there were before the refusal and after it.
@@ -94,20 +115,23 @@ fn push_until_refused<A: Allocator>(alloc: A) -> (usize, usize) {
     (before, 0)
 }
 
+/// Whether no byte of a head is put where this request for memory is refused, and no other request is.
+fn puts_all_or_none(alloc: Global, number: u64) -> bool {
+    let heap = Refusing::new(alloc);
+    heap.refuse(number);
+    let (before, after) = push_until_refused(&heap);
+    before == after && heap.refused() == 1
+}
+
 #[test]
-fn puts_no_part_of_a_head(rt: HostRuntime) -> Result<(), Fail> {
+fn puts_no_part_of_a_head(rt: HostRuntime) {
     for number in 1..6u64 {
-        let heap = Refusing::new(rt.alloc());
-        heap.refuse(number);
-        let (before, after) = push_until_refused(&heap);
-        assert!(rt;
-            before == after && heap.refused() == 1,
-            "at request {number}"
-        );
+        assert!(rt; puts_all_or_none(rt.alloc(), number), "at request {number}");
     }
     let mut out = Vec::new(rt.alloc());
-    push_head(&mut out, 6, 42)?;
-    push_head(&mut out, 1, 0x1_0000_0000)?;
-    assert!(rt; out.as_slice() == b"\xd8\x2a\x3b\x00\x00\x00\x01\x00\x00\x00\x00".as_slice());
-    Ok(())
+    assert!(rt;
+        push_head(&mut out, 6, 42).is_ok()
+            && push_head(&mut out, 1, 0x1_0000_0000).is_ok()
+            && out.as_slice() == b"\xd8\x2a\x3b\x00\x00\x00\x01\x00\x00\x00\x00".as_slice()
+    );
 }

@@ -14,7 +14,9 @@ first-key (x ∷ xs) r rs e = let is : row_after [] x ≡ r = cc in sym (ap (λ 
 pub copy-requires-clause-follows : goal.copy-requires-clause-follows
 copy-requires-clause-follows g c =
     let first = c.expect-first.result in
-    let key : last_key [] c.entry.new.self.entries ≡ first.suffix.now = ap (λ (x : Contents). last_key [] x.entries) c.in_ok-entry.ensures.ok ∙ last_key-append [] c.in_ok-writer.writer.entries _ in
+    let ok = c.expect.ensures in
+    let written = rw ok at c.entry.ensures.ok in
+    let key : last_key [] c.entry.new.self.entries ≡ first.suffix.now = ap (λ (x : Contents). last_key [] x.entries) written ∙ last_key-append [] c.expect-writer.result.entries _ in
     let some : c.next.result ≡ Some first = c.expect-first.ensures in
     let steps = rw some at c.next.ensures.steps in
     key ∙ first-key c.expect-view.result.entries (row_of first) c.next.new.self (sym c.entries.ensures.rows ∙ steps)
