@@ -1,6 +1,6 @@
 //! One table of counted blocks: who holds them, its limit, collisions, want of memory, and that equal blocks are shared.
 
-use crate::fixtures::{EMPTY, ONE, acquired, block, keep, release_each};
+use crate::fixtures::{EMPTY, ONE, acquired, block, entry_count, keep, release_each};
 use cid::digests::{Clash, Toy};
 use cid::{Block, Cid, Digest};
 use refusing::Refusing;
@@ -84,7 +84,7 @@ fn count_without(shard: &Shard<Toy>, cid: Cid, core: u32) -> Option<u64> {
     Some(shard.count(&cid))
 }
 
-/// Whether so many cores hold the block of this CID once this hold is released, and its core not.
+/// Releases the hold: whether its core doesn't hold the block of this CID then, and so many others do.
 fn leaves(shard: &mut Shard<Toy>, cid: Cid, hold: Hold<Toy>, left: u64) -> bool {
     let core = hold.core();
     shard.release(hold);
@@ -113,7 +113,7 @@ fn holds_all_cores(rt: HostRuntime) {
         assert!(rt; shard.count(&cid) == u64::from(core) + 1);
     }
     leave_one_by_one(&rt, &mut shard, cid, holds);
-    assert!(rt; shard.entries().count() == 0);
+    assert!(rt; entry_count(&shard) == 0);
 }
 
 /// Whether core 1023 alone of these holds the first block, and core 64 alone of these the second.
@@ -133,7 +133,7 @@ fn lists_both(shard: &Shard<Toy>, first: Cid, second: Cid) -> bool {
             lower < upper
                 && is_entry_of(lower, of_lower, first, second)
                 && is_entry_of(upper, of_upper, first, second)
-                && shard.entries().count() == 2
+                && entry_count(&shard) == 2
         }
         _ => false,
     }
@@ -222,7 +222,7 @@ fn has_others_only<A: Allocator>(shard: &Shard<Toy, A>, others: u8, cid: Cid) ->
             return false;
         }
     }
-    shard.entries().count() == usize::from(others) && shard.count(&cid) == 0
+    entry_count(&shard) == usize::from(others) && shard.count(&cid) == 0
 }
 
 /// The hold of core 1 on one more use of this block, or whether it is refused for want of memory.
@@ -261,6 +261,23 @@ fn acquired_at_last<R: Abort, A: Allocator + Copy>(
     Err(9)
 }
 
+/// Acquires a held block for core 2 and releases it, where each request for memory is refused: whether two cores hold it in
+/// between.
+fn is_shared_without_memory<R: Abort, A: Allocator + Copy>(
+    rt: &R,
+    heap: &Refusing<Global>,
+    shard: &mut Shard<Toy, A>,
+    block: Arc<Block<Toy, A>, A>,
+) -> bool {
+    let cid = block.cid();
+    heap.refuse_from(1);
+    let again = acquired(rt, shard, 2, block);
+    let twice = shard.count(&cid) == 2;
+    shard.release(again);
+    heap.refuse(0);
+    twice
+}
+
 /// Acquires a new block as above, and answers the hold. Then it stands there once, and neither another core's acquire of
 /// it nor the release wants memory.
 fn acquired_without_memory<R: Abort, A: Allocator + Copy>(
@@ -277,11 +294,8 @@ fn acquired_without_memory<R: Abort, A: Allocator + Copy>(
         "refusals that change nothing, and then a hold",
     );
     let once = shard.count(&cid) == 1;
-    heap.refuse_from(1);
-    let again = acquired(rt, shard, 2, block);
-    assert!(rt; once && shard.count(&cid) == 2, "after {others} others");
-    shard.release(again);
-    heap.refuse(0);
+    let shared = is_shared_without_memory(rt, heap, shard, block);
+    assert!(rt; once && shared, "after {others} others");
     hold
 }
 
@@ -298,7 +312,7 @@ fn fill_and_empty<R: Abort, A: Allocator + Copy>(
         keep(rt, &mut holds, hold);
     }
     release_each(rt, &mut shard, holds, 40);
-    shard.entries().count() == 0
+    entry_count(&shard) == 0
 }
 
 #[test]

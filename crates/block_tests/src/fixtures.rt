@@ -50,6 +50,11 @@ pub(crate) fn keep<R: Abort, D: Digest, A: Allocator>(
     holds.push_reserved(hold);
 }
 
+/// How many entries the table has.
+pub(crate) fn entry_count<D: Digest, A: Allocator>(shard: &Shard<D, A>) -> usize {
+    shard.entries().count()
+}
+
 /// Releases this many holds, which must be all.
 pub(crate) fn release_each<R: Abort, D: Digest, A: Allocator>(
     rt: &R,

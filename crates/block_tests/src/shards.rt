@@ -1,7 +1,7 @@
 //! The sixteen locked shards: where each block stands. No contract can say which lock a call gives, nor what stands
 //! behind it.
 
-use crate::fixtures::{EMPTY, block, keep};
+use crate::fixtures::{EMPTY, block, entry_count, keep};
 use cid::digests::Toy;
 use cid::{Block, Cid, Digest, Sha256};
 use std::alloc::Global;
@@ -42,6 +42,16 @@ fn record(letter: u8) -> [u8; 4] {
     [0xa1, 0x61, letter, 0x33]
 }
 
+/// The CID of the record of this letter.
+fn record_cid(letter: u8) -> Cid {
+    Cid::of::<Toy>(&record(letter))
+}
+
+/// A block of the record of this letter.
+fn record_block<R: Abort>(rt: &R, alloc: Global, letter: u8) -> Arc<Block<Toy>> {
+    block(rt, alloc, &record(letter))
+}
+
 /// Whether each table has one core for the record where it is table 3, else none, and none for the other block.
 fn has_the_record_alone(tables: &[Shard<Toy>; SHARDS], record: Cid, other: Cid) -> bool {
     for (number, table) in tables.iter().enumerate() {
@@ -78,21 +88,16 @@ fn loses_the_record(mut tables: [Shard<Toy>; SHARDS], hold: Hold<Toy>, other: Ci
 /// The record that ends in the digit 3 stands in shard 3, and the empty map in shard 15.
 #[test]
 fn stands_in_its_shard(rt: HostRuntime) {
-    let shards: Shards<Toy> = Shards::open(rt.alloc(), 1);
-    let (record_cid, empty_cid) = (Cid::of::<Toy>(&record(b'a')), Cid::of::<Toy>(&EMPTY));
-    let first = acquired(&rt, &shards, block(&rt, rt.alloc(), &record(b'a')));
-    let second = acquired(&rt, &shards, block(&rt, rt.alloc(), &EMPTY));
-    let other_record = block(&rt, rt.alloc(), &record(b'b'));
-    assert!(rt; is_held_alone(&rt, &shards, 3, record_cid, other_record));
-    let empty_list = block(&rt, rt.alloc(), &[0x80]);
-    assert!(rt; is_held_alone(&rt, &shards, 15, empty_cid, empty_list));
+    let (alloc, empty_cid) = (rt.alloc(), Cid::of::<Toy>(&EMPTY));
+    let shards: Shards<Toy> = Shards::open(alloc, 1);
+    let first = acquired(&rt, &shards, record_block(&rt, alloc, b'a'));
+    let second = acquired(&rt, &shards, block(&rt, alloc, &EMPTY));
+    let other_record = record_block(&rt, alloc, b'b');
+    let record_held = is_held_alone(&rt, &shards, 3, record_cid(b'a'), other_record);
+    let empty_list = block(&rt, alloc, &[0x80]);
+    assert!(rt; record_held && is_held_alone(&rt, &shards, 15, empty_cid, empty_list));
     shards.release(&rt, second);
     assert!(rt; loses_the_record(shards.tables(), first, empty_cid));
-}
-
-/// The CID of the record of this letter.
-fn record_cid(letter: u8) -> Cid {
-    Cid::of::<Toy>(&record(letter))
 }
 
 /// Whether the record of this letter stands in shard 3.
@@ -100,16 +105,25 @@ fn is_in_shard_3(letter: u8) -> bool {
     shard_number(&record_cid(letter)) == 3
 }
 
+/// Whether the records of `a` and `b` are held in shard 3, which is full with them, as the block of the record of `c` is
+/// refused.
+fn is_full_of_two<R: Wait>(rt: &R, shards: &Shards<Toy>, third: Arc<Block<Toy>>) -> bool {
+    let in_shard = is_in_shard_3(b'a') && is_in_shard_3(b'b') && is_in_shard_3(b'c');
+    let full = is_full(rt, shards, third);
+    in_shard
+        && full
+        && is_held(rt, shards, record_cid(b'a'))
+        && is_held(rt, shards, record_cid(b'b'))
+}
+
 /// No contract can say how many blocks a shard behind its lock may have.
 #[test]
 fn each_shard_has_the_limit(rt: HostRuntime) {
-    assert!(rt; is_in_shard_3(b'a') && is_in_shard_3(b'b') && is_in_shard_3(b'c'));
-    let shards: Shards<Toy> = Shards::open(rt.alloc(), 2);
-    let first = acquired(&rt, &shards, block(&rt, rt.alloc(), &record(b'a')));
-    let second = acquired(&rt, &shards, block(&rt, rt.alloc(), &record(b'b')));
-    let full = is_full(&rt, &shards, block(&rt, rt.alloc(), &record(b'c')));
-    let held = is_held(&rt, &shards, record_cid(b'a')) && is_held(&rt, &shards, record_cid(b'b'));
-    assert!(rt; full && held);
+    let alloc = rt.alloc();
+    let shards: Shards<Toy> = Shards::open(alloc, 2);
+    let first = acquired(&rt, &shards, record_block(&rt, alloc, b'a'));
+    let second = acquired(&rt, &shards, record_block(&rt, alloc, b'b'));
+    assert!(rt; is_full_of_two(&rt, &shards, record_block(&rt, alloc, b'c')));
     shards.release(&rt, first);
     shards.release(&rt, second);
 }
@@ -133,7 +147,7 @@ fn has_its_own_alone(table: &Shard<Sha256>, number: usize) -> bool {
             return false;
         }
     }
-    table.entries().count() == 1
+    entry_count(table) == 1
 }
 
 /// The holds of one block in each shard.
@@ -165,7 +179,7 @@ fn are_held<R: Wait>(rt: &R, shards: &Shards<Sha256>) -> bool {
 fn is_emptied(table: &mut Shard<Sha256>, number: usize, hold: Hold<Sha256>) -> bool {
     let alone = has_its_own_alone(table, number);
     table.release(hold);
-    alone && table.entries().count() == 0
+    alone && entry_count(table) == 0
 }
 
 #[test]

@@ -2,7 +2,8 @@
 
 use cid::{Digest, Sha256};
 use sha256_lanes::{digest_each, digest_four, digest_sorted};
-use std::alloc::AllocError;
+use std::alloc::Global;
+use std::process::Abort;
 
 /// More messages than there are lengths, which come in an order that looks random.
 const MESSAGES: usize = 3_010;
@@ -27,13 +28,21 @@ fn are_right(a: &[u8], b: &[u8], c: &[u8], d: &[u8]) -> bool {
         ]
 }
 
-/// Whether the digests were made, and are those of the messages one by one.
-fn are_digests_of(digests: Result<Vec<[u8; 32]>, AllocError>, messages: &[&[u8]]) -> bool {
-    let Ok(digests) = digests else {
-        return false;
-    };
-    for (digest, message) in digests.iter().zip(messages) {
-        if *digest != Sha256::digest(message) {
+/// Messages that are cut out of these bytes.
+fn cut_out<'a>(rt: &impl Abort, alloc: Global, bytes: &'a [u8; 400]) -> Vec<&'a [u8]> {
+    let mut messages: Vec<&[u8]> = Vec::new(alloc);
+    for i in 0..MESSAGES {
+        messages
+            .push(&bytes[i % 100..i % 100 + i * 11 % 301])
+            .expect(rt, "room for a message");
+    }
+    messages
+}
+
+/// Whether these are the digests of the messages one by one.
+fn are_digests_of(digests: &[[u8; 32]], messages: &[&[u8]]) -> bool {
+    for place in 0..messages.len() {
+        if digests.get(place) != Some(&Sha256::digest(messages[place])) {
             return false;
         }
     }
@@ -58,12 +67,8 @@ fn four_of_every_length(rt: HostRuntime) {
 #[test]
 fn many_of_every_length(rt: HostRuntime) {
     let bytes = noise();
-    let mut messages: Vec<&[u8]> = Vec::new(rt.alloc());
-    for i in 0..MESSAGES {
-        messages
-            .push(&bytes[i % 100..i % 100 + i * 11 % 301])
-            .expect(&rt, "room for a message");
-    }
-    assert!(rt; are_digests_of(digest_each(rt.alloc(), &messages), &messages));
-    assert!(rt; are_digests_of(digest_sorted(rt.alloc(), &messages), &messages));
+    let messages = cut_out(&rt, rt.alloc(), &bytes);
+    let each = digest_each(rt.alloc(), &messages).expect(&rt, "memory for digests");
+    let sorted = digest_sorted(rt.alloc(), &messages).expect(&rt, "memory for digests");
+    assert!(rt; are_digests_of(&each, &messages) && are_digests_of(&sorted, &messages));
 }

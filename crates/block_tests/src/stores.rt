@@ -1,6 +1,6 @@
 //! What a core asks of a store, by each of the two that there are.
 
-use crate::fixtures::{EMPTY, ONE, block};
+use crate::fixtures::{EMPTY, ONE, block, entry_count};
 use cid::digests::Toy;
 use cid::{Block, Cid};
 use std::alloc::Global;
@@ -52,7 +52,7 @@ fn lends_one<R: Abort>(rt: &R, alloc: Global, shard: &mut Shard<Toy>) -> bool {
 fn one_shard_is_lent(rt: HostRuntime) {
     let mut shard: Shard<Toy> = Shard::new(rt.alloc(), 1);
     assert!(rt; lends_one(&rt, rt.alloc(), &mut shard));
-    assert!(rt; shard.count(&Cid::of::<Toy>(&EMPTY)) == 0 && shard.entries().count() == 0);
+    assert!(rt; shard.count(&Cid::of::<Toy>(&EMPTY)) == 0 && entry_count(&shard) == 0);
 }
 
 /// The DAG-CBOR bytes of the empty list, which stands in one shard with the empty map.
@@ -61,7 +61,7 @@ const EMPTY_LIST: [u8; 1] = [0x80];
 /// Whether no table has an entry.
 fn are_empty(tables: &[Shard<Toy>; SHARDS]) -> bool {
     for table in tables {
-        if table.entries().count() != 0 {
+        if entry_count(table) != 0 {
             return false;
         }
     }
