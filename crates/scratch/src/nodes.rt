@@ -85,9 +85,11 @@ fn write_node<D: Digest, const B: u8, A: Allocator + Clone>(
     ensures unread { OnOk result (unread.new.rows
         ≡ rows_beyond (layer_of D.digest_of B) layer unread.old.rows) }
 {
-    let mut writer = NodeWriter::begin(alloc, unread.link())?;
+    let left = unread.link();
+    let mut writer = NodeWriter::begin(alloc, left)?;
     while let Some(row) = unread.next_of(layer) {
-        writer.entry(row.key, row.value, unread.link())?;
+        let tree = unread.link();
+        writer.entry(row.key, row.value, tree)?;
     }
     Ok(writer.finish()?)
 }

@@ -13,7 +13,7 @@ loop-row-init g c =
     record {
       rises = Rises-same (last_key [] c.in_ok-writer.writer.entries) [] (pairs_of_rows c.args.unread.now.rows) (pairs_of_rows c.args.unread.now.rows) (ap (last_key []) none) refl
           (Rises-ascending (pairs_of_rows c.args.unread.now.rows) c.requires);
-      left = ap (λ (w : Contents). w.left) c.in_ok-writer.ensures ∙ c.link.ensures;
+      left = ap (λ (w : Contents). w.left) c.in_ok-writer.ensures ∙ c.link-left.ensures;
       entries = sym (ap (λ es. es ++ entries_next g.D.Digest.digest_of (layer_of g.D.Digest.digest_of g.row.B) c.args.layer c.args.unread.now.rows) none);
       beyond = refl;
     }
@@ -34,7 +34,7 @@ loop-row-preserved g c =
       rises = rises-on d layer n rs rest (pair_of c.in-Some.row, c.next_of.new.self.first) c.in-Some.ensures.some c.loop-row.writer.entries c.entry.new.self.entries _ c.loop-row.invariant.rises more refl;
       left = ap (λ (w : Contents). w.left) c.in_ok-entry.ensures.ok ∙ c.loop-row.invariant.left;
       entries = entries-on d layer n rs rest (pair_of c.in-Some.row, c.next_of.new.self.first) c.in-Some.ensures.some c.in-Some.ensures.layer
-          (entries_next d layer n c.args.unread.now.rows) c.loop-row.writer.entries c.entry.new.self.entries c.link-in-Some.result c.loop-row.invariant.entries more c.link-in-Some.ensures;
+          (entries_next d layer n c.args.unread.now.rows) c.loop-row.writer.entries c.entry.new.self.entries c.link-tree.result c.loop-row.invariant.entries more c.link-tree.ensures;
       beyond = beyond-on d layer n rs rest (pair_of c.in-Some.row, c.next_of.new.self.first) c.in-Some.ensures.some c.in-Some.ensures.layer _ c.loop-row.invariant.beyond;
     }
 
