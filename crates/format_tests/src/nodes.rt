@@ -1,4 +1,6 @@
 //! Nodes of worked examples.
+ghost use Rattle.std.specs.Prelude.{◌≡◌, ◌≤◌, [], length, take};
+ghost use Rattle.node.specs.Contents.{last_key};
 
 use cid::{Cid, CidRef};
 use node::{EntryView, KeyBuf, NodeView, NodeWriter, Place};
@@ -45,21 +47,20 @@ type Left = Option<Cid>;
 /// An entry to be written: its key, its value and the link after it.
 type Entry<'a> = (&'a [u8], Cid, Option<Cid>);
 
-/// Writes an entry whose key can be next before it is written, and can't after that.
-fn write_entry(rt: &impl Abort, writer: &mut NodeWriter, entry: &Entry<'_>) {
+/// Whether the entry is written, as its key can be next, and its key can't be next after that.
+fn is_added(writer: &mut NodeWriter, entry: &Entry<'_>) -> bool {
     let (key, value, tree) = entry;
-    assert!(rt; writer.is_next(key), "a key that can't be next");
-    writer
-        .entry(key, CidRef::from(value), *tree)
-        .expect(rt, "memory for an entry");
-    assert!(rt; !writer.is_next(key), "a key that can be next after itself");
+    if !writer.is_next(key) {
+        return false;
+    }
+    writer.entry(key, CidRef::from(value), *tree).is_ok() && !writer.is_next(key)
 }
 
 /// The bytes of a node of these entries.
 fn written(rt: &impl Abort, alloc: Global, left: Left, entries: &[Entry<'_>]) -> Vec<u8> {
     let mut writer = NodeWriter::begin(alloc, left).expect(rt, "memory for a node");
     for entry in entries {
-        write_entry(rt, &mut writer, entry);
+        assert!(rt; is_added(&mut writer, entry), "{entry:?}");
     }
     writer.finish().expect(rt, "memory for the last part")
 }
@@ -76,7 +77,8 @@ fn node_of_two_entries(rt: HostRuntime) {
 fn of_letters(rt: &impl Abort, alloc: Global, link: Cid) -> Vec<u8> {
     let mut writer = NodeWriter::begin(alloc, Some(link)).expect(rt, "memory for a node");
     for last in b'a'..=b'z' {
-        write_entry(rt, &mut writer, &(&[b'k', last], link, Some(link)));
+        let entry: Entry<'_> = (&[b'k', last], link, Some(link));
+        assert!(rt; is_added(&mut writer, &entry), "byte {last} in a key");
     }
     writer.finish().expect(rt, "memory for the last part")
 }
@@ -133,26 +135,37 @@ fn are_below(view: &NodeView<'_>, keys: &[&[u8]], link: &Cid) -> bool {
     true
 }
 
-/// Whether eight keys stand in the gaps with these links.
-fn finds_gaps(view: &NodeView<'_>, left: &Cid, middle: &Cid, right: &Cid) -> bool {
-    are_below(view, &[b"", b"a/a"], left)
-        && are_below(view, &[b"a/b0", b"a/c", b"a/cc"], middle)
-        && are_below(view, &[b"a/cd0", b"a/d", b"b"], right)
+/// The bytes of the identifiers of a node's links: before `a/b`, after it, and after `a/cd`.
+const LINKS: [u8; 3] = [0x01, 0x02, 0x03];
+
+/// The node of `a/b` and `a/cd` with these links.
+fn with_links(rt: &impl Abort, alloc: Global) -> Vec<u8> {
+    let (one, two) = (identifier(rt, 0x11), identifier(rt, 0x12));
+    let (middle, right) = (identifier(rt, LINKS[1]), identifier(rt, LINKS[2]));
+    let entries: [Entry<'_>; 2] = [(b"a/b", one, Some(middle)), (b"a/cd", two, Some(right))];
+    written(rt, alloc, Some(identifier(rt, LINKS[0])), &entries)
+}
+
+/// Whether both keys of that node are found, with their values and the links after them.
+fn finds_entries(rt: &impl Abort, view: &NodeView<'_>) -> bool {
+    let (one, two) = (identifier(rt, 0x11), identifier(rt, 0x12));
+    let (middle, right) = (identifier(rt, LINKS[1]), identifier(rt, LINKS[2]));
+    is_here(view.find(b"a/b"), 0, b"a/b", &one, &middle)
+        && is_here(view.find(b"a/cd"), 2, b"cd", &two, &right)
+}
+
+/// Whether eight keys that aren't in that node stand in the gaps with its links.
+fn finds_gaps(rt: &impl Abort, view: &NodeView<'_>) -> bool {
+    are_below(view, &[b"", b"a/a"], &identifier(rt, LINKS[0]))
+        && are_below(view, &[b"a/b0", b"a/c", b"a/cc"], &identifier(rt, LINKS[1]))
+        && are_below(view, &[b"a/cd0", b"a/d", b"b"], &identifier(rt, LINKS[2]))
 }
 
 #[test]
 fn places_in_a_node(rt: HostRuntime) {
-    let (left, middle) = (identifier(&rt, 0x01), identifier(&rt, 0x02));
-    let right = identifier(&rt, 0x03);
-    let (one, two) = (identifier(&rt, 0x11), identifier(&rt, 0x12));
-    let entries: [Entry<'_>; 2] = [(b"a/b", one, Some(middle)), (b"a/cd", two, Some(right))];
-    let bytes = written(&rt, rt.alloc(), Some(left), &entries);
+    let bytes = with_links(&rt, rt.alloc());
     let view = NodeView::parse(&bytes).expect(&rt, "a node");
-    assert!(rt;
-        is_here(view.find(b"a/b"), 0, b"a/b", &one, &middle)
-            && is_here(view.find(b"a/cd"), 2, b"cd", &two, &right)
-            && finds_gaps(&view, &left, &middle, &right)
-    );
+    assert!(rt; finds_entries(&rt, &view) && finds_gaps(&rt, &view));
 }
 
 /// Whether an entry without a link shows so many bytes of the key before, this suffix and this value.
@@ -243,14 +256,25 @@ fn keys_put_together(rt: HostRuntime) {
     );
 }
 
+/// The bytes of a node that goes on with the entries of another from this one on.
+fn continued(rt: &impl Abort, writer: NodeWriter, view: &NodeView<'_>, from: u64) -> Vec<u8>
+    requires within { from ≤ length view.now.entries }
+    requires follows { last_key [] writer.entries ≡ last_key [] (take from view.now.entries) }
+{
+    let mut writer = writer;
+    writer
+        .copy(view, from, view.entry_count())
+        .expect(rt, "memory for entries");
+    writer.finish().expect(rt, "memory for the last part")
+}
+
 #[test]
 fn entries_copied(rt: HostRuntime) {
     let bytes = two_entries(&rt, rt.alloc());
     let view = NodeView::parse(&bytes).expect(&rt, "a node");
     assert!(rt; view.entry_count() == 2);
-    let mut writer = NodeWriter::begin(rt.alloc(), None).expect(&rt, "memory for a node");
-    writer.copy(&view, 0, 2).expect(&rt, "memory for entries");
-    assert!(rt; writer.finish().expect(&rt, "memory for the last part") == bytes);
+    let writer = NodeWriter::begin(rt.alloc(), None).expect(&rt, "memory for a node");
+    assert!(rt; continued(&rt, writer, &view, 0) == bytes);
 }
 
 #[test]
@@ -264,6 +288,5 @@ fn entries_copied_after_one_written(rt: HostRuntime) {
     writer
         .entry(first.suffix, first.value, None)
         .expect(&rt, "memory for an entry");
-    writer.copy(&view, 1, 2).expect(&rt, "memory for entries");
-    assert!(rt; writer.finish().expect(&rt, "memory for the last part") == bytes);
+    assert!(rt; continued(&rt, writer, &view, 1) == bytes);
 }

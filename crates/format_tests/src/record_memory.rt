@@ -13,6 +13,14 @@ const EACH_KIND: &[u8] = b"\xaa\x61a\xf4\x61b\xf5\x61c\xf6\x61d\x1b\x00\x00\x00\
     \x61h\xd8\x2a\x49\x00\x01\x55\x00\x04\x01\x02\x03\x04\
     \x61i\x85\x00\x18\x18\x19\x01\x00\x1a\x00\x01\x00\x00\x20\x61j\xa0";
 
+/// Whether an answer is that memory was refused where it was, else that the same bytes came.
+fn is_right(answer: Result<bool, CborFault>, refused: bool) -> bool {
+    match answer {
+        Ok(same) => same && !refused,
+        Err(fault) => fault == CborFault::NoMemory && refused,
+    }
+}
+
 /// Reads and writes with each request for memory refused in turn: how many requests there are.
 fn requests_refused(rt: &impl Abort, heap: &Refusing<Global>, bytes: &[u8]) -> u64 {
     for number in 1..100u64 {
@@ -20,12 +28,8 @@ fn requests_refused(rt: &impl Abort, heap: &Refusing<Global>, bytes: &[u8]) -> u
         let before = heap.refused();
         let answer = read_and_write(heap, bytes);
         let refused = heap.refused() != before;
-        let wanted = if refused {
-            Err(CborFault::NoMemory)
-        } else {
-            Ok(true)
-        };
-        assert!(rt; answer == wanted && heap.live() == 0, "at request {number}");
+        let right = is_right(answer, refused) && heap.live() == 0;
+        assert!(rt; right, "at request {number}");
         if !refused {
             return number - 1;
         }

@@ -11,8 +11,8 @@ first-key : (es : List Entry) (r : Row) (rs : List Row) → rows [] es ≡ r ∷
 first-key [] r rs e = absurd cc
 first-key (x ∷ xs) r rs e = let is : row_after [] x ≡ r = cc in sym (ap (λ (w : Row). w.suffix) is)
 
-pub copy-requires-clause-follows : goal.copy-requires-clause-follows
-copy-requires-clause-follows g c =
+pub continued-requires-clause-follows : goal.continued-requires-clause-follows
+continued-requires-clause-follows g c =
     let first = c.expect-first.result in
     let ok = c.expect.ensures in
     let written = rw ok at c.entry.ensures.ok in
