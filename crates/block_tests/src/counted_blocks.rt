@@ -91,6 +91,17 @@ fn leaves(shard: &mut Shard<Toy>, cid: Cid, hold: Hold<Toy>, left: u64) -> bool 
     count_without(shard, cid, core) == Some(left)
 }
 
+/// The hold of one more core on the empty map, after so many others. All cores come in turn, in an order that looks random.
+fn acquired_after<R: Abort>(
+    rt: &R,
+    alloc: Global,
+    shard: &mut Shard<Toy>,
+    others: u16,
+) -> Hold<Toy> {
+    let core = (u32::from(others) * 5 + 3) % 1024;
+    acquired(rt, shard, core, block(rt, alloc, &EMPTY))
+}
+
 /// Releases the holds of all cores on the block of this CID, each of which must leave the others there.
 fn leave_one_by_one<R: Abort>(rt: &R, shard: &mut Shard<Toy>, cid: Cid, mut holds: Vec<Hold<Toy>>) {
     for left in (0..1024u64).rev() {
@@ -106,11 +117,10 @@ fn holds_all_cores(rt: HostRuntime) {
     let mut shard: Shard<Toy> = Shard::new(rt.alloc(), 1);
     let cid = Cid::of::<Toy>(&EMPTY);
     let mut holds = Vec::new(rt.alloc());
-    for core in 0..1024u32 {
-        let given = block(&rt, rt.alloc(), &EMPTY);
-        let hold = acquired(&rt, &mut shard, (core * 5 + 3) % 1024, given);
+    for others in 0..1024u16 {
+        let hold = acquired_after(&rt, rt.alloc(), &mut shard, others);
         keep(&rt, &mut holds, hold);
-        assert!(rt; shard.count(&cid) == u64::from(core) + 1);
+        assert!(rt; shard.count(&cid) == u64::from(others) + 1);
     }
     leave_one_by_one(&rt, &mut shard, cid, holds);
     assert!(rt; entry_count(&shard) == 0);
@@ -133,7 +143,7 @@ fn lists_both(shard: &Shard<Toy>, first: Cid, second: Cid) -> bool {
             lower < upper
                 && is_entry_of(lower, of_lower, first, second)
                 && is_entry_of(upper, of_upper, first, second)
-                && entry_count(&shard) == 2
+                && entry_count(shard) == 2
         }
         _ => false,
     }
@@ -155,7 +165,7 @@ fn steps_to_each(cores: &Cores) -> bool {
     steps == [Some(0), Some(63), Some(64), Some(1023), None, None]
 }
 
-/// Whether the empty map is held by core 63 and not by core 62, nothing else is, and the steps in each entry are right.
+/// Whether core 63 holds the empty map and no other block, core 62 doesn't hold it, and the steps in each entry are right.
 fn has_the_cores(shard: &Shard<Toy>) -> bool {
     for (_, cores) in shard.entries() {
         if !steps_to_each(cores) {
@@ -215,14 +225,19 @@ fn is_of_core_one<A: Allocator>(shard: &Shard<Toy, A>, cid: Cid, cores: &Cores) 
     cores.has(1) && !cores.has(2) && shard.count(&cid) == 1
 }
 
-/// Whether the table has this many entries, each held by core 1 and not by core 2, and none of this CID.
-fn has_others_only<A: Allocator>(shard: &Shard<Toy, A>, others: u8, cid: Cid) -> bool {
+/// Whether each entry of the table is held by core 1 and not by core 2.
+fn are_of_core_one<A: Allocator>(shard: &Shard<Toy, A>) -> bool {
     for (held, cores) in shard.entries() {
         if !is_of_core_one(shard, held, cores) {
             return false;
         }
     }
-    entry_count(&shard) == usize::from(others) && shard.count(&cid) == 0
+    true
+}
+
+/// Whether the table has this many entries, each held by core 1 and not by core 2, and none of this CID.
+fn has_others_only<A: Allocator>(shard: &Shard<Toy, A>, others: u8, cid: Cid) -> bool {
+    entry_count(shard) == usize::from(others) && shard.count(&cid) == 0 && are_of_core_one(shard)
 }
 
 /// The hold of core 1 on one more use of this block, or whether it is refused for want of memory.
