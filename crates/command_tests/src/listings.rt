@@ -76,15 +76,34 @@ fn the_last_line_of_a_key_decides(rt: HostRuntime) -> Result<(), Fail> {
     Ok(())
 }
 
+/// Keys that differ in their 33rd byte alone, and such that differ in zero bytes at their end, neither kind in the order
+/// of the keys or the other way round.
+const ALIKE: [&str; 12] = [
+    "app.bsky.graph.block/3jqfcqzm3fo2 ",
+    "E",
+    "\napp.bsky.graph.block/3jqfcqzm3fo4 ",
+    "E",
+    "\napp.bsky.graph.block/3jqfcqzm3fo3 ",
+    "E",
+    "\na ",
+    "E",
+    "\na\0\0 ",
+    "E",
+    "\na\0 ",
+    "E",
+];
+
 #[test]
-fn keys_with_spaces_and_carriage_returns(rt: HostRuntime) -> Result<(), Fail> {
+fn keys_of_any_bytes(rt: HostRuntime) -> Result<(), Fail> {
     let spaces = "bafyreidbsrnnag75pwuth7flro4phz2hod6uxnc62xzszhx74kptcyihby";
     let returns = "bafyreihmtk6sjdmr7p2y3wrwx6c54vipkm6ngkq3o7bkcvvmxapklwclva";
-    let cases: [(&[&str], &str); 4] = [
+    let alike = "bafyreic6whpft2y2kaglm65dnjdc5hkbdxf3biydxs24q52q35l4ef4a4i";
+    let cases: [(&[&str], &str); 5] = [
         (&["a b  c ", "E"], spaces),
         (&["a\rb ", "E", "\rc/d ", "E"], returns),
         (&["a\rb ", "E", "\rc/d ", "E", "\n"], returns),
         (&["a\rb ", "E", "\rc/d ", "E", "\r\n"], returns),
+        (&ALIKE, alike),
     ];
     for (parts, root) in cases {
         let input = joined(rt.alloc(), parts)?;

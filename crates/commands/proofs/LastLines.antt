@@ -31,6 +31,11 @@ to_T : (b : Bool) → b ≡ true → T b
 to_T true e = tt
 to_T false e = absurd cc
 
+-- pairs seen as pairs of their parts
+pub same_pairs : (es : List Pair) → map (λ (e : Pair). (e.0, e.1)) es ≡ es
+same_pairs [] = refl
+same_pairs (e ∷ es) = ap (λ fs. e ∷ fs) (same_pairs es)
+
 -- ---- what the definition leaves
 
 abbrev put_in : List Pair → Pair → List Pair

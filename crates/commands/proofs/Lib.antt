@@ -3,3 +3,4 @@ pub mod Remaining
 pub mod LastLines
 pub mod LeftPairs
 pub mod Listings
+pub mod Fronts

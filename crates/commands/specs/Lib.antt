@@ -1,4 +1,4 @@
 pub mod TreeText
 pub mod Fault
-pub mod Pairs
+pub mod Fronts
 pub mod Requests

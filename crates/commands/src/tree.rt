@@ -1,6 +1,7 @@
 //! The command `tree`: it lists the tree of the lines of its input.
 mod bits;
 mod fault;
+mod key;
 mod line;
 mod listing;
 mod node_lines;

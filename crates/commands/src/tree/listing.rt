@@ -4,24 +4,24 @@ ghost use Rattle.spec.specs.Reading.{Gives};
 ghost use Rattle.console.specs.Lines.{lines};
 ghost use Rattle.commands.specs.TreeText.{pairs_of_lines, last_of_each_key, map_of_input as map_of};
 ghost use Rattle.commands.specs.Fault.{fault_of, is_of_input};
-ghost use Rattle.commands.specs.Pairs.{pairs_of};
 
 use crate::tree::fault::TreeFault;
+use crate::tree::key::ListedKey;
 use crate::tree::line::pair_of_line;
 use bstr::ByteSlice;
 use cid::Cid;
 use std::alloc::{AllocError, Allocator};
 
 /// The pairs in the order of their lines, or the first line that is faulty.
-pub(crate) fn pairs_of_input<A: Allocator + Clone>(
+pub(crate) fn pairs_of_input<A: Allocator>(
     alloc: A,
     input: &[u8],
-) -> Result<Vec<(Vec<u8, A>, Cid), A>, TreeFault>
-    ensures pairs { Gives (λ pairs. pairs_of pairs.items) fault_of result
+) -> Result<Vec<(ListedKey<'_>, Cid), A>, TreeFault>
+    ensures pairs { Gives (λ pairs. pairs.items) fault_of result
         (pairs_of_lines 1 (lines input.now)) }
     ensures kind { IfErr result (λ e. is_of_input e ≡ true) }
 {
-    let mut pairs = Vec::new(alloc.clone()?);
+    let mut pairs = Vec::new(alloc);
     let mut number = 0;
     for line in input.lines() {
         number += 1;
@@ -29,32 +29,30 @@ pub(crate) fn pairs_of_input<A: Allocator + Clone>(
             continue;
         }
         match pair_of_line(line) {
-            Ok(pair) => push_pair(&mut pairs, alloc.clone()?, pair)?,
+            Ok(pair) => push_pair(&mut pairs, pair)?,
             Err(fault) => return Err(TreeFault::Line { number, fault }),
         }
     }
     Ok(pairs)
 }
 
-/// Adds a pair with a key of its own.
-fn push_pair<A: Allocator>(
-    pairs: &mut Vec<(Vec<u8, A>, Cid), A>,
-    alloc: A,
-    pair: (&[u8], Cid),
+/// Adds the pair of a key that is lent.
+fn push_pair<'a, A: Allocator>(
+    pairs: &mut Vec<(ListedKey<'a>, Cid), A>,
+    pair: (&'a [u8], Cid),
 ) -> Result<(), AllocError>
-    ensures { OnOk result (pairs_of pairs.new.items ≡ pairs_of pairs.old.items
-        ++ (pair.entry.0.now, pair.entry.1) ∷ []) }
+    ensures { OnOk result (pairs.new.items
+        ≡ pairs.old.items ++ (pair.entry.0.now, pair.entry.1) ∷ []) }
 {
-    let key = Vec::from_slice(alloc, pair.0)?;
-    pairs.push((key, pair.1))?;
+    pairs.push((ListedKey::new(pair.0), pair.1))?;
     Ok(())
 }
 
 /// Sorts the pairs by key, and keeps of those with one key the last. At `Err` they may stand in another order.
 pub(crate) fn keep_last_of_each_key<A: Allocator>(
-    pairs: &mut Vec<(Vec<u8, A>, Cid), A>,
+    pairs: &mut Vec<(ListedKey<'_>, Cid), A>,
 ) -> Result<(), AllocError>
-    ensures { OnOk result (pairs_of pairs.new.items ≡ last_of_each_key (pairs_of pairs.old.items)) }
+    ensures { OnOk result (pairs.new.items ≡ last_of_each_key pairs.old.items) }
 {
     pairs.reverse();
     pairs.sort_by(|a, b| a.0.cmp(&b.0))?;
@@ -64,11 +62,11 @@ pub(crate) fn keep_last_of_each_key<A: Allocator>(
 
 /// The map that the lines of an input leave, in the order of its keys, or the first line that is faulty.
 #[tactic(auto, unfolding(crate::specs::TreeText::map_of_input))]
-pub(crate) fn map_of_input<A: Allocator + Clone>(
+pub(crate) fn map_of_input<A: Allocator>(
     alloc: A,
     input: &[u8],
-) -> Result<Vec<(Vec<u8, A>, Cid), A>, TreeFault>
-    ensures map { Gives (λ pairs. pairs_of pairs.items) fault_of result (map_of input.now) }
+) -> Result<Vec<(ListedKey<'_>, Cid), A>, TreeFault>
+    ensures map { Gives (λ pairs. pairs.items) fault_of result (map_of input.now) }
     ensures kind { IfErr result (λ e. is_of_input e ≡ true) }
 {
     let mut pairs = pairs_of_input(alloc, input)?;

@@ -7,9 +7,9 @@ ghost use Rattle.spec.specs.Reading.{Gives, Fails};
 ghost use Rattle.commands.specs.TreeText.{tree_of_map, tree_of_input as tree_of, tree_text as tree_text_of, text_or_nothing};
 ghost use Rattle.console.specs.Written.{AppendsBeginning, AppendsText};
 ghost use Rattle.commands.specs.Fault.{fault_of, is_of_input, may_have_written};
-ghost use Rattle.commands.specs.Pairs.{pairs_of};
 
 use crate::tree::fault::TreeFault;
+use crate::tree::key::ListedKey;
 use crate::tree::listing::map_of_input;
 use crate::tree::node_lines::write_tree;
 use cid::{Cid, Digest};
@@ -82,16 +82,16 @@ fn tree_of_input<D: Digest, const B: u8, A: Allocator + Clone>(
 /// The tree of the pairs.
 fn tree_of_pairs<D: Digest, const B: u8, A: Allocator + Clone>(
     alloc: A,
-    pairs: &[(Vec<u8, A>, Cid)],
+    pairs: &[(ListedKey<'_>, Cid)],
 ) -> Result<Built<D, A>, TreeFault>
     requires least { 1 ≤ B }
     requires most { B ≤ 8 }
-    requires ascending { is_ascending (pairs_of pairs.now) ≡ true }
+    requires ascending { is_ascending pairs.now ≡ true }
     ensures tree { Gives (λ built. (built.root, map arc_value built.blocks.items)) fault_of result
-        (tree_of_map D.digest_of B (pairs_of pairs.now)) }
+        (tree_of_map D.digest_of B pairs.now) }
     ensures kind { IfErr result (λ e. is_of_input e ≡ true) }
 {
-    match build::<D, B, Vec<u8, A>, A>(alloc, pairs) {
+    match build::<D, B, ListedKey<'_>, A>(alloc, pairs) {
         Ok(built) => Ok(built),
         Err(ScratchFault::Clash(_)) => Err(TreeFault::Clash),
         Err(ScratchFault::NoMemory) => Err(TreeFault::NoMemory),

@@ -1,5 +1,4 @@
 use Rattle.std.proofs.Common.{rules, ◌+◌, length, sym, ap, ◌∙◌, arith}
-use Rattle.commands.specs.Pairs.{pairs_of}
 use Rattle.console.specs.Lines.{lines}
 use Rattle.commands.specs.TreeText.{pairs_of_lines}
 use Rattle.commands.proofs.Remaining.{onto, onto-nothing, onto-empty, onto-pair, onto-fault, onto-done}
@@ -24,8 +23,8 @@ loop-line-preserved-then-is_empty g c = (
   search rules,
   record {
     reading = c.loop-line.invariant.2.reading
-        ∙ ap (λ ls. onto (pairs_of c.loop-line.pairs.items) (pairs_of_lines (c.loop-line.number + 1) ls)) c.in-Some.ensures.steps
-        ∙ onto-empty (c.loop-line.number + 1) (pairs_of c.loop-line.pairs.items) c.in-Some.line.now c.next.new.self (sym c.is_empty.ensures ∙ c.if-is_empty.true);
+        ∙ ap (λ ls. onto c.loop-line.pairs.items (pairs_of_lines (c.loop-line.number + 1) ls)) c.in-Some.ensures.steps
+        ∙ onto-empty (c.loop-line.number + 1) c.loop-line.pairs.items c.in-Some.line.now c.next.new.self (sym c.is_empty.ensures ∙ c.if-is_empty.true);
     bound = omega (arith, ap length c.in-Some.ensures.steps, c.loop-line.invariant.2.bound);
   },
 )
@@ -37,8 +36,8 @@ loop-line-preserved g c =
       search rules,
       record {
         reading = c.loop-line.invariant.2.reading
-            ∙ ap (λ ls. onto (pairs_of c.loop-line.pairs.items) (pairs_of_lines (c.loop-line.number + 1) ls)) c.in-Some.ensures.steps
-            ∙ onto-pair (c.loop-line.number + 1) (pairs_of c.loop-line.pairs.items) c.in-Some.line.now c.next.new.self (c.in-Ok.pair.0.now, c.in-Ok.pair.1) (sym c.is_empty.ensures ∙ c.if-is_empty.false) c.in-Ok.ensures
+            ∙ ap (λ ls. onto c.loop-line.pairs.items (pairs_of_lines (c.loop-line.number + 1) ls)) c.in-Some.ensures.steps
+            ∙ onto-pair (c.loop-line.number + 1) c.loop-line.pairs.items c.in-Some.line.now c.next.new.self (c.in-Ok.pair.0.now, c.in-Ok.pair.1) (sym c.is_empty.ensures ∙ c.if-is_empty.false) c.in-Ok.ensures
             ∙ ap (λ es. onto es (pairs_of_lines (c.loop-line.number + 1 + 1) c.next.new.self)) (sym seen);
         bound = omega (arith, ap length c.in-Some.ensures.steps, c.loop-line.invariant.2.bound);
       },
@@ -47,11 +46,11 @@ loop-line-preserved g c =
 pub returns-in-Err-clause-pairs : goal.returns-in-Err-clause-pairs
 returns-in-Err-clause-pairs g c =
     c.loop-line.invariant.2.reading
-    ∙ ap (λ ls. onto (pairs_of c.loop-line.pairs.items) (pairs_of_lines (c.loop-line.number + 1) ls)) c.in-Some.ensures.steps
-    ∙ onto-fault (c.loop-line.number + 1) (pairs_of c.loop-line.pairs.items) c.in-Some.line.now c.next.new.self _ (sym c.is_empty.ensures ∙ c.if-is_empty.false) c.in-Err.ensures
+    ∙ ap (λ ls. onto c.loop-line.pairs.items (pairs_of_lines (c.loop-line.number + 1) ls)) c.in-Some.ensures.steps
+    ∙ onto-fault (c.loop-line.number + 1) c.loop-line.pairs.items c.in-Some.line.now c.next.new.self _ (sym c.is_empty.ensures ∙ c.if-is_empty.false) c.in-Err.ensures
 
 pub returns-clause-pairs : goal.returns-clause-pairs
 returns-clause-pairs g c =
     c.loop-line.invariant.2.reading
-    ∙ ap (λ ls. onto (pairs_of c.loop-line.pairs.items) (pairs_of_lines (c.loop-line.number + 1) ls)) c.in-None.ensures.steps.0
-    ∙ onto-done (c.loop-line.number + 1) (pairs_of c.loop-line.pairs.items)
+    ∙ ap (λ ls. onto c.loop-line.pairs.items (pairs_of_lines (c.loop-line.number + 1) ls)) c.in-None.ensures.steps.0
+    ∙ onto-done (c.loop-line.number + 1) c.loop-line.pairs.items

@@ -1,7 +1,6 @@
 use Rattle.std.proofs.Common.{length}
 use Rattle.console.specs.Lines.{lines}
 use Rattle.commands.specs.TreeText.{pairs_of_lines}
-use Rattle.commands.specs.Pairs.{pairs_of}
 use Rattle.commands.proofs.Remaining.{Remains}
 use Rattle.commands.proofs.tree.listing.pairs_of_input.Given as goal
 
@@ -9,4 +8,4 @@ abbrev pub invariant-loop-line : goal.invariant-loop-line
 invariant-loop-line g l =
     (goal.iterator-loop-line g).can_next l.line-iterator
     × (goal.iterator-loop-line g).is_finite l.line-iterator
-    × Remains (pairs_of_lines 1 (lines l.fn.input)) (length l.fn.input) l.number (pairs_of l.pairs.items) l.line-iterator
+    × Remains (pairs_of_lines 1 (lines l.fn.input)) (length l.fn.input) l.number l.pairs.items l.line-iterator
