@@ -45,19 +45,23 @@ fn fault_of(rt: &impl Abort, alloc: Global, entries: &[Shown<'_>]) -> Option<Nod
     fault(&bytes)
 }
 
-/// A key as long as may be.
-const LONG: [u8; 1024] = [0xff; 1024];
-
 /// What the entries of a node show, with the node's fault.
-const ENTRIES: [(&[Shown<'static>], Option<NodeFault>); 7] = [
+const ENTRIES: [(&[Shown<'static>], Option<NodeFault>); 5] = [
     (&[(0, b"a/b"), (2, b"cd")], None),
     (&[(0, b"a/b"), (1, b"/cd")], Some(NodeFault::BadPrefix)),
     (&[(0, b"a/b"), (2, b"a")], Some(NodeFault::KeyOrder)),
     (&[(1, b"a/b"), (2, b"cd")], Some(NodeFault::BadPrefix)),
     (&[(0, b"")], Some(NodeFault::KeyLength)),
-    (&[(0, &LONG), (1024, b"")], Some(NodeFault::KeyOrder)),
-    (&[(0, &LONG), (1024, b"a")], Some(NodeFault::KeyLength)),
 ];
+
+/// Whether the longest key that may be is refused after itself, and a longer one after it.
+fn refuses_after_the_longest(rt: &impl Abort, alloc: Global) -> bool {
+    let long = [0xff; 1024];
+    let same: [Shown<'_>; 2] = [(0, &long), (1024, b"")];
+    let longer: [Shown<'_>; 2] = [(0, &long), (1024, b"a")];
+    fault_of(rt, alloc, &same) == Some(NodeFault::KeyOrder)
+        && fault_of(rt, alloc, &longer) == Some(NodeFault::KeyLength)
+}
 
 #[test]
 fn node_faults(rt: HostRuntime) {
@@ -72,6 +76,7 @@ fn node_faults(rt: HostRuntime) {
             "at {entries:?}"
         );
     }
+    assert!(rt; refuses_after_the_longest(&rt, rt.alloc()));
 }
 
 /// Entries whose keys have one byte more each, up to the longest.

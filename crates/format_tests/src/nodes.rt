@@ -56,11 +56,16 @@ fn is_added(writer: &mut NodeWriter, entry: &Entry<'_>) -> bool {
     writer.entry(key, CidRef::from(value), *tree).is_ok() && !writer.is_next(key)
 }
 
+/// Writes an entry whose key can be next before it is written, and can't after that.
+fn write_entry(rt: &impl Abort, writer: &mut NodeWriter, entry: &Entry<'_>) {
+    assert!(rt; is_added(writer, entry), "{:?}", entry.0);
+}
+
 /// The bytes of a node of these entries.
 fn written(rt: &impl Abort, alloc: Global, left: Left, entries: &[Entry<'_>]) -> Vec<u8> {
     let mut writer = NodeWriter::begin(alloc, left).expect(rt, "memory for a node");
     for entry in entries {
-        assert!(rt; is_added(&mut writer, entry), "{entry:?}");
+        write_entry(rt, &mut writer, entry);
     }
     writer.finish().expect(rt, "memory for the last part")
 }
@@ -77,8 +82,7 @@ fn node_of_two_entries(rt: HostRuntime) {
 fn of_letters(rt: &impl Abort, alloc: Global, link: Cid) -> Vec<u8> {
     let mut writer = NodeWriter::begin(alloc, Some(link)).expect(rt, "memory for a node");
     for last in b'a'..=b'z' {
-        let entry: Entry<'_> = (&[b'k', last], link, Some(link));
-        assert!(rt; is_added(&mut writer, &entry), "byte {last} in a key");
+        write_entry(rt, &mut writer, &(&[b'k', last], link, Some(link)));
     }
     writer.finish().expect(rt, "memory for the last part")
 }
@@ -100,15 +104,19 @@ fn is_node(bytes: &[u8], left: &Cid, last: &[u8]) -> bool {
     }
 }
 
+/// Whether these are the bytes of a node of the keys `ka` to `kz`. 26 entries take a head of two bytes; the suffix of the
+/// first key has two bytes, of the others one.
+fn has_its_length(bytes: &[u8], link: &Cid) -> bool {
+    bytes.len() == 8 + 26 * 94 + 1 + 40 && is_node(bytes, link, b"z")
+}
+
 #[test]
 fn lengths_of_nodes(rt: HostRuntime) {
     let link = identifier(&rt, 0x22);
     let empty = written(&rt, rt.alloc(), None, &[]);
     assert!(rt; empty.as_slice() == b"\xa2ae\x80al\xf6".as_slice());
     assert!(rt; written(&rt, rt.alloc(), Some(link), &[]).len() == 47);
-    // 26 entries take a head of two bytes; the suffix of the first key has two bytes, of the others one.
-    let bytes = of_letters(&rt, rt.alloc(), link);
-    assert!(rt; bytes.len() == 8 + 26 * 94 + 1 + 40 && is_node(&bytes, &link, b"z"));
+    assert!(rt; has_its_length(&of_letters(&rt, rt.alloc(), link), &link));
 }
 
 /// Whether an entry of this suffix stands here, after so many bytes of the key before, with this value and this link.
