@@ -4,12 +4,8 @@ ghost use Rattle.sha2.specs.Sha256.{sha256};
 ghost use Rattle.sha2.proofs.Facts256.{length-sha256};
 ghost use Rattle.cid.specs.Digests.{IsBytes-sha256};
 
-use sha256_lanes::digest_sorted;
 use std::alloc::{AllocError, Allocator};
 use std::convert::AsSlice;
-
-/// How many messages are sorted by their lengths at once. Sorting more would cost more than it saves.
-const PART: usize = 256;
 
 /// A digest: one fixed function from bytes to 32 bytes.
 ///
@@ -77,15 +73,7 @@ impl Digest for Sha256 {
         alloc: A,
         messages: &[T],
     ) -> Result<Vec<[u8; 32], A>, AllocError> {
-        let mut digests = Vec::with_capacity(alloc.clone()?, messages.len())?;
-        let mut rest = messages;
-        while rest.len() > PART {
-            let (part, after) = rest.split_at(PART);
-            digests.extend_from_slice(&digest_sorted(alloc.clone()?, part)?)?;
-            rest = after;
-        }
-        digests.extend_from_slice(&digest_sorted(alloc, rest)?)?;
-        Ok(digests)
+        sha256_lanes::digest_sorted(alloc, messages)
     }
 
     ghost digest_len = { length-sha256 };

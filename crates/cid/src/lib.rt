@@ -8,7 +8,8 @@
 //! - [`Collided`] shows two blocks with one CID and other bytes. It can't be made without two such blocks, so an error
 //!   that carries one is always a real clash.
 //! - [`Digest`] is the hash that all is generic in. [`Sha256`] is the one of the protocol; those in [`digests`] are for
-//!   tests, where layers and collisions are wanted at will.
+//!   tests, where layers and collisions are wanted at will. Who has many lists of bytes at once has their digests in
+//!   about half the time by `Digest::digest_each` or `digest_four`, and blocks of them by `Block::of_each`.
 //! - [`layer`] is the number of zero bits that a key's digest begins with, divided by the zero bits a layer, `B`, which
 //!   is 2 in the AT Protocol. [`layer_four`] hashes four keys side by side.
 //!

@@ -1,79 +1,19 @@
 -- Keys compared by the numbers that their first bytes spell.
-use Rattle.std.proofs.Common.{◌≡◌, ℕ, zero, suc, ◌+◌, ◌*◌, ◌<◌, ◌≤◌, Bool, true, false, List, [], ◌∷◌, ◌++◌, length, take, drop, nat_eq, refl, sym, ap, ◌∙◌, arith}
+use Rattle.std.proofs.Common.{◌≡◌, ℕ, zero, suc, ◌*◌, ◌<◌, ◌≤◌, Bool, true, false, List, [], ◌∷◌, ◌++◌, length, take, drop, nat_eq, refl, sym, ap, ◌∙◌, arith}
 use Rattle.std.specs.declared.cmp.Ordering.{Ordering}
 use Rattle.std.specs.declared.cmp.Ordering.TheVariants.{Less, Equal, Greater}
-use Rattle.std.specs.Cmp.{ranks, nat_cmp_is}
+use Rattle.std.specs.Cmp.{nat_cmp_is}
 use Rattle.std.specs.Cmp.Lexicographic.{pointwise, slice_cmp}
-use Rattle.std.specs.Int.{w64, from_be_bytes}
-use Rattle.std.specs.Ordering.{nat_cmp, ordering_then, MatchOrdering}
-use Rattle.std.specs.Slice.Scan.{big_endian}
+use Rattle.std.specs.Ordering.{nat_cmp, ordering_then}
 use Rattle.std.proofs.lemmas.Cmp.{nat_list_eq_equiv}
 use Rattle.std.proofs.lemmas.Slice.Eq.{bytes_eq-Decides}
 use Rattle.std.proofs.lemmas.List.{take-append-drop, length-take, length-drop}
 use Rattle.spec.specs.Reading.{IsBytes}
 use Rattle.spec.proofs.Taking.{IsBytes-drop, IsBytes-take}
+use Rattle.cid.proofs.BigEndian.{eight-compare, parts-compare}
 use Rattle.commands.specs.Fronts.{filled, numbers, IsFront}
 
-then-Equal : (o : Ordering) → ordering_then o Equal ≡ o
-then-Equal Less = refl
-then-Equal Equal = refl
-then-Equal Greater = refl
-
-then-then : (o p q : Ordering) → ordering_then (ordering_then o p) q ≡ ordering_then o (ordering_then p q)
-then-then Less p q = refl
-then-then Equal p q = refl
-then-then Greater p q = refl
-
--- ---- eight bytes as one number
-
-digit : (m n x y : ℕ) → x < 256 → y < 256 → ordering_then (nat_cmp m n) (nat_cmp x y) ≡ nat_cmp (m * 256 + x) (n * 256 + y)
-digit m n x y below above =
-    nat_cmp_is (m * 256 + x) (n * 256 + y) _ (by (nat_cmp m n) (ranks m n) (nat_cmp x y) (ranks x y))
-  where
-    by : (o : Ordering) → MatchOrdering o (m < n) (m ≡ n) (n < m) → (p : Ordering) → MatchOrdering p (x < y) (x ≡ y) (y < x)
-        → MatchOrdering (ordering_then o p) (m * 256 + x < n * 256 + y) (m * 256 + x ≡ n * 256 + y) (n * 256 + y < m * 256 + x)
-    by Less h p k = omega (arith, h, below, above)
-    by Greater h p k = omega (arith, h, below, above)
-    by Equal h Less k = omega (arith, h, k)
-    by Equal h Equal k = omega (arith, h, k)
-    by Equal h Greater k = omega (arith, h, k)
-
--- bytes after a number compare as the numbers that they go on to
-spelled : (m n : ℕ) (xs ys : List ℕ) → length xs ≡ length ys → IsBytes xs → IsBytes ys
-    → nat_cmp (big_endian m xs) (big_endian n ys) ≡ ordering_then (nat_cmp m n) (slice_cmp nat_cmp xs ys)
-spelled m n [] [] long f g = sym (then-Equal (nat_cmp m n))
-spelled m n [] (y ∷ ys) long f g = absurd cc
-spelled m n (x ∷ xs) [] long f g = absurd cc
-spelled m n (x ∷ xs) (y ∷ ys) long f g =
-    spelled (m * 256 + x) (n * 256 + y) xs ys (omega (arith, long)) (λ i. f (suc i)) (λ i. g (suc i))
-    ∙ ap (λ (o : Ordering). ordering_then o (slice_cmp nat_cmp xs ys)) (sym (digit m n x y (f 0) (g 0)))
-    ∙ then-then (nat_cmp m n) (nat_cmp x y) (slice_cmp nat_cmp xs ys)
-
-number-is : (zs : List ℕ) → length zs ≡ 8 → from_be_bytes w64 zs ≡ big_endian 0 zs
-number-is (a ∷ b ∷ c ∷ d ∷ e ∷ f ∷ g ∷ h ∷ []) long = omega arith
-number-is [] long = absurd cc
-number-is (a ∷ []) long = absurd (omega (arith, long))
-number-is (a ∷ b ∷ []) long = absurd (omega (arith, long))
-number-is (a ∷ b ∷ c ∷ []) long = absurd (omega (arith, long))
-number-is (a ∷ b ∷ c ∷ d ∷ []) long = absurd (omega (arith, long))
-number-is (a ∷ b ∷ c ∷ d ∷ e ∷ []) long = absurd (omega (arith, long))
-number-is (a ∷ b ∷ c ∷ d ∷ e ∷ f ∷ []) long = absurd (omega (arith, long))
-number-is (a ∷ b ∷ c ∷ d ∷ e ∷ f ∷ g ∷ []) long = absurd (omega (arith, long))
-number-is (a ∷ b ∷ c ∷ d ∷ e ∷ f ∷ g ∷ h ∷ i ∷ is) long = absurd (omega (arith, long))
-
-eight : (xs ys : List ℕ) → length xs ≡ 8 → length ys ≡ 8 → IsBytes xs → IsBytes ys → nat_cmp (from_be_bytes w64 xs) (from_be_bytes w64 ys) ≡ slice_cmp nat_cmp xs ys
-eight xs ys long short f g =
-    ap (λ (n : ℕ). nat_cmp n (from_be_bytes w64 ys)) (number-is xs long) ∙ ap (nat_cmp (big_endian 0 xs)) (number-is ys short)
-    ∙ spelled 0 0 xs ys (long ∙ sym short) f g
-
 -- ---- lists of numbers
-
-parts : (us vs xs ys : List ℕ) → length us ≡ length vs → ordering_then (slice_cmp nat_cmp us vs) (slice_cmp nat_cmp xs ys) ≡ slice_cmp nat_cmp (us ++ xs) (vs ++ ys)
-parts [] [] xs ys long = refl
-parts [] (v ∷ vs) xs ys long = absurd cc
-parts (u ∷ us) [] xs ys long = absurd cc
-parts (u ∷ us) (v ∷ vs) xs ys long =
-    then-then (nat_cmp u v) (slice_cmp nat_cmp us vs) (slice_cmp nat_cmp xs ys) ∙ ap (ordering_then (nat_cmp u v)) (parts us vs xs ys (omega (arith, long)))
 
 groups : (n : ℕ) (xs ys : List ℕ) → length xs ≡ 8 * n → length ys ≡ 8 * n → IsBytes xs → IsBytes ys → slice_cmp nat_cmp (numbers n xs) (numbers n ys) ≡ slice_cmp nat_cmp xs ys
 groups zero [] [] long short f g = refl
@@ -83,10 +23,10 @@ groups (suc n) xs ys long short f g =
     let front : length (take 8 xs) ≡ 8 = omega (arith, length-take 8 xs, long) in
     let other : length (take 8 ys) ≡ 8 = omega (arith, length-take 8 ys, short) in
     ap (λ (o : Ordering). ordering_then o (slice_cmp nat_cmp (numbers n (drop 8 xs)) (numbers n (drop 8 ys))))
-    (eight (take 8 xs) (take 8 ys) front other (IsBytes-take 8 xs f) (IsBytes-take 8 ys g))
+    (eight-compare (take 8 xs) (take 8 ys) front other (IsBytes-take 8 xs f) (IsBytes-take 8 ys g))
     ∙ ap (ordering_then (slice_cmp nat_cmp (take 8 xs) (take 8 ys)))
     (groups n (drop 8 xs) (drop 8 ys) (omega (arith, length-drop 8 xs, long)) (omega (arith, length-drop 8 ys, short)) (IsBytes-drop 8 xs f) (IsBytes-drop 8 ys g))
-    ∙ parts (take 8 xs) (take 8 ys) (drop 8 xs) (drop 8 ys) (front ∙ sym other)
+    ∙ parts-compare (take 8 xs) (take 8 ys) (drop 8 xs) (drop 8 ys) (front ∙ sym other)
     ∙ ap (λ (l : List ℕ). slice_cmp nat_cmp l (take 8 ys ++ drop 8 ys)) (take-append-drop 8 xs)
     ∙ ap (slice_cmp nat_cmp xs) (take-append-drop 8 ys)
 

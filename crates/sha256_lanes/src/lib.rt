@@ -9,8 +9,8 @@
 //!   so it is best for messages of like lengths.
 //! - [`digest_each`] takes any number, each four that follow one another side by side. Messages of like lengths should
 //!   stand together.
-//! - [`digest_sorted`] takes any number in any order and puts those of like lengths side by side. It pays where lengths
-//!   vary, and costs one sort of small numbers.
+//! - [`digest_sorted`] takes any number in any order and puts those of like lengths side by side, within parts of 256.
+//!   It pays where lengths vary, and costs one sort of small numbers a part.
 //!
 //! For a single message use `sha2::Sha256`, which takes less time than a group of four does.
 //!

@@ -11,8 +11,31 @@ use sha2::{Digest, Sha256};
 use std::alloc::{AllocError, Allocator};
 use std::convert::AsSlice;
 
-/// The digest of each message, in their order. Messages with as many blocks go side by side.
+/// How many messages are sorted by their lengths at once. Sorting more would cost more than it saves.
+const PART: usize = 256;
+
+/// The digest of each message, in their order.
+///
+/// Messages with as many blocks go side by side, within parts of 256 messages that follow one another.
 pub fn digest_sorted<T: AsSlice<u8>, A: Allocator + Clone>(
+    alloc: A,
+    messages: &[T],
+) -> Result<Vec<[u8; 32], A>, AllocError>
+    ensures { IfOk result (λ digests. digests.items ≡ digests_of T.items messages.now) }
+{
+    let mut digests = Vec::with_capacity(alloc.clone()?, messages.len())?;
+    let mut rest = messages;
+    'parts: while rest.len() > PART {
+        let (part, after) = rest.split_at(PART);
+        digests.extend_from_slice(&digest_part(alloc.clone()?, part)?)?;
+        rest = after;
+    }
+    digests.extend_from_slice(&digest_part(alloc, rest)?)?;
+    Ok(digests)
+}
+
+/// The digest of each message of a part.
+fn digest_part<T: AsSlice<u8>, A: Allocator + Clone>(
     alloc: A,
     messages: &[T],
 ) -> Result<Vec<[u8; 32], A>, AllocError>

@@ -5,7 +5,7 @@ use Rattle.std.specs.List.Sorted.{IsPermutation}
 use Rattle.sha2.specs.Sha256.{sha256}
 use Rattle.sha256_lanes.specs.Digests.{digests_of}
 use Rattle.sha256_lanes.proofs.PlaceLemmas.{order_below, pairs_below, written_all}
-use Rattle.sha256_lanes.proofs.sorted.digest_sorted.Goals as goal
+use Rattle.sha256_lanes.proofs.sorted.digest_part.Goals as goal
 
 pub place_all-requires-clause-below : goal.place_all-requires-clause-below
 place_all-requires-clause-below g c =
