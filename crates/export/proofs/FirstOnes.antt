@@ -3,31 +3,18 @@ use Rattle.std.proofs.Common.{◌≡◌, ◌&&◌, ◌||◌, ℕ, Bool, true, fa
 use Rattle.std.specs.Prelude.{filter}
 use Rattle.std.specs.List.{list_any, flat_map}
 use Rattle.std.specs.Str.{bytes_eq}
-use Rattle.std.specs.Cmp.Lexicographic.{slice_cmp}
-use Rattle.std.specs.Ordering.{nat_cmp}
-use Rattle.std.specs.BTreeMap.{is_at}
-use Rattle.std.proofs.lemmas.Map.Text.{is_eq-slice_cmp}
 use Rattle.spec.specs.Cid.{cid}
 use Rattle.spec.specs.Blocks.{firsts}
 use Rattle.spec.specs.Car.{section}
 use Rattle.export.specs.Once.{has, HasMore, fresh, sections, section_once}
 
--- what an ordered set contains
-pub contains-is : (cids : List (List ℕ)) (c : List ℕ) → list_any (is_at (slice_cmp nat_cmp c)) cids ≡ has cids c
-contains-is [] c = refl
-contains-is (d ∷ cids) c =
-    ap (λ b. b || list_any (is_at (slice_cmp nat_cmp c)) cids) (is_eq-slice_cmp c d) ∙ ap (λ b. bytes_eq c d || b) (contains-is cids c)
-
 one-more : (b has : Bool) → cond b true has ≡ (b || has)
 one-more true has = refl
 one-more false has = refl
 
-pub has-more : (old new : List (List ℕ)) (c : List ℕ)
-    → ((d : List ℕ) → list_any (is_at (slice_cmp nat_cmp d)) new ≡ cond (is_at (slice_cmp nat_cmp c) d) true (list_any (is_at (slice_cmp nat_cmp d)) old))
-    → HasMore old c new
-has-more old new c h d =
-    sym (contains-is new d) ∙ h d ∙ ap (λ b. cond b true (list_any (is_at (slice_cmp nat_cmp d)) old)) (is_eq-slice_cmp c d)
-    ∙ ap (λ b. cond (bytes_eq c d) true b) (contains-is old d) ∙ one-more (bytes_eq c d) (has old d)
+-- a set after an insertion
+pub has-more : (old new : List (List ℕ)) (c : List ℕ) → ((d : List ℕ) → has new d ≡ cond (bytes_eq c d) true (has old d)) → HasMore old c new
+has-more old new c h d = h d ∙ one-more (bytes_eq c d) (has old d)
 
 -- ---- blocks that come first
 

@@ -5,7 +5,8 @@ ghost use Rattle.export.specs.Once.{has, HasMore};
 
 use cid::Cid;
 use std::alloc::{AllocError, Allocator};
-use std::collections::BTreeSet;
+use std::collections::HashSet;
+use std::hash::{BuildHasherDefault, FoldHasher};
 use std::marker::Model;
 
 /// The CIDs whose sections were written.
@@ -13,12 +14,12 @@ use std::marker::Model;
 /// A contract sees it as a list of them.
 #[derive(Drop)]
 pub(crate) struct Seen<A: Allocator> {
-    cids: BTreeSet<Cid, A>,
+    cids: HashSet<Cid, BuildHasherDefault<FoldHasher>, A>,
 }
 
 impl<A: Allocator> Model for Seen<A> {
     ghost use Rattle.std.specs.Prelude.{ℕ, List};
-    ghost use Rattle.std.specs.BTreeSet.{keys};
+    ghost use Rattle.std.specs.HashSet.{keys};
 
     ghost Value = { List (List ℕ) };
 
@@ -31,7 +32,7 @@ impl<A: Allocator + Clone> Seen<A> {
         ensures { result ≡ [] }
     {
         Seen {
-            cids: BTreeSet::new(alloc),
+            cids: HashSet::new(alloc),
         }
     }
 
