@@ -38,7 +38,7 @@ impl<D: Digest, A: Allocator> Shards<D, A> {
 
     /// The locks of the shards, in the order of their numbers.
     pub(crate) fn locks(&self) -> [&Mutex<Shard<D, A>>; SHARDS] {
-        array::from_fn(|number| &self.shards[number])
+        self.shards.each_ref()
     }
 
     /// Releases the hold in the shard of its block, as `Shard::release` does. It takes no memory.
