@@ -18,7 +18,7 @@ mod watch;
 mod writers;
 
 use crate::command::Command;
-use crate::edits::Turn;
+use crate::edits::{Edits, Turn};
 use crate::exports::Exported;
 use crate::plans::Plan;
 use crate::repositories::{Measured, Took};
@@ -103,7 +103,7 @@ fn main(rt: HostRuntime) -> io::Result<()> {
 
 /// The command that the program's words are.
 fn command_of(rt: &HostRuntime) -> io::Result<Option<Command>> {
-    let words: Vec<String> = env::args(rt)?.skip(1).collect(rt.alloc())?;
+    let words: Vec<String> = env::args(rt)?.collect(rt.alloc())?;
     Ok(Command::from_words(&words))
 }
 
@@ -172,9 +172,13 @@ fn print_get(rt: &HostRuntime, count: u32, rounds: u32) -> io::Result<()> {
 /// Prints how long a put, its delete and a delete of a first key took, at the least.
 fn print_edit(rt: &HostRuntime, count: u32, rounds: u32) -> io::Result<()> {
     let plan = Plan::usual(rt.alloc(), count)?;
-    let Some(edits) = edits::measure(rt, rt.alloc(), &plan, rounds) else {
-        return println!(rt; "refused");
-    };
+    match edits::measure(rt, rt.alloc(), &plan, rounds) {
+        Some(edits) => print_edits(rt, &edits),
+        None => println!(rt; "refused"),
+    }
+}
+
+fn print_edits(rt: &HostRuntime, edits: &Edits) -> io::Result<()> {
     print_turn(rt, "put", &edits.puts)?;
     print_turn(rt, "delete of what was put", &edits.undone)?;
     print_turn(rt, "delete of a first key", &edits.deletes)

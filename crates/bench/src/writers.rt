@@ -34,7 +34,8 @@ pub struct Task {
 
 /// The batches of each writer. Batch after batch goes to the next writer and to the next repository.
 pub fn shares(alloc: Global, load: Load) -> Result<Vec<Vec<Task>>, AllocError> {
-    let plan = Plan::puts(alloc, load.batches.saturating_mul(load.size))?;
+    let puts = load.batches.saturating_mul(load.size);
+    let plan = Plan::parted(alloc, puts, puts)?;
     let mut shares = Vec::new(alloc);
     for writer in 0..load.writers {
         shares.push(share(alloc, &plan, load, writer as usize)?)?;
@@ -85,6 +86,34 @@ pub fn open<R: Wait>(rt: &R, alloc: Global, load: Load) -> Option<Opened<Sha256,
     }
 }
 
+/// How it went to apply a batch.
+enum Tried {
+    Accepted,
+    /// Another writer was quicker with a later revision.
+    Late,
+    Refused,
+}
+
+/// Applies a batch by the revision with this number.
+fn try_put<R: Wait>(
+    rt: &R,
+    alloc: Global,
+    writer: &mut Writer<'_, Sha256, 2>,
+    number: u64,
+    task: &Task,
+) -> Tried
+    ensures { writer.new.host ≡ writer.old.host }
+{
+    let Ok(stamp) = stamp(alloc, number) else {
+        return Tried::Refused;
+    };
+    match writer.apply(rt, alloc, task.repo, &stamp, &task.writes) {
+        Ok(_) => Tried::Accepted,
+        Err(HostFault::Refused(_, RepoFault::RevOrder)) => Tried::Late,
+        Err(_) => Tried::Refused,
+    }
+}
+
 /// Applies a batch by the next revision, and says whether it was accepted. Where another writer was quicker with a later
 /// revision it tries again.
 pub fn put<R: Wait>(
@@ -97,13 +126,11 @@ pub fn put<R: Wait>(
     ensures { writer.new.host ≡ writer.old.host }
 {
     for _ in rt.forever() {
-        let Ok(stamp) = stamp(alloc, revisions.fetch_add(1, Ordering::SeqCst)) else {
-            return false;
-        };
-        match writer.apply(rt, alloc, task.repo, &stamp, &task.writes) {
-            Ok(_) => return true,
-            Err(HostFault::Refused(_, RepoFault::RevOrder)) => {}
-            Err(_) => return false,
+        let number = revisions.fetch_add(1, Ordering::SeqCst);
+        match try_put(rt, alloc, writer, number, task) {
+            Tried::Accepted => return true,
+            Tried::Late => {}
+            Tried::Refused => return false,
         }
     }
     unreachable!()
