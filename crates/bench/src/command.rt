@@ -50,9 +50,9 @@ pub enum Command {
 const MOST: u32 = 1_000_000;
 
 impl Command {
-    /// The command of these words, of which the first is the program's name, or `None` where they are none.
+    /// The command of these words, the program's name left out, or `None` where they are none.
     pub fn from_words(words: &[String]) -> Option<Command> {
-        let [_, name, rest @ ..] = words else {
+        let [name, rest @ ..] = words else {
             return None;
         };
         let numbers = numbers(rest)?;

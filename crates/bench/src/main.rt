@@ -103,7 +103,7 @@ fn main(rt: HostRuntime) -> io::Result<()> {
 
 /// The command that the program's words are.
 fn command_of(rt: &HostRuntime) -> io::Result<Option<Command>> {
-    let words: Vec<String> = env::args(rt)?.collect(rt.alloc())?;
+    let words: Vec<String> = env::args(rt)?.skip(1).collect(rt.alloc())?;
     Ok(Command::from_words(&words))
 }
 

@@ -122,56 +122,6 @@ pub struct Measured {
     pub commit: Option<Cid>,
 }
 
-impl Measured {
-    /// Nothing but by how many bytes the process grew.
-    fn none(grown: Option<u64>) -> Measured {
-        Measured {
-            puts: Took::none(),
-            deletes: Took::none(),
-            grown,
-            added: 0,
-            left: 0,
-            commit: None,
-        }
-    }
-
-    /// Puts the new keys of a plan and deletes them, and says whether all went well.
-    fn round<R: Wait + Clock>(
-        &mut self,
-        rt: &R,
-        alloc: Global,
-        plan: &Plan,
-        desk: &mut Desk<'_, '_, R>,
-        tree: &mut Tree,
-        size: usize,
-    ) -> bool {
-        match turn(
-            rt,
-            alloc,
-            plan,
-            Change::Put,
-            desk,
-            tree,
-            size,
-            &mut self.puts,
-        ) {
-            Some(added) => self.added = added,
-            None => return false,
-        }
-        turn(
-            rt,
-            alloc,
-            plan,
-            Change::Delete,
-            desk,
-            tree,
-            size,
-            &mut self.deletes,
-        )
-        .is_some()
-    }
-}
-
 /// Makes the repository of a plan in a store of sixteen shards, and then so many times puts its new keys and deletes them,
 /// `size` a batch, in turns with the same edits of the tree alone. `None` where a batch was refused or the roots differ.
 pub fn measure<R: Wait + Clock + Files>(
@@ -258,17 +208,33 @@ fn measure_at<R: Wait + Clock + Files>(
     if !desk.fill(alloc, plan) || desk.core.root() != tree.root {
         return None;
     }
-    let mut measured = Measured::none(grown(before, resident(rt, alloc)));
+    let after = resident(rt, alloc);
+    let (mut puts, mut deletes) = (Took::none(), Took::none());
+    let mut added = 0;
     for _ in 0..rounds {
-        if !measured.round(rt, alloc, plan, desk, tree, size) {
-            return None;
-        }
+        added = turn(rt, alloc, plan, Change::Put, desk, tree, size, &mut puts)?;
+        turn(
+            rt,
+            alloc,
+            plan,
+            Change::Delete,
+            desk,
+            tree,
+            size,
+            &mut deletes,
+        )?;
     }
-    measured.commit = desk.core.commit();
-    match tree.put_batches(alloc, &plan.pairs, &plan.places.new, size) {
-        Ok(left) => Some(Measured { left, ..measured }),
-        Err(_) => None,
-    }
+    let left = tree
+        .put_batches(alloc, &plan.pairs, &plan.places.new, size)
+        .ok()?;
+    Some(Measured {
+        puts,
+        deletes,
+        grown: grown(before, after),
+        added,
+        left,
+        commit: desk.core.commit(),
+    })
 }
 
 /// Makes a change at each new place of a plan, to the tree alone and then by batches, and answers how many nodes it adds.
@@ -299,15 +265,9 @@ fn turn<R: Wait + Clock>(
 
 /// How many bytes the process has in memory, where the system tells it as Linux does, in pages of 4,096 bytes.
 fn resident<R: Files>(rt: &R, alloc: Global) -> Option<u64> {
-    match fs::read_to_string(&(rt, alloc), "/proc/self/statm") {
-        Ok(text) => pages_of(&text)?.checked_mul(4096),
-        Err(_) => None,
-    }
-}
-
-/// The second of the numbers of a line.
-fn pages_of(text: &str) -> Option<u64> {
-    text.split(' ').nth(1)?.parse().ok()
+    let text = fs::read_to_string(&(rt, alloc), "/proc/self/statm").ok()?;
+    let pages: u64 = text.split(' ').nth(1)?.parse().ok()?;
+    pages.checked_mul(4096)
 }
 
 fn grown(before: Option<u64>, after: Option<u64>) -> Option<u64> {

@@ -86,34 +86,6 @@ pub fn open<R: Wait>(rt: &R, alloc: Global, load: Load) -> Option<Opened<Sha256,
     }
 }
 
-/// How it went to apply a batch.
-enum Tried {
-    Accepted,
-    /// Another writer was quicker with a later revision.
-    Late,
-    Refused,
-}
-
-/// Applies a batch by the revision with this number.
-fn try_put<R: Wait>(
-    rt: &R,
-    alloc: Global,
-    writer: &mut Writer<'_, Sha256, 2>,
-    number: u64,
-    task: &Task,
-) -> Tried
-    ensures { writer.new.host ≡ writer.old.host }
-{
-    let Ok(stamp) = stamp(alloc, number) else {
-        return Tried::Refused;
-    };
-    match writer.apply(rt, alloc, task.repo, &stamp, &task.writes) {
-        Ok(_) => Tried::Accepted,
-        Err(HostFault::Refused(_, RepoFault::RevOrder)) => Tried::Late,
-        Err(_) => Tried::Refused,
-    }
-}
-
 /// Applies a batch by the next revision, and says whether it was accepted. Where another writer was quicker with a later
 /// revision it tries again.
 pub fn put<R: Wait>(
@@ -126,11 +98,13 @@ pub fn put<R: Wait>(
     ensures { writer.new.host ≡ writer.old.host }
 {
     for _ in rt.forever() {
-        let number = revisions.fetch_add(1, Ordering::SeqCst);
-        match try_put(rt, alloc, writer, number, task) {
-            Tried::Accepted => return true,
-            Tried::Late => {}
-            Tried::Refused => return false,
+        let Ok(stamp) = stamp(alloc, revisions.fetch_add(1, Ordering::SeqCst)) else {
+            return false;
+        };
+        match writer.apply(rt, alloc, task.repo, &stamp, &task.writes) {
+            Ok(_) => return true,
+            Err(HostFault::Refused(_, RepoFault::RevOrder)) => {}
+            Err(_) => return false,
         }
     }
     unreachable!()
