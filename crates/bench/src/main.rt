@@ -18,7 +18,7 @@ mod watch;
 mod writers;
 
 use crate::command::Command;
-use crate::edits::Turn;
+use crate::edits::{Edits, Turn};
 use crate::exports::Exported;
 use crate::plans::Plan;
 use crate::repositories::{Measured, Took};
@@ -116,10 +116,11 @@ fn print_store(rt: &HostRuntime, count: u32, rounds: u32) -> io::Result<()> {
 
 /// Prints for each record how many millions of bytes a second were read.
 fn print_read(rt: &HostRuntime, rounds: u32) -> io::Result<()> {
+    let alloc = rt.alloc();
     for record in &records::RECORDS {
-        let bytes = hex::decode(rt.alloc(), record.text).unwrap_or(Vec::new(rt.alloc()));
+        let bytes = hex::decode(alloc, record.text).unwrap_or(Vec::new(alloc));
         let watch = Watch::start(rt);
-        let found = records::measure(rt.alloc(), &bytes, rounds);
+        let found = records::measure(alloc, &bytes, rounds);
         let micros = watch.nanos(rt) / 1000;
         let read = u128::from(found) * bytes.len() as u128;
         println!(rt;
@@ -134,9 +135,10 @@ fn print_read(rt: &HostRuntime, rounds: u32) -> io::Result<()> {
 
 /// Prints how long the tree of the listing on standard input took.
 fn print_build(rt: &HostRuntime, rounds: u32) -> io::Result<()> {
-    let listing = io::read_to_string(rt.alloc(), rt.stdin())?;
-    let pairs = trees::pairs(rt.alloc(), listing.as_bytes())?;
-    match trees::measure(rt, rt.alloc(), &pairs, rounds) {
+    let alloc = rt.alloc();
+    let listing = io::read_to_string(alloc, rt.stdin())?;
+    let pairs = trees::pairs(alloc, listing.as_bytes())?;
+    match trees::measure(rt, alloc, &pairs, rounds) {
         Some(built) => println!(rt;
             "{} keys, {} nodes, {} microseconds",
             pairs.len(),
@@ -152,10 +154,11 @@ const ASKED: usize = 10_000;
 
 /// Prints how long a look-up took, at the least, over all nodes of a tree in memory.
 fn print_get(rt: &HostRuntime, count: u32, rounds: u32) -> io::Result<()> {
-    let pairs = made::pairs(rt.alloc(), count)?;
-    let places = made::some(rt.alloc(), pairs.len(), ASKED)?;
-    let blocks = trees::nodes(rt.alloc(), &pairs).unwrap_or(Vec::new(rt.alloc()));
-    let Some(found) = lookups::measure(rt, rt.alloc(), &blocks, &pairs, &places, rounds) else {
+    let alloc = rt.alloc();
+    let pairs = made::pairs(alloc, count)?;
+    let places = made::some(alloc, pairs.len(), ASKED)?;
+    let blocks = trees::nodes(alloc, &pairs).unwrap_or(Vec::new(alloc));
+    let Some(found) = lookups::measure(rt, alloc, &blocks, &pairs, &places, rounds) else {
         return println!(rt; "refused");
     };
     println!(rt;
@@ -172,9 +175,13 @@ fn print_get(rt: &HostRuntime, count: u32, rounds: u32) -> io::Result<()> {
 /// Prints how long a put, its delete and a delete of a first key took, at the least.
 fn print_edit(rt: &HostRuntime, count: u32, rounds: u32) -> io::Result<()> {
     let plan = Plan::usual(rt.alloc(), count)?;
-    let Some(edits) = edits::measure(rt, rt.alloc(), &plan, rounds) else {
-        return println!(rt; "refused");
-    };
+    match edits::measure(rt, rt.alloc(), &plan, rounds) {
+        Some(edits) => print_edits(rt, &edits),
+        None => println!(rt; "refused"),
+    }
+}
+
+fn print_edits(rt: &HostRuntime, edits: &Edits) -> io::Result<()> {
     print_turn(rt, "put", &edits.puts)?;
     print_turn(rt, "delete of what was put", &edits.undone)?;
     print_turn(rt, "delete of a first key", &edits.deletes)

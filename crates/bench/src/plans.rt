@@ -26,17 +26,14 @@ impl Plan {
     /// So many keys, and a quarter as many more, at most 10,000, that are put and deleted.
     pub fn usual(alloc: Global, count: u32) -> Result<Plan, AllocError> {
         let more = (count / 4).min(10_000);
-        let pairs = made::records(alloc, count.saturating_add(more))?;
-        let order = made::some(alloc, pairs.len(), pairs.len())?;
-        let places = Places::parted(alloc, &order, more as usize)?;
-        Ok(Plan { pairs, places })
+        Plan::parted(alloc, count.saturating_add(more), more)
     }
 
-    /// So many keys that are all put.
-    pub fn puts(alloc: Global, count: u32) -> Result<Plan, AllocError> {
+    /// So many keys, of which so many are put and deleted and the others are there at first.
+    pub fn parted(alloc: Global, count: u32, new: u32) -> Result<Plan, AllocError> {
         let pairs = made::records(alloc, count)?;
         let order = made::some(alloc, pairs.len(), pairs.len())?;
-        let places = Places::parted(alloc, &order, count as usize)?;
+        let places = Places::parted(alloc, &order, new as usize)?;
         Ok(Plan { pairs, places })
     }
 
@@ -71,7 +68,7 @@ impl Plan {
         let mut kept = Vec::new(alloc);
         for (pair, is_kept) in self.pairs.iter().zip(are_kept.iter()) {
             if *is_kept {
-                kept.push((Vec::from_slice(alloc, &pair.0)?, pair.1))?;
+                trees::push_pair(alloc, &mut kept, &pair.0, pair.1)?;
             }
         }
         Ok(kept)
@@ -145,39 +142,54 @@ impl Places {
         order: &[usize],
         most: usize,
     ) -> Result<Places, AllocError> {
-        let mut higher = Vec::new(alloc);
-        let mut places = Places {
-            first: Vec::new(alloc),
-            gone: Vec::new(alloc),
-            new: Vec::new(alloc),
+        let mut layers = Layers {
+            higher: Vec::new(alloc),
+            flat: 0,
+            places: Places {
+                first: Vec::new(alloc),
+                gone: Vec::new(alloc),
+                new: Vec::new(alloc),
+            },
         };
         for place in order {
-            let height = layer_at(pairs, *place);
-            if height > 0 {
-                higher.push((height, *place))?;
-            }
-            let flat = places.first.len().saturating_sub(higher.len());
-            places.take(*place, height > 0 || flat < most)?;
+            layers.take(*place, layer_at(pairs, *place), most)?;
         }
-        higher.sort()?;
-        places.let_go(&higher)?;
-        Ok(places)
+        layers.let_go()?;
+        Ok(layers.places)
     }
+}
 
-    /// A place that is there at first, or else a new one, up to ten.
-    fn take(&mut self, place: usize, is_first: bool) -> Result<(), AllocError> {
-        if is_first {
-            self.first.push(place)?;
-        } else if self.new.len() < 10 {
-            self.new.push(place)?;
+/// Places that are parted by the layers of their keys.
+#[derive(Drop)]
+struct Layers {
+    /// Those of higher layers than 0, each behind its layer.
+    higher: Vec<(u16, usize)>,
+    /// How many of layer 0 are there at first.
+    flat: usize,
+    places: Places,
+}
+
+impl Layers {
+    /// A place of a key of this layer is there at first, where the layer is higher than 0 or there are fewer of layer 0 than
+    /// `most`, or else it is a new one, up to ten.
+    fn take(&mut self, place: usize, height: u16, most: usize) -> Result<(), AllocError> {
+        if height > 0 {
+            self.higher.push((height, place))?;
+            self.places.first.push(place)?;
+        } else if self.flat < most {
+            self.flat = self.flat.saturating_add(1);
+            self.places.first.push(place)?;
+        } else if self.places.new.len() < 10 {
+            self.places.new.push(place)?;
         }
         Ok(())
     }
 
-    /// These places go, in their order.
-    fn let_go(&mut self, higher: &[(u16, usize)]) -> Result<(), AllocError> {
-        for (_, place) in higher {
-            self.gone.push(*place)?;
+    /// Those of higher layers go, in the order of their layers.
+    fn let_go(&mut self) -> Result<(), AllocError> {
+        self.higher.sort()?;
+        for (_, place) in &self.higher {
+            self.places.gone.push(*place)?;
         }
         Ok(())
     }

@@ -10,19 +10,25 @@ use std::time::Clock;
 
 /// The pairs of the lines `KEY CID` of a listing, in the order of their keys; other lines are left out.
 pub fn pairs(alloc: Global, listing: &[u8]) -> Result<Vec<(Vec<u8>, Cid)>, AllocError> {
-    let mut pairs = unsorted(alloc, listing)?;
+    let mut pairs = Vec::new(alloc);
+    for line in listing.lines() {
+        if let Some((key, cid)) = pair(line) {
+            push_pair(alloc, &mut pairs, key, cid)?;
+        }
+    }
     pairs.sort()?;
     Ok(pairs)
 }
 
-fn unsorted(alloc: Global, listing: &[u8]) -> Result<Vec<(Vec<u8>, Cid)>, AllocError> {
-    let mut pairs = Vec::new(alloc);
-    for line in listing.lines() {
-        if let Some((key, cid)) = pair(line) {
-            pairs.push((Vec::from_slice(alloc, key)?, cid))?;
-        }
-    }
-    Ok(pairs)
+/// Adds a pair of a copy of this key.
+pub fn push_pair(
+    alloc: Global,
+    pairs: &mut Vec<(Vec<u8>, Cid)>,
+    key: &[u8],
+    cid: Cid,
+) -> Result<(), AllocError> {
+    pairs.push((Vec::from_slice(alloc, key)?, cid))?;
+    Ok(())
 }
 
 /// The pair of a line.

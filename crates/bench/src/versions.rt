@@ -152,9 +152,18 @@ fn read_all<R: Threads + Sync>(
     );
     ended.store(true, Ordering::SeqCst);
     match sums {
-        Ok(sums) => sums.iter().fold(0, |all, sum| all.wrapping_add(*sum)),
+        Ok(sums) => total(&sums),
         Err(_) => 0,
     }
+}
+
+/// What these add up to.
+fn total(sums: &[u64]) -> u64 {
+    let mut total = 0u64;
+    for sum in sums {
+        total = total.wrapping_add(*sum);
+    }
+    total
 }
 
 /// All readings beside the writer, who goes on until they have ended. Answers how many batches were accepted.

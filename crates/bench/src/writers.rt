@@ -34,7 +34,8 @@ pub struct Task {
 
 /// The batches of each writer. Batch after batch goes to the next writer and to the next repository.
 pub fn shares(alloc: Global, load: Load) -> Result<Vec<Vec<Task>>, AllocError> {
-    let plan = Plan::puts(alloc, load.batches.saturating_mul(load.size))?;
+    let puts = load.batches.saturating_mul(load.size);
+    let plan = Plan::parted(alloc, puts, puts)?;
     let mut shares = Vec::new(alloc);
     for writer in 0..load.writers {
         shares.push(share(alloc, &plan, load, writer as usize)?)?;
