@@ -1,9 +1,8 @@
 //! Inputs and words that are refused, by what standard error is told.
-use crate::running::{EMPTY, TREE, joined, run, run_with};
+use crate::running::{EMPTY, THREE_KEYS, TREE, ends, joined, lists, run_with};
 use cid::digests::Size;
 use std::alloc::Global;
 use std::sync::Wait;
-use std::test::Fail;
 use std::thread::Threads;
 
 /// Whether the command is refused with just this on standard error, and nothing is written.
@@ -13,9 +12,8 @@ fn are_refused<T: Threads + Wait + Sync>(
     words: &[&str],
     parts: &[&str],
     told: &str,
-) -> Result<bool, Fail> {
-    let input = joined(alloc, parts)?;
-    Ok(run(rt, alloc, words, &input).is(1, b"", told))
+) -> bool {
+    ends(rt, alloc, words, parts, 1, b"", told)
 }
 
 /// Nodes of two entries and of one: their first entry, `a/b`, what stands in an entry after its prefix, and the node's end.
@@ -43,7 +41,7 @@ const CAR: &[&str] = &["msthost", "car", "--rev", "2222222222221"];
 const CAR_OF_NOBODY: &[&str] = &["msthost", "car", "--rev", "", "--did", ""];
 
 /// Command lines, inputs, and what is told of them. `E` stands for the text of the CID of the empty tree's node.
-const FAULTS: &[(&[&str], &[&str], &str)] = &[
+static FAULTS: [(&[&str], &[&str], &str); 14] = [
     (&TREE, &["a/b"], "msthost: line 1: BadLine\n"),
     (&TREE, &["a/b\n"], "msthost: line 1: BadLine\n"),
     (&TREE, &[" ", "E"], "msthost: line 1: BadKey\n"),
@@ -65,33 +63,34 @@ const FAULTS: &[(&[&str], &[&str], &str)] = &[
 ];
 
 #[test]
-fn faults(rt: HostRuntime) -> Result<(), Fail> {
-    for (words, parts, told) in FAULTS {
+fn faults(rt: HostRuntime) {
+    for (words, parts, told) in &FAULTS {
         assert!(rt;
-            are_refused(&rt, rt.alloc(), words, parts, told)?,
+            are_refused(&rt, rt.alloc(), words, parts, told),
             "at {words:?} of {parts:?}"
         );
     }
-    Ok(())
+}
+
+/// Texts that are no DIDs.
+static NO_DIDS: [&str; 4] = ["", "did:web:", "did:Web:a", "localhost"];
+
+/// Whether a command refuses a DID.
+fn is_no_did<T: Threads + Wait + Sync>(rt: &T, alloc: Global, command: &str, did: &str) -> bool {
+    let words = ["msthost", command, "--did", did];
+    are_refused(rt, alloc, &words, &["x"], "msthost: BadDid\n")
 }
 
 #[test]
-fn faulty_dids(rt: HostRuntime) -> Result<(), Fail> {
-    for did in ["", "did:web:", "did:Web:a", "localhost"] {
-        for command in ["car", "run"] {
-            let words = ["msthost", command, "--did", did];
-            let told = "msthost: BadDid\n";
-            assert!(rt;
-                are_refused(&rt, rt.alloc(), &words, &["x"], told)?,
-                "at {words:?}"
-            );
-        }
+fn faulty_dids(rt: HostRuntime) {
+    for did in &NO_DIDS {
+        assert!(rt; is_no_did(&rt, rt.alloc(), "car", did), "car of {did:?}");
+        assert!(rt; is_no_did(&rt, rt.alloc(), "run", did), "run of {did:?}");
     }
-    Ok(())
 }
 
 /// Texts that are no roots, and why.
-const NO_ROOTS: [(&str, &str); 7] = [
+static NO_ROOTS: [(&str, &str); 7] = [
     ("", "msthost: BadLength\n"),
     ("b", "msthost: BadLength\n"),
     (
@@ -116,22 +115,29 @@ const NO_ROOTS: [(&str, &str); 7] = [
     ),
 ];
 
+/// Whether blocks prove nothing of a key under this root, and this is told.
+fn shows_nothing<T: Threads + Wait + Sync>(
+    rt: &T,
+    alloc: Global,
+    root: &str,
+    key: &str,
+    parts: &[&str],
+    told: &str,
+) -> bool {
+    are_refused(rt, alloc, &["msthost", "verify", root, key], parts, told)
+}
+
 #[test]
-fn faulty_roots(rt: HostRuntime) -> Result<(), Fail> {
-    for (root, told) in NO_ROOTS {
-        for key in ["", "a/b"] {
-            let words = ["msthost", "verify", root, key];
-            assert!(rt;
-                are_refused(&rt, rt.alloc(), &words, &["x"], told)?,
-                "at {words:?}"
-            );
-        }
+fn faulty_roots(rt: HostRuntime) {
+    for (root, told) in &NO_ROOTS {
+        let of_no_key = shows_nothing(&rt, rt.alloc(), root, "", &["x"], told);
+        let of_a_key = shows_nothing(&rt, rt.alloc(), root, "a/b", &["x"], told);
+        assert!(rt; of_no_key && of_a_key, "at {root:?}");
     }
-    Ok(())
 }
 
 /// Roots, keys, and blocks that show nothing.
-const PROOFS: &[(&str, &str, &[&str], &str)] = &[
+static PROOFS: [(&str, &str, &[&str], &str); 10] = [
     (EMPTY, "", &["x"], "msthost: KeyLength\n"),
     (EMPTY, "a/b", &["x"], "msthost: line 1: BadLine\n"),
     (EMPTY, "a/b", &["\na0\na0 a0"], "msthost: line 3: BadLine\n"),
@@ -160,19 +166,17 @@ const PROOFS: &[(&str, &str, &[&str], &str)] = &[
 ];
 
 #[test]
-fn proofs_that_show_nothing(rt: HostRuntime) -> Result<(), Fail> {
-    for (root, key, parts, told) in PROOFS {
-        let words = ["msthost", "verify", *root, *key];
+fn proofs_that_show_nothing(rt: HostRuntime) {
+    for (root, key, parts, told) in &PROOFS {
         assert!(rt;
-            are_refused(&rt, rt.alloc(), &words, parts, told)?,
+            shows_nothing(&rt, rt.alloc(), root, key, parts, told),
             "at {told}"
         );
     }
-    Ok(())
 }
 
 /// Inputs of `car` and `prove` with a faulty line, and what is told of them.
-const PUTS: &[(&str, &str)] = &[
+static PUTS: [(&str, &str); 15] = [
     ("a/b", "msthost: line 1: BadLine\n"),
     ("a/b ", "msthost: line 1: BadLine\n"),
     (" a0", "msthost: line 1: BadLine\n"),
@@ -194,64 +198,64 @@ const PUTS: &[(&str, &str)] = &[
 ];
 
 #[test]
-fn faulty_puts(rt: HostRuntime) -> Result<(), Fail> {
-    for (input, told) in PUTS {
-        for words in [["msthost", "car"].as_slice(), &["msthost", "prove", "a/b"]] {
-            assert!(rt;
-                are_refused(&rt, rt.alloc(), words, &[*input], told)?,
-                "at {words:?} of {input:?}"
-            );
-        }
+fn faulty_puts(rt: HostRuntime) {
+    let prove = ["msthost", "prove", "a/b"];
+    for (input, told) in &PUTS {
+        let in_car = are_refused(&rt, rt.alloc(), &["msthost", "car"], &[*input], told);
+        let in_proof = are_refused(&rt, rt.alloc(), &prove, &[*input], told);
+        assert!(rt; in_car && in_proof, "at {input:?}");
     }
-    Ok(())
 }
 
-/// Scripts with a faulty line, and its number.
-const SCRIPTS: &[(&str, &str)] = &[
-    ("0 0 put a/b", "1"),
-    ("1 0 get a/b", "1"),
-    ("0 0 2222222222222 get a/b", "1"),
-    ("0 0 get a/b\n\nx\n0", "3"),
-    ("0", "1"),
-    ("0 0", "1"),
-    ("0 0 get", "1"),
-    ("0 0 look a/b", "1"),
-    (" 0 0 get a/b", "1"),
-    ("0  0 get a/b", "1"),
-    ("0 0 get a/b ", "1"),
-    ("0 0 get ", "1"),
-    ("0 0\tget a/b", "1"),
-    ("-0 0 get a/b", "1"),
-    ("+0 0 get a/b", "1"),
-    ("0 4294967296 get a/b", "1"),
-    ("0 18446744073709551616 get a/b", "1"),
-    ("0 0 2222222222222 put a/b", "1"),
-    ("0 0 2222222222222 put a/b a", "1"),
-    ("0 0 2222222222222 put a/b a0 a0", "1"),
-    ("0 0 2222222222222 put a/b g0", "1"),
-    ("0 0 2222222222222 delete a/b a0", "1"),
-    ("0 0 2222222222222 Delete a/b", "1"),
-    ("0 0 2222222222222 delete a/b ;", "1"),
-    ("0 0 2222222222222 ; delete a/b", "1"),
-    ("0 0 2222222222222 delete a/b ; ; delete a/b", "1"),
-    ("0 0 2222222222222 delete a/b; delete a/b", "1"),
+/// What is told of a script whose line of this number is faulty.
+const FIRST: &str = "msthost: line 1: BadScript\n";
+
+const THIRD: &str = "msthost: line 3: BadScript\n";
+
+/// Scripts with a faulty line, and what is told of them.
+static SCRIPTS: [(&str, &str); 27] = [
+    ("0 0 put a/b", FIRST),
+    ("1 0 get a/b", FIRST),
+    ("0 0 2222222222222 get a/b", FIRST),
+    ("0 0 get a/b\n\nx\n0", THIRD),
+    ("0", FIRST),
+    ("0 0", FIRST),
+    ("0 0 get", FIRST),
+    ("0 0 look a/b", FIRST),
+    (" 0 0 get a/b", FIRST),
+    ("0  0 get a/b", FIRST),
+    ("0 0 get a/b ", FIRST),
+    ("0 0 get ", FIRST),
+    ("0 0\tget a/b", FIRST),
+    ("-0 0 get a/b", FIRST),
+    ("+0 0 get a/b", FIRST),
+    ("0 4294967296 get a/b", FIRST),
+    ("0 18446744073709551616 get a/b", FIRST),
+    ("0 0 2222222222222 put a/b", FIRST),
+    ("0 0 2222222222222 put a/b a", FIRST),
+    ("0 0 2222222222222 put a/b a0 a0", FIRST),
+    ("0 0 2222222222222 put a/b g0", FIRST),
+    ("0 0 2222222222222 delete a/b a0", FIRST),
+    ("0 0 2222222222222 Delete a/b", FIRST),
+    ("0 0 2222222222222 delete a/b ;", FIRST),
+    ("0 0 2222222222222 ; delete a/b", FIRST),
+    ("0 0 2222222222222 delete a/b ; ; delete a/b", FIRST),
+    ("0 0 2222222222222 delete a/b; delete a/b", FIRST),
 ];
 
 #[test]
-fn faulty_scripts(rt: HostRuntime) -> Result<(), Fail> {
-    for (script, number) in SCRIPTS {
-        let told = format!(in rt.alloc(); "msthost: line {number}: BadScript\n")?;
+fn faulty_scripts(rt: HostRuntime) {
+    for (script, told) in &SCRIPTS {
         assert!(rt;
-            are_refused(&rt, rt.alloc(), &["msthost", "run"], &[*script], &told)?,
+            are_refused(&rt, rt.alloc(), &["msthost", "run"], &[*script], told),
             "at {script:?}"
         );
     }
-    Ok(())
 }
 
 /// Texts that are no CID: nothing; too short; too long; another multibase; no letter of base32; a capital; bits after the
 /// last byte; another version; another codec; another hash; another length of it.
-const NO_CIDS: [&str; 11] = [
+static NO_CIDS: [&str; 11] = [
     "",
     "bafyreie5737gdxlw5i64vzichcalba3z2v5n6icifvx5xytvske7mr3hp",
     "bafyreie5737gdxlw5i64vzichcalba3z2v5n6icifvx5xytvske7mr3hpmm",
@@ -265,47 +269,55 @@ const NO_CIDS: [&str; 11] = [
     "bafyreim5737gdxlw5i64vzichcalba3z2v5n6icifvx5xytvske7mr3hpm",
 ];
 
+/// Whether such a text is refused on the first line, which has an end, and on the second, which has none.
+fn is_no_cid<T: Threads + Wait + Sync>(rt: &T, alloc: Global, text: &str) -> bool {
+    let first = ["a/b ", text, "\n"];
+    let second = ["\r\n", "a/b ", text];
+    are_refused(rt, alloc, &TREE, &first, "msthost: line 1: BadCid\n")
+        && are_refused(rt, alloc, &TREE, &second, "msthost: line 2: BadCid\n")
+}
+
 #[test]
-fn faulty_cids(rt: HostRuntime) -> Result<(), Fail> {
-    for text in NO_CIDS {
-        for (before, after, told) in [
-            ("", "\n", "msthost: line 1: BadCid\n"),
-            ("\r\n", "", "msthost: line 2: BadCid\n"),
-        ] {
-            let parts = [before, "a/b ", text, after];
-            assert!(rt;
-                are_refused(&rt, rt.alloc(), &TREE, &parts, told)?,
-                "at {parts:?}"
-            );
+fn faulty_cids(rt: HostRuntime) {
+    for text in &NO_CIDS {
+        assert!(rt; is_no_cid(&rt, rt.alloc(), text), "at {text:?}");
+    }
+}
+
+/// Whether this key has the greatest length there is: a tree of it has this root.
+fn is_longest<T: Threads + Wait + Sync>(rt: &T, alloc: Global, key: &[u8]) -> bool {
+    let root = "bafyreig37hu6jop2zw2hyng2t7crys3wo7c2cro6hmyvtygf5foi2v3xni";
+    match str::from_utf8(key) {
+        Ok(key) => lists(rt, alloc, &TREE, &[key, " ", "E"], root),
+        Err(_) => false,
+    }
+}
+
+/// Whether this key is too long, be the rest of its line right or not.
+fn is_too_long<T: Threads + Wait + Sync>(rt: &T, alloc: Global, key: &[u8]) -> bool {
+    let told = "msthost: line 1: BadKey\n";
+    match str::from_utf8(key) {
+        Ok(key) => {
+            are_refused(rt, alloc, &TREE, &[key, " ", "E"], told)
+                && are_refused(rt, alloc, &TREE, &[key, " x", "\na"], told)
         }
+        Err(_) => false,
     }
-    Ok(())
 }
 
 #[test]
-fn the_longest_key(rt: HostRuntime) -> Result<(), Fail> {
-    let key = [b'k'; 1024];
-    let input = joined(rt.alloc(), &[str::from_utf8(&key)?, " ", "E"])?;
-    let ended = run(&rt, rt.alloc(), &TREE, &input);
-    assert!(rt; ended.lists("bafyreig37hu6jop2zw2hyng2t7crys3wo7c2cro6hmyvtygf5foi2v3xni"));
-    Ok(())
+fn the_longest_key(rt: HostRuntime) {
+    assert!(rt; is_longest(&rt, rt.alloc(), &[b'k'; 1024]));
 }
 
 #[test]
-fn keys_that_are_longer(rt: HostRuntime) -> Result<(), Fail> {
-    let key = [b'k'; 1025];
-    let key = str::from_utf8(&key)?;
-    for parts in [[key, " ", "E"], [key, " x", "\na"]] {
-        let told = "msthost: line 1: BadKey\n";
-        assert!(rt; are_refused(&rt, rt.alloc(), &TREE, &parts, told)?);
-    }
-    Ok(())
+fn keys_that_are_longer(rt: HostRuntime) {
+    assert!(rt; is_too_long(&rt, rt.alloc(), &[b'k'; 1025]));
 }
 
 #[test]
-fn nodes_that_clash(rt: HostRuntime) -> Result<(), Fail> {
-    let input = joined(rt.alloc(), &["a/p0 ", "E", "\na/q2 ", "E", "\na/r0 ", "E"])?;
+fn nodes_that_clash(rt: HostRuntime) {
+    let input = joined(rt.alloc(), &THREE_KEYS).expect(&rt, "a listing");
     let ended = run_with::<Size, _>(&rt, rt.alloc(), &TREE, &input);
     assert!(rt; ended.is(1, b"", "msthost: Clash\n"));
-    Ok(())
 }

@@ -1,79 +1,103 @@
 //! Roots of listings, and how long they are.
-use crate::running::{TREE, joined, run, run_with};
+use crate::running::{Ended, THREE_KEYS, TREE, joined, lists, run, run_with};
 use cid::digests::Toy;
 use std::alloc::Global;
-use std::test::Fail;
+use std::sync::Wait;
+use std::thread::Threads;
 
 /// The record of every key of the published trees.
 const RECORD: &str = "bafyreie5cvv4h45feadgeuwhbcutmh6t2ceseocckahdoe6uat64zmz454";
 
+/// The lines of the published trees of one key, and their roots.
+static ONE_KEY: [(&[&str], &str); 2] = [
+    (
+        &["com.example.record/3jqfcqzm3fo2j ", RECORD, "\n"],
+        "bafyreibj4lsc3aqnrvphp5xmrnfoorvru4wynt6lwidqbm2623a6tatzdu",
+    ),
+    (
+        &["com.example.record/3jqfcqzm3fx2j ", RECORD, "\n"],
+        "bafyreih7wfei65pxzhauoibu3ls7jgmkju4bspy4t2ha2qdjnzqvoy33ai",
+    ),
+];
+
 #[test]
-fn published_roots_of_one_key(rt: HostRuntime) -> Result<(), Fail> {
-    for (key, root) in [
-        (
-            "com.example.record/3jqfcqzm3fo2j ",
-            "bafyreibj4lsc3aqnrvphp5xmrnfoorvru4wynt6lwidqbm2623a6tatzdu",
-        ),
-        (
-            "com.example.record/3jqfcqzm3fx2j ",
-            "bafyreih7wfei65pxzhauoibu3ls7jgmkju4bspy4t2ha2qdjnzqvoy33ai",
-        ),
-    ] {
-        let input = joined(rt.alloc(), &[key, RECORD, "\n"])?;
-        assert!(rt; run(&rt, rt.alloc(), &TREE, &input).lists(root), "at {key}");
+fn published_roots_of_one_key(rt: HostRuntime) {
+    for (parts, root) in &ONE_KEY {
+        assert!(rt; lists(&rt, rt.alloc(), &TREE, parts, root), "at {root}");
     }
-    Ok(())
 }
 
 /// The lines of the published tree of five keys, in no order.
-fn published_five(alloc: Global) -> Result<Vec<u8>, Fail> {
-    let mut input = Vec::new(alloc);
-    for key in ["m3fs2j", "m4fc2j", "m3fp2j", "m3ft2j", "m3fr2j"] {
-        for part in ["com.example.record/3jqfcqz", key, " ", RECORD, "\n"] {
-            input.extend_from_slice(part.as_bytes())?;
-        }
-    }
-    Ok(input)
-}
+const FIVE_KEYS: [&str; 11] = [
+    "com.example.record/3jqfcqzm3fs2j ",
+    RECORD,
+    "\ncom.example.record/3jqfcqzm4fc2j ",
+    RECORD,
+    "\ncom.example.record/3jqfcqzm3fp2j ",
+    RECORD,
+    "\ncom.example.record/3jqfcqzm3ft2j ",
+    RECORD,
+    "\ncom.example.record/3jqfcqzm3fr2j ",
+    RECORD,
+    "\n",
+];
+
+/// The roots of that tree with one zero bit a layer, with two, as published, or three, and with more.
+const ROOT_OF_ONE: &str = "bafyreia4lg7qsow5oi3fenr4ckrvedywso6f4etz5djo6hvptd3kyw3n6i";
+
+const PUBLISHED: &str = "bafyreicmahysq4n6wfuxo522m6dpiy7z7qzym3dzs756t5n7nfdgccwq7m";
+
+const ROOT_OF_MORE: &str = "bafyreibxytyffxyzrfc7h7envv3e3go6cavhtyw4h6eywhs6zqf7v2vs2i";
+
+/// Command lines, and the roots of that tree.
+static BITS: [(&[&str], &str); 9] = [
+    (&["msthost", "tree"], PUBLISHED),
+    (&["msthost", "tree", "--bits", "1"], ROOT_OF_ONE),
+    (&["msthost", "tree", "--bits", "2"], PUBLISHED),
+    (&["msthost", "tree", "--bits", "3"], PUBLISHED),
+    (&["msthost", "tree", "--bits", "4"], ROOT_OF_MORE),
+    (&["msthost", "tree", "--bits", "5"], ROOT_OF_MORE),
+    (&["msthost", "tree", "--bits", "6"], ROOT_OF_MORE),
+    (&["msthost", "tree", "--bits", "7"], ROOT_OF_MORE),
+    (&["msthost", "tree", "--bits", "8"], ROOT_OF_MORE),
+];
 
 #[test]
-fn each_number_of_bits(rt: HostRuntime) -> Result<(), Fail> {
-    let input = published_five(rt.alloc())?;
-    let one = "bafyreia4lg7qsow5oi3fenr4ckrvedywso6f4etz5djo6hvptd3kyw3n6i";
-    let published = "bafyreicmahysq4n6wfuxo522m6dpiy7z7qzym3dzs756t5n7nfdgccwq7m";
-    let more = "bafyreibxytyffxyzrfc7h7envv3e3go6cavhtyw4h6eywhs6zqf7v2vs2i";
-    let cases: [(&[&str], &str); 9] = [
-        (&["msthost", "tree"], published),
-        (&["msthost", "tree", "--bits", "1"], one),
-        (&["msthost", "tree", "--bits", "2"], published),
-        (&["msthost", "tree", "--bits", "3"], published),
-        (&["msthost", "tree", "--bits", "4"], more),
-        (&["msthost", "tree", "--bits", "5"], more),
-        (&["msthost", "tree", "--bits", "6"], more),
-        (&["msthost", "tree", "--bits", "7"], more),
-        (&["msthost", "tree", "--bits", "8"], more),
-    ];
-    for (words, root) in cases {
+fn each_number_of_bits(rt: HostRuntime) {
+    for (words, root) in &BITS {
         assert!(rt;
-            run(&rt, rt.alloc(), words, &input).lists(root),
+            lists(&rt, rt.alloc(), words, &FIVE_KEYS, root),
             "at {words:?}"
         );
     }
-    Ok(())
+}
+
+/// Lines of two keys with a record each, and lines of which the last of each key are these.
+const ONCE: [&str; 4] = ["a/1 ", "E", "\nb/1 ", RECORD];
+
+const TWICE: [&str; 11] = [
+    "b/1 ", "E", "\na/1 ", "E", "\nb/1 ", RECORD, "\n\na/1 ", RECORD, "\na/1 ", "E", "\n",
+];
+
+/// What `tree` on these texts comes to.
+fn tree_of<T: Threads + Wait + Sync>(rt: &T, alloc: Global, parts: &[&str]) -> Option<Ended> {
+    match joined(alloc, parts) {
+        Ok(input) => Some(run(rt, alloc, &TREE, &input)),
+        Err(_) => None,
+    }
+}
+
+/// Whether a tree with this root was listed, and the same again.
+fn list_the_same(one: &Ended, other: &Ended, root: &str) -> bool {
+    one.lists(root) && other.is(0, &one.out, "")
 }
 
 #[test]
-fn the_last_line_of_a_key_decides(rt: HostRuntime) -> Result<(), Fail> {
-    let twice = [
-        "b/1 ", "E", "\na/1 ", "E", "\nb/1 ", RECORD, "\n\na/1 ", RECORD, "\na/1 ", "E", "\n",
-    ];
-    let once = ["a/1 ", "E", "\nb/1 ", RECORD];
-    let input = joined(rt.alloc(), &once)?;
-    let wanted = run(&rt, rt.alloc(), &TREE, &input);
-    assert!(rt; wanted.lists("bafyreiafwufgom6kgt2oj43ilqgnilld6ypuu7wj2qsot5z5wonconecta"));
-    let input = joined(rt.alloc(), &twice)?;
-    assert!(rt; run(&rt, rt.alloc(), &TREE, &input).is(0, &wanted.out, ""));
-    Ok(())
+fn the_last_line_of_a_key_decides(rt: HostRuntime) {
+    let root = "bafyreiafwufgom6kgt2oj43ilqgnilld6ypuu7wj2qsot5z5wonconecta";
+    let once = tree_of(&rt, rt.alloc(), &ONCE).expect(&rt, "a tree");
+    let twice = tree_of(&rt, rt.alloc(), &TWICE).expect(&rt, "a tree");
+    assert!(rt; list_the_same(&once, &twice, root));
 }
 
 /// Keys that differ in their 33rd byte alone, and such that differ in zero bytes at their end, neither kind in the order
@@ -93,59 +117,94 @@ const ALIKE: [&str; 12] = [
     "E",
 ];
 
-#[test]
-fn keys_of_any_bytes(rt: HostRuntime) -> Result<(), Fail> {
-    let spaces = "bafyreidbsrnnag75pwuth7flro4phz2hod6uxnc62xzszhx74kptcyihby";
-    let returns = "bafyreihmtk6sjdmr7p2y3wrwx6c54vipkm6ngkq3o7bkcvvmxapklwclva";
-    let alike = "bafyreic6whpft2y2kaglm65dnjdc5hkbdxf3biydxs24q52q35l4ef4a4i";
-    let cases: [(&[&str], &str); 5] = [
-        (&["a b  c ", "E"], spaces),
-        (&["a\rb ", "E", "\rc/d ", "E"], returns),
-        (&["a\rb ", "E", "\rc/d ", "E", "\n"], returns),
-        (&["a\rb ", "E", "\rc/d ", "E", "\r\n"], returns),
-        (&ALIKE, alike),
-    ];
-    for (parts, root) in cases {
-        let input = joined(rt.alloc(), parts)?;
-        assert!(rt;
-            run(&rt, rt.alloc(), &TREE, &input).lists(root),
-            "at {parts:?}"
-        );
-    }
-    Ok(())
-}
+/// The root where keys have spaces in them, where they have carriage returns, and where they are alike.
+const SPACES: &str = "bafyreidbsrnnag75pwuth7flro4phz2hod6uxnc62xzszhx74kptcyihby";
+
+const RETURNS: &str = "bafyreihmtk6sjdmr7p2y3wrwx6c54vipkm6ngkq3o7bkcvvmxapklwclva";
+
+const ROOT_OF_ALIKE: &str = "bafyreic6whpft2y2kaglm65dnjdc5hkbdxf3biydxs24q52q35l4ef4a4i";
+
+/// Lines of such keys, and their roots.
+static ANY_BYTES: [(&[&str], &str); 5] = [
+    (&["a b  c ", "E"], SPACES),
+    (&["a\rb ", "E", "\rc/d ", "E"], RETURNS),
+    (&["a\rb ", "E", "\rc/d ", "E", "\n"], RETURNS),
+    (&["a\rb ", "E", "\rc/d ", "E", "\r\n"], RETURNS),
+    (&ALIKE, ROOT_OF_ALIKE),
+];
 
 #[test]
-fn nodes_and_bytes_of_each_number_of_bits(rt: HostRuntime) -> Result<(), Fail> {
-    let input = joined(rt.alloc(), &["a/r0 ", "E", "\na/p0 ", "E", "\na/q2 ", "E"])?;
+fn keys_of_any_bytes(rt: HostRuntime) {
+    for (parts, root) in &ANY_BYTES {
+        assert!(rt; lists(&rt, rt.alloc(), &TREE, parts, root), "at {parts:?}");
+    }
+}
+
+/// The lines of the three keys in another order.
+const MIXED: [&str; 6] = ["a/r0 ", "E", "\na/p0 ", "E", "\na/q2 ", "E"];
+
+/// How many lines end in a text.
+fn line_count(text: &[u8]) -> usize {
+    let mut count = 0usize;
+    for byte in text {
+        if *byte == b'\n' {
+            count = count.saturating_add(1);
+        }
+    }
+    count
+}
+
+/// A number of zero bits a layer, and how many lines and bytes the tree of three keys has then.
+static SIZES: [(&str, usize, usize); 4] = [
     // 9 nodes of 554 bytes, 5 of 366, 3 of 272, one of 174: a line of 60 for the root, and of 61 and two digits a byte
-    for (bits, lines, length) in [
-        ("1", 10, 1717),
-        ("2", 6, 1097),
-        ("4", 4, 787),
-        ("8", 2, 469),
-    ] {
-        let ended = run_with::<Toy, _>(
-            &rt,
-            rt.alloc(),
-            &["msthost", "tree", "--bits", bits],
-            &input,
-        );
-        let ends = ended.out.iter().filter(|byte| **byte == b'\n').count();
-        assert!(rt; ends == lines && ended.out.len() == length, "at {bits}");
-    }
-    Ok(())
+    ("1", 10, 1717),
+    ("2", 6, 1097),
+    ("4", 4, 787),
+    ("8", 2, 469),
+];
+
+/// Whether the tree of the three keys has so many lines and bytes.
+fn has_size<T: Threads + Wait + Sync>(
+    rt: &T,
+    alloc: Global,
+    bits: &str,
+    lines: usize,
+    length: usize,
+) -> bool {
+    let Ok(input) = joined(alloc, &MIXED) else {
+        return false;
+    };
+    let words = ["msthost", "tree", "--bits", bits];
+    let ended = run_with::<Toy, _>(rt, alloc, &words, &input);
+    line_count(&ended.out) == lines && ended.out.len() == length
 }
 
 #[test]
-fn nodes_without_keys(rt: HostRuntime) -> Result<(), Fail> {
-    let input = joined(rt.alloc(), &["a/p0 ", "E", "\na/q2 ", "E", "\na/r0 ", "E"])?;
-    let ended = run_with::<Toy, _>(&rt, rt.alloc(), &TREE, &input);
-    let mut lengths = Vec::new(rt.alloc());
-    for line in ended.out.split(|byte| *byte == b'\n') {
-        lengths.push(line.len())?;
+fn nodes_and_bytes_of_each_number_of_bits(rt: HostRuntime) {
+    for (bits, lines, length) in &SIZES {
+        assert!(rt;
+            has_size(&rt, rt.alloc(), bits, *lines, *length),
+            "at {bits}"
+        );
     }
-    // the root; a node of 144 bytes over two of 47, each over one of 64; and nothing after the last line's end
-    assert!(rt; lengths.as_slice() == [59, 348, 154, 188, 154, 188, 0].as_slice());
-    Ok(())
+}
+
+/// Whether the lines of a text have these lengths, each with an end behind it, and nothing stands after the last one's end.
+fn have_lengths(text: &[u8], lengths: &[usize]) -> bool {
+    let mut rest = text;
+    for length in lengths {
+        match rest.split_at_checked(*length) {
+            Some((line, [b'\n', behind @ ..])) if line_count(line) == 0 => rest = behind,
+            _ => return false,
+        }
+    }
+    rest.is_empty()
+}
+
+#[test]
+fn nodes_without_keys(rt: HostRuntime) {
+    let input = joined(rt.alloc(), &THREE_KEYS).expect(&rt, "a listing");
+    let ended = run_with::<Toy, _>(&rt, rt.alloc(), &TREE, &input);
+    // the root, and a node of 144 bytes over two of 47, each over one of 64
+    assert!(rt; have_lengths(&ended.out, &[59, 348, 154, 188, 154, 188]));
 }

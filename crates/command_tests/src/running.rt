@@ -1,10 +1,9 @@
 //! Running a command over memory, and what came of it.
 use cid::Digest;
 use commands::{run_words, run_words_with};
-use std::alloc::Global;
+use std::alloc::{AllocError, Global};
 use std::io::Read;
 use std::sync::Wait;
-use std::test::Fail;
 use std::thread::Threads;
 
 /// The command line of `tree`.
@@ -12,6 +11,9 @@ pub(crate) const TREE: [&str; 2] = ["msthost", "tree"];
 
 /// The text of the CID of the empty tree's node, which serves as the CID of a record too.
 pub(crate) const EMPTY: &str = "bafyreie5737gdxlw5i64vzichcalba3z2v5n6icifvx5xytvske7mr3hpm";
+
+/// Lines of three keys in their order, whose tree has five nodes where two zero bits are a layer.
+pub(crate) const THREE_KEYS: [&str; 6] = ["a/p0 ", "E", "\na/q2 ", "E", "\na/r0 ", "E"];
 
 /// How a command ended, and what it wrote.
 #[derive(Drop)]
@@ -76,8 +78,38 @@ pub(crate) fn run_with<D: Digest + Send + Sync, T: Threads + Wait + Sync>(
     Ended { status, out, err }
 }
 
+/// Whether a command on these texts, one after another, ends with this status, and writes this and nothing else.
+pub(crate) fn ends<T: Threads + Wait + Sync>(
+    rt: &T,
+    alloc: Global,
+    words: &[&str],
+    parts: &[&str],
+    status: u8,
+    out: &[u8],
+    err: &str,
+) -> bool {
+    match joined(alloc, parts) {
+        Ok(input) => run(rt, alloc, words, &input).is(status, out, err),
+        Err(_) => false,
+    }
+}
+
+/// Whether a command on these texts lists a tree with this root, and tells no fault.
+pub(crate) fn lists<T: Threads + Wait + Sync>(
+    rt: &T,
+    alloc: Global,
+    words: &[&str],
+    parts: &[&str],
+    root: &str,
+) -> bool {
+    match joined(alloc, parts) {
+        Ok(input) => run(rt, alloc, words, &input).lists(root),
+        Err(_) => false,
+    }
+}
+
 /// These texts one after another, with `E` for the text of the CID above.
-pub(crate) fn joined(alloc: Global, parts: &[&str]) -> Result<Vec<u8>, Fail> {
+pub(crate) fn joined(alloc: Global, parts: &[&str]) -> Result<Vec<u8>, AllocError> {
     let mut all = Vec::new(alloc);
     for part in parts {
         let part = if *part == "E" { EMPTY } else { *part };

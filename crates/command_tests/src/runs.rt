@@ -21,7 +21,7 @@ const GREATEST: &[&str] = &[
 ];
 
 /// Scripts, and how their reports begin.
-const ANSWERS: &[(&[&str], &str, &str)] = &[
+static ANSWERS: [(&[&str], &str, &str); 12] = [
     (GREATEST, "63 1023 get a/b", "1 none\nrepo 0 "),
     (RUN, "0 0 x put a/b a0", "1 refused 0 BadRev\n"),
     (RUN, "0 0 get put a/b a0", "1 refused 0 BadRev\n"),
@@ -50,7 +50,7 @@ const ANSWERS: &[(&[&str], &str, &str)] = &[
 
 #[test]
 fn answers(rt: HostRuntime) {
-    for (words, script, front) in ANSWERS {
+    for (words, script, front) in &ANSWERS {
         assert!(rt;
             run(&rt, rt.alloc(), words, script.as_bytes()).begins(front),
             "at {script:?}"
@@ -67,7 +67,7 @@ const ONE_REPOSITORY: &str = "\
 ";
 
 /// How the report begins for each order of the lines in which each worker's are in turn.
-const ORDERS: &[&str] = &[
+static ORDERS: [&str; 5] = [
     "1 ok 1\n2 ok 2\n3 refused 0 RevOrder\n4 ok 3\n",
     "1 ok 1\n2 ok 3\n3 ok 2\n4 ok 4\n",
     "1 ok 1\n2 refused 0 RevOrder\n3 ok 2\n4 ok 3\n",
@@ -78,7 +78,7 @@ const ORDERS: &[&str] = &[
 /// Whether such a report comes of the lines.
 fn are_in_some_order<T: Threads + Wait + Sync>(rt: &T, alloc: Global) -> bool {
     let ended = run(rt, alloc, TWO_WORKERS, ONE_REPOSITORY.as_bytes());
-    for front in ORDERS {
+    for front in &ORDERS {
         if ended.begins(front) {
             return true;
         }

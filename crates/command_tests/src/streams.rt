@@ -6,7 +6,6 @@ use commands::run_words;
 use std::alloc::Global;
 use std::io::{self, ErrorKind, Read, Write};
 use std::sync::Wait;
-use std::test::Fail;
 use std::thread::Threads;
 
 /// Gives these bytes, a few at a time, and fails at their end.
@@ -33,7 +32,7 @@ const LINES: &[u8] =
     b"a/b bafyreie5737gdxlw5i64vzichcalba3z2v5n6icifvx5xytvske7mr3hpm\nb/c bafyreie5737gdxlw5i64vzichcalba3z2v5n6icifvx5xytvske7mr3hpm\na/b\n";
 
 /// The commands, each with a short input and with one whose last line is faulty.
-const COMMANDS: [(&[&str], &[u8]); 6] = [
+static COMMANDS: [(&[&str], &[u8]); 6] = [
     (&TREE, LINES),
     (&["msthost", "car"], b"a/b a0\r\n\na/b a1616100\nx"),
     (&["msthost", "prove", "a/b"], b"a/b a0\r\n\na/b a1616100\nx"),
@@ -60,14 +59,23 @@ fn fails_after<T: Threads + Wait + Sync>(
     run_over(rt, alloc, words, &mut FailingReader { left, kind }).is(status, b"", told)
 }
 
+/// Whether it does so for each kind of failure.
+fn fails_each_way<T: Threads + Wait + Sync>(
+    rt: &T,
+    alloc: Global,
+    words: &[&str],
+    left: &[u8],
+) -> bool {
+    fails_after(rt, alloc, words, left, ErrorKind::Other)
+        && fails_after(rt, alloc, words, left, ErrorKind::OutOfMemory)
+}
+
 #[test]
 fn a_read_that_fails_at_any_byte(rt: HostRuntime) {
-    for (words, input) in COMMANDS {
+    for (words, input) in &COMMANDS {
         for end in 0..=input.len() {
-            for kind in [ErrorKind::Other, ErrorKind::OutOfMemory] {
-                let fails = fails_after(&rt, rt.alloc(), words, &input[..end], kind);
-                assert!(rt; fails, "of {words:?} after {end} bytes");
-            }
+            let fails = fails_each_way(&rt, rt.alloc(), words, &input[..end]);
+            assert!(rt; fails, "of {words:?} after {end} bytes");
         }
     }
 }
@@ -92,18 +100,28 @@ impl Read for InterruptedReader<'_> {
     }
 }
 
-#[test]
-fn a_read_that_is_interrupted(rt: HostRuntime) -> Result<(), Fail> {
-    let lines = joined(rt.alloc(), &["a/b ", "E", "\nb/c ", "E", "\n"])?;
-    let wanted = run(&rt, rt.alloc(), &TREE, &lines);
+/// Whether a tree of these lines has this root, and the same comes of them where each read is interrupted first.
+fn lists_all_the_same<T: Threads + Wait + Sync>(
+    rt: &T,
+    alloc: Global,
+    lines: &[u8],
+    root: &str,
+) -> bool {
+    let wanted = run(rt, alloc, &TREE, lines);
     let mut input = InterruptedReader {
-        left: &lines,
+        left: lines,
         is_interrupted: false,
     };
-    let ended = run_over(&rt, rt.alloc(), &TREE, &mut input);
+    let ended = run_over(rt, alloc, &TREE, &mut input);
+    wanted.lists(root) && ended.is(0, &wanted.out, "")
+}
+
+#[test]
+fn a_read_that_is_interrupted(rt: HostRuntime) {
+    let parts = ["a/b ", "E", "\nb/c ", "E", "\n"];
+    let lines = joined(rt.alloc(), &parts).expect(&rt, "a listing");
     let root = "bafyreih7eb3fragavwgi36466egdtd46zgb37qhjfatkoygoofir4t3mvq";
-    assert!(rt; wanted.lists(root) && ended.is(0, &wanted.out, ""));
-    Ok(())
+    assert!(rt; lists_all_the_same(&rt, rt.alloc(), &lines, root));
 }
 
 /// Takes a few bytes at a time and is interrupted now and then, has room for so many bytes, and may fail at its end.
@@ -168,60 +186,75 @@ fn run_into<T: Threads + Wait + Sync>(
     }
 }
 
-/// Whether a command writes all of its output, or just what the writer has room for.
+/// Whether a command that writes so many bytes writes all of them, or just what the writer has room for.
 fn writes_what_fits<T: Threads + Wait + Sync>(
     rt: &T,
     alloc: Global,
     words: &[&str],
     input: &[u8],
+    length: usize,
     room: usize,
 ) -> bool {
     let whole = run(rt, alloc, words, input);
     let ended = run_into(rt, alloc, words, input, narrow(alloc, room, true));
+    whole.out.len() == length && has_written(&whole, &ended, room)
+}
+
+/// Whether a command wrote all of its output, or just what there was room for.
+fn has_written(whole: &Ended, ended: &Ended, room: usize) -> bool {
     match whole.out.get(..room) {
         Some(front) if room < whole.out.len() => ended.is(4, front, "msthost: write failed\n"),
         _ => whole.status == 0 && ended.is(0, &whole.out, ""),
     }
 }
 
+/// Commands, their inputs, and how many bytes they write.
+static LENGTHS: [(&[&str], &[u8], usize); 6] = [
+    (&TREE, b"", 135),
+    (&["msthost", "car"], b"", 103),
+    (&["msthost", "car"], b"a/b a0", 337),
+    (&["msthost", "prove", "a/b"], b"a/b a0", 187),
+    (&["msthost", "verify", EMPTY, "a/b"], b"a2616580616cf6", 7),
+    (&["msthost", "run"], b"0 0 get a/b", 149),
+];
+
 #[test]
 fn a_writer_that_takes_little_or_fails(rt: HostRuntime) {
-    let cases: [(&[&str], &[u8], usize); 6] = [
-        (&TREE, b"", 135),
-        (&["msthost", "car"], b"", 103),
-        (&["msthost", "car"], b"a/b a0", 337),
-        (&["msthost", "prove", "a/b"], b"a/b a0", 187),
-        (&["msthost", "verify", EMPTY, "a/b"], b"a2616580616cf6", 7),
-        (&["msthost", "run"], b"0 0 get a/b", 149),
-    ];
-    for (words, input, length) in cases {
-        assert!(rt;
-            run(&rt, rt.alloc(), words, input).out.len() == length,
-            "of {words:?}"
-        );
-        for room in 0..=length {
-            let fits = writes_what_fits(&rt, rt.alloc(), words, input, room);
+    for (words, input, length) in &LENGTHS {
+        for room in 0..=*length {
+            let fits = writes_what_fits(&rt, rt.alloc(), words, input, *length, room);
             assert!(rt; fits, "of {words:?} at {room}");
         }
     }
 }
 
+/// Whether a command fails that can't flush what it has written, all of its output.
+fn fails_at_its_flush<T: Threads + Wait + Sync>(
+    rt: &T,
+    alloc: Global,
+    words: &[&str],
+    input: &[u8],
+) -> bool {
+    let whole = run(rt, alloc, words, input);
+    let ended = run_into(rt, alloc, words, input, narrow(alloc, 10000, false));
+    ended.is(4, &whole.out, "msthost: write failed\n")
+}
+
+/// Commands and their inputs.
+static FLUSHES: [(&[&str], &[u8]); 6] = [
+    (&TREE, b""),
+    (&["msthost", "--help"], b""),
+    (&["msthost", "car"], b""),
+    (&["msthost", "prove", "a/b"], b""),
+    (&["msthost", "verify", EMPTY, "a/b"], b"a2616580616cf6"),
+    (&["msthost", "run"], b"0 0 get a/b"),
+];
+
 #[test]
 fn a_flush_that_fails(rt: HostRuntime) {
-    let commands: [(&[&str], &[u8]); 6] = [
-        (&TREE, b""),
-        (&["msthost", "--help"], b""),
-        (&["msthost", "car"], b""),
-        (&["msthost", "prove", "a/b"], b""),
-        (&["msthost", "verify", EMPTY, "a/b"], b"a2616580616cf6"),
-        (&["msthost", "run"], b"0 0 get a/b"),
-    ];
-    for (words, input) in commands {
-        let whole = run(&rt, rt.alloc(), words, input);
-        let out = narrow(rt.alloc(), 10000, false);
-        let ended = run_into(&rt, rt.alloc(), words, input, out);
+    for (words, input) in &FLUSHES {
         assert!(rt;
-            ended.is(4, &whole.out, "msthost: write failed\n"),
+            fails_at_its_flush(&rt, rt.alloc(), words, input),
             "at {words:?}"
         );
     }

@@ -2,10 +2,13 @@
 use crate::running::{EMPTY, run};
 use bstr::ByteSlice;
 use commands::not_started;
+use std::alloc::Global;
 use std::io::{self, ErrorKind};
+use std::sync::Wait;
+use std::thread::Threads;
 
 /// Wrong command lines.
-const WRONG: &[&[&str]] = &[
+static WRONG: [&[&str]; 25] = [
     &[],
     &["msthost"],
     &["msthost", "trees"],
@@ -33,15 +36,16 @@ const WRONG: &[&[&str]] = &[
     &["msthost", "run", "--queue", "4294967297"],
 ];
 
+/// Whether a command line is refused with an error, and nothing is written.
+fn is_wrong<T: Threads + Wait + Sync>(rt: &T, alloc: Global, words: &[&str]) -> bool {
+    let ended = run(rt, alloc, words, b"a/b");
+    ended.status == 2 && ended.err.starts_with(b"error: ") && ended.out.is_empty()
+}
+
 #[test]
 fn wrong_command_lines(rt: HostRuntime) {
-    for words in WRONG {
-        let ended = run(&rt, rt.alloc(), words, b"a/b");
-        let told = ended.err.starts_with(b"error: ");
-        assert!(rt;
-            ended.status == 2 && told && ended.out.is_empty(),
-            "at {words:?}"
-        );
+    for words in &WRONG {
+        assert!(rt; is_wrong(&rt, rt.alloc(), words), "at {words:?}");
     }
 }
 
@@ -54,7 +58,7 @@ fn bits_out_of_range_are_named(rt: HostRuntime) {
 }
 
 /// Command lines that ask for help, and what it shows.
-const HELP: &[(&[&str], &str)] = &[
+static HELP: [(&[&str], &str); 15] = [
     (&["msthost", "--help"], "$ printf '' | msthost tree"),
     (&["msthost", "-h"], "$ printf '' | msthost tree"),
     (&["msthost", "tree", "--help"], "--bits <B>"),
@@ -105,13 +109,17 @@ const HELP: &[(&[&str], &str)] = &[
     ),
 ];
 
+/// Whether a command line shows this, tells no fault, and is done.
+fn shows<T: Threads + Wait + Sync>(rt: &T, alloc: Global, words: &[&str], shown: &str) -> bool {
+    let ended = run(rt, alloc, words, b"a/b");
+    ended.status == 0 && ended.out.as_slice().contains_str(shown.as_bytes()) && ended.err.is_empty()
+}
+
 #[test]
 fn help(rt: HostRuntime) {
-    for (words, shown) in HELP {
-        let ended = run(&rt, rt.alloc(), words, b"a/b");
-        let shows = ended.out.as_slice().contains_str(shown.as_bytes());
+    for (words, shown) in &HELP {
         assert!(rt;
-            ended.status == 0 && shows && ended.err.is_empty(),
+            shows(&rt, rt.alloc(), words, shown),
             "at {words:?} for {shown}"
         );
     }
@@ -123,21 +131,16 @@ fn version(rt: HostRuntime) {
     assert!(rt; ended.is(0, b"msthost 0.1.0\n", ""));
 }
 
+/// Whether a program that isn't started for an error of this kind ends with this status, and tells this.
+fn is_told(alloc: Global, kind: ErrorKind, status: u8, told: &str) -> bool {
+    let mut err = Vec::new(alloc);
+    not_started(&io::Error::from(kind), &mut err) == status && err.as_slice() == told.as_bytes()
+}
+
 #[test]
 fn programs_that_are_not_started(rt: HostRuntime) {
-    for (kind, status, told) in [
-        (ErrorKind::OutOfMemory, 3, "msthost: no memory\n"),
-        (
-            ErrorKind::InvalidData,
-            2,
-            "error: the arguments are not UTF-8\n",
-        ),
-    ] {
-        let mut err = Vec::new(rt.alloc());
-        let answered = not_started(&io::Error::from(kind), &mut err);
-        assert!(rt;
-            answered == status && err.as_slice() == told.as_bytes(),
-            "at {kind:?}"
-        );
-    }
+    let no_memory = "msthost: no memory\n";
+    let no_text = "error: the arguments are not UTF-8\n";
+    assert!(rt; is_told(rt.alloc(), ErrorKind::OutOfMemory, 3, no_memory));
+    assert!(rt; is_told(rt.alloc(), ErrorKind::InvalidData, 2, no_text));
 }

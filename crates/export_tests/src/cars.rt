@@ -7,7 +7,7 @@ use cid::digests::Toy;
 use cid::{Cid, Sha256};
 use export::{ExportFault, car};
 use repo::Core;
-use std::alloc::Global;
+use std::alloc::{AllocError, Global};
 use std::process::Abort;
 use store::Shard;
 
@@ -184,17 +184,12 @@ fn one_node_and_one_record_under_two_keys(rt: HostRuntime) {
 }
 
 /// The node that has the key `a/p0` alone, with its record.
-fn low_node(alloc: Global) -> Option<Vec<u8>> {
-    let record = Cid::of::<Toy>(ONE);
-    let mut bytes = Vec::new(alloc);
-    for part in [
-        b"\xa2\x61e\x81\xa4\x61kDa/p0\x61p\x00\x61t\xf6\x61v\xd8\x2a\x58\x25\x00".as_slice(),
-        record.as_bytes().as_slice(),
-        b"\x61l\xf6",
-    ] {
-        bytes.extend_from_slice(part).ok()?;
-    }
-    Some(bytes)
+fn low_node(alloc: Global) -> Result<Vec<u8>, AllocError> {
+    let front = b"\xa2\x61e\x81\xa4\x61kDa/p0\x61p\x00\x61t\xf6\x61v\xd8\x2a\x58\x25\x00";
+    let mut bytes = Vec::from_slice(alloc, front)?;
+    bytes.extend_from_slice(Cid::of::<Toy>(ONE).as_bytes())?;
+    bytes.extend_from_slice(b"\x61l\xf6")?;
+    Ok(bytes)
 }
 
 /// Five nodes, of which the one with the key `a/p0` is also the record of `a/q2`: it stands where the node does.

@@ -3,45 +3,55 @@
 
 ghost use Rattle.std.specs.Prelude.{◌≤◌};
 
+use crate::fixtures::{Proof, add};
 use cid::{Cid, Sha256};
 use export::{ProofFault, verify};
 use refusing::Refusing;
-use std::alloc::{Allocator, Global};
+use std::alloc::{AllocError, Allocator, Global};
+
+/// The block of the node without pairs and without a link.
+const LAST: &[u8] = b"\xa2\x61\x65\x80\x61\x6c\xf6";
 
 /// The block of the node without pairs and with this link.
-fn node_above<A: Allocator>(alloc: A, link: Option<Cid>) -> Option<Vec<u8, A>> {
-    let mut bytes = Vec::new(alloc);
-    bytes.extend_from_slice(b"\xa2\x61\x65\x80\x61\x6c").ok()?;
-    let Some(cid) = link else {
-        bytes.push(0xf6).ok()?;
-        return Some(bytes);
-    };
-    bytes.extend_from_slice(b"\xd8\x2a\x58\x25\x00").ok()?;
-    bytes.extend_from_slice(cid.as_bytes()).ok()?;
-    Some(bytes)
+fn node_above(link: &Cid) -> [u8; 47] {
+    let mut bytes = [0u8; 47];
+    bytes[..11].copy_from_slice(b"\xa2\x61\x65\x80\x61\x6c\xd8\x2a\x58\x25\x00");
+    bytes[11..].copy_from_slice(link.as_bytes());
+    bytes
 }
 
-/// So many nodes, the one without a link first.
-fn chain<A: Allocator + Copy>(alloc: A, count: usize) -> Option<Vec<Vec<u8, A>, A>> {
+/// So many nodes and one more, the one without a link first.
+fn chain<A: Allocator + Copy>(alloc: A, more: usize) -> Result<Proof<A>, AllocError> {
     let mut nodes = Vec::new(alloc);
-    let mut below = None;
-    for _ in 0..count {
-        let node = node_above(alloc, below)?;
-        below = Some(Cid::of::<Sha256>(&node));
-        nodes.push(node).ok()?;
+    add(alloc, &mut nodes, LAST)?;
+    let mut top = Cid::of::<Sha256>(LAST);
+    for _ in 0..more {
+        let node = node_above(&top);
+        top = Cid::of::<Sha256>(&node);
+        add(alloc, &mut nodes, &node)?;
     }
-    Some(nodes)
+    Ok(nodes)
+}
+
+/// Adds a node twice, and after each time another block.
+fn add_twice<A: Allocator + Copy>(
+    alloc: A,
+    blocks: &mut Proof<A>,
+    node: &[u8],
+) -> Result<(), AllocError> {
+    add(alloc, blocks, node)?;
+    add(alloc, blocks, b"other")?;
+    add(alloc, blocks, node)?;
+    add(alloc, blocks, b"\xa0")
 }
 
 /// Each node twice, and after each time another block.
-fn twice<A: Allocator + Copy>(alloc: A, nodes: &[Vec<u8, A>]) -> Option<Vec<Vec<u8, A>, A>> {
+fn twice<A: Allocator + Copy>(alloc: A, nodes: &[Vec<u8, A>]) -> Result<Proof<A>, AllocError> {
     let mut blocks = Vec::new(alloc);
     for node in nodes {
-        for bytes in [node.as_slice(), b"other", node.as_slice(), b"\xa0"] {
-            blocks.push(Vec::from_slice(alloc, bytes).ok()?).ok()?;
-        }
+        add_twice(alloc, &mut blocks, node)?;
     }
-    Some(blocks)
+    Ok(blocks)
 }
 
 /// What these blocks prove of the key `a` under the CID of the block at a place.
@@ -91,11 +101,11 @@ fn are_right<A: Allocator>(nodes: &[Vec<u8, A>], mixed: &[Vec<u8, A>]) -> bool {
 #[test]
 fn the_deepest_proof_and_deeper(rt: HostRuntime) {
     let heap: Refusing<Global> = Refusing::new(rt.alloc());
-    let mut nodes = chain(&heap, 130).expect(&rt, "a chain");
+    let mut nodes = chain(&heap, 129).expect(&rt, "a chain");
     let mixed = twice(&heap, &nodes).expect(&rt, "a chain among others");
     heap.refuse_from(1);
     let right = are_right(&nodes, &mixed);
     nodes.reverse();
-    assert!(rt; right && are_answered::<2, _>(&nodes, &[(1, ABSENT), (0, TOO_DEEP)]));
-    assert!(rt; heap.refused() == 0);
+    let reversed = are_answered::<2, _>(&nodes, &[(1, ABSENT), (0, TOO_DEEP)]);
+    assert!(rt; right && reversed && heap.refused() == 0);
 }

@@ -3,11 +3,12 @@
 ghost use Rattle.std.specs.Prelude.{◌≤◌};
 
 use batches::{Stamp, Write};
-use cid::Digest;
+use cid::{Block, Digest};
 use export::{Failed, Log, Out, ToMemory, car};
 use repo::Core;
 use std::alloc::{AllocError, Allocator, Global};
 use std::process::Abort;
+use std::sync::Arc;
 use store::{LentShard, Shard};
 
 /// A key and its record.
@@ -52,6 +53,16 @@ pub(crate) fn end<D: Digest, const B: u8, A: Allocator + Clone>(
     core.end(&mut LentShard::new(shard));
 }
 
+/// A put of this record.
+fn put_of<A: Allocator + Copy>(
+    alloc: A,
+    key: &[u8],
+    record: &[u8],
+) -> Result<Write<A>, AllocError> {
+    let key = Vec::from_slice(alloc, key)?;
+    Ok(Write::Put(key, Vec::from_slice(alloc, record)?))
+}
+
 /// Puts of these records.
 fn puts_of<A: Allocator + Copy>(
     alloc: A,
@@ -59,20 +70,16 @@ fn puts_of<A: Allocator + Copy>(
 ) -> Result<Vec<Write<A>, A>, AllocError> {
     let mut puts = Vec::new(alloc);
     for (key, record) in records {
-        puts.push(Write::Put(
-            Vec::from_slice(alloc, key)?,
-            Vec::from_slice(alloc, record)?,
-        ))?;
+        puts.push(put_of(alloc, key, record)?)?;
     }
     Ok(puts)
 }
 
 /// The stamp of every batch.
 fn stamp<A: Allocator + Copy>(alloc: A) -> Result<Stamp<A>, AllocError> {
-    Ok(Stamp {
-        did: Vec::from_slice(alloc, b"did:web:a.b")?,
-        rev: Vec::from_slice(alloc, b"3jzfcijpj2z2a")?,
-    })
+    let did = Vec::from_slice(alloc, b"did:web:a.b")?;
+    let rev = Vec::from_slice(alloc, b"3jzfcijpj2z2a")?;
+    Ok(Stamp { did, rev })
 }
 
 /// Whether a batch of these writes is accepted.
@@ -112,13 +119,35 @@ pub(crate) fn file_of<D: Digest, const B: u8, A: Allocator + Clone>(
     requires { 1 ≤ B }
 {
     let mut out = ToMemory::new(global);
-    let length = car(alloc, core, &mut out).ok()?;
-    let file = out.into_bytes();
-    if length == file.len() as u64 {
-        Some(file)
-    } else {
-        None
+    match car(alloc, core, &mut out) {
+        Ok(length) if length == out.bytes().len() as u64 => Some(out.into_bytes()),
+        _ => None,
     }
+}
+
+/// The blocks of a proof.
+pub(crate) type Proof<A = Global> = Vec<Vec<u8, A>, A>;
+
+/// Adds a block of these bytes.
+pub(crate) fn add<A: Allocator + Copy>(
+    alloc: A,
+    blocks: &mut Proof<A>,
+    bytes: &[u8],
+) -> Result<(), AllocError> {
+    blocks.push(Vec::from_slice(alloc, bytes)?)?;
+    Ok(())
+}
+
+/// Copies of the nodes that a core gives for a proof.
+pub(crate) fn copies_of<D: Digest, A: Allocator + Copy>(
+    alloc: A,
+    nodes: &[Arc<Block<D, A>, A>],
+) -> Result<Proof<A>, AllocError> {
+    let mut proof = Vec::new(alloc);
+    for node in nodes {
+        add(alloc, &mut proof, node.bytes())?;
+    }
+    Ok(proof)
 }
 
 /// An output that compares what it takes with what it is to be, takes so many bytes at most in a call and in all, and fails

@@ -2,27 +2,24 @@
 
 ghost use Rattle.std.specs.Prelude.{◌≤◌};
 
-use crate::fixtures::{EMPTY_NODE, FIVE_NODES, accepts, end, opened, takes};
+use crate::fixtures::{EMPTY_NODE, FIVE_NODES, Proof, accepts, copies_of, end, opened, takes};
 use batches::Write;
 use cid::digests::Toy;
 use cid::{Cid, Digest, Sha256};
 use export::{ProofFault, prove, verify};
 use repo::Core;
-use std::alloc::Global;
+use std::alloc::{AllocError, Global};
 use store::Shard;
 
-/// The blocks of a proof.
-type Proof = Vec<Vec<u8>>;
-
 /// The proof that a core gives of a key.
-fn proof_of<D: Digest, const B: u8>(alloc: Global, core: &Core<D, B>, key: &[u8]) -> Option<Proof>
+fn proof_of<D: Digest, const B: u8>(
+    alloc: Global,
+    core: &Core<D, B>,
+    key: &[u8],
+) -> Result<Proof, AllocError>
     requires { 1 ≤ B }
 {
-    let mut proof = Vec::new(alloc);
-    for node in &prove(alloc, core, key).ok()? {
-        proof.push(Vec::from_slice(alloc, node.bytes()).ok()?).ok()?;
-    }
-    Some(proof)
+    copies_of(alloc, &prove(alloc, core, key)?)
 }
 
 /// Whether a core proves that a key has this value, or none.
@@ -35,22 +32,35 @@ fn is_proved<D: Digest, const B: u8>(
     requires { 1 ≤ B }
 {
     match proof_of(alloc, core, key) {
-        Some(proof) => verify::<D, B, Vec<u8>>(&core.root(), &proof, key) == Ok(value),
-        None => false,
+        Ok(proof) => verify::<D, B, Vec<u8>>(&core.root(), &proof, key) == Ok(value),
+        Err(_) => false,
     }
 }
 
-/// Whether the proof of a key is one node of so many bytes, which shows it and its neighbours.
+/// Whether a proof shows this value of a key, or none.
+fn shows(root: &Cid, proof: &Proof, key: &[u8], value: Option<Cid>) -> bool {
+    verify::<Sha256, 2, Vec<u8>>(root, proof, key) == Ok(value)
+}
+
+/// Whether a proof is one node of so many bytes, which shows `a/b` and its neighbours.
+fn is_node_of(root: &Cid, proof: &Proof, size: usize, value: Option<Cid>) -> bool {
+    match proof.as_slice() {
+        [node] => {
+            node.len() == size
+                && shows(root, proof, b"a/a", None)
+                && shows(root, proof, b"a/b", value)
+                && shows(root, proof, b"a/c", None)
+        }
+        _ => false,
+    }
+}
+
+/// Whether the proof of `a/b` is such a node.
 fn is_one_node(alloc: Global, core: &Core<Sha256, 2>, size: usize, value: Option<Cid>) -> bool {
-    let Some(proof) = proof_of(alloc, core, b"a/b") else {
-        return false;
-    };
-    let root = core.root();
-    proof.len() == 1
-        && proof.iter().all(|node| node.len() == size)
-        && verify::<Sha256, 2, Vec<u8>>(&root, &proof, b"a/a") == Ok(None)
-        && verify::<Sha256, 2, Vec<u8>>(&root, &proof, b"a/b") == Ok(value)
-        && verify::<Sha256, 2, Vec<u8>>(&root, &proof, b"a/c") == Ok(None)
+    match proof_of(alloc, core, b"a/b") {
+        Ok(proof) => is_node_of(&core.root(), &proof, size, value),
+        Err(_) => false,
+    }
 }
 
 #[test]
@@ -64,44 +74,69 @@ fn no_record_and_one(rt: HostRuntime) {
     assert!(rt; none && taken && one);
 }
 
-/// The key of a number, with this behind it, and the record of that number.
-fn pair_of(alloc: Global, number: u16, behind: &str) -> Option<(Vec<u8>, Vec<u8>)> {
-    let key = format!(in alloc; "k/{number:03}{behind}")
-        .ok()?
-        .into_bytes();
+/// The key of a number, with this behind it.
+fn key_of(alloc: Global, number: u16, behind: &str) -> Result<Vec<u8>, AllocError> {
+    Ok(format!(in alloc; "k/{number:03}{behind}")?.into_bytes())
+}
+
+/// The record of a number.
+fn record_of(number: u16) -> [u8; 6] {
     let [high, low] = number.to_be_bytes();
-    let record = Vec::from_slice(alloc, &[0xa1, 0x61, b'n', 0x42, high, low]).ok()?;
-    Some((key, record))
+    [0xa1, 0x61, b'n', 0x42, high, low]
+}
+
+/// The put of a number's record.
+fn put(alloc: Global, number: u16) -> Result<Write, AllocError> {
+    let key = key_of(alloc, number, "")?;
+    Ok(Write::Put(key, Vec::from_slice(alloc, &record_of(number))?))
 }
 
 /// The puts of the first so many numbers.
-fn puts(alloc: Global, count: u16) -> Option<Vec<Write>> {
+fn puts(alloc: Global, count: u16) -> Result<Vec<Write>, AllocError> {
     let mut writes = Vec::new(alloc);
     for number in 0..count {
-        let (key, record) = pair_of(alloc, number, "")?;
-        writes.push(Write::Put(key, record)).ok()?;
+        writes.push(put(alloc, number)?)?;
     }
-    Some(writes)
+    Ok(writes)
 }
 
 /// Whether a core takes these puts.
 fn is_filled(alloc: Global, shard: &mut Shard<Toy>, core: &mut Core<Toy, 2>, count: u16) -> bool {
     match puts(alloc, count) {
-        Some(writes) => accepts(alloc, shard, core, &writes),
-        None => false,
+        Ok(writes) => accepts(alloc, shard, core, &writes),
+        Err(_) => false,
+    }
+}
+
+/// Whether the key of a number, with this behind it, is proved to have this value, or none.
+fn is_key_proved(
+    alloc: Global,
+    core: &Core<Toy, 2>,
+    number: u16,
+    behind: &str,
+    value: Option<Cid>,
+) -> bool {
+    match key_of(alloc, number, behind) {
+        Ok(key) => is_proved(alloc, core, &key, value),
+        Err(_) => false,
     }
 }
 
 /// Whether the record of a number is proved, and that a key right behind has none.
 fn is_number_proved(alloc: Global, core: &Core<Toy, 2>, number: u16) -> bool {
-    let Some((key, record)) = pair_of(alloc, number, "") else {
-        return false;
-    };
-    let Some((absent, _)) = pair_of(alloc, number, "x") else {
-        return false;
-    };
-    is_proved(alloc, core, &key, Some(Cid::of::<Toy>(&record)))
-        && is_proved(alloc, core, &absent, None)
+    let record = Cid::of::<Toy>(&record_of(number));
+    is_key_proved(alloc, core, number, "", Some(record))
+        && is_key_proved(alloc, core, number, "x", None)
+}
+
+/// Whether this is so for the first so many numbers.
+fn are_numbers_proved(alloc: Global, core: &Core<Toy, 2>, count: u16) -> bool {
+    for number in 0..count {
+        if !is_number_proved(alloc, core, number) {
+            return false;
+        }
+    }
+    true
 }
 
 #[test]
@@ -109,10 +144,9 @@ fn five_hundred_records_and_as_many_absent_keys(rt: HostRuntime) {
     let mut shard = Shard::new(rt.alloc(), 3000);
     let mut core = opened(&rt, rt.alloc(), &mut shard);
     let filled = is_filled(rt.alloc(), &mut shard, &mut core, 500);
-    for number in 0..500u16 {
-        assert!(rt; filled && is_number_proved(rt.alloc(), &core, number));
-    }
+    let right = are_numbers_proved(rt.alloc(), &core, 500);
     end(&mut shard, core);
+    assert!(rt; filled && right);
 }
 
 /// Whether each key of five nodes is proved, and one beside them that has no record.
@@ -169,69 +203,108 @@ fn lacks_the_bit(
     is_right
 }
 
-/// Whether it does for each bit of each byte of this node.
-fn lacks_each_bit(root: &Cid, proof: &mut Proof, key: &[u8], place: usize, size: usize) -> bool {
-    for at in 0..size {
-        for bit in [1u8, 2, 4, 8, 16, 32, 64, 128] {
-            if !lacks_the_bit(root, proof, key, place, at, bit) {
-                return false;
-            }
+/// The value of each bit of a byte.
+const BITS: [u8; 8] = [1, 2, 4, 8, 16, 32, 64, 128];
+
+/// Whether it does for each bit of this byte.
+fn lacks_each_bit_of(root: &Cid, proof: &mut Proof, key: &[u8], place: usize, at: usize) -> bool {
+    for bit in &BITS {
+        if !lacks_the_bit(root, proof, key, place, at, *bit) {
+            return false;
         }
     }
     true
 }
 
-/// A proof without one of its nodes.
-fn without(alloc: Global, proof: &Proof, place: usize) -> Option<Proof> {
-    let mut others = Vec::new(alloc);
-    for (at, node) in proof.iter().enumerate() {
-        if at != place {
-            others.push(Vec::from_slice(alloc, node).ok()?).ok()?;
-        }
-    }
-    Some(others)
-}
-
-/// Whether it lacks one where this node is taken away.
-fn lacks_the_node(alloc: Global, root: &Cid, proof: &Proof, key: &[u8], place: usize) -> bool {
-    match without(alloc, proof, place) {
-        Some(others) => lacks(root, &others, key),
-        None => false,
+/// How many bytes this node of a proof has.
+fn size_of(proof: &Proof, place: usize) -> usize {
+    match proof.get(place) {
+        Some(node) => node.len(),
+        None => 0,
     }
 }
 
-/// The key of a number and its proof.
-fn key_with_proof(alloc: Global, core: &Core<Toy, 2>, number: u16) -> Option<(Vec<u8>, Proof)> {
-    let (key, _) = pair_of(alloc, number, "")?;
-    let proof = proof_of(alloc, core, &key)?;
-    Some((key, proof))
-}
-
-/// Whether the proof of a number's key lacks a node without any one of its nodes.
-fn needs_each_node(alloc: Global, core: &Core<Toy, 2>, number: u16) -> bool {
-    let Some((key, proof)) = key_with_proof(alloc, core, number) else {
-        return false;
-    };
-    for place in 0..proof.len() {
-        if !lacks_the_node(alloc, &core.root(), &proof, &key, place) {
+/// Whether it does for each bit of each byte of this node.
+fn lacks_each_bit(root: &Cid, proof: &mut Proof, key: &[u8], place: usize) -> bool {
+    for at in 0..size_of(proof, place) {
+        if !lacks_each_bit_of(root, proof, key, place, at) {
             return false;
         }
     }
-    !proof.is_empty()
+    true
 }
 
-/// Whether it lacks one with any one bit changed.
-fn needs_each_bit(alloc: Global, core: &Core<Toy, 2>, number: u16) -> bool {
-    let Some((key, mut proof)) = key_with_proof(alloc, core, number) else {
-        return false;
-    };
+/// Whether it does for each bit of each of its nodes, which are more than one.
+fn lacks_any_bit(root: &Cid, proof: &mut Proof, key: &[u8]) -> bool {
     for place in 0..proof.len() {
-        let size = proof.get(place).map_or(0, |node| node.len());
-        if !lacks_each_bit(&core.root(), &mut proof, &key, place, size) {
+        if !lacks_each_bit(root, proof, key, place) {
             return false;
         }
     }
     proof.len() > 1
+}
+
+/// Whether a proof that a core gives of a key lacks a node where this one is taken away.
+fn lacks_the_node(alloc: Global, core: &Core<Toy, 2>, key: &[u8], place: usize) -> bool {
+    match proof_of(alloc, core, key) {
+        Ok(mut proof) if place < proof.len() => {
+            proof.remove(place);
+            lacks(&core.root(), &proof, key)
+        }
+        _ => false,
+    }
+}
+
+/// Whether it does for each of so many nodes, of which there are some.
+fn lacks_any_node(alloc: Global, core: &Core<Toy, 2>, key: &[u8], count: usize) -> bool {
+    for place in 0..count {
+        if !lacks_the_node(alloc, core, key, place) {
+            return false;
+        }
+    }
+    0 < count
+}
+
+/// How many nodes the proof of a key has.
+fn node_count(alloc: Global, core: &Core<Toy, 2>, key: &[u8]) -> usize {
+    match prove(alloc, core, key) {
+        Ok(nodes) => nodes.len(),
+        Err(_) => 0,
+    }
+}
+
+/// Whether the proof of a number's key lacks a node without any one of its nodes.
+fn needs_each_node(alloc: Global, core: &Core<Toy, 2>, number: u16) -> bool {
+    match key_of(alloc, number, "") {
+        Ok(key) => lacks_any_node(alloc, core, &key, node_count(alloc, core, &key)),
+        Err(_) => false,
+    }
+}
+
+/// Whether those of the first so many numbers do.
+fn need_each_node(alloc: Global, core: &Core<Toy, 2>, count: u16) -> bool {
+    for number in 0..count {
+        if !needs_each_node(alloc, core, number) {
+            return false;
+        }
+    }
+    true
+}
+
+/// Whether the proof of a key lacks a node with any one bit changed.
+fn needs_each_bit_of(alloc: Global, core: &Core<Toy, 2>, key: &[u8]) -> bool {
+    match proof_of(alloc, core, key) {
+        Ok(mut proof) => lacks_any_bit(&core.root(), &mut proof, key),
+        Err(_) => false,
+    }
+}
+
+/// Whether that of a number's key does.
+fn needs_each_bit(alloc: Global, core: &Core<Toy, 2>, number: u16) -> bool {
+    match key_of(alloc, number, "") {
+        Ok(key) => needs_each_bit_of(alloc, core, &key),
+        Err(_) => false,
+    }
 }
 
 #[test]
@@ -239,9 +312,8 @@ fn proofs_without_a_node_or_with_a_bit_changed(rt: HostRuntime) {
     let mut shard = Shard::new(rt.alloc(), 100);
     let mut core = opened(&rt, rt.alloc(), &mut shard);
     let filled = is_filled(rt.alloc(), &mut shard, &mut core, 20);
-    for number in 0..20u16 {
-        assert!(rt; filled && needs_each_node(rt.alloc(), &core, number));
-    }
-    assert!(rt; needs_each_bit(rt.alloc(), &core, 10) && needs_each_bit(rt.alloc(), &core, 11));
+    let nodes = need_each_node(rt.alloc(), &core, 20);
+    let bits = needs_each_bit(rt.alloc(), &core, 10) && needs_each_bit(rt.alloc(), &core, 11);
     end(&mut shard, core);
+    assert!(rt; filled && nodes && bits);
 }

@@ -1,72 +1,132 @@
 //! Exports and proofs where memory is refused.
 
-use crate::fixtures::{FIVE_NODES, end, file_of, opened, takes};
+use crate::fixtures::{FIVE_NODES, Proof, copies_of, end, file_of, opened, takes};
 use cid::digests::Toy;
 use cid::{Block, Cid};
 use export::{ExportFault, ProofFault, ToMemory, car, prove, verify};
 use refusing::Refusing;
 use repo::Core;
-use std::alloc::Global;
+use std::alloc::{Allocator, Global};
 use std::sync::Arc;
 use store::Shard;
 
 /// Memory that refuses requests.
 type Heap<'h> = &'h Refusing<Global>;
 
-/// Why there was no CAR into this memory, or that it was right; `None` where what was taken is no beginning of the file.
-fn taken<'h>(
-    heap: Heap<'h>,
-    core: &Core<Toy, 2, Heap<'h>>,
-    file: &[u8],
-) -> Option<Option<ExportFault>> {
+/// How a call ended for which a request for memory may have been refused.
+#[derive(Clone, Copy, PartialEq, Eq)]
+enum Ended {
+    /// It gave what it should.
+    Done,
+    /// It ended for want of memory of its own.
+    NoMemory,
+    /// It ended as the output failed.
+    DeviceFault,
+    Wrong,
+}
+
+/// How a CAR into this memory ended. What was taken is a beginning of the file.
+fn car_end<'h>(heap: Heap<'h>, core: &Core<Toy, 2, Heap<'h>>, file: &[u8]) -> Ended {
     let mut out = ToMemory::new(heap);
-    match car(heap, core, &mut out) {
-        Ok(868) if out.bytes() == file => Some(None),
-        Err(fault) if file.starts_with(out.bytes()) => Some(Some(fault)),
-        _ => None,
+    let answer = car(heap, core, &mut out);
+    if !file.starts_with(out.bytes()) {
+        return Ended::Wrong;
+    }
+    match answer {
+        Ok(868) if out.bytes().len() == file.len() => Ended::Done,
+        Err(ExportFault::NoMemory) => Ended::NoMemory,
+        Err(ExportFault::DeviceFault) => Ended::DeviceFault,
+        Ok(_) => Ended::Wrong,
     }
 }
 
-/// Whether a CAR ended with both faults where each of its requests was refused in turn, before it came to its end. Each time
-/// all memory was given back.
-fn is_taken_at_last<'h>(heap: Heap<'h>, core: &Core<Toy, 2, Heap<'h>>, file: &[u8]) -> bool {
+/// How it ended where this request was refused and all memory was given back.
+fn refused_car_end<'h>(
+    heap: Heap<'h>,
+    core: &Core<Toy, 2, Heap<'h>>,
+    file: &[u8],
+    request: u64,
+) -> Ended {
     let live = heap.live();
+    heap.refuse(request);
+    let ended = car_end(heap, core, file);
+    heap.refuse(0);
+    if heap.live() == live {
+        ended
+    } else {
+        Ended::Wrong
+    }
+}
+
+/// Whether a CAR ended with both faults where each of its requests was refused in turn, before it came to its end.
+fn is_taken_at_last<'h>(heap: Heap<'h>, core: &Core<Toy, 2, Heap<'h>>, file: &[u8]) -> bool {
     let mut had_faults = false;
     let mut had_refusals = false;
     for request in 1..200u64 {
-        heap.refuse(request);
-        let answer = taken(heap, core, file);
-        heap.refuse(0);
-        if heap.live() != live {
-            return false;
-        }
-        match answer {
-            Some(None) => return had_faults && had_refusals,
-            Some(Some(ExportFault::DeviceFault)) => had_faults = true,
-            Some(Some(ExportFault::NoMemory)) => had_refusals = true,
-            None => return false,
+        match refused_car_end(heap, core, file, request) {
+            Ended::Done => return had_faults && had_refusals,
+            Ended::DeviceFault => had_faults = true,
+            Ended::NoMemory => had_refusals = true,
+            Ended::Wrong => return false,
         }
     }
     false
 }
 
-/// What the nodes of a proof show, with all memory refused; `None` where there is none for the copies, or where a request
-/// was refused all the same.
-fn shown<'h>(
+/// What a proof shows of a key.
+fn shown<A: Allocator>(
+    root: &Cid,
+    proof: &[Vec<u8, A>],
+    key: &[u8],
+) -> Result<Option<Cid>, ProofFault> {
+    verify::<Toy, 1, Vec<u8, A>>(root, proof, key)
+}
+
+/// Whether a proof shows this value with all memory refused, and no request was.
+fn shows_without_memory<'h>(
+    heap: Heap<'h>,
+    root: &Cid,
+    proof: &Proof<Heap<'h>>,
+    key: &[u8],
+    value: Cid,
+) -> bool {
+    let refused = heap.refused();
+    heap.refuse_from(1);
+    let answer = shown(root, proof, key);
+    heap.refuse(0);
+    answer == Ok(Some(value)) && heap.refused() == refused
+}
+
+/// Whether the nodes of a proof are more than four, and show this value.
+fn are_right<'h>(
     heap: Heap<'h>,
     root: &Cid,
     nodes: &[Arc<Block<Toy, Heap<'h>>, Heap<'h>>],
     key: &[u8],
-) -> Option<Result<Option<Cid>, ProofFault>> {
-    let mut proof = Vec::new(heap);
-    for node in nodes {
-        proof.push(Vec::from_slice(heap, node.bytes()).ok()?).ok()?;
+    value: Cid,
+) -> bool {
+    match copies_of(heap, nodes) {
+        Ok(proof) => nodes.len() > 4 && shows_without_memory(heap, root, &proof, key, value),
+        Err(_) => false,
     }
-    let refused = heap.refused();
-    heap.refuse_from(1);
-    let answer = verify::<Toy, 1, Vec<u8, Heap<'h>>>(root, &proof, key);
+}
+
+/// How a proof ended of whose requests this one was refused.
+fn proof_end<'h>(
+    heap: Heap<'h>,
+    core: &Core<Toy, 1, Heap<'h>>,
+    key: &[u8],
+    value: Cid,
+    request: u64,
+) -> Ended {
+    heap.refuse(request);
+    let proof = prove(heap, core, key);
     heap.refuse(0);
-    (heap.refused() == refused).then_some(answer)
+    match &proof {
+        Ok(nodes) if are_right(heap, &core.root(), nodes, key, value) => Ended::Done,
+        Ok(_) => Ended::Wrong,
+        Err(_) => Ended::NoMemory,
+    }
 }
 
 /// How many of its requests a proof was refused for, one in turn, until there was one that shows this value. Each time all
@@ -79,15 +139,14 @@ fn refusals<'h>(
 ) -> Option<u64> {
     let live = heap.live();
     for request in 1..20u64 {
-        heap.refuse(request);
-        let proof = prove(heap, core, key);
-        heap.refuse(0);
-        if let Ok(nodes) = proof {
-            let answer = shown(heap, &core.root(), &nodes, key)?;
-            return (nodes.len() > 4 && answer == Ok(Some(value))).then_some(request - 1);
-        }
+        let ended = proof_end(heap, core, key, value, request);
         if heap.live() != live {
             return None;
+        }
+        match ended {
+            Ended::Done => return Some(request - 1),
+            Ended::NoMemory => {}
+            _ => return None,
         }
     }
     None

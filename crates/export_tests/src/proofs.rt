@@ -1,10 +1,11 @@
 //! What given blocks prove, row by row, with all memory refused.
 
+use crate::fixtures::{Proof, add};
 use cid::{Cid, Sha256};
 use export::{ProofFault, verify};
 use node::NodeFault;
 use refusing::Refusing;
-use std::alloc::Global;
+use std::alloc::{AllocError, Allocator};
 
 /// The block of the node without pairs.
 const EMPTY: &[u8] = b"\xa2\x61e\x80\x61l\xf6";
@@ -28,7 +29,7 @@ type Row = (
     Result<Option<&'static [u8]>, ProofFault>,
 );
 
-const ROWS: [Row; 11] = [
+static ROWS: [Row; 11] = [
     (EMPTY, &[EMPTY], b"a/b", Ok(None)),
     (EMPTY, &[EMPTY], &LONGEST, Ok(None)),
     (EMPTY, &[b"other", EMPTY, EMPTY], b"a/b", Ok(None)),
@@ -48,28 +49,19 @@ const ROWS: [Row; 11] = [
 ];
 
 /// Copies of some blocks.
-fn copied<'h>(
-    heap: &'h Refusing<Global>,
-    blocks: &[&[u8]],
-) -> Option<Vec<Vec<u8, &'h Refusing<Global>>, &'h Refusing<Global>>> {
-    let mut copies = Vec::new(heap);
+fn copied<A: Allocator + Copy>(alloc: A, blocks: &[&[u8]]) -> Result<Proof<A>, AllocError> {
+    let mut copies = Vec::new(alloc);
     for block in blocks {
-        copies.push(Vec::from_slice(heap, block).ok()?).ok()?;
+        add(alloc, &mut copies, block)?;
     }
-    Some(copies)
+    Ok(copies)
 }
 
-/// Whether a row is answered so, with all memory refused.
-fn is_answered(heap: &Refusing<Global>, row: &Row) -> bool {
-    let (root, blocks, key, wanted) = row;
-    let Some(given) = copied(heap, blocks) else {
-        return false;
-    };
+/// Whether a row is answered so by these copies of its blocks.
+fn is_answered<A: Allocator>(given: &[Vec<u8, A>], row: &Row) -> bool {
+    let (root, _, key, wanted) = row;
     let root = Cid::of::<Sha256>(root);
-    heap.refuse_from(1);
-    let answer = verify::<Sha256, 2, Vec<u8, &Refusing<Global>>>(&root, &given, key);
-    heap.refuse(0);
-    match (answer, wanted) {
+    match (verify::<Sha256, 2, Vec<u8, A>>(&root, given, key), wanted) {
         (Ok(Some(cid)), Ok(Some(record))) => cid == Cid::of::<Sha256>(record),
         (Ok(None), Ok(None)) => true,
         (Err(fault), Err(other)) => fault == *other,
@@ -77,10 +69,31 @@ fn is_answered(heap: &Refusing<Global>, row: &Row) -> bool {
     }
 }
 
+/// Whether it is with all memory refused.
+fn is_answered_without_memory<A: Allocator>(heap: &Refusing<A>, row: &Row) -> bool {
+    match copied(heap, row.1) {
+        Ok(given) => {
+            heap.refuse_from(1);
+            let is_right = is_answered(&given, row);
+            heap.refuse(0);
+            is_right
+        }
+        Err(_) => false,
+    }
+}
+
+/// Whether all rows are, and no request is refused.
+fn are_answered_without_memory<A: Allocator>(heap: &Refusing<A>) -> bool {
+    for row in &ROWS {
+        if !is_answered_without_memory(heap, row) || heap.refused() != 0 {
+            return false;
+        }
+    }
+    true
+}
+
 #[test]
 fn proofs_of_no_key_and_of_one(rt: HostRuntime) {
     let heap = Refusing::new(rt.alloc());
-    for row in &ROWS {
-        assert!(rt; is_answered(&heap, row) && heap.refused() == 0);
-    }
+    assert!(rt; are_answered_without_memory(&heap));
 }

@@ -1,19 +1,19 @@
 //! CAR files and proofs of a host's repositories.
 
-ghost use Rattle.std.specs.Prelude.{◌≡◌};
+ghost use Rattle.closing.specs.Ending.{IsEndedAt};
 
 use crate::seated::{Alone, close_one, open_one};
-use cid::Cid;
 use cid::digests::Toy;
+use cid::{Block, Cid};
+use closing::{Closed, Ended};
 use export::{ExportFault, ToMemory, car, verify};
 use host::{CarFault, Host, ProveFault, Writer};
-use notices::Notice;
 use refusing::Refusing;
 use repo::Core;
 use repo_fixtures::batch::{ONE, Step, TWO, stamped};
-use std::alloc::Global;
+use std::alloc::{AllocError, Global};
 use std::process::Abort;
-use std::sync::Wait;
+use std::sync::{Arc, Wait};
 
 /// The DAG-CBOR bytes of the map of "a" to 3.
 const THREE: &[u8] = b"\xa1\x61a\x03";
@@ -25,25 +25,24 @@ const FIVE_NODES: &[Step<'static>] = &[
     Step::Put(b"a/r0", THREE),
 ];
 
-/// Puts these records into repository 1.
-fn puts<R: Wait>(rt: &R, alloc: Global, writer: &mut Writer<'_, Toy, 2>) -> Option<Notice>
-    ensures { writer.new.host ≡ writer.old.host }
+/// Puts these records into repository 1; answers the writer's end, and the root that is then told.
+fn put_all<R: Wait + Abort>(rt: &R, alloc: Global, mut writer: Writer<'_, Toy, 2>) -> (Ended, Cid)
+    ensures { IsEndedAt writer.entry.host.queue.queue_id writer.entry.host.repos result.0 }
 {
-    let Ok(batch) = stamped(alloc, b"did:web:a.b", b"3jzfcijpj2z2a", FIVE_NODES) else {
-        return None;
+    let batch = stamped(alloc, b"did:web:a.b", b"3jzfcijpj2z2a", FIVE_NODES).expect(rt, "a batch");
+    let root = match writer.apply(rt, alloc, 1, &batch.stamp, &batch.writes) {
+        Ok(notice) => notice.root,
+        Err(_) => panic!(rt; "no notice"),
     };
-    writer.apply(rt, alloc, 1, &batch.stamp, &batch.writes).ok()
+    (writer.end(), root)
 }
 
 /// The CAR of a host's repository, where it is answered with its length.
 fn car_of<R: Wait>(rt: &R, alloc: Global, host: &Host<Toy, 2>, repo: usize) -> Option<Vec<u8>> {
     let mut out = ToMemory::new(alloc);
-    let length = host.car(rt, alloc, repo, &mut out).ok()?;
-    let file = out.into_bytes();
-    if length == file.len() as u64 {
-        Some(file)
-    } else {
-        None
+    match host.car(rt, alloc, repo, &mut out) {
+        Ok(length) if length == out.bytes().len() as u64 => Some(out.into_bytes()),
+        _ => None,
     }
 }
 
@@ -53,7 +52,34 @@ fn is_car_of(alloc: Global, core: &Core<Toy, 2>, file: &[u8]) -> bool {
     car(alloc, core, &mut out).is_ok() && out.bytes() == file
 }
 
-/// Whether repository 1 proves, to whoever knows this root, that the key has this record or none.
+/// The bytes of a proof's nodes.
+fn bytes_of<'a>(alloc: Global, nodes: &'a [Arc<Block<Toy>>]) -> Result<Vec<&'a [u8]>, AllocError> {
+    let mut proof = Vec::new(alloc);
+    for node in nodes {
+        proof.push(node.bytes())?;
+    }
+    Ok(proof)
+}
+
+/// Whether a proof's nodes show, to whoever knows this root, that the key has this record or none.
+fn show(
+    alloc: Global,
+    nodes: &[Arc<Block<Toy>>],
+    root: &Cid,
+    key: &[u8],
+    record: Option<&[u8]>,
+) -> bool {
+    let value = match record {
+        Some(bytes) => Some(Cid::of::<Toy>(bytes)),
+        None => None,
+    };
+    match bytes_of(alloc, nodes) {
+        Ok(proof) => verify::<Toy, 2, &[u8]>(root, &proof, key) == Ok(value),
+        Err(_) => false,
+    }
+}
+
+/// Whether repository 1 proves this.
 fn proves<R: Wait>(
     rt: &R,
     alloc: Global,
@@ -62,29 +88,25 @@ fn proves<R: Wait>(
     key: &[u8],
     record: Option<&[u8]>,
 ) -> bool {
-    let Ok(nodes) = host.prove(rt, alloc, 1, key) else {
-        return false;
-    };
-    let mut proof = Vec::new(alloc);
-    for node in &nodes {
-        if proof.push(node.bytes()).is_err() {
-            return false;
-        }
+    match host.prove(rt, alloc, 1, key) {
+        Ok(nodes) => show(alloc, &nodes, root, key, record),
+        Err(_) => false,
     }
-    verify::<Toy, 2, &[u8]>(root, &proof, key) == Ok(record.map(Cid::of::<Toy>))
 }
+
+/// Keys, and their records or none.
+static ROWS: [(&[u8], Option<&[u8]>); 5] = [
+    (b"a/p0", Some(ONE)),
+    (b"a/q2", Some(TWO)),
+    (b"a/r0", Some(THREE)),
+    (b"a/a", None),
+    (b"a/z", None),
+];
 
 /// Whether it proves each of three records, and that two keys have none.
 fn proves_all<R: Wait>(rt: &R, alloc: Global, host: &Host<Toy, 2>, root: &Cid) -> bool {
-    let rows: [(&[u8], Option<&[u8]>); 5] = [
-        (b"a/p0", Some(ONE)),
-        (b"a/q2", Some(TWO)),
-        (b"a/r0", Some(THREE)),
-        (b"a/a", None),
-        (b"a/z", None),
-    ];
-    for (key, record) in rows {
-        if !proves(rt, alloc, host, root, key, record) {
+    for (key, record) in &ROWS {
+        if !proves(rt, alloc, host, root, key, *record) {
             return false;
         }
     }
@@ -141,23 +163,53 @@ fn is_cut_where_memory_is_refused<R: Wait>(
     false
 }
 
+/// The files of both repositories: without records, and of five nodes.
+#[derive(Drop)]
+struct Files {
+    empty: Vec<u8>,
+    full: Vec<u8>,
+}
+
+/// The files of a host's repositories.
+fn files_of<R: Wait>(rt: &R, alloc: Global, host: &Host<Toy, 2>) -> Option<Files> {
+    let empty = car_of(rt, alloc, host, 0)?;
+    let full = car_of(rt, alloc, host, 1)?;
+    Some(Files { empty, full })
+}
+
+/// Whether a host that is open proves the records, and its files are of the right lengths and cut where memory is refused.
+fn is_right<R: Wait>(
+    rt: &R,
+    alloc: Global,
+    host: &Host<Toy, 2>,
+    root: &Cid,
+    files: &Files,
+) -> bool {
+    proves_all(rt, alloc, host, root)
+        && none_is_there(rt, alloc, host)
+        && is_cut_where_memory_is_refused(rt, alloc, host, &files.full)
+        && (files.empty.len(), files.full.len()) == (103, 868)
+}
+
+/// Whether the files are those of the cores once the host has closed.
+fn has_files(alloc: Global, closed: &Closed<Toy, 2>, files: &Files) -> bool {
+    match closed.cores() {
+        [first, second] => {
+            is_car_of(alloc, first, &files.empty) && is_car_of(alloc, second, &files.full)
+        }
+        _ => false,
+    }
+}
+
 /// Whether a repository of five nodes is exported as its core is once the host has closed, and proves its records.
 fn is_exported<R: Wait + Abort>(rt: &R, alloc: Global) -> bool {
     let opened = open_one::<2, R>(rt, alloc, 2, 9);
     let Alone { host, seat, feed } = opened;
-    let mut writer = host.writer(seat);
-    let root = puts(rt, alloc, &mut writer).expect(rt, "a notice").root;
-    let ended = writer.end();
-    let empty = car_of(rt, alloc, &host, 0).expect(rt, "a file");
-    let file = car_of(rt, alloc, &host, 1).expect(rt, "a file");
-    let is_proved = proves_all(rt, alloc, &host, &root) && none_is_there(rt, alloc, &host);
-    let are_cut = is_cut_where_memory_is_refused(rt, alloc, &host, &file);
+    let (ended, root) = put_all(rt, alloc, host.writer(seat));
+    let files = files_of(rt, alloc, &host).expect(rt, "files");
+    let is_right = is_right(rt, alloc, &host, &root, &files);
     let closed = close_one(rt, alloc, host, ended, feed);
-    let are_cars = match closed.cores() {
-        [first, second] => is_car_of(alloc, first, &empty) && is_car_of(alloc, second, &file),
-        _ => false,
-    };
-    is_proved && are_cut && are_cars && empty.len() == 103 && file.len() == 868
+    is_right && has_files(alloc, &closed, &files)
 }
 
 #[test]

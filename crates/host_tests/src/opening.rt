@@ -34,7 +34,7 @@ fn opening_of<R: Wait>(rt: &R, alloc: Global, limits: Limits) -> Opening {
 }
 
 /// Limits in the order of their fields, and how a host of them is opened.
-const ROWS: [([u32; 5], Opening); 13] = [
+static ROWS: [([u32; 5], Opening); 13] = [
     ([0, 0, 0, 0, 0], Opening::BadRepos),
     ([1025, 1, 1, 1, 1], Opening::BadRepos),
     ([1, 0, 0, 0, 0], Opening::BadWriters),
@@ -50,19 +50,21 @@ const ROWS: [([u32; 5], Opening); 13] = [
     ([1024, 1, 1, 1, 1], Opening::Opened),
 ];
 
+/// How a host of a row's limits is opened.
+fn opening_of_row<R: Wait>(rt: &R, alloc: Global, row: &[u32; 5]) -> Opening {
+    let [repos, writers, queue, blocks, writes] = *row;
+    let given = Limits {
+        shard_blocks: blocks as usize,
+        repo_writes: writes as usize,
+        ..limits(repos, writers, queue as usize)
+    };
+    opening_of(rt, alloc, given)
+}
+
 #[test]
 fn limits_are_tested_in_their_order(rt: HostRuntime) {
-    let alloc = rt.alloc();
-    for ([repos, writers, queue, blocks, writes], wanted) in ROWS {
-        let given = Limits {
-            shard_blocks: blocks as usize,
-            repo_writes: writes as usize,
-            ..limits(repos, writers, queue as usize)
-        };
-        assert!(rt;
-            opening_of(&rt, alloc, given) == wanted,
-            "{repos} {writers} {queue} {blocks} {writes}"
-        );
+    for (row, wanted) in &ROWS {
+        assert!(rt; opening_of_row(&rt, rt.alloc(), row) == *wanted, "{row:?}");
     }
 }
 

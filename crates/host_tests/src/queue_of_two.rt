@@ -70,15 +70,13 @@ fn take_all<R: Wait>(
     let are_told = tells_three(rt, alloc, &mut writer);
     let first = popped(rt, &mut taker);
     let left = writer.flush(rt);
-    let others = [
-        popped(rt, &mut taker),
-        popped(rt, &mut taker),
-        popped(rt, &mut taker),
-    ];
+    let second = popped(rt, &mut taker);
+    let third = popped(rt, &mut taker);
+    let none = popped(rt, &mut taker);
     Left {
         ended: writer.end(),
         feed: taker.end(),
-        is_right: are_told && first == 1 && left == 0 && others == [2, 3, 0],
+        is_right: are_told && first == 1 && left == 0 && second == 2 && third == 3 && none == 0,
     }
 }
 

@@ -29,7 +29,7 @@ fn none_is_there<R: Wait>(
 }
 
 /// A repository's number, a batch's steps, and how the batch is answered.
-const ROWS: [(usize, &[Step<'static>], Answer); 6] = [
+static ROWS: [(usize, &[Step<'static>], Answer); 6] = [
     (1, &[Step::Put(b"a/b0", EMPTY)], Answer::NoSuchRepository),
     (0, &[], Answer::Refused(0)),
     (0, &[Step::Delete(b"a/b0")], Answer::Refused(0)),
@@ -46,6 +46,18 @@ const ROWS: [(usize, &[Step<'static>], Answer); 6] = [
     ),
 ];
 
+/// Whether a writer is answered each row so.
+fn are_answered<R: Wait>(rt: &R, alloc: Global, writer: &mut Writer<'_, Toy, 2>) -> bool {
+    let mut turn = 0u16;
+    for (repo, steps, wanted) in &ROWS {
+        turn = turn.saturating_add(1);
+        if apply_steps(rt, alloc, writer, *repo, turn, steps) != *wanted {
+            return false;
+        }
+    }
+    true
+}
+
 /// Whether each row is answered so, and nothing that was refused is there.
 fn are_refused<R: Wait + Abort>(rt: &R, alloc: Global) -> bool {
     let opened = open_one::<2, R>(rt, alloc, 1, 9);
@@ -55,14 +67,9 @@ fn are_refused<R: Wait + Abort>(rt: &R, alloc: Global) -> bool {
         feed: _,
     } = opened;
     let mut writer = host.writer(seat);
-    let mut turn = 0u16;
-    for (repo, steps, wanted) in ROWS {
-        turn = turn.saturating_add(1);
-        if apply_steps(rt, alloc, &mut writer, repo, turn, steps) != wanted {
-            return false;
-        }
-    }
-    finds(rt, alloc, &mut writer, 0, None) && none_is_there(rt, alloc, &mut writer, 1)
+    are_answered(rt, alloc, &mut writer)
+        && finds(rt, alloc, &mut writer, 0, None)
+        && none_is_there(rt, alloc, &mut writer, 1)
 }
 
 #[test]

@@ -18,13 +18,13 @@ use std::sync::Wait;
 type Row = (usize, u16, Step<'static>, u64);
 
 /// The same record put into both repositories by the same stamp.
-const BOTH: [Row; 2] = [
+static BOTH: [Row; 2] = [
     (0, 1, Step::Put(b"a/b0", EMPTY), 1),
     (1, 1, Step::Put(b"a/b0", EMPTY), 1),
 ];
 
 /// The same, and then the second repository deletes it.
-const ONE_DELETES: [Row; 3] = [
+static ONE_DELETES: [Row; 3] = [
     (0, 1, Step::Put(b"a/b0", EMPTY), 1),
     (1, 1, Step::Put(b"a/b0", EMPTY), 1),
     (1, 2, Step::Delete(b"a/b0"), 2),
@@ -49,12 +49,42 @@ fn done<const B: u8, R: Wait>(
     (writer.end(), are_accepted)
 }
 
-/// A host of two repositories and one writer closes after these rows.
-fn closed_after<const B: u8, R: Wait + Abort>(
+/// How many blocks a host has that closed, each with which count, and of which record.
+#[derive(Clone, Copy)]
+struct Counts<'a> {
+    blocks: usize,
+    count: u64,
+    record: &'a [u8],
+}
+
+/// Whether there are so many counts, and each is this one.
+fn are_counts(counts: &[(Cid, u64)], blocks: usize, count: u64) -> bool {
+    for (_, of_one) in counts {
+        if *of_one != count {
+            return false;
+        }
+    }
+    counts.len() == blocks
+}
+
+/// Whether a host that closed has these counts, and that of the record by itself.
+fn has_counts<const B: u8>(alloc: Global, closed: &Closed<Toy, B>, wanted: Counts<'_>) -> bool {
+    match closed.counts(alloc) {
+        Ok(counts) => {
+            are_counts(&counts, wanted.blocks, wanted.count)
+                && closed.count(&Cid::of::<Toy>(wanted.record)) == wanted.count
+        }
+        Err(_) => false,
+    }
+}
+
+/// Whether a host of two repositories and one writer accepts these rows, and then has these counts.
+fn leave<const B: u8, R: Wait + Abort>(
     rt: &R,
     alloc: Global,
     rows: &[Row],
-) -> Option<Closed<Toy, B>>
+    wanted: Counts<'_>,
+) -> bool
     requires least { 1 ≤ B }
     requires most { B ≤ 8 }
 {
@@ -62,42 +92,36 @@ fn closed_after<const B: u8, R: Wait + Abort>(
     let Alone { host, seat, feed } = opened;
     let (ended, are_accepted) = done(rt, alloc, host.writer(seat), rows);
     let closed = close_one(rt, alloc, host, ended, feed);
-    if are_accepted { Some(closed) } else { None }
+    are_accepted && has_counts(alloc, &closed, wanted)
 }
 
-/// Whether a host that closed has so many blocks, each with this count, and this count of the record.
-fn has_counts<const B: u8>(
-    alloc: Global,
-    closed: Option<Closed<Toy, B>>,
-    blocks: usize,
-    count: u64,
-    record: (&[u8], u64),
-) -> bool {
-    let Some(closed) = closed else {
-        return false;
-    };
-    let Ok(counts) = closed.counts(alloc) else {
-        return false;
-    };
-    counts.len() == blocks
-        && counts.iter().all(|(_, of_one)| *of_one == count)
-        && closed.count(&Cid::of::<Toy>(record.0)) == record.1
-}
+/// The counts after no row, and after each list of rows.
+const OF_NONE: Counts<'static> = Counts {
+    blocks: 1,
+    count: 2,
+    record: EMPTY_NODE,
+};
+
+const OF_BOTH: Counts<'static> = Counts {
+    blocks: 3,
+    count: 2,
+    record: EMPTY,
+};
+
+const OF_ONE: Counts<'static> = Counts {
+    blocks: 5,
+    count: 1,
+    record: EMPTY,
+};
 
 /// Whether the counts are right in trees of so many zero bits a layer.
 fn are_right<const B: u8, R: Wait + Abort>(rt: &R, alloc: Global) -> bool
     requires least { 1 ≤ B }
     requires most { B ≤ 8 }
 {
-    has_counts::<B>(alloc, closed_after(rt, alloc, &[]), 1, 2, (EMPTY_NODE, 2))
-        && has_counts::<B>(alloc, closed_after(rt, alloc, &BOTH), 3, 2, (EMPTY, 2))
-        && has_counts::<B>(
-            alloc,
-            closed_after(rt, alloc, &ONE_DELETES),
-            5,
-            1,
-            (EMPTY, 1),
-        )
+    leave::<B, R>(rt, alloc, &[], OF_NONE)
+        && leave::<B, R>(rt, alloc, &BOTH, OF_BOTH)
+        && leave::<B, R>(rt, alloc, &ONE_DELETES, OF_ONE)
 }
 
 #[test]

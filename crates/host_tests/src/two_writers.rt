@@ -50,6 +50,14 @@ fn puts<R: Wait>(
     apply_steps(rt, alloc, writer, repo, turn, &[Step::Put(b"a/b0", record)])
 }
 
+/// Whether these are the key "a/b0" with this record and no others.
+fn are_one(pairs: &[(Vec<u8>, Cid)], record: &[u8]) -> bool {
+    match pairs {
+        [(key, cid)] => key.as_slice() == b"a/b0".as_slice() && *cid == Cid::of::<Toy>(record),
+        _ => false,
+    }
+}
+
 /// Whether the writer lists this record alone in a repository.
 fn lists<R: Wait>(
     rt: &R,
@@ -61,10 +69,7 @@ fn lists<R: Wait>(
     ensures { writer.new.host ≡ writer.old.host }
 {
     match writer.list(rt, alloc, repo, b"", 9) {
-        Ok(pairs) => match pairs.as_slice() {
-            [(key, cid)] => key.as_slice() == b"a/b0".as_slice() && *cid == Cid::of::<Toy>(record),
-            _ => false,
-        },
+        Ok(pairs) => are_one(&pairs, record),
         Err(_) => false,
     }
 }
@@ -108,7 +113,8 @@ fn keep_what_is_given_back<R: Wait>(
     let last = puts(rt, alloc, one, 1, 2, EMPTY);
     by_one == Answer::Told(1, 1)
         && by_zero == Answer::Told(2, 2)
-        && (kept, kept_then) == (1, 0)
+        && kept == 1
+        && kept_then == 0
         && taken == Some((0, 1, 0, 1))
         && last == Answer::Told(2, 2)
 }
@@ -154,6 +160,13 @@ fn next_left<R: Wait>(rt: &R, closed: &mut Closed<Toy, 2>) -> Option<Words> {
     }
 }
 
+/// Whether the notices that were left are the first one of writer 1 and the second one of writer 0, and no others.
+fn are_left<R: Wait>(rt: &R, closed: &mut Closed<Toy, 2>) -> bool {
+    next_left(rt, closed) == Some((1, 1, 1, 1))
+        && next_left(rt, closed) == Some((0, 2, 0, 2))
+        && next_left(rt, closed).is_none()
+}
+
 /// Whether writer 1 kept this notice alone, and writer 0 none.
 fn has_kept(closed: &Closed<Toy, 2>, words: Words) -> bool {
     match closed.kept(1) {
@@ -186,15 +199,8 @@ fn is_right<R: Wait + Abort>(rt: &R, alloc: Global) -> bool {
         is_right,
     } = left;
     let mut closed = close_two(rt, alloc, host, first, second, feed);
-    let left = [
-        next_left(rt, &mut closed),
-        next_left(rt, &mut closed),
-        next_left(rt, &mut closed),
-    ];
-    left == [Some((1, 1, 1, 1)), Some((0, 2, 0, 2)), None]
-        && has_kept(&closed, (1, 2, 1, 2))
-        && is_right
-        && are_numbered
+    let are_left = are_left(rt, &mut closed);
+    are_left && has_kept(&closed, (1, 2, 1, 2)) && is_right && are_numbered
 }
 
 #[test]

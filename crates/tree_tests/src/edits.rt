@@ -1,6 +1,8 @@
 //! Look-ups, walks and edits over blocks that are written here, and what no clause says.
 
-use crate::fixtures::{Blocks, add, add_node, cid_at, five_nodes, node, value, without};
+use crate::fixtures::{
+    Blocks, add, add_node, cid_at, five_nodes, five_nodes_without, node, root_of_five_nodes, value,
+};
 use cid::digests::{Clash, Toy};
 use cid::{Block, Cid, Digest};
 use edit::{BlockMap, Edit, EditFault, delete, get, is_key, put, walk};
@@ -24,51 +26,46 @@ fn is_looked_up(
     found == value && map.reads() == reads
 }
 
+/// Whether look-ups give the values of two keys, and none of a third one, in so many reads.
+fn are_looked_up(alloc: Global, blocks: &[Arc<Block<Toy>>], root: Cid) -> bool {
+    is_looked_up(alloc, blocks, root, b"a/q2", Some(value()), 1)
+        && is_looked_up(alloc, blocks, root, b"a/p0", Some(value()), 3)
+        && is_looked_up(alloc, blocks, root, b"a/p1", None, 3)
+}
+
 #[test]
 fn look_ups(rt: HostRuntime) {
     let blocks = five_nodes(rt.alloc()).expect(&rt, "the five nodes");
     let root = cid_at(&blocks, Some(4)).expect(&rt, "the top");
-    let cases: [(&[u8], Option<Cid>, u64); 3] = [
-        (b"a/q2", Some(value()), 1),
-        (b"a/p0", Some(value()), 3),
-        (b"a/p1", None, 3),
-    ];
-    for (key, value, reads) in cases {
-        assert!(rt; is_looked_up(rt.alloc(), &blocks, root, key, value, reads));
-    }
+    assert!(rt; are_looked_up(rt.alloc(), &blocks, root));
 }
 
 /// Whether a look-up of `a/p0` without the block at this place gives none, in so many reads.
-fn is_missed(
-    alloc: Global,
-    blocks: &[Arc<Block<Toy>>],
-    root: Cid,
-    missing: usize,
-    reads: u64,
-) -> bool {
-    let Ok(others) = without(alloc, blocks, missing) else {
-        return false;
-    };
-    is_looked_up(alloc, &others, root, b"a/p0", None, reads)
+fn is_missed(alloc: Global, root: Cid, missing: usize, reads: u64) -> bool {
+    match five_nodes_without(alloc, missing) {
+        Ok(blocks) => is_looked_up(alloc, &blocks, root, b"a/p0", None, reads),
+        Err(_) => false,
+    }
 }
 
 #[test]
 fn look_ups_where_a_block_is_missing(rt: HostRuntime) {
-    let blocks = five_nodes(rt.alloc()).expect(&rt, "the five nodes");
-    let root = cid_at(&blocks, Some(4)).expect(&rt, "the top");
+    let root = root_of_five_nodes(rt.alloc()).expect(&rt, "the top");
     // without the node of `a/p0`, and without the top
-    assert!(rt; is_missed(rt.alloc(), &blocks, root, 0, 3));
-    assert!(rt; is_missed(rt.alloc(), &blocks, root, 4, 1));
+    assert!(rt; is_missed(rt.alloc(), root, 0, 3) && is_missed(rt.alloc(), root, 4, 1));
 }
 
 /// Whether the pairs have these keys in their order, and each the value of every key.
 fn have_keys(pairs: &[(Vec<u8>, Cid)], keys: &[&[u8]]) -> bool {
-    for (pair, key) in pairs.iter().zip(keys) {
-        if pair.0.as_slice() != *key || pair.1 != value() {
-            return false;
+    let mut place = 0usize;
+    for key in keys {
+        match pairs.get(place) {
+            Some((found, cid)) if found.as_slice() == *key && *cid == value() => {}
+            _ => return false,
         }
+        place = place.saturating_add(1);
     }
-    pairs.len() == keys.len()
+    place == pairs.len()
 }
 
 /// Whether a walk gives these keys, in so many reads.
@@ -90,48 +87,51 @@ fn is_walked(
     }
 }
 
+/// From which key on a walk goes, how many pairs it gives at most, their keys, and how many reads that takes.
+const WALKS: [(&[u8], usize, &[&[u8]], u64); 9] = [
+    (b"a/q", 2, &[b"a/q2", b"a/r0"], 5),
+    (b"a/q", 1, &[b"a/q2"], 3),
+    (b"a/q2", 1, &[b"a/q2"], 1),
+    (b"a/q2", 2, &[b"a/q2", b"a/r0"], 3),
+    (b"a/q3", 2, &[b"a/r0"], 3),
+    (b"", 9, &[b"a/p0", b"a/q2", b"a/r0"], 5),
+    (b"", 1, &[b"a/p0"], 3),
+    (b"b", 9, &[], 3),
+    (b"", 0, &[], 0),
+];
+
+/// Whether each walk goes so.
+fn are_walked(alloc: Global, blocks: &[Arc<Block<Toy>>], root: Cid) -> bool {
+    for (from, limit, keys, reads) in &WALKS {
+        if !is_walked(alloc, blocks, root, from, *limit, keys, *reads) {
+            return false;
+        }
+    }
+    true
+}
+
 #[test]
 fn walks(rt: HostRuntime) {
     let blocks = five_nodes(rt.alloc()).expect(&rt, "the five nodes");
     let root = cid_at(&blocks, Some(4)).expect(&rt, "the top");
-    let cases: [(&[u8], usize, &[&[u8]], u64); 9] = [
-        (b"a/q", 2, &[b"a/q2", b"a/r0"], 5),
-        (b"a/q", 1, &[b"a/q2"], 3),
-        (b"a/q2", 1, &[b"a/q2"], 1),
-        (b"a/q2", 2, &[b"a/q2", b"a/r0"], 3),
-        (b"a/q3", 2, &[b"a/r0"], 3),
-        (b"", 9, &[b"a/p0", b"a/q2", b"a/r0"], 5),
-        (b"", 1, &[b"a/p0"], 3),
-        (b"b", 9, &[], 3),
-        (b"", 0, &[], 0),
-    ];
-    for (from, limit, keys, reads) in cases {
-        assert!(rt; is_walked(rt.alloc(), &blocks, root, from, limit, keys, reads));
-    }
+    assert!(rt; are_walked(rt.alloc(), &blocks, root));
 }
 
 /// Whether a walk of all keys without the block at this place gives these keys, in so many reads.
-fn is_walked_without(
-    alloc: Global,
-    blocks: &[Arc<Block<Toy>>],
-    root: Cid,
-    missing: usize,
-    keys: &[&[u8]],
-    reads: u64,
-) -> bool {
-    let Ok(others) = without(alloc, blocks, missing) else {
-        return false;
-    };
-    is_walked(alloc, &others, root, b"", 9, keys, reads)
+fn is_walked_without(alloc: Global, root: Cid, missing: usize, keys: &[&[u8]], reads: u64) -> bool {
+    match five_nodes_without(alloc, missing) {
+        Ok(blocks) => is_walked(alloc, &blocks, root, b"", 9, keys, reads),
+        Err(_) => false,
+    }
 }
 
 #[test]
 fn walks_where_a_block_is_missing(rt: HostRuntime) {
-    let blocks = five_nodes(rt.alloc()).expect(&rt, "the five nodes");
-    let root = cid_at(&blocks, Some(4)).expect(&rt, "the top");
+    let root = root_of_five_nodes(rt.alloc()).expect(&rt, "the top");
     // without the node of `a/p0`, and without the node of `a/r0`
-    assert!(rt; is_walked_without(rt.alloc(), &blocks, root, 0, &[], 3));
-    assert!(rt; is_walked_without(rt.alloc(), &blocks, root, 2, &[b"a/p0", b"a/q2"], 5));
+    let first = is_walked_without(rt.alloc(), root, 0, &[], 3);
+    let last = is_walked_without(rt.alloc(), root, 2, &[b"a/p0", b"a/q2"], 5);
+    assert!(rt; first && last);
 }
 
 /// How an edit ended.
@@ -221,16 +221,31 @@ fn a_block_that_is_no_node(rt: HostRuntime) {
     assert!(rt; find_no_node(rt.alloc(), &blocks, root, other));
 }
 
-/// Whether a look-up, a walk, a put and a delete end after 129 reads each, by the only block, a node that links to itself.
-fn end_after_all_layers(alloc: Global, map: &mut BlockMap<'_, Clash>, root: Cid) -> bool {
+/// Whether a look-up and a walk end after 129 reads each, by the only block, a node that links to itself.
+fn readers_end_after_all_layers(alloc: Global, map: &mut BlockMap<'_, Clash>, root: Cid) -> bool {
     get::<Clash, 2, _, _>(map, root, b"a/q2").is_none()
         && map.reads() == 129
         && walk_count(alloc, map, root) == Some(0)
         && map.reads() == 258
-        && put_end(alloc, map, root, b"a/q2") == Some(Ended::Clash)
+}
+
+/// Whether a put and a delete, which come then, do so too.
+fn edits_end_after_all_layers(alloc: Global, map: &mut BlockMap<'_, Clash>, root: Cid) -> bool {
+    put_end(alloc, map, root, b"a/q2") == Some(Ended::Clash)
         && map.reads() == 387
         && delete_end(alloc, map, root, b"a/q2") == Ended::NoSuchKey
         && map.reads() == 516
+}
+
+/// Whether all four do.
+fn end_after_all_layers(alloc: Global, blocks: &[Arc<Block<Clash>>], root: Cid) -> bool {
+    match BlockMap::new(alloc, blocks) {
+        Ok(mut map) => {
+            readers_end_after_all_layers(alloc, &mut map, root)
+                && edits_end_after_all_layers(alloc, &mut map, root)
+        }
+        Err(_) => false,
+    }
 }
 
 /// A node that links to itself: under this digest all blocks have one CID.
@@ -244,8 +259,7 @@ fn self_linked(alloc: Global, root: Cid) -> Result<Blocks<Clash>, AllocError> {
 fn a_node_that_links_to_itself(rt: HostRuntime) {
     let root = Cid::of::<Clash>(b"");
     let blocks = self_linked(rt.alloc(), root).expect(&rt, "a block");
-    let mut map = BlockMap::new(rt.alloc(), &blocks).expect(&rt, "a map");
-    assert!(rt; end_after_all_layers(rt.alloc(), &mut map, root));
+    assert!(rt; end_after_all_layers(rt.alloc(), &blocks, root));
 }
 
 /// Memory that refuses requests, as blocks are kept in it.
@@ -312,16 +326,29 @@ fn is_done_at_last<'h>(
     0 < heap.refused() && heap.refused() < last
 }
 
-/// The same over the tree of five nodes, which is kept in such memory.
+/// The same over the tree of these five nodes, which are kept in such memory.
+fn is_done_over<'h>(
+    heap: Heap<'h>,
+    blocks: &[Arc<Block<Toy, Heap<'h>>, Heap<'h>>],
+    work: Work,
+    last: u64,
+) -> bool {
+    let Some(root) = cid_at(blocks, Some(4)) else {
+        return false;
+    };
+    match BlockMap::new(heap, blocks) {
+        Ok(mut map) => is_done_at_last(heap, &mut map, root, work, last),
+        Err(_) => false,
+    }
+}
+
+/// The same over a tree of five nodes that is made for it.
 fn is_done_without_memory(alloc: Global, work: Work, last: u64) -> bool {
     let heap = Refusing::new(alloc);
-    let Ok(blocks) = five_nodes(&heap) else {
-        return false;
-    };
-    let (Some(root), Ok(mut map)) = (cid_at(&blocks, Some(4)), BlockMap::new(&heap, &blocks)) else {
-        return false;
-    };
-    is_done_at_last(&heap, &mut map, root, work, last)
+    match five_nodes(&heap) {
+        Ok(blocks) => is_done_over(&heap, &blocks, work, last),
+        Err(_) => false,
+    }
 }
 
 #[test]

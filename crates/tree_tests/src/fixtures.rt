@@ -42,7 +42,10 @@ pub(crate) fn cid_at<D: Digest, A: Allocator>(
     blocks: &[Arc<Block<D, A>, A>],
     place: Option<usize>,
 ) -> Option<Cid> {
-    Some(blocks.get(place?)?.cid())
+    match blocks.get(place?) {
+        Some(block) => Some(block.cid()),
+        None => None,
+    }
 }
 
 /// Adds a node of this key, or of none where it is empty, with the nodes before and after it by their places.
@@ -57,34 +60,43 @@ pub(crate) fn add_node<D: Digest, A: Allocator + Copy>(
     add(alloc, blocks, bytes)
 }
 
+/// The place of the node before a key, the key, and the place of the node after it.
+type Placed = (Option<usize>, &'static [u8], Option<usize>);
+
+const FIVE_NODES: [Placed; 5] = [
+    (None, b"a/p0", None),
+    (Some(0), b"", None),
+    (None, b"a/r0", None),
+    (Some(2), b"", None),
+    (Some(1), b"a/q2", Some(3)),
+];
+
 /// The tree of the keys `a/p0`, `a/q2` and `a/r0` with two zero bits a layer: five nodes, the top last. The first two
 /// are the left subtree's, from its key up.
 pub(crate) fn five_nodes<A: Allocator + Copy>(alloc: A) -> Result<Blocks<Toy, A>, AllocError> {
     let mut blocks = Vec::new(alloc);
-    let nodes: [(Option<usize>, &[u8], Option<usize>); 5] = [
-        (None, b"a/p0", None),
-        (Some(0), b"", None),
-        (None, b"a/r0", None),
-        (Some(2), b"", None),
-        (Some(1), b"a/q2", Some(3)),
-    ];
-    for (before, key, after) in nodes {
-        add_node(alloc, &mut blocks, before, key, after)?;
+    for (before, key, after) in &FIVE_NODES {
+        add_node(alloc, &mut blocks, *before, key, *after)?;
     }
     Ok(blocks)
 }
 
-/// The blocks but for the one at a place.
-pub(crate) fn without<D: Digest>(
-    alloc: Global,
-    blocks: &[Arc<Block<D>>],
-    missing: usize,
-) -> Result<Blocks<D>, AllocError> {
-    let mut others = Vec::new(alloc);
-    for (place, block) in blocks.iter().enumerate() {
-        if place != missing {
-            others.push(Arc::try_clone(block)?)?;
-        }
+/// The CID of its top.
+pub(crate) fn root_of_five_nodes(alloc: Global) -> Option<Cid> {
+    match five_nodes(alloc) {
+        Ok(blocks) => cid_at(&blocks, Some(4)),
+        Err(_) => None,
     }
-    Ok(others)
+}
+
+/// The same tree without the block at a place.
+pub(crate) fn five_nodes_without<A: Allocator + Copy>(
+    alloc: A,
+    missing: usize,
+) -> Result<Blocks<Toy, A>, AllocError> {
+    let mut blocks = five_nodes(alloc)?;
+    if missing < blocks.len() {
+        blocks.remove(missing);
+    }
+    Ok(blocks)
 }

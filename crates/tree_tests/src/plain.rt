@@ -1,68 +1,95 @@
 //! The tree by its definition, plain and slow, for tests to compare with: the pairs of each layer cut the others into
-//! groups, and each group is copied.
+//! groups, and each group has a node of the layer below.
 
 use cid::{Block, Cid, CidRef, Digest, layer};
 use node::NodeWriter;
 use std::alloc::{AllocError, Global};
 
-pub type Pairs = Vec<(Vec<u8>, Cid)>;
+/// A key and its value.
+pub type Pair = (Vec<u8>, Cid);
 
 /// The blocks of the node of layer `n`, base 4, its own first.
-#[cycle(plain)]
-pub fn node<D: Digest>(alloc: Global, n: u16, pairs: &Pairs) -> Result<Vec<Block<D>>, AllocError> {
+pub fn nodes<D: Digest>(
+    alloc: Global,
+    n: u16,
+    pairs: &[Pair],
+) -> Result<Vec<Block<D>>, AllocError> {
     let mut blocks = Vec::new(alloc);
-    let mut group = Vec::new(alloc);
-    let mut places = Vec::new(alloc);
-    let mut links = Vec::new(alloc);
-    for (place, (key, value)) in pairs.iter().enumerate() {
-        if layer::<D, 2>(key) == n {
-            links.push(part::<D>(alloc, n, &group, &mut blocks)?)?;
-            places.push(place)?;
-            group = Vec::new(alloc);
-        } else {
-            group.push((key.clone()?, *value))?;
-        }
-    }
-    links.push(part::<D>(alloc, n, &group, &mut blocks)?)?;
-    blocks.insert(0, write::<D>(alloc, pairs, &places, &links)?)?;
+    node::<D>(alloc, n, pairs, &mut blocks)?;
     Ok(blocks)
 }
 
-/// The link of the node of the layer below `n`, whose blocks are added, or none without pairs.
+/// Adds them, and answers the node's CID.
+#[cycle(plain)]
+fn node<D: Digest>(
+    alloc: Global,
+    n: u16,
+    pairs: &[Pair],
+    blocks: &mut Vec<Block<D>>,
+) -> Result<Cid, AllocError> {
+    let place = blocks.len();
+    let (first, mut rest) = cut::<D>(n, pairs);
+    let mut writer = NodeWriter::begin(alloc, part::<D>(alloc, n, first, blocks)?)?;
+    for _ in 0..pairs.len() {
+        let [pair, others @ ..] = rest else {
+            break;
+        };
+        let (group, behind) = cut::<D>(n, others);
+        let link = part::<D>(alloc, n, group, blocks)?;
+        add_entry(&mut writer, pair, link)?;
+        rest = behind;
+    }
+    put_at(blocks, place, Block::of(writer.finish()?))
+}
+
+/// Adds the blocks of a group's node of the layer below `n`, and answers its link, or none without pairs.
 #[cycle(plain)]
 fn part<D: Digest>(
     alloc: Global,
     n: u16,
-    pairs: &Pairs,
+    pairs: &[Pair],
     blocks: &mut Vec<Block<D>>,
 ) -> Result<Option<Cid>, AllocError> {
     if n == 0 || pairs.is_empty() {
         return Ok(None);
     }
-    let mut link = None;
-    for block in node::<D>(alloc, n - 1, pairs)? {
-        if link.is_none() {
-            link = Some(block.cid());
-        }
-        blocks.push(block)?;
-    }
-    Ok(link)
+    Ok(Some(node::<D>(alloc, n - 1, pairs, blocks)?))
 }
 
-/// The node of the pairs at these places, with the links before and after each.
-fn write<D: Digest>(
-    alloc: Global,
-    pairs: &Pairs,
-    places: &[usize],
-    links: &[Option<Cid>],
-) -> Result<Block<D>, AllocError> {
-    let mut writer = NodeWriter::begin(alloc, links.first().copied().flatten())?;
-    for (place, link) in places.iter().zip(links.iter().skip(1)) {
-        if let Some((key, value)) = pairs.get(*place)
-            && writer.is_next(key)
-        {
-            writer.entry(key, CidRef::from(value), *link)?;
+/// The pairs before the first one of layer `n`, and that one with those behind it.
+fn cut<D: Digest>(n: u16, pairs: &[Pair]) -> (&[Pair], &[Pair]) {
+    let mut place = 0usize;
+    for (key, _) in pairs {
+        if layer::<D, 2>(key) == n {
+            break;
         }
+        place = place.saturating_add(1);
     }
-    Ok(Block::of(writer.finish()?))
+    match pairs.split_at_checked(place) {
+        Some(parts) => parts,
+        None => (pairs, &[]),
+    }
+}
+
+/// Adds the entry of a pair, where it may come next.
+fn add_entry(writer: &mut NodeWriter, pair: &Pair, link: Option<Cid>) -> Result<(), AllocError> {
+    let (key, value) = pair;
+    if writer.is_next(key) {
+        writer.entry(key, CidRef::from(value), link)
+    } else {
+        Ok(())
+    }
+}
+
+/// Puts a block at a place among these, and answers its CID.
+fn put_at<D: Digest>(
+    blocks: &mut Vec<Block<D>>,
+    place: usize,
+    block: Block<D>,
+) -> Result<Cid, AllocError> {
+    let cid = block.cid();
+    if place <= blocks.len() {
+        blocks.insert(place, block)?;
+    }
+    Ok(cid)
 }

@@ -8,8 +8,7 @@ use cid::digests::{Clash, Size, Toy};
 use cid::{Block, Cid, Collided, Digest, Sha256};
 use refusing::Refusing;
 use scratch::{Built, ScratchFault, build, is_ascending};
-use std::alloc::Global;
-use std::test::Fail;
+use std::alloc::{AllocError, Allocator, Global};
 
 /// The keys of the tree of five nodes, with one value.
 fn three_keys() -> [(&'static [u8], Cid); 3] {
@@ -19,16 +18,18 @@ fn three_keys() -> [(&'static [u8], Cid); 3] {
 
 /// Whether the first node is the root's, and these are the lengths of the nodes in their order.
 fn have_lengths<D: Digest>(built: &Built<D>, lengths: &[usize]) -> bool {
-    for (block, length) in built.blocks.iter().zip(lengths) {
-        if block.bytes().len() != *length {
-            return false;
+    let mut place = 0usize;
+    for length in lengths {
+        match built.blocks.get(place) {
+            Some(block) if block.bytes().len() == *length => {}
+            _ => return false,
         }
+        place = place.saturating_add(1);
     }
-    built.blocks.len() == lengths.len()
-        && built
-            .blocks
-            .first()
-            .is_some_and(|top| top.cid() == built.root)
+    match built.blocks.first() {
+        Some(top) => place == built.blocks.len() && top.cid() == built.root,
+        None => false,
+    }
 }
 
 /// Whether the tree of these pairs is built, with nodes of these lengths in their order, the root's first.
@@ -57,24 +58,35 @@ fn is_empty_tree(built: &Built<Sha256>) -> bool {
         && built.root.text() == *text
 }
 
+/// Whether the tree of no pairs is built.
+fn is_built_of_none(alloc: Global, none: &[(&[u8], Cid)]) -> bool {
+    if !is_ascending(none) {
+        return false;
+    }
+    match build::<Sha256, 2, &[u8], _>(alloc, none) {
+        Ok(built) => is_empty_tree(&built),
+        Err(_) => false,
+    }
+}
+
 #[test]
-fn empty_tree(rt: HostRuntime) -> Result<(), Fail> {
-    let none: [(&[u8], Cid); 0] = [];
-    assert!(rt; is_ascending(&none));
-    let built = build::<Sha256, 2, &[u8], _>(rt.alloc(), &none)?;
-    assert!(rt; is_empty_tree(&built));
-    Ok(())
+fn empty_tree(rt: HostRuntime) {
+    assert!(rt; is_built_of_none(rt.alloc(), &[]));
+}
+
+/// Whether the trees of the three keys have these nodes with one, two, four and eight zero bits a layer, and under a digest
+/// by which all keys are on one layer.
+fn are_five_nodes(alloc: Global, pairs: &[(&[u8], Cid)]) -> bool {
+    has_lengths::<Toy, 1>(alloc, pairs, &[144, 47, 47, 47, 64, 47, 47, 47, 64])
+        && has_lengths::<Toy, 2>(alloc, pairs, &[144, 47, 64, 47, 64])
+        && has_lengths::<Toy, 4>(alloc, pairs, &[144, 64, 64])
+        && has_lengths::<Toy, 8>(alloc, pairs, &[174])
+        && has_lengths::<Clash, 2>(alloc, pairs, &[174])
 }
 
 #[test]
 fn tree_of_five_nodes(rt: HostRuntime) {
-    let pairs = three_keys();
-    let one = [144, 47, 47, 47, 64, 47, 47, 47, 64];
-    assert!(rt; has_lengths::<Toy, 1>(rt.alloc(), &pairs, &one));
-    assert!(rt; has_lengths::<Toy, 2>(rt.alloc(), &pairs, &[144, 47, 64, 47, 64]));
-    assert!(rt; has_lengths::<Toy, 4>(rt.alloc(), &pairs, &[144, 64, 64]));
-    assert!(rt; has_lengths::<Toy, 8>(rt.alloc(), &pairs, &[174]));
-    assert!(rt; has_lengths::<Clash, 2>(rt.alloc(), &pairs, &[174]));
+    assert!(rt; are_five_nodes(rt.alloc(), &three_keys()));
 }
 
 #[test]
@@ -83,14 +95,15 @@ fn raised_top(rt: HostRuntime) {
     assert!(rt; has_lengths::<Toy, 2>(rt.alloc(), &pairs, &[104, 47, 47, 64]));
 }
 
+/// Whether a block is the node of this key alone.
+fn is_node_of(block: &Block<Size>, key: &[u8]) -> bool {
+    block.bytes().len() == 64 && block.bytes().get(8..12) == Some(key)
+}
+
 /// Whether the two nodes have one CID, the first is of `a/p0` and the second of `a/r0`, each its only key.
 fn is_of_both_sides(pair: &Collided<Size>) -> bool {
     let (one, other) = (pair.one(), pair.other());
-    one.cid() == other.cid()
-        && one.bytes().len() == 64
-        && other.bytes().len() == 64
-        && &one.bytes()[8..12] == b"a/p0".as_slice()
-        && &other.bytes()[8..12] == b"a/r0".as_slice()
+    one.cid() == other.cid() && is_node_of(one, b"a/p0") && is_node_of(other, b"a/r0")
 }
 
 /// Whether the tree of the three keys isn't built, since the nodes of the first and the last clash.
@@ -121,26 +134,40 @@ fn are_two(one: &[u8], other: &[u8]) -> bool {
     is_ascending(&pairs)
 }
 
+/// The longest key there is, and one that is longer.
+const LONGEST: [u8; 1024] = [b'a'; 1024];
+
+const LONGER: [u8; 1025] = [b'a'; 1025];
+
+/// Whether keys of 1 to 1,024 bytes may stand in a tree, and no others.
+fn have_right_lengths() -> bool {
+    is_lone(b"a") && is_lone(&LONGEST) && !is_lone(b"") && !is_lone(&LONGER)
+}
+
+/// Whether two keys may stand in a tree where they ascend, and not else.
+fn are_in_right_order() -> bool {
+    are_two(b"a", b"b")
+        && are_two(b"a", b"aa")
+        && !are_two(b"a", b"a")
+        && !are_two(b"b", b"a")
+        && !are_two(b"aa", b"a")
+}
+
 #[test]
 fn conditions_of_keys(rt: HostRuntime) {
-    let long = [0x61; 1025];
-    assert!(rt; is_lone(b"a") && is_lone(&long[..1024]));
-    assert!(rt; !is_lone(b"") && !is_lone(&long));
-    assert!(rt; are_two(b"a", b"b") && are_two(b"a", b"aa"));
-    assert!(rt; !are_two(b"a", b"a") && !are_two(b"b", b"a") && !are_two(b"aa", b"a"));
+    assert!(rt; have_right_lengths() && are_in_right_order());
+}
+
+/// Whether the tree of a lone key has one node of this length.
+fn has_length(alloc: Global, key: &[u8], length: usize) -> bool {
+    has_lengths::<Sha256, 8>(alloc, &[(key, value())], &[length])
 }
 
 #[test]
 fn shortest_and_longest_key(rt: HostRuntime) {
-    let long = [0x61; 1024];
-    let cases: [(&[u8], usize); 3] = [(b"a", 61), (b"a/b", 63), (&long, 1086)];
-    for (key, length) in cases {
-        assert!(rt; has_lengths::<Sha256, 8>(rt.alloc(), &[(key, value())], &[length]));
-    }
+    assert!(rt; has_length(rt.alloc(), b"a", 61) && has_length(rt.alloc(), b"a/b", 63));
+    assert!(rt; has_length(rt.alloc(), &LONGEST, 1086));
 }
-
-/// Memory that refuses requests.
-type Heap<'h> = &'h Refusing<Global>;
 
 /// How a tree's building ended.
 #[derive(Clone, Copy, PartialEq, Eq)]
@@ -153,12 +180,12 @@ enum Outcome {
 }
 
 /// How the building of the tree of the three keys ends in this memory, where they ascend.
-fn outcome_of<D: Digest>(heap: Heap<'_>) -> Option<Outcome> {
+fn outcome_of<D: Digest, A: Allocator + Copy>(alloc: A) -> Option<Outcome> {
     let pairs = three_keys();
     if !is_ascending(&pairs) {
         return None;
     }
-    Some(match build::<D, 2, &[u8], _>(heap, &pairs) {
+    Some(match build::<D, 2, &[u8], A>(alloc, &pairs) {
         Ok(built) => Outcome::Built(built.blocks.len()),
         Err(ScratchFault::Clash(pair)) => Outcome::Clash(pair.one().bytes().len()),
         Err(ScratchFault::NoMemory) => Outcome::NoMemory,
@@ -171,7 +198,7 @@ fn is_so_or_refused<D: Digest>(alloc: Global, wanted: Outcome) -> bool {
     let heap = Refusing::new(alloc);
     for request in 1..80u64 {
         heap.refuse(request);
-        let is_right = match outcome_of::<D>(&heap) {
+        let is_right = match outcome_of::<D, _>(&heap) {
             Some(Outcome::NoMemory) => heap.refused() == request,
             Some(other) => other == wanted,
             None => false,
@@ -194,7 +221,7 @@ fn memory_refused_at_a_clash(rt: HostRuntime) {
 }
 
 /// So many pairs, with owned keys.
-fn many(alloc: Global, count: u32) -> Result<plain::Pairs, Fail> {
+fn many(alloc: Global, count: u32) -> Result<Vec<plain::Pair>, AllocError> {
     let value = value();
     let mut pairs = Vec::new(alloc);
     for number in 0..count {
@@ -206,33 +233,50 @@ fn many(alloc: Global, count: u32) -> Result<plain::Pairs, Fail> {
 
 /// Whether these are the tree's nodes in their order, the root's first.
 fn are_nodes(plain: &[Block<Sha256>], built: &Built<Sha256>) -> bool {
-    for (one, other) in plain.iter().zip(&built.blocks) {
-        if one.bytes() != other.bytes() {
-            return false;
+    let mut place = 0usize;
+    for node in plain {
+        match built.blocks.get(place) {
+            Some(block) if block.bytes() == node.bytes() => {}
+            _ => return false,
         }
+        place = place.saturating_add(1);
     }
-    plain.len() == built.blocks.len() && plain.first().is_some_and(|top| top.cid() == built.root)
+    match plain.first() {
+        Some(top) => place == built.blocks.len() && top.cid() == built.root,
+        None => false,
+    }
 }
 
 /// Whether the plain nodes are those of the tree, but for nodes of a link alone above them: the definition's node of a
 /// layer above the top stands above it, link by link.
 fn are_nodes_under_links(plain: &[Block<Sha256>], built: &Built<Sha256>) -> bool {
-    let above = plain
-        .iter()
-        .take_while(|node| node.bytes().len() == 47)
-        .count();
+    let mut above = 0usize;
+    for node in plain {
+        if node.bytes().len() != 47 {
+            break;
+        }
+        above = above.saturating_add(1);
+    }
     match plain.get(above..) {
         Some(nodes) => are_nodes(nodes, built),
         None => false,
     }
 }
 
+/// Whether the tree of these pairs is built as the plain nodes.
+fn is_as_plain(alloc: Global, pairs: &[plain::Pair], plain: &[Block<Sha256>]) -> bool {
+    if !is_ascending(pairs) {
+        return false;
+    }
+    match build::<Sha256, 2, Vec<u8>, _>(alloc, pairs) {
+        Ok(built) => are_nodes_under_links(plain, &built),
+        Err(_) => false,
+    }
+}
+
 #[test]
-fn as_the_plain_body(rt: HostRuntime) -> Result<(), Fail> {
-    let pairs = many(rt.alloc(), 3000)?;
-    assert!(rt; is_ascending(&pairs));
-    let built = build::<Sha256, 2, Vec<u8>, _>(rt.alloc(), &pairs)?;
-    let plain = plain::node::<Sha256>(rt.alloc(), 20, &pairs)?;
-    assert!(rt; are_nodes_under_links(&plain, &built));
-    Ok(())
+fn as_the_plain_body(rt: HostRuntime) {
+    let pairs = many(rt.alloc(), 3000).expect(&rt, "pairs");
+    let plain = plain::nodes::<Sha256>(rt.alloc(), 20, &pairs).expect(&rt, "nodes");
+    assert!(rt; is_as_plain(rt.alloc(), &pairs, &plain));
 }
