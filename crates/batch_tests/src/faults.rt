@@ -164,6 +164,16 @@ fn is_refused(
     true
 }
 
+/// Whether each key that is none is.
+fn are_refused(alloc: Global, shard: &mut Shard<Toy>, core: &mut Core<Toy, 2>) -> bool {
+    for key in &NO_KEYS {
+        if !is_refused(alloc, shard, core, key) {
+            return false;
+        }
+    }
+    true
+}
+
 /// Whether each batch of a table ends as it says, one after the other.
 fn end_so(alloc: Global, shard: &mut Shard<Toy>, core: &mut Core<Toy, 2>, rows: &[Row]) -> bool {
     for (did, rev, steps, wanted) in rows {
@@ -187,11 +197,8 @@ fn ended<R: Abort>(
 {
     let mut shard: Shard<Toy> = Shard::new(alloc, 9);
     let mut core = opened(rt, alloc, &mut shard, 0, limit);
-    let mut is_right = true;
-    for key in &NO_KEYS {
-        is_right = is_right && is_refused(alloc, &mut shard, &mut core, key);
-    }
-    is_right = is_right && end_so(alloc, &mut shard, &mut core, rows);
+    let is_right = are_refused(alloc, &mut shard, &mut core)
+        && end_so(alloc, &mut shard, &mut core, rows);
     let found = (is_right, core.number(), core.limit(), held(&shard, &core));
     end(&mut shard, core);
     found

@@ -7,6 +7,7 @@ use cid::{Block, Cid, Digest};
 use edit::Source;
 use kept::Kept;
 use repo_fixtures::batch::{EMPTY, ONE, TWO};
+use repo_fixtures::cores::counts;
 use std::alloc::{AllocError, Global};
 use std::process::Abort;
 use std::sync::Arc;
@@ -203,7 +204,7 @@ fn are_acts<R: Abort, D: Digest>(
     let mut kept = Kept::open(alloc, 5).expect(rt, "memory");
     let is_right = end_so(alloc, &mut shard, &mut kept, blocks, rows);
     kept.end(&mut LentShard::new(&mut shard));
-    is_right && shard.entries().count() == 0
+    is_right && counts(&shard) == (0, 0)
 }
 
 #[test]

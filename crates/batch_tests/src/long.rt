@@ -92,12 +92,21 @@ fn is_so(alloc: Global, shard: &mut Shard<Toy>, core: &mut Core<Toy, 2>, row: &R
     }
 }
 
+/// Whether the batches of all rows end so.
+fn are_so(alloc: Global, shard: &mut Shard<Toy>, core: &mut Core<Toy, 2>) -> bool {
+    for row in &LONG {
+        if !is_so(alloc, shard, core, row) {
+            return false;
+        }
+    }
+    true
+}
+
 #[test]
 fn longest_dids_and_records(rt: HostRuntime) {
     let mut shard = Shard::new(rt.alloc(), 9);
     let mut core = opened(&rt, rt.alloc(), &mut shard, 0, 2000);
-    for row in &LONG {
-        assert!(rt; is_so(rt.alloc(), &mut shard, &mut core, row));
-    }
+    let are_so = are_so(rt.alloc(), &mut shard, &mut core);
     end(&mut shard, core);
+    assert!(rt; are_so);
 }

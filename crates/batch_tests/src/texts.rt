@@ -2,6 +2,7 @@
 
 use crate::long::{Parts, joined};
 use batches::{is_did, is_repository_key, is_tid};
+use std::alloc::Global;
 
 /// Which of the tests pass some bytes: as a key, as a DID, as a timestamp identifier.
 type Passes = [bool; 3];
@@ -96,19 +97,41 @@ static LONG_TEXTS: [(Parts, usize, Passes); 7] = [
     (&[(b"did:web:", 1), (b"a", 2041)], 2049, NONE),
 ];
 
+/// The first bytes of the tables that not just the right tests pass.
+fn wrong_bytes() -> Option<&'static [u8]> {
+    for (bytes, wanted) in &TEXTS {
+        if passes(bytes) != *wanted {
+            return Some(*bytes);
+        }
+    }
+    for table in [NO_KEYS.as_slice(), &NO_OTHERS] {
+        for bytes in table {
+            if passes(bytes) != NONE {
+                return Some(*bytes);
+            }
+        }
+    }
+    None
+}
+
 #[test]
 fn texts(rt: HostRuntime) {
-    for (bytes, wanted) in &TEXTS {
-        assert!(rt; passes(bytes) == *wanted, "{bytes:?}");
+    let wrong = wrong_bytes();
+    assert!(rt; wrong.is_none(), "{wrong:?}");
+}
+
+/// Whether a text has its length, and the right tests pass it.
+fn is_right(alloc: Global, parts: Parts, length: usize, wanted: Passes) -> bool {
+    match joined(alloc, parts) {
+        Ok(bytes) => bytes.len() == length && passes(&bytes) == wanted,
+        Err(_) => false,
     }
-    for bytes in NO_KEYS.iter().chain(&NO_OTHERS) {
-        assert!(rt; passes(bytes) == NONE, "{bytes:?}");
-    }
+}
+
+#[test]
+fn long_texts(rt: HostRuntime) {
     for (parts, length, wanted) in &LONG_TEXTS {
-        let bytes = joined(rt.alloc(), parts).expect(&rt, "a text");
-        assert!(rt;
-            bytes.len() == *length && passes(&bytes) == *wanted,
-            "{length}"
-        );
+        let is_right = is_right(rt.alloc(), parts, *length, *wanted);
+        assert!(rt; is_right, "{length}");
     }
 }

@@ -1,9 +1,9 @@
 //! Puts and deletes over whole trees, beside the trees from scratch of the pairs that they leave.
 
-use crate::fixtures::{are_of, tree, tree_of, value};
+use crate::fixtures::{are_of, edited, tree, tree_of, value};
 use cid::digests::{Size, Toy};
 use cid::{Block, Cid, Collided};
-use edit::{BlockMap, Edit, EditFault, delete, is_key, put};
+use edit::{Edit, EditFault};
 use scratch::Built;
 use std::alloc::{AllocError, Global};
 use std::sync::Arc;
@@ -12,32 +12,6 @@ type Keys = &'static [&'static [u8]];
 
 /// The keys of the tree of five nodes.
 const FIVE: Keys = &[b"a/p0", b"a/q2", b"a/r0"];
-
-/// An edit of a tree, and how many blocks were read for it.
-#[derive(Drop)]
-struct Edited {
-    edit: Edit<Toy>,
-    reads: u64,
-}
-
-/// Puts a key into a tree.
-fn put_into(alloc: Global, before: &Built<Toy>, key: &[u8], value: Cid) -> Option<Edited> {
-    if !is_key(key) {
-        return None;
-    }
-    let mut map = BlockMap::new(alloc, &before.blocks).ok()?;
-    let edit = put::<Toy, 2, _, _>(alloc, &mut map, before.root, key, value).ok()?;
-    let reads = map.reads();
-    Some(Edited { edit, reads })
-}
-
-/// Takes a key out of a tree.
-fn delete_from(alloc: Global, before: &Built<Toy>, key: &[u8]) -> Option<Edited> {
-    let mut map = BlockMap::new(alloc, &before.blocks).ok()?;
-    let edit = delete::<Toy, 2, _, _>(alloc, &mut map, before.root, key).ok()?;
-    let reads = map.reads();
-    Some(Edited { edit, reads })
-}
 
 /// How many blocks an edit adds and drops, and how many bytes the added ones have.
 fn sizes(edit: &Edit<Toy>) -> (usize, usize, usize) {
@@ -48,30 +22,27 @@ fn sizes(edit: &Edit<Toy>) -> (usize, usize, usize) {
     (edit.add.len(), edit.drop.len(), bytes)
 }
 
-/// The blocks before an edit without those that it drops and with those that it adds.
-fn blocks_after(
-    alloc: Global,
-    before: &[Arc<Block<Toy>>],
-    edit: &Edit<Toy>,
-) -> Result<Vec<Arc<Block<Toy>>>, AllocError> {
-    let mut after = Vec::new(alloc);
-    for block in before {
-        if !edit.drop.contains(&block.cid()) {
-            after.push(Arc::try_clone(block)?)?;
+/// Adds some blocks to others, but for those of these CIDs.
+fn add_others(
+    blocks: &mut Vec<Arc<Block<Toy>>>,
+    more: &[Arc<Block<Toy>>],
+    cids: &[Cid],
+) -> Result<(), AllocError> {
+    for block in more {
+        if !cids.contains(&block.cid()) {
+            blocks.push(Arc::try_clone(block)?)?;
         }
     }
-    for block in &edit.add {
-        after.push(Arc::try_clone(block)?)?;
-    }
-    Ok(after)
+    Ok(())
 }
 
-/// Whether an edit leaves this tree: its root, and its blocks and no others.
+/// Whether an edit leaves this tree: its root, and of the blocks before those that it doesn't drop with those that it adds,
+/// and no others.
 fn leaves(alloc: Global, before: &Built<Toy>, edit: &Edit<Toy>, after: &Built<Toy>) -> bool {
-    match blocks_after(alloc, &before.blocks, edit) {
-        Ok(blocks) => are_of(alloc, edit.root, &blocks, after),
-        Err(_) => false,
-    }
+    let mut blocks = Vec::new(alloc);
+    add_others(&mut blocks, &before.blocks, &edit.drop).is_ok()
+        && add_others(&mut blocks, &edit.add, &[]).is_ok()
+        && are_of(alloc, edit.root, &blocks, after)
 }
 
 /// A row of the table of edits.
@@ -147,259 +118,271 @@ const DELETES: [Row; 3] = [
     },
 ];
 
-/// Whether an edit is that of this row, and found this value.
+/// Whether an edit of a row is as it says, found this value, and leaves the tree after it.
 fn is_of_row(
     alloc: Global,
     row: &Row,
-    before: &Built<Toy>,
-    done: &Edited,
+    [before, after]: [&Built<Toy>; 2],
+    edit: &Edit<Toy>,
     previous: Option<Cid>,
 ) -> bool {
-    match tree::<Toy>(alloc, row.after) {
-        Some(after) => {
-            leaves(alloc, before, &done.edit, &after)
-                && sizes(&done.edit) == row.sizes
-                && done.edit.previous == previous
-                && done.reads <= row.most_reads
-        }
-        None => false,
-    }
+    leaves(alloc, before, edit, after) && sizes(edit) == row.sizes && edit.previous == previous
 }
 
-/// Whether the put of a row is as it says, and found no value.
-fn puts_as(alloc: Global, row: &Row) -> bool {
-    let Some(before) = tree::<Toy>(alloc, row.before) else {
+/// Whether the row's key is put or deleted as the row says, and had this value before.
+fn edits_as(alloc: Global, row: &Row, value: Option<Cid>, previous: Option<Cid>) -> bool {
+    let (Some(before), Some(after)) = (tree(alloc, row.before), tree(alloc, row.after)) else {
         return false;
     };
-    match put_into(alloc, &before, row.key, value()) {
-        Some(done) => is_of_row(alloc, row, &before, &done, None),
-        None => false,
+    let (answer, reads) = edited::<Toy, 2>(alloc, &before.blocks, before.root, row.key, value);
+    match answer {
+        Ok(edit) => {
+            reads <= row.most_reads && is_of_row(alloc, row, [&before, &after], &edit, previous)
+        }
+        Err(_) => false,
     }
 }
 
 #[test]
 fn puts_by_their_sizes(rt: HostRuntime) {
     for row in &PUTS {
-        assert!(rt; puts_as(rt.alloc(), row));
-    }
-}
-
-/// Whether the delete of a row is as it says, and found the value.
-fn deletes_as(alloc: Global, row: &Row) -> bool {
-    let Some(before) = tree::<Toy>(alloc, row.before) else {
-        return false;
-    };
-    match delete_from(alloc, &before, row.key) {
-        Some(done) => is_of_row(alloc, row, &before, &done, Some(value())),
-        None => false,
+        assert!(rt; edits_as(rt.alloc(), row, Some(value()), None));
     }
 }
 
 #[test]
 fn deletes_by_their_sizes(rt: HostRuntime) {
     for row in &DELETES {
-        assert!(rt; deletes_as(rt.alloc(), row));
+        assert!(rt; edits_as(rt.alloc(), row, None, Some(value())));
     }
 }
 
 /// Whether an edit has no effect on the tree with this root, and found the value.
-fn has_no_effect(done: &Edited, root: Cid, most_reads: u64) -> bool {
-    sizes(&done.edit) == (0, 0, 0)
-        && done.edit.root == root
-        && done.edit.previous == Some(value())
-        && done.reads <= most_reads
+fn has_no_effect(edit: &Edit<Toy>, root: Cid) -> bool {
+    sizes(edit) == (0, 0, 0) && edit.root == root && edit.previous == Some(value())
 }
 
 /// Whether a put of a key with the value that it has changes nothing.
 fn changes_nothing(alloc: Global, keys: &[&[u8]], key: &[u8], most_reads: u64) -> bool {
-    let Some(before) = tree::<Toy>(alloc, keys) else {
+    let Some(before) = tree(alloc, keys) else {
         return false;
     };
-    match put_into(alloc, &before, key, value()) {
-        Some(same) => has_no_effect(&same, before.root, most_reads),
-        None => false,
+    let value = Some(value());
+    let (answer, reads) = edited::<Toy, 2>(alloc, &before.blocks, before.root, key, value);
+    match answer {
+        Ok(edit) => reads <= most_reads && has_no_effect(&edit, before.root),
+        Err(_) => false,
     }
 }
 
+/// The keys of a tree, one of them, and in how many reads at most it is found.
+const KEYS_AGAIN: [(Keys, &[u8], u64); 3] = [
+    (&[b"a/b0"], b"a/b0", 1),
+    (FIVE, b"a/q2", 3),
+    (FIVE, b"a/p0", 3),
+];
+
 #[test]
 fn the_same_put_twice(rt: HostRuntime) {
-    assert!(rt; changes_nothing(rt.alloc(), &[b"a/b0"], b"a/b0", 1));
-    assert!(rt; changes_nothing(rt.alloc(), FIVE, b"a/q2", 3));
-    assert!(rt; changes_nothing(rt.alloc(), FIVE, b"a/p0", 3));
+    for (keys, key, most_reads) in &KEYS_AGAIN {
+        assert!(rt; changes_nothing(rt.alloc(), keys, key, *most_reads));
+    }
 }
 
 /// Whether an edit puts one new block, the root's, in the place of the root before.
-fn replaces_the_root(done: &Edited, root: Cid) -> bool {
-    let edit = &done.edit;
-    sizes(edit) == (1, 1, 144)
-        && edit.previous == Some(value())
-        && edit.drop.as_slice() == [root].as_slice()
-        && edit
-            .add
-            .first()
-            .is_some_and(|block| block.cid() == edit.root)
-        && done.reads <= 3
+fn replaces_the_root(edit: &Edit<Toy>, root: Cid) -> bool {
+    match (edit.add.as_slice(), edit.drop.as_slice()) {
+        ([added], [dropped]) => {
+            (added.cid(), *dropped) == (edit.root, root)
+                && added.bytes().len() == 144
+                && edit.previous == Some(value())
+        }
+        _ => false,
+    }
 }
 
 /// Whether a put of another value of `a/q2` over the tree before leaves the tree after.
 fn leaves_the_other(alloc: Global, before: &Built<Toy>, after: &Built<Toy>, other: Cid) -> bool {
-    match put_into(alloc, before, b"a/q2", other) {
-        Some(done) => {
-            replaces_the_root(&done, before.root) && leaves(alloc, before, &done.edit, after)
+    let (answer, reads) = edited::<Toy, 2>(
+        alloc,
+        &before.blocks,
+        before.root,
+        b"a/q2",
+        Some(other),
+    );
+    match answer {
+        Ok(edit) => {
+            reads <= 3
+                && replaces_the_root(&edit, before.root)
+                && leaves(alloc, before, &edit, after)
         }
-        None => false,
+        Err(_) => false,
+    }
+}
+
+/// Whether that is so of the tree of five nodes.
+fn leaves_the_other_of_three(alloc: Global, other: Cid) -> bool {
+    let pairs: [(&[u8], Cid); 3] = [(b"a/p0", value()), (b"a/q2", other), (b"a/r0", value())];
+    match (tree(alloc, FIVE), tree_of::<Toy, 2, _>(alloc, &pairs)) {
+        (Some(before), Some(after)) => leaves_the_other(alloc, &before, &after, other),
+        _ => false,
     }
 }
 
 #[test]
 fn another_value_of_a_key(rt: HostRuntime) {
     let other = Cid::of::<Toy>(b"another record");
-    let before = tree::<Toy>(rt.alloc(), FIVE).expect(&rt, "a tree");
-    let pairs: [(&[u8], Cid); 3] = [(b"a/p0", value()), (b"a/q2", other), (b"a/r0", value())];
-    let after = tree_of::<Toy, 2, _>(rt.alloc(), &pairs).expect(&rt, "a tree");
-    assert!(rt; leaves_the_other(rt.alloc(), &before, &after, other));
+    assert!(rt; leaves_the_other_of_three(rt.alloc(), other));
 }
 
 /// Whether an edit answered that there is no such key; none where it had another fault.
-fn is_missed(edited: Result<Edit<Toy>, EditFault<Toy>>) -> Option<bool> {
-    match edited {
+fn is_missed(answer: Result<Edit<Toy>, EditFault<Toy>>) -> Option<bool> {
+    match answer {
         Ok(_) => Some(false),
         Err(EditFault::NoSuchKey) => Some(true),
         Err(_) => None,
     }
 }
 
-/// Whether a delete of a key misses it, in so many reads at most.
-fn delete_is_missed(alloc: Global, before: &Built<Toy>, key: &[u8], most_reads: u64) -> bool {
-    let Ok(mut map) = BlockMap::new(alloc, &before.blocks) else {
+/// Whether a delete of a key misses it in the tree of five nodes, in so many reads at most.
+fn delete_is_missed(alloc: Global, key: &[u8], most_reads: u64) -> bool {
+    let Some(before) = tree::<Toy>(alloc, FIVE) else {
         return false;
     };
-    let edited = delete::<Toy, 2, _, _>(alloc, &mut map, before.root, key);
-    is_missed(edited) == Some(true) && map.reads() <= most_reads
+    let (answer, reads) = edited::<Toy, 2>(alloc, &before.blocks, before.root, key, None);
+    is_missed(answer) == Some(true) && reads <= most_reads
 }
 
 #[test]
 fn delete_of_a_key_that_is_not_there(rt: HostRuntime) {
-    let before = tree::<Toy>(rt.alloc(), FIVE).expect(&rt, "a tree");
-    assert!(rt; delete_is_missed(rt.alloc(), &before, b"a/q1", 6));
+    assert!(rt; delete_is_missed(rt.alloc(), b"a/q1", 6));
 }
 
-/// The blocks of a tree but for the one at a place.
-fn without(
+/// Whether a put of a value, or a delete, misses a block of a tree of which there are only these; none where it had another
+/// fault.
+fn misses(
     alloc: Global,
     blocks: &[Arc<Block<Toy>>],
+    root: Cid,
+    key: &[u8],
+    value: Option<Cid>,
+) -> Option<bool> {
+    let (answer, _) = edited::<Toy, 2>(alloc, blocks, root, key, value);
+    is_missed(answer)
+}
+
+/// Whether the edits miss a block of the tree: a put of `a/p1` and a delete of `a/p0` where it stands on the way to the left,
+/// a put of `a/q2` where it is the top, and a delete of `a/q2` in any case.
+fn edits_miss(alloc: Global, others: &[Arc<Block<Toy>>], root: Cid, left: bool, top: bool) -> bool {
+    misses(alloc, others, root, b"a/p1", Some(value())) == Some(left)
+        && misses(alloc, others, root, b"a/q2", Some(value())) == Some(top)
+        && misses(alloc, others, root, b"a/p0", None) == Some(left)
+        && misses(alloc, others, root, b"a/q2", None) == Some(true)
+}
+
+/// Whether they miss the block at a place.
+fn edits_miss_the_block(
+    alloc: Global,
+    before: &Built<Toy>,
     missing: usize,
-) -> Result<Vec<Arc<Block<Toy>>>, AllocError> {
+    left: bool,
+    top: bool,
+) -> bool {
+    let Some(block) = before.blocks.get(missing) else {
+        return false;
+    };
     let mut others = Vec::new(alloc);
-    for (place, block) in blocks.iter().enumerate() {
-        if place != missing {
-            others.push(Arc::try_clone(block)?)?;
+    add_others(&mut others, &before.blocks, &[block.cid()]).is_ok()
+        && edits_miss(alloc, &others, before.root, left, top)
+}
+
+/// The places of the blocks of the tree of five nodes, each with whether it stands on the way to the left and whether it is
+/// the top: the top, the two nodes before its key, and the two after it.
+const MISSING: [(usize, bool, bool); 5] = [
+    (0, true, true),
+    (1, true, false),
+    (2, true, false),
+    (3, false, false),
+    (4, false, false),
+];
+
+/// Whether the edits miss each block of the tree.
+fn edits_miss_each_block(alloc: Global, before: &Built<Toy>) -> bool {
+    for (missing, left, top) in &MISSING {
+        if !edits_miss_the_block(alloc, before, *missing, *left, *top) {
+            return false;
         }
     }
-    Ok(others)
-}
-
-/// Whether a put misses the block at a place of the tree; none where it had another fault.
-fn put_misses(alloc: Global, before: &Built<Toy>, missing: usize, key: &[u8]) -> Option<bool> {
-    if !is_key(key) {
-        return None;
-    }
-    let others = without(alloc, &before.blocks, missing).ok()?;
-    let mut map = BlockMap::new(alloc, &others).ok()?;
-    is_missed(put::<Toy, 2, _, _>(alloc, &mut map, before.root, key, value()))
-}
-
-/// Whether a delete misses the block at a place of the tree; none where it had another fault.
-fn delete_misses(alloc: Global, before: &Built<Toy>, missing: usize, key: &[u8]) -> Option<bool> {
-    let others = without(alloc, &before.blocks, missing).ok()?;
-    let mut map = BlockMap::new(alloc, &others).ok()?;
-    is_missed(delete::<Toy, 2, _, _>(alloc, &mut map, before.root, key))
-}
-
-/// Whether the edits miss the block at a place: a put of `a/p1` and a delete of `a/p0` where it stands on the way to the
-/// left, a put of `a/q2` where it is the top, and a delete of `a/q2` at any place.
-fn edits_miss(alloc: Global, before: &Built<Toy>, missing: usize, left: bool, top: bool) -> bool {
-    put_misses(alloc, before, missing, b"a/p1") == Some(left)
-        && put_misses(alloc, before, missing, b"a/q2") == Some(top)
-        && delete_misses(alloc, before, missing, b"a/p0") == Some(left)
-        && delete_misses(alloc, before, missing, b"a/q2") == Some(true)
+    true
 }
 
 #[test]
 fn edits_over_a_source_that_lacks_a_block(rt: HostRuntime) {
-    let before = tree::<Toy>(rt.alloc(), FIVE).expect(&rt, "a tree");
-    // The blocks are the top, the two nodes before its key, and the two after it.
-    for (missing, left, top) in [
-        (0, true, true),
-        (1, true, false),
-        (2, true, false),
-        (3, false, false),
-        (4, false, false),
-    ] {
-        assert!(rt; edits_miss(rt.alloc(), &before, missing, left, top));
-    }
+    let before = tree(rt.alloc(), FIVE).expect(&rt, "a tree");
+    assert!(rt; edits_miss_each_block(rt.alloc(), &before));
 }
 
-/// The two blocks of the clash that a put meets.
-fn put_clash(alloc: Global, before: &Built<Size>, key: &[u8]) -> Option<Collided<Size>> {
-    if !is_key(key) {
-        return None;
-    }
-    let mut map = BlockMap::new(alloc, &before.blocks).ok()?;
-    match put::<Size, 2, _, _>(alloc, &mut map, before.root, key, value()) {
+/// The two blocks of the clash that an edit of the tree of these keys meets.
+fn clash_of(
+    alloc: Global,
+    keys: &[&[u8]],
+    key: &[u8],
+    value: Option<Cid>,
+) -> Option<Collided<Size>> {
+    let before = tree::<Size>(alloc, keys)?;
+    let (answer, _) = edited::<Size, 2>(alloc, &before.blocks, before.root, key, value);
+    match answer {
         Err(EditFault::Clash(pair)) => Some(pair),
         _ => None,
     }
 }
 
-/// The two blocks of the clash that a delete meets.
-fn delete_clash(alloc: Global, before: &Built<Size>, key: &[u8]) -> Option<Collided<Size>> {
-    let mut map = BlockMap::new(alloc, &before.blocks).ok()?;
-    match delete::<Size, 2, _, _>(alloc, &mut map, before.root, key) {
-        Err(EditFault::Clash(pair)) => Some(pair),
-        _ => None,
-    }
-}
-
-/// Whether a tree is of one node, of these bytes, 64 in all.
-fn is_lone(tree: &Built<Size>, bytes: &[u8]) -> bool {
+/// Whether the tree of a key is of one node, of these bytes, 64 in all.
+fn is_lone(alloc: Global, key: &[u8], bytes: &[u8]) -> bool {
+    let Some(tree) = tree::<Size>(alloc, &[key]) else {
+        return false;
+    };
     match tree.blocks.as_slice() {
         [block] => block.bytes() == bytes && bytes.len() == 64,
         _ => false,
     }
 }
 
-/// Whether the two blocks are the nodes of one key each, `a/p0` and `a/r0`, in either order.
-fn is_of_both_sides(alloc: Global, pair: &Collided<Size>) -> bool {
-    let (one, other) = (pair.one().bytes(), pair.other().bytes());
-    match (
-        tree::<Size>(alloc, &[b"a/p0"]),
-        tree::<Size>(alloc, &[b"a/r0"]),
-    ) {
-        (Some(left), Some(right)) => {
-            (is_lone(&left, one) && is_lone(&right, other))
-                || (is_lone(&left, other) && is_lone(&right, one))
+/// Whether two blocks are the nodes of one key each, `a/p0` and `a/r0`, in this order.
+fn are_both_sides(alloc: Global, one: &[u8], other: &[u8]) -> bool {
+    is_lone(alloc, b"a/p0", one) && is_lone(alloc, b"a/r0", other)
+}
+
+/// Whether a clash is of these two, in either order.
+fn is_of_both_sides(alloc: Global, clash: Option<Collided<Size>>) -> bool {
+    match clash {
+        Some(pair) => {
+            let (one, other) = (pair.one().bytes(), pair.other().bytes());
+            are_both_sides(alloc, one, other) || are_both_sides(alloc, other, one)
         }
-        _ => false,
+        None => false,
     }
 }
 
 #[test]
 fn clash_of_the_two_sides_of_a_put(rt: HostRuntime) {
-    let before = tree::<Size>(rt.alloc(), &[b"a/p0", b"a/r0"]).expect(&rt, "a tree");
-    let pair = put_clash(rt.alloc(), &before, b"a/q2").expect(&rt, "a clash");
-    assert!(rt; is_of_both_sides(rt.alloc(), &pair));
+    let clash = clash_of(rt.alloc(), &[b"a/p0", b"a/r0"], b"a/q2", Some(value()));
+    assert!(rt; is_of_both_sides(rt.alloc(), clash));
 }
 
-/// Whether two blocks of 104 bytes differ.
-fn is_of_two_tops(pair: &Collided<Size>) -> bool {
-    let (one, other) = (pair.one().bytes(), pair.other().bytes());
-    one.len() == 104 && other.len() == 104 && one != other
+/// Whether a clash is of two blocks of 104 bytes that differ.
+fn is_of_two_tops(clash: Option<Collided<Size>>) -> bool {
+    match clash {
+        Some(pair) => {
+            let (one, other) = (pair.one().bytes(), pair.other().bytes());
+            one.len() == 104 && other.len() == 104 && one != other
+        }
+        None => false,
+    }
 }
 
 #[test]
 fn clash_of_the_tops_before_and_after_a_delete(rt: HostRuntime) {
-    let before = tree::<Size>(rt.alloc(), &[b"a/p0", b"a/p00", b"a/q1"]).expect(&rt, "a tree");
-    let pair = delete_clash(rt.alloc(), &before, b"a/p00").expect(&rt, "a clash");
-    assert!(rt; is_of_two_tops(&pair));
+    let clash = clash_of(rt.alloc(), &[b"a/p0", b"a/p00", b"a/q1"], b"a/p00", None);
+    assert!(rt; is_of_two_tops(clash));
 }

@@ -1,12 +1,13 @@
 //! Random histories of puts and deletes, each step beside the tree from scratch of the pairs that it leaves.
 
-ghost use Rattle.std.specs.Prelude.{◌≤◌};
+ghost use Rattle.std.specs.Prelude.{◌≤◌, ◌<◌};
 
-use crate::fixtures::{are_of, tree_of, value};
+use crate::fixtures::{are_of, edited, tree_of, value};
 use cid::digests::Toy;
 use cid::{Block, Cid, Digest, Sha256};
-use edit::{BlockMap, Edit, EditFault, delete, is_key, put};
+use edit::{Edit, EditFault};
 use std::alloc::{AllocError, Global};
+use std::cmp::Ordering;
 use std::sync::Arc;
 
 type Pairs = Vec<(Vec<u8>, Cid)>;
@@ -14,9 +15,9 @@ type Pairs = Vec<(Vec<u8>, Cid)>;
 type Blocks<D> = Vec<Arc<Block<D>>>;
 
 /// A write of a key: a value to put, or `None` to delete it.
-#[derive(Drop)]
+#[derive(Clone, Copy)]
 struct Write {
-    key: Vec<u8>,
+    key: &'static [u8],
     value: Option<Cid>,
 }
 
@@ -28,64 +29,83 @@ struct Numbers {
 
 impl Numbers {
     /// The next number below `bound`.
-    fn below(&mut self, bound: u64) -> u64
+    fn below(&mut self, bound: usize) -> usize
         requires { 1 ≤ bound }
+        ensures { result < bound }
     {
         self.state ^= self.state << 13;
         self.state ^= self.state >> 7;
         self.state ^= self.state << 17;
-        (self.state >> 16) % bound
+        (self.state >> 16) as usize % bound
     }
 }
 
-/// A write of one of 48 keys, whose last digit is from 0 to 3; one in three deletes.
-fn random_write<D: Digest>(alloc: Global, numbers: &mut Numbers) -> Option<Write> {
+/// Keys, four for each of twelve places, whose last digit is from 0 to 3.
+static KEYS: [&[u8]; 48] = [
+    b"k/000", b"k/001", b"k/002", b"k/003", b"k/010", b"k/011", b"k/012", b"k/013", b"k/020",
+    b"k/021", b"k/022", b"k/023", b"k/030", b"k/031", b"k/032", b"k/033", b"k/040", b"k/041",
+    b"k/042", b"k/043", b"k/050", b"k/051", b"k/052", b"k/053", b"k/060", b"k/061", b"k/062",
+    b"k/063", b"k/070", b"k/071", b"k/072", b"k/073", b"k/080", b"k/081", b"k/082", b"k/083",
+    b"k/090", b"k/091", b"k/092", b"k/093", b"k/100", b"k/101", b"k/102", b"k/103", b"k/110",
+    b"k/111", b"k/112", b"k/113",
+];
+
+/// A write of one of the keys; one in three deletes.
+fn random_write<D: Digest>(numbers: &mut Numbers) -> Write {
     let place = numbers.below(12);
-    let layer = numbers.below(4);
-    let key = format!(in alloc; "k/{place:02}{layer}").ok()?.into_bytes();
+    let key = KEYS[4 * place + numbers.below(4)];
     let value = match numbers.below(3) {
         0 => None,
-        kind => Some(Cid::of::<D>(&kind.to_be_bytes())),
+        kind => Some(Cid::of::<D>(&(kind as u64).to_be_bytes())),
     };
-    Some(Write { key, value })
+    Write { key, value }
+}
+
+/// The put of a key.
+fn put_of(key: &'static [u8]) -> Write {
+    Write {
+        key,
+        value: Some(value()),
+    }
+}
+
+/// The place of a key among the pairs, and its value where it is there.
+fn place_of(pairs: &Pairs, key: &[u8]) -> (usize, Option<Cid>) {
+    for (place, (other, value)) in pairs.iter().enumerate() {
+        match other.as_slice().cmp(key) {
+            Ordering::Less => {}
+            Ordering::Equal => return (place, Some(*value)),
+            Ordering::Greater => return (place, None),
+        }
+    }
+    (pairs.len(), None)
+}
+
+/// Puts a pair at a place among the pairs.
+fn insert(
+    alloc: Global,
+    pairs: &mut Pairs,
+    place: usize,
+    key: &[u8],
+    value: Cid,
+) -> Result<(), AllocError> {
+    let key = Vec::from_slice(alloc, key)?;
+    if place <= pairs.len() {
+        pairs.insert(place, (key, value))?;
+    }
+    Ok(())
 }
 
 /// Does a write to the pairs, and answers the key's value before.
 fn write_pairs(alloc: Global, pairs: &mut Pairs, write: &Write) -> Result<Option<Cid>, AllocError> {
-    let place = pairs.iter().take_while(|pair| pair.0 < write.key).count();
-    let previous = match pairs.get(place) {
-        Some(pair) if pair.0 == write.key => Some(pair.1),
-        _ => None,
-    };
+    let (place, previous) = place_of(pairs, write.key);
     if previous.is_some() && place < pairs.len() {
         pairs.remove(place);
     }
-    if let Some(value) = write.value
-        && place <= pairs.len()
-    {
-        pairs.insert(place, (write.key.clone()?, value))?;
+    if let Some(value) = write.value {
+        insert(alloc, pairs, place, write.key, value)?;
     }
     Ok(previous)
-}
-
-/// Does a write to the tree of these blocks.
-fn edit_tree<D: Digest, const B: u8>(
-    alloc: Global,
-    blocks: &Blocks<D>,
-    root: Cid,
-    write: &Write,
-) -> Result<Edit<D>, EditFault<D>>
-    requires least { 1 ≤ B }
-    requires most { B ≤ 8 }
-{
-    let mut map = BlockMap::new(alloc, blocks)?;
-    match write.value {
-        Some(value) if is_key(&write.key) => {
-            put::<D, B, _, _>(alloc, &mut map, root, &write.key, value)
-        }
-        Some(_) => Err(EditFault::NoMemory),
-        None => delete::<D, B, _, _>(alloc, &mut map, root, &write.key),
-    }
 }
 
 /// The pairs that some writes left, and the root and the blocks that the same edits left.
@@ -101,13 +121,14 @@ fn begin<D: Digest, const B: u8>(alloc: Global) -> Option<History<D>>
     requires least { 1 ≤ B }
     requires most { B ≤ 8 }
 {
-    let pairs = Vec::new(alloc);
-    let empty = tree_of::<D, B, _>(alloc, &pairs)?;
-    Some(History {
-        pairs,
-        root: empty.root,
-        blocks: empty.blocks,
-    })
+    match tree_of::<D, B, Vec<u8>>(alloc, &[]) {
+        Some(empty) => Some(History {
+            pairs: Vec::new(alloc),
+            root: empty.root,
+            blocks: empty.blocks,
+        }),
+        None => None,
+    }
 }
 
 impl<D: Digest> History<D> {
@@ -124,21 +145,36 @@ impl<D: Digest> History<D> {
         self.blocks.append(&mut add).is_ok()
     }
 
+    /// Does a write to the tree, and answers whether the key had this value before in it, too.
+    fn write_tree<const B: u8>(
+        &mut self,
+        alloc: Global,
+        write: &Write,
+        previous: Option<Cid>,
+    ) -> bool
+        requires least { 1 ≤ B }
+        requires most { B ≤ 8 }
+    {
+        let Write { key, value } = *write;
+        let (answer, _) = edited::<D, B>(alloc, &self.blocks, self.root, key, value);
+        match answer {
+            Ok(edit) => {
+                edit.previous == previous
+                    && (value.is_some() || previous.is_some())
+                    && self.take(edit)
+            }
+            Err(EditFault::NoSuchKey) => value.is_none() && previous.is_none(),
+            Err(_) => false,
+        }
+    }
+
     /// Does a write to the pairs and to the tree, and answers whether both had the same value before.
     fn write<const B: u8>(&mut self, alloc: Global, write: &Write) -> bool
         requires least { 1 ≤ B }
         requires most { B ≤ 8 }
     {
-        let Ok(previous) = write_pairs(alloc, &mut self.pairs, write) else {
-            return false;
-        };
-        match edit_tree::<D, B>(alloc, &self.blocks, self.root, write) {
-            Ok(edit) => {
-                edit.previous == previous
-                    && (write.value.is_some() || previous.is_some())
-                    && self.take(edit)
-            }
-            Err(EditFault::NoSuchKey) => write.value.is_none() && previous.is_none(),
+        match write_pairs(alloc, &mut self.pairs, write) {
+            Ok(previous) => self.write_tree::<B>(alloc, write, previous),
             Err(_) => false,
         }
     }
@@ -155,39 +191,61 @@ impl<D: Digest> History<D> {
     }
 }
 
-/// Does so many writes, and answers whether each left the root and the blocks of the tree from scratch, and the value
-/// before.
+impl<D: Digest> History<D> {
+    /// Does so many writes, and answers whether each left the root and the blocks of the tree from scratch, and the value
+    /// before.
+    fn agrees<const B: u8>(&mut self, alloc: Global, seed: u64, writes: u32) -> bool
+        requires least { 1 ≤ B }
+        requires most { B ≤ 8 }
+    {
+        let mut numbers = Numbers { state: seed };
+        for _ in 0..writes {
+            let write = random_write::<D>(&mut numbers);
+            if !self.write::<B>(alloc, &write) || !self.is_of_its_pairs::<B>(alloc) {
+                return false;
+            }
+        }
+        true
+    }
+
+    /// Whether puts of these keys in this order leave their tree, of five nodes.
+    fn leaves_five_nodes<const B: u8>(&mut self, alloc: Global, order: &[&'static [u8]; 3]) -> bool
+        requires least { 1 ≤ B }
+        requires most { B ≤ 8 }
+    {
+        for place in 0..3usize {
+            let write = put_of(order[place]);
+            if !self.write::<B>(alloc, &write) {
+                return false;
+            }
+        }
+        self.blocks.len() == 5 && self.is_of_its_pairs::<B>(alloc)
+    }
+}
+
+/// Whether a history of so many writes does.
 fn agrees<D: Digest, const B: u8>(alloc: Global, seed: u64, writes: u32) -> bool
     requires least { 1 ≤ B }
     requires most { B ≤ 8 }
 {
-    let mut numbers = Numbers { state: seed };
-    let Some(mut history) = begin::<D, B>(alloc) else {
-        return false;
-    };
-    for _ in 0..writes {
-        let Some(write) = random_write::<D>(alloc, &mut numbers) else {
-            return false;
-        };
-        if !history.write::<B>(alloc, &write) || !history.is_of_its_pairs::<B>(alloc) {
-            return false;
-        }
+    match begin::<D, B>(alloc) {
+        Some(mut history) => history.agrees::<B>(alloc, seed, writes),
+        None => false,
     }
-    true
 }
 
 #[test]
 fn histories_under_the_toy_digest(rt: HostRuntime) {
-    assert!(rt; agrees::<Toy, 1>(rt.alloc(), 1, 500));
-    assert!(rt; agrees::<Toy, 2>(rt.alloc(), 2, 1_000));
-    assert!(rt; agrees::<Toy, 8>(rt.alloc(), 3, 500));
+    let ones = agrees::<Toy, 1>(rt.alloc(), 1, 500);
+    let twos = agrees::<Toy, 2>(rt.alloc(), 2, 1_000);
+    assert!(rt; ones && twos && agrees::<Toy, 8>(rt.alloc(), 3, 500));
 }
 
 #[test]
 fn histories_under_sha_256(rt: HostRuntime) {
-    assert!(rt; agrees::<Sha256, 1>(rt.alloc(), 4, 500));
-    assert!(rt; agrees::<Sha256, 2>(rt.alloc(), 5, 1_000));
-    assert!(rt; agrees::<Sha256, 8>(rt.alloc(), 6, 500));
+    let ones = agrees::<Sha256, 1>(rt.alloc(), 4, 500);
+    let twos = agrees::<Sha256, 2>(rt.alloc(), 5, 1_000);
+    assert!(rt; ones && twos && agrees::<Sha256, 8>(rt.alloc(), 6, 500));
 }
 
 /// The keys of the tree of five nodes in each of their six orders.
@@ -200,34 +258,17 @@ const ORDERS: [[&[u8]; 3]; 6] = [
     [b"a/r0", b"a/q2", b"a/p0"],
 ];
 
-/// The put of a key.
-fn put_of(alloc: Global, key: &[u8]) -> Option<Write> {
-    let key = Vec::from_slice(alloc, key).ok()?;
-    Some(Write {
-        key,
-        value: Some(value()),
-    })
-}
-
 /// Whether puts of these keys in this order leave their tree, of five nodes.
-fn leave_five_nodes(alloc: Global, order: [&[u8]; 3]) -> bool {
-    let Some(mut history) = begin::<Toy, 2>(alloc) else {
-        return false;
-    };
-    for key in &order {
-        let Some(write) = put_of(alloc, key) else {
-            return false;
-        };
-        if !history.write::<2>(alloc, &write) {
-            return false;
-        }
+fn leave_five_nodes(alloc: Global, order: &[&'static [u8]; 3]) -> bool {
+    match begin::<Toy, 2>(alloc) {
+        Some(mut history) => history.leaves_five_nodes::<2>(alloc, order),
+        None => false,
     }
-    history.blocks.len() == 5 && history.is_of_its_pairs::<2>(alloc)
 }
 
 #[test]
 fn six_orders_leave_one_tree(rt: HostRuntime) {
-    for order in ORDERS {
+    for order in &ORDERS {
         assert!(rt; leave_five_nodes(rt.alloc(), order));
     }
 }

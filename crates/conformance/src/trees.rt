@@ -30,8 +30,6 @@ fn has_size<const B: u8>(alloc: Global, nodes: usize, bytes: usize) -> bool
 
 #[test]
 fn tree_of_five_nodes(rt: HostRuntime) {
-    assert!(rt; has_size::<1>(rt.alloc(), 9, 554));
-    assert!(rt; has_size::<2>(rt.alloc(), 5, 366));
-    assert!(rt; has_size::<4>(rt.alloc(), 3, 272));
-    assert!(rt; has_size::<8>(rt.alloc(), 1, 174));
+    let few = has_size::<1>(rt.alloc(), 9, 554) && has_size::<2>(rt.alloc(), 5, 366);
+    assert!(rt; few && has_size::<4>(rt.alloc(), 3, 272) && has_size::<8>(rt.alloc(), 1, 174));
 }

@@ -37,8 +37,9 @@ fn are_taken(
     core: &mut Core<Toy, 2>,
     order: &[Step<'static>; 3],
 ) -> bool {
-    for (turn, step) in (0..3u16).zip(order) {
-        if apply_steps(alloc, shard, core, turn, &[*step]) != Accepted(u64::from(turn) + 1) {
+    for turn in 0..3u16 {
+        let step = order[usize::from(turn)];
+        if apply_steps(alloc, shard, core, turn, &[step]) != Accepted(u64::from(turn) + 1) {
             return false;
         }
     }

@@ -9,7 +9,7 @@ use cid::digests::Toy;
 use cid::{Cid, Digest, Sha256};
 use repo::Core;
 use repo_fixtures::batch::Step::{Create, Delete, Put, Update};
-use repo_fixtures::batch::{EMPTY, EMPTY_NODE, Step, batch_at};
+use repo_fixtures::batch::{Batch, EMPTY, EMPTY_NODE, Step, batch_at};
 use repo_fixtures::cores::{apply, counts, end, held};
 use repo_fixtures::ends::Ended::{Accepted, Refused};
 use repo_fixtures::ends::{Ended, Why};
@@ -120,6 +120,25 @@ struct Drawn {
     pairs: Pairs,
 }
 
+impl Drawn {
+    /// Adds a write to the batch, at this place.
+    fn add<D: Digest>(
+        &mut self,
+        alloc: Global,
+        place: usize,
+        step: Step<'static>,
+    ) -> Result<(), AllocError> {
+        self.steps.push(step)?;
+        if let Accepted(count) = self.ended {
+            self.ended = match write_pairs::<D>(alloc, &mut self.pairs, step)? {
+                Some(why) => Refused(place, why),
+                None => Accepted(count.saturating_add(1)),
+            };
+        }
+        Ok(())
+    }
+}
+
 /// A batch of 1 to 20 writes after these pairs and so many writes.
 fn draw<D: Digest>(
     alloc: Global,
@@ -127,32 +146,24 @@ fn draw<D: Digest>(
     pairs: &Pairs,
     number: u64,
 ) -> Result<Drawn, AllocError> {
-    let mut steps = Vec::new(alloc);
-    let mut after = pairs.clone()?;
-    let mut ended = Accepted(number);
+    let mut drawn = Drawn {
+        steps: Vec::new(alloc),
+        ended: Accepted(number),
+        pairs: pairs.clone()?,
+    };
     for place in 0..=numbers.below(20) {
-        let step = random_step(numbers, &after);
-        steps.push(step)?;
-        if let Accepted(count) = ended {
-            ended = match write_pairs::<D>(alloc, &mut after, step)? {
-                Some(why) => Refused(place, why),
-                None => Accepted(count.saturating_add(1)),
-            };
-        }
+        let step = random_step(numbers, &drawn.pairs);
+        drawn.add::<D>(alloc, place, step)?;
     }
-    Ok(Drawn {
-        steps,
-        ended,
-        pairs: after,
-    })
+    Ok(drawn)
 }
 
-/// Whether a batch may end so: as it was drawn or, in a store that may be full, since it is full for a write before the
+/// Whether a batch may end so: as it was drawn or, in a store that is small, since it is full for a write before the
 /// refused one.
-fn may_end(drawn: &Drawn, ended: Ended, full: bool) -> bool {
+fn may_end(drawn: &Drawn, ended: Ended, is_small: bool) -> bool {
     match (ended, drawn.ended) {
-        (Refused(place, Why::StoreFull), Refused(before, _)) => full && place < before,
-        (Refused(place, Why::StoreFull), _) => full && place < drawn.steps.len(),
+        (Refused(place, Why::StoreFull), Refused(before, _)) => is_small && place < before,
+        (Refused(place, Why::StoreFull), _) => is_small && place < drawn.steps.len(),
         _ => ended == drawn.ended,
     }
 }
@@ -165,33 +176,76 @@ fn commit_of<D: Digest>(alloc: Global, stamp: &Stamp, root: Cid) -> Option<Cid> 
     }
 }
 
-/// Whether the next batch ends as it may, and leaves its pairs and its commit where it is accepted; `None` where there was no
-/// memory for it.
-fn agrees_next<D: Digest, const B: u8>(
-    alloc: Global,
-    shard: &mut Shard<D>,
-    core: &mut Core<D, B>,
-    numbers: &mut Numbers,
-    pairs: &mut Pairs,
-    turn: u16,
-    full: bool,
-) -> Option<bool>
-    requires least { 1 ≤ B }
-    requires most { B ≤ 8 }
-{
-    let drawn = draw::<D>(alloc, numbers, pairs, core.number()).ok()?;
-    let batch = batch_at(alloc, turn, &drawn.steps).ok()?;
-    let mut commit = core.commit();
-    let ended = apply(alloc, shard, core, &batch);
-    if !may_end(&drawn, ended, full) {
-        return Some(false);
+/// A repository, and the pairs that its writes leave.
+struct Side<D: Digest, const B: u8> {
+    core: Core<D, B>,
+    pairs: Pairs,
+}
+
+impl<D: Digest, const B: u8> Side<D, B> {
+    /// A repository without writes.
+    fn open<R: Abort>(rt: &R, alloc: Global, shard: &mut Shard<D>, me: u32) -> Side<D, B>
+        requires least { 1 ≤ B }
+        requires most { B ≤ 8 }
+        requires small { me < 1024 }
+    {
+        Side {
+            core: opened(rt, alloc, shard, me),
+            pairs: Vec::new(alloc),
+        }
     }
-    if matches!(ended, Accepted(_)) {
-        let Drawn { pairs: after, .. } = drawn;
-        *pairs = after;
-        commit = commit_of::<D>(alloc, &batch.stamp, core.root());
+
+    /// Whether a drawn batch ends as it may, and leaves its pairs and its commit where it is accepted.
+    fn takes(
+        &mut self,
+        alloc: Global,
+        shard: &mut Shard<D>,
+        drawn: Drawn,
+        batch: &Batch<Global>,
+        is_small: bool,
+    ) -> bool
+        requires least { 1 ≤ B }
+        requires most { B ≤ 8 }
+    {
+        let mut commit = self.core.commit();
+        let ended = apply(alloc, shard, &mut self.core, batch);
+        if !may_end(&drawn, ended, is_small) {
+            return false;
+        }
+        if matches!(ended, Accepted(_)) {
+            let Drawn { pairs, .. } = drawn;
+            self.pairs = pairs;
+            commit = commit_of::<D>(alloc, &batch.stamp, self.core.root());
+        }
+        is_of(alloc, &self.core, &self.pairs, commit)
     }
-    Some(is_of(alloc, core, pairs, commit))
+
+    /// The same for the next batch; it isn't so where there was no memory for the batch.
+    fn takes_next(
+        &mut self,
+        alloc: Global,
+        shard: &mut Shard<D>,
+        numbers: &mut Numbers,
+        turn: u16,
+        is_small: bool,
+    ) -> bool
+        requires least { 1 ≤ B }
+        requires most { B ≤ 8 }
+    {
+        let Ok(drawn) = draw::<D>(alloc, numbers, &self.pairs, self.core.number()) else {
+            return false;
+        };
+        match batch_at(alloc, turn, &drawn.steps) {
+            Ok(batch) => self.takes(alloc, shard, drawn, &batch, is_small),
+            Err(_) => false,
+        }
+    }
+
+    /// Gives the blocks back.
+    fn end(self, shard: &mut Shard<D>) {
+        let Side { core, pairs: _ } = self;
+        end(shard, core);
+    }
 }
 
 /// Whether the store has the blocks of both cores and no others.
@@ -206,8 +260,32 @@ fn has_both<D: Digest, const B: u8>(
     }
 }
 
-/// Whether each of thirty random batches on each of two repositories, in a store with so much room, leaves what it is to, and
-/// some are accepted.
+/// Whether each of thirty random batches on each of two repositories leaves what it is to, and some are accepted.
+fn take_all<D: Digest, const B: u8>(
+    alloc: Global,
+    shard: &mut Shard<D>,
+    first: &mut Side<D, B>,
+    second: &mut Side<D, B>,
+    is_small: bool,
+) -> bool
+    requires least { 1 ≤ B }
+    requires most { B ≤ 8 }
+{
+    let mut numbers = Numbers {
+        state: u64::from(B),
+    };
+    for turn in 0..30u16 {
+        if !first.takes_next(alloc, shard, &mut numbers, turn, is_small)
+            || !second.takes_next(alloc, shard, &mut numbers, turn, is_small)
+            || !has_both(shard, &first.core, &second.core)
+        {
+            return false;
+        }
+    }
+    first.core.number() > 0 && second.core.number() > 0
+}
+
+/// Whether this is so in a store with so much room, and its blocks are all given back.
 fn agrees<R: Abort, D: Digest, const B: u8>(rt: &R, alloc: Global, room: usize) -> bool
     requires least { 1 ≤ B }
     requires most { B ≤ 8 }
@@ -215,41 +293,11 @@ fn agrees<R: Abort, D: Digest, const B: u8>(rt: &R, alloc: Global, room: usize) 
     requires most_room { room ≤ 1000 }
 {
     let mut shard: Shard<D> = Shard::new(alloc, room);
-    let mut first: Core<D, B> = opened(rt, alloc, &mut shard, 0);
-    let mut second: Core<D, B> = opened(rt, alloc, &mut shard, 1);
-    let mut numbers = Numbers {
-        state: u64::from(B),
-    };
-    let (mut ones, mut others) = (Vec::new(alloc), Vec::new(alloc));
-    let full = room < 100;
-    let mut is_right = true;
-    for turn in 0..30u16 {
-        let one = agrees_next(
-            alloc,
-            &mut shard,
-            &mut first,
-            &mut numbers,
-            &mut ones,
-            turn,
-            full,
-        );
-        let other = agrees_next(
-            alloc,
-            &mut shard,
-            &mut second,
-            &mut numbers,
-            &mut others,
-            turn,
-            full,
-        );
-        is_right = is_right
-            && one == Some(true)
-            && other == Some(true)
-            && has_both(&shard, &first, &second);
-    }
-    is_right = is_right && first.number() > 0 && second.number() > 0;
-    end(&mut shard, first);
-    end(&mut shard, second);
+    let mut first: Side<D, B> = Side::open(rt, alloc, &mut shard, 0);
+    let mut second: Side<D, B> = Side::open(rt, alloc, &mut shard, 1);
+    let is_right = take_all(alloc, &mut shard, &mut first, &mut second, room < 100);
+    first.end(&mut shard);
+    second.end(&mut shard);
     is_right && counts(&shard) == (0, 0)
 }
 

@@ -121,7 +121,7 @@ fn have_count<R: Wait>(rt: &R, shards: &Shards<Toy>, core: &Core<Toy, 2>, count:
     true
 }
 
-/// Whether two cores share all blocks by the same batch, and none once the second takes the key away.
+/// Whether two cores share all blocks by the same batch.
 fn share_blocks<R: Wait>(
     rt: &R,
     alloc: Global,
@@ -132,7 +132,17 @@ fn share_blocks<R: Wait>(
     ended(rt, alloc, shards, first, 0, Put(b"a/b0", THREE)) == Accepted(1)
         && ended(rt, alloc, shards, second, 0, Put(b"a/b0", THREE)) == Accepted(1)
         && have_count(rt, shards, first, 2)
-        && ended(rt, alloc, shards, second, 1, Delete(b"a/b0")) == Accepted(2)
+}
+
+/// Whether they share none once the second takes the key away.
+fn share_none<R: Wait>(
+    rt: &R,
+    alloc: Global,
+    shards: &Shards<Toy>,
+    first: &Core<Toy, 2>,
+    second: &mut Core<Toy, 2>,
+) -> bool {
+    ended(rt, alloc, shards, second, 1, Delete(b"a/b0")) == Accepted(2)
         && have_count(rt, shards, first, 1)
         && have_count(rt, shards, second, 1)
 }
@@ -142,9 +152,10 @@ fn two_repositories_in_the_shards(rt: HostRuntime) {
     let shards: Shards<Toy> = Shards::open(rt.alloc(), 5);
     let mut first = opened(&rt, rt.alloc(), &shards, 0);
     let mut second = opened(&rt, rt.alloc(), &shards, 1);
-    assert!(rt; share_blocks(&rt, rt.alloc(), &shards, &mut first, &mut second));
+    let is_right = share_blocks(&rt, rt.alloc(), &shards, &mut first, &mut second)
+        && share_none(&rt, rt.alloc(), &shards, &first, &mut second);
     first.end(&mut LockedShards::new(&rt, &shards));
-    assert!(rt; have_count(&rt, &shards, &second, 1));
+    let is_left = have_count(&rt, &shards, &second, 1);
     second.end(&mut LockedShards::new(&rt, &shards));
-    assert!(rt; are_empty(shards));
+    assert!(rt; is_right && is_left && are_empty(shards));
 }

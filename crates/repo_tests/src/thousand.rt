@@ -12,9 +12,10 @@ use repo_fixtures::cores::{apply, counts, end, held};
 use repo_fixtures::ends::Ended::Accepted;
 use repo_fixtures::trees::{is_of, tree_of};
 use std::alloc::{AllocError, Global};
+use std::process::Abort;
 use store::Shard;
 
-type Pairs = Vec<(Vec<u8>, Cid)>;
+type Pairs = Vec<([u8; 5], Cid)>;
 
 /// The key of a number, whose last digit is its layer where it is from 0 to 3.
 fn key_of(number: u16) -> [u8; 5] {
@@ -37,32 +38,43 @@ fn record_of(number: u16, letter: u8) -> [u8; 6] {
     [0xa1, 0x61, letter, 0x42, high, low]
 }
 
-/// Puts of numbers below 1,000 that are so far apart, in order, and the pairs that they leave on a repository without writes.
-fn puts(
-    alloc: Global,
-    turn: u16,
-    apart: u16,
-    letter: u8,
-) -> Result<(Batch<Global>, Pairs), AllocError>
+/// A batch of puts, and the pairs that they leave on a repository without writes.
+#[derive(Drop)]
+struct Puts {
+    batch: Batch<Global>,
+    pairs: Pairs,
+}
+
+impl Puts {
+    /// Adds the put of a number.
+    fn add(&mut self, alloc: Global, number: u16, letter: u8) -> Result<(), AllocError> {
+        let (key, record) = (key_of(number), record_of(number, letter));
+        let put = write_of(alloc, Step::Put(&key, &record))?;
+        self.batch.writes.push(put)?;
+        self.pairs.push((key, Cid::of::<Toy>(&record)))?;
+        Ok(())
+    }
+}
+
+/// Puts of numbers below 1,000 that are so far apart, in order.
+fn made_puts(alloc: Global, turn: u16, apart: u16, letter: u8) -> Result<Puts, AllocError>
     requires { 1 ≤ apart }
 {
-    let mut batch = batch_at(alloc, turn, &[])?;
-    let mut pairs = Vec::new(alloc);
+    let mut puts = Puts {
+        batch: batch_at(alloc, turn, &[])?,
+        pairs: Vec::new(alloc),
+    };
     for number in 0..1000u16 {
         if number % apart == 0 {
-            let (key, record) = (key_of(number), record_of(number, letter));
-            batch
-                .writes
-                .push(write_of(alloc, Step::Put(&key, &record))?)?;
-            pairs.push((Vec::from_slice(alloc, &key)?, Cid::of::<Toy>(&record)))?;
+            puts.add(alloc, number, letter)?;
         }
     }
-    Ok((batch, pairs))
+    Ok(puts)
 }
 
 /// How many blocks a repository of these pairs has, each with a record of its own: nodes, records and the commit.
 fn count_of(alloc: Global, pairs: &Pairs) -> usize {
-    match tree_of::<Toy, 2, Vec<u8>>(alloc, pairs) {
+    match tree_of::<Toy, 2, [u8; 5]>(alloc, pairs) {
         Some(tree) => tree
             .blocks
             .len()
@@ -72,43 +84,39 @@ fn count_of(alloc: Global, pairs: &Pairs) -> usize {
     }
 }
 
-/// Whether two batches are accepted, and leave the tree of all pairs, so many blocks and no others.
+/// Whether two batches are accepted, and leave the tree of the second one's pairs, so many blocks and no others.
 fn are_taken(
     alloc: Global,
     shard: &mut Shard<Toy>,
     core: &mut Core<Toy, 2>,
-    batches: [&Batch<Global>; 2],
-    pairs: &Pairs,
+    few: &Puts,
+    all: &Puts,
     count: u64,
 ) -> bool {
-    let [few, all] = batches;
-    apply(alloc, shard, core, few) == Accepted(143)
-        && apply(alloc, shard, core, all) == Accepted(1143)
-        && is_of(alloc, core, pairs, core.commit())
-        && held(shard, core) == Some(count)
-        && counts(shard) == (count, count)
+    apply(alloc, shard, core, &few.batch) == Accepted(143)
+        && apply(alloc, shard, core, &all.batch) == Accepted(1143)
+        && is_of(alloc, core, &all.pairs, core.commit())
+        && (held(shard, core), counts(shard)) == (Some(count), (count, count))
 }
 
-/// Of two batches the second writes each key of the first once more. There is room for the blocks before it, those after it,
-/// and the nodes that one edit adds: two in each of the four layers.
+/// Whether a store has no more room than both batches need: for the blocks before the second one, those after it, and the
+/// nodes that one edit adds, two in each of the four layers.
+fn fit<R: Abort>(rt: &R, alloc: Global, few: &Puts, all: &Puts) -> bool {
+    let (before, after) = (count_of(alloc, &few.pairs), count_of(alloc, &all.pairs));
+    if before >= 1000 || after >= 3000 || all.batch.writes.len() != 1000 {
+        return false;
+    }
+    let mut shard = Shard::new(alloc, before + after + 8);
+    let mut core = opened(rt, alloc, &mut shard, 0);
+    let are_so = are_taken(alloc, &mut shard, &mut core, few, all, after as u64);
+    end(&mut shard, core);
+    are_so
+}
+
+/// Of two batches the second writes each key of the first once more.
 #[test]
 fn a_thousand_puts(rt: HostRuntime) {
-    let (few, some) = puts(rt.alloc(), 0, 7, b'm').expect(&rt, "a batch");
-    let (all, pairs) = puts(rt.alloc(), 1, 1, b'n').expect(&rt, "a batch");
-    let (before, after) = (count_of(rt.alloc(), &some), count_of(rt.alloc(), &pairs));
-    assert!(rt; before < 1000 && after < 3000 && all.writes.len() == 1000);
-    let mut shard = Shard::new(rt.alloc(), before + after + 8);
-    let mut core = opened(&rt, rt.alloc(), &mut shard, 0);
-    let batches = [&few, &all];
-    assert!(rt;
-        are_taken(
-            rt.alloc(),
-            &mut shard,
-            &mut core,
-            batches,
-            &pairs,
-            after as u64
-        )
-    );
-    end(&mut shard, core);
+    let few = made_puts(rt.alloc(), 0, 7, b'm').expect(&rt, "a batch");
+    let all = made_puts(rt.alloc(), 1, 1, b'n').expect(&rt, "a batch");
+    assert!(rt; fit(&rt, rt.alloc(), &few, &all));
 }
