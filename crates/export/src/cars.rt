@@ -41,12 +41,15 @@ pub fn car<D: Digest, const B: u8, A: Allocator + Clone, W: Out>(
     let commit = core.commit();
     let root = core.root();
     let mut lender = core.lender();
-    car_within(alloc, &mut lender, commit, root, 256 / B as u16 + 1, out)
+    car_over(alloc, &mut lender, commit, root, 256 / B as u16 + 1, out)
 }
 
 /// Writes the CAR of a commit, if there is one, and of the tree with this root, over `most` layers at most: of each
-/// block that the source has.
-fn car_within<
+/// block that the source has, and answers how many bytes that are.
+///
+/// It is for who has a repository's blocks and no `Core`. A CID that the source has no block for is passed over. The faults
+/// are those of [`car`].
+pub fn car_over<
     'a,
     D: Digest + 'a,
     A: Allocator + Clone + 'a,

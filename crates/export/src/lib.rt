@@ -1,7 +1,7 @@
 //! Exports of a repository, and proofs about its single keys.
 //!
 //! [`car`] writes a repository as one file (CARv1) to whatever is an [`Out`]: [`ToMemory`], or [`ToWriter`] over a writer of
-//! the standard library.
+//! the standard library. [`car_over`] does so for blocks that stand elsewhere than in a `Core`.
 //!
 //! A proof that a tree has a value under a key, or none, is the list of the nodes on the key's path. [`prove`] makes it, and
 //! [`verify`] tells what such blocks prove to someone who knows the tree's root alone: nothing of the host that gave them is
@@ -35,7 +35,7 @@ mod verifying;
 mod walk;
 mod whole;
 
-pub use cars::car;
+pub use cars::{car, car_over};
 pub use export_fault::ExportFault;
 pub use log::Log;
 pub use out::{Failed, Out};

@@ -64,7 +64,7 @@ fn put_of<A: Allocator + Copy>(
 }
 
 /// Puts of these records.
-fn puts_of<A: Allocator + Copy>(
+pub(crate) fn puts_of<A: Allocator + Copy>(
     alloc: A,
     records: &[Record<'_>],
 ) -> Result<Vec<Write<A>, A>, AllocError> {
@@ -76,7 +76,7 @@ fn puts_of<A: Allocator + Copy>(
 }
 
 /// The stamp of every batch.
-fn stamp<A: Allocator + Copy>(alloc: A) -> Result<Stamp<A>, AllocError> {
+pub(crate) fn stamp<A: Allocator + Copy>(alloc: A) -> Result<Stamp<A>, AllocError> {
     let did = Vec::from_slice(alloc, b"did:web:a.b")?;
     let rev = Vec::from_slice(alloc, b"3jzfcijpj2z2a")?;
     Ok(Stamp { did, rev })

@@ -3,6 +3,8 @@
 #![tactic(auto)]
 
 #[cfg(test)]
+mod built_at_once;
+#[cfg(test)]
 mod cars;
 #[cfg(test)]
 mod chains;

@@ -1,5 +1,5 @@
 //! The command `car`: it puts the lines of its input into a repository and writes it as one file.
-ghost use Rattle.std.specs.Prelude.{◌≡◌, true, false, IfErr, IfOk, IfSome, IsErr};
+ghost use Rattle.std.specs.Prelude.{◌≡◌, true, false, Ok, IfErr, IfOk, IfSome, IsErr};
 ghost use Rattle.spec.specs.Reading.{Gives};
 ghost use Rattle.spec.specs.States.{state_car};
 ghost use Rattle.batches.specs.Values.{stamp_of};
@@ -12,10 +12,11 @@ ghost use Rattle.repository_commands.specs.Views.{given_of};
 
 use crate::ending::write_made;
 use crate::fault::CommandFault;
-use crate::filling::filled;
+use crate::filling::{MOST_WRITES, filled};
 use crate::puts::{Puts, read_puts};
 use crate::tables::Tables;
 use batches::{Stamp, is_did, is_tid};
+use built_car::built_car;
 use cid::Digest;
 use export::ToMemory;
 use repo::Core;
@@ -84,8 +85,43 @@ fn check_stamp<D: Digest>(stamp: &Stamp) -> Result<(), CommandFault<D>>
     Ok(())
 }
 
-/// The file of the repository of these puts.
+/// The file of the repository of these puts: built at once where that can be, and else put by put, which tells the first line
+/// at fault.
 fn car_of_puts<D: Digest>(
+    alloc: Global,
+    stamp: &Stamp,
+    puts: Puts<Global>,
+) -> Result<Vec<u8>, CommandFault<D>>
+    ensures file { Gives (λ bytes. bytes.items) fault_of result
+        (car_of_given D.digest_of (stamp_of stamp.now) (given_of puts)) }
+    ensures refused { IfErr result
+        (IsRefusedLine D.digest_of (stamp_of stamp.now) (given_of puts)) }
+    ensures kind { IfErr result (λ e. is_write_failure e ≡ false) }
+{
+    match car_at_once::<D>(alloc, stamp, &puts) {
+        Ok(Some(file)) => Ok(file),
+        Ok(None) => car_put_by_put(alloc, stamp, puts),
+        Err(_) => Err(CommandFault::NoMemory),
+    }
+}
+
+/// The file, built at once, where each line is a put that is taken and no two blocks clash.
+fn car_at_once<D: Digest>(
+    alloc: Global,
+    stamp: &Stamp,
+    puts: &Puts<Global>,
+) -> Result<Option<Vec<u8>>, AllocError>
+    ensures { IfOk result (λ found. IfSome found (λ file.
+        car_of_given D.digest_of (stamp_of stamp.now) (given_of puts.now) ≡ Ok file.items)) }
+{
+    if puts.stop.is_some() || puts.writes.is_empty() {
+        return Ok(None);
+    }
+    built_car::<D, 2, Global>(alloc, MOST_WRITES, stamp, &puts.writes)
+}
+
+/// The file, put by put.
+fn car_put_by_put<D: Digest>(
     alloc: Global,
     stamp: &Stamp,
     puts: Puts<Global>,

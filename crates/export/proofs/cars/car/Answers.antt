@@ -10,10 +10,10 @@ pub returns-clause-taken : goal.returns-clause-taken
 returns-clause-taken g c =
     let is = car-met g.D.Digest.digest_of (bytes_lent c.lender-lender.result.blocks.now) g.row.B g.met.D.Digest.digest_len c.args.core.now
     c.lender-lender.ensures.blocks c.lender-lender.ensures.tree c.commit-commit.result c.root-root.result c.commit-commit.ensures.value c.root-root.ensures.value in
-    subst (λ (file : List ℕ). Takes (g.W.Out.taken c.args.out.now) (g.W.Out.taken c.car_within.new.out) c.car_within.result file) is c.car_within.ensures.taken
+    subst (λ (file : List ℕ). Takes (g.W.Out.taken c.args.out.now) (g.W.Out.taken c.car_over.new.out) c.car_over.result file) is c.car_over.ensures.taken
 
 pub returns-clause-length : goal.returns-clause-length
 returns-clause-length g c =
     let is = car-met g.D.Digest.digest_of (bytes_lent c.lender-lender.result.blocks.now) g.row.B g.met.D.Digest.digest_len c.args.core.now
     c.lender-lender.ensures.blocks c.lender-lender.ensures.tree c.commit-commit.result c.root-root.result c.commit-commit.ensures.value c.root-root.ensures.value in
-    subst (λ (file : List ℕ). IfOk c.car_within.result (λ count. count ≡ capped (length file))) is c.car_within.ensures.length
+    subst (λ (file : List ℕ). IfOk c.car_over.result (λ count. count ≡ capped (length file))) is c.car_over.ensures.length

@@ -1,7 +1,7 @@
 use Rattle.std.specs.Arc.{arc_value}
 use Rattle.export.proofs.Leaving.{takes-nothing}
 use Rattle.export.proofs.WholeFile.{stops-header, stops-commit, stops-blocks, file-taken, file-length}
-use Rattle.export.proofs.cars.car_within.Goals as goal
+use Rattle.export.proofs.cars.car_over.Goals as goal
 
 pub returns-in_err-clone-clause-taken : goal.returns-in_err-clone-clause-taken
 returns-in_err-clone-clause-taken g c =

@@ -1,0 +1,92 @@
+//! The file of a list of puts.
+
+ghost use Rattle.std.specs.Prelude.{◌≡◌, ◌≤◌, [], Ok, Some, map, option_map, IfOk, IfSome, IfNone};
+ghost use Rattle.std.specs.Arc.{arc_value};
+ghost use Rattle.spec.specs.States.{after_batch, fresh, state_car};
+ghost use Rattle.spec.specs.Writes.{batch_test};
+ghost use Rattle.batches.specs.Values.{stamp_of, writes_of};
+ghost use Rattle.export.specs.Walks.{car_met};
+ghost use Rattle.built_car.specs.Building.{HasClash, IsFileOf};
+ghost use Rattle.built_car.specs.Refusing.{IsNotBuilt};
+
+use crate::blocks::gives_each;
+use crate::building::{BuiltBlocks, built_blocks};
+use crate::records::records_of;
+use batches::{Stamp, Write};
+use cid::{Block, Cid, Digest};
+use edit::{BlockMap, Source};
+use export::{ToMemory, car_over};
+use std::alloc::{AllocError, Allocator};
+use std::sync::Arc;
+
+/// The file (CARv1) of a repository of at most `limit` writes whose one batch has these writes under this stamp, or `None`
+/// where there is none to build: where a write isn't a put, or isn't taken, or blocks clash. The stamp isn't tested.
+///
+/// `AllocError` comes where memory was refused.
+pub fn built_car<D: Digest, const B: u8, A: Allocator + Copy>(
+    alloc: A,
+    limit: usize,
+    stamp: &Stamp<A>,
+    writes: &[Write<A>],
+) -> Result<Option<Vec<u8, A>>, AllocError>
+    requires least { 1 ≤ B }
+    requires most { B ≤ 8 }
+    ensures passes { IfOk result (λ found. IfSome found
+        (λ _. batch_test limit [] (writes_of writes.now) ≡ Ok tt)) }
+    ensures file { IfOk result (λ found. IfSome found (λ file. file.items
+        ≡ state_car D.digest_of B
+        (after_batch (fresh 0 limit) (stamp_of stamp.now) (writes_of writes.now)))) }
+    ensures none { IfOk result (λ found. IfNone found
+        (IsNotBuilt D.digest_of B limit (stamp_of stamp.now) (writes_of writes.now))) }
+{
+    let Some(records) = records_of::<D, A>(alloc, limit, writes)? else {
+        return Ok(None);
+    };
+    let Some(built) = built_blocks::<D, B, A>(alloc, stamp, records)? else {
+        return Ok(None);
+    };
+    file_of::<D, B, A>(alloc, &built)
+}
+
+/// The file of these blocks, or `None` where two of them clash.
+fn file_of<D: Digest, const B: u8, A: Allocator + Copy>(
+    alloc: A,
+    built: &BuiltBlocks<D, A>,
+) -> Result<Option<Vec<u8, A>>, AllocError>
+    requires { 1 ≤ B }
+    ensures file { IfOk result (λ found. IfSome found (IsFileOf D.digest_of B built.now)) }
+    ensures none { IfOk result (λ found. IfNone found
+        (HasClash D.digest_of (map arc_value built.now.blocks.items))) }
+{
+    let mut source = BlockMap::new(alloc, &built.blocks)?;
+    if !gives_each::<D, A, BlockMap<'_, D, A>>(&mut source, &built.blocks) {
+        return Ok(None);
+    }
+    let most = 256 / B as u16 + 1;
+    let file = car_in_memory::<D, A, BlockMap<'_, D, A>>(
+        alloc,
+        &mut source,
+        built.commit,
+        built.root,
+        most,
+    )?;
+    Ok(Some(file))
+}
+
+/// The CAR of a commit and of the tree with this root, over `most` layers at most, in memory.
+fn car_in_memory<'a, D: Digest + 'a, A: Allocator + Copy + 'a, S: Source<'a, Arc<Block<D, A>, A>>>(
+    alloc: A,
+    source: &mut S,
+    commit: Cid,
+    root: Cid,
+    most: u16,
+) -> Result<Vec<u8, A>, AllocError>
+    ensures { IfOk result (λ bytes. bytes.items ≡ car_met D.digest_of
+        (λ c. option_map arc_value (S.gives source.old c)) most (Some commit) root) }
+{
+    let mut file = ToMemory::new(alloc);
+    match car_over(alloc, source, Some(commit), root, most, &mut file) {
+        Ok(_) => Ok(file.into_bytes()),
+        Err(_) => Err(AllocError),
+    }
+}

@@ -1,0 +1,22 @@
+//! The file of a repository whose only batch is a list of puts, with its tree built at once.
+//!
+//! A repository takes its writes one by one, and each of them writes the path of its key anew: of a long batch nearly all
+//! nodes are replaced by later ones. Who needs no repository afterwards but its file has it in a fraction of the time by
+//! [`built_car`], which sorts the records, builds their tree from scratch, and writes what a repository would export.
+//!
+//! It says no more of a batch that a repository wouldn't take than that it isn't one: `repo::Core::apply` tells which write
+//! is refused, and why.
+//!
+//! ```text
+//! let stamp = Stamp { did, rev };
+//! let file: Option<Vec<u8>> = built_car::<Sha256, 2, _>(alloc, 1_048_576, &stamp, &writes)?;
+//! ```
+#![tactic(auto)]
+
+mod blocks;
+mod building;
+mod file;
+mod pairs;
+mod records;
+
+pub use file::built_car;
