@@ -1,4 +1,4 @@
-//! The command `car`: it puts the lines of its input into a repository and writes it as one file.
+//! The command `car`: the repository that the lines of its input leave, as one file.
 ghost use Rattle.std.specs.Prelude.{◌≡◌, true, false, Ok, IfErr, IfOk, IfSome, IsErr};
 ghost use Rattle.spec.specs.Reading.{Gives};
 ghost use Rattle.spec.specs.States.{state_car};
@@ -24,7 +24,8 @@ use std::alloc::{AllocError, Global};
 use std::io::{Read, Write};
 
 /// Reads lines `KEY HEX`, puts each record under its key into one repository, all in one batch under a stamp, and writes
-/// the repository as one file (CARv1; AT Protocol repository v3, unsigned commits). Without lines there is no batch.
+/// the repository as one file (CARv1; AT Protocol repository v3, unsigned commits). Without lines there is no batch. The
+/// file is built at once; where it can't be, the puts are tried one by one, to tell the line at fault.
 ///
 /// Lines end at LF or CR LF, and a last line needs no end. An empty line is passed over, and counted. The key is all before
 /// the first space, and the record's bytes stand after it in hexadecimal, in either case. A line of another shape is

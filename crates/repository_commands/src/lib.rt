@@ -1,8 +1,8 @@
 //! The commands on one repository, over any reader and writers: its export, proofs of its keys, and what such proofs show
 //! (AT Protocol repository v3, CARv1; the forms of the texts are this repository's own).
 //!
-//! - `car_text` puts the lines of an input into a repository and writes it as one file.
-//! - `prove_text` does the same and writes the nodes on the path of a key.
+//! - `car_text` writes the file of the repository that the lines of an input leave.
+//! - `prove_text` puts the lines into a repository and writes the nodes on the path of a key.
 //! - `verify_text` reads such nodes and writes what they show of a key under a root.
 //! - `CommandFault` says why there is no text, or not all of it; a line of the input is named by its number.
 //!
