@@ -13,7 +13,7 @@ help:
 	@echo 'make clean             takes away what was built'
 	@echo
 	@echo 'Tests stand in crates of their own: of dagcbor and node in format_tests, of sha256_lanes, cid, store and refusing in'
-	@echo 'block_tests, of scratch and edit in tree_tests, of notices in notice_tests, of batches and kept in batch_tests, of repo in'
+	@echo 'block_tests, of scratch, rewrite and edit in tree_tests, of notices in notice_tests, of batches and kept in batch_tests, of repo in'
 	@echo 'repo_tests, both over repo_fixtures, of closing in closing_tests, of host in host_tests, of scripts in script_tests, of'
 	@echo 'export and built_car in export_tests, of console, script_text, repository_commands, run_command and commands in command_tests,'
 	@echo 'across crates in conformance.'

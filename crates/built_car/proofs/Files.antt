@@ -20,8 +20,8 @@ use Rattle.spec.proofs.Bools.{from_T}
 use Rattle.spec.proofs.RecordPairs.{lawful-pairs}
 use Rattle.spec.proofs.RepositoryBlocks.{block-sets}
 use Rattle.spec.proofs.WriteLaws.{is_sorted-leaves}
-use Rattle.paths.specs.Sources.{HasBlocks}
-use Rattle.paths.proofs.BlockSources.{source-nodes}
+use Rattle.edit_laws.specs.Sources.{HasBlocks}
+use Rattle.edit_laws.proofs.BlockSources.{source-nodes}
 use Rattle.edit.specs.Trees.{HasTree}
 use Rattle.export.proofs.Exported.{car-met}
 use Rattle.built_car.specs.declared.building.BuiltBlocks.{BuiltBlocks}

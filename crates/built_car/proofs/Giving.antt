@@ -10,8 +10,8 @@ use Rattle.std.proofs.lemmas.List.Elements.{Contains-append_cases}
 use Rattle.spec.specs.Cid.{cid}
 use Rattle.std.specs.Str.{bytes_eq}
 use Rattle.spec.specs.Blocks.{IsClash, IsClashFree, block_at}
-use Rattle.paths.specs.Sources.{HasBlocks}
-use Rattle.paths.proofs.BlockSources.{blocks-source}
+use Rattle.edit_laws.specs.Sources.{HasBlocks}
+use Rattle.edit_laws.proofs.BlockSources.{blocks-source}
 use Rattle.edit.specs.Maps.{first_of}
 use Rattle.scratch.specs.Faults.{IsClashIn}
 use Rattle.built_car.specs.Building.{HasClash}

@@ -6,7 +6,7 @@ use Rattle.spec.specs.Blocks.{IsClashFree, nodes, pairs, record_blocks, reposito
 use Rattle.spec.specs.Cid.{cid}
 use Rattle.spec.specs.Commits.{commit_bytes}
 use Rattle.spec.specs.Stamps.{Stamp}
-use Rattle.paths.specs.Sources.{HasBlocks}
+use Rattle.edit_laws.specs.Sources.{HasBlocks}
 use Rattle.edit.specs.Maps.{first_of}
 use Rattle.edit.specs.Steps.{layers}
 use Rattle.export.specs.Walks.{car_met}

@@ -3,7 +3,7 @@
 ghost use Rattle.std.specs.Prelude.{◌≡◌, ◌++◌, ◌∷◌, true, false, map, option_map, IfOk};
 ghost use Rattle.std.specs.Arc.{arc_value};
 ghost use Rattle.spec.specs.Blocks.{record_blocks};
-ghost use Rattle.paths.specs.Sources.{HasBlocks};
+ghost use Rattle.edit_laws.specs.Sources.{HasBlocks};
 ghost use Rattle.built_car.specs.Records.{records_in};
 
 use crate::records::Records;

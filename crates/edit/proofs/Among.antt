@@ -10,11 +10,11 @@ use Rattle.std.proofs.lemmas.Slice.Eq.{bytes_eq-Decides}
 use Rattle.spec.specs.Cid.{cid}
 use Rattle.spec.specs.Blocks.{IsClashFree, firsts, IsClash}
 use Rattle.spec.proofs.RootLaws.{in_head, in_tail}
-use Rattle.paths.specs.Changes.{has_cid, add_of}
+use Rattle.edit_laws.specs.Changes.{has_cid, add_of}
 use Rattle.edit.specs.Changes.{IsAmong}
 use Rattle.edit.specs.Faults.{IsRefusal, IsClashIn}
-use Rattle.edit.specs.declared.fault.EditFault.{EditFault}
-use Rattle.edit.specs.declared.fault.EditFault.TheVariants.{NoSuchKey, Clash, NoMemory}
+use Rattle.edit.specs.declared.outcome.EditFault.{EditFault}
+use Rattle.edit.specs.declared.outcome.EditFault.TheVariants.{NoSuchKey, Clash, NoMemory}
 
 any-map : {A B : Type 0} (p : B → Bool) (f : A → B) (xs : List A) → list_any p (map f xs) ≡ list_any (λ x. p (f x)) xs
 any-map p f [] = refl

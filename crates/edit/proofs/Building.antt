@@ -5,16 +5,16 @@ use Rattle.std.specs.declared.option.Option.TheVariants.{Some}
 use Rattle.std.specs.List.{AllByRecursion}
 use Rattle.std.proofs.lemmas.List.{map-append, take_all}
 use Rattle.spec.specs.NodeFormat.{Shape, LastLink, MoreLinks, first_link, shape_bytes, shape_cid}
-use Rattle.paths.specs.Lawful.{Lawful, AllLawful}
-use Rattle.paths.specs.ShapeEdit.{close_link, close_shapes, keep_before, keep_after, split_links, split_shapes, lift_link, lift_shapes, go_shape, merge_links, merge_shapes, settle_links, settle_shape, settle_shapes}
-use Rattle.paths.specs.PathEdit.{raise, raise_shapes, climb, climb_shapes}
-use Rattle.edit.specs.declared.draft_fault.DraftFault.{DraftFault}
-use Rattle.edit.specs.declared.draft_fault.DraftFault.TheVariants.{NotNode, NoMemory}
-use Rattle.edit.specs.declared.build.settle.Settled.{Settled}
-use Rattle.edit.specs.declared.build.settle.Settled.TheVariants.{Made, Below}
-use Rattle.edit.specs.Drafts.{IsFaultOf}
+use Rattle.edit_laws.specs.Lawful.{Lawful, AllLawful}
+use Rattle.edit_laws.specs.ShapeEdit.{close_link, close_shapes, cut_before, cut_after, split_links, split_shapes, padded_link, link_pads, link_replaced, merge_links, merge_shapes, trim_links, trim_shape, trim_shapes}
+use Rattle.edit_laws.specs.PathEdit.{padded_node, node_pads, climb, climb_shapes}
+use Rattle.rewrite.specs.declared.fault.RewriteFault.{RewriteFault}
+use Rattle.rewrite.specs.declared.fault.RewriteFault.TheVariants.{NotNode, NoMemory}
+use Rattle.edit.specs.declared.below.Trimmed.{Trimmed}
+use Rattle.edit.specs.declared.below.Trimmed.TheVariants.{Made, Below}
+use Rattle.rewrite.specs.Drafts.{IsFaultOf}
 use Rattle.edit.specs.Faults.{IsFaultUnless}
-use Rattle.edit.specs.Settled.{are_bare, IsSettled}
+use Rattle.edit.specs.Trimmed.{have_no_pairs, IsTrimmed}
 
 -- ---- lists
 
@@ -50,11 +50,11 @@ pub on_ok : {T E P : Type 0} (r : Result T E) → P → OnOk r P
 on_ok (Ok x) p = p
 on_ok (Err e) p = tt
 
-pub unless-weaker : (P Q : Type 0) (f : DraftFault) → (Q → P) → IsFaultUnless P f → IsFaultUnless Q f
+pub unless-weaker : (P Q : Type 0) (f : RewriteFault) → (Q → P) → IsFaultUnless P f → IsFaultUnless Q f
 unless-weaker P Q NotNode h n = λ q. n (h q)
 unless-weaker P Q NoMemory h n = tt
 
-pub of-unless : (s : Shape) (Q : Type 0) (f : DraftFault) → (Q → Lawful s) → IsFaultOf s f → IsFaultUnless Q f
+pub of-unless : (s : Shape) (Q : Type 0) (f : RewriteFault) → (Q → Lawful s) → IsFaultOf s f → IsFaultUnless Q f
 of-unless s Q NotNode h n = λ q. n (h q)
 of-unless s Q NoMemory h n = tt
 
@@ -67,41 +67,41 @@ closed-lawful (MoreLinks l e r) h = h.0
 module _ (digest : List ℕ → List ℕ) where
   -- ---- split
 
-  pub split-below : (key : List ℕ) (path xs : List Shape) (x : Shape) (f : DraftFault) → path ≡ x ∷ xs
+  pub split-below : (key : List ℕ) (path xs : List Shape) (x : Shape) (f : RewriteFault) → path ≡ x ∷ xs
       → IsFaultUnless (AllLawful (split_shapes digest key xs)) f
       → IsFaultUnless (AllLawful (split_shapes digest key path)) f
   split-below key path xs x f e =
       unless-weaker _ _ f (λ all. front-all Lawful (split_shapes digest key xs) _
       (subst (λ p. AllLawful (split_shapes digest key p)) e all))
 
-  pub split-before : (key : List ℕ) (path xs : List Shape) (x s : Shape) (l r : Option (List ℕ)) (f : DraftFault)
-      → path ≡ x ∷ xs → s ≡ x → (l, r) ≡ split_links digest key xs → IsFaultOf (keep_before key s l) f
+  pub split-before : (key : List ℕ) (path xs : List Shape) (x s : Shape) (l r : Option (List ℕ)) (f : RewriteFault)
+      → path ≡ x ∷ xs → s ≡ x → (l, r) ≡ split_links digest key xs → IsFaultOf (cut_before key s l) f
       → IsFaultUnless (AllLawful (split_shapes digest key path)) f
   split-before key path xs x s l r f e same links =
       let t = split_links digest key xs in
       let left : l ≡ t.0 = ap (λ (p : Option (List ℕ) × Option (List ℕ)). p.0) links in
-      of-unless (keep_before key s l) _ f (λ all.
+      of-unless (cut_before key s l) _ f (λ all.
       let sides = back-all Lawful (split_shapes digest key xs) _
       (subst (λ p. AllLawful (split_shapes digest key p)) e all) in
-      let kept = closed-lawful (keep_before key x t.0) (front-all Lawful (close_shapes (keep_before key x t.0)) _ sides) in
+      let kept = closed-lawful (cut_before key x t.0) (front-all Lawful (close_shapes (cut_before key x t.0)) _ sides) in
       rw (same, left) kept)
 
-  pub split-after : (key : List ℕ) (path xs : List Shape) (x s : Shape) (l r : Option (List ℕ)) (f : DraftFault)
-      → path ≡ x ∷ xs → s ≡ x → (l, r) ≡ split_links digest key xs → IsFaultOf (keep_after key s r) f
+  pub split-after : (key : List ℕ) (path xs : List Shape) (x s : Shape) (l r : Option (List ℕ)) (f : RewriteFault)
+      → path ≡ x ∷ xs → s ≡ x → (l, r) ≡ split_links digest key xs → IsFaultOf (cut_after key s r) f
       → IsFaultUnless (AllLawful (split_shapes digest key path)) f
   split-after key path xs x s l r f e same links =
       let t = split_links digest key xs in
       let right : r ≡ t.1 = ap (λ (p : Option (List ℕ) × Option (List ℕ)). p.1) links in
-      of-unless (keep_after key s r) _ f (λ all.
+      of-unless (cut_after key s r) _ f (λ all.
       let sides = back-all Lawful (split_shapes digest key xs) _
       (subst (λ p. AllLawful (split_shapes digest key p)) e all) in
-      let kept = closed-lawful (keep_after key x t.1) (back-all Lawful (close_shapes (keep_before key x t.0)) _ sides) in
+      let kept = closed-lawful (cut_after key x t.1) (back-all Lawful (close_shapes (cut_before key x t.0)) _ sides) in
       rw (same, right) kept)
 
   pub split-made : (key : List ℕ) (path xs : List Shape) (x s u before after : Shape) (l r : Option (List ℕ))
       (m0 m1 m2 m3 : List (List ℕ))
       → path ≡ x ∷ xs → s ≡ x → u ≡ x → (l, r) ≡ split_links digest key xs
-      → before ≡ keep_before key s l → after ≡ keep_after key u r
+      → before ≡ cut_before key s l → after ≡ cut_after key u r
       → m1 ≡ m0 ++ map shape_bytes (split_shapes digest key xs)
       → m2 ≡ m1 ++ map shape_bytes (close_shapes before) → m3 ≡ m2 ++ map shape_bytes (close_shapes after)
       → m3 ≡ m0 ++ map shape_bytes (split_shapes digest key path)
@@ -110,10 +110,10 @@ module _ (digest : List ℕ → List ℕ) where
       let left : l ≡ t.0 = ap (λ (p : Option (List ℕ) × Option (List ℕ)). p.0) links in
       let right : r ≡ t.1 = ap (λ (p : Option (List ℕ) × Option (List ℕ)). p.1) links in
       let below = split_shapes digest key xs in
-      let b = close_shapes (keep_before key x t.0) in
-      let a = close_shapes (keep_after key x t.1) in
-      let eb : before ≡ keep_before key x t.0 = kb ∙ ap (λ v. keep_before key v l) same ∙ ap (keep_before key x) left in
-      let ea : after ≡ keep_after key x t.1 = ka ∙ ap (λ v. keep_after key v r) same' ∙ ap (keep_after key x) right in
+      let b = close_shapes (cut_before key x t.0) in
+      let a = close_shapes (cut_after key x t.1) in
+      let eb : before ≡ cut_before key x t.0 = kb ∙ ap (λ v. cut_before key v l) same ∙ ap (cut_before key x) left in
+      let ea : after ≡ cut_after key x t.1 = ka ∙ ap (λ v. cut_after key v r) same' ∙ ap (cut_after key x) right in
       let d2 : m2 ≡ (m0 ++ map shape_bytes below) ++ map shape_bytes b =
       h2 ∙ ap (λ v. m1 ++ map shape_bytes (close_shapes v)) eb ∙ ap (λ v. v ++ map shape_bytes b) h1 in
       let d3 : m3 ≡ ((m0 ++ map shape_bytes below) ++ map shape_bytes b) ++ map shape_bytes a =
@@ -129,53 +129,53 @@ module _ (digest : List ℕ → List ℕ) where
 
   -- ---- lift and raise
 
-  pub lift-below : (n m : ℕ) (l : Option (List ℕ)) (f : DraftFault) → n ≡ suc m
-      → IsFaultUnless (AllLawful (lift_shapes digest m l)) f → IsFaultUnless (AllLawful (lift_shapes digest n l)) f
-  lift-below n m l f e =
-      unless-weaker _ _ f (λ all. front-all Lawful (lift_shapes digest m l) _
-      (subst (λ k. AllLawful (lift_shapes digest k l)) e all))
+  pub pad_link-below : (n m : ℕ) (l : Option (List ℕ)) (f : RewriteFault) → n ≡ suc m
+      → IsFaultUnless (AllLawful (link_pads digest m l)) f → IsFaultUnless (AllLawful (link_pads digest n l)) f
+  pad_link-below n m l f e =
+      unless-weaker _ _ f (λ all. front-all Lawful (link_pads digest m l) _
+      (subst (λ k. AllLawful (link_pads digest k l)) e all))
 
-  pub lift-made : (n m : ℕ) (l below : Option (List ℕ)) (s : Shape) (m0 m1 m2 : List (List ℕ)) → n ≡ suc m
-      → below ≡ lift_link digest m l → s ≡ LastLink below → m1 ≡ m0 ++ map shape_bytes (lift_shapes digest m l)
-      → m2 ≡ m1 ++ map shape_bytes (close_shapes s) → m2 ≡ m0 ++ map shape_bytes (lift_shapes digest n l)
-  lift-made n m l below s m0 m1 m2 e link is h1 h2 =
-      let xs = lift_shapes digest m l in
-      let ys = close_shapes (LastLink (lift_link digest m l)) in
+  pub pad_link-made : (n m : ℕ) (l below : Option (List ℕ)) (s : Shape) (m0 m1 m2 : List (List ℕ)) → n ≡ suc m
+      → below ≡ padded_link digest m l → s ≡ LastLink below → m1 ≡ m0 ++ map shape_bytes (link_pads digest m l)
+      → m2 ≡ m1 ++ map shape_bytes (close_shapes s) → m2 ≡ m0 ++ map shape_bytes (link_pads digest n l)
+  pad_link-made n m l below s m0 m1 m2 e link is h1 h2 =
+      let xs = link_pads digest m l in
+      let ys = close_shapes (LastLink (padded_link digest m l)) in
       h2
       ∙ ap (λ v. m1 ++ map shape_bytes (close_shapes v)) (is ∙ ap LastLink link)
       ∙ ap (λ v. v ++ map shape_bytes ys) h1
       ∙ append_assoc m0 (map shape_bytes xs) (map shape_bytes ys)
       ∙ ap (λ v. m0 ++ v) (sym (map-append shape_bytes xs ys))
-      ∙ ap (λ k. m0 ++ map shape_bytes (lift_shapes digest k l)) (sym e)
+      ∙ ap (λ k. m0 ++ map shape_bytes (link_pads digest k l)) (sym e)
 
-  pub raise-below : (n m : ℕ) (s : Shape) (f : DraftFault) → n ≡ suc m
-      → IsFaultUnless (AllLawful (raise_shapes digest m s ++ (raise digest m s ∷ []))) f
-      → IsFaultUnless (AllLawful (raise_shapes digest n s ++ (raise digest n s ∷ []))) f
-  raise-below n m s f e =
-      unless-weaker _ _ f (λ all. front-all Lawful (raise_shapes digest m s ++ (raise digest m s ∷ [])) _
-      (subst (λ k. AllLawful (raise_shapes digest k s ++ (raise digest k s ∷ []))) e all))
+  pub padded_node-below : (n m : ℕ) (s : Shape) (f : RewriteFault) → n ≡ suc m
+      → IsFaultUnless (AllLawful (node_pads digest m s ++ (padded_node digest m s ∷ []))) f
+      → IsFaultUnless (AllLawful (node_pads digest n s ++ (padded_node digest n s ∷ []))) f
+  padded_node-below n m s f e =
+      unless-weaker _ _ f (λ all. front-all Lawful (node_pads digest m s ++ (padded_node digest m s ∷ [])) _
+      (subst (λ k. AllLawful (node_pads digest k s ++ (padded_node digest k s ∷ []))) e all))
 
-  pub raise-top : (n m : ℕ) (s below : Shape) (c : List ℕ) → n ≡ suc m → below ≡ raise digest m s
-      → c ≡ shape_cid digest below → LastLink (Some c) ≡ raise digest n s
-  raise-top n m s below c e is h =
-      ap (λ (x : List ℕ). LastLink (Some x)) (h ∙ ap (shape_cid digest) is) ∙ ap (λ k. raise digest k s) (sym e)
+  pub padded_node-top : (n m : ℕ) (s below : Shape) (c : List ℕ) → n ≡ suc m → below ≡ padded_node digest m s
+      → c ≡ shape_cid digest below → LastLink (Some c) ≡ padded_node digest n s
+  padded_node-top n m s below c e is h =
+      ap (λ (x : List ℕ). LastLink (Some x)) (h ∙ ap (shape_cid digest) is) ∙ ap (λ k. padded_node digest k s) (sym e)
 
-  pub raise-made : (n m : ℕ) (s below : Shape) (m0 m1 m2 : List (List ℕ)) → n ≡ suc m → below ≡ raise digest m s
-      → m1 ≡ m0 ++ map shape_bytes (raise_shapes digest m s) → m2 ≡ m1 ++ shape_bytes below ∷ []
-      → m2 ≡ m0 ++ map shape_bytes (raise_shapes digest n s)
-  raise-made n m s below m0 m1 m2 e is h1 h2 =
-      let xs = raise_shapes digest m s in
-      let t = raise digest m s in
+  pub padded_node-made : (n m : ℕ) (s below : Shape) (m0 m1 m2 : List (List ℕ)) → n ≡ suc m → below ≡ padded_node digest m s
+      → m1 ≡ m0 ++ map shape_bytes (node_pads digest m s) → m2 ≡ m1 ++ shape_bytes below ∷ []
+      → m2 ≡ m0 ++ map shape_bytes (node_pads digest n s)
+  padded_node-made n m s below m0 m1 m2 e is h1 h2 =
+      let xs = node_pads digest m s in
+      let t = padded_node digest m s in
       h2
       ∙ ap (λ v. m1 ++ shape_bytes v ∷ []) is
       ∙ ap (λ v. v ++ shape_bytes t ∷ []) h1
       ∙ append_assoc m0 (map shape_bytes xs) (shape_bytes t ∷ [])
       ∙ ap (λ v. m0 ++ v) (sym (map-append shape_bytes xs (t ∷ [])))
-      ∙ ap (λ k. m0 ++ map shape_bytes (raise_shapes digest k s)) (sym e)
+      ∙ ap (λ k. m0 ++ map shape_bytes (node_pads digest k s)) (sym e)
 
   -- ---- climb
 
-  pub climb-below : (key : List ℕ) (above xs : List Shape) (x s : Shape) (f : DraftFault) → above ≡ x ∷ xs
+  pub climb-below : (key : List ℕ) (above xs : List Shape) (x s : Shape) (f : RewriteFault) → above ≡ x ∷ xs
       → IsFaultUnless (AllLawful (climb_shapes digest key xs s ++ (climb digest key xs s ∷ []))) f
       → IsFaultUnless (AllLawful (climb_shapes digest key above s ++ (climb digest key above s ∷ []))) f
   climb-below key above xs x s f e =
@@ -187,62 +187,62 @@ module _ (digest : List ℕ → List ℕ) where
       join-all Lawful below (top ∷ []) (front-all Lawful below _ whole)
       (closed-lawful top (back-all Lawful below _ whole), tt))
 
-  pub climb-top : (key : List ℕ) (above xs : List Shape) (x s u below : Shape) (l : Option (List ℕ)) (f : DraftFault)
+  pub climb-top : (key : List ℕ) (above xs : List Shape) (x s u below : Shape) (l : Option (List ℕ)) (f : RewriteFault)
       → above ≡ x ∷ xs → u ≡ x → below ≡ climb digest key xs s → l ≡ close_link digest below
-      → IsFaultOf (go_shape key u l) f
+      → IsFaultOf (link_replaced key u l) f
       → IsFaultUnless (AllLawful (climb_shapes digest key above s ++ (climb digest key above s ∷ []))) f
   climb-top key above xs x s u below l f e same is link =
       let to : l ≡ close_link digest (climb digest key xs s) = link ∙ ap (close_link digest) is in
-      of-unless (go_shape key u l) _ f (λ all.
+      of-unless (link_replaced key u l) _ f (λ all.
       let top = back-all Lawful (climb_shapes digest key (x ∷ xs) s) _
       (subst (λ a. AllLawful (climb_shapes digest key a s ++ (climb digest key a s ∷ []))) e all) in
       rw (same, to) top.0)
 
-  -- ---- settle
+  -- ---- trim
 
-  bare-two : (x y p q : Option (List ℕ)) (b a : Shape) (below : List (Shape × Shape)) (t : Settled)
-      → are_bare b a ≡ true → p ≡ first_link b → q ≡ first_link a → IsSettled digest p q below t
-      → IsSettled digest x y ((b, a) ∷ below) t
+  bare-two : (x y p q : Option (List ℕ)) (b a : Shape) (below : List (Shape × Shape)) (t : Trimmed)
+      → have_no_pairs b a ≡ true → p ≡ first_link b → q ≡ first_link a → IsTrimmed digest p q below t
+      → IsTrimmed digest x y ((b, a) ∷ below) t
   bare-two x y p q (LastLink l) (LastLink k) below (Made c) h i j s = rw (← i, ← j) s
   bare-two x y p q (LastLink l) (LastLink k) below (Below c) h i j s = rw (← i, ← j) s
   bare-two x y p q (LastLink l) (MoreLinks k e r) below t h i j s = absurd cc
   bare-two x y p q (MoreLinks l e r) (LastLink k) below t h i j s = absurd cc
   bare-two x y p q (MoreLinks l e r) (MoreLinks k f u) below t h i j s = absurd cc
 
-  pub settled-bare : (x y p q : Option (List ℕ)) (met below : List (Shape × Shape)) (b a : Shape) (t : Settled)
-      → met ≡ (b, a) ∷ below → are_bare b a ≡ true → p ≡ first_link b → q ≡ first_link a
-      → IsSettled digest p q below t → IsSettled digest x y met t
-  settled-bare x y p q met below b a t e h i j s =
-      subst (λ m. IsSettled digest x y m t) (sym e) (bare-two x y p q b a below t h i j s)
+  pub trimmed-bare : (x y p q : Option (List ℕ)) (seam below : List (Shape × Shape)) (b a : Shape) (t : Trimmed)
+      → seam ≡ (b, a) ∷ below → have_no_pairs b a ≡ true → p ≡ first_link b → q ≡ first_link a
+      → IsTrimmed digest p q below t → IsTrimmed digest x y seam t
+  trimmed-bare x y p q seam below b a t e h i j s =
+      subst (λ m. IsTrimmed digest x y m t) (sym e) (bare-two x y p q b a below t h i j s)
 
   -- a pair of nodes of which one has keys
-  keyed-two : (x y : Option (List ℕ)) (b a : Shape) (below : List (Shape × Shape)) → are_bare b a ≡ false
-      → let met : List (Shape × Shape) = (b, a) ∷ below in
-      (settle_links x y met ≡ None)
-      × (Some (shape_cid digest (settle_shape digest x y met [])) ≡ merge_links digest x y met)
-      × (settle_shapes digest x y met ≡ merge_shapes digest met)
+  keyed-two : (x y : Option (List ℕ)) (b a : Shape) (below : List (Shape × Shape)) → have_no_pairs b a ≡ false
+      → let seam : List (Shape × Shape) = (b, a) ∷ below in
+      (trim_links x y seam ≡ None)
+      × (Some (shape_cid digest (trim_shape digest x y seam [])) ≡ merge_links digest x y seam)
+      × (trim_shapes digest x y seam ≡ merge_shapes digest seam)
   keyed-two x y (LastLink l) (LastLink k) below h = absurd cc
   keyed-two x y (LastLink l) (MoreLinks k e r) below h = (refl, refl, refl)
   keyed-two x y (MoreLinks l e r) (LastLink k) below h = (refl, refl, refl)
   keyed-two x y (MoreLinks l e r) (MoreLinks k f u) below h = (refl, refl, refl)
 
-  pub settled-keyed : (x y l : Option (List ℕ)) (met below : List (Shape × Shape)) (b a : Shape) (c : List ℕ)
-      → met ≡ (b, a) ∷ below → are_bare b a ≡ false → l ≡ merge_links digest x y met → l ≡ Some c
-      → (settle_links x y met ≡ None) × (c ≡ shape_cid digest (settle_shape digest x y met []))
-  settled-keyed x y l met below b a c e h is some =
+  pub trimmed-keyed : (x y l : Option (List ℕ)) (seam below : List (Shape × Shape)) (b a : Shape) (c : List ℕ)
+      → seam ≡ (b, a) ∷ below → have_no_pairs b a ≡ false → l ≡ merge_links digest x y seam → l ≡ Some c
+      → (trim_links x y seam ≡ None) × (c ≡ shape_cid digest (trim_shape digest x y seam []))
+  trimmed-keyed x y l seam below b a c e h is some =
       let k = keyed-two x y b a below h in
       let m : Some c ≡ merge_links digest x y ((b, a) ∷ below) = sym some ∙ is ∙ ap (merge_links digest x y) e in
-      let same : Some c ≡ Some (shape_cid digest (settle_shape digest x y ((b, a) ∷ below) [])) = m ∙ sym k.1 in
-      (ap (settle_links x y) e ∙ k.0, cc)
+      let same : Some c ≡ Some (shape_cid digest (trim_shape digest x y ((b, a) ∷ below) [])) = m ∙ sym k.1 in
+      (ap (trim_links x y) e ∙ k.0, cc)
 
-  pub settle-keyed : (x y : Option (List ℕ)) (met below : List (Shape × Shape)) (b a : Shape)
-      → met ≡ (b, a) ∷ below → are_bare b a ≡ false → settle_shapes digest x y met ≡ merge_shapes digest met
-  settle-keyed x y met below b a e h =
+  pub trim-keyed : (x y : Option (List ℕ)) (seam below : List (Shape × Shape)) (b a : Shape)
+      → seam ≡ (b, a) ∷ below → have_no_pairs b a ≡ false → trim_shapes digest x y seam ≡ merge_shapes digest seam
+  trim-keyed x y seam below b a e h =
       let k = keyed-two x y b a below h in
-      ap (settle_shapes digest x y) e ∙ k.2 ∙ ap (merge_shapes digest) (sym e)
+      ap (trim_shapes digest x y) e ∙ k.2 ∙ ap (merge_shapes digest) (sym e)
 
-  pub made-keyed : (x y : Option (List ℕ)) (met below : List (Shape × Shape)) (b a : Shape) (m0 m1 : List (List ℕ))
-      → met ≡ (b, a) ∷ below → are_bare b a ≡ false → m1 ≡ m0 ++ map shape_bytes (merge_shapes digest met)
-      → m1 ≡ m0 ++ map shape_bytes (settle_shapes digest x y met)
-  made-keyed x y met below b a m0 m1 e h is =
-      is ∙ ap (λ ss. m0 ++ map shape_bytes ss) (sym (settle-keyed x y met below b a e h))
+  pub made-keyed : (x y : Option (List ℕ)) (seam below : List (Shape × Shape)) (b a : Shape) (m0 m1 : List (List ℕ))
+      → seam ≡ (b, a) ∷ below → have_no_pairs b a ≡ false → m1 ≡ m0 ++ map shape_bytes (merge_shapes digest seam)
+      → m1 ≡ m0 ++ map shape_bytes (trim_shapes digest x y seam)
+  made-keyed x y seam below b a m0 m1 e h is =
+      is ∙ ap (λ ss. m0 ++ map shape_bytes ss) (sym (trim-keyed x y seam below b a e h))

@@ -8,31 +8,31 @@ use Rattle.spec.specs.Layer.{layer}
 use Rattle.spec.specs.Tree.{Pair, top}
 use Rattle.spec.specs.NodeFormat.{Shape, LastLink, MoreLinks, first_link}
 use Rattle.spec.specs.Blocks.{value_of}
-use Rattle.paths.specs.Order.{order, if_equal}
-use Rattle.paths.specs.ShapeEdit.{last_link, last_shape, head_shape, lone_shape, row_links, row_links_at}
-use Rattle.paths.specs.PathEdit.{row_shape, prune_link}
-use Rattle.paths.specs.Sources.{shown, shown_by, row_value, row_value_at, gap, or_deeper, path_at, path_from, value_at, value_from, delete_met_from}
-use Rattle.paths.specs.TreeEdit.{layer_of}
+use Rattle.edit_laws.specs.Order.{order, if_equal}
+use Rattle.edit_laws.specs.ShapeEdit.{last_link, last_shape, head_shape, single_shape, links_beside, links_beside_at}
+use Rattle.edit_laws.specs.PathEdit.{lowest_shape, prune_link}
+use Rattle.edit_laws.specs.Sources.{shown, shown_by, entry_value, entry_value_at, gap, or_deeper, path_at, path_from, value_at, value_from, delete_seam_from}
+use Rattle.edit_laws.specs.TreeEdit.{layer_of}
 use Rattle.edit.specs.Deletes.{asked_delete}
-use Rattle.edit.specs.Steps.{layers, asked_from, asked_met, asked_met_at, asked_pruned, asked_pruned_at}
+use Rattle.edit.specs.Steps.{layers, asked_from, asked_seam, asked_seam_at, asked_pruned, asked_pruned_at}
 use Rattle.edit.specs.Trees.{HasTree}
 use Rattle.edit.proofs.Stepping.{asked-most, tree-value, tree-layers}
 use Rattle.edit.proofs.DeleteAnswers.{asked-right}
 
 -- ---- whatever the source gives
 
-met-at-most : (n : ℕ) (further : Option (List ℕ) → Option (List ℕ) → ℕ)
-    → ((x y : Option (List ℕ)) → further x y ≤ 2 * n) → (s t : Option Shape) → asked_met_at further s t ≤ 2 * suc n
-met-at-most n further h None t = omega arith
-met-at-most n further h (Some s) None = omega arith
-met-at-most n further h (Some s) (Some t) = let i = h (last_link s) (first_link t) in omega arith
+seam-at-most : (n : ℕ) (further : Option (List ℕ) → Option (List ℕ) → ℕ)
+    → ((x y : Option (List ℕ)) → further x y ≤ 2 * n) → (s t : Option Shape) → asked_seam_at further s t ≤ 2 * suc n
+seam-at-most n further h None t = omega arith
+seam-at-most n further h (Some s) None = omega arith
+seam-at-most n further h (Some s) (Some t) = let i = h (last_link s) (first_link t) in omega arith
 
-met-most : (shows : List ℕ → Option Shape) (n : ℕ) (x y : Option (List ℕ)) → asked_met shows n x y ≤ 2 * n
-met-most shows zero x y = omega arith
-met-most shows (suc n) None y = omega arith
-met-most shows (suc n) (Some c) None = omega arith
-met-most shows (suc n) (Some c) (Some d) =
-    met-at-most n (asked_met shows n) (met-most shows n) (shows c) (shows d)
+seam-most : (shows : List ℕ → Option Shape) (n : ℕ) (x y : Option (List ℕ)) → asked_seam shows n x y ≤ 2 * n
+seam-most shows zero x y = omega arith
+seam-most shows (suc n) None y = omega arith
+seam-most shows (suc n) (Some c) None = omega arith
+seam-most shows (suc n) (Some c) (Some d) =
+    seam-at-most n (asked_seam shows n) (seam-most shows n) (shows c) (shows d)
 
 chain-at-most : (n : ℕ) (further : Option (List ℕ) → ℕ) → ((l : Option (List ℕ)) → further l ≤ n)
     → (s : Option Shape) → asked_pruned_at further s ≤ suc n
@@ -51,43 +51,43 @@ three-parts a b c n h i j = omega arith
 pub delete-most : (shows : List ℕ → Option Shape) (n : ℕ) (key root : List ℕ) → asked_delete shows n key root ≤ 4 * n
 delete-most shows n key root =
     let path = path_from shows n key (Some root) in
-    let x = row_links key (row_shape path) in
-    three-parts _ _ _ n (asked-most shows key n (Some root)) (met-most shows n x.0 x.1)
-    (chain-most shows n (prune_link key path (delete_met_from shows n key path)))
+    let x = links_beside key (lowest_shape path) in
+    three-parts _ _ _ n (asked-most shows key n (Some root)) (seam-most shows n x.0 x.1)
+    (chain-most shows n (prune_link key path (delete_seam_from shows n key path)))
 
 -- ---- where the key isn't there, the path alone is asked for
 
 no-row-at : (o : Ordering) (l x : Option (List ℕ)) (e : Pair) (v : Option (List ℕ))
-    (further : Option (List ℕ) × Option (List ℕ)) → row_value_at o e v ≡ None → (v ≡ None → further ≡ (None, None))
-    → row_links_at o l x further ≡ (None, None)
+    (further : Option (List ℕ) × Option (List ℕ)) → entry_value_at o e v ≡ None → (v ≡ None → further ≡ (None, None))
+    → links_beside_at o l x further ≡ (None, None)
 no-row-at Less l x e v further h i = i h
 no-row-at Equal l x e v further h i = absurd cc
 no-row-at Greater l x e v further h i = refl
 
-no-row : (key : List ℕ) (s : Shape) → row_value key s ≡ None → row_links key s ≡ (None, None)
+no-row : (key : List ℕ) (s : Shape) → entry_value key s ≡ None → links_beside key s ≡ (None, None)
 no-row key (LastLink l) h = refl
 no-row key (MoreLinks l e r) h =
-    no-row-at (order e.0 key) l (first_link r) e (row_value key r) (row_links key r) h (no-row key r)
+    no-row-at (order e.0 key) l (first_link r) e (entry_value key r) (links_beside key r) h (no-row key r)
 
-no-lone-at : (o : Ordering) (e : Pair) (v x : Option (List ℕ)) → row_value_at o e v ≡ None
+no-single-at : (o : Ordering) (e : Pair) (v x : Option (List ℕ)) → entry_value_at o e v ≡ None
     → if_equal {A = Option (List ℕ)} o x None ≡ None
-no-lone-at Less e v x h = refl
-no-lone-at Equal e v x h = absurd cc
-no-lone-at Greater e v x h = refl
+no-single-at Less e v x h = refl
+no-single-at Equal e v x h = absurd cc
+no-single-at Greater e v x h = refl
 
-no-lone : (key : List ℕ) (s : Shape) (x : Option (List ℕ) → Option (List ℕ) → Option (List ℕ)) → row_value key s ≡ None
-    → lone_shape {A = Option (List ℕ)} key s x None ≡ None
-no-lone key (LastLink l) x h = refl
-no-lone key (MoreLinks l e (LastLink k)) x h = no-lone-at (order e.0 key) e None (x l k) h
-no-lone key (MoreLinks l e (MoreLinks k f r)) x h = refl
+no-single : (key : List ℕ) (s : Shape) (x : Option (List ℕ) → Option (List ℕ) → Option (List ℕ)) → entry_value key s ≡ None
+    → single_shape {A = Option (List ℕ)} key s x None ≡ None
+no-single key (LastLink l) x h = refl
+no-single key (MoreLinks l e (LastLink k)) x h = no-single-at (order e.0 key) e None (x l k) h
+no-single key (MoreLinks l e (MoreLinks k f r)) x h = refl
 
 none-or : (a b : Option (List ℕ)) → or_deeper a b ≡ None → (a ≡ None) × (b ≡ None)
 none-or None b h = (refl, h)
 none-or (Some v) b h = absurd cc
 
-met-none : (shows : List ℕ → Option Shape) (n : ℕ) → asked_met shows n None None ≡ 0
-met-none shows zero = refl
-met-none shows (suc n) = refl
+seam-none : (shows : List ℕ → Option Shape) (n : ℕ) → asked_seam shows n None None ≡ 0
+seam-none shows zero = refl
+seam-none shows (suc n) = refl
 
 chain-none : (shows : List ℕ → Option Shape) (n : ℕ) → asked_pruned shows n None ≡ 0
 chain-none shows zero = refl
@@ -98,26 +98,26 @@ first-part a b c h i = omega arith
 
 module _ (shows : List ℕ → Option Shape) (key : List ℕ) where
   last-at : (n : ℕ)
-      → ((l : Option (List ℕ)) (d : Shape) → row_value key d ≡ None → value_from shows n key l ≡ None
-      → row_value key (last_shape d (path_from shows n key l)) ≡ None)
-      → (o : Option Shape) (d : Shape) → row_value key d ≡ None → value_at (value_from shows n key) key o ≡ None
-      → row_value key (last_shape d (path_at (path_from shows n key) key o)) ≡ None
+      → ((l : Option (List ℕ)) (d : Shape) → entry_value key d ≡ None → value_from shows n key l ≡ None
+      → entry_value key (last_shape d (path_from shows n key l)) ≡ None)
+      → (o : Option Shape) (d : Shape) → entry_value key d ≡ None → value_at (value_from shows n key) key o ≡ None
+      → entry_value key (last_shape d (path_at (path_from shows n key) key o)) ≡ None
   last-at n below None d h e = h
   last-at n below (Some s) d h e =
-      let p = none-or (row_value key s) (value_from shows n key (gap key s)) e in below (gap key s) s p.0 p.1
+      let p = none-or (entry_value key s) (value_from shows n key (gap key s)) e in below (gap key s) s p.0 p.1
 
-  last-none : (n : ℕ) (l : Option (List ℕ)) (d : Shape) → row_value key d ≡ None → value_from shows n key l ≡ None
-      → row_value key (last_shape d (path_from shows n key l)) ≡ None
+  last-none : (n : ℕ) (l : Option (List ℕ)) (d : Shape) → entry_value key d ≡ None → value_from shows n key l ≡ None
+      → entry_value key (last_shape d (path_from shows n key l)) ≡ None
   last-none zero l d h e = h
   last-none (suc n) l d h e = last-at n (last-none n) (shown shows l) d h e
 
   head-at : (n : ℕ) (o : Option Shape) → value_at (value_from shows n key) key o ≡ None
-      → row_value key (head_shape (path_at (path_from shows n key) key o)) ≡ None
+      → entry_value key (head_shape (path_at (path_from shows n key) key o)) ≡ None
   head-at n None e = refl
-  head-at n (Some s) e = (none-or (row_value key s) (value_from shows n key (gap key s)) e).0
+  head-at n (Some s) e = (none-or (entry_value key s) (value_from shows n key (gap key s)) e).0
 
   head-none : (n : ℕ) (l : Option (List ℕ)) → value_from shows n key l ≡ None
-      → row_value key (head_shape (path_from shows n key l)) ≡ None
+      → entry_value key (head_shape (path_from shows n key l)) ≡ None
   head-none zero l e = refl
   head-none (suc n) l e = head-at n (shown shows l) e
 
@@ -125,10 +125,10 @@ module _ (shows : List ℕ → Option Shape) (key : List ℕ) where
       → asked_delete shows n key root ≡ asked_from shows n key (Some root)
   delete-absent n root e =
       let path = path_from shows n key (Some root) in
-      let links = no-row key (row_shape path) (last-none n (Some root) (LastLink None) refl e) in
-      let a = ap (λ (p : Option (List ℕ) × Option (List ℕ)). asked_met shows n p.0 p.1) links ∙ met-none shows n in
+      let links = no-row key (lowest_shape path) (last-none n (Some root) (LastLink None) refl e) in
+      let a = ap (λ (p : Option (List ℕ) × Option (List ℕ)). asked_seam shows n p.0 p.1) links ∙ seam-none shows n in
       let b = ap (asked_pruned shows n)
-      (no-lone key (head_shape path) _ (head-none n (Some root) e)) ∙ chain-none shows n in
+      (no-single key (head_shape path) _ (head-none n (Some root) e)) ∙ chain-none shows n in
       first-part (asked_from shows n key (Some root)) _ _ a b
 
 -- ---- over a tree

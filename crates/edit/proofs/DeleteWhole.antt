@@ -8,20 +8,20 @@ use Rattle.spec.specs.Layer.{layer}
 use Rattle.spec.specs.Tree.{Node, Part, Last, More, Nothing, Sub, EachNode, EachUnder, Pair, top}
 use Rattle.spec.specs.NodeFormat.{Shape, LastLink, MoreLinks, part_link}
 use Rattle.spec.specs.Blocks.{value_of, root as root_of}
-use Rattle.paths.specs.TreeEdit.{first}
-use Rattle.paths.specs.Trace.{last_part}
-use Rattle.paths.specs.ShapeEdit.{row_links}
-use Rattle.paths.specs.PathEdit.{row_shape, prune_link}
-use Rattle.paths.specs.Sources.{shown_by, path_from, pruned_from, delete_met_from, delete_pruned_from}
-use Rattle.paths.proofs.DeleteTheorems.{delete-reads_held}
-use Rattle.paths.proofs.LawfulDeletes.{delete-lawful}
-use Rattle.paths.proofs.LookupTheorems.{top-has_layer, lookup-over_source}
-use Rattle.paths.proofs.OverSource.{holds-top}
-use Rattle.paths.proofs.SourceLaws.{IsShown}
-use Rattle.paths.proofs.WalkPairs.{each-first_part}
-use Rattle.paths.proofs.ShapeBridges as bridge
+use Rattle.edit_laws.specs.TreeEdit.{first}
+use Rattle.edit_laws.specs.Trace.{last_part}
+use Rattle.edit_laws.specs.ShapeEdit.{links_beside}
+use Rattle.edit_laws.specs.PathEdit.{lowest_shape, prune_link}
+use Rattle.edit_laws.specs.Sources.{shown_by, path_from, pruned_from, delete_seam_from, delete_pruned_from}
+use Rattle.edit_laws.proofs.DeleteTheorems.{delete-reads_held}
+use Rattle.edit_laws.proofs.LawfulDeletes.{delete-lawful}
+use Rattle.edit_laws.proofs.LookupTheorems.{top-has_layer, lookup-over_source}
+use Rattle.edit_laws.proofs.OverSource.{holds-top}
+use Rattle.edit_laws.proofs.SourceLaws.{IsShown}
+use Rattle.edit_laws.proofs.WalkPairs.{each-first_part}
+use Rattle.edit_laws.proofs.ShapeBridges as bridge
 use Rattle.edit.specs.Deletes.{Ends, CanReadDelete, CanDelete}
-use Rattle.edit.specs.Steps.{layers, asked_at, asked_from, asked_pruned_at, asked_pruned, IsWholePath, IsWholeMet, IsWholeChain}
+use Rattle.edit.specs.Steps.{layers, asked_at, asked_from, asked_pruned_at, asked_pruned, IsWholePath, IsWholeSeam, IsWholeChain}
 use Rattle.edit.specs.Trees.{HasTree}
 use Rattle.edit.proofs.Stepping.{asked-holds}
 
@@ -30,13 +30,13 @@ module _ (digest : List ℕ → List ℕ) (shows : List ℕ → Option Shape) wh
   held-last (Last p) h = h
   held-last (More p e r) h = held-last r h.1
 
-  pub met-whole : (n : ℕ) (p q : Part) → EachNode (IsShown digest shows) p → EachNode (IsShown digest shows) q
-      → IsWholeMet shows n (part_link digest p) (part_link digest q)
-  met-whole zero p q h k = refl
-  met-whole (suc n) Nothing q h k = refl
-  met-whole (suc n) (Sub m) Nothing h k = rw h.0 refl
-  met-whole (suc n) (Sub m) (Sub j) h k =
-      let i = met-whole n (last_part m) (first j) (held-last m h.1) (each-first_part (IsShown digest shows) j k.1) in
+  pub seam-whole : (n : ℕ) (p q : Part) → EachNode (IsShown digest shows) p → EachNode (IsShown digest shows) q
+      → IsWholeSeam shows n (part_link digest p) (part_link digest q)
+  seam-whole zero p q h k = refl
+  seam-whole (suc n) Nothing q h k = refl
+  seam-whole (suc n) (Sub m) Nothing h k = rw h.0 refl
+  seam-whole (suc n) (Sub m) (Sub j) h k =
+      let i = seam-whole n (last_part m) (first j) (held-last m h.1) (each-first_part (IsShown digest shows) j k.1) in
       rw (h.0, k.0, bridge.link-last digest m, bridge.link-first digest j) (omega arith)
 
   pub chain-whole : (n : ℕ) (p : Part) → EachNode (IsShown digest shows) p → IsWholeChain shows n (part_link digest p)
@@ -79,14 +79,14 @@ module _ (digest : List ℕ → List ℕ) (bits : ℕ) (fits : IsDigest digest) 
       let held = delete-reads_held digest bits fits gives n key es has.pairs has.nodes (omega arith) v there in
       let value = (lookup-over_source digest bits fits gives n key es has.pairs has.nodes (omega arith)).value ∙ there in
       let path = path_from shows n key (Some (root_of digest bits es)) in
-      let x = row_links key (row_shape path) in
+      let x = links_beside key (lowest_shape path) in
       record {
         path = asked-holds digest shows n key (Sub (top (layer digest bits) es))
             (holds-top digest bits fits gives es has.pairs has.nodes);
         there = subst IsSome (sym value) refl;
-        met = subst (λ l. IsWholeMet shows n l x.1) (sym held.one.is)
-            (subst (λ l. IsWholeMet shows n (part_link digest held.one.part) l) (sym held.other.is)
-            (met-whole digest shows n held.one.part held.other.part held.one.holds held.other.holds));
+        seam = subst (λ l. IsWholeSeam shows n l x.1) (sym held.one.is)
+            (subst (λ l. IsWholeSeam shows n (part_link digest held.one.part) l) (sym held.other.is)
+            (seam-whole digest shows n held.one.part held.other.part held.one.holds held.other.holds));
         chain = subst (IsWholeChain shows n) (sym held.chain.is)
             (chain-whole digest shows n held.chain.part held.chain.holds);
       }
@@ -95,19 +95,19 @@ module _ (digest : List ℕ → List ℕ) (bits : ℕ) (fits : IsDigest digest) 
   can-read = subst (CanReadDelete (shown_by gives) n key) (sym has.root_is) at-root
 
   pub can-delete : let path = path_from (shown_by gives) n key (Some root) in
-      let met = delete_met_from (shown_by gives) n key path in
-      CanDelete digest key path met (delete_pruned_from (shown_by gives) n key path met)
+      let seam = delete_seam_from (shown_by gives) n key path in
+      CanDelete digest key path seam (delete_pruned_from (shown_by gives) n key path seam)
   can-delete =
       let t = top-has_layer digest bits fits es in
       let shows = shown_by gives in
       let lawful = delete-lawful digest bits fits gives n key es has.pairs has.nodes (omega arith) v there in
       let path = path_from shows n key (Some (root_of digest bits es)) in
-      let met = delete_met_from shows n key path in
-      let at : CanDelete digest key path met (delete_pruned_from shows n key path met) = record {
+      let seam = delete_seam_from shows n key path in
+      let at : CanDelete digest key path seam (delete_pruned_from shows n key path seam) = record {
         some = path-some shows n key (root_of digest bits es) (omega arith) at-root.path;
         lawful = lawful;
-        ends = chain-ends shows n (prune_link key path met) (omega arith) at-root.chain;
+        ends = chain-ends shows n (prune_link key path seam) (omega arith) at-root.chain;
       } in
       subst (λ r. let path = path_from shows n key (Some r) in
-      let met = delete_met_from shows n key path in
-      CanDelete digest key path met (delete_pruned_from shows n key path met)) (sym has.root_is) at
+      let seam = delete_seam_from shows n key path in
+      CanDelete digest key path seam (delete_pruned_from shows n key path seam)) (sym has.root_is) at

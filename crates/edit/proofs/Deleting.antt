@@ -2,17 +2,17 @@
 use Rattle.std.proofs.Common.{◌≡◌, ℕ, suc, ◌+◌, ◌-◌, ◌≤◌, List, [], ◌∷◌, ◌++◌, length, take, drop, get_or, map, Option, refl, sym, ap, ◌∙◌, subst, append_assoc, arith}
 use Rattle.std.proofs.lemmas.List.{map-append}
 use Rattle.spec.specs.NodeFormat.{Shape, shape_bytes, shape_cid}
-use Rattle.paths.specs.Lawful.{Lawful, AllLawful}
-use Rattle.paths.specs.ShapeEdit.{close_shapes, last_shape, row_links, merge_links, merge_shapes, remove_shape, settle_shape}
-use Rattle.paths.specs.PathEdit.{flat, climb, climb_shapes, all_but_last, row_shape, delete_here, delete_below, delete_root, delete_written, delete_read, delete_gone_shapes}
-use Rattle.paths.specs.Changes.{add_of, drop_of}
+use Rattle.edit_laws.specs.Lawful.{Lawful, AllLawful}
+use Rattle.edit_laws.specs.ShapeEdit.{close_shapes, last_shape, links_beside, merge_links, merge_shapes, remove_shape, trim_shape}
+use Rattle.edit_laws.specs.PathEdit.{flat, climb, climb_shapes, all_but_last, lowest_shape, delete_here, delete_below, delete_root, delete_written, delete_read, delete_gone_shapes}
+use Rattle.edit_laws.specs.Changes.{add_of, drop_of}
 use Rattle.spec.specs.Blocks.{IsClashFree}
-use Rattle.edit.specs.declared.draft_fault.DraftFault.{DraftFault}
-use Rattle.edit.specs.declared.build.settle.Settled.TheVariants.{Below}
-use Rattle.edit.specs.Deletes.{row_written, CanWriteRow, IsDeleteOn}
-use Rattle.edit.specs.Drafts.{IsFaultOf}
+use Rattle.rewrite.specs.declared.fault.RewriteFault.{RewriteFault}
+use Rattle.edit.specs.declared.below.Trimmed.TheVariants.{Below}
+use Rattle.edit.specs.Deletes.{within_written, CanWriteWithin, IsDeleteOn}
+use Rattle.rewrite.specs.Drafts.{IsFaultOf}
 use Rattle.edit.specs.Faults.{IsFaultUnless}
-use Rattle.edit.specs.Settled.{IsSettled}
+use Rattle.edit.specs.Trimmed.{IsTrimmed}
 use Rattle.edit.proofs.Building.{front-all, back-all, join-all, closed-lawful, unless-weaker, of-unless}
 
 -- ---- the last of some nodes, and the others
@@ -25,7 +25,7 @@ all-but_last : (s : Shape) (ss : List Shape) → take (length ss) (s ∷ ss) ≡
 all-but_last s [] = refl
 all-but_last s (t ∷ ts) = ap (λ r. s ∷ r) (all-but_last t ts)
 
-pub row-last : (path : List Shape) (x : Shape) → 1 ≤ length path → x ≡ get_or path (length path - 1) x → row_shape path ≡ x
+pub row-last : (path : List Shape) (x : Shape) → 1 ≤ length path → x ≡ get_or path (length path - 1) x → lowest_shape path ≡ x
 row-last [] x n h = absurd (omega arith)
 row-last (s ∷ ss) x n h =
     let e : length (s ∷ ss) - 1 ≡ length ss = omega arith in
@@ -51,61 +51,61 @@ module _ (digest : List ℕ → List ℕ) where
       (join-all Lawful below (top ∷ []) (front-all Lawful below _ whole)
       (closed-lawful top (back-all Lawful below _ whole), tt))
 
-  pub row-merge : (key : List ℕ) (path : List Shape) (met : List (Shape × Shape)) (f : DraftFault)
-      → IsFaultUnless (AllLawful (merge_shapes digest met)) f → IsFaultUnless (CanWriteRow digest key path met) f
-  row-merge key path met f =
-      unless-weaker _ _ f (λ (can : CanWriteRow digest key path met). front-all Lawful (merge_shapes digest met) _ can.lawful)
+  pub row-merge : (key : List ℕ) (path : List Shape) (seam : List (Shape × Shape)) (f : RewriteFault)
+      → IsFaultUnless (AllLawful (merge_shapes digest seam)) f → IsFaultUnless (CanWriteWithin digest key path seam) f
+  row-merge key path seam f =
+      unless-weaker _ _ f (λ (can : CanWriteWithin digest key path seam). front-all Lawful (merge_shapes digest seam) _ can.lawful)
 
   -- the node without the key, from what was read of it
-  pub here-is : (key : List ℕ) (path : List Shape) (met : List (Shape × Shape)) (row s u n : Shape)
+  pub here-is : (key : List ℕ) (path : List Shape) (seam : List (Shape × Shape)) (row s u n : Shape)
       (x l : Option (List ℕ)) (y : Option (List ℕ))
-      → row_shape path ≡ row → s ≡ row → u ≡ row → (x, y) ≡ row_links key s → l ≡ merge_links digest x y met
-      → n ≡ remove_shape key u l → n ≡ delete_here digest key path met
-  here-is key path met row s u n x l y at same same' links link is =
-      let z = row_links key row in
-      let e : (x, y) ≡ z = links ∙ ap (row_links key) same in
-      let m : l ≡ merge_links digest z.0 z.1 met = link
-      ∙ ap (λ (p : Option (List ℕ) × Option (List ℕ)). merge_links digest p.0 p.1 met) e in
+      → lowest_shape path ≡ row → s ≡ row → u ≡ row → (x, y) ≡ links_beside key s → l ≡ merge_links digest x y seam
+      → n ≡ remove_shape key u l → n ≡ delete_here digest key path seam
+  here-is key path seam row s u n x l y at same same' links link is =
+      let z = links_beside key row in
+      let e : (x, y) ≡ z = links ∙ ap (links_beside key) same in
+      let m : l ≡ merge_links digest z.0 z.1 seam = link
+      ∙ ap (λ (p : Option (List ℕ) × Option (List ℕ)). merge_links digest p.0 p.1 seam) e in
       is ∙ ap (λ v. remove_shape key v l) same' ∙ ap (remove_shape key row) m
-      ∙ ap (λ v. let w = row_links key v in remove_shape key v (merge_links digest w.0 w.1 met)) (sym at)
+      ∙ ap (λ v. let w = links_beside key v in remove_shape key v (merge_links digest w.0 w.1 seam)) (sym at)
 
-  pub row-here : (key : List ℕ) (path : List Shape) (met : List (Shape × Shape)) (row s u : Shape)
-      (x l : Option (List ℕ)) (y : Option (List ℕ)) (f : DraftFault)
-      → row_shape path ≡ row → s ≡ row → u ≡ row → (x, y) ≡ row_links key s → l ≡ merge_links digest x y met
-      → IsFaultOf (remove_shape key u l) f → IsFaultUnless (CanWriteRow digest key path met) f
-  row-here key path met row s u x l y f at same same' links link =
-      of-unless (remove_shape key u l) _ f (λ (can : CanWriteRow digest key path met).
-      let e = here-is key path met row s u (remove_shape key u l) x l y at same same' links link refl in
+  pub row-here : (key : List ℕ) (path : List Shape) (seam : List (Shape × Shape)) (row s u : Shape)
+      (x l : Option (List ℕ)) (y : Option (List ℕ)) (f : RewriteFault)
+      → lowest_shape path ≡ row → s ≡ row → u ≡ row → (x, y) ≡ links_beside key s → l ≡ merge_links digest x y seam
+      → IsFaultOf (remove_shape key u l) f → IsFaultUnless (CanWriteWithin digest key path seam) f
+  row-here key path seam row s u x l y f at same same' links link =
+      of-unless (remove_shape key u l) _ f (λ (can : CanWriteWithin digest key path seam).
+      let e = here-is key path seam row s u (remove_shape key u l) x l y at same same' links link refl in
       subst Lawful (sym e)
-      (here-lawful key (all_but_last path) (delete_here digest key path met)
-      (back-all Lawful (merge_shapes digest met) _ can.lawful)))
+      (here-lawful key (all_but_last path) (delete_here digest key path seam)
+      (back-all Lawful (merge_shapes digest seam) _ can.lawful)))
 
-  pub row-climb : (key : List ℕ) (path above : List Shape) (met : List (Shape × Shape)) (n : Shape) (f : DraftFault)
-      → above ≡ all_but_last path → n ≡ delete_here digest key path met
+  pub row-climb : (key : List ℕ) (path above : List Shape) (seam : List (Shape × Shape)) (n : Shape) (f : RewriteFault)
+      → above ≡ all_but_last path → n ≡ delete_here digest key path seam
       → IsFaultUnless (AllLawful (climb_shapes digest key above n ++ (climb digest key above n ∷ []))) f
-      → IsFaultUnless (CanWriteRow digest key path met) f
-  row-climb key path above met n f over is =
-      unless-weaker _ _ f (λ (can : CanWriteRow digest key path met).
-      rw (over, is) (back-all Lawful (merge_shapes digest met) _ can.lawful))
+      → IsFaultUnless (CanWriteWithin digest key path seam) f
+  row-climb key path above seam n f over is =
+      unless-weaker _ _ f (λ (can : CanWriteWithin digest key path seam).
+      rw (over, is) (back-all Lawful (merge_shapes digest seam) _ can.lawful))
 
-  pub row-root : (key : List ℕ) (path above : List Shape) (met : List (Shape × Shape)) (n top : Shape) (c : List ℕ)
-      → above ≡ all_but_last path → n ≡ delete_here digest key path met → top ≡ climb digest key above n
-      → c ≡ shape_cid digest top → c ≡ shape_cid digest (delete_below digest key path met)
-  row-root key path above met n top c over is at h =
+  pub row-root : (key : List ℕ) (path above : List Shape) (seam : List (Shape × Shape)) (n top : Shape) (c : List ℕ)
+      → above ≡ all_but_last path → n ≡ delete_here digest key path seam → top ≡ climb digest key above n
+      → c ≡ shape_cid digest top → c ≡ shape_cid digest (delete_below digest key path seam)
+  row-root key path above seam n top c over is at h =
       h ∙ ap (shape_cid digest) (at ∙ ap (λ a. climb digest key a n) over ∙ ap (climb digest key (all_but_last path)) is)
 
-  pub row-made : (key : List ℕ) (path above : List Shape) (met : List (Shape × Shape)) (n top : Shape)
+  pub row-made : (key : List ℕ) (path above : List Shape) (seam : List (Shape × Shape)) (n top : Shape)
       (m0 m1 m2 m3 : List (List ℕ))
-      → above ≡ all_but_last path → n ≡ delete_here digest key path met → top ≡ climb digest key above n
-      → m1 ≡ m0 ++ map shape_bytes (merge_shapes digest met)
+      → above ≡ all_but_last path → n ≡ delete_here digest key path seam → top ≡ climb digest key above n
+      → m1 ≡ m0 ++ map shape_bytes (merge_shapes digest seam)
       → m2 ≡ m1 ++ map shape_bytes (climb_shapes digest key above n) → m3 ≡ m2 ++ shape_bytes top ∷ []
-      → m3 ≡ m0 ++ map shape_bytes (row_written digest key path met)
-  row-made key path above met n top m0 m1 m2 m3 over is at h1 h2 h3 =
-      let xs = merge_shapes digest met in
-      let here = delete_here digest key path met in
+      → m3 ≡ m0 ++ map shape_bytes (within_written digest key path seam)
+  row-made key path above seam n top m0 m1 m2 m3 over is at h1 h2 h3 =
+      let xs = merge_shapes digest seam in
+      let here = delete_here digest key path seam in
       let up = all_but_last path in
       let ys = climb_shapes digest key up here in
-      let t = delete_below digest key path met in
+      let t = delete_below digest key path seam in
       let top_is : top ≡ t = at ∙ ap (λ a. climb digest key a n) over ∙ ap (climb digest key up) is in
       let ys_is : climb_shapes digest key above n ≡ ys =
       ap (λ a. climb_shapes digest key a n) over ∙ ap (climb_shapes digest key up) is in
@@ -124,10 +124,10 @@ module _ (digest : List ℕ → List ℕ) where
   -- ---- where it is
 
   -- the last node of the chain that is pruned
-  pub pruned-root : (x y : Option (List ℕ)) (met : List (Shape × Shape)) (pruned : List Shape) (l : List ℕ) (top : Shape)
-      → IsSettled digest x y met (Below l) → 1 ≤ length pruned → top ≡ get_or pruned (length pruned - 1) top
-      → top ≡ settle_shape digest x y met pruned
-  pruned-root x y met pruned l top h n at = sym (h.1 pruned ∙ row-last pruned top n at)
+  pub pruned-root : (x y : Option (List ℕ)) (seam : List (Shape × Shape)) (pruned : List Shape) (l : List ℕ) (top : Shape)
+      → IsTrimmed digest x y seam (Below l) → 1 ≤ length pruned → top ≡ get_or pruned (length pruned - 1) top
+      → top ≡ trim_shape digest x y seam pruned
+  pruned-root x y seam pruned l top h n at = sym (h.1 pruned ∙ row-last pruned top n at)
 
 -- ---- all nodes in one list
 
@@ -153,46 +153,46 @@ chain-gone : (pruned : List Shape) → take (length pruned - 1) pruned ≡ all_b
 chain-gone [] = refl
 chain-gone (s ∷ ss) = above-row (s ∷ ss) (omega arith)
 
-pub gone-is : (path : List Shape) (met : List (Shape × Shape)) (pruned nodes all : List Shape) (a b : ℕ)
-    → nodes ≡ path ++ flat met → all ≡ nodes ++ pruned → a ≡ length nodes → b ≡ length pruned - 1
-    → take (a + b) all ≡ path ++ (flat met ++ all_but_last pruned)
-gone-is path met pruned nodes all a b h i j k =
+pub gone-is : (path : List Shape) (seam : List (Shape × Shape)) (pruned nodes all : List Shape) (a b : ℕ)
+    → nodes ≡ path ++ flat seam → all ≡ nodes ++ pruned → a ≡ length nodes → b ≡ length pruned - 1
+    → take (a + b) all ≡ path ++ (flat seam ++ all_but_last pruned)
+gone-is path seam pruned nodes all a b h i j k =
     ap (λ n. take (n + b) all) j ∙ ap (λ n. take (length nodes + n) all) k
     ∙ ap (take (length nodes + (length pruned - 1))) i
     ∙ take-past nodes pruned (length pruned - 1)
     ∙ ap (λ t. nodes ++ t) (chain-gone pruned)
     ∙ ap (λ t. t ++ all_but_last pruned) h
-    ∙ append_assoc path (flat met) (all_but_last pruned)
+    ∙ append_assoc path (flat seam) (all_but_last pruned)
 
 -- ---- what a delete leaves
 
 pub delete-on : {Y : Type 0} (digest : List ℕ → List ℕ) (f : Y → List ℕ) (key : List ℕ) (path p : List Shape)
-    (met m : List (Shape × Shape)) (pruned q all d6 d5 gone : List Shape) (k : ℕ) (none made d4 : List Y)
+    (seam m : List (Shape × Shape)) (pruned q all d6 d5 gone : List Shape) (k : ℕ) (none made d4 : List Y)
     (root : List ℕ) (add drop : List (List ℕ))
-    → p ≡ path → m ≡ met → q ≡ pruned → root ≡ shape_cid digest (delete_root digest key p m q)
+    → p ≡ path → m ≡ seam → q ≡ pruned → root ≡ shape_cid digest (delete_root digest key p m q)
     → none ≡ [] → map f made ≡ map f none ++ map shape_bytes (delete_written digest key p m)
-    → all ≡ delete_read path met pruned → take k all ≡ delete_gone_shapes path met pruned
+    → all ≡ delete_read path seam pruned → take k all ≡ delete_gone_shapes path seam pruned
     → d6 ≡ all → d5 ≡ all → d4 ≡ made
     → drop ≡ drop_of digest (map f d4) (map shape_bytes gone)
     → add ≡ add_of digest (map shape_bytes d6) (map f made)
     → (IsClashFree digest (map shape_bytes d6) → IsClashFree digest (add ++ map shape_bytes d6))
     → (IsClashFree digest (map shape_bytes d6) → IsClashFree digest (map f made ++ map shape_bytes d6))
     → gone ≡ take k d5
-    → IsDeleteOn digest key path met pruned root add drop
-delete-on digest f key path p met m pruned q all d6 d5 gone k none made d4 root add drop ep em eq hr hn hm ha hg e6 e5 e4 hd had hf hall cut =
-    let w = map shape_bytes (delete_written digest key path met) in
+    → IsDeleteOn digest key path seam pruned root add drop
+delete-on digest f key path p seam m pruned q all d6 d5 gone k none made d4 root add drop ep em eq hr hn hm ha hg e6 e5 e4 hd had hf hall cut =
+    let w = map shape_bytes (delete_written digest key path seam) in
     let made_is : map f made ≡ w =
     hm ∙ ap (λ (ys : List _). map f ys ++ map shape_bytes (delete_written digest key p m)) hn
     ∙ ap (λ (r : List Shape). map shape_bytes (delete_written digest key r m)) ep
     ∙ ap (λ (r : List (Shape × Shape)). map shape_bytes (delete_written digest key path r)) em in
-    let read_is : d6 ≡ delete_read path met pruned = e6 ∙ ha in
-    let gone_is : gone ≡ delete_gone_shapes path met pruned = cut ∙ ap (take k) e5 ∙ hg in
+    let read_is : d6 ≡ delete_read path seam pruned = e6 ∙ ha in
+    let gone_is : gone ≡ delete_gone_shapes path seam pruned = cut ∙ ap (take k) e5 ∙ hg in
     record {
       root_is = hr ∙ ap (λ (r : List Shape). shape_cid digest (delete_root digest key r m q)) ep
           ∙ ap (λ (r : List (Shape × Shape)). shape_cid digest (delete_root digest key path r q)) em
-          ∙ ap (λ (r : List Shape). shape_cid digest (delete_root digest key path met r)) eq;
+          ∙ ap (λ (r : List Shape). shape_cid digest (delete_root digest key path seam r)) eq;
       added = had ∙ ap (λ (r : List Shape). add_of digest (map shape_bytes r) (map f made)) read_is
-          ∙ ap (add_of digest (map shape_bytes (delete_read path met pruned))) made_is;
+          ∙ ap (add_of digest (map shape_bytes (delete_read path seam pruned))) made_is;
       dropped = hd ∙ ap (λ (ys : List _). drop_of digest (map f ys) (map shape_bytes gone)) e4
           ∙ ap (λ (x : List (List ℕ)). drop_of digest x (map shape_bytes gone)) made_is
           ∙ ap (λ (r : List Shape). drop_of digest w (map shape_bytes r)) gone_is;

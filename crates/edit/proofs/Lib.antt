@@ -1,5 +1,4 @@
 pub mod Mapping
-pub mod NodeReading
 pub mod Stepping
 pub mod Walking
 pub mod Among
@@ -7,11 +6,6 @@ pub mod NodeLaws
 pub mod PathReading
 pub mod PutSteps
 pub mod Putting
-pub mod Changing
-pub mod Cutting
-pub mod Drafting
-pub mod Pieces
-pub mod NodeEnds
 pub mod Building
 pub mod Deleting
 pub mod DeleteReading

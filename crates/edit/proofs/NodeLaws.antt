@@ -3,8 +3,8 @@ use Rattle.std.proofs.Common.{◌≡◌, ◌<◌, ◌^◌, length, ℕ, List, []
 use Rattle.spec.specs.Reading.{IsBytes}
 use Rattle.spec.specs.NodeFormat.{Entry, read_node}
 use Rattle.node.specs.Rows.{Row, rows}
-use Rattle.paths.specs.Sources.{shape_from, shape_of_reading}
-use Rattle.paths.proofs.OverSource.{shape_bytes-shape_of_bytes}
+use Rattle.edit_laws.specs.Sources.{shape_from, shape_of_reading}
+use Rattle.edit_laws.proofs.OverSource.{shape_bytes-shape_of_bytes}
 use Rattle.edit.specs.Nodes.{IsNodeOf, has_pairs}
 
 pub node-of : (bytes : List ℕ) (left : Option (List ℕ)) (es : List Entry) → IsBytes bytes → read_node bytes ≡ Ok (left, es)

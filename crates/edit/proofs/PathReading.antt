@@ -4,11 +4,11 @@ use Rattle.std.specs.declared.option.Option.TheVariants.{Some, None}
 use Rattle.std.proofs.lemmas.List.{append-nil, append_assoc}
 use Rattle.std.specs.List.{AllByRecursion}
 use Rattle.spec.specs.NodeFormat.{Shape, LastLink, MoreLinks, first_link, shape_bytes}
-use Rattle.paths.specs.Lawful.{Lawful, AllLawful, AllShort}
-use Rattle.paths.specs.ShapeEdit.{last_link}
-use Rattle.paths.specs.Sources.{row_value, gap, or_deeper, path_at, value_at, value_from, path_from, met_at, met_from, pruned_at, pruned_from}
+use Rattle.edit_laws.specs.Lawful.{Lawful, AllLawful, AllShort}
+use Rattle.edit_laws.specs.ShapeEdit.{last_link}
+use Rattle.edit_laws.specs.Sources.{entry_value, gap, or_deeper, path_at, value_at, value_from, path_from, seam_at, seam_from, pruned_at, pruned_from}
 use Rattle.edit.specs.Nodes.{IsRead, has_pairs}
-use Rattle.edit.specs.Steps.{asked_at, asked_from, asked_met_at, asked_met, asked_pruned_at, asked_pruned, shows, IsWholePath, IsWholeMet, IsWholeChain}
+use Rattle.edit.specs.Steps.{asked_at, asked_from, asked_seam_at, asked_seam, asked_pruned_at, asked_pruned, shows, IsWholePath, IsWholeSeam, IsWholeChain}
 use Rattle.edit.proofs.Stepping.{at_key, value-none, asked-none}
 
 pub longer : {A : Type 0} (xs : List A) (x : A) → length (xs ++ x ∷ []) ≡ suc (length xs)
@@ -68,11 +68,11 @@ module _ {X : Type 0} (view : X → List ℕ) (gives : List ℕ → Option X) (n
   whole-path key root nodes r₀ r₁ e h k =
       counts nodes (path_from (shows view gives) n key (Some root)) r₁ r₀ (asked_from (shows view gives) n key (Some root)) e h k
 
-  pub whole-met : (x y : Option (List ℕ)) (met : List (Shape × Shape)) (r₀ r₁ : ℕ)
-      → met ≡ met_from (shows view gives) n x y → r₁ ≡ r₀ + 2 * length met
-      → r₁ ≡ r₀ + asked_met (shows view gives) n x y → IsWholeMet (shows view gives) n x y
-  whole-met x y met r₀ r₁ e h k =
-      counts-two met (met_from (shows view gives) n x y) r₁ r₀ (asked_met (shows view gives) n x y) e h k
+  pub whole-seam : (x y : Option (List ℕ)) (seam : List (Shape × Shape)) (r₀ r₁ : ℕ)
+      → seam ≡ seam_from (shows view gives) n x y → r₁ ≡ r₀ + 2 * length seam
+      → r₁ ≡ r₀ + asked_seam (shows view gives) n x y → IsWholeSeam (shows view gives) n x y
+  whole-seam x y seam r₀ r₁ e h k =
+      counts-two seam (seam_from (shows view gives) n x y) r₁ r₀ (asked_seam (shows view gives) n x y) e h k
 
   pub whole-chain : (l : Option (List ℕ)) (nodes : List Shape) (r₀ r₁ : ℕ)
       → nodes ≡ pruned_from (shows view gives) n l → r₁ ≡ r₀ + length nodes
@@ -101,7 +101,7 @@ module _ (shows : List ℕ → Option Shape) (key : List ℕ) where
     value : value_from shows n key (Some c) ≡ or_deeper v (value_from shows m key l)
     asked : asked_from shows n key (Some c) ≡ suc (asked_from shows m key l)
 
-  step-at : (n : ℕ) (c : List ℕ) (s : Shape) → shows c ≡ Some s → PathStep (suc n) c s (row_value key s) (gap key s) n
+  step-at : (n : ℕ) (c : List ℕ) (s : Shape) → shows c ≡ Some s → PathStep (suc n) c s (entry_value key s) (gap key s) n
   step-at n c s h = record {
     path = ap (path_at (path_from shows n key) key) h;
     value = ap (value_at (value_from shows n key) key) h;
@@ -111,7 +111,7 @@ module _ (shows : List ℕ → Option Shape) (key : List ℕ) where
   step : (n : ℕ) (c : List ℕ) (s : Shape) (v l : Option (List ℕ)) → 0 < n → shows c ≡ Some s → (v, l) ≡ at_key key s
       → PathStep n c s v l (n - 1)
   step n c s v l t h q =
-      let qv : v ≡ row_value key s = ap (λ (x : Option (List ℕ) × Option (List ℕ)). x.0) q in
+      let qv : v ≡ entry_value key s = ap (λ (x : Option (List ℕ) × Option (List ℕ)). x.0) q in
       let ql : l ≡ gap key s = ap (λ (x : Option (List ℕ) × Option (List ℕ)). x.1) q in
       let p = step-at (n - 1) c s h in
       let e = back n t in
@@ -119,7 +119,7 @@ module _ (shows : List ℕ → Option Shape) (key : List ℕ) where
         path = sym (ap (λ k. path_from shows k key (Some c)) e) ∙ p.path
             ∙ sym (ap (λ x. s ∷ path_from shows (n - 1) key x) ql);
         value = sym (ap (λ k. value_from shows k key (Some c)) e) ∙ p.value
-            ∙ sym (ap (λ x. or_deeper (row_value key s) (value_from shows (n - 1) key x)) ql)
+            ∙ sym (ap (λ x. or_deeper (entry_value key s) (value_from shows (n - 1) key x)) ql)
             ∙ sym (ap (λ x. or_deeper x (value_from shows (n - 1) key l)) qv);
         asked = sym (ap (λ k. asked_from shows k key (Some c)) e) ∙ p.asked
             ∙ sym (ap (λ x. suc (asked_from shows (n - 1) key x)) ql);
@@ -160,128 +160,128 @@ module _ (shows : List ℕ → Option Shape) (key : List ℕ) where
     pub path-counts : (s : Shape) → 0 < n → IsPathSoFar shows key n₀ c₀ n c nodes → shows c ≡ Some s
         → suc (length nodes) ≤ asked_from shows n₀ key (Some c₀)
     path-counts s t f h =
-        let p = step n c s (row_value key s) (gap key s) t h refl in
+        let p = step n c s (entry_value key s) (gap key s) t h refl in
         let a = f.asked in let b = p.asked in omega arith
 
 -- ---- pairs of nodes that meet
 
 pub record IsMetSoFar (shows : List ℕ → Option Shape) (n₀ : ℕ) (x₀ y₀ : Option (List ℕ)) (n : ℕ)
-    (x y : Option (List ℕ)) (met : List (Shape × Shape)) : Type 0 where
-  pub pairs : met_from shows n₀ x₀ y₀ ≡ met ++ met_from shows n x y
-  pub asked : asked_met shows n₀ x₀ y₀ ≡ 2 * length met + asked_met shows n x y
+    (x y : Option (List ℕ)) (seam : List (Shape × Shape)) : Type 0 where
+  pub pairs : seam_from shows n₀ x₀ y₀ ≡ seam ++ seam_from shows n x y
+  pub asked : asked_seam shows n₀ x₀ y₀ ≡ 2 * length seam + asked_seam shows n x y
 
-pub record IsMetRead (shows : List ℕ → Option Shape) (n₀ : ℕ) (x₀ y₀ : Option (List ℕ)) (met : List (Shape × Shape)) : Type 0 where
-  pub pairs : met ≡ met_from shows n₀ x₀ y₀
-  pub asked : asked_met shows n₀ x₀ y₀ ≡ 2 * length met
+pub record IsMetRead (shows : List ℕ → Option Shape) (n₀ : ℕ) (x₀ y₀ : Option (List ℕ)) (seam : List (Shape × Shape)) : Type 0 where
+  pub pairs : seam ≡ seam_from shows n₀ x₀ y₀
+  pub asked : asked_seam shows n₀ x₀ y₀ ≡ 2 * length seam
 
 module _ (shows : List ℕ → Option Shape) where
-  met-step : (n : ℕ) (c d : List ℕ) (s t : Shape) → 0 < n → shows c ≡ Some s → shows d ≡ Some t
-      → (met_from shows n (Some c) (Some d) ≡ (s, t) ∷ met_from shows (n - 1) (last_link s) (first_link t))
-      × (asked_met shows n (Some c) (Some d) ≡ suc (suc (asked_met shows (n - 1) (last_link s) (first_link t))))
-  met-step n c d s t h p q =
+  seam-step : (n : ℕ) (c d : List ℕ) (s t : Shape) → 0 < n → shows c ≡ Some s → shows d ≡ Some t
+      → (seam_from shows n (Some c) (Some d) ≡ (s, t) ∷ seam_from shows (n - 1) (last_link s) (first_link t))
+      × (asked_seam shows n (Some c) (Some d) ≡ suc (suc (asked_seam shows (n - 1) (last_link s) (first_link t))))
+  seam-step n c d s t h p q =
       let e = back n h in (
-        sym (ap (λ k. met_from shows k (Some c) (Some d)) e)
-            ∙ ap (λ o. met_at (met_from shows (n - 1)) o (shows d)) p ∙ ap (met_at (met_from shows (n - 1)) (Some s)) q,
-        sym (ap (λ k. asked_met shows k (Some c) (Some d)) e)
-            ∙ ap (λ o. asked_met_at (asked_met shows (n - 1)) o (shows d)) p ∙ ap (asked_met_at (asked_met shows (n - 1)) (Some s)) q,
+        sym (ap (λ k. seam_from shows k (Some c) (Some d)) e)
+            ∙ ap (λ o. seam_at (seam_from shows (n - 1)) o (shows d)) p ∙ ap (seam_at (seam_from shows (n - 1)) (Some s)) q,
+        sym (ap (λ k. asked_seam shows k (Some c) (Some d)) e)
+            ∙ ap (λ o. asked_seam_at (asked_seam shows (n - 1)) o (shows d)) p ∙ ap (asked_seam_at (asked_seam shows (n - 1)) (Some s)) q,
       )
 
   none-after : (further : Option (List ℕ) → Option (List ℕ) → List (Shape × Shape)) (o : Option Shape)
-      → met_at further o None ≡ []
+      → seam_at further o None ≡ []
   none-after further None = refl
   none-after further (Some s) = refl
 
-  met-none : (n : ℕ) (y : Option (List ℕ)) → (met_from shows n None y ≡ []) × (asked_met shows n None y ≡ 0)
-  met-none zero y = (refl, refl)
-  met-none (suc n) y = (refl, refl)
+  seam-none : (n : ℕ) (y : Option (List ℕ)) → (seam_from shows n None y ≡ []) × (asked_seam shows n None y ≡ 0)
+  seam-none zero y = (refl, refl)
+  seam-none (suc n) y = (refl, refl)
 
-  met-none-after : (n : ℕ) (c : List ℕ) → (met_from shows n (Some c) None ≡ []) × (asked_met shows n (Some c) None ≡ 0)
-  met-none-after zero c = (refl, refl)
-  met-none-after (suc n) c = (none-after (met_from shows n) (shows c), refl)
+  seam-none-after : (n : ℕ) (c : List ℕ) → (seam_from shows n (Some c) None ≡ []) × (asked_seam shows n (Some c) None ≡ 0)
+  seam-none-after zero c = (refl, refl)
+  seam-none-after (suc n) c = (none-after (seam_from shows n) (shows c), refl)
 
-  module _ (n₀ : ℕ) (x₀ y₀ : Option (List ℕ)) (n : ℕ) (met : List (Shape × Shape)) where
-    ends : (x y : Option (List ℕ)) → met_from shows n x y ≡ [] → asked_met shows n x y ≡ 0
-        → IsMetSoFar shows n₀ x₀ y₀ n x y met → IsMetRead shows n₀ x₀ y₀ met
+  module _ (n₀ : ℕ) (x₀ y₀ : Option (List ℕ)) (n : ℕ) (seam : List (Shape × Shape)) where
+    ends : (x y : Option (List ℕ)) → seam_from shows n x y ≡ [] → asked_seam shows n x y ≡ 0
+        → IsMetSoFar shows n₀ x₀ y₀ n x y seam → IsMetRead shows n₀ x₀ y₀ seam
     ends x y p q f = record {
-      pairs = sym (f.pairs ∙ ap (λ xs. met ++ xs) p ∙ append-nil met);
+      pairs = sym (f.pairs ∙ ap (λ xs. seam ++ xs) p ∙ append-nil seam);
       asked = let a = f.asked in omega arith;
     }
 
-    pub met-ends : (x y : Option (List ℕ)) → x ≡ None → IsMetSoFar shows n₀ x₀ y₀ n x y met → IsMetRead shows n₀ x₀ y₀ met
-    met-ends x y h f =
-        let e = met-none n y in
-        ends x y (ap (λ o. met_from shows n o y) h ∙ e.0) (ap (λ o. asked_met shows n o y) h ∙ e.1) f
+    pub seam-ends : (x y : Option (List ℕ)) → x ≡ None → IsMetSoFar shows n₀ x₀ y₀ n x y seam → IsMetRead shows n₀ x₀ y₀ seam
+    seam-ends x y h f =
+        let e = seam-none n y in
+        ends x y (ap (λ o. seam_from shows n o y) h ∙ e.0) (ap (λ o. asked_seam shows n o y) h ∙ e.1) f
 
-    pub met-ends-after : (x y : Option (List ℕ)) (c : List ℕ) → x ≡ Some c → y ≡ None
-        → IsMetSoFar shows n₀ x₀ y₀ n x y met → IsMetRead shows n₀ x₀ y₀ met
-    met-ends-after x y c h q f =
-        let e = met-none-after n c in
-        ends x y (ap (λ o. met_from shows n o y) h ∙ ap (met_from shows n (Some c)) q ∙ e.0)
-        (ap (λ o. asked_met shows n o y) h ∙ ap (asked_met shows n (Some c)) q ∙ e.1) f
+    pub seam-ends-after : (x y : Option (List ℕ)) (c : List ℕ) → x ≡ Some c → y ≡ None
+        → IsMetSoFar shows n₀ x₀ y₀ n x y seam → IsMetRead shows n₀ x₀ y₀ seam
+    seam-ends-after x y c h q f =
+        let e = seam-none-after n c in
+        ends x y (ap (λ o. seam_from shows n o y) h ∙ ap (seam_from shows n (Some c)) q ∙ e.0)
+        (ap (λ o. asked_seam shows n o y) h ∙ ap (asked_seam shows n (Some c)) q ∙ e.1) f
 
-    pub met-ends-late : (x y : Option (List ℕ)) → y ≡ None → IsMetSoFar shows n₀ x₀ y₀ n x y met
-        → IsMetRead shows n₀ x₀ y₀ met
-    met-ends-late None y h f = met-ends None y refl f
-    met-ends-late (Some c) y h f = met-ends-after (Some c) y c refl h f
+    pub seam-ends-late : (x y : Option (List ℕ)) → y ≡ None → IsMetSoFar shows n₀ x₀ y₀ n x y seam
+        → IsMetRead shows n₀ x₀ y₀ seam
+    seam-ends-late None y h f = seam-ends None y refl f
+    seam-ends-late (Some c) y h f = seam-ends-after (Some c) y c refl h f
 
-    here : (x y : Option (List ℕ)) (c d : List ℕ) → x ≡ Some c → y ≡ Some d → IsMetSoFar shows n₀ x₀ y₀ n x y met
-        → IsMetSoFar shows n₀ x₀ y₀ n (Some c) (Some d) met
+    here : (x y : Option (List ℕ)) (c d : List ℕ) → x ≡ Some c → y ≡ Some d → IsMetSoFar shows n₀ x₀ y₀ n x y seam
+        → IsMetSoFar shows n₀ x₀ y₀ n (Some c) (Some d) seam
     here x y c d h q f = record {
-      pairs = f.pairs ∙ ap (λ o. met ++ met_from shows n o y) h ∙ ap (λ o. met ++ met_from shows n (Some c) o) q;
-      asked = f.asked ∙ ap (λ o. 2 * length met + asked_met shows n o y) h
-          ∙ ap (λ o. 2 * length met + asked_met shows n (Some c) o) q;
+      pairs = f.pairs ∙ ap (λ o. seam ++ seam_from shows n o y) h ∙ ap (λ o. seam ++ seam_from shows n (Some c) o) q;
+      asked = f.asked ∙ ap (λ o. 2 * length seam + asked_seam shows n o y) h
+          ∙ ap (λ o. 2 * length seam + asked_seam shows n (Some c) o) q;
     }
 
-    pub met-more : (x y : Option (List ℕ)) (c d : List ℕ) (s t : Shape) → 0 < n → x ≡ Some c → y ≡ Some d
-        → shows c ≡ Some s → shows d ≡ Some t → IsMetSoFar shows n₀ x₀ y₀ n x y met
-        → IsMetSoFar shows n₀ x₀ y₀ (n - 1) (last_link s) (first_link t) (met ++ (s, t) ∷ [])
-    met-more x y c d s t h p q hs ht g =
+    pub seam-more : (x y : Option (List ℕ)) (c d : List ℕ) (s t : Shape) → 0 < n → x ≡ Some c → y ≡ Some d
+        → shows c ≡ Some s → shows d ≡ Some t → IsMetSoFar shows n₀ x₀ y₀ n x y seam
+        → IsMetSoFar shows n₀ x₀ y₀ (n - 1) (last_link s) (first_link t) (seam ++ (s, t) ∷ [])
+    seam-more x y c d s t h p q hs ht g =
         let f = here x y c d p q g in
-        let e = met-step n c d s t h hs ht in
+        let e = seam-step n c d s t h hs ht in
         record {
-          pairs = f.pairs ∙ ap (λ xs. met ++ xs) e.0
-              ∙ sym (append_assoc met ((s, t) ∷ []) (met_from shows (n - 1) (last_link s) (first_link t)));
-          asked = let a = f.asked in let b = e.1 in let k = longer met (s, t) in omega arith;
+          pairs = f.pairs ∙ ap (λ xs. seam ++ xs) e.0
+              ∙ sym (append_assoc seam ((s, t) ∷ []) (seam_from shows (n - 1) (last_link s) (first_link t)));
+          asked = let a = f.asked in let b = e.1 in let k = longer seam (s, t) in omega arith;
         }
 
     -- the first of two blocks is missing, or is no node
-    pub met-missing : (x y : Option (List ℕ)) (c d : List ℕ) → 0 < n → x ≡ Some c → y ≡ Some d → shows c ≡ None
-        → IsMetSoFar shows n₀ x₀ y₀ n x y met
-        → (¬ IsWholeMet shows n₀ x₀ y₀) × (asked_met shows n₀ x₀ y₀ ≡ suc (2 * length met))
-    met-missing x y c d t p q h g =
+    pub seam-missing : (x y : Option (List ℕ)) (c d : List ℕ) → 0 < n → x ≡ Some c → y ≡ Some d → shows c ≡ None
+        → IsMetSoFar shows n₀ x₀ y₀ n x y seam
+        → (¬ IsWholeSeam shows n₀ x₀ y₀) × (asked_seam shows n₀ x₀ y₀ ≡ suc (2 * length seam))
+    seam-missing x y c d t p q h g =
         let f = here x y c d p q g in
         let e = back n t in
-        let a : asked_met shows n (Some c) (Some d) ≡ 1 = sym (ap (λ k. asked_met shows k (Some c) (Some d)) e)
-        ∙ ap (λ o. asked_met_at (asked_met shows (n - 1)) o (shows d)) h in
-        let m : met_from shows n (Some c) (Some d) ≡ [] = sym (ap (λ k. met_from shows k (Some c) (Some d)) e)
-        ∙ ap (λ o. met_at (met_from shows (n - 1)) o (shows d)) h in
+        let a : asked_seam shows n (Some c) (Some d) ≡ 1 = sym (ap (λ k. asked_seam shows k (Some c) (Some d)) e)
+        ∙ ap (λ o. asked_seam_at (asked_seam shows (n - 1)) o (shows d)) h in
+        let m : seam_from shows n (Some c) (Some d) ≡ [] = sym (ap (λ k. seam_from shows k (Some c) (Some d)) e)
+        ∙ ap (λ o. seam_at (seam_from shows (n - 1)) o (shows d)) h in
         let b = f.asked in
-        let k = ap length (f.pairs ∙ ap (λ xs. met ++ xs) m ∙ append-nil met) in
+        let k = ap length (f.pairs ∙ ap (λ xs. seam ++ xs) m ∙ append-nil seam) in
         ((λ w. omega (arith, w)), omega arith)
 
     -- the second one is
-    pub met-missing-after : (x y : Option (List ℕ)) (c d : List ℕ) (s : Shape) → 0 < n → x ≡ Some c → y ≡ Some d
-        → shows c ≡ Some s → shows d ≡ None → IsMetSoFar shows n₀ x₀ y₀ n x y met
-        → (¬ IsWholeMet shows n₀ x₀ y₀) × (asked_met shows n₀ x₀ y₀ ≡ suc (suc (2 * length met)))
-    met-missing-after x y c d s t p q h i g =
+    pub seam-missing-after : (x y : Option (List ℕ)) (c d : List ℕ) (s : Shape) → 0 < n → x ≡ Some c → y ≡ Some d
+        → shows c ≡ Some s → shows d ≡ None → IsMetSoFar shows n₀ x₀ y₀ n x y seam
+        → (¬ IsWholeSeam shows n₀ x₀ y₀) × (asked_seam shows n₀ x₀ y₀ ≡ suc (suc (2 * length seam)))
+    seam-missing-after x y c d s t p q h i g =
         let f = here x y c d p q g in
         let e = back n t in
-        let a : asked_met shows n (Some c) (Some d) ≡ 2 = sym (ap (λ k. asked_met shows k (Some c) (Some d)) e)
-        ∙ ap (λ o. asked_met_at (asked_met shows (n - 1)) o (shows d)) h
-        ∙ ap (asked_met_at (asked_met shows (n - 1)) (Some s)) i in
-        let m : met_from shows n (Some c) (Some d) ≡ [] = sym (ap (λ k. met_from shows k (Some c) (Some d)) e)
-        ∙ ap (λ o. met_at (met_from shows (n - 1)) o (shows d)) h ∙ ap (met_at (met_from shows (n - 1)) (Some s)) i in
+        let a : asked_seam shows n (Some c) (Some d) ≡ 2 = sym (ap (λ k. asked_seam shows k (Some c) (Some d)) e)
+        ∙ ap (λ o. asked_seam_at (asked_seam shows (n - 1)) o (shows d)) h
+        ∙ ap (asked_seam_at (asked_seam shows (n - 1)) (Some s)) i in
+        let m : seam_from shows n (Some c) (Some d) ≡ [] = sym (ap (λ k. seam_from shows k (Some c) (Some d)) e)
+        ∙ ap (λ o. seam_at (seam_from shows (n - 1)) o (shows d)) h ∙ ap (seam_at (seam_from shows (n - 1)) (Some s)) i in
         let b = f.asked in
-        let k = ap length (f.pairs ∙ ap (λ xs. met ++ xs) m ∙ append-nil met) in
+        let k = ap length (f.pairs ∙ ap (λ xs. seam ++ xs) m ∙ append-nil seam) in
         ((λ w. omega (arith, w)), omega arith)
 
     -- there are two blocks more
-    pub met-counts : (x y : Option (List ℕ)) (c d : List ℕ) (s t : Shape) → 0 < n → x ≡ Some c → y ≡ Some d
-        → shows c ≡ Some s → shows d ≡ Some t → IsMetSoFar shows n₀ x₀ y₀ n x y met
-        → suc (suc (2 * length met)) ≤ asked_met shows n₀ x₀ y₀
-    met-counts x y c d s t h p q hs ht g =
+    pub seam-counts : (x y : Option (List ℕ)) (c d : List ℕ) (s t : Shape) → 0 < n → x ≡ Some c → y ≡ Some d
+        → shows c ≡ Some s → shows d ≡ Some t → IsMetSoFar shows n₀ x₀ y₀ n x y seam
+        → suc (suc (2 * length seam)) ≤ asked_seam shows n₀ x₀ y₀
+    seam-counts x y c d s t h p q hs ht g =
         let f = here x y c d p q g in
-        let e = met-step n c d s t h hs ht in
+        let e = seam-step n c d s t h hs ht in
         let a = f.asked in let b = e.1 in omega arith
 
 -- ---- a chain of nodes without pairs

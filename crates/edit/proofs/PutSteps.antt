@@ -4,11 +4,11 @@ use Rattle.std.proofs.lemmas.List.{map-append}
 use Rattle.std.proofs.Math.Nat.{min-le_left, min-le_right}
 use Rattle.spec.specs.Tree.{Pair}
 use Rattle.spec.specs.NodeFormat.{Shape, LastLink, MoreLinks, shape_bytes}
-use Rattle.paths.specs.Lawful.{Lawful, AllLawful}
-use Rattle.paths.specs.ShapeEdit.{close_shapes, split_links, split_shapes, insert_shape, lift_link, lift_shapes, tail_shapes, above_shape, above_shapes}
-use Rattle.paths.specs.PathEdit.{raise, raise_shapes, climb, climb_shapes, put_here, put_below, put_below_shapes}
-use Rattle.edit.specs.declared.draft_fault.DraftFault.{DraftFault}
-use Rattle.edit.specs.Drafts.{IsFaultOf}
+use Rattle.edit_laws.specs.Lawful.{Lawful, AllLawful}
+use Rattle.edit_laws.specs.ShapeEdit.{close_shapes, split_links, split_shapes, insert_shape, padded_link, link_pads, tail_shapes, above_shape, above_shapes}
+use Rattle.edit_laws.specs.PathEdit.{padded_node, node_pads, climb, climb_shapes, put_here, put_below, put_below_shapes}
+use Rattle.rewrite.specs.declared.fault.RewriteFault.{RewriteFault}
+use Rattle.rewrite.specs.Drafts.{IsFaultOf}
 use Rattle.edit.specs.Faults.{IsFaultUnless}
 use Rattle.edit.proofs.Building.{front-all, back-all, join-all, unless-weaker, of-unless, closed-lawful}
 
@@ -34,53 +34,53 @@ module _ (digest : List ℕ → List ℕ) (d : ℕ) (p : Pair) (path : List Shap
   right-is : r ≡ (split_links digest p.0 path).1
   right-is = ap (λ (t : Option (List ℕ) × Option (List ℕ)). t.1) links
 
-  pub above-left : (f : DraftFault) → IsFaultUnless (AllLawful (lift_shapes digest d l)) f
+  pub above-left : (f : RewriteFault) → IsFaultUnless (AllLawful (link_pads digest d l)) f
       → IsFaultUnless (AllLawful (above_shapes digest d p path)) f
   above-left f =
       let s = split_links digest p.0 path in
-      unless-weaker _ _ f (λ all. subst (λ (x : Option (List ℕ)). AllLawful (lift_shapes digest d x)) (sym left-is)
-      (front-all Lawful (lift_shapes digest d s.0) _ (back-all Lawful (split_shapes digest p.0 path) _ all)))
+      unless-weaker _ _ f (λ all. subst (λ (x : Option (List ℕ)). AllLawful (link_pads digest d x)) (sym left-is)
+      (front-all Lawful (link_pads digest d s.0) _ (back-all Lawful (split_shapes digest p.0 path) _ all)))
 
-  pub above-right : (f : DraftFault) → IsFaultUnless (AllLawful (lift_shapes digest d r)) f
+  pub above-right : (f : RewriteFault) → IsFaultUnless (AllLawful (link_pads digest d r)) f
       → IsFaultUnless (AllLawful (above_shapes digest d p path)) f
   above-right f =
       let s = split_links digest p.0 path in
-      unless-weaker _ _ f (λ all. subst (λ (x : Option (List ℕ)). AllLawful (lift_shapes digest d x)) (sym right-is)
-      (front-all Lawful (lift_shapes digest d s.1) _
-      (back-all Lawful (lift_shapes digest d s.0) _ (back-all Lawful (split_shapes digest p.0 path) _ all))))
+      unless-weaker _ _ f (λ all. subst (λ (x : Option (List ℕ)). AllLawful (link_pads digest d x)) (sym right-is)
+      (front-all Lawful (link_pads digest d s.1) _
+      (back-all Lawful (link_pads digest d s.0) _ (back-all Lawful (split_shapes digest p.0 path) _ all))))
 
-  module _ (before after : Option (List ℕ)) (hb : before ≡ lift_link digest d l) (ha : after ≡ lift_link digest d r) where
+  module _ (before after : Option (List ℕ)) (hb : before ≡ padded_link digest d l) (ha : after ≡ padded_link digest d r) where
     pub above-is : MoreLinks before p (LastLink after) ≡ above_shape digest d p path
     above-is =
         let s = split_links digest p.0 path in
-        ap (λ (x : Option (List ℕ)). MoreLinks x p (LastLink after)) (hb ∙ ap (lift_link digest d) left-is)
-        ∙ ap (λ (x : Option (List ℕ)). MoreLinks (lift_link digest d s.0) p (LastLink x)) (ha ∙ ap (lift_link digest d) right-is)
+        ap (λ (x : Option (List ℕ)). MoreLinks x p (LastLink after)) (hb ∙ ap (padded_link digest d) left-is)
+        ∙ ap (λ (x : Option (List ℕ)). MoreLinks (padded_link digest d s.0) p (LastLink x)) (ha ∙ ap (padded_link digest d) right-is)
 
-    pub above-top : (f : DraftFault) → IsFaultOf (MoreLinks before p (LastLink after)) f
+    pub above-top : (f : RewriteFault) → IsFaultOf (MoreLinks before p (LastLink after)) f
         → IsFaultUnless (AllLawful (above_shapes digest d p path)) f
     above-top f =
         let s = split_links digest p.0 path in
         of-unless (MoreLinks before p (LastLink after)) _ f (λ all.
         let last : AllLawful (above_shape digest d p path ∷ []) =
-        back-all Lawful (lift_shapes digest d s.1) _ (back-all Lawful (lift_shapes digest d s.0) _
+        back-all Lawful (link_pads digest d s.1) _ (back-all Lawful (link_pads digest d s.0) _
         (back-all Lawful (split_shapes digest p.0 path) _ all)) in
         subst Lawful (sym above-is) last.0)
 
     pub above-made : (top : Shape) (m0 m1 m2 m3 m4 : List (List ℕ)) → top ≡ MoreLinks before p (LastLink after)
         → m1 ≡ m0 ++ map shape_bytes (split_shapes digest p.0 path)
-        → m2 ≡ m1 ++ map shape_bytes (lift_shapes digest d l) → m3 ≡ m2 ++ map shape_bytes (lift_shapes digest d r)
+        → m2 ≡ m1 ++ map shape_bytes (link_pads digest d l) → m3 ≡ m2 ++ map shape_bytes (link_pads digest d r)
         → m4 ≡ m3 ++ shape_bytes top ∷ [] → m4 ≡ m0 ++ map shape_bytes (above_shapes digest d p path)
     above-made top m0 m1 m2 m3 m4 is h1 h2 h3 h4 =
         let s = split_links digest p.0 path in
         let a = split_shapes digest p.0 path in
-        let b = lift_shapes digest d s.0 in
-        let c = lift_shapes digest d s.1 in
+        let b = link_pads digest d s.0 in
+        let c = link_pads digest d s.1 in
         let t = above_shape digest d p path in
         let d2 : m2 ≡ (m0 ++ map shape_bytes a) ++ map shape_bytes b =
-        h2 ∙ ap (λ (x : Option (List ℕ)). m1 ++ map shape_bytes (lift_shapes digest d x)) left-is
+        h2 ∙ ap (λ (x : Option (List ℕ)). m1 ++ map shape_bytes (link_pads digest d x)) left-is
         ∙ ap (λ v. v ++ map shape_bytes b) h1 in
         let d3 : m3 ≡ ((m0 ++ map shape_bytes a) ++ map shape_bytes b) ++ map shape_bytes c =
-        h3 ∙ ap (λ (x : Option (List ℕ)). m2 ++ map shape_bytes (lift_shapes digest d x)) right-is
+        h3 ∙ ap (λ (x : Option (List ℕ)). m2 ++ map shape_bytes (link_pads digest d x)) right-is
         ∙ ap (λ v. v ++ map shape_bytes c) d2 in
         let d4 : m4 ≡ (((m0 ++ map shape_bytes a) ++ map shape_bytes b) ++ map shape_bytes c) ++ shape_bytes t ∷ [] =
         h4 ∙ ap (λ (x : Shape). m3 ++ shape_bytes x ∷ []) (is ∙ above-is)
@@ -97,14 +97,14 @@ module _ (digest : List ℕ → List ℕ) (d : ℕ) (p : Pair) (path : List Shap
         four m a b c t =
             append_assoc ((m ++ a) ++ b) c t ∙ append_assoc (m ++ a) b (c ++ t) ∙ append_assoc m a (b ++ (c ++ t))
 
-pub above-split : (digest : List ℕ → List ℕ) (d : ℕ) (p : Pair) (path : List Shape) (f : DraftFault)
+pub above-split : (digest : List ℕ → List ℕ) (d : ℕ) (p : Pair) (path : List Shape) (f : RewriteFault)
     → IsFaultUnless (AllLawful (split_shapes digest p.0 path)) f → IsFaultUnless (AllLawful (above_shapes digest d p path)) f
 above-split digest d p path f = unless-weaker _ _ f (front-all Lawful (split_shapes digest p.0 path) _)
 
 -- ---- a pair in the first of some nodes
 
 module _ (digest : List ℕ → List ℕ) (p : Pair) (path xs : List Shape) (x : Shape) (e : path ≡ x ∷ xs) where
-  pub here-split : (f : DraftFault) → IsFaultUnless (AllLawful (split_shapes digest p.0 xs)) f
+  pub here-split : (f : RewriteFault) → IsFaultUnless (AllLawful (split_shapes digest p.0 xs)) f
       → IsFaultUnless (AllLawful (split_shapes digest p.0 (tail_shapes path) ++ put_here digest p path ∷ [])) f
   here-split f =
       unless-weaker _ _ f (λ all. front-all Lawful (split_shapes digest p.0 xs) _
@@ -115,7 +115,7 @@ module _ (digest : List ℕ → List ℕ) (p : Pair) (path xs : List Shape) (x :
     here-is =
         ap (λ (v : Shape). insert_shape p v (l, r)) same ∙ ap (insert_shape p x) links ∙ ap (put_here digest p) (sym e)
 
-    pub here-node : (f : DraftFault) → IsFaultOf (insert_shape p s (l, r)) f
+    pub here-node : (f : RewriteFault) → IsFaultOf (insert_shape p s (l, r)) f
         → IsFaultUnless (AllLawful (split_shapes digest p.0 (tail_shapes path) ++ put_here digest p path ∷ [])) f
     here-node f =
         of-unless (insert_shape p s (l, r)) _ f (λ all.
@@ -142,10 +142,10 @@ same-drop (suc n) zero xs h k = absurd (omega arith)
 same-drop (suc n) (suc d) [] h k = refl
 same-drop (suc n) (suc d) (x ∷ xs) h k = same-drop n d xs (omega arith) (λ l. let i = k (omega arith) in omega arith)
 
-raise-has : (digest : List ℕ → List ℕ) (n : ℕ) (s : Shape) → AllLawful (raise_shapes digest n s ++ (raise digest n s ∷ []))
+padded_node-has : (digest : List ℕ → List ℕ) (n : ℕ) (s : Shape) → AllLawful (node_pads digest n s ++ (padded_node digest n s ∷ []))
     → Lawful s
-raise-has digest zero s h = h.0
-raise-has digest (suc n) s h = raise-has digest n s (front-all Lawful (raise_shapes digest n s ++ (raise digest n s ∷ [])) _ h)
+padded_node-has digest zero s h = h.0
+padded_node-has digest (suc n) s h = padded_node-has digest n s (front-all Lawful (node_pads digest n s ++ (padded_node digest n s ∷ [])) _ h)
 
 climb-has : (digest : List ℕ → List ℕ) (key : List ℕ) (above : List Shape) (s : Shape)
     → AllLawful (climb_shapes digest key above s ++ (climb digest key above s ∷ [])) → Lawful s
@@ -184,17 +184,17 @@ module _ (digest : List ℕ → List ℕ) (d : ℕ) (p : Pair) (path above below
   abbrev here : Shape
   here = put_here digest p (drop d path)
 
-  abbrev lifted : Shape
-  lifted = raise digest (d - length path) here
+  abbrev padded : Shape
+  padded = padded_node digest (d - length path) here
 
   abbrev sides : List Shape
   sides = split_shapes digest p.0 (tail_shapes (drop d path))
 
   abbrev bare : List Shape
-  bare = raise_shapes digest (d - length path) here
+  bare = node_pads digest (d - length path) here
 
   abbrev climbed : List Shape
-  climbed = climb_shapes digest p.0 (take d path) lifted
+  climbed = climb_shapes digest p.0 (take d path) padded
 
   of-sides : AllLawful all_of → AllLawful sides
   of-sides all = front-all Lawful sides _ (front-all Lawful (sides ++ (bare ++ climbed)) _ all)
@@ -203,22 +203,22 @@ module _ (digest : List ℕ → List ℕ) (d : ℕ) (p : Pair) (path above below
   of-bare all =
       front-all Lawful bare _ (back-all Lawful sides _ (front-all Lawful (sides ++ (bare ++ climbed)) _ all))
 
-  of-climbed : AllLawful all_of → AllLawful (climbed ++ (climb digest p.0 (take d path) lifted ∷ []))
+  of-climbed : AllLawful all_of → AllLawful (climbed ++ (climb digest p.0 (take d path) padded ∷ []))
   of-climbed all =
       join-all Lawful climbed _
       (back-all Lawful bare _ (back-all Lawful sides _ (front-all Lawful (sides ++ (bare ++ climbed)) _ all)))
       (back-all Lawful (sides ++ (bare ++ climbed)) _ all)
 
-  of-lifted : AllLawful all_of → AllLawful (bare ++ (lifted ∷ []))
-  of-lifted all =
-      join-all Lawful bare (lifted ∷ []) (of-bare all)
-      (climb-has digest p.0 (take d path) lifted (of-climbed all), tt)
+  of-padded : AllLawful all_of → AllLawful (bare ++ (padded ∷ []))
+  of-padded all =
+      join-all Lawful bare (padded ∷ []) (of-bare all)
+      (climb-has digest p.0 (take d path) padded (of-climbed all), tt)
 
   of-here : AllLawful all_of → AllLawful (sides ++ (here ∷ []))
   of-here all =
-      join-all Lawful sides (here ∷ []) (of-sides all) (raise-has digest (d - length path) here (of-lifted all), tt)
+      join-all Lawful sides (here ∷ []) (of-sides all) (padded_node-has digest (d - length path) here (of-padded all), tt)
 
-  pub below-here : (f : DraftFault)
+  pub below-here : (f : RewriteFault)
       → IsFaultUnless (AllLawful (split_shapes digest p.0 (tail_shapes below) ++ (put_here digest p below ∷ []))) f
       → IsFaultUnless (AllLawful all_of) f
   below-here f =
@@ -230,49 +230,49 @@ module _ (digest : List ℕ → List ℕ) (d : ℕ) (p : Pair) (path above below
     node-is : node ≡ here
     node-is = hn ∙ ap (put_here digest p) cut.rest
 
-    pub below-raise : (f : DraftFault)
-        → IsFaultUnless (AllLawful (raise_shapes digest up node ++ (raise digest up node ∷ []))) f
+    pub below-padded_node : (f : RewriteFault)
+        → IsFaultUnless (AllLawful (node_pads digest up node ++ (padded_node digest up node ∷ []))) f
         → IsFaultUnless (AllLawful all_of) f
-    below-raise f =
+    below-padded_node f =
         unless-weaker _ _ f (λ all. subst
-        (λ (k : ℕ). AllLawful (raise_shapes digest k node ++ (raise digest k node ∷ []))) (sym cut.layers)
-        (subst (λ (s : Shape). AllLawful (raise_shapes digest (d - length path) s ++ (raise digest (d - length path) s ∷ [])))
-        (sym node-is) (of-lifted all)))
+        (λ (k : ℕ). AllLawful (node_pads digest k node ++ (padded_node digest k node ∷ []))) (sym cut.layers)
+        (subst (λ (s : Shape). AllLawful (node_pads digest (d - length path) s ++ (padded_node digest (d - length path) s ∷ [])))
+        (sym node-is) (of-padded all)))
 
-    module _ (raised : Shape) (hr : raised ≡ raise digest up node) where
-      raised-is : raised ≡ lifted
-      raised-is = hr ∙ ap (λ (k : ℕ). raise digest k node) cut.layers ∙ ap (raise digest (d - length path)) node-is
+    module _ (padded_top : Shape) (hr : padded_top ≡ padded_node digest up node) where
+      padded_top-is : padded_top ≡ padded
+      padded_top-is = hr ∙ ap (λ (k : ℕ). padded_node digest k node) cut.layers ∙ ap (padded_node digest (d - length path)) node-is
 
-      pub below-climb : (f : DraftFault)
-          → IsFaultUnless (AllLawful (climb_shapes digest p.0 above raised ++ (climb digest p.0 above raised ∷ []))) f
+      pub below-climb : (f : RewriteFault)
+          → IsFaultUnless (AllLawful (climb_shapes digest p.0 above padded_top ++ (climb digest p.0 above padded_top ∷ []))) f
           → IsFaultUnless (AllLawful all_of) f
       below-climb f =
           unless-weaker _ _ f (λ all. subst
-          (λ (a : List Shape). AllLawful (climb_shapes digest p.0 a raised ++ (climb digest p.0 a raised ∷ [])))
+          (λ (a : List Shape). AllLawful (climb_shapes digest p.0 a padded_top ++ (climb digest p.0 a padded_top ∷ [])))
           (sym cut.front)
           (subst (λ (s : Shape). AllLawful (climb_shapes digest p.0 (take d path) s ++ (climb digest p.0 (take d path) s ∷ [])))
-          (sym raised-is) (of-climbed all)))
+          (sym padded_top-is) (of-climbed all)))
 
-      pub below-top : (top : Shape) → top ≡ climb digest p.0 above raised → top ≡ put_below digest d p path
+      pub below-top : (top : Shape) → top ≡ climb digest p.0 above padded_top → top ≡ put_below digest d p path
       below-top top ht =
-          ht ∙ ap (λ (a : List Shape). climb digest p.0 a raised) cut.front ∙ ap (climb digest p.0 (take d path)) raised-is
+          ht ∙ ap (λ (a : List Shape). climb digest p.0 a padded_top) cut.front ∙ ap (climb digest p.0 (take d path)) padded_top-is
 
-      pub below-made : (top : Shape) (m0 m1 m2 m3 m4 : List (List ℕ)) → top ≡ climb digest p.0 above raised
+      pub below-made : (top : Shape) (m0 m1 m2 m3 m4 : List (List ℕ)) → top ≡ climb digest p.0 above padded_top
           → m1 ≡ m0 ++ map shape_bytes (split_shapes digest p.0 (tail_shapes below))
-          → m2 ≡ m1 ++ map shape_bytes (raise_shapes digest up node)
-          → m3 ≡ m2 ++ map shape_bytes (climb_shapes digest p.0 above raised)
+          → m2 ≡ m1 ++ map shape_bytes (node_pads digest up node)
+          → m3 ≡ m2 ++ map shape_bytes (climb_shapes digest p.0 above padded_top)
           → m4 ≡ m3 ++ shape_bytes top ∷ [] → m4 ≡ m0 ++ map shape_bytes all_of
       below-made top m0 m1 m2 m3 m4 ht h1 h2 h3 h4 =
           let t = put_below digest d p path in
           let d1 : m1 ≡ m0 ++ map shape_bytes sides =
           h1 ∙ ap (λ (ss : List Shape). m0 ++ map shape_bytes (split_shapes digest p.0 (tail_shapes ss))) cut.rest in
           let d2 : m2 ≡ (m0 ++ map shape_bytes sides) ++ map shape_bytes bare =
-          h2 ∙ ap (λ (k : ℕ). m1 ++ map shape_bytes (raise_shapes digest k node)) cut.layers
-          ∙ ap (λ (s : Shape). m1 ++ map shape_bytes (raise_shapes digest (d - length path) s)) node-is
+          h2 ∙ ap (λ (k : ℕ). m1 ++ map shape_bytes (node_pads digest k node)) cut.layers
+          ∙ ap (λ (s : Shape). m1 ++ map shape_bytes (node_pads digest (d - length path) s)) node-is
           ∙ ap (λ v. v ++ map shape_bytes bare) d1 in
           let d3 : m3 ≡ ((m0 ++ map shape_bytes sides) ++ map shape_bytes bare) ++ map shape_bytes climbed =
-          h3 ∙ ap (λ (a : List Shape). m2 ++ map shape_bytes (climb_shapes digest p.0 a raised)) cut.front
-          ∙ ap (λ (s : Shape). m2 ++ map shape_bytes (climb_shapes digest p.0 (take d path) s)) raised-is
+          h3 ∙ ap (λ (a : List Shape). m2 ++ map shape_bytes (climb_shapes digest p.0 a padded_top)) cut.front
+          ∙ ap (λ (s : Shape). m2 ++ map shape_bytes (climb_shapes digest p.0 (take d path) s)) padded_top-is
           ∙ ap (λ v. v ++ map shape_bytes climbed) d2 in
           let d4 : m4 ≡ (((m0 ++ map shape_bytes sides) ++ map shape_bytes bare) ++ map shape_bytes climbed) ++ shape_bytes t ∷ [] =
           h4 ∙ ap (λ (x : Shape). m3 ++ shape_bytes x ∷ []) (below-top top ht)

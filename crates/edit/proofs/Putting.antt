@@ -13,24 +13,24 @@ use Rattle.spec.specs.NodeFormat.{Shape, is_key, shape_bytes, shape_cid}
 use Rattle.spec.specs.Blocks.{IsClashFree, firsts, nodes, root as root_of}
 use Rattle.spec.specs.Proof.{path}
 use Rattle.spec.specs.Writes.{with_key}
-use Rattle.paths.specs.Changes.{AreChanges, has_cid, add_of, drop_of}
-use Rattle.paths.specs.Lawful.{AllLawful, AllShort}
-use Rattle.paths.specs.PathEdit.{put_root, put_written}
-use Rattle.paths.specs.Sources.{shown_by, path_from, value_from}
-use Rattle.paths.specs.Laws.Puts.{IsPut}
-use Rattle.paths.specs.Laws.Edits.{bytes_of}
-use Rattle.paths.proofs.Lawful.{put-lawful}
-use Rattle.paths.proofs.LookupTheorems.{top-has_layer}
-use Rattle.paths.proofs.OverSource.{free-source}
-use Rattle.paths.proofs.PutTheorems.{put-over_source}
+use Rattle.edit_laws.specs.Changes.{AreChanges, has_cid, add_of, drop_of}
+use Rattle.edit_laws.specs.Lawful.{AllLawful, AllShort}
+use Rattle.edit_laws.specs.PathEdit.{put_root, put_written}
+use Rattle.edit_laws.specs.Sources.{shown_by, path_from, value_from}
+use Rattle.edit_laws.specs.Laws.Puts.{IsPut}
+use Rattle.edit_laws.specs.Laws.Edits.{bytes_of}
+use Rattle.edit_laws.proofs.Lawful.{put-lawful}
+use Rattle.edit_laws.proofs.LookupTheorems.{top-has_layer}
+use Rattle.edit_laws.proofs.OverSource.{free-source}
+use Rattle.edit_laws.proofs.PutTheorems.{put-over_source}
 use Rattle.edit.specs.Edits.{IsEditOf, IsPutOn}
 use Rattle.edit.specs.Faults.{IsFaultUnless, IsEditFault, IsRefusal, IsAbsence}
 use Rattle.edit.specs.Steps.{layers, IsWholePath}
 use Rattle.edit.specs.Trees.{HasTree}
-use Rattle.edit.specs.declared.draft_fault.DraftFault.{DraftFault}
-use Rattle.edit.specs.declared.draft_fault.DraftFault.TheVariants as drafts
-use Rattle.edit.specs.declared.fault.EditFault.{EditFault}
-use Rattle.edit.specs.declared.fault.EditFault.TheVariants.{NoSuchKey, Clash, NoMemory}
+use Rattle.rewrite.specs.declared.fault.RewriteFault.{RewriteFault}
+use Rattle.rewrite.specs.declared.fault.RewriteFault.TheVariants as drafts
+use Rattle.edit.specs.declared.outcome.EditFault.{EditFault}
+use Rattle.edit.specs.declared.outcome.EditFault.TheVariants.{NoSuchKey, Clash, NoMemory}
 use Rattle.edit.proofs.Stepping.{is-lookup, asked-path, tree-value}
 
 -- ---- refusals
@@ -40,13 +40,13 @@ pub memory-only : {D A : Type 0} (digest : List ℕ → List ℕ) (blocks : List
 memory-only digest blocks P fault e = subst (IsRefusal digest blocks P) (sym e) tt
 
 -- what can't be: a node is missing, or is none
-pub cannot-be : {D A : Type 0} (digest : List ℕ → List ℕ) (blocks : List (List ℕ)) (P Q : Type 0) (draft : DraftFault)
+pub cannot-be : {D A : Type 0} (digest : List ℕ → List ℕ) (blocks : List (List ℕ)) (P Q : Type 0) (draft : RewriteFault)
     (fault : EditFault D A) → Q → IsFaultUnless Q draft → IsEditFault draft fault → IsRefusal digest blocks P fault
 cannot-be digest blocks P Q drafts.NotNode fault q h e = absurd (h q)
 cannot-be digest blocks P Q drafts.NoMemory fault q h e = memory-only digest blocks P fault e
 
 -- a node that isn't there, or is none
-pub draft-missing : {D A : Type 0} (draft : DraftFault) (fault : EditFault D A) → IsEditFault draft fault → IsAbsence fault
+pub draft-missing : {D A : Type 0} (draft : RewriteFault) (fault : EditFault D A) → IsEditFault draft fault → IsAbsence fault
 draft-missing drafts.NotNode fault e = subst IsAbsence (sym e) tt
 draft-missing drafts.NoMemory fault e = subst IsAbsence (sym e) tt
 

@@ -9,14 +9,14 @@ use Rattle.spec.specs.Cid.{IsDigest}
 use Rattle.spec.specs.Blocks.{value_of, root as root_of}
 use Rattle.spec.specs.Proof.{Place, place, path}
 use Rattle.std.proofs.lemmas.List.{length-map}
-use Rattle.paths.specs.Laws.Lookups.{found_at, IsLookup}
-use Rattle.paths.proofs.SourceLaws.{IsShown, link-gap}
-use Rattle.paths.proofs.WalkPairs.{each-first_part, each-start}
-use Rattle.paths.proofs.OverSource.{holds-top}
-use Rattle.paths.specs.Sources.{shape_from, shape_of_reading, shape_of_bytes, shown_by, row_value, gap, or_deeper, value_from, path_from}
-use Rattle.paths.specs.TreeEdit.{first, layer_of}
-use Rattle.paths.specs.Walk.{start}
-use Rattle.paths.proofs.LookupTheorems.{step-is_place, top-has_layer, lookup-over_source}
+use Rattle.edit_laws.specs.Laws.Lookups.{found_at, IsLookup}
+use Rattle.edit_laws.proofs.SourceLaws.{IsShown, link-gap}
+use Rattle.edit_laws.proofs.WalkPairs.{each-first_part, each-start}
+use Rattle.edit_laws.proofs.OverSource.{holds-top}
+use Rattle.edit_laws.specs.Sources.{shape_from, shape_of_reading, shape_of_bytes, shown_by, entry_value, gap, or_deeper, value_from, path_from}
+use Rattle.edit_laws.specs.TreeEdit.{first, layer_of}
+use Rattle.edit_laws.specs.Walk.{start}
+use Rattle.edit_laws.proofs.LookupTheorems.{step-is_place, top-has_layer, lookup-over_source}
 use Rattle.edit.specs.Steps.{layers, asked_at, asked_from}
 use Rattle.edit.specs.Trees.{HasTree}
 
@@ -33,7 +33,7 @@ entries_of-from left (e ∷ es) =
 
 -- what a key's place in a node that was read says
 abbrev pub at_key : List ℕ → Shape → Option (List ℕ) × Option (List ℕ)
-at_key key s = (row_value key s, gap key s)
+at_key key s = (entry_value key s, gap key s)
 
 pub place-found : (key : List ℕ) (left : Option (List ℕ)) (es : List Entry) (p : Place) → p ≡ place key left es
     → found_at p ≡ at_key key (shape_from left es)
@@ -66,7 +66,7 @@ at-step : (shows : List ℕ → Option Shape) (key c : List ℕ) (v l : Option (
 at-step shows key c v l n None e h = absurd cc
 at-step shows key c v l n (Some s) e h =
     let q : (v, l) ≡ at_key key s = cc in
-    let qv : v ≡ row_value key s = ap (λ (x : Option (List ℕ) × Option (List ℕ)). x.0) q in
+    let qv : v ≡ entry_value key s = ap (λ (x : Option (List ℕ) × Option (List ℕ)). x.0) q in
     let ql : l ≡ gap key s = ap (λ (x : Option (List ℕ) × Option (List ℕ)). x.1) q in
     rw (e, qv, ql) (refl, refl)
 

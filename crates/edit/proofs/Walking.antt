@@ -15,23 +15,23 @@ use Rattle.spec.specs.Layer.{layer}
 use Rattle.spec.specs.Tree.{Pair, Node, Part, Last, More, Sub, EachNode, EachUnder, top}
 use Rattle.spec.specs.NodeFormat.{Shape, LastLink, MoreLinks, first_link, part_link, shape}
 use Rattle.spec.specs.Blocks.{listed}
-use Rattle.paths.specs.Order.{order}
-use Rattle.paths.specs.TreeEdit.{first}
-use Rattle.paths.specs.Walk.{Frame, later, go_down}
-use Rattle.paths.specs.Sources.{shown_by, gap, gap_at, path_from, start_shape, start_at, later_shape, down_from, next_from, walk_from, next_path, walk_path}
-use Rattle.paths.specs.Laws.Walks.{IsWalk}
-use Rattle.paths.proofs.Orders.{order-is}
-use Rattle.paths.proofs.OverSource.{holds-top}
-use Rattle.paths.proofs.ShapeBridges as bridge
-use Rattle.paths.proofs.SourceLaws.{IsShown, AreShown, frames, down-holds, down-shown}
-use Rattle.paths.proofs.WalkPairs.{each-first_part}
-use Rattle.paths.proofs.WalkTheorems.{walk-over_source}
-use Rattle.paths.proofs.LookupTheorems.{top-has_layer}
-use Rattle.edit.specs.Rows.{Reading}
+use Rattle.edit_laws.specs.Order.{order}
+use Rattle.edit_laws.specs.TreeEdit.{first}
+use Rattle.edit_laws.specs.Walk.{Frame, later, go_down}
+use Rattle.edit_laws.specs.Sources.{shown_by, gap, gap_at, path_from, start_shape, start_at, later_shape, down_from, next_from, walk_from, next_path, walk_path}
+use Rattle.edit_laws.specs.Laws.Walks.{IsWalk}
+use Rattle.edit_laws.proofs.Orders.{order-is}
+use Rattle.edit_laws.proofs.OverSource.{holds-top}
+use Rattle.edit_laws.proofs.ShapeBridges as bridge
+use Rattle.edit_laws.proofs.SourceLaws.{IsShown, AreShown, frames, down-holds, down-shown}
+use Rattle.edit_laws.proofs.WalkPairs.{each-first_part}
+use Rattle.edit_laws.proofs.WalkTheorems.{walk-over_source}
+use Rattle.edit_laws.proofs.LookupTheorems.{top-has_layer}
+use Rattle.rewrite.specs.Entries.{Reading, shape_at}
 use Rattle.edit.specs.Steps.{layers, asked_from}
 use Rattle.edit.specs.Trees.{HasTree}
-use Rattle.edit.specs.Walks.{nodes_walked, pairs_given, frame_of, stacked, shape_at, asked_after, asked_walk}
-use Rattle.edit.specs.declared.frame.Frame as frame
+use Rattle.edit.specs.Walks.{nodes_walked, pairs_given, frame_of, stacked, asked_after, asked_walk}
+use Rattle.edit.specs.declared.walks.Frame as frame
 use Rattle.edit.proofs.Stepping.{asked-holds}
 
 -- ---- the stack

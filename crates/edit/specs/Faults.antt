@@ -1,18 +1,24 @@
 -- When an edit is refused.
 use Rattle.std.specs.Prelude.{◌≡◌, ⊤, ℕ, List, Contains, Result, Ok, Err}
 use Rattle.spec.specs.Blocks.{IsClash}
-use Rattle.edit.specs.declared.draft_fault.DraftFault.{DraftFault}
-use Rattle.edit.specs.declared.draft_fault.DraftFault.TheVariants as drafts
-use Rattle.edit.specs.declared.fault.EditFault.{EditFault}
-use Rattle.edit.specs.declared.fault.EditFault.TheVariants.{NoSuchKey, Clash, NoMemory}
+use Rattle.spec.specs.NodeFormat.{Shape}
+use Rattle.edit_laws.specs.Lawful.{AllLawful}
+use Rattle.rewrite.specs.declared.fault.RewriteFault.{RewriteFault}
+use Rattle.rewrite.specs.declared.fault.RewriteFault.TheVariants as drafts
+use Rattle.edit.specs.declared.outcome.EditFault.{EditFault}
+use Rattle.edit.specs.declared.outcome.EditFault.TheVariants.{NoSuchKey, Clash, NoMemory}
 
 -- what was read or was to be written is no node only unless P; of a want of memory nothing is said
-abbrev pub IsFaultUnless : Type 0 → DraftFault → Type 0
+abbrev pub IsFaultUnless : Type 0 → RewriteFault → Type 0
 IsFaultUnless P drafts.NotNode = ¬ P
 IsFaultUnless P drafts.NoMemory = ⊤
 
+-- one of these is no node of the grammar
+abbrev pub IsFaultIn : List Shape → RewriteFault → Type 0
+IsFaultIn nodes = IsFaultUnless (AllLawful nodes)
+
 -- what a fault of building is to the caller of an edit
-abbrev pub IsEditFault : {D A : Type 0} → DraftFault → EditFault D A → Type 0
+abbrev pub IsEditFault : {D A : Type 0} → RewriteFault → EditFault D A → Type 0
 IsEditFault drafts.NotNode fault = fault ≡ NoSuchKey
 IsEditFault drafts.NoMemory fault = fault ≡ NoMemory
 

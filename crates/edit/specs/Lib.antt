@@ -1,14 +1,10 @@
-pub mod Codes
-pub mod Copying
 pub mod Maps
-pub mod Rows
 pub mod Changes
 pub mod Faults
 pub mod Nodes
-pub mod Ahead
-pub mod Drafts
 pub mod Edits
-pub mod Settled
+pub mod Trimmed
+pub mod Making
 pub mod Deletes
 pub mod Steps
 pub mod Trees

@@ -1,7 +1,7 @@
 -- Nodes that were read.
 use Rattle.std.specs.Prelude.{◌≡◌, ◌<◌, ◌^◌, ℕ, Bool, true, false, length, List}
 use Rattle.spec.specs.NodeFormat.{Shape, LastLink, MoreLinks, shape_bytes}
-use Rattle.paths.specs.Lawful.{Lawful}
+use Rattle.edit_laws.specs.Lawful.{Lawful}
 
 -- a node of the grammar, and these are its bytes, which a machine can count
 pub record IsNodeOf (bytes : List ℕ) (s : Shape) : Type 0 where

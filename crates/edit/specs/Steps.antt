@@ -1,11 +1,13 @@
 -- What loops over a source read.
 use Rattle.std.specs.Prelude.{◌≡◌, ℕ, zero, suc, ◌+◌, ◌*◌, ◌/◌, length, List, Option, Some, None, option_map}
+use Rattle.std.specs.Arc.{arc_value}
+use Rattle.std.specs.declared.sync.Arc.{Arc}
 use Rattle.node.specs.declared.place.Place.{Place}
 use Rattle.node.specs.Views.{place_of}
 use Rattle.spec.specs.NodeFormat.{Shape, LastLink, MoreLinks, first_link}
-use Rattle.paths.specs.Laws.Lookups.{found_at}
-use Rattle.paths.specs.ShapeEdit.{last_link}
-use Rattle.paths.specs.Sources.{gap, shown_by, path_from, met_from, pruned_from}
+use Rattle.edit_laws.specs.Laws.Lookups.{found_at}
+use Rattle.edit_laws.specs.ShapeEdit.{last_link}
+use Rattle.edit_laws.specs.Sources.{gap, shown_by, entry_value, path_from, seam_from, pruned_from}
 
 -- how many layers a tree has at most: those of 256 bits, and layer 0
 abbrev pub layers : ℕ → ℕ
@@ -18,6 +20,14 @@ place_found key p = found_at (place_of key p)
 -- what a source of blocks shows, where view is the bytes of a block
 abbrev pub shows : {X : Type 0} → (X → List ℕ) → (List ℕ → Option X) → List ℕ → Option Shape
 shows view gives = shown_by (λ c. option_map view (gives c))
+
+-- the nodes that a source of blocks gives
+abbrev pub nodes_given : {A : Type 0} → (List ℕ → Option (Arc (List ℕ) A)) → List ℕ → Option Shape
+nodes_given gives = shows arc_value gives
+
+-- the value of a key in a node, and the link to go on with
+abbrev pub place_of_key : List ℕ → Shape → Option (List ℕ) × Option (List ℕ)
+place_of_key key s = (entry_value key s, gap key s)
 
 abbrev pub asked_at : (Option (List ℕ) → ℕ) → List ℕ → Option Shape → ℕ
 asked_at further key None = 1
@@ -33,20 +43,20 @@ asked_from shows (suc n) key (Some c) = asked_at (asked_from shows n key) key (s
 abbrev pub IsWholePath : (List ℕ → Option Shape) → ℕ → List ℕ → Option (List ℕ) → Type 0
 IsWholePath shows n key l = asked_from shows n key l ≡ length (path_from shows n key l)
 
-abbrev pub asked_met_at : (Option (List ℕ) → Option (List ℕ) → ℕ) → Option Shape → Option Shape → ℕ
-asked_met_at further None t = 1
-asked_met_at further (Some s) None = 2
-asked_met_at further (Some s) (Some t) = suc (suc (further (last_link s) (first_link t)))
+abbrev pub asked_seam_at : (Option (List ℕ) → Option (List ℕ) → ℕ) → Option Shape → Option Shape → ℕ
+asked_seam_at further None t = 1
+asked_seam_at further (Some s) None = 2
+asked_seam_at further (Some s) (Some t) = suc (suc (further (last_link s) (first_link t)))
 
 -- how many blocks are asked for where the nodes below two links meet: none unless both links are there
-abbrev pub asked_met : (List ℕ → Option Shape) → ℕ → Option (List ℕ) → Option (List ℕ) → ℕ
-asked_met shows zero x y = 0
-asked_met shows (suc n) None y = 0
-asked_met shows (suc n) (Some c) None = 0
-asked_met shows (suc n) (Some c) (Some d) = asked_met_at (asked_met shows n) (shows c) (shows d)
+abbrev pub asked_seam : (List ℕ → Option Shape) → ℕ → Option (List ℕ) → Option (List ℕ) → ℕ
+asked_seam shows zero x y = 0
+asked_seam shows (suc n) None y = 0
+asked_seam shows (suc n) (Some c) None = 0
+asked_seam shows (suc n) (Some c) (Some d) = asked_seam_at (asked_seam shows n) (shows c) (shows d)
 
-abbrev pub IsWholeMet : (List ℕ → Option Shape) → ℕ → Option (List ℕ) → Option (List ℕ) → Type 0
-IsWholeMet shows n x y = asked_met shows n x y ≡ 2 * length (met_from shows n x y)
+abbrev pub IsWholeSeam : (List ℕ → Option Shape) → ℕ → Option (List ℕ) → Option (List ℕ) → Type 0
+IsWholeSeam shows n x y = asked_seam shows n x y ≡ 2 * length (seam_from shows n x y)
 
 abbrev pub asked_pruned_at : (Option (List ℕ) → ℕ) → Option Shape → ℕ
 asked_pruned_at further None = 1

@@ -1,16 +1,15 @@
 -- What a walk gives and reads, and its stack.
-use Rattle.std.specs.Prelude.{ℕ, zero, suc, ◌+◌, List, [], ◌∷◌, ◌++◌, map, Option, Some, None}
+use Rattle.std.specs.Prelude.{ℕ, zero, suc, ◌+◌, List, [], ◌∷◌, ◌++◌, map, Option}
 use Rattle.std.specs.declared.vec.Vec.{Vec}
 use Rattle.cid.specs.CidRef.{bytes_of}
 use Rattle.spec.specs.Layer.{layer}
 use Rattle.spec.specs.Tree.{Pair, Node, Sub, top}
-use Rattle.spec.specs.NodeFormat.{Shape, LastLink, MoreLinks, first_link}
+use Rattle.spec.specs.NodeFormat.{Shape, first_link}
 use Rattle.spec.specs.Blocks.{listed}
-use Rattle.paths.specs.Walk.{nodes_meeting, last_key}
-use Rattle.paths.specs.Sources.{later_shape, down_from}
-use Rattle.edit.specs.Rows.{Reading}
+use Rattle.edit_laws.specs.Walk.{nodes_meeting, last_key}
+use Rattle.edit_laws.specs.Sources.{later_shape, down_from}
 use Rattle.edit.specs.Steps.{asked_from}
-use Rattle.edit.specs.declared.frame.Frame.{Frame}
+use Rattle.edit.specs.declared.walks.Frame.{Frame}
 
 -- The nodes that a walk reads: those whose open range of keys meets the range from a key to that of the last pair given,
 -- or to the key itself where none is; none where none is asked for.
@@ -33,11 +32,6 @@ frame_of f = ((f.rest.before, bytes_of f.value), f.rest.rest)
 abbrev pub stacked : {A : Type 0} → List (Frame A) → List (Pair × Shape)
 stacked [] = []
 stacked (f ∷ fs) = stacked fs ++ frame_of f ∷ []
-
--- what is left of a node from a link on, where the value of the next pair is known, and its key and what follows
-abbrev pub shape_at : Option (List ℕ) → Option (List ℕ) → Reading → Shape
-shape_at link None r = LastLink link
-shape_at link (Some value) r = MoreLinks link (r.before, value) r.rest
 
 -- ---- how many blocks a walk asks for, also where one isn't given
 

@@ -2,8 +2,7 @@
 
 ghost use Rattle.std.specs.Prelude.{◌≡◌, ◌-◌, ◌^◌, min, IfOk};
 
-use crate::asked::Asked;
-use crate::source::Source;
+use crate::source::{ReadCount, Source};
 use cid::{Block, Cid, Digest};
 use std::alloc::{AllocError, Allocator, Global};
 use std::collections::BTreeMap;
@@ -29,7 +28,7 @@ pub struct BlockMap<'a, D: Digest, A: Allocator = Global> {
     blocks: &'a [Arc<Block<D, A>, A>],
     places: BTreeMap<Cid, usize, A>,
     reads: u64,
-    asked: Asked,
+    asked: ReadCount,
 }
 
 impl<'a, D: Digest, A: Allocator> Model for BlockMap<'a, D, A> {
@@ -62,7 +61,7 @@ impl<'a, D: Digest, A: Allocator + Clone> BlockMap<'a, D, A> {
             blocks,
             places,
             reads: 0,
-            asked: Asked::never(),
+            asked: ReadCount::never(),
         })
     }
 }

@@ -8,47 +8,34 @@
 //! - [`put`] and [`delete`] answer an [`Edit`]: the root after it, the blocks to add and the CIDs to drop, so that those
 //!   that stay with those that come are the blocks of the tree built from scratch. They read and write along one path,
 //!   and change nothing themselves: that is for who keeps the blocks.
+//!
+//! A put reads the nodes of its key's path (`loading`), and makes the nodes that change from the lowest up: below the key
+//! (`below`) and above it (`above`), each by a function of the crate `rewrite`. What was made is then compared with what
+//! was read (`block_difference`). A delete also reads the seam, the nodes that meet where its key stood.
+//!
 //! - [`BlockMap`] is a source over a slice of blocks. The crate `kept` has the one of a repository.
 //!
 //! An [`EditFault`] says why there is no edit: a key to delete that isn't there, two blocks that clash, refused memory.
 //! README.md has an example of a put.
 #![tactic(auto)]
 
-mod ahead;
-mod asked;
+mod above;
+mod below;
+mod block_difference;
 mod block_map;
-mod build;
-mod changed;
-mod changes;
-mod copying;
 mod deletes;
-mod descent;
-mod draft;
-mod draft_fault;
-mod draft_writer;
-mod edited;
-mod ends;
-mod fault;
-mod frame;
-mod last_pair;
-mod lookup;
-mod nodes;
-mod open_node;
-mod path;
-mod put_nodes;
+mod loading;
+mod lookups;
+mod outcome;
 mod puts;
-mod rows;
 mod source;
-mod step;
 mod walks;
 
-pub use asked::Asked;
 pub use block_map::BlockMap;
 pub use deletes::delete;
-pub use edited::Edit;
-pub use fault::EditFault;
-pub use lookup::get;
+pub use lookups::get;
 pub use node::is_key;
+pub use outcome::{Edit, EditFault};
 pub use puts::put;
-pub use source::Source;
+pub use source::{ReadCount, Source};
 pub use walks::walk;

@@ -1,29 +1,22 @@
 //! A key put into a tree.
 
-ghost use Rattle.std.specs.Prelude.{◌≡◌, ◌≤◌, ◌+◌, ◌++◌, ℕ, List, Some, true, suc, length, map, option_map, IfOk, IfErr, OnOk};
-ghost use Rattle.std.specs.Arc.{arc_value};
-ghost use Rattle.spec.specs.Tree.{Pair, top};
-ghost use Rattle.spec.specs.Layer.{layer};
-ghost use Rattle.spec.specs.NodeFormat.{is_key, shape_bytes};
-ghost use Rattle.cid.specs.CidRef.{bytes_of};
-ghost use Rattle.spec.specs.Blocks.{nodes};
-ghost use Rattle.spec.specs.Writes.{with_key};
+ghost use Rattle.std.specs.Prelude.{◌≡◌, ◌≤◌, ◌+◌, Some, true, suc, length, IfOk, IfErr, OnOk};
+ghost use Rattle.spec.specs.NodeFormat.{is_key};
 ghost use Rattle.spec.specs.Proof.{path};
-ghost use Rattle.paths.specs.Lawful.{AllLawful};
-ghost use Rattle.paths.specs.PathEdit.{put_written};
-ghost use Rattle.paths.specs.TreeEdit.{layer_of};
-ghost use Rattle.edit.specs.Edits.{IsEditOf, IsPutOn};
-ghost use Rattle.edit.specs.Faults.{IsRefusal, IsMissing};
-ghost use Rattle.edit.specs.Steps.{layers, shows, IsWholePath};
-ghost use Rattle.edit.specs.Trees.{HasTree};
+ghost use Rattle.edit.specs.Faults.{IsMissing};
+ghost use Rattle.edit.specs.Steps.{layers, IsWholePath, nodes_given};
+ghost use Rattle.rewrite.specs.Drafts.{pair_of};
+ghost use Rattle.edit.specs.Trees.{OfTree, top_layer};
+ghost use Rattle.edit.specs.Edits.{IsPutFrom, IsPutFault, IsPut, IsPutRefusal};
 
-use crate::changes::{added, dropped};
-use crate::edited::Edit;
-use crate::fault::EditFault;
-use crate::path::{Path, read_path};
-use crate::put_nodes::put_nodes;
+mod write;
+
+use crate::block_difference::{added, dropped};
+use crate::loading::{Path, read_path};
+use crate::lookups::layers;
+use crate::outcome::{Edit, EditFault};
+use crate::puts::write::put_nodes;
 use crate::source::Source;
-use crate::step::layers;
 use cid::{Block, Cid, CidRef, Digest};
 use std::alloc::Allocator;
 use std::clone::Clone;
@@ -50,11 +43,15 @@ pub fn put<
     requires least { 1 ≤ B }
     requires most { B ≤ 8 }
     requires key { is_key key.now ≡ true }
-    ensures edit { (es : List Pair) → HasTree D.digest_of B (λ c. option_map arc_value (S.gives src.old c)) root es → IfOk result (λ edit. IsEditOf D.digest_of B es (with_key es key.now value) key.now (path D.digest_of B es key.now) edit.root (map arc_value edit.add.items) edit.drop.items edit.previous) }
-    ensures fault { (es : List Pair) → HasTree D.digest_of B (λ c. option_map arc_value (S.gives src.old c)) root es → IfErr result (IsRefusal D.digest_of (nodes D.digest_of B es ++ nodes D.digest_of B (with_key es key.now value)) ⊥) }
-    ensures missing { ¬ IsWholePath (shows arc_value (S.gives src.old)) (layers B) key.now (Some root) → IsMissing result }
-    ensures reads { (es : List Pair) → HasTree D.digest_of B (λ c. option_map arc_value (S.gives src.old c)) root es → OnOk result (S.reads src.new ≡ S.reads src.old + length (path D.digest_of B es key.now)) }
-    ensures layers { (es : List Pair) → HasTree D.digest_of B (λ c. option_map arc_value (S.gives src.old c)) root es → S.reads src.new ≤ S.reads src.old + suc (layer_of (layer D.digest_of B) (top (layer D.digest_of B) es)) }
+    ensures edit { IsPut D.digest_of B (S.gives src.old) root key.now value result }
+    ensures fault { IsPutRefusal D.digest_of B (S.gives src.old) root key.now value result }
+    ensures missing { ¬ IsWholePath (nodes_given (S.gives src.old)) (layers B) key.now (Some root)
+        → IsMissing result }
+    ensures reads { OfTree D.digest_of B (S.gives src.old) root
+        (λ es. OnOk result
+        (S.reads src.new ≡ S.reads src.old + length (path D.digest_of B es key.now))) }
+    ensures layers { OfTree D.digest_of B (S.gives src.old) root
+        (λ es. S.reads src.new ≤ S.reads src.old + suc (top_layer D.digest_of B es)) }
     ensures most { S.reads src.new ≤ S.reads src.old + layers B }
     ensures same { S.gives src.new ≡ S.gives src.old }
 {
@@ -71,9 +68,11 @@ fn put_on_path<D: Digest, const B: u8, A: Allocator + Clone>(
 ) -> Result<Edit<D, A>, EditFault<D, A>>
     requires least { 1 ≤ B }
     requires most { B ≤ 8 }
-    ensures edit { IfOk result (λ edit. IsPutOn D.digest_of (layer D.digest_of B) (key.now, bytes_of value.entry) path.now.nodes.items edit.root (map arc_value edit.add.items) edit.drop.items) }
+    ensures edit { IfOk result
+        (IsPutFrom D.digest_of B (pair_of key.now value.entry) path.now.nodes.items) }
     ensures previous { IfOk result (λ edit. edit.previous ≡ path.now.previous) }
-    ensures fault { IfErr result (IsRefusal D.digest_of (map shape_bytes (put_written D.digest_of (layer D.digest_of B) (key.now, bytes_of value.entry) path.now.nodes.items) ++ map shape_bytes path.now.nodes.items) (¬ AllLawful (put_written D.digest_of (layer D.digest_of B) (key.now, bytes_of value.entry) path.now.nodes.items))) }
+    ensures fault { IfErr result
+        (IsPutFault D.digest_of B (pair_of key.now value.entry) path.now.nodes.items) }
 {
     let mut made = Vec::new(alloc.clone()?);
     let root = put_nodes::<D, B, A>(alloc.clone()?, &path.nodes, key, value, &mut made)?;

@@ -1,8 +1,10 @@
-//! Where blocks come from.
+//! Where blocks come from, and how often they were asked for.
 
 ghost use Rattle.std.specs.Prelude.{◌≡◌, ℕ, suc, List, Option, option_map};
+ghost use Rattle.std.specs.Borrow.{ftrue};
 
 use cid::Cid;
+use std::marker::Model;
 
 /// Blocks by CID, each lent for longer than the source itself is borrowed, with a count of the reads.
 ///
@@ -20,4 +22,31 @@ pub trait Source<'a, T> {
         ensures found { option_map (λ block. block.now) result ≡ gives self.old cid.now }
         ensures same { gives self.new ≡ gives self.old }
         ensures counted { reads self.new ≡ suc (reads self.old) };
+}
+
+/// How often a source was asked, as a number of any size, for the `reads` of a `Source`. It takes no memory, and its
+/// methods do nothing when they run.
+#[derive(Drop)]
+pub struct ReadCount {
+    pub ghost times: { ℕ },
+}
+
+impl Model for ReadCount {
+    ghost also_owns = { λ _. ftrue };
+}
+
+impl ReadCount {
+    /// Not once so far.
+    pub fn never() -> ReadCount
+        ensures { result.times ≡ 0 }
+    {
+        ReadCount {}
+    }
+
+    /// Once more than before.
+    pub fn once_more(&self) -> ReadCount
+        ensures { result.times ≡ suc self.now.times }
+    {
+        ReadCount {}
+    }
 }

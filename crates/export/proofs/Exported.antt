@@ -26,12 +26,12 @@ use Rattle.spec.proofs.SameTree.{Stands}
 use Rattle.spec.proofs.TreeLaws.{pairs-top}
 use Rattle.spec.proofs.VerifyLaws.{each-part_is}
 use Rattle.spec.proofs.WriteLaws.{is_sorted-leaves}
-use Rattle.paths.specs.Pairs.{Each}
-use Rattle.paths.specs.Sources.{HasBlocks, HasNodes, shape_of_bytes, shown_by}
-use Rattle.paths.proofs.EachPair.{each-parts}
-use Rattle.paths.proofs.LookupTheorems.{top-has_layer, within-bound}
-use Rattle.paths.proofs.OverSource.{shape_of_bytes-shape_bytes}
-use Rattle.paths.proofs.Within.{AllWithin, IsWithin}
+use Rattle.edit_laws.specs.Pairs.{Each}
+use Rattle.edit_laws.specs.Sources.{HasBlocks, HasNodes, shape_of_bytes, shown_by}
+use Rattle.edit_laws.proofs.EachPair.{each-parts}
+use Rattle.edit_laws.proofs.LookupTheorems.{top-has_layer, within-bound}
+use Rattle.edit_laws.proofs.OverSource.{shape_of_bytes-shape_bytes}
+use Rattle.edit_laws.proofs.Within.{AllWithin, IsWithin}
 use Rattle.edit.specs.Steps.{layers}
 use Rattle.edit.specs.Trees.{HasTree}
 use Rattle.export.specs.Walks.{blocks_at, car_met, cids_from, cids_in, cids_of, commit_block}

@@ -7,8 +7,8 @@ use Rattle.spec.specs.Cid.{IsDigest}
 use Rattle.spec.specs.Tree.{Pair}
 use Rattle.spec.specs.NodeFormat.{Shape, Entry, read_node, shape_bytes}
 use Rattle.spec.specs.Proof.{Place, place, path}
-use Rattle.paths.specs.Sources.{gap, path_at, path_from, shown, shape_of_reading, shape_of_bytes, shown_by}
-use Rattle.paths.specs.Laws.Lookups.{found_at}
+use Rattle.edit_laws.specs.Sources.{gap, path_at, path_from, shown, shape_of_reading, shape_of_bytes, shown_by}
+use Rattle.edit_laws.specs.Laws.Lookups.{found_at}
 use Rattle.edit.specs.Trees.{HasTree}
 use Rattle.edit.specs.Steps.{layers}
 use Rattle.edit.proofs.Stepping.{is-lookup, place-found}

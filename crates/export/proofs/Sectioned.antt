@@ -8,7 +8,7 @@ use Rattle.spec.specs.Cid.{cid}
 use Rattle.spec.specs.Blocks.{firsts}
 use Rattle.spec.specs.Car.{header, section}
 use Rattle.spec.specs.Commits.{car_root}
-use Rattle.paths.specs.Sources.{shown_by}
+use Rattle.edit_laws.specs.Sources.{shown_by}
 use Rattle.export.specs.Once.{has, HasMore, capped, sections, section_once}
 use Rattle.export.specs.Outs.{Leaves, TakesBeginning, Takes}
 use Rattle.export.specs.Walks.{Walking, GoesBy, blocks_at, car_met, cids_from, cids_left, commit_block, sections_left}

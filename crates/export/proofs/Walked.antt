@@ -5,7 +5,7 @@ use Rattle.std.proofs.lemmas.Bool.{lt-ltb, le-ltb, ltb-true, ltb-false}
 use Rattle.std.proofs.lemmas.List.{append-nil, length-append}
 use Rattle.std.specs.Prelude.{option_and_then, Result, Ok, Err}
 use Rattle.spec.specs.NodeFormat.{Entry, NodeFault, Shape, read_node}
-use Rattle.paths.specs.Sources.{shape_from, shape_of_reading, shape_of_bytes, shown_by}
+use Rattle.edit_laws.specs.Sources.{shape_from, shape_of_reading, shape_of_bytes, shown_by}
 use Rattle.node.specs.Rows.{Row, rows}
 use Rattle.export.specs.Walks.{Walking, GoesBy, IsAtRow, turned, next_row, cids_of, cids_in, cids_from, row_cids, cids_stacked, cids_left, cids_entered, layers_left, without_link, entered}
 

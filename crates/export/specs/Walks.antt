@@ -5,7 +5,7 @@ use Rattle.std.specs.Arc.{arc_value}
 use Rattle.spec.specs.NodeFormat.{Entry, NodeFault, Shape, LastLink, MoreLinks}
 use Rattle.spec.specs.Car.{car_of}
 use Rattle.spec.specs.Commits.{car_root}
-use Rattle.paths.specs.Sources.{shown_by}
+use Rattle.edit_laws.specs.Sources.{shown_by}
 use Rattle.node.specs.Rows.{Row, rows}
 use Rattle.export.specs.Once.{sections}
 use Rattle.export.specs.declared.walk.Step.{Step}

@@ -14,7 +14,7 @@ use crate::kept_use::End;
 use crate::lender::Lender;
 use crate::use_map::UseMap;
 use cid::{Block, Cid, Digest};
-use edit::Asked;
+use edit::ReadCount;
 use std::alloc::{AllocError, Allocator, Global};
 use std::marker::Model;
 use std::sync::Arc;
@@ -94,7 +94,7 @@ impl<D: Digest, A: Allocator> Kept<D, A> {
     {
         Lender {
             blocks: &self.blocks,
-            asked: Asked::never(),
+            asked: ReadCount::never(),
         }
     }
 

@@ -4,7 +4,7 @@ ghost use Rattle.kept.specs.Uses.{lent};
 
 use crate::use_map::UseMap;
 use cid::{Block, Cid, Digest};
-use edit::{Asked, Source};
+use edit::{ReadCount, Source};
 use std::alloc::{Allocator, Global};
 use std::sync::Arc;
 
@@ -12,7 +12,7 @@ use std::sync::Arc;
 #[derive(Drop)]
 pub struct Lender<'a, D: Digest, A: Allocator = Global> {
     pub(crate) blocks: &'a UseMap<D, A>,
-    pub(crate) asked: Asked,
+    pub(crate) asked: ReadCount,
 }
 
 impl<'a, D: Digest, A: Allocator> Source<'a, Arc<Block<D, A>, A>> for Lender<'a, D, A> {

@@ -7,7 +7,7 @@ ghost use Rattle.kept.specs.Trees.{IsPut, IsPutRefusal, IsDelete, IsDeleteRefusa
 
 use crate::kept::Kept;
 use cid::{Cid, Digest};
-use edit::{Asked, Edit, EditFault};
+use edit::{ReadCount, Edit, EditFault};
 use std::alloc::{AllocError, Allocator};
 use std::clone::Clone;
 
@@ -51,7 +51,7 @@ pub fn value_staged<'a, D: Digest + 'a, const B: u8, A: Allocator + 'a>(
     kept: &'a Kept<D, A>,
     root: Cid,
     key: &[u8],
-) -> (Option<Cid>, Asked)
+) -> (Option<Cid>, ReadCount)
     requires { 1 ≤ B }
     ensures value { OfTree D.digest_of B kept.now.staged root (IsValue key.now result.0) }
     ensures reads { IsReadOnce D.digest_of B kept.now.staged root result.1 }
@@ -72,7 +72,7 @@ pub fn put_staged<'a, D: Digest + 'a, const B: u8, A: Allocator + Clone + 'a>(
     root: Cid,
     key: &[u8],
     value: Cid,
-) -> Result<(Edit<D, A>, Asked), EditFault<D, A>>
+) -> Result<(Edit<D, A>, ReadCount), EditFault<D, A>>
     requires least { 1 ≤ B }
     requires most { B ≤ 8 }
     requires key { is_key key.now ≡ true }
@@ -95,7 +95,7 @@ pub fn delete_staged<'a, D: Digest + 'a, const B: u8, A: Allocator + Clone + 'a>
     kept: &'a Kept<D, A>,
     root: Cid,
     key: &[u8],
-) -> Result<(Edit<D, A>, Asked), EditFault<D, A>>
+) -> Result<(Edit<D, A>, ReadCount), EditFault<D, A>>
     requires { 1 ≤ B }
     ensures edit { IsDelete D.digest_of B kept.now.staged root key.now result }
     ensures reads { IfOk result (λ made. IsReadTwice D.digest_of B kept.now.staged root made.1) }

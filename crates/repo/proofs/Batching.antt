@@ -25,11 +25,11 @@ use Rattle.spec.proofs.BatchLaws.{EachPasses-from_test, test-from_EachPasses}
 use Rattle.spec.proofs.BatchSteps.{batch-goes_on}
 use Rattle.spec.proofs.RepositoryBlocks.{node-in, record-in, further-in}
 use Rattle.spec.proofs.StampLaws.{last-push}
-use Rattle.paths.specs.Uses.{brought, pairs_after}
-use Rattle.paths.specs.Staged.{records_after}
-use Rattle.paths.proofs.RecordTheorems.{pairs-go_on}
-use Rattle.paths.proofs.Writing.{record-brought}
-use Rattle.paths.proofs.StagedBatches.{staged-passes, staged-ends}
+use Rattle.edit_laws.specs.Uses.{brought, pairs_after}
+use Rattle.edit_laws.specs.Staged.{records_after}
+use Rattle.edit_laws.proofs.RecordTheorems.{pairs-go_on}
+use Rattle.edit_laws.proofs.Writing.{record-brought}
+use Rattle.edit_laws.proofs.StagedBatches.{staged-passes, staged-ends}
 use Rattle.dagcbor.specs.Fault.{fault_of}
 use Rattle.kept.specs.Counts.{Counts}
 use Rattle.repo.specs.Keeping.{IsLost, IsExchanged}

@@ -10,15 +10,15 @@ use Rattle.std.specs.FinMap as map
 use Rattle.std.proofs.lemmas.List.{take_more}
 use Rattle.std.proofs.lemmas.List.Elements.{Contains-append_cases}
 use Rattle.spec.specs.Cid.{cid}
-use Rattle.paths.specs.Order.{order}
-use Rattle.paths.specs.Changes.{count, one_if_equal}
-use Rattle.paths.specs.Uses.{uses}
-use Rattle.paths.proofs.Orders.{order-same, order-equal, order-is, turned, turned_back}
-use Rattle.paths.proofs.Lists.{count-append}
-use Rattle.paths.proofs.RecordCounts.{count-map_append}
+use Rattle.edit_laws.specs.Order.{order}
+use Rattle.edit_laws.specs.Changes.{count, one_if_equal}
+use Rattle.edit_laws.specs.Uses.{uses}
+use Rattle.edit_laws.proofs.Orders.{order-same, order-equal, order-is, turned, turned_back}
+use Rattle.edit_laws.proofs.Lists.{count-append}
+use Rattle.edit_laws.proofs.RecordCounts.{count-map_append}
 use Rattle.kept.specs.Counts.{Counts, with_count, count_of, count_at, bytes_at, raised, lowered, lowered_from, HasNoOther}
-use Rattle.paths.specs.Sources.{HasBlocks, Extends}
-use Rattle.paths.proofs.Using.{used as used-in}
+use Rattle.edit_laws.specs.Sources.{HasBlocks, Extends}
+use Rattle.edit_laws.proofs.Using.{used as used-in}
 use Rattle.repo.specs.Keeping.{IsGained, IsLost}
 
 -- ---- two CIDs are the same, or no test takes them for the same

@@ -4,13 +4,13 @@ use Rattle.std.specs.declared.option.Option.TheVariants.{Some}
 use Rattle.spec.specs.Tree.{Pair}
 use Rattle.spec.specs.Blocks.{nodes}
 use Rattle.spec.specs.Writes.{with_key}
-use Rattle.paths.proofs.BlockSources.{source-free, clash-new}
+use Rattle.edit_laws.proofs.BlockSources.{source-free, clash-new}
 use Rattle.edit.specs.Edits.{IsEditOf}
 use Rattle.edit.specs.Deletes.{IsDeleteOf, nodes_read}
 use Rattle.edit.specs.Faults.{IsRefusal, IsClashIn}
 use Rattle.edit.specs.Trees.{HasTree}
-use Rattle.edit.specs.declared.fault.EditFault.{EditFault}
-use Rattle.edit.specs.declared.fault.EditFault.TheVariants.{NoSuchKey, Clash, NoMemory}
+use Rattle.edit.specs.declared.outcome.EditFault.{EditFault}
+use Rattle.edit.specs.declared.outcome.EditFault.TheVariants.{NoSuchKey, Clash, NoMemory}
 use Rattle.repo.specs.Staging.{IsTreeEdit, IsTreeRefusal, IsClashAt}
 
 pub put-edit : (digest : List ℕ → List ℕ) (bits : ℕ) (es : List Pair) (key value : List ℕ) (v : Option (List ℕ)) (read : List (List ℕ)) (root : List ℕ) (add drop : List (List ℕ)) (previous : Option (List ℕ))

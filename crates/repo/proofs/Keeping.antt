@@ -17,9 +17,9 @@ use Rattle.spec.proofs.RootLaws.{in_head, in_tail}
 use Rattle.spec.proofs.RecordPairs.{lawful-pairs, value-record}
 use Rattle.spec.proofs.RepositoryBlocks.{record-in}
 use Rattle.spec.proofs.StateLaws.{batch-keeps_state}
-use Rattle.paths.specs.Staged.{old_commit}
-use Rattle.paths.specs.Uses.{uses}
-use Rattle.paths.proofs.BlockSources.{source-gives, source-nodes}
+use Rattle.edit_laws.specs.Staged.{old_commit}
+use Rattle.edit_laws.specs.Uses.{uses}
+use Rattle.edit_laws.proofs.BlockSources.{source-gives, source-nodes}
 use Rattle.edit.specs.Trees.{HasTree}
 use Rattle.kept.specs.Counts.{Keeping, bytes_at, count_of}
 use Rattle.repo.specs.Cores.{IsCore}

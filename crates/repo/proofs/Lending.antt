@@ -3,7 +3,7 @@ use Rattle.std.proofs.Common.{◌≡◌, ℕ, List, subst, Option}
 use Rattle.spec.specs.Cid.{cid, IsDigest}
 use Rattle.spec.specs.Blocks.{pairs}
 use Rattle.spec.specs.States.{State, records, state_blocks, state_root}
-use Rattle.paths.specs.Sources.{HasBlocks, Extends}
+use Rattle.edit_laws.specs.Sources.{HasBlocks, Extends}
 use Rattle.edit.specs.Trees.{HasTree}
 use Rattle.kept.specs.Counts.{Keeping, bytes_at}
 use Rattle.kept.proofs.LentTrees.{lent_tree}

@@ -16,8 +16,8 @@ use Rattle.std.specs.FinMap.{find, is_sorted, slice_cmp-IsAntisymmetric, nat_cmp
 use Rattle.std.specs.FinMap.Entries.{below_all}
 use Rattle.spec.specs.Cid.{cid}
 use Rattle.spec.specs.States.{State, state_blocks}
-use Rattle.paths.proofs.Orders.{order-same, order-is}
-use Rattle.paths.proofs.Using.{User, user}
+use Rattle.edit_laws.proofs.Orders.{order-same, order-is}
+use Rattle.edit_laws.proofs.Using.{User, user}
 use Rattle.kept.specs.Counts.{Counts, Keeping, count_of, bytes_at, blocks_of}
 use Rattle.kept.proofs.Listing.{distinct_sorted}
 use Rattle.repo.specs.Cores.{IsCore, AreEachOnce}

@@ -9,7 +9,7 @@ use Rattle.std.proofs.lemmas.List.Elements.{Contains-append_left, Contains-appen
 use Rattle.spec.specs.Cid.{cid as cid_of}
 use Rattle.spec.specs.Blocks.{nodes, pairs}
 use Rattle.spec.specs.Writes.{Write, key_of, record_of, with_or_without}
-use Rattle.paths.specs.Uses.{brought, pairs_after}
+use Rattle.edit_laws.specs.Uses.{brought, pairs_after}
 use Rattle.kept.specs.Counts.{Counts}
 use Rattle.repo.specs.Keeping.{IsExchanged}
 use Rattle.repo.specs.Staging.{IsTreeEdit, IsStagedWrite, IsBlockFault, blocks_left}

@@ -20,16 +20,16 @@ use Rattle.spec.proofs.WriteLaws.{is_sorted-leaves}
 use Rattle.spec.proofs.BatchLaws.{lawful-after_batch}
 use Rattle.spec.proofs.BatchSteps.{batch-goes_on, leaves-go_on, room-from}
 use Rattle.spec.proofs.RecordPairs.{lawful-pairs}
-use Rattle.paths.specs.Changes.{AreChanges, count}
-use Rattle.paths.specs.Sources.{HasBlocks}
-use Rattle.paths.specs.Uses.{uses, brought}
-use Rattle.paths.specs.Staged.{IsStaged, records_after, old_commit, staged_blocks}
-use Rattle.paths.specs.Laws.Uses.{HasWritten}
-use Rattle.paths.proofs.Lists.{count-append}
-use Rattle.paths.proofs.RecordCounts.{count-map_append}
-use Rattle.paths.proofs.RecordTheorems.{pairs-go_on}
-use Rattle.paths.proofs.Writing.{write-uses}
-use Rattle.paths.proofs.StagedBatches.{state-staged, staged-goes_on, staged-state}
+use Rattle.edit_laws.specs.Changes.{AreChanges, count}
+use Rattle.edit_laws.specs.Sources.{HasBlocks}
+use Rattle.edit_laws.specs.Uses.{uses, brought}
+use Rattle.edit_laws.specs.Staged.{IsStaged, records_after, old_commit, staged_blocks}
+use Rattle.edit_laws.specs.Laws.Uses.{HasWritten}
+use Rattle.edit_laws.proofs.Lists.{count-append}
+use Rattle.edit_laws.proofs.RecordCounts.{count-map_append}
+use Rattle.edit_laws.proofs.RecordTheorems.{pairs-go_on}
+use Rattle.edit_laws.proofs.Writing.{write-uses}
+use Rattle.edit_laws.proofs.StagedBatches.{state-staged, staged-goes_on, staged-state}
 use Rattle.kept.specs.Counts.{Counts, bytes_at, count_at}
 use Rattle.repo.specs.Keeping.{AreKept, IsGained, IsLost}
 use Rattle.repo.specs.Staging.{IsStagedBy, IsEditFor}

@@ -13,8 +13,8 @@ use Rattle.spec.specs.NodeFormat.{is_key}
 use Rattle.spec.specs.States.{State}
 use Rattle.spec.proofs.BatchSteps.{test-by_value}
 use Rattle.spec.proofs.RecordPairs.{repository-key}
-use Rattle.paths.specs.Staged.{records_after}
-use Rattle.paths.proofs.StagedBatches.{staged-tree}
+use Rattle.edit_laws.specs.Staged.{records_after}
+use Rattle.edit_laws.proofs.StagedBatches.{staged-tree}
 use Rattle.edit.specs.Trees.{HasTree}
 use Rattle.kept.specs.Counts.{Counts, bytes_at, count_at}
 use Rattle.batches.specs.Tests.{write_fault, IsTestFault, IsNamed}

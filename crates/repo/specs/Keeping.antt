@@ -1,9 +1,9 @@
 -- How the blocks that a core keeps change, by their counts.
 use Rattle.std.specs.Prelude.{◌≡◌, ◌+◌, ◌<◌, ◌≤◌, ℕ, List, Some}
 use Rattle.std.specs.FinMap as map
-use Rattle.paths.specs.Changes.{count}
-use Rattle.paths.specs.Sources.{HasBlocks, Extends}
-use Rattle.paths.specs.Uses.{uses}
+use Rattle.edit_laws.specs.Changes.{count}
+use Rattle.edit_laws.specs.Sources.{HasBlocks, Extends}
+use Rattle.edit_laws.specs.Uses.{uses}
 use Rattle.kept.specs.Counts.{Counts, Keeping, bytes_at, count_at}
 
 -- what is there is used

@@ -7,7 +7,7 @@ use Rattle.std.specs.Ordering.{nat_cmp}
 use Rattle.spec.specs.Tree.{Pair}
 use Rattle.spec.specs.Blocks.{block_at, listed, pairs}
 use Rattle.spec.specs.States.{State, records, state_root, state_blocks}
-use Rattle.paths.specs.Sources.{HasBlocks}
+use Rattle.edit_laws.specs.Sources.{HasBlocks}
 use Rattle.edit.specs.Trees.{HasTree}
 use Rattle.kept.specs.Uses.{Uses, lent}
 use Rattle.repo.specs.Cores.{AreEachOnce}

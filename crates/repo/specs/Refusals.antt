@@ -6,7 +6,7 @@ use Rattle.spec.specs.Stamps.{Stamp, last, rev_of, stamp_test}
 use Rattle.spec.specs.Writes.{Write, WriteFault, test_when, limited_test, batch_test}
 use Rattle.spec.specs.Commits.{commit_blocks}
 use Rattle.spec.specs.States.{State, BatchFault, after_batch, state_test, state_root, state_blocks, state_commit}
-use Rattle.paths.specs.Staged.{records_after}
+use Rattle.edit_laws.specs.Staged.{records_after}
 use Rattle.kept.specs.Counts.{Counts}
 use Rattle.repo.specs.Keeping.{AreKept}
 use Rattle.batches.specs.Tests.{test_fault, write_fault}

@@ -8,14 +8,14 @@ use Rattle.spec.specs.Cid.{cid}
 use Rattle.spec.specs.Blocks.{IsClash, nodes, value_of, pairs, root as root_of}
 use Rattle.spec.specs.Writes.{Write, with_or_without, key_of, record_of}
 use Rattle.spec.specs.States.{State, IsLawful}
-use Rattle.paths.specs.Changes.{AreChanges}
-use Rattle.paths.specs.Staged.{IsStaged}
-use Rattle.paths.specs.Uses.{brought, pairs_after}
+use Rattle.edit_laws.specs.Changes.{AreChanges}
+use Rattle.edit_laws.specs.Staged.{IsStaged}
+use Rattle.edit_laws.specs.Uses.{brought, pairs_after}
 use Rattle.edit.specs.Trees.{HasTree}
-use Rattle.edit.specs.declared.asked.Asked.{Asked}
-use Rattle.edit.specs.declared.edited.Edit.{Edit}
-use Rattle.edit.specs.declared.fault.EditFault.{EditFault}
-use Rattle.edit.specs.declared.fault.EditFault.TheVariants as edits
+use Rattle.edit.specs.declared.source.ReadCount.{ReadCount}
+use Rattle.edit.specs.declared.outcome.Edit.{Edit}
+use Rattle.edit.specs.declared.outcome.EditFault.{EditFault}
+use Rattle.edit.specs.declared.outcome.EditFault.TheVariants as edits
 use Rattle.kept.specs.Counts.{Counts, bytes_at, count_at}
 use Rattle.kept.specs.Trees.{OfTree, top_layer}
 use Rattle.repo.specs.Keeping.{IsUsed, IsExchanged}
@@ -118,14 +118,14 @@ OfRecords digest bits m root P = (rs : List (List ℕ × List ℕ))
 
 -- the edit was made, over the tree that is staged
 abbrev pub IsEditMade : {D A E : Type 0} → (List ℕ → List ℕ) → ℕ → Counts → List ℕ → List ℕ
-    → Option (List ℕ) → Result (Edit D A × Asked) E → Type 0
+    → Option (List ℕ) → Result (Edit D A × ReadCount) E → Type 0
 IsEditMade digest bits m root key value result = OfTree digest bits m root (λ es.
     IfOk result (λ made. IsTreeEdit digest bits es key value made.0.root
     (each arc_value made.0.add.items) made.0.drop.items made.0.previous))
 
 -- and so many blocks were read for it, at most
 abbrev pub IsEditRead : {D A E : Type 0} → (List ℕ → List ℕ) → ℕ → Counts → List ℕ
-    → Option (List ℕ) → Result (Edit D A × Asked) E → Type 0
+    → Option (List ℕ) → Result (Edit D A × ReadCount) E → Type 0
 IsEditRead digest bits m root value result = OfTree digest bits m root (λ es. IfOk result (λ made.
     made.1.times ≤ edit_reads digest bits es value))
 

@@ -20,7 +20,7 @@ ghost use Rattle.store.specs.Stores.{IsStore};
 use crate::staging::{gain, lose, stage_next};
 use batches::{RepoFault, Stamp, Write, commit_bytes, test_write};
 use cid::{Block, Cid, Digest};
-use edit::Asked;
+use edit::ReadCount;
 use kept::{Kept, value_staged};
 use std::alloc::{AllocError, Allocator};
 use std::sync::Arc;
@@ -31,8 +31,8 @@ use store::{BlockStore, Hold, StoreFault};
 #[derive(Drop)]
 struct StagedWrite {
     root: Cid,
-    looked: Asked,
-    read: Asked,
+    looked: ReadCount,
+    read: ReadCount,
 }
 
 /// Stages all writes of a batch, where there is room for so many: the root after them, and their copies. Or the place of the
@@ -164,7 +164,7 @@ fn test_next<D: Digest, const B: u8, A: Allocator + Copy>(
     room: bool,
     root: Cid,
     write: &Write<A>,
-) -> Result<Asked, RepoFault<D, A>>
+) -> Result<ReadCount, RepoFault<D, A>>
     requires { 1 ≤ B }
     ensures passed { OnTheWay D.digest_of B room root kept.now.staged (λ s before. OnOk result
         (next_test s before (write_of write.now) ≡ Ok tt)) }
@@ -191,14 +191,14 @@ fn there_staged<D: Digest, const B: u8, A: Allocator>(
     kept: &Kept<D, A>,
     root: Cid,
     write: &Write<A>,
-) -> (bool, Asked)
+) -> (bool, ReadCount)
     requires { 1 ≤ B }
     ensures there { OfTree D.digest_of B kept.now.staged root (λ es.
         HasTestBy result.0 (value_of (key_of (write_of write.now)) es) (write_of write.now)) }
     ensures reads { IsReadOnce D.digest_of B kept.now.staged root result.1 }
 {
     match write {
-        Write::Put(_, _) => (false, Asked::never()),
+        Write::Put(_, _) => (false, ReadCount::never()),
         Write::Create(key, _) | Write::Update(key, _) | Write::Delete(key) => {
             let found = value_staged::<D, B, A>(kept, root, key);
             let (value, looked) = found;

@@ -15,7 +15,7 @@ ghost use Rattle.store.specs.Stores.{IsStore};
 
 use batches::{RepoFault, Write};
 use cid::{Block, Cid, Digest};
-use edit::{Asked, Edit, EditFault};
+use edit::{ReadCount, Edit, EditFault};
 use kept::{Kept, delete_staged, put_staged};
 use std::alloc::{AllocError, Allocator};
 use std::clone::Clone;
@@ -35,7 +35,7 @@ pub(crate) fn stage_next<
     alloc: A,
     root: Cid,
     write: &Write<A>,
-) -> Result<(Cid, Asked), RepoFault<D, A>>
+) -> Result<(Cid, ReadCount), RepoFault<D, A>>
     requires least { 1 ≤ B }
     requires most { B ≤ 8 }
     requires key { is_key (key_of (write_of write.now)) ≡ true }
@@ -91,7 +91,7 @@ fn edit_over<'a, D: Digest + 'a, const B: u8, A: Allocator + Clone + 'a>(
     root: Cid,
     key: &[u8],
     value: Option<Cid>,
-) -> Result<(Edit<D, A>, Asked), RepoFault<D, A>>
+) -> Result<(Edit<D, A>, ReadCount), RepoFault<D, A>>
     requires least { 1 ≤ B }
     requires most { B ≤ 8 }
     requires key { is_key key.now ≡ true }
@@ -115,7 +115,7 @@ fn put_or_delete<'a, D: Digest + 'a, const B: u8, A: Allocator + Clone + 'a>(
     root: Cid,
     key: &[u8],
     value: Option<Cid>,
-) -> Result<(Edit<D, A>, Asked), EditFault<D, A>>
+) -> Result<(Edit<D, A>, ReadCount), EditFault<D, A>>
     requires least { 1 ≤ B }
     requires most { B ≤ 8 }
     requires key { is_key key.now ≡ true }

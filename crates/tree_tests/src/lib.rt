@@ -1,5 +1,5 @@
-//! Tests of trees from scratch, beside the plain, slow builder whose contract is the definition, and of look-ups, walks
-//! and edits over blocks.
+//! Tests of trees from scratch, beside the plain, slow builder whose contract is the definition, of look-ups, walks and
+//! edits over blocks, and of nodes made of another node.
 #![tactic(auto)]
 
 #[cfg(test)]
@@ -8,5 +8,7 @@ mod edits;
 mod fixtures;
 #[cfg(test)]
 mod plain;
+#[cfg(test)]
+mod rewrites;
 #[cfg(test)]
 mod trees;

@@ -1,6 +1,6 @@
 use Rattle.std.proofs.Common.{◌≡◌, map, option_map, take}
 use Rattle.std.specs.Arc.{arc_value}
-use Rattle.paths.specs.Sources.{HasBlocks}
+use Rattle.edit_laws.specs.Sources.{HasBlocks}
 use Rattle.built_car.proofs.blocks.gives_each.Given as goal
 
 abbrev pub invariant-loop-block : goal.invariant-loop-block

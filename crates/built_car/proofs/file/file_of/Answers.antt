@@ -2,7 +2,7 @@ use Rattle.std.proofs.Common.{◌≡◌, ◌∙◌, List, ℕ, Option, map, opti
 use Rattle.std.specs.Prelude.{Some}
 use Rattle.std.specs.Arc.{arc_value}
 use Rattle.std.specs.declared.sync.Arc.{Arc}
-use Rattle.paths.specs.Sources.{HasBlocks}
+use Rattle.edit_laws.specs.Sources.{HasBlocks}
 use Rattle.edit.specs.Maps.{first_of}
 use Rattle.edit.specs.Steps.{layers}
 use Rattle.export.specs.Walks.{car_met}

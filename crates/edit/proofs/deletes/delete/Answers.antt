@@ -26,7 +26,7 @@ returns-in_err-read-clause-fault g c es h =
 
 pub delete_from-requires : goal.delete_from-requires
 delete_from-requires g c =
-    no-chain_read _ _ c.args.key.now c.in_ok-read.read.path.items c.in_ok-read.read.met.items c.in_ok-read.read.pruned.items
+    no-chain_read _ _ c.args.key.now c.in_ok-read.read.path.items c.in_ok-read.read.seam.items c.in_ok-read.read.pruned.items
     c.in_ok-read.ensures.pruned
 
 pub returns-clause-edit : goal.returns-clause-edit
@@ -36,8 +36,8 @@ returns-clause-edit g c es h =
     if-ok-two c.delete_from.result
     (λ e a b. delete-answer g.D.Digest.digest_of g.row.B g.met.D.Digest.digest_len _ c.args.root c.args.key.now es h
     c.layers.result c.layers.ensures c.in_ok-read.read.previous (sym (c.in_ok-read.ensures.previous ∙ value))
-    c.in_ok-read.read.path.items c.in_ok-read.read.met.items c.in_ok-read.read.pruned.items
-    c.in_ok-read.ensures.path c.in_ok-read.ensures.met c.in_ok-read.ensures.pruned
+    c.in_ok-read.read.path.items c.in_ok-read.read.seam.items c.in_ok-read.read.pruned.items
+    c.in_ok-read.ensures.path c.in_ok-read.ensures.seam c.in_ok-read.ensures.pruned
     e.root (map arc_value e.add.items) e.drop.items e.previous a b)
     c.delete_from.ensures.edit c.delete_from.ensures.previous
 
@@ -48,8 +48,8 @@ returns-clause-fault g c es h =
     if-err c.delete_from.result
     (λ f r. delete-refused g.D.Digest.digest_of g.row.B g.met.D.Digest.digest_len _ c.args.root c.args.key.now es h
     c.layers.result c.layers.ensures c.in_ok-read.read.previous (sym (c.in_ok-read.ensures.previous ∙ value))
-    c.in_ok-read.read.path.items c.in_ok-read.read.met.items c.in_ok-read.read.pruned.items
-    c.in_ok-read.ensures.path c.in_ok-read.ensures.met c.in_ok-read.ensures.pruned
+    c.in_ok-read.read.path.items c.in_ok-read.read.seam.items c.in_ok-read.read.pruned.items
+    c.in_ok-read.ensures.path c.in_ok-read.ensures.seam c.in_ok-read.ensures.pruned
     (value_of c.args.key.now es ≡ None) f r)
     c.delete_from.ensures.fault
 
@@ -82,8 +82,8 @@ returns-clause-reads g c es h =
     on_ok c.delete_from.result
     (delete-reads g.D.Digest.digest_of g.row.B g.met.D.Digest.digest_len _ c.args.root c.args.key.now es h
     c.layers.result c.layers.ensures c.in_ok-read.read.previous (sym (c.in_ok-read.ensures.previous ∙ value))
-    c.in_ok-read.read.path.items c.in_ok-read.read.met.items c.in_ok-read.read.pruned.items
-    c.in_ok-read.ensures.path c.in_ok-read.ensures.met c.in_ok-read.ensures.pruned
+    c.in_ok-read.read.path.items c.in_ok-read.read.seam.items c.in_ok-read.read.pruned.items
+    c.in_ok-read.ensures.path c.in_ok-read.ensures.seam c.in_ok-read.ensures.pruned
     (g.S.Source.reads c.args.src.now) (g.S.Source.reads c.read_delete.new.src) c.in_ok-read.ensures.reads_all)
 
 pub returns-in_err-read-clause-missing : goal.returns-in_err-read-clause-missing

@@ -7,7 +7,7 @@ use Rattle.edit.proofs.deletes.delete_from.Goals as goal
 pub returns-clause-edit : goal.returns-clause-edit
 returns-clause-edit g c =
     delete-on g.D.Digest.digest_of arc_value c.args.key.now c.args.read.path.items c.deref.result.now
-    c.args.read.met.items c.deref-2.result.now c.args.read.pruned.items c.deref-3.result.now c.in_ok-nodes.nodes.items
+    c.args.read.seam.items c.deref-2.result.now c.args.read.pruned.items c.deref-3.result.now c.in_ok-nodes.nodes.items
     c.deref-6.result.now c.deref-5.result.now _ c.in_ok-nodes.gone c.new-made.result.items c.write_delete.new.made.items
     c.deref-4.result.now c.in_ok-root.root _ c.in_ok-drop.drop.items
     c.deref.ensures.value c.deref-2.ensures.value c.deref-3.ensures.value c.in_ok-root.ensures.root

@@ -1,7 +1,7 @@
 use Rattle.std.proofs.Common.{suc, ◌-◌, Some, sym, ap, ◌∙◌, option_map}
 use Rattle.std.specs.Arc.{arc_value}
 use Rattle.cid.specs.CidRef.{bytes_of}
-use Rattle.paths.specs.Sources.{shape_from, shown_by, start_shape, down_from}
+use Rattle.edit_laws.specs.Sources.{shape_from, shown_by, start_shape, down_from}
 use Rattle.edit.specs.Steps.{asked_from}
 use Rattle.edit.specs.Walks.{stacked}
 use Rattle.edit.proofs.Stepping.{sums, asked-none}

@@ -1,6 +1,6 @@
 use Rattle.std.proofs.Common.{◌≡◌, ◌≤◌, ◌+◌, option_map}
 use Rattle.std.specs.Arc.{arc_value}
-use Rattle.paths.specs.Sources.{shown_by, down_from}
+use Rattle.edit_laws.specs.Sources.{shown_by, down_from}
 use Rattle.edit.specs.Steps.{asked_from}
 use Rattle.edit.specs.Walks.{stacked}
 use Rattle.edit.proofs.walks.down.Given as goal

@@ -1,6 +1,6 @@
 use Rattle.std.proofs.Common.{◌≡◌, ◌*◌, [], length, Some, sym, ap, ◌∙◌, refl, option_map, arith}
 use Rattle.std.specs.Arc.{arc_value}
-use Rattle.paths.specs.Sources.{shown_by, walk_from}
+use Rattle.edit_laws.specs.Sources.{shown_by, walk_from}
 use Rattle.edit.specs.Walks.{pairs_given, frame_of, stacked, asked_walk}
 use Rattle.edit.proofs.Walking.{stacked-push, within-room, room-left, room-end, sums-end, walk-zero, asked-walk_zero, walk-ends, asked-ends, walk-goes, asked-goes, down-same, asked-same, empty, given-more}
 use Rattle.edit.proofs.walks.walk_within.Goals as goal

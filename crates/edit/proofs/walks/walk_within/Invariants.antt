@@ -1,6 +1,6 @@
 use Rattle.std.proofs.Common.{◌≡◌, ◌≤◌, ◌+◌, ◌*◌, [], ◌++◌, option_map}
 use Rattle.std.specs.Arc.{arc_value}
-use Rattle.paths.specs.Sources.{shown_by, walk_from}
+use Rattle.edit_laws.specs.Sources.{shown_by, walk_from}
 use Rattle.edit.specs.Walks.{pairs_given, stacked, asked_walk}
 use Rattle.edit.proofs.walks.walk_within.Given as goal
 

@@ -1,6 +1,6 @@
 use Rattle.std.proofs.Common.{◌≡◌, ◌+◌, ◌^◌, ◌<◌, length, option_map}
 use Rattle.std.specs.Arc.{arc_value}
-use Rattle.paths.specs.Sources.{shown_by}
+use Rattle.edit_laws.specs.Sources.{shown_by}
 use Rattle.export.specs.Once.{capped}
 use Rattle.export.specs.Outs.{Leaves}
 use Rattle.export.specs.Walks.{cids_left, sections_left}

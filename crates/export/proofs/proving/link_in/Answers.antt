@@ -2,7 +2,7 @@ use Rattle.std.proofs.Common.{sym, ap, ◌∙◌, option_map, arith}
 use Rattle.spec.specs.NodeFormat.{shape_bytes}
 use Rattle.spec.specs.Reading.{IsBytes}
 use Rattle.node.specs.Views.{place_of}
-use Rattle.paths.specs.Sources.{shape_of_reading}
+use Rattle.edit_laws.specs.Sources.{shape_of_reading}
 use Rattle.edit.proofs.NodeLaws.{node-of}
 use Rattle.std.specs.declared.option.Option.TheVariants.{Some}
 use Rattle.export.proofs.Paths.{link-found}

@@ -1,4 +1,4 @@
-use Rattle.paths.specs.Staged.{records_after}
+use Rattle.edit_laws.specs.Staged.{records_after}
 use Rattle.batches.specs.Values.{write_of}
 use Rattle.repo.proofs.Testing.{batch-tree, next-of, write-fault, test-fault}
 use Rattle.repo.proofs.batch.stage_write.Goals as goal

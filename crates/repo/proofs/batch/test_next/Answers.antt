@@ -1,7 +1,7 @@
 use Rattle.std.proofs.Common.{Result, sym, subst, ◌∙◌}
 use Rattle.spec.specs.Blocks.{pairs}
 use Rattle.spec.specs.Writes.{WriteFault}
-use Rattle.paths.specs.Staged.{records_after}
+use Rattle.edit_laws.specs.Staged.{records_after}
 use Rattle.batches.specs.Tests.{write_fault, IsTestFault}
 use Rattle.batches.specs.Values.{write_of}
 use Rattle.repo.proofs.Testing.{batch-tree, tested, passed-key}

@@ -6,5 +6,5 @@ pub returns-clause-gone : goal.returns-clause-gone
 returns-clause-gone g c =
     let nodes : c.len.result ≡ length c.push_pairs.new.nodes.items = omega (arith, c.push_pairs.new.nodes.ok.0) in
     let chain : c.saturating_sub.result ≡ length c.args.pruned.items - 1 = omega (arith, c.args.pruned.ok.0) in
-    gone-is c.args.path.items c.args.met.items c.args.pruned.items c.push_pairs.new.nodes.items _ _ _
+    gone-is c.args.path.items c.args.seam.items c.args.pruned.items c.push_pairs.new.nodes.items _ _ _
     c.in_ok-push_pairs.ensures c.in_ok-append.ensures.items nodes chain

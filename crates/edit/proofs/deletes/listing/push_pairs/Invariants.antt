@@ -1,6 +1,6 @@
 use Rattle.std.proofs.Common.{◌≡◌, ◌++◌}
 use Rattle.std.specs.Vec.Iter.{into_iter_items}
-use Rattle.paths.specs.PathEdit.{flat}
+use Rattle.edit_laws.specs.PathEdit.{flat}
 use Rattle.edit.proofs.deletes.listing.push_pairs.Given as goal
 
 abbrev pub invariant-loop-one : goal.invariant-loop-one

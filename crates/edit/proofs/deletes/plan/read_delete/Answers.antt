@@ -1,0 +1,79 @@
+use Rattle.std.proofs.Common.{◌≡◌, sym, ◌∙◌}
+use Rattle.std.specs.Arc.{arc_value}
+use Rattle.std.proofs.lemmas.Result.{err_from_is_err_and}
+use Rattle.edit.proofs.PathReading.{whole-path, whole-seam, whole-chain}
+use Rattle.edit.proofs.DeleteReading.{can-all, seam-is, link-is, no-seam, no-chain, seam-asked, chain-asked, three, three-most, at-most}
+use Rattle.edit.proofs.deletes.plan.read_delete.Goals as goal
+
+pub returns-in_err-seam-clause-fault : goal.returns-in_err-seam-clause-fault
+returns-in_err-seam-clause-fault g c =
+    let p = err_from_is_err_and c.from_residual-in_err-seam.result c.from_residual-in_err-seam.ensures.1 in
+    let items : c.deref.result.now ≡ c.in_ok-path.field-0.nodes.items = cc in
+    rw (p.1, p.2)
+    (no-seam arc_value (g.S.Source.gives c.args.src.now) _ _ _ _ _ _ _ _ c.read_path.ensures.same
+    (items ∙ c.in_ok-path.ensures.nodes) c.in_ok-one.ensures c.in_err-seam.ensures.fault)
+
+pub returns-in_err-pruned-clause-fault : goal.returns-in_err-pruned-clause-fault
+returns-in_err-pruned-clause-fault g c =
+    let p = err_from_is_err_and c.from_residual-in_err-pruned.result c.from_residual-in_err-pruned.ensures.1 in
+    let items : c.deref.result.now ≡ c.in_ok-path.field-0.nodes.items = cc in
+    let again : c.deref-2.result.now ≡ c.deref.result.now = cc in
+    let path = items ∙ c.in_ok-path.ensures.nodes in
+    let seam = seam-is arc_value (g.S.Source.gives c.args.src.now) _ _ _ _ _ _ _ _ c.read_path.ensures.same path
+    c.in_ok-one.ensures c.in_ok-seam.ensures.seam in
+    let link = link-is arc_value (g.S.Source.gives c.args.src.now) _ _ _ _ _ _ _ _ path seam again c.deref-3.ensures.value
+    c.prune_link-link.ensures in
+    rw (p.1, p.2)
+    (no-chain arc_value (g.S.Source.gives c.args.src.now) _ _ _ _ _ _ (c.read_seam.ensures.same ∙ c.read_path.ensures.same)
+    link c.in_err-pruned.ensures.fault)
+
+pub returns-in_err-pruned-clause-reads : goal.returns-in_err-pruned-clause-reads
+returns-in_err-pruned-clause-reads g c =
+    let items : c.deref.result.now ≡ c.in_ok-path.field-0.nodes.items = cc in
+    let again : c.deref-2.result.now ≡ c.deref.result.now = cc in
+    let path = items ∙ c.in_ok-path.ensures.nodes in
+    let seam = seam-is arc_value (g.S.Source.gives c.args.src.now) _ _ _ _ _ _ _ _ c.read_path.ensures.same path
+    c.in_ok-one.ensures c.in_ok-seam.ensures.seam in
+    let link = link-is arc_value (g.S.Source.gives c.args.src.now) _ _ _ _ _ _ _ _ path seam again c.deref-3.ensures.value
+    c.prune_link-link.ensures in
+    three-most _ _ _ _ _ _ _ _ _ c.in_ok-path.ensures.reads_all c.in_ok-seam.ensures.reads_all c.read_pruned.ensures.reads
+    (seam-asked arc_value (g.S.Source.gives c.args.src.now) _ _ _ _ _ _ _ c.read_path.ensures.same path c.in_ok-one.ensures)
+    (chain-asked arc_value (g.S.Source.gives c.args.src.now) _ _ _ _ _ (c.read_seam.ensures.same ∙ c.read_path.ensures.same)
+    link)
+
+pub returns-clause-reads_all : goal.returns-clause-reads_all
+returns-clause-reads_all g c =
+    let items : c.deref.result.now ≡ c.in_ok-path.field-0.nodes.items = cc in
+    let again : c.deref-2.result.now ≡ c.deref.result.now = cc in
+    let path = items ∙ c.in_ok-path.ensures.nodes in
+    let seam = seam-is arc_value (g.S.Source.gives c.args.src.now) _ _ _ _ _ _ _ _ c.read_path.ensures.same path
+    c.in_ok-one.ensures c.in_ok-seam.ensures.seam in
+    let link = link-is arc_value (g.S.Source.gives c.args.src.now) _ _ _ _ _ _ _ _ path seam again c.deref-3.ensures.value
+    c.prune_link-link.ensures in
+    three _ _ _ _ _ _ _ _ _ c.in_ok-path.ensures.reads_all c.in_ok-seam.ensures.reads_all c.in_ok-pruned.ensures.reads_all
+    (seam-asked arc_value (g.S.Source.gives c.args.src.now) _ _ _ _ _ _ _ c.read_path.ensures.same path c.in_ok-one.ensures)
+    (chain-asked arc_value (g.S.Source.gives c.args.src.now) _ _ _ _ _ (c.read_seam.ensures.same ∙ c.read_path.ensures.same)
+    link)
+
+pub returns-clause-reads : goal.returns-clause-reads
+returns-clause-reads g c = at-most _ _ (returns-clause-reads_all g c)
+
+pub returns-clause-can : goal.returns-clause-can
+returns-clause-can g c =
+    let gives = g.S.Source.gives c.args.src.now in
+    let items : c.deref.result.now ≡ c.in_ok-path.field-0.nodes.items = cc in
+    let again : c.deref-2.result.now ≡ c.deref.result.now = cc in
+    let path = items ∙ c.in_ok-path.ensures.nodes in
+    let seam = seam-is arc_value gives _ _ _ _ _ _ _ _ c.read_path.ensures.same path
+    c.in_ok-one.ensures c.in_ok-seam.ensures.seam in
+    let link = link-is arc_value gives _ _ _ _ _ _ _ _ path seam again c.deref-3.ensures.value
+    c.prune_link-link.ensures in
+    can-all arc_value gives _ _ _ _ _ _ _ _ _ _
+    (whole-path arc_value gives _ _ _ _ _ _ c.in_ok-path.ensures.nodes c.in_ok-path.ensures.counted c.in_ok-path.ensures.reads_all)
+    (sym c.in-Some.is ∙ c.in_ok-path.ensures.previous)
+    c.read_path.ensures.same path c.in_ok-one.ensures
+    (whole-seam arc_value (g.S.Source.gives c.read_path.new.src) c.args.most c.in_ok-one.one c.in_ok-one.other c.in_ok-seam.seam.items
+    (g.S.Source.reads c.read_path.new.src) (g.S.Source.reads c.read_seam.new.src) c.in_ok-seam.ensures.seam c.in_ok-seam.ensures.counted c.in_ok-seam.ensures.reads_all)
+    (c.read_seam.ensures.same ∙ c.read_path.ensures.same) link
+    (whole-chain arc_value (g.S.Source.gives c.read_seam.new.src) c.args.most c.prune_link-link.result c.in_ok-pruned.pruned.items
+    (g.S.Source.reads c.read_seam.new.src) (g.S.Source.reads c.read_pruned.new.src) c.in_ok-pruned.ensures.nodes c.in_ok-pruned.ensures.counted c.in_ok-pruned.ensures.reads_all)

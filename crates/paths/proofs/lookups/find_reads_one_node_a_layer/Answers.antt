@@ -1,5 +1,0 @@
-use Rattle.paths.proofs.LookupTheorems.{find-reads_layers}
-use Rattle.paths.proofs.lookups.find_reads_one_node_a_layer.Goals as goal
-
-pub returns : goal.returns
-returns c = find-reads_layers

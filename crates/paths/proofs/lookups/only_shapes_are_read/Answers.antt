@@ -1,5 +1,0 @@
-use Rattle.paths.proofs.OverSource.{shape_bytes-shape_of_bytes}
-use Rattle.paths.proofs.lookups.only_shapes_are_read.Goals as goal
-
-pub returns : goal.returns
-returns c = shape_bytes-shape_of_bytes

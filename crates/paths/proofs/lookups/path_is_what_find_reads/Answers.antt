@@ -1,5 +1,0 @@
-use Rattle.paths.proofs.LookupTheorems.{path-is_read}
-use Rattle.paths.proofs.lookups.path_is_what_find_reads.Goals as goal
-
-pub returns : goal.returns
-returns c = path-is_read

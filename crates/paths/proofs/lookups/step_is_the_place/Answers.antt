@@ -1,5 +1,0 @@
-use Rattle.paths.proofs.LookupTheorems.{step-is_place}
-use Rattle.paths.proofs.lookups.step_is_the_place.Goals as goal
-
-pub returns : goal.returns
-returns c = step-is_place

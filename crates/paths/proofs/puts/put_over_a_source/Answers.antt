@@ -1,5 +1,0 @@
-use Rattle.paths.proofs.PutTheorems.{put-over_source}
-use Rattle.paths.proofs.puts.put_over_a_source.Goals as goal
-
-pub returns : goal.returns
-returns c = put-over_source

@@ -1,5 +1,0 @@
-use Rattle.paths.proofs.RecordTheorems.{delete-is_write}
-use Rattle.paths.proofs.records.delete_is_the_write.Goals as goal
-
-pub returns : goal.returns
-returns c = delete-is_write

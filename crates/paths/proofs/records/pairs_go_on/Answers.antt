@@ -1,5 +1,0 @@
-use Rattle.paths.proofs.RecordTheorems.{pairs-go_on}
-use Rattle.paths.proofs.records.pairs_go_on.Goals as goal
-
-pub returns : goal.returns
-returns c = pairs-go_on

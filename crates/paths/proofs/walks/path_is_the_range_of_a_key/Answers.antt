@@ -1,5 +1,0 @@
-use Rattle.paths.proofs.WalkRanges.{path-is_range}
-use Rattle.paths.proofs.walks.path_is_the_range_of_a_key.Goals as goal
-
-pub returns : goal.returns
-returns c = path-is_range

@@ -1,5 +1,0 @@
-use Rattle.paths.proofs.WalkRanges.{ranges-are_nodes}
-use Rattle.paths.proofs.walks.ranges_are_of_the_nodes.Goals as goal
-
-pub returns : goal.returns
-returns c = ranges-are_nodes

@@ -1,5 +1,0 @@
-use Rattle.paths.proofs.WalkRanges.{ranges-hold_keys}
-use Rattle.paths.proofs.walks.ranges_hold_the_keys.Goals as goal
-
-pub returns : goal.returns
-returns c = ranges-hold_keys

@@ -1,5 +1,0 @@
-use Rattle.paths.proofs.WalkTheorems.{walk-is_listed}
-use Rattle.paths.proofs.walks.walk_is_the_list.Goals as goal
-
-pub returns : goal.returns
-returns c = walk-is_listed

@@ -1,5 +1,0 @@
-use Rattle.paths.proofs.WalkTheorems.{walk-over_source}
-use Rattle.paths.proofs.walks.walk_over_a_source.Goals as goal
-
-pub returns : goal.returns
-returns c = walk-over_source

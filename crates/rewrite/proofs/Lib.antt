@@ -1,0 +1,6 @@
+pub mod NodeReading
+pub mod Changing
+pub mod Cutting
+pub mod Drafting
+pub mod Pieces
+pub mod NodeEnds

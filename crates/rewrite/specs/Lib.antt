@@ -1,0 +1,5 @@
+pub mod Entries
+pub mod Cursors
+pub mod Drafts
+pub mod Codes
+pub mod Copying

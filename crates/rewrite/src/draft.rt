@@ -1,0 +1,68 @@
+//! Nodes that were written and aren't yet blocks.
+
+ghost use Rattle.std.specs.Prelude.{◌≡◌, ◌∷◌, [], IfOk, OnOk};
+ghost use Rattle.spec.specs.NodeFormat.{shape_cid};
+ghost use Rattle.edit_laws.specs.Lawful.{Lawful};
+ghost use Rattle.edit_laws.specs.ShapeEdit.{close_link, close_shapes};
+ghost use Rattle.rewrite.specs.Drafts.{Adds};
+
+use cid::{Block, Cid, Digest};
+use std::alloc::{AllocError, Allocator};
+use std::marker::Model;
+use std::sync::Arc;
+
+/// The blocks that an edit makes, in the order in which they are made.
+pub type Made<D, A> = Vec<Arc<Block<D, A>, A>, A>;
+
+/// The bytes of a node that was written, not yet a block: nothing has hashed them.
+///
+/// A contract sees it as the node's links and pairs in turn.
+#[derive(Drop)]
+pub struct Draft<A: Allocator> {
+    pub(crate) bytes: Vec<u8, A>,
+    pub(crate) is_empty: bool,
+}
+
+impl<A: Allocator> Model for Draft<A> {
+    ghost use Rattle.spec.specs.NodeFormat.{Shape};
+    ghost use Rattle.rewrite.specs.Drafts.{IsDraft, shape_in};
+    ghost use Rattle.rewrite.specs.Codes.{shape_code};
+
+    ghost Value = { Shape };
+
+    ghost coded = { shape_code };
+
+    ghost view = { λ d. shape_in d.bytes.items };
+
+    ghost invariant = { λ d. IsDraft d.bytes.items d.is_empty };
+}
+
+impl<A: Allocator + Clone> Draft<A> {
+    /// Makes the block of the node as the last of `made`, and answers its CID. `AllocError` comes where memory was refused;
+    /// nothing is promised of `made` then.
+    pub fn push<D: Digest>(self, made: &mut Made<D, A>) -> Result<Cid, AllocError>
+        ensures cid { IfOk result (λ cid. cid ≡ shape_cid D.digest_of self) }
+        ensures made { OnOk result (Adds made.old made.new (self ∷ [])) }
+        ensures lawful { Lawful self }
+    {
+        let block = Block::of(self.bytes);
+        let cid = block.cid();
+        let alloc = made.allocator().clone()?;
+        made.push(Arc::new(alloc, block)?)?;
+        Ok(cid)
+    }
+
+    /// Makes the block of the node as the last of `made`, and answers its link. An empty node, one without pairs and without
+    /// a link, makes no block and has no link. `AllocError` comes where memory was refused; nothing is promised of `made`
+    /// then.
+    pub fn close<D: Digest>(self, made: &mut Made<D, A>) -> Result<Option<Cid>, AllocError>
+        ensures link { IfOk result (λ link. link ≡ close_link D.digest_of self) }
+        ensures made { OnOk result (Adds made.old made.new (close_shapes self)) }
+        ensures lawful { Lawful self }
+    {
+        if self.is_empty {
+            return Ok(None);
+        }
+        Ok(Some(self.push(made)?))
+    }
+}

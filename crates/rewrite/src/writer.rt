@@ -1,0 +1,279 @@
+//! Nodes written link by link and pair by pair.
+
+ghost use Rattle.std.specs.Prelude.{◌≡◌, ◌<◌, ◌≤◌, ◌+◌, ◌-◌, ◌∷◌, ◌++◌, [], length, take, drop, IfOk, IfErr, OnOk};
+ghost use Rattle.spec.specs.NodeFormat.{LastLink};
+ghost use Rattle.edit_laws.specs.Sources.{shape_from};
+ghost use Rattle.rewrite.specs.Copying.{EndsAt};
+ghost use Rattle.rewrite.specs.Drafts.{onto, turned, IsFaultOf, IsFaultOfAll, pair_of, IsNode};
+
+use crate::draft::Draft;
+use crate::fault::RewriteFault;
+use cid::{Cid, CidRef};
+use node::{NodeView, NodeWriter};
+use std::alloc::{AllocError, Allocator};
+use std::clone::Clone;
+use std::marker::Model;
+
+/// A node that is being written: a link, a pair, a link, a pair and so on, and the last link at the end.
+///
+/// A contract sees it as the pairs so far, each with the link before it.
+#[derive(Drop)]
+pub(crate) struct Writer<A: Allocator> {
+    alloc: A,
+    node: Option<OpenNode<A>>,
+}
+
+impl<A: Allocator> Model for Writer<A> {
+    ghost use Rattle.std.specs.Prelude.{ℕ, List, Option};
+    ghost use Rattle.spec.specs.Tree.{Pair};
+    ghost use Rattle.rewrite.specs.Drafts.{so_far};
+
+    ghost Value = { List (Option (List ℕ) × Pair) };
+
+    ghost view = { λ w. so_far w.node };
+}
+
+impl<A: Allocator + Clone> Writer<A> {
+    /// A node of which nothing is written yet.
+    pub(crate) fn new(alloc: A) -> Writer<A>
+        ensures { result ≡ [] }
+    {
+        Writer { alloc, node: None }
+    }
+
+    /// Adds a link and the pair after it. After a refusal nothing is promised of the writer.
+    pub(crate) fn pair(
+        &mut self,
+        link: Option<Cid>,
+        key: &[u8],
+        value: CidRef<'_>,
+    ) -> Result<(), RewriteFault>
+        ensures ok { OnOk result (self.new ≡ self.old ++ (link, pair_of key.now value.entry) ∷ []) }
+        ensures fault { IfErr result
+            (IsFaultOfAll (self.old ++ (link, pair_of key.now value.entry) ∷ [])) }
+    {
+        match &mut self.node {
+            Some(node) => node.pair(link, key, value),
+            None => {
+                let alloc = self.alloc.clone()?;
+                self.node = Some(OpenNode::begin(alloc, link, key, value)?);
+                Ok(())
+            }
+        }
+    }
+
+    /// Goes on with a node whose `at`-th pair is the last of this one: with `link` after it, then the pairs up to the
+    /// `until`-th as they stand there, each with the link after it, and then a pair. After a refusal nothing is promised
+    /// of the writer.
+    pub(crate) fn follow(
+        &mut self,
+        node: &NodeView<'_>,
+        at: u64,
+        until: u64,
+        link: Option<Cid>,
+        key: Vec<u8, A>,
+        value: Cid,
+    ) -> Result<(), RewriteFault>
+        requires order { at < until }
+        requires within { until ≤ length node.now.entries }
+        requires ends { EndsAt node.now.entries at self.old }
+        ensures ok { OnOk result (self.new ≡ self.old ++ turned link
+            (take (until - (at + 1)) (drop (at + 1) node.now.entries)) (key.items, value)) }
+        ensures fault { IfErr result (IsFaultOfAll (self.old ++ turned link
+            (take (until - (at + 1)) (drop (at + 1) node.now.entries)) (key.items, value))) }
+    {
+        match &mut self.node {
+            Some(open) => open.follow(node, at, until, link, key, value),
+            None => unreachable!(),
+        }
+    }
+
+    /// Adds `link` and all that comes after the `at`-th pair of a node, which is the last of this one, as it stands there.
+    pub(crate) fn finish_with(
+        self,
+        link: Option<Cid>,
+        node: &NodeView<'_>,
+        at: u64,
+    ) -> Result<Draft<A>, RewriteFault>
+        requires within { at < length node.now.entries }
+        requires ends { EndsAt node.now.entries at self }
+        ensures ok { IfOk result
+            (IsNode (onto self (shape_from link (drop (at + 1) node.now.entries)))) }
+        ensures fault { IfErr result
+            (IsFaultOf (onto self (shape_from link (drop (at + 1) node.now.entries)))) }
+    {
+        let Writer {
+            alloc: _,
+            node: open,
+        } = self;
+        match open {
+            Some(open) => open.finish_with(link, node, at),
+            None => unreachable!(),
+        }
+    }
+
+    /// An allocator for what is kept beside it.
+    pub(crate) fn alloc(&self) -> Result<A, AllocError> {
+        self.alloc.clone()
+    }
+
+    /// Adds the last link.
+    pub(crate) fn finish(self, last: Option<Cid>) -> Result<Draft<A>, RewriteFault>
+        ensures ok { IfOk result (IsNode (onto self (LastLink last))) }
+        ensures fault { IfErr result (IsFaultOf (onto self (LastLink last))) }
+    {
+        let Writer { alloc, node } = self;
+        match node {
+            Some(node) => node.finish(last),
+            None => Ok(Draft {
+                bytes: NodeWriter::begin(alloc, last)?.finish()?,
+                is_empty: last.is_none(),
+            }),
+        }
+    }
+}
+
+/// A node that is being written, with its last pair still to be closed by a link.
+///
+/// A contract sees it as its pairs, each with the link before it.
+#[derive(Drop)]
+pub(crate) struct OpenNode<A: Allocator> {
+    closed: NodeWriter<A>,
+    key: Vec<u8, A>,
+    value: Cid,
+}
+
+impl<A: Allocator> Model for OpenNode<A> {
+    ghost use Rattle.std.specs.Prelude.{ℕ, List, Option};
+    ghost use Rattle.spec.specs.Tree.{Pair};
+    ghost use Rattle.rewrite.specs.Drafts.{turned};
+
+    ghost Value = { List (Option (List ℕ) × Pair) };
+
+    ghost view = { λ n. turned n.closed.left n.closed.entries (n.key.items, n.value) };
+}
+
+impl<A: Allocator + Clone> OpenNode<A> {
+    /// Begins a node with a link and the pair after it.
+    pub(crate) fn begin(
+        alloc: A,
+        link: Option<Cid>,
+        key: &[u8],
+        value: CidRef<'_>,
+    ) -> Result<OpenNode<A>, AllocError>
+        ensures { IfOk result (λ node. node ≡ (link, pair_of key.now value.entry) ∷ []) }
+    {
+        let closed = NodeWriter::begin(alloc.clone()?, link)?;
+        let mut bytes = Vec::new(alloc);
+        bytes.extend_from_slice(key)?;
+        Ok(OpenNode {
+            closed,
+            key: bytes,
+            value: value.to_cid(),
+        })
+    }
+
+    /// Adds a link and the pair after it. After a refusal nothing is promised of the node.
+    pub(crate) fn pair(
+        &mut self,
+        link: Option<Cid>,
+        key: &[u8],
+        value: CidRef<'_>,
+    ) -> Result<(), RewriteFault>
+        ensures ok { OnOk result (self.new ≡ self.old ++ (link, pair_of key.now value.entry) ∷ []) }
+        ensures fault { IfErr result
+            (IsFaultOfAll (self.old ++ (link, pair_of key.now value.entry) ∷ [])) }
+    {
+        if !self.closed.is_next(&self.key) {
+            return Err(RewriteFault::NotNode);
+        }
+        self.closed
+            .entry(&self.key, CidRef::from(&self.value), link)?;
+        self.key.clear();
+        self.key.extend_from_slice(key)?;
+        self.value = value.to_cid();
+        Ok(())
+    }
+
+    /// Goes on with a node whose `at`-th pair is the last of this one: with `link` after it, then the pairs up to the
+    /// `until`-th as they stand there, each with the link after it, and then a pair. After a refusal nothing is promised
+    /// of this node.
+    pub(crate) fn follow(
+        &mut self,
+        node: &NodeView<'_>,
+        at: u64,
+        until: u64,
+        link: Option<Cid>,
+        key: Vec<u8, A>,
+        value: Cid,
+    ) -> Result<(), RewriteFault>
+        requires order { at < until }
+        requires within { until ≤ length node.now.entries }
+        requires ends { EndsAt node.now.entries at self.old }
+        ensures ok { OnOk result (self.new ≡ self.old ++ turned link
+            (take (until - (at + 1)) (drop (at + 1) node.now.entries)) (key.items, value)) }
+        ensures fault { IfErr result (IsFaultOfAll (self.old ++ turned link
+            (take (until - (at + 1)) (drop (at + 1) node.now.entries)) (key.items, value))) }
+    {
+        if !self.closed.is_next(&self.key) {
+            return Err(RewriteFault::NotNode);
+        }
+        self.closed
+            .entry(&self.key, CidRef::from(&self.value), link)?;
+        self.closed.copy(node, at + 1, until)?;
+        self.key = key;
+        self.value = value;
+        Ok(())
+    }
+
+    /// Adds `link` and all that comes after the `at`-th pair of a node, which is the last of this one, as it stands there.
+    pub(crate) fn finish_with(
+        self,
+        link: Option<Cid>,
+        node: &NodeView<'_>,
+        at: u64,
+    ) -> Result<Draft<A>, RewriteFault>
+        requires within { at < length node.now.entries }
+        requires ends { EndsAt node.now.entries at self }
+        ensures ok { IfOk result
+            (IsNode (onto self (shape_from link (drop (at + 1) node.now.entries)))) }
+        ensures fault { IfErr result
+            (IsFaultOf (onto self (shape_from link (drop (at + 1) node.now.entries)))) }
+    {
+        let OpenNode {
+            mut closed,
+            key,
+            value,
+        } = self;
+        if !closed.is_next(&key) {
+            return Err(RewriteFault::NotNode);
+        }
+        closed.entry(&key, CidRef::from(&value), link)?;
+        let count = node.entry_count();
+        closed.copy(node, at + 1, count)?;
+        Ok(Draft {
+            bytes: closed.finish()?,
+            is_empty: false,
+        })
+    }
+
+    /// Adds the last link.
+    pub(crate) fn finish(self, last: Option<Cid>) -> Result<Draft<A>, RewriteFault>
+        ensures ok { IfOk result (IsNode (onto self (LastLink last))) }
+        ensures fault { IfErr result (IsFaultOf (onto self (LastLink last))) }
+    {
+        let OpenNode {
+            mut closed,
+            key,
+            value,
+        } = self;
+        if !closed.is_next(&key) {
+            return Err(RewriteFault::NotNode);
+        }
+        closed.entry(&key, CidRef::from(&value), last)?;
+        Ok(Draft {
+            bytes: closed.finish()?,
+            is_empty: false,
+        })
+    }
+}
