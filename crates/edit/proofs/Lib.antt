@@ -8,6 +8,7 @@ pub mod PutSteps
 pub mod Putting
 pub mod Building
 pub mod Deleting
+pub mod DeletePlan
 pub mod DeleteReading
 pub mod DeleteWhole
 pub mod DeleteAnswers

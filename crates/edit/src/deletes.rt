@@ -1,13 +1,13 @@
 //! A key taken out of a tree.
 
-ghost use Rattle.std.specs.Prelude.{◌≡◌, ◌≤◌, ◌+◌, ◌*◌, [], Some, None, length, IfOk, IfErr, OnOk};
+ghost use Rattle.std.specs.Prelude.{◌≡◌, ◌≤◌, ◌+◌, ◌*◌, Some, length, IfOk, IfErr, OnOk};
 ghost use Rattle.spec.specs.Blocks.{nodes};
-ghost use Rattle.edit_laws.specs.PathEdit.{prune_link};
-ghost use Rattle.edit.specs.Deletes.{CanReadDelete, nodes_read, IsDeleteFrom, IsDeleteFault, IsDelete, IsDeleteRefusal};
+ghost use Rattle.edit.specs.Deletes.{pruned_of, CanReadDelete, IsChangeOf, nodes_read, IsDeleteFrom, IsDeleteFault, IsDelete, IsDeleteRefusal};
 ghost use Rattle.edit.specs.Faults.{IsMissing};
 ghost use Rattle.edit.specs.Steps.{layers, nodes_given};
 ghost use Rattle.edit.specs.Trees.{OfTree, top_layer};
 
+mod change;
 mod listing;
 mod plan;
 mod write;
@@ -64,21 +64,22 @@ fn delete_from<D: Digest, A: Allocator + Clone>(
     key: &[u8],
     read: DeleteNodes<'_, D, A>,
 ) -> Result<Edit<D, A>, EditFault<D, A>>
-    requires { prune_link key.now read.path.items read.seam.items ≡ None → read.pruned.items ≡ [] }
+    requires { IsChangeOf key.now read.path.items read.seam.items read.change }
     ensures edit { IfOk result (IsDeleteFrom D.digest_of key.now
-        read.entry.path.items read.entry.seam.items read.entry.pruned.items) }
+        read.entry.path.items read.entry.seam.items (pruned_of read.entry.change)) }
     ensures previous { IfOk result (λ edit. edit.previous ≡ Some read.entry.previous) }
     ensures fault { IfErr result (IsDeleteFault D.digest_of key.now
-        read.entry.path.items read.entry.seam.items read.entry.pruned.items) }
+        read.entry.path.items read.entry.seam.items (pruned_of read.entry.change)) }
 {
     let DeleteNodes {
         path,
         seam,
-        pruned,
+        change,
         previous,
     } = read;
     let mut made = Vec::new(alloc.clone()?);
-    let root = write_delete(alloc.clone()?, key, &path, &seam, &pruned, &mut made)?;
+    let root = write_delete(alloc.clone()?, key, &path, &seam, &change, &mut made)?;
+    let pruned = change.into_pruned(alloc.clone()?);
     let (nodes, gone) = all_read(path, seam, pruned)?;
     let drop = dropped(alloc.clone()?, &made, &nodes[..gone])?;
     let add = added(alloc, &nodes, made)?;

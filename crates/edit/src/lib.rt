@@ -15,6 +15,24 @@
 //!
 //! - [`BlockMap`] is a source over a slice of blocks. The crate `kept` has the one of a repository.
 //!
+//! A source of one's own says for each CID what it gives, and counts its reads for proofs alone:
+//!
+//! ```text
+//! struct OneBlock<'a, D: Digest> { block: &'a Arc<Block<D>>, asked: ReadCount }
+//!
+//! impl<'a, D: Digest> Source<'a, Arc<Block<D>>> for OneBlock<'a, D> {
+//!     ghost gives = { λ one. first_of D.digest_of (one.block.now ∷ []) };
+//!     ghost reads = { λ one. one.asked.times };
+//!
+//!     fn get(&mut self, cid: &Cid) -> Option<&'a Arc<Block<D>>> {
+//!         self.asked = self.asked.once_more();
+//!         if self.block.cid() == *cid { Some(self.block) } else { None }
+//!     }
+//! }
+//!
+//! let value = get::<Sha256, 2, _, _>(&mut source, root, b"app.bsky.feed.post/3l");
+//! ```
+//!
 //! An [`EditFault`] says why there is no edit: a key to delete that isn't there, two blocks that clash, refused memory.
 //! README.md has an example of a put.
 #![tactic(auto)]

@@ -7,6 +7,8 @@ mod edits;
 #[cfg(test)]
 mod fixtures;
 #[cfg(test)]
+mod own_source;
+#[cfg(test)]
 mod plain;
 #[cfg(test)]
 mod rewrites;

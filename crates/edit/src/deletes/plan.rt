@@ -1,14 +1,16 @@
 //! What a delete reads.
 
 ghost use Rattle.std.specs.Prelude.{◌≡◌, ◌≤◌, ◌+◌, Some, IfOk, IfErr, OnOk};
-ghost use Rattle.edit_laws.specs.ShapeEdit.{links_beside as beside, trim_links};
-ghost use Rattle.edit_laws.specs.PathEdit.{lowest_shape, prune_link as link_of_chain};
+ghost use Rattle.edit_laws.specs.ShapeEdit.{head_shape, links_beside as beside, trim_links};
+ghost use Rattle.edit_laws.specs.PathEdit.{lowest_shape};
 ghost use Rattle.edit_laws.specs.Sources.{path_from, value_from, delete_seam_from, delete_pruned_from};
-ghost use Rattle.edit.specs.Deletes.{asked_delete, CanReadDelete};
+ghost use Rattle.edit.specs.Deletes.{asked_delete, chain_link, pruned_of, CanReadDelete, IsChangeOf};
+ghost use Rattle.rewrite.specs.Cursors.{links_if_single};
 ghost use Rattle.edit.specs.Faults.{IsFaultUnless};
 ghost use Rattle.edit.specs.Steps.{nodes_given};
 
 use crate::below::have_no_pairs;
+use crate::deletes::change::{Change, Links, change_of};
 use crate::loading::{Node, Path, read_path, read_pruned, read_seam};
 use crate::source::Source;
 use cid::{Block, Cid, Digest};
@@ -17,13 +19,13 @@ use std::alloc::{AllocError, Allocator};
 use std::clone::Clone;
 use std::sync::Arc;
 
-/// What a delete reads: the nodes of the key's path, the pairs of nodes that meet where the key stands, and the chain at
-/// which a top that loses its only key is pruned; with the value that goes.
+/// What a delete reads: the nodes of the key's path and the pairs of nodes that meet where the key stands; what is to be
+/// done with them; and the value that goes.
 #[derive(Drop)]
 pub(crate) struct DeleteNodes<'a, D: Digest, A: Allocator> {
     pub(crate) path: Vec<Node<'a, D, A>, A>,
     pub(crate) seam: Vec<(Node<'a, D, A>, Node<'a, D, A>), A>,
-    pub(crate) pruned: Vec<Node<'a, D, A>, A>,
+    pub(crate) change: Change<'a, D, A>,
     pub(crate) previous: Cid,
 }
 
@@ -45,8 +47,10 @@ pub(crate) fn read_delete<
         most key.now (Some root)) }
     ensures seam { IfOk result (λ read. read.seam.items ≡ delete_seam_from
         (nodes_given (S.gives src.old)) most key.now read.path.items) }
-    ensures pruned { IfOk result (λ read. read.pruned.items ≡ delete_pruned_from
+    ensures pruned { IfOk result (λ read. pruned_of read.change ≡ delete_pruned_from
         (nodes_given (S.gives src.old)) most key.now read.path.items read.seam.items) }
+    ensures change { IfOk result
+        (λ read. IsChangeOf key.now read.path.items read.seam.items read.change) }
     ensures previous { IfOk result (λ read. Some read.previous ≡ value_from
         (nodes_given (S.gives src.old)) most key.now (Some root)) }
     ensures can { OnOk result (CanReadDelete (nodes_given (S.gives src.old)) most key.now root) }
@@ -67,12 +71,14 @@ pub(crate) fn read_delete<
     };
     let (one, other) = key_links(alloc.clone()?, &path, key)?;
     let seam = read_seam(alloc.clone()?, src, one, other, most)?;
-    let link = prune_link(&path, key, &seam);
+    let top = top_links(&path, key);
+    let link = chain_link(top, &seam);
     let pruned = read_pruned(alloc, src, link, most)?;
+    let change = change_of(top, (one, other), pruned);
     Ok(DeleteNodes {
         path,
         seam,
-        pruned,
+        change,
         previous,
     })
 }
@@ -91,19 +97,27 @@ fn key_links<D: Digest, A: Allocator>(
     }
 }
 
-/// The link at which pruning begins, where the top loses its only key and comes down to one subtree.
-fn prune_link<D: Digest, A: Allocator>(
-    path: &[Node<'_, D, A>],
-    key: &[u8],
-    seam: &[(Node<'_, D, A>, Node<'_, D, A>)],
-) -> Option<Cid>
-    ensures { result ≡ link_of_chain key.now path.now seam.now }
+/// The links beside `key` where it is the only key of the top.
+fn top_links<D: Digest, A: Allocator>(path: &[Node<'_, D, A>], key: &[u8]) -> Option<Links>
+    ensures { result ≡ links_if_single key.now (head_shape path.now) }
 {
     let [top, ..] = path else {
         return None;
     };
-    let (one, other) = links_if_single(top.view(), key)?;
-    trim_link(one, other, seam)
+    links_if_single(top.view(), key)
+}
+
+/// The link at which pruning begins, where the top loses its only key, between these links, and comes down to one subtree.
+fn chain_link<D: Digest, A: Allocator>(
+    top: Option<Links>,
+    seam: &[(Node<'_, D, A>, Node<'_, D, A>)],
+) -> Option<Cid>
+    ensures { result ≡ chain_link top seam.now }
+{
+    match top {
+        Some((one, other)) => trim_link(one, other, seam),
+        None => None,
+    }
 }
 
 /// The one link that two adjacent parts come down to, where no key is left between and around them, if they do.

@@ -3,11 +3,11 @@ use Rattle.std.specs.Arc.{arc_value}
 use Rattle.std.proofs.lemmas.Result.{err_from_is_err_and}
 use Rattle.spec.specs.Blocks.{nodes, value_of}
 use Rattle.spec.specs.Writes.{without_key}
-use Rattle.edit.specs.Deletes.{CanReadDelete}
+use Rattle.edit.specs.Deletes.{pruned_of, CanReadDelete}
 use Rattle.edit.specs.Steps.{shows}
 use Rattle.edit.proofs.Building.{on_ok}
 use Rattle.edit.proofs.DeleteWhole.{can-read}
-use Rattle.edit.proofs.DeleteAnswers.{no-chain_read, not-read, delete-reads, delete-answer, delete-refused}
+use Rattle.edit.proofs.DeleteAnswers.{not-read, delete-reads, delete-answer, delete-refused}
 use Rattle.edit.proofs.DeleteBound.{delete-most, delete-layers}
 use Rattle.edit.proofs.Putting.{draft-missing, le-below, le-most}
 use Rattle.edit.proofs.PutSteps.{if-err, if-ok-two}
@@ -25,9 +25,7 @@ returns-in_err-read-clause-fault g c es h =
     c.in_err-read.ensures.fault p.2)
 
 pub delete_from-requires : goal.delete_from-requires
-delete_from-requires g c =
-    no-chain_read _ _ c.args.key.now c.in_ok-read.read.path.items c.in_ok-read.read.seam.items c.in_ok-read.read.pruned.items
-    c.in_ok-read.ensures.pruned
+delete_from-requires g c = c.in_ok-read.ensures.change
 
 pub returns-clause-edit : goal.returns-clause-edit
 returns-clause-edit g c es h =
@@ -36,7 +34,7 @@ returns-clause-edit g c es h =
     if-ok-two c.delete_from.result
     (λ e a b. delete-answer g.D.Digest.digest_of g.row.B g.met.D.Digest.digest_len _ c.args.root c.args.key.now es h
     c.layers.result c.layers.ensures c.in_ok-read.read.previous (sym (c.in_ok-read.ensures.previous ∙ value))
-    c.in_ok-read.read.path.items c.in_ok-read.read.seam.items c.in_ok-read.read.pruned.items
+    c.in_ok-read.read.path.items c.in_ok-read.read.seam.items (pruned_of c.in_ok-read.read.change)
     c.in_ok-read.ensures.path c.in_ok-read.ensures.seam c.in_ok-read.ensures.pruned
     e.root (map arc_value e.add.items) e.drop.items e.previous a b)
     c.delete_from.ensures.edit c.delete_from.ensures.previous
@@ -48,7 +46,7 @@ returns-clause-fault g c es h =
     if-err c.delete_from.result
     (λ f r. delete-refused g.D.Digest.digest_of g.row.B g.met.D.Digest.digest_len _ c.args.root c.args.key.now es h
     c.layers.result c.layers.ensures c.in_ok-read.read.previous (sym (c.in_ok-read.ensures.previous ∙ value))
-    c.in_ok-read.read.path.items c.in_ok-read.read.seam.items c.in_ok-read.read.pruned.items
+    c.in_ok-read.read.path.items c.in_ok-read.read.seam.items (pruned_of c.in_ok-read.read.change)
     c.in_ok-read.ensures.path c.in_ok-read.ensures.seam c.in_ok-read.ensures.pruned
     (value_of c.args.key.now es ≡ None) f r)
     c.delete_from.ensures.fault
@@ -82,7 +80,7 @@ returns-clause-reads g c es h =
     on_ok c.delete_from.result
     (delete-reads g.D.Digest.digest_of g.row.B g.met.D.Digest.digest_len _ c.args.root c.args.key.now es h
     c.layers.result c.layers.ensures c.in_ok-read.read.previous (sym (c.in_ok-read.ensures.previous ∙ value))
-    c.in_ok-read.read.path.items c.in_ok-read.read.seam.items c.in_ok-read.read.pruned.items
+    c.in_ok-read.read.path.items c.in_ok-read.read.seam.items (pruned_of c.in_ok-read.read.change)
     c.in_ok-read.ensures.path c.in_ok-read.ensures.seam c.in_ok-read.ensures.pruned
     (g.S.Source.reads c.args.src.now) (g.S.Source.reads c.read_delete.new.src) c.in_ok-read.ensures.reads_all)
 

@@ -1,7 +1,15 @@
-use Rattle.std.proofs.Common.{◌≡◌, sym, ◌∙◌}
+use Rattle.std.proofs.Common.{◌≡◌, List, refl, sym, ap, subst, ◌∙◌}
 use Rattle.std.specs.Arc.{arc_value}
+use Rattle.spec.specs.NodeFormat.{Shape}
+use Rattle.edit_laws.specs.ShapeEdit.{head_shape, links_beside}
+use Rattle.edit_laws.specs.PathEdit.{lowest_shape, prune_link}
+use Rattle.edit_laws.specs.Sources.{pruned_from}
+use Rattle.rewrite.specs.Cursors.{links_if_single}
+use Rattle.edit.specs.Deletes.{chain_link, pruned_of, IsChangeOf}
+use Rattle.edit.specs.Steps.{nodes_given}
 use Rattle.std.proofs.lemmas.Result.{err_from_is_err_and}
 use Rattle.edit.proofs.PathReading.{whole-path, whole-seam, whole-chain}
+use Rattle.edit.proofs.DeletePlan.{prune-is, change-pruned, change-is}
 use Rattle.edit.proofs.DeleteReading.{can-all, seam-is, link-is, no-seam, no-chain, seam-asked, chain-asked, three, three-most, at-most}
 use Rattle.edit.proofs.deletes.plan.read_delete.Goals as goal
 
@@ -22,7 +30,7 @@ returns-in_err-pruned-clause-fault g c =
     let seam = seam-is arc_value (g.S.Source.gives c.args.src.now) _ _ _ _ _ _ _ _ c.read_path.ensures.same path
     c.in_ok-one.ensures c.in_ok-seam.ensures.seam in
     let link = link-is arc_value (g.S.Source.gives c.args.src.now) _ _ _ _ _ _ _ _ path seam again c.deref-3.ensures.value
-    c.prune_link-link.ensures in
+    (prune-is c.args.key.now c.deref-2.result.now c.deref-3.result.now _ _ c.top_links-top.ensures c.chain_link-link.ensures) in
     rw (p.1, p.2)
     (no-chain arc_value (g.S.Source.gives c.args.src.now) _ _ _ _ _ _ (c.read_seam.ensures.same ∙ c.read_path.ensures.same)
     link c.in_err-pruned.ensures.fault)
@@ -35,7 +43,7 @@ returns-in_err-pruned-clause-reads g c =
     let seam = seam-is arc_value (g.S.Source.gives c.args.src.now) _ _ _ _ _ _ _ _ c.read_path.ensures.same path
     c.in_ok-one.ensures c.in_ok-seam.ensures.seam in
     let link = link-is arc_value (g.S.Source.gives c.args.src.now) _ _ _ _ _ _ _ _ path seam again c.deref-3.ensures.value
-    c.prune_link-link.ensures in
+    (prune-is c.args.key.now c.deref-2.result.now c.deref-3.result.now _ _ c.top_links-top.ensures c.chain_link-link.ensures) in
     three-most _ _ _ _ _ _ _ _ _ c.in_ok-path.ensures.reads_all c.in_ok-seam.ensures.reads_all c.read_pruned.ensures.reads
     (seam-asked arc_value (g.S.Source.gives c.args.src.now) _ _ _ _ _ _ _ c.read_path.ensures.same path c.in_ok-one.ensures)
     (chain-asked arc_value (g.S.Source.gives c.args.src.now) _ _ _ _ _ (c.read_seam.ensures.same ∙ c.read_path.ensures.same)
@@ -49,7 +57,7 @@ returns-clause-reads_all g c =
     let seam = seam-is arc_value (g.S.Source.gives c.args.src.now) _ _ _ _ _ _ _ _ c.read_path.ensures.same path
     c.in_ok-one.ensures c.in_ok-seam.ensures.seam in
     let link = link-is arc_value (g.S.Source.gives c.args.src.now) _ _ _ _ _ _ _ _ path seam again c.deref-3.ensures.value
-    c.prune_link-link.ensures in
+    (prune-is c.args.key.now c.deref-2.result.now c.deref-3.result.now _ _ c.top_links-top.ensures c.chain_link-link.ensures) in
     three _ _ _ _ _ _ _ _ _ c.in_ok-path.ensures.reads_all c.in_ok-seam.ensures.reads_all c.in_ok-pruned.ensures.reads_all
     (seam-asked arc_value (g.S.Source.gives c.args.src.now) _ _ _ _ _ _ _ c.read_path.ensures.same path c.in_ok-one.ensures)
     (chain-asked arc_value (g.S.Source.gives c.args.src.now) _ _ _ _ _ (c.read_seam.ensures.same ∙ c.read_path.ensures.same)
@@ -67,7 +75,7 @@ returns-clause-can g c =
     let seam = seam-is arc_value gives _ _ _ _ _ _ _ _ c.read_path.ensures.same path
     c.in_ok-one.ensures c.in_ok-seam.ensures.seam in
     let link = link-is arc_value gives _ _ _ _ _ _ _ _ path seam again c.deref-3.ensures.value
-    c.prune_link-link.ensures in
+    (prune-is c.args.key.now c.deref-2.result.now c.deref-3.result.now _ _ c.top_links-top.ensures c.chain_link-link.ensures) in
     can-all arc_value gives _ _ _ _ _ _ _ _ _ _
     (whole-path arc_value gives _ _ _ _ _ _ c.in_ok-path.ensures.nodes c.in_ok-path.ensures.counted c.in_ok-path.ensures.reads_all)
     (sym c.in-Some.is ∙ c.in_ok-path.ensures.previous)
@@ -75,5 +83,41 @@ returns-clause-can g c =
     (whole-seam arc_value (g.S.Source.gives c.read_path.new.src) c.args.most c.in_ok-one.one c.in_ok-one.other c.in_ok-seam.seam.items
     (g.S.Source.reads c.read_path.new.src) (g.S.Source.reads c.read_seam.new.src) c.in_ok-seam.ensures.seam c.in_ok-seam.ensures.counted c.in_ok-seam.ensures.reads_all)
     (c.read_seam.ensures.same ∙ c.read_path.ensures.same) link
-    (whole-chain arc_value (g.S.Source.gives c.read_seam.new.src) c.args.most c.prune_link-link.result c.in_ok-pruned.pruned.items
+    (whole-chain arc_value (g.S.Source.gives c.read_seam.new.src) c.args.most c.chain_link-link.result c.in_ok-pruned.pruned.items
     (g.S.Source.reads c.read_seam.new.src) (g.S.Source.reads c.read_pruned.new.src) c.in_ok-pruned.ensures.nodes c.in_ok-pruned.ensures.counted c.in_ok-pruned.ensures.reads_all)
+
+pub returns-clause-pruned : goal.returns-clause-pruned
+returns-clause-pruned g c =
+    let gives = g.S.Source.gives c.args.src.now in
+    let shows = nodes_given gives in
+    let items : c.deref.result.now ≡ c.in_ok-path.field-0.nodes.items = cc in
+    let again : c.deref-2.result.now ≡ c.deref.result.now = cc in
+    let links = c.top_links-top.result in
+    let read = c.in_ok-pruned.ensures.nodes
+    ∙ ap (λ is. pruned_from (nodes_given is) c.args.most c.chain_link-link.result)
+    (c.read_seam.ensures.same ∙ c.read_path.ensures.same)
+    ∙ ap (pruned_from shows c.args.most) c.chain_link-link.ensures in
+    ap pruned_of c.change_of-change.ensures
+    ∙ change-pruned _ shows c.args.most c.deref-3.result.now links (c.in_ok-one.one, c.in_ok-one.other) c.in_ok-pruned.pruned read
+    ∙ ap (pruned_from shows c.args.most)
+    (prune-is c.args.key.now c.deref-2.result.now c.deref-3.result.now _ links c.top_links-top.ensures refl
+    ∙ ap (λ (p : List Shape). prune_link c.args.key.now p c.deref-3.result.now) (again ∙ items)
+    ∙ ap (prune_link c.args.key.now c.in_ok-path.field-0.nodes.items) c.deref-3.ensures.value)
+
+pub returns-clause-change : goal.returns-clause-change
+returns-clause-change g c =
+    let gives = g.S.Source.gives c.args.src.now in
+    let shows = nodes_given gives in
+    let items : c.deref.result.now ≡ c.in_ok-path.field-0.nodes.items = cc in
+    let again : c.deref-2.result.now ≡ c.deref.result.now = cc in
+    let read = c.in_ok-pruned.ensures.nodes
+    ∙ ap (λ is. pruned_from (nodes_given is) c.args.most c.chain_link-link.result)
+    (c.read_seam.ensures.same ∙ c.read_path.ensures.same)
+    ∙ ap (pruned_from shows c.args.most)
+    (c.chain_link-link.ensures ∙ ap (chain_link c.top_links-top.result) c.deref-3.ensures.value) in
+    subst (IsChangeOf c.args.key.now c.in_ok-path.field-0.nodes.items c.in_ok-seam.seam.items) (sym c.change_of-change.ensures)
+    (change-is _ shows c.args.most c.args.key.now c.in_ok-path.field-0.nodes.items c.in_ok-seam.seam.items
+    c.top_links-top.result (c.in_ok-one.one, c.in_ok-one.other) c.in_ok-pruned.pruned
+    (c.top_links-top.ensures ∙ ap (λ (p : List Shape). links_if_single c.args.key.now (head_shape p)) (again ∙ items))
+    (c.in_ok-one.ensures ∙ ap (λ (p : List Shape). links_beside c.args.key.now (lowest_shape p)) items)
+    read)
