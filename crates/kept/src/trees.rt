@@ -7,7 +7,7 @@ ghost use Rattle.kept.specs.Trees.{IsPut, IsPutRefusal, IsDelete, IsDeleteRefusa
 
 use crate::kept::Kept;
 use cid::{Cid, Digest};
-use edit::{ReadCount, Edit, EditFault};
+use edit::{Edit, EditFault, ReadCount};
 use std::alloc::{AllocError, Allocator};
 use std::clone::Clone;
 

@@ -15,7 +15,7 @@ ghost use Rattle.store.specs.Stores.{IsStore};
 
 use batches::{RepoFault, Write};
 use cid::{Block, Cid, Digest};
-use edit::{ReadCount, Edit, EditFault};
+use edit::{Edit, EditFault, ReadCount};
 use kept::{Kept, delete_staged, put_staged};
 use std::alloc::{AllocError, Allocator};
 use std::clone::Clone;
