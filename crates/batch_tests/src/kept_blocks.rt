@@ -4,7 +4,7 @@ ghost use Rattle.std.specs.Prelude.{◌≤◌};
 
 use cid::digests::{Size, Toy};
 use cid::{Block, Cid, Digest};
-use edit::Source;
+use edit::{Lent, Source, is_node};
 use kept::Kept;
 use repo_fixtures::batch::{EMPTY, ONE, TWO};
 use repo_fixtures::cores::counts;
@@ -135,6 +135,16 @@ fn is_block<D: Digest>(block: Option<&Arc<Block<D>>>, bytes: &[u8], there: bool)
     }
 }
 
+/// Whether a block is lent where one is to be, with these bytes, and shows a node where the bytes are one.
+fn is_lent<D: Digest>(lent: Option<Lent<'_, D>>, bytes: &[u8], there: bool) -> bool {
+    match lent {
+        Some(lent) => {
+            there && lent.block().bytes() == bytes && lent.view().is_some() == is_node(bytes)
+        }
+        None => !there,
+    }
+}
+
 /// Whether the block of these bytes is used so by what was accepted, is found where it is used at all, and is lent as long as
 /// the store holds it.
 fn is_used<D: Digest>(shard: &Shard<D>, kept: &Kept<D>, bytes: &[u8], uses: Uses) -> bool {
@@ -143,7 +153,7 @@ fn is_used<D: Digest>(shard: &Shard<D>, kept: &Kept<D>, bytes: &[u8], uses: Uses
     kept.uses(&cid) == times
         && shard.count(&cid) == cores
         && is_block(kept.block(&cid), bytes, times > 0)
-        && is_block(kept.lender().get(&cid), bytes, cores > 0)
+        && is_lent(kept.lender().get(&cid), bytes, cores > 0)
 }
 
 /// How often the list of blocks has one with this CID.

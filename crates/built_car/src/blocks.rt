@@ -8,7 +8,7 @@ ghost use Rattle.built_car.specs.Records.{records_in};
 
 use crate::records::Records;
 use cid::{Block, Digest};
-use edit::Source;
+use edit::{Lent, Source};
 use std::alloc::{AllocError, Allocator};
 use std::sync::Arc;
 
@@ -30,7 +30,7 @@ pub(crate) fn all_blocks<D: Digest, A: Allocator>(
 }
 
 /// Whether the source gives each of these blocks under its CID: then no two of them clash.
-pub(crate) fn gives_each<'a, D: Digest + 'a, A: Allocator + 'a, S: Source<'a, Arc<Block<D, A>, A>>>(
+pub(crate) fn gives_each<'a, D: Digest + 'a, A: Allocator + 'a, S: Source<Lent<'a, D, A>>>(
     source: &mut S,
     blocks: &[Arc<Block<D, A>, A>],
 ) -> bool
@@ -42,7 +42,7 @@ pub(crate) fn gives_each<'a, D: Digest + 'a, A: Allocator + 'a, S: Source<'a, Ar
 {
     for block in blocks {
         match source.get(&block.cid()) {
-            Some(found) if found.bytes() == block.bytes() => {}
+            Some(found) if found.block().bytes() == block.bytes() => {}
             _ => return false,
         }
     }

@@ -14,7 +14,7 @@ use crate::building::{BuiltBlocks, built_blocks};
 use crate::records::records_of;
 use batches::{Stamp, Write};
 use cid::{Block, Cid, Digest};
-use edit::{BlockMap, Source};
+use edit::{BlockMap, Lent, Source};
 use export::{ToMemory, car_over};
 use std::alloc::{AllocError, Allocator};
 use std::sync::Arc;
@@ -74,7 +74,7 @@ fn file_of<D: Digest, const B: u8, A: Allocator + Copy>(
 }
 
 /// The CAR of a commit and of the tree with this root, over `most` layers at most, in memory.
-fn car_in_memory<'a, D: Digest + 'a, A: Allocator + Copy + 'a, S: Source<'a, Arc<Block<D, A>, A>>>(
+fn car_in_memory<'a, D: Digest + 'a, A: Allocator + Copy + 'a, S: Source<Lent<'a, D, A>>>(
     alloc: A,
     source: &mut S,
     commit: Cid,

@@ -1,11 +1,13 @@
 -- What a node shows, from its left link and its entries.
-use Rattle.std.proofs.Common.{◌≡◌, ◌<◌, ◌^◌, length, ℕ, List, [], ◌∷◌, Option, true, false, Ok, refl, ap}
+use Rattle.std.proofs.Common.{◌≡◌, ◌<◌, ◌^◌, length, ℕ, List, [], ◌∷◌, Option, Some, None, option_map, true, false, Result, Ok, Err, refl, sym, ap}
 use Rattle.spec.specs.Reading.{IsBytes}
-use Rattle.spec.specs.NodeFormat.{Entry, read_node}
+use Rattle.spec.specs.NodeFormat.{Entry, NodeFault, read_node}
+use Rattle.node.specs.Contents.{Contents}
 use Rattle.node.specs.Rows.{Row, rows}
+use Rattle.rewrite.specs.Entries.{shape_of}
 use Rattle.edit_laws.specs.Sources.{shape_from, shape_of_reading}
 use Rattle.edit_laws.proofs.OverSource.{shape_bytes-shape_of_bytes}
-use Rattle.edit.specs.Nodes.{IsNodeOf, has_pairs}
+use Rattle.edit.specs.Nodes.{IsNodeOf, contents_of, has_pairs}
 
 pub node-of : (bytes : List ℕ) (left : Option (List ℕ)) (es : List Entry) → IsBytes bytes → read_node bytes ≡ Ok (left, es)
     → length bytes < 2 ^ 64 → IsNodeOf bytes (shape_from left es)
@@ -22,3 +24,27 @@ pub pairs-none : (before : List ℕ) (left : Option (List ℕ)) (es : List Entry
     → false ≡ has_pairs (shape_from left es)
 pairs-none before left [] h = refl
 pairs-none before left (e ∷ es) h = cc
+
+-- ---- what a reading shows
+
+pub read-some : (r : Result (Option (List ℕ) × List Entry) NodeFault) (n : Contents) → Some n ≡ contents_of r
+    → r ≡ Ok (n.left, n.entries)
+read-some (Ok x) n h =
+    let same : n ≡ record { left = x.0; entries = x.1 } = cc in
+    let read : Contents → Result (Option (List ℕ) × List Entry) NodeFault = λ m. Ok (m.left, m.entries) in
+    ap read (sym same)
+read-some (Err f) n h = absurd cc
+
+pub shape-shown : (r : Result (Option (List ℕ) × List Entry) NodeFault) (o : Option Contents) → o ≡ contents_of r
+    → option_map shape_of o ≡ shape_of_reading r
+shape-shown (Ok x) o h = ap (option_map shape_of) h
+shape-shown (Err f) o h = ap (option_map shape_of) h
+
+pub nothing-shown : (r : Result (Option (List ℕ) × List Entry) NodeFault) → None ≡ contents_of r
+    → shape_of_reading r ≡ None
+nothing-shown (Ok x) h = absurd cc
+nothing-shown (Err f) h = refl
+
+pub read-again : (bytes : List ℕ) (n : Contents) → read_node bytes ≡ Ok (n.left, n.entries)
+    → Some n ≡ contents_of (read_node bytes)
+read-again bytes n h = sym (ap contents_of h)

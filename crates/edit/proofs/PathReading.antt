@@ -156,6 +156,18 @@ module _ (shows : List ℕ → Option Shape) (key : List ℕ) where
           asked = let a = f.asked in let b = p.asked in let k = asked-none shows key (n - 1) in omega arith;
         }
 
+    -- the next block is missing, or is no node
+    pub path-missing : 0 < n → IsPathSoFar shows key n₀ c₀ n c nodes → shows c ≡ None → ¬ IsWholePath shows n₀ key (Some c₀)
+    path-missing t f h w =
+        let e = back n t in
+        let a : asked_from shows n key (Some c) ≡ 1 = sym (ap (λ k. asked_from shows k key (Some c)) e)
+        ∙ ap (asked_at (asked_from shows (n - 1) key) key) h in
+        let m : path_from shows n key (Some c) ≡ [] = sym (ap (λ k. path_from shows k key (Some c)) e)
+        ∙ ap (path_at (path_from shows (n - 1) key) key) h in
+        let b = f.asked in
+        let k = ap length (f.path ∙ ap (λ xs. nodes ++ xs) m ∙ append-nil nodes) in
+        omega (arith, w)
+
     -- there is a block more
     pub path-counts : (s : Shape) → 0 < n → IsPathSoFar shows key n₀ c₀ n c nodes → shows c ≡ Some s
         → suc (length nodes) ≤ asked_from shows n₀ key (Some c₀)

@@ -9,7 +9,7 @@ use Rattle.std.specs.declared.sync.Arc.{Arc}
 use Rattle.spec.specs.Cid.{cid}
 
 -- the blocks, and how often one was asked for
-pub record Lent (T : Type 0) : Type 0 where
+pub record Lending (T : Type 0) : Type 0 where
   pub blocks : List T
   pub asked : ℕ
 

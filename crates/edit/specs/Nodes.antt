@@ -1,6 +1,7 @@
 -- Nodes that were read.
-use Rattle.std.specs.Prelude.{◌≡◌, ◌<◌, ◌^◌, ℕ, Bool, true, false, length, List}
-use Rattle.spec.specs.NodeFormat.{Shape, LastLink, MoreLinks, shape_bytes}
+use Rattle.std.specs.Prelude.{◌≡◌, ◌<◌, ◌^◌, ℕ, Bool, true, false, length, List, Option, Some, None, Result, Ok, Err, is_ok}
+use Rattle.spec.specs.NodeFormat.{Entry, NodeFault, read_node, Shape, LastLink, MoreLinks, shape_bytes}
+use Rattle.node.specs.Contents.{Contents}
 use Rattle.edit_laws.specs.Lawful.{Lawful}
 
 -- a node of the grammar, and these are its bytes, which a machine can count
@@ -16,3 +17,18 @@ IsRead s = Lawful s × (length (shape_bytes s) < 2 ^ 64)
 abbrev pub has_pairs : Shape → Bool
 has_pairs (LastLink l) = false
 has_pairs (MoreLinks l e r) = true
+
+-- ---- blocks of which it may be known that they are nodes
+
+-- what a reading shows, and nothing where it failed
+abbrev pub contents_of : Result (Option (List ℕ) × List Entry) NodeFault → Option Contents
+contents_of (Ok n) = Some (record { left = n.0; entries = n.1 })
+contents_of (Err f) = None
+
+-- whether the bytes of a block are a node's
+abbrev pub reads_as_node : List ℕ → Bool
+reads_as_node bytes = is_ok (read_node bytes)
+
+-- a block that is marked is a node
+abbrev pub IsMarked : List ℕ → Bool → Type 0
+IsMarked bytes mark = mark ≡ true → reads_as_node bytes ≡ true

@@ -2,14 +2,15 @@
 
 ghost use Rattle.std.specs.Prelude.{◌≡◌, ◌-◌, ◌^◌, min, IfOk};
 
-use crate::source::{ReadCount, Source};
+use crate::source::{Lent, ReadCount, Source};
 use cid::{Block, Cid, Digest};
 use std::alloc::{AllocError, Allocator, Global};
 use std::collections::BTreeMap;
 use std::marker::Model;
 use std::sync::Arc;
 
-/// Blocks in memory by their CIDs, with a count of the reads. Of blocks with one CID it gives the first.
+/// Blocks in memory by their CIDs, with a count of the reads. Of blocks with one CID it gives the first. Each block is
+/// tested once for whether it is a node, when the map is made.
 ///
 /// What it gives is lent by the blocks, and may outlive the map but not them:
 ///
@@ -17,7 +18,7 @@ use std::sync::Arc;
 /// let view = {
 ///     let blocks = build::<Sha256, 2, _, _>(alloc, &pairs)?.blocks;
 ///     let mut map = BlockMap::new(alloc, &blocks)?;
-///     NodeView::parse(map.get(&root)?.bytes())?
+///     map.get(&root)?.view()
 /// };
 /// // error[E0597]: `blocks` does not live long enough
 /// ```
@@ -25,7 +26,7 @@ use std::sync::Arc;
 /// A contract sees it as the blocks, and how often one was asked for.
 #[derive(Drop)]
 pub struct BlockMap<'a, D: Digest, A: Allocator = Global> {
-    blocks: &'a [Arc<Block<D, A>, A>],
+    lents: Vec<Lent<'a, D, A>, A>,
     places: BTreeMap<Cid, usize, A>,
     reads: u64,
     asked: ReadCount,
@@ -34,13 +35,13 @@ pub struct BlockMap<'a, D: Digest, A: Allocator = Global> {
 impl<'a, D: Digest, A: Allocator> Model for BlockMap<'a, D, A> {
     ghost use Rattle.std.specs.Prelude.{ℕ, List};
     ghost use Rattle.std.specs.declared.sync.Arc.{Arc};
-    ghost use Rattle.edit.specs.Maps.{Lent, IsMap};
+    ghost use Rattle.edit.specs.Maps.{Lending, IsMap};
 
-    ghost Value = { Lent (Arc (List ℕ) A) };
+    ghost Value = { Lending (Arc (List ℕ) A) };
 
-    ghost view = { λ m. record { blocks = m.blocks.now; asked = m.asked.times } };
+    ghost view = { λ m. record { blocks = m.lents.items; asked = m.asked.times } };
 
-    ghost invariant = { λ m. IsMap D.digest_of m.blocks.now m.places m.reads m.asked.times };
+    ghost invariant = { λ m. IsMap D.digest_of m.lents.items m.places m.reads m.asked.times };
 }
 
 impl<'a, D: Digest, A: Allocator + Clone> BlockMap<'a, D, A> {
@@ -51,6 +52,7 @@ impl<'a, D: Digest, A: Allocator + Clone> BlockMap<'a, D, A> {
     ) -> Result<BlockMap<'a, D, A>, AllocError>
         ensures { IfOk result (λ map. map ≡ record { blocks = blocks.now; asked = 0 }) }
     {
+        let lents = tested_each(alloc.clone()?, blocks)?;
         let mut places = BTreeMap::new(alloc);
         let mut left = blocks.len();
         while left > 0 {
@@ -58,12 +60,26 @@ impl<'a, D: Digest, A: Allocator + Clone> BlockMap<'a, D, A> {
             places.insert(blocks[left].cid(), left)?;
         }
         Ok(BlockMap {
-            blocks,
+            lents,
             places,
             reads: 0,
             asked: ReadCount::never(),
         })
     }
+}
+
+/// Each of the blocks, tested.
+fn tested_each<'a, D: Digest, A: Allocator>(
+    alloc: A,
+    blocks: &'a [Arc<Block<D, A>, A>],
+) -> Result<Vec<Lent<'a, D, A>, A>, AllocError>
+    ensures { IfOk result (λ lents. lents.items ≡ blocks.now) }
+{
+    let mut lents = Vec::new(alloc);
+    for block in blocks {
+        lents.push(Lent::tested(block))?;
+    }
+    Ok(lents)
 }
 
 impl<'a, D: Digest, A: Allocator> BlockMap<'a, D, A> {
@@ -75,17 +91,17 @@ impl<'a, D: Digest, A: Allocator> BlockMap<'a, D, A> {
     }
 }
 
-impl<'a, D: Digest, A: Allocator> Source<'a, Arc<Block<D, A>, A>> for BlockMap<'a, D, A> {
+impl<'a, D: Digest, A: Allocator> Source<Lent<'a, D, A>> for BlockMap<'a, D, A> {
     ghost use Rattle.edit.specs.Maps.{first_of};
 
     ghost gives = { λ m. first_of D.digest_of m.blocks };
 
     ghost reads = { λ m. m.asked };
 
-    fn get(&mut self, cid: &Cid) -> Option<&'a Arc<Block<D, A>, A>> {
+    fn get(&mut self, cid: &Cid) -> Option<Lent<'a, D, A>> {
         self.reads = self.reads.saturating_add(1);
         self.asked = self.asked.once_more();
         let place = *self.places.get(cid)?;
-        self.blocks.get(place)
+        Some(self.lents.get(place)?.again())
     }
 }

@@ -18,7 +18,7 @@ use crate::deletes::plan::{DeleteNodes, read_delete};
 use crate::deletes::write::write_delete;
 use crate::lookups::layers;
 use crate::outcome::{Edit, EditFault};
-use crate::source::Source;
+use crate::source::{Lent, Source};
 use cid::{Block, Cid, Digest};
 use std::alloc::Allocator;
 use std::clone::Clone;
@@ -39,7 +39,7 @@ pub fn delete<
     D: Digest + 'a,
     const B: u8,
     A: Allocator + Clone + 'a,
-    S: Source<'a, Arc<Block<D, A>, A>>,
+    S: Source<Lent<'a, D, A>>,
 >(alloc: A, src: &mut S, root: Cid, key: &[u8]) -> Result<Edit<D, A>, EditFault<D, A>>
     requires { 1 ≤ B }
     ensures edit { IsDelete D.digest_of B (S.gives src.old) root key.now result }

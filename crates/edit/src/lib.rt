@@ -15,18 +15,20 @@
 //!
 //! - [`BlockMap`] is a source over a slice of blocks. The crate `kept` has the one of a repository.
 //!
-//! A source of one's own says for each CID what it gives, and counts its reads for proofs alone:
+//! What a source gives is a [`Lent`] block: with a mark, where it is known to be a node, which spares the test of its bytes
+//! at each read. A source of one's own tests its blocks once, says for each CID what it gives, and counts its reads for
+//! proofs alone:
 //!
 //! ```text
-//! struct OneBlock<'a, D: Digest> { block: &'a Arc<Block<D>>, asked: ReadCount }
+//! struct OneBlock<D: Digest> { block: TestedBlock<D>, cid: Cid, asked: ReadCount }
 //!
-//! impl<'a, D: Digest> Source<'a, Arc<Block<D>>> for OneBlock<'a, D> {
-//!     ghost gives = { λ one. first_of D.digest_of (one.block.now ∷ []) };
+//! impl<'a, D: Digest> Source<Lent<'a, D>> for &'a mut OneBlock<D> {
+//!     ghost gives = { λ one. first_of D.digest_of (one.block ∷ []) };
 //!     ghost reads = { λ one. one.asked.times };
 //!
-//!     fn get(&mut self, cid: &Cid) -> Option<&'a Arc<Block<D>>> {
+//!     fn get(&mut self, cid: &Cid) -> Option<Lent<'a, D>> {
 //!         self.asked = self.asked.once_more();
-//!         if self.block.cid() == *cid { Some(self.block) } else { None }
+//!         if self.cid == *cid { Some(self.block.lent()) } else { None }
 //!     }
 //! }
 //!
@@ -55,5 +57,5 @@ pub use lookups::get;
 pub use node::is_key;
 pub use outcome::{Edit, EditFault};
 pub use puts::put;
-pub use source::{ReadCount, Source};
+pub use source::{Lent, ReadCount, Source, TestedBlock, is_node};
 pub use walks::walk;

@@ -11,7 +11,7 @@ ghost use Rattle.edit_laws.specs.Lawful.{AllLawful, AllShort};
 ghost use Rattle.edit.specs.Faults.{IsFaultUnless};
 ghost use Rattle.rewrite.specs.Entries.{shape_of};
 
-use crate::source::Source;
+use crate::source::{Lent, Source};
 use cid::{Block, Cid, Digest};
 use node::{NodeView, Place};
 use rewrite::{RewriteFault, last_link, to_cid};
@@ -46,12 +46,15 @@ impl<'a, D: Digest, A: Allocator> Model for Node<'a, D, A> {
 
 impl<'a, D: Digest, A: Allocator> Node<'a, D, A> {
     /// The node of a block, or `None` where its bytes are no node.
-    pub(crate) fn of(block: &'a Arc<Block<D, A>, A>) -> Option<Node<'a, D, A>>
-        ensures shown { result ≡ shape_of_bytes (arc_value block.now) }
+    pub(crate) fn of(lent: Lent<'a, D, A>) -> Option<Node<'a, D, A>>
+        ensures shown { result ≡ shape_of_bytes (arc_value lent.entry) }
         ensures read { IfSome result IsRead }
     {
-        let view = view_of(block.bytes())?;
-        Some(Node { block, view })
+        let view = lent.view()?;
+        Some(Node {
+            block: lent.block(),
+            view,
+        })
     }
 
     /// What the block shows.
@@ -100,19 +103,8 @@ impl<'a, D: Digest, A: Allocator> Node<'a, D, A> {
     }
 }
 
-/// What a block of these bytes shows, or `None` where they are no node.
-pub(crate) fn view_of(bytes: &[u8]) -> Option<NodeView<'_>>
-    ensures shape { option_map shape_of result ≡ shape_of_bytes bytes.now }
-    ensures lawful { IfSome result (λ view. IsNodeOf bytes.now (shape_of view)) }
-{
-    match NodeView::parse(bytes) {
-        Ok(view) => Some(view),
-        Err(_) => None,
-    }
-}
-
 /// The node with a CID, or `None` where the source lacks the block or it is no node. The source is asked once.
-pub(crate) fn node_at<'a, D: Digest + 'a, A: Allocator + 'a, S: Source<'a, Arc<Block<D, A>, A>>>(
+pub(crate) fn node_at<'a, D: Digest + 'a, A: Allocator + 'a, S: Source<Lent<'a, D, A>>>(
     src: &mut S,
     cid: &Cid,
 ) -> Option<Node<'a, D, A>>
@@ -133,7 +125,7 @@ pub(crate) struct Path<'a, D: Digest, A: Allocator> {
 
 /// The nodes that a look-up of the key reads, `most` at most. Where a block is missing or is no node, the fault is
 /// `NotNode`.
-pub(crate) fn read_path<'a, D: Digest + 'a, A: Allocator + 'a, S: Source<'a, Arc<Block<D, A>, A>>>(
+pub(crate) fn read_path<'a, D: Digest + 'a, A: Allocator + 'a, S: Source<Lent<'a, D, A>>>(
     alloc: A,
     src: &mut S,
     root: Cid,
@@ -183,7 +175,7 @@ pub(crate) fn read_path<'a, D: Digest + 'a, A: Allocator + 'a, S: Source<'a, Arc
 
 /// The pairs of nodes that meet between two links, from the top down until one of the links is none, `most` pairs at
 /// most. Nothing is read unless both links are there. Where a block is missing or is no node, the fault is `NotNode`.
-pub(crate) fn read_seam<'a, D: Digest + 'a, A: Allocator + 'a, S: Source<'a, Arc<Block<D, A>, A>>>(
+pub(crate) fn read_seam<'a, D: Digest + 'a, A: Allocator + 'a, S: Source<Lent<'a, D, A>>>(
     alloc: A,
     src: &mut S,
     one: Option<Cid>,
@@ -226,12 +218,7 @@ pub(crate) fn read_seam<'a, D: Digest + 'a, A: Allocator + 'a, S: Source<'a, Arc
 
 /// The nodes without pairs from a link down, and the first one with a pair, `most` at most. Where a block is missing
 /// or is no node, the fault is `NotNode`.
-pub(crate) fn read_pruned<
-    'a,
-    D: Digest + 'a,
-    A: Allocator + 'a,
-    S: Source<'a, Arc<Block<D, A>, A>>,
->(
+pub(crate) fn read_pruned<'a, D: Digest + 'a, A: Allocator + 'a, S: Source<Lent<'a, D, A>>>(
     alloc: A,
     src: &mut S,
     link: Option<Cid>,

@@ -1,15 +1,16 @@
 //! The value of a key.
 
 ghost use Rattle.std.specs.Prelude.{◌≡◌, ◌≤◌, option_map, ◌+◌, suc, Some, length};
+ghost use Rattle.std.specs.Arc.{arc_value};
 ghost use Rattle.edit_laws.specs.Sources.{shape_of_bytes, value_from};
 ghost use Rattle.edit.specs.Steps.{place_found, layers, asked_from, nodes_given, place_of_key};
 ghost use Rattle.spec.specs.Blocks.{value_of};
 ghost use Rattle.spec.specs.Proof.{path};
 ghost use Rattle.edit.specs.Trees.{OfTree, top_layer};
 
-use crate::source::Source;
+use crate::source::{Lent, Source};
 use cid::{Block, Cid, Digest};
-use node::{NodeView, Place};
+use node::Place;
 use std::alloc::Allocator;
 use std::sync::Arc;
 
@@ -21,15 +22,15 @@ pub(crate) fn layers<const B: u8>() -> u16
     256 / B as u16 + 1
 }
 
-/// Where the key stands in the node of a block, or `None` where the bytes are no node.
-pub(crate) fn place_in<'a>(block: &'a [u8], key: &[u8]) -> Option<Place<'a>>
+/// Where the key stands in the node of a block, or `None` where it is no node.
+pub(crate) fn place_in<'a, D: Digest, A: Allocator>(
+    lent: Lent<'a, D, A>,
+    key: &[u8],
+) -> Option<Place<'a>>
     ensures { option_map (place_found key.now) result ≡ option_map (place_of_key key.now)
-        (shape_of_bytes block.now) }
+        (shape_of_bytes (arc_value lent.entry)) }
 {
-    match NodeView::parse(block) {
-        Ok(view) => Some(view.find(key)),
-        Err(_) => None,
-    }
+    Some(lent.view()?.find(key))
 }
 
 /// The value of a key in the tree with this root, or `None` where the tree doesn't have the key.
@@ -39,7 +40,7 @@ pub(crate) fn place_in<'a>(block: &'a [u8], key: &[u8]) -> Option<Place<'a>>
 /// least 1 (AT Protocol repository v3, MST structure). It takes no memory and copies no block.
 ///
 /// The source has all nodes of the tree. Where it lacks one, or gives what is no node, this ends with `None`.
-pub fn get<'a, D: Digest + 'a, const B: u8, A: Allocator + 'a, S: Source<'a, Arc<Block<D, A>, A>>>(
+pub fn get<'a, D: Digest + 'a, const B: u8, A: Allocator + 'a, S: Source<Lent<'a, D, A>>>(
     src: &mut S,
     root: Cid,
     key: &[u8],
@@ -58,7 +59,7 @@ pub fn get<'a, D: Digest + 'a, const B: u8, A: Allocator + 'a, S: Source<'a, Arc
 }
 
 /// The value of a key in the tree with this root, looked up over `most` nodes at most.
-fn value_below<'a, D: Digest + 'a, A: Allocator + 'a, S: Source<'a, Arc<Block<D, A>, A>>>(
+fn value_below<'a, D: Digest + 'a, A: Allocator + 'a, S: Source<Lent<'a, D, A>>>(
     src: &mut S,
     root: Cid,
     key: &[u8],
@@ -73,7 +74,7 @@ fn value_below<'a, D: Digest + 'a, A: Allocator + 'a, S: Source<'a, Arc<Block<D,
     let mut left = most;
     while left > 0 {
         left -= 1;
-        match place_in(src.get(&cid)?.bytes(), key)? {
+        match place_in(src.get(&cid)?, key)? {
             Place::Here(entry) => return Some(entry.value.to_cid()),
             Place::Below(next) => cid = next.to_cid(),
             Place::Gap => return None,

@@ -16,7 +16,7 @@ use crate::loading::{Path, read_path};
 use crate::lookups::layers;
 use crate::outcome::{Edit, EditFault};
 use crate::puts::write::put_nodes;
-use crate::source::Source;
+use crate::source::{Lent, Source};
 use cid::{Block, Cid, CidRef, Digest};
 use std::alloc::Allocator;
 use std::clone::Clone;
@@ -33,13 +33,13 @@ use std::sync::Arc;
 /// each a node of the tree before or of the tree after, and `EditFault::NoMemory` comes where memory was refused. Where
 /// the source lacks a node of the path, or gives what is no node, the fault is `EditFault::NoSuchKey`, which never comes
 /// else.
-pub fn put<
-    'a,
-    D: Digest + 'a,
-    const B: u8,
-    A: Allocator + Clone + 'a,
-    S: Source<'a, Arc<Block<D, A>, A>>,
->(alloc: A, src: &mut S, root: Cid, key: &[u8], value: Cid) -> Result<Edit<D, A>, EditFault<D, A>>
+pub fn put<'a, D: Digest + 'a, const B: u8, A: Allocator + Clone + 'a, S: Source<Lent<'a, D, A>>>(
+    alloc: A,
+    src: &mut S,
+    root: Cid,
+    key: &[u8],
+    value: Cid,
+) -> Result<Edit<D, A>, EditFault<D, A>>
     requires least { 1 ≤ B }
     requires most { B ≤ 8 }
     requires key { is_key key.now ≡ true }

@@ -1,16 +1,23 @@
-//! Where blocks come from, and how often they were asked for.
+//! Where blocks come from, what is known of them, and how often they were asked for.
 
-ghost use Rattle.std.specs.Prelude.{◌≡◌, ℕ, suc, List, Option, option_map};
+ghost use Rattle.std.specs.Prelude.{◌≡◌, ℕ, suc, List, Option, IfSome};
+ghost use Rattle.std.specs.Arc.{arc_value};
 ghost use Rattle.std.specs.Borrow.{ftrue};
+ghost use Rattle.spec.specs.NodeFormat.{read_node};
+ghost use Rattle.edit.specs.Nodes.{contents_of, reads_as_node, IsMarked, IsNodeOf};
+ghost use Rattle.rewrite.specs.Entries.{shape_of};
 
-use cid::Cid;
+use cid::{Block, Cid, Digest};
+use node::NodeView;
+use std::alloc::{Allocator, Global};
 use std::marker::Model;
+use std::sync::Arc;
 
-/// Blocks by CID, each lent for longer than the source itself is borrowed, with a count of the reads.
+/// Blocks by CID, with a count of the reads.
 ///
-/// `T` is what holds a block: `Arc<Block<D, A>, A>`. A contract sees the source as what it gives for each CID, and how
-/// often it was asked.
-pub trait Source<'a, T> {
+/// `T` is how a block is lent: [`Lent<'a, D, A>`](Lent), for longer than the source itself is borrowed. A contract sees the
+/// source as what it gives for each CID, and how often it was asked.
+pub trait Source<T> {
     /// The block with a CID, or None where the source doesn't have it.
     ghost gives: { Self → List ℕ → Option T };
 
@@ -18,10 +25,158 @@ pub trait Source<'a, T> {
     ghost reads: { Self → ℕ };
 
     /// The block with this CID, or `None` where the source doesn't have it. The source goes on to give the same.
-    fn get(&mut self, cid: &Cid) -> Option<&'a T>
-        ensures found { option_map (λ block. block.now) result ≡ gives self.old cid.now }
+    fn get(&mut self, cid: &Cid) -> Option<T>
+        ensures found { result ≡ gives self.old cid.now }
         ensures same { gives self.new ≡ gives self.old }
         ensures counted { reads self.new ≡ suc (reads self.old) };
+}
+
+/// A block that a source lends, with a mark where it is known to be a node. A marked block isn't tested when it is read.
+///
+/// Half of the work of a look-up is the test of each block against the grammar of nodes. Who keeps blocks for several
+/// reads tests each once, by [`is_node`] or [`TestedBlock`], and lends it with what came out; for blocks that are read once
+/// `Lent::of` is enough. What is read is the same either way.
+///
+/// A contract sees it as the block.
+#[derive(Drop)]
+pub struct Lent<'a, D: Digest, A: Allocator = Global> {
+    block: &'a Arc<Block<D, A>, A>,
+    is_node: bool,
+}
+
+impl<'a, D: Digest, A: Allocator> Model for Lent<'a, D, A> {
+    ghost use Rattle.std.specs.Prelude.{ℕ, List};
+    ghost use Rattle.std.specs.Arc.{arc_value};
+    ghost use Rattle.std.specs.declared.sync.Arc.{Arc};
+    ghost use Rattle.edit.specs.Nodes.{IsMarked};
+
+    ghost Value = { Arc (List ℕ) A };
+
+    ghost view = { λ l. l.block.now };
+
+    ghost invariant = { λ l. IsMarked (arc_value l.block.now) l.is_node };
+}
+
+impl<'a, D: Digest, A: Allocator> Lent<'a, D, A> {
+    /// A block of which nothing is known: it is tested whenever it is read as a node.
+    pub fn of(block: &'a Arc<Block<D, A>, A>) -> Lent<'a, D, A>
+        ensures { result ≡ block.now }
+    {
+        Lent {
+            block,
+            is_node: false,
+        }
+    }
+
+    /// A block that is tested here, once.
+    pub fn tested(block: &'a Arc<Block<D, A>, A>) -> Lent<'a, D, A>
+        ensures { result ≡ block.now }
+    {
+        Lent {
+            block,
+            is_node: is_node(block.bytes()),
+        }
+    }
+
+    /// A block with the mark that was made of it: `true` only where its bytes are a node's.
+    pub fn marked(block: &'a Arc<Block<D, A>, A>, is_node: bool) -> Lent<'a, D, A>
+        requires { IsMarked (arc_value block.now) is_node }
+        ensures { result ≡ block.now }
+    {
+        Lent { block, is_node }
+    }
+
+    /// The same once more.
+    pub(crate) fn again(&self) -> Lent<'a, D, A>
+        ensures { result ≡ self.now }
+    {
+        Lent {
+            block: self.block,
+            is_node: self.is_node,
+        }
+    }
+
+    /// The block.
+    pub fn block(&self) -> &'a Arc<Block<D, A>, A>
+        ensures { result.now ≡ self.now }
+    {
+        self.block
+    }
+
+    /// The node that the block shows, or `None` where it is none.
+    pub fn view(&self) -> Option<NodeView<'a>>
+        ensures contents { result ≡ contents_of (read_node (arc_value self.now)) }
+        ensures lawful { IfSome result (λ view. IsNodeOf (arc_value self.now) (shape_of view)) }
+    {
+        view_of(self.block.bytes(), self.is_node)
+    }
+}
+
+/// Whether the bytes of a block are a node's (AT Protocol repository v3, MST node data format). It takes no memory.
+pub fn is_node(bytes: &[u8]) -> bool
+    ensures { result ≡ reads_as_node bytes.now }
+{
+    match NodeView::parse(bytes) {
+        Ok(_) => true,
+        Err(_) => false,
+    }
+}
+
+/// The node of some bytes, or `None` where they are none. Bytes that are marked aren't tested.
+fn view_of(bytes: &[u8], is_node: bool) -> Option<NodeView<'_>>
+    requires { IsMarked bytes.now is_node }
+    ensures contents { result ≡ contents_of (read_node bytes.now) }
+    ensures lawful { IfSome result (λ view. IsNodeOf bytes.now (shape_of view)) }
+{
+    if is_node {
+        return Some(NodeView::of_tested(bytes));
+    }
+    match NodeView::parse(bytes) {
+        Ok(view) => Some(view),
+        Err(_) => None,
+    }
+}
+
+/// A block with the mark whether it is a node, for a source that owns its blocks.
+///
+/// A contract sees it as the block.
+#[derive(Drop)]
+pub struct TestedBlock<D: Digest, A: Allocator = Global> {
+    block: Arc<Block<D, A>, A>,
+    is_node: bool,
+}
+
+impl<D: Digest, A: Allocator> Model for TestedBlock<D, A> {
+    ghost use Rattle.std.specs.Prelude.{ℕ, List};
+    ghost use Rattle.std.specs.Arc.{arc_value};
+    ghost use Rattle.std.specs.declared.sync.Arc.{Arc};
+    ghost use Rattle.edit.specs.Nodes.{IsMarked};
+
+    ghost Value = { Arc (List ℕ) A };
+
+    ghost view = { λ b. b.block };
+
+    ghost invariant = { λ b. IsMarked (arc_value b.block) b.is_node };
+}
+
+impl<D: Digest, A: Allocator> TestedBlock<D, A> {
+    /// A block that is tested here, once.
+    pub fn of(block: Arc<Block<D, A>, A>) -> TestedBlock<D, A>
+        ensures { result ≡ block }
+    {
+        let is_node = is_node(block.bytes());
+        TestedBlock { block, is_node }
+    }
+
+    /// The block with its mark.
+    pub fn lent(&self) -> Lent<'_, D, A>
+        ensures { result ≡ self.now }
+    {
+        Lent {
+            block: &self.block,
+            is_node: self.is_node,
+        }
+    }
 }
 
 /// How often a source was asked, as a number of any size, for the `reads` of a `Source`. It takes no memory, and its

@@ -10,9 +10,8 @@ ghost use Rattle.spec.specs.Blocks.{listed};
 ghost use Rattle.edit.specs.Steps.{layers, asked_from, nodes_given};
 ghost use Rattle.edit.specs.Trees.{OfTree};
 
-use crate::loading::view_of;
 use crate::lookups::layers;
-use crate::source::Source;
+use crate::source::{Lent, Source};
 use cid::{Block, Cid, CidRef, Digest};
 use node::{KeyBuf, NodeView};
 use rewrite::{KeyedEntries, to_cid};
@@ -21,7 +20,7 @@ use std::cmp::Ordering;
 use std::sync::Arc;
 
 /// The node with a CID, or `None` where the source doesn't have it, or its block is no node.
-pub(crate) fn node_of<'a, D: Digest + 'a, A: Allocator + 'a, S: Source<'a, Arc<Block<D, A>, A>>>(
+pub(crate) fn node_of<'a, D: Digest + 'a, A: Allocator + 'a, S: Source<Lent<'a, D, A>>>(
     src: &mut S,
     cid: &Cid,
 ) -> Option<NodeView<'a>>
@@ -29,7 +28,7 @@ pub(crate) fn node_of<'a, D: Digest + 'a, A: Allocator + 'a, S: Source<'a, Arc<B
     ensures counted { S.reads src.new ≡ suc (S.reads src.old) }
     ensures same { S.gives src.new ≡ S.gives src.old }
 {
-    view_of(src.get(cid)?.bytes())
+    src.get(cid)?.view()
 }
 
 /// Goes to the first pair of a node that isn't below a key. It answers the link to go down from before that pair, which is
@@ -102,13 +101,7 @@ pub(crate) fn go_on<'a, A: Allocator>(
 /// The source has all nodes of the tree. Where it lacks one, or gives what is no node, this ends with the pairs so far;
 /// in any case it reads no more than `256 / B + 1` blocks for each pair of the limit. `AllocError` comes where memory was
 /// refused.
-pub fn walk<
-    'a,
-    D: Digest + 'a,
-    const B: u8,
-    A: Allocator + Clone + 'a,
-    S: Source<'a, Arc<Block<D, A>, A>>,
->(
+pub fn walk<'a, D: Digest + 'a, const B: u8, A: Allocator + Clone + 'a, S: Source<Lent<'a, D, A>>>(
     alloc: A,
     src: &mut S,
     root: Cid,
@@ -128,7 +121,7 @@ pub fn walk<
 }
 
 /// The same walk, where each way down passes `most` nodes at most.
-fn walk_within<'a, D: Digest + 'a, A: Allocator + Clone + 'a, S: Source<'a, Arc<Block<D, A>, A>>>(
+fn walk_within<'a, D: Digest + 'a, A: Allocator + Clone + 'a, S: Source<Lent<'a, D, A>>>(
     alloc: A,
     src: &mut S,
     root: Cid,
@@ -162,7 +155,7 @@ fn walk_within<'a, D: Digest + 'a, A: Allocator + Clone + 'a, S: Source<'a, Arc<
 
 /// Goes down to the first pair from a link on that isn't below a key, over `most` nodes at most. Where a block is missing,
 /// or is no node, nothing is to come any more.
-fn down<'a, D: Digest + 'a, A: Allocator + Clone + 'a, S: Source<'a, Arc<Block<D, A>, A>>>(
+fn down<'a, D: Digest + 'a, A: Allocator + Clone + 'a, S: Source<Lent<'a, D, A>>>(
     src: &mut S,
     stack: &mut Vec<Frame<'a, A>, A>,
     link: Option<Cid>,

@@ -12,7 +12,7 @@ use crate::out::Out;
 use crate::seen::Seen;
 use crate::walk::{Step, Walk};
 use cid::{Block, Cid, Digest};
-use edit::Source;
+use edit::{Lent, Source};
 use std::alloc::Allocator;
 use std::sync::Arc;
 
@@ -21,7 +21,7 @@ pub(crate) fn write_commit<
     'a,
     D: Digest + 'a,
     A: Allocator + Clone + 'a,
-    S: Source<'a, Arc<Block<D, A>, A>>,
+    S: Source<Lent<'a, D, A>>,
     W: Out,
 >(src: &mut S, seen: &mut Seen<A>, out: &mut W, commit: Option<Cid>) -> Result<u64, ExportFault>
     ensures taken { Takes (W.taken out.old) (W.taken out.new) result
@@ -40,10 +40,10 @@ pub(crate) fn write_commit<
     let Some(cid) = commit else {
         return Ok(0);
     };
-    let Some(block) = src.get(&cid) else {
+    let Some(lent) = src.get(&cid) else {
         return Ok(0);
     };
-    write_once(seen, out, block)
+    write_once(seen, out, lent.block())
 }
 
 /// Writes the sections of the blocks that a walk is still to come to, and answers how many bytes that are.
@@ -51,7 +51,7 @@ pub(crate) fn write_blocks<
     'a,
     D: Digest + 'a,
     A: Allocator + Clone + 'a,
-    S: Source<'a, Arc<Block<D, A>, A>>,
+    S: Source<Lent<'a, D, A>>,
     W: Out,
 >(src: &mut S, mut walk: Walk<'a, A>, seen: &mut Seen<A>, out: &mut W) -> Result<u64, ExportFault>
     ensures taken { Takes (W.taken out.old) (W.taken out.new) result

@@ -15,7 +15,7 @@ use crate::sections::write_header;
 use crate::seen::Seen;
 use crate::walk::Walk;
 use cid::{Block, Cid, Digest};
-use edit::Source;
+use edit::{Lent, Source};
 use repo::Core;
 use std::alloc::Allocator;
 use std::sync::Arc;
@@ -49,13 +49,7 @@ pub fn car<D: Digest, const B: u8, A: Allocator + Clone, W: Out>(
 ///
 /// It is for who has a repository's blocks and no `Core`. A CID that the source has no block for is passed over. The faults
 /// are those of [`car`].
-pub fn car_over<
-    'a,
-    D: Digest + 'a,
-    A: Allocator + Clone + 'a,
-    S: Source<'a, Arc<Block<D, A>, A>>,
-    W: Out,
->(
+pub fn car_over<'a, D: Digest + 'a, A: Allocator + Clone + 'a, S: Source<Lent<'a, D, A>>, W: Out>(
     alloc: A,
     src: &mut S,
     commit: Option<Cid>,

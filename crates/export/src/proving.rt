@@ -12,9 +12,9 @@ ghost use Rattle.edit.specs.Trees.{HasTree};
 ghost use Rattle.export.specs.Exports.{ArePathOf};
 
 use cid::{Block, Cid, Digest};
-use edit::Source;
+use edit::{Lent, Source};
 use kept::Lender;
-use node::{NodeView, Place};
+use node::Place;
 use repo::Core;
 use std::alloc::{AllocError, Allocator};
 use std::sync::Arc;
@@ -42,7 +42,7 @@ pub(crate) fn path_over<
     D: Digest + 'a,
     const B: u8,
     A: Allocator + 'a,
-    S: Source<'a, Arc<Block<D, A>, A>>,
+    S: Source<Lent<'a, D, A>>,
 >(alloc: A, src: &mut S, root: Cid, key: &[u8]) -> Result<Vec<Arc<Block<D, A>, A>, A>, AllocError>
     requires { 1 ≤ B }
     ensures { (es : List Pair) → HasTree D.digest_of B
@@ -53,7 +53,7 @@ pub(crate) fn path_over<
 }
 
 /// The same over `most` nodes at most. Where a block is missing or is no node, the path ends.
-fn path_within<'a, D: Digest + 'a, A: Allocator + 'a, S: Source<'a, Arc<Block<D, A>, A>>>(
+fn path_within<'a, D: Digest + 'a, A: Allocator + 'a, S: Source<Lent<'a, D, A>>>(
     alloc: A,
     src: &mut S,
     root: Cid,
@@ -72,27 +72,27 @@ fn path_within<'a, D: Digest + 'a, A: Allocator + 'a, S: Source<'a, Arc<Block<D,
         let Some(cid) = link else {
             return Ok(nodes);
         };
-        let Some(block) = src.get(&cid) else {
+        let Some(lent) = src.get(&cid) else {
             return Ok(nodes);
         };
-        let Some(next) = link_in(block.bytes(), key) else {
+        let Some(next) = link_in(&lent, key) else {
             return Ok(nodes);
         };
-        nodes.push(Arc::try_clone(block)?)?;
+        nodes.push(Arc::try_clone(lent.block())?)?;
         link = next;
     }
     Ok(nodes)
 }
 
-/// The link below which a key lies in the node of a block, or `None` where the bytes are no node.
-fn link_in(block: &[u8], key: &[u8]) -> Option<Option<Cid>>
-    ensures link { result ≡ option_map (gap key.now) (shape_of_bytes block.now) }
-    ensures bytes { IfSome result (λ link. option_map shape_bytes (shape_of_bytes block.now)
-        ≡ Some block.now) }
+/// The link below which a key lies in the node of a block, or `None` where the block is no node.
+fn link_in<D: Digest, A: Allocator>(lent: &Lent<'_, D, A>, key: &[u8]) -> Option<Option<Cid>>
+    ensures link { result ≡ option_map (gap key.now) (shape_of_bytes (arc_value lent.now)) }
+    ensures bytes { IfSome result (λ link. option_map shape_bytes
+        (shape_of_bytes (arc_value lent.now)) ≡ Some (arc_value lent.now)) }
 {
-    match NodeView::parse(block) {
-        Ok(node) => Some(link_at(node.find(key))),
-        Err(_) => None,
+    match lent.view() {
+        Some(node) => Some(link_at(node.find(key))),
+        None => None,
     }
 }
 

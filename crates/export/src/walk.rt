@@ -8,8 +8,8 @@ ghost use Rattle.node.specs.Views.{row_of};
 ghost use Rattle.export.specs.Walks.{entered, next_row, turned, without_link, IsNext, IsStep};
 
 use cid::{Block, Cid, CidRef, Digest};
-use edit::Source;
-use node::{Entries, EntryView, NodeView};
+use edit::{Lent, Source};
+use node::{Entries, EntryView};
 use std::alloc::{AllocError, Allocator};
 use std::marker::Model;
 use std::sync::Arc;
@@ -61,7 +61,7 @@ impl<'a, A: Allocator> Walk<'a, A> {
     }
 
     /// Goes on by one CID. A block that is no node, where one is looked for, has nothing below it.
-    pub(crate) fn step<D: Digest + 'a, S: Source<'a, Arc<Block<D, A>, A>>>(
+    pub(crate) fn step<D: Digest + 'a, S: Source<Lent<'a, D, A>>>(
         &mut self,
         src: &mut S,
     ) -> Result<Step<'a, D, A>, AllocError>
@@ -74,17 +74,17 @@ impl<'a, A: Allocator> Walk<'a, A> {
         // Opens the walk: from here on it is known that its stack has no more than its layers.
         let _ = &self.most;
         if let Some(cid) = self.take_link() {
-            let Some(block) = src.get(&cid) else {
+            let Some(lent) = src.get(&cid) else {
                 return Ok(Step::Missing);
             };
-            self.enter(block.bytes())?;
-            return Ok(Step::Found(block));
+            self.enter(&lent)?;
+            return Ok(Step::Found(lent.block()));
         }
         let Some(cid) = self.next_record()? else {
             return Ok(Step::End);
         };
         match src.get(&cid) {
-            Some(block) => Ok(Step::Found(block)),
+            Some(lent) => Ok(Step::Found(lent.block())),
             None => Ok(Step::Missing),
         }
     }
@@ -114,12 +114,14 @@ impl<'a, A: Allocator> Walk<'a, A> {
         Ok(Some(entry.value.to_cid()))
     }
 
-    /// Goes into a node, if these bytes are one.
-    fn enter(&mut self, bytes: &'a [u8]) -> Result<(), AllocError>
+    /// Goes into a node, if the block is one.
+    fn enter<D: Digest>(&mut self, lent: &Lent<'a, D, A>) -> Result<(), AllocError>
+    where
+        A: 'a,
         requires { length self.old.stack < self.old.most }
-        ensures { OnOk result (self.new ≡ entered self.old (read_node bytes.now)) }
+        ensures { OnOk result (self.new ≡ entered self.old (read_node (arc_value lent.now))) }
     {
-        if let Ok(node) = NodeView::parse(bytes) {
+        if let Some(node) = lent.view() {
             self.stack.push(node.entries())?;
             self.link = to_cid(node.left());
         }

@@ -7,6 +7,7 @@ ghost use Rattle.kept.specs.Uses.{settled_use, lowered_use, HaveOneCid, raised_u
 ghost use Rattle.kept.specs.Faults.{IsNotFull};
 ghost use Rattle.kept.specs.Leaving.{given_back};
 
+use crate::held::Held;
 use cid::{Block, Collided, Digest};
 use std::alloc::Allocator;
 use std::sync::Arc;
@@ -24,7 +25,7 @@ pub(crate) enum End {
 /// A block that a core holds: how many uses it has by what was accepted, how many by what is staged, and whether its CID
 /// is noted among those that were touched since.
 pub(crate) struct Use<D: Digest, A: Allocator> {
-    pub(crate) hold: Hold<D, A>,
+    pub(crate) hold: Held<D, A>,
     pub(crate) uses: u64,
     pub(crate) next: u64,
     pub(crate) noted: bool,
@@ -95,7 +96,7 @@ impl<D: Digest, A: Allocator> Use<D, A> {
             next: _,
             noted: _,
         } = self;
-        store.release(hold);
+        store.release(hold.into_hold());
     }
 
     /// Gives the block back to the shard of its CID, of these sixteen. It takes no memory.
@@ -108,6 +109,7 @@ impl<D: Digest, A: Allocator> Use<D, A> {
             next: _,
             noted: _,
         } = self;
+        let hold = hold.into_hold();
         let place = shard_number(&hold.cid());
         tables[place].release(hold);
     }

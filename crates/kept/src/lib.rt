@@ -15,6 +15,7 @@
 #![tactic(auto)]
 
 mod blocks;
+mod held;
 mod kept;
 mod kept_use;
 mod lender;

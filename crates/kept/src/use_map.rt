@@ -11,6 +11,7 @@ ghost use Rattle.store.specs.Stores.{IsStore, fulls_after};
 ghost use Rattle.kept.specs.Uses.{at, AreUses, lowered_in, settled, is_unnoted, IsChanged, IsRaisedIn, IsTaken, is_fresh};
 ghost use Rattle.kept.specs.Leaving.{AreNamed, AreGivenBack};
 
+use crate::held::Held;
 use crate::kept_use::{End, Use};
 use cid::{Block, Cid, Digest};
 use std::alloc::{AllocFailed, Allocator};
@@ -172,7 +173,7 @@ impl<D: Digest, A: Allocator + Clone> UseMap<D, A> {
         if let Some(held) = self.blocks.get_mut(&cid) {
             return held.raise(block);
         }
-        let hold = store.acquire(me, block)?;
+        let hold = Held::of(store.acquire(me, block)?);
         let new = Use {
             hold,
             uses: 0,

@@ -8,7 +8,7 @@ use Rattle.spec.specs.NodeFormat.{Entry, common, is_key, are_keys_after}
 use Rattle.spec.specs.Proof.{Place, Here, by_order, gap_of, place}
 use Rattle.spec.proofs.Bools.{both}
 use Rattle.node.specs.Rows.{Row, row_after, rows}
-use Rattle.node.specs.Search.{order_after, common_after}
+use Rattle.node.specs.Search.{gap_before, links_beside, order_after, common_after}
 use Rattle.node.specs.Views.{row_with}
 use Rattle.node.proofs.Comparing.{cmp, beside, cmp-turn, common-turn, cmp-equal}
 
@@ -63,53 +63,50 @@ tells before e key less ahead fits fits_too =
 
 -- ---- all entries
 
--- where the key is, by the rows
-abbrev pub find_rows : List ℕ → ℕ → Option (List ℕ) → List Row → Place
-find_rows key same gap [] = gap_of gap
-find_rows key same gap (r ∷ rs) =
-    by_order (order_after same key r) (find_rows key (common_after same key r) r.tree rs) (Here (record { key = key; value = r.value; tree = r.tree })) (gap_of gap)
-
-abbrev here : Entry → List ℕ → Place
-here e key = Here (record { key = key; value = e.value; tree = e.tree })
-
-by_each : (o : Ordering) (e : Entry) (key : List ℕ) (x y z : Place) → cmp e.key key ≡ o → (o ≡ Less → x ≡ y) → by_order o x (here e key) z ≡ by_order o y (Here e) z
-by_each Less e key x y z is h = h refl
-by_each Equal e key x y z is h = ap (here e) (sym (cmp-equal e.key key is))
-by_each Greater e key x y z is h = refl
-
 pub common-fits : (xs ys : List ℕ) → common xs ys ≤ length xs
 common-fits [] ys = omega arith
 common-fits (x ∷ xs) [] = omega arith
 common-fits (x ∷ xs) (y ∷ ys) = elim (eqb x y) as (λ t. cond t (suc (common xs ys)) 0 ≤ length (x ∷ xs)) [ true ↦ let h = common-fits xs ys in omega arith | false ↦ omega arith ]
 
-find_from : (before key : List ℕ) (gap : Option (List ℕ)) (es : List Entry) → are_keys_after before es ≡ true → IsAhead before key → find_rows key (common before key) gap (rows before es) ≡ place key gap es
-find_from before key gap [] keys ahead = refl
-find_from before key gap (e ∷ es) keys ahead =
+by_less : {X : Type 0} (o : Ordering) (x y a b : X) → (o ≡ Less → x ≡ y) → by_order o x a b ≡ by_order o y a b
+by_less Less x y a b h = h refl
+by_less Equal x y a b h = refl
+by_less Greater x y a b h = refl
+
+-- ---- the gap before the key
+
+-- the link in the gap, by the rows
+abbrev pub gap_found : List ℕ → ℕ → Option (List ℕ) → List Row → Option (List ℕ)
+gap_found key same gap [] = gap
+gap_found key same gap (r ∷ rs) = by_order (order_after same key r) (gap_found key (common_after same key r) r.tree rs) gap gap
+
+gap_from : (before key : List ℕ) (gap : Option (List ℕ)) (es : List Entry) → are_keys_after before es ≡ true → IsAhead before key → gap_found key (common before key) gap (rows before es) ≡ gap_before key gap es
+gap_from before key gap [] keys ahead = refl
+gap_from before key gap (e ∷ es) keys ahead =
     let parts = both (is_lt (cmp before e.key) && is_key e.key) (are_keys_after e.key es) keys in
     let less = both (is_lt (cmp before e.key)) (is_key e.key) parts.0 in
     let t = tells before e key less.0 ahead (common-fits before key) (common-fits before e.key) in
-    let first : find_rows key (common before key) gap (rows before (e ∷ es)) ≡ by_order (cmp e.key key) (find_rows key (common e.key key) e.tree (rows e.key es)) (here e key) (gap_of gap) =
+    let first : gap_found key (common before key) gap (rows before (e ∷ es)) ≡ by_order (cmp e.key key) (gap_found key (common e.key key) e.tree (rows e.key es)) gap gap =
     rw (t.order, t.same) refl in
-    let turned : cmp e.key key ≡ Less → find_rows key (common e.key key) e.tree (rows e.key es) ≡ place key e.tree es = λ is.
-    find_from e.key key e.tree es parts.1 (inr (ap is_lt is)) in
-    first ∙ by_each (cmp e.key key) e key _ _ _ refl turned
+    first ∙ by_less (cmp e.key key) _ _ _ _ (λ is. gap_from e.key key e.tree es parts.1 (inr (ap is_lt is)))
 
-pub find_rows-place : (key : List ℕ) (gap : Option (List ℕ)) (es : List Entry) → are_keys_after [] es ≡ true → find_rows key 0 gap (rows [] es) ≡ place key gap es
-find_rows-place key gap es keys = find_from [] key gap es keys (inl refl)
+pub gap_found-before : (key : List ℕ) (gap : Option (List ℕ)) (es : List Entry) → are_keys_after [] es ≡ true → gap_found key 0 gap (rows [] es) ≡ gap_before key gap es
+gap_found-before key gap es keys = gap_from [] key gap es keys (inl refl)
 
-pub find_rows-less : (key : List ℕ) (same : ℕ) (gap : Option (List ℕ)) (r : Row) (rs : List Row) → order_after same key r ≡ Less → find_rows key same gap (r ∷ rs) ≡ find_rows key (common_after same key r) r.tree rs
-find_rows-less key same gap r rs o = rw o refl
+pub gap_found-less : (key : List ℕ) (same : ℕ) (gap : Option (List ℕ)) (r : Row) (rs : List Row) → order_after same key r ≡ Less → gap_found key same gap (r ∷ rs) ≡ gap_found key (common_after same key r) r.tree rs
+gap_found-less key same gap r rs o = rw o refl
+
+pub gap_found-here : (key : List ℕ) (same : ℕ) (gap : Option (List ℕ)) (r : Row) (rs : List Row) → order_after same key r ≡ Equal → gap_found key same gap (r ∷ rs) ≡ gap
+gap_found-here key same gap r rs o = rw o refl
+
+pub gap_found-past : (key : List ℕ) (same : ℕ) (gap : Option (List ℕ)) (r : Row) (rs : List Row) → order_after same key r ≡ Greater → gap_found key same gap (r ∷ rs) ≡ gap
+gap_found-past key same gap r rs o = rw o refl
 
 -- ---- the row of the key
 
 abbrev pub row_found : List ℕ → ℕ → List Row → Option Row
 row_found key same [] = None
 row_found key same (r ∷ rs) = by_order (order_after same key r) (row_found key (common_after same key r) rs) (Some r) None
-
-by_less : (o : Ordering) (x y a b : Option Row) → (o ≡ Less → x ≡ y) → by_order o x a b ≡ by_order o y a b
-by_less Less x y a b h = h refl
-by_less Equal x y a b h = refl
-by_less Greater x y a b h = refl
 
 row_from : (before key : List ℕ) (es : List Entry) → are_keys_after before es ≡ true → IsAhead before key → row_found key (common before key) (rows before es) ≡ row_with key before es
 row_from before key [] keys ahead = refl
@@ -129,3 +126,45 @@ row_found-less key same r rs o = rw o refl
 
 pub row_found-here : (key : List ℕ) (same : ℕ) (r : Row) (rs : List Row) → order_after same key r ≡ Equal → row_found key same (r ∷ rs) ≡ Some r
 row_found-here key same r rs o = rw o refl
+
+pub row_found-past : (key : List ℕ) (same : ℕ) (r : Row) (rs : List Row) → order_after same key r ≡ Greater → row_found key same (r ∷ rs) ≡ None
+row_found-past key same r rs o = rw o refl
+
+-- ---- what is known by the gap and the row
+
+-- the key's place
+abbrev pub place_sought : List ℕ → Option (List ℕ) → Option Row → Place
+place_sought key gap None = gap_of gap
+place_sought key gap (Some r) = Here (record { key = key; value = r.value; tree = r.tree })
+
+place-by : (o : Ordering) (e : Entry) (key : List ℕ) (gap further : Option (List ℕ)) (r : Row) (found : Option Row) (p : Place)
+    → cmp e.key key ≡ o → r.value ≡ e.value → r.tree ≡ e.tree → place_sought key further found ≡ p
+    → place_sought key (by_order o further gap gap) (by_order o found (Some r) None) ≡ by_order o p (Here e) (gap_of gap)
+place-by Less e key gap further r found p is v t h = h
+place-by Equal e key gap further r found p is v t h =
+    rw (v, t) (ap (λ (k : List ℕ). Here (record { key = k; value = e.value; tree = e.tree })) (sym (cmp-equal e.key key is)))
+place-by Greater e key gap further r found p is v t h = refl
+
+pub place-sought : (before key : List ℕ) (gap : Option (List ℕ)) (es : List Entry) → place_sought key (gap_before key gap es) (row_with key before es) ≡ place key gap es
+place-sought before key gap [] = refl
+place-sought before key gap (e ∷ es) =
+    place-by (cmp e.key key) e key gap (gap_before key e.tree es) (row_after before e) (row_with key e.key es) (place key e.tree es)
+    refl refl refl (place-sought e.key key e.tree es)
+
+-- and the links beside it
+abbrev pub links_sought : Option (List ℕ) → Option Row → Option (List ℕ) × Option (List ℕ)
+links_sought gap None = (None, None)
+links_sought gap (Some r) = (gap, r.tree)
+
+links-by : (o : Ordering) (gap further : Option (List ℕ)) (r : Row) (found : Option Row) (p : Option (List ℕ) × Option (List ℕ))
+    → links_sought further found ≡ p
+    → links_sought (by_order o further gap gap) (by_order o found (Some r) None) ≡ by_order o p (gap, r.tree) (None, None)
+links-by Less gap further r found p h = h
+links-by Equal gap further r found p h = refl
+links-by Greater gap further r found p h = refl
+
+pub links-sought : (before key : List ℕ) (gap : Option (List ℕ)) (es : List Entry) → links_sought (gap_before key gap es) (row_with key before es) ≡ links_beside key gap es
+links-sought before key gap [] = refl
+links-sought before key gap (e ∷ es) =
+    links-by (cmp e.key key) gap (gap_before key e.tree es) (row_after before e) (row_with key e.key es) (links_beside key e.tree es)
+    (links-sought e.key key e.tree es)

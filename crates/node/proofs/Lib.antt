@@ -9,4 +9,5 @@ pub mod Passing
 pub mod ReadAgain
 pub mod RowLaws
 pub mod Stepping
+pub mod TestedNodes
 pub mod Writing

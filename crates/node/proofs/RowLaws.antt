@@ -202,13 +202,13 @@ rows_shown-entries n bytes ok =
     let e = rows_at-entries n [] bytes a.0 a.1 in
     (ok_read (rows_at n bytes) _ e, ap rows_of_reading e ∙ ap (λ (r : Result (List Entry × List ℕ) NodeFault). rows [] (entries_of_reading r)) (sym a.1))
 
-abbrev Whole : Type 0
+abbrev pub Whole : Type 0
 Whole = Result (Option (List ℕ) × List Entry) NodeFault
 
-abbrev whole : List Entry → Option (List ℕ) × List ℕ → Whole
+abbrev pub whole : List Entry → Option (List ℕ) × List ℕ → Whole
 whole es left = ensure (eqb (length left.1) 0) NotNode >>= λ ended. Ok (left.0, es)
 
-abbrev end_of : List Entry → List ℕ → Whole
+abbrev pub end_of : List Entry → List ℕ → Whole
 end_of es rest = literal (0x61 ∷ 0x6c ∷ []) rest >>= λ in_l. link_or_null_at in_l >>= whole es
 
 abbrev rest_of : List Entry × List ℕ → Result (List ℕ) NodeFault

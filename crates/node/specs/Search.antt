@@ -1,12 +1,25 @@
--- An entry's key against a key that is sought, by its row.
-use Rattle.std.specs.Prelude.{ℕ, ◌+◌, List, drop}
+-- A key that is sought among entries: the gap before its place, the links beside it, and an entry's key against it.
+use Rattle.std.specs.Prelude.{ℕ, ◌+◌, List, [], ◌∷◌, drop, Option, None}
 use Rattle.std.specs.Ordering.{nat_cmp}
 use Rattle.std.specs.Cmp.Lexicographic.{slice_cmp}
 use Rattle.std.specs.declared.cmp.Ordering.{Ordering}
 use Rattle.std.specs.declared.cmp.Ordering.TheVariants.{Less, Greater}
-use Rattle.spec.specs.NodeFormat.{common}
+use Rattle.spec.specs.NodeFormat.{Entry, common}
 use Rattle.spec.specs.Proof.{by_order}
 use Rattle.node.specs.Rows.{Row}
+
+-- the link in the gap before the first entry that isn't below the key, where this one stands before all
+abbrev pub gap_before : List ℕ → Option (List ℕ) → List Entry → Option (List ℕ)
+gap_before key gap [] = gap
+gap_before key gap (e ∷ es) = by_order (slice_cmp nat_cmp e.key key) (gap_before key e.tree es) gap gap
+
+-- the links before and after the entry with the key, and none where there is no such entry
+abbrev pub links_beside : List ℕ → Option (List ℕ) → List Entry → Option (List ℕ) × Option (List ℕ)
+links_beside key gap [] = (None, None)
+links_beside key gap (e ∷ es) =
+    by_order (slice_cmp nat_cmp e.key key) (links_beside key e.tree es) (gap, e.tree) (None, None)
+
+-- ---- by the rows
 
 -- how the row's key compares with the key, of which the lesser key before has so many bytes
 abbrev pub order_after : ℕ → List ℕ → Row → Ordering

@@ -3,7 +3,7 @@
 ghost use Rattle.std.specs.Prelude.{◌≡◌};
 
 use crate::entry::EntryView;
-use crate::known::known_entry;
+use crate::tested::tested_entry;
 use std::marker::Model;
 
 /// The entries of a node from the front, each lent by the node's block.
@@ -40,7 +40,7 @@ impl<'a> Iterator for Entries<'a> {
         if self.left == 0 {
             return None;
         }
-        let (entry, rest) = known_entry(self.bytes);
+        let (entry, rest) = tested_entry(self.bytes);
         self.left -= 1;
         self.bytes = rest;
         Some(entry)

@@ -5,9 +5,11 @@
 //!
 //! - [`NodeView::parse`] takes exactly the bytes of nodes and lends their parts, without memory and without a copy. It
 //!   names the first fault, [`NodeFault`].
+//!   `of_tested` shows a block that is known to be a node, without the tests.
 //! - `entries` goes through the entries one by one, each an [`EntryView`]; [`KeyBuf`] puts whole keys together on the
 //!   way.
-//! - `find` says where a key stands, [`Place`]: in this node with its value, or below a link, or nowhere.
+//! - `find` says where a key stands, [`Place`]: in this node with its value, or below a link, or nowhere. `links_beside`
+//!   answers the links on both sides of a key.
 //! - [`NodeWriter`] writes a node entry by entry, in the order of the keys, or copies runs of entries from a view.
 //!
 //! Which nodes make a tree is for the crates above: `scratch` builds whole trees, `edit` changes one path. README.md has
@@ -15,17 +17,18 @@
 #![tactic(auto)]
 
 mod common;
+mod decode;
+mod encode;
 mod entries;
 mod entry;
 mod fault;
 mod key_before;
 mod key_buf;
-mod known;
 mod parts;
 mod place;
-mod reading;
-mod run;
 mod search;
+mod skip;
+mod tested;
 mod view;
 mod writer;
 

@@ -1,81 +1,98 @@
-//! The parts of a node's bytes (AT Protocol repository v3, MST node data format). Where memory is refused, what
-//! stood in the bytes before stays at their front.
+//! The parts of a node's bytes, all of which are read and tested.
 
-ghost use Rattle.std.specs.Prelude.{◌≡◌, ◌∷◌, ◌++◌, [], length, true, OnOk, option_map};
-ghost use Rattle.spec.specs.Head.{head};
-ghost use Rattle.spec.specs.NodeFormat.{link_or_null, is_own_cid_or_none};
+ghost use Rattle.std.specs.Prelude.{◌≡◌, ◌≤◌, [], option_map, IfOk, IfErr, IfSome, OnOk, IsOk, IsSome, Ok};
+ghost use Rattle.spec.specs.Reading.{Gives, Fails, IsBytes};
+ghost use Rattle.spec.specs.NodeFormat.{entries_at};
 ghost use Rattle.cid.specs.CidRef.{bytes_of};
-ghost use Rattle.node.specs.Bytes.{Extends, entry_text};
+ghost use Rattle.node.specs.Fault.{fault_of};
+ghost use Rattle.node.specs.Rows.{after_entries, shown_node};
+ghost use Rattle.node.specs.Contents.{entries_shown};
 
-use cid::{Cid, CidRef};
-use dagcbor::{BEFORE_CID, LINK_HEAD, Major, push_head};
-use std::alloc::{AllocError, Allocator};
+use crate::common::LONGEST_KEY;
+use crate::decode::{argument, entry, link_or_null, literal};
+use crate::fault::NodeFault;
+use crate::key_before::KeyBefore;
+use cid::CidRef;
+use dagcbor::Major;
 
-/// The head of an entry, its suffix and how much of the key before it keeps: `k` and `p`.
-pub(crate) fn push_key<A: Allocator>(
-    out: &mut Vec<u8, A>,
-    prefix: usize,
-    suffix: &[u8],
-) -> Result<(), AllocError>
-    ensures ok { OnOk result (out.new.items ≡ out.old.items
-        ++ ((0xa4 ∷ 0x61 ∷ 0x6b ∷ head 2 (length suffix.now)) ++ suffix.now
-        ++ (0x61 ∷ 0x70 ∷ head 0 prefix))) }
-    ensures kept { Extends out.old.items out.new.items }
-{
-    out.extend_from_slice(&[0xa4, b'a', b'k'])?;
-    push_head(out, Major::ByteString as u8, suffix.len() as u64)?;
-    out.extend_from_slice(suffix)?;
-    out.extend_from_slice(&[b'a', b'p'])?;
-    push_head(out, Major::UnsignedInteger as u8, prefix as u64)
+/// The left link of a node, the number of its entries, and the bytes from the first entry on.
+#[derive(Drop)]
+pub(crate) struct NodeParts<'a> {
+    pub(crate) left: Option<CidRef<'a>>,
+    pub(crate) count: u64,
+    pub(crate) first: &'a [u8],
 }
 
-/// A field of one letter that holds a link or null.
-pub(crate) fn push_link<A: Allocator>(
-    out: &mut Vec<u8, A>,
-    name: u8,
-    link: Option<CidRef<'_>>,
-) -> Result<(), AllocError>
-    ensures ok { OnOk result (out.new.items ≡ out.old.items
-        ++ (0x61 ∷ name ∷ link_or_null (option_map bytes_of link.entry))) }
-    ensures kept { Extends out.old.items out.new.items }
+/// The parts of a node.
+#[tactic(auto, unfolding(crate::specs::Rows::shown_node))]
+pub(crate) fn node(bytes: &[u8]) -> Result<NodeParts<'_>, NodeFault>
+    ensures read { Gives (λ x. (option_map bytes_of x.left, entries_shown x.count x.first.now))
+        fault_of result (shown_node bytes.now) }
+    ensures all { IfOk result (λ x. IsOk (entries_at x.count [] x.first.now)) }
+    ensures fits { IfOk result (λ x. IsBytes x.first.now) }
 {
-    match link {
-        None => out.extend_from_slice(&[b'a', name, 0xf6]),
-        Some(cid) => {
-            out.extend_from_slice(&[b'a', name, LINK_HEAD[0], LINK_HEAD[1], 0x58, 37, BEFORE_CID])?;
-            out.extend_from_slice(cid.as_bytes())
+    let rest = literal(&[0xa2, b'a', b'e'], bytes)?;
+    let (count, first) = argument(Major::Array as u8, rest)?;
+    let rest = after_entries(count, first)?;
+    let rest = literal(b"al", rest)?;
+    let (left, rest) = link_or_null(rest)?;
+    if !rest.is_empty() {
+        return Err(NodeFault::NotNode);
+    }
+    Ok(NodeParts { left, count, first })
+}
+
+/// How many parts the keys of most nodes have at most.
+const USUAL_ROOM: usize = 8;
+
+/// The bytes after so many entries, each of which is tested against the one before. Where a key has more parts than
+/// most, all is read again, with room for as many as a key can have.
+fn after_entries(count: u64, bytes: &[u8]) -> Result<&[u8], NodeFault>
+    ensures read { Gives (λ rest. rest.now) fault_of result (after_entries count [] bytes.now) }
+    ensures all { OnOk result (IsOk (entries_at count [] bytes.now)) }
+    ensures fits { OnOk result (IsBytes bytes.now) }
+{
+    match after_entries_within::<USUAL_ROOM>(count, bytes)? {
+        Some(rest) => Ok(rest),
+        None => after_entries_of_many_parts(count, bytes),
+    }
+}
+
+/// The bytes after so many entries. It is not inlined, so that the stack of most readings is without its room.
+#[inline(never)]
+fn after_entries_of_many_parts(count: u64, bytes: &[u8]) -> Result<&[u8], NodeFault>
+    ensures read { Gives (λ rest. rest.now) fault_of result (after_entries count [] bytes.now) }
+    ensures all { OnOk result (IsOk (entries_at count [] bytes.now)) }
+    ensures fits { OnOk result (IsBytes bytes.now) }
+{
+    match after_entries_within::<LONGEST_KEY>(count, bytes)? {
+        Some(rest) => Ok(rest),
+        None => unreachable!(),
+    }
+}
+
+/// The bytes after so many entries; none where a key has more parts than there is room for.
+fn after_entries_within<const ROOM: usize>(
+    count: u64,
+    bytes: &[u8],
+) -> Result<Option<&[u8]>, NodeFault>
+    requires { ROOM ≤ 1024 }
+    ensures fault { IfErr result (λ fault. Fails (fault_of fault)
+        (after_entries count [] bytes.now)) }
+    ensures read { IfOk result (λ rest. IfSome rest
+        (λ x. after_entries count [] bytes.now ≡ Ok x.now)) }
+    ensures room { ROOM ≡ 1024 → IfOk result (λ rest. IsSome rest) }
+{
+    let mut before = KeyBefore::<ROOM>::none();
+    let mut rest = bytes;
+    let mut left = count;
+    while left > 0 {
+        let (entry, after) = entry(rest)?;
+        if !before.next(entry.prefix, entry.suffix)? {
+            return Ok(None);
         }
+        rest = after;
+        left -= 1;
     }
-}
-
-/// A link as it is lent.
-pub(crate) fn lend(link: &Option<Cid>) -> Option<CidRef<'_>>
-    ensures value { option_map bytes_of result ≡ link.now }
-    ensures own { is_own_cid_or_none link.now ≡ true }
-{
-    match link {
-        None => None,
-        Some(cid) => Some(CidRef::from(cid)),
-    }
-}
-
-/// How many bytes an entry has at most beside its suffix.
-const FIELDS: usize = 109;
-
-/// An entry: what its key has beyond the first `prefix` bytes of the key before, its subtree and its value.
-pub(crate) fn push_entry<A: Allocator>(
-    out: &mut Vec<u8, A>,
-    prefix: usize,
-    suffix: &[u8],
-    value: CidRef<'_>,
-    tree: Option<CidRef<'_>>,
-) -> Result<(), AllocError>
-    ensures ok { OnOk result (out.new.items ≡ out.old.items
-        ++ entry_text prefix suffix.now (bytes_of value.entry) (option_map bytes_of tree.entry)) }
-    ensures kept { Extends out.old.items out.new.items }
-{
-    out.reserve(suffix.len().saturating_add(FIELDS))?;
-    push_key(out, prefix, suffix)?;
-    push_link(out, b't', tree)?;
-    push_link(out, b'v', Some(value))
+    Ok(Some(rest))
 }

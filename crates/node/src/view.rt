@@ -1,26 +1,26 @@
 //! Nodes as their blocks show them.
 
-ghost use Rattle.std.specs.Prelude.{◌≡◌, ◌≤◌, [], true, length, take, drop, option_map, IfOk, IfErr, IfSome, OnOk, IsOk, IsSome, Ok};
-ghost use Rattle.spec.specs.Reading.{Gives, Fails, IsBytes};
-ghost use Rattle.spec.specs.NodeFormat.{are_keys_after, entries_at, read_node};
+ghost use Rattle.std.specs.Prelude.{◌≡◌, ◌≤◌, [], true, length, take, drop, option_map, IsOk, Ok};
+ghost use Rattle.spec.specs.Reading.{Gives};
+ghost use Rattle.spec.specs.NodeFormat.{are_keys_after, read_node};
 ghost use Rattle.spec.specs.Proof.{place};
 ghost use Rattle.cid.specs.CidRef.{bytes_of};
 ghost use Rattle.node.specs.Fault.{fault_of};
-ghost use Rattle.node.specs.Rows.{rows, after_entries, shown_node};
-ghost use Rattle.node.specs.Contents.{entries_shown, last_key};
+ghost use Rattle.node.specs.Rows.{rows};
+ghost use Rattle.node.specs.Contents.{last_key};
 ghost use Rattle.node.specs.Runs.{Begins};
-ghost use Rattle.node.specs.Views.{place_of, IsRowWith};
+ghost use Rattle.node.specs.Search.{gap_before, links_beside};
+ghost use Rattle.node.specs.Views.{place_of, row_of, row_with, IsRowWith};
 
-use crate::common::LONGEST_KEY;
 use crate::entries::Entries;
+use crate::entry::EntryView;
 use crate::fault::NodeFault;
-use crate::key_before::KeyBefore;
+use crate::parts::{NodeParts, node};
 use crate::place::{Place, place_in_gap};
-use crate::reading::{argument, entry, link_or_null, literal};
-use crate::run::after;
 use crate::search::compare_after;
+use crate::skip::after;
+use crate::tested::tested_node;
 use cid::CidRef;
-use dagcbor::Major;
 use std::cmp::Ordering;
 use std::marker::Model;
 
@@ -58,8 +58,18 @@ impl<'a> NodeView<'a> {
     pub fn parse(bytes: &'a [u8]) -> Result<NodeView<'a>, NodeFault>
         ensures { Gives (λ view. (view.left, view.entries)) fault_of result (read_node bytes.now) }
     {
-        let (left, (count, first)) = node(bytes)?;
+        let NodeParts { left, count, first } = node(bytes)?;
         Ok(NodeView { left, count, first })
+    }
+
+    /// The node of a block that is known to be one, as its bytes were tested by `parse` before or written as a node's. It
+    /// reads a few bytes at both ends and tests nothing, so a look-up over tested blocks takes half the time.
+    pub fn of_tested(bytes: &'a [u8]) -> NodeView<'a>
+        requires { IsOk (read_node bytes.now) }
+        ensures { read_node bytes.now ≡ Ok (result.left, result.entries) }
+    {
+        let NodeParts { left, count, first } = tested_node(bytes);
+        NodeView { left, count, first }
     }
 
     /// The link of the subtree before all keys of the node.
@@ -101,6 +111,32 @@ impl<'a> NodeView<'a> {
         ensures place { place_of key.now result ≡ place key.now self.now.left self.now.entries }
         ensures row { IsRowWith key.now self.now.entries result }
     {
+        let sought = self.seek(key);
+        match sought.entry {
+            Some(entry) => Place::Here(entry),
+            None => place_in_gap(sought.gap),
+        }
+    }
+
+    /// The links before and after the entry of a key: those of the subtrees of the keys next to it. Both are `None` where
+    /// the node doesn't have the key.
+    pub fn links_beside(&self, key: &[u8]) -> (Option<CidRef<'a>>, Option<CidRef<'a>>)
+        ensures { (option_map bytes_of result.0, option_map bytes_of result.1)
+            ≡ links_beside key.now self.now.left self.now.entries }
+    {
+        let sought = self.seek(key);
+        match sought.entry {
+            Some(entry) => (sought.gap, entry.tree),
+            None => (None, None),
+        }
+    }
+
+    /// The gap before the first entry that isn't below a key, and that entry, where it is the key's.
+    fn seek(&self, key: &[u8]) -> Sought<'a>
+        ensures gap { option_map bytes_of result.gap
+            ≡ gap_before key.now self.now.left self.now.entries }
+        ensures row { option_map row_of result.entry ≡ row_with key.now [] self.now.entries }
+    {
         let mut gap = self.left;
         let mut same = 0;
         for entry in self.entries() {
@@ -110,84 +146,24 @@ impl<'a> NodeView<'a> {
                     gap = entry.tree;
                     same = common;
                 }
-                Ordering::Equal => return Place::Here(entry),
-                Ordering::Greater => return place_in_gap(gap),
+                Ordering::Equal => {
+                    let entry = Some(entry);
+                    return Sought { gap, entry };
+                }
+                Ordering::Greater => {
+                    let entry = None;
+                    return Sought { gap, entry };
+                }
             }
         }
-        place_in_gap(gap)
+        let entry = None;
+        Sought { gap, entry }
     }
 }
 
-/// The left link of a node, the number of its entries and the bytes from the first entry on.
-#[tactic(auto, unfolding(crate::specs::Rows::shown_node))]
-fn node(bytes: &[u8]) -> Result<(Option<CidRef<'_>>, (u64, &[u8])), NodeFault>
-    ensures read { Gives (λ x. (option_map bytes_of x.0, entries_shown x.1.0 x.1.1.now))
-        fault_of result (shown_node bytes.now) }
-    ensures all { IfOk result (λ x. IsOk (entries_at x.1.0 [] x.1.1.now)) }
-    ensures fits { IfOk result (λ x. IsBytes x.1.1.now) }
-{
-    let rest = literal(&[0xa2, b'a', b'e'], bytes)?;
-    let (count, first) = argument(Major::Array as u8, rest)?;
-    let rest = after_entries(count, first)?;
-    let rest = literal(b"al", rest)?;
-    let (left, rest) = link_or_null(rest)?;
-    if !rest.is_empty() {
-        return Err(NodeFault::NotNode);
-    }
-    Ok((left, (count, first)))
-}
-
-/// How many parts the keys of most nodes have at most.
-const USUAL_ROOM: usize = 8;
-
-/// The bytes after so many entries, each of which is tested against the one before. Where a key has more parts than
-/// most, all is read again, with room for as many as a key can have.
-fn after_entries(count: u64, bytes: &[u8]) -> Result<&[u8], NodeFault>
-    ensures read { Gives (λ rest. rest.now) fault_of result (after_entries count [] bytes.now) }
-    ensures all { OnOk result (IsOk (entries_at count [] bytes.now)) }
-    ensures fits { OnOk result (IsBytes bytes.now) }
-{
-    match after_entries_within::<USUAL_ROOM>(count, bytes)? {
-        Some(rest) => Ok(rest),
-        None => after_entries_of_many_parts(count, bytes),
-    }
-}
-
-/// The bytes after so many entries. It is not inlined, so that the stack of most readings is without its room.
-#[inline(never)]
-fn after_entries_of_many_parts(count: u64, bytes: &[u8]) -> Result<&[u8], NodeFault>
-    ensures read { Gives (λ rest. rest.now) fault_of result (after_entries count [] bytes.now) }
-    ensures all { OnOk result (IsOk (entries_at count [] bytes.now)) }
-    ensures fits { OnOk result (IsBytes bytes.now) }
-{
-    match after_entries_within::<LONGEST_KEY>(count, bytes)? {
-        Some(rest) => Ok(rest),
-        None => unreachable!(),
-    }
-}
-
-/// The bytes after so many entries; none where a key has more parts than there is room for.
-fn after_entries_within<const ROOM: usize>(
-    count: u64,
-    bytes: &[u8],
-) -> Result<Option<&[u8]>, NodeFault>
-    requires { ROOM ≤ 1024 }
-    ensures fault { IfErr result (λ fault. Fails (fault_of fault)
-        (after_entries count [] bytes.now)) }
-    ensures read { IfOk result (λ rest. IfSome rest
-        (λ x. after_entries count [] bytes.now ≡ Ok x.now)) }
-    ensures room { ROOM ≡ 1024 → IfOk result (λ rest. IsSome rest) }
-{
-    let mut before = KeyBefore::<ROOM>::none();
-    let mut rest = bytes;
-    let mut left = count;
-    while left > 0 {
-        let (entry, after) = entry(rest)?;
-        if !before.next(entry.prefix, entry.suffix)? {
-            return Ok(None);
-        }
-        rest = after;
-        left -= 1;
-    }
-    Ok(Some(rest))
+/// What is found where a key is sought: the link before its place, and its entry, where there is one.
+#[derive(Drop)]
+struct Sought<'a> {
+    gap: Option<CidRef<'a>>,
+    entry: Option<EntryView<'a>>,
 }

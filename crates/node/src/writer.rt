@@ -6,9 +6,9 @@ ghost use Rattle.node.specs.Contents.{Contents, last_key, is_next_key};
 ghost use Rattle.cid.specs.CidRef.{bytes_of};
 
 use crate::common::{common_len, is_key};
+use crate::encode::{lend, push_entry, push_link};
 use crate::key_buf::KeyBuf;
-use crate::parts::{lend, push_entry, push_link};
-use crate::run::pass;
+use crate::skip::pass;
 use crate::view::NodeView;
 use cid::{Cid, CidRef};
 use dagcbor::{Major, push_head};

@@ -7,11 +7,14 @@ use Rattle.std.specs.Cmp.Lexicographic.{slice_cmp}
 use Rattle.std.specs.Ordering.{nat_cmp, is_eq}
 use Rattle.spec.specs.Tree.{Pair}
 use Rattle.spec.specs.NodeFormat.{Entry, Shape, LastLink, MoreLinks, first_link}
+use Rattle.spec.specs.Proof.{by_order}
 use Rattle.node.specs.Rows.{Row, row_after, rows}
+use Rattle.node.specs.Search as by_entries
 use Rattle.edit_laws.specs.Order.{order, if_equal}
 use Rattle.edit_laws.specs.ShapeEdit.{last_link, links_beside, links_beside_at, layer_of_shape}
 use Rattle.edit_laws.specs.Sources.{shape_from}
-use Rattle.rewrite.specs.Cursors.{after_pair, from_key, from_key_at, is_first_at, links_if_single}
+use Rattle.rewrite.specs.Cursors.{links_if_single}
+use Rattle.rewrite.proofs.NodeReading.{first_link-from}
 
 -- ---- the last link
 
@@ -30,33 +33,21 @@ last_of-rows before link (e ∷ es) = last_of-rows e.key e.tree es
 abbrev pub Links2 : Type 0
 Links2 = Option (List ℕ) × Option (List ℕ)
 
-beside-at : (key : List ℕ) (o : Ordering) (l : Option (List ℕ)) (e : Pair) (r : Shape) → order e.0 key ≡ o
-    → (is_first_at key (from_key key r) ≡ true
-    → links_beside key r ≡ (first_link (from_key key r), first_link (after_pair (from_key key r))))
-    → is_first_at key (from_key_at o l e r (from_key key r)) ≡ true
-    → links_beside_at o l (first_link r) (links_beside key r)
-    ≡ (first_link (from_key_at o l e r (from_key key r)), first_link (after_pair (from_key_at o l e r (from_key key r))))
-beside-at key Less l e r q h t = h t
-beside-at key Equal l e r q h t = refl
-beside-at key Greater l e r q h t = let c : false ≡ true = sym (ap is_eq q) ∙ t in absurd cc
+beside-at : (o : Ordering) (l x y : Option (List ℕ)) (p q : Links2) → x ≡ y → p ≡ q
+    → by_order o p (l, x) (None, None) ≡ links_beside_at o l y q
+beside-at Less l x y p q h k = k
+beside-at Equal l x y p q h k = ap (λ (z : Option (List ℕ)). (l, z)) h
+beside-at Greater l x y p q h k = refl
 
-pub beside : (key : List ℕ) (s : Shape) → is_first_at key (from_key key s) ≡ true
-    → links_beside key s ≡ (first_link (from_key key s), first_link (after_pair (from_key key s)))
-beside key (LastLink l) t = absurd cc
-beside key (MoreLinks l e r) t = beside-at key (order e.0 key) l e r refl (beside key r) t
-
-not_beside-at : (key : List ℕ) (o : Ordering) (l : Option (List ℕ)) (e : Pair) (r : Shape) → order e.0 key ≡ o
-    → (is_first_at key (from_key key r) ≡ false → links_beside key r ≡ (None, None))
-    → is_first_at key (from_key_at o l e r (from_key key r)) ≡ false
-    → links_beside_at o l (first_link r) (links_beside key r) ≡ (None, None)
-not_beside-at key Less l e r q h t = h t
-not_beside-at key Equal l e r q h t = let c : true ≡ false = sym (ap is_eq q) ∙ t in absurd cc
-not_beside-at key Greater l e r q h t = refl
-
-pub not_beside : (key : List ℕ) (s : Shape) → is_first_at key (from_key key s) ≡ false
-    → links_beside key s ≡ (None, None)
-not_beside key (LastLink l) t = refl
-not_beside key (MoreLinks l e r) t = not_beside-at key (order e.0 key) l e r refl (not_beside key r) t
+-- by the entries and by the pairs
+pub beside : (key : List ℕ) (left : Option (List ℕ)) (es : List Entry)
+    → by_entries.links_beside key left es ≡ links_beside key (shape_from left es)
+unfolding order
+beside key left [] = refl
+beside key left (e ∷ es) =
+    beside-at (slice_cmp nat_cmp e.key key) left e.tree (first_link (shape_from e.tree es))
+    (by_entries.links_beside key e.tree es) (links_beside key (shape_from e.tree es))
+    (sym (first_link-from e.tree es)) (beside key e.tree es)
 
 -- ---- the first row
 

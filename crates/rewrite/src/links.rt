@@ -1,17 +1,14 @@
 //! Links and the layer of a node.
 
-ghost use Rattle.std.specs.Prelude.{◌≡◌, ◌≤◌, Some, IfOk};
+ghost use Rattle.std.specs.Prelude.{◌≡◌, ◌≤◌, Some};
 ghost use Rattle.spec.specs.Layer.{layer as layer_of};
 ghost use Rattle.edit_laws.specs.ShapeEdit.{last_link, links_beside, layer_of_shape};
 ghost use Rattle.rewrite.specs.Cursors.{links_if_single};
 ghost use Rattle.rewrite.specs.Entries.{shape_of};
 
-use crate::copying::skip_before;
-use crate::cursor::Cursor;
 use crate::entries::to_cid;
 use cid::{Cid, Digest, layer};
 use node::NodeView;
-use std::alloc::{AllocError, Allocator};
 
 /// The link after all pairs of a node, which is the one before them where it has no pair.
 pub fn last_link(node: &NodeView<'_>) -> Option<Cid>
@@ -24,23 +21,13 @@ pub fn last_link(node: &NodeView<'_>) -> Option<Cid>
     to_cid(last)
 }
 
-/// The links before and after the pair of `key` in a node, and none where the node doesn't have the key. `AllocError`
-/// comes where memory was refused.
-pub fn links_beside<A: Allocator>(
-    alloc: A,
-    node: &NodeView<'_>,
-    key: &[u8],
-) -> Result<(Option<Cid>, Option<Cid>), AllocError>
-    ensures { IfOk result (λ links. links ≡ links_beside key.now (shape_of node.now)) }
+/// The links before and after the pair of `key` in a node, and none where the node doesn't have the key. It takes no
+/// memory.
+pub fn links_beside(node: &NodeView<'_>, key: &[u8]) -> (Option<Cid>, Option<Cid>)
+    ensures { result ≡ links_beside key.now (shape_of node.now) }
 {
-    let mut cursor = Cursor::of(alloc, node)?;
-    skip_before(&mut cursor, key);
-    if !cursor.is_at(key) {
-        return Ok((None, None));
-    }
-    let left = cursor.link();
-    cursor.skip();
-    Ok((left, cursor.link()))
+    let (before, after) = node.links_beside(key);
+    (to_cid(before), to_cid(after))
 }
 
 /// The links before and after the pair of `key` where it is the only pair of a node, and else `None`. It takes no memory.

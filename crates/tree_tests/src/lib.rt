@@ -7,6 +7,8 @@ mod edits;
 #[cfg(test)]
 mod fixtures;
 #[cfg(test)]
+mod lent;
+#[cfg(test)]
 mod own_source;
 #[cfg(test)]
 mod plain;

@@ -5,26 +5,27 @@ ghost use Rattle.edit.specs.Maps.{first_of};
 
 use crate::fixtures::{node, value};
 use cid::{Block, Cid, Digest, Sha256};
-use edit::{ReadCount, Source, get};
+use edit::{Lent, ReadCount, Source, TestedBlock, get};
 use std::alloc::{AllocError, Global};
 use std::sync::Arc;
 
 /// A source of one block.
 #[derive(Drop)]
 struct OneBlock<'a, D: Digest> {
-    block: &'a Arc<Block<D>>,
+    block: &'a TestedBlock<D>,
     asked: ReadCount,
 }
 
-impl<'a, D: Digest> Source<'a, Arc<Block<D>>> for OneBlock<'a, D> {
+impl<'a, D: Digest> Source<Lent<'a, D>> for OneBlock<'a, D> {
     ghost gives = { λ one. first_of D.digest_of (one.block.now ∷ []) };
 
     ghost reads = { λ one. one.asked.times };
 
-    fn get(&mut self, cid: &Cid) -> Option<&'a Arc<Block<D>>> {
+    fn get(&mut self, cid: &Cid) -> Option<Lent<'a, D>> {
         self.asked = self.asked.once_more();
-        if self.block.cid() == *cid {
-            Some(self.block)
+        let lent = self.block.lent();
+        if lent.block().cid() == *cid {
+            Some(lent)
         } else {
             None
         }
@@ -35,11 +36,13 @@ impl<'a, D: Digest> Source<'a, Arc<Block<D>>> for OneBlock<'a, D> {
 fn found(alloc: Global, key: &[u8]) -> Result<Option<Cid>, AllocError> {
     let bytes = node(alloc, None, b"k", None)?;
     let block: Arc<Block<Sha256>> = Arc::new(alloc, Block::of(bytes))?;
+    let root = block.cid();
+    let block = TestedBlock::of(block);
     let mut one = OneBlock {
         block: &block,
         asked: ReadCount::never(),
     };
-    Ok(get::<Sha256, 2, _, _>(&mut one, block.cid(), key))
+    Ok(get::<Sha256, 2, _, _>(&mut one, root, key))
 }
 
 #[test]

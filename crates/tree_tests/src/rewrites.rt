@@ -103,12 +103,9 @@ fn nodes_of_no_other_node(rt: HostRuntime) {
 }
 
 /// Whether the links of a node of the key `k` between the links 1 and 2 are found.
-fn are_linked(alloc: Global, of: &NodeView<'_>) -> bool {
+fn are_linked(of: &NodeView<'_>) -> bool {
     let both = (link(1), link(2));
-    let beside = match links_beside(alloc, of, b"k") {
-        Ok(links) => links == both,
-        Err(_) => false,
-    };
+    let beside = links_beside(of, b"k") == both;
     let single = match links_if_single(of, b"k") {
         Some(links) => links == both,
         None => false,
@@ -120,7 +117,7 @@ fn are_linked(alloc: Global, of: &NodeView<'_>) -> bool {
 fn links_of_a_node(rt: HostRuntime) {
     let bytes = node(rt.alloc(), link(1), b"k", link(2)).expect(&rt, "a node");
     let of = NodeView::parse(&bytes).expect(&rt, "a node");
-    assert!(rt; are_linked(rt.alloc(), &of));
+    assert!(rt; are_linked(&of));
 }
 
 /// The link of the empty node, which is none, or of one without pairs above a link.

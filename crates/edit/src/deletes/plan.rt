@@ -12,10 +12,10 @@ ghost use Rattle.edit.specs.Steps.{nodes_given};
 use crate::below::have_no_pairs;
 use crate::deletes::change::{Change, Links, change_of};
 use crate::loading::{Node, Path, read_path, read_pruned, read_seam};
-use crate::source::Source;
+use crate::source::{Lent, Source};
 use cid::{Block, Cid, Digest};
 use rewrite::{RewriteFault, links_beside, links_if_single};
-use std::alloc::{AllocError, Allocator};
+use std::alloc::Allocator;
 use std::clone::Clone;
 use std::sync::Arc;
 
@@ -31,12 +31,7 @@ pub(crate) struct DeleteNodes<'a, D: Digest, A: Allocator> {
 
 /// Reads what a delete of `key` needs, `most` nodes at most on each way down. The fault is `NotNode` where the key isn't
 /// there, or a block is missing or is no node.
-pub(crate) fn read_delete<
-    'a,
-    D: Digest + 'a,
-    A: Allocator + Clone + 'a,
-    S: Source<'a, Arc<Block<D, A>, A>>,
->(
+pub(crate) fn read_delete<'a, D: Digest + 'a, A: Allocator + Clone + 'a, S: Source<Lent<'a, D, A>>>(
     alloc: A,
     src: &mut S,
     root: Cid,
@@ -69,7 +64,7 @@ pub(crate) fn read_delete<
     let Some(previous) = previous else {
         return Err(RewriteFault::NotNode);
     };
-    let (one, other) = key_links(alloc.clone()?, &path, key)?;
+    let (one, other) = key_links(&path, key);
     let seam = read_seam(alloc.clone()?, src, one, other, most)?;
     let top = top_links(&path, key);
     let link = chain_link(top, &seam);
@@ -85,15 +80,14 @@ pub(crate) fn read_delete<
 
 /// The links beside `key` in the last node of its path.
 fn key_links<D: Digest, A: Allocator>(
-    alloc: A,
     path: &[Node<'_, D, A>],
     key: &[u8],
-) -> Result<(Option<Cid>, Option<Cid>), AllocError>
-    ensures { IfOk result (λ links. links ≡ beside key.now (lowest_shape path.now)) }
+) -> (Option<Cid>, Option<Cid>)
+    ensures { result ≡ beside key.now (lowest_shape path.now) }
 {
     match path {
-        [.., row] => links_beside(alloc, row.view(), key),
-        [] => Ok((None, None)),
+        [.., row] => links_beside(row.view(), key),
+        [] => (None, None),
     }
 }
 

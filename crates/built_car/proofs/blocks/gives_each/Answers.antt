@@ -11,7 +11,7 @@ loop-block-preserved g c =
     let digest = g.D.Digest.digest_of in
     let at = c.loop-block in
     let bytes = arc_value c.block-item.result in
-    let same : arc_value c.in-Some.found.now ≡ bytes = search rules in
+    let same : arc_value c.in-Some.found ≡ bytes = search rules in
     let here : option_map arc_value (g.S.Source.gives c.args.source.now (cid digest bytes)) ≡ Some bytes =
     ap (λ gives. option_map arc_value (gives (cid digest bytes))) (sym at.invariant.same)
     ∙ ap (λ q. option_map arc_value (g.S.Source.gives at.source q)) (sym (c.cid.ensures ∙ ap (cid digest) c.deref.ensures))
@@ -27,11 +27,11 @@ returns-in_default-clause-has_not g c done =
     let digest = g.D.Digest.digest_of in
     let at = c.loop-block in
     let bytes = arc_value c.block-item.result in
-    let found : option_map arc_value (g.S.Source.gives c.args.source.now (cid digest bytes)) ≡ Some (arc_value c.in-Some.found.now) =
+    let found : option_map arc_value (g.S.Source.gives c.args.source.now (cid digest bytes)) ≡ Some (arc_value c.in-Some.found) =
     ap (λ gives. option_map arc_value (gives (cid digest bytes))) (sym at.invariant.same)
     ∙ ap (λ q. option_map arc_value (g.S.Source.gives at.source q)) (sym (c.cid.ensures ∙ ap (cid digest) c.deref.ensures))
     ∙ ap (option_map arc_value) (sym c.in-Some.ensures.found) in
-    let test : bytes_eq (arc_value c.in-Some.found.now) bytes ≡ false = search rules in
+    let test : bytes_eq (arc_value c.in-Some.found) bytes ≡ false = search rules in
     has-not digest (λ q. option_map arc_value (g.S.Source.gives c.args.source.now q)) c.args.blocks.now at.block-index c.block-item.result
-    c.loop-block-test.true c.block-item.is (Some (arc_value c.in-Some.found.now)) found
-    (other (arc_value c.in-Some.found.now) bytes test)
+    c.loop-block-test.true c.block-item.is (Some (arc_value c.in-Some.found)) found
+    (other (arc_value c.in-Some.found) bytes test)

@@ -2,8 +2,16 @@ use Rattle.std.proofs.Common.{◌-◌, sym, ap, ◌∙◌, subst}
 use Rattle.std.specs.declared.option.Option.TheVariants.{Some, None}
 use Rattle.std.specs.Arc.{arc_value}
 use Rattle.edit.specs.Steps.{shows}
-use Rattle.edit.proofs.PathReading.{IsPathSoFar, shown-by, reads-le, reads-eq, reads-more, all-read, path-more, path-ends, path-counts}
+use Rattle.edit.proofs.PathReading.{IsPathSoFar, shown-by, reads-le, reads-eq, reads-more, all-read, path-missing, path-more, path-ends, path-counts}
 use Rattle.edit.proofs.loading.read_path.Goals as goal
+
+pub returns-in_default-clause-fault : goal.returns-in_default-clause-fault
+returns-in_default-clause-fault g c =
+    let at = c.loop-left in
+    let sh = shown-by arc_value (g.S.Source.gives c.args.src.now) (g.S.Source.gives at.src) at.cid None
+    at.invariant.same c.in_default.ensures.shown in
+    path-missing (shows arc_value (g.S.Source.gives c.args.src.now)) c.args.key.now c.args.most c.args.root at.left at.cid
+    at.nodes.items c.loop-left-test.true at.invariant.so_far sh
 
 pub returns-in_err-push-clause-reads : goal.returns-in_err-push-clause-reads
 returns-in_err-push-clause-reads g c =

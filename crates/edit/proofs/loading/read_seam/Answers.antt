@@ -90,6 +90,22 @@ returns-in_err-push-clause-reads g c =
     let i = c.node_at-in-loop-left.ensures.counted in
     omega (arith, e)
 
+pub returns-in_default-clause-seam : goal.returns-in_default-clause-seam
+returns-in_default-clause-seam g c =
+    let at = c.loop-left in
+    elim c.in_default.branch [
+      | in_default-via-in-Some+in_default w ↦
+          (let none : at.after ≡ None = search rules in
+          let e = (seam-ends-late (shows arc_value (g.S.Source.gives c.args.src.now)) c.args.most c.args.one c.args.other at.left
+          at.seam.items at.before at.after none at.invariant.so_far).pairs in
+          e)
+      | in_default-via-in_default w ↦
+          (let none : at.before ≡ None = search rules in
+          let e = (seam-ends (shows arc_value (g.S.Source.gives c.args.src.now)) c.args.most c.args.one c.args.other at.left
+          at.seam.items at.before at.after none at.invariant.so_far).pairs in
+          e)
+    ]
+
 pub returns-in_default-clause-reads_all : goal.returns-in_default-clause-reads_all
 returns-in_default-clause-reads_all g c =
     let at = c.loop-left in

@@ -1,5 +1,4 @@
 use Rattle.std.proofs.Common.{ap, sym, ◌∙◌}
-use Rattle.std.proofs.lemmas.Result.{IfOk-weaker}
 use Rattle.edit_laws.specs.ShapeEdit.{links_beside}
 use Rattle.edit.proofs.Deleting.{row-last}
 use Rattle.edit.proofs.deletes.plan.key_links.Goals as goal
@@ -7,5 +6,4 @@ use Rattle.edit.proofs.deletes.plan.key_links.Goals as goal
 pub returns-in-len1-up : goal.returns-in-len1-up
 returns-in-len1-up g c =
     let row = row-last c.args.path.now c.row-item.result c.in-len1-up.len_at_least c.row-item.is in
-    IfOk-weaker c.links_beside.result _ _ (λ links h. h ∙ ap (links_beside c.args.key.now) (c.view.ensures ∙ sym row))
-    c.links_beside.ensures
+    c.links_beside.ensures ∙ ap (links_beside c.args.key.now) (c.view.ensures ∙ sym row)

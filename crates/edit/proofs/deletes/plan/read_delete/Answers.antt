@@ -19,7 +19,7 @@ returns-in_err-seam-clause-fault g c =
     let items : c.deref.result.now ≡ c.in_ok-path.field-0.nodes.items = cc in
     rw (p.1, p.2)
     (no-seam arc_value (g.S.Source.gives c.args.src.now) _ _ _ _ _ _ _ _ c.read_path.ensures.same
-    (items ∙ c.in_ok-path.ensures.nodes) c.in_ok-one.ensures c.in_err-seam.ensures.fault)
+    (items ∙ c.in_ok-path.ensures.nodes) c.key_links.ensures c.in_err-seam.ensures.fault)
 
 pub returns-in_err-pruned-clause-fault : goal.returns-in_err-pruned-clause-fault
 returns-in_err-pruned-clause-fault g c =
@@ -28,7 +28,7 @@ returns-in_err-pruned-clause-fault g c =
     let again : c.deref-2.result.now ≡ c.deref.result.now = cc in
     let path = items ∙ c.in_ok-path.ensures.nodes in
     let seam = seam-is arc_value (g.S.Source.gives c.args.src.now) _ _ _ _ _ _ _ _ c.read_path.ensures.same path
-    c.in_ok-one.ensures c.in_ok-seam.ensures.seam in
+    c.key_links.ensures c.in_ok-seam.ensures.seam in
     let link = link-is arc_value (g.S.Source.gives c.args.src.now) _ _ _ _ _ _ _ _ path seam again c.deref-3.ensures.value
     (prune-is c.args.key.now c.deref-2.result.now c.deref-3.result.now _ _ c.top_links-top.ensures c.chain_link-link.ensures) in
     rw (p.1, p.2)
@@ -41,11 +41,11 @@ returns-in_err-pruned-clause-reads g c =
     let again : c.deref-2.result.now ≡ c.deref.result.now = cc in
     let path = items ∙ c.in_ok-path.ensures.nodes in
     let seam = seam-is arc_value (g.S.Source.gives c.args.src.now) _ _ _ _ _ _ _ _ c.read_path.ensures.same path
-    c.in_ok-one.ensures c.in_ok-seam.ensures.seam in
+    c.key_links.ensures c.in_ok-seam.ensures.seam in
     let link = link-is arc_value (g.S.Source.gives c.args.src.now) _ _ _ _ _ _ _ _ path seam again c.deref-3.ensures.value
     (prune-is c.args.key.now c.deref-2.result.now c.deref-3.result.now _ _ c.top_links-top.ensures c.chain_link-link.ensures) in
     three-most _ _ _ _ _ _ _ _ _ c.in_ok-path.ensures.reads_all c.in_ok-seam.ensures.reads_all c.read_pruned.ensures.reads
-    (seam-asked arc_value (g.S.Source.gives c.args.src.now) _ _ _ _ _ _ _ c.read_path.ensures.same path c.in_ok-one.ensures)
+    (seam-asked arc_value (g.S.Source.gives c.args.src.now) _ _ _ _ _ _ _ c.read_path.ensures.same path c.key_links.ensures)
     (chain-asked arc_value (g.S.Source.gives c.args.src.now) _ _ _ _ _ (c.read_seam.ensures.same ∙ c.read_path.ensures.same)
     link)
 
@@ -55,11 +55,11 @@ returns-clause-reads_all g c =
     let again : c.deref-2.result.now ≡ c.deref.result.now = cc in
     let path = items ∙ c.in_ok-path.ensures.nodes in
     let seam = seam-is arc_value (g.S.Source.gives c.args.src.now) _ _ _ _ _ _ _ _ c.read_path.ensures.same path
-    c.in_ok-one.ensures c.in_ok-seam.ensures.seam in
+    c.key_links.ensures c.in_ok-seam.ensures.seam in
     let link = link-is arc_value (g.S.Source.gives c.args.src.now) _ _ _ _ _ _ _ _ path seam again c.deref-3.ensures.value
     (prune-is c.args.key.now c.deref-2.result.now c.deref-3.result.now _ _ c.top_links-top.ensures c.chain_link-link.ensures) in
     three _ _ _ _ _ _ _ _ _ c.in_ok-path.ensures.reads_all c.in_ok-seam.ensures.reads_all c.in_ok-pruned.ensures.reads_all
-    (seam-asked arc_value (g.S.Source.gives c.args.src.now) _ _ _ _ _ _ _ c.read_path.ensures.same path c.in_ok-one.ensures)
+    (seam-asked arc_value (g.S.Source.gives c.args.src.now) _ _ _ _ _ _ _ c.read_path.ensures.same path c.key_links.ensures)
     (chain-asked arc_value (g.S.Source.gives c.args.src.now) _ _ _ _ _ (c.read_seam.ensures.same ∙ c.read_path.ensures.same)
     link)
 
@@ -73,14 +73,14 @@ returns-clause-can g c =
     let again : c.deref-2.result.now ≡ c.deref.result.now = cc in
     let path = items ∙ c.in_ok-path.ensures.nodes in
     let seam = seam-is arc_value gives _ _ _ _ _ _ _ _ c.read_path.ensures.same path
-    c.in_ok-one.ensures c.in_ok-seam.ensures.seam in
+    c.key_links.ensures c.in_ok-seam.ensures.seam in
     let link = link-is arc_value gives _ _ _ _ _ _ _ _ path seam again c.deref-3.ensures.value
     (prune-is c.args.key.now c.deref-2.result.now c.deref-3.result.now _ _ c.top_links-top.ensures c.chain_link-link.ensures) in
     can-all arc_value gives _ _ _ _ _ _ _ _ _ _
     (whole-path arc_value gives _ _ _ _ _ _ c.in_ok-path.ensures.nodes c.in_ok-path.ensures.counted c.in_ok-path.ensures.reads_all)
     (sym c.in-Some.is ∙ c.in_ok-path.ensures.previous)
-    c.read_path.ensures.same path c.in_ok-one.ensures
-    (whole-seam arc_value (g.S.Source.gives c.read_path.new.src) c.args.most c.in_ok-one.one c.in_ok-one.other c.in_ok-seam.seam.items
+    c.read_path.ensures.same path c.key_links.ensures
+    (whole-seam arc_value (g.S.Source.gives c.read_path.new.src) c.args.most c.key_links.result.0 c.key_links.result.1 c.in_ok-seam.seam.items
     (g.S.Source.reads c.read_path.new.src) (g.S.Source.reads c.read_seam.new.src) c.in_ok-seam.ensures.seam c.in_ok-seam.ensures.counted c.in_ok-seam.ensures.reads_all)
     (c.read_seam.ensures.same ∙ c.read_path.ensures.same) link
     (whole-chain arc_value (g.S.Source.gives c.read_seam.new.src) c.args.most c.chain_link-link.result c.in_ok-pruned.pruned.items
@@ -98,7 +98,7 @@ returns-clause-pruned g c =
     (c.read_seam.ensures.same ∙ c.read_path.ensures.same)
     ∙ ap (pruned_from shows c.args.most) c.chain_link-link.ensures in
     ap pruned_of c.change_of-change.ensures
-    ∙ change-pruned _ shows c.args.most c.deref-3.result.now links (c.in_ok-one.one, c.in_ok-one.other) c.in_ok-pruned.pruned read
+    ∙ change-pruned _ shows c.args.most c.deref-3.result.now links (c.key_links.result.0, c.key_links.result.1) c.in_ok-pruned.pruned read
     ∙ ap (pruned_from shows c.args.most)
     (prune-is c.args.key.now c.deref-2.result.now c.deref-3.result.now _ links c.top_links-top.ensures refl
     ∙ ap (λ (p : List Shape). prune_link c.args.key.now p c.deref-3.result.now) (again ∙ items)
@@ -117,7 +117,7 @@ returns-clause-change g c =
     (c.chain_link-link.ensures ∙ ap (chain_link c.top_links-top.result) c.deref-3.ensures.value) in
     subst (IsChangeOf c.args.key.now c.in_ok-path.field-0.nodes.items c.in_ok-seam.seam.items) (sym c.change_of-change.ensures)
     (change-is _ shows c.args.most c.args.key.now c.in_ok-path.field-0.nodes.items c.in_ok-seam.seam.items
-    c.top_links-top.result (c.in_ok-one.one, c.in_ok-one.other) c.in_ok-pruned.pruned
+    c.top_links-top.result (c.key_links.result.0, c.key_links.result.1) c.in_ok-pruned.pruned
     (c.top_links-top.ensures ∙ ap (λ (p : List Shape). links_if_single c.args.key.now (head_shape p)) (again ∙ items))
-    (c.in_ok-one.ensures ∙ ap (λ (p : List Shape). links_beside c.args.key.now (lowest_shape p)) items)
+    (c.key_links.ensures ∙ ap (λ (p : List Shape). links_beside c.args.key.now (lowest_shape p)) items)
     read)

@@ -14,9 +14,9 @@ returns-in_default-get-clause-step g c =
 pub returns-in-Some-clause-step : goal.returns-in-Some-clause-step
 returns-in-Some-clause-step g c =
     goes-down (λ d. option_map arc_value (g.S.Source.gives c.args.src.now d)) c.args.self.now c.take_link.new.self c.enter.new.self c.in-Some.cid
-    (arc_value c.in-Some-get.block.now) c.in-Some.ensures.link c.take_link.ensures.taken
-    (c.in_ok-enter.ensures ∙ ap (λ b. entered c.take_link.new.self (read_node b)) (c.bytes.ensures ∙ c.deref.ensures))
-    (ap (option_map arc_value) (sym c.in-Some-get.ensures.found))
+    (arc_value c.block.result.now) c.in-Some.ensures.link c.take_link.ensures.taken
+    (c.in_ok-enter.ensures ∙ ap (λ b. entered c.take_link.new.self (read_node (arc_value b))) (sym c.block.ensures))
+    (ap (option_map arc_value) (sym c.in-Some-get.ensures.found) ∙ ap (λ b. Some (arc_value b)) (sym c.block.ensures))
 
 pub returns-in_default-2-clause-step : goal.returns-in_default-2-clause-step
 returns-in_default-2-clause-step g c =
@@ -27,8 +27,9 @@ pub returns-in-Some-get-2-clause-step : goal.returns-in-Some-get-2-clause-step
 returns-in-Some-get-2-clause-step g c =
     let room : length c.args.self.now.stack ≤ c.args.self.now.most = rw (← c.self.view_is, turned-size c.self.inside.stack.items) (omega arith) in
     goes-on (λ d. option_map arc_value (g.S.Source.gives c.args.src.now d)) c.args.self.now c.take_link.new.self c.next_record.new.self c.in-Some-2.cid
-    (Some (arc_value c.in-Some-get-2.block.now)) room c.in_default.ensures.link c.take_link.ensures.taken
-    (rw c.in-Some-2.is at c.in_ok-cid.ensures) (ap (option_map arc_value) (sym c.in-Some-get-2.ensures.found))
+    (Some (arc_value c.block-in-Some-get-2.result.now)) room c.in_default.ensures.link c.take_link.ensures.taken
+    (rw c.in-Some-2.is at c.in_ok-cid.ensures)
+    (ap (option_map arc_value) (sym c.in-Some-get-2.ensures.found) ∙ ap (λ b. Some (arc_value b)) (sym c.block-in-Some-get-2.ensures))
 
 pub returns-in-None-clause-step : goal.returns-in-None-clause-step
 returns-in-None-clause-step g c =

@@ -65,11 +65,12 @@ returns-clause-raised g c =
     let name : k ≡ cid_of g.D.Digest.digest_of (arc_value c.args.block) = c.cid-cid.ensures ∙ ap (cid_of g.D.Digest.digest_of) c.deref.ensures in
     let none : listed_at es k ≡ None = sym (seen_at es k) ∙ sym c.in_default.ensures.value in
     let kept : c.get_mut.follows.lender-at-none.entries ≡ es = ap (λ m. m.entries) c.get_mut.follows.holds-at-none in
-    let w : Use g.row.D.Denot g.row.A.Denot = record { hold = c.in_ok-hold.hold; uses = 0; next = 1; noted = true } in
-    let a = c.requires.store c.args.store.now c.args.block c.args.me (Ok c.in_ok-hold.hold) c.acquire.new.self c.in_ok-hold.ensures in
+    let w : Use g.row.D.Denot g.row.A.Denot = record { hold = c.of-hold.result; uses = 0; next = 1; noted = true } in
+    let a = c.requires.store c.args.store.now c.args.block c.args.me (Ok c.in_ok-acquire.field-0) c.acquire.new.self c.in_ok-acquire.ensures in
+    let is = c.of-hold.ensures in
     shown_raised g.D.Digest.digest_of c.args.me es fs c.args.self.now (arc_value c.args.block) c.self.view_is
     (raised_new g.D.Digest.digest_of c.args.me (listed_at es) (listed_at fs) (arc_value c.args.block) k w name
-    a.hold.0 a.hold.1 refl refl none
+    (ap (λ h. arc_value h.0) is ∙ a.hold.0) (ap (λ h. h.1) is ∙ a.hold.1) refl refl none
     (subst (λ (xs : List (List ℕ × Use g.row.D.Denot g.row.A.Denot)). Updated (listed_at xs) (listed_at fs) k (Some w)) kept (seen_updated c.get_mut.follows.lender-at-none.entries fs k _ c.in-Ok.ensures.updates.0)))
 
 pub returns-clause-fresh : goal.returns-clause-fresh

@@ -11,8 +11,8 @@ returns-then-self-eq0-clause-steps c =
     let none : c.args.self.now ≡ [] = sym c.self.view_is ∙ ap (λ (n : ℕ). rows_shown n s.bytes.now) c.if-self-eq0.true ∙ rows_shown-none s.bytes.now in
     (none, none)
 
-pub known_entry-requires : goal.known_entry-requires
-known_entry-requires c =
+pub tested_entry-requires : goal.tested_entry-requires
+tested_entry-requires c =
     let s = c.self.inside in
     let f = first_row s.left s.bytes.now (omega (arith, c.if-self-eq0.false)) c.self.invariant in
     read-ok (row_at s.bytes.now) f.0 f.1.read
@@ -20,16 +20,16 @@ known_entry-requires c =
 pub invariant_of-self : goal.invariant_of-self
 invariant_of-self c =
     let s = c.self.inside in
-    (first_row-read s.left s.bytes.now (row_of c.known_entry.result.0, c.known_entry.result.1.now) (omega (arith, c.if-self-eq0.false)) c.self.invariant c.known_entry.ensures).more
+    (first_row-read s.left s.bytes.now (row_of c.tested_entry.result.0, c.tested_entry.result.1.now) (omega (arith, c.if-self-eq0.false)) c.self.invariant c.tested_entry.ensures).more
 
 pub returns-clause-steps : goal.returns-clause-steps
 returns-clause-steps c =
     let s = c.self.inside in
-    sym c.self.view_is ∙ (first_row-read s.left s.bytes.now (row_of c.known_entry.result.0, c.known_entry.result.1.now) (omega (arith, c.if-self-eq0.false)) c.self.invariant c.known_entry.ensures).shown
+    sym c.self.view_is ∙ (first_row-read s.left s.bytes.now (row_of c.tested_entry.result.0, c.tested_entry.result.1.now) (omega (arith, c.if-self-eq0.false)) c.self.invariant c.tested_entry.ensures).shown
 
 pub returns-clause-goes : goal.returns-clause-goes
 returns-clause-goes c =
     let s = c.self.inside in
-    let e : c.args.self.now ≡ row_of c.known_entry.result.0 ∷ rows_shown (s.left - 1) c.known_entry.result.1.now =
-    sym c.self.view_is ∙ (first_row-read s.left s.bytes.now (row_of c.known_entry.result.0, c.known_entry.result.1.now) (omega (arith, c.if-self-eq0.false)) c.self.invariant c.known_entry.ensures).shown in
+    let e : c.args.self.now ≡ row_of c.tested_entry.result.0 ∷ rows_shown (s.left - 1) c.tested_entry.result.1.now =
+    sym c.self.view_is ∙ (first_row-read s.left s.bytes.now (row_of c.tested_entry.result.0, c.tested_entry.result.1.now) (omega (arith, c.if-self-eq0.false)) c.self.invariant c.tested_entry.ensures).shown in
     rw e (search rules)

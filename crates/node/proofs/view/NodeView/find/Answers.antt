@@ -1,56 +1,32 @@
-use Rattle.std.proofs.Common.{◌≡◌, ℕ, ◌∷◌, [], List, Option, option_map, arith, sym, ap, ◌∙◌}
-use Rattle.std.specs.declared.cmp.Ordering.TheVariants.{Less, Equal}
+use Rattle.std.proofs.Common.{[], option_map, sym, ap, ◌∙◌}
 use Rattle.cid.specs.CidRef.{bytes_of}
-use Rattle.node.specs.Contents.{Contents}
-use Rattle.node.specs.Rows.{rows}
-use Rattle.node.specs.Search.{order_after}
-use Rattle.node.specs.Views.{row_of}
-use Rattle.node.proofs.Finding.{find_rows, find_rows-place, find_rows-less, row_found, row_found-with, row_found-less, row_found-here}
+use Rattle.node.specs.Views.{row_of, row_with}
+use Rattle.node.proofs.Finding.{place_sought, place-sought}
 use Rattle.node.proofs.view.NodeView.find.Goals as goal
 
-pub loop-entry-init : goal.loop-entry-init
-loop-entry-init c =
+pub returns-in-Some-clause-place : goal.returns-in-Some-clause-place
+returns-in-Some-clause-place c =
+    let key = c.args.key.now in
     let node = c.args.self.now in
+    let gap = option_map bytes_of c.seek-sought.result.gap in
+    let row = sym (ap (option_map row_of) c.in-Some.is) ∙ c.seek-sought.ensures.row in
+    ap (place_sought key gap) row
+    ∙ ap (λ g. place_sought key g (row_with key [] node.entries)) c.seek-sought.ensures.gap
+    ∙ place-sought [] key node.left node.entries
+
+pub returns-in-Some-clause-row : goal.returns-in-Some-clause-row
+returns-in-Some-clause-row c = sym c.seek-sought.ensures.row ∙ ap (option_map row_of) c.in-Some.is
+
+pub returns-in-None-clause-place : goal.returns-in-None-clause-place
+returns-in-None-clause-place c =
     let key = c.args.key.now in
-    let all : c.into_iter-entry-iterator.result ≡ rows [] node.entries = c.into_iter-entry-iterator.ensures.into_iter_gives ∙ c.entries-entry-items.ensures.rows in
-    let left : option_map bytes_of c.self.inside.left ≡ node.left = ap (λ (w : Contents). w.left) c.self.view_is in
-    record {
-      can = tt;
-      ends = tt;
-      within = omega arith;
-      found = ap (find_rows key 0 (option_map bytes_of c.self.inside.left)) all ∙ ap (λ (gap : Option (List ℕ)). find_rows key 0 gap (rows [] node.entries)) left
-          ∙ find_rows-place key node.left node.entries c.entries-entry-items.ensures.ascending;
-      row = ap (row_found key 0) all ∙ row_found-with key node.entries c.entries-entry-items.ensures.ascending;
-    }
+    let node = c.args.self.now in
+    let gap = option_map bytes_of c.seek-sought.result.gap in
+    let row = sym (ap (option_map row_of) c.in-None.is) ∙ c.seek-sought.ensures.row in
+    c.place_in_gap.ensures.place key
+    ∙ ap (place_sought key gap) row
+    ∙ ap (λ g. place_sought key g (row_with key [] node.entries)) c.seek-sought.ensures.gap
+    ∙ place-sought [] key node.left node.entries
 
-pub loop-entry-preserved : goal.loop-entry-preserved
-loop-entry-preserved c =
-    let key = c.args.key.now in
-    let l = c.loop-entry in
-    let row = row_of c.in-Some.entry in
-    let gap = option_map bytes_of l.gap in
-    let less : order_after l.same key row ≡ Less = sym c.compare_after-order.ensures.order ∙ c.in-Less.is in
-    let steps : l.entry-iterator ≡ row ∷ c.next.new.self = c.in-Some.ensures.steps in
-    record {
-      can = tt;
-      ends = tt;
-      within = c.compare_after-order.ensures.within;
-      found = ap (λ (n : ℕ). find_rows key n row.tree c.next.new.self) c.compare_after-order.ensures.same ∙ sym (find_rows-less key l.same gap row c.next.new.self less)
-          ∙ ap (find_rows key l.same gap) (sym steps) ∙ l.invariant.found;
-      row = ap (λ (n : ℕ). row_found key n c.next.new.self) c.compare_after-order.ensures.same ∙ sym (row_found-less key l.same row c.next.new.self less)
-          ∙ ap (row_found key l.same) (sym steps) ∙ l.invariant.row;
-    }
-
-pub returns-in-Equal-clause-row : goal.returns-in-Equal-clause-row
-returns-in-Equal-clause-row c =
-    let key = c.args.key.now in
-    let l = c.loop-entry in
-    let row = row_of c.in-Some.entry in
-    let here : order_after l.same key row ≡ Equal = sym c.compare_after-order.ensures.order ∙ c.in-Equal.is in
-    sym l.invariant.row ∙ ap (row_found key l.same) c.in-Some.ensures.steps ∙ row_found-here key l.same row c.next.new.self here
-
-pub returns-in-Greater-clause-row : goal.returns-in-Greater-clause-row
-returns-in-Greater-clause-row c = c.place_in_gap.ensures.row c.args.key.now c.args.self.now.entries
-
-pub returns-clause-row : goal.returns-clause-row
-returns-clause-row c = c.place_in_gap-2.ensures.row c.args.key.now c.args.self.now.entries
+pub returns-in-None-clause-row : goal.returns-in-None-clause-row
+returns-in-None-clause-row c = c.place_in_gap.ensures.row c.args.key.now c.args.self.now.entries

@@ -20,8 +20,8 @@ pub invariant_of-result : goal.invariant_of-result
 invariant_of-result c =
     let bytes = c.args.bytes.now in
     let are : IsBytes bytes = λ i. omega (arith, c.type_inv.bytes i) in
-    let left = option_map bytes_of c.in_ok-left.left in
-    let es = entries_shown c.in_ok-left.count c.in_ok-left.first.now in
+    let left = option_map bytes_of c.in_ok-left.field-0.left in
+    let es = entries_shown c.in_ok-left.field-0.count c.in_ok-left.field-0.first.now in
     record { fits = c.in_ok-left.ensures.fits; all = c.in_ok-left.ensures.all; grammar = (read_node_takes bytes left es are (read_node-shown_node bytes ∙ c.in_ok-left.ensures.read)).1 }
 
 pub returns : goal.returns
