@@ -5,6 +5,7 @@ use cid::{Block, Cid, Sha256};
 use export::{ToMemory, car, prove, verify};
 use repo::Core;
 use std::alloc::{AllocError, Global};
+use std::mem;
 use std::sync::Arc;
 use std::time::Clock;
 
@@ -108,8 +109,9 @@ pub fn measure<R: Clock>(
         car: u128::MAX,
         proofs: Proofs::none(u128::MAX),
     };
+    let mut room = Vec::new(alloc);
     for _ in 0..rounds {
-        let (bytes, nanos) = written(rt, alloc, core)?;
+        let (bytes, nanos) = written(rt, alloc, core, &mut room)?;
         let proofs = proofs_of(rt, alloc, core, pairs, places)?;
         exported.bytes = bytes;
         exported.car = exported.car.min(nanos);
@@ -118,12 +120,20 @@ pub fn measure<R: Clock>(
     Some(exported)
 }
 
-/// How many bytes the CAR has, and how long it took to write it to memory.
-fn written<R: Clock>(rt: &R, alloc: Global, core: &Core<Sha256, 2>) -> Option<(u64, u128)> {
-    let mut out = ToMemory::new(alloc);
+/// How many bytes the CAR has, and how long it took to write it to memory, into room that is there from the second round on.
+fn written<R: Clock>(
+    rt: &R,
+    alloc: Global,
+    core: &Core<Sha256, 2>,
+    room: &mut Vec<u8>,
+) -> Option<(u64, u128)> {
+    let mut bytes = mem::replace(room, Vec::new(alloc));
+    bytes.clear();
+    let mut out = ToMemory::over(bytes);
     let watch = Watch::start(rt);
     let answer = car(alloc, core, &mut out);
     let nanos = watch.nanos(rt);
+    *room = out.into_bytes();
     match answer {
         Ok(bytes) => Some((bytes, nanos)),
         Err(_) => None,

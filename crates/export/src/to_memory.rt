@@ -29,10 +29,16 @@ impl<A: Allocator> ToMemory<A> {
     pub fn new(alloc: A) -> ToMemory<A>
         ensures { result ≡ record { taken = []; failures = 0 } }
     {
-        ToMemory {
-            bytes: Vec::new(alloc),
-            log: Log::empty(),
-        }
+        ToMemory::over(Vec::new(alloc))
+    }
+
+    /// An output that goes on behind these bytes. The room that the list has is used first, so one that was cleared takes
+    /// another file of the same length without asking for memory.
+    pub fn over(bytes: Vec<u8, A>) -> ToMemory<A>
+        ensures { result ≡ record { taken = bytes.items; failures = 0 } }
+    {
+        let log = Log::empty();
+        ToMemory { bytes, log }
     }
 
     /// The bytes that it has taken.

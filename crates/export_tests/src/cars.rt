@@ -5,7 +5,7 @@ ghost use Rattle.std.specs.Prelude.{◌≤◌};
 use crate::fixtures::{Checked, FIVE_NODES, ONE, Record, THREE, TWO, end, file_of, opened, takes};
 use cid::digests::Toy;
 use cid::{Cid, Sha256};
-use export::{ExportFault, car};
+use export::{ExportFault, ToMemory, car};
 use repo::Core;
 use std::alloc::{AllocError, Global};
 use std::process::Abort;
@@ -28,6 +28,29 @@ fn the_repository_without_records(rt: HostRuntime) {
     let file = file_of(rt.alloc(), rt.alloc(), &core);
     end(&mut shard, core);
     assert!(rt; EMPTY.len() == 103 && file.is_some_and(|file| file.as_slice() == EMPTY));
+}
+
+/// Whether the file stands behind another one where the output goes on behind that.
+fn is_behind_another(alloc: Global, core: &Core<Sha256, 2>) -> bool {
+    let Some(file) = file_of(alloc, alloc, core) else {
+        return false;
+    };
+    let first = file.len();
+    let mut out = ToMemory::over(file);
+    let answer = car(alloc, core, &mut out);
+    let Some((one, other)) = out.bytes().split_at_checked(first) else {
+        return false;
+    };
+    answer == Ok(first as u64) && one == other
+}
+
+#[test]
+fn a_file_behind_another(rt: HostRuntime) {
+    let mut shard = Shard::<Sha256>::new(rt.alloc(), 9);
+    let core = opened::<_, _, 2, _>(&rt, rt.alloc(), &mut shard);
+    let is_behind = is_behind_another(rt.alloc(), &core);
+    end(&mut shard, core);
+    assert!(rt; is_behind);
 }
 
 /// The number at the front of a section, of one or two bytes, and what is behind it.
