@@ -1,20 +1,19 @@
 -- The blocks that are built for a batch are those of the repository that took it, and so is their file.
-use Rattle.std.proofs.Common.{◌≡◌, ◌⊎◌, inl, inr, ⊎_elim, ℕ, ◌<◌, ◌^◌, ◌&&◌, Bool, true, List, [], ◌∷◌, ◌++◌, Vec, length, map, refl, sym, ap, subst, ◌∙◌, Option}
+use Rattle.std.proofs.Common.{◌≡◌, ◌⊎◌, inl, inr, ⊎_elim, ℕ, ◌<◌, ◌^◌, ◌&&◌, Bool, true, List, [], ◌∷◌, ◌++◌, Vec, length, refl, ap, subst, ◌∙◌, Option}
 use Rattle.std.specs.Prelude.{Contains, Some, Ok}
-use Rattle.std.specs.Arc.{arc_value}
 use Rattle.std.specs.List.{AllByRecursion, list_all}
 use Rattle.std.specs.FinMap.{is_sorted}
 use Rattle.std.specs.Ordering.{nat_cmp}
 use Rattle.std.specs.Cmp.Lexicographic.{slice_cmp}
 use Rattle.std.proofs.lemmas.List.Elements.{Contains-append_left, Contains-append_right, Contains-append_cases}
-use Rattle.spec.specs.Cid.{cid, IsDigest}
+use Rattle.spec.specs.Cid.{IsDigest}
 use Rattle.spec.specs.Blocks.{ArePairs, nodes, pairs, record_blocks, repository_root}
 use Rattle.spec.specs.Commits.{commit_blocks}
 use Rattle.spec.specs.NodeFormat.{is_ascending, is_key}
 use Rattle.spec.specs.Stamps.{Stamp}
 use Rattle.spec.specs.States.{State, after_batch, fresh, state_blocks, state_car}
 use Rattle.spec.specs.Tree.{Pair}
-use Rattle.spec.specs.Writes.{Write, batch_test, is_lawful_list, leaves}
+use Rattle.spec.specs.Writes.{Write, batch_test, leaves}
 use Rattle.spec.proofs.BatchLaws.{lawful-after_batch}
 use Rattle.spec.proofs.Bools.{from_T}
 use Rattle.spec.proofs.RecordPairs.{lawful-pairs}
@@ -45,6 +44,11 @@ module _ (digest : List ℕ → List ℕ) (fits : IsDigest digest) (limit : ℕ)
   ascending m e =
       ap (λ (rs : List (List ℕ × List ℕ)). is_ascending (pairs digest rs)) e
       ∙ true_both _ _ are-pairs.sorted (each_key (pairs digest (leaves ws)) are-pairs.keys)
+
+  -- a source of the nodes has their tree
+  pub has-tree : (bits : ℕ) (gives : List ℕ → Option (List ℕ)) → HasBlocks digest gives (nodes digest bits (pairs digest (leaves ws)))
+      → HasTree digest bits gives (repository_root digest bits (leaves ws)) (pairs digest (leaves ws))
+  has-tree bits gives has = record { pairs = are-pairs; root_is = refl; nodes = has }
 
   module _ (bits : ℕ) (stamp : Stamp) where
     abbrev state : State

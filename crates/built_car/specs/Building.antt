@@ -1,7 +1,6 @@
 -- The blocks of a repository that are built at once, and its file.
 use Rattle.std.specs.Prelude.{◌≡◌, ℕ, List, ◌++◌, ◌∷◌, Some, Option, option_map, map, Vec}
 use Rattle.std.specs.Arc.{arc_value}
-use Rattle.std.specs.declared.sync.Arc.{Arc}
 use Rattle.spec.specs.Blocks.{IsClashFree, nodes, pairs, record_blocks, repository_root}
 use Rattle.spec.specs.Cid.{cid}
 use Rattle.spec.specs.Commits.{commit_bytes}

@@ -1,3 +1,4 @@
 pub mod Building
+pub mod Paths
 pub mod Records
 pub mod Refusing

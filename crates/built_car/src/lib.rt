@@ -1,8 +1,9 @@
-//! The file of a repository whose only batch is a list of puts, with its tree built at once.
+//! The file of a repository whose only batch is a list of puts, and the path of a key in it, with its tree built at once.
 //!
 //! A repository takes its writes one by one, and each of them writes the path of its key anew: of a long batch nearly all
 //! nodes are replaced by later ones. Who needs no repository afterwards but its file has it in a fraction of the time by
-//! [`built_car`], which sorts the records, builds their tree from scratch, and writes what a repository would export.
+//! [`built_car`], which sorts the records, builds their tree from scratch, and writes what a repository would export; and
+//! who needs a proof of one key the nodes of its path by [`built_path`].
 //!
 //! It says no more of a batch that a repository wouldn't take than that it isn't one: `repo::Core::apply` tells which write
 //! is refused, and why.
@@ -17,6 +18,8 @@ mod blocks;
 mod building;
 mod file;
 mod pairs;
+mod path;
 mod records;
 
 pub use file::built_car;
+pub use path::{BuiltPath, built_path};

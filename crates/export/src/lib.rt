@@ -3,7 +3,8 @@
 //! [`car`] writes a repository as one file (CARv1) to whatever is an [`Out`]: [`ToMemory`], or [`ToWriter`] over a writer of
 //! the standard library. [`car_over`] does so for blocks that stand elsewhere than in a `Core`.
 //!
-//! A proof that a tree has a value under a key, or none, is the list of the nodes on the key's path. [`prove`] makes it, and
+//! A proof that a tree has a value under a key, or none, is the list of the nodes on the key's path. [`prove`] makes it,
+//! [`path_over`] does so over blocks that stand elsewhere, and
 //! [`verify`] tells what such blocks prove to someone who knows the tree's root alone: nothing of the host that gave them is
 //! trusted, but that it found no other bytes with the CID of a block of the tree.
 //!
@@ -40,7 +41,7 @@ pub use export_fault::ExportFault;
 pub use log::Log;
 pub use out::{Failed, Out};
 pub use proof_fault::ProofFault;
-pub use proving::prove;
+pub use proving::{path_over, prove};
 pub use to_memory::ToMemory;
 pub use to_writer::ToWriter;
 pub use verifying::verify;

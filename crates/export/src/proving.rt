@@ -37,13 +37,15 @@ pub fn prove<D: Digest, const B: u8, A: Allocator>(
 }
 
 /// The nodes of a key's path in the tree with this root, from the top, over a source that has all nodes of the tree.
-pub(crate) fn path_over<
-    'a,
-    D: Digest + 'a,
-    const B: u8,
-    A: Allocator + 'a,
-    S: Source<Lent<'a, D, A>>,
->(alloc: A, src: &mut S, root: Cid, key: &[u8]) -> Result<Vec<Arc<Block<D, A>, A>, A>, AllocError>
+///
+/// It is for who has a tree's blocks and no `Core`. Where the source lacks a node of the path, or gives what is none, the
+/// path ends. `AllocError` comes where memory was refused.
+pub fn path_over<'a, D: Digest + 'a, const B: u8, A: Allocator + 'a, S: Source<Lent<'a, D, A>>>(
+    alloc: A,
+    src: &mut S,
+    root: Cid,
+    key: &[u8],
+) -> Result<Vec<Arc<Block<D, A>, A>, A>, AllocError>
     requires { 1 ≤ B }
     ensures { (es : List Pair) → HasTree D.digest_of B
         (λ c. option_map arc_value (S.gives src.old c)) root es

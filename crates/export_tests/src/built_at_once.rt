@@ -15,10 +15,10 @@ use std::process::Abort;
 use store::Shard;
 
 /// The greatest number of writes of each repository.
-const LIMIT: usize = 2000;
+pub(crate) const LIMIT: usize = 2000;
 
 /// One key that is put three times, two keys with one record, and a record with the bytes of the node without entries.
-static MIXED: [Record<'static>; 7] = [
+pub(crate) static MIXED: [Record<'static>; 7] = [
     (b"b/q0", ONE),
     (b"a/p1", ONE),
     (b"b/q0", TWO),
@@ -102,7 +102,7 @@ fn a_file_built_at_once_is_the_repositorys(rt: HostRuntime) {
 }
 
 /// Keys, whose last digit is their layer under `Toy`.
-static KEYS: [&[u8]; 12] = [
+pub(crate) const KEYS: [&[u8]; 12] = [
     b"k/000", b"k/101", b"k/202", b"k/303", b"k/010", b"k/111", b"k/212", b"k/313", b"k/020",
     b"k/121", b"k/222", b"k/323",
 ];
@@ -110,7 +110,7 @@ static KEYS: [&[u8]; 12] = [
 static RECORDS: [&[u8]; 4] = [EMPTY_NODE, ONE, TWO, THREE];
 
 /// So many puts that look random, the same for the same seed, which is no 0.
-fn random_records(alloc: Global, seed: u32, count: u8) -> Option<Vec<Record<'static>>> {
+pub(crate) fn random_records(alloc: Global, seed: u32, count: u8) -> Option<Vec<Record<'static>>> {
     let mut state = seed;
     let mut records = Vec::new(alloc);
     for _ in 0..count {

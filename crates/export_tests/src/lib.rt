@@ -15,6 +15,8 @@ mod key_proofs;
 #[cfg(test)]
 mod memory;
 #[cfg(test)]
+mod paths_at_once;
+#[cfg(test)]
 mod proofs;
 #[cfg(test)]
 mod writers;

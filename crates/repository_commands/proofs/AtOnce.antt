@@ -8,7 +8,7 @@ use Rattle.spec.specs.States.{State, after_batch, state_car}
 use Rattle.spec.specs.Writes.{Write, WriteFault, batch_test}
 use Rattle.repository_commands.specs.Faults.{Fault}
 use Rattle.repository_commands.specs.Puts.{Given}
-use Rattle.repository_commands.specs.Texts.{at_its_line, car_of_given, most_writes, no_writes, state_of, state_of_given, unless_stopped}
+use Rattle.repository_commands.specs.Texts.{Path, at_its_line, car_of_given, most_writes, no_writes, path_of, path_of_given, state_of, state_of_given, unless_stopped}
 
 one-batch : (stamp : Stamp) (ws : List Write) → (ws ≡ [] → ⊥) → state_of stamp ws ≡ after_batch no_writes stamp ws
 one-batch stamp [] some = absurd (some refl)
@@ -30,6 +30,13 @@ module _ (digest : List ℕ → List ℕ) (stamp : Stamp) (given : Given) where
   car-at_once passes all some file is =
       ap (λ (r : Result State Fault). r >>= λ (s : State). Ok (state_car digest 2 s)) (state-is passes all)
       ∙ ap (λ (s : State). Ok (state_car digest 2 s)) (one-batch stamp given.writes some) ∙ ap (λ (f : List ℕ). Ok f) (sym is)
+
+  pub path-at_once : batch_test most_writes [] given.writes ≡ Ok tt → given.stop ≡ None → (given.writes ≡ [] → ⊥)
+      → (key : List ℕ) (p : Path) → p ≡ path_of digest key (after_batch no_writes stamp given.writes)
+      → path_of_given digest stamp key given ≡ Ok p
+  path-at_once passes all some key p is =
+      ap (λ (r : Result State Fault). r >>= λ (s : State). Ok (path_of digest key s)) (state-is passes all)
+      ∙ ap (λ (s : State). Ok (path_of digest key s)) (one-batch stamp given.writes some) ∙ ap (λ (q : Path). Ok q) (sym is)
 
 -- two facts of what was found, where there is something
 pub found-both : {X E : Type 0} {P Q R : X → Type 0} (r : Result (Option X) E) → IfOk r (λ o. IfSome o P) → IfOk r (λ o. IfSome o Q)

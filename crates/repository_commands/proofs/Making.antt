@@ -1,20 +1,15 @@
 -- What is made of an input, where it is known.
-use Rattle.std.proofs.Common.{◌≡◌, ℕ, List, true, false, Some, None, refl, sym, ap, subst, ◌∙◌}
-use Rattle.std.specs.Prelude.{Option, Result, Ok, Err, IfSome, IfErr, IsErrAnd}
+use Rattle.std.proofs.Common.{◌≡◌, ℕ, List, Some, None, sym, ap, subst, ◌∙◌}
+use Rattle.std.specs.Prelude.{Option, Result, Ok, Err, IfSome, IsErrAnd}
 use Rattle.spec.specs.Reading.{◌>>=◌, Gives, Fails}
 use Rattle.spec.specs.Cid.{cid_of_text}
-use Rattle.spec.specs.Proof.{verified}
 use Rattle.spec.specs.Stamps.{Stamp}
 use Rattle.console.specs.Lines.{lines}
-use Rattle.console.specs.declared.reading.ReadFault.{ReadFault}
-use Rattle.console.specs.declared.reading.ReadFault.TheVariants as reads
 use Rattle.repository_commands.specs.Puts.{Given, given_in}
-use Rattle.repository_commands.specs.Faults.{Fault, fault_of, is_of_words, may_have_written, of_read}
-use Rattle.repository_commands.specs.Refusals.{IsRefusedLine}
+use Rattle.repository_commands.specs.Faults.{Fault, fault_of}
 use Rattle.repository_commands.specs.Outcomes.{IsMade, Texts}
-use Rattle.repository_commands.specs.Texts.{stamp_check, key_check, car_of_given, car_text, proof_of_given, prove_text, blocks_of_lines, or_bad_root, answer_of_blocks, words_check, verify_text}
+use Rattle.repository_commands.specs.Texts.{stamp_check, key_check, car_of_given, car_text, proof_of_given, prove_text, blocks_of_lines, or_bad_root, answer_of_blocks, verify_text}
 use Rattle.repository_commands.specs.declared.fault.CommandFault.{CommandFault}
-use Rattle.repository_commands.specs.declared.fault.CommandFault.TheVariants as errors
 use Rattle.repository_commands.proofs.Endings.{always_known, for_known}
 
 -- ---- one step of a reading

@@ -5,7 +5,7 @@ use Rattle.spec.specs.Reading.{◌>>=◌, Fails}
 use Rattle.spec.specs.Head.{CborFault}
 use Rattle.spec.specs.Stamps.{Stamp, StampFault, stamp_test}
 use Rattle.spec.specs.Writes.{Write, WriteFault, BadRecord, batch_test}
-use Rattle.spec.specs.States.{State, BatchFault, EmptyBatch, OfStamp, OfWrite as OfBatchWrite, after_batch, at_first, of_writes, state_test}
+use Rattle.spec.specs.States.{State, BatchFault, EmptyBatch, OfStamp, OfWrite as OfBatchWrite, at_first, of_writes, state_test}
 use Rattle.dagcbor.specs.Fault as cbor
 use Rattle.batches.specs.declared.fault.RepoFault.{RepoFault}
 use Rattle.batches.specs.declared.fault.RepoFault.TheVariants as faults
@@ -13,7 +13,7 @@ use Rattle.repo.specs.Refusals.{IsRefusal, IsRefusalBy}
 use Rattle.repository_commands.specs.Puts.{Given}
 use Rattle.repository_commands.specs.Faults.{Line, OfWrite, fault_of}
 use Rattle.repository_commands.specs.Refusals.{IsRefusedAt, IsRefusedLine, is_bad_line, is_want_of_memory, refused}
-use Rattle.repository_commands.specs.Texts.{most_writes, no_writes, state_of, at_its_line, writes_check}
+use Rattle.repository_commands.specs.Texts.{most_writes, no_writes, at_its_line, writes_check}
 use Rattle.repository_commands.specs.declared.fault.LineFault.TheVariants as lines
 use Rattle.repository_commands.specs.declared.fault.CommandFault.{CommandFault}
 use Rattle.repository_commands.specs.declared.fault.CommandFault.TheVariants as errors

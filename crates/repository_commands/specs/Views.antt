@@ -1,7 +1,6 @@
 -- What was read, as the definitions see it.
 use Rattle.std.specs.Prelude.{ℕ, List, [], ◌∷◌, ◌++◌, map, Vec}
 use Rattle.std.specs.Arc.{arc_value}
-use Rattle.std.specs.declared.sync.Arc.{Arc}
 use Rattle.batches.specs.Values.{writes_of}
 use Rattle.spec.specs.Writes.{Write}
 use Rattle.repository_commands.specs.Puts.{Given}

@@ -1,7 +1,7 @@
 use Rattle.std.proofs.Common.{rules, ◌+◌, length, sym, ap, ◌∙◌, arith}
 use Rattle.std.specs.Prelude.{option_map}
 use Rattle.batches.specs.Values.{write_of}
-use Rattle.repository_commands.specs.Puts.{given_from, given_in}
+use Rattle.repository_commands.specs.Puts.{given_from}
 use Rattle.repository_commands.specs.Views.{given_of}
 use Rattle.repository_commands.proofs.Putting.{onto, onto_empty, onto_put, onto_stop, onto_done}
 use Rattle.repository_commands.proofs.puts.puts_of_input.Goals as goal

@@ -1,0 +1,13 @@
+-- The path of a key in the tree of some writes.
+use Rattle.std.specs.Prelude.{◌≡◌, ℕ, List, map}
+use Rattle.std.specs.Arc.{arc_value}
+use Rattle.spec.specs.Blocks.{pairs, repository_root}
+use Rattle.spec.specs.Proof.{path}
+use Rattle.spec.specs.Writes.{Write, leaves}
+use Rattle.built_car.specs.declared.path.BuiltPath.{BuiltPath}
+
+-- the root of the records that the writes leave, and the nodes of the key's path from the top
+pub record IsPathOf {D A : Type 0} (digest : List ℕ → List ℕ) (bits : ℕ) (ws : List Write) (key : List ℕ)
+    (found : BuiltPath D A) : Type 0 where
+  pub root_is : found.root ≡ repository_root digest bits (leaves ws)
+  pub nodes_are : map arc_value found.nodes.items ≡ path digest bits (pairs digest (leaves ws)) key
