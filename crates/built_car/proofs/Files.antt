@@ -1,5 +1,5 @@
 -- The blocks that are built for a batch are those of the repository that took it, and so is their file.
-use Rattle.std.proofs.Common.{◌≡◌, ◌⊎◌, inl, inr, ⊎_elim, ℕ, ◌<◌, ◌^◌, ◌&&◌, Bool, true, List, [], ◌∷◌, ◌++◌, Vec, length, refl, ap, subst, ◌∙◌, Option}
+use Rattle.std.proofs.Common.{◌≡◌, ◌⊎◌, inl, inr, ⊎_elim, ℕ, ◌<◌, ◌^◌, ◌&&◌, Bool, true, List, [], ◌∷◌, ◌++◌, Vec, length, refl, sym, ap, subst, ◌∙◌, Option}
 use Rattle.std.specs.Prelude.{Contains, Some, Ok}
 use Rattle.std.specs.List.{AllByRecursion, list_all}
 use Rattle.std.specs.FinMap.{is_sorted}
@@ -25,7 +25,9 @@ use Rattle.edit.specs.Trees.{HasTree}
 use Rattle.export.proofs.Exported.{car-met}
 use Rattle.built_car.specs.declared.building.BuiltBlocks.{BuiltBlocks}
 use Rattle.built_car.specs.Building.{HasClash, IsBuiltOf, IsFileOf, commit_over, given_of}
+use Rattle.built_car.specs.Paths.{IsPathOf, IsPathOver}
 use Rattle.built_car.specs.Refusing.{IsNotBuilt}
+use Rattle.built_car.specs.declared.path.BuiltPath.{BuiltPath}
 
 true_both : (a b : Bool) → a ≡ true → b ≡ true → (a && b) ≡ true
 true_both a b p q = ap (λ x. x && b) p ∙ q
@@ -44,11 +46,6 @@ module _ (digest : List ℕ → List ℕ) (fits : IsDigest digest) (limit : ℕ)
   ascending m e =
       ap (λ (rs : List (List ℕ × List ℕ)). is_ascending (pairs digest rs)) e
       ∙ true_both _ _ are-pairs.sorted (each_key (pairs digest (leaves ws)) are-pairs.keys)
-
-  -- a source of the nodes has their tree
-  pub has-tree : (bits : ℕ) (gives : List ℕ → Option (List ℕ)) → HasBlocks digest gives (nodes digest bits (pairs digest (leaves ws)))
-      → HasTree digest bits gives (repository_root digest bits (leaves ws)) (pairs digest (leaves ws))
-  has-tree bits gives has = record { pairs = are-pairs; root_is = refl; nodes = has }
 
   module _ (bits : ℕ) (stamp : Stamp) where
     abbrev state : State
@@ -85,6 +82,18 @@ module _ (digest : List ℕ → List ℕ) (fits : IsDigest digest) (limit : ℕ)
         let each : HasBlocks digest gives all = subst (HasBlocks digest gives) is.blocks_are made.each in
         made.bytes_are
         ∙ car-met digest gives bits fits state (has gives each) (tree gives each) (Some built.commit) built.root (ap (λ (c : List ℕ). Some c) is.commit_is) is.root_is
+
+    -- a path over the blocks is one in the tree of the records
+    pub path-is : {D A : Type 0} (built : BuiltBlocks D A) (key : List ℕ) (found : BuiltPath D A)
+        → IsBuiltOf digest bits stamp (leaves ws) built → IsPathOver digest bits built key found → IsPathOf digest bits ws key found
+    path-is built key found is made =
+        let gives = given_of digest built in
+        let each : HasBlocks digest gives all = subst (HasBlocks digest gives) is.blocks_are made.each in
+        record {
+          root_is = made.root_is ∙ is.root_is;
+          nodes_are = made.nodes (pairs digest (leaves ws))
+              (subst (λ (r : List ℕ). HasTree digest bits gives r (pairs digest (leaves ws))) (sym is.root_is) (tree gives each));
+        }
 
     -- ---- a clash among them is one of the repository's blocks
 

@@ -1,10 +1,10 @@
 -- Where no file is built at once.
 use Rattle.std.specs.Prelude.{◌≡◌, ℕ, Bool, true, false, List, [], Ok}
 use Rattle.std.specs.List.{list_all}
-use Rattle.spec.specs.Blocks.{IsClashFree, nodes, pairs}
+use Rattle.spec.specs.Blocks.{IsClashFree}
 use Rattle.spec.specs.Stamps.{Stamp}
 use Rattle.spec.specs.States.{after_batch, fresh, state_blocks}
-use Rattle.spec.specs.Writes.{Write, Put, Create, Update, Delete, batch_test, leaves}
+use Rattle.spec.specs.Writes.{Write, Put, Create, Update, Delete, batch_test}
 
 abbrev pub is_put : Write → Bool
 is_put (Put key bytes) = true
@@ -21,9 +21,3 @@ abbrev pub IsNotBuilt : (List ℕ → List ℕ) → ℕ → ℕ → Stamp → Li
 IsNotBuilt digest bits limit stamp ws =
     list_all is_put ws ≡ true → batch_test limit [] ws ≡ Ok tt
     → IsClashFree digest (state_blocks digest bits (after_batch (fresh 0 limit) stamp ws)) → ⊥
-
--- or nodes of their tree do
-abbrev pub HasNoTree : (List ℕ → List ℕ) → ℕ → ℕ → List Write → Type 0
-HasNoTree digest bits limit ws =
-    list_all is_put ws ≡ true → batch_test limit [] ws ≡ Ok tt
-    → IsClashFree digest (nodes digest bits (pairs digest (leaves ws))) → ⊥

@@ -1,8 +1,8 @@
 //! The blocks of a repository of records, built at once.
 
-ghost use Rattle.std.specs.Prelude.{◌≡◌, ◌≤◌, true, map, IfOk, IfSome, IfNone};
+ghost use Rattle.std.specs.Prelude.{◌≡◌, ◌≤◌, true, IfOk, IfSome, IfNone};
 ghost use Rattle.std.specs.Arc.{arc_value};
-ghost use Rattle.spec.specs.Blocks.{IsClashFree, nodes, pairs as pairs_of};
+ghost use Rattle.spec.specs.Blocks.{nodes, pairs as pairs_of};
 ghost use Rattle.spec.specs.Commits.{commit_bytes as commit_bytes_of};
 ghost use Rattle.spec.specs.NodeFormat.{is_ascending};
 ghost use Rattle.batches.specs.Values.{stamp_of};
@@ -59,7 +59,7 @@ pub(crate) fn built_blocks<D: Digest, const B: u8, A: Allocator + Copy>(
 }
 
 /// The tree of these records, or `None` where two of its nodes clash.
-pub(crate) fn tree<D: Digest, const B: u8, A: Allocator + Copy>(
+fn tree<D: Digest, const B: u8, A: Allocator + Copy>(
     alloc: A,
     records: &Records<D, A>,
 ) -> Result<Option<Built<D, A>>, AllocError>
@@ -69,8 +69,6 @@ pub(crate) fn tree<D: Digest, const B: u8, A: Allocator + Copy>(
         (records_in records.now.entries)) ≡ true }
     ensures tree { IfOk result (λ found. IfSome found
         (IsTreeOf D.digest_of B (records_in records.now.entries))) }
-    ensures free { IfOk result (λ found. IfSome found
-        (λ tree. IsClashFree D.digest_of (map arc_value tree.blocks.items))) }
     ensures none { IfOk result (λ found. IfNone found
         (HasClash D.digest_of (nodes D.digest_of B (pairs_of D.digest_of
         (records_in records.now.entries))))) }

@@ -1,14 +1,17 @@
 //! The path of a key in the tree of a list of puts.
 
-ghost use Rattle.std.specs.Prelude.{◌≡◌, ◌≤◌, [], Ok, IfOk, IfSome, IfNone};
+ghost use Rattle.std.specs.Prelude.{◌≡◌, ◌≤◌, [], Ok, map, IfOk, IfSome, IfNone};
+ghost use Rattle.std.specs.Arc.{arc_value};
 ghost use Rattle.spec.specs.Writes.{batch_test};
-ghost use Rattle.batches.specs.Values.{writes_of};
-ghost use Rattle.built_car.specs.Paths.{IsPathOf};
-ghost use Rattle.built_car.specs.Refusing.{HasNoTree};
+ghost use Rattle.batches.specs.Values.{stamp_of, writes_of};
+ghost use Rattle.built_car.specs.Building.{HasClash};
+ghost use Rattle.built_car.specs.Paths.{IsPathOf, IsPathOver};
+ghost use Rattle.built_car.specs.Refusing.{IsNotBuilt};
 
-use crate::building::tree;
+use crate::blocks::gives_each;
+use crate::building::{BuiltBlocks, built_blocks};
 use crate::records::records_of;
-use batches::Write;
+use batches::{Stamp, Write};
 use cid::{Block, Cid, Digest};
 use edit::BlockMap;
 use export::path_over;
@@ -22,13 +25,15 @@ pub struct BuiltPath<D: Digest, A: Allocator = Global> {
     pub nodes: Vec<Arc<Block<D, A>, A>, A>,
 }
 
-/// The path of a key in the tree of a repository of at most `limit` writes whose one batch has these writes, or `None` where
-/// there is no tree to build: where a write isn't a put, or isn't taken, or nodes clash. It takes any key.
+/// The path of a key in the tree of a repository of at most `limit` writes whose one batch has these writes under this stamp,
+/// or `None` where there is none to build: where a write isn't a put, or isn't taken, or blocks clash. The stamp isn't
+/// tested, and the key may be any.
 ///
 /// `AllocError` comes where memory was refused.
 pub fn built_path<D: Digest, const B: u8, A: Allocator + Copy>(
     alloc: A,
     limit: usize,
+    stamp: &Stamp<A>,
     writes: &[Write<A>],
     key: &[u8],
 ) -> Result<Option<BuiltPath<D, A>>, AllocError>
@@ -39,16 +44,34 @@ pub fn built_path<D: Digest, const B: u8, A: Allocator + Copy>(
     ensures path { IfOk result (λ found. IfSome found
         (IsPathOf D.digest_of B (writes_of writes.now) key.now)) }
     ensures none { IfOk result (λ found. IfNone found
-        (HasNoTree D.digest_of B limit (writes_of writes.now))) }
+        (IsNotBuilt D.digest_of B limit (stamp_of stamp.now) (writes_of writes.now))) }
 {
     let Some(records) = records_of::<D, A>(alloc, limit, writes)? else {
         return Ok(None);
     };
-    let Some(tree) = tree::<D, B, A>(alloc, &records)? else {
+    let Some(built) = built_blocks::<D, B, A>(alloc, stamp, records)? else {
         return Ok(None);
     };
-    let mut source = BlockMap::new(alloc, &tree.blocks)?;
-    let nodes = path_over::<D, B, A, BlockMap<'_, D, A>>(alloc, &mut source, tree.root, key)?;
-    let root = tree.root;
+    path_of::<D, B, A>(alloc, &built, key)
+}
+
+/// The path over these blocks, or `None` where two of them clash.
+fn path_of<D: Digest, const B: u8, A: Allocator + Copy>(
+    alloc: A,
+    built: &BuiltBlocks<D, A>,
+    key: &[u8],
+) -> Result<Option<BuiltPath<D, A>>, AllocError>
+    requires { 1 ≤ B }
+    ensures path { IfOk result (λ found. IfSome found
+        (IsPathOver D.digest_of B built.now key.now)) }
+    ensures none { IfOk result (λ found. IfNone found
+        (HasClash D.digest_of (map arc_value built.now.blocks.items))) }
+{
+    let mut source = BlockMap::new(alloc, &built.blocks)?;
+    if !gives_each::<D, A, BlockMap<'_, D, A>>(&mut source, &built.blocks) {
+        return Ok(None);
+    }
+    let root = built.root;
+    let nodes = path_over::<D, B, A, BlockMap<'_, D, A>>(alloc, &mut source, root, key)?;
     Ok(Some(BuiltPath { root, nodes }))
 }

@@ -3,8 +3,8 @@
 ghost use Rattle.std.specs.Prelude.{◌≤◌};
 
 use crate::built_at_once::{KEYS, LIMIT, MIXED, random_records};
-use crate::fixtures::{FIVE_NODES, ONE, Record, end, opened, puts_of, takes};
-use batches::Write;
+use crate::fixtures::{FIVE_NODES, ONE, Record, end, opened, puts_of, stamp, takes};
+use batches::{Stamp, Write};
 use built_car::built_path;
 use cid::digests::{Clash, Toy};
 use cid::{Block, Digest, Sha256};
@@ -30,6 +30,7 @@ fn are_equal<D: Digest>(one: &[Arc<Block<D>>], other: &[Arc<Block<D>>]) -> bool 
 fn is_the_cores<D: Digest, const B: u8>(
     alloc: Global,
     core: &Core<D, B>,
+    stamp: &Stamp,
     writes: &[Write],
     key: &[u8],
 ) -> bool
@@ -37,7 +38,7 @@ fn is_the_cores<D: Digest, const B: u8>(
     requires most { B ≤ 8 }
 {
     match (
-        built_path::<D, B, Global>(alloc, LIMIT, writes, key),
+        built_path::<D, B, Global>(alloc, LIMIT, stamp, writes, key),
         prove(alloc, core, key),
     ) {
         (Ok(Some(path)), Ok(nodes)) => path.root == core.root() && are_equal(&path.nodes, &nodes),
@@ -54,14 +55,14 @@ fn are_the_cores<R: Abort, D: Digest, const B: u8>(
     requires least { 1 ≤ B }
     requires most { B ≤ 8 }
 {
-    let Ok(puts) = puts_of(alloc, records) else {
+    let (Ok(puts), Ok(stamp)) = (puts_of(alloc, records), stamp(alloc)) else {
         return false;
     };
     let mut shard = Shard::<D>::new(alloc, LIMIT);
     let mut core = opened::<R, D, B, Global>(rt, alloc, &mut shard);
     let mut same = takes(alloc, &mut shard, &mut core, records);
     for key in KEYS {
-        same = same && is_the_cores(alloc, &core, &puts, key);
+        same = same && is_the_cores(alloc, &core, &stamp, &puts, key);
     }
     end(&mut shard, core);
     same
@@ -92,18 +93,17 @@ fn a_path_built_at_once_is_the_repositorys(rt: HostRuntime) {
 
 /// How many nodes the path of a key has, where the tree of puts of these records is built.
 fn nodes_of<D: Digest, A: Allocator + Copy>(alloc: A, records: &[Record<'_>]) -> Option<usize> {
-    let Ok(puts) = puts_of(alloc, records) else {
+    let (Ok(puts), Ok(stamp)) = (puts_of(alloc, records), stamp(alloc)) else {
         return None;
     };
-    match built_path::<D, 2, A>(alloc, LIMIT, &puts, b"a/q2") {
+    match built_path::<D, 2, A>(alloc, LIMIT, &stamp, &puts, b"a/q2") {
         Ok(Some(path)) => Some(path.nodes.len()),
         _ => None,
     }
 }
 
-/// Records may clash, as they are on no path; what isn't taken has no tree.
 #[test]
-fn paths_that_are_built_and_one_that_is_not(rt: HostRuntime) {
+fn a_path_that_is_built_and_two_that_are_not(rt: HostRuntime) {
     let alloc = rt.alloc();
     let refused: &[Record<'_>] = &[(b"a/p0", ONE), (b"a", ONE)];
     assert!(rt;
@@ -111,8 +111,8 @@ fn paths_that_are_built_and_one_that_is_not(rt: HostRuntime) {
         "a key without a slash"
     );
     assert!(rt;
-        nodes_of::<Clash, Global>(alloc, FIVE_NODES) == Some(1),
-        "records that clash"
+        nodes_of::<Clash, Global>(alloc, FIVE_NODES).is_none(),
+        "blocks that clash"
     );
     assert!(rt;
         nodes_of::<Toy, Global>(alloc, FIVE_NODES) == Some(1),

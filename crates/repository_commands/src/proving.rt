@@ -123,8 +123,7 @@ fn path_of_puts<D: Digest>(
     }
 }
 
-/// The path, in a tree that is built at once, where each line is a put that is taken and no two nodes clash. The stamp is
-/// for the contract alone, as no path has it.
+/// The path, in a tree that is built at once, where each line is a put that is taken and no two blocks clash.
 fn path_at_once<D: Digest>(
     alloc: Global,
     stamp: &Stamp,
@@ -138,7 +137,7 @@ fn path_at_once<D: Digest>(
     if puts.stop.is_some() || puts.writes.is_empty() {
         return Ok(None);
     }
-    match built_path::<D, 2, Global>(alloc, MOST_WRITES, &puts.writes, key)? {
+    match built_path::<D, 2, Global>(alloc, MOST_WRITES, stamp, &puts.writes, key)? {
         Some(path) => Ok(Some(PathNodes {
             root: path.root,
             nodes: path.nodes,

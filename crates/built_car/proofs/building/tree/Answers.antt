@@ -1,5 +1,5 @@
-use Rattle.std.proofs.Common.{◌∙◌, List, sym, ap, subst}
-use Rattle.spec.specs.Blocks.{IsClashFree, nodes, root}
+use Rattle.std.proofs.Common.{◌∙◌, List, ap, subst}
+use Rattle.spec.specs.Blocks.{nodes, root}
 use Rattle.spec.specs.Tree.{Pair}
 use Rattle.scratch.specs.Pairs.{pairs_of}
 use Rattle.built_car.specs.Building.{HasClash}
@@ -13,10 +13,6 @@ returns-in-Ok-clause-tree g c =
       root_is = c.in-Ok.ensures.root ∙ ap (root g.D.Digest.digest_of g.row.B) are;
       nodes_are = c.in-Ok.ensures.blocks ∙ ap (nodes g.D.Digest.digest_of g.row.B) are;
     }
-
-pub returns-in-Ok-clause-free : goal.returns-in-Ok-clause-free
-returns-in-Ok-clause-free g c =
-    subst (IsClashFree g.D.Digest.digest_of) (sym c.in-Ok.ensures.blocks) c.in-Ok.ensures.clash_free
 
 pub returns-clause-none : goal.returns-clause-none
 returns-clause-none g c =
