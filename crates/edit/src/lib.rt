@@ -20,15 +20,16 @@
 //! proofs alone:
 //!
 //! ```text
-//! struct OneBlock<D: Digest> { block: TestedBlock<D>, cid: Cid, asked: ReadCount }
+//! struct OneBlock<'a, D: Digest> { block: &'a TestedBlock<D>, asked: ReadCount }
 //!
-//! impl<'a, D: Digest> Source<Lent<'a, D>> for &'a mut OneBlock<D> {
-//!     ghost gives = { λ one. first_of D.digest_of (one.block ∷ []) };
+//! impl<'a, D: Digest> Source<Lent<'a, D>> for OneBlock<'a, D> {
+//!     ghost gives = { λ one. first_of D.digest_of (one.block.now ∷ []) };
 //!     ghost reads = { λ one. one.asked.times };
 //!
 //!     fn get(&mut self, cid: &Cid) -> Option<Lent<'a, D>> {
 //!         self.asked = self.asked.once_more();
-//!         if self.cid == *cid { Some(self.block.lent()) } else { None }
+//!         let lent = self.block.lent();
+//!         if lent.block().cid() == *cid { Some(lent) } else { None }
 //!     }
 //! }
 //!

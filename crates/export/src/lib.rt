@@ -4,9 +4,9 @@
 //! the standard library. [`car_over`] does so for blocks that stand elsewhere than in a `Core`.
 //!
 //! A proof that a tree has a value under a key, or none, is the list of the nodes on the key's path. [`prove`] makes it,
-//! [`path_over`] does so over blocks that stand elsewhere, and
-//! [`verify`] tells what such blocks prove to someone who knows the tree's root alone: nothing of the host that gave them is
-//! trusted, but that it found no other bytes with the CID of a block of the tree.
+//! [`path_over`] does so over blocks that stand elsewhere, and [`verify`] tells what such blocks prove to someone who knows
+//! the tree's root alone: nothing of the host that gave them is trusted, but that it found no other bytes with the CID of a
+//! block of the tree.
 //!
 //! ```text
 //! let mut out = ToMemory::new(alloc);

@@ -74,6 +74,7 @@ fn random_ones_are_the_cores<R: Abort>(rt: &R, alloc: Global, seed: u32) -> bool
         Some(records) => {
             are_the_cores::<R, Toy, 1>(rt, alloc, &records)
                 && are_the_cores::<R, Sha256, 2>(rt, alloc, &records)
+                && are_the_cores::<R, Sha256, 8>(rt, alloc, &records)
         }
         None => false,
     }
