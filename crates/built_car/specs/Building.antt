@@ -1,12 +1,13 @@
 -- The blocks of a repository that are built at once, and its file.
 use Rattle.std.specs.Prelude.{◌≡◌, ℕ, List, ◌++◌, ◌∷◌, Some, Option, option_map, map, Vec}
 use Rattle.std.specs.Arc.{arc_value}
+use Rattle.std.specs.declared.sync.Arc.{Arc}
 use Rattle.spec.specs.Blocks.{IsClashFree, nodes, pairs, record_blocks, repository_root}
 use Rattle.spec.specs.Cid.{cid}
 use Rattle.spec.specs.Commits.{commit_bytes}
 use Rattle.spec.specs.Stamps.{Stamp}
 use Rattle.edit_laws.specs.Sources.{HasBlocks}
-use Rattle.edit.specs.Maps.{first_of}
+use Rattle.edit.specs.Maps.{Lending, first_of}
 use Rattle.edit.specs.Steps.{layers}
 use Rattle.export.specs.Walks.{car_met}
 use Rattle.scratch.specs.declared.tree.Built.{Built}
@@ -41,3 +42,8 @@ given_of digest built c = option_map arc_value (first_of digest built.blocks.ite
 pub record IsFileOf {D A V : Type 0} (digest : List ℕ → List ℕ) (bits : ℕ) (built : BuiltBlocks D A) (file : Vec ℕ V) : Type 0 where
   pub each : HasBlocks digest (given_of digest built) (map arc_value built.blocks.items)
   pub bytes_are : file.items ≡ car_met digest (given_of digest built) (layers bits) (Some built.commit) built.root
+
+-- a source gives what these blocks give, the first with each CID, and each of them is the first with its CID
+pub record IsSourceOf {D A : Type 0} (digest : List ℕ → List ℕ) (built : BuiltBlocks D A) (source : Lending (Arc (List ℕ) A)) : Type 0 where
+  pub gives_is : first_of digest source.blocks ≡ first_of digest built.blocks.items
+  pub each : HasBlocks digest (given_of digest built) (map arc_value built.blocks.items)

@@ -1,18 +1,20 @@
 //! The blocks of a repository of records, built at once.
 
-ghost use Rattle.std.specs.Prelude.{◌≡◌, ◌≤◌, true, IfOk, IfSome, IfNone};
+ghost use Rattle.std.specs.Prelude.{◌≡◌, ◌≤◌, [], true, length, Ok, IfOk, IfSome, IfNone};
 ghost use Rattle.std.specs.Arc.{arc_value};
 ghost use Rattle.spec.specs.Blocks.{nodes, pairs as pairs_of};
 ghost use Rattle.spec.specs.Commits.{commit_bytes as commit_bytes_of};
 ghost use Rattle.spec.specs.NodeFormat.{is_ascending};
-ghost use Rattle.batches.specs.Values.{stamp_of};
+ghost use Rattle.spec.specs.Writes.{batch_test, leaves};
+ghost use Rattle.batches.specs.Values.{stamp_of, writes_of};
 ghost use Rattle.built_car.specs.Records.{records_in};
 ghost use Rattle.built_car.specs.Building.{HasClash, IsBuiltOf, IsTreeOf};
+ghost use Rattle.built_car.specs.Refusing.{IsNotBuilt};
 
 use crate::blocks::all_blocks;
 use crate::pairs::pairs;
-use crate::records::Records;
-use batches::{Stamp, commit_bytes};
+use crate::records::{Records, records_of};
+use batches::{Stamp, Write, commit_bytes};
 use cid::{Block, Cid, Digest};
 use scratch::{Built, ScratchFault, build};
 use std::alloc::{AllocError, Allocator};
@@ -26,8 +28,32 @@ pub(crate) struct BuiltBlocks<D: Digest, A: Allocator> {
     pub(crate) blocks: Vec<Arc<Block<D, A>, A>, A>,
 }
 
+/// The blocks of a repository of at most `limit` writes whose one batch has these writes under this stamp, or `None` where
+/// a write isn't a put, or isn't taken, or nodes clash.
+pub(crate) fn blocks_of_writes<D: Digest, const B: u8, A: Allocator + Copy>(
+    alloc: A,
+    limit: usize,
+    stamp: &Stamp<A>,
+    writes: &[Write<A>],
+) -> Result<Option<BuiltBlocks<D, A>>, AllocError>
+    requires least { 1 ≤ B }
+    requires most { B ≤ 8 }
+    ensures passes { IfOk result (λ found. IfSome found
+        (λ _. batch_test limit [] (writes_of writes.now) ≡ Ok tt)) }
+    ensures few { IfOk result (λ found. IfSome found (λ _. length writes.now ≤ limit)) }
+    ensures built { IfOk result (λ found. IfSome found
+        (IsBuiltOf D.digest_of B (stamp_of stamp.now) (leaves (writes_of writes.now)))) }
+    ensures none { IfOk result (λ found. IfNone found
+        (IsNotBuilt D.digest_of B limit (stamp_of stamp.now) (writes_of writes.now))) }
+{
+    match records_of::<D, A>(alloc, limit, writes)? {
+        Some(records) => built_blocks::<D, B, A>(alloc, stamp, records),
+        None => Ok(None),
+    }
+}
+
 /// The blocks of the repository that has these records under its one stamp, or `None` where two nodes clash.
-pub(crate) fn built_blocks<D: Digest, const B: u8, A: Allocator + Copy>(
+fn built_blocks<D: Digest, const B: u8, A: Allocator + Copy>(
     alloc: A,
     stamp: &Stamp<A>,
     records: Records<D, A>,

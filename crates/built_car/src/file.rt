@@ -9,9 +9,8 @@ ghost use Rattle.export.specs.Walks.{car_met};
 ghost use Rattle.built_car.specs.Building.{HasClash, IsFileOf};
 ghost use Rattle.built_car.specs.Refusing.{IsNotBuilt};
 
-use crate::blocks::gives_each;
-use crate::building::{BuiltBlocks, built_blocks};
-use crate::records::records_of;
+use crate::blocks::source_of;
+use crate::building::{BuiltBlocks, blocks_of_writes};
 use batches::{Stamp, Write};
 use cid::{Block, Cid, Digest};
 use edit::{BlockMap, Lent, Source};
@@ -39,13 +38,10 @@ pub fn built_car<D: Digest, const B: u8, A: Allocator + Copy>(
     ensures none { IfOk result (λ found. IfNone found
         (IsNotBuilt D.digest_of B limit (stamp_of stamp.now) (writes_of writes.now))) }
 {
-    let Some(records) = records_of::<D, A>(alloc, limit, writes)? else {
-        return Ok(None);
-    };
-    let Some(built) = built_blocks::<D, B, A>(alloc, stamp, records)? else {
-        return Ok(None);
-    };
-    file_of::<D, B, A>(alloc, &built)
+    match blocks_of_writes::<D, B, A>(alloc, limit, stamp, writes)? {
+        Some(built) => file_of::<D, B, A>(alloc, &built),
+        None => Ok(None),
+    }
 }
 
 /// The file of these blocks, or `None` where two of them clash.
@@ -58,10 +54,9 @@ fn file_of<D: Digest, const B: u8, A: Allocator + Copy>(
     ensures none { IfOk result (λ found. IfNone found
         (HasClash D.digest_of (map arc_value built.now.blocks.items))) }
 {
-    let mut source = BlockMap::new(alloc, &built.blocks)?;
-    if !gives_each::<D, A, BlockMap<'_, D, A>>(&mut source, &built.blocks) {
+    let Some(mut source) = source_of(alloc, built)? else {
         return Ok(None);
-    }
+    };
     let most = 256 / B as u16 + 1;
     let file = car_in_memory::<D, A, BlockMap<'_, D, A>>(
         alloc,

@@ -8,9 +8,8 @@ ghost use Rattle.built_car.specs.Building.{HasClash};
 ghost use Rattle.built_car.specs.Paths.{IsPathOf, IsPathOver};
 ghost use Rattle.built_car.specs.Refusing.{IsNotBuilt};
 
-use crate::blocks::gives_each;
-use crate::building::{BuiltBlocks, built_blocks};
-use crate::records::records_of;
+use crate::blocks::source_of;
+use crate::building::{BuiltBlocks, blocks_of_writes};
 use batches::{Stamp, Write};
 use cid::{Block, Cid, Digest};
 use edit::BlockMap;
@@ -46,13 +45,10 @@ pub fn built_path<D: Digest, const B: u8, A: Allocator + Copy>(
     ensures none { IfOk result (λ found. IfNone found
         (IsNotBuilt D.digest_of B limit (stamp_of stamp.now) (writes_of writes.now))) }
 {
-    let Some(records) = records_of::<D, A>(alloc, limit, writes)? else {
-        return Ok(None);
-    };
-    let Some(built) = built_blocks::<D, B, A>(alloc, stamp, records)? else {
-        return Ok(None);
-    };
-    path_of::<D, B, A>(alloc, &built, key)
+    match blocks_of_writes::<D, B, A>(alloc, limit, stamp, writes)? {
+        Some(built) => path_of::<D, B, A>(alloc, &built, key),
+        None => Ok(None),
+    }
 }
 
 /// The path over these blocks, or `None` where two of them clash.
@@ -67,10 +63,9 @@ fn path_of<D: Digest, const B: u8, A: Allocator + Copy>(
     ensures none { IfOk result (λ found. IfNone found
         (HasClash D.digest_of (map arc_value built.now.blocks.items))) }
 {
-    let mut source = BlockMap::new(alloc, &built.blocks)?;
-    if !gives_each::<D, A, BlockMap<'_, D, A>>(&mut source, &built.blocks) {
+    let Some(mut source) = source_of(alloc, built)? else {
         return Ok(None);
-    }
+    };
     let root = built.root;
     let nodes = path_over::<D, B, A, BlockMap<'_, D, A>>(alloc, &mut source, root, key)?;
     Ok(Some(BuiltPath { root, nodes }))

@@ -1,60 +1,37 @@
-use Rattle.std.proofs.Common.{◌≡◌, ◌<◌, ◌^◌, ℕ, List, length, subst, arith}
+use Rattle.std.proofs.Common.{◌<◌, ◌^◌, ℕ, length, arith}
 use Rattle.std.proofs.lemmas.List.{length-map}
 use Rattle.std.proofs.lemmas.Option.{IfSome_then}
 use Rattle.std.proofs.lemmas.Result.{IfOk-weaker}
-use Rattle.spec.specs.Blocks.{nodes, pairs}
-use Rattle.spec.specs.Writes.{leaves}
 use Rattle.batches.specs.Values.{stamp_of, write_of, writes_of}
-use Rattle.built_car.specs.Building.{HasClash, IsBuiltOf}
-use Rattle.built_car.specs.Records.{records_in}
-use Rattle.built_car.proofs.Files.{ascending, clash-all, clash-nodes, file-is}
-use Rattle.built_car.proofs.Giving.{at-none, none-then}
+use Rattle.built_car.proofs.Files.{clash-all, file-is}
+use Rattle.built_car.proofs.Giving.{none-then}
 use Rattle.built_car.proofs.file.built_car.Goals as goal
 
-pub built_blocks-requires-clause-ascending : goal.built_blocks-requires-clause-ascending
-built_blocks-requires-clause-ascending g c =
-    let within = rw c.in-Some.is at c.in_ok-records.ensures.few in
-    let few : length (writes_of c.args.writes.now) < 2 ^ 64 = omega (arith, length-map c.args.writes.now write_of, within, c.ranges.limit.fits) in
-    let passes = rw c.in-Some.is at c.in_ok-records.ensures.passes in
-    let records = rw c.in-Some.is at c.in_ok-records.ensures.records in
-    ascending g.D.Digest.digest_of g.met.D.Digest.digest_len c.args.limit (writes_of c.args.writes.now) few passes _ records
+pub returns-in-Some-clause-passes : goal.returns-in-Some-clause-passes
+returns-in-Some-clause-passes g c =
+    let passes = rw c.in-Some.is at c.in_ok-built.ensures.passes in
+    IfOk-weaker c.file_of.result _ _ (λ found h. IfSome_then found h (λ x made. passes)) c.file_of.ensures.file
 
-pub returns-clause-file : goal.returns-clause-file
-returns-clause-file g c =
+pub returns-in-Some-clause-file : goal.returns-in-Some-clause-file
+returns-in-Some-clause-file g c =
     let ws = writes_of c.args.writes.now in
-    let within = rw c.in-Some.is at c.in_ok-records.ensures.few in
+    let within = rw c.in-Some.is at c.in_ok-built.ensures.few in
     let few : length ws < 2 ^ 64 = omega (arith, length-map c.args.writes.now write_of, within, c.ranges.limit.fits) in
-    let passes = rw c.in-Some.is at c.in_ok-records.ensures.passes in
-    let records : records_in c.in-Some.records.entries ≡ leaves ws = rw c.in-Some.is at c.in_ok-records.ensures.records in
-    let built = rw c.in-Some-2.is at c.in_ok-built.ensures.built in
-    let of_leaves : IsBuiltOf g.D.Digest.digest_of g.row.B (stamp_of c.args.stamp.now) (leaves ws) c.in-Some-2.built = rw records at built in
+    let passes = rw c.in-Some.is at c.in_ok-built.ensures.passes in
+    let built = rw c.in-Some.is at c.in_ok-built.ensures.built in
     IfOk-weaker c.file_of.result _ _
-    (λ found h. IfSome_then found h (λ file made.
-    file-is g.D.Digest.digest_of g.met.D.Digest.digest_len c.args.limit ws few passes g.row.B (stamp_of c.args.stamp.now) c.in-Some-2.built file of_leaves made))
+    (λ found h. IfSome_then found h (λ x made.
+    file-is g.D.Digest.digest_of g.met.D.Digest.digest_len c.args.limit ws few passes g.row.B (stamp_of c.args.stamp.now) c.in-Some.built x built made))
     c.file_of.ensures.file
 
-pub returns-clause-none : goal.returns-clause-none
-returns-clause-none g c =
+pub returns-in-Some-clause-none : goal.returns-in-Some-clause-none
+returns-in-Some-clause-none g c =
     let ws = writes_of c.args.writes.now in
-    let within = rw c.in-Some.is at c.in_ok-records.ensures.few in
+    let within = rw c.in-Some.is at c.in_ok-built.ensures.few in
     let few : length ws < 2 ^ 64 = omega (arith, length-map c.args.writes.now write_of, within, c.ranges.limit.fits) in
-    let passes = rw c.in-Some.is at c.in_ok-records.ensures.passes in
-    let records : records_in c.in-Some.records.entries ≡ leaves ws = rw c.in-Some.is at c.in_ok-records.ensures.records in
-    let built = rw c.in-Some-2.is at c.in_ok-built.ensures.built in
-    let of_leaves : IsBuiltOf g.D.Digest.digest_of g.row.B (stamp_of c.args.stamp.now) (leaves ws) c.in-Some-2.built = rw records at built in
+    let passes = rw c.in-Some.is at c.in_ok-built.ensures.passes in
+    let built = rw c.in-Some.is at c.in_ok-built.ensures.built in
     IfOk-weaker c.file_of.result _ _
     (λ found h. none-then found h
-    (clash-all g.D.Digest.digest_of g.met.D.Digest.digest_len c.args.limit ws few passes g.row.B (stamp_of c.args.stamp.now) _ of_leaves.blocks_are))
+    (clash-all g.D.Digest.digest_of g.met.D.Digest.digest_len c.args.limit ws few passes g.row.B (stamp_of c.args.stamp.now) _ built.blocks_are))
     c.file_of.ensures.none
-
-pub returns-in_default-2-clause-none : goal.returns-in_default-2-clause-none
-returns-in_default-2-clause-none g c =
-    let ws = writes_of c.args.writes.now in
-    let within = rw c.in-Some.is at c.in_ok-records.ensures.few in
-    let few : length ws < 2 ^ 64 = omega (arith, length-map c.args.writes.now write_of, within, c.ranges.limit.fits) in
-    let passes = rw c.in-Some.is at c.in_ok-records.ensures.passes in
-    let records : records_in c.in-Some.records.entries ≡ leaves ws = rw c.in-Some.is at c.in_ok-records.ensures.records in
-    let none : HasClash g.D.Digest.digest_of (nodes g.D.Digest.digest_of g.row.B (pairs g.D.Digest.digest_of (records_in c.in-Some.records.entries))) =
-    at-none c.in_ok-built.field-0 c.in_ok-built.ensures.none c.in_default-2.is in
-    clash-nodes g.D.Digest.digest_of g.met.D.Digest.digest_len c.args.limit ws few passes g.row.B (stamp_of c.args.stamp.now)
-    (subst (λ (rs : List (List ℕ × List ℕ)). HasClash g.D.Digest.digest_of (nodes g.D.Digest.digest_of g.row.B (pairs g.D.Digest.digest_of rs))) records none)

@@ -1,34 +1,17 @@
-use Rattle.std.proofs.Common.{◌≡◌, ◌∙◌, List, ℕ, map, option_map, ap, sym, subst}
+use Rattle.std.proofs.Common.{◌∙◌, ap, option_map}
 use Rattle.std.specs.Prelude.{Some}
 use Rattle.std.specs.Arc.{arc_value}
-use Rattle.std.specs.declared.sync.Arc.{Arc}
-use Rattle.edit_laws.specs.Sources.{HasBlocks}
-use Rattle.edit.specs.Maps.{first_of}
 use Rattle.edit.specs.Steps.{layers}
 use Rattle.export.specs.Walks.{car_met}
-use Rattle.built_car.proofs.Giving.{has-own}
+use Rattle.built_car.specs.Building.{IsSourceOf}
 use Rattle.built_car.proofs.file.file_of.Goals as goal
 
 pub returns-clause-file : goal.returns-clause-file
 returns-clause-file g c =
     let digest = g.D.Digest.digest_of in
-    let own : c.in_ok-source.source.blocks ≡ c.args.built.now.blocks.items = ap (λ m. m.blocks) c.in_ok-source.ensures ∙ c.deref.ensures.value in
-    let has = c.gives_each.ensures.has c.if-not-gives_each.false in
-    let of_own : HasBlocks digest (λ q. option_map arc_value (first_of digest c.args.built.now.blocks.items q)) (map arc_value c.deref-2.result.now) =
-    subst (λ (bs : List (Arc (List ℕ) g.row.A.Denot)). HasBlocks digest (λ q. option_map arc_value (first_of digest bs q)) (map arc_value c.deref-2.result.now)) own has in
+    let is : IsSourceOf digest c.args.built.now c.in-Some.source = rw c.in-Some.is at c.in_ok-source.ensures.source in
     record {
-      each = subst (λ (bs : List (Arc (List ℕ) g.row.A.Denot)). HasBlocks digest (λ q. option_map arc_value (first_of digest c.args.built.now.blocks.items q)) (map arc_value bs)) c.deref-2.ensures.value of_own;
+      each = is.each;
       bytes_are = c.in_ok-file.ensures
-          ∙ ap (λ gives. car_met digest (λ q. option_map arc_value (gives q)) (layers g.row.B) (Some c.args.built.now.commit) c.args.built.now.root)
-          (c.gives_each.ensures.same ∙ ap (first_of digest) own);
+          ∙ ap (λ gives. car_met digest (λ q. option_map arc_value (gives q)) (layers g.row.B) (Some c.args.built.now.commit) c.args.built.now.root) is.gives_is;
     }
-
-pub returns-then-not-gives_each-clause-none : goal.returns-then-not-gives_each-clause-none
-returns-then-not-gives_each-clause-none g c free =
-    let digest = g.D.Digest.digest_of in
-    let own : c.in_ok-source.source.blocks ≡ c.args.built.now.blocks.items = ap (λ m. m.blocks) c.in_ok-source.ensures ∙ c.deref.ensures.value in
-    let has = has-own digest c.args.built.now.blocks.items free in
-    let given : HasBlocks digest (λ q. option_map arc_value (first_of digest c.in_ok-source.source.blocks q)) (map arc_value c.args.built.now.blocks.items) =
-    subst (λ (bs : List (Arc (List ℕ) g.row.A.Denot)). HasBlocks digest (λ q. option_map arc_value (first_of digest bs q)) (map arc_value c.args.built.now.blocks.items)) (sym own) has in
-    c.gives_each.ensures.has_not c.if-not-gives_each.true
-    (subst (λ (bs : List (Arc (List ℕ) g.row.A.Denot)). HasBlocks digest (λ q. option_map arc_value (first_of digest c.in_ok-source.source.blocks q)) (map arc_value bs)) (sym c.deref-2.ensures.value) given)

@@ -1,34 +1,18 @@
-use Rattle.std.proofs.Common.{◌≡◌, ◌∙◌, List, ℕ, Option, map, option_map, refl, ap, sym, subst}
-use Rattle.std.specs.Prelude.{Some}
+use Rattle.std.proofs.Common.{◌≡◌, List, ℕ, Option, option_map, refl, sym, subst}
 use Rattle.std.specs.Arc.{arc_value}
 use Rattle.std.specs.declared.sync.Arc.{Arc}
-use Rattle.edit_laws.specs.Sources.{HasBlocks}
-use Rattle.edit.specs.Maps.{first_of}
 use Rattle.edit.specs.Trees.{HasTree}
-use Rattle.built_car.proofs.Giving.{has-own}
+use Rattle.built_car.specs.Building.{IsSourceOf}
 use Rattle.built_car.proofs.path.path_of.Goals as goal
 
 pub returns-clause-path : goal.returns-clause-path
 returns-clause-path g c =
     let digest = g.D.Digest.digest_of in
-    let own : c.in_ok-source.source.blocks ≡ c.args.built.now.blocks.items = ap (λ m. m.blocks) c.in_ok-source.ensures ∙ c.deref.ensures.value in
-    let has = c.gives_each.ensures.has c.if-not-gives_each.false in
-    let of_own : HasBlocks digest (λ q. option_map arc_value (first_of digest c.args.built.now.blocks.items q)) (map arc_value c.deref-2.result.now) =
-    subst (λ (bs : List (Arc (List ℕ) g.row.A.Denot)). HasBlocks digest (λ q. option_map arc_value (first_of digest bs q)) (map arc_value c.deref-2.result.now)) own has in
+    let is : IsSourceOf digest c.args.built.now c.in-Some.source = rw c.in-Some.is at c.in_ok-source.ensures.source in
     record {
-      each = subst (λ (bs : List (Arc (List ℕ) g.row.A.Denot)). HasBlocks digest (λ q. option_map arc_value (first_of digest c.args.built.now.blocks.items q)) (map arc_value bs)) c.deref-2.ensures.value of_own;
+      each = is.each;
       root_is = refl;
       nodes = λ es has. c.in_ok-nodes.ensures es
           (subst (λ (gives : List ℕ → Option (Arc (List ℕ) g.row.A.Denot)). HasTree digest g.row.B (λ q. option_map arc_value (gives q)) c.args.built.now.root es)
-          (sym (c.gives_each.ensures.same ∙ ap (first_of digest) own)) has);
+          (sym is.gives_is) has);
     }
-
-pub returns-then-not-gives_each-clause-none : goal.returns-then-not-gives_each-clause-none
-returns-then-not-gives_each-clause-none g c free =
-    let digest = g.D.Digest.digest_of in
-    let own : c.in_ok-source.source.blocks ≡ c.args.built.now.blocks.items = ap (λ m. m.blocks) c.in_ok-source.ensures ∙ c.deref.ensures.value in
-    let has = has-own digest c.args.built.now.blocks.items free in
-    let given : HasBlocks digest (λ q. option_map arc_value (first_of digest c.in_ok-source.source.blocks q)) (map arc_value c.args.built.now.blocks.items) =
-    subst (λ (bs : List (Arc (List ℕ) g.row.A.Denot)). HasBlocks digest (λ q. option_map arc_value (first_of digest bs q)) (map arc_value c.args.built.now.blocks.items)) (sym own) has in
-    c.gives_each.ensures.has_not c.if-not-gives_each.true
-    (subst (λ (bs : List (Arc (List ℕ) g.row.A.Denot)). HasBlocks digest (λ q. option_map arc_value (first_of digest c.in_ok-source.source.blocks q)) (map arc_value bs)) (sym c.deref-2.ensures.value) given)
