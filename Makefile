@@ -15,7 +15,7 @@ help:
 	@echo 'Tests stand in crates of their own: of dagcbor and node in format_tests, of sha256_lanes, cid, store and refusing in'
 	@echo 'block_tests, of scratch, rewrite and edit in tree_tests, of notices in notice_tests, of batches and kept in batch_tests, of repo in'
 	@echo 'repo_tests, both over repo_fixtures, of closing in closing_tests, of host in host_tests, of scripts in script_tests, of'
-	@echo 'export and built_car in export_tests, of console, script_text, repository_commands, run_command and commands in command_tests,'
+	@echo 'export and built_car in export_tests, of console, script_text, repository_commands, run_command, tree_command and commands in command_tests,'
 	@echo 'across crates in conformance.'
 
 demo:

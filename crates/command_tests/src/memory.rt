@@ -1,10 +1,10 @@
 //! Memory that is refused.
 use crate::running::{EMPTY, joined};
 use cid::Sha256;
-use commands::{TreeFault, tree_text};
 use refusing::Refusing;
 use repository_commands::{CommandFault, verify_text};
 use std::alloc::Global;
+use tree_command::{TreeFault, tree_text};
 
 /// How a command ended for which a request for memory may have been refused.
 #[derive(Clone, Copy, PartialEq, Eq)]

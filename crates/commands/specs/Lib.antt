@@ -1,4 +1,1 @@
-pub mod TreeText
-pub mod Fault
-pub mod Fronts
 pub mod Requests

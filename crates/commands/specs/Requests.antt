@@ -1,7 +1,7 @@
 -- What a request writes.
 use Rattle.std.specs.Prelude.{ℕ, List, Option, IfSome}
 use Rattle.console.specs.Written.{AppendsText}
-use Rattle.commands.specs.TreeText.{tree_text}
+use Rattle.tree_command.specs.TreeText.{tree_text}
 use Rattle.commands.specs.declared.command_line.Request.{Request}
 use Rattle.commands.specs.declared.command_line.Request.TheVariants as requests
 use Rattle.repository_commands.specs.Commands.{texts_of}

@@ -1,9 +1,9 @@
 //! What the words of a command line ask for.
-use crate::tree::{self, Bits};
 use clap::{ArgMatches, Command, Error};
 use repository_commands::RepositoryCommand;
 use run_command::RunCommand;
 use std::alloc::{AllocError, Global};
+use tree_command::Bits;
 
 /// What is to be done: for each command what its words say.
 #[derive(Clone, Copy)]
@@ -34,7 +34,7 @@ fn request_by<'a>(name: &str, words: &ArgMatches<'a>) -> Request<'a> {
     }
     match run_command::command_of(name, words) {
         Some(command) => Request::Run(command),
-        None => Request::Tree(tree::bits_of(words)),
+        None => Request::Tree(tree_command::bits_of(words)),
     }
 }
 
@@ -43,10 +43,10 @@ fn command<'a>(alloc: Global) -> Result<Command<'a>, AllocError> {
     let program = Command::new(alloc, "msthost")
         .version("0.1.0")
         .about(ABOUT)
-        .after_help(tree::EXAMPLE)
+        .after_help(tree_command::EXAMPLE)
         .subcommand_required(true)
-        .disable_help_subcommand(true)
-        .subcommand(tree::words(alloc)?)?;
+        .disable_help_subcommand(true);
+    let program = tree_command::with_words(alloc, program)?;
     let program = repository_commands::with_words(alloc, program)?;
     run_command::with_words(alloc, program)
 }

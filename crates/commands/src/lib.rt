@@ -4,22 +4,17 @@
 //!
 //! - `run_words` does what a command line says: it takes the words, the standard streams, or stand-ins for them, and
 //!   answers the exit status. It writes help, faults and the version too. A program gives it its own words.
-//!   `not_started` says what a program does that doesn't get as far.
-//! - `tree_text` is the command `tree` alone, for a caller that has lines and wants their listing, with the fault as a
-//!   value and in place of a text on standard error: under a digest and a fan-out fixed by types, and with any
-//!   allocator. `run_words_with` is `run_words` under another digest than SHA-256.
-//! - `Bits` is a fan-out chosen while the program runs.
+//!   `run_words_with` is `run_words` under another digest than SHA-256.
+//! - `not_started` says what a program does that doesn't get as far.
 //!
-//! `tree` has a module of its own, with its words, its run and its faults; the commands on one repository, `car`, `prove`
-//! and `verify`, stand in the crate `repository_commands`. `command_line` knows them all, and `run` does the one that is
-//! asked for.
+//! Each command has a crate of its own, for callers that have no command line: `tree_command` lists trees,
+//! `repository_commands` has `car`, `prove` and `verify`, and `run_command` does scripts. `command_line` knows them all, and
+//! `run` does the one that is asked for.
 #![tactic(auto)]
 
 mod command_line;
 mod run;
 mod starting;
-mod tree;
 
 pub use run::{run_words, run_words_with};
 pub use starting::not_started;
-pub use tree::{Bits, LineFault, TreeFault, tree_text};

@@ -4,7 +4,6 @@ ghost use Rattle.std.specs.Io.KnownBytes.{Keeps};
 ghost use Rattle.commands.specs.Requests.{IsDone};
 
 use crate::command_line::{Request, request_of};
-use crate::tree;
 use cid::{Digest, Sha256};
 use clap::Error;
 use clap::error::ErrorKind;
@@ -68,7 +67,7 @@ fn do_request<D: Digest + Send + Sync, T: Threads + Wait + Sync, R: Read, W: Wri
         → Keeps (W.contents out.old) (W.contents out.new) }
 {
     match request {
-        Request::Tree(bits) => tree::run::<D, R, W, X>(bits, alloc, input, out, err),
+        Request::Tree(bits) => tree_command::run::<D, R, W, X>(bits, alloc, input, out, err),
         Request::OnRepository(command) => {
             repository_commands::run::<D, R, W, X>(command, alloc, input, out, err)
         }

@@ -1,0 +1,3 @@
+pub mod TreeText
+pub mod Fault
+pub mod Fronts

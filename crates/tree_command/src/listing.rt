@@ -1,0 +1,75 @@
+//! The pairs of key and CID that the lines of an input leave.
+ghost use Rattle.std.specs.Prelude.{◌≡◌, [], ◌∷◌, ◌++◌, true, IfErr, OnOk};
+ghost use Rattle.spec.specs.Reading.{Gives};
+ghost use Rattle.console.specs.Lines.{lines};
+ghost use Rattle.tree_command.specs.TreeText.{pairs_of_lines, last_of_each_key, map_of_input as map_of};
+ghost use Rattle.tree_command.specs.Fault.{fault_of, is_of_input};
+
+use crate::fault::TreeFault;
+use crate::key::ListedKey;
+use crate::line::pair_of_line;
+use bstr::ByteSlice;
+use cid::Cid;
+use std::alloc::{AllocError, Allocator};
+
+/// The pairs in the order of their lines, or the first line that is faulty.
+pub(crate) fn pairs_of_input<A: Allocator>(
+    alloc: A,
+    input: &[u8],
+) -> Result<Vec<(ListedKey<'_>, Cid), A>, TreeFault>
+    ensures pairs { Gives (λ pairs. pairs.items) fault_of result
+        (pairs_of_lines 1 (lines input.now)) }
+    ensures kind { IfErr result (λ e. is_of_input e ≡ true) }
+{
+    let mut pairs = Vec::new(alloc);
+    let mut number = 0;
+    for line in input.lines() {
+        number += 1;
+        if line.is_empty() {
+            continue;
+        }
+        match pair_of_line(line) {
+            Ok(pair) => push_pair(&mut pairs, pair)?,
+            Err(fault) => return Err(TreeFault::Line { number, fault }),
+        }
+    }
+    Ok(pairs)
+}
+
+/// Adds the pair of a key that is lent.
+fn push_pair<'a, A: Allocator>(
+    pairs: &mut Vec<(ListedKey<'a>, Cid), A>,
+    pair: (&'a [u8], Cid),
+) -> Result<(), AllocError>
+    ensures { OnOk result (pairs.new.items
+        ≡ pairs.old.items ++ (pair.entry.0.now, pair.entry.1) ∷ []) }
+{
+    pairs.push((ListedKey::new(pair.0), pair.1))?;
+    Ok(())
+}
+
+/// Sorts the pairs by key, and keeps of those with one key the last. At `Err` they may stand in another order.
+pub(crate) fn keep_last_of_each_key<A: Allocator>(
+    pairs: &mut Vec<(ListedKey<'_>, Cid), A>,
+) -> Result<(), AllocError>
+    ensures { OnOk result (pairs.new.items ≡ last_of_each_key pairs.old.items) }
+{
+    pairs.reverse();
+    pairs.sort_by(|a, b| a.0.cmp(&b.0))?;
+    pairs.dedup_by(|later, kept| later.0 == kept.0);
+    Ok(())
+}
+
+/// The map that the lines of an input leave, in the order of its keys, or the first line that is faulty.
+#[tactic(auto, unfolding(crate::specs::TreeText::map_of_input))]
+pub(crate) fn map_of_input<A: Allocator>(
+    alloc: A,
+    input: &[u8],
+) -> Result<Vec<(ListedKey<'_>, Cid), A>, TreeFault>
+    ensures map { Gives (λ pairs. pairs.items) fault_of result (map_of input.now) }
+    ensures kind { IfErr result (λ e. is_of_input e ≡ true) }
+{
+    let mut pairs = pairs_of_input(alloc, input)?;
+    keep_last_of_each_key(&mut pairs)?;
+    Ok(pairs)
+}

@@ -1,0 +1,51 @@
+//! What `tree` is told on a command line.
+use crate::bits::Bits;
+use clap::{Arg, ArgMatches, Command, value_parser};
+use std::alloc::{AllocError, Global};
+
+/// What a user types, and what comes of it.
+pub const EXAMPLE: &str = "\
+Example:
+  $ printf '' | msthost tree
+  bafyreie5737gdxlw5i64vzichcalba3z2v5n6icifvx5xytvske7mr3hpm
+  bafyreie5737gdxlw5i64vzichcalba3z2v5n6icifvx5xytvske7mr3hpm a2616580616cf6";
+
+const ABOUT: &str = "Reads lines KEY CID and lists the tree of them";
+
+const LONG_ABOUT: &str = "\
+Reads lines KEY CID from standard input and writes the text of the CID of their tree's root, and then a line CID HEX
+for each node, from the top.
+
+Lines come in any order and end at LF or CR LF. The key is all before a line's last space, and has 1 to 1,024 bytes.
+Of lines with one key the last decides, and empty lines are passed over.
+
+Exit status: 0 done, 1 a faulty line or two nodes with one CID, 2 a wrong command line, 3 no memory, 4 reading or
+writing failed.";
+
+/// Adds the command to a program's.
+pub fn with_words<'a>(alloc: Global, program: Command<'a>) -> Result<Command<'a>, AllocError> {
+    program.subcommand(words(alloc)?)
+}
+
+/// The words that `tree` takes, with what help shows of them.
+fn words<'a>(alloc: Global) -> Result<Command<'a>, AllocError> {
+    let bits = Arg::new(alloc, "bits")
+        .long("bits")
+        .value_name("B")
+        .value_parser(value_parser!(u8).range(1..=8))
+        .default_value("2")
+        .help("Zero bits of a key's digest that count for one layer");
+    Command::new(alloc, "tree")
+        .about(ABOUT)
+        .long_about(LONG_ABOUT)
+        .after_help(EXAMPLE)
+        .arg(bits)
+}
+
+/// The number of zero bits that these words of `tree` ask for.
+pub fn bits_of(words: &ArgMatches) -> Bits {
+    words
+        .get_one::<u8>("bits")
+        .and_then(Bits::new)
+        .unwrap_or_default()
+}
