@@ -15,6 +15,7 @@ use closing::Feed;
 use notices::{Queue, SendPass};
 use repo::{Core, Repository};
 use std::alloc::{AllocError, Global};
+use std::collections::VecDeque;
 use std::sync::{RwLock, Wait};
 use store::{LockedShards, Shards};
 
@@ -51,7 +52,7 @@ fn seats_of(alloc: Global, passes: Vec<SendPass>, repos: usize) -> Result<Vec<Se
         let seen = Vec::from_elem(alloc, 0, repos)?;
         let seat = Seat {
             pass,
-            kept: Vec::new(alloc),
+            kept: VecDeque::new(alloc),
             seen,
         };
         seats.push_reserved(seat);

@@ -3,6 +3,7 @@
 ghost use Rattle.std.specs.Prelude.{◌≡◌};
 
 use notices::{Notice, SendPass};
+use std::collections::VecDeque;
 use std::marker::Model;
 
 /// A writer's place at a host, from `Host::open` until `Host::writer`.
@@ -12,7 +13,7 @@ use std::marker::Model;
 #[derive(Drop)]
 pub struct Seat {
     pub(crate) pass: SendPass,
-    pub(crate) kept: Vec<Notice>,
+    pub(crate) kept: VecDeque<Notice>,
     pub(crate) seen: Vec<u64>,
 }
 

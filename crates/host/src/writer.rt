@@ -1,6 +1,7 @@
 //! A writer: what it has told, what it keeps, and what it has seen.
 
-ghost use Rattle.std.specs.Prelude.{◌≡◌, ◌<◌, ◌≤◌, ◌+◌, ◌++◌, ◌∷◌, [], length, IfOk, IfErr, OnErr, OnOk, Err, slice_index, option_map, vec_len, vec_capacity};
+ghost use Rattle.std.specs.Prelude.{◌≡◌, ◌<◌, ◌≤◌, ◌+◌, ◌++◌, ◌∷◌, [], length, IfOk, IfErr, OnErr, OnOk, Err, slice_index, option_map};
+ghost use Rattle.std.specs.VecDeque.{deque_len, deque_capacity};
 ghost use Rattle.boxcar.specs.Table.{Shows};
 ghost use Rattle.edit.specs.Walks.{pairs_given};
 ghost use Rattle.closing.specs.Ending.{IsEndedAt};
@@ -19,6 +20,7 @@ use cid::{Cid, Digest};
 use closing::Ended;
 use notices::{Notice, Sender};
 use std::alloc::Global;
+use std::collections::VecDeque;
 use std::marker::Model;
 use std::sync::Wait;
 
@@ -33,7 +35,7 @@ use std::sync::Wait;
 pub struct Writer<'a, D: Digest, const B: u8> {
     pub(crate) host: &'a Host<D, B>,
     pub(crate) sender: Sender<'a>,
-    pub(crate) kept: Vec<Notice>,
+    pub(crate) kept: VecDeque<Notice>,
     pub(crate) last: u64,
     pub(crate) seen: Vec<u64>,
 }
@@ -223,13 +225,13 @@ impl<'a, D: Digest, const B: u8> Writer<'a, D, B> {
         ensures kept { result ≡ length self.new.kept }
         ensures pushed { IsPushed self.old self.new }
     {
-        while let Some(first) = self.kept.first() {
+        while let Some(first) = self.kept.front() {
             let notice = *first;
             match self.sender.push(rt, notice) {
                 Ok(()) => {}
                 Err(_) => return self.kept.len(),
             }
-            self.kept.remove(0);
+            self.kept.pop_front();
         }
         0
     }
@@ -246,14 +248,14 @@ impl<'a, D: Digest, const B: u8> Writer<'a, D, B> {
             last: _,
             seen,
         } = self;
-        Ended::new(sender.end(), kept, seen)
+        Ended::new(sender.end(), kept.into_vec(), seen)
     }
 }
 
 /// Keeps one more notice, for which there is room.
-fn keep(kept: &mut Vec<Notice>, notice: &Notice)
-    requires { vec_len kept.old < vec_capacity kept.old }
+fn keep(kept: &mut VecDeque<Notice>, notice: &Notice)
+    requires { deque_len kept.old < deque_capacity kept.old }
     ensures { kept.new.items ≡ kept.old.items ++ notice.now ∷ [] }
 {
-    kept.push_reserved(*notice);
+    kept.push_back_reserved(*notice);
 }
