@@ -60,6 +60,7 @@ fn file_of<D: Digest, const B: u8, A: Allocator + Copy>(
     let most = 256 / B as u16 + 1;
     let file = car_in_memory::<D, A, BlockMap<'_, D, A>>(
         alloc,
+        built.blocks.len(),
         &mut source,
         built.commit,
         built.root,
@@ -68,9 +69,10 @@ fn file_of<D: Digest, const B: u8, A: Allocator + Copy>(
     Ok(Some(file))
 }
 
-/// The CAR of a commit and of the tree with this root, over `most` layers at most, in memory.
+/// The CAR of a commit and of the tree with this root, over `most` layers at most, in memory. So many blocks are expected.
 fn car_in_memory<'a, D: Digest + 'a, A: Allocator + Copy + 'a, S: Source<Lent<'a, D, A>>>(
     alloc: A,
+    blocks: usize,
     source: &mut S,
     commit: Cid,
     root: Cid,
@@ -80,7 +82,7 @@ fn car_in_memory<'a, D: Digest + 'a, A: Allocator + Copy + 'a, S: Source<Lent<'a
         (λ c. option_map arc_value (S.gives source.old c)) most (Some commit) root) }
 {
     let mut file = ToMemory::new(alloc);
-    match car_over(alloc, source, Some(commit), root, most, &mut file) {
+    match car_over(alloc, blocks, source, Some(commit), root, most, &mut file) {
         Ok(_) => Ok(file.into_bytes()),
         Err(_) => Err(AllocError),
     }

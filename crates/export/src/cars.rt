@@ -40,17 +40,37 @@ pub fn car<D: Digest, const B: u8, A: Allocator + Clone, W: Out>(
 {
     let commit = core.commit();
     let root = core.root();
+    let blocks = expected(core);
     let mut lender = core.lender();
-    car_over(alloc, &mut lender, commit, root, 256 / B as u16 + 1, out)
+    car_over(
+        alloc,
+        blocks,
+        &mut lender,
+        commit,
+        root,
+        256 / B as u16 + 1,
+        out,
+    )
+}
+
+/// How many blocks a repository has. It is only for the room that is made at once, so no clause says so.
+fn expected<D: Digest, const B: u8, A: Allocator>(core: &Core<D, B, A>) -> usize {
+    let mut count: usize = 0;
+    for _ in core.blocks() {
+        count = count.saturating_add(1);
+    }
+    count
 }
 
 /// Writes the CAR of a commit, if there is one, and of the tree with this root, over `most` layers at most: of each
 /// block that the source has, and answers how many bytes that are.
 ///
 /// It is for who has a repository's blocks and no `Core`. A CID that the source has no block for is passed over. The faults
-/// are those of [`car`].
+/// are those of [`car`]. `blocks` is how many blocks are expected: room for the CIDs of so many is made at once, before
+/// anything is written, and for more as they come.
 pub fn car_over<'a, D: Digest + 'a, A: Allocator + Clone + 'a, S: Source<Lent<'a, D, A>>, W: Out>(
     alloc: A,
+    blocks: usize,
     src: &mut S,
     commit: Option<Cid>,
     root: Cid,
@@ -64,7 +84,7 @@ pub fn car_over<'a, D: Digest + 'a, A: Allocator + Clone + 'a, S: Source<Lent<'a
         (λ c. option_map arc_value (S.gives src.old c)) most commit root))) }
     ensures cause { HasCause (W.failures out.old) (W.failures out.new) result }
 {
-    let mut seen = Seen::none(alloc.clone()?);
+    let mut seen = Seen::with_room(alloc.clone()?, blocks)?;
     let walk = Walk::from_top(alloc, root, most);
     let header = write_header(out, &root_of(commit, root))?;
     let first = write_commit(src, &mut seen, out, commit)?;

@@ -27,13 +27,13 @@ impl<A: Allocator> Model for Seen<A> {
 }
 
 impl<A: Allocator + Clone> Seen<A> {
-    /// None so far.
-    pub(crate) fn none(alloc: A) -> Seen<A>
-        ensures { result ≡ [] }
+    /// None so far, with room for so many.
+    pub(crate) fn with_room(alloc: A, room: usize) -> Result<Seen<A>, AllocError>
+        ensures { IfOk result (λ seen. seen ≡ []) }
     {
-        Seen {
-            cids: HashSet::new(alloc),
-        }
+        Ok(Seen {
+            cids: HashSet::with_capacity(alloc, room)?,
+        })
     }
 
     /// One more, and whether it is new.

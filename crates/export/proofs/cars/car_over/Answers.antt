@@ -7,6 +7,10 @@ pub returns-in_err-clone-clause-taken : goal.returns-in_err-clone-clause-taken
 returns-in_err-clone-clause-taken g c =
     takes-nothing (g.W.Out.taken c.args.out.now) _ c.from_residual.result c.from_residual.ensures.0
 
+pub returns-in_err-seen-clause-taken : goal.returns-in_err-seen-clause-taken
+returns-in_err-seen-clause-taken g c =
+    takes-nothing (g.W.Out.taken c.args.out.now) _ c.from_residual-in_err-seen.result c.from_residual-in_err-seen.ensures.0
+
 pub returns-in_err-header-clause-taken : goal.returns-in_err-header-clause-taken
 returns-in_err-header-clause-taken g c =
     stops-header arc_value g.D.Digest.digest_of (g.S.Source.gives c.args.src.now) c.args.most c.args.commit c.args.root
@@ -17,15 +21,15 @@ pub returns-in_err-first-clause-taken : goal.returns-in_err-first-clause-taken
 returns-in_err-first-clause-taken g c =
     stops-commit arc_value g.D.Digest.digest_of (g.S.Source.gives c.args.src.now) c.args.most c.args.commit c.args.root
     (g.W.Out.taken c.args.out.now) (g.W.Out.taken c.write_header.new.out) (g.W.Out.taken c.write_commit.new.out) c.root_of.result
-    c.none-seen.result c.from_residual-in_err-first.result c.root_of.ensures c.none-seen.ensures c.in_ok-header.ensures.taken
+    c.in_ok-seen.seen c.from_residual-in_err-first.result c.root_of.ensures c.in_ok-seen.ensures c.in_ok-header.ensures.taken
     c.from_residual-in_err-first.ensures.0 c.in_err-first.ensures.taken
 
 pub returns-in_err-others-clause-taken : goal.returns-in_err-others-clause-taken
 returns-in_err-others-clause-taken g c =
     stops-blocks arc_value g.D.Digest.digest_of (g.S.Source.gives c.args.src.now) c.args.most c.args.commit c.args.root
     (g.W.Out.taken c.args.out.now) (g.W.Out.taken c.write_header.new.out) (g.W.Out.taken c.write_commit.new.out) (g.W.Out.taken c.write_blocks.new.out)
-    c.root_of.result c.none-seen.result c.write_commit.new.seen c.from_top-walk.result (g.S.Source.gives c.write_commit.new.src)
-    c.root_of.ensures c.none-seen.ensures c.from_top-walk.ensures c.in_ok-first.ensures.same c.in_ok-first.ensures.seen
+    c.root_of.result c.in_ok-seen.seen c.write_commit.new.seen c.from_top-walk.result (g.S.Source.gives c.write_commit.new.src)
+    c.root_of.ensures c.in_ok-seen.ensures c.from_top-walk.ensures c.in_ok-first.ensures.same c.in_ok-first.ensures.seen
     c.in_ok-header.ensures.taken c.in_ok-first.ensures.taken c.from_residual-in_err-others.result
     c.from_residual-in_err-others.ensures.0 c.in_err-others.ensures.taken
 
@@ -33,15 +37,15 @@ pub returns-clause-taken : goal.returns-clause-taken
 returns-clause-taken g c =
     file-taken arc_value g.D.Digest.digest_of (g.S.Source.gives c.args.src.now) c.args.most c.args.commit c.args.root
     (g.W.Out.taken c.args.out.now) (g.W.Out.taken c.write_header.new.out) (g.W.Out.taken c.write_commit.new.out) (g.W.Out.taken c.write_blocks.new.out)
-    c.root_of.result c.none-seen.result c.write_commit.new.seen c.from_top-walk.result (g.S.Source.gives c.write_commit.new.src)
-    c.root_of.ensures c.none-seen.ensures c.from_top-walk.ensures c.in_ok-first.ensures.same c.in_ok-first.ensures.seen
+    c.root_of.result c.in_ok-seen.seen c.write_commit.new.seen c.from_top-walk.result (g.S.Source.gives c.write_commit.new.src)
+    c.root_of.ensures c.in_ok-seen.ensures c.from_top-walk.ensures c.in_ok-first.ensures.same c.in_ok-first.ensures.seen
     c.in_ok-header.ensures.taken c.in_ok-first.ensures.taken c.in_ok-others.ensures.taken
 
 pub returns-clause-length : goal.returns-clause-length
 returns-clause-length g c =
     file-length arc_value g.D.Digest.digest_of (g.S.Source.gives c.args.src.now) c.args.most c.args.commit c.args.root
-    c.root_of.result c.none-seen.result c.write_commit.new.seen c.from_top-walk.result (g.S.Source.gives c.write_commit.new.src)
+    c.root_of.result c.in_ok-seen.seen c.write_commit.new.seen c.from_top-walk.result (g.S.Source.gives c.write_commit.new.src)
     c.in_ok-header.header c.in_ok-first.first c.in_ok-others.others c.saturating_add.result c.saturating_add-2.result
-    c.root_of.ensures c.none-seen.ensures c.from_top-walk.ensures c.in_ok-first.ensures.same c.in_ok-first.ensures.seen
+    c.root_of.ensures c.in_ok-seen.ensures c.from_top-walk.ensures c.in_ok-first.ensures.same c.in_ok-first.ensures.seen
     c.in_ok-header.ensures.length c.in_ok-first.ensures.length c.in_ok-others.ensures.length
     c.saturating_add.ensures c.saturating_add-2.ensures
