@@ -84,6 +84,22 @@ impl<'a, 's, R: Wait> Desk<'a, 's, R> {
         }
     }
 
+    /// Makes the repository of a plan by one batch, in the order of the keys, and says whether it was accepted. So its blocks lie
+    /// in memory as those of a tree that is built from a sorted list.
+    fn fill_in_order(&mut self, alloc: Global, plan: &Plan) -> bool {
+        match self.batch_in_order(alloc, plan) {
+            Ok(batches) => self.apply_all(alloc, &batches),
+            Err(_) => false,
+        }
+    }
+
+    /// One batch of puts of the keys that are there at first, in their order.
+    fn batch_in_order(&mut self, alloc: Global, plan: &Plan) -> Result<Vec<Batch>, AllocError> {
+        let mut places = Vec::from_slice(alloc, &plan.places.first)?;
+        places.sort()?;
+        self.batches(alloc, plan, Change::Put, &places, places.len())
+    }
+
     /// Makes the repository of a plan, and says whether all was accepted.
     fn fill(&mut self, alloc: Global, plan: &Plan) -> bool {
         self.change_all(alloc, plan, Change::Put, &plan.places.first)
@@ -182,7 +198,7 @@ fn export_at<R: Wait + Clock>(
     desk: &mut Desk<'_, '_, R>,
     rounds: u32,
 ) -> Option<Exported> {
-    if !desk.fill(alloc, plan) {
+    if !desk.fill_in_order(alloc, plan) {
         return None;
     }
     let first = &plan.places.first;
