@@ -1,4 +1,4 @@
-use Rattle.std.proofs.Common.{◌≡◌, [], List, Option, ℕ, option_map, ap, ◌∙◌}
+use Rattle.std.proofs.Common.{◌≡◌, [], List, Option, ℕ, option_map, ap, ◌∙◌, rules}
 use Rattle.cid.specs.CidRef.{bytes_of}
 use Rattle.node.specs.Rows.{rows}
 use Rattle.rewrite.proofs.NodeEnds.{last_of, last_of-rows}
@@ -16,3 +16,6 @@ loop-entry-init c =
           ∙ ap (λ (l : Option (List ℕ)). last_of l (rows [] n.entries)) c.left-last.ensures
           ∙ last_of-rows [] n.left n.entries;
     }
+
+pub loop-entry-preserved : goal.loop-entry-preserved
+loop-entry-preserved c = search rules

@@ -1,4 +1,4 @@
-use Rattle.std.proofs.Common.{map, ap, ◌∙◌, arith}
+use Rattle.std.proofs.Common.{map, ap, ◌∙◌, arith, rules}
 use Rattle.std.specs.Arc.{arc_value}
 use Rattle.spec.specs.Blocks.{nodes, root, IsClashFree}
 use Rattle.scratch.specs.Pairs.{pairs_of}
@@ -31,3 +31,6 @@ returns-in_ok-show_clash-in-Some-clause-fault g c =
     clash-among g.D.Digest.digest_of (map arc_value c.deref-in-Some.result.now) (nodes g.D.Digest.digest_of g.row.B (pairs_of g.K.AsSlice.items c.args.pairs.now)) c.in_ok-show_clash-in-Some.field-0
     (ap (map arc_value) c.deref-in-Some.ensures.value ∙ c.in_ok-built.ensures.blocks ∙ ap (nodes g.D.Digest.digest_of g.row.B) c.in_ok-rows.ensures.same)
     c.in_ok-show_clash-in-Some.ensures
+
+pub show_clash-requires : goal.show_clash-requires
+show_clash-requires g c = search rules

@@ -1,4 +1,4 @@
-use Rattle.std.proofs.Common.{◌≡◌, ℕ, List, take, drop, ap, ◌∙◌}
+use Rattle.std.proofs.Common.{◌≡◌, ℕ, List, take, drop, ap, ◌∙◌, rules}
 use Rattle.std.specs.Cmp.Lexicographic.{slice_cmp}
 use Rattle.std.specs.Int.{w64, from_be_bytes}
 use Rattle.std.specs.Ordering.{nat_cmp}
@@ -15,3 +15,6 @@ returns-in_default c =
     decided _ _ _ _ c.in_default.not-Equal fronts (fronts-decide x y c.self.invariant c.other.invariant c.front.ensures.fits c.front-2.ensures.fits)
     ∙ ap (λ (l : List ℕ). slice_cmp nat_cmp l y) c.self.view_is
     ∙ ap (slice_cmp nat_cmp c.args.self.now) c.other.view_is
+
+pub returns-in-Equal : goal.returns-in-Equal
+returns-in-Equal c = search rules

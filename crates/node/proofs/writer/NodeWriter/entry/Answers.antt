@@ -1,4 +1,5 @@
-use Rattle.std.proofs.Common.{List, ℕ, arith, ap, ◌∙◌}
+use Rattle.node.specs.Rows.{row_at}
+use Rattle.std.proofs.Common.{List, ℕ, arith, ap, ◌∙◌, rules}
 use Rattle.spec.specs.NodeFormat.{Entry, common}
 use Rattle.cid.specs.CidRef.{bytes_of}
 use Rattle.node.proofs.Writing.{count-fits, WritesOne, one_more}
@@ -32,3 +33,11 @@ returns-in-Ok-clause-ok g c =
       whole_is = c.change.ensures;
     } in
     (one_more _ _ _ _ _ _ _ e c.self.inside.left _ c.self.invariant one c.self.view_is c.requires c.args.value.own c.lend-tree.ensures.own (omega (arith, v.small, v.ok.0, v.ok.1))).1
+
+pub invariant_of-self-in-Err : goal.invariant_of-self-in-Err
+unfolding row_at
+invariant_of-self-in-Err g c = search rules
+
+pub returns-in-Err-clause-unchanged : goal.returns-in-Err-clause-unchanged
+unfolding row_at
+returns-in-Err-clause-unchanged g c = search rules

@@ -1,0 +1,5 @@
+use Rattle.std.proofs.Common.{rules}
+use Rattle.node.proofs.key_buf.KeyBuf.change.Goals as goal
+
+pub returns : goal.returns
+returns g c = search rules
