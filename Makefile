@@ -1,12 +1,13 @@
 # The two commands: `make demo` shows the program on an example, `make test` is the gate.
 
-.PHONY: demo test check edits plant bench gate-times clean help
+.PHONY: demo test check edits answers plant bench gate-times clean help
 
 help:
 	@echo 'make demo              builds msthost and runs it on examples'
 	@echo 'make test              the gate: every proof, must-fail edit, test and program, from nothing'
 	@echo 'make check             every crate, quickly, over what earlier checks kept'
 	@echo 'make edits             the wrong bodies of the folder edits, before a release; CRATE=name: of one crate'
+	@echo 'make answers CRATE=name  writes out the answers that the must-fail edits of a crate break, over what make check kept'
 	@echo 'make plant CRATE=name  wrong bodies that the contracts of a crate let through'
 	@echo 'make bench             builds and runs the measurements'
 	@echo 'make gate-times        the gate, and the processor time that it took, crate by crate'
@@ -31,6 +32,10 @@ check:
 
 edits:
 	@tools/edits $(CRATE)
+
+answers:
+	@test -n "$(CRATE)" || { echo 'usage: make answers CRATE=name'; exit 2; }
+	@tools/written-answers $(CRATE)
 
 plant:
 	@test -n "$(CRATE)" || { echo 'usage: make plant CRATE=name'; exit 2; }

@@ -4,7 +4,8 @@ use Rattle.cid.specs.CidRef.{bytes_of}
 use Rattle.edit_laws.specs.Sources.{shape_from}
 use Rattle.rewrite.specs.Copying.{IsLeft}
 use Rattle.rewrite.specs.Entries.{Reading}
-use Rattle.rewrite.proofs.Pieces.{all-left, shown}
+use Rattle.rewrite.proofs.Pieces.{shown}
+use Rattle.rewrite.proofs.Places.{all-left}
 use Rattle.rewrite.proofs.cursor.Cursor.of.Goals as goal
 
 pub invariant_of-result : goal.invariant_of-result

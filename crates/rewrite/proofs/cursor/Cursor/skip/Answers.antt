@@ -2,7 +2,8 @@ use Rattle.std.proofs.Common.{◌-◌, option_map, sym, subst, ◌∙◌}
 use Rattle.spec.specs.NodeFormat.{Shape}
 use Rattle.cid.specs.CidRef.{bytes_of}
 use Rattle.rewrite.specs.Copying.{IsLeft}
-use Rattle.rewrite.proofs.Pieces.{one-less, shown, after-shown}
+use Rattle.rewrite.proofs.Pieces.{shown, after-shown}
+use Rattle.rewrite.proofs.Places.{one-less}
 use Rattle.rewrite.proofs.cursor.Cursor.skip.Goals as goal
 
 pub invariant_of-self : goal.invariant_of-self
