@@ -1,4 +1,4 @@
-use Rattle.std.proofs.Common.{List, ℕ, ◌∷◌, [], subst}
+use Rattle.std.proofs.Common.{List, ℕ, ◌∷◌, [], subst, rules}
 use Rattle.repo.specs.Keeping.{IsGained}
 use Rattle.repo.proofs.batch.stage_commit.Goals as goal
 
@@ -8,3 +8,6 @@ returns-clause-staged g c = record {
   gained = subst (λ (b : List ℕ). IsGained g.D.Digest.digest_of (b ∷ []) c.args.kept.now.staged c.gain.new.kept.staged) c.in_ok-block.ensures c.in_ok-gain.ensures.gained;
   lost = c.in_ok-lose.ensures.lost;
 }
+
+pub returns-clause-cid : goal.returns-clause-cid
+returns-clause-cid g c = search rules
