@@ -51,11 +51,12 @@ impl<A: Allocator + Copy> Write<A> {
     pub fn share(&self, alloc: A) -> Result<Arc<Write<A>, A>, AllocError>
         ensures { IfOk result (λ shared. write_of (arc_value shared) ≡ write_of self.now) }
     {
+        let key = copied(alloc, self.key())?;
         let copy = match self {
-            Write::Put(key, bytes) => Write::Put(copied(alloc, key)?, copied(alloc, bytes)?),
-            Write::Create(key, bytes) => Write::Create(copied(alloc, key)?, copied(alloc, bytes)?),
-            Write::Update(key, bytes) => Write::Update(copied(alloc, key)?, copied(alloc, bytes)?),
-            Write::Delete(key) => Write::Delete(copied(alloc, key)?),
+            Write::Put(_, bytes) => Write::Put(key, copied(alloc, bytes)?),
+            Write::Create(_, bytes) => Write::Create(key, copied(alloc, bytes)?),
+            Write::Update(_, bytes) => Write::Update(key, copied(alloc, bytes)?),
+            Write::Delete(_) => Write::Delete(key),
         };
         Ok(Arc::new(alloc, copy)?)
     }

@@ -25,47 +25,17 @@ pub fn test_write<D: Digest, A: Allocator + Copy>(
     ensures passed { OnOk result (test_when there (write_of write.now) ≡ Ok tt) }
     ensures fault { IfErr result (IsTestFault write_fault (test_when there (write_of write.now))) }
 {
-    match write {
-        Write::Put(key, record) => {
-            test_key(key)?;
-            test_record(alloc, record)
-        }
-        Write::Create(key, record) => {
-            test_key(key)?;
-            test_record(alloc, record)?;
-            if there {
-                return Err(RepoFault::KeyExists);
-            }
-            Ok(())
-        }
-        Write::Update(key, record) => {
-            test_key(key)?;
-            test_record(alloc, record)?;
-            if !there {
-                return Err(RepoFault::NoSuchKey);
-            }
-            Ok(())
-        }
-        Write::Delete(key) => {
-            test_key(key)?;
-            if !there {
-                return Err(RepoFault::NoSuchKey);
-            }
-            Ok(())
-        }
-    }
-}
-
-/// Tests a key.
-fn test_key<D: Digest, A: Allocator>(key: &[u8]) -> Result<(), RepoFault<D, A>>
-    ensures passed { OnOk result (ensure (is_repository_key key.now) BadKey ≡ Ok tt) }
-    ensures fault { IfErr result (IsTestFault write_fault
-        (ensure (is_repository_key key.now) BadKey)) }
-{
-    if !is_repository_key(key) {
+    if !is_repository_key(write.key()) {
         return Err(RepoFault::BadKey);
     }
-    Ok(())
+    if let Some(record) = write.record() {
+        test_record(alloc, record)?;
+    }
+    match write {
+        Write::Create(_, _) if there => Err(RepoFault::KeyExists),
+        Write::Update(_, _) | Write::Delete(_) if !there => Err(RepoFault::NoSuchKey),
+        _ => Ok(()),
+    }
 }
 
 /// Tests a record: at most 1,048,576 bytes of DAG-CBOR, and one map.
