@@ -3,9 +3,8 @@
 ghost use Rattle.std.specs.Prelude.{◌≡◌, ◌==◌, ◌≤◌, ◌||◌, not, length, codes, Ok, OnOk, IfErr, nat_lt};
 ghost use Rattle.std.specs.List.{list_all, position_or_len};
 ghost use Rattle.std.specs.Char.{is_ascii_alphanumeric};
-ghost use Rattle.spec.specs.Reading.{ensure};
 ghost use Rattle.spec.specs.Keys.{is_one_of, is_slash, is_collection, is_record_key, is_repository_key};
-ghost use Rattle.spec.specs.Writes.{record_test, test_when, BadKey, KeyExists, NoSuchKey, WritesFull};
+ghost use Rattle.spec.specs.Writes.{record_test, test_when, KeyExists, NoSuchKey, WritesFull};
 ghost use Rattle.batches.specs.Values.{write_of};
 ghost use Rattle.batches.specs.Tests.{write_fault, IsTestFault};
 
