@@ -144,6 +144,17 @@ static ORDER_OF_TESTS: [Row; 8] = [
     (DID, THIRD, BAD, Refused(0, Why::WritesFull)),
 ];
 
+/// A repository that may have one write.
+static ONE_WRITE: [Row; 2] = [
+    (
+        DID,
+        FIRST,
+        &[Put(b"a/b0", EMPTY), Put(b"a/c0", EMPTY)],
+        Refused(1, Why::WritesFull),
+    ),
+    (DID, FIRST, &[Put(b"a.b-c/x:~_", EMPTY)], Accepted(1)),
+];
+
 /// Whether a key that is none is refused as such, whatever is written under it.
 fn is_refused(
     alloc: Global,
@@ -209,4 +220,5 @@ fn keys_records_and_stamps(rt: HostRuntime) {
     assert!(rt; ended(&rt, rt.alloc(), 2000, &STAMPS) == (true, 2, 2000, Some(3)));
     assert!(rt; ended(&rt, rt.alloc(), 2000, &RECORD_FAULTS) == (true, 3, 2000, Some(3)));
     assert!(rt; ended(&rt, rt.alloc(), 2, &ORDER_OF_TESTS) == (true, 2, 2, Some(2)));
+    assert!(rt; ended(&rt, rt.alloc(), 1, &ONE_WRITE) == (true, 1, 1, Some(3)));
 }

@@ -1,11 +1,11 @@
-//! Long DIDs and records.
+//! Long DIDs, records and keys.
 
 use crate::opened::opened;
 use cid::digests::Toy;
 use dagcbor::CborFault;
 use repo::Core;
 use repo_fixtures::batch::{DID, EMPTY, Step, stamped};
-use repo_fixtures::cores::{apply_made, end};
+use repo_fixtures::cores::{apply_made, apply_steps, end};
 use repo_fixtures::ends::Ended::{Accepted, Refused};
 use repo_fixtures::ends::{Ended, Why};
 use std::alloc::{AllocError, Global};
@@ -33,12 +33,12 @@ const WEB: Parts = &[(DID, 1)];
 
 const FIRST: &[u8] = b"2222222222222";
 
-/// Batches one after the other. The greatest record is a map of "Z" to a byte string; the size is tested before the bytes are
+/// Batches one after the other. The greatest record is a map of "a" to a byte string; the size is tested before the bytes are
 /// read.
 static LONG: [Row; 6] = [
     (
         WEB,
-        &[(b"\xa1\x61Z\x5a\x00\x0f\xff\xf9", 1), (b"\0", 1_048_569)],
+        &[(b"\xa1\x61\x61\x5a\x00\x0f\xff\xf9", 1), (b"\0", 1_048_569)],
         1_048_577,
         FIRST,
         Refused(0, Why::RecordSize),
@@ -73,7 +73,7 @@ static LONG: [Row; 6] = [
     ),
     (
         WEB,
-        &[(b"\xa1\x61Z\x5a\x00\x0f\xff\xf8", 1), (b"\0", 1_048_568)],
+        &[(b"\xa1\x61\x61\x5a\x00\x0f\xff\xf8", 1), (b"\0", 1_048_568)],
         1_048_576,
         b"2222222222223",
         Accepted(2),
@@ -109,4 +109,43 @@ fn longest_dids_and_records(rt: HostRuntime) {
     let are_so = are_so(rt.alloc(), &mut shard, &mut core);
     end(&mut shard, core);
     assert!(rt; are_so);
+}
+
+/// The parts of a key, and how a batch ends that puts a record under it.
+static KEYS: [(Parts, Ended); 4] = [
+    (
+        &[(b"a", 318), (b"/", 1), (b"b", 1)],
+        Refused(0, Why::BadKey),
+    ),
+    (
+        &[(b"a", 1), (b"/", 1), (b"b", 513)],
+        Refused(0, Why::BadKey),
+    ),
+    (&[(b"a/...", 1)], Accepted(1)),
+    (&[(b"a", 317), (b"/", 1), (b"b", 512)], Accepted(2)),
+];
+
+/// Whether each of these keys is taken or not, as it says.
+fn are_taken(alloc: Global, shard: &mut Shard<Toy>, core: &mut Core<Toy, 2>) -> bool {
+    let mut turn = 0u16;
+    for (parts, wanted) in &KEYS {
+        turn = turn.saturating_add(1);
+        let ended = match joined(alloc, parts) {
+            Ok(key) => apply_steps(alloc, shard, core, turn, &[Step::Put(&key, EMPTY)]),
+            Err(_) => Ended::Unmade,
+        };
+        if ended != *wanted {
+            return false;
+        }
+    }
+    true
+}
+
+#[test]
+fn longest_keys(rt: HostRuntime) {
+    let mut shard = Shard::new(rt.alloc(), 9);
+    let mut core = opened(&rt, rt.alloc(), &mut shard, 0, 2000);
+    let are_taken = are_taken(rt.alloc(), &mut shard, &mut core);
+    end(&mut shard, core);
+    assert!(rt; are_taken);
 }
