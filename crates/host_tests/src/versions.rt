@@ -5,14 +5,15 @@ ghost use Rattle.boxcar.specs.Table.{Shows};
 
 use crate::hosts::{Answer, apply_steps};
 use crate::seated::{Pair, open_two};
+use batches::Write;
 use cid::Cid;
 use cid::digests::Toy;
 use host::{Host, Receipt, Version, Writer};
 use repo_fixtures::batch::{EMPTY, EMPTY_NODE, Step};
 use std::alloc::Global;
 use std::process::Abort;
-use std::sync::Wait;
 use std::sync::atomic::{AtomicBool, Ordering};
+use std::sync::{Arc, Wait};
 use std::thread;
 use std::thread::Threads;
 
@@ -22,9 +23,22 @@ const TURNS: u64 = 10_000_000;
 /// How many puts there are while the versions are read.
 const PUTS: u16 = 100;
 
-/// Whether the version is of repository 0, and has so many writes.
+/// Whether these are puts of the one record under the one key.
+fn are_puts(writes: &[Arc<Write>]) -> bool {
+    for write in writes {
+        if write.key() != b"a/b0".as_slice() || write.record() != Some(EMPTY) {
+            return false;
+        }
+    }
+    true
+}
+
+/// Whether the version is of repository 0, and has so many writes, those that were made.
 fn is_of(version: &Version, number: u64) -> bool {
-    version.repo == 0 && version.number == number && version.writes.len() as u64 == number
+    version.repo == 0
+        && version.number == number
+        && version.writes.len() as u64 == number
+        && are_puts(&version.writes)
 }
 
 /// Whether a put of one record is accepted, under the stamp of this turn.
