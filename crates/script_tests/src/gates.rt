@@ -49,24 +49,64 @@ impl Event {
     }
 }
 
-/// Line 1 isn't begun before line 2 is done.
+/// What was called for one line.
+#[derive(Drop)]
+struct Called {
+    before: Event,
+    after: Event,
+}
+
+impl Called {
+    fn new() -> Called {
+        Called {
+            before: Event::new(),
+            after: Event::new(),
+        }
+    }
+}
+
+/// Line 1 isn't begun before line 2 is done. It is a fault where a line is done that wasn't begun.
 #[derive(Drop)]
 struct SecondFirst {
-    is_done: Event,
+    first: Called,
+    second: Called,
     gave_up: Event,
+}
+
+impl SecondFirst {
+    fn new() -> SecondFirst {
+        SecondFirst {
+            first: Called::new(),
+            second: Called::new(),
+            gave_up: Event::new(),
+        }
+    }
+
+    fn called(&self, line: usize) -> &Called {
+        if line == 1 { &self.first } else { &self.second }
+    }
+
+    /// Whether both lines were begun and done, and nobody waited in vain.
+    fn is_well(&self) -> bool {
+        self.first.after.has_happened()
+            && self.second.after.has_happened()
+            && !self.gave_up.has_happened()
+    }
 }
 
 impl Gate for SecondFirst {
     fn before(&self, line: usize) {
-        if line == 1 && !self.is_done.comes() {
+        self.called(line).before.happens();
+        if line == 1 && !self.second.after.comes() {
             self.gave_up.happens();
         }
     }
 
     fn after(&self, line: usize) {
-        if line == 2 {
-            self.is_done.happens();
+        if !self.called(line).before.has_happened() {
+            self.gave_up.happens();
         }
+        self.called(line).after.happens();
     }
 }
 
@@ -107,28 +147,51 @@ const ROWS: [Row<'static>; 2] = [
     (1, 1, Doing::Apply(&[Put(b"a/b0", EMPTY)])),
 ];
 
-/// Whether both puts are accepted and told, with this gate and a queue with this room.
-fn are_accepted<G: Gate, R: Threads + Wait + Abort + Sync>(
+/// Both puts are accepted.
+const ROWS_SAID: [Said<'static>; 2] = [Said::Told(0, 1, 0, 1), Said::Told(1, 1, 1, 1)];
+
+/// A look and a put of two workers in one repository.
+const LOOK_AND_PUT: [Row<'static>; 2] = [
+    (0, 0, Doing::Get(b"a/b0")),
+    (1, 0, Doing::Apply(&[Put(b"a/b0", EMPTY)])),
+];
+
+/// The look comes second.
+const LOOK_AND_PUT_SAID: [Said<'static>; 2] = [Said::Found(EMPTY), Said::Told(1, 1, 0, 1)];
+
+/// A put and a look of two workers in one repository.
+const PUT_AND_LOOK: [Row<'static>; 2] = [
+    (0, 0, Doing::Apply(&[Put(b"a/b0", EMPTY)])),
+    (1, 0, Doing::Get(b"a/b0")),
+];
+
+/// The put comes second.
+const PUT_AND_LOOK_SAID: [Said<'static>; 2] = [Said::Told(0, 1, 0, 1), Said::Absent];
+
+/// Whether the lines of these rows are answered so, with this gate and a queue with this room.
+fn are_said_at<G: Gate, R: Threads + Wait + Abort + Sync>(
     rt: &R,
     alloc: Global,
     queue: usize,
     gate: &G,
+    rows: &[Row<'_>],
+    wanted: &[Said<'_>],
 ) -> bool {
-    let lines = lines_of(alloc, &ROWS).expect(rt, "lines");
+    let lines = lines_of(alloc, rows).expect(rt, "lines");
     let ran = run(rt, alloc, limits(2, 2, queue), gate, &lines);
-    are_said(
-        &ran.answers,
-        &[Said::Told(0, 1, 0, 1), Said::Told(1, 1, 1, 1)],
-    )
+    are_said(&ran.answers, wanted)
 }
 
-/// Whether line 1 waits until line 2 is done, and both are accepted.
-fn comes_second<R: Threads + Wait + Abort + Sync>(rt: &R, alloc: Global, queue: usize) -> bool {
-    let gate = SecondFirst {
-        is_done: Event::new(),
-        gave_up: Event::new(),
-    };
-    are_accepted(rt, alloc, queue, &gate) && !gate.gave_up.has_happened()
+/// Whether line 1 waits until line 2 is done, and both are answered so.
+fn comes_second<R: Threads + Wait + Abort + Sync>(
+    rt: &R,
+    alloc: Global,
+    queue: usize,
+    rows: &[Row<'_>],
+    wanted: &[Said<'_>],
+) -> bool {
+    let gate = SecondFirst::new();
+    are_said_at(rt, alloc, queue, &gate, rows, wanted) && gate.is_well()
 }
 
 /// Whether both lines wait for each other, and both are accepted.
@@ -138,12 +201,19 @@ fn meet<R: Threads + Wait + Abort + Sync>(rt: &R, alloc: Global, queue: usize) -
         second: Event::new(),
         gave_up: Event::new(),
     };
-    are_accepted(rt, alloc, queue, &gate) && !gate.gave_up.has_happened()
+    are_said_at(rt, alloc, queue, &gate, &ROWS, &ROWS_SAID) && !gate.gave_up.has_happened()
 }
 
 #[test]
 fn a_line_waits_for_a_later_one(rt: HostRuntime) {
-    assert!(rt; comes_second(&rt, rt.alloc(), 9) && comes_second(&rt, rt.alloc(), 1));
+    assert!(rt; comes_second(&rt, rt.alloc(), 9, &ROWS, &ROWS_SAID));
+    assert!(rt; comes_second(&rt, rt.alloc(), 1, &ROWS, &ROWS_SAID));
+}
+
+#[test]
+fn a_line_is_done_between_its_calls(rt: HostRuntime) {
+    assert!(rt; comes_second(&rt, rt.alloc(), 9, &LOOK_AND_PUT, &LOOK_AND_PUT_SAID));
+    assert!(rt; comes_second(&rt, rt.alloc(), 9, &PUT_AND_LOOK, &PUT_AND_LOOK_SAID));
 }
 
 #[test]

@@ -1,4 +1,4 @@
-//! Tests of trees from scratch, beside the plain, slow builder whose contract is the definition, of look-ups, walks and
+//! Tests of trees from scratch, beside a plain, slow builder that follows the definition, of look-ups, walks and
 //! edits over blocks, and of nodes made of another node.
 #![tactic(auto)]
 
