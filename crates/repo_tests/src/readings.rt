@@ -207,6 +207,7 @@ fn is_read<D: Digest, const B: u8, A: Allocator>(
         None => false,
     };
     has_commit
+        && core.block(&core.root()).is_some()
         && (core.me(), core.limit(), core.number()) == (7, 2000, 6)
         && held(shard, core) == Some(9)
 }

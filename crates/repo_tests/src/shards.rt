@@ -19,6 +19,9 @@ use store::{LockedShards, Shards, shard_number};
 /// shard 3.
 const THREE: &[u8] = b"\xa1\x61a\x33";
 
+/// The write of that record.
+const PUT: Step<'static> = Put(b"a/b0", THREE);
+
 /// A core without writes.
 fn opened<R: Wait + Abort>(rt: &R, alloc: Global, shards: &Shards<Toy>, me: u32) -> Core<Toy, 2>
     requires { me < 1024 }
@@ -26,17 +29,17 @@ fn opened<R: Wait + Abort>(rt: &R, alloc: Global, shards: &Shards<Toy>, me: u32)
     Core::open(alloc, &mut LockedShards::new(rt, shards), me, 9).expect(rt, "a core")
 }
 
-/// How a batch of one write ends.
+/// How a batch ends.
 fn ended<R: Wait>(
     rt: &R,
     alloc: Global,
     shards: &Shards<Toy>,
     core: &mut Core<Toy, 2>,
     turn: u16,
-    step: Step<'_>,
+    steps: &[Step<'_>],
 ) -> Ended {
     let mut store = LockedShards::new(rt, shards);
-    match batch_at(alloc, turn, &[step]) {
+    match batch_at(alloc, turn, steps) {
         Ok(Batch { stamp, writes }) => end_of(core.apply(alloc, &mut store, &stamp, &writes)),
         Err(_) => Unmade,
     }
@@ -74,10 +77,10 @@ fn is_seen<R: Wait>(
     alloc: Global,
     shards: &Shards<Toy>,
     repository: &Repository<Toy, 2>,
+    steps: &[Step<'_>],
     wanted: Ended,
 ) -> bool {
-    let step = Put(b"a/b0", THREE);
-    if ended(rt, alloc, shards, &mut repository.lock.write(rt), 0, step) != wanted {
+    if ended(rt, alloc, shards, &mut repository.lock.write(rt), 0, steps) != wanted {
         return false;
     }
     let core = repository.lock.read(rt);
@@ -88,7 +91,13 @@ fn is_seen<R: Wait>(
 }
 
 /// Whether this is so for a repository without writes, whose blocks all go back.
-fn is_so<R: Wait + Abort>(rt: &R, alloc: Global, room: usize, wanted: Ended) -> bool
+fn is_so<R: Wait + Abort>(
+    rt: &R,
+    alloc: Global,
+    room: usize,
+    steps: &[Step<'_>],
+    wanted: Ended,
+) -> bool
     requires least { 1 ≤ room }
     requires most { room ≤ 9 }
 {
@@ -96,18 +105,20 @@ fn is_so<R: Wait + Abort>(rt: &R, alloc: Global, room: usize, wanted: Ended) -> 
     let repository = Repository {
         lock: RwLock::new(opened(rt, alloc, &shards, 0)),
     };
-    let is_right = is_seen(rt, alloc, &shards, &repository, wanted);
+    let is_right = is_seen(rt, alloc, &shards, &repository, steps, wanted);
     let Repository { lock } = repository;
     lock.into_inner().end(&mut LockedShards::new(rt, &shards));
     is_right && are_empty(shards)
 }
 
 /// The node before, the node and the commit are in one shard, the record in another: where the first is full, the batch is
-/// refused, though the second has room.
+/// refused at its last write, though the second has room.
 #[test]
 fn a_repository_behind_its_lock(rt: HostRuntime) {
-    assert!(rt; is_so(&rt, rt.alloc(), 3, Accepted(1)));
-    assert!(rt; is_so(&rt, rt.alloc(), 2, Refused(0, Why::StoreFull)));
+    assert!(rt; is_so(&rt, rt.alloc(), 3, &[PUT], Accepted(1)));
+    assert!(rt; is_so(&rt, rt.alloc(), 2, &[PUT], Refused(0, Why::StoreFull)));
+    assert!(rt; is_so(&rt, rt.alloc(), 3, &[PUT, PUT], Accepted(2)));
+    assert!(rt; is_so(&rt, rt.alloc(), 2, &[PUT, PUT], Refused(1, Why::StoreFull)));
 }
 
 /// Whether each block of the core is held by so many cores, each in its shard.
@@ -129,8 +140,8 @@ fn share_blocks<R: Wait>(
     first: &mut Core<Toy, 2>,
     second: &mut Core<Toy, 2>,
 ) -> bool {
-    ended(rt, alloc, shards, first, 0, Put(b"a/b0", THREE)) == Accepted(1)
-        && ended(rt, alloc, shards, second, 0, Put(b"a/b0", THREE)) == Accepted(1)
+    ended(rt, alloc, shards, first, 0, &[PUT]) == Accepted(1)
+        && ended(rt, alloc, shards, second, 0, &[PUT]) == Accepted(1)
         && have_count(rt, shards, first, 2)
 }
 
@@ -142,7 +153,7 @@ fn share_none<R: Wait>(
     first: &Core<Toy, 2>,
     second: &mut Core<Toy, 2>,
 ) -> bool {
-    ended(rt, alloc, shards, second, 1, Delete(b"a/b0")) == Accepted(2)
+    ended(rt, alloc, shards, second, 1, &[Delete(b"a/b0")]) == Accepted(2)
         && have_count(rt, shards, first, 1)
         && have_count(rt, shards, second, 1)
 }
