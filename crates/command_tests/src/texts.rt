@@ -42,6 +42,12 @@ const BOTH_NARROW: &[&str] = &[
     "2",
 ];
 
+/// The lines of one repository without writes.
+const UNWRITTEN: &str = "\
+repo 0 bafyreie5737gdxlw5i64vzichcalba3z2v5n6icifvx5xytvske7mr3hpm 0 none
+block bafyreie5737gdxlw5i64vzichcalba3z2v5n6icifvx5xytvske7mr3hpm 1
+";
+
 const NOTHING: &str = "\
 repo 0 bafyreie5737gdxlw5i64vzichcalba3z2v5n6icifvx5xytvske7mr3hpm 0 none
 repo 1 bafyreie5737gdxlw5i64vzichcalba3z2v5n6icifvx5xytvske7mr3hpm 0 none
@@ -124,7 +130,7 @@ const VERIFY: &[&str] = &["msthost", "verify", ROOT, "a/b"];
 
 /// Command lines, their inputs, and what they write; the examples of help and README.md are among them. `E` stands for the
 /// text of the CID of the empty tree's node.
-static TEXTS: [(&[&str], &[&str], &[&str]); 23] = [
+static TEXTS: [(&[&str], &[&str], &[&str]); 34] = [
     (&TREE, &[], &["E", "\n", "E", " a2616580616cf6\n"]),
     (&TREE, &["a/b ", "E"], ONE_LINE),
     (&TREE, &["a/b ", "E", "\n"], ONE_LINE),
@@ -154,6 +160,53 @@ static TEXTS: [(&[&str], &[&str], &[&str]); 23] = [
     (TWO, &["\n"], &[NOTHING]),
     (TWO, &["\r\n\n"], &[NOTHING]),
     (RUN, &["0 0 get a/b\n"], &[LOOK]),
+    (
+        RUN,
+        &["0 0 x put a/b a0"],
+        &["1 refused 0 BadRev\n", UNWRITTEN],
+    ),
+    (
+        RUN,
+        &["0 0 get put a/b a0"],
+        &["1 refused 0 BadRev\n", UNWRITTEN],
+    ),
+    (
+        RUN,
+        &["0 1 get a/b"],
+        &["1 refused 0 NoSuchRepository\n", UNWRITTEN],
+    ),
+    (
+        RUN,
+        &["00 4294967295 get a/b"],
+        &["1 refused 0 NoSuchRepository\n", UNWRITTEN],
+    ),
+    (
+        RUN,
+        &["0 9 x put a/b a0"],
+        &["1 refused 0 NoSuchRepository\n", UNWRITTEN],
+    ),
+    (RUN, &["0 0 get zz"], &["1 none\n", UNWRITTEN]),
+    (RUN, &["0 0 get ;"], &["1 none\n", UNWRITTEN]),
+    (
+        RUN,
+        &["0 0 2222222222222 put a a0"],
+        &["1 refused 0 BadKey\n", UNWRITTEN],
+    ),
+    (
+        RUN,
+        &["0 0 2222222222222 put a/b 80"],
+        &["1 refused 0 NotAMap\n", UNWRITTEN],
+    ),
+    (
+        RUN,
+        &["0 0 2222222222222 update a/b a0"],
+        &["1 refused 0 NoSuchKey\n", UNWRITTEN],
+    ),
+    (
+        RUN,
+        &["0 0 2222222222222 create a/b a0 ; create a/b a0"],
+        &["1 refused 1 KeyExists\n", UNWRITTEN],
+    ),
     (RUN, &[FIVE_LINES], &[REPORT_OF_FIVE_LINES]),
     (RUN_NARROW, &[FIVE_LINES], &[REPORT_OF_FIVE_LINES]),
     (BOTH, &[TWO_WORKERS], &[REPORT_OF_TWO_WORKERS]),
