@@ -1,4 +1,5 @@
-use Rattle.std.proofs.Common.{sym, ◌∙◌}
+use Rattle.std.proofs.lemmas.Grind.{common_steps}
+use Rattle.std.proofs.Common.{sym, ◌∙◌, arith}
 use Rattle.closing.specs.Tally.{have}
 use Rattle.closing.proofs.Numbers.{next_had, all_had, next_small}
 use Rattle.closing.proofs.comparing.all_have.Goals as goal
@@ -13,3 +14,9 @@ loop-number-preserved g c = (
 pub returns : goal.returns
 returns g c =
     all_had (have g.D.Digest.digest_of g.row.B c.args.cores.now c.args.cid.now) c.args.entered.now c.loop-number.from c.loop-number.invariant.1 c.in_default.ensures
+
+pub overflow_add-from : goal.overflow_add-from
+overflow_add-from g c = grind (arith, common_steps)
+
+pub loop-number-smaller : goal.loop-number-smaller
+loop-number-smaller g c = grind (arith, common_steps)

@@ -1,4 +1,5 @@
-use Rattle.std.proofs.Common.{ap, ◌∙◌}
+use Rattle.std.proofs.lemmas.Grind.{common_steps}
+use Rattle.std.proofs.Common.{ap, ◌∙◌, arith}
 use Rattle.closing.specs.Settling.{ClosedView}
 use Rattle.closing.specs.Tally.{tally}
 use Rattle.closing.specs.Counts.{positive}
@@ -13,3 +14,9 @@ returns-clause-counts g c =
     c.in_ok-all.ensures cid
     ∙ ap positive (count_is_tally g.D.Digest.digest_of g.row.B c.self.inside.repositories.cores.items c.self.inside.repositories.tables c.self.invariant.settled.even cid
     ∙ ap (λ (v : ClosedView). tally g.D.Digest.digest_of g.row.B v.cores cid) c.self.view_is))
+
+pub returns-in_err-clone-clause-ascending : goal.returns-in_err-clone-clause-ascending
+returns-in_err-clone-clause-ascending g c = grind (arith, common_steps)
+
+pub returns-in_err-clone-clause-counts : goal.returns-in_err-clone-clause-counts
+returns-in_err-clone-clause-counts g c = grind (arith, common_steps)

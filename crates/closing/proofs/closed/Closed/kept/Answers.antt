@@ -1,4 +1,5 @@
-use Rattle.std.proofs.Common.{ap, ◌∙◌}
+use Rattle.std.proofs.lemmas.Grind.{common_steps}
+use Rattle.std.proofs.Common.{ap, ◌∙◌, arith}
 use Rattle.closing.specs.Ending.{kept_by}
 use Rattle.closing.specs.Settling.{ClosedView}
 use Rattle.closing.proofs.Closings.{kept_found, kept_further}
@@ -16,3 +17,6 @@ pub loop-settled-preserved : goal.loop-settled-preserved
 loop-settled-preserved g c =
     kept_further c.deref-settled-items.result.now c.loop-settled.settled-index c.settled-item.result c.args.writer c.loop-settled-test.true c.settled-item.is c.writer.result c.writer.ensures c.if-writer.false
     ∙ c.loop-settled.invariant
+
+pub returns : goal.returns
+returns g c = grind (arith, common_steps)
