@@ -35,8 +35,8 @@ struct StagedWrite {
     read: ReadCount,
 }
 
-/// Stages all writes of a batch, where there is room for so many: the root after them, and their copies. Or the place of the
-/// first write that is refused.
+/// Stages all writes of a batch, where there is room for so many: the root after them, and their copies in the list that is
+/// given. Or the place of the first write that is refused.
 pub(crate) fn stage_writes<
     D: Digest,
     const B: u8,
@@ -49,9 +49,11 @@ pub(crate) fn stage_writes<
     room: usize,
     root: Cid,
     writes: &[Write<A>],
+    copies: Vec<Arc<Write<A>, A>, A>,
 ) -> Result<(Cid, Vec<Arc<Write<A>, A>, A>), (usize, RepoFault<D, A>)>
     requires least { 1 ≤ B }
     requires most { B ≤ 8 }
+    requires empty { copies.items ≡ [] }
     requires store { IsStore D.digest_of S.fulls S.answers }
     ensures staged { AtStart D.digest_of B room root kept.old.staged (λ s. IfOk result
         (λ staged. IsStagedBy D.digest_of B s (writes_of writes.now) staged.0 kept.new.staged)) }
@@ -62,7 +64,7 @@ pub(crate) fn stage_writes<
     ensures before { IsStillBefore kept.old kept.new }
     ensures grown { S.fulls store.old ≤ S.fulls store.new }
 {
-    let mut shared = Vec::new(alloc);
+    let mut shared = copies;
     let mut root = root;
     for (place, write) in writes.iter().enumerate() {
         match stage_shared::<D, B, A, S>(

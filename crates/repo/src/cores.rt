@@ -57,7 +57,9 @@ impl<D: Digest, const B: u8, A: Allocator> Core<D, B, A> {
     pub fn me(&self) -> u32
         ensures value { result ≡ self.now.me }
         ensures small { result < 1024 }
+        ensures lawful { IsLawful self.now }
     {
+        let _ = &self.root;
         self.kept.me()
     }
 

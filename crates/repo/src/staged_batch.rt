@@ -101,7 +101,10 @@ fn stage_stamped<
     let Ok(copy) = stamp.copied(alloc) else {
         return Err((0, RepoFault::NoMemory));
     };
-    match stage_writes::<D, B, A, S>(kept, store, alloc, start.room, start.root, writes) {
+    let Ok(copies) = Vec::with_capacity(alloc, writes.len()) else {
+        return Err((0, RepoFault::NoMemory));
+    };
+    match stage_writes::<D, B, A, S>(kept, store, alloc, start.room, start.root, writes, copies) {
         Ok((root, shared)) => match stage_commit(kept, store, alloc, stamp, root, start.commit) {
             Ok(commit) => Ok(StagedBatch {
                 root,
