@@ -234,14 +234,14 @@ fn lacks_each_bit(root: &Cid, proof: &mut Proof, key: &[u8], place: usize) -> bo
     true
 }
 
-/// Whether it does for each bit of each of its nodes, which are more than one.
+/// Whether it does for each bit of each of its nodes, of which there are some.
 fn lacks_any_bit(root: &Cid, proof: &mut Proof, key: &[u8]) -> bool {
     for place in 0..proof.len() {
         if !lacks_each_bit(root, proof, key, place) {
             return false;
         }
     }
-    proof.len() > 1
+    !proof.is_empty()
 }
 
 /// Whether a proof that a core gives of a key lacks a node where this one is taken away.
@@ -281,16 +281,6 @@ fn needs_each_node(alloc: Global, core: &Core<Toy, 2>, number: u16) -> bool {
     }
 }
 
-/// Whether those of the first so many numbers do.
-fn need_each_node(alloc: Global, core: &Core<Toy, 2>, count: u16) -> bool {
-    for number in 0..count {
-        if !needs_each_node(alloc, core, number) {
-            return false;
-        }
-    }
-    true
-}
-
 /// Whether the proof of a key lacks a node with any one bit changed.
 fn needs_each_bit_of(alloc: Global, core: &Core<Toy, 2>, key: &[u8]) -> bool {
     match proof_of(alloc, core, key) {
@@ -307,13 +297,22 @@ fn needs_each_bit(alloc: Global, core: &Core<Toy, 2>, number: u16) -> bool {
     }
 }
 
+/// Whether those of the first so many numbers need each of their nodes, and each bit.
+fn need_all(alloc: Global, core: &Core<Toy, 2>, count: u16) -> bool {
+    for number in 0..count {
+        if !needs_each_node(alloc, core, number) || !needs_each_bit(alloc, core, number) {
+            return false;
+        }
+    }
+    true
+}
+
 #[test]
 fn proofs_without_a_node_or_with_a_bit_changed(rt: HostRuntime) {
     let mut shard = Shard::new(rt.alloc(), 100);
     let mut core = opened(&rt, rt.alloc(), &mut shard);
     let filled = is_filled(rt.alloc(), &mut shard, &mut core, 20);
-    let nodes = need_each_node(rt.alloc(), &core, 20);
-    let bits = needs_each_bit(rt.alloc(), &core, 10) && needs_each_bit(rt.alloc(), &core, 11);
+    let are_needed = need_all(rt.alloc(), &core, 20);
     end(&mut shard, core);
-    assert!(rt; filled && nodes && bits);
+    assert!(rt; filled && are_needed);
 }

@@ -260,9 +260,10 @@ fn has_both<D: Digest, const B: u8>(
     }
 }
 
-/// Whether each of thirty random batches on each of two repositories leaves what it is to, and some are accepted.
+/// Whether each of a hundred random batches on each of two repositories leaves what it is to, and some are accepted.
 fn take_all<D: Digest, const B: u8>(
     alloc: Global,
+    seed: u64,
     shard: &mut Shard<D>,
     first: &mut Side<D, B>,
     second: &mut Side<D, B>,
@@ -271,10 +272,8 @@ fn take_all<D: Digest, const B: u8>(
     requires least { 1 ≤ B }
     requires most { B ≤ 8 }
 {
-    let mut numbers = Numbers {
-        state: u64::from(B),
-    };
-    for turn in 0..30u16 {
+    let mut numbers = Numbers { state: seed };
+    for turn in 0..100u16 {
         if !first.takes_next(alloc, shard, &mut numbers, turn, is_small)
             || !second.takes_next(alloc, shard, &mut numbers, turn, is_small)
             || !has_both(shard, &first.core, &second.core)
@@ -286,7 +285,12 @@ fn take_all<D: Digest, const B: u8>(
 }
 
 /// Whether this is so in a store with so much room, and its blocks are all given back.
-fn agrees<R: Abort, D: Digest, const B: u8>(rt: &R, alloc: Global, room: usize) -> bool
+fn agrees_from<R: Abort, D: Digest, const B: u8>(
+    rt: &R,
+    alloc: Global,
+    seed: u64,
+    room: usize,
+) -> bool
     requires least { 1 ≤ B }
     requires most { B ≤ 8 }
     requires least_room { 1 ≤ room }
@@ -295,10 +299,20 @@ fn agrees<R: Abort, D: Digest, const B: u8>(rt: &R, alloc: Global, room: usize) 
     let mut shard: Shard<D> = Shard::new(alloc, room);
     let mut first: Side<D, B> = Side::open(rt, alloc, &mut shard, 0);
     let mut second: Side<D, B> = Side::open(rt, alloc, &mut shard, 1);
-    let is_right = take_all(alloc, &mut shard, &mut first, &mut second, room < 100);
+    let is_right = take_all(alloc, seed, &mut shard, &mut first, &mut second, room < 100);
     first.end(&mut shard);
     second.end(&mut shard);
     is_right && counts(&shard) == (0, 0)
+}
+
+/// Whether this is so from two numbers on.
+fn agrees<R: Abort, D: Digest, const B: u8>(rt: &R, alloc: Global, room: usize) -> bool
+    requires least { 1 ≤ B }
+    requires most { B ≤ 8 }
+    requires least_room { 1 ≤ room }
+    requires most_room { room ≤ 1000 }
+{
+    agrees_from::<R, D, B>(rt, alloc, 1, room) && agrees_from::<R, D, B>(rt, alloc, 2, room)
 }
 
 #[test]
@@ -312,6 +326,7 @@ fn under_the_toy_digest(rt: HostRuntime) {
 fn under_sha_256(rt: HostRuntime) {
     assert!(rt; agrees::<_, Sha256, 1>(&rt, rt.alloc(), 1000));
     assert!(rt; agrees::<_, Sha256, 2>(&rt, rt.alloc(), 1000));
+    assert!(rt; agrees::<_, Sha256, 8>(&rt, rt.alloc(), 1000));
 }
 
 #[test]
