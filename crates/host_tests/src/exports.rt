@@ -38,7 +38,12 @@ fn put_all<R: Wait + Abort>(rt: &R, alloc: Global, mut writer: Writer<'_, Toy, 2
 }
 
 /// The CAR of a host's repository, where it is answered with its length.
-fn car_of<R: Wait>(rt: &R, alloc: Global, host: &Host<Toy, 2>, repo: usize) -> Option<Vec<u8>> {
+pub(crate) fn car_of<R: Wait>(
+    rt: &R,
+    alloc: Global,
+    host: &Host<Toy, 2>,
+    repo: usize,
+) -> Option<Vec<u8>> {
     let mut out = ToMemory::new(alloc);
     match host.car(rt, alloc, repo, &mut out) {
         Ok(length) if length == out.bytes().len() as u64 => Some(out.into_bytes()),

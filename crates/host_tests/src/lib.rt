@@ -2,6 +2,8 @@
 #![tactic(auto)]
 
 #[cfg(test)]
+mod asked_again;
+#[cfg(test)]
 mod example;
 #[cfg(test)]
 mod exports;

@@ -15,7 +15,7 @@ use std::process::Abort;
 use std::sync::Wait;
 
 /// The DAG-CBOR bytes of the map of "a" to 3.
-const THREE: &[u8] = b"\xa1\x61a\x03";
+pub(crate) const THREE: &[u8] = b"\xa1\x61a\x03";
 
 /// The number of a notice, 0 without one.
 fn seq_of(notice: Option<Notice>) -> u64 {
@@ -26,7 +26,7 @@ fn seq_of(notice: Option<Notice>) -> u64 {
 }
 
 /// The number of the next notice, 0 where there is none.
-fn popped<R: Wait>(rt: &R, taker: &mut Taker<'_>) -> u64
+pub(crate) fn popped<R: Wait>(rt: &R, taker: &mut Taker<'_>) -> u64
     ensures queue { taker.new.queue_id ≡ taker.old.queue_id }
     ensures made { taker.new.made ≡ taker.old.made }
     ensures joined { taker.new.joined ≡ taker.old.joined }
@@ -49,10 +49,10 @@ fn tells_three<R: Wait>(rt: &R, alloc: Global, writer: &mut Writer<'_, Toy, 2>) 
 
 /// What a writer and a taker leave, and whether all was right so far.
 #[derive(Drop)]
-struct Left {
-    ended: Ended,
-    feed: Feed,
-    is_right: bool,
+pub(crate) struct Left {
+    pub(crate) ended: Ended,
+    pub(crate) feed: Feed,
+    pub(crate) is_right: bool,
 }
 
 /// The row: two notices are in the queue and one is kept, until one is taken.
@@ -81,7 +81,7 @@ fn take_all<R: Wait>(
 }
 
 /// Whether a host that closed has this one repository of three writes, and nothing was left.
-fn is_closed<R: Wait>(rt: &R, mut closed: Closed<Toy, 2>) -> bool {
+pub(crate) fn is_closed<R: Wait>(rt: &R, mut closed: Closed<Toy, 2>) -> bool {
     let number = match closed.cores().first() {
         Some(core) => core.number(),
         None => 0,

@@ -1,6 +1,6 @@
 //! Hosts that are opened with one writer or with two, and closed.
 
-ghost use Rattle.std.specs.Prelude.{◌≡◌, ◌≤◌, []};
+ghost use Rattle.std.specs.Prelude.{◌≡◌, ◌≤◌, [], vec_capacity};
 ghost use Rattle.closing.specs.Ending.{IsEndedAt};
 ghost use Rattle.host.specs.Views.{IsSeatOf};
 
@@ -57,7 +57,26 @@ pub(crate) fn close_one<const B: u8, R: Abort>(
     requires one { feed.made ≡ 1 }
     requires fresh { feed.joined ≡ [] }
 {
-    let mut all = Vec::with_capacity(alloc, 1).expect(rt, "room");
+    let room = Vec::with_capacity(alloc, 1).expect(rt, "room");
+    close_in(rt, room, host, ended, feed)
+}
+
+/// The same with room for what the writer ends with.
+pub(crate) fn close_in<const B: u8, R: Abort>(
+    rt: &R,
+    room: Vec<Ended>,
+    host: Host<Toy, B>,
+    ended: Ended,
+    feed: Feed,
+) -> Closed<Toy, B>
+    requires empty { room.items ≡ [] }
+    requires room { 1 ≤ vec_capacity room }
+    requires ended { IsEndedAt host.queue.queue_id host.repos ended }
+    requires queue { feed.queue_id ≡ host.queue.queue_id }
+    requires one { feed.made ≡ 1 }
+    requires fresh { feed.joined ≡ [] }
+{
+    let mut all = room;
     all.push_reserved(ended);
     match host.close(all, feed) {
         Ok(closed) => closed,
