@@ -60,7 +60,7 @@ pub(crate) fn run_over<T: Threads + Wait + Sync, R: Read>(
 ) -> Ended {
     let mut out = Vec::new(alloc);
     let mut err = Vec::new(alloc);
-    let status = run_words(rt, alloc, words, input, &mut out, &mut err);
+    let status = run_words(rt, alloc, words, input, &mut out, &mut err).status;
     Ended { status, out, err }
 }
 
@@ -74,8 +74,12 @@ pub(crate) fn run_with<D: Digest + Send + Sync, T: Threads + Wait + Sync>(
     let mut input = input;
     let mut out = Vec::new(alloc);
     let mut err = Vec::new(alloc);
-    let status = run_words_with::<D, _, _, _, _>(rt, alloc, words, &mut input, &mut out, &mut err);
-    Ended { status, out, err }
+    let outcome = run_words_with::<D, _, _, _, _>(rt, alloc, words, &mut input, &mut out, &mut err);
+    Ended {
+        status: outcome.status,
+        out,
+        err,
+    }
 }
 
 /// Whether a command on these texts, one after another, ends with this status, and writes this and nothing else.

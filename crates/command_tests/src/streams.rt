@@ -178,7 +178,7 @@ fn run_into<T: Threads + Wait + Sync>(
     let mut input = input;
     let mut out = out;
     let mut err = Vec::new(alloc);
-    let status = run_words(rt, alloc, words, &mut input, &mut out, &mut err);
+    let status = run_words(rt, alloc, words, &mut input, &mut out, &mut err).status;
     Ended {
         status,
         out: out.written,
@@ -265,6 +265,6 @@ fn standard_error_that_fails(rt: HostRuntime) {
     let mut input: &[u8] = b"a/b";
     let mut out = Vec::new(rt.alloc());
     let mut err = narrow(rt.alloc(), 0, true);
-    let status = run_words(&rt, rt.alloc(), &TREE, &mut input, &mut out, &mut err);
+    let status = run_words(&rt, rt.alloc(), &TREE, &mut input, &mut out, &mut err).status;
     assert!(rt; status == 1 && out.is_empty());
 }

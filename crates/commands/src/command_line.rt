@@ -5,9 +5,9 @@ use run_command::RunCommand;
 use std::alloc::{AllocError, Global};
 use tree_command::Bits;
 
-/// What is to be done: for each command what its words say.
+/// A command that the words of a command line ask for, with what they say of it.
 #[derive(Clone, Copy)]
-pub(crate) enum Request<'a> {
+pub enum Request<'a> {
     /// List the tree of the lines of the input, with so many zero bits a layer.
     Tree(Bits),
     /// Do a command on one repository.

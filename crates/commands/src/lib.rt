@@ -3,8 +3,8 @@
 //! repository's own).
 //!
 //! - `run_words` does what a command line says: it takes the words, the standard streams, or stand-ins for them, and
-//!   answers the exit status. It writes help, faults and the version too. A program gives it its own words.
-//!   `run_words_with` is `run_words` under another digest than SHA-256.
+//!   answers an `Outcome`: the `Request` that the words make, and the exit status. It writes help, faults and the version
+//!   too. A program gives it its own words. `run_words_with` is `run_words` under another digest than SHA-256.
 //! - `not_started` says what a program does that doesn't get as far.
 //!
 //! Each command has a crate of its own, for callers that have no command line: `tree_command` lists trees,
@@ -16,5 +16,6 @@ mod command_line;
 mod run;
 mod starting;
 
-pub use run::{run_words, run_words_with};
+pub use command_line::Request;
+pub use run::{Outcome, run_words, run_words_with};
 pub use starting::not_started;

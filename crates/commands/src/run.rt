@@ -1,6 +1,7 @@
 //! The commands, over any reader and writers.
-ghost use Rattle.std.specs.Prelude.{◌≡◌, ◌≤◌, ◌⊎◌};
+ghost use Rattle.std.specs.Prelude.{◌≡◌, ◌≤◌, ◌⊎◌, IfSome};
 ghost use Rattle.std.specs.Io.KnownBytes.{Keeps};
+ghost use Rattle.cid.specs.declared.digest.Sha256.{Sha256};
 ghost use Rattle.commands.specs.Requests.{IsDone};
 
 use crate::command_line::{Request, request_of};
@@ -13,19 +14,36 @@ use std::io::{Read, Write};
 use std::sync::Wait;
 use std::thread::Threads;
 
-/// Does what the words ask for, of which the first is the program's name, under SHA-256, and answers the status.
-pub fn run_words<T: Threads + Wait + Sync, R: Read, W: Write, X: Write>(
+/// What the words of a command line ask for, and how it ended.
+#[derive(Clone, Copy)]
+pub struct Outcome<'a> {
+    /// The command; `None` where the words ask for help or the version, or are wrong.
+    pub request: Option<Request<'a>>,
+    /// The exit status, 0 to 4.
+    pub status: u8,
+}
+
+/// Does what the words ask for, of which the first is the program's name, under SHA-256.
+///
+/// Status 0 says that it was done; 1 that a line, or what comes of the lines, is refused; 2 that the words are wrong; 3 that
+/// memory was refused; 4 that a read or a write failed. What is wrong stands on `err`.
+pub fn run_words<'a, T: Threads + Wait + Sync, R: Read, W: Write, X: Write>(
     rt: &T,
     alloc: Global,
-    words: &[&str],
+    words: &'a [&'a str],
     input: &mut R,
     out: &mut W,
     err: &mut X,
-) -> u8
-    ensures status { result ≤ 4 }
+) -> Outcome<'a>
+    ensures status { result.status ≤ 4 }
+
+    // At status 0 what was written is the text of the command that the words ask for.
+    ensures done { result.status ≡ 0 → IfSome result.request (λ request.
+        IsDone Sha256 ⟦<Sha256 as Digest>⟧.digest_of request (R.remaining input.old)
+        (W.contents out.old) (W.contents out.new)) }
 
     // A faulty line or word, what comes of them, and a wrong command line write nothing.
-    ensures nothing { (result ≡ 1) ⊎ (result ≡ 2)
+    ensures nothing { (result.status ≡ 1) ⊎ (result.status ≡ 2)
         → Keeps (W.contents out.old) (W.contents out.new) }
 {
     run_words_with::<Sha256, T, R, W, X>(rt, alloc, words, input, out, err)
@@ -33,21 +51,40 @@ pub fn run_words<T: Threads + Wait + Sync, R: Read, W: Write, X: Write>(
 
 /// `run_words` under the digest `D`.
 pub fn run_words_with<
+    'a,
     D: Digest + Send + Sync,
     T: Threads + Wait + Sync,
     R: Read,
     W: Write,
     X: Write,
->(rt: &T, alloc: Global, words: &[&str], input: &mut R, out: &mut W, err: &mut X) -> u8
-    ensures status { result ≤ 4 }
+>(
+    rt: &T,
+    alloc: Global,
+    words: &'a [&'a str],
+    input: &mut R,
+    out: &mut W,
+    err: &mut X,
+) -> Outcome<'a>
+    ensures status { result.status ≤ 4 }
+
+    // At status 0 what was written is the text of the command that the words ask for.
+    ensures done { result.status ≡ 0 → IfSome result.request (λ request.
+        IsDone D D.digest_of request (R.remaining input.old)
+        (W.contents out.old) (W.contents out.new)) }
 
     // A faulty line or word, what comes of them, and a wrong command line write nothing.
-    ensures nothing { (result ≡ 1) ⊎ (result ≡ 2)
+    ensures nothing { (result.status ≡ 1) ⊎ (result.status ≡ 2)
         → Keeps (W.contents out.old) (W.contents out.new) }
 {
     match request_of(alloc, words) {
-        Ok(request) => do_request::<D, T, R, W, X>(request, rt, alloc, input, out, err),
-        Err(error) => show(&error, out, err),
+        Ok(request) => Outcome {
+            request: Some(request),
+            status: do_request::<D, T, R, W, X>(request, rt, alloc, input, out, err),
+        },
+        Err(error) => Outcome {
+            request: None,
+            status: show(&error, out, err),
+        },
     }
 }
 

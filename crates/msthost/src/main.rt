@@ -42,5 +42,6 @@ fn run_on_streams<T: Threads + Wait + Sync, R: Read + Drop, W: Write + Drop, X: 
     }
     let mut input = BufReader::new(alloc, input)?;
     let mut out = BufWriter::new(alloc, out)?;
-    Ok(run_words(rt, alloc, &lent, &mut input, &mut out, err))
+    let outcome = run_words(rt, alloc, &lent, &mut input, &mut out, err);
+    Ok(outcome.status)
 }
