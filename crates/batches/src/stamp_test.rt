@@ -14,7 +14,8 @@ use crate::stamp::Stamp;
 use cid::Digest;
 use std::alloc::Allocator;
 
-/// Tests a stamp after a repository's last revision: its DID, its revision by itself, and then its order.
+/// Tests a stamp after a repository's last revision: its DID (`RepoFault::BadDid`), its revision by itself
+/// (`RepoFault::BadRev`), and then its order (`RepoFault::RevOrder`).
 pub fn test_stamp<D: Digest, A: Allocator>(
     last: Option<&[u8]>,
     stamp: &Stamp<A>,

@@ -15,7 +15,10 @@ use cid::Digest;
 use dagcbor::{CborFault, Value};
 use std::alloc::Allocator;
 
-/// Tests a write, where it is known whether its key is there: its key, its record, and then the key's presence.
+/// Tests a write, where it is known whether its key is there: its key (`RepoFault::BadKey`), its record
+/// (`RepoFault::RecordSize`, `RepoFault::BadRecord`, `RepoFault::NotAMap`), and then the key's presence
+/// (`RepoFault::KeyExists` for a create, `RepoFault::NoSuchKey` for an update or a delete). `RepoFault::NoMemory` comes
+/// where memory for reading the record was refused.
 pub fn test_write<D: Digest, A: Allocator + Copy>(
     alloc: A,
     there: bool,

@@ -5,8 +5,8 @@
 //! [`built_car`], which sorts the records, builds their tree from scratch, and writes what a repository would export; and
 //! who needs a proof of one key the nodes of its path by [`built_path`].
 //!
-//! It says no more of a batch that a repository wouldn't take than that it isn't one: `repo::Core::apply` tells which write
-//! is refused, and why.
+//! Of writes that a repository wouldn't take it says only that: `repo::Core::apply` tells which write is refused, and why.
+//! The stamp isn't tested, and no writes at all give a file with a commit.
 //!
 //! ```text
 //! let stamp = Stamp { did, rev };

@@ -64,8 +64,8 @@ impl<D: Digest, const B: u8, A: Allocator> Model for Closed<D, B, A> {
         c.repositories.tables c.feed c.settled.items };
 }
 
-/// Cores and tables that don't agree, or cores that have fewer accepted writes than a writer has seen there. Where it goes,
-/// all blocks are given back.
+/// Cores and tables that don't agree, or cores whose numbers aren't their places, or that have fewer accepted writes than a
+/// writer has seen there. Where it goes, all blocks are given back.
 ///
 /// A contract sees it as the states of the cores, the tables, the writers as they ended, and in what they don't agree.
 #[derive(Drop)]

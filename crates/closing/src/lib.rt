@@ -9,7 +9,8 @@
 //!   with the commit of its last stamp; and each block's count is the number of repositories that have it. `count` and
 //!   `counts` tell the counts. `next_left` gives the notices that nobody took, and `kept` those that a writer kept: with
 //!   what was taken they are all that the writer told.
-//! - [`Uneven`] holds cores and tables that don't agree, and tells in what.
+//! - [`Uneven`] holds what isn't so: a core's number isn't its place, cores and tables don't agree, or a core has fewer
+//!   writes than a writer has seen there; and it tells which.
 //!
 //! Both give all blocks back when they go. A writer that ends leaves an [`Ended`]. The [`Feed`] has room for all of them, so
 //! that the close takes no memory.

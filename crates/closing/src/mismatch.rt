@@ -2,7 +2,7 @@
 
 use thiserror::Error;
 
-/// Where cores and tables, or cores and what writers have seen, don't agree.
+/// Where cores and their places, cores and tables, or cores and what writers have seen, don't agree.
 #[derive(Clone, Copy, PartialEq, Eq, Debug, Error)]
 pub enum Mismatch {
     /// Some core's number isn't its place.

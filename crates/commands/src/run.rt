@@ -17,7 +17,8 @@ use std::thread::Threads;
 /// What the words of a command line ask for, and how it ended.
 #[derive(Clone, Copy)]
 pub struct Outcome<'a> {
-    /// The command; `None` where the words ask for help or the version, or are wrong.
+    /// The command; `None` where the words ask for help or the version, are wrong, or memory was refused while they were
+    /// read.
     pub request: Option<Request<'a>>,
     /// The exit status, 0 to 4.
     pub status: u8,
@@ -25,8 +26,9 @@ pub struct Outcome<'a> {
 
 /// Does what the words ask for, of which the first is the program's name, under SHA-256.
 ///
-/// Status 0 says that it was done; 1 that a line, or what comes of the lines, is refused; 2 that the words are wrong; 3 that
-/// memory was refused; 4 that a read or a write failed. What is wrong stands on `err`.
+/// Status 0 says that it was done; 1 that a line, what comes of the lines, or a word that the command takes, as a DID,
+/// is refused; 2 that the command line isn't one of the program's; 3 that memory was refused; 4 that a read or a write
+/// failed. What is wrong stands on `err`.
 pub fn run_words<'a, T: Threads + Wait + Sync, R: Read, W: Write, X: Write>(
     rt: &T,
     alloc: Global,

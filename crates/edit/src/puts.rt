@@ -31,8 +31,8 @@ use std::sync::Arc;
 ///
 /// The source has all nodes of the tree. Then `EditFault::Clash` shows two blocks with one CID and different bytes,
 /// each a node of the tree before or of the tree after, and `EditFault::NoMemory` comes where memory was refused. Where
-/// the source lacks a node of the path, or gives what is no node, the fault is `EditFault::NoSuchKey`, which never comes
-/// else.
+/// the source lacks a node of the path, or gives what is no node of a tree, the fault is `EditFault::NoSuchKey`; of a
+/// tree's own nodes a put never answers it.
 pub fn put<'a, D: Digest + 'a, const B: u8, A: Allocator + Clone + 'a, S: Source<Lent<'a, D, A>>>(
     alloc: A,
     src: &mut S,

@@ -58,7 +58,7 @@ pub enum OpenFault {
     /// Not 1 to 64 writers.
     #[error("not 1 to 64 writers")]
     BadWriters,
-    /// No room for 1 to 65,536 notices.
+    /// Not room for 1 to 65,536 notices in the queue.
     #[error("not 1 to 65,536 notices")]
     BadQueue,
     /// Not 1 to 1,048,576 blocks a shard.

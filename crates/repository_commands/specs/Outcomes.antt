@@ -29,8 +29,7 @@ abbrev pub IsMade : {X D A : Type 0} → (X → List ℕ) → Texts → Option (
 IsMade view text input made = IfSome input (λ xs. Gives view fault_of made (text xs))
 
 -- The exit status of a command. At 0 the text of the input was written. At 1 there is no text, or a line
--- was refused for what no definition knows of: nothing was written. At 3, no memory, and 4, a device, a
--- beginning of the text was.
+-- was refused for what no definition knows of: nothing was written.
 pub record IsStatusOf (text : Texts) (input old new : Option (List ℕ)) (status : ℕ) : Type 0 where
   pub one_of : status ≤ 4
   pub done : status ≡ 0 → IfSome input (λ xs. AppendsText old new (text xs))

@@ -33,7 +33,8 @@ use std::io::{Read, Write};
 ///
 /// The stamp is tested before the input is read, all of the input is read before a line is judged, and all is judged
 /// before a byte is written: only at `CommandFault::NoMemory` and `CommandFault::WriteFailed` a beginning of the file
-/// was written.
+/// was written. At `CommandFault::BadDid` and `CommandFault::BadRev`, which come first, at `CommandFault::Line`, with
+/// `LineFault::BadLine` or the refusal of the put, and at `CommandFault::ReadFailed` nothing was.
 pub fn car_text<D: Digest, R: Read, W: Write>(
     alloc: Global,
     stamp: &Stamp,

@@ -30,7 +30,7 @@ use std::sync::Arc;
 /// where it can't be, the puts are tried one by one, to tell the line at fault.
 ///
 /// The key has 1 to 1,024 bytes, else it is `ProofFault::KeyLength` before the input is read. The stamp is one that passes
-/// its test, as the program's own does.
+/// its test, as the program's own does. The other faults are those of `car_text`.
 pub fn prove_text<D: Digest, R: Read, W: Write>(
     alloc: Global,
     stamp: &Stamp,

@@ -20,9 +20,10 @@ use std::io::{Read, Write};
 /// Reads lines `HEX`, the blocks of a proof in any order, and writes what they show of a key in the tree whose root's CID
 /// has this text: `found CID`, or `absent`.
 ///
-/// The root's text and then the key, of 1 to 1,024 bytes, are tested before the input is read. Lines end at LF or CR LF,
-/// and a last line needs no end. An empty line is passed over, and counted; each other line is one block in hexadecimal, in
-/// either case, else it is `LineFault::BadLine`. What `export::verify` answers is `CommandFault::Proof`.
+/// The root's text, else `CommandFault::Root`, and then the key, of 1 to 1,024 bytes, are tested before the input is read.
+/// Lines end at LF or CR LF, and a last line needs no end. An empty line is passed over, and counted; each other line is one
+/// block in hexadecimal, in either case, else it is `LineFault::BadLine`. What `export::verify` answers is
+/// `CommandFault::Proof`.
 pub fn verify_text<D: Digest, A: Allocator + Copy, R: Read, W: Write>(
     alloc: A,
     root: &[u8],

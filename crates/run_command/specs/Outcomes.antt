@@ -48,8 +48,7 @@ pub record IsOutcome (D : Type 0) (digest : List ℕ → List ℕ) (s : Settings
   pub bad_did : result ≡ Err errors.BadDid → is_did did ≡ false
 
 -- The exit status of a run. At 0 the report of a run of the script was written. At 1 the DID or a line
--- is faulty, or the host didn't close, and nothing was written. At 3, no memory, and 4, a device, a
--- beginning of a report was.
+-- is faulty, or the host didn't close, and nothing was written.
 pub record IsStatusOf (D : Type 0) (digest : List ℕ → List ℕ) (s : Settings) (did : List ℕ)
     (input old new : Option (List ℕ)) (status : ℕ) : Type 0 where
   pub one_of : status ≤ 4

@@ -26,6 +26,9 @@ use std::thread::Threads;
 /// The DID is that of all batches, and is tested before the input is read. All of the script is read and judged before a
 /// line of it is done, and the host has closed before a byte is written: only at `RunFault::NoMemory` and
 /// `RunFault::WriteFailed` a beginning of the report was written.
+///
+/// `RunFault::BadDid` comes before the input is read, `RunFault::BadScript` names the first faulty line, and
+/// `RunFault::Uneven` says that the host didn't close; at these and at `RunFault::ReadFailed` nothing was written.
 pub fn run_text<D: Digest + Send + Sync, T: Threads + Wait + Sync, R: Read, W: Write>(
     rt: &T,
     alloc: Global,

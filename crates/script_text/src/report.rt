@@ -14,7 +14,8 @@ use notices::Notice;
 use scripts::{Answer, Line};
 use std::alloc::{AllocError, Allocator, Global};
 
-/// Adds the answers of these lines, which are as many.
+/// Adds the answers of these lines, which are as many. Where memory is refused, to this or to the calls below, a beginning
+/// may have been added.
 pub fn push_answers<D: Digest>(
     text: &mut Vec<u8>,
     alloc: Global,

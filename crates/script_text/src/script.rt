@@ -38,9 +38,10 @@ impl<T: Drop> From<AllocFailed<T>> for ScriptFault {
     }
 }
 
-/// The lines of a script for so many workers, whose batches all have this DID; or the first faulty line.
+/// The lines of a script for so many workers, whose batches all have this DID.
 ///
-/// Lines end at LF or CR LF, and a last line needs no end. An empty line is passed over, and counted.
+/// Lines end at LF or CR LF, and a last line needs no end. An empty line is passed over, and counted. The faults are
+/// `ScriptFault::BadScript` with the number of the first faulty line, and `ScriptFault::NoMemory`.
 pub fn script_of(
     alloc: Global,
     workers: u32,

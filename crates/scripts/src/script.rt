@@ -20,7 +20,7 @@ pub enum Call {
 /// A line of a script.
 #[derive(Drop)]
 pub struct Line {
-    /// The line's number, which the gate is given. Nothing else depends on it.
+    /// The line's number, which the gate is given and a report shows. No answer depends on it.
     pub number: usize,
     /// The worker that does the line: the place of its seat, from 0.
     pub worker: u32,
