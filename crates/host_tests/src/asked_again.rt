@@ -90,7 +90,8 @@ fn lists<R: Wait>(rt: &R, alloc: Global, writer: &mut Writer<'_, Toy, 2>) -> boo
 {
     match writer.list(rt, alloc, 0, b"", 9) {
         Ok(pairs) => match pairs.as_slice() {
-            [(key, value)] => key.as_slice() == b"a/b0".as_slice() && *value == Cid::of::<Toy>(THREE),
+            [(key, value)] => key.as_slice() == b"a/b0".as_slice()
+                && *value == Cid::of::<Toy>(THREE),
             _ => false,
         },
         Err(_) => false,
