@@ -23,6 +23,7 @@ demo:
 	@bash tools/demo
 
 test:
+	@tools/layout
 	@tools/edits --apply
 	@tools/readme-example
 	@rt ci
