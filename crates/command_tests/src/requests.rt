@@ -1,0 +1,51 @@
+//! Which command `run_words` says that the words ask for.
+use crate::running::EMPTY;
+use commands::{Request, run_words};
+use repository_commands::RepositoryCommand;
+use std::alloc::Global;
+use std::sync::Wait;
+use std::thread::Threads;
+
+/// What words ask for: a command, or none.
+#[derive(Clone, Copy, PartialEq, Eq)]
+enum Asked {
+    Nothing,
+    Tree,
+    Car,
+    Prove,
+    Verify,
+    Run,
+}
+
+/// What the words ask for, over an input without lines.
+fn request_of<T: Threads + Wait + Sync>(rt: &T, alloc: Global, words: &[&str]) -> Asked {
+    let mut input: &[u8] = b"";
+    let mut out = Vec::new(alloc);
+    let mut err = Vec::new(alloc);
+    match run_words(rt, alloc, words, &mut input, &mut out, &mut err).request {
+        None => Asked::Nothing,
+        Some(Request::Tree(_)) => Asked::Tree,
+        Some(Request::OnRepository(RepositoryCommand::Car { .. })) => Asked::Car,
+        Some(Request::OnRepository(RepositoryCommand::Prove { .. })) => Asked::Prove,
+        Some(Request::OnRepository(RepositoryCommand::Verify { .. })) => Asked::Verify,
+        Some(Request::Run(_)) => Asked::Run,
+    }
+}
+
+static ROWS: [(&[&str], Asked); 8] = [
+    (&["msthost", "tree"], Asked::Tree),
+    (&["msthost", "car"], Asked::Car),
+    (&["msthost", "prove", "a/b"], Asked::Prove),
+    (&["msthost", "verify", EMPTY, "a/b"], Asked::Verify),
+    (&["msthost", "run"], Asked::Run),
+    (&["msthost", "--help"], Asked::Nothing),
+    (&["msthost", "--version"], Asked::Nothing),
+    (&["msthost", "trees"], Asked::Nothing),
+];
+
+#[test]
+fn the_command_is_told(rt: HostRuntime) {
+    for (words, wanted) in &ROWS {
+        assert!(rt; request_of(&rt, rt.alloc(), words) == *wanted, "{words:?}");
+    }
+}
