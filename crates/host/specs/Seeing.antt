@@ -9,7 +9,7 @@ use Rattle.batches.specs.declared.stamp.Stamp.{Stamp}
 use Rattle.batches.specs.declared.write.Write.{Write}
 use Rattle.batches.specs.declared.fault.RepoFault.{RepoFault}
 use Rattle.repo.specs.Readings.{record_at, pairs_from}
-use Rattle.repo.specs.Refusals.{IsRefusal}
+use Rattle.repo.specs.Refusals.{IsRefusal, IsApplied}
 use Rattle.repo.specs.declared.applied.Applied.{Applied}
 use Rattle.host.specs.Views.{HostView, WriterView}
 use Rattle.host.specs.declared.locked.Wanted.{Wanted}
@@ -28,6 +28,28 @@ pub record IsSeen (w : Wanted) (s : State) : Type 0 where
   pub me_is : s.me ≡ w.repo
   pub limit_is : s.limit ≡ w.limit
   pub long : w.seen ≤ length s.accepted
+
+-- a core of this state isn't the wanted one
+abbrev pub IsPassedOver : Wanted → State → Type 0
+IsPassedOver w s = IsSeen w s → ⊥
+
+-- A core took the batch: it passes its test, the state after it is the one that the batch leaves,
+-- and the answer is of that state.
+pub record IsTakenBy (digest : List ℕ → List ℕ) (bits : ℕ) (old new : State) (stamp : stamps.Stamp)
+    (batch : List writes.Write) (a : Applied) : Type 0 where
+  pub passes : state_test old stamp batch ≡ Ok tt
+  pub after : new ≡ after_batch old stamp batch
+  pub lawful : IsLawful new
+  pub applied : IsApplied digest bits old new a
+
+-- the record of a key by a state, and how many writes that has
+abbrev pub IsRecordIn : State → List ℕ → ℕ → Option (List ℕ) → Type 0
+IsRecordIn s key number found = (number ≡ length s.accepted) × (found ≡ record_at s key)
+
+-- the first pairs from a key on by a state, and how many writes that has
+abbrev pub ArePairsIn : (List ℕ → List ℕ) → State → List ℕ → ℕ → ℕ → List Pair → Type 0
+ArePairsIn digest s from most number found =
+    (number ≡ length s.accepted) × (found ≡ pairs_from digest s from most)
 
 -- the batch was taken after such a state, and these are the number of writes and the root after it
 abbrev pub IsAcceptance : (List ℕ → List ℕ) → ℕ → Wanted → stamps.Stamp → List writes.Write → ℕ

@@ -19,6 +19,13 @@ pub record IsVersion (digest : List ℕ → List ℕ) (bits : ℕ) (v : Version)
   pub number_is : v.number ≡ length (version_writes v)
   pub root_is : v.root ≡ repository_root digest bits (leaves (version_writes v))
 
+-- the version is that of this state
+pub record IsVersionIn (digest : List ℕ → List ℕ) (bits : ℕ) (s : State) (v : Version) : Type 0 where
+  pub writes_are : version_writes v ≡ s.accepted
+  pub number_is : v.number ≡ length s.accepted
+  pub root_is : v.root ≡ state_root digest bits s
+  pub repo_is : v.repo ≡ s.me
+
 -- the version is that of a lawful state of the wanted repository, of at least as many writes as were
 -- seen there
 abbrev pub IsOfState : (List ℕ → List ℕ) → ℕ → Wanted → Version → Type 0

@@ -4,11 +4,12 @@
 //! its repository, and those that come to read there after one of these, as they wait behind it; nobody in another one.
 
 ghost use Rattle.std.specs.Prelude.{◌≡◌, ◌≤◌, ◌<◌, IfOk, IfErr, IfNone, IfSome, Err};
+ghost use Rattle.export.specs.Exports.{TakesCar, ArePathOf, car_length};
 ghost use Rattle.export.specs.Outs.{HasCause};
 ghost use Rattle.host.specs.Exporting.{IsCarOf, IsCarAnswer, HasCarCause, IsProofOf, IsProveFault};
 ghost use Rattle.host.specs.declared.fault.CarFault.TheVariants as cars;
 ghost use Rattle.host.specs.declared.fault.ProveFault.TheVariants as proofs;
-ghost use Rattle.host.specs.Seeing.{wanted_of};
+ghost use Rattle.host.specs.Seeing.{IsSeen, IsPassedOver, wanted_of};
 
 use crate::fault::{CarFault, ProveFault};
 use crate::host::Host;
@@ -27,10 +28,14 @@ fn car_in<D: Digest, const B: u8, W: Out>(
     out: &mut W,
 ) -> Option<Result<u64, ExportFault>>
     requires { 1 ≤ B }
+    ensures seen { IfSome result (λ r. IsSeen wanted core.now) }
+    ensures passed { IfNone result (IsPassedOver wanted core.now) }
     ensures taken { IfSome result
-        (IsCarOf D.digest_of B wanted (W.taken out.old) (W.taken out.new)) }
+        (TakesCar D.digest_of B core.now (W.taken out.old) (W.taken out.new)) }
+    ensures length { IfSome result
+        (λ r. IfOk r (λ count. count ≡ car_length D.digest_of B core.now)) }
     ensures cause { IfSome result (HasCause (W.failures out.old) (W.failures out.new)) }
-    ensures passed { IfNone result (out.new ≡ out.old) }
+    ensures untouched { IfNone result (out.new ≡ out.old) }
 {
     if !is_wanted(core, wanted) {
         return None;
@@ -46,8 +51,10 @@ fn proof_in<D: Digest, const B: u8>(
     key: &[u8],
 ) -> Option<Result<Vec<Arc<Block<D>>>, AllocError>>
     requires { 1 ≤ B }
-    ensures { IfSome result (λ r. IfOk r (λ nodes.
-        IsProofOf D.digest_of B wanted key.now nodes.items)) }
+    ensures seen { IfSome result (λ r. IsSeen wanted core.now) }
+    ensures passed { IfNone result (IsPassedOver wanted core.now) }
+    ensures proof { IfSome result (λ r. IfOk r (λ nodes.
+        ArePathOf D.digest_of B core.now key.now nodes.items)) }
 {
     if !is_wanted(core, wanted) {
         return None;

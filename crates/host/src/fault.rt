@@ -9,7 +9,7 @@ use export::ExportFault;
 use std::alloc::{AllocError, Allocator, Global};
 use thiserror::Error;
 
-/// Why a writer's call was refused. Nothing has changed then.
+/// Why a writer's call was refused. The writer is as before then, and so is each core to which the call came.
 #[derive(Drop, Error)]
 #[derive_where(Debug)]
 pub enum HostFault<D: Digest, A: Allocator = Global> {

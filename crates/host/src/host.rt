@@ -140,7 +140,8 @@ impl<D: Digest, const B: u8> Host<D, B> {
     /// Takes cores and tables out of their locks, and compares them with each other and with what writers have seen.
     ///
     /// These must be all writers and the feed that `Host::open` gave. Where all agree, it answers the closed host; otherwise
-    /// `Uneven`, which shows in what they don't agree, and holds these very cores and tables. It takes no memory.
+    /// `Uneven`, which holds cores, tables and what the writers ended with, and shows in what these don't agree. It takes no
+    /// memory.
     pub fn close(self, ended: Vec<Ended>, feed: Feed) -> Result<Closed<D, B>, Uneven<D, B>>
         requires feed { feed.queue_id ≡ self.queue.queue_id }
         requires fresh { feed.joined ≡ [] }

@@ -33,9 +33,12 @@
 //!
 //! # What is proved
 //!
-//! Each answer is right for a lawful list of accepted writes of this repository, of no fewer writes than its writer has seen
-//! there. Once the host has closed, each repository is what its accepted writes leave, by the Merkle search tree built from
-//! scratch from their records, and each block's count is the number of repositories that have it.
+//! Each answer of a writer is right for a lawful list of accepted writes of a repository of this number and this host's
+//! limit, of no fewer writes than the writer has seen there; each of `car` and `prove` for some such list. What a call does
+//! to a core whose lock it has is said exactly: an accepted batch leaves the state that its writes and its stamp leave, and
+//! where the batch is refused, or the core isn't the wanted one, the core is as before. Once the host has closed, each
+//! repository is what its accepted writes leave, by the Merkle search tree built from scratch from their records, and each
+//! block's count is the number of repositories that have it.
 //!
 //! No proof says that a lock is got or that a thread runs, nor which lock a call took and what stood behind it. So each call
 //! passes over a repository of another number, of another limit, or of fewer writes than were seen. Nor does one say that the

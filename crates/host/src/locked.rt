@@ -4,16 +4,19 @@
 //! number, of another limit, or of fewer accepted writes than its caller has seen. The caller then lets the lock go and tries
 //! again.
 
-ghost use Rattle.std.specs.Prelude.{◌≡◌, IsTrue, IfOk, IfErr, IfSome, option_map};
+ghost use Rattle.std.specs.Prelude.{◌≡◌, IsTrue, IfOk, IfErr, IfNone, IfSome, OnErr, false, option_map};
+ghost use Rattle.batches.specs.Values.{stamp_of, writes_of};
 ghost use Rattle.edit.specs.Walks.{pairs_given};
-ghost use Rattle.host.specs.Seeing.{IsSeen, IsTaken, IsRefusedSo, IsFound, IsListed};
+ghost use Rattle.store.specs.Stores.{IsStore};
+ghost use Rattle.repo.specs.Refusals.{IsRefusal};
+ghost use Rattle.host.specs.Seeing.{IsSeen, IsPassedOver, IsTakenBy, IsRecordIn, ArePairsIn};
 
 use batches::{RepoFault, Stamp, Write};
-use cid::{Cid, Digest};
+use cid::{Block, Cid, Digest};
 use repo::{Applied, Core};
 use std::alloc::{AllocError, Global};
-use std::sync::Wait;
-use store::{LockedShards, Shards};
+use std::sync::Arc;
+use store::{BlockStore, Hold, StoreFault};
 
 /// Which repository a call wants: its number, how many writes it may have, and how many accepted writes the caller has seen
 /// there.
@@ -26,31 +29,39 @@ pub(crate) struct Wanted {
 
 /// Whether the core is of the wanted repository, and has no fewer accepted writes than were seen there.
 pub(crate) fn is_wanted<D: Digest, const B: u8>(core: &Core<D, B>, wanted: Wanted) -> bool
-    ensures { IsTrue result → IsSeen wanted core.now }
+    ensures seen { IsTrue result → IsSeen wanted core.now }
+    ensures passed { result ≡ false → IsPassedOver wanted core.now }
 {
     core.me() == wanted.repo && core.limit() == wanted.limit && wanted.seen <= core.number()
 }
 
-/// Applies the batch, where the core is the wanted one.
-pub(crate) fn apply_at<D: Digest, const B: u8, R: Wait>(
-    rt: &R,
+/// Applies the batch, where the core is the wanted one. Where it isn't, and where the batch is refused, the core is as before.
+pub(crate) fn apply_at<
+    D: Digest,
+    const B: u8,
+    S: BlockStore<Arc<Block<D>>, Hold<D>, StoreFault<D>>,
+>(
     alloc: Global,
-    shards: &Shards<D>,
+    store: &mut S,
     core: &mut Core<D, B>,
     wanted: Wanted,
     stamp: &Stamp,
     writes: &[Write],
 ) -> Option<Result<Applied, (usize, RepoFault<D>)>>
-    ensures accepted { IfSome result
-        (λ r. IfOk r (IsTaken D.digest_of B wanted stamp.now writes.now)) }
-    ensures refused { IfSome result
-        (λ r. IfErr r (IsRefusedSo D.digest_of B wanted stamp.now writes.now)) }
+    requires store { IsStore D.digest_of S.fulls S.answers }
+    ensures seen { IfSome result (λ r. IsSeen wanted core.old) }
+    ensures passed { IfNone result (IsPassedOver wanted core.old) }
+    ensures accepted { IfSome result (λ r. IfOk r (IsTakenBy D.digest_of B core.old core.new
+        (stamp_of stamp.now) (writes_of writes.now))) }
+    ensures refused { IfSome result (λ r. IfErr r (IsRefusal D.digest_of B core.old
+        (stamp_of stamp.now) (writes_of writes.now) (S.fulls store.old) (S.fulls store.new))) }
+    ensures unchanged { IfSome result (λ r. OnErr r (core.new ≡ core.old)) }
+    ensures untouched { IfNone result (core.new ≡ core.old) }
 {
     if !is_wanted(core, wanted) {
         return None;
     }
-    let mut store = LockedShards::new(rt, shards);
-    match core.apply(alloc, &mut store, stamp, writes) {
+    match core.apply(alloc, store, stamp, writes) {
         Ok(applied) => Some(Ok(applied)),
         Err(refusal) => Some(Err(refusal)),
     }
@@ -63,8 +74,10 @@ pub(crate) fn record_in<D: Digest, const B: u8>(
     wanted: Wanted,
     key: &[u8],
 ) -> Option<Result<(u64, Option<Vec<u8>>), AllocError>>
-    ensures { IfSome result (λ o. IfOk o (λ r.
-        IsFound wanted key.now r.0 (option_map (λ v. v.items) r.1))) }
+    ensures seen { IfSome result (λ o. IsSeen wanted core.now) }
+    ensures passed { IfNone result (IsPassedOver wanted core.now) }
+    ensures found { IfSome result (λ o. IfOk o (λ r.
+        IsRecordIn core.now key.now r.0 (option_map (λ v. v.items) r.1))) }
 {
     if !is_wanted(core, wanted) {
         return None;
@@ -87,8 +100,10 @@ pub(crate) fn pairs_in<D: Digest, const B: u8>(
     from: &[u8],
     limit: usize,
 ) -> Option<Result<(u64, Vec<(Vec<u8>, Cid)>), AllocError>>
-    ensures { IfSome result (λ o. IfOk o (λ r.
-        IsListed D.digest_of wanted from.now limit r.0 (pairs_given r.1.items))) }
+    ensures seen { IfSome result (λ o. IsSeen wanted core.now) }
+    ensures passed { IfNone result (IsPassedOver wanted core.now) }
+    ensures listed { IfSome result (λ o. IfOk o (λ r.
+        ArePairsIn D.digest_of core.now from.now limit r.0 (pairs_given r.1.items))) }
 {
     if !is_wanted(core, wanted) {
         return None;

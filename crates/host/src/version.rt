@@ -1,9 +1,10 @@
 //! Published versions, which are read without a lock.
 
-ghost use Rattle.std.specs.Prelude.{◌≡◌, IfOk, IfErr, IfSome};
+ghost use Rattle.std.specs.Prelude.{◌≡◌, IfOk, IfErr, IfNone, IfSome};
 ghost use Rattle.boxcar.specs.Table.{Shows};
 ghost use Rattle.batches.specs.Values.{shared_writes};
-ghost use Rattle.host.specs.Versions.{IsVersion, IsOfState};
+ghost use Rattle.host.specs.Seeing.{IsSeen, IsPassedOver};
+ghost use Rattle.host.specs.Versions.{IsVersion, IsVersionIn};
 
 use crate::locked::{Wanted, is_wanted};
 use batches::Write;
@@ -113,8 +114,9 @@ pub(crate) fn version_in<D: Digest, const B: u8>(
     core: &Core<D, B>,
     wanted: Wanted,
 ) -> Option<Result<Version, AllocError>>
-    ensures lawful { IfSome result (λ r. IfOk r (IsVersion D.digest_of B)) }
-    ensures state { IfSome result (λ r. IfOk r (IsOfState D.digest_of B wanted)) }
+    ensures seen { IfSome result (λ r. IsSeen wanted core.now) }
+    ensures passed { IfNone result (IsPassedOver wanted core.now) }
+    ensures version { IfSome result (λ r. IfOk r (IsVersionIn D.digest_of B core.now)) }
 {
     if !is_wanted(core, wanted) {
         return None;

@@ -18,6 +18,7 @@ use cid::{Cid, Digest};
 use repo::Applied;
 use std::alloc::{AllocError, Global};
 use std::sync::Wait;
+use store::LockedShards;
 
 impl<D: Digest, const B: u8> Host<D, B> {
     /// The repository of this number, of which so many accepted writes were seen.
@@ -53,7 +54,8 @@ impl<D: Digest, const B: u8> Host<D, B> {
         let wanted = self.wanted(repo, seen);
         for _ in rt.forever() {
             let mut core = self.repositories[repo].lock.write(rt);
-            let answer = apply_at(rt, alloc, &self.shards, &mut core, wanted, stamp, writes);
+            let mut store = LockedShards::new(rt, &self.shards);
+            let answer = apply_at(alloc, &mut store, &mut core, wanted, stamp, writes);
             if let Some(answer) = answer {
                 return answer;
             }

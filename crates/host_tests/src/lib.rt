@@ -4,6 +4,8 @@
 #[cfg(test)]
 mod asked_again;
 #[cfg(test)]
+mod atproto;
+#[cfg(test)]
 mod example;
 #[cfg(test)]
 mod exports;

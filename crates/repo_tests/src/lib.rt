@@ -10,6 +10,8 @@ mod opening;
 #[cfg(test)]
 mod orders;
 #[cfg(test)]
+mod places;
+#[cfg(test)]
 mod random_batches;
 #[cfg(test)]
 mod readings;
