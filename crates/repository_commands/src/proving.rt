@@ -6,7 +6,7 @@ ghost use Rattle.spec.specs.Reading.{Gives};
 ghost use Rattle.batches.specs.Values.{stamp_of};
 ghost use Rattle.repository_commands.specs.Faults.{fault_of, is_of_words, is_write_failure};
 ghost use Rattle.repository_commands.specs.Outcomes.{IsMade, IsOutcome};
-ghost use Rattle.repository_commands.specs.Refusals.{IsRefusedIn, IsRefusedLine};
+ghost use Rattle.repository_commands.specs.Refusals.{IsRefusedIn, IsRefusedLine, is_refusal};
 ghost use Rattle.repository_commands.specs.Shards.{WasFull};
 ghost use Rattle.repository_commands.specs.Texts.{hex_line, key_check, path_of_given, proof_of_given, prove_text as prove_text_of, text_of_path};
 ghost use Rattle.repository_commands.specs.Views.{given_of, nodes_of};
@@ -70,6 +70,7 @@ fn proof_made<D: Digest, R: Read>(
 pub(crate) fn check_key<D: Digest, A: Allocator>(key: &[u8]) -> Result<(), CommandFault<D, A>>
     ensures check { Gives (λ ok. ok) fault_of result (key_check key.now) }
     ensures words { IfErr result (λ e. is_of_words e ≡ true) }
+    ensures refused { IfErr result (λ e. is_refusal e ≡ false) }
     ensures kind { IfErr result (λ e. is_write_failure e ≡ false) }
 {
     if !is_key(key) {
