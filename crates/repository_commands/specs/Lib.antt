@@ -1,5 +1,6 @@
 pub mod Puts
 pub mod Faults
+pub mod Names
 pub mod Texts
 pub mod Views
 pub mod Shards
