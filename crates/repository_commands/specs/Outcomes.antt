@@ -28,8 +28,8 @@ abbrev pub IsMade : {X D A : Type 0} → (X → List ℕ) → Texts → Option (
     → Result X (CommandFault D A) → Type 0
 IsMade view text input made = IfSome input (λ xs. Gives view fault_of made (text xs))
 
--- The exit status of a command. At 0 the text of the input was written. At 1 nothing was written. At any
--- a beginning of the text was, and so nothing where there is no text.
+-- The exit status of a command. At 0 the text of the input was written, and at 1 nothing. At any a
+-- beginning of the text was, and so nothing where there is no text.
 pub record IsStatusOf (text : Texts) (input old new : Option (List ℕ)) (status : ℕ) : Type 0 where
   pub one_of : status ≤ 4
   pub done : status ≡ 0 → IfSome input (λ xs. AppendsText old new (text xs))
@@ -37,13 +37,13 @@ pub record IsStatusOf (text : Texts) (input old new : Option (List ℕ)) (status
   pub usage : (status ≡ 2) → ⊥
   pub beginning : IfSome input (λ xs. AppendsBeginning old new (text_or_nothing (text xs)))
 
--- for an input, what is to hold of a fault that a command ends with
+-- what is to hold of an input and of the fault that a command ends with
 abbrev pub Reasons : Type 0 → Type 0 → Type 1
 Reasons D A = List ℕ → CommandFault D A → Type 0
 
 -- that holds of its fault, where there is one and the input is known
-abbrev pub HasReason : {D A : Type 0} → Reasons D A → Option (List ℕ) → Result (Unit {0}) (CommandFault D A)
-    → Type 0
+abbrev pub HasReason : {D A : Type 0} → Reasons D A → Option (List ℕ)
+    → Result (Unit {0}) (CommandFault D A) → Type 0
 HasReason Is input result = IfErr result (λ e. IfSome input (λ xs. Is xs e))
 
 -- A fault that ends with status 1, as neither memory nor a device does: it is the one that the text of

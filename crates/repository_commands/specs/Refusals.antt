@@ -19,7 +19,7 @@ is_want_of_memory fault = false
 
 -- The batch of the puts is refused at the write of this line: by its test; by a clash of two blocks, of
 -- which one is of the repository after the writes up to that line; or by a store that has answered that
--- it's full. What follows from such an answer is `when_full`.
+-- it's full (`fulls` times so far). What follows from such an answer is `when_full`.
 pub record IsRefusedAt {D A : Type 0} (digest : List ℕ → List ℕ) (stamp : Stamp) (given : Given)
     (when_full : Type 0) (n : ℕ) (fault : RepoFault D A) : Type 0 where
   pub place : ℕ
@@ -29,13 +29,15 @@ pub record IsRefusedAt {D A : Type 0} (digest : List ℕ → List ℕ) (stamp : 
   pub shown : 0 < fulls → when_full
   pub named : is_want_of_memory fault ≡ false
 
-abbrev pub IsLineFault : {D A : Type 0} → (List ℕ → List ℕ) → Stamp → Given → Type 0 → ℕ → LineFault D A → Type 0
+abbrev pub IsLineFault : {D A : Type 0} → (List ℕ → List ℕ) → Stamp → Given → Type 0 → ℕ
+    → LineFault D A → Type 0
 IsLineFault digest stamp given when_full n lines.BadLine = ⊤
 IsLineFault digest stamp given when_full n (lines.Refused fault) =
     IsRefusedAt digest stamp given when_full n fault
 
 -- where a command answers that a line is refused, it is
-abbrev pub IsRefusedLine : {D A : Type 0} → (List ℕ → List ℕ) → Stamp → Given → Type 0 → CommandFault D A → Type 0
+abbrev pub IsRefusedLine : {D A : Type 0} → (List ℕ → List ℕ) → Stamp → Given → Type 0
+    → CommandFault D A → Type 0
 IsRefusedLine digest stamp given when_full (errors.Line n fault) =
     IsLineFault digest stamp given when_full n fault
 IsRefusedLine digest stamp given when_full errors.BadDid = ⊤
@@ -46,8 +48,10 @@ IsRefusedLine digest stamp given when_full errors.NoMemory = ⊤
 IsRefusedLine digest stamp given when_full errors.ReadFailed = ⊤
 IsRefusedLine digest stamp given when_full errors.WriteFailed = ⊤
 
--- the lines of an input, by a store that the command has for itself: it's full only where a shard is
-abbrev pub IsRefusedIn : {D A : Type 0} → (List ℕ → List ℕ) → Stamp → List ℕ → CommandFault D A → Type 0
+-- of the lines of an input, by a store that the command has for itself: it has answered that it's
+-- full only where a shard was
+abbrev pub IsRefusedIn : {D A : Type 0} → (List ℕ → List ℕ) → Stamp → List ℕ → CommandFault D A
+    → Type 0
 IsRefusedIn digest stamp input e = IsRefusedLine digest stamp (given_in input) (WasFull digest) e
 
 -- the fault of a line that is refused

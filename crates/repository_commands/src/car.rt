@@ -44,7 +44,8 @@ pub fn car_text<D: Digest, R: Read, W: Write>(
     ensures outcome { IsOutcome (car_text_of D.digest_of (stamp_of stamp.now))
         (R.remaining input.old) (W.contents out.old) (W.contents out.new) result }
 
-    // Where a line is refused, it is so by a test, by a clash that is shown, or by a full store.
+    // Where a line is refused, it is so by a test, by a clash that is shown, or by a store of which a
+    // shard was full.
     ensures refused { IfErr result (λ e. IfSome (R.remaining input.old) (λ xs.
         IsRefusedIn D.digest_of (stamp_of stamp.now) xs e)) }
 
