@@ -1,6 +1,6 @@
 -- The repository of some puts, from what a repository answers to their batch.
-use Rattle.std.proofs.Common.{◌≡◌, ℕ, List, [], ◌∷◌, true, false, refl, sym, ap, subst, ◌∙◌}
-use Rattle.std.specs.Prelude.{Option, Some, None, option_map, Result, Ok, Err, IfErr, slice_index}
+use Rattle.std.proofs.Common.{◌≡◌, ◌<◌, ℕ, arith, List, [], ◌∷◌, true, false, refl, sym, ap, subst, ◌∙◌}
+use Rattle.std.specs.Prelude.{Option, Some, None, option_map, Result, Ok, Err, IfErr, IsErrAnd, slice_index}
 use Rattle.spec.specs.Reading.{◌>>=◌, Fails}
 use Rattle.spec.specs.Head.{CborFault}
 use Rattle.spec.specs.Stamps.{Stamp, StampFault, stamp_test}
@@ -9,11 +9,12 @@ use Rattle.spec.specs.States.{State, BatchFault, EmptyBatch, OfStamp, OfWrite as
 use Rattle.dagcbor.specs.Fault as cbor
 use Rattle.batches.specs.declared.fault.RepoFault.{RepoFault}
 use Rattle.batches.specs.declared.fault.RepoFault.TheVariants as faults
-use Rattle.repo.specs.Refusals.{IsRefusal, IsRefusalBy}
+use Rattle.repo.specs.Refusals.{IsOther, IsRefusal, IsRefusalBy}
 use Rattle.repository_commands.specs.Puts.{Given}
 use Rattle.repository_commands.specs.Faults.{Line, OfWrite, fault_of}
-use Rattle.repository_commands.specs.Refusals.{IsRefusedAt, IsRefusedLine, is_bad_line, is_want_of_memory, refused}
+use Rattle.repository_commands.specs.Refusals.{IsLineFault, IsRefusedAt, IsRefusedLine, is_bad_line, is_want_of_memory, refused}
 use Rattle.repository_commands.specs.Texts.{most_writes, no_writes, at_its_line, writes_check}
+use Rattle.repository_commands.specs.declared.fault.LineFault.{LineFault}
 use Rattle.repository_commands.specs.declared.fault.LineFault.TheVariants as lines
 use Rattle.repository_commands.specs.declared.fault.CommandFault.{CommandFault}
 use Rattle.repository_commands.specs.declared.fault.CommandFault.TheVariants as errors
@@ -100,11 +101,42 @@ module _ {D A : Type 0} (digest : List ℕ → List ℕ) (stamp : Stamp) (given 
   refusal_fails s ws n fault f es ew is en ef =
       subst (λ h. Fails (fault_of h) (writes_check given)) (sym (ef ∙ ap (λ m. refused m fault) en)) (refused_fails fault (refusal_of s ws fault es ew is))
 
-  module _ (n : ℕ) (en : n ≡ slice_index given.numbers place) where
-    at_line : (fault : RepoFault D A) → is_want_of_memory fault ≡ false → IsRefusal digest 2 no_writes stamp given.writes full fuller (place, fault) → IsRefusedAt digest stamp given n fault
-    at_line fault named is = record { place = place; full = full; fuller = fuller; number = en; refusal = is; named = named }
+  -- the store had answered so or not before
+  record-since : (fault : RepoFault D A) (o : Option CborFault) → ((n : ℕ) → IsOther digest 2 no_writes stamp given.writes n fuller place fault → ⊥)
+      → IsRefusalBy digest 2 no_writes stamp given.writes full fuller place fault (option_map (λ g. OfBatchWrite (BadRecord g)) o)
+      → IsRefusalBy digest 2 no_writes stamp given.writes 0 fuller place fault (option_map (λ g. OfBatchWrite (BadRecord g)) o)
+  record-since fault None never e = absurd (never full e)
+  record-since fault (Some f) never e = e
 
-    refused_line : (fault : RepoFault D A) → IsRefusal digest 2 no_writes stamp given.writes full fuller (place, fault) → IsRefusedLine digest stamp given (refused n fault)
+  since_new : (fault : RepoFault D A) → IsRefusal digest 2 no_writes stamp given.writes full fuller (place, fault)
+      → IsRefusal digest 2 no_writes stamp given.writes 0 fuller (place, fault)
+  since_new faults.BadKey e = e
+  since_new (faults.BadRecord f) e = record-since (faults.BadRecord f) (cbor.fault_of f) (λ n h. h) e
+  since_new faults.NotAMap e = e
+  since_new faults.RecordSize e = e
+  since_new faults.KeyExists e = e
+  since_new faults.NoSuchKey e = e
+  since_new faults.WritesFull e = e
+  since_new (faults.Collision pair) e = e
+  since_new faults.StoreFull e = let h : full < fuller = e.1 in (e.0, omega arith)
+  since_new faults.NoMemory e = e
+  since_new faults.EmptyBatch e = e
+  since_new faults.BadDid e = e
+  since_new faults.BadRev e = e
+  since_new faults.RevOrder e = e
+
+  module _ (n : ℕ) (en : n ≡ slice_index given.numbers place) where
+    at_line : (fault : RepoFault D A) → is_want_of_memory fault ≡ false → IsRefusal digest 2 no_writes stamp given.writes full fuller (place, fault) → IsRefusedAt digest stamp given (0 < fuller) n fault
+    at_line fault named is = record {
+      place = place;
+      fulls = fuller;
+      number = en;
+      refusal = since_new fault is;
+      shown = λ h. h;
+      named = named;
+    }
+
+    refused_line : (fault : RepoFault D A) → IsRefusal digest 2 no_writes stamp given.writes full fuller (place, fault) → IsRefusedLine digest stamp given (0 < fuller) (refused n fault)
     refused_line faults.NoMemory is = tt
     refused_line faults.BadKey is = at_line faults.BadKey refl is
     refused_line (faults.BadRecord f) is = at_line (faults.BadRecord f) refl is
@@ -122,22 +154,52 @@ module _ {D A : Type 0} (digest : List ℕ → List ℕ) (stamp : Stamp) (given 
 
     -- and its line is named
     pub refusal_names : (s : State) (ws : List Write) (fault : RepoFault D A) (f : CommandFault D A) → s ≡ no_writes → ws ≡ given.writes → IsRefusal digest 2 s stamp ws full fuller (place, fault)
-        → f ≡ refused n fault → IsRefusedLine digest stamp given f
-    refusal_names s ws fault f es ew is ef = subst (λ h. IsRefusedLine digest stamp given h) (sym ef) (refused_line fault (refusal_of s ws fault es ew is))
+        → f ≡ refused n fault → IsRefusedLine digest stamp given (0 < fuller) f
+    refusal_names s ws fault f es ew is ef = subst (λ h. IsRefusedLine digest stamp given (0 < fuller) h) (sym ef) (refused_line fault (refusal_of s ws fault es ew is))
+
+-- ---- what follows from a store that has answered that it's full
+
+module _ {D A P Q : Type 0} (digest : List ℕ → List ℕ) (stamp : Stamp) (given : Given) (follows : P → Q) where
+  line_further : (n : ℕ) (fault : LineFault D A) → IsLineFault digest stamp given P n fault → IsLineFault digest stamp given Q n fault
+  line_further n lines.BadLine is = tt
+  line_further n (lines.Refused fault) is = record {
+    place = is.place;
+    fulls = is.fulls;
+    number = is.number;
+    refusal = is.refusal;
+    shown = λ h. follows (is.shown h);
+    named = is.named;
+  }
+
+  further : (e : CommandFault D A) → IsRefusedLine digest stamp given P e → IsRefusedLine digest stamp given Q e
+  further (errors.Line n fault) is = line_further n fault is
+  further errors.BadDid is = tt
+  further errors.BadRev is = tt
+  further (errors.Root f) is = tt
+  further (errors.Proof f) is = tt
+  further errors.NoMemory is = tt
+  further errors.ReadFailed is = tt
+  further errors.WriteFailed is = tt
+
+  -- a fault that is passed on
+  pub passed_further : {X : Type 0} (r : Result X (CommandFault D A)) (f : CommandFault D A) → IsErrAnd r (λ e. e ≡ f)
+      → IsRefusedLine digest stamp given P f → IfErr r (IsRefusedLine digest stamp given Q)
+  passed_further (Ok x) f e is = tt
+  passed_further (Err h) f e is = subst (λ (k : CommandFault D A). IsRefusedLine digest stamp given Q k) (sym e) (further f is)
 
 -- ---- a line that is no put
 
-bad_line_named : {D A : Type 0} (digest : List ℕ → List ℕ) (stamp : Stamp) (given : Given) (f : CommandFault D A) → is_bad_line f ≡ true → IsRefusedLine digest stamp given f
-bad_line_named digest stamp given (errors.Line n lines.BadLine) e = tt
-bad_line_named digest stamp given (errors.Line n (lines.Refused f)) e = absurd cc
-bad_line_named digest stamp given errors.BadDid e = absurd cc
-bad_line_named digest stamp given errors.BadRev e = absurd cc
-bad_line_named digest stamp given (errors.Root f) e = absurd cc
-bad_line_named digest stamp given (errors.Proof f) e = absurd cc
-bad_line_named digest stamp given errors.NoMemory e = absurd cc
-bad_line_named digest stamp given errors.ReadFailed e = absurd cc
-bad_line_named digest stamp given errors.WriteFailed e = absurd cc
+bad_line_named : {D A : Type 0} (digest : List ℕ → List ℕ) (stamp : Stamp) (given : Given) (P : Type 0) (f : CommandFault D A) → is_bad_line f ≡ true → IsRefusedLine digest stamp given P f
+bad_line_named digest stamp given P (errors.Line n lines.BadLine) e = tt
+bad_line_named digest stamp given P (errors.Line n (lines.Refused f)) e = absurd cc
+bad_line_named digest stamp given P errors.BadDid e = absurd cc
+bad_line_named digest stamp given P errors.BadRev e = absurd cc
+bad_line_named digest stamp given P (errors.Root f) e = absurd cc
+bad_line_named digest stamp given P (errors.Proof f) e = absurd cc
+bad_line_named digest stamp given P errors.NoMemory e = absurd cc
+bad_line_named digest stamp given P errors.ReadFailed e = absurd cc
+bad_line_named digest stamp given P errors.WriteFailed e = absurd cc
 
-pub bad_line_refused : {X D A : Type 0} (digest : List ℕ → List ℕ) (stamp : Stamp) (given : Given) (r : Result X (CommandFault D A)) → IfErr r (λ e. is_bad_line e ≡ true) → IfErr r (IsRefusedLine digest stamp given)
-bad_line_refused digest stamp given (Ok x) e = tt
-bad_line_refused digest stamp given (Err f) e = bad_line_named digest stamp given f e
+pub bad_line_refused : {X D A : Type 0} (digest : List ℕ → List ℕ) (stamp : Stamp) (given : Given) (P : Type 0) (r : Result X (CommandFault D A)) → IfErr r (λ e. is_bad_line e ≡ true) → IfErr r (IsRefusedLine digest stamp given P)
+bad_line_refused digest stamp given P (Ok x) e = tt
+bad_line_refused digest stamp given P (Err f) e = bad_line_named digest stamp given P f e

@@ -1,7 +1,8 @@
 -- What each command writes, by its words.
-use Rattle.std.specs.Prelude.{ℕ, List, codes}
+use Rattle.std.specs.Prelude.{◌≡◌, ℕ, List, codes, false}
 use Rattle.spec.specs.Stamps.{Stamp}
-use Rattle.repository_commands.specs.Outcomes.{Texts}
+use Rattle.repository_commands.specs.Outcomes.{Reasons, Texts}
+use Rattle.repository_commands.specs.Refusals.{IsRefusedIn, is_refusal}
 use Rattle.repository_commands.specs.Texts.{car_text, prove_text, verify_text}
 use Rattle.repository_commands.specs.declared.words.RepositoryCommand.{RepositoryCommand}
 use Rattle.repository_commands.specs.declared.words.RepositoryCommand.TheVariants as commands
@@ -18,3 +19,10 @@ abbrev pub texts_of : (List ℕ → List ℕ) → RepositoryCommand → Texts
 texts_of digest (commands.Car did rev) = car_text digest (stamp_of_words did.now rev.now)
 texts_of digest (commands.Prove key) = prove_text digest own_stamp key.now
 texts_of digest (commands.Verify root key) = verify_text digest root.now key.now
+
+-- why a command may end with a fault on an input: `car` and `prove` refuse a line alone that a repository
+-- refuses, and `verify` none
+abbrev pub reasons_of : {D A : Type 0} → (List ℕ → List ℕ) → RepositoryCommand → Reasons D A
+reasons_of digest (commands.Car did rev) = IsRefusedIn digest (stamp_of_words did.now rev.now)
+reasons_of digest (commands.Prove key) = IsRefusedIn digest own_stamp
+reasons_of digest (commands.Verify root key) = λ xs e. is_refusal e ≡ false

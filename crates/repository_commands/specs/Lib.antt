@@ -1,7 +1,9 @@
 pub mod Puts
 pub mod Faults
+pub mod Names
 pub mod Texts
 pub mod Views
+pub mod Shards
 pub mod Refusals
 pub mod Outcomes
 pub mod Commands

@@ -3,7 +3,7 @@ use Rattle.std.specs.Prelude.{◌≡◌, ◌≤◌, ℕ, true, false, List, Opti
 use Rattle.std.specs.Io.KnownBytes.{Keeps}
 use Rattle.spec.specs.Reading.{Gives, Fails}
 use Rattle.console.specs.Written.{AppendsBeginning, AppendsText}
-use Rattle.repository_commands.specs.Faults.{Fault, fault_of, may_have_written}
+use Rattle.repository_commands.specs.Faults.{Fault, fault_of, may_have_written, status_of}
 use Rattle.repository_commands.specs.Texts.{text_or_nothing}
 use Rattle.repository_commands.specs.declared.fault.CommandFault.{CommandFault}
 use Rattle.repository_commands.specs.declared.fault.CommandFault.TheVariants as errors
@@ -28,10 +28,29 @@ abbrev pub IsMade : {X D A : Type 0} → (X → List ℕ) → Texts → Option (
     → Result X (CommandFault D A) → Type 0
 IsMade view text input made = IfSome input (λ xs. Gives view fault_of made (text xs))
 
--- The exit status of a command. At 0 the text of the input was written. At 1 there is no text, or a line
--- was refused for what no definition knows of: nothing was written.
+-- The exit status of a command. At 0 the text of the input was written, and at 1 nothing. At any a
+-- beginning of the text was, and so nothing where there is no text.
 pub record IsStatusOf (text : Texts) (input old new : Option (List ℕ)) (status : ℕ) : Type 0 where
   pub one_of : status ≤ 4
   pub done : status ≡ 0 → IfSome input (λ xs. AppendsText old new (text xs))
   pub nothing : status ≡ 1 → Keeps old new
   pub usage : (status ≡ 2) → ⊥
+  pub beginning : IfSome input (λ xs. AppendsBeginning old new (text_or_nothing (text xs)))
+
+-- what is to hold of an input and of the fault that a command ends with
+abbrev pub Reasons : Type 0 → Type 0 → Type 1
+Reasons D A = List ℕ → CommandFault D A → Type 0
+
+-- that holds of its fault, where there is one and the input is known
+abbrev pub HasReason : {D A : Type 0} → Reasons D A → Option (List ℕ)
+    → Result (Unit {0}) (CommandFault D A) → Type 0
+HasReason Is input result = IfErr result (λ e. IfSome input (λ xs. Is xs e))
+
+-- A fault that ends with status 1, as neither memory nor a device does: it is the one that the text of
+-- the input has, if the definitions name it; and there is a reason for it.
+pub record IsFaulty {D A : Type 0} (text : Texts) (Is : Reasons D A) (input : Option (List ℕ))
+    : Type 0 where
+  pub fault : CommandFault D A
+  pub status : status_of fault ≡ 1
+  pub of_text : IfSome input (λ xs. Fails (fault_of fault) (text xs))
+  pub reason : IfSome input (λ xs. Is xs fault)

@@ -3,6 +3,7 @@ ghost use Rattle.std.specs.Prelude.{◌≡◌, false, IfErr, IfSome};
 ghost use Rattle.spec.specs.Reading.{Gives};
 ghost use Rattle.console.specs.Lines.{lines};
 ghost use Rattle.repository_commands.specs.Faults.{fault_of, is_write_failure};
+ghost use Rattle.repository_commands.specs.Refusals.{is_refusal};
 ghost use Rattle.repository_commands.specs.Texts.{blocks_of_lines};
 ghost use Rattle.repository_commands.specs.Views.{blocks_of};
 
@@ -20,6 +21,7 @@ pub(crate) fn read_blocks<D: Digest, A: Allocator + Copy, R: Read>(
 ) -> Result<Vec<Vec<u8, A>, A>, CommandFault<D, A>>
     ensures blocks { IfSome (R.remaining input.old) (λ xs. Gives
         (λ blocks. blocks_of blocks.items) fault_of result (blocks_of_lines 1 (lines xs))) }
+    ensures refused { IfErr result (λ e. is_refusal e ≡ false) }
     ensures kind { IfErr result (λ e. is_write_failure e ≡ false) }
 {
     let bytes = read_all(alloc, input)?;
@@ -33,6 +35,7 @@ fn blocks_of_input<D: Digest, A: Allocator + Copy>(
 ) -> Result<Vec<Vec<u8, A>, A>, CommandFault<D, A>>
     ensures blocks { Gives (λ blocks. blocks_of blocks.items) fault_of result
         (blocks_of_lines 1 (lines input.now)) }
+    ensures refused { IfErr result (λ e. is_refusal e ≡ false) }
     ensures kind { IfErr result (λ e. is_write_failure e ≡ false) }
 {
     let mut blocks = Vec::new(alloc);

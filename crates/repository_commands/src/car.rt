@@ -5,8 +5,8 @@ ghost use Rattle.spec.specs.States.{state_car};
 ghost use Rattle.batches.specs.Values.{stamp_of};
 ghost use Rattle.repository_commands.specs.Faults.{fault_of, is_of_words, is_write_failure};
 ghost use Rattle.repository_commands.specs.Outcomes.{IsMade, IsOutcome};
-ghost use Rattle.repository_commands.specs.Puts.{given_in};
-ghost use Rattle.repository_commands.specs.Refusals.{IsRefusedLine};
+ghost use Rattle.repository_commands.specs.Refusals.{IsRefusedIn, IsRefusedLine};
+ghost use Rattle.repository_commands.specs.Shards.{WasFull};
 ghost use Rattle.repository_commands.specs.Texts.{car_of_given, car_text as car_text_of, stamp_check};
 ghost use Rattle.repository_commands.specs.Views.{given_of};
 
@@ -44,9 +44,10 @@ pub fn car_text<D: Digest, R: Read, W: Write>(
     ensures outcome { IsOutcome (car_text_of D.digest_of (stamp_of stamp.now))
         (R.remaining input.old) (W.contents out.old) (W.contents out.new) result }
 
-    // Where a line is refused, it is so by a test, by a clash that is shown, or by a full store.
+    // Where a line is refused, it is so by a test, by a clash that is shown, or by a store of which a
+    // shard was full.
     ensures refused { IfErr result (λ e. IfSome (R.remaining input.old) (λ xs.
-        IsRefusedLine D.digest_of (stamp_of stamp.now) (given_in xs) e)) }
+        IsRefusedIn D.digest_of (stamp_of stamp.now) xs e)) }
 
     // A faulty stamp is told before the input is read.
     ensures unread { IsErr (stamp_check (stamp_of stamp.now)) → input.new ≡ input.old }
@@ -63,7 +64,7 @@ fn car_made<D: Digest, R: Read>(
     ensures made { IsMade (λ bytes. bytes.items) (car_text_of D.digest_of (stamp_of stamp.now))
         (R.remaining input.old) result }
     ensures refused { IfErr result (λ e. IfSome (R.remaining input.old) (λ xs.
-        IsRefusedLine D.digest_of (stamp_of stamp.now) (given_in xs) e)) }
+        IsRefusedIn D.digest_of (stamp_of stamp.now) xs e)) }
     ensures unread { IsErr (stamp_check (stamp_of stamp.now)) → input.new ≡ input.old }
     ensures kind { IfErr result (λ e. is_write_failure e ≡ false) }
 {
@@ -97,7 +98,7 @@ fn car_of_puts<D: Digest>(
     ensures file { Gives (λ bytes. bytes.items) fault_of result
         (car_of_given D.digest_of (stamp_of stamp.now) (given_of puts)) }
     ensures refused { IfErr result
-        (IsRefusedLine D.digest_of (stamp_of stamp.now) (given_of puts)) }
+        (IsRefusedLine D.digest_of (stamp_of stamp.now) (given_of puts) (WasFull D.digest_of)) }
     ensures kind { IfErr result (λ e. is_write_failure e ≡ false) }
 {
     match car_at_once::<D>(alloc, stamp, &puts) {
@@ -131,7 +132,7 @@ fn car_put_by_put<D: Digest>(
     ensures file { Gives (λ bytes. bytes.items) fault_of result
         (car_of_given D.digest_of (stamp_of stamp.now) (given_of puts)) }
     ensures refused { IfErr result
-        (IsRefusedLine D.digest_of (stamp_of stamp.now) (given_of puts)) }
+        (IsRefusedLine D.digest_of (stamp_of stamp.now) (given_of puts) (WasFull D.digest_of)) }
     ensures kind { IfErr result (λ e. is_write_failure e ≡ false) }
 {
     let mut store = Tables::new(alloc)?;

@@ -1,11 +1,11 @@
 //! How a command ends: its text is written, or the fault is told; to the exit status.
-ghost use Rattle.std.specs.Prelude.{◌≡◌, List, ℕ, Option, Err, false, IfErr};
-ghost use Rattle.repository_commands.specs.Faults.{is_write_failure, may_have_written};
+ghost use Rattle.std.specs.Prelude.{◌≡◌, ◌⊎◌, List, ℕ, Option, Err, false, IfErr, OnOk};
+ghost use Rattle.repository_commands.specs.Faults.{is_write_failure, may_have_written, status_of};
 ghost use Rattle.repository_commands.specs.Outcomes.{IsMade, IsOutcome, IsStatusOf, Texts};
 
 use crate::fault::CommandFault;
 use cid::Digest;
-use console::{done, tell, write_whole};
+use console::{DONE, IO_FAILED, done, tell, write_whole};
 use std::alloc::Allocator;
 use std::io::Write;
 
@@ -38,7 +38,9 @@ pub(crate) fn status_of<D: Digest, A: Allocator, W: Write, X: Write>(
     out: &mut W,
     err: &mut X,
 ) -> u8
-    ensures { (text : Texts) (input old : Option (List ℕ))
+    ensures told { IfErr ended (λ e. result ≡ status_of e) }
+    ensures done { OnOk ended ((result ≡ DONE) ⊎ (result ≡ IO_FAILED)) }
+    ensures status { (text : Texts) (input old : Option (List ℕ))
         → IsOutcome text input old (W.contents out.old) ended
         → IsStatusOf text input old (W.contents out.new) result }
 {

@@ -1,5 +1,5 @@
 //! A repository that is filled with the puts of an input.
-ghost use Rattle.std.specs.Prelude.{◌≡◌, true, false, slice_index, IfErr, IfOk, OnOk};
+ghost use Rattle.std.specs.Prelude.{◌≡◌, ◌<◌, true, false, slice_index, IfErr, IfOk, OnOk};
 ghost use Rattle.spec.specs.Reading.{Gives};
 ghost use Rattle.batches.specs.Values.{stamp_of, writes_of};
 ghost use Rattle.store.specs.Stores.{IsStore};
@@ -33,7 +33,7 @@ pub(crate) fn filled<D: Digest, S: BlockStore<Arc<Block<D>>, Hold<D>, StoreFault
     ensures state { Gives (λ core. core) fault_of result
         (state_of_given (stamp_of stamp.now) (given_of puts)) }
     ensures refused { IfErr result
-        (IsRefusedLine D.digest_of (stamp_of stamp.now) (given_of puts)) }
+        (IsRefusedLine D.digest_of (stamp_of stamp.now) (given_of puts) (0 < S.fulls store.new)) }
     ensures kind { IfErr result (λ e. is_write_failure e ≡ false) }
 {
     let mut core = empty::<D, S>(alloc, store)?;
@@ -77,7 +77,8 @@ fn apply_puts<D: Digest, S: BlockStore<Arc<Block<D>>, Hold<D>, StoreFault<D>>>(
     ensures state { Gives (λ _. core.new) fault_of result
         (state_of_given (stamp_of stamp.now) (given_of puts.now)) }
     ensures refused { IfErr result
-        (IsRefusedLine D.digest_of (stamp_of stamp.now) (given_of puts.now)) }
+        (IsRefusedLine D.digest_of (stamp_of stamp.now) (given_of puts.now)
+        (0 < S.fulls store.new)) }
     ensures kind { IfErr result (λ e. is_write_failure e ≡ false) }
 {
     apply_writes::<D, S>(alloc, store, core, stamp, puts)?;
@@ -99,7 +100,8 @@ fn apply_writes<D: Digest, S: BlockStore<Arc<Block<D>>, Hold<D>, StoreFault<D>>>
     ensures state { OnOk result
         (core.new ≡ state_of (stamp_of stamp.now) (writes_of puts.now.writes.items)) }
     ensures refused { IfErr result
-        (IsRefusedLine D.digest_of (stamp_of stamp.now) (given_of puts.now)) }
+        (IsRefusedLine D.digest_of (stamp_of stamp.now) (given_of puts.now)
+        (0 < S.fulls store.new)) }
     ensures kind { IfErr result (λ e. is_write_failure e ≡ false) }
 {
     if puts.writes.is_empty() {

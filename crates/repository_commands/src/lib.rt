@@ -24,6 +24,7 @@ mod car;
 mod ending;
 mod fault;
 mod filling;
+mod names;
 mod proving;
 mod puts;
 mod refusal_name;

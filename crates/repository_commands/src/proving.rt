@@ -6,8 +6,8 @@ ghost use Rattle.spec.specs.Reading.{Gives};
 ghost use Rattle.batches.specs.Values.{stamp_of};
 ghost use Rattle.repository_commands.specs.Faults.{fault_of, is_of_words, is_write_failure};
 ghost use Rattle.repository_commands.specs.Outcomes.{IsMade, IsOutcome};
-ghost use Rattle.repository_commands.specs.Puts.{given_in};
-ghost use Rattle.repository_commands.specs.Refusals.{IsRefusedLine};
+ghost use Rattle.repository_commands.specs.Refusals.{IsRefusedIn, IsRefusedLine, is_refusal};
+ghost use Rattle.repository_commands.specs.Shards.{WasFull};
 ghost use Rattle.repository_commands.specs.Texts.{hex_line, key_check, path_of_given, proof_of_given, prove_text as prove_text_of, text_of_path};
 ghost use Rattle.repository_commands.specs.Views.{given_of, nodes_of};
 
@@ -41,7 +41,7 @@ pub fn prove_text<D: Digest, R: Read, W: Write>(
     ensures outcome { IsOutcome (prove_text_of D.digest_of (stamp_of stamp.now) key.now)
         (R.remaining input.old) (W.contents out.old) (W.contents out.new) result }
     ensures refused { IfErr result (λ e. IfSome (R.remaining input.old) (λ xs.
-        IsRefusedLine D.digest_of (stamp_of stamp.now) (given_in xs) e)) }
+        IsRefusedIn D.digest_of (stamp_of stamp.now) xs e)) }
     ensures unread { IsErr (key_check key.now) → input.new ≡ input.old }
 {
     write_made(proof_made(alloc, stamp, key, input), out)
@@ -57,7 +57,7 @@ fn proof_made<D: Digest, R: Read>(
     ensures made { IsMade (λ bytes. bytes.items)
         (prove_text_of D.digest_of (stamp_of stamp.now) key.now) (R.remaining input.old) result }
     ensures refused { IfErr result (λ e. IfSome (R.remaining input.old) (λ xs.
-        IsRefusedLine D.digest_of (stamp_of stamp.now) (given_in xs) e)) }
+        IsRefusedIn D.digest_of (stamp_of stamp.now) xs e)) }
     ensures unread { IsErr (key_check key.now) → input.new ≡ input.old }
     ensures kind { IfErr result (λ e. is_write_failure e ≡ false) }
 {
@@ -70,6 +70,7 @@ fn proof_made<D: Digest, R: Read>(
 pub(crate) fn check_key<D: Digest, A: Allocator>(key: &[u8]) -> Result<(), CommandFault<D, A>>
     ensures check { Gives (λ ok. ok) fault_of result (key_check key.now) }
     ensures words { IfErr result (λ e. is_of_words e ≡ true) }
+    ensures refused { IfErr result (λ e. is_refusal e ≡ false) }
     ensures kind { IfErr result (λ e. is_write_failure e ≡ false) }
 {
     if !is_key(key) {
@@ -88,7 +89,7 @@ fn proof_of_puts<D: Digest>(
     ensures text { Gives (λ bytes. bytes.items) fault_of result
         (proof_of_given D.digest_of (stamp_of stamp.now) key.now (given_of puts)) }
     ensures refused { IfErr result
-        (IsRefusedLine D.digest_of (stamp_of stamp.now) (given_of puts)) }
+        (IsRefusedLine D.digest_of (stamp_of stamp.now) (given_of puts) (WasFull D.digest_of)) }
     ensures kind { IfErr result (λ e. is_write_failure e ≡ false) }
 {
     let path = path_of_puts::<D>(alloc, stamp, key, puts)?;
@@ -113,7 +114,7 @@ fn path_of_puts<D: Digest>(
     ensures path { Gives nodes_of fault_of result
         (path_of_given D.digest_of (stamp_of stamp.now) key.now (given_of puts)) }
     ensures refused { IfErr result
-        (IsRefusedLine D.digest_of (stamp_of stamp.now) (given_of puts)) }
+        (IsRefusedLine D.digest_of (stamp_of stamp.now) (given_of puts) (WasFull D.digest_of)) }
     ensures kind { IfErr result (λ e. is_write_failure e ≡ false) }
 {
     match path_at_once::<D>(alloc, stamp, key, &puts) {
@@ -156,7 +157,7 @@ fn path_put_by_put<D: Digest>(
     ensures path { Gives nodes_of fault_of result
         (path_of_given D.digest_of (stamp_of stamp.now) key.now (given_of puts)) }
     ensures refused { IfErr result
-        (IsRefusedLine D.digest_of (stamp_of stamp.now) (given_of puts)) }
+        (IsRefusedLine D.digest_of (stamp_of stamp.now) (given_of puts) (WasFull D.digest_of)) }
     ensures kind { IfErr result (λ e. is_write_failure e ≡ false) }
 {
     let mut store = Tables::new(alloc)?;

@@ -1,8 +1,9 @@
 //! The run of a command on one repository, to the exit status.
 ghost use Rattle.std.specs.Prelude.{◌≡◌, IfOk};
 ghost use Rattle.batches.specs.Values.{stamp_of};
-ghost use Rattle.repository_commands.specs.Commands.{own_stamp, stamp_of_words, texts_of};
-ghost use Rattle.repository_commands.specs.Outcomes.{IsOutcome, IsStatusOf};
+ghost use Rattle.repository_commands.specs.Commands.{own_stamp, reasons_of, stamp_of_words, texts_of};
+ghost use Rattle.repository_commands.specs.Outcomes.{HasReason, IsFaulty, IsOutcome, IsStatusOf};
+ghost use Rattle.repository_commands.specs.Refusals.{IsRefusedIn};
 ghost use Rattle.repository_commands.specs.Texts.{car_text as car_text_of, prove_text as prove_text_of};
 
 use crate::car::car_text;
@@ -27,8 +28,12 @@ pub fn run<D: Digest, R: Read, W: Write, X: Write>(
     out: &mut W,
     err: &mut X,
 ) -> u8
-    ensures { IsStatusOf (texts_of D.digest_of command.entry) (R.remaining input.old)
+    ensures status { IsStatusOf (texts_of D.digest_of command.entry) (R.remaining input.old)
         (W.contents out.old) (W.contents out.new) result }
+
+    // Where there is a fault of a word or of the input, or a line is refused.
+    ensures faulty { result ≡ 1 → IsFaulty {D = D} {A = Global} (texts_of D.digest_of command.entry)
+        (reasons_of D.digest_of command.entry) (R.remaining input.old) }
 {
     let ended = write_text::<D, R, W>(command, alloc, input, out);
     status_of(ended, out, err)
@@ -41,8 +46,10 @@ fn write_text<D: Digest, R: Read, W: Write>(
     input: &mut R,
     out: &mut W,
 ) -> Result<(), CommandFault<D>>
-    ensures { IsOutcome (texts_of D.digest_of command.entry) (R.remaining input.old)
+    ensures outcome { IsOutcome (texts_of D.digest_of command.entry) (R.remaining input.old)
         (W.contents out.old) (W.contents out.new) result }
+    ensures reason { HasReason (reasons_of D.digest_of command.entry)
+        (R.remaining input.old) result }
 {
     match command {
         RepositoryCommand::Car { did, rev } => write_car(did, rev, alloc, input, out),
@@ -61,8 +68,10 @@ fn write_car<D: Digest, R: Read, W: Write>(
     input: &mut R,
     out: &mut W,
 ) -> Result<(), CommandFault<D>>
-    ensures { IsOutcome (car_text_of D.digest_of (stamp_of_words did.now rev.now))
+    ensures outcome { IsOutcome (car_text_of D.digest_of (stamp_of_words did.now rev.now))
         (R.remaining input.old) (W.contents out.old) (W.contents out.new) result }
+    ensures reason { HasReason (IsRefusedIn D.digest_of (stamp_of_words did.now rev.now))
+        (R.remaining input.old) result }
 {
     let stamp = stamp_of_words(did, rev, alloc)?;
     car_text(alloc, &stamp, input, out)
@@ -75,8 +84,10 @@ fn write_proof<D: Digest, R: Read, W: Write>(
     input: &mut R,
     out: &mut W,
 ) -> Result<(), CommandFault<D>>
-    ensures { IsOutcome (prove_text_of D.digest_of own_stamp key.now)
+    ensures outcome { IsOutcome (prove_text_of D.digest_of own_stamp key.now)
         (R.remaining input.old) (W.contents out.old) (W.contents out.new) result }
+    ensures reason { HasReason (IsRefusedIn D.digest_of own_stamp)
+        (R.remaining input.old) result }
 {
     let stamp = stamp_of_words(DID, REV, alloc)?;
     prove_text(alloc, &stamp, key.as_bytes(), input, out)

@@ -5,6 +5,7 @@ ghost use Rattle.spec.specs.Cid.{cid_of_text};
 ghost use Rattle.spec.specs.Proof.{verified};
 ghost use Rattle.repository_commands.specs.Faults.{fault_of, is_write_failure};
 ghost use Rattle.repository_commands.specs.Outcomes.{IsMade, IsOutcome};
+ghost use Rattle.repository_commands.specs.Refusals.{is_refusal};
 ghost use Rattle.repository_commands.specs.Texts.{answer_line, answer_of_blocks as answer_of_blocks_of, or_bad_root, or_no_proof, verify_text as verify_text_of, words_check};
 ghost use Rattle.repository_commands.specs.Views.{blocks_of};
 
@@ -34,6 +35,9 @@ pub fn verify_text<D: Digest, A: Allocator + Copy, R: Read, W: Write>(
     ensures outcome { IsOutcome (verify_text_of D.digest_of root.now key.now)
         (R.remaining input.old) (W.contents out.old) (W.contents out.new) result }
 
+    // It puts nothing, so no line is refused.
+    ensures refused { IfErr result (λ e. is_refusal e ≡ false) }
+
     // A faulty root or key is told before the input is read.
     ensures unread { IsErr (words_check root.now key.now) → input.new ≡ input.old }
 {
@@ -50,6 +54,7 @@ fn answer_made<D: Digest, A: Allocator + Copy, R: Read>(
     ensures made { IsMade (λ bytes. bytes.items) (verify_text_of D.digest_of root.now key.now)
         (R.remaining input.old) result }
     ensures unread { IsErr (words_check root.now key.now) → input.new ≡ input.old }
+    ensures refused { IfErr result (λ e. is_refusal e ≡ false) }
     ensures kind { IfErr result (λ e. is_write_failure e ≡ false) }
 {
     let root = root_of::<D, A>(root)?;
@@ -67,6 +72,7 @@ fn answer_of_blocks<D: Digest, A: Allocator>(
 ) -> Result<Vec<u8, A>, CommandFault<D, A>>
     ensures line { Gives (λ bytes. bytes.items) fault_of result
         (answer_of_blocks_of D.digest_of root key.now (blocks_of blocks.now)) }
+    ensures refused { IfErr result (λ e. is_refusal e ≡ false) }
     ensures kind { IfErr result (λ e. is_write_failure e ≡ false) }
 {
     let value = shown::<D, A>(root, blocks, key)?;
@@ -76,6 +82,7 @@ fn answer_of_blocks<D: Digest, A: Allocator>(
 /// The root of a text.
 fn root_of<D: Digest, A: Allocator>(text: &[u8]) -> Result<Cid, CommandFault<D, A>>
     ensures root { Gives (λ root. root) fault_of result (or_bad_root (cid_of_text text.now)) }
+    ensures refused { IfErr result (λ e. is_refusal e ≡ false) }
     ensures kind { IfErr result (λ e. is_write_failure e ≡ false) }
 {
     match Cid::from_text(text) {
@@ -92,6 +99,7 @@ fn shown<D: Digest, A: Allocator>(
 ) -> Result<Option<Cid>, CommandFault<D, A>>
     ensures value { Gives (λ value. value) fault_of result
         (or_no_proof (verified D.digest_of 2 root (blocks_of blocks.now) key.now)) }
+    ensures refused { IfErr result (λ e. is_refusal e ≡ false) }
     ensures kind { IfErr result (λ e. is_write_failure e ≡ false) }
 {
     match verify::<D, 2, Vec<u8, A>>(&root, blocks, key) {
