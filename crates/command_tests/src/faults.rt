@@ -253,6 +253,45 @@ fn faulty_scripts(rt: HostRuntime) {
     }
 }
 
+/// Commands, and what is told where line 1,000 is the first that isn't empty, and faulty.
+static THOUSANDTH: [(&[&str], &str); 5] = [
+    (&TREE, "msthost: line 1000: BadLine\n"),
+    (&["msthost", "car"], "msthost: line 1000: BadLine\n"),
+    (
+        &["msthost", "prove", "a/b"],
+        "msthost: line 1000: BadLine\n",
+    ),
+    (
+        &["msthost", "verify", EMPTY, "a/b"],
+        "msthost: line 1000: BadLine\n",
+    ),
+    (&["msthost", "run"], "msthost: line 1000: BadScript\n"),
+];
+
+/// Whether a command tells this of a faulty line after these empty ones.
+fn tells_after<T: Threads + Wait + Sync>(
+    rt: &T,
+    alloc: Global,
+    words: &[&str],
+    empty: &[u8],
+    told: &str,
+) -> bool {
+    match str::from_utf8(empty) {
+        Ok(empty) => are_refused(rt, alloc, words, &[empty, "x"], told),
+        Err(_) => false,
+    }
+}
+
+#[test]
+fn a_thousandth_line(rt: HostRuntime) {
+    for (words, told) in &THOUSANDTH {
+        assert!(rt;
+            tells_after(&rt, rt.alloc(), words, &[b'\n'; 999], told),
+            "at {words:?}"
+        );
+    }
+}
+
 /// Texts that are no CID: nothing; too short; too long; another multibase; no letter of base32; a capital; bits after the
 /// last byte; another version; another codec; another hash; another length of it.
 static NO_CIDS: [&str; 11] = [

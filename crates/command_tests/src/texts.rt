@@ -42,6 +42,18 @@ const BOTH_NARROW: &[&str] = &[
     "2",
 ];
 
+const OF_ANOTHER: &[&str] = &["msthost", "run", "--did", "did:plc:x"];
+
+/// The report of one put under another DID than the program's own, which the commit names.
+const REPORT_OF_ANOTHER: &str = "\
+1 ok 1
+repo 0 bafyreihkkefvij2yxd6vkifr7342uvsineepfcevg2pduv3e4idaxosycu 1 bafyreibrf6xo6mhi4kcjgoylrginhca5yf5dmj2mwmf5vre66xeevxi3m4
+block bafyreibrf6xo6mhi4kcjgoylrginhca5yf5dmj2mwmf5vre66xeevxi3m4 1
+block bafyreigbtj4x7ip5legnfznufuopl4sg4knzc2cof6duas4b3q2fy6swua 1
+block bafyreihkkefvij2yxd6vkifr7342uvsineepfcevg2pduv3e4idaxosycu 1
+notice 0 1 0 1 bafyreihkkefvij2yxd6vkifr7342uvsineepfcevg2pduv3e4idaxosycu
+";
+
 /// The lines of one repository without writes.
 const UNWRITTEN: &str = "\
 repo 0 bafyreie5737gdxlw5i64vzichcalba3z2v5n6icifvx5xytvske7mr3hpm 0 none
@@ -130,7 +142,7 @@ const VERIFY: &[&str] = &["msthost", "verify", ROOT, "a/b"];
 
 /// Command lines, their inputs, and what they write; the examples of help and README.md are among them. `E` stands for the
 /// text of the CID of the empty tree's node.
-static TEXTS: [(&[&str], &[&str], &[&str]); 34] = [
+static TEXTS: [(&[&str], &[&str], &[&str]); 35] = [
     (&TREE, &[], &["E", "\n", "E", " a2616580616cf6\n"]),
     (&TREE, &["a/b ", "E"], ONE_LINE),
     (&TREE, &["a/b ", "E", "\n"], ONE_LINE),
@@ -213,6 +225,11 @@ static TEXTS: [(&[&str], &[&str], &[&str]); 34] = [
     (BOTH_NARROW, &[TWO_WORKERS], &[REPORT_OF_TWO_WORKERS]),
     (BOTH, &[EXAMPLE], &[REPORT_OF_EXAMPLE]),
     (BOTH_NARROW, &[EXAMPLE], &[REPORT_OF_EXAMPLE]),
+    (
+        OF_ANOTHER,
+        &["0 0 2222222222222 put a/b a0"],
+        &[REPORT_OF_ANOTHER],
+    ),
 ];
 
 /// Whether a command on this input writes this, and is done.

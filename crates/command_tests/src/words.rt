@@ -8,9 +8,10 @@ use std::sync::Wait;
 use std::thread::Threads;
 
 /// Wrong command lines.
-static WRONG: [&[&str]; 25] = [
+static WRONG: [&[&str]; 26] = [
     &[],
     &["msthost"],
+    &["msthost", "help"],
     &["msthost", "trees"],
     &["msthost", "tree", "file"],
     &["msthost", "tree", "--bits"],

@@ -1,14 +1,14 @@
 -- How a run ends.
-use Rattle.std.specs.Prelude.{◌≡◌, ◌≤◌, ◌⊎◌, ℕ, Bool, true, false, List, Option, Result, Ok, Err, is_ok, IfSome, IfErr, OnOk, OnErr}
+use Rattle.std.specs.Prelude.{◌≡◌, ◌≤◌, ◌⊎◌, ℕ, true, false, List, Option, Result, Ok, Err, is_ok, IfSome, IfErr, OnOk, OnErr}
 use Rattle.std.specs.Io.KnownBytes.{Appends, Keeps}
-use Rattle.spec.specs.Reading.{Gives, Fails}
+use Rattle.spec.specs.Reading.{Fails}
 use Rattle.spec.specs.Stamps.{is_did}
 use Rattle.console.specs.Written.{AppendsBeginning}
 use Rattle.scripts.specs.declared.script.Line.{Line}
 use Rattle.script_text.specs.Script.{script_in}
 use Rattle.script_text.specs.Views.{view_of_lines}
 use Rattle.run_command.specs.Faults.{fault_of, is_of_run, may_have_written, status_of}
-use Rattle.run_command.specs.Reports.{IsReport}
+use Rattle.run_command.specs.Reports.{IsReport, IsUnclosed}
 use Rattle.run_command.specs.declared.fault.RunFault.{RunFault}
 use Rattle.run_command.specs.declared.fault.RunFault.TheVariants as errors
 use Rattle.run_command.specs.declared.settings.Settings.{Settings}
@@ -17,7 +17,12 @@ use Rattle.run_command.specs.declared.settings.Settings.{Settings}
 abbrev pub IsReportOn : (D : Type 0) → (List ℕ → List ℕ) → Settings → List ℕ → List ℕ → List ℕ → Type 0
 IsReportOn D digest s did input text = (lines : List Line)
     × (script_in s.workers did input ≡ Ok (view_of_lines lines))
-    × IsReport D digest s.repos s.workers lines text
+    × IsReport D digest s lines text
+
+-- the input is a script, and the host whose workers did its lines didn't close
+abbrev pub IsUnclosedOn : (D : Type 0) → (List ℕ → List ℕ) → Settings → List ℕ → List ℕ → Type 0
+IsUnclosedOn D digest s did input = (lines : List Line)
+    × (script_in s.workers did input ≡ Ok (view_of_lines lines)) × IsUnclosed D digest s lines
 
 -- a writer's known contents grew by such a report
 abbrev pub Reports : (D : Type 0) → (List ℕ → List ℕ) → Settings → List ℕ → Option (List ℕ)
@@ -33,27 +38,39 @@ ReportsBeginning D digest s did old new input = (text : List ℕ)
 
 -- A run ended so, on an input that is known or not, and with a writer's known contents before and after:
 -- what it wrote is the report of a run of the script that the input is; a faulty line is the first; a
--- host that doesn't close, and a failed write, come only where there is a script; and how much of a
--- report was written at a fault.
+-- host that doesn't close, and a failed write, come only where there is a script; where the host didn't
+-- close there is what doesn't agree; how much of a report was written at a fault; and a faulty DID is
+-- always told, and none else.
 pub record IsOutcome (D : Type 0) (digest : List ℕ → List ℕ) (s : Settings) (did : List ℕ)
     (input old new : Option (List ℕ)) (result : Result (Unit {0}) RunFault) : Type 0 where
   pub written : OnOk result (IfSome input (Reports D digest s did old new))
   pub fault : IfErr result (λ e. IfSome input (λ xs. Fails (fault_of e) (script_in s.workers did xs)))
   pub run_failed : IfErr result (λ e. is_of_run e ≡ true
       → IfSome input (λ xs. is_ok (script_in s.workers did xs) ≡ true))
+  pub uneven : result ≡ Err errors.Uneven → IfSome input (IsUnclosedOn D digest s did)
   pub nothing : IfErr result (λ e. may_have_written e ≡ false → Keeps old new)
   pub beginning : OnErr result (IfSome input (λ xs.
       Keeps old new ⊎ ReportsBeginning D digest s did old new xs))
   pub lawful_did : OnOk result (is_did did ≡ true)
   pub bad_did : result ≡ Err errors.BadDid → is_did did ≡ false
+  pub no_did : is_did did ≡ false → result ≡ Err errors.BadDid
+
+-- why a run has no report: the DID is none, the input no script, or the host didn't close
+abbrev pub IsFaulty : (D : Type 0) → (List ℕ → List ℕ) → Settings → List ℕ → List ℕ → Type 0
+IsFaulty D digest s did input = (is_did did ≡ false)
+    ⊎ ((is_ok (script_in s.workers did input) ≡ false) ⊎ IsUnclosedOn D digest s did input)
 
 -- The exit status of a run. At 0 the report of a run of the script was written. At 1 the DID or a line
--- is faulty, or the host didn't close, and nothing was written.
+-- is faulty, or the host didn't close, and nothing was written. A faulty DID always ends with 1. At each
+-- status nothing or a beginning of a report was written.
 pub record IsStatusOf (D : Type 0) (digest : List ℕ → List ℕ) (s : Settings) (did : List ℕ)
     (input old new : Option (List ℕ)) (status : ℕ) : Type 0 where
   pub one_of : status ≤ 4
   pub done : status ≡ 0 → IfSome input (Reports D digest s did old new)
+  pub faulty : status ≡ 1 → IfSome input (IsFaulty D digest s did)
   pub nothing : status ≡ 1 → Keeps old new
+  pub no_did : is_did did ≡ false → status ≡ 1
+  pub beginning : IfSome input (λ xs. Keeps old new ⊎ ReportsBeginning D digest s did old new xs)
   pub usage : (status ≡ 2) → ⊥
 
 -- the status that a run which ended so has, once what was written reached the writer's end

@@ -1,7 +1,7 @@
 //! A host that does the lines of a script and closes.
-ghost use Rattle.std.specs.Prelude.{◌<◌, All, IfErr, IfOk};
+ghost use Rattle.std.specs.Prelude.{◌≡◌, ◌<◌, All, Err, IfErr, IfOk};
 ghost use Rattle.run_command.specs.Faults.{IsOfHost};
-ghost use Rattle.run_command.specs.Reports.{IsReport};
+ghost use Rattle.run_command.specs.Reports.{IsReport, IsUnclosed};
 
 use crate::fault::RunFault;
 use crate::report::report_of;
@@ -22,8 +22,8 @@ pub(crate) fn report_of_lines<D: Digest + Send + Sync, T: Threads + Wait + Sync>
     lines: &[Line],
 ) -> Result<Vec<u8>, RunFault>
     requires { All (λ l. l.worker < settings.now.workers) lines.now }
-    ensures report { IfOk result (λ text. IsReport D D.digest_of settings.now.repos
-        settings.now.workers lines.now text.items) }
+    ensures report { IfOk result (λ text. IsReport D D.digest_of settings.now lines.now text.items) }
+    ensures uneven { result ≡ Err RunFault.Uneven → IsUnclosed D D.digest_of settings.now lines.now }
     ensures kind { IfErr result IsOfHost }
 {
     let Ok(opened) = Host::<D, 2>::open(rt, alloc, settings.limits()) else {

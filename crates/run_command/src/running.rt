@@ -1,4 +1,6 @@
 //! The run of the command, to the exit status.
+ghost use Rattle.std.specs.Prelude.{◌≡◌, false};
+ghost use Rattle.spec.specs.Stamps.{is_did};
 ghost use Rattle.run_command.specs.Outcomes.{IsStatusAfter, IsStatusOf};
 
 use crate::fault::RunFault;
@@ -23,8 +25,11 @@ pub fn run<D: Digest + Send + Sync, T: Threads + Wait + Sync, R: Read, W: Write,
     out: &mut W,
     err: &mut X,
 ) -> u8
-    ensures { IsStatusOf D D.digest_of command.entry.settings command.entry.did.now
+    ensures status { IsStatusOf D D.digest_of command.entry.settings command.entry.did.now
         (R.remaining input.old) (W.contents out.old) (W.contents out.new) result }
+
+    // A faulty DID is told before the input is read.
+    ensures unread { is_did command.entry.did.now ≡ false → input.new ≡ input.old }
 {
     let RunCommand { settings, did } = command;
     let ended = run_text::<D, T, R, W>(rt, alloc, &settings, did.as_bytes(), input, out);

@@ -55,6 +55,7 @@ impl Settings {
     pub(crate) fn limits(&self) -> Limits
         ensures repos { result.repos ≡ self.now.repos }
         ensures writers { result.writers ≡ self.now.workers }
+        ensures queue { result.queue ≡ self.now.queue }
         ensures blocks { result.shard_blocks ≡ 1048576 }
         ensures writes { result.repo_writes ≡ 1048576 }
         ensures lawful { AreLawful result }

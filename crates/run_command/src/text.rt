@@ -41,7 +41,7 @@ pub fn run_text<D: Digest + Send + Sync, T: Threads + Wait + Sync, R: Read, W: W
         (W.contents out.old) (W.contents out.new) result }
 
     // A faulty DID is told before the input is read.
-    ensures unread { result ≡ Err RunFault.BadDid → input.new ≡ input.old }
+    ensures unread { is_did_of did.now ≡ false → input.new ≡ input.old }
 {
     check_did(did)?;
     let lines = read_script(alloc, settings, did, input)?;

@@ -1,5 +1,5 @@
 -- The text that lists the tree of keys and CIDs given line by line (a choice of this project).
-use Rattle.std.specs.Prelude.{ℕ, ◌+◌, Bool, List, [], ◌∷◌, ◌++◌, ◌==◌, map, fold, Result, Ok, Err}
+use Rattle.std.specs.Prelude.{ℕ, ◌+◌, List, [], ◌∷◌, ◌++◌, fold, Result, Ok, Err}
 use Rattle.std.specs.List.{list_any, flat_map, before_last, after_last}
 use Rattle.std.specs.Cmp.Lexicographic.{slice_cmp}
 use Rattle.std.specs.Ordering.{nat_cmp}

@@ -1,9 +1,10 @@
 //! The run of `tree`, to the exit status.
-ghost use Rattle.std.specs.Prelude.{◌≡◌, ◌≤◌, ◌⊎◌, false, IfErr, IfSome, OnOk};
+ghost use Rattle.std.specs.Prelude.{◌≡◌, ◌≤◌, ◌⊎◌, false, is_ok, IfErr, IfSome, OnOk};
 ghost use Rattle.std.specs.Io.KnownBytes.{Keeps};
-ghost use Rattle.tree_command.specs.Fault.{may_have_written, status_of};
-ghost use Rattle.tree_command.specs.TreeText.{tree_text};
-ghost use Rattle.console.specs.Written.{AppendsText};
+ghost use Rattle.spec.specs.Reading.{Fails};
+ghost use Rattle.tree_command.specs.Fault.{fault_of, may_have_written, status_of};
+ghost use Rattle.tree_command.specs.TreeText.{tree_text, text_or_nothing};
+ghost use Rattle.console.specs.Written.{AppendsBeginning, AppendsText};
 
 use crate::bits::{Bits, tree_text_with};
 use crate::fault::TreeFault;
@@ -25,6 +26,16 @@ pub fn run<D: Digest, R: Read, W: Write, X: Write>(
         AppendsText (W.contents out.old) (W.contents out.new) (tree_text D.digest_of bits.number xs)) }
     ensures nothing { (result ≡ 1) ⊎ (result ≡ 2)
         → Keeps (W.contents out.old) (W.contents out.new) }
+
+    // At 1 the input has no text, and the status is never 2.
+    ensures faulty { result ≡ 1 → IfSome (R.remaining input.old) (λ xs.
+        is_ok (tree_text D.digest_of bits.number xs) ≡ false) }
+    ensures usage { (result ≡ 2) → ⊥ }
+
+    // At each status a beginning of the text was written, and nothing where there is none.
+    ensures beginning { IfSome (R.remaining input.old) (λ xs.
+        AppendsBeginning (W.contents out.old) (W.contents out.new)
+        (text_or_nothing (tree_text D.digest_of bits.number xs))) }
 {
     match write_listing::<D, R, W>(bits, alloc, input, out) {
         Ok(()) => DONE,
@@ -41,8 +52,13 @@ fn write_listing<D: Digest, R: Read, W: Write>(
 ) -> Result<(), TreeFault>
     ensures text { OnOk result (IfSome (R.remaining input.old) (λ xs.
         AppendsText (W.contents out.old) (W.contents out.new) (tree_text D.digest_of bits.number xs))) }
+    ensures fault { IfErr result (λ e. IfSome (R.remaining input.old) (λ xs.
+        Fails (fault_of e) (tree_text D.digest_of bits.number xs))) }
     ensures nothing { IfErr result (λ e. may_have_written e ≡ false →
         Keeps (W.contents out.old) (W.contents out.new)) }
+    ensures beginning { IfSome (R.remaining input.old) (λ xs.
+        AppendsBeginning (W.contents out.old) (W.contents out.new)
+        (text_or_nothing (tree_text D.digest_of bits.number xs))) }
 {
     tree_text_with::<D, Global, R, W>(bits, alloc, input, out)?;
     out.flush().map_err(|_| TreeFault::WriteFailed)

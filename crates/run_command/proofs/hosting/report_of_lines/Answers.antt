@@ -1,8 +1,7 @@
-use Rattle.std.proofs.Common.{◌≡◌, ℕ, ◌<◌, List, length, All, lit<, arith, sym, ap, subst, ◌∙◌}
+use Rattle.std.proofs.Common.{◌≡◌, ℕ, ◌<◌, List, All, lit<, sym, ap, subst, ◌∙◌}
 use Rattle.scripts.specs.declared.script.Line.{Line}
-use Rattle.host.specs.Views.{fresh_seats}
 use Rattle.run_command.specs.Reports.{IsTextOf}
-use Rattle.run_command.proofs.Seats.{own_seats, seats_count, reported}
+use Rattle.run_command.proofs.Seats.{own_seats, seats_count, seats_of, worked, reported, unclosed}
 use Rattle.run_command.proofs.hosting.report_of_lines.Goals as goal
 
 all_below : (n m : ℕ) (ls : List Line) → m ≡ n → All (λ l. l.worker < n) ls → All (λ l. l.worker < m) ls
@@ -45,13 +44,36 @@ returns-in-Ok-close-clause-report g c =
     let opened = c.in-Ok.ensures in
     let done = c.in_ok-answers.ensures in
     let closed = c.in-Ok-close.ensures in
-    reported g.D.Digest.digest_of c.args.settings.now.repos c.args.settings.now.workers c.args.lines.now c.in-Ok.opened.host c.in-Ok.opened.seats.items
-    c.in_ok-answers.field-0.answers.items c.deref.result.now c.in_ok-answers.field-0.ended.items c.in-Ok-close.closed.ended c.in-Ok-close.closed.cores c.in-Ok-close.closed.tables c.in_ok-text-in-Ok-close.text.items
+    reported g.D.Digest.digest_of c.args.settings.now c.args.lines.now c.in-Ok.opened.host c.in-Ok.opened.seats.items c.in_ok-answers.field-0.answers.items c.in_ok-answers.field-0.ended.items
+    c.deref.result.now c.in-Ok-close.closed.ended c.in-Ok-close.closed.cores c.in-Ok-close.closed.tables c.in_ok-text-in-Ok-close.text.items
+    (
+    worked g.D.Digest.digest_of c.args.settings.now c.args.lines.now c.in-Ok.opened.host c.in-Ok.opened.seats.items c.in_ok-answers.field-0.answers.items c.in_ok-answers.field-0.ended.items
     (opened.repos ∙ c.limits.ensures.repos)
+    (opened.room ∙ c.limits.ensures.queue)
     (opened.limit ∙ c.limits.ensures.writes)
-    (opened.seats ∙ (λ i. fresh_seats c.in-Ok.opened.host.queue.queue_id (c.limits.ensures.writers i) (c.limits.ensures.repos i)))
-    done.all done.workers done.done closed.cores
+    (seats_of c.in-Ok.opened.host.queue.queue_id c.in-Ok.opened.seats.items _ _ _ _ opened.seats c.limits.ensures.writers c.limits.ensures.repos)
+    done.all done.workers done.done
+    )
+    closed.cores
     closed.ended
     closed.settled
     (c.deref.ensures.value)
     (subst (λ w. IsTextOf g.D.Digest.digest_of w c.args.lines.now c.deref.result.now c.in-Ok-close.closed.cores c.in-Ok-close.closed.ended c.in_ok-text-in-Ok-close.text.items) c.workers.ensures c.in_ok-text-in-Ok-close.ensures)
+
+pub returns-clause-uneven : goal.returns-clause-uneven
+returns-clause-uneven g c told =
+    let opened = c.in-Ok.ensures in
+    let done = c.in_ok-answers.ensures in
+    let left = c.in-Err.field-0 in
+    unclosed g.D.Digest.digest_of c.args.settings.now c.args.lines.now c.in-Ok.opened.host c.in-Ok.opened.seats.items c.in_ok-answers.field-0.answers.items c.in_ok-answers.field-0.ended.items
+    left.ended left.cores left.tables left.mismatch
+    (
+    worked g.D.Digest.digest_of c.args.settings.now c.args.lines.now c.in-Ok.opened.host c.in-Ok.opened.seats.items c.in_ok-answers.field-0.answers.items c.in_ok-answers.field-0.ended.items
+    (opened.repos ∙ c.limits.ensures.repos)
+    (opened.room ∙ c.limits.ensures.queue)
+    (opened.limit ∙ c.limits.ensures.writes)
+    (seats_of c.in-Ok.opened.host.queue.queue_id c.in-Ok.opened.seats.items _ _ _ _ opened.seats c.limits.ensures.writers c.limits.ensures.repos)
+    done.all done.workers done.done
+    )
+    c.in-Err.ensures.same
+    c.in-Err.ensures.uneven

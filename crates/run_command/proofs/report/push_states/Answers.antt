@@ -1,4 +1,4 @@
-use Rattle.std.proofs.Common.{ℕ, ◌<◌, get_or, subst, sym, below_more}
+use Rattle.std.proofs.Common.{get_or, subst, below_more}
 use Rattle.std.proofs.lemmas.List.{get_or_read}
 use Rattle.spec.specs.States.{IsLawful}
 use Rattle.run_command.proofs.Adding.{state-added}
