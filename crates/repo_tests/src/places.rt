@@ -48,7 +48,7 @@ fn want_of_memory_is_told_at_its_write(rt: HostRuntime) {
         in_order &= if after_all {
             place == 0
         } else {
-            place == latest || place == latest + 1
+            place == latest || place == latest.saturating_add(1)
         };
         latest = latest.max(place);
     }
