@@ -1,11 +1,9 @@
 -- Blocks that are seen one after the other, each CID with the place of a block.
 use Rattle.std.proofs.Common.{◌≡◌, ◌≢◌, ℕ, ◌+◌, ◌<◌, ◌≤◌, Bool, true, false, not, cond, nat_eq, List, [], map, length, slice_index_or, Option, Some, None, refl, sym, ap, ◌∙◌, subst, arith}
-use Rattle.std.specs.Cmp.Lexicographic.{slice_cmp}
-use Rattle.std.specs.Ordering.{nat_cmp, is_eq}
+use Rattle.std.specs.Cmp.Lexicographic.{pointwise}
 use Rattle.std.specs.Str.{bytes_eq}
 use Rattle.std.proofs.lemmas.Bool.{eqb-true, eqb-false}
 use Rattle.std.proofs.lemmas.List.{get_or_default, get_or-map, length-map}
-use Rattle.std.proofs.lemmas.Map.Text.{is_eq-slice_cmp}
 use Rattle.std.proofs.lemmas.Slice.Eq.{bytes_eq-Decides}
 use Rattle.spec.specs.Cid.{cid}
 use Rattle.spec.specs.Blocks.{IsClashFree}
@@ -32,13 +30,13 @@ Sees-clash_free digest bs n place_of whole s a b in_a in_b e =
 -- ---- the place of the next block is put under its CID
 
 abbrev pub is_at_key : List ℕ → List ℕ → Bool
-is_at_key k q = is_eq (slice_cmp nat_cmp k q)
+is_at_key k q = pointwise nat_eq k q
 
 same_key : (k q : List ℕ) → is_at_key k q ≡ true → k ≡ q
-same_key k q h = (bytes_eq-Decides k q).0 (sym (is_eq-slice_cmp k q) ∙ h)
+same_key k q h = (bytes_eq-Decides k q).0 h
 
 at_itself : (k : List ℕ) → is_at_key k k ≡ true
-at_itself k = is_eq-slice_cmp k k ∙ (bytes_eq-Decides k k).1 refl
+at_itself k = (bytes_eq-Decides k k).1 refl
 
 -- what stood there was a place of the same bytes, or none
 abbrev pub IsSame : (ℕ → List ℕ) → ℕ → Option ℕ → Type 0

@@ -5,10 +5,15 @@ ghost use Rattle.std.specs.Arc.{arc_value};
 ghost use Rattle.spec.specs.Blocks.{IsClashFree};
 ghost use Rattle.scratch.specs.Faults.{AreClashing, IsClashIn};
 
-use cid::{Block, Collided, Digest};
+use cid::{Block, Cid, Collided, Digest};
 use std::alloc::{AllocError, Allocator};
-use std::collections::BTreeMap;
+use std::collections::HashMap;
+use std::hash::{BuildHasherDefault, FoldHasher};
 use std::sync::Arc;
+
+/// The place of a block by its CID. The hashes have a fixed seed: a map lives for one call, and who picks keys so that
+/// CIDs meet in it slows down no other build than that of these very keys.
+type Places<A> = HashMap<Cid, usize, BuildHasherDefault<FoldHasher>, A>;
 
 /// The places of two blocks that clash, or `None` where no two do. One pass, by a map from each CID to a place.
 pub fn find_clash<D: Digest, A: Allocator + Clone>(
@@ -19,7 +24,7 @@ pub fn find_clash<D: Digest, A: Allocator + Clone>(
         (IsClashFree D.digest_of (map arc_value blocks.now))
         (λ places. AreClashing D.digest_of (map arc_value blocks.now) places.0 places.1)) }
 {
-    let mut seen = BTreeMap::new(alloc);
+    let mut seen: Places<A> = HashMap::with_capacity(alloc, blocks.len())?;
     for (place, block) in blocks.iter().enumerate() {
         let Some(earlier) = seen.insert(block.cid(), place)? else {
             continue;
