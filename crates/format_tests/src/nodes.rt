@@ -61,12 +61,17 @@ fn write_entry(rt: &impl Abort, writer: &mut NodeWriter, entry: &Entry<'_>) {
     assert!(rt; is_added(writer, entry), "{:?}", entry.0);
 }
 
+/// Writes these entries, each of which can be next.
+fn write_entries(rt: &impl Abort, writer: &mut NodeWriter, entries: &[Entry<'_>]) {
+    for entry in entries {
+        write_entry(rt, writer, entry);
+    }
+}
+
 /// The bytes of a node of these entries.
 fn written(rt: &impl Abort, alloc: Global, left: Left, entries: &[Entry<'_>]) -> Vec<u8> {
     let mut writer = NodeWriter::begin(alloc, left).expect(rt, "memory for a node");
-    for entry in entries {
-        write_entry(rt, &mut writer, entry);
-    }
+    write_entries(rt, &mut writer, entries);
     writer.finish().expect(rt, "memory for the last part")
 }
 
@@ -76,6 +81,18 @@ fn node_of_two_entries(rt: HostRuntime) {
     let entries: [Entry<'_>; 2] = [(b"a/b", value, None), (b"a/cd", value, None)];
     let bytes = written(&rt, rt.alloc(), None, &entries);
     assert!(rt; bytes.len() == 118 && bytes == two_entries(&rt, rt.alloc()));
+}
+
+#[test]
+fn node_in_the_room_of_another(rt: HostRuntime) {
+    let value = identifier(&rt, 0x11);
+    let mut writer = NodeWriter::begin(rt.alloc(), Some(value)).expect(&rt, "memory for a node");
+    write_entries(&rt, &mut writer, &[(b"b/c", value, Some(value))]);
+    writer.begin_again(None);
+    let entries: [Entry<'_>; 2] = [(b"a/b", value, None), (b"a/cd", value, None)];
+    write_entries(&rt, &mut writer, &entries);
+    let bytes = writer.bytes().expect(&rt, "memory for the bytes");
+    assert!(rt; bytes == two_entries(&rt, rt.alloc()));
 }
 
 /// The bytes of a node of the keys `ka` to `kz`, with this one identifier for each value and each link.

@@ -128,10 +128,22 @@ impl<A: Allocator + Clone> NodeWriter<A> {
         Ok(())
     }
 
-    /// The bytes of the node, or `AllocError` where memory was refused.
-    pub fn finish(self) -> Result<Vec<u8, A>, AllocError>
-        ensures bytes { IfOk result (λ bytes. bytes.items ≡ node_spelling self.left self.entries) }
-        ensures grammar { OnOk result (is_node self.left self.entries ≡ true) }
+    /// Begins another node in the room of the last: `left` is the link of the subtree before all its keys. This takes no
+    /// memory.
+    pub fn begin_again(&mut self, left: Option<Cid>)
+        ensures { self.new ≡ record { left = left; entries = [] } }
+    {
+        self.left = left;
+        self.count = 0;
+        self.entries.clear();
+        self.last.reset();
+    }
+
+    /// The bytes of the node as it is so far, or `AllocError` where memory was refused.
+    pub fn bytes(&self) -> Result<Vec<u8, A>, AllocError>
+        ensures bytes { IfOk result (λ bytes. bytes.items
+            ≡ node_spelling self.now.left self.now.entries) }
+        ensures grammar { OnOk result (is_node self.now.left self.now.entries ≡ true) }
     {
         let alloc = self.entries.allocator().clone()?;
         let mut bytes = Vec::with_capacity(alloc, self.entries.len().saturating_add(ENDS))?;
@@ -140,5 +152,13 @@ impl<A: Allocator + Clone> NodeWriter<A> {
         bytes.extend_from_slice(&self.entries)?;
         push_link(&mut bytes, b'l', lend(&self.left))?;
         Ok(bytes)
+    }
+
+    /// The bytes of the node, or `AllocError` where memory was refused.
+    pub fn finish(self) -> Result<Vec<u8, A>, AllocError>
+        ensures bytes { IfOk result (λ bytes. bytes.items ≡ node_spelling self.left self.entries) }
+        ensures grammar { OnOk result (is_node self.left self.entries ≡ true) }
+    {
+        self.bytes()
     }
 }

@@ -39,10 +39,11 @@ pub fn write_layer<'a, D: Digest, const B: u8, A: Allocator + Clone>(
         ≡ tops_of (raised D.digest_of (layer_of D.digest_of B) layer unread.entry)) }
 {
     let mut nodes = Vec::new(alloc.clone()?);
-    let mut rows = Vec::new(alloc);
-    let first = write_part(&mut nodes, &mut unread, layer)?;
+    let mut rows = Vec::new(alloc.clone()?);
+    let mut writer = NodeWriter::begin(alloc, None)?;
+    let first = write_part(&mut writer, &mut nodes, &mut unread, layer)?;
     while let Some(row) = unread.next() {
-        let nodes_after = write_part(&mut nodes, &mut unread, layer)?;
+        let nodes_after = write_part(&mut writer, &mut nodes, &mut unread, layer)?;
         rows.push(Row { nodes_after, ..row })?;
     }
     Ok(Written { first, rows, nodes })
@@ -51,6 +52,7 @@ pub fn write_layer<'a, D: Digest, const B: u8, A: Allocator + Clone>(
 /// Takes the next rows of this layer and adds their node, over the part before them and the parts after each of them. The
 /// answer is how many nodes it has with those under it: none, where there is neither such a row nor a part before it.
 fn write_part<D: Digest, const B: u8, A: Allocator + Clone>(
+    writer: &mut NodeWriter<A>,
     nodes: &mut Vec<Vec<u8, A>, A>,
     unread: &mut Unread<'_, '_, D, B, A>,
     layer: u16,
@@ -68,14 +70,14 @@ fn write_part<D: Digest, const B: u8, A: Allocator + Clone>(
         return Ok(0);
     }
     let before = unread.node_count();
-    let node = write_node(nodes.allocator().clone()?, unread, layer)?;
+    let node = write_node(writer, unread, layer)?;
     nodes.push(node)?;
     Ok(before - unread.later_count() + 1)
 }
 
-/// Takes the next rows of this layer and writes their node.
+/// Takes the next rows of this layer and writes their node, in the room of the node before.
 fn write_node<D: Digest, const B: u8, A: Allocator + Clone>(
-    alloc: A,
+    writer: &mut NodeWriter<A>,
     unread: &mut Unread<'_, '_, D, B, A>,
     layer: u16,
 ) -> Result<Vec<u8, A>, AllocError>
@@ -86,10 +88,10 @@ fn write_node<D: Digest, const B: u8, A: Allocator + Clone>(
         ≡ rows_beyond (layer_of D.digest_of B) layer unread.old.rows) }
 {
     let left = unread.link();
-    let mut writer = NodeWriter::begin(alloc, left)?;
+    writer.begin_again(left);
     while let Some(row) = unread.next_of(layer) {
         let tree = unread.link();
         writer.entry(row.key, row.value, tree)?;
     }
-    Ok(writer.finish()?)
+    Ok(writer.bytes()?)
 }

@@ -9,11 +9,11 @@ use Rattle.scratch.proofs.nodes.write_node.Goals as goal
 
 pub loop-row-init : goal.loop-row-init
 loop-row-init g c =
-    let none = ap (λ (w : Contents). w.entries) c.in_ok-writer.ensures in
+    let none = ap (λ (w : Contents). w.entries) c.begin_again.ensures in
     record {
-      rises = Rises-same (last_key [] c.in_ok-writer.writer.entries) [] (pairs_of_rows c.args.unread.now.rows) (pairs_of_rows c.args.unread.now.rows) (ap (last_key []) none) refl
+      rises = Rises-same (last_key [] c.begin_again.new.self.entries) [] (pairs_of_rows c.args.unread.now.rows) (pairs_of_rows c.args.unread.now.rows) (ap (last_key []) none) refl
           (Rises-ascending (pairs_of_rows c.args.unread.now.rows) c.requires);
-      left = ap (λ (w : Contents). w.left) c.in_ok-writer.ensures ∙ c.link-left.ensures;
+      left = ap (λ (w : Contents). w.left) c.begin_again.ensures ∙ c.link-left.ensures;
       entries = sym (ap (λ es. es ++ entries_next g.D.Digest.digest_of (layer_of g.D.Digest.digest_of g.row.B) c.args.layer c.args.unread.now.rows) none);
       beyond = refl;
     }
@@ -41,7 +41,7 @@ loop-row-preserved g c =
 pub returns-clause-bytes : goal.returns-clause-bytes
 returns-clause-bytes g c =
     spelled g.D.Digest.digest_of (layer_of g.D.Digest.digest_of g.row.B) c.args.layer c.loop-row.unread.rows c.in_default.ensures.none c.args.unread.now.first c.args.unread.now.rows
-    _ c.loop-row.writer.left c.loop-row.writer.entries c.in_ok-finish.ensures.bytes c.loop-row.invariant.left c.loop-row.invariant.entries
+    _ c.loop-row.writer.left c.loop-row.writer.entries c.in_ok-bytes.ensures.bytes c.loop-row.invariant.left c.loop-row.invariant.entries
 
 pub returns-clause-unread : goal.returns-clause-unread
 returns-clause-unread g c =
