@@ -25,7 +25,8 @@ pub fn merge<D: Digest, A: Allocator + Clone>(
         ≡ parts_from (first ∷ map (λ r. r.nodes_after) rows.now) tops.items
         (map arc_value under.items)) }
 {
-    let mut nodes = Vec::new(under.allocator().clone()?);
+    let alloc = under.allocator().clone()?;
+    let mut nodes = Vec::with_capacity(alloc, tops.len().saturating_add(under.len()))?;
     let mut tops = tops.into_iter();
     let mut under = under.into_iter();
     push_part(&mut nodes, &mut tops, &mut under, first)?;

@@ -4,8 +4,8 @@ use Rattle.scratch.proofs.merging.merge.Goals as goal
 
 pub loop-row-init : goal.loop-row-init
 loop-row-init g c =
-    first_part arc_value (λ r. r.nodes_after) c.args.first c.args.rows.now c.new-nodes.result.items c.push_part.new.nodes.items c.args.tops.items c.into_iter-tops.result.rest.items c.push_part.new.tops.rest.items
-    c.args.under.items c.into_iter-under.result.rest.items c.push_part.new.under.rest.items c.new-nodes.ensures.items c.into_iter-tops.ensures.rest c.into_iter-under.ensures.rest
+    first_part arc_value (λ r. r.nodes_after) c.args.first c.args.rows.now c.in_ok-nodes.nodes.items c.push_part.new.nodes.items c.args.tops.items c.into_iter-tops.result.rest.items c.push_part.new.tops.rest.items
+    c.args.under.items c.into_iter-under.result.rest.items c.push_part.new.under.rest.items c.in_ok-nodes.ensures.items c.into_iter-tops.ensures.rest c.into_iter-under.ensures.rest
     c.in_ok-push_part.ensures.nodes c.in_ok-push_part.ensures.tops c.in_ok-push_part.ensures.under
 
 pub loop-row-preserved : goal.loop-row-preserved
