@@ -8,11 +8,11 @@ use Rattle.std.proofs.lemmas.List.Elements.{filter-append, Contains-append_left,
 use Rattle.std.proofs.lemmas.List.Folds.{list_any_more, list_any_at}
 use Rattle.std.proofs.lemmas.Slice.Eq.{bytes_eq-Decides}
 use Rattle.spec.specs.Cid.{cid}
-use Rattle.spec.specs.Blocks.{IsClashFree, firsts, IsClash}
+use Rattle.spec.specs.Blocks.{IsClashFree, firsts, IsClash, IsClashIn}
 use Rattle.spec.proofs.RootLaws.{in_head, in_tail}
 use Rattle.edit_laws.specs.Changes.{has_cid, add_of}
 use Rattle.edit.specs.Changes.{IsAmong}
-use Rattle.edit.specs.Faults.{IsRefusal, IsClashIn}
+use Rattle.edit.specs.Faults.{IsRefusal}
 use Rattle.edit.specs.declared.outcome.EditFault.{EditFault}
 use Rattle.edit.specs.declared.outcome.EditFault.TheVariants.{NoSuchKey, Clash, NoMemory}
 

@@ -4,10 +4,10 @@ ghost use Rattle.std.specs.Prelude.{◌≡◌, ◌∷◌, [], ◌++◌, map, IfO
 ghost use Rattle.std.specs.Arc.{arc_value};
 ghost use Rattle.spec.specs.NodeFormat.{shape_bytes};
 ghost use Rattle.spec.specs.Cid.{cid as cid_of};
-ghost use Rattle.spec.specs.Blocks.{IsClash, IsClashFree};
+ghost use Rattle.spec.specs.Blocks.{IsClash, IsClashFree, IsClashIn};
 ghost use Rattle.edit_laws.specs.Changes.{add_of, drop_of, has_cid as has_cid_of};
 ghost use Rattle.edit.specs.Changes.{IsAmong};
-ghost use Rattle.edit.specs.Faults.{IsClashIn, IsRefusal};
+ghost use Rattle.edit.specs.Faults.{IsRefusal};
 
 use crate::loading::Node;
 use crate::outcome::EditFault;

@@ -11,13 +11,13 @@ use Rattle.spec.specs.Cid.{cid, is_own_cid, IsDigest}
 use Rattle.spec.specs.Layer.{layer}
 use Rattle.spec.specs.Tree.{Pair, tree, top, top_layer}
 use Rattle.spec.specs.NodeFormat.{is_key, is_ascending, node_bytes}
-use Rattle.spec.specs.Blocks.{ArePairs, IsClashFree, IsClash, nodes, root, firsts}
+use Rattle.spec.specs.Blocks.{ArePairs, IsClashFree, IsClash, IsClashIn, nodes, root, firsts}
 use Rattle.spec.proofs.Bools.{both}
 use Rattle.spec.proofs.TreeLaws.{lower-from_top}
 use Rattle.spec.proofs.RootLaws.{all_of}
 use Rattle.spec.proofs.Once.{firsts-nodes}
 use Rattle.scratch.specs.Rows.{pair_of}
-use Rattle.scratch.specs.Faults.{AreClashing, IsClashIn}
+use Rattle.scratch.specs.Faults.{AreClashing}
 use Rattle.scratch.specs.declared.rows.Row.{Row}
 use Rattle.scratch.proofs.Aheads.{node_ahead, before-all}
 

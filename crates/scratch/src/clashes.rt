@@ -2,8 +2,8 @@
 
 ghost use Rattle.std.specs.Prelude.{◌≡◌, map, IfOk, MatchOption};
 ghost use Rattle.std.specs.Arc.{arc_value};
-ghost use Rattle.spec.specs.Blocks.{IsClashFree};
-ghost use Rattle.scratch.specs.Faults.{AreClashing, IsClashIn};
+ghost use Rattle.spec.specs.Blocks.{IsClashFree, IsClashIn};
+ghost use Rattle.scratch.specs.Faults.{AreClashing};
 
 use cid::{Block, Collided, Digest};
 use std::alloc::{AllocError, Allocator};
