@@ -40,7 +40,5 @@ pub fn show_clash<D: Digest, A: Allocator>(
     requires { AreClashing D.digest_of (map arc_value blocks.now) one other }
     ensures { IfOk result (λ pair. IsClashIn D.digest_of (map arc_value blocks.now) pair) }
 {
-    let one = Arc::try_clone(&blocks[one])?;
-    let other = Arc::try_clone(&blocks[other])?;
-    Ok(Collided::new(one, other))
+    Collided::of_shared(&blocks[one], &blocks[other])
 }
