@@ -9,11 +9,10 @@ use Rattle.std.proofs.lemmas.List.{take_more, map-append}
 use Rattle.std.proofs.lemmas.List.Elements.{Contains-append_cases}
 use Rattle.spec.specs.Cid.{cid}
 use Rattle.std.specs.Str.{bytes_eq}
-use Rattle.spec.specs.Blocks.{IsClash, IsClashFree, block_at}
+use Rattle.spec.specs.Blocks.{IsClash, IsClashFree, IsClashIn, block_at}
 use Rattle.edit_laws.specs.Sources.{HasBlocks}
 use Rattle.edit_laws.proofs.BlockSources.{blocks-source}
 use Rattle.edit.specs.Maps.{first_of}
-use Rattle.scratch.specs.Faults.{IsClashIn}
 use Rattle.built_car.specs.Building.{HasClash}
 
 module _ (digest : List ℕ → List ℕ) (gives : List ℕ → Option (List ℕ)) where

@@ -1,10 +1,10 @@
-ghost use Rattle.std.specs.Prelude.{◌≡◌, ℕ, List};
+ghost use Rattle.std.specs.Prelude.{◌≡◌, ℕ, List, IfOk};
 ghost use Rattle.std.specs.Arc.{arc_value};
 ghost use Rattle.spec.specs.Blocks.{IsClash};
 
 use crate::block::Block;
 use crate::digest::Digest;
-use std::alloc::{Allocator, Global};
+use std::alloc::{AllocError, Allocator, Global};
 use std::marker::Model;
 use std::sync::Arc;
 
@@ -33,6 +33,19 @@ impl<D: Digest, A: Allocator> Collided<D, A> {
         ensures { result ≡ (arc_value one, arc_value other) }
     {
         Collided { one, other }
+    }
+
+    /// The pair of two blocks that clash and stay shared with whoever has them. `AllocError` comes where memory was refused.
+    pub fn of_shared(
+        one: &Arc<Block<D, A>, A>,
+        other: &Arc<Block<D, A>, A>,
+    ) -> Result<Collided<D, A>, AllocError>
+        requires { IsClash D.digest_of (arc_value one.now) (arc_value other.now) }
+        ensures { IfOk result (λ pair. pair ≡ (arc_value one.now, arc_value other.now)) }
+    {
+        let one = Arc::try_clone(one)?;
+        let other = Arc::try_clone(other)?;
+        Ok(Collided::new(one, other))
     }
 
     /// One of the two.

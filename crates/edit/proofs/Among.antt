@@ -8,11 +8,11 @@ use Rattle.std.proofs.lemmas.List.Elements.{filter-append, Contains-append_left,
 use Rattle.std.proofs.lemmas.List.Folds.{list_any_more, list_any_at}
 use Rattle.std.proofs.lemmas.Slice.Eq.{bytes_eq-Decides}
 use Rattle.spec.specs.Cid.{cid}
-use Rattle.spec.specs.Blocks.{IsClashFree, firsts, IsClash}
+use Rattle.spec.specs.Blocks.{IsClashFree, firsts, IsClash, IsClashIn}
 use Rattle.spec.proofs.RootLaws.{in_head, in_tail}
 use Rattle.edit_laws.specs.Changes.{has_cid, add_of}
 use Rattle.edit.specs.Changes.{IsAmong}
-use Rattle.edit.specs.Faults.{IsRefusal, IsClashIn}
+use Rattle.edit.specs.Faults.{IsRefusal}
 use Rattle.edit.specs.declared.outcome.EditFault.{EditFault}
 use Rattle.edit.specs.declared.outcome.EditFault.TheVariants.{NoSuchKey, Clash, NoMemory}
 
@@ -98,13 +98,10 @@ module _ {X : Type 0} (view : X → List ℕ) (digest : List ℕ → List ℕ) (
 
 -- ---- refusals
 
-pub clash-two : (digest : List ℕ → List ℕ) (a b x y : List ℕ) (pair : List ℕ × List ℕ) → IsClash digest a b → x ≡ a
-    → y ≡ b → pair ≡ (x, y) → IsClashIn digest (a ∷ b ∷ []) pair
-clash-two digest a b x y pair h p q e =
-    let first : List ℕ → List ℕ × List ℕ = λ z. (z, y) in
-    let second : List ℕ → List ℕ × List ℕ = λ z. (a, z) in
-    subst (IsClashIn digest (a ∷ b ∷ [])) (sym (e ∙ ap first p ∙ ap second q))
-    (in_head a (b ∷ []), in_tail a b (b ∷ []) (in_head b []), h)
+pub clash-two : (digest : List ℕ → List ℕ) (a b : List ℕ) (pair : List ℕ × List ℕ) → IsClash digest a b → pair ≡ (a, b)
+    → IsClashIn digest (a ∷ b ∷ []) pair
+clash-two digest a b pair h e =
+    subst (IsClashIn digest (a ∷ b ∷ [])) (sym e) (in_head a (b ∷ []), in_tail a b (b ∷ []) (in_head b []), h)
 
 pub refusal-within : {D A : Type 0} (digest : List ℕ → List ℕ) (P : Type 0) (xs ys : List (List ℕ)) (fault : EditFault D A)
     → ((b : List ℕ) → Contains xs b → Contains ys b) → IsRefusal digest xs P fault → IsRefusal digest ys P fault

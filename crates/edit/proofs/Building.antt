@@ -8,8 +8,8 @@ use Rattle.spec.specs.NodeFormat.{Shape, LastLink, MoreLinks, first_link, shape_
 use Rattle.edit_laws.specs.Lawful.{Lawful, AllLawful}
 use Rattle.edit_laws.specs.ShapeEdit.{close_link, close_shapes, cut_before, cut_after, split_links, split_shapes, padded_link, link_pads, link_replaced, merge_links, merge_shapes, trim_links, trim_shape, trim_shapes}
 use Rattle.edit_laws.specs.PathEdit.{padded_node, node_pads, climb, climb_shapes}
-use Rattle.rewrite.specs.declared.fault.RewriteFault.{RewriteFault}
-use Rattle.rewrite.specs.declared.fault.RewriteFault.TheVariants.{NotNode, NoMemory}
+use Rattle.rewrite.specs.declared.draft.RewriteFault.{RewriteFault}
+use Rattle.rewrite.specs.declared.draft.RewriteFault.TheVariants.{NotNode, NoMemory}
 use Rattle.edit.specs.declared.below.Trimmed.{Trimmed}
 use Rattle.edit.specs.declared.below.Trimmed.TheVariants.{Made, Below}
 use Rattle.rewrite.specs.Drafts.{IsFaultOf}

@@ -22,8 +22,8 @@ use Rattle.edit.specs.Deletes.{asked_delete, CanDelete, IsDeleteOn, nodes_read, 
 use Rattle.edit.specs.Faults.{IsFaultUnless, IsEditFault, IsRefusal}
 use Rattle.edit.specs.Steps.{layers}
 use Rattle.edit.specs.Trees.{HasTree}
-use Rattle.rewrite.specs.declared.fault.RewriteFault.{RewriteFault}
-use Rattle.rewrite.specs.declared.fault.RewriteFault.TheVariants as drafts
+use Rattle.rewrite.specs.declared.draft.RewriteFault.{RewriteFault}
+use Rattle.rewrite.specs.declared.draft.RewriteFault.TheVariants as drafts
 use Rattle.edit.specs.declared.outcome.EditFault.{EditFault}
 use Rattle.edit.specs.declared.outcome.EditFault.TheVariants.{NoSuchKey, Clash, NoMemory}
 use Rattle.edit.proofs.DeleteWhole.{can-read, can-delete}

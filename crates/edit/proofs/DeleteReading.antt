@@ -6,7 +6,7 @@ use Rattle.spec.specs.NodeFormat.{Shape}
 use Rattle.edit_laws.specs.ShapeEdit.{links_beside}
 use Rattle.edit_laws.specs.PathEdit.{lowest_shape, prune_link}
 use Rattle.edit_laws.specs.Sources.{path_from, value_from, seam_from, delete_seam_from}
-use Rattle.rewrite.specs.declared.fault.RewriteFault.{RewriteFault}
+use Rattle.rewrite.specs.declared.draft.RewriteFault.{RewriteFault}
 use Rattle.edit.specs.Deletes.{CanReadDelete}
 use Rattle.edit.specs.Faults.{IsFaultUnless}
 use Rattle.edit.specs.Steps.{shows, asked_seam, asked_pruned, IsWholePath, IsWholeSeam, IsWholeChain}

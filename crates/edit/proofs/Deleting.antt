@@ -7,7 +7,7 @@ use Rattle.edit_laws.specs.ShapeEdit.{close_shapes, last_shape, links_beside, me
 use Rattle.edit_laws.specs.PathEdit.{flat, climb, climb_shapes, all_but_last, lowest_shape, delete_here, delete_below, delete_root, delete_written, delete_read, delete_gone_shapes}
 use Rattle.edit_laws.specs.Changes.{add_of, drop_of}
 use Rattle.spec.specs.Blocks.{IsClashFree}
-use Rattle.rewrite.specs.declared.fault.RewriteFault.{RewriteFault}
+use Rattle.rewrite.specs.declared.draft.RewriteFault.{RewriteFault}
 use Rattle.edit.specs.declared.below.Trimmed.TheVariants.{Below}
 use Rattle.edit.specs.Deletes.{within_written, CanWriteWithin, IsDeleteOn}
 use Rattle.rewrite.specs.Drafts.{IsFaultOf}

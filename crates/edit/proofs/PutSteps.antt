@@ -7,7 +7,7 @@ use Rattle.spec.specs.NodeFormat.{Shape, LastLink, MoreLinks, shape_bytes}
 use Rattle.edit_laws.specs.Lawful.{Lawful, AllLawful}
 use Rattle.edit_laws.specs.ShapeEdit.{close_shapes, split_links, split_shapes, insert_shape, padded_link, link_pads, tail_shapes, above_shape, above_shapes}
 use Rattle.edit_laws.specs.PathEdit.{padded_node, node_pads, climb, climb_shapes, put_here, put_below, put_below_shapes}
-use Rattle.rewrite.specs.declared.fault.RewriteFault.{RewriteFault}
+use Rattle.rewrite.specs.declared.draft.RewriteFault.{RewriteFault}
 use Rattle.rewrite.specs.Drafts.{IsFaultOf}
 use Rattle.edit.specs.Faults.{IsFaultUnless}
 use Rattle.edit.proofs.Building.{front-all, back-all, join-all, unless-weaker, of-unless, closed-lawful}

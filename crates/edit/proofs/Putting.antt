@@ -27,8 +27,8 @@ use Rattle.edit.specs.Edits.{IsEditOf, IsPutOn}
 use Rattle.edit.specs.Faults.{IsFaultUnless, IsEditFault, IsRefusal, IsAbsence}
 use Rattle.edit.specs.Steps.{layers, IsWholePath}
 use Rattle.edit.specs.Trees.{HasTree}
-use Rattle.rewrite.specs.declared.fault.RewriteFault.{RewriteFault}
-use Rattle.rewrite.specs.declared.fault.RewriteFault.TheVariants as drafts
+use Rattle.rewrite.specs.declared.draft.RewriteFault.{RewriteFault}
+use Rattle.rewrite.specs.declared.draft.RewriteFault.TheVariants as drafts
 use Rattle.edit.specs.declared.outcome.EditFault.{EditFault}
 use Rattle.edit.specs.declared.outcome.EditFault.TheVariants.{NoSuchKey, Clash, NoMemory}
 use Rattle.edit.proofs.Stepping.{is-lookup, asked-path, tree-value}

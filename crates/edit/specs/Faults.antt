@@ -1,10 +1,10 @@
 -- When an edit is refused.
-use Rattle.std.specs.Prelude.{◌≡◌, ⊤, ℕ, List, Contains, Result, Ok, Err}
-use Rattle.spec.specs.Blocks.{IsClash}
+use Rattle.std.specs.Prelude.{◌≡◌, ⊤, ℕ, List, Result, Ok, Err}
+use Rattle.spec.specs.Blocks.{IsClashIn}
 use Rattle.spec.specs.NodeFormat.{Shape}
 use Rattle.edit_laws.specs.Lawful.{AllLawful}
-use Rattle.rewrite.specs.declared.fault.RewriteFault.{RewriteFault}
-use Rattle.rewrite.specs.declared.fault.RewriteFault.TheVariants as drafts
+use Rattle.rewrite.specs.declared.draft.RewriteFault.{RewriteFault}
+use Rattle.rewrite.specs.declared.draft.RewriteFault.TheVariants as drafts
 use Rattle.edit.specs.declared.outcome.EditFault.{EditFault}
 use Rattle.edit.specs.declared.outcome.EditFault.TheVariants.{NoSuchKey, Clash, NoMemory}
 
@@ -21,10 +21,6 @@ IsFaultIn nodes = IsFaultUnless (AllLawful nodes)
 abbrev pub IsEditFault : {D A : Type 0} → RewriteFault → EditFault D A → Type 0
 IsEditFault drafts.NotNode fault = fault ≡ NoSuchKey
 IsEditFault drafts.NoMemory fault = fault ≡ NoMemory
-
--- two of the blocks, with one CID and different bytes
-abbrev pub IsClashIn : (List ℕ → List ℕ) → List (List ℕ) → List ℕ × List ℕ → Type 0
-IsClashIn digest blocks pair = Contains blocks pair.0 × Contains blocks pair.1 × IsClash digest pair.0 pair.1
 
 -- a refusal: there is no such key only where P holds, and two of these blocks clash; of a want of memory nothing is said
 abbrev pub IsRefusal : {D A : Type 0} → (List ℕ → List ℕ) → List (List ℕ) → Type 0 → EditFault D A → Type 0

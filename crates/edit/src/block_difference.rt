@@ -4,10 +4,10 @@ ghost use Rattle.std.specs.Prelude.{◌≡◌, ◌∷◌, [], ◌++◌, map, IfO
 ghost use Rattle.std.specs.Arc.{arc_value};
 ghost use Rattle.spec.specs.NodeFormat.{shape_bytes};
 ghost use Rattle.spec.specs.Cid.{cid as cid_of};
-ghost use Rattle.spec.specs.Blocks.{IsClash, IsClashFree};
+ghost use Rattle.spec.specs.Blocks.{IsClashFree};
 ghost use Rattle.edit_laws.specs.Changes.{add_of, drop_of, has_cid as has_cid_of};
 ghost use Rattle.edit.specs.Changes.{IsAmong};
-ghost use Rattle.edit.specs.Faults.{IsClashIn, IsRefusal};
+ghost use Rattle.edit.specs.Faults.{IsRefusal};
 
 use crate::loading::Node;
 use crate::outcome::EditFault;
@@ -111,20 +111,7 @@ fn is_same<D: Digest, A: Allocator>(
     if one.bytes() == other.bytes() {
         return Ok(true);
     }
-    Err(EditFault::Clash(shown(one, other)?))
-}
-
-/// Two blocks that clash.
-fn shown<D: Digest, A: Allocator>(
-    one: &Arc<Block<D, A>, A>,
-    other: &Arc<Block<D, A>, A>,
-) -> Result<Collided<D, A>, AllocError>
-    requires { IsClash D.digest_of (arc_value one.now) (arc_value other.now) }
-    ensures { IfOk result (IsClashIn D.digest_of (arc_value one.now ∷ arc_value other.now ∷ [])) }
-{
-    let one = Arc::try_clone(one)?;
-    let other = Arc::try_clone(other)?;
-    Ok(Collided::new(one, other))
+    Err(EditFault::Clash(Collided::of_shared(one, other)?))
 }
 
 /// Whether one of the blocks has this CID.

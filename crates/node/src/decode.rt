@@ -37,10 +37,11 @@ pub(crate) fn argument(major: u8, bytes: &[u8]) -> Result<(u64, &[u8]), NodeFaul
 pub(crate) fn front(n: u64, bytes: &[u8]) -> Result<(&[u8], &[u8]), NodeFault>
     ensures { Gives (λ x. (x.0.now, x.1.now)) fault_of result (front not_node n bytes.now) }
 {
-    if (bytes.len() as u64) < n {
-        return Err(NodeFault::NotNode);
+    let mut reader = Cursor::new(bytes);
+    match reader.take(n) {
+        Ok(taken) => Ok((taken, reader.rest())),
+        Err(_) => Err(NodeFault::NotNode),
     }
-    Ok(bytes.split_at(n as usize))
 }
 
 /// What stands before the CID in a link: the head of the tag, the head of a byte string of 37 bytes, and the byte that

@@ -2,12 +2,12 @@
 use Rattle.std.proofs.Common.{◌≡◌, ℕ, List, ◌++◌, sym, subst, Option, None}
 use Rattle.std.specs.declared.option.Option.TheVariants.{Some}
 use Rattle.spec.specs.Tree.{Pair}
-use Rattle.spec.specs.Blocks.{nodes}
+use Rattle.spec.specs.Blocks.{IsClashIn, nodes}
 use Rattle.spec.specs.Writes.{with_key}
 use Rattle.edit_laws.proofs.BlockSources.{source-free, clash-new}
 use Rattle.edit.specs.Edits.{IsEditOf}
 use Rattle.edit.specs.Deletes.{IsDeleteOf, nodes_read}
-use Rattle.edit.specs.Faults.{IsRefusal, IsClashIn}
+use Rattle.edit.specs.Faults.{IsRefusal}
 use Rattle.edit.specs.Trees.{HasTree}
 use Rattle.edit.specs.declared.outcome.EditFault.{EditFault}
 use Rattle.edit.specs.declared.outcome.EditFault.TheVariants.{NoSuchKey, Clash, NoMemory}

@@ -8,7 +8,7 @@ use Rattle.spec.specs.NodeFormat.{Shape, LastLink, MoreLinks, first_link}
 use Rattle.edit_laws.specs.Order.{order}
 use Rattle.edit_laws.specs.ShapeEdit.{cut_before, cut_before_at, cut_after, cut_after_at, link_replaced, link_replaced_at, insert_shape, insert_shape_at, remove_shape, remove_shape_at, with_first_link, join_shape}
 use Rattle.rewrite.specs.Cursors.{after_pair, all_pairs, before_key, before_key_at, from_key, from_key_at, is_first_at, pairs_before}
-use Rattle.rewrite.specs.declared.fault.RewriteFault.{RewriteFault}
+use Rattle.rewrite.specs.declared.draft.RewriteFault.{RewriteFault}
 use Rattle.rewrite.specs.Drafts.{onto, IsFaultOf, IsFaultOfAll}
 use Rattle.rewrite.proofs.Cutting.{with-own, grows-onto, fault-at}
 use Rattle.rewrite.proofs.Drafting.{Links}

@@ -10,8 +10,8 @@ use Rattle.spec.specs.NodeFormat.{Shape, LastLink, MoreLinks, first_link}
 use Rattle.edit_laws.specs.Lawful.{Lawful}
 use Rattle.edit_laws.specs.Order.{order}
 use Rattle.edit_laws.specs.ShapeEdit.{with_first_link}
-use Rattle.rewrite.specs.declared.fault.RewriteFault.{RewriteFault}
-use Rattle.rewrite.specs.declared.fault.RewriteFault.TheVariants.{NotNode, NoMemory}
+use Rattle.rewrite.specs.declared.draft.RewriteFault.{RewriteFault}
+use Rattle.rewrite.specs.declared.draft.RewriteFault.TheVariants.{NotNode, NoMemory}
 use Rattle.rewrite.specs.Cursors.{after_pair, is_more, first_linked, before_key, from_key, is_first_before, is_first_at, is_more_before, pairs_before, rest_from}
 use Rattle.rewrite.specs.Entries.{shape_at, Reading}
 use Rattle.rewrite.specs.Drafts.{onto, IsFaultOf, IsFaultOfAll}

@@ -15,7 +15,7 @@ use Rattle.rewrite.specs.Cursors.{after_pair, is_more, first_linked, all_pairs, 
 use Rattle.rewrite.specs.Entries.{shape_at, Reading}
 use Rattle.rewrite.specs.Copying.{linked, last_pair, passed, EndsAt, pairs_left, IsAt}
 use Rattle.rewrite.specs.Drafts.{onto, turned, IsDraft, is_empty_node, shape_in, IsFaultOfAll}
-use Rattle.rewrite.specs.declared.fault.RewriteFault.{RewriteFault}
+use Rattle.rewrite.specs.declared.draft.RewriteFault.{RewriteFault}
 use Rattle.rewrite.proofs.Cutting.{Steps, steps, with-own, from-step, grows}
 use Rattle.rewrite.proofs.Drafting.{Links, entry_with, written}
 use Rattle.rewrite.proofs.Places.{pairs-from, key-at, next-at, one-more}

@@ -9,8 +9,8 @@ use Rattle.spec.specs.Tree.{Pair}
 use Rattle.spec.specs.NodeFormat.{Entry, Shape, LastLink, MoreLinks, shape_bytes}
 use Rattle.edit_laws.specs.Lawful.{Lawful}
 use Rattle.edit_laws.specs.Sources.{shape_of_bytes}
-use Rattle.rewrite.specs.declared.fault.RewriteFault.{RewriteFault}
-use Rattle.rewrite.specs.declared.fault.RewriteFault.TheVariants.{NotNode, NoMemory}
+use Rattle.rewrite.specs.declared.draft.RewriteFault.{RewriteFault}
+use Rattle.rewrite.specs.declared.draft.RewriteFault.TheVariants.{NotNode, NoMemory}
 
 -- a node without keys and links
 abbrev pub is_empty_node : Shape → Bool

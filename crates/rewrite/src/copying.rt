@@ -6,9 +6,8 @@ ghost use Rattle.rewrite.specs.Cursors.{after_pair, first_linked, from_key, is_m
 ghost use Rattle.rewrite.specs.Copying.{EndsAt, last_pair, passed};
 ghost use Rattle.rewrite.specs.Drafts.{onto, IsFaultOf, IsFaultOfAll, pair_of, IsNode};
 
-use crate::cursor::Cursor;
-use crate::draft::Draft;
-use crate::fault::RewriteFault;
+use crate::draft::{Draft, RewriteFault};
+use crate::entries::Cursor;
 use crate::writer::Writer;
 use cid::{Cid, CidRef};
 use node::NodeView;

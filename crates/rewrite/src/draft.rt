@@ -1,13 +1,14 @@
-//! Nodes that were written and aren't yet blocks.
+//! Nodes that were written and aren't yet blocks, and why one was not written.
 
 ghost use Rattle.std.specs.Prelude.{◌≡◌, ◌∷◌, [], IfOk, OnOk};
 ghost use Rattle.spec.specs.NodeFormat.{shape_cid};
 ghost use Rattle.edit_laws.specs.Lawful.{Lawful};
 ghost use Rattle.edit_laws.specs.ShapeEdit.{close_link, close_shapes};
 ghost use Rattle.rewrite.specs.Drafts.{Adds};
+ghost use Rattle.rewrite.specs.declared.draft.RewriteFault.TheVariants.{NoMemory};
 
 use cid::{Block, Cid, Digest};
-use std::alloc::{AllocError, Allocator};
+use std::alloc::{AllocError, AllocFailed, Allocator};
 use std::marker::Model;
 use std::sync::Arc;
 
@@ -64,5 +65,31 @@ impl<A: Allocator + Clone> Draft<A> {
             return Ok(None);
         }
         Ok(Some(self.push(made)?))
+    }
+}
+
+/// Why a node was not read or not written.
+#[derive(Clone, Copy, Debug, Drop)]
+pub enum RewriteFault {
+    /// What was to be read isn't there or is no node, or what was to be written is none: keys that don't ascend, or one
+    /// of no bytes or of more than 1,024.
+    NotNode,
+    /// Memory was refused.
+    NoMemory,
+}
+
+impl From<AllocError> for RewriteFault {
+    ghost from_gives = { λ _ fault. fault ≡ NoMemory };
+
+    fn from(_: AllocError) -> RewriteFault {
+        RewriteFault::NoMemory
+    }
+}
+
+impl<T: Drop> From<AllocFailed<T>> for RewriteFault {
+    ghost from_gives = { λ _ fault. fault ≡ NoMemory };
+
+    fn from(_: AllocFailed<T>) -> RewriteFault {
+        RewriteFault::NoMemory
     }
 }

@@ -33,16 +33,13 @@
 #![tactic(auto)]
 
 mod copying;
-mod cursor;
 mod draft;
 mod entries;
-mod fault;
 mod links;
 mod rewrites;
 mod writer;
 
-pub use draft::{Draft, Made};
+pub use draft::{Draft, Made, RewriteFault};
 pub use entries::{KeyedEntries, to_cid};
-pub use fault::RewriteFault;
 pub use links::{last_link, links_beside, links_if_single, top_layer};
 pub use rewrites::{cut_after, cut_before, insert, join, pad, remove, replace_link, single};

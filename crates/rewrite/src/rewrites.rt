@@ -9,9 +9,8 @@ ghost use Rattle.edit_laws.specs.ShapeEdit.{link_replaced, insert_shape, remove_
 ghost use Rattle.rewrite.specs.Entries.{shape_of};
 
 use crate::copying::{copy_before, copy_from, skip_before};
-use crate::cursor::Cursor;
-use crate::draft::Draft;
-use crate::fault::RewriteFault;
+use crate::draft::{Draft, RewriteFault};
+use crate::entries::Cursor;
 use crate::writer::Writer;
 use cid::{Cid, CidRef};
 use node::NodeView;

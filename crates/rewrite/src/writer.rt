@@ -6,8 +6,7 @@ ghost use Rattle.edit_laws.specs.Sources.{shape_from};
 ghost use Rattle.rewrite.specs.Copying.{EndsAt};
 ghost use Rattle.rewrite.specs.Drafts.{onto, turned, IsFaultOf, IsFaultOfAll, pair_of, IsNode};
 
-use crate::draft::Draft;
-use crate::fault::RewriteFault;
+use crate::draft::{Draft, RewriteFault};
 use cid::{Cid, CidRef};
 use node::{NodeView, NodeWriter};
 use std::alloc::{AllocError, Allocator};

@@ -11,13 +11,13 @@ use Rattle.spec.specs.Cid.{cid, is_own_cid, IsDigest}
 use Rattle.spec.specs.Layer.{layer}
 use Rattle.spec.specs.Tree.{Pair, tree, top, top_layer}
 use Rattle.spec.specs.NodeFormat.{is_key, is_ascending, node_bytes}
-use Rattle.spec.specs.Blocks.{ArePairs, IsClashFree, IsClash, nodes, root, firsts}
+use Rattle.spec.specs.Blocks.{ArePairs, IsClashFree, IsClash, IsClashIn, nodes, root, firsts}
 use Rattle.spec.proofs.Bools.{both}
 use Rattle.spec.proofs.TreeLaws.{lower-from_top}
 use Rattle.spec.proofs.RootLaws.{all_of}
 use Rattle.spec.proofs.Once.{firsts-nodes}
 use Rattle.scratch.specs.Rows.{pair_of}
-use Rattle.scratch.specs.Faults.{AreClashing, IsClashIn}
+use Rattle.scratch.specs.Faults.{AreClashing}
 use Rattle.scratch.specs.declared.rows.Row.{Row}
 use Rattle.scratch.proofs.Aheads.{node_ahead, before-all}
 
@@ -59,17 +59,20 @@ once digest bits fits rows es blocks is up few are free = firsts-nodes digest bi
 
 -- ---- a clash
 
-pub clash-in : {X : Type 0} (f : X → List ℕ) (digest : List ℕ → List ℕ) (xs : List X) (i j : ℕ) (x y : X) (a b : List ℕ) (pair : List ℕ × List ℕ) → AreClashing digest (map f xs) i j
-    → x ≡ slice_index_or xs i x → y ≡ slice_index_or xs j y → a ≡ f x → b ≡ f y → pair ≡ (a, b) → IsClashIn digest (map f xs) pair
-clash-in f digest xs i j x y a b pair h is_x is_y is_a is_b is =
+pub clash-at : {X : Type 0} (f : X → List ℕ) (digest : List ℕ → List ℕ) (xs : List X) (i j : ℕ) (x y : X) → AreClashing digest (map f xs) i j
+    → x ≡ slice_index_or xs i x → y ≡ slice_index_or xs j y → Contains (map f xs) (f x) × Contains (map f xs) (f y) × IsClash digest (f x) (f y)
+clash-at f digest xs i j x y h is_x is_y =
     let few : length (map f xs) ≡ length xs = length-map xs f in
     let at_x : slice_index_or (map f xs) i [] ≡ f x = get_or-map f xs i x [] (omega (arith, h.has_one)) ∙ ap f (sym is_x) in
     let at_y : slice_index_or (map f xs) j [] ≡ f y = get_or-map f xs j y [] (omega (arith, h.has_other)) ∙ ap f (sym is_y) in
     let one : Contains (map f xs) (f x) = subst (Contains (map f xs)) at_x (Contains-get_or (map f xs) i [] h.has_one) in
     let other : Contains (map f xs) (f y) = subst (Contains (map f xs)) at_y (Contains-get_or (map f xs) j [] h.has_other) in
-    let both_are : ◌≡◌ {A = List ℕ × List ℕ} (a, b) (f x, f y) = λ k. (is_a k, is_b k) in
     let clash : IsClash digest (f x) (f y) = (ap (cid digest) (sym at_x) ∙ h.clash.0 ∙ ap (cid digest) at_y, λ e. h.clash.1 (at_x ∙ e ∙ sym at_y)) in
-    subst (IsClashIn digest (map f xs)) (sym (is ∙ both_are)) (one, other, clash)
+    (one, other, clash)
+
+pub clash-in : {X : Type 0} (f : X → List ℕ) (digest : List ℕ → List ℕ) (xs : List X) (i j : ℕ) (x y : X) (pair : List ℕ × List ℕ) → AreClashing digest (map f xs) i j
+    → x ≡ slice_index_or xs i x → y ≡ slice_index_or xs j y → pair ≡ (f x, f y) → IsClashIn digest (map f xs) pair
+clash-in f digest xs i j x y pair h is_x is_y is = subst (IsClashIn digest (map f xs)) (sym is) (clash-at f digest xs i j x y h is_x is_y)
 
 pub clash-among : (digest : List ℕ → List ℕ) (blocks nodes : List (List ℕ)) (pair : List ℕ × List ℕ) → blocks ≡ nodes → IsClashIn digest blocks pair → IsClashIn digest nodes pair
 clash-among digest blocks nodes pair is h = subst (λ (bs : List (List ℕ)). IsClashIn digest bs pair) is h

@@ -1,12 +1,8 @@
 -- When a tree is not built.
-use Rattle.std.specs.Prelude.{ℕ, ◌<◌, List, [], length, slice_index_or, Contains, ⊤}
-use Rattle.spec.specs.Blocks.{IsClash}
+use Rattle.std.specs.Prelude.{ℕ, ◌<◌, List, [], length, slice_index_or, ⊤}
+use Rattle.spec.specs.Blocks.{IsClash, IsClashIn}
 use Rattle.scratch.specs.declared.fault.ScratchFault.{ScratchFault}
 use Rattle.scratch.specs.declared.fault.ScratchFault.TheVariants.{Clash, NoMemory}
-
--- two of the blocks, with one CID and different bytes
-abbrev pub IsClashIn : (List ℕ → List ℕ) → List (List ℕ) → List ℕ × List ℕ → Type 0
-IsClashIn digest blocks pair = Contains blocks pair.0 × Contains blocks pair.1 × IsClash digest pair.0 pair.1
 
 -- the blocks at two places clash
 pub record AreClashing (digest : List ℕ → List ℕ) (blocks : List (List ℕ)) (one other : ℕ) : Type 0 where

@@ -2,8 +2,8 @@
 
 ghost use Rattle.std.specs.Prelude.{◌≡◌, map, IfOk, MatchOption};
 ghost use Rattle.std.specs.Arc.{arc_value};
-ghost use Rattle.spec.specs.Blocks.{IsClashFree};
-ghost use Rattle.scratch.specs.Faults.{AreClashing, IsClashIn};
+ghost use Rattle.spec.specs.Blocks.{IsClashFree, IsClashIn};
+ghost use Rattle.scratch.specs.Faults.{AreClashing};
 
 use cid::{Block, Cid, Collided, Digest};
 use std::alloc::{AllocError, Allocator};
@@ -45,7 +45,5 @@ pub fn show_clash<D: Digest, A: Allocator>(
     requires { AreClashing D.digest_of (map arc_value blocks.now) one other }
     ensures { IfOk result (λ pair. IsClashIn D.digest_of (map arc_value blocks.now) pair) }
 {
-    let one = Arc::try_clone(&blocks[one])?;
-    let other = Arc::try_clone(&blocks[other])?;
-    Ok(Collided::new(one, other))
+    Collided::of_shared(&blocks[one], &blocks[other])
 }

@@ -42,6 +42,10 @@ IsClashFree digest bs =
 abbrev pub IsClash : (List ℕ → List ℕ) → List ℕ → List ℕ → Type 0
 IsClash digest a b = (cid digest a ≡ cid digest b) × (a ≢ b)
 
+-- two of the blocks, with one CID and different bytes
+abbrev pub IsClashIn : (List ℕ → List ℕ) → List (List ℕ) → List ℕ × List ℕ → Type 0
+IsClashIn digest blocks pair = Contains blocks pair.0 × Contains blocks pair.1 × IsClash digest pair.0 pair.1
+
 -- No block of the one list clashes with one of the other. Within a list blocks may clash: what a
 -- stranger gives needs no more than this.
 abbrev pub ClashesWithNone : (List ℕ → List ℕ) → List (List ℕ) → List (List ℕ) → Type 0

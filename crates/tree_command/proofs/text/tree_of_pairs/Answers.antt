@@ -1,7 +1,7 @@
 use Rattle.std.proofs.Common.{sym, ap, subst, ◌∙◌}
-use Rattle.spec.specs.Blocks.{nodes}
+use Rattle.spec.specs.Blocks.{IsClashIn, nodes}
 use Rattle.spec.specs.NodeFormat.{is_ascending}
-use Rattle.scratch.specs.Faults.{IsClashIn, IsFaultOf}
+use Rattle.scratch.specs.Faults.{IsFaultOf}
 use Rattle.scratch.specs.Pairs.{pairs_of}
 use Rattle.tree_command.specs.TreeText.{tree_of_map}
 use Rattle.tree_command.proofs.LastLines.{same_pairs}

@@ -4,7 +4,7 @@ use Rattle.cid.specs.CidRef.{bytes_of}
 use Rattle.rewrite.specs.Copying.{IsLeft}
 use Rattle.rewrite.proofs.Pieces.{shown, after-shown}
 use Rattle.rewrite.proofs.Places.{one-less}
-use Rattle.rewrite.proofs.cursor.Cursor.skip.Goals as goal
+use Rattle.rewrite.proofs.entries.Cursor.skip.Goals as goal
 
 pub invariant_of-self : goal.invariant_of-self
 invariant_of-self g c =

@@ -6,7 +6,7 @@ use Rattle.edit_laws.specs.Sources.{shape_from}
 use Rattle.rewrite.specs.Drafts.{IsFaultOf}
 use Rattle.edit.proofs.Building.{head-tail}
 use Rattle.edit.proofs.PutSteps.{if-err, here-split, here-node}
-use Rattle.edit.proofs.puts.write.put_here.Goals as goal
+use Rattle.edit.proofs.puts.put_here.Goals as goal
 
 pub returns-in_err-left-clause-fault : goal.returns-in_err-left-clause-fault
 returns-in_err-left-clause-fault g c =

@@ -3,7 +3,7 @@ use Rattle.std.proofs.lemmas.Result.{err_from_is_err_and}
 use Rattle.cid.specs.CidRef.{bytes_of}
 use Rattle.spec.specs.NodeFormat.{shape_cid}
 use Rattle.edit.proofs.PutSteps.{cut-at, below-here, below-padded_node, below-climb, below-top, below-made}
-use Rattle.edit.proofs.puts.write.put_below.Goals as goal
+use Rattle.edit.proofs.puts.put_below.Goals as goal
 
 pub returns-in_err-node-clause-fault : goal.returns-in_err-node-clause-fault
 returns-in_err-node-clause-fault g c =

@@ -4,7 +4,7 @@ use Rattle.std.specs.Ordering.{nat_cmp, is_eq}
 use Rattle.cid.specs.CidRef.{bytes_of}
 use Rattle.rewrite.specs.Cursors.{is_first_at}
 use Rattle.rewrite.proofs.Cutting.{first_at-some}
-use Rattle.rewrite.proofs.cursor.Cursor.is_at.Goals as goal
+use Rattle.rewrite.proofs.entries.Cursor.is_at.Goals as goal
 
 pub returns-then-is_some : goal.returns-then-is_some
 returns-then-is_some g c =

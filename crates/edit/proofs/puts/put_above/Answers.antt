@@ -4,7 +4,7 @@ use Rattle.std.proofs.Common.{ℕ, List, ◌∙◌, ap, subst}
 use Rattle.spec.specs.NodeFormat.{LastLink, MoreLinks}
 use Rattle.rewrite.specs.Drafts.{IsFaultOf}
 use Rattle.edit.proofs.PutSteps.{above-split, above-left, above-right, above-top, above-made}
-use Rattle.edit.proofs.puts.write.put_above.Goals as goal
+use Rattle.edit.proofs.puts.put_above.Goals as goal
 
 pub returns-in_err-left-clause-fault : goal.returns-in_err-left-clause-fault
 returns-in_err-left-clause-fault g c =

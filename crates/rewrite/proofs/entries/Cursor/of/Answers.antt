@@ -6,7 +6,7 @@ use Rattle.rewrite.specs.Copying.{IsLeft}
 use Rattle.rewrite.specs.Entries.{Reading}
 use Rattle.rewrite.proofs.Pieces.{shown}
 use Rattle.rewrite.proofs.Places.{all-left}
-use Rattle.rewrite.proofs.cursor.Cursor.of.Goals as goal
+use Rattle.rewrite.proofs.entries.Cursor.of.Goals as goal
 
 pub invariant_of-result : goal.invariant_of-result
 invariant_of-result g c =
