@@ -3,7 +3,7 @@
 ghost use Rattle.std.specs.Prelude.{◌≡◌, pos, negsuc, option_map, IfOk, IfErr, IsTrue, IsSome};
 ghost use Rattle.spec.specs.Reading.{Gives};
 ghost use Rattle.spec.specs.Head.{Array, Map};
-ghost use Rattle.spec.specs.DagCbor.{Integer, integer_of, key_of, simple_value, items_at, fields_at, content_of, value_at, read, spelling, is_lawful};
+ghost use Rattle.spec.specs.DagCbor.{integer_of, key_of, link_of, simple_value, items_at, fields_at, content_of, value_at, read, spelling, is_lawful};
 ghost use Rattle.dagcbor.specs.Fault.{fault_of};
 ghost use Rattle.dagcbor.specs.View.{view, view_items, view_fields};
 ghost use Rattle.dagcbor.specs.Majors.{major_view};
@@ -36,21 +36,29 @@ fn key<'a>(before: Option<&str>, bytes: &'a [u8]) -> Result<(&'a str, &'a [u8]),
 }
 
 /// The whole number n, and the bytes after its head.
-fn unsigned(n: u64, bytes: &[u8]) -> Result<(i64, &[u8]), CborFault>
-    ensures { Gives (λ x. (Integer x.0, x.1.now)) fault_of result (integer_of pos n bytes.now) }
+#[inline(always)]
+fn unsigned<'a, A: Allocator>(
+    n: u64,
+    bytes: &'a [u8],
+) -> Result<(Value<'a, A>, &'a [u8]), CborFault>
+    ensures { Gives (λ x. (view x.0, x.1.now)) fault_of result (integer_of pos n bytes.now) }
 {
     match i64::try_from(n) {
-        Ok(z) => Ok((z, bytes)),
+        Ok(z) => Ok((Value::Int(z), bytes)),
         Err(_) => Err(CborFault::IntegerRange),
     }
 }
 
 /// The whole number -1 - n, and the bytes after its head.
-fn negative(n: u64, bytes: &[u8]) -> Result<(i64, &[u8]), CborFault>
-    ensures { Gives (λ x. (Integer x.0, x.1.now)) fault_of result (integer_of negsuc n bytes.now) }
+#[inline(always)]
+fn negative<'a, A: Allocator>(
+    n: u64,
+    bytes: &'a [u8],
+) -> Result<(Value<'a, A>, &'a [u8]), CborFault>
+    ensures { Gives (λ x. (view x.0, x.1.now)) fault_of result (integer_of negsuc n bytes.now) }
 {
     match i64::try_from(n) {
-        Ok(z) => Ok((-1 - z, bytes)),
+        Ok(z) => Ok((Value::Int(-1 - z), bytes)),
         Err(_) => Err(CborFault::IntegerRange),
     }
 }
@@ -94,14 +102,8 @@ fn content<'a, A: Allocator + Copy>(
         (content_of (within levels) (major_view major) n bytes.now) }
 {
     match major {
-        Major::UnsignedInteger => {
-            let (z, rest) = unsigned(n, bytes)?;
-            Ok((Value::Int(z), rest))
-        }
-        Major::NegativeInteger => {
-            let (z, rest) = negative(n, bytes)?;
-            Ok((Value::Int(z), rest))
-        }
+        Major::UnsignedInteger => unsigned(n, bytes),
+        Major::NegativeInteger => negative(n, bytes),
         Major::ByteString => {
             let (content, rest) = front(n, bytes)?;
             Ok((Value::Bytes(content), rest))
@@ -112,17 +114,26 @@ fn content<'a, A: Allocator + Copy>(
         }
         Major::Array => list(alloc, levels, n, bytes),
         Major::Map => map(alloc, levels, n, bytes),
-        Major::Tag => {
-            let (cid, rest) = link(n, bytes)?;
-            Ok((Value::Link(cid), rest))
-        }
+        Major::Tag => tagged(n, bytes),
         Major::SimpleValue => Ok((simple_value(n), bytes)),
     }
 }
 
+/// A link behind the head of its tag, and the bytes after it.
+#[inline(always)]
+fn tagged<'a, A: Allocator>(
+    tag: u64,
+    bytes: &'a [u8],
+) -> Result<(Value<'a, A>, &'a [u8]), CborFault>
+    ensures { Gives (λ x. (view x.0, x.1.now)) fault_of result (link_of tag bytes.now) }
+{
+    let (cid, rest) = link(tag, bytes)?;
+    Ok((Value::Link(cid), rest))
+}
+
 /// A list of `n` items, and the bytes after it.
 #[cycle(value)]
-#[inline(never)]
+#[inline(always)]
 fn list<'a, A: Allocator + Copy>(
     alloc: A,
     levels: u8,
@@ -141,7 +152,7 @@ fn list<'a, A: Allocator + Copy>(
 
 /// A map of `n` pairs, and the bytes after it.
 #[cycle(value)]
-#[inline(never)]
+#[inline(always)]
 fn map<'a, A: Allocator + Copy>(
     alloc: A,
     levels: u8,
@@ -160,7 +171,7 @@ fn map<'a, A: Allocator + Copy>(
 
 /// `n` values one after the other, and the bytes after them.
 #[cycle(value)]
-#[inline(always)]
+#[inline(never)]
 fn items<'a, A: Allocator + Copy>(
     alloc: A,
     levels: u8,
@@ -183,7 +194,7 @@ fn items<'a, A: Allocator + Copy>(
 
 /// `n` keys in order, each with a value, and the bytes after them.
 #[cycle(value)]
-#[inline(always)]
+#[inline(never)]
 fn fields<'a, A: Allocator + Copy>(
     alloc: A,
     levels: u8,

@@ -5,7 +5,7 @@ ghost use Rattle.std.specs.Prelude.{◌≡◌};
 use std::alloc::{AllocError, Allocator};
 
 /// For how many items room is made at once, at most.
-const MOST_AT_ONCE: u64 = 16;
+const MOST_AT_ONCE: u64 = 128;
 
 /// Makes room for the items of a list that is empty as yet, when the first has been read: for as many as are stated, but at
 /// most for `MOST_AT_ONCE`, and for no more than it and the bytes that are left can be, as each takes a byte or more. So a
