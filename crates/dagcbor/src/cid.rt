@@ -25,11 +25,24 @@ fn varint_within(most: u8, bytes: &[u8]) -> Option<(u64, &[u8])>
     Some((u64::from(*first % 128) + 128 * high, rest))
 }
 
-/// A number of at most nine bytes, and the bytes after it.
+/// A number of at most nine bytes, and the bytes after it, by a call.
+#[inline(always)]
+fn long_varint(bytes: &[u8]) -> Option<(u64, &[u8])>
+    ensures { option_map (λ x. (x.0, x.1.now)) result ≡ varint_at bytes.now }
+{
+    let (n, rest) = varint_within(9, bytes)?;
+    Some((n, rest))
+}
+
+/// A number of at most nine bytes, and the bytes after it. Nearly all in CIDs have one byte, and these are read in place.
+#[inline(always)]
 fn varint(bytes: &[u8]) -> Option<(u64, &[u8])>
     ensures { option_map (λ x. (x.0, x.1.now)) result ≡ varint_at bytes.now }
 {
-    varint_within(9, bytes)
+    match bytes {
+        [first, rest @ ..] if *first < 128 => Some((u64::from(*first), rest)),
+        _ => long_varint(bytes),
+    }
 }
 
 /// Whether these are a CID of version 1: `01`, a codec, a hash code, a digest length, and a digest of that length (CIDv1,

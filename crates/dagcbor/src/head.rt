@@ -79,6 +79,18 @@ fn announced_argument(low: u8, bytes: &[u8]) -> Result<(u64, &[u8]), CborFault>
     }
 }
 
+/// The same, with room for the answer made at this call alone.
+#[inline(always)]
+fn announced(low: u8, bytes: &[u8]) -> Result<(u64, &[u8]), CborFault>
+    requires { 24 ≤ low }
+    ensures read { Gives (λ x. (x.0, x.1.now)) fault_of result (argument_at low bytes.now) }
+    ensures no_longer { IfOk result (λ x. length x.1.now ≤ length bytes.now) }
+    ensures takes_no_memory { result ≢ Err CborFault.NoMemory }
+{
+    let (n, rest) = announced_argument(low, bytes)?;
+    Ok((n, rest))
+}
+
 /// The argument that the low five bits of a first byte say, and the bytes after it. Nearly all heads have one byte or
 /// two, and these are read in place; the others by a call.
 #[inline(always)]
@@ -90,7 +102,7 @@ fn argument(low: u8, bytes: &[u8]) -> Result<(u64, &[u8]), CborFault>
     match bytes {
         _ if low < 24 => Ok((u64::from(low), bytes)),
         [n, rest @ ..] if low == 24 && *n >= 24 => Ok((u64::from(*n), rest)),
-        _ => announced_argument(low, bytes),
+        _ => announced(low, bytes),
     }
 }
 

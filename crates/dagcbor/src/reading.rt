@@ -3,7 +3,7 @@
 ghost use Rattle.std.specs.Prelude.{◌≡◌, pos, negsuc, option_map, IfOk, IfErr, IsTrue, IsSome};
 ghost use Rattle.spec.specs.Reading.{Gives};
 ghost use Rattle.spec.specs.Head.{Array, Map};
-ghost use Rattle.spec.specs.DagCbor.{Integer, integer_of, key_of, simple_value, items_at, fields_at, content_of, value_at, read, spelling, is_lawful};
+ghost use Rattle.spec.specs.DagCbor.{integer_of, key_of, link_of, simple_value, items_at, fields_at, content_of, value_at, read, spelling, is_lawful};
 ghost use Rattle.dagcbor.specs.Fault.{fault_of};
 ghost use Rattle.dagcbor.specs.View.{view, view_items, view_fields};
 ghost use Rattle.dagcbor.specs.Majors.{major_view};
@@ -35,22 +35,39 @@ fn key<'a>(before: Option<&str>, bytes: &'a [u8]) -> Result<(&'a str, &'a [u8]),
     }
 }
 
+/// A map's first key, and the bytes after it.
+#[inline(always)]
+fn first_key(bytes: &[u8]) -> Result<(&str, &[u8]), CborFault>
+    ensures { Gives (λ x. (x.0.now, x.1.now)) fault_of result (key_of None bytes.now) }
+{
+    let (n, rest) = head_of(Major::TextString as u8, CborFault::KeyNotText, bytes)?;
+    text(n, rest)
+}
+
 /// The whole number n, and the bytes after its head.
-fn unsigned(n: u64, bytes: &[u8]) -> Result<(i64, &[u8]), CborFault>
-    ensures { Gives (λ x. (Integer x.0, x.1.now)) fault_of result (integer_of pos n bytes.now) }
+#[inline(always)]
+fn unsigned<'a, A: Allocator>(
+    n: u64,
+    bytes: &'a [u8],
+) -> Result<(Value<'a, A>, &'a [u8]), CborFault>
+    ensures { Gives (λ x. (view x.0, x.1.now)) fault_of result (integer_of pos n bytes.now) }
 {
     match i64::try_from(n) {
-        Ok(z) => Ok((z, bytes)),
+        Ok(z) => Ok((Value::Int(z), bytes)),
         Err(_) => Err(CborFault::IntegerRange),
     }
 }
 
 /// The whole number -1 - n, and the bytes after its head.
-fn negative(n: u64, bytes: &[u8]) -> Result<(i64, &[u8]), CborFault>
-    ensures { Gives (λ x. (Integer x.0, x.1.now)) fault_of result (integer_of negsuc n bytes.now) }
+#[inline(always)]
+fn negative<'a, A: Allocator>(
+    n: u64,
+    bytes: &'a [u8],
+) -> Result<(Value<'a, A>, &'a [u8]), CborFault>
+    ensures { Gives (λ x. (view x.0, x.1.now)) fault_of result (integer_of negsuc n bytes.now) }
 {
     match i64::try_from(n) {
-        Ok(z) => Ok((-1 - z, bytes)),
+        Ok(z) => Ok((Value::Int(-1 - z), bytes)),
         Err(_) => Err(CborFault::IntegerRange),
     }
 }
@@ -94,14 +111,8 @@ fn content<'a, A: Allocator + Copy>(
         (content_of (within levels) (major_view major) n bytes.now) }
 {
     match major {
-        Major::UnsignedInteger => {
-            let (z, rest) = unsigned(n, bytes)?;
-            Ok((Value::Int(z), rest))
-        }
-        Major::NegativeInteger => {
-            let (z, rest) = negative(n, bytes)?;
-            Ok((Value::Int(z), rest))
-        }
+        Major::UnsignedInteger => unsigned(n, bytes),
+        Major::NegativeInteger => negative(n, bytes),
         Major::ByteString => {
             let (content, rest) = front(n, bytes)?;
             Ok((Value::Bytes(content), rest))
@@ -112,17 +123,26 @@ fn content<'a, A: Allocator + Copy>(
         }
         Major::Array => list(alloc, levels, n, bytes),
         Major::Map => map(alloc, levels, n, bytes),
-        Major::Tag => {
-            let (cid, rest) = link(n, bytes)?;
-            Ok((Value::Link(cid), rest))
-        }
+        Major::Tag => tagged(n, bytes),
         Major::SimpleValue => Ok((simple_value(n), bytes)),
     }
 }
 
+/// A link behind the head of its tag, and the bytes after it.
+#[inline(always)]
+fn tagged<'a, A: Allocator>(
+    tag: u64,
+    bytes: &'a [u8],
+) -> Result<(Value<'a, A>, &'a [u8]), CborFault>
+    ensures { Gives (λ x. (view x.0, x.1.now)) fault_of result (link_of tag bytes.now) }
+{
+    let (cid, rest) = link(tag, bytes)?;
+    Ok((Value::Link(cid), rest))
+}
+
 /// A list of `n` items, and the bytes after it.
 #[cycle(value)]
-#[inline(never)]
+#[inline(always)]
 fn list<'a, A: Allocator + Copy>(
     alloc: A,
     levels: u8,
@@ -141,7 +161,7 @@ fn list<'a, A: Allocator + Copy>(
 
 /// A map of `n` pairs, and the bytes after it.
 #[cycle(value)]
-#[inline(never)]
+#[inline(always)]
 fn map<'a, A: Allocator + Copy>(
     alloc: A,
     levels: u8,
@@ -158,9 +178,46 @@ fn map<'a, A: Allocator + Copy>(
     Ok((Value::Map(fields), rest))
 }
 
-/// `n` values one after the other, and the bytes after them.
+/// A map of one pair, and the bytes after it.
 #[cycle(value)]
 #[inline(always)]
+fn map_of_one<'a, A: Allocator + Copy>(
+    alloc: A,
+    levels: u8,
+    bytes: &'a [u8],
+) -> Result<(Value<'a, A>, &'a [u8]), CborFault>
+    ensures { Gives (λ x. (view x.0, x.1.now)) fault_of result
+        (content_of (within levels) Map 1 bytes.now) }
+{
+    if levels == 0 {
+        return Err(CborFault::TooDeep);
+    }
+    let (fields, rest) = one_field(alloc, levels - 1, bytes)?;
+    Ok((Value::Map(fields), rest))
+}
+
+/// An item of a list, and the bytes after it: as `value`, but a map of one pair, the densest item that takes memory, is
+/// read in place.
+#[cycle(value)]
+#[inline(always)]
+fn item<'a, A: Allocator + Copy>(
+    alloc: A,
+    levels: u8,
+    bytes: &'a [u8],
+) -> Result<(Value<'a, A>, &'a [u8]), CborFault>
+    ensures { Gives (λ x. (view x.0, x.1.now)) fault_of result (value_at levels bytes.now) }
+{
+    let ((major, n), rest) = head(bytes)?;
+    if major == Major::Map as u8 && n == 1 {
+        map_of_one(alloc, levels, rest)
+    } else {
+        content(alloc, levels, major_of(major), n, rest)
+    }
+}
+
+/// `n` values one after the other, and the bytes after them.
+#[cycle(value)]
+#[inline(never)]
 fn items<'a, A: Allocator + Copy>(
     alloc: A,
     levels: u8,
@@ -173,7 +230,7 @@ fn items<'a, A: Allocator + Copy>(
     let mut items = Vec::new(alloc);
     let mut rest = bytes;
     for _turn in 0..n {
-        let (item, after) = value(alloc, levels, rest)?;
+        let (item, after) = item(alloc, levels, rest)?;
         make_room(&mut items, n, after)?;
         items.push(item)?;
         rest = after;
@@ -183,7 +240,7 @@ fn items<'a, A: Allocator + Copy>(
 
 /// `n` keys in order, each with a value, and the bytes after them.
 #[cycle(value)]
-#[inline(always)]
+#[inline(never)]
 fn fields<'a, A: Allocator + Copy>(
     alloc: A,
     levels: u8,
@@ -207,11 +264,29 @@ fn fields<'a, A: Allocator + Copy>(
     Ok((fields, rest))
 }
 
+/// A key and a value, and the bytes after them.
+#[cycle(value)]
+#[inline(always)]
+fn one_field<'a, A: Allocator + Copy>(
+    alloc: A,
+    levels: u8,
+    bytes: &'a [u8],
+) -> Result<(Vec<(&'a str, Value<'a, A>), A>, &'a [u8]), CborFault>
+    ensures { Gives (λ x. (view_fields x.0.items, x.1.now)) fault_of result
+        (fields_at (value_at levels) None 1 bytes.now) }
+{
+    let (key, after) = first_key(bytes)?;
+    let (value, rest) = value(alloc, levels, after)?;
+    let mut fields = Vec::with_capacity(alloc, 1)?;
+    fields.push((key, value))?;
+    Ok((fields, rest))
+}
+
 /// The value that these bytes are the spelling of (IPLD DAG-CBOR, strictness). Its bytes and texts are slices of `bytes`.
 ///
 /// Any other error than `NoMemory` says that the bytes are no value's spelling, and is the first fault from the left.
 /// Lists and maps may lie `MAX_DEPTH` levels deep; a deeper one is `TooDeep`. No memory is asked for by a number alone that
-/// the bytes state: a list or map takes room when its first item has been read, and then for few at once.
+/// the bytes state: a list or map takes room when its first item has been read, and then for 128 items at once at most.
 #[tactic(auto, unfolding(spec::specs::DagCbor::read))]
 pub fn read<'a, A: Allocator + Copy>(alloc: A, bytes: &'a [u8]) -> Result<Value<'a, A>, CborFault>
     ensures read { Gives view fault_of result (read bytes.now) }

@@ -4,8 +4,8 @@ ghost use Rattle.std.specs.Prelude.{◌≡◌};
 
 use std::alloc::{AllocError, Allocator};
 
-/// For how many items room is made at once, at most.
-const MOST_AT_ONCE: u64 = 16;
+/// For how many items room is made at once, at most: no more than 6 KB, and most lists of a record take one request.
+const MOST_AT_ONCE: u64 = 128;
 
 /// Makes room for the items of a list that is empty as yet, when the first has been read: for as many as are stated, but at
 /// most for `MOST_AT_ONCE`, and for no more than it and the bytes that are left can be, as each takes a byte or more. So a
@@ -21,7 +21,9 @@ pub(crate) fn make_room<T, A: Allocator>(
     if !items.is_empty() {
         return Ok(());
     }
-    let possible = (left.len() as u64).saturating_add(1);
-    let room = stated.min(possible).min(MOST_AT_ONCE);
-    items.reserve_exact(room as usize)
+    let more = stated
+        .saturating_sub(1)
+        .min(left.len() as u64)
+        .min(MOST_AT_ONCE - 1);
+    items.reserve_exact(1 + more as usize)
 }

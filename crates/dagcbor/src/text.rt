@@ -9,7 +9,7 @@ use crate::fault::CborFault;
 use crate::head::front;
 
 /// A text of `n` bytes of UTF-8, and the bytes after it. Most texts are ASCII, which takes a few words of eight bytes to see.
-#[inline]
+#[inline(always)]
 pub(crate) fn text(n: u64, bytes: &[u8]) -> Result<(&str, &[u8]), CborFault>
     ensures { Gives (λ x. (x.0.now, x.1.now)) fault_of result (text_of n bytes.now) }
 {

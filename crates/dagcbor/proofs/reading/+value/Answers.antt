@@ -2,7 +2,7 @@ use Rattle.std.proofs.Common.{◌≡◌, ℕ, ◌+◌, ◌-◌, ◌++◌, [], �
 use Rattle.std.specs.Prelude.{option_map}
 use Rattle.std.proofs.lemmas.Result.{err_from_is_err_and}
 use Rattle.spec.specs.Reading.{◌>>=◌}
-use Rattle.spec.specs.Head.{CborFault, Major, major_of, head_at}
+use Rattle.spec.specs.Head.{CborFault, Major, Map, major_of, head_at}
 use Rattle.spec.specs.DagCbor.{Value, items_at, fields_at, content_of, value_at}
 use Rattle.dagcbor.specs.Levels.{within}
 use Rattle.dagcbor.specs.Fault.{fault_of}
@@ -24,6 +24,30 @@ value-returns-in_err-major g t c =
 
 pub value-returns : goal.value-returns
 value-returns g t c =
+    let here : head_at c.args.bytes.now ≡ Ok ((c.in_ok-major.major, c.in_ok-major.n), c.in_ok-major.rest.now) = c.in_ok-major.ensures.read in
+    let go : Head → Reading = λ r. r >>= λ h. content_of (within c.args.levels) (major_of h.0.0) h.0.1 h.1 in
+    let kind : Major → Reading = λ m. content_of (within c.args.levels) m c.in_ok-major.n c.in_ok-major.rest.now in
+    Gives-same _ fault_of c.content.result _ _ (value_at-is c.args.levels c.args.bytes.now ∙ ap go here ∙ ap kind (sym c.major_of.ensures)) c.content.ensures
+
+pub item-returns-in_err-major : goal.item-returns-in_err-major
+item-returns-in_err-major g t c =
+    let p = err_from_is_err_and c.from_residual.result c.from_residual.ensures.1 in
+    let e = c.in_err-major.field-0.0 in
+    Gives-at_err _ fault_of e c.from_residual.result _ (p.1 ∙ ap Err p.2)
+    (Fails-same (fault_of e) _ _ (value_at-is c.args.levels c.args.bytes.now) (Fails-then (fault_of e) (head_at c.args.bytes.now) _ (c.in_err-major.ensures.read)))
+
+pub item-returns-then-n-eq1 : goal.item-returns-then-n-eq1
+item-returns-then-n-eq1 g t c =
+    let here : head_at c.args.bytes.now ≡ Ok ((c.in_ok-major.major, c.in_ok-major.n), c.in_ok-major.rest.now) = c.in_ok-major.ensures.read in
+    let is_map : c.in_ok-major.major ≡ 5 = omega arith in
+    let is_one : c.in_ok-major.n ≡ 1 = omega arith in
+    let go : Head → Reading = λ r. r >>= λ h. content_of (within c.args.levels) (major_of h.0.0) h.0.1 h.1 in
+    let kind : ℕ → Reading = λ m. content_of (within c.args.levels) (major_of m) c.in_ok-major.n c.in_ok-major.rest.now in
+    let count : ℕ → Reading = λ n. content_of (within c.args.levels) Map n c.in_ok-major.rest.now in
+    Gives-same _ fault_of c.map_of_one.result _ _ (value_at-is c.args.levels c.args.bytes.now ∙ ap go here ∙ ap kind is_map ∙ ap count is_one) c.map_of_one.ensures
+
+pub item-returns-else-major : goal.item-returns-else-major
+item-returns-else-major g t c =
     let here : head_at c.args.bytes.now ≡ Ok ((c.in_ok-major.major, c.in_ok-major.n), c.in_ok-major.rest.now) = c.in_ok-major.ensures.read in
     let go : Head → Reading = λ r. r >>= λ h. content_of (within c.args.levels) (major_of h.0.0) h.0.1 h.1 in
     let kind : Major → Reading = λ m. content_of (within c.args.levels) m c.in_ok-major.n c.in_ok-major.rest.now in
