@@ -3,7 +3,8 @@
 ghost use Rattle.std.specs.Prelude.{◌≡◌, ◌≤◌, ◌<◌, ◌+◌, ◌++◌, ◌∷◌, [], ℕ, List, Some, Ok, length, option_map, IfOk, IfErr, OnOk, OnErr};
 ghost use Rattle.std.specs.Arc.{arc_value};
 ghost use Rattle.edit.specs.Walks.{pairs_given};
-ghost use Rattle.spec.specs.States.{IsLawful, fresh, after_batch, state_root, state_commit, state_test};
+ghost use Rattle.spec.specs.States.{IsLawful, fresh, after_batch, state_blocks, state_root, state_commit, state_test};
+ghost use Rattle.edit_laws.specs.Uses.{uses as uses_of};
 ghost use Rattle.spec.specs.Stamps.{last, rev_of};
 ghost use Rattle.kept.specs.Uses.{used_blocks};
 ghost use Rattle.repo.specs.Ending.{IsEnded};
@@ -175,6 +176,16 @@ impl<D: Digest, const B: u8, A: Allocator> Core<D, B, A> {
     {
         let _ = &self.root;
         self.kept.block(cid)
+    }
+
+    /// How often the block of this CID stands among its blocks, as a record does under several keys: 0 where it has none. It
+    /// takes no memory.
+    pub fn uses(&self, cid: &Cid) -> u64
+        ensures value { result ≡ uses_of D.digest_of cid.now (state_blocks D.digest_of B self.now) }
+        ensures lawful { IsLawful self.now }
+    {
+        let _ = &self.root;
+        self.kept.uses(cid)
     }
 
     /// The record of a key, or `None` where there is none. It takes any key and no memory.

@@ -209,6 +209,10 @@ fn is_read<D: Digest, const B: u8, A: Allocator>(
     has_commit
         && core.block(&core.root()).is_some()
         && (core.me(), core.limit(), core.number()) == (7, 2000, 6)
+        && (
+            core.uses(&core.root()),
+            core.uses(&Cid::of::<D>(b"another")),
+        ) == (1, 0)
         && held(shard, core) == Some(9)
 }
 
