@@ -1,7 +1,7 @@
 -- What is written over a source that has a repository's blocks is the repository's CAR.
 use Rattle.std.proofs.Common.{◌≡◌, ℕ, zero, suc, true, false, cond, List, [], ◌∷◌, ◌++◌, refl, sym, ap, ◌∙◌, append_assoc, arith, Option, None}
 use Rattle.std.specs.declared.option.Option.TheVariants.{Some}
-use Rattle.std.specs.Prelude.{Contains, option_and_then}
+use Rattle.std.specs.Prelude.{Contains, nat_lt, option_and_then}
 use Rattle.std.specs.List.{cons_option, flat_map}
 use Rattle.std.specs.Cmp.Lexicographic.{slice_cmp, nat_list_cmp_total}
 use Rattle.std.specs.Ordering.{nat_cmp, is_lt, is_eq, eq_by_cmp, ordering_reverse}
@@ -9,6 +9,7 @@ use Rattle.std.specs.declared.cmp.Ordering.{Ordering}
 use Rattle.std.specs.declared.cmp.Ordering.TheVariants.{Less, Equal, Greater}
 use Rattle.std.specs.FinMap.{find, is_sorted}
 use Rattle.std.specs.FinMap.Entries.{below_all}
+use Rattle.std.proofs.lemmas.Bool.{ltb-false}
 use Rattle.std.proofs.lemmas.Cmp.{tied_itself}
 use Rattle.spec.specs.Cid.{cid, IsDigest}
 use Rattle.spec.specs.Layer.{layer}
@@ -34,7 +35,9 @@ use Rattle.edit_laws.proofs.OverSource.{shape_of_bytes-shape_bytes}
 use Rattle.edit_laws.proofs.Within.{AllWithin, IsWithin}
 use Rattle.edit.specs.Steps.{layers}
 use Rattle.edit.specs.Trees.{HasTree}
-use Rattle.export.specs.Walks.{blocks_at, car_met, cids_from, cids_in, cids_of, commit_block}
+use Rattle.export.specs.Walks.{blocks_at, blocks_met, car_met, cids_from, cids_in, cids_of, commit_block}
+use Rattle.export.specs.Once.{AreSingle}
+use Rattle.edit_laws.specs.Uses.{uses}
 
 flat-append : {X Y : Type 0} (f : X → List Y) (xs ys : List X) → flat_map f (xs ++ ys) ≡ flat_map f xs ++ flat_map f ys
 flat-append f [] ys = refl
@@ -160,13 +163,29 @@ module _ (digest : List ℕ → List ℕ) (gives : List ℕ → Option (List ℕ
         (given-top bits fits es tree.pairs tree.nodes)
         (rw (pairs-top (layer digest bits) es) of-records)
 
-    pub car-is : car_met digest gives (layers bits) (state_commit digest bits s) (state_root digest bits s) ≡ state_car digest bits s
-    car-is =
-        ap (λ bs. car_of digest (car_root (state_commit digest bits s) (state_root digest bits s)) (bs ++ blocks_at gives (cids_from (shown_by gives) (layers bits) (Some (state_root digest bits s))))) of-commit
-        ∙ ap (λ bs. car_of digest (car_root (state_commit digest bits s) (state_root digest bits s)) (further ++ bs)) of-tree
+    blocks-is : blocks_met gives (layers bits) (state_commit digest bits s) (state_root digest bits s) ≡ state_blocks digest bits s
+    blocks-is =
+        ap (λ bs. bs ++ blocks_at gives (cids_from (shown_by gives) (layers bits) (Some (state_root digest bits s)))) of-commit
+        ∙ ap (λ bs. further ++ bs) of-tree
 
-    -- what is written where the root and the commit are asked for first
-    pub car-met : (commit : Option (List ℕ)) (root : List ℕ) → commit ≡ state_commit digest bits s → root ≡ state_root digest bits s
-        → car_met digest gives (layers bits) commit root ≡ state_car digest bits s
-    car-met commit root e f =
-        ap (λ c. car_met digest gives (layers bits) c root) e ∙ ap (λ r. car_met digest gives (layers bits) (state_commit digest bits s) r) f ∙ car-is
+    car-is : car_met digest gives (layers bits) (state_commit digest bits s) (state_root digest bits s) ≡ state_car digest bits s
+    car-is = ap (car_of digest (car_root (state_commit digest bits s) (state_root digest bits s))) blocks-is
+
+    module _ (commit : Option (List ℕ)) (root : List ℕ) (e : commit ≡ state_commit digest bits s) (f : root ≡ state_root digest bits s) where
+      -- what is written where the root and the commit are asked for first
+      pub car-met : car_met digest gives (layers bits) commit root ≡ state_car digest bits s
+      car-met =
+          ap (λ c. car_met digest gives (layers bits) c root) e
+          ∙ ap (λ r. car_met digest gives (layers bits) (state_commit digest bits s) r) f ∙ car-is
+
+      blocks-met : blocks_met gives (layers bits) commit root ≡ state_blocks digest bits s
+      blocks-met =
+          ap (λ c. blocks_met gives (layers bits) c root) e
+          ∙ ap (λ r. blocks_met gives (layers bits) (state_commit digest bits s) r) f ∙ blocks-is
+
+      -- what a repository uses no more than once stands there no more than once
+      pub single-met : AreSingle digest (λ c. nat_lt 1 (uses digest c (state_blocks digest bits s))) (blocks_met gives (layers bits) commit root)
+      single-met c h =
+          let k = ap (uses digest c) blocks-met in
+          let l = ltb-false 1 (uses digest c (state_blocks digest bits s)) h in
+          omega arith

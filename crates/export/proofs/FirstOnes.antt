@@ -1,11 +1,13 @@
 -- Blocks of which each CID is written once.
-use Rattle.std.proofs.Common.{◌≡◌, ◌&&◌, ◌||◌, ℕ, Bool, true, false, not, cond, List, [], ◌∷◌, ◌++◌, refl, sym, ap, ◌∙◌, append-nil, append_assoc}
-use Rattle.std.specs.Prelude.{filter}
+use Rattle.std.proofs.Common.{◌≡◌, ◌&&◌, ◌||◌, ℕ, Bool, true, false, not, cond, List, [], ◌∷◌, ◌++◌, refl, sym, ap, ◌∙◌, append-nil, append_assoc, arith}
+use Rattle.std.specs.Prelude.{Contains, filter}
 use Rattle.std.specs.List.{flat_map}
 use Rattle.std.specs.Str.{bytes_eq}
 use Rattle.spec.specs.Cid.{cid}
 use Rattle.spec.specs.Blocks.{firsts}
 use Rattle.spec.specs.Car.{section}
+use Rattle.spec.proofs.RootLaws.{in_head, in_tail}
+use Rattle.edit_laws.proofs.Lists.{contains-counted, counted-contains, firsts-from}
 use Rattle.export.specs.Once.{has, HasMore, fresh, sections, section_once}
 
 one-more : (b has : Bool) → cond b true has ≡ (b || has)
@@ -28,9 +30,11 @@ both-at p b xs ys false y e h = h ∙ sym (ap (λ t. kept t b ys) e)
 both-at p b xs ys true y e h = ap (λ t. kept (p b) b t) h ∙ sym (ap (λ t. kept t b ys) e)
 
 -- two tests in a row are one test
-filter-both : (p q r : List ℕ → Bool) → ((b : List ℕ) → r b ≡ (q b && p b)) → (bs : List (List ℕ)) → filter p (filter q bs) ≡ filter r bs
-filter-both p q r h [] = refl
-filter-both p q r h (b ∷ bs) = both-at p b (filter q bs) (filter r bs) (q b) (r b) (h b) (filter-both p q r h bs)
+filter-both : (p q r : List ℕ → Bool) (bs : List (List ℕ)) → ((b : List ℕ) → Contains bs b → r b ≡ (q b && p b))
+    → filter p (filter q bs) ≡ filter r bs
+filter-both p q r [] h = refl
+filter-both p q r (b ∷ bs) h =
+    both-at p b (filter q bs) (filter r bs) (q b) (r b) (h b (in_head b bs)) (filter-both p q r bs (λ x i. h x (in_tail b x bs i)))
 
 filter-none : (bs : List (List ℕ)) → filter (λ b. true) bs ≡ bs
 filter-none [] = refl
@@ -43,20 +47,32 @@ not-or : (a b : Bool) → not (a || b) ≡ (not a && not b)
 not-or true b = refl
 not-or false b = refl
 
+-- of the CIDs of these blocks there is this one more
+abbrev pub HasMoreAmong : (List ℕ → List ℕ) → List (List ℕ) → List (List ℕ) → List ℕ → List (List ℕ) → Type 0
+HasMoreAmong digest bs old c new =
+    (x : List ℕ) → Contains bs x → has new (cid digest x) ≡ bytes_eq c (cid digest x) || has old (cid digest x)
+
+first-in : (mark : List ℕ → List ℕ) (bs : List (List ℕ)) (x : List ℕ) → Contains (firsts mark bs) x → Contains bs x
+first-in mark bs x h =
+    let i = counted-contains x (firsts mark bs) h in
+    let j = firsts-from mark x bs in
+    contains-counted x bs (omega arith)
+
 -- one block more: it is written unless its CID came before
-fresh-more : (digest : List ℕ → List ℕ) (old new : List (List ℕ)) (b : List ℕ) (bs : List (List ℕ)) → HasMore old (cid digest b) new
+fresh-more : (digest : List ℕ → List ℕ) (old new : List (List ℕ)) (b : List ℕ) (bs : List (List ℕ)) → HasMoreAmong digest bs old (cid digest b) new
     → fresh digest old (b ∷ bs) ≡ kept (not (has old (cid digest b))) b (fresh digest new bs)
 fresh-more digest old new b bs more =
     ap (kept (not (has old (cid digest b))) b)
     (filter-both (λ x. not (has old (cid digest x))) (λ x. not (bytes_eq (cid digest b) (cid digest x))) (λ x. not (has new (cid digest x)))
-    (λ x. ap not (more (cid digest x)) ∙ not-or (bytes_eq (cid digest b) (cid digest x)) (has old (cid digest x))) (firsts (cid digest) bs))
+    (firsts (cid digest) bs)
+    (λ x i. ap not (more x (first-in (cid digest) bs x i)) ∙ not-or (bytes_eq (cid digest b) (cid digest x)) (has old (cid digest x))))
 
 flat-kept : (f : List ℕ → List ℕ) (t : Bool) (b : List ℕ) (bs : List (List ℕ))
     → flat_map f (kept (not t) b bs) ≡ cond t [] (f b) ++ flat_map f bs
 flat-kept f true b bs = refl
 flat-kept f false b bs = refl
 
-pub sections-more : (digest : List ℕ → List ℕ) (old new : List (List ℕ)) (b : List ℕ) (bs : List (List ℕ)) → HasMore old (cid digest b) new
+pub sections-more : (digest : List ℕ → List ℕ) (old new : List (List ℕ)) (b : List ℕ) (bs : List (List ℕ)) → HasMoreAmong digest bs old (cid digest b) new
     → sections digest old (b ∷ bs) ≡ section_once digest old b ++ sections digest new bs
 sections-more digest old new b bs more =
     ap (flat_map (section digest)) (fresh-more digest old new b bs more)

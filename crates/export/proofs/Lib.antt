@@ -7,6 +7,7 @@ pub mod OneNode
 pub mod Paths
 pub mod Sectioned
 pub mod Shown
+pub mod Singles
 pub mod Spelled
 pub mod Walked
 pub mod WholeFile

@@ -1,5 +1,5 @@
 -- Sections that are written one after the other.
-use Rattle.std.proofs.Common.{◌≡◌, ℕ, ◌+◌, ◌-◌, ◌^◌, ◌<◌, List, [], ◌∷◌, ◌++◌, length, Option, option_map, Result, Ok, Err, min, sym, ap, subst, ◌∙◌, arith}
+use Rattle.std.proofs.Common.{◌≡◌, ℕ, ◌+◌, ◌-◌, ◌^◌, ◌<◌, Bool, List, [], ◌∷◌, ◌++◌, length, Option, option_map, Result, Ok, Err, min, sym, ap, subst, ◌∙◌, arith}
 use Rattle.std.specs.Prelude.{IfOk, IsErr, OnOk}
 use Rattle.std.specs.declared.option.Option.TheVariants.{Some, None}
 use Rattle.std.proofs.lemmas.List.{append-nil, length-append}
@@ -9,11 +9,12 @@ use Rattle.spec.specs.Blocks.{firsts}
 use Rattle.spec.specs.Car.{header, section}
 use Rattle.spec.specs.Commits.{car_root}
 use Rattle.edit_laws.specs.Sources.{shown_by}
-use Rattle.export.specs.Once.{has, HasMore, capped, sections, section_once}
+use Rattle.export.specs.Once.{AreSingle, GoesOn, HasNoted, capped, sections, section_once}
 use Rattle.export.specs.Outs.{Leaves, TakesBeginning, Takes}
-use Rattle.export.specs.Walks.{Walking, GoesBy, blocks_at, car_met, cids_from, cids_left, commit_block, sections_left}
-use Rattle.export.proofs.FirstOnes.{fresh-all, sections-front, later, alone-section, sections-more, sections-later}
+use Rattle.export.specs.Walks.{Walking, GoesBy, blocks_at, blocks_left, blocks_met, car_met, cids_from, cids_left, commit_block, sections_left}
+use Rattle.export.proofs.FirstOnes.{HasMoreAmong, fresh-all, sections-front, later, alone-section, sections-more, sections-later}
 use Rattle.export.proofs.Leaving.{leaves-same, leaves-less, stops}
+use Rattle.export.proofs.Singles.{noted-more, single-later}
 
 module _ (digest : List ℕ → List ℕ) (gives : List ℕ → Option (List ℕ)) where
   -- one CID
@@ -22,20 +23,29 @@ module _ (digest : List ℕ → List ℕ) (gives : List ℕ → Option (List ℕ
   shorter old new o by = let e = ap length by.left in omega arith
 
   blocks-by : (old new : Walking) (o : Option (List ℕ)) (by : GoesBy gives old new o)
-      → blocks_at gives (cids_left (shown_by gives) old) ≡ cons_option o [] ++ blocks_at gives (cids_left (shown_by gives) new)
+      → blocks_left gives old ≡ cons_option o [] ++ blocks_left gives new
   blocks-by old new o by =
-      ap (blocks_at gives) by.left ∙ ap (λ x. cons_option x [] ++ blocks_at gives (cids_left (shown_by gives) new)) by.given
+      ap (blocks_at gives) by.left ∙ ap (λ x. cons_option x [] ++ blocks_left gives new) by.given
+
+  -- what is left stands once as before
+  pub single-left : (may_repeat : List ℕ → Bool) (old new : Walking) (o : Option (List ℕ)) → GoesBy gives old new o
+      → AreSingle digest may_repeat (blocks_left gives old) → AreSingle digest may_repeat (blocks_left gives new)
+  single-left may_repeat old new o by s =
+      single-later digest may_repeat (cons_option o []) (blocks_left gives new)
+      (subst (AreSingle digest may_repeat) (blocks-by old new o by) s)
 
   pub left-missing : (cids : List (List ℕ)) (old new : Walking) → GoesBy gives old new None
       → sections_left digest gives cids old ≡ sections_left digest gives cids new
   left-missing cids old new by = ap (sections digest cids) (blocks-by old new None by)
 
-  pub left-found : (cids more : List (List ℕ)) (old new : Walking) (b : List ℕ) → GoesBy gives old new (Some b)
-      → HasMore cids (cid digest b) more
+  pub left-found : (may_repeat : List ℕ → Bool) (cids more : List (List ℕ)) (old new : Walking) (b : List ℕ) → GoesBy gives old new (Some b)
+      → AreSingle digest may_repeat (blocks_left gives old) → HasNoted may_repeat cids (cid digest b) more
       → sections_left digest gives cids old ≡ section_once digest cids b ++ sections_left digest gives more new
-  left-found cids more old new b by has =
-      ap (sections digest cids) (blocks-by old new (Some b) by)
-      ∙ sections-more digest cids more b (blocks_at gives (cids_left (shown_by gives) new)) has
+  left-found may_repeat cids more old new b by s noted =
+      let e = blocks-by old new (Some b) by in
+      ap (sections digest cids) e
+      ∙ sections-more digest cids more b (blocks_left gives new)
+      (noted-more digest may_repeat b (blocks_left gives new) (subst (AreSingle digest may_repeat) e s) cids more noted)
 
   pub left-end : (cids : List (List ℕ)) (w : Walking) → cids_left (shown_by gives) w ≡ [] → sections_left digest gives cids w ≡ []
   left-end cids w e = ap (λ cs. sections digest cids (blocks_at gives cs)) e
@@ -51,11 +61,10 @@ ends-same {X = X} view was is w same h = subst (λ (f : List ℕ → Option X). 
 
 -- ---- a block by itself
 
-pub one-block : (digest : List ℕ → List ℕ) (cids more : List (List ℕ)) (b : List ℕ) (bs : List (List ℕ)) → HasMore cids (cid digest b) more
+pub one-block : (digest : List ℕ → List ℕ) (cids more : List (List ℕ)) (b : List ℕ) (bs : List (List ℕ)) → HasMoreAmong digest bs cids (cid digest b) more
     → sections digest cids (b ∷ bs) ≡ sections digest cids (b ∷ []) ++ sections digest more bs
 one-block digest cids more b bs has =
-    sections-more digest cids more b bs has
-    ∙ ap (λ t. t ++ sections digest more bs) (sym (append-nil (section_once digest cids b)) ∙ sym (sections-more digest cids more b [] has))
+    sections-more digest cids more b bs has ∙ ap (λ t. t ++ sections digest more bs) (alone-section digest cids b)
 
 -- a commit that a source has
 pub commit-some : (gives : List ℕ → Option (List ℕ)) (commit : Option (List ℕ)) (c b : List ℕ) → commit ≡ Some c → gives c ≡ Some b
@@ -74,17 +83,18 @@ module _ (digest : List ℕ → List ℕ) (cids : List (List ℕ)) (found : List
       → IfOk r (λ n. n ≡ length (sections digest cids found))
   commit-length r h = subst (λ t. IfOk r (λ n. n ≡ length t)) commit-section h
 
-  one-more : (more : List (List ℕ)) → HasMore cids (cid digest x) more → (bs : List (List ℕ))
-      → sections digest cids (found ++ bs) ≡ sections digest cids found ++ sections digest more bs
-  one-more more has bs =
-      let at = subst (λ t. HasMore cids (cid digest t) more) is has in
-      ap (λ f. sections digest cids (f ++ bs)) e ∙ one-block digest cids more b bs at
+  one-more : (may_repeat : List ℕ → Bool) (more : List (List ℕ)) → HasNoted may_repeat cids (cid digest x) more
+      → GoesOn digest may_repeat cids found more
+  one-more may_repeat more noted bs s =
+      let at = subst (λ t. HasNoted may_repeat cids (cid digest t) more) is noted in
+      let single = subst (λ f. AreSingle digest may_repeat (f ++ bs)) e s in
+      ap (λ f. sections digest cids (f ++ bs)) e ∙ one-block digest cids more b bs (noted-more digest may_repeat b bs single cids more at)
       ∙ ap (λ f. sections digest cids f ++ sections digest more bs) (sym e)
 
-  pub commit-seen : {T E : Type 0} (more : List (List ℕ)) (r : Result T E) → OnOk r (HasMore cids (cid digest x) more)
-      → OnOk r ((bs : List (List ℕ)) → sections digest cids (found ++ bs) ≡ sections digest cids found ++ sections digest more bs)
-  commit-seen more (Ok y) h = one-more more h
-  commit-seen more (Err f) h = tt
+  pub commit-seen : {T E : Type 0} (may_repeat : List ℕ → Bool) (more : List (List ℕ)) (r : Result T E)
+      → OnOk r (HasNoted may_repeat cids (cid digest x) more) → OnOk r (GoesOn digest may_repeat cids found more)
+  commit-seen may_repeat more (Ok y) h = one-more may_repeat more h
+  commit-seen may_repeat more (Err f) h = tt
 
 -- ---- numbers of bytes
 
@@ -97,26 +107,27 @@ count-end written rest all h e f = omega arith
 
 -- ---- one block is written
 
-module _ (digest : List ℕ → List ℕ) (gives : List ℕ → Option (List ℕ)) (cids more : List (List ℕ)) (old new : Walking)
-    (b x : List ℕ) (is : x ≡ b) (by : GoesBy gives old new (Some b)) where
-  next : HasMore cids (cid digest x) more
+module _ (digest : List ℕ → List ℕ) (may_repeat : List ℕ → Bool) (gives : List ℕ → Option (List ℕ)) (cids more : List (List ℕ)) (old new : Walking)
+    (b x : List ℕ) (is : x ≡ b) (by : GoesBy gives old new (Some b)) (single : AreSingle digest may_repeat (blocks_left gives old)) where
+  next : HasNoted may_repeat cids (cid digest x) more
       → sections_left digest gives cids old ≡ section_once digest cids x ++ sections_left digest gives more new
-  next has = left-found digest gives cids more old new b by (subst (λ t. HasMore cids (cid digest t) more) is has)
+  next noted =
+      left-found digest gives may_repeat cids more old new b by single (subst (λ t. HasNoted may_repeat cids (cid digest t) more) is noted)
       ∙ ap (λ t. section_once digest cids t ++ sections_left digest gives more new) (sym is)
 
-  pub found-leaves : (first now newer all : List ℕ) → HasMore cids (cid digest x) more
+  pub found-leaves : (first now newer all : List ℕ) → HasNoted may_repeat cids (cid digest x) more
       → Leaves first now all (sections_left digest gives cids old) → newer ≡ now ++ section_once digest cids x
       → Leaves first newer all (sections_left digest gives more new)
-  found-leaves first now newer all has l t =
+  found-leaves first now newer all noted l t =
       leaves-less first now newer all (section_once digest cids x) (sections_left digest gives more new)
-      (leaves-same first now all (sections_left digest gives cids old) _ l (next has)) t
+      (leaves-same first now all (sections_left digest gives cids old) _ l (next noted)) t
 
-  pub found-count : (written part sum all : ℕ) → HasMore cids (cid digest x) more
+  pub found-count : (written part sum all : ℕ) → HasNoted may_repeat cids (cid digest x) more
       → capped (written + length (sections_left digest gives cids old)) ≡ capped all
       → part ≡ length (section_once digest cids x) → sum ≡ min (written + part) (2 ^ 64 - 1)
       → capped (sum + length (sections_left digest gives more new)) ≡ capped all
-  found-count written part sum all has h e f =
-      let size = ap length (next has) ∙ length-append (section_once digest cids x) (sections_left digest gives more new) in
+  found-count written part sum all noted h e f =
+      let size = ap length (next noted) ∙ length-append (section_once digest cids x) (sections_left digest gives more new) in
       count-more written part sum (length (section_once digest cids x)) (length (sections_left digest gives more new)) all
       (ap (λ n. capped (written + n)) (sym size) ∙ h) e f
 
@@ -148,9 +159,12 @@ module _ (digest : List ℕ → List ℕ) (gives : List ℕ → Option (List ℕ
   abbrev others : List (List ℕ)
   others = blocks_at gives (cids_left (shown_by gives) top)
 
+  met-left : blocks_met gives most commit root ≡ found ++ others
+  met-left = ap (λ cs. found ++ blocks_at gives cs) (sym cids-top)
+
   car-sections : car_met digest gives most commit root ≡ header (car_root commit root) ++ sections digest [] (found ++ others)
   car-sections =
-      ap (λ cs. header (car_root commit root) ++ flat_map (section digest) (firsts (cid digest) (found ++ blocks_at gives cs))) (sym cids-top)
+      ap (λ bs. header (car_root commit root) ++ flat_map (section digest) (firsts (cid digest) bs)) met-left
       ∙ ap (λ bs. header (car_root commit root) ++ flat_map (section digest) bs) (sym (fresh-all digest (found ++ others)))
 
   -- what is left after the commit
@@ -159,7 +173,14 @@ module _ (digest : List ℕ → List ℕ) (gives : List ℕ → Option (List ℕ
       let f = sections-front digest [] found others in
       (f.0, car-sections ∙ ap (λ t. header (car_root commit root) ++ t) f.1)
 
-  pub car-parts : (cids : List (List ℕ))
-      → ((bs : List (List ℕ)) → sections digest [] (found ++ bs) ≡ sections digest [] found ++ sections digest cids bs)
-      → car_met digest gives most commit root ≡ header (car_root commit root) ++ (sections digest [] found ++ sections_left digest gives cids top)
-  car-parts cids seen = car-sections ∙ ap (λ t. header (car_root commit root) ++ t) (seen others)
+  module _ (may_repeat : List ℕ → Bool) (single : AreSingle digest may_repeat (blocks_met gives most commit root)) where
+    both-single : AreSingle digest may_repeat (found ++ others)
+    both-single = subst (AreSingle digest may_repeat) met-left single
+
+    -- what a walk is to come to stands once
+    pub single-top : AreSingle digest may_repeat others
+    single-top = single-later digest may_repeat found others both-single
+
+    pub car-parts : (cids : List (List ℕ)) → GoesOn digest may_repeat [] found cids
+        → car_met digest gives most commit root ≡ header (car_root commit root) ++ (sections digest [] found ++ sections_left digest gives cids top)
+    car-parts cids seen = car-sections ∙ ap (λ t. header (car_root commit root) ++ t) (seen others both-single)

@@ -38,11 +38,15 @@ abbrev pub commit_block : (List ℕ → Option (List ℕ)) → Option (List ℕ)
 commit_block gives None = []
 commit_block gives (Some c) = cons_option (gives c) []
 
+-- the block of a commit, and those that a walk from a root on comes to
+abbrev pub blocks_met : (List ℕ → Option (List ℕ)) → ℕ → Option (List ℕ) → List ℕ → List (List ℕ)
+blocks_met gives most commit root =
+    commit_block gives commit ++ blocks_at gives (cids_from (shown_by gives) most (Some root))
+
 -- the CAR of a commit and of what a walk from a root on comes to
 abbrev pub car_met : (List ℕ → List ℕ) → (List ℕ → Option (List ℕ)) → ℕ → Option (List ℕ) → List ℕ → List ℕ
 car_met digest gives most commit root =
-    car_of digest (car_root commit root)
-    (commit_block gives commit ++ blocks_at gives (cids_from (shown_by gives) most (Some root)))
+    car_of digest (car_root commit root) (blocks_met gives most commit root)
 
 -- ---- a walk on its way
 
@@ -83,9 +87,13 @@ abbrev pub cids_left : (List ℕ → Option Shape) → Walking → List (List �
 cids_left shows w =
     cids_from shows (layers_left w) w.link ++ cids_stacked shows (layers_left w) w.stack
 
+-- the blocks of those, as far as a source has them
+abbrev pub blocks_left : (List ℕ → Option (List ℕ)) → Walking → List (List ℕ)
+blocks_left gives w = blocks_at gives (cids_left (shown_by gives) w)
+
 -- the sections that are still to be written, after those of these CIDs
 abbrev pub sections_left : (List ℕ → List ℕ) → (List ℕ → Option (List ℕ)) → List (List ℕ) → Walking → List ℕ
-sections_left digest gives cids w = sections digest cids (blocks_at gives (cids_left (shown_by gives) w))
+sections_left digest gives cids w = sections digest cids (blocks_left gives w)
 
 -- those with what is shown under the link, where the link was taken
 abbrev pub cids_entered : (List ℕ → Option Shape) → Walking → Option Shape → List (List ℕ)

@@ -1,14 +1,15 @@
 //! The sections of a repository's blocks.
 
-ghost use Rattle.std.specs.Prelude.{◌≡◌, ◌++◌, ℕ, List, length, option_map, IfOk, OnOk};
+ghost use Rattle.std.specs.Prelude.{◌≡◌, length, option_map, IfOk, OnOk};
 ghost use Rattle.std.specs.Arc.{arc_value};
-ghost use Rattle.export.specs.Once.{capped, sections};
+ghost use Rattle.export.specs.Once.{capped, sections, AreRepeats, AreSingle, GoesOn};
 ghost use Rattle.export.specs.Outs.{HasCause, Takes};
-ghost use Rattle.export.specs.Walks.{commit_block, sections_left};
+ghost use Rattle.export.specs.Walks.{blocks_left, commit_block, sections_left};
 
 use crate::export_fault::ExportFault;
 use crate::once::write_once;
 use crate::out::Out;
+use crate::repeats::Repeats;
 use crate::seen::Seen;
 use crate::walk::{Step, Walk};
 use cid::{Block, Cid, Digest};
@@ -22,18 +23,25 @@ pub(crate) fn write_commit<
     D: Digest + 'a,
     A: Allocator + Clone + 'a,
     S: Source<Lent<'a, D, A>>,
+    R: Repeats,
     W: Out,
->(src: &mut S, seen: &mut Seen<A>, out: &mut W, commit: Option<Cid>) -> Result<u64, ExportFault>
+>(
+    repeats: &R,
+    src: &mut S,
+    seen: &mut Seen<A>,
+    out: &mut W,
+    commit: Option<Cid>,
+) -> Result<u64, ExportFault>
+    requires { AreRepeats (R.may_repeat repeats.now) seen.now }
     ensures taken { Takes (W.taken out.old) (W.taken out.new) result
         (sections D.digest_of seen.old (commit_block
         (λ c. option_map arc_value (S.gives src.old c)) commit)) }
     ensures length { IfOk result (λ count. count
         ≡ length (sections D.digest_of seen.old
         (commit_block (λ c. option_map arc_value (S.gives src.old c)) commit))) }
-    ensures seen { OnOk result ((bs : List (List ℕ))
-        → let found = commit_block (λ c. option_map arc_value (S.gives src.old c)) commit in
-        sections D.digest_of seen.old (found ++ bs) ≡ sections D.digest_of seen.old found
-        ++ sections D.digest_of seen.new bs) }
+    ensures seen { OnOk result (GoesOn D.digest_of (R.may_repeat repeats.now) seen.old
+        (commit_block (λ c. option_map arc_value (S.gives src.old c)) commit) seen.new) }
+    ensures noted { OnOk result (AreRepeats (R.may_repeat repeats.now) seen.new) }
     ensures cause { HasCause (W.failures out.old) (W.failures out.new) result }
     ensures same { S.gives src.new ≡ S.gives src.old }
 {
@@ -43,7 +51,7 @@ pub(crate) fn write_commit<
     let Some(lent) = src.get(&cid) else {
         return Ok(0);
     };
-    write_once(seen, out, lent.block())
+    write_once(repeats, seen, out, lent.block())
 }
 
 /// Writes the sections of the blocks that a walk is still to come to, and answers how many bytes that are.
@@ -52,8 +60,18 @@ pub(crate) fn write_blocks<
     D: Digest + 'a,
     A: Allocator + Clone + 'a,
     S: Source<Lent<'a, D, A>>,
+    R: Repeats,
     W: Out,
->(src: &mut S, mut walk: Walk<'a, A>, seen: &mut Seen<A>, out: &mut W) -> Result<u64, ExportFault>
+>(
+    repeats: &R,
+    src: &mut S,
+    mut walk: Walk<'a, A>,
+    seen: &mut Seen<A>,
+    out: &mut W,
+) -> Result<u64, ExportFault>
+    requires noted { AreRepeats (R.may_repeat repeats.now) seen.now }
+    requires single { AreSingle D.digest_of (R.may_repeat repeats.now)
+        (blocks_left (λ c. option_map arc_value (S.gives src.now c)) walk) }
     ensures taken { Takes (W.taken out.old) (W.taken out.new) result
         (sections_left D.digest_of (λ c. option_map arc_value (S.gives src.old c)) seen.old
         walk.entry) }
@@ -65,7 +83,9 @@ pub(crate) fn write_blocks<
     let mut written: u64 = 0;
     'steps: loop {
         match walk.step(src)? {
-            Step::Found(block) => written = written.saturating_add(write_once(seen, out, block)?),
+            Step::Found(block) => {
+                written = written.saturating_add(write_once(repeats, seen, out, block)?)
+            }
             Step::Missing => {}
             Step::End => return Ok(written),
         }

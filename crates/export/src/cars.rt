@@ -4,13 +4,14 @@ ghost use Rattle.std.specs.Prelude.{◌≡◌, ◌≤◌, length, option_map, If
 ghost use Rattle.std.specs.Arc.{arc_value};
 ghost use Rattle.spec.specs.Commits.{car_root};
 ghost use Rattle.export.specs.Exports.{TakesCar, car_length};
-ghost use Rattle.export.specs.Once.{capped};
+ghost use Rattle.export.specs.Once.{capped, AreSingle};
 ghost use Rattle.export.specs.Outs.{HasCause, Takes};
-ghost use Rattle.export.specs.Walks.{car_met};
+ghost use Rattle.export.specs.Walks.{blocks_met, car_met};
 
 use crate::blocks::{write_blocks, write_commit};
 use crate::export_fault::ExportFault;
 use crate::out::Out;
+use crate::repeats::{AnyMayRepeat, Repeats};
 use crate::sections::write_header;
 use crate::seen::Seen;
 use crate::walk::Walk;
@@ -40,26 +41,17 @@ pub fn car<D: Digest, const B: u8, A: Allocator + Clone, W: Out>(
 {
     let commit = core.commit();
     let root = core.root();
-    let blocks = expected(core);
     let mut lender = core.lender();
-    car_over(
+    write_car(
         alloc,
-        blocks,
+        core,
+        0,
         &mut lender,
         commit,
         root,
         256 / B as u16 + 1,
         out,
     )
-}
-
-/// How many blocks a repository has. It is only for the room that is made at once, so no clause says so.
-fn expected<D: Digest, const B: u8, A: Allocator>(core: &Core<D, B, A>) -> usize {
-    let mut count: usize = 0;
-    for _ in core.blocks() {
-        count = count.saturating_add(1);
-    }
-    count
 }
 
 /// Writes the CAR of a commit, if there is one, and of the tree with this root, over `most` layers at most: of each
@@ -84,11 +76,42 @@ pub fn car_over<'a, D: Digest + 'a, A: Allocator + Clone + 'a, S: Source<Lent<'a
         (λ c. option_map arc_value (S.gives src.old c)) most commit root))) }
     ensures cause { HasCause (W.failures out.old) (W.failures out.new) result }
 {
-    let mut seen = Seen::with_room(alloc.clone()?, blocks)?;
+    write_car(alloc, &AnyMayRepeat, blocks, src, commit, root, most, out)
+}
+
+/// Writes this CAR where it is known of some of its blocks that they stand once. Of the others the CIDs are noted: room
+/// for so many is made at once.
+fn write_car<
+    'a,
+    D: Digest + 'a,
+    A: Allocator + Clone + 'a,
+    S: Source<Lent<'a, D, A>>,
+    R: Repeats,
+    W: Out,
+>(
+    alloc: A,
+    repeats: &R,
+    room: usize,
+    src: &mut S,
+    commit: Option<Cid>,
+    root: Cid,
+    most: u16,
+    out: &mut W,
+) -> Result<u64, ExportFault>
+    requires { AreSingle D.digest_of (R.may_repeat repeats.now)
+        (blocks_met (λ c. option_map arc_value (S.gives src.now c)) most commit root) }
+    ensures taken { Takes (W.taken out.old) (W.taken out.new) result
+        (car_met D.digest_of (λ c. option_map arc_value (S.gives src.old c)) most commit root) }
+    ensures length { IfOk result (λ count. count
+        ≡ capped (length (car_met D.digest_of
+        (λ c. option_map arc_value (S.gives src.old c)) most commit root))) }
+    ensures cause { HasCause (W.failures out.old) (W.failures out.new) result }
+{
+    let mut seen = Seen::with_room(alloc.clone()?, room)?;
     let walk = Walk::from_top(alloc, root, most);
     let header = write_header(out, &root_of(commit, root))?;
-    let first = write_commit(src, &mut seen, out, commit)?;
-    let others = write_blocks(src, walk, &mut seen, out)?;
+    let first = write_commit(repeats, src, &mut seen, out, commit)?;
+    let others = write_blocks(repeats, src, walk, &mut seen, out)?;
     Ok(header.saturating_add(first).saturating_add(others))
 }
 

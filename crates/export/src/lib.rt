@@ -27,6 +27,7 @@ mod once;
 mod out;
 mod proof_fault;
 mod proving;
+mod repeats;
 mod sections;
 mod seen;
 mod to_memory;

@@ -1,15 +1,16 @@
-//! The CIDs whose sections were written.
+//! The CIDs that were noted when their sections were written.
 
 ghost use Rattle.std.specs.Prelude.{◌≡◌, [], not, IfOk, OnOk};
-ghost use Rattle.export.specs.Once.{has, HasMore};
+ghost use Rattle.export.specs.Once.{has, AreRepeats, HasMore, HasNoted};
 
+use crate::repeats::Repeats;
 use cid::Cid;
 use std::alloc::{AllocError, Allocator};
 use std::collections::HashSet;
 use std::hash::{BuildHasherDefault, FoldHasher};
 use std::marker::Model;
 
-/// The CIDs whose sections were written.
+/// The CIDs that were noted when their sections were written: those that may come again.
 ///
 /// A contract sees it as a list of them.
 #[derive(Drop)]
@@ -36,8 +37,21 @@ impl<A: Allocator + Clone> Seen<A> {
         })
     }
 
+    /// Whether this one is new. It is noted if it may come again: of one that can't it is known without a look, and nobody
+    /// will ask for it.
+    pub(crate) fn note<R: Repeats>(&mut self, repeats: &R, cid: Cid) -> Result<bool, AllocError>
+        requires { AreRepeats (R.may_repeat repeats.now) self.now }
+        ensures new { IfOk result (λ new. new ≡ not (has self.old cid)) }
+        ensures noted { OnOk result (HasNoted (R.may_repeat repeats.now) self.old cid self.new) }
+    {
+        if !repeats.may_repeat(&cid) {
+            return Ok(true);
+        }
+        self.insert(cid)
+    }
+
     /// One more, and whether it is new.
-    pub(crate) fn insert(&mut self, cid: Cid) -> Result<bool, AllocError>
+    fn insert(&mut self, cid: Cid) -> Result<bool, AllocError>
         ensures new { IfOk result (λ new. new ≡ not (has self.old cid)) }
         ensures more { OnOk result (HasMore self.old cid self.new) }
     {

@@ -1,6 +1,8 @@
 use Rattle.std.proofs.Common.{option_map, sym, ap, ◌∙◌}
 use Rattle.std.specs.Arc.{arc_value}
+use Rattle.spec.specs.Cid.{cid}
 use Rattle.export.proofs.Sectioned.{commit-some, commit-taken, commit-length, commit-seen}
+use Rattle.export.proofs.Singles.{repeats-ok}
 use Rattle.export.proofs.blocks.write_commit.Goals as goal
 
 pub returns-clause-taken : goal.returns-clause-taken
@@ -22,4 +24,9 @@ returns-clause-seen g c =
     commit-seen g.D.Digest.digest_of c.args.seen.now _ (arc_value c.in-Some-get.lent) c.deref.result.now (c.deref.ensures ∙ ap arc_value c.block.ensures)
     (commit-some (λ d. option_map arc_value (g.S.Source.gives c.args.src.now d)) c.args.commit c.in-Some.cid (arc_value c.in-Some-get.lent) c.in-Some.is
     (ap (option_map arc_value) (sym c.in-Some-get.ensures.found)))
-    c.write_once.new.seen c.write_once.result c.write_once.ensures.seen
+    (g.R.Repeats.may_repeat c.args.repeats.now) c.write_once.new.seen c.write_once.result c.write_once.ensures.seen
+
+pub returns-clause-noted : goal.returns-clause-noted
+returns-clause-noted g c =
+    repeats-ok (g.R.Repeats.may_repeat c.args.repeats.now) c.args.seen.now c.write_once.new.seen (cid g.D.Digest.digest_of c.deref.result.now)
+    c.write_once.result c.requires c.write_once.ensures.seen

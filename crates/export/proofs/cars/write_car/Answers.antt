@@ -1,7 +1,8 @@
+use Rattle.std.proofs.Common.{refl}
 use Rattle.std.specs.Arc.{arc_value}
 use Rattle.export.proofs.Leaving.{takes-nothing}
-use Rattle.export.proofs.WholeFile.{stops-header, stops-commit, stops-blocks, file-taken, file-length}
-use Rattle.export.proofs.cars.car_over.Goals as goal
+use Rattle.export.proofs.WholeFile.{stops-header, stops-commit, stops-blocks, file-taken, file-length, walked-single}
+use Rattle.export.proofs.cars.write_car.Goals as goal
 
 pub returns-in_err-clone-clause-taken : goal.returns-in_err-clone-clause-taken
 returns-in_err-clone-clause-taken g c =
@@ -27,6 +28,7 @@ returns-in_err-first-clause-taken g c =
 pub returns-in_err-others-clause-taken : goal.returns-in_err-others-clause-taken
 returns-in_err-others-clause-taken g c =
     stops-blocks arc_value g.D.Digest.digest_of (g.S.Source.gives c.args.src.now) c.args.most c.args.commit c.args.root
+    (g.R.Repeats.may_repeat c.args.repeats.now) c.requires
     (g.W.Out.taken c.args.out.now) (g.W.Out.taken c.write_header.new.out) (g.W.Out.taken c.write_commit.new.out) (g.W.Out.taken c.write_blocks.new.out)
     c.root_of.result c.in_ok-seen.seen c.write_commit.new.seen c.from_top-walk.result (g.S.Source.gives c.write_commit.new.src)
     c.root_of.ensures c.in_ok-seen.ensures c.from_top-walk.ensures c.in_ok-first.ensures.same c.in_ok-first.ensures.seen
@@ -36,6 +38,7 @@ returns-in_err-others-clause-taken g c =
 pub returns-clause-taken : goal.returns-clause-taken
 returns-clause-taken g c =
     file-taken arc_value g.D.Digest.digest_of (g.S.Source.gives c.args.src.now) c.args.most c.args.commit c.args.root
+    (g.R.Repeats.may_repeat c.args.repeats.now) c.requires
     (g.W.Out.taken c.args.out.now) (g.W.Out.taken c.write_header.new.out) (g.W.Out.taken c.write_commit.new.out) (g.W.Out.taken c.write_blocks.new.out)
     c.root_of.result c.in_ok-seen.seen c.write_commit.new.seen c.from_top-walk.result (g.S.Source.gives c.write_commit.new.src)
     c.root_of.ensures c.in_ok-seen.ensures c.from_top-walk.ensures c.in_ok-first.ensures.same c.in_ok-first.ensures.seen
@@ -44,8 +47,20 @@ returns-clause-taken g c =
 pub returns-clause-length : goal.returns-clause-length
 returns-clause-length g c =
     file-length arc_value g.D.Digest.digest_of (g.S.Source.gives c.args.src.now) c.args.most c.args.commit c.args.root
+    (g.R.Repeats.may_repeat c.args.repeats.now) c.requires
     c.root_of.result c.in_ok-seen.seen c.write_commit.new.seen c.from_top-walk.result (g.S.Source.gives c.write_commit.new.src)
     c.in_ok-header.header c.in_ok-first.first c.in_ok-others.others c.saturating_add.result c.saturating_add-2.result
     c.root_of.ensures c.in_ok-seen.ensures c.from_top-walk.ensures c.in_ok-first.ensures.same c.in_ok-first.ensures.seen
     c.in_ok-header.ensures.length c.in_ok-first.ensures.length c.in_ok-others.ensures.length
     c.saturating_add.ensures c.saturating_add-2.ensures
+
+pub write_blocks-requires : goal.write_blocks-requires
+write_blocks-requires g c κs = (
+  (refl, tt),
+  (
+    c.in_ok-first.ensures.noted,
+    walked-single arc_value g.D.Digest.digest_of (g.S.Source.gives c.args.src.now) c.args.most c.args.commit c.args.root
+        (g.R.Repeats.may_repeat c.args.repeats.now) c.requires c.from_top-walk.result (g.S.Source.gives c.write_commit.new.src)
+        c.from_top-walk.ensures c.in_ok-first.ensures.same,
+  ),
+)
