@@ -2,7 +2,9 @@
 
 ghost use Rattle.std.specs.Prelude.{◌≤◌};
 
-use crate::fixtures::{Checked, FIVE_NODES, ONE, Record, THREE, TWO, end, file_of, opened, takes};
+use crate::fixtures::{
+    Checked, FIVE_NODES, ONE, ONE_RECORD_TWICE, Record, THREE, TWO, end, file_of, opened, takes,
+};
 use cid::digests::Toy;
 use cid::{Cid, Sha256};
 use export::{ExportFault, ToMemory, car};
@@ -193,10 +195,7 @@ fn have_file<R: Abort, const B: u8>(
 /// The records of five nodes where a layer is eight zero bits: one node of 174 bytes has all three.
 const ONE_NODE: &[Section] = &[(96, b""), (174, b""), (4, ONE), (4, TWO), (4, THREE)];
 
-/// One record under the first key and the third.
-const ONE_RECORD_TWICE: &[Record<'static>] = &[(b"a/p0", ONE), (b"a/q2", TWO), (b"a/r0", ONE)];
-
-/// Its sections: the record stands where its first key does.
+/// The sections where one record stands under two keys: the record stands where its first key does.
 const ONCE: &[Section] = &[(96, b""), (174, b""), (4, ONE), (4, TWO)];
 
 #[test]

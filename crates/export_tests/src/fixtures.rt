@@ -33,6 +33,13 @@ pub(crate) const FIVE_NODES: &[Record<'static>] = &[
     (b"a/r0", THREE),
 ];
 
+/// One record under the first key and the third.
+pub(crate) const ONE_RECORD_TWICE: &[Record<'static>] = &[
+    (b"a/p0", ONE),
+    (b"a/q2", TWO),
+    (b"a/r0", ONE),
+];
+
 /// The core of a repository without records, the only one of its store.
 pub(crate) fn opened<R: Abort, D: Digest, const B: u8, A: Allocator + Copy>(
     rt: &R,

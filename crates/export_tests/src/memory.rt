@@ -1,12 +1,15 @@
 //! Exports and proofs where memory is refused.
 
-use crate::fixtures::{FIVE_NODES, Proof, copies_of, end, file_of, opened, takes};
+use crate::fixtures::{
+    FIVE_NODES, ONE_RECORD_TWICE, Proof, Record, copies_of, end, file_of, opened, takes,
+};
 use cid::digests::Toy;
 use cid::{Block, Cid};
 use export::{ExportFault, ProofFault, ToMemory, car, prove, verify};
 use refusing::Refusing;
 use repo::Core;
 use std::alloc::{Allocator, Global};
+use std::process::Abort;
 use std::sync::Arc;
 use store::Shard;
 
@@ -33,7 +36,7 @@ fn car_end<'h>(heap: Heap<'h>, core: &Core<Toy, 2, Heap<'h>>, file: &[u8]) -> En
         return Ended::Wrong;
     }
     match answer {
-        Ok(868) if out.bytes().len() == file.len() => Ended::Done,
+        Ok(count) if count == file.len() as u64 && out.bytes().len() == file.len() => Ended::Done,
         Err(ExportFault::NoMemory) => Ended::NoMemory,
         Err(ExportFault::DeviceFault) => Ended::DeviceFault,
         Ok(_) => Ended::Wrong,
@@ -152,24 +155,26 @@ fn refusals<'h>(
     None
 }
 
-/// Whether each request of a CAR was refused.
-fn is_each_refused<'h>(alloc: Global, heap: Heap<'h>, core: &Core<Toy, 2, Heap<'h>>) -> bool {
-    match file_of(alloc, heap, core) {
-        Some(file) => is_taken_at_last(heap, core, &file),
+/// Whether each request of the CAR of these records was refused, and it has this size.
+fn is_each_refused<R: Abort>(rt: &R, alloc: Global, records: &[Record<'_>], size: usize) -> bool {
+    let heap = Refusing::new(alloc);
+    let mut shard = Shard::new(&heap, 20);
+    let mut core = opened(rt, &heap, &mut shard);
+    let filled = takes(&heap, &mut shard, &mut core, records);
+    let right = match file_of(alloc, &heap, &core) {
+        Some(file) => file.len() == size && is_taken_at_last(&heap, &core, &file),
         None => false,
-    }
+    };
+    end(&mut shard, core);
+    drop(shard);
+    filled && right && heap.live() == 0
 }
 
 #[test]
 fn each_request_of_a_car_refused(rt: HostRuntime) {
-    let heap = Refusing::new(rt.alloc());
-    let mut shard = Shard::new(&heap, 20);
-    let mut core = opened(&rt, &heap, &mut shard);
-    let filled = takes(&heap, &mut shard, &mut core, FIVE_NODES);
-    let right = is_each_refused(rt.alloc(), &heap, &core);
-    end(&mut shard, core);
-    drop(shard);
-    assert!(rt; filled && right && heap.live() == 0);
+    assert!(rt; is_each_refused(&rt, rt.alloc(), FIVE_NODES, 868));
+    // The CID of a record under two keys is noted, which takes memory.
+    assert!(rt; is_each_refused(&rt, rt.alloc(), ONE_RECORD_TWICE, 827));
 }
 
 #[test]
