@@ -64,17 +64,6 @@ module _ (may_repeat : List ℕ → Bool) (old new : List (List ℕ)) (c : List 
   repeats-ok (Ok x) k n = repeats-more k n
   repeats-ok (Err e) k n = tt
 
-<<<<<<< HEAD
--- a CID that can't repeat is new, and isn't noted
-pub single-new : (may_repeat : List ℕ → Bool) (old : List (List ℕ)) (c : List ℕ) → AreRepeats may_repeat old → may_repeat c ≡ false
-    → true ≡ not (has old c)
-single-new may_repeat old c r e = sym (ap not (r c e))
-
-pub noted-none : (may_repeat : List ℕ → Bool) (old : List (List ℕ)) (c : List ℕ) → may_repeat c ≡ false → HasNoted may_repeat old c old
-noted-none may_repeat old c e d = sym (ap (λ u. (u && bytes_eq c d) || has old d) e)
-
-=======
->>>>>>> 25160ea
 -- nothing is noted so far
 pub none-noted : (may_repeat : List ℕ → Bool) (cids : List (List ℕ)) → cids ≡ [] → AreRepeats may_repeat cids
 none-noted may_repeat cids e c f = ap (λ s. has s c) e

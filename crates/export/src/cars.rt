@@ -79,13 +79,8 @@ pub fn car_over<'a, D: Digest + 'a, A: Allocator + Clone + 'a, S: Source<Lent<'a
     write_car(alloc, &AnyMayRepeat, blocks, src, commit, root, most, out)
 }
 
-<<<<<<< HEAD
-/// Writes it where it is known of some of these blocks that they stand once. Room for the CIDs of others, for `room` of
-/// them, is made at once.
-=======
 /// Writes this CAR where it is known of some of its blocks that they stand once. Of the others the CIDs are noted: room
 /// for so many is made at once.
->>>>>>> 25160ea
 fn write_car<
     'a,
     D: Digest + 'a,
