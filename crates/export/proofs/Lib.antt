@@ -1,3 +1,4 @@
+pub mod Ahead
 pub mod Exported
 pub mod Finding
 pub mod FirstOnes

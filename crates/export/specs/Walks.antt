@@ -91,6 +91,18 @@ cids_left shows w =
 abbrev pub blocks_left : (List ℕ → Option (List ℕ)) → Walking → List (List ℕ)
 blocks_left gives w = blocks_at gives (cids_left (shown_by gives) w)
 
+-- the blocks that are still to be written behind a step: that which it came to, and those left after it
+abbrev pub blocks_behind : {D A : Type 0} → (List ℕ → Option (List ℕ)) → Step D A → Walking → List (List ℕ)
+blocks_behind gives (steps.Found b) w = arc_value b.now ∷ blocks_left gives w
+blocks_behind gives steps.Missing w = blocks_left gives w
+blocks_behind gives steps.End w = []
+
+-- how many steps there are to take with it
+abbrev pub steps_behind : {D A : Type 0} → (List ℕ → Option (List ℕ)) → Step D A → Walking → ℕ
+steps_behind gives (steps.Found b) w = suc (length (cids_left (shown_by gives) w))
+steps_behind gives steps.Missing w = suc (length (cids_left (shown_by gives) w))
+steps_behind gives steps.End w = 0
+
 -- the sections that are still to be written, after those of these CIDs
 abbrev pub sections_left : (List ℕ → List ℕ) → (List ℕ → Option (List ℕ)) → List (List ℕ) → Walking → List ℕ
 sections_left digest gives cids w = sections digest cids (blocks_left gives w)

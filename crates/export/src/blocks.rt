@@ -55,6 +55,9 @@ pub(crate) fn write_commit<
 }
 
 /// Writes the sections of the blocks that a walk is still to come to, and answers how many bytes that are.
+///
+/// The next block is looked up before the present one is written: both wait for memory that the processor hasn't seen yet,
+/// and so they wait at once.
 pub(crate) fn write_blocks<
     'a,
     D: Digest + 'a,
@@ -81,12 +84,15 @@ pub(crate) fn write_blocks<
     ensures cause { HasCause (W.failures out.old) (W.failures out.new) result }
 {
     let mut written: u64 = 0;
+    let mut step = walk.step(src)?;
     'steps: loop {
-        match walk.step(src)? {
+        match step {
             Step::Found(block) => {
-                written = written.saturating_add(write_once(repeats, seen, out, block)?)
+                let next = walk.step(src)?;
+                written = written.saturating_add(write_once(repeats, seen, out, block)?);
+                step = next;
             }
-            Step::Missing => {}
+            Step::Missing => step = walk.step(src)?,
             Step::End => return Ok(written),
         }
     }

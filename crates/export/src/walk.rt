@@ -15,6 +15,7 @@ use std::marker::Model;
 use std::sync::Arc;
 
 /// What a walk came to.
+#[derive(Drop)]
 pub(crate) enum Step<'a, D: Digest, A: Allocator> {
     /// A block.
     Found(&'a Arc<Block<D, A>, A>),
