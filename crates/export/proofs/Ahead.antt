@@ -1,12 +1,12 @@
 -- A step is taken before what the step before it came to is written.
 use Rattle.std.proofs.Common.{◌≡◌, ℕ, suc, ◌+◌, ◌^◌, ◌<◌, Bool, List, [], ◌∷◌, ◌++◌, length, Option, option_map, Result, min, ◌-◌, sym, ap, subst, ◌∙◌, arith}
 use Rattle.std.specs.Prelude.{IsErr}
-use Rattle.std.specs.Arc.{arc_value}
 use Rattle.std.specs.declared.option.Option.TheVariants.{Some, None}
 use Rattle.std.specs.List.{cons_option}
 use Rattle.std.proofs.lemmas.List.{length-append}
 use Rattle.spec.specs.Cid.{cid}
 use Rattle.edit_laws.specs.Sources.{shown_by}
+use Rattle.export.specs.Founds.{bytes_found}
 use Rattle.export.specs.Once.{AreSingle, HasNoted, capped, sections, section_once}
 use Rattle.export.specs.Outs.{Leaves, TakesBeginning, Takes}
 use Rattle.export.specs.Walks.{Walking, GoesBy, IsStep, blocks_at, blocks_behind, blocks_left, cids_left, steps_behind}
@@ -25,7 +25,7 @@ blocks-by gives old new o by =
 -- what is left before a step is what stands behind it
 pub behind : {D A : Type 0} (gives : List ℕ → Option (List ℕ)) (step : Step D A) (old new : Walking) → IsStep gives old new step
     → blocks_left gives old ≡ blocks_behind gives step new
-behind gives (steps.Found b) old new by = blocks-by gives old new (Some (arc_value b.now)) by
+behind gives (steps.Found b) old new by = blocks-by gives old new (Some (bytes_found b)) by
 behind gives steps.Missing old new by = blocks-by gives old new None by
 behind gives steps.End old new e = ap (blocks_at gives) e
 
@@ -68,7 +68,7 @@ module _ (digest : List ℕ → List ℕ) (cids : List (List ℕ)) (b x : List �
   -- ---- one block is written, and others are left
 
   module _ (may_repeat : List ℕ → Bool) (more : List (List ℕ)) (others : List (List ℕ)) (same : bs ≡ others)
-      (single : AreSingle digest may_repeat (b ∷ bs)) (noted : HasNoted may_repeat cids (cid digest x) more) where
+      (single : AreSingle digest may_repeat (b ∷ bs)) (noted : HasNoted (may_repeat (cid digest x)) cids (cid digest x) more) where
     next : sections digest cids (b ∷ bs) ≡ section_once digest cids x ++ sections digest more others
     next =
         ap (λ y. sections digest cids (y ∷ bs)) (sym is)

@@ -1,8 +1,10 @@
 pub mod Ahead
+pub mod Counted
 pub mod Exported
 pub mod Finding
 pub mod FirstOnes
 pub mod Leaving
+pub mod Marked
 pub mod Numbers
 pub mod OneNode
 pub mod Paths

@@ -39,16 +39,16 @@ module _ (digest : List ℕ → List ℕ) (cids : List (List ℕ)) (found : List
       → IfOk r (λ n. n ≡ length (sections digest cids found))
   commit-length r h = subst (λ t. IfOk r (λ n. n ≡ length t)) commit-section h
 
-  one-more : (may_repeat : List ℕ → Bool) (more : List (List ℕ)) → HasNoted may_repeat cids (cid digest x) more
+  one-more : (may_repeat : List ℕ → Bool) (more : List (List ℕ)) → HasNoted (may_repeat (cid digest x)) cids (cid digest x) more
       → GoesOn digest may_repeat cids found more
   one-more may_repeat more noted bs s =
-      let at = subst (λ t. HasNoted may_repeat cids (cid digest t) more) is noted in
+      let at = subst (λ t. HasNoted (may_repeat (cid digest t)) cids (cid digest t) more) is noted in
       let single = subst (λ f. AreSingle digest may_repeat (f ++ bs)) e s in
       ap (λ f. sections digest cids (f ++ bs)) e ∙ one-block digest cids more b bs (noted-more digest may_repeat b bs single cids more at)
       ∙ ap (λ f. sections digest cids f ++ sections digest more bs) (sym e)
 
   pub commit-seen : {T E : Type 0} (may_repeat : List ℕ → Bool) (more : List (List ℕ)) (r : Result T E)
-      → OnOk r (HasNoted may_repeat cids (cid digest x) more) → OnOk r (GoesOn digest may_repeat cids found more)
+      → OnOk r (HasNoted (may_repeat (cid digest x)) cids (cid digest x) more) → OnOk r (GoesOn digest may_repeat cids found more)
   commit-seen may_repeat more (Ok y) h = one-more may_repeat more h
   commit-seen may_repeat more (Err f) h = tt
 

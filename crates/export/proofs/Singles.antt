@@ -42,7 +42,7 @@ module _ (digest : List ℕ → List ℕ) (may_repeat : List ℕ → Bool) (b : 
       ap (λ u. u && bytes_eq (cid digest b) (cid digest x)) e ∙ sym (differs (bytes_eq (cid digest b) (cid digest x)) (cid digest b) (cid digest x) refl (other x i e))
 
   -- after it, what is noted serves as well as if all were noted
-  pub noted-more : (old new : List (List ℕ)) → HasNoted may_repeat old (cid digest b) new → HasMoreAmong digest bs old (cid digest b) new
+  pub noted-more : (old new : List (List ℕ)) → HasNoted (may_repeat (cid digest b)) old (cid digest b) new → HasMoreAmong digest bs old (cid digest b) new
   noted-more old new n x i = n (cid digest x) ∙ ap (λ u. u || has old (cid digest x)) (noted (may_repeat (cid digest b)) x i refl)
 
 -- ---- what is noted may repeat
@@ -56,10 +56,10 @@ module _ (may_repeat : List ℕ → Bool) (old new : List (List ℕ)) (c : List 
       ∙ h
   still-none false d e f h = ap (λ u. (u && bytes_eq c d) || has old d) e ∙ h
 
-  pub repeats-more : AreRepeats may_repeat old → HasNoted may_repeat old c new → AreRepeats may_repeat new
+  pub repeats-more : AreRepeats may_repeat old → HasNoted (may_repeat c) old c new → AreRepeats may_repeat new
   repeats-more r n d f = n d ∙ still-none (may_repeat c) d refl f (r d f)
 
-  pub repeats-ok : {T E : Type 0} (r : Result T E) → AreRepeats may_repeat old → OnOk r (HasNoted may_repeat old c new)
+  pub repeats-ok : {T E : Type 0} (r : Result T E) → AreRepeats may_repeat old → OnOk r (HasNoted (may_repeat c) old c new)
       → OnOk r (AreRepeats may_repeat new)
   repeats-ok (Ok x) k n = repeats-more k n
   repeats-ok (Err e) k n = tt

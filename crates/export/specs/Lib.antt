@@ -1,5 +1,6 @@
 pub mod Exports
 pub mod Faults
+pub mod Founds
 pub mod GivenBlocks
 pub mod Once
 pub mod Outs

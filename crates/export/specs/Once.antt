@@ -38,8 +38,12 @@ abbrev pub AreRepeats : (List ℕ → Bool) → List (List ℕ) → Type 0
 AreRepeats may_repeat cids = (c : List ℕ) → may_repeat c ≡ false → has cids c ≡ false
 
 -- there is this one more if it may repeat
-abbrev pub HasNoted : (List ℕ → Bool) → List (List ℕ) → List ℕ → List (List ℕ) → Type 0
-HasNoted may_repeat old c new = (d : List ℕ) → has new d ≡ (may_repeat c && bytes_eq c d) || has old d
+abbrev pub HasNoted : Bool → List (List ℕ) → List ℕ → List (List ℕ) → Type 0
+HasNoted may_repeat old c new = (d : List ℕ) → has new d ≡ (may_repeat && bytes_eq c d) || has old d
+
+-- a CID that can't repeat isn't among these
+abbrev pub IsNewOr : Bool → List (List ℕ) → List ℕ → Type 0
+IsNewOr may_repeat cids c = may_repeat ≡ false → has cids c ≡ false
 
 -- after the sections of the found blocks, those of whatever blocks come are theirs after the new CIDs
 abbrev pub GoesOn : (List ℕ → List ℕ) → (List ℕ → Bool) → List (List ℕ) → List (List ℕ) → List (List ℕ) → Type 0

@@ -1,28 +1,28 @@
 //! The sections of a repository's blocks.
 
 ghost use Rattle.std.specs.Prelude.{◌≡◌, length, option_map, IfOk, OnOk};
-ghost use Rattle.std.specs.Arc.{arc_value};
+ghost use Rattle.export.specs.Founds.{bytes_found, AreMarked};
 ghost use Rattle.export.specs.Once.{capped, sections, AreRepeats, AreSingle, GoesOn};
 ghost use Rattle.export.specs.Outs.{HasCause, Takes};
 ghost use Rattle.export.specs.Walks.{blocks_left, commit_block, sections_left};
 
 use crate::export_fault::ExportFault;
+use crate::found::Found;
 use crate::once::write_once;
 use crate::out::Out;
 use crate::repeats::Repeats;
 use crate::seen::Seen;
 use crate::walk::{Step, Walk};
-use cid::{Block, Cid, Digest};
+use cid::{Cid, Digest};
 use edit::{Lent, Source};
 use std::alloc::Allocator;
-use std::sync::Arc;
 
 /// Writes the section of the commit, if there is one, and answers how many bytes that are.
 pub(crate) fn write_commit<
     'a,
     D: Digest + 'a,
     A: Allocator + Clone + 'a,
-    S: Source<Lent<'a, D, A>>,
+    S: Source<Found<Lent<'a, D, A>>>,
     R: Repeats,
     W: Out,
 >(
@@ -32,15 +32,16 @@ pub(crate) fn write_commit<
     out: &mut W,
     commit: Option<Cid>,
 ) -> Result<u64, ExportFault>
-    requires { AreRepeats (R.may_repeat repeats.now) seen.now }
+    requires noted { AreRepeats (R.may_repeat repeats.now) seen.now }
+    requires marked { AreMarked D.digest_of (R.may_repeat repeats.now) (S.gives src.now) }
     ensures taken { Takes (W.taken out.old) (W.taken out.new) result
         (sections D.digest_of seen.old (commit_block
-        (λ c. option_map arc_value (S.gives src.old c)) commit)) }
+        (λ c. option_map bytes_found (S.gives src.old c)) commit)) }
     ensures length { IfOk result (λ count. count
         ≡ length (sections D.digest_of seen.old
-        (commit_block (λ c. option_map arc_value (S.gives src.old c)) commit))) }
+        (commit_block (λ c. option_map bytes_found (S.gives src.old c)) commit))) }
     ensures seen { OnOk result (GoesOn D.digest_of (R.may_repeat repeats.now) seen.old
-        (commit_block (λ c. option_map arc_value (S.gives src.old c)) commit) seen.new) }
+        (commit_block (λ c. option_map bytes_found (S.gives src.old c)) commit) seen.new) }
     ensures noted { OnOk result (AreRepeats (R.may_repeat repeats.now) seen.new) }
     ensures cause { HasCause (W.failures out.old) (W.failures out.new) result }
     ensures same { S.gives src.new ≡ S.gives src.old }
@@ -48,10 +49,10 @@ pub(crate) fn write_commit<
     let Some(cid) = commit else {
         return Ok(0);
     };
-    let Some(lent) = src.get(&cid) else {
+    let Some(found) = src.get(&cid) else {
         return Ok(0);
     };
-    write_once(repeats, seen, out, lent.block())
+    write_once(seen, out, &found)
 }
 
 /// Writes the sections of the blocks that a walk is still to come to, and answers how many bytes that are.
@@ -62,7 +63,7 @@ pub(crate) fn write_blocks<
     'a,
     D: Digest + 'a,
     A: Allocator + Clone + 'a,
-    S: Source<Lent<'a, D, A>>,
+    S: Source<Found<Lent<'a, D, A>>>,
     R: Repeats,
     W: Out,
 >(
@@ -74,22 +75,23 @@ pub(crate) fn write_blocks<
 ) -> Result<u64, ExportFault>
     requires noted { AreRepeats (R.may_repeat repeats.now) seen.now }
     requires single { AreSingle D.digest_of (R.may_repeat repeats.now)
-        (blocks_left (λ c. option_map arc_value (S.gives src.now c)) walk) }
+        (blocks_left (λ c. option_map bytes_found (S.gives src.now c)) walk) }
+    requires marked { AreMarked D.digest_of (R.may_repeat repeats.now) (S.gives src.now) }
     ensures taken { Takes (W.taken out.old) (W.taken out.new) result
-        (sections_left D.digest_of (λ c. option_map arc_value (S.gives src.old c)) seen.old
+        (sections_left D.digest_of (λ c. option_map bytes_found (S.gives src.old c)) seen.old
         walk.entry) }
     ensures length { IfOk result (λ count. count
         ≡ capped (length (sections_left D.digest_of
-        (λ c. option_map arc_value (S.gives src.old c)) seen.old walk.entry))) }
+        (λ c. option_map bytes_found (S.gives src.old c)) seen.old walk.entry))) }
     ensures cause { HasCause (W.failures out.old) (W.failures out.new) result }
 {
     let mut written: u64 = 0;
     let mut step = walk.step(src)?;
     'steps: loop {
         match step {
-            Step::Found(block) => {
+            Step::Found(found) => {
                 let next = walk.step(src)?;
-                written = written.saturating_add(write_once(repeats, seen, out, block)?);
+                written = written.saturating_add(write_once(seen, out, &found)?);
                 step = next;
             }
             Step::Missing => step = walk.step(src)?,

@@ -4,12 +4,14 @@ ghost use Rattle.std.specs.Prelude.{◌≡◌, ◌≤◌, length, option_map, If
 ghost use Rattle.std.specs.Arc.{arc_value};
 ghost use Rattle.spec.specs.Commits.{car_root};
 ghost use Rattle.export.specs.Exports.{TakesCar, car_length};
+ghost use Rattle.export.specs.Founds.{bytes_found, AreMarked};
 ghost use Rattle.export.specs.Once.{capped, AreSingle};
 ghost use Rattle.export.specs.Outs.{HasCause, Takes};
 ghost use Rattle.export.specs.Walks.{blocks_met, car_met};
 
 use crate::blocks::{write_blocks, write_commit};
 use crate::export_fault::ExportFault;
+use crate::found::{Counted, Found, Unmarked};
 use crate::out::Out;
 use crate::repeats::{AnyMayRepeat, Repeats};
 use crate::sections::write_header;
@@ -41,12 +43,13 @@ pub fn car<D: Digest, const B: u8, A: Allocator + Clone, W: Out>(
 {
     let commit = core.commit();
     let root = core.root();
-    let mut lender = core.lender();
+    let lender = core.lender();
+    let mut counted = Counted { lender };
     write_car(
         alloc,
         core,
         0,
-        &mut lender,
+        &mut counted,
         commit,
         root,
         256 / B as u16 + 1,
@@ -76,7 +79,17 @@ pub fn car_over<'a, D: Digest + 'a, A: Allocator + Clone + 'a, S: Source<Lent<'a
         (λ c. option_map arc_value (S.gives src.old c)) most commit root))) }
     ensures cause { HasCause (W.failures out.old) (W.failures out.new) result }
 {
-    write_car(alloc, &AnyMayRepeat, blocks, src, commit, root, most, out)
+    let mut unmarked = Unmarked { src };
+    write_car(
+        alloc,
+        &AnyMayRepeat,
+        blocks,
+        &mut unmarked,
+        commit,
+        root,
+        most,
+        out,
+    )
 }
 
 /// Writes this CAR where it is known of some of its blocks that they stand once. Of the others the CIDs are noted: room
@@ -85,7 +98,7 @@ fn write_car<
     'a,
     D: Digest + 'a,
     A: Allocator + Clone + 'a,
-    S: Source<Lent<'a, D, A>>,
+    S: Source<Found<Lent<'a, D, A>>>,
     R: Repeats,
     W: Out,
 >(
@@ -98,13 +111,14 @@ fn write_car<
     most: u16,
     out: &mut W,
 ) -> Result<u64, ExportFault>
-    requires { AreSingle D.digest_of (R.may_repeat repeats.now)
-        (blocks_met (λ c. option_map arc_value (S.gives src.now c)) most commit root) }
+    requires single { AreSingle D.digest_of (R.may_repeat repeats.now)
+        (blocks_met (λ c. option_map bytes_found (S.gives src.now c)) most commit root) }
+    requires marked { AreMarked D.digest_of (R.may_repeat repeats.now) (S.gives src.now) }
     ensures taken { Takes (W.taken out.old) (W.taken out.new) result
-        (car_met D.digest_of (λ c. option_map arc_value (S.gives src.old c)) most commit root) }
+        (car_met D.digest_of (λ c. option_map bytes_found (S.gives src.old c)) most commit root) }
     ensures length { IfOk result (λ count. count
         ≡ capped (length (car_met D.digest_of
-        (λ c. option_map arc_value (S.gives src.old c)) most commit root))) }
+        (λ c. option_map bytes_found (S.gives src.old c)) most commit root))) }
     ensures cause { HasCause (W.failures out.old) (W.failures out.new) result }
 {
     let mut seen = Seen::with_room(alloc.clone()?, room)?;

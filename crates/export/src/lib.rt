@@ -20,6 +20,7 @@
 mod blocks;
 mod cars;
 mod export_fault;
+mod found;
 mod given;
 mod hashed;
 mod log;

@@ -1,30 +1,23 @@
 //! Which blocks may stand more than once.
 
-ghost use Rattle.std.specs.Prelude.{◌≡◌, ℕ, List, Bool, true, nat_lt};
+ghost use Rattle.std.specs.Prelude.{ℕ, List, Bool, true, nat_lt};
 ghost use Rattle.spec.specs.States.{state_blocks};
 ghost use Rattle.edit_laws.specs.Uses.{uses};
 
-use cid::{Cid, Digest};
+use cid::Digest;
 use repo::Core;
 use std::alloc::Allocator;
 
-/// What tells which CIDs may stand more than once in a list of blocks.
+/// What is known of which CIDs may stand more than once in a list of blocks. Proofs alone read it: what code goes by is the
+/// mark of each block that is found.
 pub(crate) trait Repeats {
     /// Whether a CID may.
     ghost may_repeat: { Self → List ℕ → Bool };
-
-    /// Whether this CID may.
-    fn may_repeat(&self, cid: &Cid) -> bool
-        ensures { result ≡ may_repeat self.now cid.now };
 }
 
 /// A repository knows how often each of its blocks is used.
 impl<D: Digest, const B: u8, A: Allocator> Repeats for Core<D, B, A> {
     ghost may_repeat = { λ s c. nat_lt 1 (uses D.digest_of c (state_blocks D.digest_of B s)) };
-
-    fn may_repeat(&self, cid: &Cid) -> bool {
-        self.uses(cid) > 1
-    }
 }
 
 /// Nothing is known of the blocks, so each may stand more than once.
@@ -33,8 +26,4 @@ pub(crate) struct AnyMayRepeat;
 
 impl Repeats for AnyMayRepeat {
     ghost may_repeat = { λ _ _. true };
-
-    fn may_repeat(&self, _cid: &Cid) -> bool {
-        true
-    }
 }

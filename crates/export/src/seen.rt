@@ -1,9 +1,8 @@
 //! The CIDs that were noted when their sections were written.
 
 ghost use Rattle.std.specs.Prelude.{◌≡◌, [], not, IfOk, OnOk};
-ghost use Rattle.export.specs.Once.{has, AreRepeats, HasMore, HasNoted};
+ghost use Rattle.export.specs.Once.{has, HasMore, HasNoted, IsNewOr};
 
-use crate::repeats::Repeats;
 use cid::Cid;
 use std::alloc::{AllocError, Allocator};
 use std::collections::HashSet;
@@ -39,12 +38,12 @@ impl<A: Allocator + Clone> Seen<A> {
 
     /// Whether this one is new. It is noted if it may come again: of one that can't it is known without a look, and nobody
     /// will ask for it.
-    pub(crate) fn note<R: Repeats>(&mut self, repeats: &R, cid: Cid) -> Result<bool, AllocError>
-        requires { AreRepeats (R.may_repeat repeats.now) self.now }
+    pub(crate) fn note(&mut self, may_repeat: bool, cid: Cid) -> Result<bool, AllocError>
+        requires { IsNewOr may_repeat self.now cid }
         ensures new { IfOk result (λ new. new ≡ not (has self.old cid)) }
-        ensures noted { OnOk result (HasNoted (R.may_repeat repeats.now) self.old cid self.new) }
+        ensures noted { OnOk result (HasNoted may_repeat self.old cid self.new) }
     {
-        if !repeats.may_repeat(&cid) {
+        if !may_repeat {
             return Ok(true);
         }
         self.insert(cid)

@@ -5,20 +5,21 @@ ghost use Rattle.std.specs.Arc.{arc_value};
 ghost use Rattle.spec.specs.NodeFormat.{read_node};
 ghost use Rattle.cid.specs.CidRef.{bytes_of};
 ghost use Rattle.node.specs.Views.{row_of};
-ghost use Rattle.export.specs.Walks.{entered, next_row, turned, without_link, IsNext, IsStep};
+ghost use Rattle.export.specs.Founds.{bytes_found};
+ghost use Rattle.export.specs.Walks.{entered, next_row, turned, without_link, IsNext, IsStep, IsStepFrom};
 
-use cid::{Block, Cid, CidRef, Digest};
+use crate::found::Found;
+use cid::{Cid, CidRef, Digest};
 use edit::{Lent, Source};
 use node::{Entries, EntryView};
 use std::alloc::{AllocError, Allocator};
 use std::marker::Model;
-use std::sync::Arc;
 
 /// What a walk came to.
 #[derive(Drop)]
 pub(crate) enum Step<'a, D: Digest, A: Allocator> {
     /// A block.
-    Found(&'a Arc<Block<D, A>, A>),
+    Found(Found<Lent<'a, D, A>>),
     /// A CID without a block.
     Missing,
     /// Its end.
@@ -62,30 +63,31 @@ impl<'a, A: Allocator> Walk<'a, A> {
     }
 
     /// Goes on by one CID. A block that is no node, where one is looked for, has nothing below it.
-    pub(crate) fn step<D: Digest + 'a, S: Source<Lent<'a, D, A>>>(
+    pub(crate) fn step<D: Digest + 'a, S: Source<Found<Lent<'a, D, A>>>>(
         &mut self,
         src: &mut S,
     ) -> Result<Step<'a, D, A>, AllocError>
     where
         A: 'a,
         ensures step { IfOk result (IsStep
-            (λ c. option_map arc_value (S.gives src.old c)) self.old self.new) }
+            (λ c. option_map bytes_found (S.gives src.old c)) self.old self.new) }
+        ensures from { IfOk result (IsStepFrom (S.gives src.old)) }
         ensures same { S.gives src.new ≡ S.gives src.old }
     {
         // Opens the walk: from here on it is known that its stack has no more than its layers.
         let _ = &self.most;
         if let Some(cid) = self.take_link() {
-            let Some(lent) = src.get(&cid) else {
+            let Some(found) = src.get(&cid) else {
                 return Ok(Step::Missing);
             };
-            self.enter(&lent)?;
-            return Ok(Step::Found(lent.block()));
+            self.enter(&found.lent)?;
+            return Ok(Step::Found(found));
         }
         let Some(cid) = self.next_record()? else {
             return Ok(Step::End);
         };
         match src.get(&cid) {
-            Some(lent) => Ok(Step::Found(lent.block())),
+            Some(found) => Ok(Step::Found(found)),
             None => Ok(Step::Missing),
         }
     }

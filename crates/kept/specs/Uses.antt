@@ -9,7 +9,7 @@ use Rattle.std.specs.Map.{lookup}
 use Rattle.std.specs.FinMap as map
 use Rattle.std.specs.declared.sync.Arc.{Arc}
 use Rattle.spec.specs.Cid.{cid as cid_of}
-use Rattle.kept.specs.Counts.{Counts, Keeping, with_count, bytes_at}
+use Rattle.kept.specs.Counts.{Counts, Keeping, with_count, bytes_at, count_at}
 use Rattle.kept.specs.declared.kept_use.Use.{Use}
 use Rattle.kept.specs.declared.kept_use.End.{End}
 use Rattle.kept.specs.declared.kept_use.End.TheVariants.{Accept, Refuse}
@@ -137,6 +137,11 @@ lent m c = option_map (λ u. u.hold.0) (at m c)
 -- each block that these counts have is lent
 abbrev pub HasAll : {D A : Type 0} → Uses D A → Counts → Type 0
 HasAll m counts = (c bytes : List ℕ) → bytes_at counts c ≡ Some bytes → option_map arc_value (lent m c) ≡ Some bytes
+
+-- each block that is lent is used as often as these counts say of its CID
+abbrev pub HasUses : {D A : Type 0} → (List ℕ → List ℕ) → Uses D A → Counts → Type 0
+HasUses digest m counts =
+    (c : List ℕ) (u : Use _ _) → at m c ≡ Some u → u.uses ≡ count_at counts (cid_of digest (arc_value u.hold.0))
 
 -- a use stands under the CID of its block, its hold is this core's, and it is used
 pub record IsUse {D A : Type 0} (digest : List ℕ → List ℕ) (me : ℕ) (c : List ℕ) (u : Use D A) : Type 0 where

@@ -6,7 +6,7 @@ ghost use Rattle.std.specs.List.Sorted.{IsPermutation};
 ghost use Rattle.store.specs.Faults.{IsRefusalOf};
 ghost use Rattle.store.specs.Stores.{IsStore, fulls_after};
 ghost use Rattle.kept.specs.Counts.{HasNoOther, count_at, bytes_at, blocks_of, none_kept, with_use_more, with_use_less};
-ghost use Rattle.kept.specs.Uses.{used_blocks, AreSettled, with_note, HasAll};
+ghost use Rattle.kept.specs.Uses.{used_blocks, AreSettled, with_note, HasAll, HasUses};
 ghost use Rattle.kept.specs.Leaving.{HasLeft};
 
 use crate::blocks::Blocks;
@@ -90,6 +90,7 @@ impl<D: Digest, A: Allocator> Kept<D, A> {
     pub fn lender(&self) -> Lender<'_, D, A>
         ensures before { HasAll result.blocks.now self.now.before }
         ensures staged { HasAll result.blocks.now self.now.staged }
+        ensures uses { HasUses D.digest_of result.blocks.now self.now.before }
         ensures asked { result.asked.times ≡ 0 }
     {
         Lender {

@@ -1,6 +1,7 @@
 //! The kept blocks as a source.
 
-ghost use Rattle.kept.specs.Uses.{lent};
+ghost use Rattle.std.specs.Prelude.{◌≡◌, suc, option_map, IfSome};
+ghost use Rattle.kept.specs.Uses.{at, lent, uses_of};
 
 use crate::use_map::UseMap;
 use cid::{Cid, Digest};
@@ -12,6 +13,21 @@ use std::alloc::{Allocator, Global};
 pub struct Lender<'a, D: Digest, A: Allocator = Global> {
     pub(crate) blocks: &'a UseMap<D, A>,
     pub(crate) asked: ReadCount,
+}
+
+impl<'a, D: Digest, A: Allocator> Lender<'a, D, A> {
+    /// The block with this CID, as `get` gives it, with how often what was accepted uses it: one look-up for both.
+    pub fn get_counted(&mut self, cid: &Cid) -> Option<(Lent<'a, D, A>, u64)>
+        ensures found { option_map (λ found. found.0) result ≡ lent self.old.blocks.now cid.now }
+        ensures uses { IfSome result
+            (λ found. found.1 ≡ uses_of (at self.old.blocks.now cid.now)) }
+        ensures same { self.new.blocks.now ≡ self.old.blocks.now }
+        ensures counted { self.new.asked.times ≡ suc self.old.asked.times }
+    {
+        self.asked = self.asked.once_more();
+        let held = self.blocks.get(cid)?;
+        Some((held.hold.lent(), held.uses))
+    }
 }
 
 impl<'a, D: Digest, A: Allocator> Source<Lent<'a, D, A>> for Lender<'a, D, A> {

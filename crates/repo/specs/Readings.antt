@@ -1,15 +1,18 @@
 -- What a core answers about its records and its blocks.
-use Rattle.std.specs.Prelude.{ℕ, List, Option, option_map}
+use Rattle.std.specs.Prelude.{◌≡◌, ℕ, List, Option, Some, option_map}
 use Rattle.std.specs.Arc.{arc_value}
 use Rattle.std.specs.Cmp.Lexicographic.{slice_cmp}
 use Rattle.std.specs.FinMap.{find}
 use Rattle.std.specs.Ordering.{nat_cmp}
+use Rattle.spec.specs.Cid.{cid as cid_of}
 use Rattle.spec.specs.Tree.{Pair}
 use Rattle.spec.specs.Blocks.{block_at, listed, pairs}
 use Rattle.spec.specs.States.{State, records, state_root, state_blocks}
 use Rattle.edit_laws.specs.Sources.{HasBlocks}
 use Rattle.edit.specs.Trees.{HasTree}
-use Rattle.kept.specs.Uses.{Uses, lent}
+use Rattle.edit_laws.specs.Uses.{uses as uses_of}
+use Rattle.kept.specs.declared.kept_use.Use.{Use}
+use Rattle.kept.specs.Uses.{Uses, at, lent}
 use Rattle.repo.specs.Cores.{AreEachOnce}
 
 -- the record of a key
@@ -40,3 +43,9 @@ LendsBlocks digest bits s uses = HasBlocks digest (bytes_lent uses) (state_block
 abbrev pub LendsTree : {D A : Type 0} → (List ℕ → List ℕ) → ℕ → State → Uses D A → Type 0
 LendsTree digest bits s uses =
     HasTree digest bits (bytes_lent uses) (state_root digest bits s) (pairs digest (records s))
+
+-- each block that is lent is used as often as it stands among those of the state
+abbrev pub CountsBlocks : {D A : Type 0} → (List ℕ → List ℕ) → ℕ → State → Uses D A → Type 0
+CountsBlocks digest bits s uses =
+    (c : List ℕ) (u : Use _ _) → at uses c ≡ Some u
+    → u.uses ≡ uses_of digest (cid_of digest (arc_value u.hold.0)) (state_blocks digest bits s)

@@ -8,7 +8,7 @@ ghost use Rattle.edit_laws.specs.Uses.{uses as uses_of};
 ghost use Rattle.spec.specs.Stamps.{last, rev_of};
 ghost use Rattle.kept.specs.Uses.{used_blocks};
 ghost use Rattle.repo.specs.Ending.{IsEnded};
-ghost use Rattle.repo.specs.Readings.{AreBlocksOnce, LendsBlocks, LendsTree, pairs_from, record_at, state_block};
+ghost use Rattle.repo.specs.Readings.{AreBlocksOnce, CountsBlocks, LendsBlocks, LendsTree, pairs_from, record_at, state_block};
 ghost use Rattle.repo.specs.Refusals.{IsRefusal, IsApplied, IsOpenRefusal};
 ghost use Rattle.batches.specs.Values.{stamp_of, stamps_of, writes_of, shared_writes};
 ghost use Rattle.store.specs.Stores.{IsStore};
@@ -122,10 +122,11 @@ impl<D: Digest, const B: u8, A: Allocator> Core<D, B, A> {
     }
 
     /// Its blocks as a source that wasn't asked for any so far, for look-ups, proofs and exports: it has each of them, and so
-    /// the tree at the root. It takes no memory.
+    /// the tree at the root; and it tells of each how often it stands among them. It takes no memory.
     pub fn lender(&self) -> Lender<'_, D, A>
         ensures blocks { LendsBlocks D.digest_of B self.now result.blocks.now }
         ensures tree { LendsTree D.digest_of B self.now result.blocks.now }
+        ensures uses { CountsBlocks D.digest_of B self.now result.blocks.now }
         ensures asked { result.asked.times ≡ 0 }
         ensures lawful { IsLawful self.now }
     {

@@ -1,14 +1,14 @@
 use Rattle.std.proofs.Common.{◌≡◌, ◌+◌, ◌^◌, ◌<◌, length, option_map}
-use Rattle.std.specs.Arc.{arc_value}
+use Rattle.export.specs.Founds.{bytes_found, AreMarked}
 use Rattle.export.specs.Once.{AreRepeats, AreSingle, capped, sections}
 use Rattle.export.specs.Outs.{Leaves}
-use Rattle.export.specs.Walks.{blocks_behind, steps_behind}
+use Rattle.export.specs.Walks.{blocks_behind, steps_behind, IsStepFrom}
 use Rattle.export.proofs.blocks.write_blocks.Given as goal
 
 abbrev pub invariant-steps : goal.invariant-steps
 invariant-steps g l =
-    let all = sections g.D.Digest.digest_of l.initial.seen (blocks_behind (λ c. option_map arc_value (g.S.Source.gives l.initial.src c)) l.initial.step l.initial.walk) in
-    let left = blocks_behind (λ c. option_map arc_value (g.S.Source.gives l.initial.src c)) l.step l.walk in
+    let all = sections g.D.Digest.digest_of l.initial.seen (blocks_behind (λ c. option_map bytes_found (g.S.Source.gives l.initial.src c)) l.initial.step l.initial.walk) in
+    let left = blocks_behind (λ c. option_map bytes_found (g.S.Source.gives l.initial.src c)) l.step l.walk in
     let rest = sections g.D.Digest.digest_of l.seen left in
     record {
       same : g.S.Source.gives l.src ≡ g.S.Source.gives l.initial.src;
@@ -17,8 +17,10 @@ invariant-steps g l =
       fits : l.written < 2 ^ 64;
       noted : AreRepeats (g.R.Repeats.may_repeat l.initial.repeats) l.seen;
       single : AreSingle g.D.Digest.digest_of (g.R.Repeats.may_repeat l.initial.repeats) left;
+      marked : AreMarked g.D.Digest.digest_of (g.R.Repeats.may_repeat l.initial.repeats) (g.S.Source.gives l.initial.src);
+      from : IsStepFrom (g.S.Source.gives l.initial.src) l.step;
       failures : g.W.Out.failures l.out ≡ g.W.Out.failures l.initial.out;
     }
 
 abbrev pub decreases-steps : goal.decreases-steps
-decreases-steps g l = steps_behind (λ c. option_map arc_value (g.S.Source.gives l.initial.src c)) l.step l.walk
+decreases-steps g l = steps_behind (λ c. option_map bytes_found (g.S.Source.gives l.initial.src c)) l.step l.walk

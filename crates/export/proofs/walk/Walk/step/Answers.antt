@@ -1,39 +1,36 @@
-use Rattle.std.proofs.Common.{◌≤◌, length, option_map, arith, sym, ap, ◌∙◌}
+use Rattle.std.proofs.Common.{◌≤◌, length, option_map, arith, sym, ap}
 use Rattle.std.specs.declared.option.Option.TheVariants.{Some, None}
-use Rattle.std.specs.Arc.{arc_value}
-use Rattle.spec.specs.NodeFormat.{read_node}
-use Rattle.export.specs.Walks.{entered}
+use Rattle.export.specs.Founds.{bytes_found}
 use Rattle.export.proofs.Walked.{turned-size, goes-missing, goes-down, goes-on, goes-nowhere}
 use Rattle.export.proofs.walk.Walk.step.Goals as goal
 
 pub returns-in_default-get-clause-step : goal.returns-in_default-get-clause-step
 returns-in_default-get-clause-step g c =
-    goes-missing (λ d. option_map arc_value (g.S.Source.gives c.args.src.now d)) c.args.self.now c.take_link.new.self c.in-Some.cid
-    c.in-Some.ensures.link c.take_link.ensures.taken (ap (option_map arc_value) (sym c.in_default-get.ensures.found))
+    goes-missing (λ d. option_map bytes_found (g.S.Source.gives c.args.src.now d)) c.args.self.now c.take_link.new.self c.in-Some.cid
+    c.in-Some.ensures.link c.take_link.ensures.taken (ap (option_map bytes_found) (sym c.in_default-get.ensures.found))
 
 pub returns-in-Some-clause-step : goal.returns-in-Some-clause-step
 returns-in-Some-clause-step g c =
-    goes-down (λ d. option_map arc_value (g.S.Source.gives c.args.src.now d)) c.args.self.now c.take_link.new.self c.enter.new.self c.in-Some.cid
-    (arc_value c.block.result.now) c.in-Some.ensures.link c.take_link.ensures.taken
-    (c.in_ok-enter.ensures ∙ ap (λ b. entered c.take_link.new.self (read_node (arc_value b))) (sym c.block.ensures))
-    (ap (option_map arc_value) (sym c.in-Some-get.ensures.found) ∙ ap (λ b. Some (arc_value b)) (sym c.block.ensures))
+    goes-down (λ d. option_map bytes_found (g.S.Source.gives c.args.src.now d)) c.args.self.now c.take_link.new.self c.enter.new.self c.in-Some.cid
+    (bytes_found c.in-Some-get.found) c.in-Some.ensures.link c.take_link.ensures.taken
+    c.in_ok-enter.ensures (ap (option_map bytes_found) (sym c.in-Some-get.ensures.found))
 
 pub returns-in_default-2-clause-step : goal.returns-in_default-2-clause-step
 returns-in_default-2-clause-step g c =
-    goes-nowhere (λ d. option_map arc_value (g.S.Source.gives c.args.src.now d)) c.args.self.now c.take_link.new.self
+    goes-nowhere (λ d. option_map bytes_found (g.S.Source.gives c.args.src.now d)) c.args.self.now c.take_link.new.self
     c.in_default.ensures.link c.take_link.ensures.taken (rw c.in_default-2.is at c.in_ok-cid.ensures)
 
 pub returns-in-Some-get-2-clause-step : goal.returns-in-Some-get-2-clause-step
 returns-in-Some-get-2-clause-step g c =
     let room : length c.args.self.now.stack ≤ c.args.self.now.most = rw (← c.self.view_is, turned-size c.self.inside.stack.items) (omega arith) in
-    goes-on (λ d. option_map arc_value (g.S.Source.gives c.args.src.now d)) c.args.self.now c.take_link.new.self c.next_record.new.self c.in-Some-2.cid
-    (Some (arc_value c.block-in-Some-get-2.result.now)) room c.in_default.ensures.link c.take_link.ensures.taken
+    goes-on (λ d. option_map bytes_found (g.S.Source.gives c.args.src.now d)) c.args.self.now c.take_link.new.self c.next_record.new.self c.in-Some-2.cid
+    (Some (bytes_found c.in-Some-get-2.found)) room c.in_default.ensures.link c.take_link.ensures.taken
     (rw c.in-Some-2.is at c.in_ok-cid.ensures)
-    (ap (option_map arc_value) (sym c.in-Some-get-2.ensures.found) ∙ ap (λ b. Some (arc_value b)) (sym c.block-in-Some-get-2.ensures))
+    (ap (option_map bytes_found) (sym c.in-Some-get-2.ensures.found))
 
 pub returns-in-None-clause-step : goal.returns-in-None-clause-step
 returns-in-None-clause-step g c =
     let room : length c.args.self.now.stack ≤ c.args.self.now.most = rw (← c.self.view_is, turned-size c.self.inside.stack.items) (omega arith) in
-    goes-on (λ d. option_map arc_value (g.S.Source.gives c.args.src.now d)) c.args.self.now c.take_link.new.self c.next_record.new.self c.in-Some-2.cid
+    goes-on (λ d. option_map bytes_found (g.S.Source.gives c.args.src.now d)) c.args.self.now c.take_link.new.self c.next_record.new.self c.in-Some-2.cid
     None room c.in_default.ensures.link c.take_link.ensures.taken
-    (rw c.in-Some-2.is at c.in_ok-cid.ensures) (ap (option_map arc_value) (sym c.in-None.ensures.found))
+    (rw c.in-Some-2.is at c.in_ok-cid.ensures) (ap (option_map bytes_found) (sym c.in-None.ensures.found))

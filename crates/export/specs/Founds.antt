@@ -1,0 +1,29 @@
+-- Blocks as an export finds them, each with a mark where it may stand more than once.
+use Rattle.std.specs.Prelude.{◌≡◌, ℕ, List, Bool, true, nat_lt, Option, Some, option_map}
+use Rattle.std.specs.Arc.{arc_value}
+use Rattle.std.specs.declared.sync.Arc.{Arc}
+use Rattle.spec.specs.Cid.{cid}
+use Rattle.kept.specs.Uses.{Uses, at}
+use Rattle.kept.specs.declared.kept_use.Use.{Use}
+use Rattle.export.specs.declared.found.Found.{Found}
+
+-- the bytes of a block that was found
+abbrev pub bytes_found : {A : Type 0} → Found (Arc (List ℕ) A) → List ℕ
+bytes_found f = arc_value f.lent
+
+-- a block of which nothing is known
+abbrev pub unmarked : {T : Type 0} → T → Found T
+unmarked b = record { lent = b; may_repeat = true }
+
+-- a block that is kept: it may repeat where it has more uses than one
+abbrev pub counted : {D A : Type 0} → Use D A → Found (Arc (List ℕ) A)
+counted u = record { lent = u.hold.0; may_repeat = nat_lt 1 u.uses }
+
+-- what is found among the blocks that are kept
+abbrev pub found_in : {D A : Type 0} → Uses D A → List ℕ → Option (Found (Arc (List ℕ) A))
+found_in m c = option_map counted (at m c)
+
+-- the marks say of each CID whether it may repeat
+abbrev pub AreMarked : {A : Type 0} → (List ℕ → List ℕ) → (List ℕ → Bool) → (List ℕ → Option (Found (Arc (List ℕ) A))) → Type 0
+AreMarked digest may_repeat gives =
+    (c : List ℕ) (f : Found _) → gives c ≡ Some f → f.may_repeat ≡ may_repeat (cid digest (bytes_found f))
