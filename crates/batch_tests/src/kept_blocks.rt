@@ -154,6 +154,10 @@ fn is_used<D: Digest>(shard: &Shard<D>, kept: &Kept<D>, bytes: &[u8], uses: Uses
         && shard.count(&cid) == cores
         && is_block(kept.block(&cid), bytes, times > 0)
         && is_lent(kept.lender().get(&cid), bytes, cores > 0)
+        && match kept.lender().get_counted(&cid) {
+            Some((lent, told)) => told == times && is_lent(Some(lent), bytes, cores > 0),
+            None => cores == 0,
+        }
 }
 
 /// How often the list of blocks has one with this CID.
