@@ -8,6 +8,7 @@ pub mod Joining
 pub mod KeyParts
 pub mod Passing
 pub mod ReadAgain
+pub mod Relinking
 pub mod RowLaws
 pub mod Stepping
 pub mod TestedNodes

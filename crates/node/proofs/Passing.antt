@@ -167,6 +167,17 @@ begins-after n bytes before es rest b within after =
     let same : w.rest ≡ rest = ok_is NodeFault w.rest rest (sym (after_rows-entries n before bytes (take n es, w.rest) w.read) ∙ after) in
     subst (λ (x : List ℕ). Begins x (last_key before (take n es)) (drop n es)) same w.others
 
+-- the bytes of the entries that were passed over
+pub begins-run : (n : ℕ) (bytes before : List ℕ) (es : List Entry) (rest : List ℕ) → Begins bytes before es → n ≤ length es → after_rows n bytes ≡ Ok rest
+    → (length rest ≤ length bytes) × (take (length bytes - length rest) bytes ≡ entries_bytes before (take n es))
+begins-run n bytes before es rest b within after =
+    let w = begins-at n bytes before es b within in
+    let own : List ℕ = entries_bytes before (take n es) in
+    let same : w.rest ≡ rest = ok_is NodeFault w.rest rest (sym (after_rows-entries n before bytes (take n es, w.rest) w.read) ∙ after) in
+    let text : bytes ≡ own ++ rest = w.spelled ∙ ap (λ (x : List ℕ). own ++ x) same in
+    let len : length bytes ≡ length own + length rest = ap length text ∙ length-append own rest in
+    (omega (arith, len), ap (take (length bytes - length rest)) text ∙ take_at own rest (length bytes - length rest) (omega (arith, len)))
+
 pub begins-keys : (n : ℕ) (bytes before : List ℕ) (es : List Entry) → Begins bytes before es → n ≤ length es → IsOk (after_keys n before bytes)
 begins-keys n bytes before es b within =
     let w = begins-at n bytes before es b within in

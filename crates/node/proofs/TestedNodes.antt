@@ -19,7 +19,7 @@ use Rattle.node.specs.Contents.{IsRead, entries_of_reading, entries_shown}
 
 -- ---- the end
 
-own-length : (c : List ℕ) → is_own_cid c ≡ true → length c ≡ 36
+pub own-length : (c : List ℕ) → is_own_cid c ≡ true → length c ≡ 36
 own-length c own = eqb-true _ _ (both (eqb (length c) 36) (bytes_eq (take 4 c) prefix) own).0
 
 -- bytes that end with the link of a record

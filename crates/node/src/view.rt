@@ -1,17 +1,19 @@
 //! Nodes as their blocks show them.
 
-ghost use Rattle.std.specs.Prelude.{◌≡◌, ◌≤◌, [], true, length, take, drop, option_map, IsOk, Ok};
+ghost use Rattle.std.specs.Prelude.{◌≡◌, ◌≤◌, ◌+◌, ◌∷◌, ◌++◌, [], true, length, take, drop, option_map, IfOk, IsOk, Ok, OnOk};
 ghost use Rattle.spec.specs.Reading.{Gives};
-ghost use Rattle.spec.specs.NodeFormat.{are_keys_after, read_node};
+ghost use Rattle.spec.specs.Head.{head};
+ghost use Rattle.spec.specs.NodeFormat.{are_keys_after, entries_bytes, is_node, is_own_cid_or_none, link_or_null, node_spelling, read_node};
 ghost use Rattle.spec.specs.Proof.{place};
 ghost use Rattle.cid.specs.CidRef.{bytes_of};
 ghost use Rattle.node.specs.Fault.{fault_of};
 ghost use Rattle.node.specs.Rows.{rows};
 ghost use Rattle.node.specs.Contents.{last_key};
 ghost use Rattle.node.specs.Runs.{Begins};
-ghost use Rattle.node.specs.Search.{gap_before, links_beside};
+ghost use Rattle.node.specs.Search.{gap_at, gap_before, links_beside, passed_by, relink_at, relinked};
 ghost use Rattle.node.specs.Views.{place_of, row_of, row_with, IsRowWith};
 
+use crate::encode::{lend, push_link};
 use crate::entries::Entries;
 use crate::entry::EntryView;
 use crate::fault::NodeFault;
@@ -20,9 +22,17 @@ use crate::place::{Place, place_in_gap};
 use crate::search::compare_after;
 use crate::skip::after;
 use crate::tested::tested_node;
-use cid::CidRef;
+use cid::{Cid, CidRef};
+use dagcbor::{Major, push_head};
+use std::alloc::{AllocError, Allocator};
 use std::cmp::Ordering;
 use std::marker::Model;
+
+/// How many bytes the field of a record's link has, its name with them: the last one of each entry.
+const VALUE_FIELD: usize = 43;
+
+/// How many bytes a node has at most beside its entries.
+const ENDS: usize = 55;
 
 /// A node as its block shows it (AT Protocol repository v3, MST node data format). Nothing is copied: all of its parts
 /// are lent by the block.
@@ -131,39 +141,133 @@ impl<'a> NodeView<'a> {
         }
     }
 
-    /// The gap before the first entry that isn't below a key, and that entry, where it is the key's.
+    /// The bytes of this node with another link in the gap next to `key`: the one before the first entry that isn't below
+    /// the key. All other bytes are copied as they stand. `AllocError` comes where memory was refused.
+    pub fn with_link<A: Allocator>(
+        &self,
+        alloc: A,
+        key: &[u8],
+        new: Option<Cid>,
+    ) -> Result<Vec<u8, A>, AllocError>
+        ensures bytes { IfOk result (λ bytes. bytes.items ≡ node_spelling
+            (relinked key.now self.now.left self.now.entries new).left
+            (relinked key.now self.now.left self.now.entries new).entries) }
+        ensures grammar { OnOk result (is_node
+            (relinked key.now self.now.left self.now.entries new).left
+            (relinked key.now self.now.left self.now.entries new).entries ≡ true) }
+    {
+        let sought = self.seek(key);
+        self.with_link_at(alloc, sought.passed, sought.gap, lend(&new))
+    }
+
+    /// The bytes of this node with another link in the gap behind so many entries, where `gap` stands.
+    fn with_link_at<A: Allocator>(
+        &self,
+        alloc: A,
+        passed: u64,
+        gap: Option<CidRef<'_>>,
+        new: Option<CidRef<'_>>,
+    ) -> Result<Vec<u8, A>, AllocError>
+        requires within { passed ≤ length self.now.entries }
+        requires gap { option_map bytes_of gap ≡ gap_at passed self.now.left self.now.entries }
+        ensures bytes { IfOk result (λ bytes. bytes.items ≡ node_spelling
+            (relink_at passed self.now.left self.now.entries (option_map bytes_of new.entry)).left
+            (relink_at passed self.now.left self.now.entries
+            (option_map bytes_of new.entry)).entries) }
+        ensures grammar { OnOk result (is_node self.now.left self.now.entries ≡ true) }
+    {
+        let (front, others) = self.runs(passed);
+        let mut bytes = self.begin(alloc, front.len().saturating_add(others.len()))?;
+        if passed == 0 {
+            bytes.extend_from_slice(others)?;
+            push_link(&mut bytes, b'l', new)?;
+            return Ok(bytes);
+        }
+        let value = front.len() - VALUE_FIELD;
+        let tree = value - field_len(gap);
+        bytes.extend_from_slice(&front[..tree])?;
+        push_link(&mut bytes, b't', new)?;
+        bytes.extend_from_slice(&front[value..])?;
+        bytes.extend_from_slice(others)?;
+        push_link(&mut bytes, b'l', self.left)?;
+        Ok(bytes)
+    }
+
+    /// The bytes of so many entries from the front, and those of the others.
+    fn runs(&self, passed: u64) -> (&'a [u8], &'a [u8])
+        requires { passed ≤ length self.now.entries }
+        ensures front { result.0.now ≡ entries_bytes [] (take passed self.now.entries) }
+        ensures others { result.1.now ≡ entries_bytes (last_key [] (take passed self.now.entries))
+            (drop passed self.now.entries) }
+        ensures grammar { is_node self.now.left self.now.entries ≡ true }
+    {
+        let rest = after(passed, self.first);
+        let end = after(self.count - passed, rest);
+        let front = &self.first[..self.first.len() - rest.len()];
+        let others = &rest[..rest.len() - end.len()];
+        (front, others)
+    }
+
+    /// The bytes of this node up to its first entry, with room for entries of so many bytes.
+    fn begin<A: Allocator>(&self, alloc: A, room: usize) -> Result<Vec<u8, A>, AllocError>
+        ensures { IfOk result (λ bytes. bytes.items
+            ≡ 0xa2 ∷ 0x61 ∷ 0x65 ∷ head 4 (length self.now.entries)) }
+    {
+        let count = self.entry_count();
+        let mut bytes = Vec::with_capacity(alloc, room.saturating_add(ENDS))?;
+        bytes.extend_from_slice(&[0xa2, b'a', b'e'])?;
+        push_head(&mut bytes, Major::Array as u8, count)?;
+        Ok(bytes)
+    }
+
+    /// The gap before the first entry that isn't below a key, how many stand before it, and that entry, where it is the key's.
     fn seek(&self, key: &[u8]) -> Sought<'a>
         ensures gap { option_map bytes_of result.gap
             ≡ gap_before key.now self.now.left self.now.entries }
+        ensures passed { result.passed ≡ passed_by key.now self.now.entries }
         ensures row { option_map row_of result.entry ≡ row_with key.now [] self.now.entries }
     {
         let mut gap = self.left;
+        let mut passed = 0;
         let mut same = 0;
         for entry in self.entries() {
             let (order, common) = compare_after(same, key, &entry);
             match order {
                 Ordering::Less => {
                     gap = entry.tree;
+                    passed += 1;
                     same = common;
                 }
                 Ordering::Equal => {
                     let entry = Some(entry);
-                    return Sought { gap, entry };
+                    return Sought { gap, passed, entry };
                 }
                 Ordering::Greater => {
                     let entry = None;
-                    return Sought { gap, entry };
+                    return Sought { gap, passed, entry };
                 }
             }
         }
         let entry = None;
-        Sought { gap, entry }
+        Sought { gap, passed, entry }
     }
 }
 
-/// What is found where a key is sought: the link before its place, and its entry, where there is one.
+/// What is found where a key is sought: the link before its place, how many entries stand before it, and its entry, where
+/// there is one.
 #[derive(Drop)]
 struct Sought<'a> {
     gap: Option<CidRef<'a>>,
+    passed: u64,
     entry: Option<EntryView<'a>>,
+}
+
+/// How many bytes the field of a link or null has, its name of one letter with them.
+fn field_len(link: Option<CidRef<'_>>) -> usize
+    ensures { result ≡ 2 + length (link_or_null (option_map bytes_of link.entry)) }
+{
+    match link {
+        Some(_) => 43,
+        None => 3,
+    }
 }

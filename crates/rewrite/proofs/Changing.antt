@@ -6,7 +6,7 @@ use Rattle.std.specs.Ordering.{is_eq}
 use Rattle.spec.specs.Tree.{Pair}
 use Rattle.spec.specs.NodeFormat.{Shape, LastLink, MoreLinks, first_link}
 use Rattle.edit_laws.specs.Order.{order}
-use Rattle.edit_laws.specs.ShapeEdit.{cut_before, cut_before_at, cut_after, cut_after_at, link_replaced, link_replaced_at, insert_shape, insert_shape_at, remove_shape, remove_shape_at, with_first_link, join_shape}
+use Rattle.edit_laws.specs.ShapeEdit.{cut_before, cut_before_at, cut_after, cut_after_at, insert_shape, insert_shape_at, remove_shape, remove_shape_at, with_first_link, join_shape}
 use Rattle.rewrite.specs.Cursors.{after_pair, all_pairs, before_key, before_key_at, from_key, from_key_at, is_first_at, pairs_before}
 use Rattle.rewrite.specs.declared.draft.RewriteFault.{RewriteFault}
 use Rattle.rewrite.specs.Drafts.{onto, IsFaultOf, IsFaultOfAll}
@@ -35,18 +35,6 @@ module _ (key : List ℕ) (new : Option (List ℕ)) where
   pub cut_after-is : (s : Shape) → cut_after key s new ≡ with_first_link new (from_key key s)
   cut_after-is (LastLink l) = refl
   cut_after-is (MoreLinks l e r) = after-at (order e.0 key) l e r (cut_after-is r)
-
-  replace_link-at : (o : Ordering) (l : Option (List ℕ)) (e : Pair) (r : Shape)
-      → link_replaced key r new ≡ onto (before_key key r) (with_first_link new (from_key key r))
-      → link_replaced_at o l e r new (link_replaced key r new)
-      ≡ onto (before_key_at o l e (before_key key r)) (with_first_link new (from_key_at o l e r (from_key key r)))
-  replace_link-at Less l e r h = ap (MoreLinks l e) h
-  replace_link-at Equal l e r h = refl
-  replace_link-at Greater l e r h = refl
-
-  pub replace_link-is : (s : Shape) → link_replaced key s new ≡ onto (before_key key s) (with_first_link new (from_key key s))
-  replace_link-is (LastLink l) = refl
-  replace_link-is (MoreLinks l e r) = replace_link-at (order e.0 key) l e r (replace_link-is r)
 
   -- a key that the node has
   removed-at : (o : Ordering) (l : Option (List ℕ)) (e : Pair) (r : Shape) → order e.0 key ≡ o
@@ -137,9 +125,6 @@ module _ (key : List ℕ) (new : Option (List ℕ)) (s : Shape) where
   pub cut_before-begins : Begins (before_key key s) (cut_before key s new)
   cut_before-begins = record { rest = LastLink new; is = sym (cut_before-is key new s) }
 
-  pub replace_link-begins : Begins (before_key key s) (link_replaced key s new)
-  replace_link-begins = record { rest = with_first_link new (from_key key s); is = sym (replace_link-is key new s) }
-
   remove-begins-at : (b : Bool) → is_first_at key (from_key key s) ≡ b → Begins (before_key key s) (remove_shape key s new)
   remove-begins-at true h = record { rest = with_first_link new (after_pair (from_key key s)); is = sym (removed key new s h) }
   remove-begins-at false h = record { rest = from_key key s; is = sym (kept key new s h) }
@@ -153,12 +138,6 @@ module _ (key : List ℕ) (new : Option (List ℕ)) (s : Shape) where
 
     pub cut_before-cut : onto w (LastLink new) ≡ cut_before key s new
     cut_before-cut = moved (LastLink new) ∙ sym (cut_before-is key new s)
-
-    pub replace_link-cut : onto w (with_first_link new f) ≡ link_replaced key s new
-    replace_link-cut =
-        moved (with_first_link new f)
-        ∙ ap (λ g. onto (before_key key s) (with_first_link new g)) c.here
-        ∙ sym (replace_link-is key new s)
 
     pub removed-cut : is_first_at key f ≡ true → onto w (with_first_link new (after_pair f)) ≡ remove_shape key s new
     removed-cut h =

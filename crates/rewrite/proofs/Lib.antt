@@ -5,3 +5,4 @@ pub mod Drafting
 pub mod Places
 pub mod Pieces
 pub mod NodeEnds
+pub mod Relinked

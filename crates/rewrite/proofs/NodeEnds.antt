@@ -5,8 +5,7 @@ use Rattle.std.specs.declared.cmp.Ordering.{Ordering}
 use Rattle.std.specs.declared.cmp.Ordering.TheVariants.{Less, Equal, Greater}
 use Rattle.std.specs.Cmp.Lexicographic.{slice_cmp}
 use Rattle.std.specs.Ordering.{nat_cmp, is_eq}
-use Rattle.spec.specs.Tree.{Pair}
-use Rattle.spec.specs.NodeFormat.{Entry, Shape, LastLink, MoreLinks, first_link}
+use Rattle.spec.specs.NodeFormat.{Entry, first_link}
 use Rattle.spec.specs.Proof.{by_order}
 use Rattle.node.specs.Rows.{Row, row_after, rows}
 use Rattle.node.specs.Search as by_entries

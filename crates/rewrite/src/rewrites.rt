@@ -3,7 +3,8 @@
 
 ghost use Rattle.std.specs.Prelude.{◌≡◌, IfOk, IfErr, option_map};
 ghost use Rattle.spec.specs.NodeFormat.{LastLink, MoreLinks};
-ghost use Rattle.rewrite.specs.Drafts.{IsFaultOf, IsFaultOfAll, IsNode};
+ghost use Rattle.rewrite.specs.Drafts.{IsFaultOf, IsFaultOfAll, IsNode, is_empty_node};
+ghost use Rattle.edit_laws.specs.Sources.{shape_from};
 ghost use Rattle.rewrite.specs.Cursors.{pairs_before, rest_from};
 ghost use Rattle.edit_laws.specs.ShapeEdit.{link_replaced, insert_shape, remove_shape, cut_before, cut_after, join_shape};
 ghost use Rattle.rewrite.specs.Entries.{shape_of};
@@ -67,9 +68,9 @@ pub(crate) fn copied_before<'n, 'a, A: Allocator + Clone>(
 }
 
 /// A node with a new link in the place next to `key`: before the first pair that isn't before `key`, or at the end. All
-/// pairs and the other links stay.
+/// pairs and the other links stay. Nothing is written anew but this link: most nodes that an edit makes are such ones.
 ///
-/// `NotNode` comes where that would be no node, `NoMemory` where memory was refused.
+/// `NoMemory` comes where memory was refused.
 pub fn replace_link<A: Allocator + Clone>(
     alloc: A,
     node: &NodeView<'_>,
@@ -79,8 +80,19 @@ pub fn replace_link<A: Allocator + Clone>(
     ensures ok { IfOk result (IsNode (link_replaced key.now (shape_of node.now) new)) }
     ensures fault { IfErr result (IsFaultOf (link_replaced key.now (shape_of node.now) new)) }
 {
-    let (cursor, writer) = copied_before(alloc, node, Some(key))?;
-    copy_from(cursor, new, writer)
+    let is_empty = is_bare(node, &new);
+    let bytes = node.with_link(alloc, key, new)?;
+    Ok(Draft { bytes, is_empty })
+}
+
+/// Whether a node with this link in place of one of its own has neither pairs nor a link.
+fn is_bare(node: &NodeView<'_>, link: &Option<Cid>) -> bool
+    ensures { result ≡ is_empty_node (shape_from link.now node.now.entries) }
+{
+    match link {
+        Some(_) => false,
+        None => node.entry_count() == 0,
+    }
 }
 
 /// A node with a pair in its place. A new key comes between `left` and `right`, which take the place of the link that

@@ -1,24 +1,22 @@
-use Rattle.std.proofs.lemmas.Result.{err_from_is_err_and}
-use Rattle.edit_laws.specs.Sources.{shape_from}
-use Rattle.rewrite.proofs.Changing.{Cut, fault-begins, replace_link-begins, replace_link-cut, drafted, faulted}
+use Rattle.std.proofs.Common.{sym, ap, ◌∙◌}
+use Rattle.node.specs.Search.{relinked}
+use Rattle.rewrite.specs.Drafts.{is_empty_node}
+use Rattle.rewrite.proofs.Drafting.{written}
+use Rattle.rewrite.proofs.Relinked.{relinked-shape, relinked-empty}
 use Rattle.rewrite.proofs.rewrites.replace_link.Goals as goal
 
-pub returns-in_err-cursor-clause-fault : goal.returns-in_err-cursor-clause-fault
-returns-in_err-cursor-clause-fault g c =
-    let p = err_from_is_err_and c.from_residual.result c.from_residual.ensures.1 in
-    let s = shape_from c.args.node.now.left c.args.node.now.entries in
-    rw (p.1, p.2) (fault-begins c.in_err-cursor.field-0.0 c.args.key.now s _ (replace_link-begins c.args.key.now c.args.new s) c.in_err-cursor.ensures.fault)
+pub invariant_of-result : goal.invariant_of-result
+invariant_of-result g c =
+    let node = c.args.node.now in
+    let r = relinked c.args.key.now node.left node.entries c.args.new in
+    let shape = relinked-shape c.args.key.now node.left node.entries c.args.new in
+    (written r.left r.entries c.in_ok-bytes.bytes.items c.in_ok-bytes.ensures.grammar c.in_ok-bytes.ensures.bytes).draft
+    c.is_bare-is_empty.result
+    (c.is_bare-is_empty.ensures ∙ relinked-empty c.args.key.now node.left c.args.new node.entries ∙ sym (ap is_empty_node shape))
 
 pub returns-clause-ok : goal.returns-clause-ok
 returns-clause-ok g c =
-    let key = c.args.key.now in
-    let s = shape_from c.args.node.now.left c.args.node.now.entries in
-    let before : Cut key s c.in_ok-cursor.writer c.in_ok-cursor.cursor = record { before = c.in_ok-cursor.ensures.written; here = c.in_ok-cursor.ensures.left } in
-    drafted c.copy_from.result _ _ (replace_link-cut key c.args.new s _ _ before) c.copy_from.ensures.ok
-
-pub returns-clause-fault : goal.returns-clause-fault
-returns-clause-fault g c =
-    let key = c.args.key.now in
-    let s = shape_from c.args.node.now.left c.args.node.now.entries in
-    let before : Cut key s c.in_ok-cursor.writer c.in_ok-cursor.cursor = record { before = c.in_ok-cursor.ensures.written; here = c.in_ok-cursor.ensures.left } in
-    faulted c.copy_from.result _ _ (replace_link-cut key c.args.new s _ _ before) c.copy_from.ensures.fault
+    let node = c.args.node.now in
+    let r = relinked c.args.key.now node.left node.entries c.args.new in
+    (written r.left r.entries c.in_ok-bytes.bytes.items c.in_ok-bytes.ensures.grammar c.in_ok-bytes.ensures.bytes).view
+    ∙ relinked-shape c.args.key.now node.left node.entries c.args.new
