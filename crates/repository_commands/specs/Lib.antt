@@ -7,3 +7,4 @@ pub mod Shards
 pub mod Refusals
 pub mod Outcomes
 pub mod Commands
+pub mod Words

@@ -1,4 +1,8 @@
 //! What the commands are told on a command line.
+ghost use Rattle.std.specs.Prelude.{◌≡◌, IfNone, IfSome};
+ghost use Rattle.clap.specs.Matches.{found_of};
+ghost use Rattle.repository_commands.specs.Words.{IsOfWords, IsOtherName, word_or as word_or_of};
+
 use clap::{Arg, ArgMatches, Command};
 use std::alloc::{AllocError, Global};
 
@@ -87,25 +91,35 @@ pub fn with_words<'a>(alloc: Global, program: Command<'a>) -> Result<Command<'a>
 }
 
 /// The command of this name, with what its words say; or `None` where it is another.
-pub fn command_of<'a>(name: &str, words: &ArgMatches<'a>) -> Option<RepositoryCommand<'a>> {
+pub fn command_of<'a>(name: &str, words: &ArgMatches<'a>) -> Option<RepositoryCommand<'a>>
+    ensures command { IfSome result (IsOfWords name.now (found_of words.now)) }
+    ensures none { IfNone result (IsOtherName name.now) }
+{
     if name == "car" {
         return Some(RepositoryCommand::Car {
-            did: words.get_str("did").unwrap_or(DID),
-            rev: words.get_str("rev").unwrap_or(REV),
+            did: word_or(DID, words, "did"),
+            rev: word_or(REV, words, "rev"),
         });
     }
     if name == "prove" {
         return Some(RepositoryCommand::Prove {
-            key: words.get_str("key").unwrap_or(""),
+            key: word_or("", words, "key"),
         });
     }
     if name == "verify" {
         return Some(RepositoryCommand::Verify {
-            root: words.get_str("root").unwrap_or(""),
-            key: words.get_str("key").unwrap_or(""),
+            root: word_or("", words, "root"),
+            key: word_or("", words, "key"),
         });
     }
     None
+}
+
+/// The text of the word with this id, or another text where there is none.
+fn word_or<'a>(other: &'a str, words: &ArgMatches<'a>, id: &str) -> &'a str
+    ensures { result.now ≡ word_or_of other.now (found_of words.now) id.now }
+{
+    words.get_str(id).unwrap_or(other)
 }
 
 /// The words that `car` takes, with what help shows of them.

@@ -1,3 +1,4 @@
 pub mod TreeText
 pub mod Fault
 pub mod Fronts
+pub mod Words

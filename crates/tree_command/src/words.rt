@@ -1,4 +1,8 @@
 //! What `tree` is told on a command line.
+ghost use Rattle.std.specs.Prelude.{◌≡◌, ℕ};
+ghost use Rattle.clap.specs.Matches.{found_of, one_text};
+ghost use Rattle.tree_command.specs.Words.{HasNumberOf, IsNumberOf};
+
 use crate::bits::Bits;
 use clap::{Arg, ArgMatches, Command, value_parser};
 use std::alloc::{AllocError, Global};
@@ -43,9 +47,15 @@ fn words<'a>(alloc: Global) -> Result<Command<'a>, AllocError> {
 }
 
 /// The number of zero bits that these words of `tree` ask for.
-pub fn bits_of(words: &ArgMatches) -> Bits {
-    words
-        .get_one::<u8>("bits")
-        .and_then(Bits::new)
-        .unwrap_or_default()
+pub fn bits_of(words: &ArgMatches) -> Bits
+    ensures { HasNumberOf (found_of words.now) result }
+{
+    Bits::new(number_or(2, words, "bits")).unwrap_or_default()
+}
+
+/// The number that the word with this id gives, or another one where there is none.
+fn number_or(other: u8, words: &ArgMatches, id: &str) -> u8
+    ensures { (n : ℕ) → IsNumberOf other (one_text (found_of words.now) id.now) n → result ≡ n }
+{
+    words.get_one::<u8>(id).unwrap_or(other)
 }
