@@ -1,4 +1,8 @@
 //! What the command is told on a command line.
+ghost use Rattle.std.specs.Prelude.{◌≡◌, ◌↔◌, ℕ, codes, IfSome, IsSome};
+ghost use Rattle.clap.specs.Matches.{found_of, one_text};
+ghost use Rattle.run_command.specs.Words.{HasNumbersOf, IsNumberOf, did_of_words};
+
 use crate::settings::Settings;
 use clap::{Arg, ArgMatches, Command, value_parser};
 use std::alloc::{AllocError, Global};
@@ -78,15 +82,26 @@ fn words<'a>(alloc: Global) -> Result<Command<'a>, AllocError> {
 }
 
 /// The command of this name, with what its words say; or `None` where it is another.
-pub fn command_of<'a>(name: &str, words: &ArgMatches<'a>) -> Option<RunCommand<'a>> {
+pub fn command_of<'a>(name: &str, words: &ArgMatches<'a>) -> Option<RunCommand<'a>>
+    ensures name { IsSome result ↔ (name.now ≡ codes "run") }
+    ensures did { IfSome result (λ c. c.did.now ≡ did_of_words (found_of words.now)) }
+    ensures settings { IfSome result (λ c. HasNumbersOf (found_of words.now) c.settings) }
+{
     if name != "run" {
         return None;
     }
-    let repos = words.get_one::<u32>("repos").unwrap_or(1);
-    let workers = words.get_one::<u32>("workers").unwrap_or(1);
-    let queue = words.get_one::<u32>("queue").unwrap_or(1024);
+    let repos = number_or(1, words, "repos");
+    let workers = number_or(1, words, "workers");
+    let queue = number_or(1024, words, "queue");
     Some(RunCommand {
         settings: Settings::new(repos, workers, queue).unwrap_or_default(),
         did: words.get_str("did").unwrap_or(DID),
     })
+}
+
+/// The number that the word with this id gives, or another one where there is none.
+fn number_or(other: u32, words: &ArgMatches<'_>, id: &str) -> u32
+    ensures { (n : ℕ) → IsNumberOf other (one_text (found_of words.now) id.now) n → result ≡ n }
+{
+    words.get_one::<u32>(id).unwrap_or(other)
 }
