@@ -11,6 +11,7 @@
 //! - `find` says where a key stands, [`Place`]: in this node with its value, or below a link, or nowhere. `links_beside`
 //!   answers the links on both sides of a key.
 //! - [`NodeWriter`] writes a node entry by entry, in the order of the keys, or copies runs of entries from a view.
+//!   `with_link` of a view copies all of a node but one link, and puts another one in its place.
 //!
 //! Which nodes make a tree is for the crates above: `scratch` builds whole trees, `edit` changes one path. README.md has
 //! an example that reads the top of a tree.

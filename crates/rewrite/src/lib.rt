@@ -21,8 +21,9 @@
 //! ```
 //!
 //! The entries that stay are copied as they stand in the old bytes, a run of them at once: only the entry after a place
-//! that changes is spelt anew, as what its key has in common with the key before depends on that key. No function looks at
-//! another node, and none keeps a key but the one that it is at.
+//! that changes is spelt anew, as what its key has in common with the key before depends on that key. Where nothing but a
+//! link changes, as in most nodes of an edit, nothing else is spelt anew, and no key is put together
+//! ([`node::NodeView::with_link`]). No function looks at another node, and none keeps a key but the one that it is at.
 //!
 //! [`last_link`], [`links_beside`], [`links_if_single`] and [`top_layer`] answer what an edit asks of a node before it
 //! changes it; [`KeyedEntries`] goes through the entries with their whole keys.
