@@ -4,7 +4,7 @@ ghost use Rattle.std.specs.Prelude.{◌≤◌};
 
 use cid::digests::{Size, Toy};
 use cid::{Block, Cid, Digest};
-use edit::{Lent, Source, is_node};
+use edit::{Lent, MarkedBlock, Source, is_node};
 use kept::Kept;
 use repo_fixtures::batch::{EMPTY, ONE, TWO};
 use repo_fixtures::cores::counts;
@@ -101,7 +101,9 @@ static WHAT_IS_NOT_STAGED: [Row; 4] = [
 /// Stages one use more of the block of these bytes.
 fn add<D: Digest>(alloc: Global, shard: &mut Shard<D>, kept: &mut Kept<D>, bytes: &[u8]) -> End {
     match block_of(alloc, bytes) {
-        Ok(block) => end_of(kept.stage_add(&mut LentShard::new(shard), block)),
+        Ok(block) => {
+            end_of(kept.stage_add(&mut LentShard::new(shard), MarkedBlock::of(block)))
+        }
         Err(_) => End::Other,
     }
 }

@@ -3,7 +3,7 @@
 use crate::fixtures::{are_of, edited, tree, tree_of, value};
 use cid::digests::{Size, Toy};
 use cid::{Block, Cid, Collided};
-use edit::{Edit, EditFault};
+use edit::{Edit, EditFault, MarkedBlock};
 use scratch::Built;
 use std::alloc::{AllocError, Global};
 use std::sync::Arc;
@@ -17,9 +17,20 @@ const FIVE: Keys = &[b"a/p0", b"a/q2", b"a/r0"];
 fn sizes(edit: &Edit<Toy>) -> (usize, usize, usize) {
     let mut bytes = 0usize;
     for block in &edit.add {
-        bytes = bytes.saturating_add(block.bytes().len());
+        bytes = bytes.saturating_add(block.block().bytes().len());
     }
     (edit.add.len(), edit.drop.len(), bytes)
+}
+
+/// Adds the blocks that come by an edit to others.
+fn add_come(
+    blocks: &mut Vec<Arc<Block<Toy>>>,
+    come: &[MarkedBlock<Toy>],
+) -> Result<(), AllocError> {
+    for block in come {
+        blocks.push(Arc::try_clone(block.block())?)?;
+    }
+    Ok(())
 }
 
 /// Adds some blocks to others, but for those of these CIDs.
@@ -41,7 +52,7 @@ fn add_others(
 fn leaves(alloc: Global, before: &Built<Toy>, edit: &Edit<Toy>, after: &Built<Toy>) -> bool {
     let mut blocks = Vec::new(alloc);
     add_others(&mut blocks, &before.blocks, &edit.drop).is_ok()
-        && add_others(&mut blocks, &edit.add, &[]).is_ok()
+        && add_come(&mut blocks, &edit.add).is_ok()
         && are_of(alloc, edit.root, &blocks, after)
 }
 
@@ -193,8 +204,8 @@ fn the_same_put_twice(rt: HostRuntime) {
 fn replaces_the_root(edit: &Edit<Toy>, root: Cid) -> bool {
     match (edit.add.as_slice(), edit.drop.as_slice()) {
         ([added], [dropped]) => {
-            (added.cid(), *dropped) == (edit.root, root)
-                && added.bytes().len() == 144
+            (added.block().cid(), *dropped) == (edit.root, root)
+                && added.block().bytes().len() == 144
                 && edit.previous == Some(value())
         }
         _ => false,

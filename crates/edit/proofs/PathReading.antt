@@ -318,11 +318,11 @@ module _ (shows : List ℕ → Option Shape) where
         sym (ap (λ k. asked_pruned shows k (Some c)) e) ∙ ap (asked_pruned_at (asked_pruned shows (n - 1))) h,
       )
 
-  bare-at : (further : Option (List ℕ) → List Shape) (times : Option (List ℕ) → ℕ) (s : Shape) → has_pairs s ≡ false
+  no-pairs-at : (further : Option (List ℕ) → List Shape) (times : Option (List ℕ) → ℕ) (s : Shape) → has_pairs s ≡ false
       → (pruned_at further (Some s) ≡ s ∷ further (first_link s))
       × (asked_pruned_at times (Some s) ≡ suc (times (first_link s)))
-  bare-at further times (LastLink l) h = (refl, refl)
-  bare-at further times (MoreLinks l e r) h = cc
+  no-pairs-at further times (LastLink l) h = (refl, refl)
+  no-pairs-at further times (MoreLinks l e r) h = cc
 
   last-at : (further : Option (List ℕ) → List Shape) (times : Option (List ℕ) → ℕ) (s : Shape) → has_pairs s ≡ true
       → (pruned_at further (Some s) ≡ s ∷ []) × (asked_pruned_at times (Some s) ≡ 1)
@@ -338,7 +338,7 @@ module _ (shows : List ℕ → Option Shape) where
         → IsChainSoFar shows n₀ l₀ n l nodes → IsChainSoFar shows n₀ l₀ (n - 1) (first_link s) (nodes ++ s ∷ [])
     chain-more c s t p h b f =
         let a = shown-at n c (Some s) t h in
-        let e = bare-at (pruned_from shows (n - 1)) (asked_pruned shows (n - 1)) s b in
+        let e = no-pairs-at (pruned_from shows (n - 1)) (asked_pruned shows (n - 1)) s b in
         let i : asked_pruned shows n₀ l₀ ≡ length nodes + asked_pruned shows n (Some c) = f.asked
         ∙ ap (λ o. length nodes + asked_pruned shows n o) p in
         let j : asked_pruned shows n (Some c) ≡ suc (asked_pruned shows (n - 1) (first_link s)) = a.1 ∙ e.1 in

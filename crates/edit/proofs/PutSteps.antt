@@ -190,28 +190,28 @@ module _ (digest : List ℕ → List ℕ) (d : ℕ) (p : Pair) (path above below
   abbrev sides : List Shape
   sides = split_shapes digest p.0 (tail_shapes (drop d path))
 
-  abbrev bare : List Shape
-  bare = node_pads digest (d - length path) here
+  abbrev pads : List Shape
+  pads = node_pads digest (d - length path) here
 
   abbrev climbed : List Shape
   climbed = climb_shapes digest p.0 (take d path) padded
 
   of-sides : AllLawful all_of → AllLawful sides
-  of-sides all = front-all Lawful sides _ (front-all Lawful (sides ++ (bare ++ climbed)) _ all)
+  of-sides all = front-all Lawful sides _ (front-all Lawful (sides ++ (pads ++ climbed)) _ all)
 
-  of-bare : AllLawful all_of → AllLawful bare
-  of-bare all =
-      front-all Lawful bare _ (back-all Lawful sides _ (front-all Lawful (sides ++ (bare ++ climbed)) _ all))
+  of-pads : AllLawful all_of → AllLawful pads
+  of-pads all =
+      front-all Lawful pads _ (back-all Lawful sides _ (front-all Lawful (sides ++ (pads ++ climbed)) _ all))
 
   of-climbed : AllLawful all_of → AllLawful (climbed ++ (climb digest p.0 (take d path) padded ∷ []))
   of-climbed all =
       join-all Lawful climbed _
-      (back-all Lawful bare _ (back-all Lawful sides _ (front-all Lawful (sides ++ (bare ++ climbed)) _ all)))
-      (back-all Lawful (sides ++ (bare ++ climbed)) _ all)
+      (back-all Lawful pads _ (back-all Lawful sides _ (front-all Lawful (sides ++ (pads ++ climbed)) _ all)))
+      (back-all Lawful (sides ++ (pads ++ climbed)) _ all)
 
-  of-padded : AllLawful all_of → AllLawful (bare ++ (padded ∷ []))
+  of-padded : AllLawful all_of → AllLawful (pads ++ (padded ∷ []))
   of-padded all =
-      join-all Lawful bare (padded ∷ []) (of-bare all)
+      join-all Lawful pads (padded ∷ []) (of-pads all)
       (climb-has digest p.0 (take d path) padded (of-climbed all), tt)
 
   of-here : AllLawful all_of → AllLawful (sides ++ (here ∷ []))
@@ -266,23 +266,23 @@ module _ (digest : List ℕ → List ℕ) (d : ℕ) (p : Pair) (path above below
           let t = put_below digest d p path in
           let d1 : m1 ≡ m0 ++ map shape_bytes sides =
           h1 ∙ ap (λ (ss : List Shape). m0 ++ map shape_bytes (split_shapes digest p.0 (tail_shapes ss))) cut.rest in
-          let d2 : m2 ≡ (m0 ++ map shape_bytes sides) ++ map shape_bytes bare =
+          let d2 : m2 ≡ (m0 ++ map shape_bytes sides) ++ map shape_bytes pads =
           h2 ∙ ap (λ (k : ℕ). m1 ++ map shape_bytes (node_pads digest k node)) cut.layers
           ∙ ap (λ (s : Shape). m1 ++ map shape_bytes (node_pads digest (d - length path) s)) node-is
-          ∙ ap (λ v. v ++ map shape_bytes bare) d1 in
-          let d3 : m3 ≡ ((m0 ++ map shape_bytes sides) ++ map shape_bytes bare) ++ map shape_bytes climbed =
+          ∙ ap (λ v. v ++ map shape_bytes pads) d1 in
+          let d3 : m3 ≡ ((m0 ++ map shape_bytes sides) ++ map shape_bytes pads) ++ map shape_bytes climbed =
           h3 ∙ ap (λ (a : List Shape). m2 ++ map shape_bytes (climb_shapes digest p.0 a padded_top)) cut.front
           ∙ ap (λ (s : Shape). m2 ++ map shape_bytes (climb_shapes digest p.0 (take d path) s)) padded_top-is
           ∙ ap (λ v. v ++ map shape_bytes climbed) d2 in
-          let d4 : m4 ≡ (((m0 ++ map shape_bytes sides) ++ map shape_bytes bare) ++ map shape_bytes climbed) ++ shape_bytes t ∷ [] =
+          let d4 : m4 ≡ (((m0 ++ map shape_bytes sides) ++ map shape_bytes pads) ++ map shape_bytes climbed) ++ shape_bytes t ∷ [] =
           h4 ∙ ap (λ (x : Shape). m3 ++ shape_bytes x ∷ []) (below-top top ht)
           ∙ ap (λ v. v ++ shape_bytes t ∷ []) d3 in
-          let whole : map shape_bytes ((sides ++ (bare ++ climbed)) ++ (t ∷ []))
-          ≡ (map shape_bytes sides ++ (map shape_bytes bare ++ map shape_bytes climbed)) ++ (shape_bytes t ∷ []) =
-          map-two (sides ++ (bare ++ climbed)) (t ∷ [])
-          ∙ ap (λ v. v ++ (shape_bytes t ∷ [])) (map-two sides (bare ++ climbed)
-          ∙ ap (λ v. map shape_bytes sides ++ v) (map-two bare climbed)) in
-          d4 ∙ grouped m0 (map shape_bytes sides) (map shape_bytes bare) (map shape_bytes climbed) (shape_bytes t ∷ [])
+          let whole : map shape_bytes ((sides ++ (pads ++ climbed)) ++ (t ∷ []))
+          ≡ (map shape_bytes sides ++ (map shape_bytes pads ++ map shape_bytes climbed)) ++ (shape_bytes t ∷ []) =
+          map-two (sides ++ (pads ++ climbed)) (t ∷ [])
+          ∙ ap (λ v. v ++ (shape_bytes t ∷ [])) (map-two sides (pads ++ climbed)
+          ∙ ap (λ v. map shape_bytes sides ++ v) (map-two pads climbed)) in
+          d4 ∙ grouped m0 (map shape_bytes sides) (map shape_bytes pads) (map shape_bytes climbed) (shape_bytes t ∷ [])
           ∙ ap (λ v. m0 ++ v) (sym whole)
         where
           grouped : (m a b c t : List (List ℕ)) → (((m ++ a) ++ b) ++ c) ++ t ≡ m ++ ((a ++ (b ++ c)) ++ t)

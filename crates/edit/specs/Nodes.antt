@@ -1,8 +1,9 @@
 -- Nodes that were read.
-use Rattle.std.specs.Prelude.{◌≡◌, ◌<◌, ◌^◌, ℕ, Bool, true, false, length, List, Option, Some, None, Result, Ok, Err, is_ok}
-use Rattle.spec.specs.NodeFormat.{Entry, NodeFault, read_node, Shape, LastLink, MoreLinks, shape_bytes}
+use Rattle.std.specs.Prelude.{◌≡◌, ◌<◌, ◌^◌, ℕ, Bool, true, false, length, List, Option, Some, None, Result, Ok, Err}
+use Rattle.spec.specs.NodeFormat.{Entry, NodeFault, Shape, LastLink, MoreLinks, shape_bytes}
 use Rattle.node.specs.Contents.{Contents}
 use Rattle.edit_laws.specs.Lawful.{Lawful}
+use Rattle.rewrite.specs.Drafts.{reads_as_node}
 
 -- a node of the grammar, and these are its bytes, which a machine can count
 pub record IsNodeOf (bytes : List ℕ) (s : Shape) : Type 0 where
@@ -24,10 +25,6 @@ has_pairs (MoreLinks l e r) = true
 abbrev pub contents_of : Result (Option (List ℕ) × List Entry) NodeFault → Option Contents
 contents_of (Ok n) = Some (record { left = n.0; entries = n.1 })
 contents_of (Err f) = None
-
--- whether the bytes of a block are a node's
-abbrev pub reads_as_node : List ℕ → Bool
-reads_as_node bytes = is_ok (read_node bytes)
 
 -- a block that is marked is a node
 abbrev pub IsMarked : List ℕ → Bool → Type 0

@@ -11,7 +11,9 @@ ghost use Rattle.edit.specs.Faults.{IsRefusal};
 
 use crate::loading::Node;
 use crate::outcome::EditFault;
+use crate::source::MarkedBlock;
 use cid::{Block, Cid, Collided, Digest};
+use rewrite::{Made, NodeBlock};
 use std::alloc::{AllocError, Allocator};
 use std::sync::Arc;
 
@@ -20,8 +22,8 @@ use std::sync::Arc;
 pub(crate) fn added<D: Digest, A: Allocator>(
     alloc: A,
     read: &[Node<'_, D, A>],
-    made: Vec<Arc<Block<D, A>, A>, A>,
-) -> Result<Vec<Arc<Block<D, A>, A>, A>, EditFault<D, A>>
+    made: Made<D, A>,
+) -> Result<Vec<MarkedBlock<D, A>, A>, EditFault<D, A>>
     ensures add { IfOk result (λ add. map arc_value add.items ≡ add_of D.digest_of
         (map shape_bytes read.now) (map arc_value made.items)) }
     ensures clash_free { IsClashFree D.digest_of (map shape_bytes read.now) → IfOk result
@@ -34,7 +36,7 @@ pub(crate) fn added<D: Digest, A: Allocator>(
     let mut add = Vec::new(alloc);
     for block in made {
         if !is_read(&block, read)? && !is_made(&block, &add)? {
-            add.push(block)?;
+            add.push(MarkedBlock::of_node(block))?;
         }
     }
     Ok(add)
@@ -43,7 +45,7 @@ pub(crate) fn added<D: Digest, A: Allocator>(
 /// The CIDs of the nodes that go, but for those of blocks that are made.
 pub(crate) fn dropped<D: Digest, A: Allocator>(
     alloc: A,
-    made: &[Arc<Block<D, A>, A>],
+    made: &[NodeBlock<D, A>],
     gone: &[Node<'_, D, A>],
 ) -> Result<Vec<Cid, A>, AllocError>
     ensures { IfOk result (λ dropped. dropped.items ≡ drop_of D.digest_of (map arc_value made.now)
@@ -61,7 +63,7 @@ pub(crate) fn dropped<D: Digest, A: Allocator>(
 
 /// Whether the block is one of those that were read; its CID with other bytes is a clash.
 fn is_read<D: Digest, A: Allocator>(
-    block: &Arc<Block<D, A>, A>,
+    block: &NodeBlock<D, A>,
     read: &[Node<'_, D, A>],
 ) -> Result<bool, EditFault<D, A>>
     ensures found { IfOk result
@@ -70,7 +72,7 @@ fn is_read<D: Digest, A: Allocator>(
         (IsRefusal D.digest_of (arc_value block.now ∷ map shape_bytes read.now) ⊥) }
 {
     for node in read {
-        if is_same(block, node.block())? {
+        if is_same(block.block(), node.block())? {
             return Ok(true);
         }
     }
@@ -79,8 +81,8 @@ fn is_read<D: Digest, A: Allocator>(
 
 /// Whether the block is one of these; its CID with other bytes is a clash.
 fn is_made<D: Digest, A: Allocator>(
-    block: &Arc<Block<D, A>, A>,
-    made: &[Arc<Block<D, A>, A>],
+    block: &NodeBlock<D, A>,
+    made: &[MarkedBlock<D, A>],
 ) -> Result<bool, EditFault<D, A>>
     ensures found { IfOk result
         (IsAmong D.digest_of (arc_value block.now) (map arc_value made.now)) }
@@ -88,7 +90,7 @@ fn is_made<D: Digest, A: Allocator>(
         (IsRefusal D.digest_of (arc_value block.now ∷ map arc_value made.now) ⊥) }
 {
     for other in made {
-        if is_same(block, other)? {
+        if is_same(block.block(), other.block())? {
             return Ok(true);
         }
     }
@@ -115,11 +117,11 @@ fn is_same<D: Digest, A: Allocator>(
 }
 
 /// Whether one of the blocks has this CID.
-fn has_cid<D: Digest, A: Allocator>(blocks: &[Arc<Block<D, A>, A>], cid: Cid) -> bool
+fn has_cid<D: Digest, A: Allocator>(blocks: &[NodeBlock<D, A>], cid: Cid) -> bool
     ensures { result ≡ has_cid_of cid (map (cid_of D.digest_of) (map arc_value blocks.now)) }
 {
     for block in blocks {
-        if cid == block.cid() {
+        if cid == block.block().cid() {
             return true;
         }
     }

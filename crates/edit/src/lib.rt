@@ -20,7 +20,7 @@
 //! proofs alone:
 //!
 //! ```text
-//! struct OneBlock<'a, D: Digest> { block: &'a TestedBlock<D>, asked: ReadCount }
+//! struct OneBlock<'a, D: Digest> { block: &'a MarkedBlock<D>, asked: ReadCount }
 //!
 //! impl<'a, D: Digest> Source<Lent<'a, D>> for OneBlock<'a, D> {
 //!     ghost gives = { λ one. first_of D.digest_of (one.block.now ∷ []) };
@@ -58,5 +58,5 @@ pub use lookups::get;
 pub use node::is_key;
 pub use outcome::{Edit, EditFault};
 pub use puts::put;
-pub use source::{Lent, ReadCount, Source, TestedBlock, is_node};
+pub use source::{Lent, MarkedBlock, ReadCount, Source, is_node};
 pub use walks::walk;

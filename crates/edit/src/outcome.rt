@@ -3,10 +3,10 @@
 ghost use Rattle.std.specs.Prelude.{◌≡◌};
 ghost use Rattle.edit.specs.declared.outcome.EditFault.TheVariants.{NoMemory};
 
-use cid::{Block, Cid, Collided, Digest};
+use crate::source::MarkedBlock;
+use cid::{Cid, Collided, Digest};
 use rewrite::RewriteFault;
 use std::alloc::{AllocError, AllocFailed, Allocator, Global};
-use std::sync::Arc;
 use thiserror::Error;
 
 /// What one write does to a tree and to the set of its blocks. The blocks before, without those of `drop` and with
@@ -16,9 +16,9 @@ use thiserror::Error;
 pub struct Edit<D: Digest, A: Allocator = Global> {
     /// The root after the write.
     pub root: Cid,
-    /// New blocks, each once, none of which was read; those of lower layers come first on each side of the key, the new
-    /// top last, where it is new.
-    pub add: Vec<Arc<Block<D, A>, A>, A>,
+    /// New blocks, each once, none of which was read, and each marked as a node; those of lower layers come first on each
+    /// side of the key, the new top last, where it is new.
+    pub add: Vec<MarkedBlock<D, A>, A>,
     /// The CIDs of the blocks that go, each once. What is both added and dropped stands in neither.
     pub drop: Vec<Cid, A>,
     /// The value that the key had before.

@@ -4,11 +4,13 @@ ghost use Rattle.std.specs.Prelude.{◌≡◌, ℕ, suc, List, Option, IfSome};
 ghost use Rattle.std.specs.Arc.{arc_value};
 ghost use Rattle.std.specs.Borrow.{ftrue};
 ghost use Rattle.spec.specs.NodeFormat.{read_node};
-ghost use Rattle.edit.specs.Nodes.{contents_of, reads_as_node, IsMarked, IsNodeOf};
+ghost use Rattle.rewrite.specs.Drafts.{reads_as_node};
+ghost use Rattle.edit.specs.Nodes.{contents_of, IsMarked, IsNodeOf};
 ghost use Rattle.rewrite.specs.Entries.{shape_of};
 
 use cid::{Block, Cid, Digest};
 use node::NodeView;
+use rewrite::NodeBlock;
 use std::alloc::{Allocator, Global};
 use std::marker::Model;
 use std::sync::Arc;
@@ -34,7 +36,7 @@ pub trait Source<T> {
 /// A block that a source lends, with a mark where it is known to be a node. A marked block isn't tested when it is read.
 ///
 /// Half of the work of a look-up is the test of each block against the grammar of nodes. Who keeps blocks for several
-/// reads tests each once, by [`is_node`] or [`TestedBlock`], and lends it with what came out; for blocks that are read once
+/// reads tests each once, by [`is_node`] or [`MarkedBlock`], and lends it with what came out; for blocks that are read once
 /// `Lent::of` is enough. What is read is the same either way.
 ///
 /// A contract sees it as the block.
@@ -137,16 +139,17 @@ fn view_of(bytes: &[u8], is_node: bool) -> Option<NodeView<'_>>
     }
 }
 
-/// A block with the mark whether it is a node, for a source that owns its blocks.
+/// A block with a mark where it is known to be a node: what an edit adds, and what a source that owns its blocks keeps.
 ///
 /// A contract sees it as the block.
 #[derive(Drop)]
-pub struct TestedBlock<D: Digest, A: Allocator = Global> {
+#[derive_where(Debug)]
+pub struct MarkedBlock<D: Digest, A: Allocator = Global> {
     block: Arc<Block<D, A>, A>,
     is_node: bool,
 }
 
-impl<D: Digest, A: Allocator> Model for TestedBlock<D, A> {
+impl<D: Digest, A: Allocator> Model for MarkedBlock<D, A> {
     ghost use Rattle.std.specs.Prelude.{ℕ, List};
     ghost use Rattle.std.specs.Arc.{arc_value};
     ghost use Rattle.std.specs.declared.sync.Arc.{Arc};
@@ -159,16 +162,57 @@ impl<D: Digest, A: Allocator> Model for TestedBlock<D, A> {
     ghost invariant = { λ b. IsMarked (arc_value b.block) b.is_node };
 }
 
-impl<D: Digest, A: Allocator> TestedBlock<D, A> {
+impl<D: Digest, A: Allocator> MarkedBlock<D, A> {
+    /// A block of which nothing is known.
+    pub fn of(block: Arc<Block<D, A>, A>) -> MarkedBlock<D, A>
+        ensures { result ≡ block }
+    {
+        MarkedBlock {
+            block,
+            is_node: false,
+        }
+    }
+
     /// A block that is tested here, once.
-    pub fn of(block: Arc<Block<D, A>, A>) -> TestedBlock<D, A>
+    pub fn tested(block: Arc<Block<D, A>, A>) -> MarkedBlock<D, A>
         ensures { result ≡ block }
     {
         let is_node = is_node(block.bytes());
-        TestedBlock { block, is_node }
+        MarkedBlock { block, is_node }
     }
 
-    /// The block with its mark.
+    /// A block that was written as a node, which needs no test.
+    pub fn of_node(node: NodeBlock<D, A>) -> MarkedBlock<D, A>
+        ensures { result ≡ node }
+    {
+        MarkedBlock {
+            block: node.into_block(),
+            is_node: true,
+        }
+    }
+
+    /// The block.
+    pub fn block(&self) -> &Arc<Block<D, A>, A>
+        ensures { result.now ≡ self.now }
+    {
+        &self.block
+    }
+
+    /// The mark: `true` only where the block is a node.
+    pub fn is_marked(&self) -> bool
+        ensures { IsMarked (arc_value self.now) result }
+    {
+        self.is_node
+    }
+
+    /// The block alone.
+    pub fn into_block(self) -> Arc<Block<D, A>, A>
+        ensures { result ≡ self }
+    {
+        self.block
+    }
+
+    /// The block with its mark, lent.
     pub fn lent(&self) -> Lent<'_, D, A>
         ensures { result ≡ self.now }
     {

@@ -120,7 +120,7 @@ seam-shapes : delete_root plain (113 ∷ 2 ∷ []) (map (shape plain) (find_path
 unfolding order
 seam-shapes = refl
 
--- a key two layers above the others: bare nodes come between
+-- a key two layers above the others: nodes without keys come between
 padded_top-shapes : put_root plain toy (key 113 2)
     (map (shape plain) (find_path 1 (113 ∷ 2 ∷ []) (Sub (top toy (p0 ∷ r0 ∷ [])))))
     ≡ shape plain (top toy (p0 ∷ q2 ∷ r0 ∷ []))

@@ -14,7 +14,7 @@ use crate::kept_use::End;
 use crate::lender::Lender;
 use crate::use_map::UseMap;
 use cid::{Block, Cid, Digest};
-use edit::ReadCount;
+use edit::{MarkedBlock, ReadCount};
 use std::alloc::{AllocError, Allocator, Global};
 use std::marker::Model;
 use std::sync::Arc;
@@ -183,7 +183,7 @@ impl<D: Digest, A: Allocator + Clone> Kept<D, A> {
         })
     }
 
-    /// Stages one use more of a block, which is acquired where it isn't held.
+    /// Stages one use more of a block, which is acquired where it isn't held. Where it has no mark, it is tested then, once.
     ///
     /// `StoreFault::Collision` shows the given and the held block where other bytes are held under its CID, here or in the
     /// store; `StoreFault::Full` and `StoreFault::NoMemory` are the store's, the latter also where memory for the entry
@@ -191,7 +191,7 @@ impl<D: Digest, A: Allocator + Clone> Kept<D, A> {
     pub fn stage_add<S: BlockStore<Arc<Block<D, A>, A>, Hold<D, A>, StoreFault<D, A>>>(
         &mut self,
         store: &mut S,
-        block: Arc<Block<D, A>, A>,
+        block: MarkedBlock<D, A>,
     ) -> Result<(), StoreFault<D, A>>
         requires { IsStore D.digest_of S.fulls S.answers }
         ensures added { OnOk result (self.new
@@ -204,7 +204,7 @@ impl<D: Digest, A: Allocator + Clone> Kept<D, A> {
         ensures fault { IfErr result (IsRefusalOf D.digest_of (arc_value block)) }
         ensures fulls { S.fulls store.new ≡ fulls_after (S.fulls store.old) result }
     {
-        let cid = block.cid();
+        let cid = block.block().cid();
         self.touched.reserve(1)?;
         let fresh = self.blocks.raise(store, self.me, block)?;
         note(&mut self.touched, cid, fresh);

@@ -14,6 +14,7 @@ ghost use Rattle.kept.specs.Leaving.{AreNamed, AreGivenBack};
 use crate::held::Held;
 use crate::kept_use::{End, Use};
 use cid::{Block, Cid, Digest};
+use edit::MarkedBlock;
 use std::alloc::{AllocFailed, Allocator};
 use std::collections::HashMap;
 use std::collections::hash_map::Iter;
@@ -157,7 +158,7 @@ impl<D: Digest, A: Allocator + Clone> UseMap<D, A> {
         &mut self,
         store: &mut S,
         me: u32,
-        block: Arc<Block<D, A>, A>,
+        block: MarkedBlock<D, A>,
     ) -> Result<bool, StoreFault<D, A>>
         requires small { me < 1024 }
         requires uses { AreUses D.digest_of me (at self.old) }
@@ -169,11 +170,13 @@ impl<D: Digest, A: Allocator + Clone> UseMap<D, A> {
         ensures fault { IfErr result (IsRefusalOf D.digest_of (arc_value block)) }
         ensures fulls { S.fulls store.new ≡ fulls_after (S.fulls store.old) result }
     {
-        let cid = block.cid();
+        let cid = block.block().cid();
+        let is_marked = block.is_marked();
+        let block = block.into_block();
         if let Some(held) = self.blocks.get_mut(&cid) {
             return held.raise(block);
         }
-        let hold = Held::of(store.acquire(me, block)?);
+        let hold = Held::of(store.acquire(me, block)?, is_marked);
         let new = Use {
             hold,
             uses: 0,

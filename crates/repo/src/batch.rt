@@ -20,7 +20,7 @@ ghost use Rattle.store.specs.Stores.{IsStore};
 use crate::staging::{gain, lose, stage_next};
 use batches::{RepoFault, Stamp, Write, commit_bytes, test_write};
 use cid::{Block, Cid, Digest};
-use edit::ReadCount;
+use edit::{MarkedBlock, ReadCount};
 use kept::{Kept, value_staged};
 use std::alloc::{AllocError, Allocator};
 use std::sync::Arc;
@@ -236,7 +236,7 @@ pub(crate) fn stage_commit<
 {
     let block = commit_block(alloc, stamp, root)?;
     let cid = block.cid();
-    gain(kept, store, block)?;
+    gain(kept, store, MarkedBlock::of(block))?;
     lose(kept, store, last)?;
     Ok(cid)
 }

@@ -10,6 +10,7 @@ ghost use Rattle.store.specs.Stores.{IsStore};
 use crate::staging::gain;
 use batches::RepoFault;
 use cid::{Block, Digest};
+use edit::MarkedBlock;
 use kept::Kept;
 use std::alloc::{AllocError, Allocator};
 use std::sync::Arc;
@@ -46,7 +47,7 @@ pub(crate) fn kept_once<
         (S.fulls store.old) (S.fulls store.new)) }
 {
     let mut kept = Kept::open(alloc, me)?;
-    match gain(&mut kept, store, block) {
+    match gain(&mut kept, store, MarkedBlock::of(block)) {
         Ok(()) => {
             kept.accept(store);
             Ok(kept)

@@ -15,7 +15,7 @@ ghost use Rattle.store.specs.Stores.{IsStore};
 
 use batches::{RepoFault, Write};
 use cid::{Block, Cid, Digest};
-use edit::{Edit, EditFault, ReadCount};
+use edit::{Edit, EditFault, MarkedBlock, ReadCount};
 use kept::{Kept, delete_staged, put_staged};
 use std::alloc::{AllocError, Allocator};
 use std::clone::Clone;
@@ -166,15 +166,15 @@ fn exchange<
 
 /// The blocks, and after them this one, if it is one.
 fn with_block<D: Digest, A: Allocator>(
-    mut blocks: Vec<Arc<Block<D, A>, A>, A>,
+    mut blocks: Vec<MarkedBlock<D, A>, A>,
     block: Option<Arc<Block<D, A>, A>>,
-) -> Result<Vec<Arc<Block<D, A>, A>, A>, AllocError>
+) -> Result<Vec<MarkedBlock<D, A>, A>, AllocError>
     ensures { IfOk result (λ more. map arc_value more.items
         ≡ map arc_value blocks.items ++ cons_option (option_map arc_value block) []) }
 {
     match block {
         Some(block) => {
-            blocks.push(block)?;
+            blocks.push(MarkedBlock::of(block))?;
             Ok(blocks)
         }
         None => Ok(blocks),
@@ -205,7 +205,7 @@ fn gain_all<
 >(
     kept: &mut Kept<D, A>,
     store: &mut S,
-    blocks: Vec<Arc<Block<D, A>, A>, A>,
+    blocks: Vec<MarkedBlock<D, A>, A>,
 ) -> Result<(), RepoFault<D, A>>
     requires store { IsStore D.digest_of S.fulls S.answers }
     ensures gained { OnOk result
@@ -227,7 +227,7 @@ pub(crate) fn gain<
     D: Digest,
     A: Allocator + Clone,
     S: BlockStore<Arc<Block<D, A>, A>, Hold<D, A>, StoreFault<D, A>>,
->(kept: &mut Kept<D, A>, store: &mut S, block: Arc<Block<D, A>, A>) -> Result<(), RepoFault<D, A>>
+>(kept: &mut Kept<D, A>, store: &mut S, block: MarkedBlock<D, A>) -> Result<(), RepoFault<D, A>>
     requires store { IsStore D.digest_of S.fulls S.answers }
     ensures gained { OnOk result
         (IsGained D.digest_of (arc_value block ∷ []) kept.old.staged kept.new.staged) }

@@ -1,6 +1,6 @@
 -- Nodes written pair by pair.
 use Rattle.std.proofs.Common.{◌≡◌, ℕ, ◌^◌, Bool, true, false, ◌&&◌, ltb, List, [], ◌∷◌, ◌++◌, length, Option, None, Some, refl, sym, ap, subst, ◌∙◌}
-use Rattle.std.specs.Prelude.{not, is_some}
+use Rattle.std.specs.Prelude.{not, is_some, is_ok}
 use Rattle.std.specs.Cmp.Lexicographic.{slice_cmp}
 use Rattle.std.specs.Ordering.{nat_cmp, is_lt}
 use Rattle.spec.specs.Tree.{Pair}
@@ -10,7 +10,7 @@ use Rattle.spec.proofs.NodeLaws.{read_node-node_spelling}
 use Rattle.node.specs.Contents.{Contents, last_key, is_next_key}
 use Rattle.edit_laws.specs.Lawful.{Lawful}
 use Rattle.edit_laws.specs.Sources.{shape_from, shape_of_reading}
-use Rattle.rewrite.specs.Drafts.{onto, or_empty, shape_in, IsDraft, is_empty_node, turned}
+use Rattle.rewrite.specs.Drafts.{onto, or_empty, shape_in, reads_as_node, IsDraft, is_empty_node, turned}
 use Rattle.rewrite.proofs.NodeReading.{first_link-from, entries_of-from}
 
 abbrev pub Links : Type 0
@@ -114,6 +114,12 @@ written left es bytes node spelled =
       view = view;
     }
 
+-- the bytes of a draft are a node's
+pub draft-reads : (bytes : List ℕ) (is_empty : Bool) → IsDraft bytes is_empty → reads_as_node bytes ≡ true
+draft-reads bytes is_empty d =
+    let s = shape_in bytes in
+    ap reads_as_node d.spelled ∙ ap is_ok (read_node-node_spelling (first_link s) (entries_of s) d.lawful)
+
 never-is_empty : (left : Option (List ℕ)) (es : List Entry) (e : Entry) → false ≡ is_empty_node (shape_from left (es ++ e ∷ []))
 never-is_empty left [] e = refl
 never-is_empty left (d ∷ es) e = refl
@@ -155,10 +161,10 @@ is_empty-last (Some c) true h = absurd cc
 is_empty-last (Some c) false h = refl
 
 -- the bytes of a node without pairs
-pub bare : (last : Option (List ℕ)) (now : Contents) (bytes : List ℕ) (b : Bool) → now ≡ record { left = last; entries = [] }
+pub without-pairs : (last : Option (List ℕ)) (now : Contents) (bytes : List ℕ) (b : Bool) → now ≡ record { left = last; entries = [] }
     → is_node now.left now.entries ≡ true → bytes ≡ node_spelling now.left now.entries → is_some last ≡ not b
     → IsDraft bytes b × (shape_in bytes ≡ LastLink last)
-bare last now bytes b is node spelled none =
+without-pairs last now bytes b is node spelled none =
     let w = written last [] bytes (sym (ap (λ (x : Contents). is_node x.left x.entries) is) ∙ node)
     (spelled ∙ ap (λ (x : Contents). node_spelling x.left x.entries) is) in
     (w.draft b (is_empty-last last b none), w.view)

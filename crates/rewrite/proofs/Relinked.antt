@@ -44,12 +44,12 @@ relinked-empty key left new [] = refl
 relinked-empty key left new (e ∷ es) =
     never-empty (order e.key key) left new e (shape_from e.tree es) (link_replaced key (shape_from e.tree es) new)
 
-pub bare-by : (link : Option (List ℕ)) (es : List Entry) (n : ℕ) (b : Bool) → n ≡ length es → b ≡ eqb n 0 → link ≡ None
+pub empty-without : (link : Option (List ℕ)) (es : List Entry) (n : ℕ) (b : Bool) → n ≡ length es → b ≡ eqb n 0 → link ≡ None
     → b ≡ is_empty_node (shape_from link es)
-bare-by link [] n b count is none = rw (is, count, none) refl
-bare-by link (e ∷ es) n b count is none =
+empty-without link [] n b count is none = rw (is, count, none) refl
+empty-without link (e ∷ es) n b count is none =
     is ∙ ap (λ (m : ℕ). eqb m 0) count ∙ ne_eqb (length (e ∷ es)) 0 (λ q. omega arith)
 
-pub linked-bare : (link : Option (List ℕ)) (es : List Entry) (c : List ℕ) → link ≡ Some c → false ≡ is_empty_node (shape_from link es)
-linked-bare link [] c some = rw some refl
-linked-bare link (e ∷ es) c some = refl
+pub not-empty-above : (link : Option (List ℕ)) (es : List Entry) (c : List ℕ) → link ≡ Some c → false ≡ is_empty_node (shape_from link es)
+not-empty-above link [] c some = rw some refl
+not-empty-above link (e ∷ es) c some = refl

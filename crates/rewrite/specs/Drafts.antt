@@ -1,12 +1,12 @@
 -- Nodes that are written anew, and when one can't be written.
-use Rattle.std.specs.Prelude.{◌≡◌, ⊤, ℕ, Bool, true, false, List, [], ◌∷◌, ◌++◌, map, Option, Some, None}
+use Rattle.std.specs.Prelude.{◌≡◌, ⊤, ℕ, Bool, true, false, List, [], ◌∷◌, ◌++◌, map, Option, Some, None, is_ok}
 use Rattle.std.specs.Arc.{arc_value}
 use Rattle.std.specs.declared.sync.Arc.{Arc}
 use Rattle.std.specs.declared.vec.Vec.{Vec}
 use Rattle.cid.specs.CidRef.{bytes_of}
 use Rattle.cid.specs.declared.cid_ref.CidRef.{CidRef}
 use Rattle.spec.specs.Tree.{Pair}
-use Rattle.spec.specs.NodeFormat.{Entry, Shape, LastLink, MoreLinks, shape_bytes}
+use Rattle.spec.specs.NodeFormat.{Entry, Shape, LastLink, MoreLinks, shape_bytes, read_node}
 use Rattle.edit_laws.specs.Lawful.{Lawful}
 use Rattle.edit_laws.specs.Sources.{shape_of_bytes}
 use Rattle.rewrite.specs.declared.draft.RewriteFault.{RewriteFault}
@@ -47,6 +47,10 @@ pub record IsDraft (bytes : List ℕ) (is_empty : Bool) : Type 0 where
   pub lawful : Lawful (shape_in bytes)
   pub spelled : bytes ≡ shape_bytes (shape_in bytes)
   pub empty : is_empty ≡ is_empty_node (shape_in bytes)
+
+-- whether the bytes of a block are a node's
+abbrev pub reads_as_node : List ℕ → Bool
+reads_as_node bytes = is_ok (read_node bytes)
 
 -- ---- nodes by their entries
 

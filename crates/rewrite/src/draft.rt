@@ -1,19 +1,59 @@
-//! Nodes that were written and aren't yet blocks, and why one was not written.
+//! Nodes that were written, their blocks, and why one was not written.
 
-ghost use Rattle.std.specs.Prelude.{◌≡◌, ◌∷◌, [], IfOk, OnOk};
+ghost use Rattle.std.specs.Prelude.{◌≡◌, ◌∷◌, [], true, IfOk, OnOk};
+ghost use Rattle.std.specs.Arc.{arc_value};
 ghost use Rattle.spec.specs.NodeFormat.{shape_cid};
 ghost use Rattle.edit_laws.specs.Lawful.{Lawful};
 ghost use Rattle.edit_laws.specs.ShapeEdit.{close_link, close_shapes};
-ghost use Rattle.rewrite.specs.Drafts.{Adds};
+ghost use Rattle.rewrite.specs.Drafts.{Adds, reads_as_node};
 ghost use Rattle.rewrite.specs.declared.draft.RewriteFault.TheVariants.{NoMemory};
 
 use cid::{Block, Cid, Digest};
-use std::alloc::{AllocError, AllocFailed, Allocator};
+use std::alloc::{AllocError, AllocFailed, Allocator, Global};
 use std::marker::Model;
 use std::sync::Arc;
 
 /// The blocks that an edit makes, in the order in which they are made.
-pub type Made<D, A> = Vec<Arc<Block<D, A>, A>, A>;
+pub type Made<D, A> = Vec<NodeBlock<D, A>, A>;
+
+/// A block whose bytes are a node's (AT Protocol repository v3, MST node data format). Only a [`Draft`] is made one, so
+/// nobody need test it again.
+///
+/// A contract sees it as the block.
+#[derive(Drop)]
+pub struct NodeBlock<D: Digest, A: Allocator = Global> {
+    block: Arc<Block<D, A>, A>,
+}
+
+impl<D: Digest, A: Allocator> Model for NodeBlock<D, A> {
+    ghost use Rattle.std.specs.Prelude.{◌≡◌, ℕ, List, true};
+    ghost use Rattle.std.specs.Arc.{arc_value};
+    ghost use Rattle.std.specs.declared.sync.Arc.{Arc};
+    ghost use Rattle.rewrite.specs.Drafts.{reads_as_node};
+
+    ghost Value = { Arc (List ℕ) A };
+
+    ghost view = { λ n. n.block };
+
+    ghost invariant = { λ n. reads_as_node (arc_value n.block) ≡ true };
+}
+
+impl<D: Digest, A: Allocator> NodeBlock<D, A> {
+    /// The block.
+    pub fn block(&self) -> &Arc<Block<D, A>, A>
+        ensures { result.now ≡ self.now }
+    {
+        &self.block
+    }
+
+    /// The block alone.
+    pub fn into_block(self) -> Arc<Block<D, A>, A>
+        ensures same { result ≡ self }
+        ensures node { reads_as_node (arc_value self) ≡ true }
+    {
+        self.block
+    }
+}
 
 /// The bytes of a node that was written, not yet a block: nothing has hashed them.
 ///
@@ -49,7 +89,8 @@ impl<A: Allocator + Clone> Draft<A> {
         let block = Block::of(self.bytes);
         let cid = block.cid();
         let alloc = made.allocator().clone()?;
-        made.push(Arc::new(alloc, block)?)?;
+        let block = Arc::new(alloc, block)?;
+        made.push(NodeBlock { block })?;
         Ok(cid)
     }
 

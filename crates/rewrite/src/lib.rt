@@ -10,8 +10,9 @@
 //! - [`join`] puts two nodes together, with a link where they meet.
 //! - [`single`] is a node of one pair, [`pad`] a node without pairs above a link, of neither of which there was a node before.
 //!
-//! `Draft::push` makes the block of a node and answers its CID. `Draft::close` does so too, but for an empty node, one
-//! without pairs and without a link: there is no such node in a tree but the one of the empty tree, so it has no link.
+//! `Draft::push` makes the block of a node, a [`NodeBlock`], and answers its CID. `Draft::close` does so too, but for an
+//! empty node, one without pairs and without a link: there is no such node in a tree but the one of the empty tree, so it
+//! has no link.
 //!
 //! ```text
 //! let view = NodeView::parse(&bytes)?;
@@ -40,7 +41,7 @@ mod links;
 mod rewrites;
 mod writer;
 
-pub use draft::{Draft, Made, RewriteFault};
+pub use draft::{Draft, Made, NodeBlock, RewriteFault};
 pub use entries::{KeyedEntries, to_cid};
 pub use links::{last_link, links_beside, links_if_single, top_layer};
 pub use rewrites::{cut_after, cut_before, insert, join, pad, remove, replace_link, single};

@@ -80,13 +80,13 @@ pub fn replace_link<A: Allocator + Clone>(
     ensures ok { IfOk result (IsNode (link_replaced key.now (shape_of node.now) new)) }
     ensures fault { IfErr result (IsFaultOf (link_replaced key.now (shape_of node.now) new)) }
 {
-    let is_empty = is_bare(node, &new);
+    let is_empty = is_empty_with(node, &new);
     let bytes = node.with_link(alloc, key, new)?;
     Ok(Draft { bytes, is_empty })
 }
 
 /// Whether a node with this link in place of one of its own has neither pairs nor a link.
-fn is_bare(node: &NodeView<'_>, link: &Option<Cid>) -> bool
+fn is_empty_with(node: &NodeView<'_>, link: &Option<Cid>) -> bool
     ensures { result ≡ is_empty_node (shape_from link.now node.now.entries) }
 {
     match link {

@@ -3,7 +3,7 @@
 use crate::fixtures::{node, value};
 use cid::digests::Toy;
 use cid::{Block, Cid};
-use edit::{Lent, TestedBlock, is_node};
+use edit::{Lent, MarkedBlock, is_node};
 use rewrite::to_cid;
 use std::alloc::{AllocError, Global};
 use std::sync::Arc;
@@ -20,7 +20,7 @@ fn shows(block: Arc<Block<Toy>>, left: Option<Option<Cid>>) -> bool {
         && left_of(Lent::of(&block)) == left
         && left_of(Lent::tested(&block)) == left
         && left_of(Lent::marked(&block, mark)) == left
-        && left_of(TestedBlock::of(block).lent()) == left
+        && left_of(MarkedBlock::tested(block).lent()) == left
 }
 
 fn block_of(alloc: Global, bytes: &[u8]) -> Result<Arc<Block<Toy>>, AllocError> {

@@ -5,14 +5,14 @@ ghost use Rattle.edit.specs.Maps.{first_of};
 
 use crate::fixtures::{node, value};
 use cid::{Block, Cid, Digest, Sha256};
-use edit::{Lent, ReadCount, Source, TestedBlock, get};
+use edit::{Lent, MarkedBlock, ReadCount, Source, get};
 use std::alloc::{AllocError, Global};
 use std::sync::Arc;
 
 /// A source of one block.
 #[derive(Drop)]
 struct OneBlock<'a, D: Digest> {
-    block: &'a TestedBlock<D>,
+    block: &'a MarkedBlock<D>,
     asked: ReadCount,
 }
 
@@ -37,7 +37,7 @@ fn found(alloc: Global, key: &[u8]) -> Result<Option<Cid>, AllocError> {
     let bytes = node(alloc, None, b"k", None)?;
     let block: Arc<Block<Sha256>> = Arc::new(alloc, Block::of(bytes))?;
     let root = block.cid();
-    let block = TestedBlock::of(block);
+    let block = MarkedBlock::tested(block);
     let mut one = OneBlock {
         block: &block,
         asked: ReadCount::never(),

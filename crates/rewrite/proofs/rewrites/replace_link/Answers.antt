@@ -11,8 +11,8 @@ invariant_of-result g c =
     let r = relinked c.args.key.now node.left node.entries c.args.new in
     let shape = relinked-shape c.args.key.now node.left node.entries c.args.new in
     (written r.left r.entries c.in_ok-bytes.bytes.items c.in_ok-bytes.ensures.grammar c.in_ok-bytes.ensures.bytes).draft
-    c.is_bare-is_empty.result
-    (c.is_bare-is_empty.ensures ∙ relinked-empty c.args.key.now node.left c.args.new node.entries ∙ sym (ap is_empty_node shape))
+    c.is_empty_with-is_empty.result
+    (c.is_empty_with-is_empty.ensures ∙ relinked-empty c.args.key.now node.left c.args.new node.entries ∙ sym (ap is_empty_node shape))
 
 pub returns-clause-ok : goal.returns-clause-ok
 returns-clause-ok g c =
