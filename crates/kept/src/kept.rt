@@ -204,9 +204,11 @@ impl<D: Digest, A: Allocator + Clone> Kept<D, A> {
         ensures fault { IfErr result (IsRefusalOf D.digest_of (arc_value block)) }
         ensures fulls { S.fulls store.new ≡ fulls_after (S.fulls store.old) result }
     {
-        let cid = block.block().cid();
+        let is_marked = block.is_marked();
+        let block = block.into_block();
+        let cid = block.cid();
         self.touched.reserve(1)?;
-        let fresh = self.blocks.raise(store, self.me, block)?;
+        let fresh = self.blocks.raise(store, self.me, block, is_marked)?;
         note(&mut self.touched, cid, fresh);
         Ok(())
     }

@@ -6,6 +6,7 @@ ghost use Rattle.std.specs.Cmp.Lexicographic.{pointwise};
 ghost use Rattle.std.specs.List.{IsDistinct};
 ghost use Rattle.std.specs.Map.{keys_of};
 ghost use Rattle.std.specs.FinMap as map;
+ghost use Rattle.edit.specs.Nodes.{IsMarked};
 ghost use Rattle.store.specs.Faults.{IsRefusalOf};
 ghost use Rattle.store.specs.Stores.{IsStore, fulls_after};
 ghost use Rattle.kept.specs.Uses.{at, AreUses, lowered_in, settled, is_unnoted, IsChanged, IsRaisedIn, IsTaken, is_fresh};
@@ -14,7 +15,6 @@ ghost use Rattle.kept.specs.Leaving.{AreNamed, AreGivenBack};
 use crate::held::Held;
 use crate::kept_use::{End, Use};
 use cid::{Block, Cid, Digest};
-use edit::MarkedBlock;
 use std::alloc::{AllocFailed, Allocator};
 use std::collections::HashMap;
 use std::collections::hash_map::Iter;
@@ -152,15 +152,17 @@ impl<D: Digest, A: Allocator> UseMap<D, A> {
 }
 
 impl<D: Digest, A: Allocator + Clone> UseMap<D, A> {
-    /// Stages one use more of a block, which is acquired for the core where it isn't held, and tells whether it wasn't
-    /// noted before.
+    /// Stages one use more of a block, which may be marked as a node and is acquired for the core where it isn't held, and
+    /// tells whether it wasn't noted before.
     pub(crate) fn raise<S: BlockStore<Arc<Block<D, A>, A>, Hold<D, A>, StoreFault<D, A>>>(
         &mut self,
         store: &mut S,
         me: u32,
-        block: MarkedBlock<D, A>,
+        block: Arc<Block<D, A>, A>,
+        is_marked: bool,
     ) -> Result<bool, StoreFault<D, A>>
         requires small { me < 1024 }
+        requires marked { IsMarked (arc_value block) is_marked }
         requires uses { AreUses D.digest_of me (at self.old) }
         requires store { IsStore D.digest_of S.fulls S.answers }
         ensures raised { OnOk result (IsRaisedIn D.digest_of me self.old self.new
@@ -170,9 +172,7 @@ impl<D: Digest, A: Allocator + Clone> UseMap<D, A> {
         ensures fault { IfErr result (IsRefusalOf D.digest_of (arc_value block)) }
         ensures fulls { S.fulls store.new ≡ fulls_after (S.fulls store.old) result }
     {
-        let cid = block.block().cid();
-        let is_marked = block.is_marked();
-        let block = block.into_block();
+        let cid = block.cid();
         if let Some(held) = self.blocks.get_mut(&cid) {
             return held.raise(block);
         }

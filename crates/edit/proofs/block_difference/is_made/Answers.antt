@@ -1,7 +1,8 @@
-use Rattle.std.proofs.Common.{[], ◌∷◌, map, subst, arith}
+use Rattle.std.proofs.Common.{ℕ, List, [], ◌∷◌, ap, map, subst, arith}
 use Rattle.std.specs.Arc.{arc_value}
 use Rattle.std.proofs.lemmas.Result.{err_from_is_err_and}
 use Rattle.edit.specs.Changes.{IsAmong}
+use Rattle.edit.specs.Faults.{IsRefusal}
 use Rattle.edit.proofs.Among.{none-all, one-here, refusal-within, two-within}
 use Rattle.edit.proofs.block_difference.is_made.Goals as goal
 
@@ -13,14 +14,20 @@ returns-in_err-is_same-clause-fault g c =
     (refusal-within g.D.Digest.digest_of ⊥ (arc_value c.args.block.now ∷ arc_value c.other-item.result ∷ [])
     (arc_value c.args.block.now ∷ map arc_value xs) c.in_err-is_same.field-0.0
     (two-within arc_value (arc_value c.args.block.now) xs c.loop-other.other-index c.other-item.result c.loop-other-test.true c.other-item.is)
-    c.in_err-is_same.ensures.fault)
+    (subst (λ (b : List ℕ). IsRefusal g.D.Digest.digest_of (b ∷ arc_value c.other-item.result ∷ []) ⊥ c.in_err-is_same.field-0.0)
+    (ap arc_value c.block.ensures)
+    (subst (λ (b : List ℕ). IsRefusal g.D.Digest.digest_of (arc_value c.block.result.now ∷ b ∷ []) ⊥ c.in_err-is_same.field-0.0)
+    (ap arc_value c.block-in-loop-other.ensures) c.in_err-is_same.ensures.fault)))
 
 pub returns-then-branch-clause-found : goal.returns-then-branch-clause-found
 returns-then-branch-clause-found g c =
     one-here arc_value g.D.Digest.digest_of (arc_value c.args.block.now) c.args.made.now c.loop-other.other-index c.other-item.result
     c.loop-other-test.true c.other-item.is
     (subst (IsAmong g.D.Digest.digest_of (arc_value c.args.block.now) (arc_value c.other-item.result ∷ [])) c.if-branch.true
-    c.in_ok-is_same.ensures.found)
+    (subst (λ (b : List ℕ). IsAmong g.D.Digest.digest_of b (arc_value c.other-item.result ∷ []) c.in_ok-is_same.field-0)
+    (ap arc_value c.block.ensures)
+    (subst (λ (b : List ℕ). IsAmong g.D.Digest.digest_of (arc_value c.block.result.now) (b ∷ []) c.in_ok-is_same.field-0)
+    (ap arc_value c.block-in-loop-other.ensures) c.in_ok-is_same.ensures.found)))
 
 pub returns-clause-found : goal.returns-clause-found
 returns-clause-found g c =

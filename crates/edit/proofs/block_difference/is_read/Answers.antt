@@ -1,4 +1,4 @@
-use Rattle.std.proofs.Common.{ℕ, List, [], ◌∷◌, map, subst, arith}
+use Rattle.std.proofs.Common.{ℕ, List, [], ◌∷◌, ap, map, subst, arith}
 use Rattle.std.specs.Arc.{arc_value}
 use Rattle.std.proofs.lemmas.Result.{err_from_is_err_and}
 use Rattle.spec.specs.NodeFormat.{shape_bytes}
@@ -15,16 +15,20 @@ returns-in_err-is_same-clause-fault g c =
     (refusal-within g.D.Digest.digest_of ⊥ (arc_value c.args.block.now ∷ shape_bytes c.node-item.result ∷ [])
     (arc_value c.args.block.now ∷ map shape_bytes xs) c.in_err-is_same.field-0.0
     (two-within shape_bytes (arc_value c.args.block.now) xs c.loop-node.node-index c.node-item.result c.loop-node-test.true c.node-item.is)
-    (subst (λ (b : List ℕ). IsRefusal g.D.Digest.digest_of (arc_value c.args.block.now ∷ b ∷ []) ⊥ c.in_err-is_same.field-0.0)
-    c.block.ensures.spelled c.in_err-is_same.ensures.fault))
+    (subst (λ (b : List ℕ). IsRefusal g.D.Digest.digest_of (b ∷ shape_bytes c.node-item.result ∷ []) ⊥ c.in_err-is_same.field-0.0)
+    (ap arc_value c.block.ensures)
+    (subst (λ (b : List ℕ). IsRefusal g.D.Digest.digest_of (arc_value c.block.result.now ∷ b ∷ []) ⊥ c.in_err-is_same.field-0.0)
+    c.block-in-loop-node.ensures.spelled c.in_err-is_same.ensures.fault)))
 
 pub returns-then-branch-clause-found : goal.returns-then-branch-clause-found
 returns-then-branch-clause-found g c =
     one-here shape_bytes g.D.Digest.digest_of (arc_value c.args.block.now) c.args.read.now c.loop-node.node-index c.node-item.result
     c.loop-node-test.true c.node-item.is
     (subst (IsAmong g.D.Digest.digest_of (arc_value c.args.block.now) (shape_bytes c.node-item.result ∷ [])) c.if-branch.true
-    (subst (λ (b : List ℕ). IsAmong g.D.Digest.digest_of (arc_value c.args.block.now) (b ∷ []) c.in_ok-is_same.field-0)
-    c.block.ensures.spelled c.in_ok-is_same.ensures.found))
+    (subst (λ (b : List ℕ). IsAmong g.D.Digest.digest_of b (shape_bytes c.node-item.result ∷ []) c.in_ok-is_same.field-0)
+    (ap arc_value c.block.ensures)
+    (subst (λ (b : List ℕ). IsAmong g.D.Digest.digest_of (arc_value c.block.result.now) (b ∷ []) c.in_ok-is_same.field-0)
+    c.block-in-loop-node.ensures.spelled c.in_ok-is_same.ensures.found)))
 
 pub returns-clause-found : goal.returns-clause-found
 returns-clause-found g c =

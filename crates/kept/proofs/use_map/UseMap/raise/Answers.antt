@@ -3,6 +3,7 @@ use Rattle.std.specs.Prelude.{Ok}
 use Rattle.std.specs.Arc.{arc_value}
 use Rattle.std.proofs.lemmas.Result.{on_err_weaker, IfOk-weaker}
 use Rattle.spec.specs.Cid.{cid as cid_of}
+use Rattle.edit.specs.Nodes.{IsMarked}
 use Rattle.kept.specs.Uses.{at, Updated, IsUse, is_noted}
 use Rattle.kept.specs.declared.kept_use.Use.{Use}
 use Rattle.kept.proofs.Entries.{listed_at, seen_at, seen_updated, raised_held, raised_new, same_entry, shown_at, shown_same, shown_raised}
@@ -16,6 +17,11 @@ raise-requires g c =
     let name : k ≡ cid_of g.D.Digest.digest_of (arc_value c.args.block) = c.cid-cid.ensures ∙ ap (cid_of g.D.Digest.digest_of) c.deref.ensures in
     let is = c.requires.uses k c.in-Some.held.now (sym (here ∙ shown_at c.self.inside.blocks.entries c.args.self.now c.self.view_is k)) in
     sym name ∙ is.named
+
+pub of-hold-requires : goal.of-hold-requires
+of-hold-requires g c =
+    let a = c.requires.store c.args.store.now c.args.block c.args.me (Ok c.in_ok-acquire.field-0) c.acquire.new.self c.in_ok-acquire.ensures in
+    subst (λ (b : List ℕ). IsMarked b c.args.is_marked) (sym a.hold.0) c.requires.marked
 
 pub returns-in-Some-clause-raised : goal.returns-in-Some-clause-raised
 returns-in-Some-clause-raised g c =
