@@ -6,15 +6,12 @@ use Rattle.std.specs.List.{AllByRecursion}
 use Rattle.std.proofs.lemmas.List.{map-append, take_all}
 use Rattle.spec.specs.NodeFormat.{Shape, LastLink, MoreLinks, first_link, shape_bytes, shape_cid}
 use Rattle.edit_laws.specs.Lawful.{Lawful, AllLawful}
-use Rattle.edit_laws.specs.ShapeEdit.{close_link, close_shapes, cut_before, cut_after, split_links, split_shapes, padded_link, link_pads, link_replaced, merge_links, merge_shapes, trim_links, trim_shape, trim_shapes}
+use Rattle.edit_laws.specs.ShapeEdit.{close_link, close_shapes, cut_before, cut_after, split_links, split_shapes, padded_link, link_pads, link_replaced, merge_links, merge_shapes}
 use Rattle.edit_laws.specs.PathEdit.{padded_node, node_pads, climb, climb_shapes}
 use Rattle.rewrite.specs.declared.draft.RewriteFault.{RewriteFault}
 use Rattle.rewrite.specs.declared.draft.RewriteFault.TheVariants.{NotNode, NoMemory}
-use Rattle.edit.specs.declared.below.Trimmed.{Trimmed}
-use Rattle.edit.specs.declared.below.Trimmed.TheVariants.{Made, Below}
 use Rattle.rewrite.specs.Drafts.{IsFaultOf}
 use Rattle.edit.specs.Faults.{IsFaultUnless}
-use Rattle.edit.specs.Trimmed.{have_no_pairs, IsTrimmed}
 
 -- ---- lists
 
@@ -197,52 +194,3 @@ module _ (digest : List ℕ → List ℕ) where
       let top = back-all Lawful (climb_shapes digest key (x ∷ xs) s) _
       (subst (λ a. AllLawful (climb_shapes digest key a s ++ (climb digest key a s ∷ []))) e all) in
       rw (same, to) top.0)
-
-  -- ---- trim
-
-  bare-two : (x y p q : Option (List ℕ)) (b a : Shape) (below : List (Shape × Shape)) (t : Trimmed)
-      → have_no_pairs b a ≡ true → p ≡ first_link b → q ≡ first_link a → IsTrimmed digest p q below t
-      → IsTrimmed digest x y ((b, a) ∷ below) t
-  bare-two x y p q (LastLink l) (LastLink k) below (Made c) h i j s = rw (← i, ← j) s
-  bare-two x y p q (LastLink l) (LastLink k) below (Below c) h i j s = rw (← i, ← j) s
-  bare-two x y p q (LastLink l) (MoreLinks k e r) below t h i j s = absurd cc
-  bare-two x y p q (MoreLinks l e r) (LastLink k) below t h i j s = absurd cc
-  bare-two x y p q (MoreLinks l e r) (MoreLinks k f u) below t h i j s = absurd cc
-
-  pub trimmed-bare : (x y p q : Option (List ℕ)) (seam below : List (Shape × Shape)) (b a : Shape) (t : Trimmed)
-      → seam ≡ (b, a) ∷ below → have_no_pairs b a ≡ true → p ≡ first_link b → q ≡ first_link a
-      → IsTrimmed digest p q below t → IsTrimmed digest x y seam t
-  trimmed-bare x y p q seam below b a t e h i j s =
-      subst (λ m. IsTrimmed digest x y m t) (sym e) (bare-two x y p q b a below t h i j s)
-
-  -- a pair of nodes of which one has keys
-  keyed-two : (x y : Option (List ℕ)) (b a : Shape) (below : List (Shape × Shape)) → have_no_pairs b a ≡ false
-      → let seam : List (Shape × Shape) = (b, a) ∷ below in
-      (trim_links x y seam ≡ None)
-      × (Some (shape_cid digest (trim_shape digest x y seam [])) ≡ merge_links digest x y seam)
-      × (trim_shapes digest x y seam ≡ merge_shapes digest seam)
-  keyed-two x y (LastLink l) (LastLink k) below h = absurd cc
-  keyed-two x y (LastLink l) (MoreLinks k e r) below h = (refl, refl, refl)
-  keyed-two x y (MoreLinks l e r) (LastLink k) below h = (refl, refl, refl)
-  keyed-two x y (MoreLinks l e r) (MoreLinks k f u) below h = (refl, refl, refl)
-
-  pub trimmed-keyed : (x y l : Option (List ℕ)) (seam below : List (Shape × Shape)) (b a : Shape) (c : List ℕ)
-      → seam ≡ (b, a) ∷ below → have_no_pairs b a ≡ false → l ≡ merge_links digest x y seam → l ≡ Some c
-      → (trim_links x y seam ≡ None) × (c ≡ shape_cid digest (trim_shape digest x y seam []))
-  trimmed-keyed x y l seam below b a c e h is some =
-      let k = keyed-two x y b a below h in
-      let m : Some c ≡ merge_links digest x y ((b, a) ∷ below) = sym some ∙ is ∙ ap (merge_links digest x y) e in
-      let same : Some c ≡ Some (shape_cid digest (trim_shape digest x y ((b, a) ∷ below) [])) = m ∙ sym k.1 in
-      (ap (trim_links x y) e ∙ k.0, cc)
-
-  pub trim-keyed : (x y : Option (List ℕ)) (seam below : List (Shape × Shape)) (b a : Shape)
-      → seam ≡ (b, a) ∷ below → have_no_pairs b a ≡ false → trim_shapes digest x y seam ≡ merge_shapes digest seam
-  trim-keyed x y seam below b a e h =
-      let k = keyed-two x y b a below h in
-      ap (trim_shapes digest x y) e ∙ k.2 ∙ ap (merge_shapes digest) (sym e)
-
-  pub made-keyed : (x y : Option (List ℕ)) (seam below : List (Shape × Shape)) (b a : Shape) (m0 m1 : List (List ℕ))
-      → seam ≡ (b, a) ∷ below → have_no_pairs b a ≡ false → m1 ≡ m0 ++ map shape_bytes (merge_shapes digest seam)
-      → m1 ≡ m0 ++ map shape_bytes (trim_shapes digest x y seam)
-  made-keyed x y seam below b a m0 m1 e h is =
-      is ∙ ap (λ ss. m0 ++ map shape_bytes ss) (sym (trim-keyed x y seam below b a e h))

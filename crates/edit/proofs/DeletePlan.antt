@@ -1,16 +1,32 @@
 -- What a delete does, by the links that were read.
-use Rattle.std.proofs.Common.{◌≡◌, ℕ, zero, suc, List, [], Option, None, refl, sym, ap, ◌∙◌, subst}
+use Rattle.std.proofs.Common.{◌≡◌, ℕ, zero, suc, ◌-◌, ◌≤◌, List, [], ◌∷◌, ◌++◌, length, drop, take, length-drop, Option, None, refl, sym, ap, ◌∙◌, subst, arith}
+use Rattle.std.specs.Prelude.{IsSome}
+use Rattle.std.specs.Option.{option_or}
 use Rattle.std.specs.declared.option.Option.TheVariants.{Some}
 use Rattle.std.specs.declared.cmp.Ordering.{Ordering}
 use Rattle.std.specs.declared.cmp.Ordering.TheVariants.{Less, Equal, Greater}
-use Rattle.std.specs.declared.vec.Vec.{Vec}
-use Rattle.spec.specs.NodeFormat.{Shape, LastLink, MoreLinks}
+use Rattle.std.proofs.lemmas.List.{take_all}
+use Rattle.spec.specs.NodeFormat.{Shape, LastLink, MoreLinks, shape_cid}
+use Rattle.edit_laws.specs.Lawful.{AllLawful}
 use Rattle.edit_laws.specs.Order.{order, if_equal}
-use Rattle.edit_laws.specs.ShapeEdit.{head_shape, links_beside, single_shape, trim_links}
-use Rattle.edit_laws.specs.PathEdit.{lowest_shape, prune_link}
-use Rattle.edit_laws.specs.Sources.{pruned_from, delete_pruned_from}
+use Rattle.edit_laws.specs.ShapeEdit.{head_shape, single_shape, merge_links, merge_shapes, one_link, last_shape, trim_links, trim_shape, trim_shapes}
+use Rattle.edit_laws.specs.PathEdit.{prune_link, delete_root, delete_written, lowest_shape}
+use Rattle.edit_laws.specs.Sources.{pruned_from}
+use Rattle.rewrite.specs.declared.draft.RewriteFault.{RewriteFault}
 use Rattle.rewrite.specs.Cursors.{links_if_single}
-use Rattle.edit.specs.Deletes.{on_links, chain_link, change_of, pruned_of, IsChangeOf}
+use Rattle.edit.specs.Deletes.{OnLinks, Ends, CanDelete}
+use Rattle.edit.specs.Faults.{IsFaultUnless}
+use Rattle.edit.specs.Steps.{asked_pruned, IsWholeChain}
+use Rattle.edit.specs.Trimmed.{past_keyless}
+use Rattle.edit.proofs.Building.{unless-weaker}
+
+-- ---- whether the top loses its only key
+
+-- one thing for links that there are, another where there are none
+abbrev on_links : {X : Type 0} → Option (Option (List ℕ) × Option (List ℕ))
+    → (Option (List ℕ) → Option (List ℕ) → X) → X → X
+on_links None f z = z
+on_links (Some p) f z = f p.0 p.1
 
 -- one thing where a key is a node's only one is one thing for the links beside it
 single-at : {X : Type 0} (o : Ordering) (l k : Option (List ℕ)) (f : Option (List ℕ) → Option (List ℕ) → X) (z : X)
@@ -19,46 +35,206 @@ single-at Less l k f z = refl
 single-at Equal l k f z = refl
 single-at Greater l k f z = refl
 
-pub single-is : {X : Type 0} (key : List ℕ) (s : Shape) (f : Option (List ℕ) → Option (List ℕ) → X) (z : X)
+single-is : {X : Type 0} (key : List ℕ) (s : Shape) (f : Option (List ℕ) → Option (List ℕ) → X) (z : X)
     → single_shape key s f z ≡ on_links (links_if_single key s) f z
 single-is key (LastLink l) f z = refl
 single-is key (MoreLinks l e (LastLink k)) f z = single-at (order e.0 key) l k f z
 single-is key (MoreLinks l e (MoreLinks k d r)) f z = refl
 
-pub single-links : {X : Type 0} (key : List ℕ) (s : Shape) (x y : Option (List ℕ))
-    (f : Option (List ℕ) → Option (List ℕ) → X) (z : X) → links_if_single key s ≡ Some (x, y) → single_shape key s f z ≡ f x y
-single-links key s x y f z h = single-is key s f z ∙ ap (λ o. on_links o f z) h
+pub single-links : {X : Type 0} (key : List ℕ) (s : Shape) (p : Option (List ℕ) × Option (List ℕ))
+    (f : Option (List ℕ) → Option (List ℕ) → X) (z : X) → links_if_single key s ≡ Some p
+    → single_shape key s f z ≡ f p.0 p.1
+single-links key s p f z h = single-is key s f z ∙ ap (λ o. on_links o f z) h
 
 pub single-not : {X : Type 0} (key : List ℕ) (s : Shape) (f : Option (List ℕ) → Option (List ℕ) → X) (z : X)
     → links_if_single key s ≡ None → single_shape key s f z ≡ z
 single-not key s f z h = single-is key s f z ∙ ap (λ o. on_links o f z) h
 
--- the link at which a chain begins, by the links that were read
-pub prune-is : (key : List ℕ) (path : List Shape) (seam : List (Shape × Shape)) (l : Option (List ℕ))
-    (links : Option (Option (List ℕ) × Option (List ℕ))) → links ≡ links_if_single key (head_shape path)
-    → l ≡ chain_link links seam → l ≡ prune_link key path seam
-prune-is key path seam l links h e =
-    e ∙ ap (λ o. chain_link o seam) h ∙ sym (single-is key (head_shape path) (λ x y. trim_links x y seam) None)
+-- the link at which a chain begins, where the top loses its only key
+pub prune-links : (key : List ℕ) (path : List Shape) (seam : List (Shape × Shape))
+    (p : Option (List ℕ) × Option (List ℕ)) (o : Option (Option (List ℕ) × Option (List ℕ)))
+    → o ≡ links_if_single key (head_shape path) → o ≡ Some p → trim_links p.0 p.1 seam ≡ prune_link key path seam
+prune-links key path seam p o h e =
+    sym (single-links key (head_shape path) p (λ x y. trim_links x y seam) None (sym h ∙ e))
 
-none-read : (shows : List ℕ → Option Shape) (n : ℕ) → pruned_from shows n None ≡ []
-none-read shows zero = refl
-none-read shows (suc n) = refl
+-- and where it doesn't
+pub prune-not : (key : List ℕ) (path : List Shape) (seam : List (Shape × Shape))
+    (o : Option (Option (List ℕ) × Option (List ℕ))) → o ≡ links_if_single key (head_shape path) → o ≡ None
+    → None ≡ prune_link key path seam
+prune-not key path seam o h e = sym (single-not key (head_shape path) (λ x y. trim_links x y seam) None (sym h ∙ e))
 
--- what is to be done has the chain that was read
-pub change-pruned : {A : Type 0} (D : Type 0) (shows : List ℕ → Option Shape) (n : ℕ) (seam : List (Shape × Shape))
-    (links : Option (Option (List ℕ) × Option (List ℕ))) (beside : Option (List ℕ) × Option (List ℕ)) (v : Vec Shape A)
-    → v.items ≡ pruned_from shows n (chain_link links seam)
-    → pruned_of {D = D} {A = A} (change_of links beside v) ≡ pruned_from shows n (chain_link links seam)
-change-pruned D shows n seam None beside v h = sym (none-read shows n)
-change-pruned D shows n seam (Some p) beside v h = h
+-- this holds of the links
+pub on-links : (key : List ℕ) (path : List Shape) (p : Option (List ℕ) × Option (List ℕ))
+    (o : Option (Option (List ℕ) × Option (List ℕ))) (P : Option (List ℕ) → Option (List ℕ) → Type 0)
+    → o ≡ links_if_single key (head_shape path) → o ≡ Some p → P p.0 p.1
+    → OnLinks (links_if_single key (head_shape path)) P
+on-links key path p o P h e t = subst (λ l. OnLinks l P) (sym e ∙ h) t
 
--- and it is what the nodes ask for
-pub change-is : {A : Type 0} (D : Type 0) (shows : List ℕ → Option Shape) (n : ℕ) (key : List ℕ) (path : List Shape)
-    (seam : List (Shape × Shape)) (links : Option (Option (List ℕ) × Option (List ℕ)))
-    (beside : Option (List ℕ) × Option (List ℕ)) (v : Vec Shape A)
-    → links ≡ links_if_single key (head_shape path) → beside ≡ links_beside key (lowest_shape path)
-    → v.items ≡ pruned_from shows n (chain_link links seam)
-    → IsChangeOf {D = D} {A = A} key path seam (change_of links beside v)
-change-is D shows n key path seam None beside v h k e = (sym h, k)
-change-is D shows n key path seam (Some p) beside v h k e =
-    (sym h, (λ none. e ∙ ap (pruned_from shows n) none ∙ none-read shows n))
+from-links : {Q : Type 0} (o : Option (Option (List ℕ) × Option (List ℕ)))
+    (P : Option (List ℕ) → Option (List ℕ) → Type 0) → OnLinks o P
+    → ((p : Option (List ℕ) × Option (List ℕ)) → o ≡ Some p → P p.0 p.1 → Q) → Q
+from-links None P h f = absurd h
+from-links (Some p) P h f = f p refl h
+
+-- ---- what is read where there is no chain
+
+pub none-read : (shows : List ℕ → Option Shape) (n : ℕ) (l : Option (List ℕ)) → None ≡ l → [] ≡ pruned_from shows n l
+none-read shows zero l h = refl
+none-read shows (suc n) l h = ap (pruned_from shows (suc n)) h
+
+pub none-asked : (shows : List ℕ → Option Shape) (n : ℕ) (l : Option (List ℕ)) → None ≡ l → asked_pruned shows n l ≡ 0
+none-asked shows zero l h = refl
+none-asked shows (suc n) l h = sym (ap (asked_pruned shows (suc n)) h)
+
+pub none-whole : (shows : List ℕ → Option Shape) (n : ℕ) (l : Option (List ℕ)) → None ≡ l → IsWholeChain shows n l
+none-whole shows n l h = none-asked shows n l h ∙ ap length (none-read shows n l h)
+
+-- ---- what a top that loses its only key comes down to
+
+-- where a pair with a key is met, no one link is left
+met-none : (x y : Option (List ℕ)) (seam : List (Shape × Shape)) → suc (past_keyless x y seam).0 ≤ length seam
+    → None ≡ trim_links x y seam
+met-none x y [] h = absurd (omega arith)
+met-none x y ((LastLink p, LastLink q) ∷ ss) h = met-none p q ss (omega arith)
+met-none x y ((LastLink p, MoreLinks q e r) ∷ ss) h = refl
+met-none x y ((MoreLinks p e r, k) ∷ ss) h = refl
+
+-- where none is met, it is one of the two
+unmet-one : (x y : Option (List ℕ)) (seam : List (Shape × Shape)) → length seam ≤ (past_keyless x y seam).0
+    → one_link (past_keyless x y seam).1.0 (past_keyless x y seam).1.1 ≡ trim_links x y seam
+unmet-one x y [] h = refl
+unmet-one x y ((LastLink p, LastLink q) ∷ ss) h = unmet-one p q ss (omega arith)
+unmet-one x y ((LastLink p, MoreLinks q e r) ∷ ss) h = absurd (omega arith)
+unmet-one x y ((MoreLinks p e r, k) ∷ ss) h = absurd (omega arith)
+
+pub met : (x y : Option (List ℕ)) (seam : List (Shape × Shape)) (t : ℕ × (Option (List ℕ) × Option (List ℕ)))
+    → t ≡ past_keyless x y seam → suc t.0 ≤ length seam → None ≡ trim_links x y seam
+met x y seam t e h =
+    met-none x y seam (subst (λ (r : ℕ × (Option (List ℕ) × Option (List ℕ))). suc r.0 ≤ length seam) e h)
+
+or-one : (x y : Option (List ℕ)) → option_or x y ≡ one_link x y
+or-one None y = refl
+or-one (Some c) y = refl
+
+pub unmet : (x y l : Option (List ℕ)) (seam : List (Shape × Shape)) (t : ℕ × (Option (List ℕ) × Option (List ℕ)))
+    → t ≡ past_keyless x y seam → length seam ≤ t.0 → l ≡ option_or t.1.0 t.1.1 → l ≡ trim_links x y seam
+unmet x y l seam t e h is =
+    is ∙ or-one t.1.0 t.1.1
+    ∙ ap (λ (r : ℕ × (Option (List ℕ) × Option (List ℕ))). one_link r.1.0 r.1.1) e
+    ∙ unmet-one x y seam (subst (λ (r : ℕ × (Option (List ℕ) × Option (List ℕ))). length seam ≤ r.0) e h)
+
+-- the rest of the pairs
+rest-is : (n : ℕ) (seam : List (Shape × Shape)) → take (length seam - n) (drop n seam) ≡ drop n seam
+rest-is n seam = let l = length-drop n seam in take_all (length seam - n) (drop n seam) (omega arith)
+
+rest-some : (n : ℕ) (seam : List (Shape × Shape)) → suc n ≤ length seam
+    → 1 ≤ length (take (length seam - n) (drop n seam))
+rest-some n seam h = let l = length-drop n seam in let e = ap length (rest-is n seam) in omega arith
+
+pub cid-is : (cid c : List ℕ) (o : Option (List ℕ)) → Some cid ≡ o → o ≡ Some c → cid ≡ c
+cid-is cid c o e h = let same : Some cid ≡ Some c = e ∙ h in cc
+
+pub none-more : {X : Type 0} (xs : List X) → xs ≡ xs ++ []
+none-more [] = refl
+none-more (x ∷ xs) = ap (λ ys. x ∷ ys) (none-more xs)
+
+module _ (digest : List ℕ → List ℕ) where
+  met-merged : (x y : Option (List ℕ)) (seam : List (Shape × Shape)) → suc (past_keyless x y seam).0 ≤ length seam
+      → let t = past_keyless x y seam in
+      (merge_links digest t.1.0 t.1.1 (drop t.0 seam) ≡ Some (shape_cid digest (trim_shape digest x y seam [])))
+      × (merge_shapes digest (drop t.0 seam) ≡ trim_shapes digest x y seam)
+  met-merged x y [] h = absurd (omega arith)
+  met-merged x y ((LastLink p, LastLink q) ∷ ss) h = met-merged p q ss (omega arith)
+  met-merged x y ((LastLink p, MoreLinks q e r) ∷ ss) h = (refl, refl)
+  met-merged x y ((MoreLinks p e r, k) ∷ ss) h = (refl, refl)
+
+  -- where two parts meet, they have a link
+  pub merged-some : (x y : Option (List ℕ)) (seam : List (Shape × Shape)) → 1 ≤ length seam
+      → merge_links digest x y seam ≡ None → ⊥
+  merged-some x y [] h e = absurd (omega arith)
+  merged-some x y (s ∷ ss) h e = absurd cc
+
+  unmet-empty : (x y : Option (List ℕ)) (seam : List (Shape × Shape)) → (past_keyless x y seam).0 ≡ length seam
+      → (past_keyless x y seam).1 ≡ (None, None)
+      → (LastLink None ≡ trim_shape digest x y seam []) × (LastLink None ∷ [] ≡ trim_shapes digest x y seam)
+  unmet-empty None None [] h e = (refl, refl)
+  unmet-empty None (Some d) [] h e =
+      let no : Some d ≡ None = ap (λ (r : Option (List ℕ) × Option (List ℕ)). r.1) e in absurd cc
+  unmet-empty (Some c) y [] h e =
+      let no : Some c ≡ None = ap (λ (r : Option (List ℕ) × Option (List ℕ)). r.0) e in absurd cc
+  unmet-empty x y ((LastLink p, LastLink q) ∷ ss) h e = unmet-empty p q ss (omega arith) e
+  unmet-empty x y ((LastLink p, MoreLinks q d r) ∷ ss) h e = absurd (omega arith)
+  unmet-empty x y ((MoreLinks p d r, k) ∷ ss) h e = absurd (omega arith)
+
+  one-pruned : (x y : Option (List ℕ)) (seam : List (Shape × Shape)) (pruned : List Shape) → IsSome (trim_links x y seam)
+      → (last_shape (LastLink None) pruned ≡ trim_shape digest x y seam pruned) × ([] ≡ trim_shapes digest x y seam)
+  one-pruned None None [] pruned h = absurd cc
+  one-pruned None (Some d) [] pruned h = (refl, refl)
+  one-pruned (Some c) y [] pruned h = (refl, refl)
+  one-pruned x y ((LastLink p, LastLink q) ∷ ss) pruned h = one-pruned p q ss pruned h
+  one-pruned x y ((LastLink p, MoreLinks q e r) ∷ ss) pruned h = absurd cc
+  one-pruned x y ((MoreLinks p e r, k) ∷ ss) pruned h = absurd cc
+
+  -- ---- what is written
+
+  module _ (key : List ℕ) (path : List Shape) (seam : List (Shape × Shape)) where
+    -- two parts that become one, from the rest of the pairs
+    pub merged : (n : ℕ) (p q : Option (List ℕ))
+        → OnLinks (links_if_single key (head_shape path))
+        (λ x y. (past_keyless x y seam ≡ (n, (p, q))) × (suc n ≤ length seam))
+        → let rest = take (length seam - n) (drop n seam) in
+        (1 ≤ length rest)
+        × (merge_links digest p q rest ≡ Some (shape_cid digest (delete_root digest key path seam [])))
+        × (merge_shapes digest rest ≡ delete_written digest key path seam)
+    merged n p q h =
+        from-links (links_if_single key (head_shape path)) _ h (λ l e t.
+        let at : (past_keyless l.0 l.1 seam).0 ≡ n = ap (λ (r : ℕ × (Option (List ℕ) × Option (List ℕ))). r.0) t.0 in
+        let m = met-merged l.0 l.1 seam (omega (arith, t.1)) in
+        let rest = rest-is n seam in
+        (rest-some n seam t.1,
+        ap (merge_links digest p q) rest
+        ∙ ap (λ (r : ℕ × (Option (List ℕ) × Option (List ℕ))). merge_links digest r.1.0 r.1.1 (drop r.0 seam)) (sym t.0)
+        ∙ m.0
+        ∙ ap (λ (s : Shape). Some (shape_cid digest s))
+        (sym (single-links key (head_shape path) l (λ x y. trim_shape digest x y seam []) _ e)),
+        ap (merge_shapes digest) rest ∙ ap (λ (r : ℕ). merge_shapes digest (drop r seam)) (sym at)
+        ∙ m.1 ∙ sym (single-links key (head_shape path) l (λ x y. trim_shapes digest x y seam) _ e)))
+
+    -- nothing is left
+    pub emptied : OnLinks (links_if_single key (head_shape path)) (λ x y. past_keyless x y seam ≡ (length seam, (None, None)))
+        → (LastLink None ≡ delete_root digest key path seam []) × (LastLink None ∷ [] ≡ delete_written digest key path seam)
+    emptied h =
+        from-links (links_if_single key (head_shape path)) _ h (λ l e t.
+        let m = unmet-empty l.0 l.1 seam (ap (λ (r : ℕ × (Option (List ℕ) × Option (List ℕ))). r.0) t)
+        (ap (λ (r : ℕ × (Option (List ℕ) × Option (List ℕ))). r.1) t) in
+        (m.0 ∙ sym (single-links key (head_shape path) l (λ x y. trim_shape digest x y seam []) _ e),
+        m.1 ∙ sym (single-links key (head_shape path) l (λ x y. trim_shapes digest x y seam) _ e)))
+
+    -- one link is left
+    pub pruned-down : (pruned : List Shape)
+        → OnLinks (links_if_single key (head_shape path)) (λ x y. IsSome (trim_links x y seam))
+        → (lowest_shape pruned ≡ delete_root digest key path seam pruned) × ([] ≡ delete_written digest key path seam)
+        × IsSome (prune_link key path seam)
+    pruned-down pruned h =
+        from-links (links_if_single key (head_shape path)) _ h (λ l e t.
+        let m = one-pruned l.0 l.1 seam pruned t in
+        (m.0 ∙ sym (single-links key (head_shape path) l (λ x y. trim_shape digest x y seam pruned) _ e),
+        m.1 ∙ sym (single-links key (head_shape path) l (λ x y. trim_shapes digest x y seam) _ e),
+        subst IsSome (sym (single-links key (head_shape path) l (λ x y. trim_links x y seam) None e)) t))
+
+    -- a fault in what is written
+    pub written-fault : (shapes pruned : List Shape) (f : RewriteFault) → shapes ≡ delete_written digest key path seam
+        → IsFaultUnless (AllLawful shapes) f → IsFaultUnless (CanDelete digest key path seam pruned) f
+    written-fault shapes pruned f e =
+        unless-weaker _ _ f (λ (can : CanDelete digest key path seam pruned). subst AllLawful (sym e) can.lawful)
+
+    ends-some : (o : Option (List ℕ)) (pruned : List Shape) → IsSome o → Ends o pruned → 1 ≤ length pruned
+    ends-some None pruned h e = absurd cc
+    ends-some (Some c) pruned h e = e
+
+    -- a chain without a node
+    pub chain-fault : (pruned : List Shape) (f : RewriteFault) → IsSome (prune_link key path seam)
+        → IsFaultUnless (1 ≤ length pruned) f → IsFaultUnless (CanDelete digest key path seam pruned) f
+    chain-fault pruned f some =
+        unless-weaker _ _ f (λ (can : CanDelete digest key path seam pruned).
+        ends-some (prune_link key path seam) pruned some can.ends)

@@ -3,16 +3,14 @@ use Rattle.std.proofs.Common.{◌≡◌, ℕ, suc, ◌+◌, ◌-◌, ◌≤◌, 
 use Rattle.std.proofs.lemmas.List.{map-append}
 use Rattle.spec.specs.NodeFormat.{Shape, shape_bytes, shape_cid}
 use Rattle.edit_laws.specs.Lawful.{Lawful, AllLawful}
-use Rattle.edit_laws.specs.ShapeEdit.{close_shapes, last_shape, links_beside, merge_links, merge_shapes, remove_shape, trim_shape}
+use Rattle.edit_laws.specs.ShapeEdit.{close_shapes, last_shape, links_beside, merge_links, merge_shapes, remove_shape}
 use Rattle.edit_laws.specs.PathEdit.{flat, climb, climb_shapes, all_but_last, lowest_shape, delete_here, delete_below, delete_root, delete_written, delete_read, delete_gone_shapes}
 use Rattle.edit_laws.specs.Changes.{add_of, drop_of}
 use Rattle.spec.specs.Blocks.{IsClashFree}
 use Rattle.rewrite.specs.declared.draft.RewriteFault.{RewriteFault}
-use Rattle.edit.specs.declared.below.Trimmed.TheVariants.{Below}
 use Rattle.edit.specs.Deletes.{within_written, CanWriteWithin, IsDeleteOn}
 use Rattle.rewrite.specs.Drafts.{IsFaultOf}
 use Rattle.edit.specs.Faults.{IsFaultUnless}
-use Rattle.edit.specs.Trimmed.{IsTrimmed}
 use Rattle.edit.proofs.Building.{front-all, back-all, join-all, closed-lawful, unless-weaker, of-unless}
 
 -- ---- the last of some nodes, and the others
@@ -120,14 +118,6 @@ module _ (digest : List ℕ → List ℕ) where
       ∙ append_assoc (m0 ++ map shape_bytes xs) (map shape_bytes ys) (shape_bytes t ∷ [])
       ∙ append_assoc m0 (map shape_bytes xs) (map shape_bytes ys ++ (shape_bytes t ∷ []))
       ∙ ap (λ v. m0 ++ v) (sym whole)
-
-  -- ---- where it is
-
-  -- the last node of the chain that is pruned
-  pub pruned-root : (x y : Option (List ℕ)) (seam : List (Shape × Shape)) (pruned : List Shape) (l : List ℕ) (top : Shape)
-      → IsTrimmed digest x y seam (Below l) → 1 ≤ length pruned → top ≡ get_or pruned (length pruned - 1) top
-      → top ≡ trim_shape digest x y seam pruned
-  pruned-root x y seam pruned l top h n at = sym (h.1 pruned ∙ row-last pruned top n at)
 
 -- ---- all nodes in one list
 

@@ -2,7 +2,6 @@
 use Rattle.std.specs.Prelude.{◌≡◌, ◌≤◌, ◌+◌, ⊤, ℕ, List, [], ◌∷◌, ◌++◌, length, map, Option, Some, None, IsSome, Result, IfOk, IfErr}
 use Rattle.std.specs.Arc.{arc_value}
 use Rattle.std.specs.declared.sync.Arc.{Arc}
-use Rattle.std.specs.declared.vec.Vec.{Vec}
 use Rattle.spec.specs.Blocks.{IsClashFree, nodes, value_of}
 use Rattle.spec.specs.Layer.{layer}
 use Rattle.spec.specs.Tree.{Pair, top}
@@ -15,9 +14,10 @@ use Rattle.edit.specs.declared.outcome.EditFault.{EditFault}
 use Rattle.edit.specs.Edits.{IsEditOf}
 use Rattle.edit.specs.Faults.{IsRefusal}
 use Rattle.edit.specs.Trees.{OfTree}
+use Rattle.edit.specs.Trimmed.{chain_of, IsTrimmed}
 use Rattle.spec.specs.NodeFormat.{Shape, shape_cid, node_bytes}
 use Rattle.edit_laws.specs.Lawful.{AllLawful}
-use Rattle.edit_laws.specs.ShapeEdit.{head_shape, merge_shapes, links_beside, trim_links, trim_shapes}
+use Rattle.edit_laws.specs.ShapeEdit.{head_shape, merge_shapes, links_beside}
 use Rattle.rewrite.specs.Cursors.{links_if_single}
 use Rattle.edit_laws.specs.PathEdit.{climb_shapes, all_but_last, lowest_shape, prune_link, delete_here, delete_below, delete_root, delete_written, delete_read, delete_gone_shapes}
 use Rattle.edit_laws.specs.Changes.{add_of, drop_of}
@@ -42,11 +42,6 @@ pub record CanWriteWithin (digest : List ℕ → List ℕ) (key : List ℕ) (pat
   pub some : 1 ≤ length path
   pub lawful : AllLawful (within_written digest key path seam)
 
-pub record CanTrim (digest : List ℕ → List ℕ) (x y : Option (List ℕ)) (seam : List (Shape × Shape))
-    (pruned : List Shape) : Type 0 where
-  pub lawful : AllLawful (trim_shapes digest x y seam)
-  pub ends : Ends (trim_links x y seam) pruned
-
 pub record CanDelete (digest : List ℕ → List ℕ) (key : List ℕ) (path : List Shape) (seam : List (Shape × Shape))
     (pruned : List Shape) : Type 0 where
   pub some : 1 ≤ length path
@@ -55,33 +50,22 @@ pub record CanDelete (digest : List ℕ → List ℕ) (key : List ℕ) (path : L
 
 -- ---- what is to be done, by what was read
 
--- one thing for links that there are, another where there are none
-abbrev pub on_links : {X : Type 0} → Option (Option (List ℕ) × Option (List ℕ))
-    → (Option (List ℕ) → Option (List ℕ) → X) → X → X
-on_links None f z = z
-on_links (Some p) f z = f p.0 p.1
-
--- the link at which a chain begins, where a top loses its only key between these links
-abbrev pub chain_link : Option (Option (List ℕ) × Option (List ℕ)) → List (Shape × Shape) → Option (List ℕ)
-chain_link links seam = on_links links (λ x y. trim_links x y seam) None
-
 -- the chain that was read
 abbrev pub pruned_of : {D A : Type 0} → Change D A → List Shape
 pruned_of (Within x y) = []
-pruned_of (Top x y pruned) = pruned.items
+pruned_of (Top trimmed) = chain_of trimmed
 
--- what to do, from the links beside the key where it is the top's only one, those in its node, and the chain
-abbrev pub change_of : {D A : Type 0} → Option (Option (List ℕ) × Option (List ℕ))
-    → Option (List ℕ) × Option (List ℕ) → Vec Shape A → Change D A
-change_of None beside pruned = Within beside.0 beside.1
-change_of (Some p) beside pruned = Top p.0 p.1 pruned
+-- there are links, and this holds of them
+abbrev pub OnLinks : Option (Option (List ℕ) × Option (List ℕ)) → (Option (List ℕ) → Option (List ℕ) → Type 0) → Type 0
+OnLinks None P = ⊥
+OnLinks (Some p) P = P p.0 p.1
 
--- it is what these nodes ask for: the top loses its only key, or the key's node stays
+-- it is what these nodes ask for: the key's node stays, or the top loses its only key and gives way to this
 abbrev pub IsChangeOf : {D A : Type 0} → List ℕ → List Shape → List (Shape × Shape) → Change D A → Type 0
 IsChangeOf key path seam (Within x y) =
     (links_if_single key (head_shape path) ≡ None) × ((x, y) ≡ links_beside key (lowest_shape path))
-IsChangeOf key path seam (Top x y pruned) =
-    (links_if_single key (head_shape path) ≡ Some (x, y)) × (trim_links x y seam ≡ None → pruned.items ≡ [])
+IsChangeOf key path seam (Top trimmed) =
+    OnLinks (links_if_single key (head_shape path)) (λ x y. IsTrimmed x y seam trimmed)
 
 -- the key is there, and each block that is asked for is there and is a node
 pub record CanReadDelete (shows : List ℕ → Option Shape) (n : ℕ) (key root : List ℕ) : Type 0 where

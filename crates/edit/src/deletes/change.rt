@@ -1,7 +1,7 @@
 //! What a delete does with the nodes that it read.
 
 ghost use Rattle.std.specs.Prelude.{◌≡◌};
-ghost use Rattle.edit.specs.Deletes.{change_of as change_by, pruned_of};
+ghost use Rattle.edit.specs.Deletes.{pruned_of};
 
 use crate::loading::Node;
 use cid::{Cid, Digest};
@@ -15,23 +15,21 @@ pub(crate) type Links = (Option<Cid>, Option<Cid>);
 pub(crate) enum Change<'a, D: Digest, A: Allocator> {
     /// The key's node stays, without the key. These are the links beside it.
     Within(Option<Cid>, Option<Cid>),
-    /// The top loses its only key, which stood between these links, and is trimmed. Where what is left comes down to one
-    /// link, these are the nodes without pairs from there down, and the first one with a pair.
-    Top(Option<Cid>, Option<Cid>, Vec<Node<'a, D, A>, A>),
+    /// The top loses its only key, and gives way to this.
+    Top(Trimmed<'a, D, A>),
 }
 
-/// What to do: `top` are the links beside the key where it is the top's only one, `beside` those in its node.
-pub(crate) fn change_of<'a, D: Digest, A: Allocator>(
-    top: Option<Links>,
-    beside: Links,
-    pruned: Vec<Node<'a, D, A>, A>,
-) -> Change<'a, D, A>
-    ensures { result ≡ change_by top beside pruned.entry }
-{
-    match top {
-        Some((before, after)) => Change::Top(before, after, pruned),
-        None => Change::Within(beside.0, beside.1),
-    }
+/// What a top that loses its only key gives way to. It takes all nodes without pairs that stood below it with it, as two of
+/// these are never made one.
+#[derive(Drop)]
+pub(crate) enum Trimmed<'a, D: Digest, A: Allocator> {
+    /// Two parts that become one: so many pairs of nodes of the seam are passed over, from the top down, and these are the
+    /// links of the parts there.
+    Merged(usize, Option<Cid>, Option<Cid>),
+    /// Nothing is left: the empty node is made.
+    Empty,
+    /// One link is left. These are the nodes without pairs from there down, and the first one with a pair: the new top.
+    Pruned(Vec<Node<'a, D, A>, A>),
 }
 
 impl<'a, D: Digest, A: Allocator> Change<'a, D, A> {
@@ -40,8 +38,8 @@ impl<'a, D: Digest, A: Allocator> Change<'a, D, A> {
         ensures { result.items ≡ pruned_of self.entry }
     {
         match self {
-            Change::Within(_, _) => Vec::new(alloc),
-            Change::Top(_, _, pruned) => pruned,
+            Change::Top(Trimmed::Pruned(chain)) => chain,
+            _ => Vec::new(alloc),
         }
     }
 }

@@ -1,16 +1,16 @@
 //! What a delete reads.
 
-ghost use Rattle.std.specs.Prelude.{◌≡◌, ◌≤◌, ◌+◌, Some, IfOk, IfErr, OnOk};
-ghost use Rattle.edit_laws.specs.ShapeEdit.{head_shape, links_beside as beside, trim_links};
-ghost use Rattle.edit_laws.specs.PathEdit.{lowest_shape};
-ghost use Rattle.edit_laws.specs.Sources.{path_from, value_from, delete_seam_from, delete_pruned_from};
-ghost use Rattle.edit.specs.Deletes.{asked_delete, chain_link, pruned_of, CanReadDelete, IsChangeOf};
+ghost use Rattle.std.specs.Prelude.{◌≡◌, ◌≤◌, ◌+◌, Some, length, IfOk, IfErr, OnOk};
+ghost use Rattle.edit_laws.specs.ShapeEdit.{head_shape, links_beside, trim_links};
+ghost use Rattle.edit_laws.specs.PathEdit.{lowest_shape, prune_link};
+ghost use Rattle.edit_laws.specs.Sources.{path_from, value_from, pruned_from, delete_seam_from, delete_pruned_from};
+ghost use Rattle.edit.specs.Deletes.{asked_delete, pruned_of, CanReadDelete, IsChangeOf};
+ghost use Rattle.edit.specs.Trimmed.{have_no_pairs, past_keyless, chain_of, IsTrimmed};
 ghost use Rattle.rewrite.specs.Cursors.{links_if_single};
 ghost use Rattle.edit.specs.Faults.{IsFaultUnless};
-ghost use Rattle.edit.specs.Steps.{nodes_given};
+ghost use Rattle.edit.specs.Steps.{asked_pruned, nodes_given, IsWholeChain};
 
-use crate::below::have_no_pairs;
-use crate::deletes::change::{Change, Links, change_of};
+use crate::deletes::change::{Change, Links, Trimmed};
 use crate::loading::{Node, Path, read_path, read_pruned, read_seam};
 use crate::source::{Lent, Source};
 use cid::{Block, Cid, Digest};
@@ -66,10 +66,7 @@ pub(crate) fn read_delete<'a, D: Digest + 'a, A: Allocator + Clone + 'a, S: Sour
     };
     let (one, other) = key_links(&path, key);
     let seam = read_seam(alloc.clone()?, src, one, other, most)?;
-    let top = top_links(&path, key);
-    let link = chain_link(top, &seam);
-    let pruned = read_pruned(alloc, src, link, most)?;
-    let change = change_of(top, (one, other), pruned);
+    let change = read_change(alloc, src, key, &path, (one, other), &seam, most)?;
     Ok(DeleteNodes {
         path,
         seam,
@@ -83,7 +80,7 @@ fn key_links<D: Digest, A: Allocator>(
     path: &[Node<'_, D, A>],
     key: &[u8],
 ) -> (Option<Cid>, Option<Cid>)
-    ensures { result ≡ beside key.now (lowest_shape path.now) }
+    ensures { result ≡ links_beside key.now (lowest_shape path.now) }
 {
     match path {
         [.., row] => links_beside(row.view(), key),
@@ -101,32 +98,91 @@ fn top_links<D: Digest, A: Allocator>(path: &[Node<'_, D, A>], key: &[u8]) -> Op
     links_if_single(top.view(), key)
 }
 
-/// The link at which pruning begins, where the top loses its only key, between these links, and comes down to one subtree.
-fn chain_link<D: Digest, A: Allocator>(
-    top: Option<Links>,
-    seam: &[(Node<'_, D, A>, Node<'_, D, A>)],
-) -> Option<Cid>
-    ensures { result ≡ chain_link top seam.now }
+/// Reads what is left where the top loses its only key, and says what is to be done, from the links beside `key` in its
+/// node.
+fn read_change<'a, D: Digest + 'a, A: Allocator + 'a, S: Source<Lent<'a, D, A>>>(
+    alloc: A,
+    src: &mut S,
+    key: &[u8],
+    path: &[Node<'a, D, A>],
+    beside: Links,
+    seam: &[(Node<'a, D, A>, Node<'a, D, A>)],
+    most: u16,
+) -> Result<Change<'a, D, A>, RewriteFault>
+    requires { beside ≡ links_beside key.now (lowest_shape path.now) }
+    ensures change { IfOk result (IsChangeOf key.now path.now seam.now) }
+    ensures pruned { IfOk result (λ change. pruned_of change ≡ delete_pruned_from
+        (nodes_given (S.gives src.old)) most key.now path.now seam.now) }
+    ensures whole { OnOk result (IsWholeChain (nodes_given (S.gives src.old)) most
+        (prune_link key.now path.now seam.now)) }
+    ensures fault { IfErr result (IsFaultUnless (IsWholeChain (nodes_given (S.gives src.old)) most
+        (prune_link key.now path.now seam.now))) }
+    ensures same { S.gives src.new ≡ S.gives src.old }
+    ensures reads { S.reads src.new ≤ S.reads src.old + asked_pruned (nodes_given (S.gives src.old))
+        most (prune_link key.now path.now seam.now) }
+    ensures reads_all { OnOk result (S.reads src.new ≡ S.reads src.old + asked_pruned
+        (nodes_given (S.gives src.old)) most (prune_link key.now path.now seam.now)) }
 {
-    match top {
-        Some((one, other)) => trim_link(one, other, seam),
-        None => None,
-    }
+    let Some(around) = top_links(path, key) else {
+        return Ok(Change::Within(beside.0, beside.1));
+    };
+    let trimmed = read_trimmed(alloc, src, around, seam, most)?;
+    Ok(Change::Top(trimmed))
 }
 
-/// The one link that two adjacent parts come down to, where no key is left between and around them, if they do.
-fn trim_link<D: Digest, A: Allocator>(
-    one: Option<Cid>,
-    other: Option<Cid>,
+/// Reads what a top that loses its only key, between these links, gives way to.
+fn read_trimmed<'a, D: Digest + 'a, A: Allocator + 'a, S: Source<Lent<'a, D, A>>>(
+    alloc: A,
+    src: &mut S,
+    around: Links,
+    seam: &[(Node<'a, D, A>, Node<'a, D, A>)],
+    most: u16,
+) -> Result<Trimmed<'a, D, A>, RewriteFault>
+    ensures trimmed { IfOk result (IsTrimmed around.0 around.1 seam.now) }
+    ensures pruned { IfOk result (λ trimmed. chain_of trimmed ≡ pruned_from
+        (nodes_given (S.gives src.old)) most (trim_links around.0 around.1 seam.now)) }
+    ensures whole { OnOk result (IsWholeChain (nodes_given (S.gives src.old)) most
+        (trim_links around.0 around.1 seam.now)) }
+    ensures fault { IfErr result (IsFaultUnless (IsWholeChain (nodes_given (S.gives src.old)) most
+        (trim_links around.0 around.1 seam.now))) }
+    ensures same { S.gives src.new ≡ S.gives src.old }
+    ensures reads { S.reads src.new ≤ S.reads src.old + asked_pruned (nodes_given (S.gives src.old))
+        most (trim_links around.0 around.1 seam.now) }
+    ensures reads_all { OnOk result (S.reads src.new ≡ S.reads src.old + asked_pruned
+        (nodes_given (S.gives src.old)) most (trim_links around.0 around.1 seam.now)) }
+{
+    let (passed, (one, other)) = past_keyless(around, seam);
+    if passed < seam.len() {
+        return Ok(Trimmed::Merged(passed, one, other));
+    }
+    let Some(link) = one.or(other) else {
+        return Ok(Trimmed::Empty);
+    };
+    let chain = read_pruned(alloc, src, Some(link), most)?;
+    Ok(Trimmed::Pruned(chain))
+}
+
+/// How many pairs of nodes have no key, from the top down to the first that has one, and the links of the two parts there.
+fn past_keyless<D: Digest, A: Allocator>(
+    around: Links,
     seam: &[(Node<'_, D, A>, Node<'_, D, A>)],
-) -> Option<Cid>
-    ensures { result ≡ trim_links one other seam.now }
+) -> (usize, Links)
+    ensures past { result ≡ past_keyless around.0 around.1 seam.now }
+    ensures within { result.0 ≤ length seam.now }
 {
     let [(before, after), below @ ..] = seam else {
-        return one.or(other);
+        return (0, around);
     };
     if !have_no_pairs(before, after) {
-        return None;
+        return (0, around);
     }
-    trim_link(before.first_link(), after.first_link(), below)
+    let (passed, links) = past_keyless((before.first_link(), after.first_link()), below);
+    (passed + 1, links)
+}
+
+/// Whether neither of two nodes has a pair.
+fn have_no_pairs<D: Digest, A: Allocator>(one: &Node<'_, D, A>, other: &Node<'_, D, A>) -> bool
+    ensures { result ≡ have_no_pairs one.now other.now }
+{
+    !one.has_pairs() && !other.has_pairs()
 }

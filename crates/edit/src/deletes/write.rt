@@ -1,19 +1,20 @@
 //! What a delete writes.
 
-ghost use Rattle.std.specs.Prelude.{◌≡◌, [], None, IfOk, IfErr, OnOk};
-ghost use Rattle.edit_laws.specs.ShapeEdit.{links_beside, trim_links, trim_shape, trim_shapes};
+ghost use Rattle.std.specs.Prelude.{◌≡◌, ◌≤◌, [], ◌∷◌, length, None, Some, IfOk, IfErr, OnOk};
+ghost use Rattle.spec.specs.NodeFormat.{LastLink};
+ghost use Rattle.edit_laws.specs.ShapeEdit.{links_beside, merge_links, merge_shapes};
 ghost use Rattle.edit_laws.specs.PathEdit.{lowest_shape, delete_below, delete_root, delete_written};
-ghost use Rattle.edit.specs.Deletes.{within_written, pruned_of, CanWriteWithin, CanTrim, CanDelete, IsChangeOf};
-ghost use Rattle.edit.specs.Faults.{IsFaultUnless};
+ghost use Rattle.edit.specs.Deletes.{within_written, pruned_of, CanWriteWithin, CanDelete, IsChangeOf};
+ghost use Rattle.edit.specs.Faults.{IsFaultIn, IsFaultUnless};
 ghost use Rattle.rewrite.specs.Drafts.{Adds};
 ghost use Rattle.edit.specs.Making.{IsCidOf};
 
 use crate::above::climb;
-use crate::below::{Trimmed, merge, trim};
-use crate::deletes::change::{Change, Links};
+use crate::below::merge;
+use crate::deletes::change::{Change, Links, Trimmed};
 use crate::loading::Node;
 use cid::{Cid, Digest};
-use rewrite::{Made, RewriteFault, remove};
+use rewrite::{Made, RewriteFault, pad, remove};
 use std::alloc::Allocator;
 use std::clone::Clone;
 
@@ -39,9 +40,13 @@ pub(crate) fn write_delete<D: Digest, A: Allocator + Clone>(
         Change::Within(before, after) => {
             write_within(alloc, key, path, (*before, *after), seam, made)
         }
-        Change::Top(before, after, pruned) => {
-            write_trimmed(alloc, *before, *after, seam, pruned, made)
-        }
+        Change::Top(trimmed) => match trimmed {
+            Trimmed::Merged(passed, one, other) => {
+                write_merged(alloc, *one, *other, &seam[*passed..], made)
+            }
+            Trimmed::Empty => write_empty(alloc, made),
+            Trimmed::Pruned(chain) => chain_end(chain),
+        },
     }
 }
 
@@ -71,28 +76,44 @@ fn write_within<D: Digest, A: Allocator + Clone>(
     Ok(top.push(made)?)
 }
 
-/// The new top where the old one loses its only key, from the links beside the key.
-fn write_trimmed<D: Digest, A: Allocator + Clone>(
+/// The top of two parts that become one, from their links and the pairs of nodes that meet.
+fn write_merged<D: Digest, A: Allocator + Clone>(
     alloc: A,
     one: Option<Cid>,
     other: Option<Cid>,
     seam: &[(Node<'_, D, A>, Node<'_, D, A>)],
-    pruned: &[Node<'_, D, A>],
     made: &mut Made<D, A>,
 ) -> Result<Cid, RewriteFault>
-    requires { trim_links one other seam.now ≡ None → pruned.now ≡ [] }
-    ensures root { IfOk result
-        (IsCidOf D.digest_of (trim_shape D.digest_of one other seam.now pruned.now)) }
-    ensures made { OnOk result
-        (Adds made.old made.new (trim_shapes D.digest_of one other seam.now)) }
-    ensures fault { IfErr result
-        (IsFaultUnless (CanTrim D.digest_of one other seam.now pruned.now)) }
+    requires { 1 ≤ length seam.now }
+    ensures root { IfOk result (λ cid. Some cid ≡ merge_links D.digest_of one other seam.now) }
+    ensures made { OnOk result (Adds made.old made.new (merge_shapes D.digest_of seam.now)) }
+    ensures fault { IfErr result (IsFaultIn (merge_shapes D.digest_of seam.now)) }
 {
-    match trim(alloc, one, other, seam, made)? {
-        Trimmed::Made(root) => Ok(root),
-        Trimmed::Below(_) => match pruned {
-            [.., top] => Ok(top.block().cid()),
-            [] => Err(RewriteFault::NotNode),
-        },
+    let Some(top) = merge(alloc, one, other, seam, made)? else {
+        unreachable!()
+    };
+    Ok(top)
+}
+
+/// The empty node.
+fn write_empty<D: Digest, A: Allocator + Clone>(
+    alloc: A,
+    made: &mut Made<D, A>,
+) -> Result<Cid, RewriteFault>
+    ensures root { IfOk result (IsCidOf D.digest_of (LastLink None)) }
+    ensures made { OnOk result (Adds made.old made.new (LastLink None ∷ [])) }
+    ensures fault { IfErr result (IsFaultIn (LastLink None ∷ [])) }
+{
+    Ok(pad(alloc, None)?.push(made)?)
+}
+
+/// The last node of a chain, which is the new top as it stands. The fault is `NotNode` where there is none.
+fn chain_end<D: Digest, A: Allocator>(chain: &[Node<'_, D, A>]) -> Result<Cid, RewriteFault>
+    ensures root { IfOk result (IsCidOf D.digest_of (lowest_shape chain.now)) }
+    ensures fault { IfErr result (IsFaultUnless (1 ≤ length chain.now)) }
+{
+    match chain {
+        [.., top] => Ok(top.block().cid()),
+        [] => Err(RewriteFault::NotNode),
     }
 }

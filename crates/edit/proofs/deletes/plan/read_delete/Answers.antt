@@ -1,15 +1,11 @@
 use Rattle.std.proofs.Common.{◌≡◌, List, refl, sym, ap, subst, ◌∙◌}
 use Rattle.std.specs.Arc.{arc_value}
 use Rattle.spec.specs.NodeFormat.{Shape}
-use Rattle.edit_laws.specs.ShapeEdit.{head_shape, links_beside}
-use Rattle.edit_laws.specs.PathEdit.{lowest_shape, prune_link}
-use Rattle.edit_laws.specs.Sources.{pruned_from}
-use Rattle.rewrite.specs.Cursors.{links_if_single}
-use Rattle.edit.specs.Deletes.{chain_link, pruned_of, IsChangeOf}
+use Rattle.edit_laws.specs.Sources.{delete_pruned_from}
+use Rattle.edit.specs.Deletes.{IsChangeOf}
 use Rattle.edit.specs.Steps.{nodes_given}
 use Rattle.std.proofs.lemmas.Result.{err_from_is_err_and}
-use Rattle.edit.proofs.PathReading.{whole-path, whole-seam, whole-chain}
-use Rattle.edit.proofs.DeletePlan.{prune-is, change-pruned, change-is}
+use Rattle.edit.proofs.PathReading.{whole-path, whole-seam}
 use Rattle.edit.proofs.DeleteReading.{can-all, seam-is, link-is, no-seam, no-chain, seam-asked, chain-asked, three, three-most, at-most}
 use Rattle.edit.proofs.deletes.plan.read_delete.Goals as goal
 
@@ -21,30 +17,28 @@ returns-in_err-seam-clause-fault g c =
     (no-seam arc_value (g.S.Source.gives c.args.src.now) _ _ _ _ _ _ _ _ c.read_path.ensures.same
     (items ∙ c.in_ok-path.ensures.nodes) c.key_links.ensures c.in_err-seam.ensures.fault)
 
-pub returns-in_err-pruned-clause-fault : goal.returns-in_err-pruned-clause-fault
-returns-in_err-pruned-clause-fault g c =
-    let p = err_from_is_err_and c.from_residual-in_err-pruned.result c.from_residual-in_err-pruned.ensures.1 in
+pub returns-in_err-change-clause-fault : goal.returns-in_err-change-clause-fault
+returns-in_err-change-clause-fault g c =
+    let p = err_from_is_err_and c.from_residual-in_err-change.result c.from_residual-in_err-change.ensures.1 in
     let items : c.deref.result.now ≡ c.in_ok-path.field-0.nodes.items = cc in
     let again : c.deref-2.result.now ≡ c.deref.result.now = cc in
     let path = items ∙ c.in_ok-path.ensures.nodes in
     let seam = seam-is arc_value (g.S.Source.gives c.args.src.now) _ _ _ _ _ _ _ _ c.read_path.ensures.same path
     c.key_links.ensures c.in_ok-seam.ensures.seam in
-    let link = link-is arc_value (g.S.Source.gives c.args.src.now) _ _ _ _ _ _ _ _ path seam again c.deref-3.ensures.value
-    (prune-is c.args.key.now c.deref-2.result.now c.deref-3.result.now _ _ c.top_links-top.ensures c.chain_link-link.ensures) in
+    let link = link-is arc_value (g.S.Source.gives c.args.src.now) _ _ _ _ _ _ _ _ path seam again c.deref-3.ensures.value refl in
     rw (p.1, p.2)
     (no-chain arc_value (g.S.Source.gives c.args.src.now) _ _ _ _ _ _ (c.read_seam.ensures.same ∙ c.read_path.ensures.same)
-    link c.in_err-pruned.ensures.fault)
+    link c.in_err-change.ensures.fault)
 
-pub returns-in_err-pruned-clause-reads : goal.returns-in_err-pruned-clause-reads
-returns-in_err-pruned-clause-reads g c =
+pub returns-in_err-change-clause-reads : goal.returns-in_err-change-clause-reads
+returns-in_err-change-clause-reads g c =
     let items : c.deref.result.now ≡ c.in_ok-path.field-0.nodes.items = cc in
     let again : c.deref-2.result.now ≡ c.deref.result.now = cc in
     let path = items ∙ c.in_ok-path.ensures.nodes in
     let seam = seam-is arc_value (g.S.Source.gives c.args.src.now) _ _ _ _ _ _ _ _ c.read_path.ensures.same path
     c.key_links.ensures c.in_ok-seam.ensures.seam in
-    let link = link-is arc_value (g.S.Source.gives c.args.src.now) _ _ _ _ _ _ _ _ path seam again c.deref-3.ensures.value
-    (prune-is c.args.key.now c.deref-2.result.now c.deref-3.result.now _ _ c.top_links-top.ensures c.chain_link-link.ensures) in
-    three-most _ _ _ _ _ _ _ _ _ c.in_ok-path.ensures.reads_all c.in_ok-seam.ensures.reads_all c.read_pruned.ensures.reads
+    let link = link-is arc_value (g.S.Source.gives c.args.src.now) _ _ _ _ _ _ _ _ path seam again c.deref-3.ensures.value refl in
+    three-most _ _ _ _ _ _ _ _ _ c.in_ok-path.ensures.reads_all c.in_ok-seam.ensures.reads_all c.read_change.ensures.reads
     (seam-asked arc_value (g.S.Source.gives c.args.src.now) _ _ _ _ _ _ _ c.read_path.ensures.same path c.key_links.ensures)
     (chain-asked arc_value (g.S.Source.gives c.args.src.now) _ _ _ _ _ (c.read_seam.ensures.same ∙ c.read_path.ensures.same)
     link)
@@ -56,9 +50,8 @@ returns-clause-reads_all g c =
     let path = items ∙ c.in_ok-path.ensures.nodes in
     let seam = seam-is arc_value (g.S.Source.gives c.args.src.now) _ _ _ _ _ _ _ _ c.read_path.ensures.same path
     c.key_links.ensures c.in_ok-seam.ensures.seam in
-    let link = link-is arc_value (g.S.Source.gives c.args.src.now) _ _ _ _ _ _ _ _ path seam again c.deref-3.ensures.value
-    (prune-is c.args.key.now c.deref-2.result.now c.deref-3.result.now _ _ c.top_links-top.ensures c.chain_link-link.ensures) in
-    three _ _ _ _ _ _ _ _ _ c.in_ok-path.ensures.reads_all c.in_ok-seam.ensures.reads_all c.in_ok-pruned.ensures.reads_all
+    let link = link-is arc_value (g.S.Source.gives c.args.src.now) _ _ _ _ _ _ _ _ path seam again c.deref-3.ensures.value refl in
+    three _ _ _ _ _ _ _ _ _ c.in_ok-path.ensures.reads_all c.in_ok-seam.ensures.reads_all c.in_ok-change.ensures.reads_all
     (seam-asked arc_value (g.S.Source.gives c.args.src.now) _ _ _ _ _ _ _ c.read_path.ensures.same path c.key_links.ensures)
     (chain-asked arc_value (g.S.Source.gives c.args.src.now) _ _ _ _ _ (c.read_seam.ensures.same ∙ c.read_path.ensures.same)
     link)
@@ -68,56 +61,36 @@ returns-clause-reads g c = at-most _ _ (returns-clause-reads_all g c)
 
 pub returns-clause-can : goal.returns-clause-can
 returns-clause-can g c =
-    let gives = g.S.Source.gives c.args.src.now in
     let items : c.deref.result.now ≡ c.in_ok-path.field-0.nodes.items = cc in
     let again : c.deref-2.result.now ≡ c.deref.result.now = cc in
     let path = items ∙ c.in_ok-path.ensures.nodes in
-    let seam = seam-is arc_value gives _ _ _ _ _ _ _ _ c.read_path.ensures.same path
+    let seam = seam-is arc_value (g.S.Source.gives c.args.src.now) _ _ _ _ _ _ _ _ c.read_path.ensures.same path
     c.key_links.ensures c.in_ok-seam.ensures.seam in
-    let link = link-is arc_value gives _ _ _ _ _ _ _ _ path seam again c.deref-3.ensures.value
-    (prune-is c.args.key.now c.deref-2.result.now c.deref-3.result.now _ _ c.top_links-top.ensures c.chain_link-link.ensures) in
-    can-all arc_value gives _ _ _ _ _ _ _ _ _ _
-    (whole-path arc_value gives _ _ _ _ _ _ c.in_ok-path.ensures.nodes c.in_ok-path.ensures.counted c.in_ok-path.ensures.reads_all)
+    let link = link-is arc_value (g.S.Source.gives c.args.src.now) _ _ _ _ _ _ _ _ path seam again c.deref-3.ensures.value refl in
+    can-all arc_value (g.S.Source.gives c.args.src.now) _ _ _ _ _ _ _ _ _ _
+    (whole-path arc_value (g.S.Source.gives c.args.src.now) _ _ _ _ _ _ c.in_ok-path.ensures.nodes c.in_ok-path.ensures.counted c.in_ok-path.ensures.reads_all)
     (sym c.in-Some.is ∙ c.in_ok-path.ensures.previous)
     c.read_path.ensures.same path c.key_links.ensures
     (whole-seam arc_value (g.S.Source.gives c.read_path.new.src) c.args.most c.key_links.result.0 c.key_links.result.1 c.in_ok-seam.seam.items
     (g.S.Source.reads c.read_path.new.src) (g.S.Source.reads c.read_seam.new.src) c.in_ok-seam.ensures.seam c.in_ok-seam.ensures.counted c.in_ok-seam.ensures.reads_all)
-    (c.read_seam.ensures.same ∙ c.read_path.ensures.same) link
-    (whole-chain arc_value (g.S.Source.gives c.read_seam.new.src) c.args.most c.chain_link-link.result c.in_ok-pruned.pruned.items
-    (g.S.Source.reads c.read_seam.new.src) (g.S.Source.reads c.read_pruned.new.src) c.in_ok-pruned.ensures.nodes c.in_ok-pruned.ensures.counted c.in_ok-pruned.ensures.reads_all)
+    (c.read_seam.ensures.same ∙ c.read_path.ensures.same) link c.in_ok-change.ensures.whole
 
 pub returns-clause-pruned : goal.returns-clause-pruned
 returns-clause-pruned g c =
-    let gives = g.S.Source.gives c.args.src.now in
-    let shows = nodes_given gives in
+    let shows = nodes_given (g.S.Source.gives c.args.src.now) in
     let items : c.deref.result.now ≡ c.in_ok-path.field-0.nodes.items = cc in
     let again : c.deref-2.result.now ≡ c.deref.result.now = cc in
-    let links = c.top_links-top.result in
-    let read = c.in_ok-pruned.ensures.nodes
-    ∙ ap (λ is. pruned_from (nodes_given is) c.args.most c.chain_link-link.result)
+    c.in_ok-change.ensures.pruned
+    ∙ ap (λ is. delete_pruned_from (nodes_given is) c.args.most c.args.key.now c.deref-2.result.now c.deref-3.result.now)
     (c.read_seam.ensures.same ∙ c.read_path.ensures.same)
-    ∙ ap (pruned_from shows c.args.most) c.chain_link-link.ensures in
-    ap pruned_of c.change_of-change.ensures
-    ∙ change-pruned _ shows c.args.most c.deref-3.result.now links (c.key_links.result.0, c.key_links.result.1) c.in_ok-pruned.pruned read
-    ∙ ap (pruned_from shows c.args.most)
-    (prune-is c.args.key.now c.deref-2.result.now c.deref-3.result.now _ links c.top_links-top.ensures refl
-    ∙ ap (λ (p : List Shape). prune_link c.args.key.now p c.deref-3.result.now) (again ∙ items)
-    ∙ ap (prune_link c.args.key.now c.in_ok-path.field-0.nodes.items) c.deref-3.ensures.value)
+    ∙ ap (λ (p : List Shape). delete_pruned_from shows c.args.most c.args.key.now p c.deref-3.result.now) (again ∙ items)
+    ∙ ap (delete_pruned_from shows c.args.most c.args.key.now c.in_ok-path.field-0.nodes.items) c.deref-3.ensures.value
 
 pub returns-clause-change : goal.returns-clause-change
 returns-clause-change g c =
-    let gives = g.S.Source.gives c.args.src.now in
-    let shows = nodes_given gives in
     let items : c.deref.result.now ≡ c.in_ok-path.field-0.nodes.items = cc in
     let again : c.deref-2.result.now ≡ c.deref.result.now = cc in
-    let read = c.in_ok-pruned.ensures.nodes
-    ∙ ap (λ is. pruned_from (nodes_given is) c.args.most c.chain_link-link.result)
-    (c.read_seam.ensures.same ∙ c.read_path.ensures.same)
-    ∙ ap (pruned_from shows c.args.most)
-    (c.chain_link-link.ensures ∙ ap (chain_link c.top_links-top.result) c.deref-3.ensures.value) in
-    subst (IsChangeOf c.args.key.now c.in_ok-path.field-0.nodes.items c.in_ok-seam.seam.items) (sym c.change_of-change.ensures)
-    (change-is _ shows c.args.most c.args.key.now c.in_ok-path.field-0.nodes.items c.in_ok-seam.seam.items
-    c.top_links-top.result (c.key_links.result.0, c.key_links.result.1) c.in_ok-pruned.pruned
-    (c.top_links-top.ensures ∙ ap (λ (p : List Shape). links_if_single c.args.key.now (head_shape p)) (again ∙ items))
-    (c.key_links.ensures ∙ ap (λ (p : List Shape). links_beside c.args.key.now (lowest_shape p)) items)
-    read)
+    subst (λ (m : List (Shape × Shape)). IsChangeOf c.args.key.now c.in_ok-path.field-0.nodes.items m c.in_ok-change.change)
+    c.deref-3.ensures.value
+    (subst (λ (p : List Shape). IsChangeOf c.args.key.now p c.deref-3.result.now c.in_ok-change.change) (again ∙ items)
+    c.in_ok-change.ensures.change)
