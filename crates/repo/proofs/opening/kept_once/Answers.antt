@@ -11,4 +11,5 @@ returns-in-Ok-clause-kept g c =
     let blocks = arc_value c.args.block ∷ [] in
     let staged = c.gain.new.kept.staged in
     subst (λ (k : Keeping). AreKept dig blocks k.before) (sym c.accept.ensures.accepted)
-    (first-kept dig blocks staged (subst (λ (k : Keeping). IsGained dig blocks k.staged staged) c.in_ok-kept.ensures c.in-Ok.ensures.gained))
+    (first-kept dig blocks staged (subst (λ (k : Keeping). IsGained dig blocks k.staged staged) c.in_ok-kept.ensures
+    (subst (λ b. IsGained dig (arc_value b ∷ []) c.in_ok-kept.kept.staged staged) c.of.ensures c.in-Ok.ensures.gained)))
