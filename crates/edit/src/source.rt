@@ -198,11 +198,11 @@ impl<D: Digest, A: Allocator> MarkedBlock<D, A> {
         &self.block
     }
 
-    /// The mark: `true` only where the block is a node.
-    pub fn is_marked(&self) -> bool
-        ensures { IsMarked (arc_value self.now) result }
+    /// Whether the block is a node, which is tested only where it has no mark.
+    pub fn is_node(&self) -> bool
+        ensures { result ≡ reads_as_node (arc_value self.now) }
     {
-        self.is_node
+        self.is_node || is_node(self.block.bytes())
     }
 
     /// The block alone.

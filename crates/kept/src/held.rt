@@ -5,14 +5,13 @@ ghost use Rattle.std.specs.Arc.{arc_value};
 ghost use Rattle.edit.specs.Nodes.{IsMarked};
 
 use cid::{Block, Digest};
-use edit::{Lent, is_node};
+use edit::Lent;
 use std::alloc::Allocator;
 use std::marker::Model;
 use std::sync::Arc;
 use store::Hold;
 
-/// A hold, with the mark whether its block is a node. It is tested once at most, when the block is acquired, so that
-/// look-ups and edits needn't test it whenever they read it.
+/// A hold, with the mark whether its block is a node, so that look-ups and edits needn't test it whenever they read it.
 ///
 /// A contract sees it as the hold.
 pub(crate) struct Held<D: Digest, A: Allocator> {
@@ -34,12 +33,11 @@ impl<D: Digest, A: Allocator> Model for Held<D, A> {
 }
 
 impl<D: Digest, A: Allocator> Held<D, A> {
-    /// A hold whose block is marked as a node, or else tested here.
-    pub(crate) fn of(hold: Hold<D, A>, is_marked: bool) -> Held<D, A>
-        requires { IsMarked (arc_value hold.0) is_marked }
+    /// A hold with the mark of its block: `true` only where it is a node.
+    pub(crate) fn of(hold: Hold<D, A>, is_node: bool) -> Held<D, A>
+        requires { IsMarked (arc_value hold.0) is_node }
         ensures { result ≡ hold }
     {
-        let is_node = is_marked || is_node(hold.block().bytes());
         Held { hold, is_node }
     }
 

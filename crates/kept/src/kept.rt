@@ -183,7 +183,8 @@ impl<D: Digest, A: Allocator + Clone> Kept<D, A> {
         })
     }
 
-    /// Stages one use more of a block, which is acquired where it isn't held. Where it has no mark, it is tested then, once.
+    /// Stages one use more of a block, which is acquired where it isn't held. Whether it is a node is noted beside the hold;
+    /// a block that has no mark is tested for it.
     ///
     /// `StoreFault::Collision` shows the given and the held block where other bytes are held under its CID, here or in the
     /// store; `StoreFault::Full` and `StoreFault::NoMemory` are the store's, the latter also where memory for the entry
@@ -204,11 +205,11 @@ impl<D: Digest, A: Allocator + Clone> Kept<D, A> {
         ensures fault { IfErr result (IsRefusalOf D.digest_of (arc_value block)) }
         ensures fulls { S.fulls store.new ≡ fulls_after (S.fulls store.old) result }
     {
-        let is_marked = block.is_marked();
+        let is_node = block.is_node();
         let block = block.into_block();
         let cid = block.cid();
         self.touched.reserve(1)?;
-        let fresh = self.blocks.raise(store, self.me, block, is_marked)?;
+        let fresh = self.blocks.raise(store, self.me, block, is_node)?;
         note(&mut self.touched, cid, fresh);
         Ok(())
     }

@@ -159,10 +159,10 @@ impl<D: Digest, A: Allocator + Clone> UseMap<D, A> {
         store: &mut S,
         me: u32,
         block: Arc<Block<D, A>, A>,
-        is_marked: bool,
+        is_node: bool,
     ) -> Result<bool, StoreFault<D, A>>
         requires small { me < 1024 }
-        requires marked { IsMarked (arc_value block) is_marked }
+        requires marked { IsMarked (arc_value block) is_node }
         requires uses { AreUses D.digest_of me (at self.old) }
         requires store { IsStore D.digest_of S.fulls S.answers }
         ensures raised { OnOk result (IsRaisedIn D.digest_of me self.old self.new
@@ -176,7 +176,7 @@ impl<D: Digest, A: Allocator + Clone> UseMap<D, A> {
         if let Some(held) = self.blocks.get_mut(&cid) {
             return held.raise(block);
         }
-        let hold = Held::of(store.acquire(me, block)?, is_marked);
+        let hold = Held::of(store.acquire(me, block)?, is_node);
         let new = Use {
             hold,
             uses: 0,

@@ -41,4 +41,5 @@ returns-clause-no_other_staged g c =
 
 pub raise-requires-clause-marked : goal.raise-requires-clause-marked
 raise-requires-clause-marked g c =
-    subst (λ b. IsMarked (arc_value b) c.is_marked-is_marked.result) (sym c.into_block-block.ensures) c.is_marked-is_marked.ensures
+    subst (λ b. IsMarked (arc_value b) c.is_node-is_node.result) (sym c.into_block-block.ensures)
+    (λ marked. sym c.is_node-is_node.ensures ∙ marked)

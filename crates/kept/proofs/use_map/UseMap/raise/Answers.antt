@@ -21,7 +21,7 @@ raise-requires g c =
 pub of-hold-requires : goal.of-hold-requires
 of-hold-requires g c =
     let a = c.requires.store c.args.store.now c.args.block c.args.me (Ok c.in_ok-acquire.field-0) c.acquire.new.self c.in_ok-acquire.ensures in
-    subst (λ (b : List ℕ). IsMarked b c.args.is_marked) (sym a.hold.0) c.requires.marked
+    subst (λ (b : List ℕ). IsMarked b c.args.is_node) (sym a.hold.0) c.requires.marked
 
 pub returns-in-Some-clause-raised : goal.returns-in-Some-clause-raised
 returns-in-Some-clause-raised g c =
