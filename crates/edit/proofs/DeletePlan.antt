@@ -190,15 +190,16 @@ module _ (digest : List ℕ → List ℕ) where
         from-links (links_if_single key (head_shape path)) _ h (λ l e t.
         let at : (past_keyless l.0 l.1 seam).0 ≡ n = ap (λ (r : ℕ × (Option (List ℕ) × Option (List ℕ))). r.0) t.0 in
         let m = met-merged l.0 l.1 seam (omega (arith, t.1)) in
-        let rest = rest-is n seam in
-        (rest-some n seam t.1,
-        ap (merge_links digest p q) rest
-        ∙ ap (λ (r : ℕ × (Option (List ℕ) × Option (List ℕ))). merge_links digest r.1.0 r.1.1 (drop r.0 seam)) (sym t.0)
-        ∙ m.0
-        ∙ ap (λ (s : Shape). Some (shape_cid digest s))
-        (sym (single-links key (head_shape path) l (λ x y. trim_shape digest x y seam []) _ e)),
-        ap (merge_shapes digest) rest ∙ ap (λ (r : ℕ). merge_shapes digest (drop r seam)) (sym at)
-        ∙ m.1 ∙ sym (single-links key (head_shape path) l (λ x y. trim_shapes digest x y seam) _ e)))
+        let rest = rest-is n seam in (
+          rest-some n seam t.1,
+          ap (merge_links digest p q) rest
+              ∙ ap (λ (r : ℕ × (Option (List ℕ) × Option (List ℕ))). merge_links digest r.1.0 r.1.1 (drop r.0 seam)) (sym t.0)
+              ∙ m.0
+              ∙ ap (λ (s : Shape). Some (shape_cid digest s))
+              (sym (single-links key (head_shape path) l (λ x y. trim_shape digest x y seam []) _ e)),
+          ap (merge_shapes digest) rest ∙ ap (λ (r : ℕ). merge_shapes digest (drop r seam)) (sym at)
+              ∙ m.1 ∙ sym (single-links key (head_shape path) l (λ x y. trim_shapes digest x y seam) _ e),
+        ))
 
     -- nothing is left
     pub emptied : OnLinks (links_if_single key (head_shape path)) (λ x y. past_keyless x y seam ≡ (length seam, (None, None)))
@@ -206,9 +207,10 @@ module _ (digest : List ℕ → List ℕ) where
     emptied h =
         from-links (links_if_single key (head_shape path)) _ h (λ l e t.
         let m = unmet-empty l.0 l.1 seam (ap (λ (r : ℕ × (Option (List ℕ) × Option (List ℕ))). r.0) t)
-        (ap (λ (r : ℕ × (Option (List ℕ) × Option (List ℕ))). r.1) t) in
-        (m.0 ∙ sym (single-links key (head_shape path) l (λ x y. trim_shape digest x y seam []) _ e),
-        m.1 ∙ sym (single-links key (head_shape path) l (λ x y. trim_shapes digest x y seam) _ e)))
+        (ap (λ (r : ℕ × (Option (List ℕ) × Option (List ℕ))). r.1) t) in (
+          m.0 ∙ sym (single-links key (head_shape path) l (λ x y. trim_shape digest x y seam []) _ e),
+          m.1 ∙ sym (single-links key (head_shape path) l (λ x y. trim_shapes digest x y seam) _ e),
+        ))
 
     -- one link is left
     pub pruned-down : (pruned : List Shape)
@@ -217,10 +219,11 @@ module _ (digest : List ℕ → List ℕ) where
         × IsSome (prune_link key path seam)
     pruned-down pruned h =
         from-links (links_if_single key (head_shape path)) _ h (λ l e t.
-        let m = one-pruned l.0 l.1 seam pruned t in
-        (m.0 ∙ sym (single-links key (head_shape path) l (λ x y. trim_shape digest x y seam pruned) _ e),
-        m.1 ∙ sym (single-links key (head_shape path) l (λ x y. trim_shapes digest x y seam) _ e),
-        subst IsSome (sym (single-links key (head_shape path) l (λ x y. trim_links x y seam) None e)) t))
+        let m = one-pruned l.0 l.1 seam pruned t in (
+          m.0 ∙ sym (single-links key (head_shape path) l (λ x y. trim_shape digest x y seam pruned) _ e),
+          m.1 ∙ sym (single-links key (head_shape path) l (λ x y. trim_shapes digest x y seam) _ e),
+          subst IsSome (sym (single-links key (head_shape path) l (λ x y. trim_links x y seam) None e)) t,
+        ))
 
     -- a fault in what is written
     pub written-fault : (shapes pruned : List Shape) (f : RewriteFault) → shapes ≡ delete_written digest key path seam
