@@ -1,12 +1,12 @@
 -- What the functions that build nodes make, from one node to the next, and when one of these nodes would be none.
-use Rattle.std.proofs.Common.{◌≡◌, ℕ, suc, ◌-◌, ◌≤◌, true, false, List, [], ◌∷◌, ◌++◌, length, take, drop, get_or, map, Option, None, Result, Ok, Err, refl, sym, ap, ◌∙◌, subst, append_assoc, arith}
+use Rattle.std.proofs.Common.{◌≡◌, ℕ, suc, ◌-◌, ◌≤◌, List, [], ◌∷◌, ◌++◌, length, take, drop, get_or, map, Option, None, Result, Ok, Err, refl, sym, ap, ◌∙◌, subst, append_assoc, arith}
 use Rattle.std.specs.Prelude.{OnOk}
 use Rattle.std.specs.declared.option.Option.TheVariants.{Some}
 use Rattle.std.specs.List.{AllByRecursion}
 use Rattle.std.proofs.lemmas.List.{map-append, take_all}
-use Rattle.spec.specs.NodeFormat.{Shape, LastLink, MoreLinks, first_link, shape_bytes, shape_cid}
+use Rattle.spec.specs.NodeFormat.{Shape, LastLink, MoreLinks, shape_bytes, shape_cid}
 use Rattle.edit_laws.specs.Lawful.{Lawful, AllLawful}
-use Rattle.edit_laws.specs.ShapeEdit.{close_link, close_shapes, cut_before, cut_after, split_links, split_shapes, padded_link, link_pads, link_replaced, merge_links, merge_shapes}
+use Rattle.edit_laws.specs.ShapeEdit.{close_link, close_shapes, cut_before, cut_after, split_links, split_shapes, padded_link, link_pads, link_replaced}
 use Rattle.edit_laws.specs.PathEdit.{padded_node, node_pads, climb, climb_shapes}
 use Rattle.rewrite.specs.declared.draft.RewriteFault.{RewriteFault}
 use Rattle.rewrite.specs.declared.draft.RewriteFault.TheVariants.{NotNode, NoMemory}

@@ -1,4 +1,4 @@
-use Rattle.std.proofs.Common.{◌≡◌, ◌≤◌, [], List, length, sym, ap, subst, ◌∙◌}
+use Rattle.std.proofs.Common.{◌≤◌, [], List, length, sym, ap, subst, ◌∙◌}
 use Rattle.std.proofs.lemmas.Result.{IfOk-weaker, on_ok_weaker}
 use Rattle.spec.specs.NodeFormat.{Shape, shape_cid}
 use Rattle.edit_laws.specs.PathEdit.{lowest_shape, delete_root}
