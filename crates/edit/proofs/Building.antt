@@ -22,12 +22,6 @@ head-tail [] x h e = absurd (omega arith)
 head-tail (y ∷ ys) x h e =
     ap (λ (z : _). z ∷ ys) (sym e) ∙ ap (λ t. x ∷ t) (sym (take_all (length (y ∷ ys) - 1) ys (omega arith)))
 
--- a list of pairs by its first pair, whose parts are read one by one
-pub pair-tail : {X : Type 0} (xs : List (X × X)) (x y : X × X) → 1 ≤ length xs
-    → xs ≡ ((get_or xs 0 x).0, (get_or xs 0 y).1) ∷ take (length xs - 1) (drop 1 xs)
-pair-tail [] x y h = absurd (omega arith)
-pair-tail (z ∷ zs) x y h = ap (λ t. z ∷ t) (sym (take_all (length (z ∷ zs) - 1) zs (omega arith)))
-
 pub front-all : {X : Type 0} (P : X → Type 0) (xs ys : List X) → AllByRecursion P (xs ++ ys) → AllByRecursion P xs
 front-all P [] ys h = tt
 front-all P (x ∷ xs) ys h = (h.0, front-all P xs ys h.1)

@@ -1,5 +1,5 @@
 -- What a delete does, by the links that were read.
-use Rattle.std.proofs.Common.{◌≡◌, ℕ, zero, suc, ◌-◌, ◌≤◌, List, [], ◌∷◌, ◌++◌, length, drop, take, length-drop, Option, None, refl, sym, ap, ◌∙◌, subst, arith}
+use Rattle.std.proofs.Common.{◌≡◌, ℕ, zero, suc, ◌+◌, ◌-◌, ◌≤◌, List, [], ◌∷◌, ◌++◌, length, drop, take, length-drop, Option, None, refl, sym, ap, ◌∙◌, subst, arith}
 use Rattle.std.specs.Prelude.{IsSome}
 use Rattle.std.specs.Option.{option_or}
 use Rattle.std.specs.declared.option.Option.TheVariants.{Some}
@@ -16,9 +16,10 @@ use Rattle.rewrite.specs.declared.draft.RewriteFault.{RewriteFault}
 use Rattle.rewrite.specs.Cursors.{links_if_single}
 use Rattle.edit.specs.Deletes.{OnLinks, Ends, CanDelete}
 use Rattle.edit.specs.Faults.{IsFaultUnless}
-use Rattle.edit.specs.Steps.{asked_pruned, IsWholeChain}
+use Rattle.edit.specs.Steps.{shows, asked_pruned, IsWholeChain}
 use Rattle.edit.specs.Trimmed.{past_keyless}
 use Rattle.edit.proofs.Building.{unless-weaker}
+use Rattle.edit.proofs.PathReading.{whole-chain}
 
 -- ---- whether the top loses its only key
 
@@ -41,34 +42,10 @@ single-is key (LastLink l) f z = refl
 single-is key (MoreLinks l e (LastLink k)) f z = single-at (order e.0 key) l k f z
 single-is key (MoreLinks l e (MoreLinks k d r)) f z = refl
 
-pub single-links : {X : Type 0} (key : List ℕ) (s : Shape) (p : Option (List ℕ) × Option (List ℕ))
+single-links : {X : Type 0} (key : List ℕ) (s : Shape) (p : Option (List ℕ) × Option (List ℕ))
     (f : Option (List ℕ) → Option (List ℕ) → X) (z : X) → links_if_single key s ≡ Some p
     → single_shape key s f z ≡ f p.0 p.1
 single-links key s p f z h = single-is key s f z ∙ ap (λ o. on_links o f z) h
-
-pub single-not : {X : Type 0} (key : List ℕ) (s : Shape) (f : Option (List ℕ) → Option (List ℕ) → X) (z : X)
-    → links_if_single key s ≡ None → single_shape key s f z ≡ z
-single-not key s f z h = single-is key s f z ∙ ap (λ o. on_links o f z) h
-
--- the link at which a chain begins, where the top loses its only key
-pub prune-links : (key : List ℕ) (path : List Shape) (seam : List (Shape × Shape))
-    (p : Option (List ℕ) × Option (List ℕ)) (o : Option (Option (List ℕ) × Option (List ℕ)))
-    → o ≡ links_if_single key (head_shape path) → o ≡ Some p → trim_links p.0 p.1 seam ≡ prune_link key path seam
-prune-links key path seam p o h e =
-    sym (single-links key (head_shape path) p (λ x y. trim_links x y seam) None (sym h ∙ e))
-
--- and where it doesn't
-pub prune-not : (key : List ℕ) (path : List Shape) (seam : List (Shape × Shape))
-    (o : Option (Option (List ℕ) × Option (List ℕ))) → o ≡ links_if_single key (head_shape path) → o ≡ None
-    → None ≡ prune_link key path seam
-prune-not key path seam o h e = sym (single-not key (head_shape path) (λ x y. trim_links x y seam) None (sym h ∙ e))
-
--- this holds of the links
-pub on-links : (key : List ℕ) (path : List Shape) (p : Option (List ℕ) × Option (List ℕ))
-    (o : Option (Option (List ℕ) × Option (List ℕ))) (P : Option (List ℕ) → Option (List ℕ) → Type 0)
-    → o ≡ links_if_single key (head_shape path) → o ≡ Some p → P p.0 p.1
-    → OnLinks (links_if_single key (head_shape path)) P
-on-links key path p o P h e t = subst (λ l. OnLinks l P) (sym e ∙ h) t
 
 from-links : {Q : Type 0} (o : Option (Option (List ℕ) × Option (List ℕ)))
     (P : Option (List ℕ) → Option (List ℕ) → Type 0) → OnLinks o P
@@ -78,15 +55,15 @@ from-links (Some p) P h f = f p refl h
 
 -- ---- what is read where there is no chain
 
-pub none-read : (shows : List ℕ → Option Shape) (n : ℕ) (l : Option (List ℕ)) → None ≡ l → [] ≡ pruned_from shows n l
+none-read : (shows : List ℕ → Option Shape) (n : ℕ) (l : Option (List ℕ)) → None ≡ l → [] ≡ pruned_from shows n l
 none-read shows zero l h = refl
 none-read shows (suc n) l h = ap (pruned_from shows (suc n)) h
 
-pub none-asked : (shows : List ℕ → Option Shape) (n : ℕ) (l : Option (List ℕ)) → None ≡ l → asked_pruned shows n l ≡ 0
+none-asked : (shows : List ℕ → Option Shape) (n : ℕ) (l : Option (List ℕ)) → None ≡ l → asked_pruned shows n l ≡ 0
 none-asked shows zero l h = refl
 none-asked shows (suc n) l h = sym (ap (asked_pruned shows (suc n)) h)
 
-pub none-whole : (shows : List ℕ → Option Shape) (n : ℕ) (l : Option (List ℕ)) → None ≡ l → IsWholeChain shows n l
+none-whole : (shows : List ℕ → Option Shape) (n : ℕ) (l : Option (List ℕ)) → None ≡ l → IsWholeChain shows n l
 none-whole shows n l h = none-asked shows n l h ∙ ap length (none-read shows n l h)
 
 -- ---- what a top that loses its only key comes down to
@@ -107,7 +84,7 @@ unmet-one x y ((LastLink p, LastLink q) ∷ ss) h = unmet-one p q ss (omega arit
 unmet-one x y ((LastLink p, MoreLinks q e r) ∷ ss) h = absurd (omega arith)
 unmet-one x y ((MoreLinks p e r, k) ∷ ss) h = absurd (omega arith)
 
-pub met : (x y : Option (List ℕ)) (seam : List (Shape × Shape)) (t : ℕ × (Option (List ℕ) × Option (List ℕ)))
+met : (x y : Option (List ℕ)) (seam : List (Shape × Shape)) (t : ℕ × (Option (List ℕ) × Option (List ℕ)))
     → t ≡ past_keyless x y seam → suc t.0 ≤ length seam → None ≡ trim_links x y seam
 met x y seam t e h =
     met-none x y seam (subst (λ (r : ℕ × (Option (List ℕ) × Option (List ℕ))). suc r.0 ≤ length seam) e h)
@@ -116,12 +93,75 @@ or-one : (x y : Option (List ℕ)) → option_or x y ≡ one_link x y
 or-one None y = refl
 or-one (Some c) y = refl
 
-pub unmet : (x y l : Option (List ℕ)) (seam : List (Shape × Shape)) (t : ℕ × (Option (List ℕ) × Option (List ℕ)))
+unmet : (x y l : Option (List ℕ)) (seam : List (Shape × Shape)) (t : ℕ × (Option (List ℕ) × Option (List ℕ)))
     → t ≡ past_keyless x y seam → length seam ≤ t.0 → l ≡ option_or t.1.0 t.1.1 → l ≡ trim_links x y seam
 unmet x y l seam t e h is =
     is ∙ or-one t.1.0 t.1.1
     ∙ ap (λ (r : ℕ × (Option (List ℕ) × Option (List ℕ))). one_link r.1.0 r.1.1) e
     ∙ unmet-one x y seam (subst (λ (r : ℕ × (Option (List ℕ) × Option (List ℕ))). length seam ≤ r.0) e h)
+
+-- what is read of the chain, by where a pair with a key is met
+module _ {X : Type 0} (view : X → List ℕ) (gives : List ℕ → Option X) (n : ℕ) (x y : Option (List ℕ))
+    (seam : List (Shape × Shape)) (t : ℕ × (Option (List ℕ) × Option (List ℕ))) (past : t ≡ past_keyless x y seam) where
+  abbrev link : Option (List ℕ)
+  link = trim_links x y seam
+
+  -- one is met
+  module _ (h : suc t.0 ≤ length seam) where
+    pub met-read : [] ≡ pruned_from (shows view gives) n link
+    met-read = none-read (shows view gives) n link (met x y seam t past h)
+
+    pub met-whole : IsWholeChain (shows view gives) n link
+    met-whole = none-whole (shows view gives) n link (met x y seam t past h)
+
+    pub met-asked : (k : ℕ) → k ≡ k + asked_pruned (shows view gives) n link
+    met-asked k = let e = none-asked (shows view gives) n link (met x y seam t past h) in omega arith
+
+  -- none is met
+  module _ (l : Option (List ℕ)) (h : length seam ≤ t.0) (is : l ≡ option_or t.1.0 t.1.1) where
+    -- and no link is left
+    module _ (none : l ≡ None) where
+      no-link : None ≡ link
+      no-link = sym none ∙ unmet x y l seam t past h is
+
+      pub unmet-read : [] ≡ pruned_from (shows view gives) n link
+      unmet-read = none-read (shows view gives) n link no-link
+
+      pub unmet-whole : IsWholeChain (shows view gives) n link
+      unmet-whole = none-whole (shows view gives) n link no-link
+
+      pub unmet-asked : (k : ℕ) → k ≡ k + asked_pruned (shows view gives) n link
+      unmet-asked k = let e = none-asked (shows view gives) n link no-link in omega arith
+
+    -- and one is left
+    module _ (c : List ℕ) (some : l ≡ Some c) where
+      left-link : Some c ≡ link
+      left-link = sym some ∙ unmet x y l seam t past h is
+
+      pub left-some : IsSome link
+      left-some = subst IsSome left-link refl
+
+      pub left-fault : (f : RewriteFault) → IsFaultUnless (IsWholeChain (shows view gives) n (Some c)) f
+          → IsFaultUnless (IsWholeChain (shows view gives) n link) f
+      left-fault f = subst (λ (o : Option (List ℕ)). IsFaultUnless (IsWholeChain (shows view gives) n o) f) left-link
+
+      pub left-read : (nodes : List Shape) → nodes ≡ pruned_from (shows view gives) n (Some c)
+          → nodes ≡ pruned_from (shows view gives) n link
+      left-read nodes e = e ∙ ap (pruned_from (shows view gives) n) left-link
+
+      pub left-whole : (nodes : List Shape) (r₀ r₁ : ℕ) → nodes ≡ pruned_from (shows view gives) n (Some c)
+          → r₁ ≡ r₀ + length nodes → r₁ ≡ r₀ + asked_pruned (shows view gives) n (Some c)
+          → IsWholeChain (shows view gives) n link
+      left-whole nodes r₀ r₁ e k a =
+          subst (IsWholeChain (shows view gives) n) left-link (whole-chain view gives n (Some c) nodes r₀ r₁ e k a)
+
+      pub left-most : (r₀ r₁ : ℕ) → r₁ ≤ r₀ + asked_pruned (shows view gives) n (Some c)
+          → r₁ ≤ r₀ + asked_pruned (shows view gives) n link
+      left-most r₀ r₁ k = let e = ap (asked_pruned (shows view gives) n) left-link in omega arith
+
+      pub left-asked : (r₀ r₁ : ℕ) → r₁ ≡ r₀ + asked_pruned (shows view gives) n (Some c)
+          → r₁ ≡ r₀ + asked_pruned (shows view gives) n link
+      left-asked r₀ r₁ k = let e = ap (asked_pruned (shows view gives) n) left-link in omega arith
 
 -- the rest of the pairs
 rest-is : (n : ℕ) (seam : List (Shape × Shape)) → take (length seam - n) (drop n seam) ≡ drop n seam
@@ -190,15 +230,16 @@ module _ (digest : List ℕ → List ℕ) where
         from-links (links_if_single key (head_shape path)) _ h (λ l e t.
         let at : (past_keyless l.0 l.1 seam).0 ≡ n = ap (λ (r : ℕ × (Option (List ℕ) × Option (List ℕ))). r.0) t.0 in
         let m = met-merged l.0 l.1 seam (omega (arith, t.1)) in
-        let rest = rest-is n seam in
-        (rest-some n seam t.1,
-        ap (merge_links digest p q) rest
-        ∙ ap (λ (r : ℕ × (Option (List ℕ) × Option (List ℕ))). merge_links digest r.1.0 r.1.1 (drop r.0 seam)) (sym t.0)
-        ∙ m.0
-        ∙ ap (λ (s : Shape). Some (shape_cid digest s))
-        (sym (single-links key (head_shape path) l (λ x y. trim_shape digest x y seam []) _ e)),
-        ap (merge_shapes digest) rest ∙ ap (λ (r : ℕ). merge_shapes digest (drop r seam)) (sym at)
-        ∙ m.1 ∙ sym (single-links key (head_shape path) l (λ x y. trim_shapes digest x y seam) _ e)))
+        let rest = rest-is n seam in (
+          rest-some n seam t.1,
+          ap (merge_links digest p q) rest
+              ∙ ap (λ (r : ℕ × (Option (List ℕ) × Option (List ℕ))). merge_links digest r.1.0 r.1.1 (drop r.0 seam)) (sym t.0)
+              ∙ m.0
+              ∙ ap (λ (s : Shape). Some (shape_cid digest s))
+              (sym (single-links key (head_shape path) l (λ x y. trim_shape digest x y seam []) _ e)),
+          ap (merge_shapes digest) rest ∙ ap (λ (r : ℕ). merge_shapes digest (drop r seam)) (sym at)
+              ∙ m.1 ∙ sym (single-links key (head_shape path) l (λ x y. trim_shapes digest x y seam) _ e),
+        ))
 
     -- nothing is left
     pub emptied : OnLinks (links_if_single key (head_shape path)) (λ x y. past_keyless x y seam ≡ (length seam, (None, None)))
@@ -206,9 +247,10 @@ module _ (digest : List ℕ → List ℕ) where
     emptied h =
         from-links (links_if_single key (head_shape path)) _ h (λ l e t.
         let m = unmet-empty l.0 l.1 seam (ap (λ (r : ℕ × (Option (List ℕ) × Option (List ℕ))). r.0) t)
-        (ap (λ (r : ℕ × (Option (List ℕ) × Option (List ℕ))). r.1) t) in
-        (m.0 ∙ sym (single-links key (head_shape path) l (λ x y. trim_shape digest x y seam []) _ e),
-        m.1 ∙ sym (single-links key (head_shape path) l (λ x y. trim_shapes digest x y seam) _ e)))
+        (ap (λ (r : ℕ × (Option (List ℕ) × Option (List ℕ))). r.1) t) in (
+          m.0 ∙ sym (single-links key (head_shape path) l (λ x y. trim_shape digest x y seam []) _ e),
+          m.1 ∙ sym (single-links key (head_shape path) l (λ x y. trim_shapes digest x y seam) _ e),
+        ))
 
     -- one link is left
     pub pruned-down : (pruned : List Shape)
@@ -217,10 +259,11 @@ module _ (digest : List ℕ → List ℕ) where
         × IsSome (prune_link key path seam)
     pruned-down pruned h =
         from-links (links_if_single key (head_shape path)) _ h (λ l e t.
-        let m = one-pruned l.0 l.1 seam pruned t in
-        (m.0 ∙ sym (single-links key (head_shape path) l (λ x y. trim_shape digest x y seam pruned) _ e),
-        m.1 ∙ sym (single-links key (head_shape path) l (λ x y. trim_shapes digest x y seam) _ e),
-        subst IsSome (sym (single-links key (head_shape path) l (λ x y. trim_links x y seam) None e)) t))
+        let m = one-pruned l.0 l.1 seam pruned t in (
+          m.0 ∙ sym (single-links key (head_shape path) l (λ x y. trim_shape digest x y seam pruned) _ e),
+          m.1 ∙ sym (single-links key (head_shape path) l (λ x y. trim_shapes digest x y seam) _ e),
+          subst IsSome (sym (single-links key (head_shape path) l (λ x y. trim_links x y seam) None e)) t,
+        ))
 
     -- a fault in what is written
     pub written-fault : (shapes pruned : List Shape) (f : RewriteFault) → shapes ≡ delete_written digest key path seam

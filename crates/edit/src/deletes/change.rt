@@ -19,12 +19,11 @@ pub(crate) enum Change<'a, D: Digest, A: Allocator> {
     Top(Trimmed<'a, D, A>),
 }
 
-/// What a top that loses its only key gives way to. It takes all nodes without pairs that stood below it with it, as two of
-/// these are never made one.
+/// What a top that loses its only key gives way to. Where two nodes without pairs meet below it, they are never made one.
 #[derive(Drop)]
 pub(crate) enum Trimmed<'a, D: Digest, A: Allocator> {
-    /// Two parts that become one: so many pairs of nodes of the seam are passed over, from the top down, and these are the
-    /// links of the parts there.
+    /// Two parts become one: so many pairs of nodes of the seam are passed over, from the top down, and these are the links
+    /// of the two parts there.
     Merged(usize, Option<Cid>, Option<Cid>),
     /// Nothing is left: the empty node is made.
     Empty,

@@ -98,8 +98,8 @@ fn top_links<D: Digest, A: Allocator>(path: &[Node<'_, D, A>], key: &[u8]) -> Op
     links_if_single(top.view(), key)
 }
 
-/// Reads what is left where the top loses its only key, and says what is to be done, from the links beside `key` in its
-/// node.
+/// What is to be done, from the links beside `key` in its node and the nodes that were read. Where the top loses its only
+/// key, it reads what it gives way to.
 fn read_change<'a, D: Digest + 'a, A: Allocator + 'a, S: Source<Lent<'a, D, A>>>(
     alloc: A,
     src: &mut S,
@@ -130,7 +130,8 @@ fn read_change<'a, D: Digest + 'a, A: Allocator + 'a, S: Source<Lent<'a, D, A>>>
     Ok(Change::Top(trimmed))
 }
 
-/// Reads what a top that loses its only key, between these links, gives way to.
+/// What a top that loses its only key, between these links, gives way to. Where it is one link, it reads the chain from
+/// there down, `most` nodes at most.
 fn read_trimmed<'a, D: Digest + 'a, A: Allocator + 'a, S: Source<Lent<'a, D, A>>>(
     alloc: A,
     src: &mut S,
