@@ -46,13 +46,6 @@ pub step-same : {X D A : Type 0} (view : X → List ℕ) (was is : List ℕ → 
     → IsStep (λ d. option_map view (is d)) old new step → IsStep (λ d. option_map view (was d)) old new step
 step-same {X = X} view was is step old new same h = subst (λ (f : List ℕ → Option X). IsStep (λ d. option_map view (f d)) old new step) same h
 
-pub entry-blocks : {X D A : Type 0} (view : X → List ℕ) (was is : List ℕ → Option X) (step : Step D A) (old new : Walking) → is ≡ was
-    → IsStep (λ d. option_map view (was d)) old new step
-    → blocks_left (λ d. option_map view (was d)) old ≡ blocks_behind (λ d. option_map view (is d)) step new
-entry-blocks {X = X} view was is step old new same h =
-    ap (λ (f : List ℕ → Option X). blocks_left (λ d. option_map view (f d)) old) (sym same)
-    ∙ behind (λ d. option_map view (is d)) step old new (step-same view is was step old new (sym same) h)
-
 -- ---- a call fails
 
 pub ahead-stops : {T E : Type 0} (first now all rest : List ℕ) (r : Result T E) → Leaves first now all rest → IsErr r → Takes first now r all

@@ -66,13 +66,13 @@ module _ (old p q s all : List ℕ) (parts : all ≡ p ++ (q ++ s)) where
       → Takes old new r all
   stops-second one new r a err t = stops old one new all q s r (leaves-two one a) err t
 
-  pub stops-third : {T E : Type 0} (one two new : List ℕ) (r : Result T E) → one ≡ old ++ p → two ≡ one ++ q → IsErr r
-      → TakesBeginning two new s → Takes old new r all
-  stops-third one two new r a b err t = stops-last old two new all s r (leaves-one one two a b) err t
-
-  pub takes-three : (one two three : List ℕ) → one ≡ old ++ p → two ≡ one ++ q → three ≡ two ++ s → three ≡ old ++ all
-  takes-three one two three a b c =
-      leaves-none old three all [] (leaves-less old two three all s [] (leaves-same old two all s _ (leaves-one one two a b) (sym (append-nil s))) c) refl
+  -- and the third ended so
+  pub takes-last : {T E : Type 0} (one two new : List ℕ) (r : Result T E) → one ≡ old ++ p → two ≡ one ++ q → Takes two new r s
+      → Takes old new r all
+  takes-last one two new (Ok x) a b t =
+      leaves-none old new all [] (leaves-less old two new all s [] (leaves-same old two all s _ (leaves-one one two a b) (sym (append-nil s))) t) refl
+  takes-last one two new (Err e) a b t =
+      leaves-beginning old two new all s [] (leaves-same old two all s (s ++ []) (leaves-one one two a b) (sym (append-nil s))) t
 
 -- a list is what stands before a place and what is cut off from there on
 pub cut-at : (n : ℕ) (xs rest : List ℕ) → rest ≡ take (length xs - n) (drop n xs) → xs ≡ take n xs ++ rest

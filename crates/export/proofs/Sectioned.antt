@@ -11,9 +11,9 @@ use Rattle.spec.specs.Commits.{car_root}
 use Rattle.edit_laws.specs.Sources.{shown_by}
 use Rattle.export.specs.Once.{AreSingle, GoesOn, HasNoted, capped, sections, section_once}
 use Rattle.export.specs.Outs.{Takes}
-use Rattle.export.specs.Walks.{Walking, blocks_at, blocks_met, car_met, cids_from, cids_left, commit_block, sections_left}
-use Rattle.export.proofs.FirstOnes.{HasMoreAmong, fresh-all, sections-front, alone-section, sections-more}
-use Rattle.export.proofs.Singles.{noted-more, single-later}
+use Rattle.export.specs.Walks.{Walking, blocks_at, blocks_due, blocks_met, car_met, cids_from, cids_left, commit_block, sections_due}
+use Rattle.export.proofs.FirstOnes.{HasMoreAmong, fresh-all, alone-section, sections-more}
+use Rattle.export.proofs.Singles.{noted-more}
 
 -- ---- a block by itself
 
@@ -72,34 +72,12 @@ module _ (digest : List ℕ → List ℕ) (gives : List ℕ → Option (List ℕ
       let e : most - 0 ≡ most = omega arith in
       append-nil (cids_from (shown_by gives) (most - 0) (Some root)) ∙ ap (λ n. cids_from (shown_by gives) n (Some root)) e
 
-  abbrev found : List (List ℕ)
-  found = commit_block gives commit
+  -- what a walk from the top comes to, with the commit before it
+  pub met-due : (w : Walking) → w ≡ top → blocks_met gives most commit root ≡ blocks_due gives commit w
+  met-due w at = ap (λ cs. commit_block gives commit ++ blocks_at gives cs) (sym cids-top) ∙ ap (blocks_due gives commit) (sym at)
 
-  abbrev others : List (List ℕ)
-  others = blocks_at gives (cids_left (shown_by gives) top)
-
-  met-left : blocks_met gives most commit root ≡ found ++ others
-  met-left = ap (λ cs. found ++ blocks_at gives cs) (sym cids-top)
-
-  car-sections : car_met digest gives most commit root ≡ header (car_root commit root) ++ sections digest [] (found ++ others)
-  car-sections =
-      ap (λ bs. header (car_root commit root) ++ flat_map (section digest) (firsts (cid digest) bs)) met-left
-      ∙ ap (λ bs. header (car_root commit root) ++ flat_map (section digest) bs) (sym (fresh-all digest (found ++ others)))
-
-  -- what is left after the commit
-  pub car-front : (rest : List ℕ) × (car_met digest gives most commit root ≡ header (car_root commit root) ++ (sections digest [] found ++ rest))
-  car-front =
-      let f = sections-front digest [] found others in
-      (f.0, car-sections ∙ ap (λ t. header (car_root commit root) ++ t) f.1)
-
-  module _ (may_repeat : List ℕ → Bool) (single : AreSingle digest may_repeat (blocks_met gives most commit root)) where
-    both-single : AreSingle digest may_repeat (found ++ others)
-    both-single = subst (AreSingle digest may_repeat) met-left single
-
-    -- what a walk is to come to stands once
-    pub single-top : AreSingle digest may_repeat others
-    single-top = single-later digest may_repeat found others both-single
-
-    pub car-parts : (cids : List (List ℕ)) → GoesOn digest may_repeat [] found cids
-        → car_met digest gives most commit root ≡ header (car_root commit root) ++ (sections digest [] found ++ sections_left digest gives cids top)
-    car-parts cids seen = car-sections ∙ ap (λ t. header (car_root commit root) ++ t) (seen others both-single)
+  pub car-due : (w : Walking) → w ≡ top
+      → car_met digest gives most commit root ≡ header (car_root commit root) ++ sections_due digest gives [] commit w
+  car-due w at =
+      ap (λ bs. header (car_root commit root) ++ flat_map (section digest) (firsts (cid digest) bs)) (met-due w at)
+      ∙ ap (λ bs. header (car_root commit root) ++ flat_map (section digest) bs) (sym (fresh-all digest (blocks_due gives commit w)))

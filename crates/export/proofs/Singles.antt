@@ -67,3 +67,7 @@ module _ (may_repeat : List ℕ → Bool) (old new : List (List ℕ)) (c : List 
 -- nothing is noted so far
 pub none-noted : (may_repeat : List ℕ → Bool) (cids : List (List ℕ)) → cids ≡ [] → AreRepeats may_repeat cids
 none-noted may_repeat cids e c f = ap (λ s. has s c) e
+
+-- one that can't repeat isn't noted
+pub not-noted : (may_repeat : Bool) (cids : List (List ℕ)) (c : List ℕ) → may_repeat ≡ false → HasNoted may_repeat cids c cids
+not-noted may_repeat cids c e d = sym (ap (λ (m : Bool). (m && bytes_eq c d) || has cids d) e)

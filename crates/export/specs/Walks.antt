@@ -93,6 +93,10 @@ cids_left shows w =
 abbrev pub blocks_left : (List ℕ → Option (List ℕ)) → Walking → List (List ℕ)
 blocks_left gives w = blocks_at gives (cids_left (shown_by gives) w)
 
+-- with the block of a commit before them
+abbrev pub blocks_due : (List ℕ → Option (List ℕ)) → Option (List ℕ) → Walking → List (List ℕ)
+blocks_due gives commit w = commit_block gives commit ++ blocks_left gives w
+
 -- the blocks that are still to be written behind a step: that which it came to, and those left after it
 abbrev pub blocks_behind : {D A : Type 0} → (List ℕ → Option (List ℕ)) → Step D A → Walking → List (List ℕ)
 blocks_behind gives (steps.Found b) w = bytes_found b ∷ blocks_left gives w
@@ -108,6 +112,10 @@ steps_behind gives steps.End w = 0
 -- the sections that are still to be written, after those of these CIDs
 abbrev pub sections_left : (List ℕ → List ℕ) → (List ℕ → Option (List ℕ)) → List (List ℕ) → Walking → List ℕ
 sections_left digest gives cids w = sections digest cids (blocks_left gives w)
+
+-- with that of a commit before them
+abbrev pub sections_due : (List ℕ → List ℕ) → (List ℕ → Option (List ℕ)) → List (List ℕ) → Option (List ℕ) → Walking → List ℕ
+sections_due digest gives cids commit w = sections digest cids (blocks_due gives commit w)
 
 -- those with what is shown under the link, where the link was taken
 abbrev pub cids_entered : (List ℕ → Option Shape) → Walking → Option Shape → List (List ℕ)

@@ -4,7 +4,7 @@ ghost use Rattle.std.specs.Prelude.{◌≡◌, length, option_map, IfOk, OnOk};
 ghost use Rattle.export.specs.Founds.{bytes_found, AreMarked};
 ghost use Rattle.export.specs.Once.{capped, sections, AreRepeats, AreSingle, GoesOn};
 ghost use Rattle.export.specs.Outs.{HasCause, Takes};
-ghost use Rattle.export.specs.Walks.{blocks_left, commit_block, sections_left};
+ghost use Rattle.export.specs.Walks.{blocks_due, blocks_left, commit_block, sections_due, sections_left};
 
 use crate::export_fault::ExportFault;
 use crate::found::Found;
@@ -17,8 +17,42 @@ use cid::{Cid, Digest};
 use edit::{Lent, Source};
 use std::alloc::Allocator;
 
+/// Writes the sections of the commit, if there is one, and of the blocks that a walk is still to come to, and answers how
+/// many bytes that are.
+pub(crate) fn write_sections<
+    'a,
+    D: Digest + 'a,
+    A: Allocator + Clone + 'a,
+    S: Source<Found<Lent<'a, D, A>>>,
+    R: Repeats,
+    W: Out,
+>(
+    repeats: &R,
+    src: &mut S,
+    commit: Option<Cid>,
+    walk: Walk<'a, A>,
+    seen: &mut Seen<A>,
+    out: &mut W,
+) -> Result<u64, ExportFault>
+    requires noted { AreRepeats (R.may_repeat repeats.now) seen.now }
+    requires single { AreSingle D.digest_of (R.may_repeat repeats.now)
+        (blocks_due (λ c. option_map bytes_found (S.gives src.now c)) commit walk) }
+    requires marked { AreMarked D.digest_of (R.may_repeat repeats.now) (S.gives src.now) }
+    ensures taken { Takes (W.taken out.old) (W.taken out.new) result
+        (sections_due D.digest_of (λ c. option_map bytes_found (S.gives src.old c)) seen.old commit
+        walk.entry) }
+    ensures length { IfOk result (λ count. count
+        ≡ capped (length (sections_due D.digest_of
+        (λ c. option_map bytes_found (S.gives src.old c)) seen.old commit walk.entry))) }
+    ensures cause { HasCause (W.failures out.old) (W.failures out.new) result }
+{
+    let first = write_commit(repeats, src, seen, out, commit)?;
+    let others = write_blocks(repeats, src, walk, seen, out)?;
+    Ok(first.saturating_add(others))
+}
+
 /// Writes the section of the commit, if there is one, and answers how many bytes that are.
-pub(crate) fn write_commit<
+fn write_commit<
     'a,
     D: Digest + 'a,
     A: Allocator + Clone + 'a,
@@ -59,7 +93,7 @@ pub(crate) fn write_commit<
 ///
 /// The next block is looked up before the present one is written: both wait for memory that the processor hasn't seen yet,
 /// and so they wait at once.
-pub(crate) fn write_blocks<
+fn write_blocks<
     'a,
     D: Digest + 'a,
     A: Allocator + Clone + 'a,
@@ -86,7 +120,8 @@ pub(crate) fn write_blocks<
     ensures cause { HasCause (W.failures out.old) (W.failures out.new) result }
 {
     let mut written: u64 = 0;
-    let mut step = walk.step(src)?;
+    // Before the first step nothing was found.
+    let mut step = Step::Missing;
     'steps: loop {
         match step {
             Step::Found(found) => {

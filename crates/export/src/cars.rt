@@ -9,7 +9,7 @@ ghost use Rattle.export.specs.Once.{capped, AreSingle};
 ghost use Rattle.export.specs.Outs.{HasCause, Takes};
 ghost use Rattle.export.specs.Walks.{blocks_met, car_met};
 
-use crate::blocks::{write_blocks, write_commit};
+use crate::blocks::write_sections;
 use crate::export_fault::ExportFault;
 use crate::found::{Counted, Found, Unmarked};
 use crate::out::Out;
@@ -122,11 +122,10 @@ fn write_car<
     ensures cause { HasCause (W.failures out.old) (W.failures out.new) result }
 {
     let mut seen = Seen::with_room(alloc.clone()?, room)?;
-    let walk = Walk::from_top(alloc, root, most);
     let header = write_header(out, &root_of(commit, root))?;
-    let first = write_commit(repeats, src, &mut seen, out, commit)?;
-    let others = write_blocks(repeats, src, walk, &mut seen, out)?;
-    Ok(header.saturating_add(first).saturating_add(others))
+    let walk = Walk::from_top(alloc, root, most);
+    let others = write_sections(repeats, src, commit, walk, &mut seen, out)?;
+    Ok(header.saturating_add(others))
 }
 
 /// The root that a CAR names: the commit, and where there is none the root of the tree.

@@ -1,12 +1,12 @@
 //! The header and the sections of a CAR (CARv1).
 
-ghost use Rattle.std.specs.Prelude.{◌≡◌, ◌++◌, length, IfOk};
+ghost use Rattle.std.specs.Prelude.{◌≡◌, ◌++◌, ◌+◌, length, IfOk};
 ghost use Rattle.spec.specs.Car.{header, section};
 ghost use Rattle.export.specs.Outs.{Fails, Takes};
 
 use crate::out::{Failed, Out};
 use crate::varint::varint;
-use crate::whole::write_whole;
+use crate::whole::write_three;
 use cid::{Block, Cid, Digest};
 use std::alloc::Allocator;
 
@@ -26,9 +26,7 @@ pub(crate) fn write_header<W: Out>(out: &mut W, root: &Cid) -> Result<u64, Faile
     ensures length { IfOk result (λ count. count ≡ length (header root.now)) }
 {
     let cid = root.as_bytes();
-    write_whole(out, BEFORE_ROOT)?;
-    write_whole(out, cid)?;
-    write_whole(out, AFTER_ROOT)?;
+    write_three(out, BEFORE_ROOT, cid, AFTER_ROOT)?;
     Ok(HEADER)
 }
 
@@ -45,10 +43,15 @@ pub(crate) fn write_section<D: Digest, A: Allocator, W: Out>(
     let bytes = block.bytes();
     let cid = block.cid();
     let identifier = cid.as_bytes();
-    let size = 36 + bytes.len() as u64;
+    let size = size_behind(bytes);
     let (length, count) = varint(size);
-    write_whole(out, &length[..count])?;
-    write_whole(out, identifier)?;
-    write_whole(out, bytes)?;
+    write_three(out, &length[..count], identifier, bytes)?;
     Ok(count as u64 + size)
+}
+
+/// How many bytes of a section stand behind its length: the CID and the block's bytes.
+fn size_behind(bytes: &[u8]) -> u64
+    ensures { result ≡ 36 + length bytes.now }
+{
+    36 + bytes.len() as u64
 }

@@ -74,8 +74,6 @@ impl<'a, A: Allocator> Walk<'a, A> {
         ensures from { IfOk result (IsStepFrom (S.gives src.old)) }
         ensures same { S.gives src.new ≡ S.gives src.old }
     {
-        // Opens the walk: from here on it is known that its stack has no more than its layers.
-        let _ = &self.most;
         if let Some(cid) = self.take_link() {
             let Some(found) = src.get(&cid) else {
                 return Ok(Step::Missing);
@@ -97,6 +95,7 @@ impl<'a, A: Allocator> Walk<'a, A> {
         ensures link { result
             ≡ (if nat_lt (length self.old.stack) self.old.most then self.old.link else None) }
         ensures taken { self.new ≡ without_link self.old }
+        ensures within { length self.old.stack ≤ self.old.most }
     {
         let link = self.link;
         self.link = None;

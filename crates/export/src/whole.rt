@@ -1,5 +1,6 @@
 //! Writing whole runs of bytes.
 
+ghost use Rattle.std.specs.Prelude.{◌++◌};
 ghost use Rattle.export.specs.Outs.{Fails, Takes};
 
 use crate::out::{Failed, Out};
@@ -15,4 +16,20 @@ pub(crate) fn write_whole<W: Out>(out: &mut W, bytes: &[u8]) -> Result<(), Faile
         rest = &rest[count..];
     }
     Ok(())
+}
+
+/// Writes three runs of bytes, one after the other.
+pub(crate) fn write_three<W: Out>(
+    out: &mut W,
+    first: &[u8],
+    second: &[u8],
+    third: &[u8],
+) -> Result<(), Failed>
+    ensures taken { Takes (W.taken out.old) (W.taken out.new) result
+        (first.now ++ (second.now ++ third.now)) }
+    ensures failures { Fails (W.failures out.old) (W.failures out.new) result }
+{
+    write_whole(out, first)?;
+    write_whole(out, second)?;
+    write_whole(out, third)
 }

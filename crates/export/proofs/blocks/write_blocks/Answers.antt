@@ -2,62 +2,52 @@ use Rattle.std.proofs.Common.{ℕ, List, Option, ◌+◌, ◌++◌, length, opti
 use Rattle.spec.specs.Cid.{cid}
 use Rattle.export.specs.Founds.{bytes_found, AreMarked}
 use Rattle.export.specs.Once.{AreSingle, capped, sections}
-use Rattle.export.specs.Outs.{Takes}
 use Rattle.export.specs.Walks.{blocks_left, steps_behind, IsStepFrom}
-use Rattle.export.proofs.Ahead.{ahead-stops, behind, entry-blocks, smaller, step-same, single-others, written-stops, written-leaves, written-count}
+use Rattle.export.proofs.Ahead.{ahead-stops, behind, smaller, step-same, single-others, written-stops, written-leaves, written-count}
 use Rattle.export.proofs.Leaving.{leaves-all, leaves-same, leaves-none}
 use Rattle.export.proofs.Sectioned.{count-end}
 use Rattle.export.proofs.Marked.{is-new, noted-as}
 use Rattle.export.proofs.Singles.{repeats-more}
 use Rattle.export.proofs.blocks.write_blocks.Goals as goal
 
-pub returns-in_err-step-clause-taken : goal.returns-in_err-step-clause-taken
-returns-in_err-step-clause-taken g c = ahead-stops (g.W.Out.taken c.args.out.now) (g.W.Out.taken c.args.out.now) _ _ c.from_residual.result (leaves-all (g.W.Out.taken c.args.out.now) _) c.from_residual.ensures.0
-
 pub steps-init : goal.steps-init
-steps-init g c =
-    let e = entry-blocks bytes_found (g.S.Source.gives c.args.src.now) (g.S.Source.gives c.step.new.src) c.in_ok-step.step c.args.walk c.step.new.self c.in_ok-step.ensures.same c.in_ok-step.ensures.step in
-    record {
-      same = refl;
-      leaves = leaves-all (g.W.Out.taken c.args.out.now) _;
-      count = ap capped (omega arith);
-      fits = omega arith;
-      noted = c.requires.noted;
-      single = subst (AreSingle g.D.Digest.digest_of (g.R.Repeats.may_repeat c.args.repeats.now)) e c.requires.single;
-      marked = subst (AreMarked g.D.Digest.digest_of (g.R.Repeats.may_repeat c.args.repeats.now)) (sym c.in_ok-step.ensures.same) c.requires.marked;
-      from = subst (λ f. IsStepFrom f c.in_ok-step.step) (sym c.in_ok-step.ensures.same) c.in_ok-step.ensures.from;
-      failures = refl;
-    }
+steps-init g c = record {
+  same = refl;
+  leaves = leaves-all (g.W.Out.taken c.args.out.now) _;
+  count = ap capped (omega arith);
+  fits = omega arith;
+  noted = c.requires.noted;
+  single = c.requires.single;
+  marked = c.requires.marked;
+  from = tt;
+  failures = refl;
+}
 
 pub returns-in_err-next-in-Found-clause-taken : goal.returns-in_err-next-in-Found-clause-taken
 returns-in_err-next-in-Found-clause-taken g c =
-    let e = entry-blocks bytes_found (g.S.Source.gives c.args.src.now) (g.S.Source.gives c.step.new.src) c.in_ok-step.step c.args.walk c.step.new.self c.in_ok-step.ensures.same c.in_ok-step.ensures.step in
-    subst (λ bs. Takes (g.W.Out.taken c.args.out.now) (g.W.Out.taken c.steps.out) c.from_residual-in_err-next-in-Found.result (sections g.D.Digest.digest_of c.args.seen.now bs)) (sym e)
-    (ahead-stops (g.W.Out.taken c.args.out.now) (g.W.Out.taken c.steps.out) _ _ c.from_residual-in_err-next-in-Found.result c.steps.invariant.leaves c.from_residual-in_err-next-in-Found.ensures.0)
+    ahead-stops (g.W.Out.taken c.args.out.now) (g.W.Out.taken c.steps.out) _ _ c.from_residual.result c.steps.invariant.leaves c.from_residual.ensures.0
 
 pub returns-in_err-write_once-in-Found-clause-taken :
     goal.returns-in_err-write_once-in-Found-clause-taken
 returns-in_err-write_once-in-Found-clause-taken g c =
-    let e = entry-blocks bytes_found (g.S.Source.gives c.args.src.now) (g.S.Source.gives c.step.new.src) c.in_ok-step.step c.args.walk c.step.new.self c.in_ok-step.ensures.same c.in_ok-step.ensures.step in
-    subst (λ bs. Takes (g.W.Out.taken c.args.out.now) (g.W.Out.taken c.write_once.new.out) c.from_residual-in_err-write_once-in-Found.result (sections g.D.Digest.digest_of c.args.seen.now bs)) (sym e)
-    (written-stops g.D.Digest.digest_of c.steps.seen (bytes_found c.in-Found.found) (bytes_found c.in-Found.found) (blocks_left (λ d. option_map bytes_found (g.S.Source.gives c.step.new.src d)) c.steps.walk) refl
+    written-stops g.D.Digest.digest_of c.steps.seen (bytes_found c.in-Found.found) (bytes_found c.in-Found.found) (blocks_left (λ d. option_map bytes_found (g.S.Source.gives c.args.src.now d)) c.steps.walk) refl
     (g.W.Out.taken c.args.out.now) (g.W.Out.taken c.steps.out) (g.W.Out.taken c.write_once.new.out) _ c.from_residual-in_err-write_once-in-Found.result
-    (rw c.in-Found.is at c.steps.invariant.leaves) c.from_residual-in_err-write_once-in-Found.ensures.0 c.in_err-write_once-in-Found.ensures.taken)
+    (rw c.in-Found.is at c.steps.invariant.leaves) c.from_residual-in_err-write_once-in-Found.ensures.0 c.in_err-write_once-in-Found.ensures.taken
 
 pub steps-smaller-in-Found : goal.steps-smaller-in-Found
 steps-smaller-in-Found g c =
-    let base : List ℕ → Option (List ℕ) = λ d. option_map bytes_found (g.S.Source.gives c.step.new.src d) in
-    smaller base c.steps.step c.in_ok-next-in-Found.next c.steps.walk c.step-in-Found.new.self (ap (λ s. steps_behind base s c.steps.walk) c.in-Found.is)
-    (step-same bytes_found (g.S.Source.gives c.step.new.src) (g.S.Source.gives c.steps.src) c.in_ok-next-in-Found.next c.steps.walk c.step-in-Found.new.self c.steps.invariant.same c.in_ok-next-in-Found.ensures.step)
+    let base : List ℕ → Option (List ℕ) = λ d. option_map bytes_found (g.S.Source.gives c.args.src.now d) in
+    smaller base c.steps.step c.in_ok-next-in-Found.next c.steps.walk c.step.new.self (ap (λ s. steps_behind base s c.steps.walk) c.in-Found.is)
+    (step-same bytes_found (g.S.Source.gives c.args.src.now) (g.S.Source.gives c.steps.src) c.in_ok-next-in-Found.next c.steps.walk c.step.new.self c.steps.invariant.same c.in_ok-next-in-Found.ensures.step)
 
 pub steps-preserved-in-Found : goal.steps-preserved-in-Found
 steps-preserved-in-Found g c =
-    let base : List ℕ → Option (List ℕ) = λ d. option_map bytes_found (g.S.Source.gives c.step.new.src d) in
+    let base : List ℕ → Option (List ℕ) = λ d. option_map bytes_found (g.S.Source.gives c.args.src.now d) in
     let may_repeat = g.R.Repeats.may_repeat c.args.repeats.now in
-    let by = step-same bytes_found (g.S.Source.gives c.step.new.src) (g.S.Source.gives c.steps.src) c.in_ok-next-in-Found.next c.steps.walk c.step-in-Found.new.self c.steps.invariant.same c.in_ok-next-in-Found.ensures.step in
-    let left = behind base c.in_ok-next-in-Found.next c.steps.walk c.step-in-Found.new.self by in
+    let by = step-same bytes_found (g.S.Source.gives c.args.src.now) (g.S.Source.gives c.steps.src) c.in_ok-next-in-Found.next c.steps.walk c.step.new.self c.steps.invariant.same c.in_ok-next-in-Found.ensures.step in
+    let left = behind base c.in_ok-next-in-Found.next c.steps.walk c.step.new.self by in
     let single = rw c.in-Found.is at c.steps.invariant.single in
-    let noted = noted-as g.D.Digest.digest_of (g.S.Source.gives c.step.new.src) may_repeat c.in-Found.found (rw c.in-Found.is at c.steps.invariant.from) c.steps.invariant.marked
+    let noted = noted-as g.D.Digest.digest_of (g.S.Source.gives c.args.src.now) may_repeat c.in-Found.found (rw c.in-Found.is at c.steps.invariant.from) c.steps.invariant.marked
     c.steps.seen c.write_once.new.seen c.in_ok-write_once-in-Found.ensures.seen in
     record {
       same = c.in_ok-next-in-Found.ensures.same ∙ c.steps.invariant.same;
@@ -78,20 +68,18 @@ steps-preserved-in-Found g c =
 
 pub returns-in_err-step-in-Missing-clause-taken : goal.returns-in_err-step-in-Missing-clause-taken
 returns-in_err-step-in-Missing-clause-taken g c =
-    let e = entry-blocks bytes_found (g.S.Source.gives c.args.src.now) (g.S.Source.gives c.step.new.src) c.in_ok-step.step c.args.walk c.step.new.self c.in_ok-step.ensures.same c.in_ok-step.ensures.step in
-    subst (λ bs. Takes (g.W.Out.taken c.args.out.now) (g.W.Out.taken c.steps.out) c.from_residual-in_err-step-in-Missing.result (sections g.D.Digest.digest_of c.args.seen.now bs)) (sym e)
-    (ahead-stops (g.W.Out.taken c.args.out.now) (g.W.Out.taken c.steps.out) _ _ c.from_residual-in_err-step-in-Missing.result c.steps.invariant.leaves c.from_residual-in_err-step-in-Missing.ensures.0)
+    ahead-stops (g.W.Out.taken c.args.out.now) (g.W.Out.taken c.steps.out) _ _ c.from_residual-in_err-step-in-Missing.result c.steps.invariant.leaves c.from_residual-in_err-step-in-Missing.ensures.0
 
 pub steps-smaller : goal.steps-smaller
 steps-smaller g c =
-    let base : List ℕ → Option (List ℕ) = λ d. option_map bytes_found (g.S.Source.gives c.step.new.src d) in
+    let base : List ℕ → Option (List ℕ) = λ d. option_map bytes_found (g.S.Source.gives c.args.src.now d) in
     smaller base c.steps.step _ c.steps.walk c.step-in-Missing.new.self (ap (λ s. steps_behind base s c.steps.walk) c.in-Missing.is)
-    (step-same bytes_found (g.S.Source.gives c.step.new.src) (g.S.Source.gives c.steps.src) _ c.steps.walk c.step-in-Missing.new.self c.steps.invariant.same c.in_ok-step-in-Missing.ensures.step)
+    (step-same bytes_found (g.S.Source.gives c.args.src.now) (g.S.Source.gives c.steps.src) _ c.steps.walk c.step-in-Missing.new.self c.steps.invariant.same c.in_ok-step-in-Missing.ensures.step)
 
 pub steps-preserved : goal.steps-preserved
 steps-preserved g c =
-    let base : List ℕ → Option (List ℕ) = λ d. option_map bytes_found (g.S.Source.gives c.step.new.src d) in
-    let by = step-same bytes_found (g.S.Source.gives c.step.new.src) (g.S.Source.gives c.steps.src) _ c.steps.walk c.step-in-Missing.new.self c.steps.invariant.same c.in_ok-step-in-Missing.ensures.step in
+    let base : List ℕ → Option (List ℕ) = λ d. option_map bytes_found (g.S.Source.gives c.args.src.now d) in
+    let by = step-same bytes_found (g.S.Source.gives c.args.src.now) (g.S.Source.gives c.steps.src) _ c.steps.walk c.step-in-Missing.new.self c.steps.invariant.same c.in_ok-step-in-Missing.ensures.step in
     let left = behind base _ c.steps.walk c.step-in-Missing.new.self by in
     let e = ap (sections g.D.Digest.digest_of c.steps.seen) left in
     record {
@@ -108,17 +96,13 @@ steps-preserved g c =
 
 pub returns-in-End-clause-taken : goal.returns-in-End-clause-taken
 returns-in-End-clause-taken g c =
-    let e = entry-blocks bytes_found (g.S.Source.gives c.args.src.now) (g.S.Source.gives c.step.new.src) c.in_ok-step.step c.args.walk c.step.new.self c.in_ok-step.ensures.same c.in_ok-step.ensures.step in
     leaves-none (g.W.Out.taken c.args.out.now) (g.W.Out.taken c.steps.out) _ _ (rw c.in-End.is at c.steps.invariant.leaves) refl
-    ∙ ap (λ bs. g.W.Out.taken c.args.out.now ++ sections g.D.Digest.digest_of c.args.seen.now bs) (sym e)
 
 pub returns-in-End-clause-length : goal.returns-in-End-clause-length
 returns-in-End-clause-length g c =
-    let e = entry-blocks bytes_found (g.S.Source.gives c.args.src.now) (g.S.Source.gives c.step.new.src) c.in_ok-step.step c.args.walk c.step.new.self c.in_ok-step.ensures.same c.in_ok-step.ensures.step in
     count-end c.steps.written _ _ c.steps.invariant.fits (rw c.in-End.is at c.steps.invariant.count) refl
-    ∙ ap (λ bs. capped (length (sections g.D.Digest.digest_of c.args.seen.now bs))) (sym e)
 
 pub write_once-requires : goal.write_once-requires
 write_once-requires g c =
-    is-new g.D.Digest.digest_of (g.S.Source.gives c.step.new.src) (g.R.Repeats.may_repeat c.args.repeats.now) c.in-Found.found
+    is-new g.D.Digest.digest_of (g.S.Source.gives c.args.src.now) (g.R.Repeats.may_repeat c.args.repeats.now) c.in-Found.found
     (rw c.in-Found.is at c.steps.invariant.from) c.steps.invariant.marked c.steps.seen c.steps.invariant.noted

@@ -2,12 +2,12 @@ use Rattle.std.proofs.Common.{◌≡◌, ◌+◌, ◌^◌, ◌<◌, length, opti
 use Rattle.export.specs.Founds.{bytes_found, AreMarked}
 use Rattle.export.specs.Once.{AreRepeats, AreSingle, capped, sections}
 use Rattle.export.specs.Outs.{Leaves}
-use Rattle.export.specs.Walks.{blocks_behind, steps_behind, IsStepFrom}
+use Rattle.export.specs.Walks.{blocks_behind, blocks_left, steps_behind, IsStepFrom}
 use Rattle.export.proofs.blocks.write_blocks.Given as goal
 
 abbrev pub invariant-steps : goal.invariant-steps
 invariant-steps g l =
-    let all = sections g.D.Digest.digest_of l.initial.seen (blocks_behind (λ c. option_map bytes_found (g.S.Source.gives l.initial.src c)) l.initial.step l.initial.walk) in
+    let all = sections g.D.Digest.digest_of l.initial.seen (blocks_left (λ c. option_map bytes_found (g.S.Source.gives l.initial.src c)) l.initial.walk) in
     let left = blocks_behind (λ c. option_map bytes_found (g.S.Source.gives l.initial.src c)) l.step l.walk in
     let rest = sections g.D.Digest.digest_of l.seen left in
     record {

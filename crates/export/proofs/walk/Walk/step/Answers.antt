@@ -1,7 +1,7 @@
-use Rattle.std.proofs.Common.{◌≤◌, length, option_map, arith, sym, ap}
+use Rattle.std.proofs.Common.{option_map, sym, ap}
 use Rattle.std.specs.declared.option.Option.TheVariants.{Some, None}
 use Rattle.export.specs.Founds.{bytes_found}
-use Rattle.export.proofs.Walked.{turned-size, goes-missing, goes-down, goes-on, goes-nowhere}
+use Rattle.export.proofs.Walked.{goes-missing, goes-down, goes-on, goes-nowhere}
 use Rattle.export.proofs.walk.Walk.step.Goals as goal
 
 pub returns-in_default-get-clause-step : goal.returns-in_default-get-clause-step
@@ -22,15 +22,13 @@ returns-in_default-2-clause-step g c =
 
 pub returns-in-Some-get-2-clause-step : goal.returns-in-Some-get-2-clause-step
 returns-in-Some-get-2-clause-step g c =
-    let room : length c.args.self.now.stack ≤ c.args.self.now.most = rw (← c.self.view_is, turned-size c.self.inside.stack.items) (omega arith) in
     goes-on (λ d. option_map bytes_found (g.S.Source.gives c.args.src.now d)) c.args.self.now c.take_link.new.self c.next_record.new.self c.in-Some-2.cid
-    (Some (bytes_found c.in-Some-get-2.found)) room c.in_default.ensures.link c.take_link.ensures.taken
+    (Some (bytes_found c.in-Some-get-2.found)) c.take_link.ensures.within c.in_default.ensures.link c.take_link.ensures.taken
     (rw c.in-Some-2.is at c.in_ok-cid.ensures)
     (ap (option_map bytes_found) (sym c.in-Some-get-2.ensures.found))
 
 pub returns-in-None-clause-step : goal.returns-in-None-clause-step
 returns-in-None-clause-step g c =
-    let room : length c.args.self.now.stack ≤ c.args.self.now.most = rw (← c.self.view_is, turned-size c.self.inside.stack.items) (omega arith) in
     goes-on (λ d. option_map bytes_found (g.S.Source.gives c.args.src.now d)) c.args.self.now c.take_link.new.self c.next_record.new.self c.in-Some-2.cid
-    None room c.in_default.ensures.link c.take_link.ensures.taken
+    None c.take_link.ensures.within c.in_default.ensures.link c.take_link.ensures.taken
     (rw c.in-Some-2.is at c.in_ok-cid.ensures) (ap (option_map bytes_found) (sym c.in-None.ensures.found))
