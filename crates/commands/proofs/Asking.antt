@@ -1,8 +1,7 @@
 -- What clap's contract says of the program's command lines.
 use Rattle.std.proofs.Common.{◌∙◌, ◌≡◌, ◌≢◌, ℕ, inl, inr, ap, subst, sym, cond, false, refl, true, Bool, List, [], ◌∷◌, arith}
 use Rattle.std.specs.Prelude.{⊤, codes, Option, Some, None, Result, Ok, Err, IfErr, IsErrAnd, IfSome, IsSomeAnd, is_some, option_map, find}
-use Rattle.std.specs.List.{Any}
-use Rattle.clap.specs.Words.{App, HasMatchesOf, Row, Rule, Shape, Text, app_of, built, fault_of, is_simple}
+use Rattle.clap.specs.Words.{App, HasMatchesOf, Row, Shape, Text, built, fault_of, is_simple}
 use Rattle.clap.specs.Words.{is_simple_and_free, kind_of, subcommand_of, subcommand_rows_of}
 use Rattle.clap.specs.Kinds.{HasKind, IsAmong, Kinds, or_else}
 use Rattle.clap.specs.Faults.{check_fault, defaults_fault, entered_fault, level_fault, settle_fault, walk_fault}
