@@ -1,11 +1,14 @@
 -- What a request writes.
-use Rattle.std.specs.Prelude.{ℕ, List, Option, IfSome}
-use Rattle.console.specs.Written.{AppendsText}
-use Rattle.tree_command.specs.TreeText.{tree_text}
+use Rattle.std.specs.Prelude.{◌≡◌, ◌⊎◌, ℕ, false, List, Option, IfSome, is_ok}
+use Rattle.std.specs.Io.KnownBytes.{Keeps}
+use Rattle.console.specs.Written.{AppendsBeginning, AppendsText}
+use Rattle.tree_command.specs.TreeText.{text_or_nothing, tree_text}
 use Rattle.commands.specs.declared.command_line.Request.{Request}
 use Rattle.commands.specs.declared.command_line.Request.TheVariants as requests
-use Rattle.repository_commands.specs.Commands.{texts_of}
-use Rattle.run_command.specs.Outcomes.{Reports}
+use Rattle.repository_commands.specs.Commands.{reasons_of, texts_of}
+use Rattle.repository_commands.specs.Outcomes.{IsFaulty as IsFaultyOn}
+use Rattle.repository_commands.specs.Texts.{text_or_nothing as repository_text_or_nothing}
+use Rattle.run_command.specs.Outcomes.{IsFaulty, Reports, ReportsBeginning}
 
 -- What was asked for is done, on an input that is known or not, and with a writer's known contents before
 -- and after: the listing of the tree, the text of a command on one repository, or the report of a run
@@ -18,3 +21,23 @@ IsDone D digest (requests.OnRepository command) input old new =
     IfSome input (λ xs. AppendsText old new (texts_of digest command xs))
 IsDone D digest (requests.Run command) input old new =
     IfSome input (Reports D digest command.settings command.did.now old new)
+
+-- The input has no such text: of the tree; of the command, for a reason that it may have; or of a run,
+-- as the DID or the script is faulty, or the host didn't close.
+abbrev pub IsRefused : (D A : Type 0) → (List ℕ → List ℕ) → Request → Option (List ℕ) → Type 0
+IsRefused D A digest (requests.Tree bits) input =
+    IfSome input (λ xs. is_ok (tree_text digest bits.number xs) ≡ false)
+IsRefused D A digest (requests.OnRepository command) input =
+    IsFaultyOn {D = D} {A = A} (texts_of digest command) (reasons_of digest command) input
+IsRefused D A digest (requests.Run command) input =
+    IfSome input (IsFaulty D digest command.settings command.did.now)
+
+-- A beginning of the text was written, and nothing where there is none.
+abbrev pub IsBegun : (D : Type 0) → (List ℕ → List ℕ) → Request → Option (List ℕ) → Option (List ℕ)
+    → Option (List ℕ) → Type 0
+IsBegun D digest (requests.Tree bits) input old new = IfSome input (λ xs.
+    AppendsBeginning old new (text_or_nothing (tree_text digest bits.number xs)))
+IsBegun D digest (requests.OnRepository command) input old new = IfSome input (λ xs.
+    AppendsBeginning old new (repository_text_or_nothing (texts_of digest command xs)))
+IsBegun D digest (requests.Run command) input old new = IfSome input (λ xs.
+    Keeps old new ⊎ ReportsBeginning D digest command.settings command.did.now old new xs)

@@ -5,6 +5,7 @@
 //! - `run_words` does what a command line says: it takes the words, the standard streams, or stand-ins for them, and
 //!   answers an `Outcome`: the `Request` that the words make, and the exit status. It writes help, faults and the version
 //!   too. A program gives it its own words. `run_words_with` is `run_words` under another digest than SHA-256.
+//! - `laws` shows what the definitions make of some command lines.
 //! - `not_started` says what a program does that doesn't get as far.
 //!
 //! Each command has a crate of its own, for callers that have no command line: `tree_command` lists trees,
@@ -13,6 +14,7 @@
 #![tactic(auto)]
 
 mod command_line;
+pub mod laws;
 mod run;
 mod starting;
 

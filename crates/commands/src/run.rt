@@ -1,8 +1,11 @@
 //! The commands, over any reader and writers.
-ghost use Rattle.std.specs.Prelude.{◌≡◌, ◌≤◌, ◌⊎◌, IfSome};
+ghost use Rattle.std.specs.Prelude.{◌≡◌, ◌≢◌, ◌≤◌, ◌⊎◌, IfNone, IfSome, IsNone};
 ghost use Rattle.std.specs.Io.KnownBytes.{Keeps};
 ghost use Rattle.cid.specs.declared.digest.Sha256.{Sha256};
-ghost use Rattle.commands.specs.Requests.{IsDone};
+ghost use Rattle.clap.specs.Walk.{texts};
+ghost use Rattle.clap.specs.Words.{fault_of, kind_of};
+ghost use Rattle.commands.specs.CommandLine.{EndsWithout, IsAskedBy, IsEndOf, is_shown, msthost};
+ghost use Rattle.commands.specs.Requests.{IsBegun, IsDone, IsRefused};
 
 use crate::command_line::{Request, request_of};
 use cid::{Digest, Sha256};
@@ -39,14 +42,32 @@ pub fn run_words<'a, T: Threads + Wait + Sync, R: Read, W: Write, X: Write>(
 ) -> Outcome<'a>
     ensures status { result.status ≤ 4 }
 
+    // A request is the one that the words ask for.
+    ensures asked { IfSome result.request (IsAskedBy (texts words.entry.now)) }
+
+    // Where there is none, help or the version was asked for, the words are wrong, or memory was refused.
+    ensures unasked { IfNone result.request
+        (EndsWithout (fault_of msthost (texts words.entry.now)) result.status) }
+    ensures unshown { IfNone result.request (result.status ≡ 3
+        → Keeps (W.contents out.old) (W.contents out.new)) }
+
     // At status 0 what was written is the text of the command that the words ask for.
     ensures done { result.status ≡ 0 → IfSome result.request (λ request.
         IsDone Sha256 ⟦<Sha256 as Digest>⟧.digest_of request (R.remaining input.old)
         (W.contents out.old) (W.contents out.new)) }
 
-    // A faulty line or word, what comes of them, and a wrong command line write nothing.
+    // At status 1 it has none.
+    ensures faulty { result.status ≡ 1 → IfSome result.request (λ request.
+        IsRefused Sha256 Global ⟦<Sha256 as Digest>⟧.digest_of request (R.remaining input.old)) }
+    ensures usage { result.status ≡ 2 → IsNone result.request }
+
+    // A faulty line or word, what comes of them, and a wrong command line write nothing, and at each
+    // status no more than a beginning of the command's text was written.
     ensures nothing { (result.status ≡ 1) ⊎ (result.status ≡ 2)
         → Keeps (W.contents out.old) (W.contents out.new) }
+    ensures beginning { IfSome result.request (λ request.
+        IsBegun Sha256 ⟦<Sha256 as Digest>⟧.digest_of request (R.remaining input.old)
+        (W.contents out.old) (W.contents out.new)) }
 {
     run_words_with::<Sha256, T, R, W, X>(rt, alloc, words, input, out, err)
 }
@@ -69,14 +90,32 @@ pub fn run_words_with<
 ) -> Outcome<'a>
     ensures status { result.status ≤ 4 }
 
+    // A request is the one that the words ask for.
+    ensures asked { IfSome result.request (IsAskedBy (texts words.entry.now)) }
+
+    // Where there is none, help or the version was asked for, the words are wrong, or memory was refused.
+    ensures unasked { IfNone result.request
+        (EndsWithout (fault_of msthost (texts words.entry.now)) result.status) }
+    ensures unshown { IfNone result.request (result.status ≡ 3
+        → Keeps (W.contents out.old) (W.contents out.new)) }
+
     // At status 0 what was written is the text of the command that the words ask for.
     ensures done { result.status ≡ 0 → IfSome result.request (λ request.
         IsDone D D.digest_of request (R.remaining input.old)
         (W.contents out.old) (W.contents out.new)) }
 
-    // A faulty line or word, what comes of them, and a wrong command line write nothing.
+    // At status 1 it has none.
+    ensures faulty { result.status ≡ 1 → IfSome result.request (λ request.
+        IsRefused D Global D.digest_of request (R.remaining input.old)) }
+    ensures usage { result.status ≡ 2 → IsNone result.request }
+
+    // A faulty line or word, what comes of them, and a wrong command line write nothing, and at each
+    // status no more than a beginning of the command's text was written.
     ensures nothing { (result.status ≡ 1) ⊎ (result.status ≡ 2)
         → Keeps (W.contents out.old) (W.contents out.new) }
+    ensures beginning { IfSome result.request (λ request.
+        IsBegun D D.digest_of request (R.remaining input.old)
+        (W.contents out.old) (W.contents out.new)) }
 {
     match request_of(alloc, words) {
         Ok(request) => Outcome {
@@ -102,8 +141,13 @@ fn do_request<D: Digest + Send + Sync, T: Threads + Wait + Sync, R: Read, W: Wri
     ensures status { result ≤ 4 }
     ensures done { result ≡ 0 → IsDone D D.digest_of request.entry (R.remaining input.old)
         (W.contents out.old) (W.contents out.new) }
+    ensures faulty { result ≡ 1
+        → IsRefused D Global D.digest_of request.entry (R.remaining input.old) }
+    ensures usage { (result ≡ 2) → ⊥ }
     ensures nothing { (result ≡ 1) ⊎ (result ≡ 2)
         → Keeps (W.contents out.old) (W.contents out.new) }
+    ensures beginning { IsBegun D D.digest_of request.entry (R.remaining input.old)
+        (W.contents out.old) (W.contents out.new) }
 {
     match request {
         Request::Tree(bits) => tree_command::run::<D, R, W, X>(bits, alloc, input, out, err),
@@ -118,8 +162,10 @@ fn do_request<D: Digest + Send + Sync, T: Threads + Wait + Sync, R: Read, W: Wri
 
 /// Shows help and the version on standard output, and what is wrong with a command line on standard error.
 fn show<W: Write, X: Write>(error: &Error, out: &mut W, err: &mut X) -> u8
-    ensures status { result ≤ 4 }
-    ensures nothing { (result ≡ 1) ⊎ (result ≡ 2)
+    ensures memory { kind_of error.now ≡ ErrorKind.OutOfMemory → result ≡ 3 }
+    ensures other { (kind_of error.now ≢ ErrorKind.OutOfMemory)
+        → IsEndOf (is_shown (kind_of error.now)) result }
+    ensures nothing { (result ≡ 1) ⊎ ((result ≡ 2) ⊎ (result ≡ 3))
         → Keeps (W.contents out.old) (W.contents out.new) }
 {
     if error.kind() == ErrorKind::OutOfMemory {

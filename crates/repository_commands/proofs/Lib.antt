@@ -5,3 +5,4 @@ pub mod Endings
 pub mod Making
 pub mod AtOnce
 pub mod Sharding
+pub mod Readings

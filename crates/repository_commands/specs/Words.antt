@@ -1,25 +1,52 @@
 -- Which command a name and its words ask for.
-use Rattle.std.specs.Prelude.{◌≡◌, ◌≢◌, ℕ, List, [], codes, unwrap_or}
-use Rattle.clap.specs.Matches.{first_value}
-use Rattle.clap.specs.declared.parser.matches.Found.{Found}
+use Rattle.std.specs.Prelude.{◌≡◌, ◌≢◌, ℕ, true, List, [], ◌∷◌, Some, codes, unwrap_or}
+use Rattle.clap.specs.Simple.{Shape, new_rule, new_shape}
+use Rattle.clap.specs.Walk.{Row, Rule, first_of}
 use Rattle.repository_commands.specs.declared.words.RepositoryCommand.{RepositoryCommand}
 use Rattle.repository_commands.specs.declared.words.RepositoryCommand.TheVariants as commands
 
+-- `--id TEXT`, and another text where there is none
+abbrev pub option_rule : List ℕ → List ℕ → Rule
+option_rule id other = record (new_rule id) {
+  long = Some id;
+  value_names = 1;
+  defaults = other ∷ [];
+}
+
+-- a word that must be there
+abbrev pub required_rule : List ℕ → Rule
+required_rule id = record (new_rule id) { value_names = 1; required = true }
+
+-- what clap reads of each command (`--help` comes with each)
+abbrev pub car_shape : Shape
+car_shape = record (new_shape (codes "car")) {
+  rules = option_rule (codes "did") (codes "did:web:localhost")
+      ∷ option_rule (codes "rev") (codes "2222222222222") ∷ [];
+}
+
+abbrev pub prove_shape : Shape
+prove_shape = record (new_shape (codes "prove")) { rules = required_rule (codes "key") ∷ [] }
+
+abbrev pub verify_shape : Shape
+verify_shape = record (new_shape (codes "verify")) {
+  rules = required_rule (codes "root") ∷ required_rule (codes "key") ∷ [];
+}
+
 -- the text of the word with this id, or another text where there is none
-abbrev pub word_or : List ℕ → Found → List ℕ → List ℕ
-word_or other found id = unwrap_or (first_value found id) other
+abbrev pub word_or : List ℕ → List Row → List ℕ → List ℕ
+word_or other rows id = unwrap_or (first_of id rows) other
 
 -- The command is the one of this name, and has what the words say. Where there is no DID or no
 -- revision, it has the program's own (a choice of this project).
-abbrev pub IsOfWords : List ℕ → Found → RepositoryCommand → Type 0
-IsOfWords name found (commands.Car did rev) = (name ≡ codes "car")
-    × (did.now ≡ word_or (codes "did:web:localhost") found (codes "did"))
-    × (rev.now ≡ word_or (codes "2222222222222") found (codes "rev"))
-IsOfWords name found (commands.Prove key) = (name ≡ codes "prove")
-    × (key.now ≡ word_or [] found (codes "key"))
-IsOfWords name found (commands.Verify root key) = (name ≡ codes "verify")
-    × (root.now ≡ word_or [] found (codes "root"))
-    × (key.now ≡ word_or [] found (codes "key"))
+abbrev pub IsOfWords : List ℕ → List Row → RepositoryCommand → Type 0
+IsOfWords name rows (commands.Car did rev) = (name ≡ codes "car")
+    × (did.now ≡ word_or (codes "did:web:localhost") rows (codes "did"))
+    × (rev.now ≡ word_or (codes "2222222222222") rows (codes "rev"))
+IsOfWords name rows (commands.Prove key) = (name ≡ codes "prove")
+    × (key.now ≡ word_or [] rows (codes "key"))
+IsOfWords name rows (commands.Verify root key) = (name ≡ codes "verify")
+    × (root.now ≡ word_or [] rows (codes "root"))
+    × (key.now ≡ word_or [] rows (codes "key"))
 
 -- no command on one repository has this name
 abbrev pub IsOtherName : List ℕ → Type 0

@@ -1,7 +1,10 @@
 //! What the commands are told on a command line.
-ghost use Rattle.std.specs.Prelude.{◌≡◌, IfNone, IfSome};
-ghost use Rattle.clap.specs.Matches.{found_of};
+ghost use Rattle.std.specs.Prelude.{◌≡◌, false, IfNone, IfOk, IfSome};
+ghost use Rattle.clap.specs.Words.{app_of, found_of, rows_of, rule_of, shape_of, with_subcommand};
+ghost use Rattle.clap.specs.declared.builder.command.Command.TheViews.{out-Command as fields_of};
 ghost use Rattle.repository_commands.specs.Words.{IsOfWords, IsOtherName, word_or as word_or_of};
+ghost use Rattle.repository_commands.specs.Words.{car_shape, prove_shape, verify_shape};
+ghost use Rattle.repository_commands.specs.Words.{option_rule, required_rule};
 
 use clap::{Arg, ArgMatches, Command};
 use std::alloc::{AllocError, Global};
@@ -83,7 +86,10 @@ Example:
   absent";
 
 /// Adds the commands on one repository to a program's.
-pub fn with_words<'a>(alloc: Global, program: Command<'a>) -> Result<Command<'a>, AllocError> {
+pub fn with_words<'a>(alloc: Global, program: Command<'a>) -> Result<Command<'a>, AllocError>
+    ensures { IfOk result (λ r. app_of r ≡ with_subcommand (with_subcommand
+        (with_subcommand (app_of program.entry) car_shape) prove_shape) verify_shape) }
+{
     program
         .subcommand(car_words(alloc)?)?
         .subcommand(prove_words(alloc)?)?
@@ -92,7 +98,7 @@ pub fn with_words<'a>(alloc: Global, program: Command<'a>) -> Result<Command<'a>
 
 /// The command of this name, with what its words say; or `None` where it is another.
 pub fn command_of<'a>(name: &str, words: &ArgMatches<'a>) -> Option<RepositoryCommand<'a>>
-    ensures command { IfSome result (IsOfWords name.now (found_of words.now)) }
+    ensures command { IfSome result (IsOfWords name.now (rows_of (found_of words.now))) }
     ensures none { IfNone result (IsOtherName name.now) }
 {
     if name == "car" {
@@ -117,33 +123,29 @@ pub fn command_of<'a>(name: &str, words: &ArgMatches<'a>) -> Option<RepositoryCo
 
 /// The text of the word with this id, or another text where there is none.
 fn word_or<'a>(other: &'a str, words: &ArgMatches<'a>, id: &str) -> &'a str
-    ensures { result.now ≡ word_or_of other.now (found_of words.now) id.now }
+    ensures { result.now ≡ word_or_of other.now (rows_of (found_of words.now)) id.now }
 {
     words.get_str(id).unwrap_or(other)
 }
 
 /// The words that `car` takes, with what help shows of them.
-fn car_words<'a>(alloc: Global) -> Result<Command<'a>, AllocError> {
-    let did = Arg::new(alloc, "did")
-        .long("did")
-        .value_name("DID")
-        .default_value(DID)
-        .help("Whose repository it is");
-    let rev = Arg::new(alloc, "rev")
-        .long("rev")
-        .value_name("REV")
-        .default_value(REV)
-        .help("The revision of its commit");
+fn car_words<'a>(alloc: Global) -> Result<Command<'a>, AllocError>
+    ensures shape { IfOk result (λ r. shape_of r ≡ car_shape) }
+    ensures local { IfOk result (λ r. (fields_of r).has_globals ≡ false) }
+{
     Command::new(alloc, "car")
         .about(CAR)
         .long_about(LONG_CAR)
         .after_help(CAR_EXAMPLE)
-        .arg(did)?
-        .arg(rev)
+        .arg(option(alloc, "did", "DID", DID, "Whose repository it is"))?
+        .arg(option(alloc, "rev", "REV", REV, "The revision of its commit"))
 }
 
 /// The words that `prove` takes.
-fn prove_words<'a>(alloc: Global) -> Result<Command<'a>, AllocError> {
+fn prove_words<'a>(alloc: Global) -> Result<Command<'a>, AllocError>
+    ensures shape { IfOk result (λ r. shape_of r ≡ prove_shape) }
+    ensures local { IfOk result (λ r. (fields_of r).has_globals ≡ false) }
+{
     Command::new(alloc, "prove")
         .about(PROVE)
         .long_about(LONG_PROVE)
@@ -152,7 +154,10 @@ fn prove_words<'a>(alloc: Global) -> Result<Command<'a>, AllocError> {
 }
 
 /// The words that `verify` takes.
-fn verify_words<'a>(alloc: Global) -> Result<Command<'a>, AllocError> {
+fn verify_words<'a>(alloc: Global) -> Result<Command<'a>, AllocError>
+    ensures shape { IfOk result (λ r. shape_of r ≡ verify_shape) }
+    ensures local { IfOk result (λ r. (fields_of r).has_globals ≡ false) }
+{
     Command::new(alloc, "verify")
         .about(VERIFY)
         .long_about(LONG_VERIFY)
@@ -166,8 +171,23 @@ fn verify_words<'a>(alloc: Global) -> Result<Command<'a>, AllocError> {
         .arg(required(alloc, "key", "KEY", "The key, of 1 to 1,024 bytes"))
 }
 
+/// An option that takes a text, and has another one where it is left out.
+fn option<'a>(alloc: Global, id: &'a str, name: &'a str, other: &'a str, help: &'a str) -> Arg<'a>
+    ensures rule { rule_of result ≡ option_rule id.entry.now other.entry.now }
+    ensures local { result.global ≡ false }
+{
+    Arg::new(alloc, id)
+        .long(id)
+        .value_name(name)
+        .default_value(other)
+        .help(help)
+}
+
 /// A word that must be there.
-fn required<'a>(alloc: Global, id: &'a str, name: &'a str, help: &'a str) -> Arg<'a> {
+fn required<'a>(alloc: Global, id: &'a str, name: &'a str, help: &'a str) -> Arg<'a>
+    ensures rule { rule_of result ≡ required_rule id.entry.now }
+    ensures local { result.global ≡ false }
+{
     Arg::new(alloc, id)
         .value_name(name)
         .required(true)

@@ -1,9 +1,13 @@
 //! What the command is told on a command line.
-ghost use Rattle.std.specs.Prelude.{◌≡◌, ◌↔◌, ℕ, codes, IfSome, IsSome};
-ghost use Rattle.clap.specs.Matches.{found_of, one_text};
+ghost use Rattle.std.specs.Prelude.{◌≡◌, ◌↔◌, ℕ, codes, false, IfOk, IfSome, IsSome};
+ghost use Rattle.clap.specs.Words.{app_of, found_of, one_of, rows_of, rule_of, shape_of};
+ghost use Rattle.clap.specs.Words.{with_subcommand};
+ghost use Rattle.clap.specs.declared.builder.command.Command.TheViews.{out-Command as fields_of};
 ghost use Rattle.run_command.specs.Words.{HasNumbersOf, IsNumberOf, did_of_words};
+ghost use Rattle.run_command.specs.Words.{did_rule, number_rule, run_shape};
 
 use crate::settings::Settings;
+use clap::builder::ValueParser;
 use clap::{Arg, ArgMatches, Command, value_parser};
 use std::alloc::{AllocError, Global};
 
@@ -42,50 +46,88 @@ Example:
   block bafyreie5737gdxlw5i64vzichcalba3z2v5n6icifvx5xytvske7mr3hpm 1";
 
 /// Adds the command to a program's.
-pub fn with_words<'a>(alloc: Global, program: Command<'a>) -> Result<Command<'a>, AllocError> {
+pub fn with_words<'a>(alloc: Global, program: Command<'a>) -> Result<Command<'a>, AllocError>
+    ensures { IfOk result (λ r. app_of r ≡ with_subcommand (app_of program.entry) run_shape) }
+{
     program.subcommand(words(alloc)?)
 }
 
 /// The words that `run` takes, with what help shows of them.
-fn words<'a>(alloc: Global) -> Result<Command<'a>, AllocError> {
-    let repos = Arg::new(alloc, "repos")
-        .long("repos")
-        .value_name("N")
-        .value_parser(value_parser!(u32).range(1..=1024))
-        .default_value("1")
-        .help("How many repositories there are");
-    let workers = Arg::new(alloc, "workers")
-        .long("workers")
-        .value_name("W")
-        .value_parser(value_parser!(u32).range(1..=64))
-        .default_value("1")
-        .help("How many workers there are");
-    let queue = Arg::new(alloc, "queue")
-        .long("queue")
-        .value_name("Q")
-        .value_parser(value_parser!(u32).range(1..=65536))
-        .default_value("1024")
-        .help("How many notices the host's queue has room for");
-    let did = Arg::new(alloc, "did")
-        .long("did")
-        .value_name("DID")
-        .default_value(DID)
-        .help("Whose repositories they are");
+fn words<'a>(alloc: Global) -> Result<Command<'a>, AllocError>
+    ensures shape { IfOk result (λ r. shape_of r ≡ run_shape) }
+    ensures local { IfOk result (λ r. (fields_of r).has_globals ≡ false) }
+{
+    let repos = value_parser!(u32).range(1..=1024);
+    let workers = value_parser!(u32).range(1..=64);
+    let queue = value_parser!(u32).range(1..=65536);
     Command::new(alloc, "run")
         .about(ABOUT)
         .long_about(LONG_ABOUT)
         .after_help(EXAMPLE)
-        .arg(repos)?
-        .arg(workers)?
-        .arg(queue)?
-        .arg(did)
+        .arg(number(
+            alloc,
+            "repos",
+            "N",
+            repos,
+            "1",
+            "How many repositories there are",
+        ))?
+        .arg(number(
+            alloc,
+            "workers",
+            "W",
+            workers,
+            "1",
+            "How many workers there are",
+        ))?
+        .arg(number(
+            alloc,
+            "queue",
+            "Q",
+            queue,
+            "1024",
+            "How many notices the host's queue has room for",
+        ))?
+        .arg(did(alloc))
+}
+
+/// An option that takes a number, and has another one where it is left out.
+fn number<'a>(
+    alloc: Global,
+    id: &'a str,
+    name: &'a str,
+    parser: ValueParser<'a>,
+    other: &'a str,
+    help: &'a str,
+) -> Arg<'a>
+    ensures rule { rule_of result ≡ number_rule id.entry.now parser.entry other.entry.now }
+    ensures local { result.global ≡ false }
+{
+    Arg::new(alloc, id)
+        .long(id)
+        .value_name(name)
+        .value_parser(parser)
+        .default_value(other)
+        .help(help)
+}
+
+/// The DID of all batches.
+fn did<'a>(alloc: Global) -> Arg<'a>
+    ensures rule { rule_of result ≡ did_rule }
+    ensures local { result.global ≡ false }
+{
+    Arg::new(alloc, "did")
+        .long("did")
+        .value_name("DID")
+        .default_value(DID)
+        .help("Whose repositories they are")
 }
 
 /// The command of this name, with what its words say; or `None` where it is another.
 pub fn command_of<'a>(name: &str, words: &ArgMatches<'a>) -> Option<RunCommand<'a>>
     ensures name { IsSome result ↔ (name.now ≡ codes "run") }
-    ensures did { IfSome result (λ c. c.did.now ≡ did_of_words (found_of words.now)) }
-    ensures settings { IfSome result (λ c. HasNumbersOf (found_of words.now) c.settings) }
+    ensures did { IfSome result (λ c. c.did.now ≡ did_of_words (rows_of (found_of words.now))) }
+    ensures settings { IfSome result (λ c. HasNumbersOf (rows_of (found_of words.now)) c.settings) }
 {
     if name != "run" {
         return None;
@@ -101,7 +143,8 @@ pub fn command_of<'a>(name: &str, words: &ArgMatches<'a>) -> Option<RunCommand<'
 
 /// The number that the word with this id gives, or another one where there is none.
 fn number_or(other: u32, words: &ArgMatches<'_>, id: &str) -> u32
-    ensures { (n : ℕ) → IsNumberOf other (one_text (found_of words.now) id.now) n → result ≡ n }
+    ensures { (n : ℕ) → IsNumberOf other (one_of id.now (rows_of (found_of words.now))) n
+        → result ≡ n }
 {
     words.get_one::<u32>(id).unwrap_or(other)
 }

@@ -1,7 +1,8 @@
 //! What `tree` is told on a command line.
-ghost use Rattle.std.specs.Prelude.{◌≡◌, ℕ};
-ghost use Rattle.clap.specs.Matches.{found_of, one_text};
-ghost use Rattle.tree_command.specs.Words.{HasNumberOf, IsNumberOf};
+ghost use Rattle.std.specs.Prelude.{◌≡◌, ℕ, false, IfOk};
+ghost use Rattle.clap.specs.Words.{app_of, found_of, one_of, rows_of, shape_of, with_subcommand};
+ghost use Rattle.clap.specs.declared.builder.command.Command.TheViews.{out-Command as fields_of};
+ghost use Rattle.tree_command.specs.Words.{HasNumberOf, IsNumberOf, tree_shape};
 
 use crate::bits::Bits;
 use clap::{Arg, ArgMatches, Command, value_parser};
@@ -27,12 +28,17 @@ Exit status: 0 done, 1 a faulty line or two nodes with one CID, 2 a wrong comman
 writing failed.";
 
 /// Adds the command to a program's.
-pub fn with_words<'a>(alloc: Global, program: Command<'a>) -> Result<Command<'a>, AllocError> {
+pub fn with_words<'a>(alloc: Global, program: Command<'a>) -> Result<Command<'a>, AllocError>
+    ensures { IfOk result (λ r. app_of r ≡ with_subcommand (app_of program.entry) tree_shape) }
+{
     program.subcommand(words(alloc)?)
 }
 
 /// The words that `tree` takes, with what help shows of them.
-fn words<'a>(alloc: Global) -> Result<Command<'a>, AllocError> {
+fn words<'a>(alloc: Global) -> Result<Command<'a>, AllocError>
+    ensures shape { IfOk result (λ r. shape_of r ≡ tree_shape) }
+    ensures local { IfOk result (λ r. (fields_of r).has_globals ≡ false) }
+{
     let bits = Arg::new(alloc, "bits")
         .long("bits")
         .value_name("B")
@@ -48,14 +54,15 @@ fn words<'a>(alloc: Global) -> Result<Command<'a>, AllocError> {
 
 /// The number of zero bits that these words of `tree` ask for.
 pub fn bits_of(words: &ArgMatches) -> Bits
-    ensures { HasNumberOf (found_of words.now) result }
+    ensures { HasNumberOf (rows_of (found_of words.now)) result }
 {
     Bits::new(number_or(2, words, "bits")).unwrap_or_default()
 }
 
 /// The number that the word with this id gives, or another one where there is none.
 fn number_or(other: u8, words: &ArgMatches, id: &str) -> u8
-    ensures { (n : ℕ) → IsNumberOf other (one_text (found_of words.now) id.now) n → result ≡ n }
+    ensures { (n : ℕ) → IsNumberOf other (one_of id.now (rows_of (found_of words.now))) n
+        → result ≡ n }
 {
     words.get_one::<u8>(id).unwrap_or(other)
 }

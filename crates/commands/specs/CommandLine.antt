@@ -1,0 +1,68 @@
+-- What the words of a command line ask for, by clap's contract. Of a program as simple as this one it
+-- has as functions of the words which faults they have (`fault_of`), and which command they name, with
+-- the values of its options (`subcommand_of`).
+use Rattle.std.specs.Prelude.{◌≡◌, ◌⊎◌, ℕ, Bool, true, false, List, [], ◌∷◌, IsSomeAnd, codes}
+use Rattle.std.specs.List.{Any}
+use Rattle.clap.specs.Faults.{fault_of}
+use Rattle.clap.specs.Kinds.{IsAmong, Kinds}
+use Rattle.clap.specs.Simple.{App, Shape, new_shape, subcommand_of}
+use Rattle.clap.specs.Walk.{Row, Text}
+use Rattle.clap.specs.declared.error.kind.ErrorKind.{ErrorKind}
+use Rattle.clap.specs.declared.error.kind.ErrorKind.TheVariants.{DisplayHelp, DisplayVersion}
+use Rattle.commands.specs.declared.command_line.Request.{Request}
+use Rattle.commands.specs.declared.command_line.Request.TheVariants as requests
+use Rattle.tree_command.specs.Words.{HasNumberOf, tree_shape}
+use Rattle.repository_commands.specs.Words.{IsOfWords, car_shape, prove_shape, verify_shape}
+use Rattle.run_command.specs.Words.{HasNumbersOf, did_of_words, run_shape}
+
+-- What clap reads of the program, beside its commands: it has a version and wants a command, and
+-- `help` is none.
+abbrev pub program_shape : Shape
+program_shape = record (new_shape (codes "msthost")) {
+  is_leaf = false;
+  has_version = true;
+  subcommand_required = true;
+  disable_help_subcommand = true;
+}
+
+-- the program with its five commands
+unfoldable pub msthost : App
+msthost = record {
+  top = program_shape;
+  subs = tree_shape ∷ car_shape ∷ prove_shape ∷ verify_shape ∷ run_shape ∷ [];
+}
+
+-- the request is the one of this name, with what the command's own words say
+abbrev pub IsNamed : Text → List Row → Request → Type 0
+IsNamed name rows (requests.Tree bits) = (name ≡ codes "tree") × HasNumberOf rows bits
+IsNamed name rows (requests.OnRepository command) = IsOfWords name rows command
+IsNamed name rows (requests.Run command) = (name ≡ codes "run")
+    × HasNumbersOf rows command.settings × (command.did.now ≡ did_of_words rows)
+
+-- The words, of which the first is the program's name, are a command line of the program, and ask for
+-- this: clap finds no fault in them, and finds a command, by its name and with what is said of it.
+pub record IsAskedBy (words : List Text) (request : Request) : Type 0 where
+  pub faultless : fault_of msthost words ≡ []
+  pub found : IsSomeAnd (subcommand_of msthost words) (λ c. IsNamed c.0 c.1 request)
+
+-- one of the commands has this name
+abbrev pub IsCommandName : Text → Type 0
+IsCommandName name = Any (λ x. x ≡ name) (codes "tree" ∷ codes "car" ∷ codes "prove" ∷ codes "verify"
+    ∷ codes "run" ∷ [])
+
+-- an answer of this kind is help or the version
+abbrev pub is_shown : ErrorKind → Bool
+is_shown DisplayHelp = true
+is_shown DisplayVersion = true
+is_shown _ = false
+
+-- what is shown was written, or could not be; a fault of the words is told
+abbrev pub IsEndOf : Bool → ℕ → Type 0
+IsEndOf true status = (status ≡ 0) ⊎ (status ≡ 4)
+IsEndOf false status = status ≡ 2
+
+-- How a run ends that has no request, by the kinds of answer that clap has for its words: memory was
+-- refused, or it ends as one of these kinds does.
+abbrev pub EndsWithout : Kinds → ℕ → Type 0
+EndsWithout kinds status = (status ≡ 3)
+    ⊎ ((kind : ErrorKind) × IsAmong kind kinds × IsEndOf (is_shown kind) status)

@@ -1,0 +1,34 @@
+-- Some command lines, and what the definitions make of them.
+use Rattle.std.specs.Prelude.{◌≡◌, List, [], ◌∷◌, codes}
+use Rattle.clap.specs.Kinds.{Kinds}
+use Rattle.clap.specs.Walk.{Text}
+use Rattle.clap.specs.Faults.{fault_of}
+use Rattle.clap.specs.declared.error.kind.ErrorKind.TheVariants as kinds
+use Rattle.tree_command.specs.declared.bits.Bits.{Bits}
+use Rattle.commands.specs.CommandLine.{IsAskedBy, msthost}
+use Rattle.commands.specs.declared.command_line.Request.{Request}
+use Rattle.commands.specs.declared.command_line.Request.TheVariants as requests
+
+-- a command line of the program
+abbrev pub line : List Text → List Text
+line words = codes "msthost" ∷ words
+
+abbrev pub faults : List Text → Kinds
+faults words = fault_of msthost (line words)
+
+-- `tree --bits 3` has no fault, and asks for the tree with 3 bits and for nothing else
+abbrev pub AsksForThreeBits : Type 0
+AsksForThreeBits =
+    let words = codes "tree" ∷ codes "--bits" ∷ codes "3" ∷ [] in
+    (faults words ≡ []) × ((request : Request) → IsAskedBy (line words) request
+    → (bits : Bits) × (request ≡ requests.Tree bits) × (bits.number ≡ 3))
+
+-- help and the version are asked for
+abbrev pub AsksToBeShown : Type 0
+AsksToBeShown = (faults (codes "--help" ∷ []) ≡ kinds.DisplayHelp ∷ [])
+    × (faults (codes "--version" ∷ []) ≡ kinds.DisplayVersion ∷ [])
+
+-- no command, and a number out of its range
+abbrev pub AreWrong : Type 0
+AreWrong = (faults [] ≡ kinds.MissingSubcommand ∷ [])
+    × (faults (codes "tree" ∷ codes "--bits=9" ∷ []) ≡ kinds.ValueValidation ∷ [])

@@ -1,0 +1,9 @@
+//! What the definitions make of some command lines: a law, which does nothing when it is called.
+ghost use Rattle.commands.specs.Examples.{AreWrong, AsksForThreeBits, AsksToBeShown};
+
+/// `tree --bits 3`, help and the version, and two command lines that are wrong.
+pub fn some_command_lines()
+    ensures asked { AsksForThreeBits }
+    ensures shown { AsksToBeShown }
+    ensures wrong { AreWrong }
+{}
