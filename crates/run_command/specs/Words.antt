@@ -1,10 +1,10 @@
 -- What the words of the command say.
-use Rattle.std.specs.Prelude.{◌≡◌, ◌≤◌, ◌<◌, ◌^◌, ℕ, pos, List, [], ◌∷◌, Option, Some, None, codes, unwrap_or}
-use Rattle.std.specs.Str.Parse.{IsNumeral, digits_value, without_leading_plus}
+use Rattle.std.specs.Prelude.{◌≡◌, ◌≤◌, ℕ, pos, List, [], ◌∷◌, Some, codes, unwrap_or}
 use Rattle.clap.specs.Simple.{Shape, new_rule, new_shape}
 use Rattle.clap.specs.Walk.{Row, Rule, first_of, one_of}
 use Rattle.clap.specs.declared.builder.value_parser.ValueParser.{ValueParser}
 use Rattle.clap.specs.declared.builder.value_parser.ValueParser.TheVariants as parsers
+use Rattle.console.specs.Numbers.{IsNumberOf}
 use Rattle.run_command.specs.declared.settings.Settings.{Settings}
 
 -- `--id NUMBER`, as the parser takes it, and another one where there is none
@@ -40,17 +40,11 @@ run_shape = record (new_shape (codes "run")) {
 abbrev pub did_of_words : List Row → List ℕ
 did_of_words rows = unwrap_or (first_of (codes "did") rows) (codes "did:web:localhost")
 
--- the number below 2 ^ 32 that a text writes in decimal digits, or another one where there is no text
-abbrev pub IsNumberOf : ℕ → Option (List ℕ) → ℕ → Type 0
-IsNumberOf other None n = n ≡ other
-IsNumberOf other (Some text) n = IsNumeral 10 (without_leading_plus text)
-    × (n ≡ digits_value 10 (without_leading_plus text)) × (n < 2 ^ 32)
-
 -- Where the words give numbers in their ranges, or none, the settings have these: one repository and
 -- one worker where there is none, and room for 1,024 notices (a choice of this project).
 abbrev pub HasNumbersOf : List Row → Settings → Type 0
 HasNumbersOf rows s = (repos workers queue : ℕ)
-    → IsNumberOf 1 (one_of (codes "repos") rows) repos → (1 ≤ repos) × (repos ≤ 1024)
-    → IsNumberOf 1 (one_of (codes "workers") rows) workers → (1 ≤ workers) × (workers ≤ 64)
-    → IsNumberOf 1024 (one_of (codes "queue") rows) queue → (1 ≤ queue) × (queue ≤ 65536)
+    → IsNumberOf 32 1 (one_of (codes "repos") rows) repos → (1 ≤ repos) × (repos ≤ 1024)
+    → IsNumberOf 32 1 (one_of (codes "workers") rows) workers → (1 ≤ workers) × (workers ≤ 64)
+    → IsNumberOf 32 1024 (one_of (codes "queue") rows) queue → (1 ≤ queue) × (queue ≤ 65536)
     → (s.repos ≡ repos) × (s.workers ≡ workers) × (s.queue ≡ queue)

@@ -3,7 +3,8 @@ ghost use Rattle.std.specs.Prelude.{◌≡◌, ◌↔◌, ℕ, codes, false, IfO
 ghost use Rattle.clap.specs.Words.{app_of, found_of, one_of, rows_of, rule_of, shape_of};
 ghost use Rattle.clap.specs.Words.{with_subcommand};
 ghost use Rattle.clap.specs.declared.builder.command.Command.TheViews.{out-Command as fields_of};
-ghost use Rattle.run_command.specs.Words.{HasNumbersOf, IsNumberOf, did_of_words};
+ghost use Rattle.console.specs.Numbers.{IsNumberOf};
+ghost use Rattle.run_command.specs.Words.{HasNumbersOf, did_of_words};
 ghost use Rattle.run_command.specs.Words.{did_rule, number_rule, run_shape};
 
 use crate::settings::Settings;
@@ -143,7 +144,7 @@ pub fn command_of<'a>(name: &str, words: &ArgMatches<'a>) -> Option<RunCommand<'
 
 /// The number that the word with this id gives, or another one where there is none.
 fn number_or(other: u32, words: &ArgMatches<'_>, id: &str) -> u32
-    ensures { (n : ℕ) → IsNumberOf other (one_of id.now (rows_of (found_of words.now))) n
+    ensures { (n : ℕ) → IsNumberOf 32 other (one_of id.now (rows_of (found_of words.now))) n
         → result ≡ n }
 {
     words.get_one::<u32>(id).unwrap_or(other)

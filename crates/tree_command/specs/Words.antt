@@ -1,9 +1,9 @@
 -- What the words of the command say.
-use Rattle.std.specs.Prelude.{◌≡◌, ◌≤◌, ◌<◌, ◌^◌, ℕ, pos, List, [], ◌∷◌, Option, Some, None, codes}
-use Rattle.std.specs.Str.Parse.{IsNumeral, digits_value, without_leading_plus}
+use Rattle.std.specs.Prelude.{◌≡◌, ◌≤◌, ℕ, pos, List, [], ◌∷◌, Some, codes}
 use Rattle.clap.specs.Simple.{Shape, new_rule, new_shape}
 use Rattle.clap.specs.Walk.{Row, Rule, one_of}
 use Rattle.clap.specs.declared.builder.value_parser.ValueParser.TheVariants as parsers
+use Rattle.console.specs.Numbers.{IsNumberOf}
 use Rattle.tree_command.specs.declared.bits.Bits.{Bits}
 
 -- `--bits B`: a number from 1 to 8, and 2 where there is none
@@ -19,13 +19,7 @@ bits_rule = record (new_rule (codes "bits")) {
 abbrev pub tree_shape : Shape
 tree_shape = record (new_shape (codes "tree")) { rules = bits_rule ∷ [] }
 
--- the number below 2 ^ 8 that a text writes in decimal digits, or another one where there is no text
-abbrev pub IsNumberOf : ℕ → Option (List ℕ) → ℕ → Type 0
-IsNumberOf other None n = n ≡ other
-IsNumberOf other (Some text) n = IsNumeral 10 (without_leading_plus text)
-    × (n ≡ digits_value 10 (without_leading_plus text)) × (n < 2 ^ 8)
-
 -- where the words give a number of bits from 1 to 8, it is this one, and 2 where they give none
 abbrev pub HasNumberOf : List Row → Bits → Type 0
-HasNumberOf rows bits = (n : ℕ) → IsNumberOf 2 (one_of (codes "bits") rows) n
+HasNumberOf rows bits = (n : ℕ) → IsNumberOf 8 2 (one_of (codes "bits") rows) n
     → (1 ≤ n) × (n ≤ 8) → bits.number ≡ n

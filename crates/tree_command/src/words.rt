@@ -2,7 +2,8 @@
 ghost use Rattle.std.specs.Prelude.{◌≡◌, ℕ, false, IfOk};
 ghost use Rattle.clap.specs.Words.{app_of, found_of, one_of, rows_of, shape_of, with_subcommand};
 ghost use Rattle.clap.specs.declared.builder.command.Command.TheViews.{out-Command as fields_of};
-ghost use Rattle.tree_command.specs.Words.{HasNumberOf, IsNumberOf, tree_shape};
+ghost use Rattle.console.specs.Numbers.{IsNumberOf};
+ghost use Rattle.tree_command.specs.Words.{HasNumberOf, tree_shape};
 
 use crate::bits::Bits;
 use clap::{Arg, ArgMatches, Command, value_parser};
@@ -61,7 +62,7 @@ pub fn bits_of(words: &ArgMatches) -> Bits
 
 /// The number that the word with this id gives, or another one where there is none.
 fn number_or(other: u8, words: &ArgMatches, id: &str) -> u8
-    ensures { (n : ℕ) → IsNumberOf other (one_of id.now (rows_of (found_of words.now))) n
+    ensures { (n : ℕ) → IsNumberOf 8 other (one_of id.now (rows_of (found_of words.now))) n
         → result ≡ n }
 {
     words.get_one::<u8>(id).unwrap_or(other)

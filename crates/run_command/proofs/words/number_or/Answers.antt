@@ -1,9 +1,9 @@
 use Rattle.std.proofs.Common.{◌≡◌, ℕ, rules, subst}
 use Rattle.clap.specs.Words.{found_of}
 use Rattle.clap.proofs.WalkLemmas.{one_text-rows}
-use Rattle.run_command.specs.Words.{IsNumberOf}
+use Rattle.console.specs.Numbers.{IsNumberOf}
 use Rattle.run_command.proofs.words.number_or.Goals as goal
 
 pub returns : goal.returns
-returns c = subst (λ text. (n : ℕ) → IsNumberOf c.args.other text n → c.unwrap_or.result ≡ n)
+returns c = subst (λ text. (n : ℕ) → IsNumberOf 32 c.args.other text n → c.unwrap_or.result ≡ n)
     (one_text-rows (found_of c.args.words.now) c.args.id.now) (search rules)
