@@ -100,12 +100,10 @@ static WHAT_IS_NOT_STAGED: [Row; 4] = [
 
 /// Stages one use more of the block of these bytes.
 fn add<D: Digest>(alloc: Global, shard: &mut Shard<D>, kept: &mut Kept<D>, bytes: &[u8]) -> End {
-    match block_of(alloc, bytes) {
-        Ok(block) => {
-            end_of(kept.stage_add(&mut LentShard::new(shard), MarkedBlock::of(block)))
-        }
-        Err(_) => End::Other,
-    }
+    let Ok(block) = block_of(alloc, bytes) else {
+        return End::Other;
+    };
+    end_of(kept.stage_add(&mut LentShard::new(shard), MarkedBlock::of(block)))
 }
 
 /// Does an act.

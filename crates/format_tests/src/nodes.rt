@@ -117,9 +117,11 @@ fn a_link_put_into_each_gap(rt: HostRuntime) {
     let first: [Entry<'_>; 2] = [(b"a/b", value, None), (b"a/cd", value, None)];
     let middle: [Entry<'_>; 2] = [(b"a/b", value, Some(link)), (b"a/cd", value, None)];
     let last: [Entry<'_>; 2] = [(b"a/b", value, None), (b"a/cd", value, Some(link))];
-    assert!(rt; becomes(&rt, rt.alloc(), link, b"a/a", Some(link), &first)
-        && becomes(&rt, rt.alloc(), link, b"a/c", None, &middle)
-        && becomes(&rt, rt.alloc(), link, b"a/d", None, &last));
+    assert!(rt;
+        becomes(&rt, rt.alloc(), link, b"a/a", Some(link), &first)
+            && becomes(&rt, rt.alloc(), link, b"a/c", None, &middle)
+            && becomes(&rt, rt.alloc(), link, b"a/d", None, &last)
+    );
 }
 
 /// The bytes of a node of the keys `ka` to `kz`, with this one identifier for each value and each link.
