@@ -69,25 +69,25 @@ none-whole shows n l h = none-asked shows n l h ∙ ap length (none-read shows n
 -- ---- what a top that loses its only key comes down to
 
 -- where a pair with a key is met, no one link is left
-met-none : (x y : Option (List ℕ)) (seam : List (Shape × Shape)) → suc (past_keyless x y seam).0 ≤ length seam
+keyed-none : (x y : Option (List ℕ)) (seam : List (Shape × Shape)) → suc (past_keyless x y seam).0 ≤ length seam
     → None ≡ trim_links x y seam
-met-none x y [] h = absurd (omega arith)
-met-none x y ((LastLink p, LastLink q) ∷ ss) h = met-none p q ss (omega arith)
-met-none x y ((LastLink p, MoreLinks q e r) ∷ ss) h = refl
-met-none x y ((MoreLinks p e r, k) ∷ ss) h = refl
+keyed-none x y [] h = absurd (omega arith)
+keyed-none x y ((LastLink p, LastLink q) ∷ ss) h = keyed-none p q ss (omega arith)
+keyed-none x y ((LastLink p, MoreLinks q e r) ∷ ss) h = refl
+keyed-none x y ((MoreLinks p e r, k) ∷ ss) h = refl
 
 -- where none is met, it is one of the two
-unmet-one : (x y : Option (List ℕ)) (seam : List (Shape × Shape)) → length seam ≤ (past_keyless x y seam).0
+keyless-one : (x y : Option (List ℕ)) (seam : List (Shape × Shape)) → length seam ≤ (past_keyless x y seam).0
     → one_link (past_keyless x y seam).1.0 (past_keyless x y seam).1.1 ≡ trim_links x y seam
-unmet-one x y [] h = refl
-unmet-one x y ((LastLink p, LastLink q) ∷ ss) h = unmet-one p q ss (omega arith)
-unmet-one x y ((LastLink p, MoreLinks q e r) ∷ ss) h = absurd (omega arith)
-unmet-one x y ((MoreLinks p e r, k) ∷ ss) h = absurd (omega arith)
+keyless-one x y [] h = refl
+keyless-one x y ((LastLink p, LastLink q) ∷ ss) h = keyless-one p q ss (omega arith)
+keyless-one x y ((LastLink p, MoreLinks q e r) ∷ ss) h = absurd (omega arith)
+keyless-one x y ((MoreLinks p e r, k) ∷ ss) h = absurd (omega arith)
 
-met : (x y : Option (List ℕ)) (seam : List (Shape × Shape)) (t : ℕ × (Option (List ℕ) × Option (List ℕ)))
+keyed : (x y : Option (List ℕ)) (seam : List (Shape × Shape)) (t : ℕ × (Option (List ℕ) × Option (List ℕ)))
     → t ≡ past_keyless x y seam → suc t.0 ≤ length seam → None ≡ trim_links x y seam
-met x y seam t e h =
-    met-none x y seam (subst (λ (r : ℕ × (Option (List ℕ) × Option (List ℕ))). suc r.0 ≤ length seam) e h)
+keyed x y seam t e h =
+    keyed-none x y seam (subst (λ (r : ℕ × (Option (List ℕ) × Option (List ℕ))). suc r.0 ≤ length seam) e h)
 
 or-one : (x y : Option (List ℕ)) → option_or x y ≡ one_link x y
 or-one None y = refl
@@ -98,7 +98,7 @@ unmet : (x y l : Option (List ℕ)) (seam : List (Shape × Shape)) (t : ℕ × (
 unmet x y l seam t e h is =
     is ∙ or-one t.1.0 t.1.1
     ∙ ap (λ (r : ℕ × (Option (List ℕ) × Option (List ℕ))). one_link r.1.0 r.1.1) e
-    ∙ unmet-one x y seam (subst (λ (r : ℕ × (Option (List ℕ) × Option (List ℕ))). length seam ≤ r.0) e h)
+    ∙ keyless-one x y seam (subst (λ (r : ℕ × (Option (List ℕ) × Option (List ℕ))). length seam ≤ r.0) e h)
 
 -- what is read of the chain, by where a pair with a key is met
 module _ {X : Type 0} (view : X → List ℕ) (gives : List ℕ → Option X) (n : ℕ) (x y : Option (List ℕ))
@@ -108,14 +108,14 @@ module _ {X : Type 0} (view : X → List ℕ) (gives : List ℕ → Option X) (n
 
   -- one is met
   module _ (h : suc t.0 ≤ length seam) where
-    pub met-read : [] ≡ pruned_from (shows view gives) n link
-    met-read = none-read (shows view gives) n link (met x y seam t past h)
+    pub keyed-read : [] ≡ pruned_from (shows view gives) n link
+    keyed-read = none-read (shows view gives) n link (keyed x y seam t past h)
 
-    pub met-whole : IsWholeChain (shows view gives) n link
-    met-whole = none-whole (shows view gives) n link (met x y seam t past h)
+    pub keyed-whole : IsWholeChain (shows view gives) n link
+    keyed-whole = none-whole (shows view gives) n link (keyed x y seam t past h)
 
-    pub met-asked : (k : ℕ) → k ≡ k + asked_pruned (shows view gives) n link
-    met-asked k = let e = none-asked (shows view gives) n link (met x y seam t past h) in omega arith
+    pub keyed-asked : (k : ℕ) → k ≡ k + asked_pruned (shows view gives) n link
+    keyed-asked k = let e = none-asked (shows view gives) n link (keyed x y seam t past h) in omega arith
 
   -- none is met
   module _ (l : Option (List ℕ)) (h : length seam ≤ t.0) (is : l ≡ option_or t.1.0 t.1.1) where
@@ -124,14 +124,14 @@ module _ {X : Type 0} (view : X → List ℕ) (gives : List ℕ → Option X) (n
       no-link : None ≡ link
       no-link = sym none ∙ unmet x y l seam t past h is
 
-      pub unmet-read : [] ≡ pruned_from (shows view gives) n link
-      unmet-read = none-read (shows view gives) n link no-link
+      pub keyless-read : [] ≡ pruned_from (shows view gives) n link
+      keyless-read = none-read (shows view gives) n link no-link
 
-      pub unmet-whole : IsWholeChain (shows view gives) n link
-      unmet-whole = none-whole (shows view gives) n link no-link
+      pub keyless-whole : IsWholeChain (shows view gives) n link
+      keyless-whole = none-whole (shows view gives) n link no-link
 
-      pub unmet-asked : (k : ℕ) → k ≡ k + asked_pruned (shows view gives) n link
-      unmet-asked k = let e = none-asked (shows view gives) n link no-link in omega arith
+      pub keyless-asked : (k : ℕ) → k ≡ k + asked_pruned (shows view gives) n link
+      keyless-asked k = let e = none-asked (shows view gives) n link no-link in omega arith
 
     -- and one is left
     module _ (c : List ℕ) (some : l ≡ Some c) where
@@ -179,14 +179,14 @@ none-more [] = refl
 none-more (x ∷ xs) = ap (λ ys. x ∷ ys) (none-more xs)
 
 module _ (digest : List ℕ → List ℕ) where
-  met-merged : (x y : Option (List ℕ)) (seam : List (Shape × Shape)) → suc (past_keyless x y seam).0 ≤ length seam
+  keyed-merged : (x y : Option (List ℕ)) (seam : List (Shape × Shape)) → suc (past_keyless x y seam).0 ≤ length seam
       → let t = past_keyless x y seam in
       (merge_links digest t.1.0 t.1.1 (drop t.0 seam) ≡ Some (shape_cid digest (trim_shape digest x y seam [])))
       × (merge_shapes digest (drop t.0 seam) ≡ trim_shapes digest x y seam)
-  met-merged x y [] h = absurd (omega arith)
-  met-merged x y ((LastLink p, LastLink q) ∷ ss) h = met-merged p q ss (omega arith)
-  met-merged x y ((LastLink p, MoreLinks q e r) ∷ ss) h = (refl, refl)
-  met-merged x y ((MoreLinks p e r, k) ∷ ss) h = (refl, refl)
+  keyed-merged x y [] h = absurd (omega arith)
+  keyed-merged x y ((LastLink p, LastLink q) ∷ ss) h = keyed-merged p q ss (omega arith)
+  keyed-merged x y ((LastLink p, MoreLinks q e r) ∷ ss) h = (refl, refl)
+  keyed-merged x y ((MoreLinks p e r, k) ∷ ss) h = (refl, refl)
 
   -- where two parts meet, they have a link
   pub merged-some : (x y : Option (List ℕ)) (seam : List (Shape × Shape)) → 1 ≤ length seam
@@ -194,17 +194,17 @@ module _ (digest : List ℕ → List ℕ) where
   merged-some x y [] h e = absurd (omega arith)
   merged-some x y (s ∷ ss) h e = absurd cc
 
-  unmet-empty : (x y : Option (List ℕ)) (seam : List (Shape × Shape)) → (past_keyless x y seam).0 ≡ length seam
+  keyless-empty : (x y : Option (List ℕ)) (seam : List (Shape × Shape)) → (past_keyless x y seam).0 ≡ length seam
       → (past_keyless x y seam).1 ≡ (None, None)
       → (LastLink None ≡ trim_shape digest x y seam []) × (LastLink None ∷ [] ≡ trim_shapes digest x y seam)
-  unmet-empty None None [] h e = (refl, refl)
-  unmet-empty None (Some d) [] h e =
+  keyless-empty None None [] h e = (refl, refl)
+  keyless-empty None (Some d) [] h e =
       let no : Some d ≡ None = ap (λ (r : Option (List ℕ) × Option (List ℕ)). r.1) e in absurd cc
-  unmet-empty (Some c) y [] h e =
+  keyless-empty (Some c) y [] h e =
       let no : Some c ≡ None = ap (λ (r : Option (List ℕ) × Option (List ℕ)). r.0) e in absurd cc
-  unmet-empty x y ((LastLink p, LastLink q) ∷ ss) h e = unmet-empty p q ss (omega arith) e
-  unmet-empty x y ((LastLink p, MoreLinks q d r) ∷ ss) h e = absurd (omega arith)
-  unmet-empty x y ((MoreLinks p d r, k) ∷ ss) h e = absurd (omega arith)
+  keyless-empty x y ((LastLink p, LastLink q) ∷ ss) h e = keyless-empty p q ss (omega arith) e
+  keyless-empty x y ((LastLink p, MoreLinks q d r) ∷ ss) h e = absurd (omega arith)
+  keyless-empty x y ((MoreLinks p d r, k) ∷ ss) h e = absurd (omega arith)
 
   one-pruned : (x y : Option (List ℕ)) (seam : List (Shape × Shape)) (pruned : List Shape) → IsSome (trim_links x y seam)
       → (last_shape (LastLink None) pruned ≡ trim_shape digest x y seam pruned) × ([] ≡ trim_shapes digest x y seam)
@@ -229,7 +229,7 @@ module _ (digest : List ℕ → List ℕ) where
     merged n p q h =
         from-links (links_if_single key (head_shape path)) _ h (λ l e t.
         let at : (past_keyless l.0 l.1 seam).0 ≡ n = ap (λ (r : ℕ × (Option (List ℕ) × Option (List ℕ))). r.0) t.0 in
-        let m = met-merged l.0 l.1 seam (omega (arith, t.1)) in
+        let m = keyed-merged l.0 l.1 seam (omega (arith, t.1)) in
         let rest = rest-is n seam in (
           rest-some n seam t.1,
           ap (merge_links digest p q) rest
@@ -246,7 +246,7 @@ module _ (digest : List ℕ → List ℕ) where
         → (LastLink None ≡ delete_root digest key path seam []) × (LastLink None ∷ [] ≡ delete_written digest key path seam)
     emptied h =
         from-links (links_if_single key (head_shape path)) _ h (λ l e t.
-        let m = unmet-empty l.0 l.1 seam (ap (λ (r : ℕ × (Option (List ℕ) × Option (List ℕ))). r.0) t)
+        let m = keyless-empty l.0 l.1 seam (ap (λ (r : ℕ × (Option (List ℕ) × Option (List ℕ))). r.0) t)
         (ap (λ (r : ℕ × (Option (List ℕ) × Option (List ℕ))). r.1) t) in (
           m.0 ∙ sym (single-links key (head_shape path) l (λ x y. trim_shape digest x y seam []) _ e),
           m.1 ∙ sym (single-links key (head_shape path) l (λ x y. trim_shapes digest x y seam) _ e),

@@ -23,9 +23,9 @@ all-but_last : (s : Shape) (ss : List Shape) → take (length ss) (s ∷ ss) ≡
 all-but_last s [] = refl
 all-but_last s (t ∷ ts) = ap (λ r. s ∷ r) (all-but_last t ts)
 
-pub row-last : (path : List Shape) (x : Shape) → 1 ≤ length path → x ≡ get_or path (length path - 1) x → lowest_shape path ≡ x
-row-last [] x n h = absurd (omega arith)
-row-last (s ∷ ss) x n h =
+pub lowest-last : (path : List Shape) (x : Shape) → 1 ≤ length path → x ≡ get_or path (length path - 1) x → lowest_shape path ≡ x
+lowest-last [] x n h = absurd (omega arith)
+lowest-last (s ∷ ss) x n h =
     let e : length (s ∷ ss) - 1 ≡ length ss = omega arith in
     sym (h ∙ ap (λ k. get_or (s ∷ ss) k x) e ∙ last-at s ss x)
 
@@ -55,25 +55,25 @@ module _ (digest : List ℕ → List ℕ) where
       unless-weaker _ _ f (λ (can : CanWriteWithin digest key path seam). front-all Lawful (merge_shapes digest seam) _ can.lawful)
 
   -- the node without the key, from what was read of it
-  pub here-is : (key : List ℕ) (path : List Shape) (seam : List (Shape × Shape)) (row s u n : Shape)
+  pub here-is : (key : List ℕ) (path : List Shape) (seam : List (Shape × Shape)) (lowest s u n : Shape)
       (x l : Option (List ℕ)) (y : Option (List ℕ))
-      → lowest_shape path ≡ row → s ≡ row → u ≡ row → (x, y) ≡ links_beside key s → l ≡ merge_links digest x y seam
+      → lowest_shape path ≡ lowest → s ≡ lowest → u ≡ lowest → (x, y) ≡ links_beside key s → l ≡ merge_links digest x y seam
       → n ≡ remove_shape key u l → n ≡ delete_here digest key path seam
-  here-is key path seam row s u n x l y at same same' links link is =
-      let z = links_beside key row in
+  here-is key path seam lowest s u n x l y at same same' links link is =
+      let z = links_beside key lowest in
       let e : (x, y) ≡ z = links ∙ ap (links_beside key) same in
       let m : l ≡ merge_links digest z.0 z.1 seam = link
       ∙ ap (λ (p : Option (List ℕ) × Option (List ℕ)). merge_links digest p.0 p.1 seam) e in
-      is ∙ ap (λ v. remove_shape key v l) same' ∙ ap (remove_shape key row) m
+      is ∙ ap (λ v. remove_shape key v l) same' ∙ ap (remove_shape key lowest) m
       ∙ ap (λ v. let w = links_beside key v in remove_shape key v (merge_links digest w.0 w.1 seam)) (sym at)
 
-  pub row-here : (key : List ℕ) (path : List Shape) (seam : List (Shape × Shape)) (row s u : Shape)
+  pub lowest-here : (key : List ℕ) (path : List Shape) (seam : List (Shape × Shape)) (lowest s u : Shape)
       (x l : Option (List ℕ)) (y : Option (List ℕ)) (f : RewriteFault)
-      → lowest_shape path ≡ row → s ≡ row → u ≡ row → (x, y) ≡ links_beside key s → l ≡ merge_links digest x y seam
+      → lowest_shape path ≡ lowest → s ≡ lowest → u ≡ lowest → (x, y) ≡ links_beside key s → l ≡ merge_links digest x y seam
       → IsFaultOf (remove_shape key u l) f → IsFaultUnless (CanWriteWithin digest key path seam) f
-  row-here key path seam row s u x l y f at same same' links link =
+  lowest-here key path seam lowest s u x l y f at same same' links link =
       of-unless (remove_shape key u l) _ f (λ (can : CanWriteWithin digest key path seam).
-      let e = here-is key path seam row s u (remove_shape key u l) x l y at same same' links link refl in
+      let e = here-is key path seam lowest s u (remove_shape key u l) x l y at same same' links link refl in
       subst Lawful (sym e)
       (here-lawful key (all_but_last path) (delete_here digest key path seam)
       (back-all Lawful (merge_shapes digest seam) _ can.lawful)))

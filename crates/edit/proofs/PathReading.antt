@@ -177,12 +177,12 @@ module _ (shows : List ℕ → Option Shape) (key : List ℕ) where
 
 -- ---- pairs of nodes that meet
 
-pub record IsMetSoFar (shows : List ℕ → Option Shape) (n₀ : ℕ) (x₀ y₀ : Option (List ℕ)) (n : ℕ)
+pub record IsSeamSoFar (shows : List ℕ → Option Shape) (n₀ : ℕ) (x₀ y₀ : Option (List ℕ)) (n : ℕ)
     (x y : Option (List ℕ)) (seam : List (Shape × Shape)) : Type 0 where
   pub pairs : seam_from shows n₀ x₀ y₀ ≡ seam ++ seam_from shows n x y
   pub asked : asked_seam shows n₀ x₀ y₀ ≡ 2 * length seam + asked_seam shows n x y
 
-pub record IsMetRead (shows : List ℕ → Option Shape) (n₀ : ℕ) (x₀ y₀ : Option (List ℕ)) (seam : List (Shape × Shape)) : Type 0 where
+pub record IsSeamRead (shows : List ℕ → Option Shape) (n₀ : ℕ) (x₀ y₀ : Option (List ℕ)) (seam : List (Shape × Shape)) : Type 0 where
   pub pairs : seam ≡ seam_from shows n₀ x₀ y₀
   pub asked : asked_seam shows n₀ x₀ y₀ ≡ 2 * length seam
 
@@ -213,31 +213,31 @@ module _ (shows : List ℕ → Option Shape) where
 
   module _ (n₀ : ℕ) (x₀ y₀ : Option (List ℕ)) (n : ℕ) (seam : List (Shape × Shape)) where
     ends : (x y : Option (List ℕ)) → seam_from shows n x y ≡ [] → asked_seam shows n x y ≡ 0
-        → IsMetSoFar shows n₀ x₀ y₀ n x y seam → IsMetRead shows n₀ x₀ y₀ seam
+        → IsSeamSoFar shows n₀ x₀ y₀ n x y seam → IsSeamRead shows n₀ x₀ y₀ seam
     ends x y p q f = record {
       pairs = sym (f.pairs ∙ ap (λ xs. seam ++ xs) p ∙ append-nil seam);
       asked = let a = f.asked in omega arith;
     }
 
-    pub seam-ends : (x y : Option (List ℕ)) → x ≡ None → IsMetSoFar shows n₀ x₀ y₀ n x y seam → IsMetRead shows n₀ x₀ y₀ seam
+    pub seam-ends : (x y : Option (List ℕ)) → x ≡ None → IsSeamSoFar shows n₀ x₀ y₀ n x y seam → IsSeamRead shows n₀ x₀ y₀ seam
     seam-ends x y h f =
         let e = seam-none n y in
         ends x y (ap (λ o. seam_from shows n o y) h ∙ e.0) (ap (λ o. asked_seam shows n o y) h ∙ e.1) f
 
     pub seam-ends-after : (x y : Option (List ℕ)) (c : List ℕ) → x ≡ Some c → y ≡ None
-        → IsMetSoFar shows n₀ x₀ y₀ n x y seam → IsMetRead shows n₀ x₀ y₀ seam
+        → IsSeamSoFar shows n₀ x₀ y₀ n x y seam → IsSeamRead shows n₀ x₀ y₀ seam
     seam-ends-after x y c h q f =
         let e = seam-none-after n c in
         ends x y (ap (λ o. seam_from shows n o y) h ∙ ap (seam_from shows n (Some c)) q ∙ e.0)
         (ap (λ o. asked_seam shows n o y) h ∙ ap (asked_seam shows n (Some c)) q ∙ e.1) f
 
-    pub seam-ends-late : (x y : Option (List ℕ)) → y ≡ None → IsMetSoFar shows n₀ x₀ y₀ n x y seam
-        → IsMetRead shows n₀ x₀ y₀ seam
+    pub seam-ends-late : (x y : Option (List ℕ)) → y ≡ None → IsSeamSoFar shows n₀ x₀ y₀ n x y seam
+        → IsSeamRead shows n₀ x₀ y₀ seam
     seam-ends-late None y h f = seam-ends None y refl f
     seam-ends-late (Some c) y h f = seam-ends-after (Some c) y c refl h f
 
-    here : (x y : Option (List ℕ)) (c d : List ℕ) → x ≡ Some c → y ≡ Some d → IsMetSoFar shows n₀ x₀ y₀ n x y seam
-        → IsMetSoFar shows n₀ x₀ y₀ n (Some c) (Some d) seam
+    here : (x y : Option (List ℕ)) (c d : List ℕ) → x ≡ Some c → y ≡ Some d → IsSeamSoFar shows n₀ x₀ y₀ n x y seam
+        → IsSeamSoFar shows n₀ x₀ y₀ n (Some c) (Some d) seam
     here x y c d h q f = record {
       pairs = f.pairs ∙ ap (λ o. seam ++ seam_from shows n o y) h ∙ ap (λ o. seam ++ seam_from shows n (Some c) o) q;
       asked = f.asked ∙ ap (λ o. 2 * length seam + asked_seam shows n o y) h
@@ -245,8 +245,8 @@ module _ (shows : List ℕ → Option Shape) where
     }
 
     pub seam-more : (x y : Option (List ℕ)) (c d : List ℕ) (s t : Shape) → 0 < n → x ≡ Some c → y ≡ Some d
-        → shows c ≡ Some s → shows d ≡ Some t → IsMetSoFar shows n₀ x₀ y₀ n x y seam
-        → IsMetSoFar shows n₀ x₀ y₀ (n - 1) (last_link s) (first_link t) (seam ++ (s, t) ∷ [])
+        → shows c ≡ Some s → shows d ≡ Some t → IsSeamSoFar shows n₀ x₀ y₀ n x y seam
+        → IsSeamSoFar shows n₀ x₀ y₀ (n - 1) (last_link s) (first_link t) (seam ++ (s, t) ∷ [])
     seam-more x y c d s t h p q hs ht g =
         let f = here x y c d p q g in
         let e = seam-step n c d s t h hs ht in
@@ -258,7 +258,7 @@ module _ (shows : List ℕ → Option Shape) where
 
     -- the first of two blocks is missing, or is no node
     pub seam-missing : (x y : Option (List ℕ)) (c d : List ℕ) → 0 < n → x ≡ Some c → y ≡ Some d → shows c ≡ None
-        → IsMetSoFar shows n₀ x₀ y₀ n x y seam
+        → IsSeamSoFar shows n₀ x₀ y₀ n x y seam
         → (¬ IsWholeSeam shows n₀ x₀ y₀) × (asked_seam shows n₀ x₀ y₀ ≡ suc (2 * length seam))
     seam-missing x y c d t p q h g =
         let f = here x y c d p q g in
@@ -273,7 +273,7 @@ module _ (shows : List ℕ → Option Shape) where
 
     -- the second one is
     pub seam-missing-after : (x y : Option (List ℕ)) (c d : List ℕ) (s : Shape) → 0 < n → x ≡ Some c → y ≡ Some d
-        → shows c ≡ Some s → shows d ≡ None → IsMetSoFar shows n₀ x₀ y₀ n x y seam
+        → shows c ≡ Some s → shows d ≡ None → IsSeamSoFar shows n₀ x₀ y₀ n x y seam
         → (¬ IsWholeSeam shows n₀ x₀ y₀) × (asked_seam shows n₀ x₀ y₀ ≡ suc (suc (2 * length seam)))
     seam-missing-after x y c d s t p q h i g =
         let f = here x y c d p q g in
@@ -289,7 +289,7 @@ module _ (shows : List ℕ → Option Shape) where
 
     -- there are two blocks more
     pub seam-counts : (x y : Option (List ℕ)) (c d : List ℕ) (s t : Shape) → 0 < n → x ≡ Some c → y ≡ Some d
-        → shows c ≡ Some s → shows d ≡ Some t → IsMetSoFar shows n₀ x₀ y₀ n x y seam
+        → shows c ≡ Some s → shows d ≡ Some t → IsSeamSoFar shows n₀ x₀ y₀ n x y seam
         → suc (suc (2 * length seam)) ≤ asked_seam shows n₀ x₀ y₀
     seam-counts x y c d s t h p q hs ht g =
         let f = here x y c d p q g in

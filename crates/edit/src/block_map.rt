@@ -54,10 +54,10 @@ impl<'a, D: Digest, A: Allocator + Clone> BlockMap<'a, D, A> {
     {
         let lents = tested_each(alloc.clone()?, blocks)?;
         let mut places = BTreeMap::new(alloc);
-        let mut left = blocks.len();
-        while left > 0 {
-            left -= 1;
-            places.insert(blocks[left].cid(), left)?;
+        let mut remaining = blocks.len();
+        while remaining > 0 {
+            remaining -= 1;
+            places.insert(blocks[remaining].cid(), remaining)?;
         }
         Ok(BlockMap {
             lents,

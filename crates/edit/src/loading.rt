@@ -149,9 +149,9 @@ pub(crate) fn read_path<'a, D: Digest + 'a, A: Allocator + 'a, S: Source<Lent<'a
 {
     let mut nodes = Vec::new(alloc);
     let mut cid = root;
-    let mut left = most;
-    while left > 0 {
-        left -= 1;
+    let mut remaining = most;
+    while remaining > 0 {
+        remaining -= 1;
         let Some(node) = node_at(src, &cid) else {
             return Err(RewriteFault::NotNode);
         };
@@ -197,9 +197,9 @@ pub(crate) fn read_seam<'a, D: Digest + 'a, A: Allocator + 'a, S: Source<Lent<'a
     let mut seam = Vec::new(alloc);
     let mut before = one;
     let mut after = other;
-    let mut left = most;
-    while left > 0 {
-        left -= 1;
+    let mut remaining = most;
+    while remaining > 0 {
+        remaining -= 1;
         let (Some(one), Some(other)) = (before, after) else {
             return Ok(seam);
         };
@@ -238,9 +238,9 @@ pub(crate) fn read_pruned<'a, D: Digest + 'a, A: Allocator + 'a, S: Source<Lent<
 {
     let mut nodes = Vec::new(alloc);
     let mut below = link;
-    let mut left = most;
-    while left > 0 {
-        left -= 1;
+    let mut remaining = most;
+    while remaining > 0 {
+        remaining -= 1;
         let Some(cid) = below else {
             return Ok(nodes);
         };

@@ -71,9 +71,9 @@ fn value_below<'a, D: Digest + 'a, A: Allocator + 'a, S: Source<Lent<'a, D, A>>>
     ensures same { S.gives src.new ≡ S.gives src.old }
 {
     let mut cid = root;
-    let mut left = most;
-    while left > 0 {
-        left -= 1;
+    let mut remaining = most;
+    while remaining > 0 {
+        remaining -= 1;
         match place_in(src.get(&cid)?, key)? {
             Place::Here(entry) => return Some(entry.value.to_cid()),
             Place::Below(next) => cid = next.to_cid(),

@@ -139,9 +139,9 @@ fn walk_within<'a, D: Digest + 'a, A: Allocator + Clone + 'a, S: Source<Lent<'a,
     let mut pairs = Vec::new(alloc.clone()?);
     let mut stack = Vec::new(alloc);
     let mut link = Some(root);
-    let mut left = limit;
-    while left > 0 {
-        left -= 1;
+    let mut remaining = limit;
+    while remaining > 0 {
+        remaining -= 1;
         down(src, &mut stack, link, from, most)?;
         let Some(next) = stack.pop() else {
             return Ok(pairs);
@@ -170,9 +170,9 @@ fn down<'a, D: Digest + 'a, A: Allocator + Clone + 'a, S: Source<Lent<'a, D, A>>
     ensures same { S.gives src.new ≡ S.gives src.old }
 {
     let mut next = link;
-    let mut left = most;
-    while left > 0 {
-        left -= 1;
+    let mut remaining = most;
+    while remaining > 0 {
+        remaining -= 1;
         let Some(cid) = next else {
             return Ok(());
         };

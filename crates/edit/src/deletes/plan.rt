@@ -83,7 +83,7 @@ fn key_links<D: Digest, A: Allocator>(
     ensures { result ≡ links_beside key.now (lowest_shape path.now) }
 {
     match path {
-        [.., row] => links_beside(row.view(), key),
+        [.., lowest] => links_beside(lowest.view(), key),
         [] => (None, None),
     }
 }

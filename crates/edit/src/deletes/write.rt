@@ -67,11 +67,11 @@ fn write_within<D: Digest, A: Allocator + Clone>(
     ensures fault { IfErr result
         (IsFaultUnless (CanWriteWithin D.digest_of key.now path.now seam.now)) }
 {
-    let [above @ .., row] = path else {
+    let [above @ .., lowest] = path else {
         return Err(RewriteFault::NotNode);
     };
     let link = merge(alloc.clone()?, beside.0, beside.1, seam, made)?;
-    let node = remove(alloc.clone()?, row.view(), key, link)?;
+    let node = remove(alloc.clone()?, lowest.view(), key, link)?;
     let top = climb(alloc, above, key, node, made)?;
     Ok(top.push(made)?)
 }

@@ -4,12 +4,12 @@ use Rattle.edit.specs.Steps.{shows}
 use Rattle.edit.proofs.PathReading.{IsChainSoFar}
 use Rattle.edit.proofs.loading.read_pruned.Given as goal
 
-abbrev pub invariant-loop-left : goal.invariant-loop-left
-invariant-loop-left g l = record {
+abbrev pub invariant-loop-remaining : goal.invariant-loop-remaining
+invariant-loop-remaining g l = record {
   same : g.S.Source.gives l.src ≡ g.S.Source.gives l.initial.src;
   counted : g.S.Source.reads l.src ≡ g.S.Source.reads l.initial.src + length l.nodes.items;
-  so_far : IsChainSoFar (shows arc_value (g.S.Source.gives l.initial.src)) l.initial.left l.initial.below l.left l.below l.nodes.items;
+  so_far : IsChainSoFar (shows arc_value (g.S.Source.gives l.initial.src)) l.initial.remaining l.initial.below l.remaining l.below l.nodes.items;
 }
 
-abbrev pub decreases-loop-left : goal.decreases-loop-left
-decreases-loop-left g l = l.left
+abbrev pub decreases-loop-remaining : goal.decreases-loop-remaining
+decreases-loop-remaining g l = l.remaining

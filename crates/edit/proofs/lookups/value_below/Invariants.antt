@@ -4,16 +4,16 @@ use Rattle.edit_laws.specs.Sources.{shown_by, value_from}
 use Rattle.edit.specs.Steps.{asked_from}
 use Rattle.edit.proofs.lookups.value_below.Given as goal
 
-abbrev pub invariant-loop-left : goal.invariant-loop-left
-invariant-loop-left g l = record {
+abbrev pub invariant-loop-remaining : goal.invariant-loop-remaining
+invariant-loop-remaining g l = record {
   same : g.S.Source.gives l.src ≡ g.S.Source.gives l.initial.src;
-  value : value_from (shown_by (λ c. option_map arc_value (g.S.Source.gives l.initial.src c))) l.initial.left l.key (Some l.initial.cid)
-      ≡ value_from (shown_by (λ c. option_map arc_value (g.S.Source.gives l.initial.src c))) l.left l.key (Some l.cid);
+  value : value_from (shown_by (λ c. option_map arc_value (g.S.Source.gives l.initial.src c))) l.initial.remaining l.key (Some l.initial.cid)
+      ≡ value_from (shown_by (λ c. option_map arc_value (g.S.Source.gives l.initial.src c))) l.remaining l.key (Some l.cid);
   reads : g.S.Source.reads l.initial.src
-      + asked_from (shown_by (λ c. option_map arc_value (g.S.Source.gives l.initial.src c))) l.initial.left l.key (Some l.initial.cid)
+      + asked_from (shown_by (λ c. option_map arc_value (g.S.Source.gives l.initial.src c))) l.initial.remaining l.key (Some l.initial.cid)
       ≡ g.S.Source.reads l.src
-      + asked_from (shown_by (λ c. option_map arc_value (g.S.Source.gives l.initial.src c))) l.left l.key (Some l.cid);
+      + asked_from (shown_by (λ c. option_map arc_value (g.S.Source.gives l.initial.src c))) l.remaining l.key (Some l.cid);
 }
 
-abbrev pub decreases-loop-left : goal.decreases-loop-left
-decreases-loop-left g l = l.left
+abbrev pub decreases-loop-remaining : goal.decreases-loop-remaining
+decreases-loop-remaining g l = l.remaining

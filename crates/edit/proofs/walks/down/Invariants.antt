@@ -5,19 +5,19 @@ use Rattle.edit.specs.Steps.{asked_from}
 use Rattle.edit.specs.Walks.{stacked}
 use Rattle.edit.proofs.walks.down.Given as goal
 
-abbrev pub invariant-loop-left : goal.invariant-loop-left
-invariant-loop-left g l = record {
+abbrev pub invariant-loop-remaining : goal.invariant-loop-remaining
+invariant-loop-remaining g l = record {
   same : g.S.Source.gives l.src ≡ g.S.Source.gives l.initial.src;
-  stack : down_from (shown_by (λ c. option_map arc_value (g.S.Source.gives l.initial.src c))) l.initial.left l.from l.initial.next
+  stack : down_from (shown_by (λ c. option_map arc_value (g.S.Source.gives l.initial.src c))) l.initial.remaining l.from l.initial.next
       (stacked l.initial.stack.items)
-      ≡ down_from (shown_by (λ c. option_map arc_value (g.S.Source.gives l.initial.src c))) l.left l.from l.next
+      ≡ down_from (shown_by (λ c. option_map arc_value (g.S.Source.gives l.initial.src c))) l.remaining l.from l.next
       (stacked l.stack.items);
   reads : g.S.Source.reads l.initial.src
-      + asked_from (shown_by (λ c. option_map arc_value (g.S.Source.gives l.initial.src c))) l.initial.left l.from l.initial.next
+      + asked_from (shown_by (λ c. option_map arc_value (g.S.Source.gives l.initial.src c))) l.initial.remaining l.from l.initial.next
       ≡ g.S.Source.reads l.src
-      + asked_from (shown_by (λ c. option_map arc_value (g.S.Source.gives l.initial.src c))) l.left l.from l.next;
-  room : g.S.Source.reads l.src + l.left ≤ g.S.Source.reads l.initial.src + l.initial.left;
+      + asked_from (shown_by (λ c. option_map arc_value (g.S.Source.gives l.initial.src c))) l.remaining l.from l.next;
+  room : g.S.Source.reads l.src + l.remaining ≤ g.S.Source.reads l.initial.src + l.initial.remaining;
 }
 
-abbrev pub decreases-loop-left : goal.decreases-loop-left
-decreases-loop-left g l = l.left
+abbrev pub decreases-loop-remaining : goal.decreases-loop-remaining
+decreases-loop-remaining g l = l.remaining

@@ -6,11 +6,11 @@ use Rattle.edit.proofs.Mapping.{Sees}
 use Rattle.edit.proofs.block_map.BlockMap.new.Given as goal
 
 -- each CID has its first place from here on
-abbrev pub invariant-loop-left : goal.invariant-loop-left
-invariant-loop-left g l = record {
-  within : l.left ≤ length l.blocks;
-  placed : Sees g.D.Digest.digest_of l.blocks l.left (get (slice_cmp nat_cmp) l.places);
+abbrev pub invariant-loop-remaining : goal.invariant-loop-remaining
+invariant-loop-remaining g l = record {
+  within : l.remaining ≤ length l.blocks;
+  placed : Sees g.D.Digest.digest_of l.blocks l.remaining (get (slice_cmp nat_cmp) l.places);
 }
 
-abbrev pub decreases-loop-left : goal.decreases-loop-left
-decreases-loop-left g l = l.left
+abbrev pub decreases-loop-remaining : goal.decreases-loop-remaining
+decreases-loop-remaining g l = l.remaining

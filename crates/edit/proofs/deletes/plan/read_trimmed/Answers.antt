@@ -1,38 +1,38 @@
 use Rattle.std.specs.Arc.{arc_value}
 use Rattle.std.proofs.lemmas.Result.{err_from_is_err_and}
-use Rattle.edit.proofs.DeletePlan.{met-read, met-whole, met-asked, unmet-read, unmet-whole, unmet-asked, left-some, left-fault, left-read, left-whole, left-most, left-asked}
+use Rattle.edit.proofs.DeletePlan.{keyed-read, keyed-whole, keyed-asked, keyless-read, keyless-whole, keyless-asked, left-some, left-fault, left-read, left-whole, left-most, left-asked}
 use Rattle.edit.proofs.DeleteReading.{at-most}
 use Rattle.edit.proofs.deletes.plan.read_trimmed.Goals as goal
 
 pub returns-then-passed-seam-clause-pruned : goal.returns-then-passed-seam-clause-pruned
 returns-then-passed-seam-clause-pruned g c =
-    met-read arc_value (g.S.Source.gives c.args.src.now) c.args.most c.args.around.0 c.args.around.1 c.args.seam.now
+    keyed-read arc_value (g.S.Source.gives c.args.src.now) c.args.most c.args.around.0 c.args.around.1 c.args.seam.now
     c.past_keyless-passed.result c.past_keyless-passed.ensures.past c.if-passed-seam.true
 
 pub returns-then-passed-seam-clause-whole : goal.returns-then-passed-seam-clause-whole
 returns-then-passed-seam-clause-whole g c =
-    met-whole arc_value (g.S.Source.gives c.args.src.now) c.args.most c.args.around.0 c.args.around.1 c.args.seam.now
+    keyed-whole arc_value (g.S.Source.gives c.args.src.now) c.args.most c.args.around.0 c.args.around.1 c.args.seam.now
     c.past_keyless-passed.result c.past_keyless-passed.ensures.past c.if-passed-seam.true
 
 pub returns-then-passed-seam-clause-reads_all : goal.returns-then-passed-seam-clause-reads_all
 returns-then-passed-seam-clause-reads_all g c =
-    met-asked arc_value (g.S.Source.gives c.args.src.now) c.args.most c.args.around.0 c.args.around.1 c.args.seam.now
+    keyed-asked arc_value (g.S.Source.gives c.args.src.now) c.args.most c.args.around.0 c.args.around.1 c.args.seam.now
     c.past_keyless-passed.result c.past_keyless-passed.ensures.past c.if-passed-seam.true
     (g.S.Source.reads c.args.src.now)
 
 pub returns-in_default-clause-pruned : goal.returns-in_default-clause-pruned
 returns-in_default-clause-pruned g c =
-    unmet-read arc_value (g.S.Source.gives c.args.src.now) c.args.most c.args.around.0 c.args.around.1 c.args.seam.now
+    keyless-read arc_value (g.S.Source.gives c.args.src.now) c.args.most c.args.around.0 c.args.around.1 c.args.seam.now
     c.past_keyless-passed.result c.past_keyless-passed.ensures.past c.or.result c.if-passed-seam.false c.or.ensures c.in_default.is
 
 pub returns-in_default-clause-whole : goal.returns-in_default-clause-whole
 returns-in_default-clause-whole g c =
-    unmet-whole arc_value (g.S.Source.gives c.args.src.now) c.args.most c.args.around.0 c.args.around.1 c.args.seam.now
+    keyless-whole arc_value (g.S.Source.gives c.args.src.now) c.args.most c.args.around.0 c.args.around.1 c.args.seam.now
     c.past_keyless-passed.result c.past_keyless-passed.ensures.past c.or.result c.if-passed-seam.false c.or.ensures c.in_default.is
 
 pub returns-in_default-clause-reads_all : goal.returns-in_default-clause-reads_all
 returns-in_default-clause-reads_all g c =
-    unmet-asked arc_value (g.S.Source.gives c.args.src.now) c.args.most c.args.around.0 c.args.around.1 c.args.seam.now
+    keyless-asked arc_value (g.S.Source.gives c.args.src.now) c.args.most c.args.around.0 c.args.around.1 c.args.seam.now
     c.past_keyless-passed.result c.past_keyless-passed.ensures.past c.or.result c.if-passed-seam.false c.or.ensures c.in_default.is
     (g.S.Source.reads c.args.src.now)
 
