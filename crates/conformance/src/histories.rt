@@ -5,7 +5,7 @@ ghost use Rattle.std.specs.Prelude.{◌≤◌, ◌<◌};
 use crate::fixtures::{are_of, edited, tree_of, value};
 use cid::digests::Toy;
 use cid::{Block, Cid, Digest, Sha256};
-use edit::{Edit, EditFault};
+use edit::{Edit, EditFault, MarkedBlock};
 use std::alloc::{AllocError, Global};
 use std::cmp::Ordering;
 use std::sync::Arc;
@@ -136,13 +136,21 @@ impl<D: Digest> History<D> {
     fn take(&mut self, edit: Edit<D>) -> bool {
         let Edit {
             root,
-            mut add,
+            add,
             drop,
             ..
         } = edit;
         self.root = root;
         self.blocks.retain(|block| !drop.contains(&block.cid()));
-        self.blocks.append(&mut add).is_ok()
+        self.push_each(add).is_ok()
+    }
+
+    /// Adds the blocks that come by an edit.
+    fn push_each(&mut self, add: Vec<MarkedBlock<D>>) -> Result<(), AllocError> {
+        for block in add {
+            self.blocks.push(block.into_block())?;
+        }
+        Ok(())
     }
 
     /// Does a write to the tree, and answers whether the key had this value before in it, too.
