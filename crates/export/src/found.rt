@@ -26,6 +26,7 @@ impl<'a, D: Digest, A: Allocator> Source<Found<Lent<'a, D, A>>> for Counted<'a, 
 
     ghost reads = { λ s. s.lender.asked.times };
 
+    #[inline(always)]
     fn get(&mut self, cid: &Cid) -> Option<Found<Lent<'a, D, A>>> {
         let (lent, uses) = self.lender.get_counted(cid)?;
         Some(Found {

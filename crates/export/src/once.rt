@@ -16,6 +16,7 @@ use edit::Lent;
 use std::alloc::Allocator;
 
 /// Writes the section of a block unless one with its CID was written, and answers how many bytes that are.
+#[inline(always)]
 pub(crate) fn write_once<D: Digest, A: Allocator + Clone, W: Out>(
     seen: &mut Seen<A>,
     out: &mut W,

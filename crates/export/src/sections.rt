@@ -31,6 +31,7 @@ pub(crate) fn write_header<W: Out>(out: &mut W, root: &Cid) -> Result<u64, Faile
 }
 
 /// Writes the section of a block, and answers how many bytes that are.
+#[inline(always)]
 pub(crate) fn write_section<D: Digest, A: Allocator, W: Out>(
     out: &mut W,
     block: &Block<D, A>,

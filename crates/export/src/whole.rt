@@ -6,6 +6,7 @@ ghost use Rattle.export.specs.Outs.{Fails, Takes};
 use crate::out::{Failed, Out};
 
 /// Writes all of the bytes, in as many calls as the output needs. After `Failed` it took a beginning of them.
+#[inline(always)]
 pub(crate) fn write_whole<W: Out>(out: &mut W, bytes: &[u8]) -> Result<(), Failed>
     ensures taken { Takes (W.taken out.old) (W.taken out.new) result bytes.now }
     ensures failures { Fails (W.failures out.old) (W.failures out.new) result }
@@ -19,6 +20,7 @@ pub(crate) fn write_whole<W: Out>(out: &mut W, bytes: &[u8]) -> Result<(), Faile
 }
 
 /// Writes three runs of bytes, one after the other.
+#[inline(always)]
 pub(crate) fn write_three<W: Out>(
     out: &mut W,
     first: &[u8],
