@@ -15,6 +15,7 @@ pub fn tell<F: Display, X: Write>(fault: &F, err: &mut X) {
 pub fn done<W: Write, X: Write>(out: &mut W, err: &mut X) -> u8
     ensures status { (result ≡ DONE) ⊎ (result ≡ IO_FAILED) }
     ensures kept { Keeps (W.contents out.old) (W.contents out.new) }
+    ensures quiet { result ≡ DONE → err.new ≡ err.old }
 {
     match out.flush() {
         Ok(()) => DONE,
