@@ -36,6 +36,7 @@ pub fn run<D: Digest, R: Read, W: Write, X: Write>(
     ensures beginning { IfSome (R.remaining input.old) (λ xs.
         AppendsBeginning (W.contents out.old) (W.contents out.new)
         (text_or_nothing (tree_text D.digest_of bits.number xs))) }
+    ensures quiet { result ≡ 0 → err.new ≡ err.old }
 {
     match write_listing::<D, R, W>(bits, alloc, input, out) {
         Ok(()) => DONE,
