@@ -75,3 +75,7 @@ HasListed digest old new repo from most found = (number : ℕ)
 abbrev pub IsPushed : WriterView → WriterView → Type 0
 IsPushed old new = 0 < length new.kept
     → WasFull new.host.queue.room new.pass × (new.refused ≡ (old.refused + 1) % 2 ^ 64)
+
+-- where none is kept, the queue gave none back
+abbrev pub HasNoneBack : WriterView → WriterView → Type 0
+HasNoneBack old new = length new.kept ≡ 0 → new.refused ≡ old.refused

@@ -151,6 +151,7 @@ impl<D: Digest, const B: u8> Host<D, B> {
         ensures ended { IfOk result (λ c. c.ended ≡ ended.items) }
         ensures joined { IfOk result (λ c. c.feed ≡ joined_all feed ended.items) }
         ensures settled { IfOk result (λ c. IsSettled D.digest_of B c.cores c.tables c.ended) }
+        ensures held { IfErr result (λ u. length u.cores ≡ self.repos) }
         ensures same { IfErr result (λ u. u.ended ≡ ended.items) }
         ensures uneven { IfErr result (λ u. IsUneven D.digest_of B u.cores u.tables u.ended
             u.mismatch) }

@@ -8,7 +8,7 @@ ghost use Rattle.closing.specs.Ending.{IsEndedAt};
 ghost use Rattle.host.specs.Seeing.{wanted_by};
 ghost use Rattle.host.specs.Versions.{IsVersion, IsOfState};
 ghost use Rattle.host.specs.Views.{ended_of, with_seen};
-ghost use Rattle.host.specs.Telling.{IsFault, IsReadFault, IsPushed, IsSame, IsTold, IsOfBatch};
+ghost use Rattle.host.specs.Telling.{IsFault, IsReadFault, IsPushed, HasNoneBack, IsSame, IsTold, IsOfBatch};
 ghost use Rattle.host.specs.Telling.{HasNoNumber, HasFound, HasListed, told_by_writer};
 ghost use Rattle.host.specs.declared.fault.HostFault.TheVariants as faults;
 
@@ -81,6 +81,7 @@ impl<'a, D: Digest, const B: u8> Writer<'a, D, B> {
             (IsOfBatch D.digest_of B self.old repo stamp.now writes.now) }
         ensures seen { IfOk result (λ n. self.new.seen ≡ (with_seen self.old repo n.number).seen) }
         ensures pushed { OnOk result (IsPushed self.old self.new) }
+        ensures none_back { OnOk result (HasNoneBack self.old self.new) }
         ensures same { IsSame self.old self.new }
         ensures unchanged { OnErr result (self.new ≡ self.old) }
         ensures fault { IfErr result (IsFault D.digest_of B self.old repo stamp.now writes.now) }
@@ -224,6 +225,7 @@ impl<'a, D: Digest, const B: u8> Writer<'a, D, B> {
         ensures seen { self.new.seen ≡ self.old.seen }
         ensures kept { result ≡ length self.new.kept }
         ensures pushed { IsPushed self.old self.new }
+        ensures none_back { HasNoneBack self.old self.new }
     {
         while let Some(first) = self.kept.front() {
             let notice = *first;
