@@ -1,5 +1,5 @@
 //! Why there is no report.
-ghost use Rattle.std.specs.Prelude.{◌≡◌};
+ghost use Rattle.std.specs.Prelude.{◌≡◌, ◌≤◌};
 ghost use Rattle.run_command.specs.Faults.{of_read, of_script, of_write, status_of};
 ghost use Rattle.run_command.specs.declared.fault.RunFault.TheVariants as errors;
 
@@ -35,7 +35,8 @@ pub enum RunFault {
 impl RunFault {
     /// The exit status that says so.
     pub fn status(&self) -> u8
-        ensures { result ≡ status_of self.now }
+        ensures status { result ≡ status_of self.now }
+        ensures failed { 1 ≤ result }
     {
         match self {
             RunFault::BadDid | RunFault::BadScript(_) | RunFault::Uneven => FAULTY,

@@ -22,8 +22,10 @@ pub(crate) fn report_of_lines<D: Digest + Send + Sync, T: Threads + Wait + Sync>
     lines: &[Line],
 ) -> Result<Vec<u8>, RunFault>
     requires { All (λ l. l.worker < settings.now.workers) lines.now }
-    ensures report { IfOk result (λ text. IsReport D D.digest_of settings.now lines.now text.items) }
-    ensures uneven { result ≡ Err RunFault.Uneven → IsUnclosed D D.digest_of settings.now lines.now }
+    ensures report { IfOk result (λ text.
+        IsReport D D.digest_of settings.now lines.now text.items) }
+    ensures uneven { result ≡ Err RunFault.Uneven
+        → IsUnclosed D D.digest_of settings.now lines.now }
     ensures kind { IfErr result IsOfHost }
 {
     let Ok(opened) = Host::<D, 2>::open(rt, alloc, settings.limits()) else {

@@ -30,6 +30,7 @@ pub fn run<D: Digest + Send + Sync, T: Threads + Wait + Sync, R: Read, W: Write,
 
     // A faulty DID is told before the input is read.
     ensures unread { is_did command.entry.did.now ≡ false → input.new ≡ input.old }
+    ensures quiet { result ≡ 0 → err.new ≡ err.old }
 {
     let RunCommand { settings, did } = command;
     let ended = run_text::<D, T, R, W>(rt, alloc, &settings, did.as_bytes(), input, out);
@@ -39,7 +40,8 @@ pub fn run<D: Digest + Send + Sync, T: Threads + Wait + Sync, R: Read, W: Write,
 /// The exit status of a run that ended so: what was written reaches the writer's end, and a fault is told on standard
 /// error.
 fn status_of<W: Write, X: Write>(ended: Result<(), RunFault>, out: &mut W, err: &mut X) -> u8
-    ensures { IsStatusAfter ended (W.contents out.old) (W.contents out.new) result }
+    ensures status { IsStatusAfter ended (W.contents out.old) (W.contents out.new) result }
+    ensures quiet { result ≡ 0 → err.new ≡ err.old }
 {
     match ended {
         Ok(()) => done(out, err),

@@ -72,7 +72,8 @@ fn read_script<R: Read>(
     ensures script { IfSome (R.remaining input.old) (λ xs. Gives
         (λ lines. view_of_lines lines.items) fault_of result
         (script_in settings.now.workers did.now xs)) }
-    ensures workers { IfOk result (λ lines. All (λ l. l.worker < settings.now.workers) lines.items) }
+    ensures workers { IfOk result (λ lines.
+        All (λ l. l.worker < settings.now.workers) lines.items) }
     ensures kind { IfErr result IsOfScript }
 {
     let bytes = read_all(alloc, input)?;
