@@ -1,11 +1,12 @@
 -- What a request writes.
 use Rattle.std.specs.Prelude.{◌≡◌, ◌⊎◌, ℕ, false, List, Option, IfSome, is_ok}
 use Rattle.std.specs.Io.KnownBytes.{Keeps}
+use Rattle.spec.specs.Stamps.{is_did}
 use Rattle.console.specs.Written.{AppendsBeginning, AppendsText}
 use Rattle.tree_command.specs.TreeText.{text_or_nothing, tree_text}
 use Rattle.commands.specs.declared.command_line.Request.{Request}
 use Rattle.commands.specs.declared.command_line.Request.TheVariants as requests
-use Rattle.repository_commands.specs.Commands.{reasons_of, texts_of}
+use Rattle.repository_commands.specs.Commands.{HasFaultyWord as IsFaultyCommand, reasons_of, texts_of}
 use Rattle.repository_commands.specs.Outcomes.{IsFaulty as IsFaultyOn}
 use Rattle.repository_commands.specs.Texts.{text_or_nothing as repository_text_or_nothing}
 use Rattle.run_command.specs.Outcomes.{IsFaulty, Reports, ReportsBeginning}
@@ -41,3 +42,10 @@ IsBegun D digest (requests.OnRepository command) input old new = IfSome input (�
     AppendsBeginning old new (repository_text_or_nothing (texts_of digest command xs)))
 IsBegun D digest (requests.Run command) input old new = IfSome input (λ xs.
     Keeps old new ⊎ ReportsBeginning D digest command.settings command.did.now old new xs)
+
+-- A word of the request is faulty by the test that comes before its input is read: a DID, a revision,
+-- the text of a root or a key.
+abbrev pub HasFaultyWord : Request → Type 0
+HasFaultyWord (requests.Tree bits) = ⊥
+HasFaultyWord (requests.OnRepository command) = IsFaultyCommand command
+HasFaultyWord (requests.Run command) = is_did command.did.now ≡ false

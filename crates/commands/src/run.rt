@@ -5,7 +5,7 @@ ghost use Rattle.cid.specs.declared.digest.Sha256.{Sha256};
 ghost use Rattle.clap.specs.Walk.{texts};
 ghost use Rattle.clap.specs.Words.{fault_of, kind_of};
 ghost use Rattle.commands.specs.CommandLine.{EndsWithout, IsAskedBy, IsEndOf, is_shown, msthost};
-ghost use Rattle.commands.specs.Requests.{IsBegun, IsDone, IsRefused};
+ghost use Rattle.commands.specs.Requests.{HasFaultyWord, IsBegun, IsDone, IsRefused};
 
 use crate::command_line::{Request, request_of};
 use cid::{Digest, Sha256};
@@ -68,6 +68,13 @@ pub fn run_words<'a, T: Threads + Wait + Sync, R: Read, W: Write, X: Write>(
     ensures beginning { IfSome result.request (λ request.
         IsBegun Sha256 ⟦<Sha256 as Digest>⟧.digest_of request (R.remaining input.old)
         (W.contents out.old) (W.contents out.new)) }
+
+    // Without a request the input isn't read, nor where a word of it is faulty, and where all went well
+    // nothing is told.
+    ensures unread { IfNone result.request (input.new ≡ input.old) }
+    ensures faulty_word { IfSome result.request (λ request.
+        HasFaultyWord request → input.new ≡ input.old) }
+    ensures quiet { result.status ≡ 0 → err.new ≡ err.old }
 {
     run_words_with::<Sha256, T, R, W, X>(rt, alloc, words, input, out, err)
 }
@@ -116,6 +123,13 @@ pub fn run_words_with<
     ensures beginning { IfSome result.request (λ request.
         IsBegun D D.digest_of request (R.remaining input.old)
         (W.contents out.old) (W.contents out.new)) }
+
+    // Without a request the input isn't read, nor where a word of it is faulty, and where all went well
+    // nothing is told.
+    ensures unread { IfNone result.request (input.new ≡ input.old) }
+    ensures faulty_word { IfSome result.request (λ request.
+        HasFaultyWord request → input.new ≡ input.old) }
+    ensures quiet { result.status ≡ 0 → err.new ≡ err.old }
 {
     match request_of(alloc, words) {
         Ok(request) => Outcome {
@@ -148,6 +162,8 @@ fn do_request<D: Digest + Send + Sync, T: Threads + Wait + Sync, R: Read, W: Wri
         → Keeps (W.contents out.old) (W.contents out.new) }
     ensures beginning { IsBegun D D.digest_of request.entry (R.remaining input.old)
         (W.contents out.old) (W.contents out.new) }
+    ensures faulty_word { HasFaultyWord request.entry → input.new ≡ input.old }
+    ensures quiet { result ≡ 0 → err.new ≡ err.old }
 {
     match request {
         Request::Tree(bits) => tree_command::run::<D, R, W, X>(bits, alloc, input, out, err),
@@ -167,6 +183,7 @@ fn show<W: Write, X: Write>(error: &Error, out: &mut W, err: &mut X) -> u8
         → IsEndOf (is_shown (kind_of error.now)) result }
     ensures nothing { (result ≡ 1) ⊎ ((result ≡ 2) ⊎ (result ≡ 3))
         → Keeps (W.contents out.old) (W.contents out.new) }
+    ensures quiet { result ≡ 0 → err.new ≡ err.old }
 {
     if error.kind() == ErrorKind::OutOfMemory {
         return no_memory(err);
