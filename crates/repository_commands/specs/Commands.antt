@@ -1,9 +1,10 @@
 -- What each command writes, by its words.
-use Rattle.std.specs.Prelude.{◌≡◌, ℕ, List, codes, false}
+use Rattle.std.specs.Prelude.{◌≡◌, ℕ, List, codes, false, IsErr}
 use Rattle.spec.specs.Stamps.{Stamp}
 use Rattle.repository_commands.specs.Outcomes.{Reasons, Texts}
 use Rattle.repository_commands.specs.Refusals.{IsRefusedIn, is_refusal}
-use Rattle.repository_commands.specs.Texts.{car_text, prove_text, verify_text}
+use Rattle.repository_commands.specs.Texts.{car_text, key_check, prove_text, stamp_check, verify_text}
+use Rattle.repository_commands.specs.Texts.{words_check}
 use Rattle.repository_commands.specs.declared.words.RepositoryCommand.{RepositoryCommand}
 use Rattle.repository_commands.specs.declared.words.RepositoryCommand.TheVariants as commands
 
@@ -26,3 +27,9 @@ abbrev pub reasons_of : {D A : Type 0} → (List ℕ → List ℕ) → Repositor
 reasons_of digest (commands.Car did rev) = IsRefusedIn digest (stamp_of_words did.now rev.now)
 reasons_of digest (commands.Prove key) = IsRefusedIn digest own_stamp
 reasons_of digest (commands.Verify root key) = λ xs e. is_refusal e ≡ false
+
+-- a word of the command isn't one that it takes
+abbrev pub HasFaultyWord : RepositoryCommand → Type 0
+HasFaultyWord (commands.Car did rev) = IsErr (stamp_check (stamp_of_words did.now rev.now))
+HasFaultyWord (commands.Prove key) = IsErr (key_check key.now)
+HasFaultyWord (commands.Verify root key) = IsErr (words_check root.now key.now)

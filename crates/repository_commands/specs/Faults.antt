@@ -1,5 +1,6 @@
 -- Why there is no text (the names are a choice of this project).
-use Rattle.std.specs.Prelude.{ℕ, Bool, true, false, Option, Some, None, option_map}
+use Rattle.std.specs.Prelude.{◌≡◌, ◌⊎◌, ℕ, Bool, true, false, Option, Some, None, option_map}
+use Rattle.std.specs.Prelude.{Result, IsErrAnd}
 use Rattle.spec.specs.Cid as cids
 use Rattle.spec.specs.Proof as proofs
 use Rattle.spec.specs.Writes.{WriteFault}
@@ -65,6 +66,14 @@ is_of_words errors.BadRev = true
 is_of_words (errors.Root f) = true
 is_of_words (errors.Proof proof_faults.KeyLength) = true
 is_of_words fault = false
+
+-- a fault of a word was told
+abbrev pub TellsWords : {X D A : Type 0} → Result X (CommandFault D A) → Type 0
+TellsWords result = IsErrAnd result (λ e. is_of_words e ≡ true)
+
+-- a fault of a word was told, or memory was refused to the words themselves
+abbrev pub EndsEarly : {X D A : Type 0} → Result X (CommandFault D A) → Type 0
+EndsEarly result = IsErrAnd result (λ e. (is_of_words e ≡ true) ⊎ (e ≡ errors.NoMemory))
 
 -- whether a write failed
 abbrev pub is_write_failure : {D A : Type 0} → CommandFault D A → Bool

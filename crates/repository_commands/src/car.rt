@@ -3,7 +3,7 @@ ghost use Rattle.std.specs.Prelude.{◌≡◌, true, false, Ok, IfErr, IfOk, IfS
 ghost use Rattle.spec.specs.Reading.{Gives};
 ghost use Rattle.spec.specs.States.{state_car};
 ghost use Rattle.batches.specs.Values.{stamp_of};
-ghost use Rattle.repository_commands.specs.Faults.{fault_of, is_of_words, is_write_failure};
+ghost use Rattle.repository_commands.specs.Faults.{fault_of, is_of_words, is_write_failure, TellsWords};
 ghost use Rattle.repository_commands.specs.Outcomes.{IsMade, IsOutcome};
 ghost use Rattle.repository_commands.specs.Refusals.{IsRefusedIn, IsRefusedLine};
 ghost use Rattle.repository_commands.specs.Shards.{WasFull};
@@ -49,7 +49,8 @@ pub fn car_text<D: Digest, R: Read, W: Write>(
     ensures refused { IfErr result (λ e. IfSome (R.remaining input.old) (λ xs.
         IsRefusedIn D.digest_of (stamp_of stamp.now) xs e)) }
 
-    // A faulty stamp is told before the input is read.
+    // A faulty stamp is told, before the input is read.
+    ensures told { IsErr (stamp_check (stamp_of stamp.now)) → TellsWords result }
     ensures unread { IsErr (stamp_check (stamp_of stamp.now)) → input.new ≡ input.old }
 {
     write_made(car_made(alloc, stamp, input), out)
@@ -65,6 +66,7 @@ fn car_made<D: Digest, R: Read>(
         (R.remaining input.old) result }
     ensures refused { IfErr result (λ e. IfSome (R.remaining input.old) (λ xs.
         IsRefusedIn D.digest_of (stamp_of stamp.now) xs e)) }
+    ensures told { IsErr (stamp_check (stamp_of stamp.now)) → TellsWords result }
     ensures unread { IsErr (stamp_check (stamp_of stamp.now)) → input.new ≡ input.old }
     ensures kind { IfErr result (λ e. is_write_failure e ≡ false) }
 {

@@ -19,7 +19,8 @@ pub(crate) fn write_made<D: Digest, A: Allocator, W: Write>(
         → IsMade (λ bytes. bytes.items) text input made
         → IsOutcome text input (W.contents out.old) (W.contents out.new) result }
 
-    // A fault that leaves the output as it was is that of the text.
+    // A fault of the text is told, and one that leaves the output as it was is the text's.
+    ensures told { IfErr made (λ e. result ≡ Err e) }
     ensures fault { IfErr result (λ e. may_have_written e ≡ false → made ≡ Err e) }
 {
     match made {
@@ -40,6 +41,7 @@ pub(crate) fn status_of<D: Digest, A: Allocator, W: Write, X: Write>(
 ) -> u8
     ensures told { IfErr ended (λ e. result ≡ status_of e) }
     ensures done { OnOk ended ((result ≡ DONE) ⊎ (result ≡ IO_FAILED)) }
+    ensures quiet { result ≡ DONE → err.new ≡ err.old }
     ensures status { (text : Texts) (input old : Option (List ℕ))
         → IsOutcome text input old (W.contents out.old) ended
         → IsStatusOf text input old (W.contents out.new) result }

@@ -1,5 +1,5 @@
 //! Why a command writes no text.
-ghost use Rattle.std.specs.Prelude.{◌≡◌, Some};
+ghost use Rattle.std.specs.Prelude.{◌≡◌, ◌≤◌, Some};
 ghost use Rattle.repository_commands.specs.declared.fault.CommandFault.TheVariants as errors;
 ghost use Rattle.repository_commands.specs.Faults.{of_read, of_write, status_of};
 ghost use Rattle.repository_commands.specs.Names.{fault_text, line_fault_name};
@@ -54,7 +54,8 @@ pub enum CommandFault<D: Digest, A: Allocator = Global> {
 impl<D: Digest, A: Allocator> CommandFault<D, A> {
     /// The exit status that says so.
     pub fn status(&self) -> u8
-        ensures { result ≡ status_of self.now }
+        ensures status { result ≡ status_of self.now }
+        ensures failed { 1 ≤ result }
     {
         match self {
             CommandFault::NoMemory => NO_MEMORY,

@@ -4,7 +4,7 @@ ghost use Rattle.std.specs.Arc.{arc_value};
 ghost use Rattle.std.specs.List.{flat_map};
 ghost use Rattle.spec.specs.Reading.{Gives};
 ghost use Rattle.batches.specs.Values.{stamp_of};
-ghost use Rattle.repository_commands.specs.Faults.{fault_of, is_of_words, is_write_failure};
+ghost use Rattle.repository_commands.specs.Faults.{fault_of, is_of_words, is_write_failure, TellsWords};
 ghost use Rattle.repository_commands.specs.Outcomes.{IsMade, IsOutcome};
 ghost use Rattle.repository_commands.specs.Refusals.{IsRefusedIn, IsRefusedLine, is_refusal};
 ghost use Rattle.repository_commands.specs.Shards.{WasFull};
@@ -42,6 +42,9 @@ pub fn prove_text<D: Digest, R: Read, W: Write>(
         (R.remaining input.old) (W.contents out.old) (W.contents out.new) result }
     ensures refused { IfErr result (λ e. IfSome (R.remaining input.old) (λ xs.
         IsRefusedIn D.digest_of (stamp_of stamp.now) xs e)) }
+
+    // A faulty key is told, before the input is read.
+    ensures told { IsErr (key_check key.now) → TellsWords result }
     ensures unread { IsErr (key_check key.now) → input.new ≡ input.old }
 {
     write_made(proof_made(alloc, stamp, key, input), out)
@@ -58,6 +61,7 @@ fn proof_made<D: Digest, R: Read>(
         (prove_text_of D.digest_of (stamp_of stamp.now) key.now) (R.remaining input.old) result }
     ensures refused { IfErr result (λ e. IfSome (R.remaining input.old) (λ xs.
         IsRefusedIn D.digest_of (stamp_of stamp.now) xs e)) }
+    ensures told { IsErr (key_check key.now) → TellsWords result }
     ensures unread { IsErr (key_check key.now) → input.new ≡ input.old }
     ensures kind { IfErr result (λ e. is_write_failure e ≡ false) }
 {

@@ -1,10 +1,11 @@
 //! The run of a command on one repository, to the exit status.
-ghost use Rattle.std.specs.Prelude.{◌≡◌, IfOk};
+ghost use Rattle.std.specs.Prelude.{◌≡◌, ◌⊎◌, IfOk, IsErr};
 ghost use Rattle.batches.specs.Values.{stamp_of};
-ghost use Rattle.repository_commands.specs.Commands.{own_stamp, reasons_of, stamp_of_words, texts_of};
+ghost use Rattle.repository_commands.specs.Commands.{own_stamp, reasons_of, stamp_of_words, texts_of, HasFaultyWord};
+ghost use Rattle.repository_commands.specs.Faults.{EndsEarly};
 ghost use Rattle.repository_commands.specs.Outcomes.{HasReason, IsFaulty, IsOutcome, IsStatusOf};
 ghost use Rattle.repository_commands.specs.Refusals.{IsRefusedIn};
-ghost use Rattle.repository_commands.specs.Texts.{car_text as car_text_of, prove_text as prove_text_of};
+ghost use Rattle.repository_commands.specs.Texts.{car_text as car_text_of, key_check, prove_text as prove_text_of, stamp_check};
 
 use crate::car::car_text;
 use crate::ending::status_of;
@@ -34,6 +35,11 @@ pub fn run<D: Digest, R: Read, W: Write, X: Write>(
     // Where there is a fault of a word or of the input, or a line is refused.
     ensures faulty { result ≡ 1 → IsFaulty {D = D} {A = Global} (texts_of D.digest_of command.entry)
         (reasons_of D.digest_of command.entry) (R.remaining input.old) }
+
+    // A faulty word is told, before the input is read, and nothing is told where all went well.
+    ensures told { HasFaultyWord command.entry → (result ≡ 1) ⊎ (result ≡ 3) }
+    ensures unread { HasFaultyWord command.entry → input.new ≡ input.old }
+    ensures quiet { result ≡ 0 → err.new ≡ err.old }
 {
     let ended = write_text::<D, R, W>(command, alloc, input, out);
     status_of(ended, out, err)
@@ -50,6 +56,8 @@ fn write_text<D: Digest, R: Read, W: Write>(
         (W.contents out.old) (W.contents out.new) result }
     ensures reason { HasReason (reasons_of D.digest_of command.entry)
         (R.remaining input.old) result }
+    ensures told { HasFaultyWord command.entry → EndsEarly result }
+    ensures unread { HasFaultyWord command.entry → input.new ≡ input.old }
 {
     match command {
         RepositoryCommand::Car { did, rev } => write_car(did, rev, alloc, input, out),
@@ -72,6 +80,8 @@ fn write_car<D: Digest, R: Read, W: Write>(
         (R.remaining input.old) (W.contents out.old) (W.contents out.new) result }
     ensures reason { HasReason (IsRefusedIn D.digest_of (stamp_of_words did.now rev.now))
         (R.remaining input.old) result }
+    ensures told { IsErr (stamp_check (stamp_of_words did.now rev.now)) → EndsEarly result }
+    ensures unread { IsErr (stamp_check (stamp_of_words did.now rev.now)) → input.new ≡ input.old }
 {
     let stamp = stamp_of_words(did, rev, alloc)?;
     car_text(alloc, &stamp, input, out)
@@ -88,6 +98,8 @@ fn write_proof<D: Digest, R: Read, W: Write>(
         (R.remaining input.old) (W.contents out.old) (W.contents out.new) result }
     ensures reason { HasReason (IsRefusedIn D.digest_of own_stamp)
         (R.remaining input.old) result }
+    ensures told { IsErr (key_check key.now) → EndsEarly result }
+    ensures unread { IsErr (key_check key.now) → input.new ≡ input.old }
 {
     let stamp = stamp_of_words(DID, REV, alloc)?;
     prove_text(alloc, &stamp, key.as_bytes(), input, out)

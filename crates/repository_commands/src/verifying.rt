@@ -1,9 +1,9 @@
 //! The command `verify`: it reads the blocks of a proof and writes what they show.
-ghost use Rattle.std.specs.Prelude.{◌≡◌, false, IfErr, IfOk, IsErr};
+ghost use Rattle.std.specs.Prelude.{◌≡◌, true, false, IfErr, IfOk, IsErr};
 ghost use Rattle.spec.specs.Reading.{Gives};
 ghost use Rattle.spec.specs.Cid.{cid_of_text};
 ghost use Rattle.spec.specs.Proof.{verified};
-ghost use Rattle.repository_commands.specs.Faults.{fault_of, is_write_failure};
+ghost use Rattle.repository_commands.specs.Faults.{fault_of, is_of_words, is_write_failure, TellsWords};
 ghost use Rattle.repository_commands.specs.Outcomes.{IsMade, IsOutcome};
 ghost use Rattle.repository_commands.specs.Refusals.{is_refusal};
 ghost use Rattle.repository_commands.specs.Texts.{answer_line, answer_of_blocks as answer_of_blocks_of, or_bad_root, or_no_proof, verify_text as verify_text_of, words_check};
@@ -38,7 +38,8 @@ pub fn verify_text<D: Digest, A: Allocator + Copy, R: Read, W: Write>(
     // It puts nothing, so no line is refused.
     ensures refused { IfErr result (λ e. is_refusal e ≡ false) }
 
-    // A faulty root or key is told before the input is read.
+    // A faulty root or key is told, before the input is read.
+    ensures told { IsErr (words_check root.now key.now) → TellsWords result }
     ensures unread { IsErr (words_check root.now key.now) → input.new ≡ input.old }
 {
     write_made(answer_made(alloc, root, key, input), out)
@@ -53,6 +54,7 @@ fn answer_made<D: Digest, A: Allocator + Copy, R: Read>(
 ) -> Result<Vec<u8, A>, CommandFault<D, A>>
     ensures made { IsMade (λ bytes. bytes.items) (verify_text_of D.digest_of root.now key.now)
         (R.remaining input.old) result }
+    ensures told { IsErr (words_check root.now key.now) → TellsWords result }
     ensures unread { IsErr (words_check root.now key.now) → input.new ≡ input.old }
     ensures refused { IfErr result (λ e. is_refusal e ≡ false) }
     ensures kind { IfErr result (λ e. is_write_failure e ≡ false) }
@@ -82,6 +84,7 @@ fn answer_of_blocks<D: Digest, A: Allocator>(
 /// The root of a text.
 fn root_of<D: Digest, A: Allocator>(text: &[u8]) -> Result<Cid, CommandFault<D, A>>
     ensures root { Gives (λ root. root) fault_of result (or_bad_root (cid_of_text text.now)) }
+    ensures words { IfErr result (λ e. is_of_words e ≡ true) }
     ensures refused { IfErr result (λ e. is_refusal e ≡ false) }
     ensures kind { IfErr result (λ e. is_write_failure e ≡ false) }
 {

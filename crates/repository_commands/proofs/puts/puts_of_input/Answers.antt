@@ -48,3 +48,6 @@ returns g c = sym (
     ∙ ap (λ ls. onto (given_of c.loop-line.puts) (given_from (c.loop-line.number + 1) ls)) c.in-None.ensures.steps.0
     ∙ onto_done (c.loop-line.number + 1) (given_of c.loop-line.puts) c.loop-line.invariant.2.going_on
     )
+
+pub loop-line-init : goal.loop-line-init
+loop-line-init g c = search rules

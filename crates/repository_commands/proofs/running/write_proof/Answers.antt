@@ -1,9 +1,10 @@
-use Rattle.std.proofs.Common.{subst}
+use Rattle.std.proofs.Common.{subst, sym}
+use Rattle.std.specs.Prelude.{IsErr}
 use Rattle.repository_commands.specs.Commands.{own_stamp}
 use Rattle.repository_commands.specs.Outcomes.{HasReason, IsOutcome}
 use Rattle.repository_commands.specs.Refusals.{IsRefusedIn}
-use Rattle.repository_commands.specs.Texts.{prove_text}
-use Rattle.repository_commands.proofs.Endings.{without_memory}
+use Rattle.repository_commands.specs.Texts.{key_check, prove_text}
+use Rattle.repository_commands.proofs.Endings.{early, early_without_memory, without_memory}
 use Rattle.repository_commands.proofs.running.write_proof.Goals as goal
 
 pub returns-in_err-stamp-clause-outcome : goal.returns-in_err-stamp-clause-outcome
@@ -25,3 +26,9 @@ returns-clause-reason g c =
     let digest = g.D.Digest.digest_of in
     let read = g.R.Read.remaining c.args.input.now in
     subst (λ stamp. HasReason (IsRefusedIn digest stamp) read c.prove_text.result) c.in_ok-stamp.ensures c.prove_text.ensures.refused
+
+pub returns-in_err-stamp-clause-told : goal.returns-in_err-stamp-clause-told
+returns-in_err-stamp-clause-told g c faulty = early_without_memory c.from_residual.result c.from_residual.ensures.1
+
+pub returns-clause-told : goal.returns-clause-told
+returns-clause-told g c faulty = early c.prove_text.result (c.prove_text.ensures.told (subst (λ key. IsErr (key_check key)) (sym c.as_bytes.ensures.value) faulty))
