@@ -176,7 +176,8 @@ fn do_all<R: Wait + Abort>(
     mut taker: Taker<'_>,
 ) -> Left
     requires { writer.host ≡ host.now }
-    ensures ended { IsEndedAt writer.entry.host.queue.queue_id writer.entry.host.repos result.ended }
+    ensures ended { IsEndedAt writer.entry.host.queue.queue_id writer.entry.host.repos
+        result.ended }
     ensures queue { result.feed.queue_id ≡ taker.entry.queue_id }
     ensures made { result.feed.made ≡ taker.entry.made }
     ensures joined { result.feed.joined ≡ taker.entry.joined }

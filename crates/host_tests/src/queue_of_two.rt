@@ -62,7 +62,8 @@ fn take_all<R: Wait>(
     mut writer: Writer<'_, Toy, 2>,
     mut taker: Taker<'_>,
 ) -> Left
-    ensures ended { IsEndedAt writer.entry.host.queue.queue_id writer.entry.host.repos result.ended }
+    ensures ended { IsEndedAt writer.entry.host.queue.queue_id writer.entry.host.repos
+        result.ended }
     ensures queue { result.feed.queue_id ≡ taker.entry.queue_id }
     ensures made { result.feed.made ≡ taker.entry.made }
     ensures joined { result.feed.joined ≡ taker.entry.joined }
