@@ -69,11 +69,13 @@ pub fn run_words<'a, T: Threads + Wait + Sync, R: Read, W: Write, X: Write>(
         IsBegun Sha256 ⟦<Sha256 as Digest>⟧.digest_of request (R.remaining input.old)
         (W.contents out.old) (W.contents out.new)) }
 
-    // Without a request the input isn't read, nor where a word of it is faulty, and where all went well
-    // nothing is told.
+    // Without a request the input isn't read, nor where a word of it is faulty, which is told, and where all
+    // went well nothing is told.
     ensures unread { IfNone result.request (input.new ≡ input.old) }
     ensures faulty_word { IfSome result.request (λ request.
         HasFaultyWord request → input.new ≡ input.old) }
+    ensures told { IfSome result.request (λ request.
+        HasFaultyWord request → (result.status ≡ 1) ⊎ (result.status ≡ 3)) }
     ensures quiet { result.status ≡ 0 → err.new ≡ err.old }
 {
     run_words_with::<Sha256, T, R, W, X>(rt, alloc, words, input, out, err)
@@ -124,11 +126,13 @@ pub fn run_words_with<
         IsBegun D D.digest_of request (R.remaining input.old)
         (W.contents out.old) (W.contents out.new)) }
 
-    // Without a request the input isn't read, nor where a word of it is faulty, and where all went well
-    // nothing is told.
+    // Without a request the input isn't read, nor where a word of it is faulty, which is told, and where all
+    // went well nothing is told.
     ensures unread { IfNone result.request (input.new ≡ input.old) }
     ensures faulty_word { IfSome result.request (λ request.
         HasFaultyWord request → input.new ≡ input.old) }
+    ensures told { IfSome result.request (λ request.
+        HasFaultyWord request → (result.status ≡ 1) ⊎ (result.status ≡ 3)) }
     ensures quiet { result.status ≡ 0 → err.new ≡ err.old }
 {
     match request_of(alloc, words) {
@@ -163,6 +167,7 @@ fn do_request<D: Digest + Send + Sync, T: Threads + Wait + Sync, R: Read, W: Wri
     ensures beginning { IsBegun D D.digest_of request.entry (R.remaining input.old)
         (W.contents out.old) (W.contents out.new) }
     ensures faulty_word { HasFaultyWord request.entry → input.new ≡ input.old }
+    ensures told { HasFaultyWord request.entry → (result ≡ 1) ⊎ (result ≡ 3) }
     ensures quiet { result ≡ 0 → err.new ≡ err.old }
 {
     match request {
