@@ -8,6 +8,8 @@ ghost use Rattle.std.specs.Prelude.{◌≡◌, IsTrue, IfOk, IfErr, IfNone, IfSo
 ghost use Rattle.batches.specs.Values.{stamp_of, writes_of};
 ghost use Rattle.edit.specs.Walks.{pairs_given};
 ghost use Rattle.store.specs.Stores.{IsStore};
+ghost use Rattle.kept.specs.Entering.{Enters};
+ghost use Rattle.repo.specs.Readings.{has_block};
 ghost use Rattle.repo.specs.Refusals.{IsRefusal};
 ghost use Rattle.host.specs.Seeing.{IsSeen, IsPassedOver, IsTakenBy, IsRecordIn, ArePairsIn};
 
@@ -57,6 +59,9 @@ pub(crate) fn apply_at<
         (stamp_of stamp.now) (writes_of writes.now) (S.fulls store.old) (S.fulls store.new))) }
     ensures unchanged { IfSome result (λ r. OnErr r (core.new ≡ core.old)) }
     ensures untouched { IfNone result (core.new ≡ core.old) }
+    ensures entered { Enters D.digest_of S.answers S.leaves core.old.me
+        (has_block D.digest_of B core.old) (has_block D.digest_of B core.new)
+        store.old store.new }
 {
     if !is_wanted(core, wanted) {
         return None;

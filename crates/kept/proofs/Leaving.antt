@@ -29,7 +29,7 @@ left_nothing : (c : List ℕ) (core : ℕ) → left no_table c core ≡ no_table
 left_nothing c core = ap (left_entry no_table c core) (none_there c)
 
 -- what a core leaves under a CID, and under the others
-left_at : (t : Table) (c : List ℕ) (core : ℕ) (q : List ℕ)
+pub left_at : (t : Table) (c : List ℕ) (core : ℕ) (q : List ℕ)
     → entry_at (left t c core) q ≡ cond (is_at (slice_cmp nat_cmp c) q) (without_core core (entry_at t q)) (entry_at t q)
 left_at t c core q = at_entry (entry_at t c) refl
   where
@@ -74,7 +74,7 @@ abbrev nobody : set.FinSet nat_cmp
 nobody = set.empty
 
 -- the cores of an entry that one of them left
-cores_without : (core : ℕ) (o : Option Held) → cores_of (without_core core o) ≡ set.remove (cores_of o) core
+pub cores_without : (core : ℕ) (o : Option Held) → cores_of (without_core core o) ≡ set.remove (cores_of o) core
 cores_without core None = set.same_set nat_cmp_total map.nat_cmp-IsAntisymmetric _ _ (λ q.
     set.contains-empty nat_cmp q ∙ sym (set.contains-remove nat_cmp_total nobody core q ∙ none _ (set.contains nobody q) (set.contains-empty nat_cmp q)))
   where
@@ -110,7 +110,7 @@ changed_at F none (t ∷ ts) (suc s) zero = ap (λ b. cond b (F t) t) (sym (belo
 changed_at F none (t ∷ ts) (suc s) (suc place) =
     changed_at F none ts s place ∙ ap (λ b. cond b (F (table_at ts place)) (table_at ts place)) (both_suc place s)
 
-some_used : (bytes : List ℕ) (m n : ℕ) → 0 < m + n
+pub some_used : (bytes : List ℕ) (m n : ℕ) → 0 < m + n
     → (is_some (option_map (λ (p : List ℕ × ℕ). p.0) (some_if bytes m)) || is_some (option_map (λ (p : List ℕ × ℕ). p.0) (some_if bytes n))) ≡ true
 some_used bytes zero zero h = absurd (omega (arith, h))
 some_used bytes zero (suc n) h = refl
@@ -206,7 +206,7 @@ module _ {D A : Type 0} (digest : List ℕ → List ℕ) where
     limits = λ place. ap (λ (ts : List Table). (table_at ts place).limit) e ∙ given_limits digest now u.hold place ∙ is.limits place;
   }
 
-  none_in : (es : List (List ℕ × Use D A)) (c : List ℕ) → (0 < length es → ⊥) → listed_at es c ≡ None
+  pub none_in : (es : List (List ℕ × Use D A)) (c : List ℕ) → (0 < length es → ⊥) → listed_at es c ≡ None
   none_in [] c never = refl
   none_in (e ∷ es) c never = absurd (never (omega arith))
 
@@ -240,7 +240,7 @@ module _ {D A : Type 0} (digest : List ℕ → List ℕ) where
       → bytes_at (counted n m) c ≡ option_map (λ (p : List ℕ × ℕ). p.0) (count_in n w)
   bytes_in n m c w e = ap (option_map (λ (p : List ℕ × ℕ). p.0)) (get_counted n m c ∙ ap (count_in n) e)
 
-  held_by : (m : Uses D A) (c : List ℕ) (me : ℕ) (w : Option (Use D A)) → at m c ≡ w
+  pub held_by : (m : Uses D A) (c : List ℕ) (me : ℕ) (w : Option (Use D A)) → at m c ≡ w
       → is_held (keeping_of me m) c
       ≡ (is_some (option_map (λ (p : List ℕ × ℕ). p.0) (count_in (λ u. u.uses) w)) || is_some (option_map (λ (p : List ℕ × ℕ). p.0) (count_in (λ u. u.next) w)))
   held_by m c me w e =

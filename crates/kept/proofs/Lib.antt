@@ -5,3 +5,5 @@ pub mod Keepings
 pub mod LentTrees
 pub mod Listing
 pub mod Leaving
+pub mod Entering
+pub mod Reading

@@ -7,7 +7,8 @@ ghost use Rattle.store.specs.Faults.{IsRefusalOf};
 ghost use Rattle.store.specs.Stores.{IsStore, fulls_after};
 ghost use Rattle.kept.specs.Counts.{HasNoOther, count_at, bytes_at, blocks_of, none_kept, with_use_more, with_use_less};
 ghost use Rattle.kept.specs.Uses.{used_blocks, AreSettled, with_note, HasAll, HasUses};
-ghost use Rattle.kept.specs.Leaving.{HasLeft};
+ghost use Rattle.kept.specs.Leaving.{HasLeft, is_held};
+ghost use Rattle.kept.specs.Entering.{Enters, EntersKept, EntersUses, no_block};
 
 use crate::blocks::Blocks;
 use crate::kept_use::End;
@@ -111,6 +112,8 @@ impl<D: Digest, A: Allocator> Kept<D, A> {
         ensures dropped { OnOk result (self.new ≡ with_use_less self.old cid) }
         ensures unchanged { OnErr result (self.new ≡ self.old) }
         ensures fulls { S.fulls store.new ≡ S.fulls store.old }
+        ensures entered { EntersKept D.digest_of S.answers S.leaves
+            self.old self.new store.old store.new }
     {
         self.touched.reserve(1)?;
         let fresh = self.blocks.lower(store, &cid);
@@ -125,6 +128,8 @@ impl<D: Digest, A: Allocator> Kept<D, A> {
     )
         ensures accepted { self.new ≡ record self.old { before = self.old.staged } }
         ensures fulls { S.fulls store.new ≡ S.fulls store.old }
+        ensures entered { EntersKept D.digest_of S.answers S.leaves
+            self.old self.new store.old store.new }
     {
         settle_all(store, &mut self.blocks, &mut self.touched, End::Accept);
     }
@@ -136,6 +141,8 @@ impl<D: Digest, A: Allocator> Kept<D, A> {
     )
         ensures refused { self.new ≡ record self.old { staged = self.old.before } }
         ensures fulls { S.fulls store.new ≡ S.fulls store.old }
+        ensures entered { EntersKept D.digest_of S.answers S.leaves
+            self.old self.new store.old store.new }
     {
         settle_all(store, &mut self.blocks, &mut self.touched, End::Refuse);
     }
@@ -145,7 +152,9 @@ impl<D: Digest, A: Allocator> Kept<D, A> {
         self,
         store: &mut S,
     )
-        ensures { S.fulls store.new ≡ S.fulls store.old }
+        ensures fulls { S.fulls store.new ≡ S.fulls store.old }
+        ensures entered { Enters D.digest_of S.answers S.leaves self.me
+            (is_held self) no_block store.old store.new }
     {
         let Kept {
             me: _,
@@ -187,8 +196,8 @@ impl<D: Digest, A: Allocator + Clone> Kept<D, A> {
     /// a block that has no mark is tested for it.
     ///
     /// `StoreFault::Collision` shows the given and the held block where other bytes are held under its CID, here or in the
-    /// store; `StoreFault::Full` and `StoreFault::NoMemory` are the store's, the latter also where memory for the entry
-    /// was refused. After a refusal nothing has changed.
+    /// store; `StoreFault::Full` and `StoreFault::NoMemory` are the store's, the latter also where memory to keep
+    /// or to note it was refused. After a refusal nothing has changed.
     pub fn stage_add<S: BlockStore<Arc<Block<D, A>, A>, Hold<D, A>, StoreFault<D, A>>>(
         &mut self,
         store: &mut S,
@@ -204,6 +213,8 @@ impl<D: Digest, A: Allocator + Clone> Kept<D, A> {
         ensures unchanged { OnErr result (self.new ≡ self.old) }
         ensures fault { IfErr result (IsRefusalOf D.digest_of (arc_value block)) }
         ensures fulls { S.fulls store.new ≡ fulls_after (S.fulls store.old) result }
+        ensures entered { EntersKept D.digest_of S.answers S.leaves
+            self.old self.new store.old store.new }
     {
         let is_node = block.is_node();
         let block = block.into_block();
@@ -234,6 +245,8 @@ fn settle_all<
     ensures settled { AreSettled end touched.old.items blocks.old blocks.new }
     ensures none_left { touched.new.items ≡ [] }
     ensures fulls { S.fulls store.new ≡ S.fulls store.old }
+    ensures entered { EntersUses D.digest_of S.answers S.leaves
+        blocks.old blocks.new store.old store.new }
 {
     while let Some(cid) = touched.pop() {
         blocks.settle(store, &cid, end);

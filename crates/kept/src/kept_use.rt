@@ -88,7 +88,8 @@ impl<D: Digest, A: Allocator> Use<D, A> {
         self,
         store: &mut S,
     )
-        ensures { S.fulls store.new ≡ S.fulls store.old }
+        ensures counted { S.fulls store.new ≡ S.fulls store.old }
+        ensures left { S.leaves store.old self.hold store.new }
     {
         let Use {
             hold,

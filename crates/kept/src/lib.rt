@@ -8,7 +8,7 @@
 //!   takes memory or can fail, and each looks only at what was touched.
 //! - [`put_staged`], [`delete_staged`] and [`value_staged`] work on the tree as it is staged, [`value_accepted`] and
 //!   [`pairs_accepted`] on the one that was accepted. [`Lender`] lends the blocks as a source, [`Blocks`] lists them.
-//! - `end` gives all blocks back to the store that they came from. `end_in` gives them back to sixteen shards that its
+//! - `end` gives all blocks back to the store that it is given. `end_in` gives them back to sixteen shards that its
 //!   caller has alone, and says for each CID which cores are left.
 //!
 //! It is the lower half of a repository. The crate `repo` says which uses a batch of writes has, and has an example.

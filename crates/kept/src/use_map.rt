@@ -1,6 +1,6 @@
 //! The blocks that a core keeps, by their CIDs.
 
-ghost use Rattle.std.specs.Prelude.{◌≡◌, ◌<◌, nat_eq, option_map, [], IfSome, IfNone, IfOk, IfErr, OnOk, OnErr};
+ghost use Rattle.std.specs.Prelude.{◌≡◌, ◌<◌, ℕ, nat_eq, option_map, [], IfSome, IfNone, IfOk, IfErr, OnOk, OnErr};
 ghost use Rattle.std.specs.Arc.{arc_value};
 ghost use Rattle.std.specs.Cmp.Lexicographic.{pointwise};
 ghost use Rattle.std.specs.List.{IsDistinct};
@@ -11,6 +11,7 @@ ghost use Rattle.store.specs.Faults.{IsRefusalOf};
 ghost use Rattle.store.specs.Stores.{IsStore, fulls_after};
 ghost use Rattle.kept.specs.Uses.{at, AreUses, lowered_in, settled, is_unnoted, IsChanged, IsRaisedIn, IsTaken, is_fresh};
 ghost use Rattle.kept.specs.Leaving.{AreNamed, AreGivenBack};
+ghost use Rattle.kept.specs.Entering.{Enters, EntersUses, has_entry, no_block};
 
 use crate::held::Held;
 use crate::kept_use::{End, Use};
@@ -89,6 +90,8 @@ impl<D: Digest, A: Allocator> UseMap<D, A> {
         ensures lowered { IsChanged lowered_in self.old self.new cid.now }
         ensures fresh { result ≡ is_unnoted (at self.old cid.now) }
         ensures fulls { S.fulls store.new ≡ S.fulls store.old }
+        ensures entered { EntersUses D.digest_of S.answers S.leaves
+            self.old self.new store.old store.new }
     {
         let Some(held) = self.blocks.get_mut(cid) else {
             return false;
@@ -112,6 +115,8 @@ impl<D: Digest, A: Allocator> UseMap<D, A> {
     )
         ensures settled { IsChanged (settled end) self.old self.new cid.now }
         ensures fulls { S.fulls store.new ≡ S.fulls store.old }
+        ensures entered { EntersUses D.digest_of S.answers S.leaves
+            self.old self.new store.old store.new }
     {
         let Some(held) = self.blocks.get_mut(cid) else {
             return;
@@ -129,7 +134,9 @@ impl<D: Digest, A: Allocator> UseMap<D, A> {
         self,
         store: &mut S,
     )
-        ensures { S.fulls store.new ≡ S.fulls store.old }
+        ensures fulls { S.fulls store.new ≡ S.fulls store.old }
+        ensures entered { (me : ℕ) → AreUses D.digest_of me (at self) → Enters D.digest_of
+            S.answers S.leaves me (has_entry self) no_block store.old store.new }
     {
         let UseMap { mut blocks } = self;
         while let Some((_, held)) = take_one(&mut blocks) {
@@ -171,6 +178,8 @@ impl<D: Digest, A: Allocator + Clone> UseMap<D, A> {
         ensures unchanged { OnErr result (self.new ≡ self.old) }
         ensures fault { IfErr result (IsRefusalOf D.digest_of (arc_value block)) }
         ensures fulls { S.fulls store.new ≡ fulls_after (S.fulls store.old) result }
+        ensures entered { Enters D.digest_of S.answers S.leaves me
+            (has_entry self.old) (has_entry self.new) store.old store.new }
     {
         let cid = block.cid();
         if let Some(held) = self.blocks.get_mut(&cid) {

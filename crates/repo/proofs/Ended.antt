@@ -17,7 +17,7 @@ twice false = refl
 
 module _ (digest : List ℕ → List ℕ) (bits : ℕ) (s : State) (root : List ℕ) (commit : Option (List ℕ)) (k : Keeping) (is : IsCore digest bits s root commit k) (me : k.me ≡ s.me) where
   -- what is held is what the state has
-  held : (c : List ℕ) → is_held k c ≡ is_some (state_block digest bits s c)
+  pub held : (c : List ℕ) → is_held k c ≡ is_some (state_block digest bits s c)
   held c =
       ap (λ (m : Counts). is_some (bytes_at k.before c) || is_some (bytes_at m c)) is.still
       ∙ twice (is_some (bytes_at k.before c))

@@ -13,3 +13,4 @@ pub mod Fresh
 pub mod Listing
 pub mod Lending
 pub mod Ended
+pub mod Entering

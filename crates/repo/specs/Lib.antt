@@ -5,3 +5,4 @@ pub mod Cores
 pub mod Refusals
 pub mod Readings
 pub mod Ending
+pub mod Fulls

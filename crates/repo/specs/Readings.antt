@@ -1,5 +1,5 @@
 -- What a core answers about its records and its blocks.
-use Rattle.std.specs.Prelude.{◌≡◌, ℕ, List, Option, Some, option_map}
+use Rattle.std.specs.Prelude.{◌≡◌, ℕ, List, Bool, Option, Some, is_some, option_map}
 use Rattle.std.specs.Arc.{arc_value}
 use Rattle.std.specs.Cmp.Lexicographic.{slice_cmp}
 use Rattle.std.specs.FinMap.{find}
@@ -22,6 +22,10 @@ record_at s key = find (slice_cmp nat_cmp) key (records s)
 -- the block with a CID
 abbrev pub state_block : (List ℕ → List ℕ) → ℕ → State → List ℕ → Option (List ℕ)
 state_block digest bits s cid = block_at digest cid (state_blocks digest bits s)
+
+-- whether it has a block with a CID
+abbrev pub has_block : (List ℕ → List ℕ) → ℕ → State → List ℕ → Bool
+has_block digest bits s cid = is_some (state_block digest bits s cid)
 
 -- the first pairs of a key and its record's CID from a key on, so many
 abbrev pub pairs_from : (List ℕ → List ℕ) → State → List ℕ → ℕ → List Pair

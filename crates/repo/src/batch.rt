@@ -1,6 +1,6 @@
 //! A batch, staged write by write.
 
-ghost use Rattle.std.specs.Prelude.{◌≡◌, ◌≤◌, ◌∷◌, [], true, Ok, IfOk, IfErr, OnOk};
+ghost use Rattle.std.specs.Prelude.{◌≡◌, ◌≤◌, ◌∷◌, [], true, false, Ok, IfOk, IfErr, OnOk};
 ghost use Rattle.std.specs.List.{cons_option};
 ghost use Rattle.std.specs.Arc.{arc_value};
 ghost use Rattle.spec.specs.Cid.{cid as cid_of};
@@ -9,6 +9,8 @@ ghost use Rattle.kept.specs.Trees.{OfTree, IsReadOnce};
 ghost use Rattle.spec.specs.NodeFormat.{is_key};
 ghost use Rattle.spec.specs.Writes.{key_of};
 ghost use Rattle.spec.specs.Commits.{commit_bytes};
+ghost use Rattle.kept.specs.Entering.{EntersKept};
+ghost use Rattle.repo.specs.Fulls.{fulls_after_batch, fulls_after_step, is_full};
 ghost use Rattle.repo.specs.Keeping.{IsExchanged, IsStillBefore};
 ghost use Rattle.repo.specs.Refusals.{AtStart, OnTheWay, IsWriteFault, IsRefusedWrite, HasTestBy};
 ghost use Rattle.repo.specs.Refusals.{next_test, one_more, looked_after, read_after};
@@ -62,7 +64,9 @@ pub(crate) fn stage_writes<
         (IsRefusedWrite D.digest_of B s (writes_of writes.now)
         (S.fulls store.old) (S.fulls store.new))) }
     ensures before { IsStillBefore kept.old kept.new }
-    ensures grown { S.fulls store.old ≤ S.fulls store.new }
+    ensures counted { S.fulls store.new ≡ fulls_after_batch (S.fulls store.old) result }
+    ensures entered { EntersKept D.digest_of S.answers S.leaves
+        kept.old kept.new store.old store.new }
 {
     let mut shared = copies;
     let mut root = root;
@@ -109,7 +113,9 @@ fn stage_shared<
         (IsWriteFault D.digest_of B s before (write_of write.now)
         (S.fulls store.old) (S.fulls store.new))) }
     ensures before { IsStillBefore kept.old kept.new }
-    ensures grown { S.fulls store.old ≤ S.fulls store.new }
+    ensures counted { S.fulls store.new ≡ fulls_after_step (S.fulls store.old) result }
+    ensures entered { EntersKept D.digest_of S.answers S.leaves
+        kept.old kept.new store.old store.new }
 {
     let copy = write.share(alloc)?;
     shared.push(copy)?;
@@ -145,7 +151,9 @@ fn stage_write<
         (IsWriteFault D.digest_of B s before (write_of write.now)
         (S.fulls store.old) (S.fulls store.new))) }
     ensures before { IsStillBefore kept.old kept.new }
-    ensures grown { S.fulls store.old ≤ S.fulls store.new }
+    ensures counted { S.fulls store.new ≡ fulls_after_step (S.fulls store.old) result }
+    ensures entered { EntersKept D.digest_of S.answers S.leaves
+        kept.old kept.new store.old store.new }
 {
     match test_next::<D, B, A>(kept, alloc, room, root, write) {
         Ok(looked) => match stage_next::<D, B, A, S>(kept, store, alloc, root, write) {
@@ -174,6 +182,7 @@ fn test_next<D: Digest, const B: u8, A: Allocator + Copy>(
         (λ looked. looked.times ≤ looked_after D.digest_of B s before)) }
     ensures fault { OnTheWay D.digest_of B room root kept.now.staged (λ s before. IfErr result
         (IsTestFault write_fault (next_test s before (write_of write.now)))) }
+    ensures not_full { IfErr result (λ fault. is_full fault ≡ false) }
     ensures key { OnOk result (is_key (key_of (write_of write.now)) ≡ true) }
 {
     if !room {
@@ -232,7 +241,9 @@ pub(crate) fn stage_commit<
         (IsBlockFault D.digest_of (commit_bytes (stamp_of stamp.now) root ∷ [])
         (S.fulls store.old) (S.fulls store.new)) }
     ensures before { IsStillBefore kept.old kept.new }
-    ensures grown { S.fulls store.old ≤ S.fulls store.new }
+    ensures counted { S.fulls store.new ≡ fulls_after_step (S.fulls store.old) result }
+    ensures entered { EntersKept D.digest_of S.answers S.leaves
+        kept.old kept.new store.old store.new }
 {
     let block = commit_block(alloc, stamp, root)?;
     let cid = block.cid();

@@ -7,8 +7,10 @@ ghost use Rattle.spec.specs.States.{IsLawful, fresh, after_batch, state_blocks, 
 ghost use Rattle.edit_laws.specs.Uses.{uses as uses_of};
 ghost use Rattle.spec.specs.Stamps.{last, rev_of};
 ghost use Rattle.kept.specs.Uses.{used_blocks};
+ghost use Rattle.kept.specs.Entering.{Enters, no_block};
 ghost use Rattle.repo.specs.Ending.{IsEnded};
-ghost use Rattle.repo.specs.Readings.{AreBlocksOnce, CountsBlocks, LendsBlocks, LendsTree, pairs_from, record_at, state_block};
+ghost use Rattle.repo.specs.Fulls.{fulls_after_batch, fulls_after_step};
+ghost use Rattle.repo.specs.Readings.{AreBlocksOnce, CountsBlocks, LendsBlocks, LendsTree, has_block, pairs_from, record_at, state_block};
 ghost use Rattle.repo.specs.Refusals.{IsRefusal, IsApplied, IsOpenRefusal};
 ghost use Rattle.batches.specs.Values.{stamp_of, stamps_of, writes_of, shared_writes};
 ghost use Rattle.store.specs.Stores.{IsStore};
@@ -139,7 +141,9 @@ impl<D: Digest, const B: u8, A: Allocator> Core<D, B, A> {
         self,
         store: &mut S,
     )
-        ensures { S.fulls store.new ≡ S.fulls store.old }
+        ensures fulls { S.fulls store.new ≡ S.fulls store.old }
+        ensures entered { Enters D.digest_of S.answers S.leaves self.me
+            (has_block D.digest_of B self) no_block store.old store.new }
     {
         let Core {
             limit: _,
@@ -241,6 +245,11 @@ impl<D: Digest, const B: u8, A: Allocator + Copy> Core<D, B, A> {
         ensures fresh { IfOk result (λ core. core ≡ fresh me limit) }
         ensures fault { IfErr result (IsOpenRefusal D.digest_of B (fresh me limit)
             (S.fulls store.old) (S.fulls store.new)) }
+        ensures counted { S.fulls store.new ≡ fulls_after_step (S.fulls store.old) result }
+        ensures entered { OnOk result (Enters D.digest_of S.answers S.leaves me
+            no_block (has_block D.digest_of B (fresh me limit)) store.old store.new) }
+        ensures left { OnErr result (Enters D.digest_of S.answers S.leaves me
+            no_block no_block store.old store.new) }
     {
         let node = empty_node(alloc)?;
         let root = node.cid();
@@ -288,6 +297,10 @@ impl<D: Digest, const B: u8, A: Allocator + Copy> Core<D, B, A> {
         ensures fault { IfErr result
             (IsRefusal D.digest_of B self.old (stamp_of stamp.now) (writes_of writes.now)
             (S.fulls store.old) (S.fulls store.new)) }
+        ensures counted { S.fulls store.new ≡ fulls_after_batch (S.fulls store.old) result }
+        ensures entered { Enters D.digest_of S.answers S.leaves self.old.me
+            (has_block D.digest_of B self.old) (has_block D.digest_of B self.new)
+            store.old store.new }
     {
         let start = Start {
             room: room_for(self.limit, &self.accepted),

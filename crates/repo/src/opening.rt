@@ -1,8 +1,11 @@
 //! The blocks of a repository without writes.
 
-ghost use Rattle.std.specs.Prelude.{◌≡◌, ◌<◌, ◌∷◌, [], None, IfOk, IfErr};
+ghost use Rattle.std.specs.Prelude.{◌≡◌, ◌<◌, ◌∷◌, [], None, IfOk, IfErr, OnErr};
 ghost use Rattle.std.specs.Arc.{arc_value};
 ghost use Rattle.spec.specs.NodeFormat.{node_spelling};
+ghost use Rattle.kept.specs.Entering.{Enters, no_block};
+ghost use Rattle.kept.specs.Leaving.{is_held};
+ghost use Rattle.repo.specs.Fulls.{fulls_after_step};
 ghost use Rattle.repo.specs.Keeping.{AreKept};
 ghost use Rattle.repo.specs.Staging.{IsBlockFault};
 ghost use Rattle.store.specs.Stores.{IsStore};
@@ -45,6 +48,11 @@ pub(crate) fn kept_once<
     ensures me { IfOk result (λ kept. kept.me ≡ me) }
     ensures fault { IfErr result (IsBlockFault D.digest_of (arc_value block ∷ [])
         (S.fulls store.old) (S.fulls store.new)) }
+    ensures counted { S.fulls store.new ≡ fulls_after_step (S.fulls store.old) result }
+    ensures entered { IfOk result (λ kept. Enters D.digest_of S.answers S.leaves me
+        no_block (is_held kept) store.old store.new) }
+    ensures left { OnErr result (Enters D.digest_of S.answers S.leaves me
+        no_block no_block store.old store.new) }
 {
     let mut kept = Kept::open(alloc, me)?;
     match gain(&mut kept, store, MarkedBlock::of(block)) {

@@ -1,6 +1,8 @@
 //! A batch, staged with its stamp and its commit.
 
 ghost use Rattle.std.specs.Prelude.{◌≡◌, ◌≤◌, ◌<◌, length, option_map, IfOk, IfErr};
+ghost use Rattle.kept.specs.Entering.{EntersKept};
+ghost use Rattle.repo.specs.Fulls.{fulls_after_batch};
 ghost use Rattle.repo.specs.Keeping.{IsStillBefore};
 ghost use Rattle.repo.specs.Refusals.{OnState, OnPassed, IsStagedBatch, IsRefusal};
 ghost use Rattle.batches.specs.Values.{writes_of, shared_writes, stamp_of};
@@ -59,6 +61,9 @@ pub(crate) fn stage_batch<
         kept.old.staged (λ s. IfErr result (IsRefusal D.digest_of B s
         (stamp_of stamp.now) (writes_of writes.now) (S.fulls store.old) (S.fulls store.new))) }
     ensures before { IsStillBefore kept.old kept.new }
+    ensures counted { S.fulls store.new ≡ fulls_after_batch (S.fulls store.old) result }
+    ensures entered { EntersKept D.digest_of S.answers S.leaves
+        kept.old kept.new store.old store.new }
 {
     if writes.is_empty() {
         return Err((0, RepoFault::EmptyBatch));
@@ -97,6 +102,9 @@ fn stage_stamped<
         (λ s. IfErr result (IsRefusal D.digest_of B s
         (stamp_of stamp.now) (writes_of writes.now) (S.fulls store.old) (S.fulls store.new))) }
     ensures before { IsStillBefore kept.old kept.new }
+    ensures counted { S.fulls store.new ≡ fulls_after_batch (S.fulls store.old) result }
+    ensures entered { EntersKept D.digest_of S.answers S.leaves
+        kept.old kept.new store.old store.new }
 {
     let Ok(copy) = stamp.copied(alloc) else {
         return Err((0, RepoFault::NoMemory));

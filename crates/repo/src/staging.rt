@@ -1,12 +1,14 @@
 //! One write, staged.
 
-ghost use Rattle.std.specs.Prelude.{◌≡◌, ◌≤◌, ◌++◌, ◌∷◌, [], true, map, option_map, IfOk, IfErr, OnOk};
+ghost use Rattle.std.specs.Prelude.{◌≡◌, ◌≤◌, ◌++◌, ◌∷◌, [], true, false, map, option_map, IfOk, IfErr, OnOk};
 ghost use Rattle.std.specs.List.{cons_option};
 ghost use Rattle.std.specs.Arc.{arc_value};
 ghost use Rattle.spec.specs.Cid.{cid as cid_of};
 ghost use Rattle.spec.specs.NodeFormat.{is_key};
 ghost use Rattle.spec.specs.Writes.{key_of, record_of};
 ghost use Rattle.kept.specs.Trees.{OfTree};
+ghost use Rattle.kept.specs.Entering.{EntersKept};
+ghost use Rattle.repo.specs.Fulls.{fulls_after_step, is_full};
 ghost use Rattle.repo.specs.Keeping.{IsGained, IsLost, IsExchanged, IsStillBefore};
 ghost use Rattle.repo.specs.Staging.{OfRecords, IsEditMade, IsEditRead, IsTreeRefusal, IsStagedWrite};
 ghost use Rattle.repo.specs.Staging.{IsBlockFault, blocks_left, blocks_come, cids_gone, nodes_left, write_reads};
@@ -49,7 +51,9 @@ pub(crate) fn stage_next<
         (IsBlockFault D.digest_of (blocks_left D.digest_of B rs (write_of write.now))
         (S.fulls store.old) (S.fulls store.new))) }
     ensures before { IsStillBefore kept.old kept.new }
-    ensures grown { S.fulls store.old ≤ S.fulls store.new }
+    ensures counted { S.fulls store.new ≡ fulls_after_step (S.fulls store.old) result }
+    ensures entered { EntersKept D.digest_of S.answers S.leaves
+        kept.old kept.new store.old store.new }
 {
     let record = record_block(alloc.clone()?, write)?;
     let made = edit_over::<D, B, A>(alloc, kept, root, write.key(), cid_of_record(&record))?;
@@ -99,6 +103,7 @@ fn edit_over<'a, D: Digest + 'a, const B: u8, A: Allocator + Clone + 'a>(
     ensures reads { IsEditRead D.digest_of B kept.now.staged root value result }
     ensures fault { OfTree D.digest_of B kept.now.staged root (λ es. IfErr result
         (IsBlockFault D.digest_of (nodes_left D.digest_of B es key.now value) 0 0)) }
+    ensures not_full { IfErr result (λ fault. is_full fault ≡ false) }
 {
     match put_or_delete::<D, B, A>(alloc, kept, root, key, value) {
         Ok(made) => Ok(made),
@@ -149,7 +154,9 @@ fn exchange<
         (IsBlockFault D.digest_of (blocks_come edit (option_map arc_value brought))
         (S.fulls store.old) (S.fulls store.new)) }
     ensures before { IsStillBefore kept.old kept.new }
-    ensures grown { S.fulls store.old ≤ S.fulls store.new }
+    ensures counted { S.fulls store.new ≡ fulls_after_step (S.fulls store.old) result }
+    ensures entered { EntersKept D.digest_of S.answers S.leaves
+        kept.old kept.new store.old store.new }
 {
     let Edit {
         root: _,
@@ -214,7 +221,9 @@ fn gain_all<
         (IsBlockFault D.digest_of (map arc_value blocks.items)
         (S.fulls store.old) (S.fulls store.new)) }
     ensures before { IsStillBefore kept.old kept.new }
-    ensures grown { S.fulls store.old ≤ S.fulls store.new }
+    ensures counted { S.fulls store.new ≡ fulls_after_step (S.fulls store.old) result }
+    ensures entered { EntersKept D.digest_of S.answers S.leaves
+        kept.old kept.new store.old store.new }
 {
     for block in blocks {
         gain(kept, store, block)?;
@@ -234,7 +243,9 @@ pub(crate) fn gain<
     ensures fault { IfErr result (IsBlockFault D.digest_of (arc_value block ∷ [])
         (S.fulls store.old) (S.fulls store.new)) }
     ensures before { IsStillBefore kept.old kept.new }
-    ensures grown { S.fulls store.old ≤ S.fulls store.new }
+    ensures counted { S.fulls store.new ≡ fulls_after_step (S.fulls store.old) result }
+    ensures entered { EntersKept D.digest_of S.answers S.leaves
+        kept.old kept.new store.old store.new }
 {
     match kept.stage_add(store, block) {
         Ok(()) => Ok(()),
@@ -250,7 +261,9 @@ pub(crate) fn lose_all<
 >(kept: &mut Kept<D, A>, store: &mut S, cids: &[Cid]) -> Result<(), AllocError>
     ensures lost { OnOk result (IsLost cids.now kept.old.staged kept.new.staged) }
     ensures before { IsStillBefore kept.old kept.new }
-    ensures grown { S.fulls store.old ≤ S.fulls store.new }
+    ensures counted { S.fulls store.new ≡ S.fulls store.old }
+    ensures entered { EntersKept D.digest_of S.answers S.leaves
+        kept.old kept.new store.old store.new }
 {
     for cid in cids {
         kept.stage_drop(store, *cid)?;
@@ -266,7 +279,9 @@ pub(crate) fn lose<
 >(kept: &mut Kept<D, A>, store: &mut S, cid: Option<Cid>) -> Result<(), AllocError>
     ensures lost { OnOk result (IsLost (cons_option cid []) kept.old.staged kept.new.staged) }
     ensures before { IsStillBefore kept.old kept.new }
-    ensures grown { S.fulls store.old ≤ S.fulls store.new }
+    ensures counted { S.fulls store.new ≡ S.fulls store.old }
+    ensures entered { EntersKept D.digest_of S.answers S.leaves
+        kept.old kept.new store.old store.new }
 {
     match cid {
         Some(cid) => kept.stage_drop(store, cid),

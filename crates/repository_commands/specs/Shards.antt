@@ -1,10 +1,13 @@
 -- The sixteen shards of a store that one call has for itself (how many blocks a shard may have is a
 -- choice of this project).
 use Rattle.std.specs.Prelude.{◌≡◌, ◌≤◌, ℕ, List, length, Some, slice_index_or, slice_set}
+use Rattle.std.specs.Prelude.{Result, OnOk, OnErr}
 use Rattle.std.specs.Arc.{arc_value}
 use Rattle.std.specs.FinMap as map
 use Rattle.std.specs.declared.sync.Arc.{Arc}
 use Rattle.spec.specs.Cid.{cid as cid_of}
+use Rattle.store.specs.Stores.{IsAnswer}
+use Rattle.store.specs.declared.fault.StoreFault.{StoreFault}
 use Rattle.store.specs.Table.{Table, Held, entered, entry_at, left, shard_of, IsLawful}
 
 -- how many blocks a shard may have
@@ -54,3 +57,11 @@ entered_in digest shards bytes core = slice_set shards (shard_of (cid_of digest 
 abbrev pub left_in : {A : Type 0} → (List ℕ → List ℕ) → List Table → Arc (List ℕ) A × ℕ → List Table
 left_in digest shards h = slice_set shards (shard_of (cid_of digest (arc_value h.0)))
     (left (own_shard digest shards (arc_value h.0)) (cid_of digest (arc_value h.0)) h.1)
+
+-- an answer of these shards, and what it makes of them: the core is entered, or all is as before
+pub record IsTablesAnswer {D A : Type 0} (digest : List ℕ → List ℕ) (bytes : List ℕ) (core : ℕ)
+    (old : List Table) (before : ℕ) (result : Result (Arc (List ℕ) A × ℕ) (StoreFault D A))
+    (new : List Table) (after : ℕ) : Type 0 where
+  pub answer : IsAnswer digest bytes core before result after
+  pub entered : OnOk result (new ≡ entered_in digest old bytes core)
+  pub unchanged : OnErr result (new ≡ old)

@@ -1,11 +1,11 @@
 //! One shard as a store.
 
-ghost use Rattle.std.specs.Prelude.{◌≡◌, ◌<◌, IfErr, OnOk, OnErr};
+ghost use Rattle.std.specs.Prelude.{◌≡◌, ◌<◌, IfErr};
 ghost use Rattle.std.specs.Arc.{arc_value};
 ghost use Rattle.spec.specs.Cid.{cid as cid_of};
 ghost use Rattle.store.specs.Faults.{IsRefusal};
-ghost use Rattle.store.specs.Stores.{IsAnswer};
-ghost use Rattle.store.specs.Table.{entered, left};
+ghost use Rattle.store.specs.Stores.{IsLentAnswer};
+ghost use Rattle.store.specs.Table.{left};
 
 use crate::block_store::BlockStore;
 use crate::fault::StoreFault;
@@ -17,6 +17,8 @@ use std::alloc::{Allocator, Global};
 use std::sync::Arc;
 
 /// One shard that its single owner lends: a store without a lock, for blocks of any CID.
+///
+/// What it answers tells what becomes of the shard's table.
 #[derive(Drop)]
 pub struct LentShard<'a, D: Digest, A: Allocator = Global> {
     shard: &'a mut Shard<D, A>,
@@ -38,12 +40,17 @@ impl<'a, D: Digest, A: Allocator + Clone> BlockStore<
     Hold<D, A>,
     StoreFault<D, A>,
 > for LentShard<'a, D, A> {
+    ghost use Rattle.std.specs.Prelude.{◌≡◌};
     ghost use Rattle.std.specs.Arc.{arc_value};
-    ghost use Rattle.store.specs.Stores.{IsAnswer};
+    ghost use Rattle.spec.specs.Cid.{cid as cid_of};
+    ghost use Rattle.store.specs.Stores.{IsLentAnswer};
+    ghost use Rattle.store.specs.Table.{left};
 
     ghost fulls = { λ s. s.fulls.times };
 
-    ghost answers = { λ s b core r t. IsAnswer D.digest_of (arc_value b) core s.fulls.times r t.fulls.times };
+    ghost answers = { λ s b core r t. IsLentAnswer D.digest_of (arc_value b) core s.shard.now s.fulls.times r t.shard.now t.fulls.times };
+
+    ghost leaves = { λ s h t. t.shard.now ≡ left s.shard.now (cid_of D.digest_of (arc_value h.0)) h.1 };
 
     fn acquire(
         &mut self,
@@ -51,12 +58,9 @@ impl<'a, D: Digest, A: Allocator + Clone> BlockStore<
         block: Arc<Block<D, A>, A>,
     ) -> Result<Hold<D, A>, StoreFault<D, A>>
         requires { core < 1024 }
-        ensures answer { IsAnswer D.digest_of
-            (arc_value block) core self.old.fulls.times result self.new.fulls.times }
-        ensures entered { OnOk result (self.new.shard.now
-            ≡ entered self.old.shard.now (cid_of D.digest_of (arc_value block))
-            (arc_value block) core) }
-        ensures unchanged { OnErr result (self.new.shard.now ≡ self.old.shard.now) }
+        ensures answer { IsLentAnswer D.digest_of (arc_value block) core
+            self.old.shard.now self.old.fulls.times result
+            self.new.shard.now self.new.fulls.times }
         ensures refused { IfErr result (IsRefusal D.digest_of self.old.shard.now
             (arc_value block)) }
     {

@@ -40,12 +40,15 @@ impl<'a, R: Wait, D: Digest, A: Allocator + Clone> BlockStore<
     Hold<D, A>,
     StoreFault<D, A>,
 > for LockedShards<'a, R, D, A> {
+    ghost use Rattle.std.specs.Prelude.{◌≡◌};
     ghost use Rattle.std.specs.Arc.{arc_value};
     ghost use Rattle.store.specs.Stores.{IsAnswer};
 
     ghost fulls = { λ s. s.fulls.times };
 
     ghost answers = { λ s b core r t. IsAnswer D.digest_of (arc_value b) core s.fulls.times r t.fulls.times };
+
+    ghost leaves = { λ s h t. t.fulls.times ≡ s.fulls.times };
 
     fn acquire(
         &mut self,
@@ -66,7 +69,8 @@ impl<'a, R: Wait, D: Digest, A: Allocator + Clone> BlockStore<
     }
 
     fn release(&mut self, hold: Hold<D, A>)
-        ensures { self.new.fulls.times ≡ self.old.fulls.times }
+        ensures counted { self.new.fulls.times ≡ self.old.fulls.times }
+        ensures left { self.new.fulls.times ≡ self.old.fulls.times }
     {
         let locks = self.locks.as_slice();
         let lock = locks[shard_number(&hold.cid())];

@@ -1,6 +1,7 @@
 use Rattle.std.proofs.Common.{◌≡◌, ◌++◌, ◌∷◌, [], ◌+◌, List, take, sym, ap, ◌∙◌, subst, arith}
 use Rattle.std.proofs.lemmas.List.{map-append}
 use Rattle.spec.specs.Writes as writes
+use Rattle.kept.proofs.Entering.{kept_then}
 use Rattle.repo.specs.Staging.{IsStagedBy}
 use Rattle.batches.specs.Values.{write_of, writes_of}
 use Rattle.batches.specs.declared.write.Write.{Write}
@@ -17,6 +18,7 @@ returns-in-Err-clause-fault g c = λ s start.
     let was = at.invariant.staged s start in
     let cut = cut-at ws at.place x (omega arith) c.index-writes-place.is in
     let place = length-of ws at.place (omega arith) in
+    let counted = at.invariant.counted in
     record {
       before = before;
       here = write_of x;
@@ -24,7 +26,7 @@ returns-in-Err-clause-fault g c = λ s start.
       whole = ap writes_of cut.whole ∙ map-append write_of (take at.place ws) (x ∷ cut.rest);
       place = place;
       passed = was.staged.passed;
-      fault = write-wider dig g.row.B s before (write_of x) _ _ _ c.in-Err.fault at.invariant.grown
+      fault = write-wider dig g.row.B s before (write_of x) _ _ _ c.in-Err.fault (omega (arith, counted))
           (c.in-Err.ensures.fault s before (record { room_is = room-at s.accepted before at.place c.args.room s.limit start.room_is place; by = was }));
     }
 
@@ -44,7 +46,9 @@ loop-place-preserved g c =
           (e.staged s before (record { room_is = room-at s.accepted before at.place c.args.room s.limit start.room_is place; by = at.invariant.staged s start }));
       copies = e.copied ∙ ap (λ (xs : List writes.Write). xs ++ write_of x ∷ []) at.invariant.copies ∙ sym more;
       still = record { me = e.before.me ∙ at.invariant.still.me; before = e.before.before ∙ at.invariant.still.before };
-      grown = let f = e.grown in let l = at.invariant.grown in omega (arith, f, l);
+      entered = kept_then g.D.Digest.digest_of g.S.BlockStore.answers g.S.BlockStore.leaves c.args.kept.now at.kept c.stage_shared.new.kept
+          c.args.store.now at.store c.stage_shared.new.store at.invariant.still.me at.invariant.entered e.entered;
+      counted = e.counted ∙ at.invariant.counted;
     }
 
 pub returns-clause-staged : goal.returns-clause-staged
@@ -52,3 +56,9 @@ returns-clause-staged g c = λ s start.
     let at = c.loop-place in
     subst (λ (xs : List (Write g.row.A.Denot)). IsStagedBy g.D.Digest.digest_of g.row.B s (writes_of xs) at.root at.kept.staged)
     (take-whole c.args.writes.now at.place (omega arith)) (at.invariant.staged s start)
+
+pub returns-in-Err-clause-entered : goal.returns-in-Err-clause-entered
+returns-in-Err-clause-entered g c =
+    let at = c.loop-place in
+    kept_then g.D.Digest.digest_of g.S.BlockStore.answers g.S.BlockStore.leaves c.args.kept.now at.kept c.stage_shared.new.kept
+    c.args.store.now at.store c.stage_shared.new.store at.invariant.still.me at.invariant.entered c.in-Err.ensures.entered

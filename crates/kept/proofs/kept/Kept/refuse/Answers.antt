@@ -1,7 +1,10 @@
-use Rattle.std.proofs.Common.{◌∙◌, ap}
+use Rattle.std.proofs.Common.{◌∙◌, ap, subst}
 use Rattle.kept.specs.Counts.{Keeping}
+use Rattle.kept.specs.Entering.{EntersKept}
+use Rattle.kept.specs.Uses.{keeping_of}
 use Rattle.kept.specs.declared.kept_use.End.TheVariants.{Refuse}
 use Rattle.kept.proofs.Counting.{kept_settled, settled_uses, settled_next}
+use Rattle.kept.proofs.Entering.{kept_entered}
 use Rattle.kept.proofs.Keepings.{keeping_same}
 use Rattle.kept.proofs.kept.Kept.refuse.Goals as goal
 
@@ -19,3 +22,14 @@ returns-clause-refused g c =
     (settled_uses g.D.Digest.digest_of c.self.inside.me Refuse m n ts c.self.invariant c.settle_all.ensures.settled)
     (settled_next g.D.Digest.digest_of c.self.inside.me Refuse m n ts c.self.invariant c.settle_all.ensures.settled)
     ∙ ap (λ (k : Keeping). record { me = k.me; before = k.before; staged = k.before }) c.self.view_is
+
+pub returns-clause-entered : goal.returns-clause-entered
+returns-clause-entered g c =
+    let me = c.self.inside.me in
+    let m = c.self.inside.blocks in
+    let n = c.settle_all.new.blocks in
+    let ts = c.self.inside.touched.items in
+    let us = c.settle_all.new.touched.items in
+    subst (λ (k : Keeping). EntersKept g.D.Digest.digest_of g.S.BlockStore.answers g.S.BlockStore.leaves k (keeping_of me n) c.args.store.now c.settle_all.new.store) c.self.view_is
+    (kept_entered g.D.Digest.digest_of g.S.BlockStore.answers g.S.BlockStore.leaves me m n ts us c.args.store.now c.settle_all.new.store c.self.invariant
+    (kept_settled g.D.Digest.digest_of me Refuse m n ts us c.self.invariant c.settle_all.ensures.settled) (c.settle_all.ensures.entered me (λ q u e. c.self.invariant.entries q u e)))

@@ -3,8 +3,10 @@ use Rattle.std.specs.Arc.{arc_value}
 use Rattle.spec.specs.Cid.{cid as cid_of}
 use Rattle.edit.specs.Nodes.{IsMarked}
 use Rattle.kept.specs.Counts.{Keeping, raised, HasNoOther, with_use_more}
-use Rattle.kept.specs.Uses.{IsKept, with_note}
+use Rattle.kept.specs.Entering.{EntersKept}
+use Rattle.kept.specs.Uses.{IsKept, Uses, keeping_of, with_note}
 use Rattle.kept.proofs.Counting.{kept_raised, raised_uses, raised_next, raised_no_other}
+use Rattle.kept.proofs.Entering.{kept_entered}
 use Rattle.kept.proofs.Keepings.{keeping_same}
 use Rattle.kept.proofs.kept.Kept.stage_add.Goals as goal
 
@@ -43,3 +45,29 @@ pub raise-requires-clause-marked : goal.raise-requires-clause-marked
 raise-requires-clause-marked g c =
     subst (λ b. IsMarked (arc_value b) c.is_node-is_node.result) (sym c.into_block-block.ensures)
     (λ marked. sym c.is_node-is_node.ensures ∙ marked)
+
+pub returns-clause-entered : goal.returns-clause-entered
+returns-clause-entered g c =
+    let me = c.self.inside.me in
+    let m = c.self.inside.blocks in
+    let n = c.raise.new.self in
+    let ts = c.self.inside.touched.items in
+    let fresh = c.in_ok-fresh.fresh in
+    let name : c.cid-cid.result ≡ cid_of g.D.Digest.digest_of (arc_value c.into_block-block.result) =
+    c.cid-cid.ensures ∙ ap (cid_of g.D.Digest.digest_of) c.deref.ensures in
+    subst (λ (k : Keeping). EntersKept g.D.Digest.digest_of g.S.BlockStore.answers g.S.BlockStore.leaves k (keeping_of me n) c.args.store.now c.raise.new.store) c.self.view_is
+    (kept_entered g.D.Digest.digest_of g.S.BlockStore.answers g.S.BlockStore.leaves me m n ts (with_note ts c.cid-cid.result fresh) c.args.store.now c.raise.new.store c.self.invariant
+    (kept_raised g.D.Digest.digest_of me m n ts (arc_value c.into_block-block.result) c.cid-cid.result fresh name c.self.invariant
+    c.in_ok-fresh.ensures.raised c.in_ok-fresh.ensures.fresh)
+    c.in_ok-fresh.ensures.entered)
+
+pub returns-in_err-fresh-clause-entered : goal.returns-in_err-fresh-clause-entered
+returns-in_err-fresh-clause-entered g c =
+    let me = c.self.inside.me in
+    let m = c.self.inside.blocks in
+    let n = c.raise.new.self in
+    let ts = c.self.inside.touched.items in
+    subst (λ (k : Keeping). EntersKept g.D.Digest.digest_of g.S.BlockStore.answers g.S.BlockStore.leaves k (keeping_of me n) c.args.store.now c.raise.new.store) c.self.view_is
+    (kept_entered g.D.Digest.digest_of g.S.BlockStore.answers g.S.BlockStore.leaves me m n ts ts c.args.store.now c.raise.new.store c.self.invariant
+    (subst (λ (x : Uses g.row.D.Denot g.row.A.Denot). IsKept g.D.Digest.digest_of me x ts) (sym c.in_err-fresh.ensures.unchanged) c.self.invariant)
+    c.in_err-fresh.ensures.entered)

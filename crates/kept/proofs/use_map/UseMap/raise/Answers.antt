@@ -1,14 +1,18 @@
 use Rattle.std.proofs.Common.{◌≡◌, ◌∙◌, sym, ap, subst, refl, ℕ, List, true, not, Some, None}
-use Rattle.std.specs.Prelude.{Ok}
+use Rattle.std.specs.Prelude.{Ok, is_some}
 use Rattle.std.specs.Arc.{arc_value}
 use Rattle.std.proofs.lemmas.Result.{on_err_weaker, IfOk-weaker}
 use Rattle.spec.specs.Cid.{cid as cid_of}
 use Rattle.edit.specs.Nodes.{IsMarked}
-use Rattle.kept.specs.Uses.{at, Updated, IsUse, is_noted}
+use Rattle.std.specs.FinMap as map
+use Rattle.kept.specs.Entering.{Enters, has_entry}
+use Rattle.kept.specs.Uses.{Uses, at, Updated, IsUse, is_noted}
 use Rattle.kept.specs.declared.kept_use.Use.{Use}
 use Rattle.kept.proofs.Entries.{listed_at, seen_at, seen_updated, raised_held, raised_new, same_entry, shown_at, shown_same, shown_raised}
+use Rattle.kept.proofs.Entering.{in_words, one_comes, one_stays, one_tried, none_some}
 use Rattle.kept.proofs.Outcomes.{on_ok_two}
 use Rattle.kept.proofs.use_map.UseMap.raise.Goals as goal
+use Rattle.kept.proofs.use_map.UseMap.raise.Goals.{in-Some-before, in_default-before}
 
 pub raise-requires : goal.raise-requires
 raise-requires g c =
@@ -86,3 +90,54 @@ returns-clause-fresh g c =
     let name : k ≡ cid_of g.D.Digest.digest_of (arc_value c.args.block) = c.cid-cid.ensures ∙ ap (cid_of g.D.Digest.digest_of) c.deref.ensures in
     let none : None ≡ listed_at es k = c.in_default.ensures.value ∙ seen_at es k in
     ap (λ o. not (is_noted o)) (none ∙ shown_at es c.args.self.now c.self.view_is k ∙ ap (at c.args.self.now) name)
+
+pub returns-in-Some-clause-entered : goal.returns-in-Some-clause-entered
+returns-in-Some-clause-entered g c =
+    let es = c.self.inside.blocks.entries in
+    let fs = (c.get_mut.follows.lender c.raise.new.self).entries in
+    let k = c.cid-cid.result in
+    let seen = c.in-Some.ensures.value in
+    let here : listed_at es k ≡ Some c.in-Some.held.now = sym (seen_at es k) ∙ sym seen in
+    let w = c.get_mut.follows.holds c.raise.new.self in
+    let put : Updated (listed_at es) (listed_at fs) k (Some c.raise.new.self) = seen_updated es fs k _ (w.3 (rw (sym seen) refl)).0 in
+    one_stays g.D.Digest.digest_of g.S.BlockStore.answers g.S.BlockStore.leaves es fs c.args.self.now k c.in-Some.held.now c.raise.new.self c.args.store.now c.self.view_is here put
+    c.args.me c.requires.uses
+
+pub returns-in-Err-clause-entered : goal.returns-in-Err-clause-entered
+returns-in-Err-clause-entered g c =
+    let es = c.self.inside.blocks.entries in
+    let k = c.cid-cid.result in
+    let name : k ≡ cid_of g.D.Digest.digest_of (arc_value c.args.block) = c.cid-cid.ensures ∙ ap (cid_of g.D.Digest.digest_of) c.deref.ensures in
+    let none : at c.args.self.now k ≡ None = sym (shown_at es c.args.self.now c.self.view_is k) ∙ sym (seen_at es k) ∙ sym c.in_default.ensures.value in
+    let a = c.requires.store c.args.store.now c.args.block c.args.me (Ok c.in_ok-acquire.field-0) c.acquire.new.self c.in_ok-acquire.ensures in
+    let back : c.in-Err.field-0.value.1.hold ≡ c.in_ok-acquire.field-0 =
+    ap (λ p. p.1.hold) c.in-Err.ensures.value_returned ∙ c.of-hold.ensures in
+    let kept : c.insert.new.self.entries ≡ es = c.in-Err.ensures.err ∙ ap (λ m. m.entries) c.get_mut.follows.holds-at-none in
+    in_words g.D.Digest.digest_of g.S.BlockStore.answers g.S.BlockStore.leaves c.args.me (has_entry c.args.self.now) (has_entry c.args.self.now) (has_entry c.args.self.now) (has_entry (map.from_entries c.insert.new.self.entries))
+    c.args.store.now c.give_back.new.store (λ q. refl)
+    (λ q. ap (λ xs. is_some (at (map.from_entries xs) q)) kept ∙ ap (λ (n : Uses g.row.D.Denot g.row.A.Denot). is_some (at n q)) c.self.view_is)
+    (one_tried g.D.Digest.digest_of g.S.BlockStore.answers g.S.BlockStore.leaves c.args.self.now k c.args.block c.in_ok-acquire.field-0 c.in-Err.field-0.value.1.hold c.args.me
+    c.args.store.now c.acquire.new.self c.give_back.new.store name none c.in_ok-acquire.ensures
+    (name ∙ ap (cid_of g.D.Digest.digest_of) (sym (ap (λ h. arc_value h.0) back ∙ a.hold.0))) (ap (λ h. h.1) back ∙ a.hold.1) c.give_back.ensures.left)
+
+pub returns-clause-entered : goal.returns-clause-entered
+returns-clause-entered g c =
+    let es = c.self.inside.blocks.entries in
+    let fs = c.insert.new.self.entries in
+    let k = c.cid-cid.result in
+    let name : k ≡ cid_of g.D.Digest.digest_of (arc_value c.args.block) = c.cid-cid.ensures ∙ ap (cid_of g.D.Digest.digest_of) c.deref.ensures in
+    let none : listed_at es k ≡ None = sym (seen_at es k) ∙ sym c.in_default.ensures.value in
+    let kept : c.get_mut.follows.lender-at-none.entries ≡ es = ap (λ m. m.entries) c.get_mut.follows.holds-at-none in
+    let w : Use g.row.D.Denot g.row.A.Denot = record { hold = c.of-hold.result; uses = 0; next = 1; noted = true } in
+    let put : Updated (listed_at es) (listed_at fs) k (Some w) =
+    subst (λ (xs : List (List ℕ × Use g.row.D.Denot g.row.A.Denot)). Updated (listed_at xs) (listed_at fs) k (Some w)) kept
+    (seen_updated c.get_mut.follows.lender-at-none.entries fs k _ c.in-Ok.ensures.updates.0) in
+    let come = one_comes g.D.Digest.digest_of g.S.BlockStore.answers g.S.BlockStore.leaves es fs c.args.self.now k c.args.block c.in_ok-acquire.field-0 w c.args.me c.args.store.now c.acquire.new.self
+    c.self.view_is name put c.in_ok-acquire.ensures in
+    elim c.match-before.branch [
+      | in-Some-before w ↦ absurd (none_some w.in-Some-before.other
+          (sym none ∙ sym (ap (λ m. listed_at m.entries k) c.get_mut.follows.holds-at-none)
+          ∙ sym (sym w.in-Some-before.is ∙ c.in-Ok.ensures.old ∙ seen_at c.get_mut.follows.lender-at-none.entries k)))
+      | in_default-before w ↦
+          subst (λ (t : g.row.S.Denot). Enters g.D.Digest.digest_of g.S.BlockStore.answers g.S.BlockStore.leaves c.args.me (has_entry c.args.self.now) (has_entry (map.from_entries fs)) c.args.store.now t) (sym w.store-is) come
+    ]

@@ -1,0 +1,44 @@
+-- What a core's calls do to the cores that are entered in its store.
+use Rattle.std.specs.Prelude.{◌≡◌, ◌≢◌, ℕ, List, Bool, false, is_some, Result}
+use Rattle.std.specs.declared.sync.Arc.{Arc}
+use Rattle.store.specs.Stores.{Entered, IsReading}
+use Rattle.store.specs.declared.fault.StoreFault.{StoreFault}
+use Rattle.kept.specs.Counts.{Keeping}
+use Rattle.kept.specs.Leaving.{is_held}
+use Rattle.kept.specs.Uses.{Uses, AreUses, at}
+
+-- a core that was entered for just the blocks of one set is entered for just those of another
+-- afterwards, and no other core's entries have changed
+pub record IsFollowed (me : ℕ) (before after : List ℕ → Bool) (old new : Entered) : Type 0 where
+  pub mine : (c : List ℕ) → old c me ≡ before c → new c me ≡ after c
+  pub others : (c : List ℕ) (core : ℕ) → core ≢ me → new c core ≡ old c core
+
+-- so says each reading of the store's states that follows its answers: what the core did, it did in
+-- this store
+abbrev pub Enters : {S D A : Type 0} → (List ℕ → List ℕ)
+    → (S → Arc (List ℕ) A → ℕ → Result (Arc (List ℕ) A × ℕ) (StoreFault D A) → S → Type 0)
+    → (S → Arc (List ℕ) A × ℕ → S → Type 0) → ℕ → (List ℕ → Bool) → (List ℕ → Bool) → S → S → Type 0
+Enters {S} digest answers leaves me before after old new = (entered : S → Entered)
+    → IsReading digest answers leaves entered → IsFollowed me before after (entered old) (entered new)
+
+-- a core that was entered for just what it keeps is so afterwards
+abbrev pub EntersKept : {S D A : Type 0} → (List ℕ → List ℕ)
+    → (S → Arc (List ℕ) A → ℕ → Result (Arc (List ℕ) A × ℕ) (StoreFault D A) → S → Type 0)
+    → (S → Arc (List ℕ) A × ℕ → S → Type 0) → Keeping → Keeping → S → S → Type 0
+EntersKept digest answers leaves k l old new =
+    Enters digest answers leaves k.me (is_held k) (is_held l) old new
+
+-- no block is held
+abbrev pub no_block : List ℕ → Bool
+no_block c = false
+
+-- whether a block is kept under a CID
+abbrev pub has_entry : {D A : Type 0} → Uses D A → List ℕ → Bool
+has_entry m c = is_some (at m c)
+
+-- the same of the code's map, whose uses are those of some core
+abbrev pub EntersUses : {S D A : Type 0} → (List ℕ → List ℕ)
+    → (S → Arc (List ℕ) A → ℕ → Result (Arc (List ℕ) A × ℕ) (StoreFault D A) → S → Type 0)
+    → (S → Arc (List ℕ) A × ℕ → S → Type 0) → Uses D A → Uses D A → S → S → Type 0
+EntersUses digest answers leaves m n old new = (me : ℕ) → AreUses digest me (at m)
+    → Enters digest answers leaves me (has_entry m) (has_entry n) old new
