@@ -59,7 +59,7 @@ pub(crate) fn apply_at<
         (stamp_of stamp.now) (writes_of writes.now) (S.fulls store.old) (S.fulls store.new))) }
     ensures unchanged { IfSome result (λ r. OnErr r (core.new ≡ core.old)) }
     ensures untouched { IfNone result (core.new ≡ core.old) }
-    ensures entered { Enters D.digest_of S.answers S.leaves core.old.me
+    ensures entered { Enters D.digest_of S.makes S.leaves core.old.me
         (has_block D.digest_of B core.old) (has_block D.digest_of B core.new)
         store.old store.new }
 {

@@ -123,18 +123,18 @@ module _ {D A : Type 0} where
 -- ---- what the store's readings tell
 
 module _ {S D A : Type 0} (digest : List ℕ → List ℕ)
-    (answers : S → Arc (List ℕ) A → ℕ → Result (Arc (List ℕ) A × ℕ) (StoreFault D A) → S → Type 0)
+    (makes : S → Arc (List ℕ) A → ℕ → Result (Arc (List ℕ) A × ℕ) (StoreFault D A) → S → Type 0)
     (leaves : S → Arc (List ℕ) A × ℕ → S → Type 0) where
   -- nothing was asked of the store
-  pub stays : (me : ℕ) (p q : List ℕ → Bool) (s : S) → ((c : List ℕ) → q c ≡ p c) → Enters digest answers leaves me p q s s
+  pub stays : (me : ℕ) (p q : List ℕ → Bool) (s : S) → ((c : List ℕ) → q c ≡ p c) → Enters digest makes leaves me p q s s
   stays me p q s same entered is = record {
     mine = λ c e. e ∙ sym (same c);
     others = λ c core ne. refl;
   }
 
   -- one call after the other
-  pub then : (me : ℕ) (p q r : List ℕ → Bool) (s t u : S) → Enters digest answers leaves me p q s t → Enters digest answers leaves me q r t u
-      → Enters digest answers leaves me p r s u
+  pub then : (me : ℕ) (p q r : List ℕ → Bool) (s t u : S) → Enters digest makes leaves me p q s t → Enters digest makes leaves me q r t u
+      → Enters digest makes leaves me p r s u
   then me p q r s t u a b entered is = record {
     mine = λ c e. (b entered is).mine c ((a entered is).mine c e);
     others = λ c core ne. (b entered is).others c core ne ∙ (a entered is).others c core ne;
@@ -142,7 +142,7 @@ module _ {S D A : Type 0} (digest : List ℕ → List ℕ)
 
   -- the same sets in other words
   pub in_words : (me : ℕ) (p q x y : List ℕ → Bool) (s t : S) → ((c : List ℕ) → x c ≡ p c) → ((c : List ℕ) → y c ≡ q c)
-      → Enters digest answers leaves me p q s t → Enters digest answers leaves me x y s t
+      → Enters digest makes leaves me p q s t → Enters digest makes leaves me x y s t
   in_words me p q x y s t e f a entered is = record {
     mine = λ c h. (a entered is).mine c (h ∙ e c) ∙ sym (f c);
     others = (a entered is).others;
@@ -150,7 +150,7 @@ module _ {S D A : Type 0} (digest : List ℕ → List ℕ)
 
   -- a hold of this core is given back
   pub goes_out : (me : ℕ) (p q : List ℕ → Bool) (k : List ℕ) (h : Arc (List ℕ) A × ℕ) (s t : S) → k ≡ cid_of digest (arc_value h.0) → h.1 ≡ me
-      → leaves s h t → ((c : List ℕ) → q c ≡ cond (is_at (slice_cmp nat_cmp k) c) false (p c)) → Enters digest answers leaves me p q s t
+      → leaves s h t → ((c : List ℕ) → q c ≡ cond (is_at (slice_cmp nat_cmp k) c) false (p c)) → Enters digest makes leaves me p q s t
   goes_out me p q k h s t name mine left gone entered is =
       let e : entered t ≡ with_core (entered s) k me false =
       is.released s h t left ∙ (λ i. with_core (entered s) (sym name i) (mine i) false) in record {
@@ -164,8 +164,8 @@ module _ {S D A : Type 0} (digest : List ℕ → List ℕ)
 
   -- a block is acquired
   pub comes_in : (me : ℕ) (p q : List ℕ → Bool) (k : List ℕ) (b : Arc (List ℕ) A) (h : Arc (List ℕ) A × ℕ) (s t : S)
-      → k ≡ cid_of digest (arc_value b) → answers s b me (Ok h) t
-      → ((c : List ℕ) → q c ≡ cond (is_at (slice_cmp nat_cmp k) c) true (p c)) → Enters digest answers leaves me p q s t
+      → k ≡ cid_of digest (arc_value b) → makes s b me (Ok h) t
+      → ((c : List ℕ) → q c ≡ cond (is_at (slice_cmp nat_cmp k) c) true (p c)) → Enters digest makes leaves me p q s t
   comes_in me p q k b h s t name answer come entered is =
       let e : entered t ≡ with_core (entered s) k me true =
       is.acquired s b me h t answer ∙ ap (λ x. with_core (entered s) x me true) (sym name) in record {
@@ -178,8 +178,8 @@ module _ {S D A : Type 0} (digest : List ℕ → List ℕ)
       }
 
   -- an acquire is refused
-  pub is_refused : (me : ℕ) (p : List ℕ → Bool) (b : Arc (List ℕ) A) (fault : StoreFault D A) (s t : S) → answers s b me (Err fault) t
-      → Enters digest answers leaves me p p s t
+  pub is_refused : (me : ℕ) (p : List ℕ → Bool) (b : Arc (List ℕ) A) (fault : StoreFault D A) (s t : S) → makes s b me (Err fault) t
+      → Enters digest makes leaves me p p s t
   is_refused me p b fault s t answer entered is = record {
     mine = λ c e. ap (λ (x : Entered). x c me) (is.refused s b me fault t answer) ∙ e;
     others = λ c core ne. ap (λ (x : Entered). x c core) (is.refused s b me fault t answer);
@@ -188,7 +188,7 @@ module _ {S D A : Type 0} (digest : List ℕ → List ℕ)
   -- of the code's entries: one is still there
   pub one_stays : (es fs : List (List ℕ × Use D A)) (m : Uses D A) (k : List ℕ) (u v : Use D A) (s : S) → map.from_entries es ≡ m
       → listed_at es k ≡ Some u → Updated (listed_at es) (listed_at fs) k (Some v)
-      → EntersUses digest answers leaves m (map.from_entries fs) s s
+      → EntersUses digest makes leaves m (map.from_entries fs) s s
   one_stays es fs m k u v s e a put me are =
       stays me (has_entry m) (has_entry (map.from_entries fs)) s
       (entry_same (at m) (at (map.from_entries fs)) k (Some v) (shown_updated es fs m k (Some v) e put)
@@ -197,7 +197,7 @@ module _ {S D A : Type 0} (digest : List ℕ → List ℕ)
   -- one is taken out, and its hold is given back
   pub one_goes : (es ms fs : List (List ℕ × Use D A)) (m : Uses D A) (k : List ℕ) (u v : Use D A) (s t : S) → map.from_entries es ≡ m
       → listed_at es k ≡ Some u → v.hold ≡ u.hold → Updated (listed_at es) (listed_at ms) k (Some v) → Updated (listed_at ms) (listed_at fs) k None
-      → leaves s v.hold t → EntersUses digest answers leaves m (map.from_entries fs) s t
+      → leaves s v.hold t → EntersUses digest makes leaves m (map.from_entries fs) s t
   one_goes es ms fs m k u v s t e a same put cut left me are =
       let is = are k u (sym (shown_at es m e k) ∙ a) in
       goes_out me (has_entry m) (has_entry (map.from_entries fs)) k v.hold s t
@@ -208,15 +208,15 @@ module _ {S D A : Type 0} (digest : List ℕ → List ℕ)
   -- one comes, whose block is acquired
   pub one_comes : (es fs : List (List ℕ × Use D A)) (m : Uses D A) (k : List ℕ) (b : Arc (List ℕ) A) (h : Arc (List ℕ) A × ℕ) (v : Use D A) (me : ℕ)
       (s t : S) → map.from_entries es ≡ m → k ≡ cid_of digest (arc_value b) → Updated (listed_at es) (listed_at fs) k (Some v)
-      → answers s b me (Ok h) t → Enters digest answers leaves me (has_entry m) (has_entry (map.from_entries fs)) s t
+      → makes s b me (Ok h) t → Enters digest makes leaves me (has_entry m) (has_entry (map.from_entries fs)) s t
   one_comes es fs m k b h v me s t e name put answer =
       comes_in me (has_entry m) (has_entry (map.from_entries fs)) k b h s t name answer
       (entry_new (at m) (at (map.from_entries fs)) k v (shown_updated es fs m k (Some v) e put))
 
   -- one comes, but has no room, and its hold is given back
   pub one_tried : (m : Uses D A) (k : List ℕ) (b : Arc (List ℕ) A) (h back : Arc (List ℕ) A × ℕ) (me : ℕ) (s t v : S)
-      → k ≡ cid_of digest (arc_value b) → at m k ≡ None → answers s b me (Ok h) t → k ≡ cid_of digest (arc_value back.0) → back.1 ≡ me
-      → leaves t back v → Enters digest answers leaves me (has_entry m) (has_entry m) s v
+      → k ≡ cid_of digest (arc_value b) → at m k ≡ None → makes s b me (Ok h) t → k ≡ cid_of digest (arc_value back.0) → back.1 ≡ me
+      → leaves t back v → Enters digest makes leaves me (has_entry m) (has_entry m) s v
   one_tried m k b h back me s t v name none answer named mine left =
       then me (has_entry m) (λ c. cond (is_at (slice_cmp nat_cmp k) c) true (has_entry m c)) (has_entry m) s t v
       (comes_in me (has_entry m) (λ c. cond (is_at (slice_cmp nat_cmp k) c) true (has_entry m c)) k b h s t name answer (λ c. refl))
@@ -228,17 +228,17 @@ module _ {S D A : Type 0} (digest : List ℕ → List ℕ)
       by_key c false e = refl
 
   -- of what is kept: nothing was asked, and one call after the other
-  pub kept_stays : (k : Keeping) (s : S) → EntersKept digest answers leaves k k s s
+  pub kept_stays : (k : Keeping) (s : S) → EntersKept digest makes leaves k k s s
   kept_stays k s = stays k.me (is_held k) (is_held k) s (λ c. refl)
 
-  pub kept_then : (k l n : Keeping) (s t u : S) → l.me ≡ k.me → EntersKept digest answers leaves k l s t → EntersKept digest answers leaves l n t u
-      → EntersKept digest answers leaves k n s u
+  pub kept_then : (k l n : Keeping) (s t u : S) → l.me ≡ k.me → EntersKept digest makes leaves k l s t → EntersKept digest makes leaves l n t u
+      → EntersKept digest makes leaves k n s u
   kept_then k l n s t u e a b =
-      then k.me (is_held k) (is_held l) (is_held n) s t u a (subst (λ me. Enters digest answers leaves me (is_held l) (is_held n) t u) e b)
+      then k.me (is_held k) (is_held l) (is_held n) s t u a (subst (λ me. Enters digest makes leaves me (is_held l) (is_held n) t u) e b)
 
   -- of the code's map
   pub kept_entered : (me : ℕ) (m n : Uses D A) (ts us : List (List ℕ)) (s t : S) → IsKept digest me m ts → IsKept digest me n us
-      → Enters digest answers leaves me (has_entry m) (has_entry n) s t → EntersKept digest answers leaves (keeping_of me m) (keeping_of me n) s t
+      → Enters digest makes leaves me (has_entry m) (has_entry n) s t → EntersKept digest makes leaves (keeping_of me m) (keeping_of me n) s t
   kept_entered me m n ts us s t is are h =
       in_words me (has_entry m) (has_entry n) (is_held (keeping_of me m)) (is_held (keeping_of me n)) s t
       (held_is digest me m ts is) (held_is digest me n us are) h
@@ -248,7 +248,7 @@ module _ {S D A : Type 0} (digest : List ℕ → List ℕ)
   -- from the entries f to the entries g, which are uses of each core of which those are
   abbrev pub Following : (f g : List ℕ → Option (Use D A)) → S → S → Type 0
   Following f g s t = (me : ℕ) → AreUses digest me f
-      → AreUses digest me g × Enters digest answers leaves me (λ c. is_some (f c)) (λ c. is_some (g c)) s t
+      → AreUses digest me g × Enters digest makes leaves me (λ c. is_some (f c)) (λ c. is_some (g c)) s t
 
   pub following_first : (f g : List ℕ → Option (Use D A)) (s : S) → ((q : List ℕ) → g q ≡ f q) → Following f g s s
   following_first f g s same me are =
@@ -270,12 +270,12 @@ module _ {S D A : Type 0} (digest : List ℕ → List ℕ)
 
   -- all were given back
   pub following_last : (f : List ℕ → Option (Use D A)) (es : List (List ℕ × Use D A)) (s t : S) → Following f (listed_at es) s t → (0 < length es → ⊥)
-      → (me : ℕ) → AreUses digest me f → Enters digest answers leaves me (λ c. is_some (f c)) no_block s t
+      → (me : ℕ) → AreUses digest me f → Enters digest makes leaves me (λ c. is_some (f c)) no_block s t
   following_last f es s t following never me are =
       in_words me (λ c. is_some (f c)) (λ c. is_some (listed_at es c)) (λ c. is_some (f c)) no_block s t (λ c. refl)
       (λ c. sym (ap (λ (w : Option (Use D A)). is_some w) (none_in digest es c never))) (following me are).1
 
   -- what is staged ends for one CID
   pub following_settled : (end : End) (m n : Uses D A) (s t : S) (k : List ℕ) → Updated (at m) (at n) k (settled end (at m k))
-      → EntersUses digest answers leaves m n s t → Following (at m) (at n) s t
+      → EntersUses digest makes leaves m n s t → Following (at m) (at n) s t
   following_settled end m n s t k h entered me are = (uses_settled digest me end m n k are h, entered me are)

@@ -9,7 +9,7 @@ use Rattle.std.specs.FinMap as map
 use Rattle.std.specs.FinSet as set
 use Rattle.std.specs.Ordering.{nat_cmp}
 use Rattle.spec.specs.Cid.{cid as cid_of}
-use Rattle.store.specs.Stores.{Entered, IsLentAnswer, IsReading, with_core}
+use Rattle.store.specs.Stores.{Entered, IsMade, IsReading, with_core}
 use Rattle.store.specs.Table.{Table, Held, cores_at, cores_of, entered, entry_at, left}
 use Rattle.store.specs.declared.lent_shard.LentShard.{LentShard}
 use Rattle.kept.proofs.Entries.{here, turn}
@@ -60,10 +60,10 @@ with_less t k core c n =
         ∙ either (nat_eq n core) (set.contains (cores_at t c) n)
     by_key false = refl
 
--- So what `Enters` says of each reading it says of the shard that is lent. Its answers and what its releases leave are here in
--- the words of its `BlockStore`.
+-- So what `Enters` says of each reading it says of the shard that is lent. What its acquires and its releases make of it is
+-- here in the words of its `BlockStore`.
 pub shard_reading : {D A : Type 0} (digest : List ℕ → List ℕ)
-    → IsReading {S = LentShard D A} {D = D} {A = A} digest (λ s b core result t. IsLentAnswer digest (arc_value b) core s.shard.now s.fulls.times result t.shard.now t.fulls.times)
+    → IsReading {S = LentShard D A} {D = D} {A = A} digest (λ s b core result t. IsMade digest (arc_value b) core s.shard.now result t.shard.now)
     (λ s h t. t.shard.now ≡ left s.shard.now (cid_of digest (arc_value h.0)) h.1) (λ s. entered_in s.shard.now)
 shard_reading digest = record {
   acquired = λ s b core h t a. λ i c n.

@@ -13,20 +13,20 @@ pub record IsFollowed (me : ℕ) (before after : List ℕ → Bool) (old new : E
   pub mine : (c : List ℕ) → old c me ≡ before c → new c me ≡ after c
   pub others : (c : List ℕ) (core : ℕ) → core ≢ me → new c core ≡ old c core
 
--- so says each reading of the store's states that follows its answers: what the core did, it did in
+-- so says each reading of the store's states that follows what is made of them: what the core did, it did in
 -- this store
 abbrev pub Enters : {S D A : Type 0} → (List ℕ → List ℕ)
     → (S → Arc (List ℕ) A → ℕ → Result (Arc (List ℕ) A × ℕ) (StoreFault D A) → S → Type 0)
     → (S → Arc (List ℕ) A × ℕ → S → Type 0) → ℕ → (List ℕ → Bool) → (List ℕ → Bool) → S → S → Type 0
-Enters {S} digest answers leaves me before after old new = (entered : S → Entered)
-    → IsReading digest answers leaves entered → IsFollowed me before after (entered old) (entered new)
+Enters {S} digest makes leaves me before after old new = (entered : S → Entered)
+    → IsReading digest makes leaves entered → IsFollowed me before after (entered old) (entered new)
 
 -- a core that was entered for just what it keeps is so afterwards
 abbrev pub EntersKept : {S D A : Type 0} → (List ℕ → List ℕ)
     → (S → Arc (List ℕ) A → ℕ → Result (Arc (List ℕ) A × ℕ) (StoreFault D A) → S → Type 0)
     → (S → Arc (List ℕ) A × ℕ → S → Type 0) → Keeping → Keeping → S → S → Type 0
-EntersKept digest answers leaves k l old new =
-    Enters digest answers leaves k.me (is_held k) (is_held l) old new
+EntersKept digest makes leaves k l old new =
+    Enters digest makes leaves k.me (is_held k) (is_held l) old new
 
 -- no block is held
 abbrev pub no_block : List ℕ → Bool
@@ -40,5 +40,5 @@ has_entry m c = is_some (at m c)
 abbrev pub EntersUses : {S D A : Type 0} → (List ℕ → List ℕ)
     → (S → Arc (List ℕ) A → ℕ → Result (Arc (List ℕ) A × ℕ) (StoreFault D A) → S → Type 0)
     → (S → Arc (List ℕ) A × ℕ → S → Type 0) → Uses D A → Uses D A → S → S → Type 0
-EntersUses digest answers leaves m n old new = (me : ℕ) → AreUses digest me (at m)
-    → Enters digest answers leaves me (has_entry m) (has_entry n) old new
+EntersUses digest makes leaves m n old new = (me : ℕ) → AreUses digest me (at m)
+    → Enters digest makes leaves me (has_entry m) (has_entry n) old new

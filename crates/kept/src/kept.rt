@@ -112,7 +112,7 @@ impl<D: Digest, A: Allocator> Kept<D, A> {
         ensures dropped { OnOk result (self.new ≡ with_use_less self.old cid) }
         ensures unchanged { OnErr result (self.new ≡ self.old) }
         ensures fulls { S.fulls store.new ≡ S.fulls store.old }
-        ensures entered { EntersKept D.digest_of S.answers S.leaves
+        ensures entered { EntersKept D.digest_of S.makes S.leaves
             self.old self.new store.old store.new }
     {
         self.touched.reserve(1)?;
@@ -128,7 +128,7 @@ impl<D: Digest, A: Allocator> Kept<D, A> {
     )
         ensures accepted { self.new ≡ record self.old { before = self.old.staged } }
         ensures fulls { S.fulls store.new ≡ S.fulls store.old }
-        ensures entered { EntersKept D.digest_of S.answers S.leaves
+        ensures entered { EntersKept D.digest_of S.makes S.leaves
             self.old self.new store.old store.new }
     {
         settle_all(store, &mut self.blocks, &mut self.touched, End::Accept);
@@ -141,7 +141,7 @@ impl<D: Digest, A: Allocator> Kept<D, A> {
     )
         ensures refused { self.new ≡ record self.old { staged = self.old.before } }
         ensures fulls { S.fulls store.new ≡ S.fulls store.old }
-        ensures entered { EntersKept D.digest_of S.answers S.leaves
+        ensures entered { EntersKept D.digest_of S.makes S.leaves
             self.old self.new store.old store.new }
     {
         settle_all(store, &mut self.blocks, &mut self.touched, End::Refuse);
@@ -153,7 +153,7 @@ impl<D: Digest, A: Allocator> Kept<D, A> {
         store: &mut S,
     )
         ensures fulls { S.fulls store.new ≡ S.fulls store.old }
-        ensures entered { Enters D.digest_of S.answers S.leaves self.me
+        ensures entered { Enters D.digest_of S.makes S.leaves self.me
             (is_held self) no_block store.old store.new }
     {
         let Kept {
@@ -213,7 +213,7 @@ impl<D: Digest, A: Allocator + Clone> Kept<D, A> {
         ensures unchanged { OnErr result (self.new ≡ self.old) }
         ensures fault { IfErr result (IsRefusalOf D.digest_of (arc_value block)) }
         ensures fulls { S.fulls store.new ≡ fulls_after (S.fulls store.old) result }
-        ensures entered { EntersKept D.digest_of S.answers S.leaves
+        ensures entered { EntersKept D.digest_of S.makes S.leaves
             self.old self.new store.old store.new }
     {
         let is_node = block.is_node();
@@ -245,7 +245,7 @@ fn settle_all<
     ensures settled { AreSettled end touched.old.items blocks.old blocks.new }
     ensures none_left { touched.new.items ≡ [] }
     ensures fulls { S.fulls store.new ≡ S.fulls store.old }
-    ensures entered { EntersUses D.digest_of S.answers S.leaves
+    ensures entered { EntersUses D.digest_of S.makes S.leaves
         blocks.old blocks.new store.old store.new }
 {
     while let Some(cid) = touched.pop() {

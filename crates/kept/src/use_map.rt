@@ -90,7 +90,7 @@ impl<D: Digest, A: Allocator> UseMap<D, A> {
         ensures lowered { IsChanged lowered_in self.old self.new cid.now }
         ensures fresh { result ≡ is_unnoted (at self.old cid.now) }
         ensures fulls { S.fulls store.new ≡ S.fulls store.old }
-        ensures entered { EntersUses D.digest_of S.answers S.leaves
+        ensures entered { EntersUses D.digest_of S.makes S.leaves
             self.old self.new store.old store.new }
     {
         let Some(held) = self.blocks.get_mut(cid) else {
@@ -115,7 +115,7 @@ impl<D: Digest, A: Allocator> UseMap<D, A> {
     )
         ensures settled { IsChanged (settled end) self.old self.new cid.now }
         ensures fulls { S.fulls store.new ≡ S.fulls store.old }
-        ensures entered { EntersUses D.digest_of S.answers S.leaves
+        ensures entered { EntersUses D.digest_of S.makes S.leaves
             self.old self.new store.old store.new }
     {
         let Some(held) = self.blocks.get_mut(cid) else {
@@ -136,7 +136,7 @@ impl<D: Digest, A: Allocator> UseMap<D, A> {
     )
         ensures fulls { S.fulls store.new ≡ S.fulls store.old }
         ensures entered { (me : ℕ) → AreUses D.digest_of me (at self) → Enters D.digest_of
-            S.answers S.leaves me (has_entry self) no_block store.old store.new }
+            S.makes S.leaves me (has_entry self) no_block store.old store.new }
     {
         let UseMap { mut blocks } = self;
         while let Some((_, held)) = take_one(&mut blocks) {
@@ -178,7 +178,7 @@ impl<D: Digest, A: Allocator + Clone> UseMap<D, A> {
         ensures unchanged { OnErr result (self.new ≡ self.old) }
         ensures fault { IfErr result (IsRefusalOf D.digest_of (arc_value block)) }
         ensures fulls { S.fulls store.new ≡ fulls_after (S.fulls store.old) result }
-        ensures entered { Enters D.digest_of S.answers S.leaves me
+        ensures entered { Enters D.digest_of S.makes S.leaves me
             (has_entry self.old) (has_entry self.new) store.old store.new }
     {
         let cid = block.cid();

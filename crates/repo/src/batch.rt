@@ -65,7 +65,7 @@ pub(crate) fn stage_writes<
         (S.fulls store.old) (S.fulls store.new))) }
     ensures before { IsStillBefore kept.old kept.new }
     ensures counted { S.fulls store.new ≡ fulls_after_batch (S.fulls store.old) result }
-    ensures entered { EntersKept D.digest_of S.answers S.leaves
+    ensures entered { EntersKept D.digest_of S.makes S.leaves
         kept.old kept.new store.old store.new }
 {
     let mut shared = copies;
@@ -114,7 +114,7 @@ fn stage_shared<
         (S.fulls store.old) (S.fulls store.new))) }
     ensures before { IsStillBefore kept.old kept.new }
     ensures counted { S.fulls store.new ≡ fulls_after_step (S.fulls store.old) result }
-    ensures entered { EntersKept D.digest_of S.answers S.leaves
+    ensures entered { EntersKept D.digest_of S.makes S.leaves
         kept.old kept.new store.old store.new }
 {
     let copy = write.share(alloc)?;
@@ -152,7 +152,7 @@ fn stage_write<
         (S.fulls store.old) (S.fulls store.new))) }
     ensures before { IsStillBefore kept.old kept.new }
     ensures counted { S.fulls store.new ≡ fulls_after_step (S.fulls store.old) result }
-    ensures entered { EntersKept D.digest_of S.answers S.leaves
+    ensures entered { EntersKept D.digest_of S.makes S.leaves
         kept.old kept.new store.old store.new }
 {
     match test_next::<D, B, A>(kept, alloc, room, root, write) {
@@ -242,7 +242,7 @@ pub(crate) fn stage_commit<
         (S.fulls store.old) (S.fulls store.new)) }
     ensures before { IsStillBefore kept.old kept.new }
     ensures counted { S.fulls store.new ≡ fulls_after_step (S.fulls store.old) result }
-    ensures entered { EntersKept D.digest_of S.answers S.leaves
+    ensures entered { EntersKept D.digest_of S.makes S.leaves
         kept.old kept.new store.old store.new }
 {
     let block = commit_block(alloc, stamp, root)?;

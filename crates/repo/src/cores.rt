@@ -142,7 +142,7 @@ impl<D: Digest, const B: u8, A: Allocator> Core<D, B, A> {
         store: &mut S,
     )
         ensures fulls { S.fulls store.new ≡ S.fulls store.old }
-        ensures entered { Enters D.digest_of S.answers S.leaves self.me
+        ensures entered { Enters D.digest_of S.makes S.leaves self.me
             (has_block D.digest_of B self) no_block store.old store.new }
     {
         let Core {
@@ -246,9 +246,9 @@ impl<D: Digest, const B: u8, A: Allocator + Copy> Core<D, B, A> {
         ensures fault { IfErr result (IsOpenRefusal D.digest_of B (fresh me limit)
             (S.fulls store.old) (S.fulls store.new)) }
         ensures counted { S.fulls store.new ≡ fulls_after_step (S.fulls store.old) result }
-        ensures entered { OnOk result (Enters D.digest_of S.answers S.leaves me
+        ensures entered { OnOk result (Enters D.digest_of S.makes S.leaves me
             no_block (has_block D.digest_of B (fresh me limit)) store.old store.new) }
-        ensures left { OnErr result (Enters D.digest_of S.answers S.leaves me
+        ensures left { OnErr result (Enters D.digest_of S.makes S.leaves me
             no_block no_block store.old store.new) }
     {
         let node = empty_node(alloc)?;
@@ -298,7 +298,7 @@ impl<D: Digest, const B: u8, A: Allocator + Copy> Core<D, B, A> {
             (IsRefusal D.digest_of B self.old (stamp_of stamp.now) (writes_of writes.now)
             (S.fulls store.old) (S.fulls store.new)) }
         ensures counted { S.fulls store.new ≡ fulls_after_batch (S.fulls store.old) result }
-        ensures entered { Enters D.digest_of S.answers S.leaves self.old.me
+        ensures entered { Enters D.digest_of S.makes S.leaves self.old.me
             (has_block D.digest_of B self.old) (has_block D.digest_of B self.new)
             store.old store.new }
     {

@@ -49,9 +49,9 @@ pub(crate) fn kept_once<
     ensures fault { IfErr result (IsBlockFault D.digest_of (arc_value block ∷ [])
         (S.fulls store.old) (S.fulls store.new)) }
     ensures counted { S.fulls store.new ≡ fulls_after_step (S.fulls store.old) result }
-    ensures entered { IfOk result (λ kept. Enters D.digest_of S.answers S.leaves me
+    ensures entered { IfOk result (λ kept. Enters D.digest_of S.makes S.leaves me
         no_block (is_held kept) store.old store.new) }
-    ensures left { OnErr result (Enters D.digest_of S.answers S.leaves me
+    ensures left { OnErr result (Enters D.digest_of S.makes S.leaves me
         no_block no_block store.old store.new) }
 {
     let mut kept = Kept::open(alloc, me)?;

@@ -62,7 +62,7 @@ pub(crate) fn stage_batch<
         (stamp_of stamp.now) (writes_of writes.now) (S.fulls store.old) (S.fulls store.new))) }
     ensures before { IsStillBefore kept.old kept.new }
     ensures counted { S.fulls store.new ≡ fulls_after_batch (S.fulls store.old) result }
-    ensures entered { EntersKept D.digest_of S.answers S.leaves
+    ensures entered { EntersKept D.digest_of S.makes S.leaves
         kept.old kept.new store.old store.new }
 {
     if writes.is_empty() {
@@ -103,7 +103,7 @@ fn stage_stamped<
         (stamp_of stamp.now) (writes_of writes.now) (S.fulls store.old) (S.fulls store.new))) }
     ensures before { IsStillBefore kept.old kept.new }
     ensures counted { S.fulls store.new ≡ fulls_after_batch (S.fulls store.old) result }
-    ensures entered { EntersKept D.digest_of S.answers S.leaves
+    ensures entered { EntersKept D.digest_of S.makes S.leaves
         kept.old kept.new store.old store.new }
 {
     let Ok(copy) = stamp.copied(alloc) else {

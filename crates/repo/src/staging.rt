@@ -52,7 +52,7 @@ pub(crate) fn stage_next<
         (S.fulls store.old) (S.fulls store.new))) }
     ensures before { IsStillBefore kept.old kept.new }
     ensures counted { S.fulls store.new ≡ fulls_after_step (S.fulls store.old) result }
-    ensures entered { EntersKept D.digest_of S.answers S.leaves
+    ensures entered { EntersKept D.digest_of S.makes S.leaves
         kept.old kept.new store.old store.new }
 {
     let record = record_block(alloc.clone()?, write)?;
@@ -155,7 +155,7 @@ fn exchange<
         (S.fulls store.old) (S.fulls store.new)) }
     ensures before { IsStillBefore kept.old kept.new }
     ensures counted { S.fulls store.new ≡ fulls_after_step (S.fulls store.old) result }
-    ensures entered { EntersKept D.digest_of S.answers S.leaves
+    ensures entered { EntersKept D.digest_of S.makes S.leaves
         kept.old kept.new store.old store.new }
 {
     let Edit {
@@ -222,7 +222,7 @@ fn gain_all<
         (S.fulls store.old) (S.fulls store.new)) }
     ensures before { IsStillBefore kept.old kept.new }
     ensures counted { S.fulls store.new ≡ fulls_after_step (S.fulls store.old) result }
-    ensures entered { EntersKept D.digest_of S.answers S.leaves
+    ensures entered { EntersKept D.digest_of S.makes S.leaves
         kept.old kept.new store.old store.new }
 {
     for block in blocks {
@@ -244,7 +244,7 @@ pub(crate) fn gain<
         (S.fulls store.old) (S.fulls store.new)) }
     ensures before { IsStillBefore kept.old kept.new }
     ensures counted { S.fulls store.new ≡ fulls_after_step (S.fulls store.old) result }
-    ensures entered { EntersKept D.digest_of S.answers S.leaves
+    ensures entered { EntersKept D.digest_of S.makes S.leaves
         kept.old kept.new store.old store.new }
 {
     match kept.stage_add(store, block) {
@@ -262,7 +262,7 @@ pub(crate) fn lose_all<
     ensures lost { OnOk result (IsLost cids.now kept.old.staged kept.new.staged) }
     ensures before { IsStillBefore kept.old kept.new }
     ensures counted { S.fulls store.new ≡ S.fulls store.old }
-    ensures entered { EntersKept D.digest_of S.answers S.leaves
+    ensures entered { EntersKept D.digest_of S.makes S.leaves
         kept.old kept.new store.old store.new }
 {
     for cid in cids {
@@ -280,7 +280,7 @@ pub(crate) fn lose<
     ensures lost { OnOk result (IsLost (cons_option cid []) kept.old.staged kept.new.staged) }
     ensures before { IsStillBefore kept.old kept.new }
     ensures counted { S.fulls store.new ≡ S.fulls store.old }
-    ensures entered { EntersKept D.digest_of S.answers S.leaves
+    ensures entered { EntersKept D.digest_of S.makes S.leaves
         kept.old kept.new store.old store.new }
 {
     match cid {

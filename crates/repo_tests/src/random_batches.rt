@@ -275,6 +275,7 @@ fn take_all<D: Digest, const B: u8>(
     let mut numbers = Numbers { state: seed };
     for turn in 0..100u16 {
         if !first.takes_next(alloc, shard, &mut numbers, turn, is_small)
+            || !has_both(shard, &first.core, &second.core)
             || !second.takes_next(alloc, shard, &mut numbers, turn, is_small)
             || !has_both(shard, &first.core, &second.core)
         {

@@ -206,7 +206,12 @@ fn is_read<D: Digest, const B: u8, A: Allocator>(
         Some(cid) => core.block(&cid).is_some(),
         None => false,
     };
+    let lends_root = match core.lender().get_counted(&core.root()) {
+        Some((_, uses)) => uses == 1,
+        None => false,
+    };
     has_commit
+        && lends_root
         && core.block(&core.root()).is_some()
         && (core.me(), core.limit(), core.number()) == (7, 2000, 6)
         && (

@@ -339,6 +339,20 @@ const RECORDS_OF_TWO_REPOSITORIES: [Turn; 2] = [
     },
 ];
 
+/// A record of 102 bytes, as a commit of the tests has.
+const AS_LONG_AS_A_COMMIT: &[u8] =
+    b"\xa1\x61a\x78\x61a text that makes its record as long as a commit, and ends in no digit, so both have one CID here";
+
+/// The commit clashes with a record of its batch, which is refused at its last write.
+const COMMIT_AND_RECORD: [Turn; 1] = [Turn {
+    second: false,
+    rev: 0,
+    batch: &[Put(b"a/b0", AS_LONG_AS_A_COMMIT), Put(b"a/c0", ONE)],
+    ended: Refused(1, Why::Collision),
+    records: &[],
+    blocks: (1, 1, 1),
+}];
+
 /// All blocks have one CID: the record clashes with the node without entries.
 const COLLIDING_RECORD: [Turn; 1] = [Turn {
     second: false,
@@ -361,5 +375,6 @@ fn stories(rt: HostRuntime) {
 fn blocks_that_clash(rt: HostRuntime) {
     assert!(rt; are_turns::<_, Size>(&rt, rt.alloc(), 8, &TWO_RECORDS_OF_ONE_REPOSITORY));
     assert!(rt; are_turns::<_, Size>(&rt, rt.alloc(), 8, &RECORDS_OF_TWO_REPOSITORIES));
+    assert!(rt; are_turns::<_, Size>(&rt, rt.alloc(), 8, &COMMIT_AND_RECORD));
     assert!(rt; are_turns::<_, Clash>(&rt, rt.alloc(), 8, &COLLIDING_RECORD));
 }

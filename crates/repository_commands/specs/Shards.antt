@@ -6,7 +6,6 @@ use Rattle.std.specs.Arc.{arc_value}
 use Rattle.std.specs.FinMap as map
 use Rattle.std.specs.declared.sync.Arc.{Arc}
 use Rattle.spec.specs.Cid.{cid as cid_of}
-use Rattle.store.specs.Stores.{IsAnswer}
 use Rattle.store.specs.declared.fault.StoreFault.{StoreFault}
 use Rattle.store.specs.Table.{Table, Held, entered, entry_at, left, shard_of, IsLawful}
 
@@ -58,10 +57,9 @@ abbrev pub left_in : {A : Type 0} → (List ℕ → List ℕ) → List Table →
 left_in digest shards h = slice_set shards (shard_of (cid_of digest (arc_value h.0)))
     (left (own_shard digest shards (arc_value h.0)) (cid_of digest (arc_value h.0)) h.1)
 
--- an answer of these shards, and what it makes of them: the core is entered, or all is as before
-pub record IsTablesAnswer {D A : Type 0} (digest : List ℕ → List ℕ) (bytes : List ℕ) (core : ℕ)
-    (old : List Table) (before : ℕ) (result : Result (Arc (List ℕ) A × ℕ) (StoreFault D A))
-    (new : List Table) (after : ℕ) : Type 0 where
-  pub answer : IsAnswer digest bytes core before result after
+-- what an acquire makes of these shards: the core is entered, or all is as before
+pub record IsMadeIn {D A : Type 0} (digest : List ℕ → List ℕ) (bytes : List ℕ) (core : ℕ)
+    (old : List Table) (result : Result (Arc (List ℕ) A × ℕ) (StoreFault D A)) (new : List Table)
+    : Type 0 where
   pub entered : OnOk result (new ≡ entered_in digest old bytes core)
   pub unchanged : OnErr result (new ≡ old)

@@ -2,7 +2,8 @@
 ghost use Rattle.std.specs.Prelude.{◌≡◌, ◌<◌, ℕ, IfErr, IfOk};
 ghost use Rattle.std.specs.Arc.{arc_value};
 ghost use Rattle.store.specs.Faults.{IsRefusal};
-ghost use Rattle.repository_commands.specs.Shards.{AreSixteen, IsTablesAnswer, WasFull, empty_shard, left_in, own_shard, shard_at};
+ghost use Rattle.store.specs.Stores.{IsAnswer};
+ghost use Rattle.repository_commands.specs.Shards.{AreSixteen, IsMadeIn, WasFull, empty_shard, left_in, own_shard, shard_at};
 
 use cid::{Block, Digest};
 use std::alloc::{AllocError, Allocator};
@@ -45,11 +46,14 @@ impl<D: Digest, A: Allocator + Clone> BlockStore<Arc<Block<D, A>, A>, Hold<D, A>
     for Tables<D, A> {
     ghost use Rattle.std.specs.Prelude.{◌≡◌};
     ghost use Rattle.std.specs.Arc.{arc_value};
-    ghost use Rattle.repository_commands.specs.Shards.{IsTablesAnswer, left_in};
+    ghost use Rattle.store.specs.Stores.{IsAnswer};
+    ghost use Rattle.repository_commands.specs.Shards.{IsMadeIn, left_in};
 
     ghost fulls = { λ s. s.fulls.times };
 
-    ghost answers = { λ s b core r t. IsTablesAnswer D.digest_of (arc_value b) core s.shards.items s.fulls.times r t.shards.items t.fulls.times };
+    ghost answers = { λ s b core r t. IsAnswer D.digest_of (arc_value b) core s.fulls.times r t.fulls.times };
+
+    ghost makes = { λ s b core r t. IsMadeIn D.digest_of (arc_value b) core s.shards.items r t.shards.items };
 
     ghost leaves = { λ s h t. t.shards.items ≡ left_in D.digest_of s.shards.items h };
 
@@ -59,9 +63,10 @@ impl<D: Digest, A: Allocator + Clone> BlockStore<Arc<Block<D, A>, A>, Hold<D, A>
         block: Arc<Block<D, A>, A>,
     ) -> Result<Hold<D, A>, StoreFault<D, A>>
         requires { core < 1024 }
-        ensures answer { IsTablesAnswer D.digest_of (arc_value block) core
-            self.old.shards.items self.old.fulls.times result
-            self.new.shards.items self.new.fulls.times }
+        ensures answer { IsAnswer D.digest_of
+            (arc_value block) core self.old.fulls.times result self.new.fulls.times }
+        ensures made { IsMadeIn D.digest_of
+            (arc_value block) core self.old.shards.items result self.new.shards.items }
         ensures refused { IfErr result (IsRefusal D.digest_of
             (own_shard D.digest_of self.old.shards.items (arc_value block)) (arc_value block)) }
     {

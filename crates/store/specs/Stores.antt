@@ -29,13 +29,6 @@ pub record IsAnswer {D A : Type 0} (digest : List ℕ → List ℕ) (bytes : Lis
   pub fault : IfErr result (IsRefusalOf digest bytes)
   pub counted : after ≡ fulls_after before result
 
--- the same of one shard, and what it makes of the shard's table: the core is entered, or all is as before
-pub record IsLentAnswer {D A : Type 0} (digest : List ℕ → List ℕ) (bytes : List ℕ) (core : ℕ) (old : Table) (before : ℕ)
-    (result : Result (Arc (List ℕ) A × ℕ) (StoreFault D A)) (new : Table) (after : ℕ) : Type 0 where
-  pub answer : IsAnswer digest bytes core before result after
-  pub entered : OnOk result (new ≡ entered old (cid_of digest bytes) bytes core)
-  pub unchanged : OnErr result (new ≡ old)
-
 -- a store gives such answers alone
 abbrev pub IsStore : {S D A : Type 0} → (List ℕ → List ℕ) → (S → ℕ)
     → (S → Arc (List ℕ) A → ℕ → Result (Arc (List ℕ) A × ℕ) (StoreFault D A) → S → Type 0) → Type 0
@@ -54,15 +47,21 @@ abbrev pub with_core : Entered → List ℕ → ℕ → Bool → Entered
 with_core entered cid core there =
     λ c n. cond (is_at (slice_cmp nat_cmp cid) c && (n == core)) there (entered c n)
 
--- A reading of a store's states that follows its answers: an acquire enters the core for the block, a release takes it
--- out, and a refusal changes nothing.
+-- what an acquire makes of a table: the core is entered, or all is as before
+pub record IsMade {D A : Type 0} (digest : List ℕ → List ℕ) (bytes : List ℕ) (core : ℕ) (old : Table)
+    (result : Result (Arc (List ℕ) A × ℕ) (StoreFault D A)) (new : Table) : Type 0 where
+  pub entered : OnOk result (new ≡ entered old (cid_of digest bytes) bytes core)
+  pub unchanged : OnErr result (new ≡ old)
+
+-- A reading of a store's states that follows what is made of them: an acquire enters the core for the block, a release takes
+-- it out, and a refusal changes nothing.
 pub record IsReading {S D A : Type 0} (digest : List ℕ → List ℕ)
-    (answers : S → Arc (List ℕ) A → ℕ → Result (Arc (List ℕ) A × ℕ) (StoreFault D A) → S → Type 0)
+    (makes : S → Arc (List ℕ) A → ℕ → Result (Arc (List ℕ) A × ℕ) (StoreFault D A) → S → Type 0)
     (leaves : S → Arc (List ℕ) A × ℕ → S → Type 0) (entered : S → Entered) : Type 0 where
   pub acquired : (s : S) (b : Arc (List ℕ) A) (core : ℕ) (h : Arc (List ℕ) A × ℕ) (t : S)
-      → answers s b core (Ok h) t
+      → makes s b core (Ok h) t
       → entered t ≡ with_core (entered s) (cid_of digest (arc_value b)) core true
   pub refused : (s : S) (b : Arc (List ℕ) A) (core : ℕ) (fault : StoreFault D A) (t : S)
-      → answers s b core (Err fault) t → entered t ≡ entered s
+      → makes s b core (Err fault) t → entered t ≡ entered s
   pub released : (s : S) (h : Arc (List ℕ) A × ℕ) (t : S) → leaves s h t
       → entered t ≡ with_core (entered s) (cid_of digest (arc_value h.0)) h.1 false

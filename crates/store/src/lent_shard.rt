@@ -4,7 +4,7 @@ ghost use Rattle.std.specs.Prelude.{◌≡◌, ◌<◌, IfErr};
 ghost use Rattle.std.specs.Arc.{arc_value};
 ghost use Rattle.spec.specs.Cid.{cid as cid_of};
 ghost use Rattle.store.specs.Faults.{IsRefusal};
-ghost use Rattle.store.specs.Stores.{IsLentAnswer};
+ghost use Rattle.store.specs.Stores.{IsAnswer, IsMade};
 ghost use Rattle.store.specs.Table.{left};
 
 use crate::block_store::BlockStore;
@@ -18,7 +18,7 @@ use std::sync::Arc;
 
 /// One shard that its single owner lends: a store without a lock, for blocks of any CID.
 ///
-/// What it answers tells what becomes of the shard's table.
+/// Its contract tells what becomes of the shard's table.
 #[derive(Drop)]
 pub struct LentShard<'a, D: Digest, A: Allocator = Global> {
     shard: &'a mut Shard<D, A>,
@@ -43,12 +43,14 @@ impl<'a, D: Digest, A: Allocator + Clone> BlockStore<
     ghost use Rattle.std.specs.Prelude.{◌≡◌};
     ghost use Rattle.std.specs.Arc.{arc_value};
     ghost use Rattle.spec.specs.Cid.{cid as cid_of};
-    ghost use Rattle.store.specs.Stores.{IsLentAnswer};
+    ghost use Rattle.store.specs.Stores.{IsAnswer, IsMade};
     ghost use Rattle.store.specs.Table.{left};
 
     ghost fulls = { λ s. s.fulls.times };
 
-    ghost answers = { λ s b core r t. IsLentAnswer D.digest_of (arc_value b) core s.shard.now s.fulls.times r t.shard.now t.fulls.times };
+    ghost answers = { λ s b core r t. IsAnswer D.digest_of (arc_value b) core s.fulls.times r t.fulls.times };
+
+    ghost makes = { λ s b core r t. IsMade D.digest_of (arc_value b) core s.shard.now r t.shard.now };
 
     ghost leaves = { λ s h t. t.shard.now ≡ left s.shard.now (cid_of D.digest_of (arc_value h.0)) h.1 };
 
@@ -58,9 +60,10 @@ impl<'a, D: Digest, A: Allocator + Clone> BlockStore<
         block: Arc<Block<D, A>, A>,
     ) -> Result<Hold<D, A>, StoreFault<D, A>>
         requires { core < 1024 }
-        ensures answer { IsLentAnswer D.digest_of (arc_value block) core
-            self.old.shard.now self.old.fulls.times result
-            self.new.shard.now self.new.fulls.times }
+        ensures answer { IsAnswer D.digest_of
+            (arc_value block) core self.old.fulls.times result self.new.fulls.times }
+        ensures made { IsMade D.digest_of
+            (arc_value block) core self.old.shard.now result self.new.shard.now }
         ensures refused { IfErr result (IsRefusal D.digest_of self.old.shard.now
             (arc_value block)) }
     {

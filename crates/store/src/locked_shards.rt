@@ -48,6 +48,9 @@ impl<'a, R: Wait, D: Digest, A: Allocator + Clone> BlockStore<
 
     ghost answers = { λ s b core r t. IsAnswer D.digest_of (arc_value b) core s.fulls.times r t.fulls.times };
 
+    // What becomes of a table behind its lock has no place in a contract.
+    ghost makes = { λ s b core r t. IsAnswer D.digest_of (arc_value b) core s.fulls.times r t.fulls.times };
+
     ghost leaves = { λ s h t. t.fulls.times ≡ s.fulls.times };
 
     fn acquire(
@@ -56,8 +59,10 @@ impl<'a, R: Wait, D: Digest, A: Allocator + Clone> BlockStore<
         block: Arc<Block<D, A>, A>,
     ) -> Result<Hold<D, A>, StoreFault<D, A>>
         requires { core < 1024 }
-        ensures { IsAnswer D.digest_of (arc_value block) core self.old.fulls.times result
-            self.new.fulls.times }
+        ensures answer { IsAnswer D.digest_of
+            (arc_value block) core self.old.fulls.times result self.new.fulls.times }
+        ensures made { IsAnswer D.digest_of
+            (arc_value block) core self.old.fulls.times result self.new.fulls.times }
     {
         let locks = self.locks.as_slice();
         let lock = locks[shard_number(&block.cid())];

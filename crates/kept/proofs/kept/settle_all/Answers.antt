@@ -8,7 +8,7 @@ pub loop-cid-init : goal.loop-cid-init
 loop-cid-init g c = record {
   settled = λ q. refl;
   fulls = refl;
-  following = following_first g.D.Digest.digest_of g.S.BlockStore.answers g.S.BlockStore.leaves (at c.args.blocks.now) (at c.args.blocks.now)
+  following = following_first g.D.Digest.digest_of g.S.BlockStore.makes g.S.BlockStore.leaves (at c.args.blocks.now) (at c.args.blocks.now)
       c.args.store.now (λ q. refl);
 }
 
@@ -20,9 +20,9 @@ loop-cid-preserved g c = record {
       ∙ c.loop-cid.invariant.settled q;
   fulls = c.settle.ensures.fulls ∙ c.loop-cid.invariant.fulls;
   following =
-      following_on g.D.Digest.digest_of g.S.BlockStore.answers g.S.BlockStore.leaves (at c.args.blocks.now) (at c.loop-cid.blocks) (at c.settle.new.self)
+      following_on g.D.Digest.digest_of g.S.BlockStore.makes g.S.BlockStore.leaves (at c.args.blocks.now) (at c.loop-cid.blocks) (at c.settle.new.self)
       c.args.store.now c.loop-cid.store c.settle.new.store c.loop-cid.invariant.following
-      (following_settled g.D.Digest.digest_of g.S.BlockStore.answers g.S.BlockStore.leaves c.args.end c.loop-cid.blocks c.settle.new.self
+      (following_settled g.D.Digest.digest_of g.S.BlockStore.makes g.S.BlockStore.leaves c.args.end c.loop-cid.blocks c.settle.new.self
       c.loop-cid.store c.settle.new.store c.in-Some.cid c.settle.ensures.settled c.settle.ensures.entered);
 }
 

@@ -8,7 +8,7 @@ invariant-loop-cid g l = record {
   settled : (q : List ℕ) → settled_if (touches q l.touched.items) l.end (at l.blocks q)
       ≡ settled_if (touches q l.initial.touched.items) l.end (at l.initial.blocks q);
   fulls : g.S.BlockStore.fulls l.store ≡ g.S.BlockStore.fulls l.initial.store;
-  following : Following g.D.Digest.digest_of g.S.BlockStore.answers g.S.BlockStore.leaves (at l.initial.blocks) (at l.blocks)
+  following : Following g.D.Digest.digest_of g.S.BlockStore.makes g.S.BlockStore.leaves (at l.initial.blocks) (at l.blocks)
       l.initial.store l.store;
 }
 

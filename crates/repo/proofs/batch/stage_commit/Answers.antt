@@ -17,10 +17,10 @@ returns-clause-cid g c = search rules
 
 pub returns-in_err-lose-clause-entered : goal.returns-in_err-lose-clause-entered
 returns-in_err-lose-clause-entered g c =
-    kept_then g.D.Digest.digest_of g.S.BlockStore.answers g.S.BlockStore.leaves c.args.kept.now c.gain.new.kept c.lose.new.kept
+    kept_then g.D.Digest.digest_of g.S.BlockStore.makes g.S.BlockStore.leaves c.args.kept.now c.gain.new.kept c.lose.new.kept
     c.args.store.now c.gain.new.store c.lose.new.store c.in_ok-gain.ensures.before.me c.in_ok-gain.ensures.entered c.in_err-lose.ensures.entered
 
 pub returns-clause-entered : goal.returns-clause-entered
 returns-clause-entered g c =
-    kept_then g.D.Digest.digest_of g.S.BlockStore.answers g.S.BlockStore.leaves c.args.kept.now c.gain.new.kept c.lose.new.kept
+    kept_then g.D.Digest.digest_of g.S.BlockStore.makes g.S.BlockStore.leaves c.args.kept.now c.gain.new.kept c.lose.new.kept
     c.args.store.now c.gain.new.store c.lose.new.store c.in_ok-gain.ensures.before.me c.in_ok-gain.ensures.entered c.in_ok-lose.ensures.entered

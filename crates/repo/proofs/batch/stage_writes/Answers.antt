@@ -46,7 +46,7 @@ loop-place-preserved g c =
           (e.staged s before (record { room_is = room-at s.accepted before at.place c.args.room s.limit start.room_is place; by = at.invariant.staged s start }));
       copies = e.copied ∙ ap (λ (xs : List writes.Write). xs ++ write_of x ∷ []) at.invariant.copies ∙ sym more;
       still = record { me = e.before.me ∙ at.invariant.still.me; before = e.before.before ∙ at.invariant.still.before };
-      entered = kept_then g.D.Digest.digest_of g.S.BlockStore.answers g.S.BlockStore.leaves c.args.kept.now at.kept c.stage_shared.new.kept
+      entered = kept_then g.D.Digest.digest_of g.S.BlockStore.makes g.S.BlockStore.leaves c.args.kept.now at.kept c.stage_shared.new.kept
           c.args.store.now at.store c.stage_shared.new.store at.invariant.still.me at.invariant.entered e.entered;
       counted = e.counted ∙ at.invariant.counted;
     }
@@ -60,5 +60,5 @@ returns-clause-staged g c = λ s start.
 pub returns-in-Err-clause-entered : goal.returns-in-Err-clause-entered
 returns-in-Err-clause-entered g c =
     let at = c.loop-place in
-    kept_then g.D.Digest.digest_of g.S.BlockStore.answers g.S.BlockStore.leaves c.args.kept.now at.kept c.stage_shared.new.kept
+    kept_then g.D.Digest.digest_of g.S.BlockStore.makes g.S.BlockStore.leaves c.args.kept.now at.kept c.stage_shared.new.kept
     c.args.store.now at.store c.stage_shared.new.store at.invariant.still.me at.invariant.entered c.in-Err.ensures.entered

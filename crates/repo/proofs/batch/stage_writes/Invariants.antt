@@ -12,6 +12,6 @@ invariant-loop-place g l = record {
   staged : (s : State) → IsBatchStart g.D.Digest.digest_of g.row.B s l.fn.room l.fn.root l.fn.kept.staged → IsStagedBy g.D.Digest.digest_of g.row.B s (writes_of (take l.place l.writes)) l.root l.kept.staged;
   copies : shared_writes l.shared.items ≡ writes_of (take l.place l.writes);
   still : IsStillBefore l.fn.kept l.kept;
-  entered : EntersKept g.D.Digest.digest_of g.S.BlockStore.answers g.S.BlockStore.leaves l.fn.kept l.kept l.fn.store l.store;
+  entered : EntersKept g.D.Digest.digest_of g.S.BlockStore.makes g.S.BlockStore.leaves l.fn.kept l.kept l.fn.store l.store;
   counted : g.S.BlockStore.fulls l.store ≡ g.S.BlockStore.fulls l.fn.store;
 }

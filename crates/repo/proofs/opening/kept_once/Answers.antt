@@ -18,11 +18,11 @@ returns-in-Ok-clause-kept g c =
 
 pub returns-in-Ok-clause-entered : goal.returns-in-Ok-clause-entered
 returns-in-Ok-clause-entered g c =
-    opened g.D.Digest.digest_of g.S.BlockStore.answers g.S.BlockStore.leaves c.args.me c.in_ok-kept.kept c.accept.new.self c.args.store.now c.accept.new.store c.in_ok-kept.ensures
-    (kept_then g.D.Digest.digest_of g.S.BlockStore.answers g.S.BlockStore.leaves c.in_ok-kept.kept c.gain.new.kept c.accept.new.self
+    opened g.D.Digest.digest_of g.S.BlockStore.makes g.S.BlockStore.leaves c.args.me c.in_ok-kept.kept c.accept.new.self c.args.store.now c.accept.new.store c.in_ok-kept.ensures
+    (kept_then g.D.Digest.digest_of g.S.BlockStore.makes g.S.BlockStore.leaves c.in_ok-kept.kept c.gain.new.kept c.accept.new.self
     c.args.store.now c.gain.new.store c.accept.new.store c.in-Ok.ensures.before.me c.in-Ok.ensures.entered c.accept.ensures.entered)
 
 pub returns-in-Err-clause-left : goal.returns-in-Err-clause-left
 returns-in-Err-clause-left g c =
-    not_opened g.D.Digest.digest_of g.S.BlockStore.answers g.S.BlockStore.leaves c.args.me c.in_ok-kept.kept c.gain.new.kept c.args.store.now c.gain.new.store c.end.new.store c.in_ok-kept.ensures
+    not_opened g.D.Digest.digest_of g.S.BlockStore.makes g.S.BlockStore.leaves c.args.me c.in_ok-kept.kept c.gain.new.kept c.args.store.now c.gain.new.store c.end.new.store c.in_ok-kept.ensures
     c.in-Err.ensures.before.me c.in-Err.ensures.entered c.end.ensures.entered

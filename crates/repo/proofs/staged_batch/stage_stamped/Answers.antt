@@ -29,12 +29,12 @@ returns-in-Err-clause-fault g c = λ s rev on ok.
 
 pub returns-in-Ok-stage_commit-clause-entered : goal.returns-in-Ok-stage_commit-clause-entered
 returns-in-Ok-stage_commit-clause-entered g c =
-    kept_then g.D.Digest.digest_of g.S.BlockStore.answers g.S.BlockStore.leaves c.args.kept.now c.stage_writes.new.kept c.stage_commit.new.kept
+    kept_then g.D.Digest.digest_of g.S.BlockStore.makes g.S.BlockStore.leaves c.args.kept.now c.stage_writes.new.kept c.stage_commit.new.kept
     c.args.store.now c.stage_writes.new.store c.stage_commit.new.store c.in-Ok-stage_writes.ensures.before.me c.in-Ok-stage_writes.ensures.entered
     c.in-Ok-stage_commit.ensures.entered
 
 pub returns-in-Err-stage_commit-clause-entered : goal.returns-in-Err-stage_commit-clause-entered
 returns-in-Err-stage_commit-clause-entered g c =
-    kept_then g.D.Digest.digest_of g.S.BlockStore.answers g.S.BlockStore.leaves c.args.kept.now c.stage_writes.new.kept c.stage_commit.new.kept
+    kept_then g.D.Digest.digest_of g.S.BlockStore.makes g.S.BlockStore.leaves c.args.kept.now c.stage_writes.new.kept c.stage_commit.new.kept
     c.args.store.now c.stage_writes.new.store c.stage_commit.new.store c.in-Ok-stage_writes.ensures.before.me c.in-Ok-stage_writes.ensures.entered
     c.in-Err-stage_commit.ensures.entered

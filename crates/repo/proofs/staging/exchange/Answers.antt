@@ -12,10 +12,10 @@ returns-clause-exchanged g c = record {
 
 pub returns-in_err-lose_all-clause-entered : goal.returns-in_err-lose_all-clause-entered
 returns-in_err-lose_all-clause-entered g c =
-    kept_then g.D.Digest.digest_of g.S.BlockStore.answers g.S.BlockStore.leaves c.args.kept.now c.gain_all.new.kept c.lose_all.new.kept
+    kept_then g.D.Digest.digest_of g.S.BlockStore.makes g.S.BlockStore.leaves c.args.kept.now c.gain_all.new.kept c.lose_all.new.kept
     c.args.store.now c.gain_all.new.store c.lose_all.new.store c.in_ok-gain_all.ensures.before.me c.in_ok-gain_all.ensures.entered c.in_err-lose_all.ensures.entered
 
 pub returns-clause-entered : goal.returns-clause-entered
 returns-clause-entered g c =
-    kept_then g.D.Digest.digest_of g.S.BlockStore.answers g.S.BlockStore.leaves c.args.kept.now c.gain_all.new.kept c.lose_all.new.kept
+    kept_then g.D.Digest.digest_of g.S.BlockStore.makes g.S.BlockStore.leaves c.args.kept.now c.gain_all.new.kept c.lose_all.new.kept
     c.args.store.now c.gain_all.new.store c.lose_all.new.store c.in_ok-gain_all.ensures.before.me c.in_ok-gain_all.ensures.entered c.in_ok-lose_all.ensures.entered

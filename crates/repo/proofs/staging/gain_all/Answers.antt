@@ -21,7 +21,7 @@ loop-block-preserved g c =
           (gained-then dig (map arc_value at.yielded) (arc_value x ∷ []) c.args.kept.now.staged at.kept.staged c.gain.new.kept.staged at.invariant.gained e.gained);
       still = record { me = e.before.me ∙ at.invariant.still.me; before = e.before.before ∙ at.invariant.still.before };
       counted = e.counted ∙ at.invariant.counted;
-      entered = kept_then g.D.Digest.digest_of g.S.BlockStore.answers g.S.BlockStore.leaves c.args.kept.now at.kept c.gain.new.kept
+      entered = kept_then g.D.Digest.digest_of g.S.BlockStore.makes g.S.BlockStore.leaves c.args.kept.now at.kept c.gain.new.kept
           c.args.store.now at.store c.gain.new.store at.invariant.still.me at.invariant.entered e.entered;
       whole = at.invariant.whole ∙ ap (λ ys. at.yielded ++ ys) s.0 ∙ sym (append_assoc at.yielded (x ∷ []) (into_iter_items c.next.new.self));
       left = let n = ap (λ ys. length ys) s.0 in let l = at.invariant.left in let k = s.1 in omega (arith, n, l, k);
@@ -42,5 +42,5 @@ returns-in_err-gain-clause-fault g c =
 pub returns-in_err-gain-clause-entered : goal.returns-in_err-gain-clause-entered
 returns-in_err-gain-clause-entered g c =
     let at = c.loop-block in
-    kept_then g.D.Digest.digest_of g.S.BlockStore.answers g.S.BlockStore.leaves c.args.kept.now at.kept c.gain.new.kept
+    kept_then g.D.Digest.digest_of g.S.BlockStore.makes g.S.BlockStore.leaves c.args.kept.now at.kept c.gain.new.kept
     c.args.store.now at.store c.gain.new.store at.invariant.still.me at.invariant.entered c.in_err-gain.ensures.entered

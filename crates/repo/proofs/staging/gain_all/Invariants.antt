@@ -10,7 +10,7 @@ invariant-loop-block g l = record {
   gained : IsGained g.D.Digest.digest_of (map arc_value l.yielded) l.initial.kept.staged l.kept.staged;
   still : IsStillBefore l.initial.kept l.kept;
   counted : g.S.BlockStore.fulls l.store ≡ g.S.BlockStore.fulls l.initial.store;
-  entered : EntersKept g.D.Digest.digest_of g.S.BlockStore.answers g.S.BlockStore.leaves l.initial.kept l.kept l.initial.store l.store;
+  entered : EntersKept g.D.Digest.digest_of g.S.BlockStore.makes g.S.BlockStore.leaves l.initial.kept l.kept l.initial.store l.store;
   whole : into_iter_items l.initial.block-iterator ≡ l.yielded ++ into_iter_items l.block-iterator;
   left : into_iter_len l.block-iterator ≡ length (into_iter_items l.block-iterator);
 }

@@ -17,7 +17,7 @@ loop-cid-preserved g c =
           (subst (λ (k : Keeping). IsLost (take at.cid-index cids ++ x ∷ []) c.args.kept.now.staged k.staged) (sym e.dropped)
           (lost-then (take at.cid-index cids) (x ∷ []) c.args.kept.now.staged at.kept.staged _ at.invariant.lost (lowered-lost at.kept.staged x)));
       still = subst (λ (k : Keeping). Rattle.repo.specs.Keeping.IsStillBefore c.args.kept.now k) (sym e.dropped) (record { me = at.invariant.still.me; before = at.invariant.still.before });
-      entered = kept_then g.D.Digest.digest_of g.S.BlockStore.answers g.S.BlockStore.leaves c.args.kept.now at.kept c.stage_drop.new.self
+      entered = kept_then g.D.Digest.digest_of g.S.BlockStore.makes g.S.BlockStore.leaves c.args.kept.now at.kept c.stage_drop.new.self
           c.args.store.now at.store c.stage_drop.new.store at.invariant.still.me at.invariant.entered e.entered;
       counted = e.fulls ∙ at.invariant.counted;
     }
@@ -25,5 +25,5 @@ loop-cid-preserved g c =
 pub returns-in_err-stage_drop-clause-entered : goal.returns-in_err-stage_drop-clause-entered
 returns-in_err-stage_drop-clause-entered g c =
     let at = c.loop-cid in
-    kept_then g.D.Digest.digest_of g.S.BlockStore.answers g.S.BlockStore.leaves c.args.kept.now at.kept c.stage_drop.new.self
+    kept_then g.D.Digest.digest_of g.S.BlockStore.makes g.S.BlockStore.leaves c.args.kept.now at.kept c.stage_drop.new.self
     c.args.store.now at.store c.stage_drop.new.store at.invariant.still.me at.invariant.entered c.in_err-stage_drop.ensures.entered

@@ -30,6 +30,6 @@ returns-clause-entered g c =
     let n = c.settle_all.new.blocks in
     let ts = c.self.inside.touched.items in
     let us = c.settle_all.new.touched.items in
-    subst (λ (k : Keeping). EntersKept g.D.Digest.digest_of g.S.BlockStore.answers g.S.BlockStore.leaves k (keeping_of me n) c.args.store.now c.settle_all.new.store) c.self.view_is
-    (kept_entered g.D.Digest.digest_of g.S.BlockStore.answers g.S.BlockStore.leaves me m n ts us c.args.store.now c.settle_all.new.store c.self.invariant
+    subst (λ (k : Keeping). EntersKept g.D.Digest.digest_of g.S.BlockStore.makes g.S.BlockStore.leaves k (keeping_of me n) c.args.store.now c.settle_all.new.store) c.self.view_is
+    (kept_entered g.D.Digest.digest_of g.S.BlockStore.makes g.S.BlockStore.leaves me m n ts us c.args.store.now c.settle_all.new.store c.self.invariant
     (kept_settled g.D.Digest.digest_of me Accept m n ts us c.self.invariant c.settle_all.ensures.settled) (c.settle_all.ensures.entered me (λ q u e. c.self.invariant.entries q u e)))

@@ -55,8 +55,8 @@ returns-clause-entered g c =
     let fresh = c.in_ok-fresh.fresh in
     let name : c.cid-cid.result ≡ cid_of g.D.Digest.digest_of (arc_value c.into_block-block.result) =
     c.cid-cid.ensures ∙ ap (cid_of g.D.Digest.digest_of) c.deref.ensures in
-    subst (λ (k : Keeping). EntersKept g.D.Digest.digest_of g.S.BlockStore.answers g.S.BlockStore.leaves k (keeping_of me n) c.args.store.now c.raise.new.store) c.self.view_is
-    (kept_entered g.D.Digest.digest_of g.S.BlockStore.answers g.S.BlockStore.leaves me m n ts (with_note ts c.cid-cid.result fresh) c.args.store.now c.raise.new.store c.self.invariant
+    subst (λ (k : Keeping). EntersKept g.D.Digest.digest_of g.S.BlockStore.makes g.S.BlockStore.leaves k (keeping_of me n) c.args.store.now c.raise.new.store) c.self.view_is
+    (kept_entered g.D.Digest.digest_of g.S.BlockStore.makes g.S.BlockStore.leaves me m n ts (with_note ts c.cid-cid.result fresh) c.args.store.now c.raise.new.store c.self.invariant
     (kept_raised g.D.Digest.digest_of me m n ts (arc_value c.into_block-block.result) c.cid-cid.result fresh name c.self.invariant
     c.in_ok-fresh.ensures.raised c.in_ok-fresh.ensures.fresh)
     c.in_ok-fresh.ensures.entered)
@@ -67,7 +67,7 @@ returns-in_err-fresh-clause-entered g c =
     let m = c.self.inside.blocks in
     let n = c.raise.new.self in
     let ts = c.self.inside.touched.items in
-    subst (λ (k : Keeping). EntersKept g.D.Digest.digest_of g.S.BlockStore.answers g.S.BlockStore.leaves k (keeping_of me n) c.args.store.now c.raise.new.store) c.self.view_is
-    (kept_entered g.D.Digest.digest_of g.S.BlockStore.answers g.S.BlockStore.leaves me m n ts ts c.args.store.now c.raise.new.store c.self.invariant
+    subst (λ (k : Keeping). EntersKept g.D.Digest.digest_of g.S.BlockStore.makes g.S.BlockStore.leaves k (keeping_of me n) c.args.store.now c.raise.new.store) c.self.view_is
+    (kept_entered g.D.Digest.digest_of g.S.BlockStore.makes g.S.BlockStore.leaves me m n ts ts c.args.store.now c.raise.new.store c.self.invariant
     (subst (λ (x : Uses g.row.D.Denot g.row.A.Denot). IsKept g.D.Digest.digest_of me x ts) (sym c.in_err-fresh.ensures.unchanged) c.self.invariant)
     c.in_err-fresh.ensures.entered)

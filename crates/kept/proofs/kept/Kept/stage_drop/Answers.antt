@@ -30,7 +30,7 @@ returns-clause-entered g c =
     let n = c.lower-fresh.new.self in
     let ts = c.self.inside.touched.items in
     let fresh = c.lower-fresh.result in
-    subst (λ (k : Keeping). EntersKept g.D.Digest.digest_of g.S.BlockStore.answers g.S.BlockStore.leaves k (keeping_of me n) c.args.store.now c.lower-fresh.new.store) c.self.view_is
-    (kept_entered g.D.Digest.digest_of g.S.BlockStore.answers g.S.BlockStore.leaves me m n ts (with_note ts c.args.cid fresh) c.args.store.now c.lower-fresh.new.store c.self.invariant
+    subst (λ (k : Keeping). EntersKept g.D.Digest.digest_of g.S.BlockStore.makes g.S.BlockStore.leaves k (keeping_of me n) c.args.store.now c.lower-fresh.new.store) c.self.view_is
+    (kept_entered g.D.Digest.digest_of g.S.BlockStore.makes g.S.BlockStore.leaves me m n ts (with_note ts c.args.cid fresh) c.args.store.now c.lower-fresh.new.store c.self.invariant
     (kept_lowered g.D.Digest.digest_of me m n ts c.args.cid fresh c.self.invariant c.lower-fresh.ensures.lowered c.lower-fresh.ensures.fresh)
     (c.lower-fresh.ensures.entered me (λ q u e. c.self.invariant.entries q u e)))

@@ -63,7 +63,7 @@ returns-clause-fresh g c =
 
 pub returns-in_default-clause-entered : goal.returns-in_default-clause-entered
 returns-in_default-clause-entered g c = λ me are.
-    stays g.D.Digest.digest_of g.S.BlockStore.answers g.S.BlockStore.leaves me (has_entry c.args.self.now) _ c.args.store.now
+    stays g.D.Digest.digest_of g.S.BlockStore.makes g.S.BlockStore.leaves me (has_entry c.args.self.now) _ c.args.store.now
     (λ q. ap (λ m. is_some (at (map.from_entries m.entries) q)) c.get_mut.follows.holds-at-none
     ∙ ap (λ (n : Uses g.row.D.Denot g.row.A.Denot). is_some (at n q)) c.self.view_is)
 
@@ -76,7 +76,7 @@ returns-then-lower-clause-entered g c =
     let here : listed_at es k ≡ Some c.in-Some.held.now = sym (seen_at es k) ∙ sym seen in
     let w = c.get_mut.follows.holds c.lower.new.self in
     let put : Updated (listed_at es) (listed_at fs) k (Some c.lower.new.self) = seen_updated es fs k _ (w.3 (rw (sym seen) refl)).0 in
-    one_stays g.D.Digest.digest_of g.S.BlockStore.answers g.S.BlockStore.leaves es fs c.args.self.now k c.in-Some.held.now c.lower.new.self
+    one_stays g.D.Digest.digest_of g.S.BlockStore.makes g.S.BlockStore.leaves es fs c.args.self.now k c.in-Some.held.now c.lower.new.self
     c.args.store.now c.self.view_is here put
 
 pub returns-clause-entered : goal.returns-clause-entered
@@ -96,8 +96,8 @@ returns-clause-entered g c =
           let gone : w.in-Some-remove.unused ≡ c.lower.new.self = the_same w.in-Some-remove.unused c.lower.new.self
           (w.in-Some-remove.ensures.value ∙ seen_at ms k ∙ still) in
           let left = subst (λ (u : Use g.row.D.Denot g.row.A.Denot). g.S.BlockStore.leaves c.args.store.now u.hold w.give_back.new.store) gone w.give_back.ensures.left in
-          subst (λ (t : g.row.S.Denot). EntersUses g.D.Digest.digest_of g.S.BlockStore.answers g.S.BlockStore.leaves c.args.self.now (map.from_entries fs) c.args.store.now t) (sym w.store-is)
-          (one_goes g.D.Digest.digest_of g.S.BlockStore.answers g.S.BlockStore.leaves es ms fs c.args.self.now k c.in-Some.held.now c.lower.new.self c.args.store.now w.give_back.new.store c.self.view_is here
+          subst (λ (t : g.row.S.Denot). EntersUses g.D.Digest.digest_of g.S.BlockStore.makes g.S.BlockStore.leaves c.args.self.now (map.from_entries fs) c.args.store.now t) (sym w.store-is)
+          (one_goes g.D.Digest.digest_of g.S.BlockStore.makes g.S.BlockStore.leaves es ms fs c.args.self.now k c.in-Some.held.now c.lower.new.self c.args.store.now w.give_back.new.store c.self.view_is here
           (ap (λ (u : Use g.row.D.Denot g.row.A.Denot). u.hold) c.lower.ensures.lowered) put cut left)
       | in_default-remove w ↦ absurd (none_some c.lower.new.self (w.in_default-remove.ensures.value ∙ seen_at ms k ∙ still))
     ]

@@ -24,7 +24,7 @@ raise-requires g c =
 
 pub of-hold-requires : goal.of-hold-requires
 of-hold-requires g c =
-    let a = c.requires.store c.args.store.now c.args.block c.args.me (Ok c.in_ok-acquire.field-0) c.acquire.new.self c.in_ok-acquire.ensures in
+    let a = c.requires.store c.args.store.now c.args.block c.args.me (Ok c.in_ok-acquire.field-0) c.acquire.new.self c.in_ok-acquire.ensures.answer in
     subst (λ (b : List ℕ). IsMarked b c.args.is_node) (sym a.hold.0) c.requires.marked
 
 pub returns-in-Some-clause-raised : goal.returns-in-Some-clause-raised
@@ -76,7 +76,7 @@ returns-clause-raised g c =
     let none : listed_at es k ≡ None = sym (seen_at es k) ∙ sym c.in_default.ensures.value in
     let kept : c.get_mut.follows.lender-at-none.entries ≡ es = ap (λ m. m.entries) c.get_mut.follows.holds-at-none in
     let w : Use g.row.D.Denot g.row.A.Denot = record { hold = c.of-hold.result; uses = 0; next = 1; noted = true } in
-    let a = c.requires.store c.args.store.now c.args.block c.args.me (Ok c.in_ok-acquire.field-0) c.acquire.new.self c.in_ok-acquire.ensures in
+    let a = c.requires.store c.args.store.now c.args.block c.args.me (Ok c.in_ok-acquire.field-0) c.acquire.new.self c.in_ok-acquire.ensures.answer in
     let is = c.of-hold.ensures in
     shown_raised g.D.Digest.digest_of c.args.me es fs c.args.self.now (arc_value c.args.block) c.self.view_is
     (raised_new g.D.Digest.digest_of c.args.me (listed_at es) (listed_at fs) (arc_value c.args.block) k w name
@@ -100,7 +100,7 @@ returns-in-Some-clause-entered g c =
     let here : listed_at es k ≡ Some c.in-Some.held.now = sym (seen_at es k) ∙ sym seen in
     let w = c.get_mut.follows.holds c.raise.new.self in
     let put : Updated (listed_at es) (listed_at fs) k (Some c.raise.new.self) = seen_updated es fs k _ (w.3 (rw (sym seen) refl)).0 in
-    one_stays g.D.Digest.digest_of g.S.BlockStore.answers g.S.BlockStore.leaves es fs c.args.self.now k c.in-Some.held.now c.raise.new.self c.args.store.now c.self.view_is here put
+    one_stays g.D.Digest.digest_of g.S.BlockStore.makes g.S.BlockStore.leaves es fs c.args.self.now k c.in-Some.held.now c.raise.new.self c.args.store.now c.self.view_is here put
     c.args.me c.requires.uses
 
 pub returns-in-Err-clause-entered : goal.returns-in-Err-clause-entered
@@ -109,15 +109,15 @@ returns-in-Err-clause-entered g c =
     let k = c.cid-cid.result in
     let name : k ≡ cid_of g.D.Digest.digest_of (arc_value c.args.block) = c.cid-cid.ensures ∙ ap (cid_of g.D.Digest.digest_of) c.deref.ensures in
     let none : at c.args.self.now k ≡ None = sym (shown_at es c.args.self.now c.self.view_is k) ∙ sym (seen_at es k) ∙ sym c.in_default.ensures.value in
-    let a = c.requires.store c.args.store.now c.args.block c.args.me (Ok c.in_ok-acquire.field-0) c.acquire.new.self c.in_ok-acquire.ensures in
+    let a = c.requires.store c.args.store.now c.args.block c.args.me (Ok c.in_ok-acquire.field-0) c.acquire.new.self c.in_ok-acquire.ensures.answer in
     let back : c.in-Err.field-0.value.1.hold ≡ c.in_ok-acquire.field-0 =
     ap (λ p. p.1.hold) c.in-Err.ensures.value_returned ∙ c.of-hold.ensures in
     let kept : c.insert.new.self.entries ≡ es = c.in-Err.ensures.err ∙ ap (λ m. m.entries) c.get_mut.follows.holds-at-none in
-    in_words g.D.Digest.digest_of g.S.BlockStore.answers g.S.BlockStore.leaves c.args.me (has_entry c.args.self.now) (has_entry c.args.self.now) (has_entry c.args.self.now) (has_entry (map.from_entries c.insert.new.self.entries))
+    in_words g.D.Digest.digest_of g.S.BlockStore.makes g.S.BlockStore.leaves c.args.me (has_entry c.args.self.now) (has_entry c.args.self.now) (has_entry c.args.self.now) (has_entry (map.from_entries c.insert.new.self.entries))
     c.args.store.now c.give_back.new.store (λ q. refl)
     (λ q. ap (λ xs. is_some (at (map.from_entries xs) q)) kept ∙ ap (λ (n : Uses g.row.D.Denot g.row.A.Denot). is_some (at n q)) c.self.view_is)
-    (one_tried g.D.Digest.digest_of g.S.BlockStore.answers g.S.BlockStore.leaves c.args.self.now k c.args.block c.in_ok-acquire.field-0 c.in-Err.field-0.value.1.hold c.args.me
-    c.args.store.now c.acquire.new.self c.give_back.new.store name none c.in_ok-acquire.ensures
+    (one_tried g.D.Digest.digest_of g.S.BlockStore.makes g.S.BlockStore.leaves c.args.self.now k c.args.block c.in_ok-acquire.field-0 c.in-Err.field-0.value.1.hold c.args.me
+    c.args.store.now c.acquire.new.self c.give_back.new.store name none c.in_ok-acquire.ensures.made
     (name ∙ ap (cid_of g.D.Digest.digest_of) (sym (ap (λ h. arc_value h.0) back ∙ a.hold.0))) (ap (λ h. h.1) back ∙ a.hold.1) c.give_back.ensures.left)
 
 pub returns-clause-entered : goal.returns-clause-entered
@@ -132,12 +132,12 @@ returns-clause-entered g c =
     let put : Updated (listed_at es) (listed_at fs) k (Some w) =
     subst (λ (xs : List (List ℕ × Use g.row.D.Denot g.row.A.Denot)). Updated (listed_at xs) (listed_at fs) k (Some w)) kept
     (seen_updated c.get_mut.follows.lender-at-none.entries fs k _ c.in-Ok.ensures.updates.0) in
-    let come = one_comes g.D.Digest.digest_of g.S.BlockStore.answers g.S.BlockStore.leaves es fs c.args.self.now k c.args.block c.in_ok-acquire.field-0 w c.args.me c.args.store.now c.acquire.new.self
-    c.self.view_is name put c.in_ok-acquire.ensures in
+    let come = one_comes g.D.Digest.digest_of g.S.BlockStore.makes g.S.BlockStore.leaves es fs c.args.self.now k c.args.block c.in_ok-acquire.field-0 w c.args.me c.args.store.now c.acquire.new.self
+    c.self.view_is name put c.in_ok-acquire.ensures.made in
     elim c.match-before.branch [
       | in-Some-before w ↦ absurd (none_some w.in-Some-before.other
           (sym none ∙ sym (ap (λ m. listed_at m.entries k) c.get_mut.follows.holds-at-none)
           ∙ sym (sym w.in-Some-before.is ∙ c.in-Ok.ensures.old ∙ seen_at c.get_mut.follows.lender-at-none.entries k)))
       | in_default-before w ↦
-          subst (λ (t : g.row.S.Denot). Enters g.D.Digest.digest_of g.S.BlockStore.answers g.S.BlockStore.leaves c.args.me (has_entry c.args.self.now) (has_entry (map.from_entries fs)) c.args.store.now t) (sym w.store-is) come
+          subst (λ (t : g.row.S.Denot). Enters g.D.Digest.digest_of g.S.BlockStore.makes g.S.BlockStore.leaves c.args.me (has_entry c.args.self.now) (has_entry (map.from_entries fs)) c.args.store.now t) (sym w.store-is) come
     ]

@@ -143,10 +143,10 @@ returns-in-Ok-grow-clause-entered g c =
     let grown = c.in-Ok-grow.ensures in
     let e = state-after old.kept.me c.accept.new.self.me old.limit old.accepted.items c.grow.new.accepted.items old.stamps.items c.grow.new.stamps.items _ batch _ stamp
     me grown.writes c.in-Ok.ensures.copies grown.stamps c.in-Ok.ensures.stamp in
-    core_entered g.D.Digest.digest_of g.row.B g.S.BlockStore.answers g.S.BlockStore.leaves c.args.self.now s _ old.root c.in-Ok.staged.root old.commit _ old.kept c.accept.new.self
+    core_entered g.D.Digest.digest_of g.row.B g.S.BlockStore.makes g.S.BlockStore.leaves c.args.self.now s _ old.root c.in-Ok.staged.root old.commit _ old.kept c.accept.new.self
     c.args.store.now c.accept.new.store c.self.view_is refl c.self.invariant refl
     (core-after dig g.row.B s _ stamp batch c.in-Ok.staged.root old.commit old.root c.in-Ok.staged.commit old.kept c.stage_batch.new.kept c.accept.new.self c.self.invariant e c.accept.ensures.accepted staged)
-    (kept_then g.D.Digest.digest_of g.S.BlockStore.answers g.S.BlockStore.leaves old.kept c.stage_batch.new.kept c.accept.new.self
+    (kept_then g.D.Digest.digest_of g.S.BlockStore.makes g.S.BlockStore.leaves old.kept c.stage_batch.new.kept c.accept.new.self
     c.args.store.now c.stage_batch.new.store c.accept.new.store c.in-Ok.ensures.before.me c.in-Ok.ensures.entered c.accept.ensures.entered)
 
 pub returns-in-Err-grow-clause-entered : goal.returns-in-Err-grow-clause-entered
@@ -158,11 +158,11 @@ returns-in-Err-grow-clause-entered g c =
     let batch = writes_of c.args.writes.now in
     let back = core-back old.kept c.stage_batch.new.kept c.refuse.new.self c.in-Ok.ensures.before c.self.invariant.still c.refuse.ensures.refused in
     let same = c.in-Err-grow.ensures in
-    core_entered g.D.Digest.digest_of g.row.B g.S.BlockStore.answers g.S.BlockStore.leaves c.args.self.now s _ old.root old.root old.commit old.commit old.kept c.refuse.new.self
+    core_entered g.D.Digest.digest_of g.row.B g.S.BlockStore.makes g.S.BlockStore.leaves c.args.self.now s _ old.root old.root old.commit old.commit old.kept c.refuse.new.self
     c.args.store.now c.refuse.new.store c.self.view_is refl c.self.invariant refl
     (refused-core dig g.row.B s _ old.root old.commit old.kept c.refuse.new.self c.self.invariant back
     (state-same old.kept.me c.refuse.new.self.me old.limit old.accepted.items c.grow.new.accepted.items old.stamps.items c.grow.new.stamps.items (ap (λ (k : Keeping). k.me) back) same.same_writes same.same_stamps))
-    (kept_then g.D.Digest.digest_of g.S.BlockStore.answers g.S.BlockStore.leaves old.kept c.stage_batch.new.kept c.refuse.new.self
+    (kept_then g.D.Digest.digest_of g.S.BlockStore.makes g.S.BlockStore.leaves old.kept c.stage_batch.new.kept c.refuse.new.self
     c.args.store.now c.stage_batch.new.store c.refuse.new.store c.in-Ok.ensures.before.me c.in-Ok.ensures.entered c.refuse.ensures.entered)
 
 pub returns-in-Err-clause-entered : goal.returns-in-Err-clause-entered
@@ -173,9 +173,9 @@ returns-in-Err-clause-entered g c =
     let stamp = stamp_of c.args.stamp.now in
     let batch = writes_of c.args.writes.now in
     let back = core-back old.kept c.stage_batch.new.kept c.refuse-in-Err.new.self c.in-Err.ensures.before c.self.invariant.still c.refuse-in-Err.ensures.refused in
-    core_entered g.D.Digest.digest_of g.row.B g.S.BlockStore.answers g.S.BlockStore.leaves c.args.self.now s _ old.root old.root old.commit old.commit old.kept c.refuse-in-Err.new.self
+    core_entered g.D.Digest.digest_of g.row.B g.S.BlockStore.makes g.S.BlockStore.leaves c.args.self.now s _ old.root old.root old.commit old.commit old.kept c.refuse-in-Err.new.self
     c.args.store.now c.refuse-in-Err.new.store c.self.view_is refl c.self.invariant refl
     (refused-core dig g.row.B s _ old.root old.commit old.kept c.refuse-in-Err.new.self c.self.invariant back
     (ap (λ (k : Keeping). state_view k.me old.limit old.accepted.items old.stamps.items) back))
-    (kept_then g.D.Digest.digest_of g.S.BlockStore.answers g.S.BlockStore.leaves old.kept c.stage_batch.new.kept c.refuse-in-Err.new.self
+    (kept_then g.D.Digest.digest_of g.S.BlockStore.makes g.S.BlockStore.leaves old.kept c.stage_batch.new.kept c.refuse-in-Err.new.self
     c.args.store.now c.stage_batch.new.store c.refuse-in-Err.new.store c.in-Err.ensures.before.me c.in-Err.ensures.entered c.refuse-in-Err.ensures.entered)

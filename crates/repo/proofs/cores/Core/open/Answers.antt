@@ -20,7 +20,7 @@ pub returns-in-Ok-clause-entered : goal.returns-in-Ok-clause-entered
 returns-in-Ok-clause-entered g c =
     let dig = g.D.Digest.digest_of in
     let kept = c.in-Ok.kept in
-    first_entered g.D.Digest.digest_of g.row.B g.S.BlockStore.answers g.S.BlockStore.leaves (fresh c.args.me c.args.limit) c.cid-root.result _ kept c.args.store.now c.kept_once.new.store c.in-Ok.ensures.me
+    first_entered g.D.Digest.digest_of g.row.B g.S.BlockStore.makes g.S.BlockStore.leaves (fresh c.args.me c.args.limit) c.cid-root.result _ kept c.args.store.now c.kept_once.new.store c.in-Ok.ensures.me
     (fresh-core dig g.row.B c.args.me c.args.limit (fresh c.args.me c.args.limit) (arc_value c.in_ok-node.node) c.cid-root.result kept
     c.requires.least_bits c.requires.most_bits c.requires.small c.requires.least c.requires.most refl
     c.in_ok-node.ensures (c.cid-root.ensures ∙ ap (cid dig) c.deref.ensures) c.in-Ok.ensures.still c.in-Ok.ensures.kept)
