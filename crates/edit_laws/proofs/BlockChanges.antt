@@ -121,7 +121,7 @@ module _ (digest : List ℕ → List ℕ) where
 
   -- ---- any edit whose nodes balance
 
-  edited : (bits : ℕ) → IsDigest digest → (es fs : List Pair) (made gone read : List Node) → ArePairs es
+  pub edited : (bits : ℕ) → IsDigest digest → (es fs : List Pair) (made gone read : List Node) → ArePairs es
       → IsClashFree digest (nodes digest bits es)
       → ((w : Node → ℕ) → weight w (Sub (top (layer digest bits) es)) + total w made
       ≡ weight w (Sub (top (layer digest bits) fs)) + total w gone)

@@ -45,3 +45,4 @@ pub use draft::{Draft, Made, NodeBlock, RewriteFault};
 pub use entries::{KeyedEntries, to_cid};
 pub use links::{last_link, links_beside, links_if_single, top_layer};
 pub use rewrites::{cut_after, cut_before, insert, join, pad, remove, replace_link, single};
+pub use writer::Writer;

@@ -17,7 +17,7 @@ use std::marker::Model;
 ///
 /// A contract sees it as the pairs so far, each with the link before it.
 #[derive(Drop)]
-pub(crate) struct Writer<A: Allocator> {
+pub struct Writer<A: Allocator> {
     alloc: A,
     node: Option<OpenNode<A>>,
 }
@@ -34,14 +34,14 @@ impl<A: Allocator> Model for Writer<A> {
 
 impl<A: Allocator + Clone> Writer<A> {
     /// A node of which nothing is written yet.
-    pub(crate) fn new(alloc: A) -> Writer<A>
+    pub fn new(alloc: A) -> Writer<A>
         ensures { result ≡ [] }
     {
         Writer { alloc, node: None }
     }
 
     /// Adds a link and the pair after it. After a refusal nothing is promised of the writer.
-    pub(crate) fn pair(
+    pub fn pair(
         &mut self,
         link: Option<Cid>,
         key: &[u8],
@@ -64,7 +64,7 @@ impl<A: Allocator + Clone> Writer<A> {
     /// Goes on with a node whose `at`-th pair is the last of this one: with `link` after it, then the pairs up to the
     /// `until`-th as they stand there, each with the link after it, and then a pair. After a refusal nothing is promised
     /// of the writer.
-    pub(crate) fn follow(
+    pub fn follow(
         &mut self,
         node: &NodeView<'_>,
         at: u64,
@@ -88,7 +88,7 @@ impl<A: Allocator + Clone> Writer<A> {
     }
 
     /// Adds `link` and all that comes after the `at`-th pair of a node, which is the last of this one, as it stands there.
-    pub(crate) fn finish_with(
+    pub fn finish_with(
         self,
         link: Option<Cid>,
         node: &NodeView<'_>,
@@ -112,12 +112,12 @@ impl<A: Allocator + Clone> Writer<A> {
     }
 
     /// An allocator for what is kept beside it.
-    pub(crate) fn alloc(&self) -> Result<A, AllocError> {
+    pub fn alloc(&self) -> Result<A, AllocError> {
         self.alloc.clone()
     }
 
     /// Adds the last link.
-    pub(crate) fn finish(self, last: Option<Cid>) -> Result<Draft<A>, RewriteFault>
+    pub fn finish(self, last: Option<Cid>) -> Result<Draft<A>, RewriteFault>
         ensures ok { IfOk result (IsNode (onto self (LastLink last))) }
         ensures fault { IfErr result (IsFaultOf (onto self (LastLink last))) }
     {
