@@ -7,15 +7,21 @@ ghost use Rattle.store.specs.Table.{entered, left, HasNoOther, cores_at, listed,
 ghost use Rattle.store.specs.Holds.{IsHoldOf};
 ghost use Rattle.store.specs.Faults.{IsRefusal};
 
-use crate::entries::Entries;
-use crate::entry::Entry;
 use crate::fault::StoreFault;
-use crate::hold::Hold;
 use cid::{Block, Cid, Digest};
 use std::alloc::{Allocator, Global};
 use std::collections::BTreeMap;
 use std::marker::Model;
 use std::sync::Arc;
+
+mod entries;
+mod entry;
+mod hold;
+
+use entry::Entry;
+
+pub use entries::Entries;
+pub use hold::Hold;
 
 /// Blocks by their CIDs, each with the cores that hold it, at most `limit` of them.
 ///

@@ -1,16 +1,11 @@
-ghost use Rattle.std.specs.Prelude.{◌≡◌, ◌<◌, ◌≤◌, IfOk, IfErr};
-ghost use Rattle.std.specs.Arc.{arc_value};
-ghost use Rattle.store.specs.Holds.{IsHoldOf};
-ghost use Rattle.store.specs.Faults.{IsRefusalOf};
+ghost use Rattle.std.specs.Prelude.{◌≡◌, ◌<◌, ◌≤◌};
 ghost use Rattle.store.specs.Table.{shard_of};
 
-use crate::fault::StoreFault;
-use crate::hold::Hold;
 use crate::shard::Shard;
-use cid::{Block, Cid, Digest};
+use cid::{Cid, Digest};
 use std::alloc::{Allocator, Global};
 use std::array;
-use std::sync::{Arc, Mutex, Wait};
+use std::sync::Mutex;
 
 /// How many shards there are.
 pub const SHARDS: usize = 16;
@@ -39,13 +34,6 @@ impl<D: Digest, A: Allocator> Shards<D, A> {
     /// The locks of the shards, in the order of their numbers.
     pub(crate) fn locks(&self) -> [&Mutex<Shard<D, A>>; SHARDS] {
         self.shards.each_ref()
-    }
-
-    /// Releases the hold in the shard of its block, as `Shard::release` does. It takes no memory.
-    ///
-    /// It waits for that shard's lock, and holds no other.
-    pub fn release<R: Wait>(&self, rt: &R, hold: Hold<D, A>) {
-        self.shard(&hold.cid()).lock(rt).release(hold);
     }
 
     /// The shards, in the order of their numbers, out of their locks.
@@ -82,23 +70,5 @@ impl<D: Digest, A: Allocator + Copy> Shards<D, A> {
         Shards {
             shards: array::from_fn(|_| Mutex::new(Shard::new(alloc, limit))),
         }
-    }
-}
-
-impl<D: Digest, A: Allocator + Clone> Shards<D, A> {
-    /// Acquires the block in its shard, as `Shard::acquire` does.
-    ///
-    /// It waits for that shard's lock, and holds no other.
-    pub fn acquire<R: Wait>(
-        &self,
-        rt: &R,
-        core: u32,
-        block: Arc<Block<D, A>, A>,
-    ) -> Result<Hold<D, A>, StoreFault<D, A>>
-        requires { core < 1024 }
-        ensures hold { IfOk result (IsHoldOf (arc_value block) core) }
-        ensures fault { IfErr result (IsRefusalOf D.digest_of (arc_value block)) }
-    {
-        self.shard(&block.cid()).lock(rt).acquire(core, block)
     }
 }
