@@ -7,7 +7,7 @@ use cid::{Block, Cid, Digest, Sha256};
 use std::alloc::Global;
 use std::process::Abort;
 use std::sync::{Arc, Wait};
-use store::{Hold, SHARDS, Shard, Shards, StoreFault, shard_number};
+use store::{BlockStore, Hold, LockedShards, SHARDS, Shard, Shards, StoreFault, shard_number};
 
 /// The hold of core 0 by an acquire that must succeed.
 fn acquired<R: Wait + Abort, D: Digest>(
@@ -15,16 +15,21 @@ fn acquired<R: Wait + Abort, D: Digest>(
     shards: &Shards<D>,
     block: Arc<Block<D>>,
 ) -> Hold<D> {
-    shards
-        .acquire(rt, 0, block)
+    LockedShards::new(rt, shards)
+        .acquire(0, block)
         .expect(rt, "an acquire that succeeds")
+}
+
+/// Gives the hold back.
+fn release<R: Wait, D: Digest>(rt: &R, shards: &Shards<D>, hold: Hold<D>) {
+    LockedShards::new(rt, shards).release(hold);
 }
 
 /// Whether the block is refused since its shard is full.
 fn is_full<R: Wait, D: Digest>(rt: &R, shards: &Shards<D>, block: Arc<Block<D>>) -> bool {
-    match shards.acquire(rt, 0, block) {
+    match LockedShards::new(rt, shards).acquire(0, block) {
         Ok(hold) => {
-            shards.release(rt, hold);
+            release(rt, shards, hold);
             false
         }
         Err(fault) => matches!(fault, StoreFault::Full),
@@ -96,7 +101,7 @@ fn stands_in_its_shard(rt: HostRuntime) {
     let record_held = is_held_alone(&rt, &shards, 3, record_cid(b'a'), other_record);
     let empty_list = block(&rt, alloc, &[0x80]);
     assert!(rt; record_held && is_held_alone(&rt, &shards, 15, empty_cid, empty_list));
-    shards.release(&rt, second);
+    release(&rt, &shards, second);
     assert!(rt; loses_the_record(shards.tables(), first, empty_cid));
 }
 
@@ -124,8 +129,8 @@ fn each_shard_has_the_limit(rt: HostRuntime) {
     let first = acquired(&rt, &shards, record_block(&rt, alloc, b'a'));
     let second = acquired(&rt, &shards, record_block(&rt, alloc, b'b'));
     assert!(rt; is_full_of_two(&rt, &shards, record_block(&rt, alloc, b'c')));
-    shards.release(&rt, first);
-    shards.release(&rt, second);
+    release(&rt, &shards, first);
+    release(&rt, &shards, second);
 }
 
 /// At place i is an integer whose DAG-CBOR bytes have a SHA-256 digest with the low four bits i in its first byte, by

@@ -9,6 +9,7 @@ ghost use Rattle.batches.specs.Values.{stamp_of, writes_of};
 ghost use Rattle.edit.specs.Walks.{pairs_given};
 ghost use Rattle.store.specs.Stores.{IsStore};
 ghost use Rattle.kept.specs.Entering.{Enters};
+ghost use Rattle.repo.specs.Fulls.{fulls_after_batch};
 ghost use Rattle.repo.specs.Readings.{has_block};
 ghost use Rattle.repo.specs.Refusals.{IsRefusal};
 ghost use Rattle.host.specs.Seeing.{IsSeen, IsPassedOver, IsTakenBy, IsRecordIn, ArePairsIn};
@@ -58,6 +59,9 @@ pub(crate) fn apply_at<
     ensures refused { IfSome result (λ r. IfErr r (IsRefusal D.digest_of B core.old
         (stamp_of stamp.now) (writes_of writes.now) (S.fulls store.old) (S.fulls store.new))) }
     ensures unchanged { IfSome result (λ r. OnErr r (core.new ≡ core.old)) }
+    ensures counted { IfSome result (λ r.
+        S.fulls store.new ≡ fulls_after_batch (S.fulls store.old) r) }
+    ensures uncounted { IfNone result (S.fulls store.new ≡ S.fulls store.old) }
     ensures untouched { IfNone result (core.new ≡ core.old) }
     ensures entered { Enters D.digest_of S.makes S.leaves core.old.me
         (has_block D.digest_of B core.old) (has_block D.digest_of B core.new)

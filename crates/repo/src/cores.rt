@@ -62,7 +62,6 @@ impl<D: Digest, const B: u8, A: Allocator> Core<D, B, A> {
         ensures small { result < 1024 }
         ensures lawful { IsLawful self.now }
     {
-        let _ = &self.root;
         self.kept.me()
     }
 
@@ -119,7 +118,6 @@ impl<D: Digest, const B: u8, A: Allocator> Core<D, B, A> {
         ensures blocks { AreBlocksOnce D.digest_of B self.now (used_blocks result.entries) }
         ensures lawful { IsLawful self.now }
     {
-        let _ = &self.root;
         self.kept.blocks()
     }
 
@@ -132,7 +130,6 @@ impl<D: Digest, const B: u8, A: Allocator> Core<D, B, A> {
         ensures asked { result.asked.times ≡ 0 }
         ensures lawful { IsLawful self.now }
     {
-        let _ = &self.root;
         self.kept.lender()
     }
 
@@ -179,7 +176,6 @@ impl<D: Digest, const B: u8, A: Allocator> Core<D, B, A> {
             ≡ state_block D.digest_of B self.now cid.now }
         ensures lawful { IsLawful self.now }
     {
-        let _ = &self.root;
         self.kept.block(cid)
     }
 
@@ -189,7 +185,6 @@ impl<D: Digest, const B: u8, A: Allocator> Core<D, B, A> {
         ensures value { result ≡ uses_of D.digest_of cid.now (state_blocks D.digest_of B self.now) }
         ensures lawful { IsLawful self.now }
     {
-        let _ = &self.root;
         self.kept.uses(cid)
     }
 
