@@ -18,9 +18,8 @@ mod entries;
 mod entry;
 mod hold;
 
-use entry::Entry;
-
 pub use entries::Entries;
+use entry::Entry;
 pub use hold::Hold;
 
 /// Blocks by their CIDs, each with the cores that hold it, at most `limit` of them.
