@@ -6,7 +6,7 @@ ghost use Rattle.std.specs.Cmp.Lexicographic.{slice_cmp};
 ghost use Rattle.std.specs.Ordering.{nat_cmp};
 ghost use Rattle.notices.specs.Numbering.{IsNumbered};
 ghost use Rattle.notices.specs.Views.{received_one};
-ghost use Rattle.spec.specs.States.{State};
+ghost use Rattle.spec.specs.States.{State, IsLawful};
 ghost use Rattle.batches.specs.Values.{shared_writes, stamps_of};
 ghost use Rattle.kept.specs.Uses.{used_blocks};
 ghost use Rattle.closing.specs.Headline.{IsFromScratch, AreTallies};
@@ -110,6 +110,7 @@ impl<D: Digest, const B: u8, A: Allocator> Closed<D, B, A> {
     /// the cores that have a block with it. It takes no memory.
     pub fn shown(&self, number: usize) -> Shown<'_, D, A>
         requires { number < length self.now.cores }
+        ensures lawful { (d : State) → IsLawful (slice_index_or self.now.cores number d) }
         ensures accepted { (d : State) → shared_writes result.accepted.now
             ≡ (slice_index_or self.now.cores number d).accepted }
         ensures stamps { (d : State) → stamps_of result.stamps.now

@@ -1,6 +1,7 @@
 //! What a reader is shown of a repository.
 
 ghost use Rattle.std.specs.Prelude.{◌≡◌};
+ghost use Rattle.spec.specs.States.{IsLawful};
 ghost use Rattle.batches.specs.Values.{shared_writes, stamps_of};
 ghost use Rattle.kept.specs.Uses.{used_blocks};
 ghost use Rattle.closing.specs.Headline.{IsFromScratch};
@@ -29,6 +30,7 @@ pub struct Shown<'a, D: Digest, A: Allocator = Global> {
 
 /// Shows a core. It takes no memory.
 pub(crate) fn show<D: Digest, const B: u8, A: Allocator>(core: &Core<D, B, A>) -> Shown<'_, D, A>
+    ensures lawful { IsLawful core.now }
     ensures accepted { shared_writes result.accepted.now ≡ core.now.accepted }
     ensures stamps { stamps_of result.stamps.now ≡ core.now.stamps }
     ensures from_scratch { IsFromScratch D.digest_of B (shared_writes result.accepted.now)

@@ -36,7 +36,7 @@ pub(crate) fn report_of_lines<D: Digest + Send + Sync, T: Threads + Wait + Sync>
     let Report { answers, ended } = run_script(rt, alloc, &host, seats, &OpenGate, lines)?;
     match host.close(ended, feed) {
         Ok(mut closed) => {
-            let text = report_of(rt, alloc, settings.workers(), lines, &answers, &mut closed)?;
+            let text = report_of(rt, alloc, settings, lines, &answers, &mut closed)?;
             Ok(text)
         }
         Err(_) => Err(RunFault::Uneven),

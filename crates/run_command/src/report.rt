@@ -1,51 +1,59 @@
 //! The report of a host that has closed.
-ghost use Rattle.std.specs.Prelude.{◌≡◌, ◌<◌, ◌++◌, [], length, All, IfOk, OnOk};
-ghost use Rattle.spec.specs.States.{IsLawful};
+ghost use Rattle.std.specs.Prelude.{◌≡◌, ◌<◌, ◌≤◌, ◌++◌, [], length, IfOk, OnOk};
+ghost use Rattle.closing.specs.Headline.{AreTallies};
 ghost use Rattle.closing.specs.Settling.{IsAllTold};
-ghost use Rattle.run_command.specs.Reports.{AddsCounts, IsTextOf, state_lines, told_lines, told_lines_of};
+ghost use Rattle.run_command.specs.Reports.{AddsCounts, AddsShown, IsTextOf, told_lines, told_lines_of};
 
 use crate::drained::drained;
+use crate::settings::Settings;
 use cid::Digest;
 use closing::Closed;
 use notices::Notice;
-use repo::Core;
 use script_text::{push_answers, push_blocks, push_notices, push_notices_of, push_repository};
 use scripts::{Answer, Line};
 use std::alloc::{AllocError, Global};
 use std::sync::Wait;
 
-/// The report of a script of these lines with these answers, whose host has closed with so many writers.
+/// The report of a script of these lines with these answers, whose host was opened with these settings and has closed.
 pub(crate) fn report_of<D: Digest, T: Wait>(
     rt: &T,
     alloc: Global,
-    writers: u32,
+    settings: &Settings,
     lines: &[Line],
     answers: &[Answer<D>],
     closed: &mut Closed<D, 2>,
 ) -> Result<Vec<u8>, AllocError>
     requires answered { length answers.now ≡ length lines.now }
-    requires writers { closed.old.feed.made ≡ writers }
+    requires repos { length closed.old.cores ≡ settings.now.repos }
+    requires writers { closed.old.feed.made ≡ settings.now.workers }
     requires fresh { closed.old.feed.received ≡ [] }
-    ensures { IfOk result (λ text. IsTextOf D.digest_of writers lines.now answers.now
-        closed.old.cores closed.old.ended text.items) }
+    ensures { IfOk result (λ text. IsTextOf D.digest_of settings.now.workers lines.now answers.now
+        closed.old.cores closed.old.tables closed.old.ended text.items) }
 {
     let mut text = Vec::new(alloc);
     push_answers(&mut text, alloc, lines, answers)?;
-    push_states(&mut text, closed.cores())?;
+    push_shown(&mut text, settings.repos(), closed)?;
     push_counts(&mut text, alloc, closed)?;
     let left = drained(rt, alloc, closed)?;
-    push_told(&mut text, writers, closed, &left)?;
+    push_told(&mut text, settings.workers(), closed, &left)?;
     Ok(text)
 }
 
-/// Adds a line for each repository.
-fn push_states<D: Digest>(text: &mut Vec<u8>, cores: &[Core<D, 2>]) -> Result<(), AllocError>
-    ensures lines { OnOk result (text.new.items ≡ text.old.items
-        ++ state_lines D.digest_of 0 cores.now) }
-    ensures lawful { OnOk result (All IsLawful cores.now) }
+/// Adds a line for each repository, of which there are so many.
+fn push_shown<D: Digest>(
+    text: &mut Vec<u8>,
+    repos: usize,
+    closed: &Closed<D, 2>,
+) -> Result<(), AllocError>
+    requires some { 1 ≤ repos }
+    requires all { length closed.now.cores ≡ repos }
+    ensures { OnOk result (AddsShown D.digest_of closed.now.cores closed.now.tables
+        text.old.items text.new.items) }
 {
-    for (number, core) in cores.iter().enumerate() {
-        push_repository(text, number, &core.root(), core.number(), core.commit())?;
+    for number in 0..repos {
+        let shown = closed.shown(number);
+        let accepted = shown.accepted.len() as u64;
+        push_repository(text, number, &shown.root, accepted, shown.commit)?;
     }
     Ok(())
 }
@@ -56,7 +64,8 @@ fn push_counts<D: Digest>(
     alloc: Global,
     closed: &Closed<D, 2>,
 ) -> Result<(), AllocError>
-    ensures { OnOk result (AddsCounts D.digest_of closed.now.cores text.old.items text.new.items) }
+    requires { AreTallies D.digest_of 2 closed.now.cores closed.now.tables }
+    ensures { OnOk result (AddsCounts closed.now.tables text.old.items text.new.items) }
 {
     let counts = closed.counts(alloc)?;
     push_blocks(text, &counts)

@@ -44,6 +44,14 @@ impl Settings {
         })
     }
 
+    /// How many repositories there are.
+    pub(crate) fn repos(&self) -> usize
+        ensures value { result ≡ self.now.repos }
+        ensures some { 1 ≤ result }
+    {
+        self.repos as usize
+    }
+
     /// How many workers there are.
     pub(crate) fn workers(&self) -> u32
         ensures { result ≡ self.now.workers }

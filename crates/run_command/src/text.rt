@@ -23,6 +23,10 @@ use std::thread::Threads;
 /// Reads a script, lets a host's workers do its lines, each worker its own in a thread of its own, and writes what came of
 /// it: what each line was answered, each repository, each block, and what each writer told.
 ///
+/// Of the repositories and blocks it writes what the closed host shows: root, commit and blocks of each repository, and no
+/// others, are those from scratch by its accepted writes, and the count of each block is the number of repositories that
+/// have it.
+///
 /// The DID is that of all batches, and is tested before the input is read. All of the script is read and judged before a
 /// line of it is done, and the host has closed before a byte is written: only at `RunFault::NoMemory` and
 /// `RunFault::WriteFailed` a beginning of the report was written.

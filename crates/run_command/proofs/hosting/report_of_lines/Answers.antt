@@ -1,6 +1,5 @@
 use Rattle.std.proofs.Common.{◌≡◌, ℕ, ◌<◌, List, All, lit<, sym, ap, subst, ◌∙◌}
 use Rattle.scripts.specs.declared.script.Line.{Line}
-use Rattle.run_command.specs.Reports.{IsTextOf}
 use Rattle.run_command.proofs.Seats.{own_seats, seats_count, seats_of, worked, reported, unclosed}
 use Rattle.run_command.proofs.hosting.report_of_lines.Goals as goal
 
@@ -58,7 +57,7 @@ returns-in-Ok-close-clause-report g c =
     closed.ended
     closed.settled
     (c.deref.ensures.value)
-    (subst (λ w. IsTextOf g.D.Digest.digest_of w c.args.lines.now c.deref.result.now c.in-Ok-close.closed.cores c.in-Ok-close.closed.ended c.in_ok-text-in-Ok-close.text.items) c.workers.ensures c.in_ok-text-in-Ok-close.ensures)
+    c.in_ok-text-in-Ok-close.ensures
 
 pub returns-clause-uneven : goal.returns-clause-uneven
 returns-clause-uneven g c told =
