@@ -44,16 +44,16 @@ fn clash_of<D: Digest, A: Allocator>(pair: &Collided<D, A>) -> Why {
 }
 
 /// The name of a fault.
-fn why_of<D: Digest, A: Allocator>(fault: RepoFault<D, A>) -> Why {
+pub fn why_of<D: Digest, A: Allocator>(fault: &RepoFault<D, A>) -> Why {
     match fault {
         RepoFault::BadKey => Why::BadKey,
-        RepoFault::BadRecord(fault) => Why::BadRecord(fault),
+        RepoFault::BadRecord(fault) => Why::BadRecord(*fault),
         RepoFault::NotAMap => Why::NotAMap,
         RepoFault::RecordSize => Why::RecordSize,
         RepoFault::KeyExists => Why::KeyExists,
         RepoFault::NoSuchKey => Why::NoSuchKey,
         RepoFault::WritesFull => Why::WritesFull,
-        RepoFault::Collision(pair) => clash_of(&pair),
+        RepoFault::Collision(pair) => clash_of(pair),
         RepoFault::StoreFull => Why::StoreFull,
         RepoFault::NoMemory => Why::NoMemory,
         RepoFault::EmptyBatch => Why::EmptyBatch,
@@ -77,6 +77,6 @@ pub enum Ended {
 pub fn end_of<D: Digest, A: Allocator>(answer: Result<Applied, (usize, RepoFault<D, A>)>) -> Ended {
     match answer {
         Ok(applied) => Ended::Accepted(applied.number),
-        Err((place, fault)) => Ended::Refused(place, why_of(fault)),
+        Err((place, fault)) => Ended::Refused(place, why_of(&fault)),
     }
 }

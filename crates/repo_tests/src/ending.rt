@@ -1,7 +1,7 @@
 //! The end of a core in sixteen shards that its caller has for itself.
 
 use crate::opened::opened;
-use crate::turns::Heap;
+use crate::stores::Heap;
 use cid::digests::Toy;
 use refusing::Refusing;
 use repo::Core;

@@ -6,6 +6,8 @@ mod ending;
 #[cfg(test)]
 mod example;
 #[cfg(test)]
+mod full;
+#[cfg(test)]
 mod opened;
 #[cfg(test)]
 mod opening;
@@ -19,6 +21,8 @@ mod random_batches;
 mod readings;
 #[cfg(test)]
 mod shards;
+#[cfg(test)]
+mod stores;
 #[cfg(test)]
 mod stories;
 #[cfg(test)]

@@ -2,7 +2,7 @@
 //! of their requests for memory refused in turn; the other calls take no memory.
 
 use crate::opened::opened;
-use crate::turns::Heap;
+use crate::stores::Heap;
 use batches::{Stamp, Write};
 use cid::digests::Toy;
 use cid::{Cid, Digest};

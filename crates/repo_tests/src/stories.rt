@@ -319,6 +319,16 @@ const TWO_RECORDS_OF_ONE_REPOSITORY: [Turn; 2] = [
     },
 ];
 
+/// They clash in one batch, whose last write is never come to.
+const TWO_RECORDS_OF_ONE_BATCH: [Turn; 1] = [Turn {
+    second: false,
+    rev: 0,
+    batch: &[Put(b"a/b0", ONE), Put(b"a/c0", TWO), Put(b"a/d0", EMPTY)],
+    ended: Refused(1, Why::CollisionOfRecords),
+    records: &[],
+    blocks: (1, 1, 1),
+}];
+
 /// They clash in two repositories of one store.
 const RECORDS_OF_TWO_REPOSITORIES: [Turn; 2] = [
     Turn {
@@ -374,6 +384,7 @@ fn stories(rt: HostRuntime) {
 #[test]
 fn blocks_that_clash(rt: HostRuntime) {
     assert!(rt; are_turns::<_, Size>(&rt, rt.alloc(), 8, &TWO_RECORDS_OF_ONE_REPOSITORY));
+    assert!(rt; are_turns::<_, Size>(&rt, rt.alloc(), 8, &TWO_RECORDS_OF_ONE_BATCH));
     assert!(rt; are_turns::<_, Size>(&rt, rt.alloc(), 8, &RECORDS_OF_TWO_REPOSITORIES));
     assert!(rt; are_turns::<_, Size>(&rt, rt.alloc(), 8, &COMMIT_AND_RECORD));
     assert!(rt; are_turns::<_, Clash>(&rt, rt.alloc(), 8, &COLLIDING_RECORD));
