@@ -16,6 +16,7 @@ use cid::digests::Toy;
 use closing::{Ended, Taker};
 use host::{Host, OpenFault, Opened, Receipt, Writer};
 use repo_fixtures::batch::{ONE, Step, TWO};
+use repo_fixtures::ends::Why;
 use std::alloc::Global;
 use std::process::Abort;
 use std::sync::Wait;
@@ -36,7 +37,7 @@ fn opened<R: Wait + Abort>(rt: &R, alloc: Global) -> Opened<Toy, 2>
 }
 
 /// The same with its writer's seat.
-fn seated<R: Wait + Abort>(rt: &R, alloc: Global) -> Alone<2>
+fn seated<R: Wait + Abort>(rt: &R, alloc: Global) -> Alone<Toy, 2>
     ensures seat { IsSeatOf result.host result.seat }
     ensures feed { result.feed.queue_id ≡ result.host.queue.queue_id }
     ensures one { result.feed.made ≡ 1 }
@@ -66,7 +67,7 @@ fn puts<R: Wait>(
     let steps = [Step::Put(b"a/b0", record)];
     let told = Answer::Told(u64::from(turn), u64::from(turn));
     match apply_steps(rt, alloc, writer, 0, turn, &steps) {
-        Answer::NoMemory | Answer::Refused(0) => {
+        Answer::NoMemory | Answer::Refused(0, Why::NoMemory) => {
             finds(rt, alloc, writer, 0, before)
                 && apply_steps(rt, alloc, writer, 0, turn, &steps) == told
         }

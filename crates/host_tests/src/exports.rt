@@ -208,7 +208,7 @@ fn has_files(alloc: Global, closed: &Closed<Toy, 2>, files: &Files) -> bool {
 
 /// Whether a repository of five nodes is exported as its core is once the host has closed, and proves its records.
 fn is_exported<R: Wait + Abort>(rt: &R, alloc: Global) -> bool {
-    let opened = open_one::<2, R>(rt, alloc, 2, 9);
+    let opened = open_one::<Toy, 2, R>(rt, alloc, 2, 9);
     let Alone { host, seat, feed } = opened;
     let (ended, root) = put_all(rt, alloc, host.writer(seat));
     let files = files_of(rt, alloc, &host).expect(rt, "files");

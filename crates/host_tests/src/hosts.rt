@@ -1,11 +1,13 @@
-//! Hosts over the toy digest, and what their writers do.
+//! What the writers of hosts do.
 
 ghost use Rattle.std.specs.Prelude.{◌≡◌};
 
+use cid::Digest;
 use cid::digests::Toy;
 use host::{HostFault, Limits, Writer};
 use notices::Notice;
 use repo_fixtures::batch::{Batch, Step, batch_at};
+use repo_fixtures::ends::{Why, why_of};
 use std::alloc::{AllocError, Global};
 use std::sync::Wait;
 
@@ -29,28 +31,28 @@ pub(crate) enum Answer {
     /// Accepted: the notice's number of its writer, and how many writes the repository then has.
     Told(u64, u64),
     NoSuchRepository,
-    /// Refused at this place.
-    Refused(usize),
+    /// Refused at this place, for this fault.
+    Refused(usize, Why),
     NoMemory,
     SeqFull,
 }
 
 /// The answer of a call.
-fn answer_of(answer: Result<Notice, HostFault<Toy>>) -> Answer {
+fn answer_of<D: Digest>(answer: Result<Notice, HostFault<D>>) -> Answer {
     match answer {
         Ok(notice) => Answer::Told(notice.seq, notice.number),
         Err(HostFault::NoSuchRepository) => Answer::NoSuchRepository,
-        Err(HostFault::Refused(place, _)) => Answer::Refused(place),
+        Err(HostFault::Refused(place, fault)) => Answer::Refused(place, why_of(&fault)),
         Err(HostFault::NoMemory) => Answer::NoMemory,
         Err(HostFault::SeqFull) => Answer::SeqFull,
     }
 }
 
 /// How a writer's batch is answered, for which there may have been no memory.
-fn apply<const B: u8, R: Wait>(
+fn apply<D: Digest, const B: u8, R: Wait>(
     rt: &R,
     alloc: Global,
-    writer: &mut Writer<'_, Toy, B>,
+    writer: &mut Writer<'_, D, B>,
     repo: usize,
     batch: Result<Batch<Global>, AllocError>,
 ) -> Answer
@@ -63,10 +65,10 @@ fn apply<const B: u8, R: Wait>(
 }
 
 /// How the batch of these steps is answered, under the stamp that comes so many after the first one.
-pub(crate) fn apply_steps<const B: u8, R: Wait>(
+pub(crate) fn apply_steps<D: Digest, const B: u8, R: Wait>(
     rt: &R,
     alloc: Global,
-    writer: &mut Writer<'_, Toy, B>,
+    writer: &mut Writer<'_, D, B>,
     repo: usize,
     turn: u16,
     steps: &[Step<'_>],

@@ -12,6 +12,8 @@ mod exports;
 #[cfg(test)]
 mod hosts;
 #[cfg(test)]
+mod listing;
+#[cfg(test)]
 mod opening;
 #[cfg(test)]
 mod queue_of_two;

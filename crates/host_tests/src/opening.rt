@@ -4,6 +4,7 @@ use crate::hosts::{Answer, apply_steps, limits};
 use cid::digests::Toy;
 use host::{Host, Limits, OpenFault, Opened};
 use repo_fixtures::batch::Step;
+use repo_fixtures::ends::Why;
 use std::alloc::Global;
 use std::process::Abort;
 use std::sync::Wait;
@@ -71,10 +72,16 @@ fn limits_are_tested_in_their_order(rt: HostRuntime) {
 /// A record whose block stands in shard 3. Those of the node before it, of its node and of its commit stand in shard 15.
 const THREE: &[u8] = b"\xa1\x61a\x33";
 
-/// How a put is answered on a host whose shards may have so many blocks.
-fn put_with_room<R: Wait + Abort>(rt: &R, alloc: Global, shard_blocks: usize) -> Answer {
+/// How two puts are answered on a host whose shards may have so many blocks, and its repository so many writes.
+fn puts_within<R: Wait + Abort>(
+    rt: &R,
+    alloc: Global,
+    shard_blocks: usize,
+    repo_writes: usize,
+) -> [Answer; 2] {
     let given = Limits {
         shard_blocks,
+        repo_writes,
         ..limits(1, 1, 9)
     };
     let opened = Host::<Toy, 2>::open(rt, alloc, given).expect(rt, "a host");
@@ -85,12 +92,35 @@ fn put_with_room<R: Wait + Abort>(rt: &R, alloc: Global, shard_blocks: usize) ->
     } = opened;
     let seat = seats.pop().expect(rt, "a seat");
     let mut writer = host.writer(seat);
-    apply_steps(rt, alloc, &mut writer, 0, 1, &[Step::Put(b"a/b0", THREE)])
+    let put = [Step::Put(b"a/b0", THREE)];
+    let first = apply_steps(rt, alloc, &mut writer, 0, 1, &put);
+    [first, apply_steps(rt, alloc, &mut writer, 0, 2, &put)]
 }
 
+/// How many blocks and writes there may be, and how two puts are answered then.
+static LIMITS: [(usize, usize, [Answer; 2]); 3] = [
+    (
+        2,
+        9,
+        [
+            Answer::Refused(0, Why::StoreFull),
+            Answer::Refused(0, Why::StoreFull),
+        ],
+    ),
+    (3, 9, [Answer::Told(1, 1), Answer::Told(2, 2)]),
+    (
+        3,
+        1,
+        [Answer::Told(1, 1), Answer::Refused(0, Why::WritesFull)],
+    ),
+];
+
 #[test]
-fn each_shard_has_its_limit(rt: HostRuntime) {
-    let alloc = rt.alloc();
-    let (two, three) = (put_with_room(&rt, alloc, 2), put_with_room(&rt, alloc, 3));
-    assert!(rt; two == Answer::Refused(0) && three == Answer::Told(1, 1));
+fn each_shard_and_repository_has_its_limit(rt: HostRuntime) {
+    for (blocks, writes, wanted) in &LIMITS {
+        assert!(rt;
+            puts_within(&rt, rt.alloc(), *blocks, *writes) == *wanted,
+            "{blocks} blocks and {writes} writes"
+        );
+    }
 }

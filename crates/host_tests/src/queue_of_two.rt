@@ -92,7 +92,7 @@ pub(crate) fn is_closed<R: Wait>(rt: &R, mut closed: Closed<Toy, 2>) -> bool {
 
 /// Whether all this is so from opening to close.
 fn is_right<R: Wait + Abort>(rt: &R, alloc: Global) -> bool {
-    let opened = open_one::<2, R>(rt, alloc, 1, 2);
+    let opened = open_one::<Toy, 2, R>(rt, alloc, 1, 2);
     let Alone { host, seat, feed } = opened;
     let left = take_all(rt, alloc, host.writer(seat), host.taker(feed));
     let Left {

@@ -5,6 +5,7 @@ use crate::seated::{Alone, open_one};
 use cid::digests::Toy;
 use host::{HostFault, Writer};
 use repo_fixtures::batch::{EMPTY, Step};
+use repo_fixtures::ends::Why;
 use std::alloc::Global;
 use std::process::Abort;
 use std::sync::Wait;
@@ -31,12 +32,16 @@ fn none_is_there<R: Wait>(
 /// A repository's number, a batch's steps, and how the batch is answered.
 static ROWS: [(usize, &[Step<'static>], Answer); 6] = [
     (1, &[Step::Put(b"a/b0", EMPTY)], Answer::NoSuchRepository),
-    (0, &[], Answer::Refused(0)),
-    (0, &[Step::Delete(b"a/b0")], Answer::Refused(0)),
+    (0, &[], Answer::Refused(0, Why::EmptyBatch)),
+    (
+        0,
+        &[Step::Delete(b"a/b0")],
+        Answer::Refused(0, Why::NoSuchKey),
+    ),
     (
         0,
         &[Step::Put(b"a/b0", EMPTY), Step::Delete(b"a/c0")],
-        Answer::Refused(1),
+        Answer::Refused(1, Why::NoSuchKey),
     ),
     (0, &[Step::Put(b"a/b0", EMPTY)], Answer::Told(1, 1)),
     (
@@ -60,7 +65,7 @@ fn are_answered<R: Wait>(rt: &R, alloc: Global, writer: &mut Writer<'_, Toy, 2>)
 
 /// Whether each row is answered so, and nothing that was refused is there.
 fn are_refused<R: Wait + Abort>(rt: &R, alloc: Global) -> bool {
-    let opened = open_one::<2, R>(rt, alloc, 1, 9);
+    let opened = open_one::<Toy, 2, R>(rt, alloc, 1, 9);
     let Alone {
         host,
         seat,

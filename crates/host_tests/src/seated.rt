@@ -5,6 +5,7 @@ ghost use Rattle.closing.specs.Ending.{IsEndedAt};
 ghost use Rattle.host.specs.Views.{IsSeatOf};
 
 use crate::hosts::limits;
+use cid::Digest;
 use cid::digests::Toy;
 use closing::{Closed, Ended, Feed};
 use host::{Host, Opened, Seat};
@@ -14,19 +15,19 @@ use std::sync::Wait;
 
 /// A host with one writer.
 #[derive(Drop)]
-pub(crate) struct Alone<const B: u8> {
-    pub(crate) host: Host<Toy, B>,
+pub(crate) struct Alone<D: Digest, const B: u8> {
+    pub(crate) host: Host<D, B>,
     pub(crate) seat: Seat,
     pub(crate) feed: Feed,
 }
 
 /// A host of so many repositories and one writer, and a queue with this room.
-pub(crate) fn open_one<const B: u8, R: Wait + Abort>(
+pub(crate) fn open_one<D: Digest, const B: u8, R: Wait + Abort>(
     rt: &R,
     alloc: Global,
     repos: u32,
     queue: usize,
-) -> Alone<B>
+) -> Alone<D, B>
     requires least { 1 ≤ B }
     requires most { B ≤ 8 }
     ensures seat { IsSeatOf result.host result.seat }
@@ -34,7 +35,7 @@ pub(crate) fn open_one<const B: u8, R: Wait + Abort>(
     ensures one { result.feed.made ≡ 1 }
     ensures fresh { result.feed.joined ≡ [] }
 {
-    let opened = Host::<Toy, B>::open(rt, alloc, limits(repos, 1, queue)).expect(rt, "a host");
+    let opened = Host::<D, B>::open(rt, alloc, limits(repos, 1, queue)).expect(rt, "a host");
     let Opened {
         host,
         mut seats,
@@ -45,13 +46,13 @@ pub(crate) fn open_one<const B: u8, R: Wait + Abort>(
 }
 
 /// Closes a host whose one writer has ended.
-pub(crate) fn close_one<const B: u8, R: Abort>(
+pub(crate) fn close_one<D: Digest, const B: u8, R: Abort>(
     rt: &R,
     alloc: Global,
-    host: Host<Toy, B>,
+    host: Host<D, B>,
     ended: Ended,
     feed: Feed,
-) -> Closed<Toy, B>
+) -> Closed<D, B>
     requires ended { IsEndedAt host.queue.queue_id host.repos ended }
     requires queue { feed.queue_id ≡ host.queue.queue_id }
     requires one { feed.made ≡ 1 }
@@ -62,13 +63,13 @@ pub(crate) fn close_one<const B: u8, R: Abort>(
 }
 
 /// The same with room for what the writer ends with.
-pub(crate) fn close_in<const B: u8, R: Abort>(
+pub(crate) fn close_in<D: Digest, const B: u8, R: Abort>(
     rt: &R,
     room: Vec<Ended>,
-    host: Host<Toy, B>,
+    host: Host<D, B>,
     ended: Ended,
     feed: Feed,
-) -> Closed<Toy, B>
+) -> Closed<D, B>
     requires empty { room.items ≡ [] }
     requires room { 1 ≤ vec_capacity room }
     requires ended { IsEndedAt host.queue.queue_id host.repos ended }

@@ -1,52 +1,70 @@
-//! Two repositories that share blocks, and a host that did nothing.
+//! Two repositories that share blocks, blocks that clash, and a host that did nothing.
 
 ghost use Rattle.std.specs.Prelude.{◌≡◌, ◌≤◌};
 ghost use Rattle.closing.specs.Ending.{IsEndedAt};
 
 use crate::hosts::{Answer, apply_steps};
 use crate::seated::{Alone, close_one, open_one};
-use cid::Cid;
-use cid::digests::Toy;
+use cid::digests::{Clash, Size, Toy};
+use cid::{Cid, Digest};
 use closing::{Closed, Ended};
 use host::Writer;
-use repo_fixtures::batch::{EMPTY, EMPTY_NODE, Step};
+use repo_fixtures::batch::{EMPTY, EMPTY_NODE, ONE, Step, TWO};
+use repo_fixtures::ends::Why;
 use std::alloc::Global;
 use std::process::Abort;
 use std::sync::Wait;
 
-/// A repository's number, the turn of a batch's stamp, its one step, and how many writes the repository then has.
-type Row = (usize, u16, Step<'static>, u64);
+/// A repository's number, the turn of a batch's stamp, its one step, and how the batch is answered.
+type Row = (usize, u16, Step<'static>, Answer);
 
 /// The same record put into both repositories by the same stamp.
 static BOTH: [Row; 2] = [
-    (0, 1, Step::Put(b"a/b0", EMPTY), 1),
-    (1, 1, Step::Put(b"a/b0", EMPTY), 1),
+    (0, 1, Step::Put(b"a/b0", EMPTY), Answer::Told(1, 1)),
+    (1, 1, Step::Put(b"a/b0", EMPTY), Answer::Told(2, 1)),
 ];
 
 /// The same, and then the second repository deletes it.
 static ONE_DELETES: [Row; 3] = [
-    (0, 1, Step::Put(b"a/b0", EMPTY), 1),
-    (1, 1, Step::Put(b"a/b0", EMPTY), 1),
-    (1, 2, Step::Delete(b"a/b0"), 2),
+    (0, 1, Step::Put(b"a/b0", EMPTY), Answer::Told(1, 1)),
+    (1, 1, Step::Put(b"a/b0", EMPTY), Answer::Told(2, 1)),
+    (1, 2, Step::Delete(b"a/b0"), Answer::Told(3, 2)),
 ];
 
-/// Does the rows; answers the writer's end, and whether each was accepted.
-fn done<const B: u8, R: Wait>(
+/// Two records of the same length, which clash under `Size`.
+static RECORDS_CLASH: [Row; 2] = [
+    (0, 1, Step::Put(b"a/b0", ONE), Answer::Told(1, 1)),
+    (
+        1,
+        1,
+        Step::Put(b"a/b0", TWO),
+        Answer::Refused(0, Why::CollisionOfRecords),
+    ),
+];
+
+/// A record that clashes with the node without entries under `Clash`.
+static RECORD_AND_NODE_CLASH: [Row; 1] = [(
+    0,
+    1,
+    Step::Put(b"a/b", EMPTY),
+    Answer::Refused(0, Why::Collision),
+)];
+
+/// Does the rows; answers the writer's end, and whether each was answered so.
+fn done<D: Digest, const B: u8, R: Wait>(
     rt: &R,
     alloc: Global,
-    mut writer: Writer<'_, Toy, B>,
+    mut writer: Writer<'_, D, B>,
     rows: &[Row],
 ) -> (Ended, bool)
     ensures { IsEndedAt writer.entry.host.queue.queue_id writer.entry.host.repos result.0 }
 {
-    let mut seq = 0u64;
-    let mut are_accepted = true;
-    for (repo, turn, step, number) in rows {
-        seq = seq.saturating_add(1);
-        let answer = apply_steps(rt, alloc, &mut writer, *repo, *turn, &[*step]);
-        are_accepted = are_accepted && answer == Answer::Told(seq, *number);
+    let mut are_answered = true;
+    for (repo, turn, step, answer) in rows {
+        are_answered = apply_steps(rt, alloc, &mut writer, *repo, *turn, &[*step]) == *answer
+            && are_answered;
     }
-    (writer.end(), are_accepted)
+    (writer.end(), are_answered)
 }
 
 /// How many blocks a host has that closed, each with which count, and of which record.
@@ -67,19 +85,34 @@ fn are_counts(counts: &[(Cid, u64)], blocks: usize, count: u64) -> bool {
     counts.len() == blocks
 }
 
-/// Whether a host that closed has these counts, and that of the record by itself.
-fn has_counts<const B: u8>(alloc: Global, closed: &Closed<Toy, B>, wanted: Counts<'_>) -> bool {
+/// Whether the root of each repository has this count.
+fn have_roots<D: Digest, const B: u8>(closed: &Closed<D, B>, count: u64) -> bool {
+    for core in closed.cores() {
+        if closed.count(&core.root()) != count {
+            return false;
+        }
+    }
+    true
+}
+
+/// Whether a host that closed has these counts, and those of the roots and of the record by themselves.
+fn has_counts<D: Digest, const B: u8>(
+    alloc: Global,
+    closed: &Closed<D, B>,
+    wanted: Counts<'_>,
+) -> bool {
     match closed.counts(alloc) {
         Ok(counts) => {
             are_counts(&counts, wanted.blocks, wanted.count)
-                && closed.count(&Cid::of::<Toy>(wanted.record)) == wanted.count
+                && have_roots(closed, wanted.count)
+                && closed.count(&Cid::of::<D>(wanted.record)) == wanted.count
         }
         Err(_) => false,
     }
 }
 
-/// Whether a host of two repositories and one writer accepts these rows, and then has these counts.
-fn leave<const B: u8, R: Wait + Abort>(
+/// Whether a host of two repositories and one writer answers these rows so, and then has these counts.
+fn leave<D: Digest, const B: u8, R: Wait + Abort>(
     rt: &R,
     alloc: Global,
     rows: &[Row],
@@ -88,11 +121,11 @@ fn leave<const B: u8, R: Wait + Abort>(
     requires least { 1 ≤ B }
     requires most { B ≤ 8 }
 {
-    let opened = open_one::<B, R>(rt, alloc, 2, 9);
+    let opened = open_one::<D, B, R>(rt, alloc, 2, 9);
     let Alone { host, seat, feed } = opened;
-    let (ended, are_accepted) = done(rt, alloc, host.writer(seat), rows);
+    let (ended, are_answered) = done(rt, alloc, host.writer(seat), rows);
     let closed = close_one(rt, alloc, host, ended, feed);
-    are_accepted && has_counts(alloc, &closed, wanted)
+    are_answered && has_counts(alloc, &closed, wanted)
 }
 
 /// The counts after no row, and after each list of rows.
@@ -114,19 +147,40 @@ const OF_ONE: Counts<'static> = Counts {
     record: EMPTY,
 };
 
+/// The blocks of the first repository, and the node without entries of the second.
+const OF_A_REFUSED_RECORD: Counts<'static> = Counts {
+    blocks: 4,
+    count: 1,
+    record: ONE,
+};
+
+/// The one block of both.
+const OF_ONE_CID: Counts<'static> = Counts {
+    blocks: 1,
+    count: 2,
+    record: EMPTY_NODE,
+};
+
 /// Whether the counts are right in trees of so many zero bits a layer.
 fn are_right<const B: u8, R: Wait + Abort>(rt: &R, alloc: Global) -> bool
     requires least { 1 ≤ B }
     requires most { B ≤ 8 }
 {
-    leave::<B, R>(rt, alloc, &[], OF_NONE)
-        && leave::<B, R>(rt, alloc, &BOTH, OF_BOTH)
-        && leave::<B, R>(rt, alloc, &ONE_DELETES, OF_ONE)
+    leave::<Toy, B, R>(rt, alloc, &[], OF_NONE)
+        && leave::<Toy, B, R>(rt, alloc, &BOTH, OF_BOTH)
+        && leave::<Toy, B, R>(rt, alloc, &ONE_DELETES, OF_ONE)
 }
 
 #[test]
 fn repositories_share_blocks(rt: HostRuntime) {
     assert!(rt; are_right::<2, _>(&rt, rt.alloc()));
+}
+
+#[test]
+fn blocks_that_clash(rt: HostRuntime) {
+    let alloc = rt.alloc();
+    assert!(rt; leave::<Size, 2, _>(&rt, alloc, &RECORDS_CLASH, OF_A_REFUSED_RECORD));
+    assert!(rt; leave::<Clash, 2, _>(&rt, alloc, &RECORD_AND_NODE_CLASH, OF_ONE_CID));
 }
 
 #[test]
