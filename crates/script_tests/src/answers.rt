@@ -3,9 +3,10 @@
 use crate::closes::{limits, run};
 use crate::rows::{Doing, Row, lines_of};
 use cid::digests::Toy;
-use host::HostFault;
+use host::{HostFault, Limits};
 use repo_fixtures::batch::Step::{Create, Delete, Put};
 use repo_fixtures::batch::{EMPTY, ONE, TWO};
+use repo_fixtures::ends::{Why, why_of};
 use scripts::{Answer, OpenGate};
 use std::alloc::Global;
 use std::process::Abort;
@@ -17,8 +18,8 @@ use std::thread::Threads;
 pub(crate) enum Said<'a> {
     /// Accepted: the notice's writer, its number, the repository, and how many writes that has.
     Told(u32, u64, u32, u64),
-    /// Refused at this place.
-    Refused(usize),
+    /// Refused at this place, for this fault.
+    Refused(usize, Why),
     NoSuchRepository,
     NoMemory,
     SeqFull,
@@ -31,7 +32,7 @@ pub(crate) fn words_of(answer: &Answer<Toy>) -> Said<'_> {
     match answer {
         Answer::Accepted(told) => Said::Told(told.writer, told.seq, told.repo, told.number),
         Answer::Refused(HostFault::NoSuchRepository) => Said::NoSuchRepository,
-        Answer::Refused(HostFault::Refused(place, _)) => Said::Refused(*place),
+        Answer::Refused(HostFault::Refused(place, fault)) => Said::Refused(*place, why_of(fault)),
         Answer::Refused(HostFault::NoMemory) => Said::NoMemory,
         Answer::Refused(HostFault::SeqFull) => Said::SeqFull,
         Answer::Found(record) => Said::Found(record),
@@ -77,9 +78,9 @@ const ONE_WORKER_SAID: [Said<'static>; 14] = [
     Said::Found(ONE),
     Said::NoSuchRepository,
     Said::NoSuchRepository,
-    Said::Refused(0),
-    Said::Refused(0),
-    Said::Refused(1),
+    Said::Refused(0, Why::EmptyBatch),
+    Said::Refused(0, Why::KeyExists),
+    Said::Refused(1, Why::NoSuchKey),
     Said::Absent,
     Said::Told(0, 2, 0, 3),
     Said::Absent,
@@ -107,26 +108,42 @@ const MIXED_SAID: [Said<'static>; 8] = [
     Said::Found(EMPTY),
     Said::Told(2, 2, 1, 2),
     Said::Absent,
-    Said::Refused(0),
+    Said::Refused(0, Why::KeyExists),
 ];
 
-/// Whether the lines of these rows are answered so, by so many workers in so many repositories.
+/// Two puts where one write is accepted at most.
+const ONE_TOO_MANY: [Row<'static>; 2] = [
+    (0, 0, Doing::Apply(&[Put(b"a/b0", ONE)])),
+    (0, 0, Doing::Apply(&[Put(b"a/b0", TWO)])),
+];
+
+const ONE_TOO_MANY_SAID: [Said<'static>; 2] = [
+    Said::Told(0, 1, 0, 1),
+    Said::Refused(0, Why::WritesFull),
+];
+
+/// Whether the lines of these rows are answered so on a host of these limits.
 fn are_answered<R: Threads + Wait + Abort + Sync>(
     rt: &R,
     alloc: Global,
-    repos: u32,
-    workers: u32,
+    limits: Limits,
     rows: &[Row<'_>],
     wanted: &[Said<'_>],
 ) -> bool {
     let lines = lines_of(alloc, rows).expect(rt, "lines");
-    let ran = run(rt, alloc, limits(repos, workers, 9), &OpenGate, &lines);
+    let ran = run(rt, alloc, limits, &OpenGate, &lines);
     are_said(&ran.answers, wanted)
 }
 
 #[test]
 fn each_line_is_answered(rt: HostRuntime) {
-    assert!(rt; are_answered(&rt, rt.alloc(), 1, 1, &ONE_WORKER, &ONE_WORKER_SAID));
-    assert!(rt; are_answered(&rt, rt.alloc(), 2, 3, &MIXED, &MIXED_SAID));
-    assert!(rt; are_answered(&rt, rt.alloc(), 1, 2, &[], &[]));
+    let alloc = rt.alloc();
+    let one_write = Limits {
+        repo_writes: 1,
+        ..limits(1, 1, 9)
+    };
+    assert!(rt; are_answered(&rt, alloc, limits(1, 1, 9), &ONE_WORKER, &ONE_WORKER_SAID));
+    assert!(rt; are_answered(&rt, alloc, limits(2, 3, 9), &MIXED, &MIXED_SAID));
+    assert!(rt; are_answered(&rt, alloc, one_write, &ONE_TOO_MANY, &ONE_TOO_MANY_SAID));
+    assert!(rt; are_answered(&rt, alloc, limits(1, 2, 9), &[], &[]));
 }

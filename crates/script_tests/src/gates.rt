@@ -1,15 +1,15 @@
-//! Two workers that wait for each other at the gate, which they could not in one thread.
+//! Workers that wait for each other at the gate, which they could not in one thread: two of them, and as many as there may be.
 
 use crate::answers::{Said, are_said};
 use crate::closes::{limits, run};
-use crate::rows::{Doing, Row, lines_of};
+use crate::rows::{Doing, Row, line_of, lines_of};
 use repo_fixtures::batch::EMPTY;
 use repo_fixtures::batch::Step::Put;
-use scripts::Gate;
-use std::alloc::Global;
+use scripts::{Gate, Line};
+use std::alloc::{AllocError, Global};
 use std::process::Abort;
 use std::sync::Wait;
-use std::sync::atomic::{AtomicBool, Ordering};
+use std::sync::atomic::{AtomicBool, AtomicU64, Ordering};
 use std::thread;
 use std::thread::Threads;
 
@@ -141,6 +141,33 @@ impl Gate for Both {
     fn after(&self, _line: usize) {}
 }
 
+/// How many workers there may be.
+const WORKERS: u32 = 64;
+
+/// No worker begins its one line before each of them has come to its own.
+#[derive(Drop)]
+struct All {
+    came: AtomicU64,
+    gave_up: Event,
+}
+
+impl Gate for All {
+    fn before(&self, _line: usize) {
+        self.came.fetch_add(1, Ordering::SeqCst);
+        for _ in 0..TURNS {
+            if self.came.load(Ordering::SeqCst) == u64::from(WORKERS)
+                || self.gave_up.has_happened()
+            {
+                return;
+            }
+            thread::yield_now();
+        }
+        self.gave_up.happens();
+    }
+
+    fn after(&self, _line: usize) {}
+}
+
 /// A put of each worker in its own repository.
 const ROWS: [Row<'static>; 2] = [
     (0, 0, Doing::Apply(&[Put(b"a/b0", EMPTY)])),
@@ -219,4 +246,29 @@ fn a_line_is_done_between_its_calls(rt: HostRuntime) {
 #[test]
 fn two_lines_wait_for_each_other(rt: HostRuntime) {
     assert!(rt; meet(&rt, rt.alloc(), 9) && meet(&rt, rt.alloc(), 1));
+}
+
+/// A look of each worker in one repository.
+fn a_look_each(alloc: Global) -> Result<Vec<Line>, AllocError> {
+    let mut lines = Vec::with_capacity(alloc, WORKERS as usize)?;
+    for worker in 0..WORKERS {
+        lines.push(line_of(alloc, 1, (worker, 0, Doing::Get(b"a/b0")))?)?;
+    }
+    Ok(lines)
+}
+
+/// Whether all workers wait for each other, and each is answered.
+fn all_meet<R: Threads + Wait + Abort + Sync>(rt: &R, alloc: Global) -> bool {
+    let lines = a_look_each(alloc).expect(rt, "lines");
+    let gate = All {
+        came: AtomicU64::new(0),
+        gave_up: Event::new(),
+    };
+    let ran = run(rt, alloc, limits(1, WORKERS, 9), &gate, &lines);
+    are_said(&ran.answers, &[Said::Absent; 64]) && !gate.gave_up.has_happened()
+}
+
+#[test]
+fn each_worker_has_its_thread(rt: HostRuntime) {
+    assert!(rt; all_meet(&rt, rt.alloc()));
 }
