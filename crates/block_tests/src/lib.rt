@@ -21,3 +21,5 @@ mod shards;
 mod side_by_side;
 #[cfg(test)]
 mod stores;
+#[cfg(test)]
+mod without_memory;

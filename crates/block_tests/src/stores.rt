@@ -1,11 +1,12 @@
 //! What a core asks of a store, by each of the two that there are.
 
 use crate::fixtures::{EMPTY, ONE, block, entry_count};
-use cid::digests::Toy;
-use cid::{Block, Cid};
-use std::alloc::Global;
+use cid::digests::{Clash, Size, Toy};
+use cid::{Block, Cid, Digest};
+use refusing::Refusing;
+use std::alloc::{Allocator, Global};
 use std::process::Abort;
-use std::sync::Arc;
+use std::sync::{Arc, Wait};
 use store::{BlockStore, Hold, LentShard, LockedShards, SHARDS, Shard, Shards, StoreFault};
 
 /// Whether the store is full for this block.
@@ -59,7 +60,7 @@ fn one_shard_is_lent(rt: HostRuntime) {
 const EMPTY_LIST: [u8; 1] = [0x80];
 
 /// Whether no table has an entry.
-fn are_empty(tables: &[Shard<Toy>; SHARDS]) -> bool {
+fn are_empty<D: Digest>(tables: &[Shard<D>; SHARDS]) -> bool {
     for table in tables {
         if entry_count(table) != 0 {
             return false;
@@ -74,4 +75,86 @@ fn locked_shards_are_a_store(rt: HostRuntime) {
     let mut locked = LockedShards::new(&rt, &shards);
     assert!(rt; holds_one(&rt, rt.alloc(), &mut locked, &EMPTY, &EMPTY_LIST));
     assert!(rt; are_empty(&shards.tables()));
+}
+
+/// The DAG-CBOR bytes of the map of "a" to 2, as many as those of the map to 1.
+const TWO: [u8; 4] = [0xa1, 0x61, 0x61, 0x02];
+
+/// Whether a store that holds a block refuses another one of its CID, and shows both.
+fn shows_both<D: Digest, S: BlockStore<Arc<Block<D>>, Hold<D>, StoreFault<D>>, R: Abort>(
+    rt: &R,
+    alloc: Global,
+    store: &mut S,
+) -> bool {
+    let hold = store
+        .acquire(0, block(rt, alloc, &ONE))
+        .expect(rt, "the first block");
+    let are_shown = match store.acquire(1, block(rt, alloc, &TWO)) {
+        Ok(other) => {
+            store.release(other);
+            false
+        }
+        Err(StoreFault::Collision(pair)) => {
+            pair.one().bytes() == TWO.as_slice() && pair.other().bytes() == ONE.as_slice()
+        }
+        Err(_) => false,
+    };
+    store.release(hold);
+    are_shown
+}
+
+/// Whether both stores show two records that clash under this digest, and are empty in the end.
+fn show_both<D: Digest, R: Wait + Abort>(rt: &R, alloc: Global) -> bool {
+    let mut shard: Shard<D> = Shard::new(alloc, 2);
+    let shards: Shards<D> = Shards::open(alloc, 2);
+    shows_both(rt, alloc, &mut LentShard::new(&mut shard))
+        && shows_both(rt, alloc, &mut LockedShards::new(rt, &shards))
+        && entry_count(&shard) == 0
+        && are_empty(&shards.tables())
+}
+
+#[test]
+fn blocks_that_clash(rt: HostRuntime) {
+    assert!(rt; show_both::<Clash, _>(&rt, rt.alloc()) && show_both::<Size, _>(&rt, rt.alloc()));
+}
+
+/// Whether the store says that memory was refused.
+fn is_refused<A: Allocator, S: BlockStore<Arc<Block<Toy, A>, A>, Hold<Toy, A>, StoreFault<Toy, A>>>(
+    store: &mut S,
+    block: Arc<Block<Toy, A>, A>,
+) -> bool {
+    match store.acquire(0, block) {
+        Ok(hold) => {
+            store.release(hold);
+            false
+        }
+        Err(fault) => matches!(fault, StoreFault::NoMemory),
+    }
+}
+
+/// Whether a store of this heap takes no block where the memory of its entry is refused.
+fn wants_memory<
+    'h,
+    S: BlockStore<
+        Arc<Block<Toy, &'h Refusing<Global>>, &'h Refusing<Global>>,
+        Hold<Toy, &'h Refusing<Global>>,
+        StoreFault<Toy, &'h Refusing<Global>>,
+    >,
+    R: Abort,
+>(rt: &R, heap: &'h Refusing<Global>, store: &mut S) -> bool {
+    let first = block(rt, heap, &EMPTY);
+    heap.refuse(1);
+    is_refused(store, first) && !is_refused(store, block(rt, heap, &EMPTY))
+}
+
+#[test]
+fn memory_refused(rt: HostRuntime) {
+    let heap = Refusing::new(rt.alloc());
+    let mut shard: Shard<Toy, &Refusing<Global>> = Shard::new(&heap, 2);
+    let shards: Shards<Toy, &Refusing<Global>> = Shards::open(&heap, 2);
+    let lent = wants_memory(&rt, &heap, &mut LentShard::new(&mut shard));
+    let locked = wants_memory(&rt, &heap, &mut LockedShards::new(&rt, &shards));
+    drop(shard);
+    drop(shards);
+    assert!(rt; lent && locked && heap.live() == 0);
 }
