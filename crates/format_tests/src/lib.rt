@@ -2,7 +2,11 @@
 #![tactic(auto)]
 
 #[cfg(test)]
+mod many_items;
+#[cfg(test)]
 mod node_faults;
+#[cfg(test)]
+mod node_memory;
 #[cfg(test)]
 mod nodes;
 #[cfg(test)]

@@ -4,7 +4,7 @@ ghost use Rattle.node.specs.Contents.{last_key};
 
 use cid::{Cid, CidRef};
 use node::{EntryView, KeyBuf, NodeView, NodeWriter, Place};
-use std::alloc::Global;
+use std::alloc::{Allocator, Global};
 use std::process::Abort;
 
 /// The identifier `01 71 12 20` and 32 bytes of one value.
@@ -42,13 +42,13 @@ pub fn two_entries(rt: &impl Abort, alloc: Global) -> Vec<u8> {
 }
 
 /// The link before all keys of a node, or none.
-type Left = Option<Cid>;
+pub type Left = Option<Cid>;
 
 /// An entry to be written: its key, its value and the link after it.
-type Entry<'a> = (&'a [u8], Cid, Option<Cid>);
+pub type Entry<'a> = (&'a [u8], Cid, Option<Cid>);
 
 /// Whether the entry is written, as its key can be next, and its key can't be next after that.
-fn is_added(writer: &mut NodeWriter, entry: &Entry<'_>) -> bool {
+pub fn is_added<A: Allocator + Clone>(writer: &mut NodeWriter<A>, entry: &Entry<'_>) -> bool {
     let (key, value, tree) = entry;
     if !writer.is_next(key) {
         return false;
@@ -69,7 +69,7 @@ fn write_entries(rt: &impl Abort, writer: &mut NodeWriter, entries: &[Entry<'_>]
 }
 
 /// The bytes of a node of these entries.
-fn written(rt: &impl Abort, alloc: Global, left: Left, entries: &[Entry<'_>]) -> Vec<u8> {
+pub fn written(rt: &impl Abort, alloc: Global, left: Left, entries: &[Entry<'_>]) -> Vec<u8> {
     let mut writer = NodeWriter::begin(alloc, left).expect(rt, "memory for a node");
     write_entries(rt, &mut writer, entries);
     writer.finish().expect(rt, "memory for the last part")
@@ -274,7 +274,11 @@ fn parts_of_the_node_of_two_entries(rt: HostRuntime) {
 }
 
 /// Whether the key of this entry can be put together by what is kept of the key before, and is this one.
-fn steps_to(key: &mut KeyBuf, entry: &EntryView<'_>, wanted: Option<&&[u8]>) -> bool {
+fn steps_to<A: Allocator>(
+    key: &mut KeyBuf<A>,
+    entry: &EntryView<'_>,
+    wanted: Option<&&[u8]>,
+) -> bool {
     if entry.prefix > key.key().len() || entry.prefix > 1024 {
         return false;
     }
@@ -286,7 +290,11 @@ fn steps_to(key: &mut KeyBuf, entry: &EntryView<'_>, wanted: Option<&&[u8]>) -> 
 }
 
 /// Whether the keys of the node, put together one by one, are these.
-fn puts_together(key: &mut KeyBuf, view: &NodeView<'_>, keys: &[&[u8]]) -> bool {
+pub fn puts_together<A: Allocator>(
+    key: &mut KeyBuf<A>,
+    view: &NodeView<'_>,
+    keys: &[&[u8]],
+) -> bool {
     key.reset();
     let mut wanted = keys.iter();
     for entry in view.entries() {
