@@ -10,15 +10,15 @@ use std::alloc::{AllocError, Global};
 use std::cmp::Ordering;
 use std::sync::Arc;
 
-type Pairs = Vec<(Vec<u8>, Cid)>;
+pub(crate) type Pairs = Vec<(Vec<u8>, Cid)>;
 
-type Blocks<D> = Vec<Arc<Block<D>>>;
+pub(crate) type Blocks<D> = Vec<Arc<Block<D>>>;
 
 /// A write of a key: a value to put, or `None` to delete it.
 #[derive(Clone, Copy)]
-struct Write {
-    key: &'static [u8],
-    value: Option<Cid>,
+pub(crate) struct Write {
+    pub(crate) key: &'static [u8],
+    pub(crate) value: Option<Cid>,
 }
 
 /// Numbers that look random, the same in each run.
@@ -62,7 +62,7 @@ fn random_write<D: Digest>(numbers: &mut Numbers) -> Write {
 }
 
 /// The put of a key.
-fn put_of(key: &'static [u8]) -> Write {
+pub(crate) fn put_of(key: &'static [u8]) -> Write {
     Write {
         key,
         value: Some(value()),
@@ -70,7 +70,7 @@ fn put_of(key: &'static [u8]) -> Write {
 }
 
 /// The place of a key among the pairs, and its value where it is there.
-fn place_of(pairs: &Pairs, key: &[u8]) -> (usize, Option<Cid>) {
+pub(crate) fn place_of(pairs: &Pairs, key: &[u8]) -> (usize, Option<Cid>) {
     for (place, (other, value)) in pairs.iter().enumerate() {
         match other.as_slice().cmp(key) {
             Ordering::Less => {}
@@ -110,14 +110,14 @@ fn write_pairs(alloc: Global, pairs: &mut Pairs, write: &Write) -> Result<Option
 
 /// The pairs that some writes left, and the root and the blocks that the same edits left.
 #[derive(Drop)]
-struct History<D: Digest> {
-    pairs: Pairs,
-    root: Cid,
-    blocks: Blocks<D>,
+pub(crate) struct History<D: Digest> {
+    pub(crate) pairs: Pairs,
+    pub(crate) root: Cid,
+    pub(crate) blocks: Blocks<D>,
 }
 
 /// The history of no writes.
-fn begin<D: Digest, const B: u8>(alloc: Global) -> Option<History<D>>
+pub(crate) fn begin<D: Digest, const B: u8>(alloc: Global) -> Option<History<D>>
     requires least { 1 ≤ B }
     requires most { B ≤ 8 }
 {
@@ -177,7 +177,7 @@ impl<D: Digest> History<D> {
     }
 
     /// Does a write to the pairs and to the tree, and answers whether both had the same value before.
-    fn write<const B: u8>(&mut self, alloc: Global, write: &Write) -> bool
+    pub(crate) fn write<const B: u8>(&mut self, alloc: Global, write: &Write) -> bool
         requires least { 1 ≤ B }
         requires most { B ≤ 8 }
     {
@@ -188,7 +188,7 @@ impl<D: Digest> History<D> {
     }
 
     /// Whether the root and the blocks are those of the tree from scratch of the pairs.
-    fn is_of_its_pairs<const B: u8>(&self, alloc: Global) -> bool
+    pub(crate) fn is_of_its_pairs<const B: u8>(&self, alloc: Global) -> bool
         requires least { 1 ≤ B }
         requires most { B ≤ 8 }
     {

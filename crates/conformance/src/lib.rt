@@ -8,6 +8,8 @@ mod example;
 #[cfg(test)]
 mod fixtures;
 #[cfg(test)]
+mod high_layers;
+#[cfg(test)]
 mod histories;
 #[cfg(test)]
 mod lookups;
