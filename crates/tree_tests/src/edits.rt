@@ -351,6 +351,30 @@ fn is_done_without_memory(alloc: Global, work: Work, last: u64) -> bool {
     }
 }
 
+/// Whether look-ups over these five nodes give the value of a key and none of another, and ask for no memory.
+fn are_looked_up_without_memory<'h>(
+    heap: Heap<'h>,
+    blocks: &[Arc<Block<Toy, Heap<'h>>, Heap<'h>>],
+) -> bool {
+    let Some(root) = cid_at(blocks, Some(4)) else {
+        return false;
+    };
+    let Ok(mut map) = BlockMap::new(heap, blocks) else {
+        return false;
+    };
+    heap.refuse_from(1);
+    get::<Toy, 2, _, _>(&mut map, root, b"a/p0") == Some(value())
+        && get::<Toy, 2, _, _>(&mut map, root, b"a/p1").is_none()
+        && heap.refused() == 0
+}
+
+#[test]
+fn look_ups_without_memory(rt: HostRuntime) {
+    let heap = Refusing::new(rt.alloc());
+    let blocks = five_nodes(&heap).expect(&rt, "the five nodes");
+    assert!(rt; are_looked_up_without_memory(&heap, &blocks));
+}
+
 #[test]
 fn a_walk_without_memory(rt: HostRuntime) {
     assert!(rt; is_done_without_memory(rt.alloc(), Work::Walk, 99));
