@@ -9,6 +9,8 @@ mod faults;
 #[cfg(test)]
 mod files;
 #[cfg(test)]
+mod large;
+#[cfg(test)]
 mod listings;
 #[cfg(test)]
 mod memory;

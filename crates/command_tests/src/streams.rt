@@ -260,6 +260,81 @@ fn a_flush_that_fails(rt: HostRuntime) {
     }
 }
 
+/// Takes so many bytes, then nothing at one write, and from then on all.
+#[derive(Drop)]
+struct IdleWriter {
+    written: Vec<u8>,
+    room: usize,
+}
+
+impl Write for IdleWriter {
+    ghost contents = { λ w. Some w.written.items };
+
+    fn write(&mut self, buf: &[u8]) -> io::Result<usize> {
+        let most = buf.len().min(self.room);
+        if most == 0 {
+            self.room = usize::MAX;
+            return Ok(0);
+        }
+        self.room -= most;
+        self.written.write(&buf[..most])
+    }
+
+    fn flush(&mut self) -> io::Result<()> {
+        Ok(())
+    }
+}
+
+/// Runs a command on an input in memory, over such a writer.
+fn run_into_idle<T: Threads + Wait + Sync>(
+    rt: &T,
+    alloc: Global,
+    words: &[&str],
+    input: &[u8],
+    room: usize,
+) -> Ended {
+    let mut input = input;
+    let mut out = IdleWriter {
+        written: Vec::new(alloc),
+        room,
+    };
+    let mut err = Vec::new(alloc);
+    let status = run_words(rt, alloc, words, &mut input, &mut out, &mut err).status;
+    Ended {
+        status,
+        out: out.written,
+        err,
+    }
+}
+
+/// Whether a command ends where nothing is taken: at the first byte, at the seventh, and at the last one.
+fn ends_where_nothing_is_taken<T: Threads + Wait + Sync>(
+    rt: &T,
+    alloc: Global,
+    words: &[&str],
+    input: &[u8],
+) -> bool {
+    let whole = run(rt, alloc, words, input);
+    for room in [0, 6, whole.out.len().saturating_sub(1)] {
+        let ended = run_into_idle(rt, alloc, words, input, room);
+        match whole.out.get(..room) {
+            Some(front) if ended.is(4, front, "msthost: write failed\n") => {}
+            _ => return false,
+        }
+    }
+    true
+}
+
+#[test]
+fn a_writer_that_takes_nothing(rt: HostRuntime) {
+    for (words, input) in &FLUSHES {
+        assert!(rt;
+            ends_where_nothing_is_taken(&rt, rt.alloc(), words, input),
+            "at {words:?}"
+        );
+    }
+}
+
 #[test]
 fn standard_error_that_fails(rt: HostRuntime) {
     let mut input: &[u8] = b"a/b";
