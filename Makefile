@@ -26,6 +26,7 @@ test:
 	@tools/layout
 	@tools/edits --apply
 	@tools/readme-example
+	@tools/must-not-compile
 	@rt ci
 
 check:

@@ -15,12 +15,12 @@ use std::sync::Arc;
 /// What it gives is lent by the blocks, and may outlive the map but not them:
 ///
 /// ```compile_fail
-/// let view = {
+/// let lent = {
 ///     let blocks = build::<Sha256, 2, _, _>(alloc, &pairs)?.blocks;
 ///     let mut map = BlockMap::new(alloc, &blocks)?;
-///     map.get(&root)?.view()
+///     map.get(&root)
 /// };
-/// // error[E0597]: `blocks` does not live long enough
+/// // error[borrow-e0597]: `blocks` does not live long enough
 /// ```
 ///
 /// A contract sees it as the blocks, and how often one was asked for.

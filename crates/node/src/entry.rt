@@ -11,7 +11,7 @@ use cid::CidRef;
 ///     let block = writer.finish()?;
 ///     NodeView::parse(&block)?.entries().next()
 /// };
-/// // error[E0597]: `block` does not live long enough
+/// // error[borrow-e0597]: `block` does not live long enough
 /// ```
 #[derive(Clone, Copy, Debug)]
 pub struct EntryView<'a> {
