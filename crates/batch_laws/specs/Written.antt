@@ -1,0 +1,38 @@
+-- What a batch writes on its way. Nodes that are made stay made, and rows that are open stay the front of a node: so what
+-- holds of all nodes in the end, as that their keys ascend, never fails before.
+use Rattle.std.specs.Prelude.{◌≡◌, ◌≤◌, true, length, [], Option, Some, None}
+use Rattle.std.specs.List.{AllByRecursion}
+use Rattle.spec.specs.NodeFormat.{Shape, entries_of, are_keys_after}
+use Rattle.batch_laws.specs.Links.{Rows, LinkEdge, LinkClear, LinkWaiting, LinkOpened, Log, onto_links}
+
+-- keys of 1 to 1,024 bytes that ascend: a node of which this holds is never refused by a writer
+abbrev pub HasKeys : Shape → Type 0
+HasKeys s = are_keys_after [] (entries_of s) ≡ true
+
+-- some node of which P holds begins with these rows
+abbrev pub GoesOn : (Shape → Type 0) → Rows → Type 0
+GoesOn P rows = (s : Shape) × P (onto_links rows s)
+
+abbrev pub AllGoOn : (Shape → Type 0) → LinkEdge → Type 0
+AllGoOn P LinkClear = Unit {0}
+AllGoOn P (LinkWaiting c) = Unit {0}
+AllGoOn P (LinkOpened rows s) = GoesOn P rows × AllGoOn P s
+
+-- P holds of each node that was made, and may hold of each that is open
+pub record AreWritten (P : Shape → Type 0) (s : LinkEdge) (log : Log) : Type 0 where
+  pub made : AllByRecursion P log.made
+  pub begun : AllGoOn P s
+
+-- an edge with its log, from which another came: what is written now was written then, and no fewer nodes are read
+pub record IsEarlier (P : Shape → Type 0) (s : LinkEdge) (log : Log) (t : LinkEdge) (later : Log) : Type 0 where
+  pub written : AreWritten P t later → AreWritten P s log
+  pub reads : length log.read ≤ length later.read
+
+-- where a step has an answer
+abbrev pub OnAnswer : {A : Type 0} → Option (A × Log) → (A → Log → Type 0) → Type 0
+OnAnswer None P = Unit {0}
+OnAnswer (Some x) P = P x.0 x.1
+
+-- a step that answers an edge goes on from this one
+abbrev pub GoesFrom : (Shape → Type 0) → LinkEdge → Log → Option (LinkEdge × Log) → Type 0
+GoesFrom P s log step = OnAnswer step (λ t later. IsEarlier P s log t later)
