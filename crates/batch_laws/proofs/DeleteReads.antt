@@ -10,14 +10,16 @@ use Rattle.spec.specs.NodeFormat.{Shape, LastLink, MoreLinks, first_link}
 use Rattle.edit_laws.specs.Order.{order}
 use Rattle.edit_laws.specs.PathEdit.{flat, lowest_shape, prune_link, delete_read}
 use Rattle.edit_laws.specs.ShapeEdit.{last_shape, layer_of_shape, links_beside, single_shape, trim_links}
-use Rattle.edit_laws.specs.Sources.{gap, path_from, path_at, seam_from, delete_seam_from, pruned_from}
+use Rattle.edit_laws.specs.Sources.{gap, value_at, value_from, path_from, path_at, seam_from, delete_seam_from, pruned_from}
 use Rattle.edit_laws.proofs.Orders.{order-equal, order-same, turned, turned_back}
 use Rattle.batch_laws.specs.Batch.{Change}
 use Rattle.batch_laws.specs.Links.{LinkEdge, LinkClear, LinkWaiting, Log, with_read, and_then, log_shown, parting, pairs_in_turn, walking_node, walking, walking_top, Top, topping}
 use Rattle.batch_laws.specs.Written.{OnAnswer}
 use Rattle.batch_laws.specs.Paths.{IsWhole, IsWholeAt, IsWholeSeam, IsWholeChain, IsDeleteRead}
+use Rattle.batch_laws.specs.Previous.{previous_top}
 use Rattle.batch_laws.specs.Laws.{OneDeleteReads}
 use Rattle.batch_laws.proofs.LinkQuiet.{Calm, Quiet, HasPair, place, calm-quiet, calm-less, quiet-more, calm-place, has-place, placed, subtree-first, subtree-second, Unread, IsPairAt, one-calm, IsStill, still-part, still-node, unread-then}
+use Rattle.batch_laws.proofs.OnePrevious.{found-enough, one-node, one-part}
 use Rattle.batch_laws.proofs.PutReads.{Reads, after-unread, before-unread, path-none, whole-none, enough}
 use Rattle.batch_laws.proofs.SeamReads.{top_link, top-pair, top-place, seam-left, seam-right, whole-left, whole-right, seam-enough, chain-enough, IsSeam, seam-reads, ChainReads, top-reads}
 
@@ -423,7 +425,7 @@ module _ (digest : List ℕ → List ℕ) (shows : List ℕ → Option Shape) (l
   gone-top : (root : List ℕ) → ((k : List ℕ) → layer k < most) → n ≤ most → (o : Option Shape) → shows root ≡ o
       → let log : Log = record { read = []; made = [] } in
       OnAnswer (and_then (log_shown o log) (λ s log1. and_then (walking_top digest shows layer n one s log1)
-      (topping digest shows n))) (IsDeleteRead shows most key root)
+      (topping digest shows n))) (IsDeleteRead shows layer most key root)
   gone-top root f z None q = tt
   gone-top root f z (Some m) q =
       let t = layer_of_shape layer m in
@@ -433,6 +435,9 @@ module _ (digest : List ℕ → List ℕ) (shows : List ℕ → Option Shape) (l
       after (walking_node digest shows d (walked t (suc d)) one LinkClear m (first_log m)) reads
       (prune-at t d m (first_log m) (node_reads t m) refl reads)
     where
+      of_some : (x y : Shape) → Some x ≡ Some y → x ≡ y
+      of_some x y h = cc
+
       low : (s : Shape) → layer_of_shape layer s < most
       low (LastLink l) = let i = f [] in omega arith
       low (MoreLinks l e r) = f e.0
@@ -448,26 +453,45 @@ module _ (digest : List ℕ → List ℕ) (shows : List ℕ → Option Shape) (l
           let i = enough shows (suc t) most key (Some root) (omega arith) whole in
           (ap (path_at (path_from shows t key) key) (sym q) ∙ i.0, i.1)
 
+      previous : IsWhole shows (layer_of_shape layer m) key (gap key m) → (s : Shape) → shows root ≡ Some s
+          → previous_top shows layer one s ≡ value_from shows most key (Some root) ∷ []
+      previous w s r =
+          let t = layer_of_shape layer m in
+          let l = low m in
+          let same : m ≡ s = of_some m s (sym q ∙ r) in
+          let whole : IsWhole shows (suc t) key (Some root) =
+          subst (λ o. IsWholeAt (IsWhole shows t key) key o) (sym q) w in
+          subst (λ x. previous_top shows layer one x ≡ value_from shows most key (Some root) ∷ []) same
+          (one-node shows key None t m (one-part shows key None t) w
+          ∙ ap (λ o. value_at (value_from shows t key) key o ∷ []) (sym q)
+          ∙ ap (λ x. x ∷ []) (found-enough shows key (suc t) most (Some root) (omega arith) whole))
+
       ends : (u : LinkEdge) (later : Log) → later.read ≡ m ∷ node_reads (layer_of_shape layer m) m
           → IsGone (layer_of_shape layer m) (n - suc (layer_of_shape layer m)) m LinkClear u
           → top_link u ≡ prune_link key (m ∷ below (layer_of_shape layer m) m)
           (seam m (below (layer_of_shape layer m) m)) → (x : Option (Top × Log))
           → ChainReads digest shows x later (pruned_from shows n (top_link u)) (IsWholeChain shows n (top_link u))
-          → OnAnswer x (IsDeleteRead shows most key root)
+          → OnAnswer x (IsDeleteRead shows layer most key root)
       ends u later r gone p None j = tt
       ends u later r gone p (Some x) j =
           let t = layer_of_shape layer m in
           let i = path gone.path in
           let all = subst (λ xs. Facts xs x.0 x.1) i.0
           (facts t (n - suc t) m u later x.0 x.1 z r gone p j.0 j.1) in
-          record { path = i.1; seam = all.0; chain = all.1; read_is = all.2 }
+          record {
+            path = i.1;
+            seam = all.0;
+            chain = all.1;
+            read_is = all.2;
+            previous = λ s r. previous gone.path s r;
+          }
 
       after : (x : Option (LinkEdge × Log))
           → Reads x (first_log m) (node_reads (layer_of_shape layer m) m)
           (IsGone (layer_of_shape layer m) (n - suc (layer_of_shape layer m)) m LinkClear)
           → OnAnswer x (λ u later. top_link u ≡ prune_link key (m ∷ below (layer_of_shape layer m) m)
           (seam m (below (layer_of_shape layer m) m)))
-          → OnAnswer (and_then x (topping digest shows n)) (IsDeleteRead shows most key root)
+          → OnAnswer (and_then x (topping digest shows n)) (IsDeleteRead shows layer most key root)
       after None j p = tt
       after (Some x) j p = ends x.0 x.1 j.0 j.1 p (topping digest shows n x.0 x.1) (top-reads digest shows n x.0 x.1)
 

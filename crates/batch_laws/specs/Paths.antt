@@ -1,10 +1,11 @@
 -- What one change reads, whatever the source shows.
-use Rattle.std.specs.Prelude.{◌≡◌, ℕ, zero, suc, List, [], ◌++◌, Option, Some, None}
+use Rattle.std.specs.Prelude.{◌≡◌, ℕ, zero, suc, List, [], ◌∷◌, ◌++◌, Option, Some, None}
 use Rattle.spec.specs.NodeFormat.{Shape, LastLink, MoreLinks, first_link}
 use Rattle.edit_laws.specs.PathEdit.{lowest_shape, prune_link, delete_read}
 use Rattle.edit_laws.specs.ShapeEdit.{last_link, links_beside}
-use Rattle.edit_laws.specs.Sources.{gap, path_from, delete_seam_from, delete_pruned_from}
+use Rattle.edit_laws.specs.Sources.{gap, path_from, value_from, delete_seam_from, delete_pruned_from}
 use Rattle.batch_laws.specs.Links.{Log, Top}
+use Rattle.batch_laws.specs.Previous.{previous_top}
 
 abbrev pub IsWholeAt : (Option (List ℕ) → Type 0) → List ℕ → Option Shape → Type 0
 IsWholeAt further key None = ⊥
@@ -48,8 +49,9 @@ IsWholeChain shows k None = Unit {0}
 IsWholeChain shows zero (Some c) = ⊥
 IsWholeChain shows (suc k) (Some c) = IsWholeChainAt (IsWholeChain shows k) (shows c)
 
--- what is read is this, whole, over at most m nodes on each way down
-pub record IsDeleteRead (shows : List ℕ → Option Shape) (m : ℕ) (key root : List ℕ) (top : Top) (log : Log) : Type 0 where
+-- what is read is this, whole, over at most m nodes on each way down; and what the walk meets is what a look-up finds
+pub record IsDeleteRead (shows : List ℕ → Option Shape) (layer : List ℕ → ℕ) (m : ℕ) (key root : List ℕ) (top : Top)
+    (log : Log) : Type 0 where
   pub path : IsWhole shows m key (Some root)
   pub seam : let path = path_from shows m key (Some root) in
       let x = links_beside key (lowest_shape path) in IsWholeSeam shows m x.0 x.1
@@ -58,3 +60,5 @@ pub record IsDeleteRead (shows : List ℕ → Option Shape) (m : ℕ) (key root 
   pub read_is : let path = path_from shows m key (Some root) in
       let seam = delete_seam_from shows m key path in
       log.read ++ top.1 ≡ delete_read path seam (delete_pruned_from shows m key path seam)
+  pub previous : (s : Shape) → shows root ≡ Some s
+      → previous_top shows layer ((key, None) ∷ []) s ≡ value_from shows m key (Some root) ∷ []
