@@ -15,7 +15,7 @@ use Rattle.batch_laws.specs.Walking.{depth_of, with_pairs, walk_part, walk_node,
 use Rattle.batch_laws.specs.Trace.{opened_gone, pair_gone, part_gone, node_gone, subtree_gone, pruned_gone, top_gone, top_left, pairs_gone, walk_gone, walk_under_gone, batch_gone, batch_read}
 use Rattle.batch_laws.specs.Counts.{reads_of, most_reads}
 use Rattle.batch_laws.specs.Laws.{BatchReadsFew}
-use Rattle.batch_laws.proofs.Quiet.{Calm, Quiet, top_reads, calm-quiet, calm-less, quiet-clear, quiet-more, quiet-pair, subtree-unread, calm-subtree, HasPair, top-unread, has-pair, has-subtree, top-under}
+use Rattle.batch_laws.proofs.Quiet.{Calm, Quiet, top_reads, calm-quiet, calm-less, quiet-clear, quiet-more, quiet-pair, subtree-unread, calm-subtree, HasPair, top-unread, has-row, has-pair, has-subtree, top-under}
 
 -- ---- how many nodes it takes to open what waits
 
@@ -115,13 +115,8 @@ node-few : (k : ℕ) (m : Node) (rows : List (Part × Pair)) (s : Edge) → AllW
 node-few k (Last p) rows s w ih = let i = ih p w in let u = top-under rows (with_part p s) in omega arith
 node-few k (More p e r) rows s w ih =
     let i = ih p w.0 in
-    let u = top-unread (with_node (More p e r) rows s) (has-rows rows (closed (with_part p s), e) (rows_in r) (edge_of (last_part r))) in
+    let u = top-unread (with_node (More p e r) rows s) (has-row rows (closed (with_part p s), e) (rows_in r) (edge_of (last_part r))) in
     omega arith
-  where
-    has-rows : (rows : List (Part × Pair)) (x : Part × Pair) (ys : List (Part × Pair)) (s : Edge)
-        → HasPair (Opened (rows ++ (x ∷ ys)) s)
-    has-rows [] x ys s = tt
-    has-rows (y ∷ rows) x ys s = tt
 
 part-few : (k : ℕ) (p : Part) (s : Edge) → IsWithin k p → PartFew k p s
 part-few k Nothing s w = let t = top-waits s in omega arith
@@ -280,7 +275,7 @@ cost-more t c cs = let i = cost-all t cs in let j = cost-one t c.1 in omega arit
 
 -- ---- the walk
 
-length-three : (xs ys zs : List Node) → length (xs ++ (ys ++ zs)) ≡ length xs + length ys + length zs
+pub length-three : (xs ys zs : List Node) → length (xs ++ (ys ++ zs)) ≡ length xs + length ys + length zs
 length-three xs ys zs =
     let a = length-append xs (ys ++ zs) in let b = length-append ys zs in omega arith
 
