@@ -17,7 +17,7 @@ use Rattle.batch_laws.specs.Links.{LinkEdge, LinkClear, LinkWaiting, Log, with_r
 use Rattle.batch_laws.specs.Written.{OnAnswer}
 use Rattle.batch_laws.specs.Paths.{IsWhole, IsWholeAt, IsWholeSeam, IsWholeChain, IsDeleteRead}
 use Rattle.batch_laws.specs.Previous.{previous_top}
-use Rattle.batch_laws.specs.Laws.{OneDeleteReads}
+use Rattle.batch_laws.specs.Laws.Reads.{OneDeleteReads}
 use Rattle.batch_laws.proofs.LinkQuiet.{Calm, Quiet, HasPair, place, calm-quiet, calm-less, quiet-more, calm-place, has-place, placed, subtree-first, subtree-second, Unread, IsPairAt, one-calm, IsStill, still-part, still-node, unread-then}
 use Rattle.batch_laws.proofs.OnePrevious.{found-enough, one-node, one-part}
 use Rattle.batch_laws.proofs.PutReads.{Reads, after-unread, before-unread, path-none, whole-none, enough}

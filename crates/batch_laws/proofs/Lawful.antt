@@ -23,13 +23,13 @@ use Rattle.edit_laws.proofs.RecordMaps.{ascending-sorted}
 use Rattle.batch_laws.specs.Batch.{Change, if_put, puts, changed, AreKeyed, HaveOwnCids}
 use Rattle.batch_laws.specs.Trace.{batch_made}
 use Rattle.batch_laws.specs.Written.{HasKeys}
-use Rattle.batch_laws.specs.Laws.{BatchHasKeys, BatchIsLawful, BatchGoesOn}
+use Rattle.batch_laws.specs.Laws.Written.{BatchHasKeys, BatchIsLawful, BatchGoesOn}
 use Rattle.batch_laws.proofs.Balance.{weight-batch}
 use Rattle.batch_laws.proofs.Changing.{each-changed}
 use Rattle.batch_laws.proofs.Collected.{ascending-changed}
 use Rattle.batch_laws.proofs.Old.{read-old, gone-read}
 use Rattle.batch_laws.proofs.Walks.{batch-is_top}
-use Rattle.batch_laws.proofs.Written.{closing-earlier, pairing-earlier, parting-earlier, subtreeing-earlier, pairs-earlier, walking-earlier, topping-earlier}
+use Rattle.batch_laws.proofs.Earlier.{closing-earlier, pairing-earlier, parting-earlier, subtreeing-earlier, pairs-earlier, walking-earlier, topping-earlier}
 
 -- ---- what passes a test in the new tree passes it where it is made
 

@@ -19,7 +19,7 @@ use Rattle.edit_laws.proofs.RecordMaps.{ascending-sorted, find-is}
 use Rattle.edit_laws.proofs.Within.{IsWithin, AllWithin}
 use Rattle.batch_laws.specs.Batch.{Change, if_less, if_greater, before, at_key, after, AreAscending}
 use Rattle.batch_laws.specs.Previous.{values, value_met, previous_node, previous_gap}
-use Rattle.batch_laws.specs.Laws.{PreviousIsValues}
+use Rattle.batch_laws.specs.Laws.Sources.{PreviousIsValues}
 use Rattle.batch_laws.proofs.Bridges.{layer-same}
 use Rattle.batch_laws.proofs.OneByOne.{AllLater, later-before, later-at, later-after, later-same, later-trans}
 

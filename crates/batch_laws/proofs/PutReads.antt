@@ -15,7 +15,7 @@ use Rattle.batch_laws.specs.Walking.{depth_of}
 use Rattle.batch_laws.specs.Links.{LinkEdge, LinkClear, LinkWaiting, LinkOpened, Log, with_read, and_then, log_shown, pairs_in_turn, walking_node, walking, Top, topping, walking_top}
 use Rattle.batch_laws.specs.Written.{OnAnswer}
 use Rattle.batch_laws.specs.Paths.{IsWhole, IsWholeAt, IsPathRead}
-use Rattle.batch_laws.specs.Laws.{OnePutReadsPath}
+use Rattle.batch_laws.specs.Laws.Reads.{OnePutReadsPath}
 use Rattle.batch_laws.proofs.LinkQuiet.{Calm, Quiet, HasPair, calm-quiet, calm-less, quiet-more, closing-reads, Unread, IsPairAt, one-calm, IsStill, still-part, still-node, unread-then}
 
 -- a step that reads just this

@@ -14,7 +14,7 @@ use Rattle.batch_laws.specs.Edge.{Edge, Clear, Waiting, Opened, edge_of, closed,
 use Rattle.batch_laws.specs.Walking.{depth_of, with_pairs, walk_part, walk_node, walk_top}
 use Rattle.batch_laws.specs.Trace.{opened_gone, pair_gone, part_gone, node_gone, subtree_gone, pruned_gone, top_gone, top_left, pairs_gone, walk_gone, walk_under_gone, batch_gone, batch_read}
 use Rattle.batch_laws.specs.Counts.{reads_of, most_reads}
-use Rattle.batch_laws.specs.Laws.{BatchReadsFew}
+use Rattle.batch_laws.specs.Laws.Reads.{BatchReadsFew}
 use Rattle.batch_laws.proofs.Quiet.{Calm, Quiet, top_reads, calm-quiet, calm-less, quiet-clear, quiet-more, quiet-pair, subtree-unread, calm-subtree, HasPair, top-unread, has-row, has-pair, has-subtree, top-under}
 
 -- ---- how many nodes it takes to open what waits
