@@ -1,32 +1,38 @@
-# The two commands: `make demo` shows the program on an example, `make test` is the gate.
+# The two commands: `make demo` shows the program at work, `make test` is the gate.
 
-.PHONY: demo test check edits answers plant bench gate-times clean help
+.PHONY: demo build install test check edits answers plant bench gate-times pictures clean help
+
+PREFIX ?= /usr/local
 
 help:
-	@echo 'make demo              builds msthost and runs it on examples'
+	@echo 'make demo              msthost at work on the examples: at once without proofs, and then proved'
+	@echo 'make build             proves msthost with all that it stands on, and builds target/msthost'
+	@echo 'make install PREFIX=.. puts target/msthost, its manual page and what shells complete of it below PREFIX'
 	@echo 'make test              the gate: every proof, must-fail edit, test and program, from nothing'
 	@echo 'make check             every crate, quickly, over what earlier checks kept'
-	@echo 'make edits             the wrong bodies of the folder edits, before a release; CRATE=name: of one crate'
+	@echo 'make edits             the wrong bodies that the gate does not try, before a release; CRATE=name: of one crate'
 	@echo 'make answers CRATE=name  writes out the answers that the must-fail edits of a crate break, over what make check kept'
 	@echo 'make plant CRATE=name  wrong bodies that the contracts of a crate let through'
 	@echo 'make bench             builds and runs the measurements'
 	@echo 'make gate-times        the gate, and the processor time that it took, crate by crate'
+	@echo 'make pictures          draws docs/pictures and the tables that are made of crates.txt anew'
 	@echo 'make clean             takes away what was built'
-	@echo
-	@echo 'Tests stand in crates of their own: of dagcbor and node in format_tests, of sha256_lanes, cid, store and refusing in'
-	@echo 'block_tests, of scratch, rewrite and edit in tree_tests, of notices in notice_tests, of batches and kept in batch_tests, of repo in'
-	@echo 'repo_tests, both over repo_fixtures, of closing in closing_tests, of host in host_tests, of scripts in script_tests, of'
-	@echo 'export and built_car in export_tests, of console, script_text, repository_commands, run_command, tree_command and commands in command_tests,'
-	@echo 'across crates in conformance.'
 
 demo:
-	@bash tools/demo
+	@tools/demo
+
+build:
+	@tools/build
+
+install: build
+	@tools/install $(PREFIX)
 
 test:
 	@tools/layout
 	@tools/edits --apply
 	@tools/readme-example
 	@tools/must-not-compile
+	@tools/crate-tables --compare
 	@rt ci
 
 check:
@@ -48,6 +54,10 @@ bench:
 
 gate-times:
 	@tools/gate-times
+
+pictures:
+	@tools/crate-tables
+	@tools/draw-pictures
 
 clean:
 	@rm -rf crates/*/out target tools/*/target
