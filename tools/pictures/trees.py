@@ -1,4 +1,5 @@
 """Trees as `msthost tree` prints them, read and drawn: a column for each key, a row for each layer, a box for each node."""
+import base64
 import hashlib
 
 from svg import Picture, width_of
@@ -71,12 +72,14 @@ class Node:
         self.links = [reader.link(), *after]
 
 
+def layer_of(key, bits):
+    return (256 - int.from_bytes(hashlib.sha256(key).digest(), "big").bit_length()) // bits
+
+
 class Tree:
-    """What `msthost tree` printed."""
+    """What `msthost tree` printed, with so many zero bits a layer."""
 
-    def __init__(self, text):
-        import base64
-
+    def __init__(self, text, bits=2):
         def cid_of(words):
             return base64.b32decode(words[1:].upper() + "=" * (-len(words[1:]) % 8))
 
@@ -91,8 +94,11 @@ class Tree:
             self.names[cid] = words
         self.pairs, self.rows, self.columns = [], [], {}
         self.place(self.root, 0)
-        # The lowest row is layer 0, as a subtree is of the very next layer.
-        self.layers = len(self.rows)
+        # The layer of the top's row; each row below is the next lower one.
+        self.top = layer_of(self.nodes[self.root].keys[0], bits) if self.pairs else 0
+        for depth, row in enumerate(self.rows):
+            if any(layer_of(key, bits) != self.top - depth for node in row for key in node.keys):
+                raise Faulty(f"a key stands in another layer than its own, by {bits} bits a layer")
 
     def place(self, cid, depth):
         """Gives the keys below a node their columns, in order, and the node its row."""
@@ -130,16 +136,17 @@ def drawn(tree, title, beside=None, is_before=False, start=None, marked=()):
     column = 17 if upright else max(24, longest + 12)
     tall = (longest if upright else 14) + 16
     left, top, gap = 84, 58, 34
-    width, height = max(left + column * max(1, len(keys)) + 16, left + width_of(title, 14)), top + tree.layers * (tall + gap) + 4
+    width, height = max(left + column * max(1, len(keys)) + 16, left + width_of(title, 14)), top + len(tree.rows) * (tall + gap) + 4
     picture = Picture(width, height, title)
     picture.text(12, 22, title, 14, anchor="start", bold=True)
-    shown = f"{len(keys)} keys in {len(tree.nodes)} nodes; root ..{tree.names[tree.root][-6:]}"
+    keys_in = f"{len(keys)} key{'s' * (len(keys) != 1)} in {len(tree.nodes)} node{'s' * (len(tree.nodes) != 1)}"
+    shown = f"{keys_in}; root ..{tree.names[tree.root][-6:]}"
     picture.text(12, 41, f"{shown}; the keys begin with {start.decode()}" if start else shown, 11, "#5b6770", "start")
     x_of = lambda place: left + column * place
     boxes = {}
     for depth, row in reversed([*enumerate(tree.rows)]):
         y = top + depth * (tall + gap)
-        picture.text(12, y + tall / 2 + 4, f"layer {tree.layers - 1 - depth}", 11, "#5b6770", "start")
+        picture.text(12, y + tall / 2 + 4, f"layer {tree.top - depth}", 11, "#5b6770", "start")
         for node in row:
             own = [tree.columns[key] for key in node.keys]
             if own:
