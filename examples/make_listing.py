@@ -1,5 +1,6 @@
 #!/usr/bin/env python3
-"""Makes the example: lines `collection/rkey CID` of a small repository, the same on each run.
+"""Makes the example: lines `collection/rkey CID` of a small repository, the same on each run; with the word `small` those
+of a few keys with short names, for pictures.
 
 The CIDs are those of small records, maps of DAG-CBOR with `text` and `$type`. Lines stand in no order, some keys come
 twice, and a few lines end in CR LF or are empty, so that the listing shows what `msthost tree` does with them.
@@ -61,5 +62,13 @@ def lines():
             yield "\n"
 
 
+def small_lines():
+    words = "ant bee cat eel fox goat hare hawk iguana jay kite lion mouse newt otter raven seal stork toad wren yak".split()
+    for word in sorted(words, key=lambda word: digest(word)):
+        note = b"\xa1" + cbor_text("text") + cbor_text(word)
+        yield f"com.example.note/{word} {text_of_cid(note)}\n"
+
+
 if __name__ == "__main__":
-    sys.stdout.buffer.write("".join(lines()).encode())
+    made = small_lines() if sys.argv[1:] == ["small"] else lines()
+    sys.stdout.buffer.write("".join(made).encode())
