@@ -1,20 +1,18 @@
 -- A batch reads no more than its changes one by one: what waits is opened only where a pair went, and that pays for it.
 use Rattle.std.proofs.Common.{◌≡◌, ℕ, zero, suc, ◌+◌, ◌-◌, ◌*◌, ◌<◌, ◌≤◌, List, [], ◌∷◌, ◌++◌, length, refl, sym, ap, subst, arith, length-append, Option}
 use Rattle.std.specs.declared.option.Option.TheVariants.{Some, None}
-use Rattle.std.specs.declared.cmp.Ordering.{Ordering}
-use Rattle.std.specs.declared.cmp.Ordering.TheVariants.{Less, Equal, Greater}
 use Rattle.spec.specs.Tree.{Pair, Node, Part, Last, More, Nothing, Sub, top, top_layer}
-use Rattle.edit_laws.specs.Order.{order}
 use Rattle.edit_laws.specs.TreeEdit.{layer_of}
 use Rattle.edit_laws.specs.Trace.{last_part}
 use Rattle.edit_laws.proofs.Tops.{layer_of-top}
 use Rattle.edit_laws.proofs.Within.{IsWithin, AllWithin, within-last, within-tree}
-use Rattle.batch_laws.specs.Batch.{Change, if_less, if_same, if_greater, before, at_key, after, puts, entry}
+use Rattle.batch_laws.specs.Batch.{Change, before, at_key, after, puts, entry}
 use Rattle.batch_laws.specs.Edge.{Edge, Clear, Waiting, Opened, edge_of, closed, rows_in, rows_of, next_of, with_pair, with_part, with_node, with_subtree}
 use Rattle.batch_laws.specs.Walking.{depth_of, with_pairs, walk_part, walk_node, walk_top}
 use Rattle.batch_laws.specs.Trace.{opened_gone, pair_gone, part_gone, node_gone, subtree_gone, pruned_gone, top_gone, top_left, pairs_gone, walk_gone, walk_under_gone, batch_gone, batch_read}
 use Rattle.batch_laws.specs.Counts.{reads_of, most_reads}
 use Rattle.batch_laws.specs.Laws.Reads.{BatchReadsFew}
+use Rattle.batch_laws.proofs.Sums.{at_sum, sum-split, sum-all, length-three}
 use Rattle.batch_laws.proofs.Quiet.{Calm, Quiet, top_reads, calm-quiet, calm-less, quiet-clear, quiet-more, quiet-pair, subtree-unread, calm-subtree, HasPair, top-unread, has-row, has-pair, has-subtree, top-under}
 
 -- ---- how many nodes it takes to open what waits
@@ -244,40 +242,17 @@ has-pairs depth (p ∷ ps) s h = has-pairs depth ps (with_pair (depth p.0) p s) 
 
 -- ---- what changes cost
 
-abbrev at_cost : ℕ → Option (Option (List ℕ)) → ℕ
-at_cost t None = 0
-at_cost t (Some v) = reads_of t v
-
-cost-case : (t : ℕ) (c : Change) (bs ds : List Change) (a : Option (Option (List ℕ))) (k : ℕ) (o : Ordering)
-    → most_reads t bs + (at_cost t a + most_reads t ds) ≤ k
-    → most_reads t (if_less o c bs) + (at_cost t (if_same o c a) + most_reads t (if_greater o c ds))
-    ≤ reads_of t c.1 + k
-cost-case t c bs ds a k Less h = omega arith
-cost-case t c bs ds a k Equal h = omega arith
-cost-case t c bs ds a k Greater h = omega arith
-
-cost-split : (t : ℕ) (key : List ℕ) (cs : List Change)
-    → most_reads t (before key cs) + (at_cost t (at_key key cs) + most_reads t (after key cs)) ≤ most_reads t cs
-cost-split t key [] = omega arith
-cost-split t key (c ∷ cs) =
-    cost-case t c (before key cs) (after key cs) (at_key key cs) (most_reads t cs) (order c.0 key) (cost-split t key cs)
-
 cost-one : (t : ℕ) (v : Option (List ℕ)) → suc (reads_of t v) ≤ reads_of (suc t) v
 cost-one t None = omega arith
 cost-one t (Some v) = omega arith
 
 cost-all : (t : ℕ) (cs : List Change) → most_reads t cs ≤ most_reads (suc t) cs
-cost-all t [] = omega arith
-cost-all t (c ∷ cs) = let i = cost-all t cs in let j = cost-one t c.1 in omega arith
+cost-all t cs = sum-all (reads_of t) (reads_of (suc t)) cs (λ v. (let i = cost-one t v in omega arith))
 
 cost-more : (t : ℕ) (c : Change) (cs : List Change) → suc (most_reads t (c ∷ cs)) ≤ most_reads (suc t) (c ∷ cs)
 cost-more t c cs = let i = cost-all t cs in let j = cost-one t c.1 in omega arith
 
 -- ---- the walk
-
-pub length-three : (xs ys zs : List Node) → length (xs ++ (ys ++ zs)) ≡ length xs + length ys + length zs
-length-three xs ys zs =
-    let a = length-append xs (ys ++ zs) in let b = length-append ys zs in omega arith
 
 module _ (layer : List ℕ → ℕ) (n : ℕ) where
   -- from where nothing is in the gap
@@ -432,7 +407,7 @@ module _ (layer : List ℕ → ℕ) (n : ℕ) where
       }
 
   row-settled : (k d : ℕ) (p : Part) (e : Pair) (r : Node) (bs ds : List Change) (o : Option (Option (List ℕ)))
-      (s : Edge) (cost : ℕ) → most_reads k bs + (at_cost k o + most_reads k ds) ≤ cost → SettledPart k
+      (s : Edge) (cost : ℕ) → most_reads k bs + (at_sum (reads_of k) o + most_reads k ds) ≤ cost → SettledPart k
       → Rest k d r ds → OpenRest k d r ds → suc d + k ≡ n → IsWithin k p → FitsIn n s → Quiet (suc d) s
       → SettledNode k d cost (More p e r) (row_gone d p bs (entry o e) r ds s) s (row_edge d p bs (entry o e) r ds s)
   row-settled k d p e r bs ds None s cost c ih rest open_rest q w f h =
@@ -444,7 +419,7 @@ module _ (layer : List ℕ → ℕ) (n : ℕ) where
       record { settled = i.settled; tops = λ x. i.tops tt }
 
   row-unsettled : (k d : ℕ) (p : Part) (e : Pair) (r : Node) (bs ds : List Change) (o : Option (Option (List ℕ)))
-      (s : Edge) (cost : ℕ) → most_reads k bs + (at_cost k o + most_reads k ds) ≤ cost → UnsettledPart k
+      (s : Edge) (cost : ℕ) → most_reads k bs + (at_sum (reads_of k) o + most_reads k ds) ≤ cost → UnsettledPart k
       → Rest k d r ds → OpenRest k d r ds → suc d + k ≡ n → IsWithin k p → FitsIn n s
       → Unsettled (suc d) k cost (row_gone d p bs (entry o e) r ds s) s (row_edge d p bs (entry o e) r ds s)
   row-unsettled k d p e r bs ds None s cost c ih rest open_rest q w f =
@@ -463,7 +438,7 @@ module _ (layer : List ℕ → ℕ) (n : ℕ) where
         record { settled = ih (suc d) p cs s q w f h; tops = λ x. absurd x }
     settled-node k d (More p e r) cs s ih open_ih q w f h =
         let ds = after e.0 cs in
-        row-settled k d p e r (before e.0 cs) ds (at_key e.0 cs) s (most_reads k cs) (cost-split k e.0 cs) ih
+        row-settled k d p e r (before e.0 cs) ds (at_key e.0 cs) s (most_reads k cs) (sum-split (reads_of k) e.0 cs) ih
         (λ t g u. settled-node k d r ds t ih open_ih q w.1 g u) (λ t g. unsettled-node k d r ds t ih open_ih q w.1 g)
         q w.0 f h
 
@@ -472,7 +447,7 @@ module _ (layer : List ℕ → ℕ) (n : ℕ) where
     unsettled-node k d (Last p) cs s ih open_ih q w f = open_ih (suc d) p cs s q w f
     unsettled-node k d (More p e r) cs s ih open_ih q w f =
         let ds = after e.0 cs in
-        row-unsettled k d p e r (before e.0 cs) ds (at_key e.0 cs) s (most_reads k cs) (cost-split k e.0 cs) open_ih
+        row-unsettled k d p e r (before e.0 cs) ds (at_key e.0 cs) s (most_reads k cs) (sum-split (reads_of k) e.0 cs) open_ih
         (λ t g u. settled-node k d r ds t ih open_ih q w.1 g u) (λ t g. unsettled-node k d r ds t ih open_ih q w.1 g)
         q w.0 f
 

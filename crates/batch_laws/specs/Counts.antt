@@ -1,6 +1,11 @@
--- How many nodes a batch reads at most.
+-- Numbers for changes: how many nodes a batch reads at most.
 use Rattle.std.specs.Prelude.{ℕ, ◌+◌, ◌*◌, List, [], ◌∷◌, Option, Some, None}
 use Rattle.batch_laws.specs.Batch.{Change}
+
+-- a number for each change, by what its key is to have
+abbrev pub sum_over : (Option (List ℕ) → ℕ) → List Change → ℕ
+sum_over f [] = 0
+sum_over f (c ∷ cs) = f c.1 + sum_over f cs
 
 -- below the top of layer t: a put one node a layer, a delete two
 abbrev pub reads_of : ℕ → Option (List ℕ) → ℕ
@@ -8,5 +13,4 @@ reads_of t None = 2 * t
 reads_of t (Some v) = t
 
 abbrev pub most_reads : ℕ → List Change → ℕ
-most_reads t [] = 0
-most_reads t (c ∷ cs) = reads_of t c.1 + most_reads t cs
+most_reads t cs = sum_over (reads_of t) cs

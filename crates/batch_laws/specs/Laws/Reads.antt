@@ -1,5 +1,5 @@
 -- The laws of how many nodes are read and made, and of what one change reads.
-use Rattle.std.specs.Prelude.{◌<◌, ◌≤◌, ◌+◌, ◌*◌, ℕ, suc, max, List, [], ◌∷◌, length, Option, Some, None}
+use Rattle.std.specs.Prelude.{◌<◌, ◌≤◌, ◌+◌, ◌-◌, ◌*◌, ℕ, suc, max, List, [], ◌∷◌, length, Option, Some, None}
 use Rattle.spec.specs.Tree.{Pair, top, top_layer}
 use Rattle.spec.specs.NodeFormat.{Shape}
 use Rattle.batch_laws.specs.Batch.{Change}
@@ -13,6 +13,12 @@ use Rattle.batch_laws.specs.Written.{OnAnswer}
 abbrev pub BatchReadsFew : Type 0
 BatchReadsFew = (layer : List ℕ → ℕ) (n : ℕ) (cs : List Change) (es : List Pair) → top_layer layer es < n
     → length (batch_read layer n cs (top layer es)) ≤ suc (most_reads (top_layer layer es) cs)
+
+-- and it makes at most n + t nodes for each change, and n - t for the whole, where the old top is of layer t and the edge
+-- has n layers
+abbrev pub BatchMakesFew : Type 0
+BatchMakesFew = (layer : List ℕ → ℕ) (n : ℕ) (cs : List Change) (es : List Pair) → top_layer layer es < n
+    → let t = top_layer layer es in length (batch_made layer n cs (top layer es)) ≤ (n - t) + length cs * (n + t)
 
 -- how many nodes one change reads and makes, where the edge has just the layers that are needed: at a put no more than one a
 -- layer is read, at a delete two but for the top; two a layer are made
