@@ -3,7 +3,6 @@ use Rattle.std.specs.Arc.{arc_value}
 use Rattle.std.proofs.lemmas.List.{get_or_default, length-map}
 use Rattle.spec.specs.States.{fresh}
 use Rattle.batches.specs.Values.{shared_writes, stamps_of, write_of}
-use Rattle.kept.specs.Uses.{used_blocks}
 use Rattle.run_command.proofs.Adding.{shown-added}
 use Rattle.run_command.proofs.report.push_shown.Goals as goal
 
@@ -16,6 +15,6 @@ loop-number-preserved g c =
     let lt = c.loop-number-test.true in
     let within : i < length cores = omega (arith, lt, c.requires.all) in
     shown-added g.D.Digest.digest_of cores c.args.closed.now.tables c.args.text.now.items i c.loop-number.text.items c.push_repository.new.text.items (get_or cores i (fresh 0 1))
-    (shared_writes shown.accepted.now) (stamps_of shown.stamps.now) shown.root shown.commit (used_blocks shown.blocks.entries) (length shown.accepted.now)
+    (shared_writes shown.accepted.now) (stamps_of shown.stamps.now) shown.root shown.commit _ (length shown.accepted.now)
     within (get_or_default cores i (fresh 0 1) _ within) (is.lawful (fresh 0 1)) (is.accepted (fresh 0 1)) (is.stamps (fresh 0 1)) is.from_scratch is.counts
     (sym (length-map shown.accepted.now (λ w. write_of (arc_value w)))) c.in_ok-push_repository.ensures c.loop-number.invariant
