@@ -1,5 +1,5 @@
 use Rattle.std.proofs.Common.{List, length, get_or, ap, ◌∙◌, subst, arith}
-use Rattle.spec.specs.States.{State}
+use Rattle.spec.specs.States.{State, IsLawful}
 use Rattle.closing.specs.Settling.{ClosedView}
 use Rattle.closing.specs.Headline.{AreTallies}
 use Rattle.closing.proofs.Tallies.{count_is_tally}
@@ -10,6 +10,12 @@ element-requires g c =
     let here = ap (λ (ss : List State). length ss) c.deref.ensures.value in
     let view = ap (λ (v : ClosedView). length v.cores) c.self.view_is in
     omega (arith, here, view, c.requires)
+
+pub returns-clause-lawful : goal.returns-clause-lawful
+returns-clause-lawful g c d = subst IsLawful
+    (c.element.ensures.value d
+    ∙ ap (λ (ss : List State). get_or ss c.args.number d) (c.deref.ensures.value ∙ ap (λ (v : ClosedView). v.cores) c.self.view_is))
+    c.show.ensures.lawful
 
 pub returns-clause-accepted : goal.returns-clause-accepted
 returns-clause-accepted g c d =
