@@ -351,7 +351,13 @@ fn is_done_without_memory(alloc: Global, work: Work, last: u64) -> bool {
     }
 }
 
-/// Whether look-ups over these five nodes give the value of a key and none of another, and ask for no memory.
+/// Whether look-ups over the five nodes give the value of a key and none of another.
+fn are_found<A: Allocator>(map: &mut BlockMap<'_, Toy, A>, root: Cid) -> bool {
+    get::<Toy, 2, _, _>(map, root, b"a/p0") == Some(value())
+        && get::<Toy, 2, _, _>(map, root, b"a/p1").is_none()
+}
+
+/// Whether this is so of these five nodes, and no memory is asked for.
 fn are_looked_up_without_memory<'h>(
     heap: Heap<'h>,
     blocks: &[Arc<Block<Toy, Heap<'h>>, Heap<'h>>],
@@ -363,9 +369,7 @@ fn are_looked_up_without_memory<'h>(
         return false;
     };
     heap.refuse_from(1);
-    get::<Toy, 2, _, _>(&mut map, root, b"a/p0") == Some(value())
-        && get::<Toy, 2, _, _>(&mut map, root, b"a/p1").is_none()
-        && heap.refused() == 0
+    are_found(&mut map, root) && heap.refused() == 0
 }
 
 #[test]
