@@ -98,7 +98,7 @@ fn puts_within<R: Wait + Abort>(
 }
 
 /// How many blocks and writes there may be, and how two puts are answered then.
-static LIMITS: [(usize, usize, [Answer; 2]); 3] = [
+const LIMITS: [(usize, usize, [Answer; 2]); 3] = [
     (
         2,
         9,
@@ -117,7 +117,8 @@ static LIMITS: [(usize, usize, [Answer; 2]); 3] = [
 
 #[test]
 fn each_shard_and_repository_has_its_limit(rt: HostRuntime) {
-    for (blocks, writes, wanted) in &LIMITS {
+    let rows = LIMITS;
+    for (blocks, writes, wanted) in &rows {
         assert!(rt;
             puts_within(&rt, rt.alloc(), *blocks, *writes) == *wanted,
             "{blocks} blocks and {writes} writes"

@@ -22,7 +22,14 @@ pub(crate) enum Store<'r, 'h, R: Wait, D: Digest> {
     /// One shard, which is lent to each call.
     Lent(Shard<D, &'h Heap>),
     /// The sixteen shards behind their locks.
-    Locked(&'r R, Shards<D, &'h Heap>),
+    Locked(Locked<'r, 'h, R, D>),
+}
+
+/// The sixteen shards, and the leave to wait for their locks.
+#[derive(Drop)]
+pub(crate) struct Locked<'r, 'h, R: Wait, D: Digest> {
+    rt: &'r R,
+    shards: Shards<D, &'h Heap>,
 }
 
 /// Both kinds of store, each shard of which may have so many blocks.
@@ -36,7 +43,10 @@ pub(crate) fn both_stores<'r, 'h, R: Wait, D: Digest>(
 {
     [
         Store::Lent(Shard::new(heap, limit)),
-        Store::Locked(rt, Shards::open(heap, limit)),
+        Store::Locked(Locked {
+            rt,
+            shards: Shards::open(heap, limit),
+        }),
     ]
 }
 
@@ -96,7 +106,7 @@ impl<'r, 'h, R: Wait, D: Digest> Store<'r, 'h, R, D> {
     pub(crate) fn counts(&self) -> (u64, u64) {
         match self {
             Store::Lent(shard) => counts(shard),
-            Store::Locked(rt, shards) => counts_behind(*rt, shards),
+            Store::Locked(locked) => counts_behind(locked.rt, &locked.shards),
         }
     }
 
@@ -104,7 +114,7 @@ impl<'r, 'h, R: Wait, D: Digest> Store<'r, 'h, R, D> {
     pub(crate) fn count(&self, cid: &Cid) -> u64 {
         match self {
             Store::Lent(shard) => shard.count(cid),
-            Store::Locked(rt, shards) => shards.shard(cid).lock(*rt).count(cid),
+            Store::Locked(locked) => locked.shards.shard(cid).lock(locked.rt).count(cid),
         }
     }
 
@@ -112,7 +122,7 @@ impl<'r, 'h, R: Wait, D: Digest> Store<'r, 'h, R, D> {
     pub(crate) fn held<const B: u8>(&self, core: &Core<D, B, &'h Heap>) -> Option<u64> {
         match self {
             Store::Lent(shard) => held(shard, core),
-            Store::Locked(rt, shards) => held_behind(*rt, shards, core),
+            Store::Locked(locked) => held_behind(locked.rt, &locked.shards, core),
         }
     }
 
@@ -126,7 +136,9 @@ impl<'r, 'h, R: Wait, D: Digest> Store<'r, 'h, R, D> {
     {
         match self {
             Store::Lent(shard) => LentShard::new(shard).acquire(me, block),
-            Store::Locked(rt, shards) => LockedShards::new(*rt, shards).acquire(me, block),
+            Store::Locked(locked) => LockedShards::new(locked.rt, &locked.shards).acquire(
+                me, block,
+            ),
         }
     }
 
@@ -134,7 +146,7 @@ impl<'r, 'h, R: Wait, D: Digest> Store<'r, 'h, R, D> {
     pub(crate) fn release(&mut self, hold: Hold<D, &'h Heap>) {
         match self {
             Store::Lent(shard) => LentShard::new(shard).release(hold),
-            Store::Locked(rt, shards) => LockedShards::new(*rt, shards).release(hold),
+            Store::Locked(locked) => LockedShards::new(locked.rt, &locked.shards).release(hold),
         }
     }
 
@@ -150,9 +162,12 @@ impl<'r, 'h, R: Wait, D: Digest> Store<'r, 'h, R, D> {
     {
         match self {
             Store::Lent(shard) => Core::open(heap, &mut LentShard::new(shard), me, 2000),
-            Store::Locked(rt, shards) => {
-                Core::open(heap, &mut LockedShards::new(*rt, shards), me, 2000)
-            }
+            Store::Locked(locked) => Core::open(
+                heap,
+                &mut LockedShards::new(locked.rt, &locked.shards),
+                me,
+                2000,
+            ),
         }
     }
 
@@ -166,9 +181,12 @@ impl<'r, 'h, R: Wait, D: Digest> Store<'r, 'h, R, D> {
         let (stamp, writes) = (&batch.stamp, &batch.writes);
         end_of(match self {
             Store::Lent(shard) => core.apply(heap, &mut LentShard::new(shard), stamp, writes),
-            Store::Locked(rt, shards) => {
-                core.apply(heap, &mut LockedShards::new(*rt, shards), stamp, writes)
-            }
+            Store::Locked(locked) => core.apply(
+                heap,
+                &mut LockedShards::new(locked.rt, &locked.shards),
+                stamp,
+                writes,
+            ),
         })
     }
 
@@ -176,7 +194,7 @@ impl<'r, 'h, R: Wait, D: Digest> Store<'r, 'h, R, D> {
     pub(crate) fn end<const B: u8>(&mut self, core: Core<D, B, &'h Heap>) {
         match self {
             Store::Lent(shard) => core.end(&mut LentShard::new(shard)),
-            Store::Locked(rt, shards) => core.end(&mut LockedShards::new(*rt, shards)),
+            Store::Locked(locked) => core.end(&mut LockedShards::new(locked.rt, &locked.shards)),
         }
     }
 }
