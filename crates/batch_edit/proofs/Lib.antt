@@ -1,0 +1,14 @@
+pub mod Within
+pub mod Around
+pub mod Cuts
+pub mod Closing
+pub mod Pairing
+pub mod Subtrees
+pub mod Making
+pub mod Reading
+pub mod Topping
+pub mod Walking
+pub mod Placing
+pub mod Putting
+pub mod Tasking
+pub mod Wholes

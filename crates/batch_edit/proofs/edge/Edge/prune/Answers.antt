@@ -1,0 +1,37 @@
+use Rattle.std.proofs.Common.{◌-◌, Some, None, ◌∙◌, subst, arith}
+use Rattle.edit.specs.Steps.{nodes_given}
+use Rattle.batch_laws.specs.Links.{pruning}
+use Rattle.batch_edit.specs.States.{log_in}
+use Rattle.batch_edit.specs.Tops.{IsLooked}
+use Rattle.batch_edit.proofs.Pairing.{counted-then}
+use Rattle.batch_edit.proofs.Topping.{look-ends, look-goes, top-of}
+use Rattle.batch_edit.proofs.edge.Edge.prune.Goals as goal
+
+pub returns-in_default-clause-top : goal.returns-in_default-clause-top
+returns-in_default-clause-top g c =
+    let at = c.loop-left in
+    let shows = nodes_given (g.S.Source.gives c.args.src.now) in
+    let now = log_in c.look.new.self in
+    let seen : IsLooked (nodes_given (g.S.Source.gives at.src)) at.at (log_in at.self) None now =
+    rw c.in_default.is at c.in_ok-next.ensures.looked in
+    let looked = subst (λ gives. IsLooked (nodes_given gives) at.at (log_in at.self) None now) at.invariant.same seen in
+    top-of (pruning shows c.args.layers c.args.cid (log_in c.args.self.now)) (pruning shows at.left at.at (log_in at.self)) at.at 1
+    now at.invariant.is
+    (look-ends shows at.left (at.left - 1) at.at (log_in at.self) now (omega (arith, c.loop-left-test.true)) looked)
+
+pub loop-left-preserved : goal.loop-left-preserved
+loop-left-preserved g c =
+    let at = c.loop-left in
+    let shows = nodes_given (g.S.Source.gives c.args.src.now) in
+    let now = log_in c.look.new.self in
+    let seen : IsLooked (nodes_given (g.S.Source.gives at.src)) at.at (log_in at.self) (Some c.in-Some.next) now =
+    rw c.in-Some.is at c.in_ok-next.ensures.looked in
+    let looked = subst (λ gives. IsLooked (nodes_given gives) at.at (log_in at.self) (Some c.in-Some.next) now) at.invariant.same
+    seen in
+    record {
+      same = c.look.ensures.same ∙ at.invariant.same;
+      is = at.invariant.is ∙ look-goes shows at.left (at.left - 1) at.at c.in-Some.next (log_in at.self) now
+          (omega (arith, c.loop-left-test.true)) looked;
+      counted = counted-then (g.S.Source.reads c.args.src.now) (g.S.Source.reads at.src) (g.S.Source.reads c.look.new.src)
+          (log_in c.args.self.now) (log_in at.self) now at.invariant.counted c.in_ok-next.ensures.counted;
+    }

@@ -1,0 +1,78 @@
+use Rattle.std.proofs.Common.{◌++◌, Some, ap, ◌∙◌, subst, arith}
+use Rattle.spec.specs.Layer.{layer as layer_of}
+use Rattle.edit.specs.Steps.{nodes_given}
+use Rattle.batch_edit.specs.Agenda.{IsDone, agenda_does, agenda_meets}
+use Rattle.batch_edit.specs.Agendas.{agenda_of, task_of}
+use Rattle.batch_edit.specs.States.{edge_in, log_in}
+use Rattle.batch_edit.proofs.Pairing.{counted-then}
+use Rattle.batch_edit.proofs.Tasking.{agenda-more, agenda-none}
+use Rattle.batch_edit.proofs.Walking.{walk-more, walk-meets, walk-smaller, walked-all, met-all}
+use Rattle.batch_edit.proofs.edge.Edge.walk.Goals as goal
+
+pub loop-task-preserved : goal.loop-task-preserved
+loop-task-preserved g c =
+    let digest = g.D.Digest.digest_of in
+    let shows = nodes_given (g.S.Source.gives c.args.src.now) in
+    let layer = layer_of digest g.row.B in
+    let n = c.args.layers in
+    let at = c.loop-task in
+    let old = c.args.self.now in
+    let new = c.perform.new.self in
+    let start = agenda_of c.go_on.new.agenda.items in
+    let fs = agenda_of at.agenda.items in
+    let gs = agenda_of c.pop.new.self.items in
+    let next = agenda_of c.perform.new.agenda.items in
+    let f = task_of c.in-Some.task in
+    let values = c.perform.new.previous.items in
+    let e = agenda-more at.agenda.items c.pop.new.self.items c.in-Some.task c.in-Some.ensures.items in
+    let w = subst (λ gives. IsDone digest (nodes_given gives) layer n f gs (edge_in at.self) (log_in at.self) at.previous.items
+    next (edge_in new) (log_in new) values) at.invariant.same c.in_ok-perform.ensures.done in
+    record {
+      same = c.perform.ensures.same ∙ at.invariant.same;
+      does = walk-more digest shows layer n (agenda_does digest shows layer n start (Some (edge_in old, log_in old))) fs gs next f
+          (edge_in at.self) (edge_in new) (log_in at.self) (log_in new) at.previous.items values at.invariant.does e w;
+      meets = walk-meets digest shows layer n (c.new-previous.result.items ++ agenda_meets shows start) fs gs next f
+          (edge_in at.self) (edge_in new) (log_in at.self) (log_in new) at.previous.items values at.invariant.meets e w;
+      counted = counted-then (g.S.Source.reads c.args.src.now) (g.S.Source.reads at.src) (g.S.Source.reads c.perform.new.src)
+          (log_in old) (log_in at.self) (log_in new) at.invariant.counted c.in_ok-perform.ensures.counted;
+    }
+
+pub loop-task-smaller : goal.loop-task-smaller
+loop-task-smaller g c =
+    let digest = g.D.Digest.digest_of in
+    let shows = nodes_given (g.S.Source.gives c.args.src.now) in
+    let layer = layer_of digest g.row.B in
+    let at = c.loop-task in
+    let new = c.perform.new.self in
+    let gs = agenda_of c.pop.new.self.items in
+    let next = agenda_of c.perform.new.agenda.items in
+    let f = task_of c.in-Some.task in
+    let values = c.perform.new.previous.items in
+    walk-smaller digest shows layer c.args.layers (agenda_of at.agenda.items) gs next f (edge_in at.self) (edge_in new)
+    (log_in at.self) (log_in new) at.previous.items values
+    (agenda-more at.agenda.items c.pop.new.self.items c.in-Some.task c.in-Some.ensures.items)
+    (subst (λ gives. IsDone digest (nodes_given gives) layer c.args.layers f gs (edge_in at.self) (log_in at.self) at.previous.items
+    next (edge_in new) (log_in new) values) at.invariant.same c.in_ok-perform.ensures.done)
+
+pub returns-clause-walked : goal.returns-clause-walked
+returns-clause-walked g c =
+    let digest = g.D.Digest.digest_of in
+    let shows = nodes_given (g.S.Source.gives c.args.src.now) in
+    let layer = layer_of digest g.row.B in
+    let at = c.loop-task in
+    let old = c.args.self.now in
+    let n = c.in_default.ensures.cases in
+    walked-all digest shows layer c.args.layers c.args.layer c.args.depth c.args.changes.now c.args.rows.rest
+    (agenda_of c.new-agenda.result.items) (agenda_of c.go_on.new.agenda.items) (agenda_of at.agenda.items) (edge_in old)
+    (edge_in at.self) (log_in old) (log_in at.self) c.in_ok-go_on.ensures (ap agenda_of c.new-agenda.ensures.items)
+    at.invariant.does (agenda-none at.agenda.items (omega (arith, n.0)))
+
+pub returns-clause-previous : goal.returns-clause-previous
+returns-clause-previous g c =
+    let shows = nodes_given (g.S.Source.gives c.args.src.now) in
+    let at = c.loop-task in
+    let n = c.in_default.ensures.cases in
+    met-all shows c.args.layer c.args.depth c.args.changes.now c.args.rows.rest (agenda_of c.new-agenda.result.items)
+    (agenda_of c.go_on.new.agenda.items) (agenda_of at.agenda.items) c.new-previous.result.items at.previous.items
+    c.in_ok-go_on.ensures (ap agenda_of c.new-agenda.ensures.items) c.new-previous.ensures.items at.invariant.meets
+    (agenda-none at.agenda.items (omega (arith, n.0)))
