@@ -92,8 +92,8 @@ impl<'a, D: Digest + 'a, A: Allocator + Clone + 'a> Edge<'a, D, A> {
         src: &mut S,
         cid: Cid,
     ) -> Result<NodeView<'a>, Fault>
-        ensures shown { IfOk result (λ view. ask (nodes_given (S.gives src.old)) cid (log_in self.old)
-            ≡ Some (shape_of view, log_in self.new)) }
+        ensures shown { IfOk result (λ view. ask (nodes_given (S.gives src.old)) cid
+            (log_in self.old) ≡ Some (shape_of view, log_in self.new)) }
         ensures counted { OnOk result
             (IsCounted (S.reads src.old) (S.reads src.new) (log_in self.old) (log_in self.new)) }
         ensures levels { self.new.levels.items ≡ self.old.levels.items }
@@ -116,8 +116,8 @@ impl<'a, D: Digest + 'a, A: Allocator + Clone + 'a> Edge<'a, D, A> {
         src: &mut S,
         cid: Cid,
     ) -> Result<KeyedEntries<'a, A>, Fault>
-        ensures shown { IfOk result (λ rows. ask (nodes_given (S.gives src.old)) cid (log_in self.old)
-            ≡ Some (rows.rest, log_in self.new)) }
+        ensures shown { IfOk result (λ rows. ask (nodes_given (S.gives src.old)) cid
+            (log_in self.old) ≡ Some (rows.rest, log_in self.new)) }
         ensures counted { OnOk result
             (IsCounted (S.reads src.old) (S.reads src.new) (log_in self.old) (log_in self.new)) }
         ensures levels { self.new.levels.items ≡ self.old.levels.items }

@@ -134,8 +134,9 @@ impl<'a, D: Digest + 'a, A: Allocator + Clone + 'a> Edge<'a, D, A> {
         layers: u16,
         cid: Cid,
     ) -> Result<(), Fault>
-        ensures grown { OnOk result (subtreeing D.digest_of (nodes_given (S.gives src.old)) layers depth
-            cid (edge_in self.old) (log_in self.old) ≡ Some (edge_in self.new, log_in self.new)) }
+        ensures grown { OnOk result (subtreeing D.digest_of (nodes_given (S.gives src.old))
+            layers depth cid (edge_in self.old) (log_in self.old)
+            ≡ Some (edge_in self.new, log_in self.new)) }
         ensures counted { OnOk result
             (IsCounted (S.reads src.old) (S.reads src.new) (log_in self.old) (log_in self.new)) }
         ensures same { S.gives src.new ≡ S.gives src.old }

@@ -58,7 +58,8 @@ impl<A: Allocator + Clone> Level<A> {
         key: &[u8],
         value: CidRef<'_>,
     ) -> Result<Level<A>, RewriteFault>
-        ensures ok { IfOk result (λ level. level ≡ self ++ (link, pair_of key.now value.entry) ∷ []) }
+        ensures ok { IfOk result
+            (λ level. level ≡ self ++ (link, pair_of key.now value.entry) ∷ []) }
         ensures fault { IfErr result
             (IsFaultOfAll (self ++ (link, pair_of key.now value.entry) ∷ [])) }
     {

@@ -7,13 +7,11 @@
 //! subtree waits until something else comes into its gap, and is opened then. So a split, a merge, a raised top and a
 //! pruned one are nothing of their own.
 //!
-//! [`Change`] is a key with its new value, or none where the key goes. `whole` changes a tree from its root to its new root,
-//! `differences` says which of the nodes that were made come and which of those that were read go. A call over both, which
-//! says what its faults mean, isn't there yet.
+//! [`Change`] is a key with its new value, or none where the key goes. `whole` changes a tree from its root to its new root.
+//! A call over it, which says what comes, what goes and what its faults mean, isn't there yet.
 #![tactic(auto)]
 
 mod changes;
-mod differences;
 mod edge;
 mod faults;
 mod joining;

@@ -74,8 +74,8 @@ impl<'a, D: Digest + 'a, A: Allocator + Clone + 'a> Edge<'a, D, A> {
         layers: u16,
         cid: Cid,
     ) -> Result<Cid, Fault>
-        ensures top { IfOk result (λ root. IsTop (pruning (nodes_given (S.gives src.old)) layers cid
-            (log_in self.old)) root 1 (log_in self.new)) }
+        ensures top { IfOk result (λ root. IsTop (pruning (nodes_given (S.gives src.old))
+            layers cid (log_in self.old)) root 1 (log_in self.new)) }
         ensures counted { OnOk result
             (IsCounted (S.reads src.old) (S.reads src.new) (log_in self.old) (log_in self.new)) }
         ensures same { S.gives src.new ≡ S.gives src.old }
@@ -98,8 +98,9 @@ impl<'a, D: Digest + 'a, A: Allocator + Clone + 'a> Edge<'a, D, A> {
         src: &mut S,
         layers: u16,
     ) -> Result<(Cid, usize), Fault>
-        ensures ended { IfOk result (λ ended. IsEnded (topping D.digest_of (nodes_given (S.gives src.old))
-            layers (edge_in self.old) (log_in self.old)) ended.0 ended.1 (log_in self.new)) }
+        ensures ended { IfOk result (λ ended. IsEnded (topping D.digest_of
+            (nodes_given (S.gives src.old)) layers (edge_in self.old) (log_in self.old))
+            ended.0 ended.1 (log_in self.new)) }
         ensures counted { OnOk result
             (IsCounted (S.reads src.old) (S.reads src.new) (log_in self.old) (log_in self.new)) }
         ensures same { S.gives src.new ≡ S.gives src.old }

@@ -124,13 +124,24 @@ fn a_read_that_is_interrupted(rt: HostRuntime) {
     assert!(rt; lists_all_the_same(&rt, rt.alloc(), &lines, root));
 }
 
-/// Takes a few bytes at a time and is interrupted now and then, has room for so many bytes, and may fail at its end.
+/// What a writer does at its end.
+#[derive(Clone, Copy, Drop, PartialEq, Eq)]
+enum End {
+    /// It has no room for more.
+    Fails,
+    /// It takes nothing at one write, and from then on all.
+    TakesNothing,
+    /// It can't flush.
+    FailsToFlush,
+}
+
+/// Takes a few bytes at a time and is interrupted now and then, until it has so many bytes.
 #[derive(Drop)]
 struct NarrowWriter {
     written: Vec<u8>,
     room: usize,
     is_interrupted: bool,
-    flushes: bool,
+    end: End,
 }
 
 impl Write for NarrowWriter {
@@ -142,6 +153,10 @@ impl Write for NarrowWriter {
             return Err(io::Error::from(ErrorKind::Interrupted));
         }
         if self.written.len() >= self.room {
+            if self.end == End::TakesNothing {
+                self.room = usize::MAX;
+                return Ok(0);
+            }
             return Err(io::Error::from(ErrorKind::BrokenPipe));
         }
         let most = buf.len().min(11).min(self.room - self.written.len());
@@ -149,21 +164,21 @@ impl Write for NarrowWriter {
     }
 
     fn flush(&mut self) -> io::Result<()> {
-        if self.flushes {
-            Ok(())
-        } else {
+        if self.end == End::FailsToFlush {
             Err(io::Error::from(ErrorKind::BrokenPipe))
+        } else {
+            Ok(())
         }
     }
 }
 
 /// A writer of this room.
-fn narrow(alloc: Global, room: usize, flushes: bool) -> NarrowWriter {
+fn narrow(alloc: Global, room: usize, end: End) -> NarrowWriter {
     NarrowWriter {
         written: Vec::new(alloc),
         room,
         is_interrupted: false,
-        flushes,
+        end,
     }
 }
 
@@ -196,7 +211,7 @@ fn writes_what_fits<T: Threads + Wait + Sync>(
     room: usize,
 ) -> bool {
     let whole = run(rt, alloc, words, input);
-    let ended = run_into(rt, alloc, words, input, narrow(alloc, room, true));
+    let ended = run_into(rt, alloc, words, input, narrow(alloc, room, End::Fails));
     whole.out.len() == length && has_written(&whole, &ended, room)
 }
 
@@ -236,7 +251,13 @@ fn fails_at_its_flush<T: Threads + Wait + Sync>(
     input: &[u8],
 ) -> bool {
     let whole = run(rt, alloc, words, input);
-    let ended = run_into(rt, alloc, words, input, narrow(alloc, 10000, false));
+    let ended = run_into(
+        rt,
+        alloc,
+        words,
+        input,
+        narrow(alloc, 10000, End::FailsToFlush),
+    );
     ended.is(4, &whole.out, "msthost: write failed\n")
 }
 
@@ -260,53 +281,6 @@ fn a_flush_that_fails(rt: HostRuntime) {
     }
 }
 
-/// Takes so many bytes, then nothing at one write, and from then on all.
-#[derive(Drop)]
-struct IdleWriter {
-    written: Vec<u8>,
-    room: usize,
-}
-
-impl Write for IdleWriter {
-    ghost contents = { λ w. Some w.written.items };
-
-    fn write(&mut self, buf: &[u8]) -> io::Result<usize> {
-        let most = buf.len().min(self.room);
-        if most == 0 {
-            self.room = usize::MAX;
-            return Ok(0);
-        }
-        self.room -= most;
-        self.written.write(&buf[..most])
-    }
-
-    fn flush(&mut self) -> io::Result<()> {
-        Ok(())
-    }
-}
-
-/// Runs a command on an input in memory, over such a writer.
-fn run_into_idle<T: Threads + Wait + Sync>(
-    rt: &T,
-    alloc: Global,
-    words: &[&str],
-    input: &[u8],
-    room: usize,
-) -> Ended {
-    let mut input = input;
-    let mut out = IdleWriter {
-        written: Vec::new(alloc),
-        room,
-    };
-    let mut err = Vec::new(alloc);
-    let status = run_words(rt, alloc, words, &mut input, &mut out, &mut err).status;
-    Ended {
-        status,
-        out: out.written,
-        err,
-    }
-}
-
 /// Whether a command ends where nothing is taken: at the first byte, at the seventh, and at the last one.
 fn ends_where_nothing_is_taken<T: Threads + Wait + Sync>(
     rt: &T,
@@ -316,7 +290,13 @@ fn ends_where_nothing_is_taken<T: Threads + Wait + Sync>(
 ) -> bool {
     let whole = run(rt, alloc, words, input);
     for room in [0, 6, whole.out.len().saturating_sub(1)] {
-        let ended = run_into_idle(rt, alloc, words, input, room);
+        let ended = run_into(
+            rt,
+            alloc,
+            words,
+            input,
+            narrow(alloc, room, End::TakesNothing),
+        );
         match whole.out.get(..room) {
             Some(front) if ended.is(4, front, "msthost: write failed\n") => {}
             _ => return false,
@@ -339,7 +319,7 @@ fn a_writer_that_takes_nothing(rt: HostRuntime) {
 fn standard_error_that_fails(rt: HostRuntime) {
     let mut input: &[u8] = b"a/b";
     let mut out = Vec::new(rt.alloc());
-    let mut err = narrow(rt.alloc(), 0, true);
+    let mut err = narrow(rt.alloc(), 0, End::Fails);
     let status = run_words(&rt, rt.alloc(), &TREE, &mut input, &mut out, &mut err).status;
     assert!(rt; status == 1 && out.is_empty());
 }
