@@ -22,7 +22,7 @@ use Rattle.edit_laws.proofs.Orders.{order-is, turned}
 use Rattle.edit_laws.proofs.RecordMaps.{ascending-sorted}
 use Rattle.batch_laws.specs.Batch.{Change, if_put, puts, changed, AreKeyed, HaveOwnCids}
 use Rattle.batch_laws.specs.Trace.{batch_made}
-use Rattle.batch_laws.specs.Written.{HasKeys}
+use Rattle.edit_laws.specs.Lawful.{HasKeys}
 use Rattle.batch_laws.specs.Laws.Written.{BatchHasKeys, BatchIsLawful, BatchGoesOn}
 use Rattle.batch_laws.proofs.Balance.{weight-batch}
 use Rattle.batch_laws.proofs.Changing.{each-changed}

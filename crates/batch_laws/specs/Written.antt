@@ -1,13 +1,9 @@
 -- What a batch writes on its way. Nodes that are made stay made, and rows that are open stay the front of a node: so what
 -- holds of all nodes in the end, as that their keys ascend, never fails before.
-use Rattle.std.specs.Prelude.{◌≡◌, ◌≤◌, true, length, [], Option, Some, None}
+use Rattle.std.specs.Prelude.{◌≡◌, ◌≤◌, length, Option, Some, None}
 use Rattle.std.specs.List.{AllByRecursion}
-use Rattle.spec.specs.NodeFormat.{Shape, entries_of, are_keys_after}
+use Rattle.spec.specs.NodeFormat.{Shape}
 use Rattle.batch_laws.specs.Links.{Rows, LinkEdge, LinkClear, LinkWaiting, LinkOpened, Log, onto_links}
-
--- keys of 1 to 1,024 bytes that ascend: a node of which this holds is never refused by a writer
-abbrev pub HasKeys : Shape → Type 0
-HasKeys s = are_keys_after [] (entries_of s) ≡ true
 
 -- some node of which P holds begins with these rows
 abbrev pub GoesOn : (Shape → Type 0) → Rows → Type 0

@@ -1,11 +1,12 @@
 -- What the functions that build nodes make, from one node to the next, and when one of these nodes would be none.
-use Rattle.std.proofs.Common.{◌≡◌, ℕ, suc, ◌-◌, ◌≤◌, List, [], ◌∷◌, ◌++◌, length, take, drop, get_or, map, Option, None, Result, Ok, Err, refl, sym, ap, ◌∙◌, subst, append_assoc, arith}
+use Rattle.std.proofs.Common.{◌≡◌, ℕ, suc, ◌-◌, ◌^◌, ◌≤◌, ◌&&◌, ltb, List, [], ◌∷◌, ◌++◌, length, take, drop, get_or, map, Option, None, Result, Ok, Err, refl, sym, ap, ◌∙◌, subst, append_assoc, arith}
 use Rattle.std.specs.Prelude.{OnOk}
 use Rattle.std.specs.declared.option.Option.TheVariants.{Some}
 use Rattle.std.specs.List.{AllByRecursion}
 use Rattle.std.proofs.lemmas.List.{map-append, take_all}
-use Rattle.spec.specs.NodeFormat.{Shape, LastLink, MoreLinks, shape_bytes, shape_cid}
-use Rattle.edit_laws.specs.Lawful.{Lawful, AllLawful}
+use Rattle.spec.specs.NodeFormat.{Shape, LastLink, MoreLinks, first_link, entries_of, are_keys_after, are_links, is_own_cid_or_none, shape_bytes, shape_cid}
+use Rattle.spec.proofs.Bools.{both}
+use Rattle.edit_laws.specs.Lawful.{Lawful, HasKeys, AllLawful}
 use Rattle.edit_laws.specs.ShapeEdit.{close_link, close_shapes, cut_before, cut_after, split_links, split_shapes, padded_link, link_pads, link_replaced}
 use Rattle.edit_laws.specs.PathEdit.{padded_node, node_pads, climb, climb_shapes}
 use Rattle.rewrite.specs.declared.draft.RewriteFault.{RewriteFault}
@@ -45,8 +46,16 @@ pub unless-weaker : (P Q : Type 0) (f : RewriteFault) → (Q → P) → IsFaultU
 unless-weaker P Q NotNode h n = λ q. n (h q)
 unless-weaker P Q NoMemory h n = tt
 
+-- a node of the grammar has keys of the grammar
+pub lawful-keys : (s : Shape) → Lawful s → HasKeys s
+lawful-keys s h =
+    let es = entries_of s in
+    let a = both (ltb (length es) (2 ^ 64) && are_keys_after [] es && are_links es) (is_own_cid_or_none (first_link s)) h in
+    let b = both (ltb (length es) (2 ^ 64) && are_keys_after [] es) (are_links es) a.0 in
+    (both (ltb (length es) (2 ^ 64)) (are_keys_after [] es) b.0).1
+
 pub of-unless : (s : Shape) (Q : Type 0) (f : RewriteFault) → (Q → Lawful s) → IsFaultOf s f → IsFaultUnless Q f
-of-unless s Q NotNode h n = λ q. n (h q)
+of-unless s Q NotNode h n = λ q. n (lawful-keys s (h q))
 of-unless s Q NoMemory h n = tt
 
 -- the node without keys and links is of the grammar too

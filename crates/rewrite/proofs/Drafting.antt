@@ -8,7 +8,7 @@ use Rattle.spec.specs.NodeFormat.{Entry, Shape, LastLink, MoreLinks, first_link,
 use Rattle.spec.proofs.Bools.{both}
 use Rattle.spec.proofs.NodeLaws.{read_node-node_spelling}
 use Rattle.node.specs.Contents.{Contents, last_key, is_next_key}
-use Rattle.edit_laws.specs.Lawful.{Lawful}
+use Rattle.edit_laws.specs.Lawful.{Lawful, HasKeys}
 use Rattle.edit_laws.specs.Sources.{shape_from, shape_of_reading}
 use Rattle.rewrite.specs.Drafts.{onto, or_empty, shape_in, reads_as_node, IsDraft, is_empty_node, turned}
 use Rattle.rewrite.proofs.NodeReading.{first_link-from, entries_of-from}
@@ -58,28 +58,21 @@ next-in before (d ∷ es) fs e h =
     next-in d.key es fs e
     (both (is_lt (slice_cmp nat_cmp before d.key) && is_key d.key) (are_keys_after d.key (es ++ e ∷ fs)) h).1
 
-keys-of : (left : Option (List ℕ)) (es : List Entry) → is_node left es ≡ true → are_keys_after [] es ≡ true
-keys-of left es h =
-    let a = both (ltb (length es) (2 ^ 64) && are_keys_after [] es && are_links es) (is_own_cid_or_none left) h in
-    let b = both (ltb (length es) (2 ^ 64) && are_keys_after [] es) (are_links es) a.0 in
-    (both (ltb (length es) (2 ^ 64)) (are_keys_after [] es) b.0).1
-
--- where a key can't be the next, no node that goes on so is lawful
+-- where a key can't be the next, no node that goes on so has the keys of one
 pub unlawful : (left : Option (List ℕ)) (es : List Entry) (p : Pair) (s : Shape) → is_next_key es p.0 ≡ false
-    → Lawful (onto (turned left es p) s) → ⊥
+    → HasKeys (onto (turned left es p) s) → ⊥
 unlawful left es p s other h =
-    let k = keys-of (first_link (onto (turned left es p) s)) (entries_of (onto (turned left es p) s)) h in
     let m = next-in [] es (entries_of s) (entry_with p (first_link s))
-    (sym (ap (are_keys_after []) (entries-turned left es p s)) ∙ k) in
+    (sym (ap (are_keys_after []) (entries-turned left es p s)) ∙ h) in
     let c : true ≡ false = sym m ∙ other in
     cc
 
 pub unlawful-on : (left : Option (List ℕ)) (es : List Entry) (p : Pair) (xs ys : Links) (s : Shape)
-    → turned left es p ≡ xs → is_next_key es p.0 ≡ false → Lawful (onto (xs ++ ys) s) → ⊥
+    → turned left es p ≡ xs → is_next_key es p.0 ≡ false → HasKeys (onto (xs ++ ys) s) → ⊥
 unlawful-on left es p xs ys s is other h =
     let e : onto (xs ++ ys) s ≡ onto (turned left es p) (onto ys s) =
     onto-append xs ys s ∙ ap (λ (zs : Links). onto zs (onto ys s)) (sym is) in
-    unlawful left es p (onto ys s) other (subst Lawful e h)
+    unlawful left es p (onto ys s) other (subst HasKeys e h)
 
 -- ---- what was written is a node
 

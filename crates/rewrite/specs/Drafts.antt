@@ -7,7 +7,7 @@ use Rattle.cid.specs.CidRef.{bytes_of}
 use Rattle.cid.specs.declared.cid_ref.CidRef.{CidRef}
 use Rattle.spec.specs.Tree.{Pair}
 use Rattle.spec.specs.NodeFormat.{Entry, Shape, LastLink, MoreLinks, shape_bytes, read_node}
-use Rattle.edit_laws.specs.Lawful.{Lawful}
+use Rattle.edit_laws.specs.Lawful.{Lawful, HasKeys}
 use Rattle.edit_laws.specs.Sources.{shape_of_bytes}
 use Rattle.rewrite.specs.declared.draft.RewriteFault.{RewriteFault}
 use Rattle.rewrite.specs.declared.draft.RewriteFault.TheVariants.{NotNode, NoMemory}
@@ -23,12 +23,12 @@ abbrev pub onto : List (Option (List ℕ) × Pair) → Shape → Shape
 onto [] s = s
 onto (x ∷ xs) s = MoreLinks x.0 x.1 (onto xs s)
 
--- a node was not written, and it is none of the grammar; of a want of memory nothing is said
+-- a node was not written, and its keys are none of the grammar; of a want of memory nothing is said
 abbrev pub IsFaultOf : Shape → RewriteFault → Type 0
-IsFaultOf s NotNode = ¬ Lawful s
+IsFaultOf s NotNode = ¬ HasKeys s
 IsFaultOf s NoMemory = ⊤
 
--- no node that goes on so is one of the grammar
+-- no node that goes on so has keys of the grammar
 abbrev pub IsFaultOfAll : List (Option (List ℕ) × Pair) → RewriteFault → Type 0
 IsFaultOfAll xs f = (s : Shape) → IsFaultOf (onto xs s) f
 

@@ -9,7 +9,8 @@ use Rattle.edit_laws.specs.Lawful.{AllLawful}
 use Rattle.batch_laws.specs.Batch.{Change, puts, changed, AreKeyed, HaveOwnCids}
 use Rattle.batch_laws.specs.Trace.{batch_made}
 use Rattle.batch_laws.specs.Links.{LinkEdge, LinkClear, Log, closing, pairing, parting, subtreeing, pairs_in_turn, walking, topping}
-use Rattle.batch_laws.specs.Written.{HasKeys, IsEarlier, OnAnswer, GoesFrom}
+use Rattle.edit_laws.specs.Lawful.{HasKeys}
+use Rattle.batch_laws.specs.Written.{IsEarlier, OnAnswer, GoesFrom}
 
 -- keys of 1 to 1,024 bytes ascend in each node that is made: that is all that a writer of nodes asks
 abbrev pub BatchHasKeys : Type 0
