@@ -7,7 +7,7 @@ use Rattle.std.specs.Cmp.Lexicographic.{slice_cmp}
 use Rattle.std.specs.Ordering.{nat_cmp, is_lt, is_eq}
 use Rattle.spec.specs.Tree.{Pair}
 use Rattle.spec.specs.NodeFormat.{Shape, LastLink, MoreLinks, first_link}
-use Rattle.edit_laws.specs.Lawful.{Lawful}
+use Rattle.edit_laws.specs.Lawful.{HasKeys}
 use Rattle.edit_laws.specs.Order.{order}
 use Rattle.edit_laws.specs.ShapeEdit.{with_first_link}
 use Rattle.rewrite.specs.declared.draft.RewriteFault.{RewriteFault}
@@ -89,7 +89,7 @@ grows-onto before now piece s t h k =
 -- ---- what can't be written
 
 pub fault-at : (f : RewriteFault) (xs : Links) (s t : Shape) → onto xs s ≡ t → IsFaultOfAll xs f → IsFaultOf t f
-fault-at NotNode xs s t e h = λ lawful. h s (subst Lawful (sym e) lawful)
+fault-at NotNode xs s t e h = λ has. h s (subst HasKeys (sym e) has)
 fault-at NoMemory xs s t e h = tt
 
 pub fault-on : (f : RewriteFault) (xs ys zs : Links) → xs ++ ys ≡ zs → IsFaultOfAll xs f → IsFaultOfAll zs f

@@ -1,7 +1,7 @@
 use Rattle.std.proofs.Common.{ap, sym, subst, ◌∙◌}
 use Rattle.spec.specs.NodeFormat.{LastLink}
 use Rattle.node.specs.Contents.{is_next_key}
-use Rattle.edit_laws.specs.Lawful.{Lawful}
+use Rattle.edit_laws.specs.Lawful.{HasKeys}
 use Rattle.rewrite.specs.Drafts.{onto}
 use Rattle.rewrite.proofs.Drafting.{Links, unlawful, Closes, closed}
 use Rattle.rewrite.proofs.writer.OpenNode.finish.Goals as goal
@@ -11,7 +11,7 @@ returns-then-not-is_next-clause-fault g c h =
     let n = c.self.inside in
     unlawful n.closed.left n.closed.entries (n.key.items, n.value) (LastLink c.args.last)
     (ap (is_next_key n.closed.entries) (sym c.deref.ensures.value) ∙ sym c.is_next.ensures ∙ c.if-not-is_next.true)
-    (subst (λ (xs : Links). Lawful (onto xs (LastLink c.args.last))) (sym c.self.view_is) h)
+    (subst (λ (xs : Links). HasKeys (onto xs (LastLink c.args.last))) (sym c.self.view_is) h)
 
 pub invariant_of-result : goal.invariant_of-result
 invariant_of-result g c =

@@ -3,7 +3,7 @@ use Rattle.std.proofs.lemmas.List.{take_rest}
 use Rattle.spec.specs.NodeFormat.{Entry}
 use Rattle.spec.specs.Tree.{Pair}
 use Rattle.node.specs.Contents.{Contents, is_next_key}
-use Rattle.edit_laws.specs.Lawful.{Lawful}
+use Rattle.edit_laws.specs.Lawful.{HasKeys}
 use Rattle.edit_laws.specs.Sources.{shape_from}
 use Rattle.rewrite.specs.Drafts.{onto}
 use Rattle.rewrite.proofs.Drafting.{Links, unlawful, grown}
@@ -16,7 +16,7 @@ returns-then-not-is_next-clause-fault g c h =
     let rest = shape_from c.args.link (drop (c.args.at + 1) c.args.node.now.entries) in
     unlawful n.closed.left n.closed.entries (n.key.items, n.value) rest
     (ap (is_next_key n.closed.entries) (sym c.deref.ensures.value) ∙ sym c.is_next.ensures ∙ c.if-not-is_next.true)
-    (subst (λ (xs : Links). Lawful (onto xs rest)) (sym c.self.view_is) h)
+    (subst (λ (xs : Links). HasKeys (onto xs rest)) (sym c.self.view_is) h)
 
 pub copy-requires-clause-follows : goal.copy-requires-clause-follows
 copy-requires-clause-follows g c =
