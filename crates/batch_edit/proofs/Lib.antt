@@ -12,3 +12,4 @@ pub mod Placing
 pub mod Putting
 pub mod Tasking
 pub mod Wholes
+mod Placed

@@ -12,10 +12,12 @@
 #![tactic(auto)]
 
 mod changes;
+mod differences;
 mod edge;
 mod faults;
 mod joining;
 mod level;
+mod places;
 mod tasks;
 mod tops;
 mod walk;
