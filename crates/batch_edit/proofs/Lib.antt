@@ -13,3 +13,4 @@ pub mod Putting
 pub mod Tasking
 pub mod Wholes
 mod Placed
+mod Applying

@@ -5,3 +5,4 @@ pub mod Tops
 pub mod Places
 pub mod Agendas
 pub mod Firsts
+pub mod Batches

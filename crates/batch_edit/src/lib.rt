@@ -11,12 +11,14 @@
 //! A call over it, which says what comes, what goes and what its faults mean, isn't there yet.
 #![tactic(auto)]
 
+mod apply;
 mod changes;
 mod differences;
 mod edge;
 mod faults;
 mod joining;
 mod level;
+mod outcome;
 mod places;
 mod tasks;
 mod tops;
@@ -24,3 +26,4 @@ mod walk;
 mod whole;
 
 pub use changes::Change;
+pub use outcome::{BatchEdit, BatchFault};

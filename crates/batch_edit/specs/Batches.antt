@@ -1,0 +1,122 @@
+-- What a batch answers, over the pairs of the tree and over any source.
+use Rattle.std.specs.Prelude.{◌≡◌, ◌≤◌, ◌+◌, ◌-◌, ◌*◌, ⊤, ℕ, suc, max, Bool, true, ◌&&◌, List, [], ◌∷◌, ◌++◌, map, length, Option, Some, None, Result, IfOk, IfErr}
+use Rattle.std.specs.Arc.{arc_value}
+use Rattle.std.specs.declared.sync.Arc.{Arc}
+use Rattle.spec.specs.Tree.{Pair, top, top_layer}
+use Rattle.spec.specs.Layer.{layer as layer_of_key}
+use Rattle.spec.specs.NodeFormat.{Shape, is_key, node_bytes}
+use Rattle.spec.specs.Blocks.{IsClashFree, IsClashIn, nodes, root as root_of}
+use Rattle.edit_laws.specs.Changes.{AreChanges, add_of, drop_of}
+use Rattle.edit_laws.specs.Laws.Edits.{bytes_of}
+use Rattle.edit_laws.specs.ShapeEdit.{layer_of_shape}
+use Rattle.edit.specs.Trees.{OfTree}
+use Rattle.batch_laws.specs.Batch.{Change, changed}
+use Rattle.batch_laws.specs.Counts.{most_reads}
+use Rattle.batch_laws.specs.Links.{Log, Top}
+use Rattle.batch_laws.specs.Previous.{values}
+use Rattle.batch_laws.specs.Trace.{batch_read}
+use Rattle.batch_edit.specs.Places.{are_ascending}
+use Rattle.edit.specs.declared.outcome.EditFault.{EditFault}
+use Rattle.edit.specs.declared.outcome.EditFault.TheVariants as edits
+use Rattle.batch_edit.specs.declared.faults.Fault.{Fault}
+use Rattle.batch_edit.specs.declared.faults.Fault.TheVariants as walks
+use Rattle.batch_edit.specs.declared.outcome.BatchEdit.{BatchEdit}
+use Rattle.batch_edit.specs.declared.outcome.BatchFault.{BatchFault}
+use Rattle.batch_edit.specs.declared.outcome.BatchFault.TheVariants.{Missing, NotTree, Clash, NoMemory}
+
+-- ---- what a batch takes
+
+abbrev pub have_keys : List Change → Bool
+have_keys [] = true
+have_keys (c ∷ cs) = is_key c.0 && have_keys cs
+
+-- whether keys have 1 to 1,024 bytes and ascend strictly
+abbrev pub are_changes : List Change → Bool
+are_changes cs = are_ascending cs && have_keys cs
+
+-- how many layers the new tree has at least for a key that gets this value
+abbrev pub layers_for : (List ℕ → ℕ) → List ℕ → Option (List ℕ) → ℕ
+layers_for layer key None = 0
+layers_for layer key (Some v) = suc (layer key)
+
+-- and for the keys of all changes
+abbrev pub put_layers : (List ℕ → ℕ) → List Change → ℕ
+put_layers layer [] = 0
+put_layers layer (c ∷ cs) = max (layers_for layer c.0 c.1) (put_layers layer cs)
+
+-- how many layers the old tree or the new one has
+abbrev pub layers_of : (List ℕ → List ℕ) → ℕ → List Change → List Pair → ℕ
+layers_of digest bits cs es =
+    let layer = layer_of_key digest bits in max (suc (top_layer layer es)) (put_layers layer cs)
+
+-- ---- over the pairs of a tree
+
+-- the nodes that a batch reads, as bytes
+abbrev pub nodes_read : (List ℕ → List ℕ) → ℕ → List Change → List Pair → List (List ℕ)
+nodes_read digest bits cs es =
+    let layer = layer_of_key digest bits in
+    map (node_bytes digest) (batch_read layer (layers_of digest bits cs es) cs (top layer es))
+
+-- The tree of es is changed: the new root, the blocks that come, the CIDs of those that go, and the value that the key of
+-- each change had.
+pub record IsBatchOf (digest : List ℕ → List ℕ) (bits : ℕ) (cs : List Change) (es : List Pair) (root : List ℕ)
+    (add drop : List (List ℕ)) (previous : List (Option (List ℕ))) : Type 0 where
+  pub root_is : root ≡ root_of digest bits (changed cs es)
+  pub previous_is : previous ≡ values cs es
+  pub changes : AreChanges digest (nodes digest bits es) (nodes digest bits (changed cs es)) (nodes_read digest bits cs es)
+      add drop
+  -- no block that comes clashes with another one or with one that was read
+  pub clash_free : IsClashFree digest (add ++ nodes_read digest bits cs es)
+  -- two nodes a layer for each change, and one a layer more where the tree rises
+  pub count : let t = top_layer (layer_of_key digest bits) es in
+      let n = layers_of digest bits cs es in
+      length add ≤ (n - t) + length cs * (n + t)
+
+-- two of these blocks clash; of a want of memory nothing is said
+abbrev pub IsClashOf : {D A : Type 0} → (List ℕ → List ℕ) → List (List ℕ) → BatchFault D A → Type 0
+IsClashOf digest blocks (Missing c) = ⊥
+IsClashOf digest blocks NotTree = ⊥
+IsClashOf digest blocks (Clash pair) = IsClashIn digest blocks pair
+IsClashOf digest blocks NoMemory = ⊤
+
+-- what a fault of the walk, and one of the difference, is to the caller
+abbrev pub of_walk : {D A : Type 0} → Fault → BatchFault D A
+of_walk walks.NotTree = NotTree
+of_walk (walks.Missing c) = Missing c
+of_walk walks.NoMemory = NoMemory
+
+abbrev pub of_difference : {D A : Type 0} → EditFault D A → BatchFault D A
+of_difference edits.NoSuchKey = NotTree
+of_difference (edits.Clash pair) = Clash pair
+of_difference edits.NoMemory = NoMemory
+
+-- the edit is that of the tree with this root, for whatever pairs it has in a source
+abbrev pub IsBatch : {D A : Type 0} → (List ℕ → List ℕ) → ℕ → (List ℕ → Option (Arc (List ℕ) A)) → List ℕ
+    → List Change → Result (BatchEdit D A) (BatchFault D A) → Type 0
+IsBatch digest bits gives root cs result = OfTree digest bits gives root (λ es. IfOk result (λ edit.
+    IsBatchOf digest bits cs es edit.root (map arc_value edit.add.items) edit.drop.items edit.previous.items))
+
+-- it is refused as nodes of the tree before and after clash, or memory was wanted
+abbrev pub IsBatchRefusal : {D A : Type 0} → (List ℕ → List ℕ) → ℕ → (List ℕ → Option (Arc (List ℕ) A)) → List ℕ
+    → List Change → Result (BatchEdit D A) (BatchFault D A) → Type 0
+IsBatchRefusal digest bits gives root cs result = OfTree digest bits gives root (λ es.
+    IfErr result (IsClashOf digest (nodes digest bits es ++ nodes digest bits (changed cs es))))
+
+-- ---- over any source
+
+-- how many layers are needed, by the top that is shown
+abbrev pub layers_needed : (List ℕ → ℕ) → List Change → Option Shape → ℕ
+layers_needed layer cs None = 0
+layers_needed layer cs (Some s) = max (suc (layer_of_shape layer s)) (put_layers layer cs)
+
+-- the edit is this answer's
+pub record IsAnswer (digest : List ℕ → List ℕ) (answer : Option (Top × Log)) (root : List ℕ) (add drop : List (List ℕ))
+    : Type 0 where
+  pub left : List Shape
+  pub log : Log
+  pub is : answer ≡ Some ((root, left), log)
+  pub added : add ≡ add_of digest (bytes_of (log.read ++ left)) (bytes_of log.made)
+  pub dropped : drop ≡ drop_of digest (bytes_of log.made) (bytes_of log.read)
+  pub free : IsClashFree digest (bytes_of (log.read ++ left)) → IsClashFree digest (add ++ bytes_of (log.read ++ left))
+  pub all_free : IsClashFree digest (bytes_of (log.read ++ left))
+      → IsClashFree digest (bytes_of log.made ++ bytes_of (log.read ++ left))
