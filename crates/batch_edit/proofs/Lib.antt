@@ -14,3 +14,4 @@ pub mod Tasking
 pub mod Wholes
 mod Placed
 mod Applying
+mod Answering
