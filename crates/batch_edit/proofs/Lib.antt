@@ -12,3 +12,8 @@ pub mod Placing
 pub mod Putting
 pub mod Tasking
 pub mod Wholes
+pub mod Stopping
+pub mod Refusing
+pub mod Arriving
+pub mod Ending
+pub mod Halting

@@ -4,3 +4,4 @@ pub mod Agenda
 pub mod Tops
 pub mod Places
 pub mod Agendas
+pub mod Stops
