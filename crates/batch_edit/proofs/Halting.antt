@@ -10,7 +10,7 @@ use Rattle.batch_laws.specs.Links.{LinkEdge, Log, and_then, ask, pairing, pairs_
 use Rattle.batch_laws.proofs.Earlier.{same-earlier, steps-earlier, pairs-earlier, walking_node-earlier, walking-earlier}
 use Rattle.batch_edit.specs.declared.faults.Fault.{Fault}
 use Rattle.batch_edit.specs.declared.faults.Fault.TheVariants as faults
-use Rattle.batch_edit.specs.Agenda.{Later, Gap, Task, ToPair, ToGap, node_does, task_does, agenda_does}
+use Rattle.batch_edit.specs.Agenda.{Later, Gap, Task, ToPair, ToGap, node_does, task_does, agenda_does, IsGoneOn}
 use Rattle.batch_edit.specs.States.{IsCounted}
 use Rattle.batch_edit.specs.Stops.{IsStopped, IsUnread}
 use Rattle.batch_edit.proofs.Stopping.{empty-keys, Goes, Leads, leads-stopped, leads-same, leads-then, onward-leads, from-stopped, memory-stopped, asked-unread}
@@ -173,6 +173,13 @@ module _ {A : Type 0} (gives : List ℕ → Option A) (digest : List ℕ → Lis
         (node-memory a p.layer p.depth p.changes p.rest t later))
 
     -- ---- the whole walk
+
+    pub walk-begun : (k d : ℕ) (cs : List Change) (r : Shape) (first start : List Task) (s : LinkEdge) (log : Log)
+        → IsGoneOn k d cs r first start → first ≡ []
+        → node_does digest shows layer n k d cs r s log ≡ agenda_does digest shows layer n start (Some (s, log))
+    walk-begun k d cs r first start s log w e =
+        sym (ap (λ ys. agenda_does digest shows layer n ys (node_does digest shows layer n k d cs r s log)) e)
+        ∙ w.does digest shows layer n s log
 
     pub task-stopped : (b m a : ℕ) (whole all : Option (LinkEdge × Log)) (fs gs : List Task) (t : Task) (s : LinkEdge)
         (start log : Log) (f : Fault) → whole ≡ all → all ≡ agenda_does digest shows layer n fs (Some (s, log))
