@@ -26,12 +26,19 @@ use Rattle.batch_laws.specs.Links.{Log, Top, batch_from}
 use Rattle.batch_laws.specs.Previous.{values, previous_top}
 use Rattle.batch_laws.specs.Trace.{batch_made, batch_read}
 use Rattle.batch_laws.specs.Laws.Sources.{IsBatchFrom}
+use Rattle.batch_laws.specs.Written.{AreWritten, OnAnswer}
+use Rattle.edit_laws.specs.Lawful.{HasKeys}
+use Rattle.batch_laws.proofs.Lawful.{batch-has_keys}
+use Rattle.batch_edit.specs.Stops.{IsUnwritten, at_top}
+use Rattle.batch_edit.specs.declared.outcome.BatchFault.{BatchFault}
+use Rattle.batch_edit.specs.declared.outcome.BatchFault.TheVariants.{Missing, NotTree, Clash, NoMemory}
 use Rattle.edit_laws.proofs.Tops.{layer_of-top}
 use Rattle.batch_laws.proofs.OverSource.{batch-over_source}
 use Rattle.batch_laws.proofs.Previous.{previous-is_values}
 use Rattle.batch_laws.proofs.MakesFew.{batch-makes_few}
-use Rattle.batch_edit.specs.Batches.{have_keys, are_changes, put_layers, layers_for, layers_of, layers_needed, nodes_read, IsBatchOf, IsAnswer}
+use Rattle.batch_edit.specs.Batches.{have_keys, are_changes, put_layers, layers_for, layers_of, nodes_read, IsBatchOf, IsAnswer, IsClashOf}
 use Rattle.batch_edit.specs.Places.{are_ascending}
+use Rattle.batch_edit.specs.Tops.{layers_needed}
 use Rattle.batch_edit.proofs.Placing.{ascends}
 
 -- ---- changes with keys
@@ -79,6 +86,9 @@ layer-fits digest bits fits key l is =
 some-is : {X : Type 0} (x y : X) → Some x ≡ Some y → x ≡ y
 some-is x y h = cc
 
+some-none : {X : Type 0} (x : X) → Some x ≡ None → ⊥
+some-none x h = cc
+
 map-map : {A B C : Type 0} (f : A → B) (g : B → C) (xs : List A) → map g (map f xs) ≡ map (λ x. g (f x)) xs
 map-map f g [] = refl
 map-map f g (x ∷ xs) = ap (λ t. g (f x) ∷ t) (map-map f g xs)
@@ -89,9 +99,9 @@ module _ (digest : List ℕ → List ℕ) (bits : ℕ) (fits : IsDigest digest) 
   shown-top =
       ap (shown_by gives) has.root_is ∙ (holds-top digest bits fits gives es has.pairs has.nodes).0
 
-  needed : layers_needed (layer digest bits) cs (shown_by gives root) ≡ layers_of digest bits cs es
+  needed : layers_needed (layer digest bits) (put_layers (layer digest bits) cs) (shown_by gives root) ≡ layers_of digest bits cs es
   needed =
-      ap (layers_needed (layer digest bits) cs) shown-top
+      ap (layers_needed (layer digest bits) (put_layers (layer digest bits) cs)) shown-top
       ∙ ap (λ t. max (suc t) (put_layers (layer digest bits) cs))
       (layer-shape digest (layer digest bits) (top (layer digest bits) es) ∙ layer_of-top (layer digest bits) es)
 
@@ -107,7 +117,7 @@ module _ (digest : List ℕ → List ℕ) (bits : ℕ) (fits : IsDigest digest) 
 
   -- there is an answer, and it is this
   pub answers : batch_from digest (shown_by gives) (layer digest bits)
-      (layers_needed (layer digest bits) cs (shown_by gives root)) cs root
+      (layers_needed (layer digest bits) (put_layers (layer digest bits) cs) (shown_by gives root)) cs root
       ≡ Some ((root_of digest bits (changed cs es), is-batch.left), is-batch.log)
   answers =
       ap (λ n. batch_from digest (shown_by gives) (layer digest bits) n cs root) needed
@@ -137,7 +147,7 @@ module _ (digest : List ℕ → List ℕ) (bits : ℕ) (fits : IsDigest digest) 
   pub batch-edit : (root' : List ℕ) (add drop : List (List ℕ)) (previous : List (Option (List ℕ)))
       → are_changes cs ≡ true
       → IsAnswer digest (batch_from digest (shown_by gives) (layer digest bits)
-      (layers_needed (layer digest bits) cs (shown_by gives root)) cs root) root' add drop
+      (layers_needed (layer digest bits) (put_layers (layer digest bits) cs) (shown_by gives root)) cs root) root' add drop
       → ((m : Shape) → shown_by gives root ≡ Some m
       → previous ≡ previous_top (shown_by gives) (layer digest bits) cs m)
       → IsBatchOf digest bits cs es root' add drop previous
@@ -177,3 +187,48 @@ module _ (digest : List ℕ → List ℕ) (bits : ℕ) (fits : IsDigest digest) 
             let i = made-few in
             omega (arith, f, g, h, i);
       }
+
+  -- why there is none, seen from the tree: nothing is missing, and each node is written
+  pub batch-refused : {D A : Type 0} (fault : BatchFault D A) → are_changes cs ≡ true
+      → (lacks : (c : List ℕ) → fault ≡ Missing c → batch_from digest (shown_by gives) (layer digest bits)
+      (layers_needed (layer digest bits) (put_layers (layer digest bits) cs) (shown_by gives root)) cs root ≡ None)
+      → (fault ≡ NotTree → IsUnwritten (at_top (batch_from digest (shown_by gives) (layer digest bits)
+      (layers_needed (layer digest bits) (put_layers (layer digest bits) cs) (shown_by gives root)) cs root)))
+      → ((pair : List ℕ × List ℕ) → fault ≡ Clash pair → ⊥)
+      → IsClashOf digest (nodes digest bits es ++ nodes digest bits (changed cs es)) fault
+  batch-refused (Missing c) are lacks unwritten none =
+      let no : Some ((root_of digest bits (changed cs es), is-batch.left), is-batch.log) ≡ None =
+      sym answers ∙ lacks c refl in
+      absurd (some-none ((root_of digest bits (changed cs es), is-batch.left), is-batch.log) no)
+  batch-refused NotTree are lacks unwritten none =
+      subst (λ a. OnAnswer (at_top a) (λ s log. ¬ AreWritten HasKeys s log)) answers (unwritten refl)
+      (record {
+        made = subst (AllByRecursion HasKeys) (sym is-batch.made_is)
+            (batch-has_keys digest (layer digest bits) (layers_of digest bits cs es) cs es has.pairs (are-keyed cs are)
+            enough-top enough-puts);
+        begun = tt;
+      })
+  batch-refused (Clash pair) are lacks unwritten none = absurd (none pair refl)
+  batch-refused NoMemory are lacks unwritten none = tt
+
+  -- a clash of what was made or read is one of old and new nodes
+  pub batch-clash : (made read : List (List ℕ)) (root' : List ℕ) (left : List Shape) (log : Log)
+      → batch_from digest (shown_by gives) (layer digest bits)
+      (layers_needed (layer digest bits) (put_layers (layer digest bits) cs) (shown_by gives root)) cs root
+      ≡ Some ((root', left), log) → made ≡ bytes_of log.made → read ≡ bytes_of (log.read ++ left)
+      → (b : List ℕ) → Contains (made ++ read) b
+      → Contains (nodes digest bits es ++ nodes digest bits (changed cs es)) b
+  batch-clash made read root' left log is made_is read_is b c =
+      let same = some-is ((root', left), log) ((root_of digest bits (changed cs es), is-batch.left), is-batch.log)
+      (sym is ∙ answers) in
+      by (made_is ∙ ap (λ (x : Top × Log). bytes_of x.1.made) same)
+      (read_is ∙ ap (λ (x : Top × Log). bytes_of (x.1.read ++ x.0.1)) same) (Contains-append_cases made read b c)
+    where
+      by : made ≡ bytes_of is-batch.log.made → read ≡ bytes_of (is-batch.log.read ++ is-batch.left)
+          → Contains made b ⊎ Contains read b → Contains (nodes digest bits es ++ nodes digest bits (changed cs es)) b
+      by m r (inl k) =
+          Contains-append_right (nodes digest bits es) (nodes digest bits (changed cs es)) b
+          (is-batch.edit.made_new b (subst (λ bs. Contains bs b) m k))
+      by m r (inr k) =
+          Contains-append_left (nodes digest bits es) (nodes digest bits (changed cs es)) b
+          (is-batch.edit.read_old b (subst (λ bs. Contains bs b) r k))

@@ -55,3 +55,11 @@ part-opened digest shows k c (LinkOpened rows0 s) t rows node log mid next h o a
     ap (λ x. and_then x (λ o log1. and_then (ask shows c log1) (noding digest (parting digest shows k) o.0 o.1))) o
     ∙ ap (λ x. and_then x (noding digest (parting digest shows k) rows t)) a
     ∙ noding-joined digest (parting digest shows k) rows t node next
+
+-- the same before anything is read
+pub part-through : (digest : List ℕ → List ℕ) (shows : List ℕ → Option Shape) (k : ℕ) (c : List ℕ) (s : LinkEdge) (log : Log)
+    → is_clear s ≡ false → parting digest shows (suc k) (Some c) s log
+    ≡ and_then (opening shows s log) (λ o log1. and_then (ask shows c log1) (noding digest (parting digest shows k) o.0 o.1))
+part-through digest shows k c LinkClear log h = absurd cc
+part-through digest shows k c (LinkWaiting b) log h = then-shown digest shows k c (shows b) log
+part-through digest shows k c (LinkOpened rows s) log h = refl

@@ -13,5 +13,10 @@ pub mod Putting
 pub mod Tasking
 pub mod Wholes
 mod Placed
-mod Applying
+pub mod Applying
 mod Answering
+pub mod Stopping
+pub mod Refusing
+pub mod Arriving
+pub mod Ending
+pub mod Halting

@@ -12,7 +12,7 @@ same-state : (x y : LinkEdge × Log) → Some x ≡ Some y → x ≡ y
 same-state x y h = cc
 
 module _ (digest : List ℕ → List ℕ) (shows : List ℕ → Option Shape) (depth : List ℕ → ℕ) where
-  alone : (x : Option (LinkEdge × Log)) → and_then x (pairs_in_turn digest shows depth []) ≡ x
+  pub alone : (x : Option (LinkEdge × Log)) → and_then x (pairs_in_turn digest shows depth []) ≡ x
   alone None = refl
   alone (Some x) = refl
 

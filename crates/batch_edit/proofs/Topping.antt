@@ -8,19 +8,19 @@ use Rattle.batch_edit.specs.Edges.{edge_of, highest_of, has_rows}
 use Rattle.batch_edit.specs.Tops.{IsTopped, IsLooked, IsTop, IsEnded, further_of}
 use Rattle.batch_edit.proofs.Cuts.{snoc-same, cut-at, drop-end}
 
-top-down : (digest : List ℕ → List ℕ) (shows : List ℕ → Option Shape) (k : ℕ) (ls : List Rows) (rest : Option (List ℕ))
+pub top-down : (digest : List ℕ → List ℕ) (shows : List ℕ → Option Shape) (k : ℕ) (ls : List Rows) (rest : Option (List ℕ))
     (log : Log) → topping digest shows k (edge_of ls rest) log
     ≡ topping digest shows k (edge_of (drop (highest_of ls) ls) rest) log
 top-down digest shows k [] rest log = refl
 top-down digest shows k ([] ∷ ls) rest log = top-down digest shows k ls rest log
 top-down digest shows k ((x ∷ r) ∷ ls) rest log = refl
 
-record HasTop (d : ℕ) (ls : List Rows) : Type 0 where
+pub record HasTop (d : ℕ) (ls : List Rows) : Type 0 where
   pub first : Option (List ℕ) × (List ℕ × List ℕ)
   pub more : Rows
   pub is : drop d ls ≡ (first ∷ more) ∷ drop (suc d) ls
 
-has-top : (ls : List Rows) → highest_of ls < length ls → HasTop (highest_of ls) ls
+pub has-top : (ls : List Rows) → highest_of ls < length ls → HasTop (highest_of ls) ls
 has-top [] h = absurd (omega arith)
 has-top ([] ∷ ls) h = let i = has-top ls (omega arith) in record { first = i.first; more = i.more; is = i.is }
 has-top ((x ∷ r) ∷ ls) h = record { first = x; more = r; is = refl }
@@ -50,7 +50,7 @@ topped-all digest shows k d ls rest log now root e h t =
     heads : (x y : Rows) (zs : List Rows) → x ∷ zs ≡ y ∷ zs → x ≡ y
     heads x y zs h = cc
 
-none-top : (digest : List ℕ → List ℕ) (shows : List ℕ → Option Shape) (k d : ℕ) (ls : List Rows)
+pub none-top : (digest : List ℕ → List ℕ) (shows : List ℕ → Option Shape) (k d : ℕ) (ls : List Rows)
     (rest : Option (List ℕ)) (log : Log) → d ≡ highest_of ls → length ls ≤ d
     → topping digest shows k (edge_of ls rest) log ≡ topping digest shows k (link_edge rest) log
 none-top digest shows k d ls rest log e h =

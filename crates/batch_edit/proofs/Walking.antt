@@ -107,7 +107,7 @@ size-none : (shows : List ℕ → Option Shape) (k : ℕ) → size_of_gap shows 
 size-none shows zero = refl
 size-none shows (suc k) = refl
 
-does-none : (digest : List ℕ → List ℕ) (shows : List ℕ → Option Shape) (layer : List ℕ → ℕ) (n k d : ℕ)
+pub does-none : (digest : List ℕ → List ℕ) (shows : List ℕ → Option Shape) (layer : List ℕ → ℕ) (n k d : ℕ)
     (cs : List Change) (s : LinkEdge) (log : Log) → walking digest shows layer n k d None cs s log
     ≡ pairs_in_turn digest shows (depth_of layer n) (puts cs) s log
 does-none digest shows layer n zero d cs s log = refl
@@ -161,7 +161,7 @@ shown-is None node log later h = absurd cc
 shown-is (Some m) node log later h =
     ap (λ x. Some x.0) (some-same (m, with_read m log) (node, later) h)
 
-walks-down : (digest : List ℕ → List ℕ) (shows : List ℕ → Option Shape) (layer : List ℕ → ℕ) (n k d : ℕ) (c : List ℕ)
+pub walks-down : (digest : List ℕ → List ℕ) (shows : List ℕ → Option Shape) (layer : List ℕ → ℕ) (n k d : ℕ) (c : List ℕ)
     (cs : List Change) (node : Shape) (s : LinkEdge) (log later : Log) → 0 < length cs
     → ask shows c log ≡ Some (node, later)
     → walking digest shows layer n (suc k) d (Some c) cs s log ≡ node_does digest shows layer n k d cs node s later

@@ -8,14 +8,16 @@ use Rattle.spec.specs.NodeFormat.{Shape, is_key, node_bytes}
 use Rattle.spec.specs.Blocks.{IsClashFree, IsClashIn, nodes, root as root_of}
 use Rattle.edit_laws.specs.Changes.{AreChanges, add_of, drop_of}
 use Rattle.edit_laws.specs.Laws.Edits.{bytes_of}
-use Rattle.edit_laws.specs.ShapeEdit.{layer_of_shape}
+use Rattle.edit.specs.Steps.{nodes_given}
 use Rattle.edit.specs.Trees.{OfTree}
 use Rattle.batch_laws.specs.Batch.{Change, changed}
 use Rattle.batch_laws.specs.Counts.{most_reads}
-use Rattle.batch_laws.specs.Links.{Log, Top}
+use Rattle.batch_laws.specs.Links.{Log, Top, batch_from}
 use Rattle.batch_laws.specs.Previous.{values}
 use Rattle.batch_laws.specs.Trace.{batch_read}
 use Rattle.batch_edit.specs.Places.{are_ascending}
+use Rattle.batch_edit.specs.Stops.{IsUnwritten, at_top}
+use Rattle.batch_edit.specs.Tops.{layers_needed}
 use Rattle.edit.specs.declared.outcome.EditFault.{EditFault}
 use Rattle.edit.specs.declared.outcome.EditFault.TheVariants as edits
 use Rattle.batch_edit.specs.declared.faults.Fault.{Fault}
@@ -104,11 +106,6 @@ IsBatchRefusal digest bits gives root cs result = OfTree digest bits gives root 
 
 -- ---- over any source
 
--- how many layers are needed, by the top that is shown
-abbrev pub layers_needed : (List ℕ → ℕ) → List Change → Option Shape → ℕ
-layers_needed layer cs None = 0
-layers_needed layer cs (Some s) = max (suc (layer_of_shape layer s)) (put_layers layer cs)
-
 -- the edit is this answer's
 pub record IsAnswer (digest : List ℕ → List ℕ) (answer : Option (Top × Log)) (root : List ℕ) (add drop : List (List ℕ))
     : Type 0 where
@@ -120,3 +117,30 @@ pub record IsAnswer (digest : List ℕ → List ℕ) (answer : Option (Top × Lo
   pub free : IsClashFree digest (bytes_of (log.read ++ left)) → IsClashFree digest (add ++ bytes_of (log.read ++ left))
   pub all_free : IsClashFree digest (bytes_of (log.read ++ left))
       → IsClashFree digest (bytes_of log.made ++ bytes_of (log.read ++ left))
+
+-- what a batch with these changes answers from a root, over a source of blocks
+abbrev pub answer_of : {A : Type 0} → (List ℕ → List ℕ) → ℕ → (List ℕ → Option (Arc (List ℕ) A)) → List Change
+    → List ℕ → Option (Top × Log)
+answer_of digest bits gives cs root =
+    let layer = layer_of_key digest bits in
+    let shows = nodes_given gives in
+    batch_from digest shows layer (layers_needed layer (put_layers layer cs) (shows root)) cs root
+
+-- the edit is what the batch answers, whatever the source has
+abbrev pub IsAnswered : {D A : Type 0} → (List ℕ → List ℕ) → ℕ → (List ℕ → Option (Arc (List ℕ) A)) → List ℕ
+    → List Change → Result (BatchEdit D A) (BatchFault D A) → Type 0
+IsAnswered digest bits gives root cs result = IfOk result (λ edit.
+    IsAnswer digest (answer_of digest bits gives cs root) edit.root (map arc_value edit.add.items) edit.drop.items)
+
+-- why there is none: the source lacks the block with this CID, without which there is no answer; or the batch has no
+-- answer in which keys ascend in each node that is made
+abbrev pub IsReason : {D A : Type 0} → (List ℕ → Option (Arc (List ℕ) A)) → Option (Top × Log) → BatchFault D A → Type 0
+IsReason gives answer (Missing c) = (gives c ≡ None) × (answer ≡ None)
+IsReason gives answer NotTree = IsUnwritten (at_top answer)
+IsReason gives answer (Clash pair) = ⊤
+IsReason gives answer NoMemory = ⊤
+
+abbrev pub IsLack : {D A : Type 0} → (List ℕ → List ℕ) → ℕ → (List ℕ → Option (Arc (List ℕ) A)) → List ℕ
+    → List Change → Result (BatchEdit D A) (BatchFault D A) → Type 0
+IsLack digest bits gives root cs result =
+    IfErr result (IsReason gives (answer_of digest bits gives cs root))

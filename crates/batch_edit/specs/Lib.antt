@@ -6,3 +6,4 @@ pub mod Places
 pub mod Agendas
 pub mod Firsts
 pub mod Batches
+pub mod Stops

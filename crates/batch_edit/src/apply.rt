@@ -7,7 +7,9 @@ ghost use Rattle.spec.specs.Layer.{layer as layer_of};
 ghost use Rattle.spec.specs.Tree.{top_layer};
 ghost use Rattle.edit.specs.Faults.{IsRefusal};
 ghost use Rattle.edit_laws.specs.Changes.{add_of, drop_of};
-ghost use Rattle.batch_edit.specs.Batches.{layers_for as layers_for_key, put_layers};
+ghost use Rattle.edit.specs.Trees.{OfTree};
+ghost use Rattle.batch_laws.specs.Counts.{most_reads};
+ghost use Rattle.batch_edit.specs.Batches.{are_changes as are_changes_of, layers_for as layers_for_key, put_layers, nodes_read, IsBatch, IsBatchRefusal, IsAnswered, IsLack};
 
 use crate::changes::Change;
 use crate::differences::{added, dropped};
@@ -18,6 +20,42 @@ use cid::{Cid, Digest, layer};
 use edit::{EditFault, Lent, Source};
 use std::alloc::Allocator;
 use std::clone::Clone;
+
+/// Changes many keys of the tree with this root at once: each change gives its key a value, or takes the key away where it
+/// has none. A key that isn't there and is taken away changes nothing.
+///
+/// The keys have 1 to 1,024 bytes and ascend strictly; [`are_changes`] is the test. Only nodes in whose range of keys a change
+/// lies, and their neighbours where keys go, are read, each once, and each node that changes is written once. `B` is the
+/// number of zero bits of a digest that count for one layer, 1 to 8 (AT Protocol repository v3, MST structure).
+///
+/// The source has all nodes of the tree. Then `BatchFault::Clash` shows two blocks with one CID and different bytes, each a
+/// node of the tree before or of the tree after, and `BatchFault::NoMemory` comes where memory was refused. Where the source
+/// lacks a node that is needed, `BatchFault::Missing` has its CID, so that who has it elsewhere can add it and call again;
+/// where it gives what is no tree, the fault is `BatchFault::NotTree`. After a refusal nothing has changed: the blocks are
+/// for the caller to keep.
+pub fn apply<'a, D: Digest + 'a, const B: u8, A: Allocator + Clone + 'a, S: Source<Lent<'a, D, A>>>(
+    alloc: A,
+    src: &mut S,
+    root: Cid,
+    changes: &[Change<A>],
+) -> Result<BatchEdit<D, A>, BatchFault<D, A>>
+    requires least { 1 ≤ B }
+    requires most { B ≤ 8 }
+    requires changes { are_changes_of changes.now ≡ true }
+    ensures edit { IsBatch D.digest_of B (S.gives src.old) root changes.now result }
+    ensures fault { IsBatchRefusal D.digest_of B (S.gives src.old) root changes.now result }
+    ensures answer { IsAnswered D.digest_of B (S.gives src.old) root changes.now result }
+    ensures lack { IsLack D.digest_of B (S.gives src.old) root changes.now result }
+    ensures reads { OfTree D.digest_of B (S.gives src.old) root (λ es. OnOk result
+        (S.reads src.new ≡ S.reads src.old + length (nodes_read D.digest_of B changes.now es))) }
+    ensures layers { OfTree D.digest_of B (S.gives src.old) root (λ es. S.reads src.new
+        ≤ S.reads src.old + suc (most_reads (top_layer (layer_of D.digest_of B) es) changes.now)) }
+    ensures same { S.gives src.new ≡ S.gives src.old }
+{
+    let wanted = layers_of_puts::<D, B, A>(changes);
+    let changed = change_tree::<D, B, A, S>(alloc.clone()?, src, root, wanted, changes)?;
+    Ok(difference_of(alloc, changed)?)
+}
 
 /// How many layers the new tree has at least for the key of a change: one more than its layer, and 0 where it goes.
 fn layers_for<D: Digest, const B: u8, A: Allocator>(change: &Change<A>) -> u16

@@ -1,11 +1,12 @@
 //! The right edge of the new tree, and a pair that comes to it.
 
-ghost use Rattle.std.specs.Prelude.{◌≡◌, ◌<◌, ◌≤◌, ◌+◌, [], None, Some, length, take, drop, IfOk, OnOk};
+ghost use Rattle.std.specs.Prelude.{◌≡◌, ◌<◌, ◌≤◌, ◌+◌, ◌∷◌, ◌++◌, [], List, Option, None, Some, length, take, drop, IfOk, IfErr, OnOk};
 ghost use Rattle.edit.specs.Steps.{nodes_given};
 ghost use Rattle.rewrite.specs.Drafts.{pair_of};
 ghost use Rattle.rewrite.specs.Entries.{shape_of};
-ghost use Rattle.batch_laws.specs.Links.{LinkClear, ask, closing, pairing};
-ghost use Rattle.batch_edit.specs.Edges.{edge_of};
+ghost use Rattle.batch_laws.specs.Links.{Rows, LinkEdge, LinkClear, Log, ask, add_row, opening, closing, link_edge, pairing};
+ghost use Rattle.batch_edit.specs.Edges.{edge_of, within};
+ghost use Rattle.batch_edit.specs.Stops.{IsRefused, IsStopped, IsUnread, IsOnward, all_closed, open_edge};
 ghost use Rattle.batch_edit.specs.States.{edge_in, log_in, IsOpened, IsOpenAt, IsAdded, IsCounted, KeepsWithin};
 
 use crate::faults::Fault;
@@ -54,6 +55,8 @@ impl<'a, D: Digest, A: Allocator + Clone> Edge<'a, D, A> {
             (edge_of (drop depth self.old.levels.items) self.old.rest) (log_in self.old)
             ≡ (link, log_in self.new)) }
         ensures read { self.new.read.items ≡ self.old.read.items }
+        ensures fault { IfErr result (IsRefused (all_closed D.digest_of
+            (edge_of (drop depth self.old.levels.items) self.old.rest) (log_in self.old))) }
     {
         if self.levels.len() <= depth {
             return Ok(self.rest);
@@ -73,6 +76,10 @@ impl<'a, D: Digest, A: Allocator + Clone> Edge<'a, D, A> {
             self.new.levels.items (log_in self.new)) }
         ensures rest { OnOk result (self.new.rest ≡ None) }
         ensures read { self.new.read.items ≡ self.old.read.items }
+        ensures fault { (above : List Rows) (rows : Rows)
+            → take (depth + 1) self.old.levels.items ≡ above ++ (rows ∷ [])
+            → IfErr result (IsRefused (add_row (pair_of key.now value.entry) rows (closing D.digest_of
+            (edge_of (drop (depth + 1) self.old.levels.items) self.old.rest) (log_in self.old)))) }
     {
         let link = self.close_below(depth + 1)?;
         let Some(level) = self.levels.pop() else {
@@ -99,6 +106,8 @@ impl<'a, D: Digest + 'a, A: Allocator + Clone + 'a> Edge<'a, D, A> {
         ensures levels { self.new.levels.items ≡ self.old.levels.items }
         ensures rest { self.new.rest ≡ self.old.rest }
         ensures same { S.gives src.new ≡ S.gives src.old }
+        ensures unread { IfErr result (IsUnread (S.gives src.old) (S.reads src.old)
+            (S.reads src.new) (nodes_given (S.gives src.old) cid)) }
     {
         let Some(lent) = src.get(&cid) else {
             return Err(Fault::Missing(cid));
@@ -123,6 +132,8 @@ impl<'a, D: Digest + 'a, A: Allocator + Clone + 'a> Edge<'a, D, A> {
         ensures levels { self.new.levels.items ≡ self.old.levels.items }
         ensures rest { self.new.rest ≡ self.old.rest }
         ensures same { S.gives src.new ≡ S.gives src.old }
+        ensures unread { IfErr result (IsUnread (S.gives src.old) (S.reads src.old)
+            (S.reads src.new) (nodes_given (S.gives src.old) cid)) }
     {
         let view = self.view(src, cid)?;
         Ok(KeyedEntries::of(&view, KeyBuf::new(self.alloc()?)?))
@@ -136,6 +147,9 @@ impl<'a, D: Digest + 'a, A: Allocator + Clone + 'a> Edge<'a, D, A> {
         ensures counted { OnOk result
             (IsCounted (S.reads src.old) (S.reads src.new) (log_in self.old) (log_in self.new)) }
         ensures same { S.gives src.new ≡ S.gives src.old }
+        ensures stopped { IfErr result (IsStopped (S.gives src.old) (S.reads src.old)
+            (S.reads src.new) (log_in self.old) (open_edge (opening
+            (nodes_given (S.gives src.old)) (link_edge self.old.rest) (log_in self.old)))) }
     {
         let Some(cid) = self.rest else {
             let level = Level::new(self.alloc()?);
@@ -162,6 +176,10 @@ impl<'a, D: Digest + 'a, A: Allocator + Clone + 'a> Edge<'a, D, A> {
         ensures counted { OnOk result
             (IsCounted (S.reads src.old) (S.reads src.new) (log_in self.old) (log_in self.new)) }
         ensures same { S.gives src.new ≡ S.gives src.old }
+        ensures stopped { (f : LinkEdge → Log → Option (LinkEdge × Log)) → IsOnward f
+            → IfErr result (IsStopped (S.gives src.old) (S.reads src.old) (S.reads src.new)
+            (log_in self.old) (within (nodes_given (S.gives src.old)) count f
+            (edge_in self.old) (log_in self.old))) }
     {
         while self.levels.len() < count {
             self.open_level(src)?;
@@ -182,6 +200,9 @@ impl<'a, D: Digest + 'a, A: Allocator + Clone + 'a> Edge<'a, D, A> {
         ensures counted { OnOk result
             (IsCounted (S.reads src.old) (S.reads src.new) (log_in self.old) (log_in self.new)) }
         ensures same { S.gives src.new ≡ S.gives src.old }
+        ensures stopped { IfErr result (IsStopped (S.gives src.old) (S.reads src.old)
+            (S.reads src.new) (log_in self.old) (open_edge (opening (nodes_given (S.gives src.old))
+            (edge_of (drop depth self.old.levels.items) self.old.rest) (log_in self.old)))) }
     {
         if depth < self.levels.len() {
             return Ok(());
@@ -203,6 +224,10 @@ impl<'a, D: Digest + 'a, A: Allocator + Clone + 'a> Edge<'a, D, A> {
         ensures counted { OnOk result
             (IsCounted (S.reads src.old) (S.reads src.new) (log_in self.old) (log_in self.new)) }
         ensures same { S.gives src.new ≡ S.gives src.old }
+        ensures stopped { IfErr result (IsStopped (S.gives src.old) (S.reads src.old)
+            (S.reads src.new) (log_in self.old) (pairing D.digest_of
+            (nodes_given (S.gives src.old)) depth (pair_of key.now value.entry)
+            (edge_in self.old) (log_in self.old))) }
     {
         self.open_to(src, depth)?;
         self.open_at(src, depth)?;

@@ -1,5 +1,9 @@
 //! Why a tree isn't changed.
 
+ghost use Rattle.std.specs.Prelude.{◌≡◌};
+ghost use Rattle.batch_edit.specs.Stops.{fault_of};
+ghost use Rattle.batch_edit.specs.declared.faults.Fault.TheVariants.{NoMemory};
+
 use cid::Cid;
 use rewrite::RewriteFault;
 use std::alloc::{AllocError, AllocFailed};
@@ -18,18 +22,24 @@ pub(crate) enum Fault {
 }
 
 impl From<AllocError> for Fault {
+    ghost from_gives = { λ _ fault. fault ≡ NoMemory };
+
     fn from(_: AllocError) -> Fault {
         Fault::NoMemory
     }
 }
 
 impl<T: Drop> From<AllocFailed<T>> for Fault {
+    ghost from_gives = { λ _ fault. fault ≡ NoMemory };
+
     fn from(_: AllocFailed<T>) -> Fault {
         Fault::NoMemory
     }
 }
 
 impl From<RewriteFault> for Fault {
+    ghost from_gives = { λ given fault. fault ≡ fault_of given };
+
     fn from(fault: RewriteFault) -> Fault {
         match fault {
             RewriteFault::NotNode => Fault::NotTree,

@@ -1,8 +1,10 @@
 //! A subtree that comes to the edge.
 
-ghost use Rattle.std.specs.Prelude.{◌≡◌, [], ◌<◌, ◌≤◌, ◌+◌, ℕ, List, Option, Some, map, length, IfOk, IfSome, IfNone, OnOk};
+ghost use Rattle.std.specs.Prelude.{◌≡◌, [], ◌∷◌, ◌++◌, ◌<◌, ◌≤◌, ◌+◌, ℕ, suc, List, Option, Some, map, take, drop, length, IfOk, IfErr, IfSome, IfNone, OnOk};
 ghost use Rattle.edit.specs.Steps.{nodes_given};
-ghost use Rattle.batch_laws.specs.Links.{LinkEdge, Log, subtreeing};
+ghost use Rattle.batch_laws.specs.Links.{Rows, LinkEdge, Log, parting, subtreeing};
+ghost use Rattle.batch_edit.specs.Edges.{edge_of, joined};
+ghost use Rattle.batch_edit.specs.Stops.{IsRefused, IsStopped};
 ghost use Rattle.batch_edit.specs.States.{edge_in, log_in, shapes_coming, IsComing, IsWaiting, IsOnTheWay, IsArrived, IsJoined, IsCounted};
 
 use crate::edge::Edge;
@@ -22,6 +24,10 @@ impl<'a, D: Digest, A: Allocator + Clone> Edge<'a, D, A> {
             self.old.levels.items self.old.rest (log_in self.old)
             self.new.levels.items self.new.rest (log_in self.new)) }
         ensures read { self.new.read.items ≡ self.old.read.items }
+        ensures fault { (above : List Rows) (begun : Rows)
+            → take (depth + 1) self.old.levels.items ≡ above ++ (begun ∷ [])
+            → IfErr result (IsRefused (joined D.digest_of begun rows.entry.rest (Some
+            (edge_of (drop (depth + 1) self.old.levels.items) self.old.rest, log_in self.old)))) }
     {
         let Some(value) = rows.next() else {
             return Ok(());
@@ -49,6 +55,9 @@ impl<'a, D: Digest, A: Allocator + Clone> Edge<'a, D, A> {
             (shapes_coming coming.entry.items) self.old.levels.items self.old.rest (log_in self.old)
             → OnOk result (all ≡ Some (edge_in self.new, log_in self.new)) }
         ensures read { self.new.read.items ≡ self.old.read.items }
+        ensures fault { (all : Option (LinkEdge × Log)) → IsArrived D.digest_of all depth
+            (shapes_coming coming.entry.items) self.old.levels.items self.old.rest (log_in self.old)
+            → IfErr result (IsRefused all) }
     {
         let Some(rows) = coming.pop() else {
             return Ok(());
@@ -79,6 +88,10 @@ impl<'a, D: Digest + 'a, A: Allocator + Clone + 'a> Edge<'a, D, A> {
         ensures counted { OnOk result
             (IsCounted (S.reads src.old) (S.reads src.new) (log_in self.old) (log_in self.new)) }
         ensures same { S.gives src.new ≡ S.gives src.old }
+        ensures stopped { (k : ℕ) → IfErr result (IsStopped (S.gives src.old) (S.reads src.old)
+            (S.reads src.new) (log_in self.old) (parting D.digest_of
+            (nodes_given (S.gives src.old)) (suc k) (Some cid)
+            (edge_of (drop depth self.old.levels.items) self.old.rest) (log_in self.old))) }
     {
         if self.levels.len() <= depth && self.rest.is_none() {
             self.rest = Some(cid);
@@ -108,6 +121,11 @@ impl<'a, D: Digest + 'a, A: Allocator + Clone + 'a> Edge<'a, D, A> {
         ensures counted { OnOk result
             (IsCounted (S.reads src.old) (S.reads src.new) (log_in self.old) (log_in self.new)) }
         ensures same { S.gives src.new ≡ S.gives src.old }
+        ensures stopped { (all : Option (LinkEdge × Log)) → IsOnTheWay D.digest_of
+            (nodes_given (S.gives src.old)) all depth layers (Some cid) []
+            self.old.levels.items self.old.rest (log_in self.old)
+            → IfErr result (IsStopped (S.gives src.old) (S.reads src.old) (S.reads src.new)
+            (log_in self.old) all) }
     {
         let mut coming = Vec::new(self.alloc()?);
         let mut next = Some(cid);
@@ -140,6 +158,10 @@ impl<'a, D: Digest + 'a, A: Allocator + Clone + 'a> Edge<'a, D, A> {
         ensures counted { OnOk result
             (IsCounted (S.reads src.old) (S.reads src.new) (log_in self.old) (log_in self.new)) }
         ensures same { S.gives src.new ≡ S.gives src.old }
+        ensures stopped { IfErr result (IsStopped (S.gives src.old) (S.reads src.old)
+            (S.reads src.new) (log_in self.old) (subtreeing D.digest_of
+            (nodes_given (S.gives src.old)) layers depth cid (edge_in self.old)
+            (log_in self.old))) }
     {
         self.open_to(src, depth)?;
         let coming = self.descend(src, depth, layers, cid)?;

@@ -25,5 +25,6 @@ mod tops;
 mod walk;
 mod whole;
 
+pub use apply::apply;
 pub use changes::Change;
 pub use outcome::{BatchEdit, BatchFault};

@@ -1,9 +1,10 @@
 //! The top of the tree that the edge has become.
 
-ghost use Rattle.std.specs.Prelude.{◌≡◌, ◌<◌, ◌≤◌, ◌+◌, length, IfOk, OnOk};
+ghost use Rattle.std.specs.Prelude.{◌≡◌, ◌<◌, ◌≤◌, ◌+◌, ◌∷◌, ◌++◌, [], List, length, take, drop, IfOk, IfErr, OnOk};
 ghost use Rattle.edit.specs.Steps.{nodes_given};
-ghost use Rattle.batch_laws.specs.Links.{pruning, topping};
-ghost use Rattle.batch_edit.specs.Edges.{highest_of};
+ghost use Rattle.batch_laws.specs.Links.{Rows, closing, new_top, pruning, topping};
+ghost use Rattle.batch_edit.specs.Edges.{edge_of, highest_of};
+ghost use Rattle.batch_edit.specs.Stops.{IsRefused, IsStopped, IsUnread, at_top};
 ghost use Rattle.batch_edit.specs.States.{edge_in, log_in, IsCounted};
 ghost use Rattle.batch_edit.specs.Tops.{IsTopped, IsLooked, IsTop, IsEnded};
 
@@ -37,6 +38,11 @@ impl<'a, D: Digest, A: Allocator + Clone> Edge<'a, D, A> {
         ensures topped { IfOk result (λ root. IsTopped D.digest_of depth
             self.old.levels.items self.old.rest (log_in self.old) root (log_in self.new)) }
         ensures read { self.new.read.items ≡ self.old.read.items }
+        ensures fault { (above : List Rows) (rows : Rows)
+            → take (depth + 1) self.old.levels.items ≡ above ++ (rows ∷ [])
+            → IfErr result (IsRefused (at_top (new_top D.digest_of rows (closing D.digest_of
+            (edge_of (drop (depth + 1) self.old.levels.items) self.old.rest)
+            (log_in self.old))))) }
     {
         let link = self.close_below(depth + 1)?;
         let Some(level) = self.levels.pop() else {
@@ -58,6 +64,8 @@ impl<'a, D: Digest + 'a, A: Allocator + Clone + 'a> Edge<'a, D, A> {
         ensures counted { OnOk result
             (IsCounted (S.reads src.old) (S.reads src.new) (log_in self.old) (log_in self.new)) }
         ensures same { S.gives src.new ≡ S.gives src.old }
+        ensures unread { IfErr result (IsUnread (S.gives src.old) (S.reads src.old)
+            (S.reads src.new) (nodes_given (S.gives src.old) cid)) }
     {
         let mut rows = self.rows(src, cid)?;
         let link = to_cid(rows.link());
@@ -79,6 +87,9 @@ impl<'a, D: Digest + 'a, A: Allocator + Clone + 'a> Edge<'a, D, A> {
         ensures counted { OnOk result
             (IsCounted (S.reads src.old) (S.reads src.new) (log_in self.old) (log_in self.new)) }
         ensures same { S.gives src.new ≡ S.gives src.old }
+        ensures stopped { IfErr result (IsStopped (S.gives src.old) (S.reads src.old)
+            (S.reads src.new) (log_in self.old) (at_top (pruning
+            (nodes_given (S.gives src.old)) layers cid (log_in self.old)))) }
     {
         let mut at = cid;
         let mut left = layers;
@@ -104,6 +115,9 @@ impl<'a, D: Digest + 'a, A: Allocator + Clone + 'a> Edge<'a, D, A> {
         ensures counted { OnOk result
             (IsCounted (S.reads src.old) (S.reads src.new) (log_in self.old) (log_in self.new)) }
         ensures same { S.gives src.new ≡ S.gives src.old }
+        ensures stopped { IfErr result (IsStopped (S.gives src.old) (S.reads src.old)
+            (S.reads src.new) (log_in self.old) (at_top (topping D.digest_of
+            (nodes_given (S.gives src.old)) layers (edge_in self.old) (log_in self.old)))) }
     {
         let depth = highest(&self.levels);
         if depth < self.levels.len() {

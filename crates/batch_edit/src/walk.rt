@@ -1,6 +1,6 @@
 //! The old tree in the order of keys, merged with the changes.
 
-ghost use Rattle.std.specs.Prelude.{◌≡◌, ◌<◌, ◌≤◌, ◌+◌, ◌++◌, [], Some, true, IfOk, OnOk};
+ghost use Rattle.std.specs.Prelude.{◌≡◌, ◌<◌, ◌≤◌, ◌+◌, ◌++◌, [], Some, true, IfOk, IfErr, OnOk};
 ghost use Rattle.spec.specs.Layer.{layer as layer_of};
 ghost use Rattle.edit.specs.Steps.{nodes_given};
 ghost use Rattle.rewrite.specs.Drafts.{pair_of};
@@ -8,7 +8,8 @@ ghost use Rattle.batch_laws.specs.Batch.{entry, if_put, puts};
 ghost use Rattle.batch_laws.specs.Previous.{no_values, value_met, previous_node, previous_gap};
 ghost use Rattle.batch_laws.specs.Walking.{depth_of};
 ghost use Rattle.batch_laws.specs.Links.{pairs_in_turn};
-ghost use Rattle.batch_edit.specs.Agenda.{ToGap, IsGoneOn, IsDone, node_does};
+ghost use Rattle.batch_edit.specs.Agenda.{ToGap, IsGoneOn, IsDone, node_does, task_does};
+ghost use Rattle.batch_edit.specs.Stops.{IsStopped};
 ghost use Rattle.batch_edit.specs.States.{edge_in, log_in, IsCounted};
 ghost use Rattle.batch_edit.specs.Places.{are_ascending};
 ghost use Rattle.batch_edit.specs.Agendas.{agenda_of, task_of, gap_of};
@@ -84,6 +85,11 @@ impl<'a, D: Digest + 'a, A: Allocator + Clone + 'a> Edge<'a, D, A> {
         ensures counted { OnOk result
             (IsCounted (S.reads src.old) (S.reads src.new) (log_in self.old) (log_in self.new)) }
         ensures same { S.gives src.new ≡ S.gives src.old }
+        ensures stopped { IfErr result (IsStopped (S.gives src.old) (S.reads src.old)
+            (S.reads src.new) (log_in self.old) (pairs_in_turn D.digest_of
+            (nodes_given (S.gives src.old)) (depth_of (layer_of D.digest_of B) layers)
+            (puts changes.now)
+            (edge_in self.old) (log_in self.old))) }
     {
         for change in changes {
             previous.push(None)?;
@@ -107,6 +113,11 @@ impl<'a, D: Digest + 'a, A: Allocator + Clone + 'a> Edge<'a, D, A> {
         ensures counted { OnOk result
             (IsCounted (S.reads src.old) (S.reads src.new) (log_in self.old) (log_in self.new)) }
         ensures same { S.gives src.new ≡ S.gives src.old }
+        ensures stopped { IfErr result (IsStopped (S.gives src.old) (S.reads src.old)
+            (S.reads src.new) (log_in self.old) (pairs_in_turn D.digest_of
+            (nodes_given (S.gives src.old)) (depth_of (layer_of D.digest_of B) layers)
+            (if_put change.now.0 change.now.1 [])
+            (edge_in self.old) (log_in self.old))) }
     {
         let Some(value) = change.value() else {
             return Ok(());
@@ -135,6 +146,11 @@ impl<'a, D: Digest + 'a, A: Allocator + Clone + 'a> Edge<'a, D, A> {
         ensures counted { OnOk result
             (IsCounted (S.reads src.old) (S.reads src.new) (log_in self.old) (log_in self.new)) }
         ensures same { S.gives src.new ≡ S.gives src.old }
+        ensures stopped { IfErr result (IsStopped (S.gives src.old) (S.reads src.old)
+            (S.reads src.new) (log_in self.old) (task_does D.digest_of
+            (nodes_given (S.gives src.old)) (layer_of D.digest_of B) layers
+            (ToGap (gap_of gap.entry))
+            (edge_in self.old) (log_in self.old))) }
     {
         let Some(cid) = gap.link else {
             self.puts::<B, S>(src, layers, gap.changes, previous)?;
@@ -170,6 +186,10 @@ impl<'a, D: Digest + 'a, A: Allocator + Clone + 'a> Edge<'a, D, A> {
         ensures counted { OnOk result
             (IsCounted (S.reads src.old) (S.reads src.new) (log_in self.old) (log_in self.new)) }
         ensures same { S.gives src.new ≡ S.gives src.old }
+        ensures stopped { IfErr result (IsStopped (S.gives src.old) (S.reads src.old)
+            (S.reads src.new) (log_in self.old) (pairs_in_turn D.digest_of
+            (nodes_given (S.gives src.old)) (λ k. depth) (entry at (pair_of key.now value.entry))
+            (edge_in self.old) (log_in self.old))) }
     {
         let Some(change) = at else {
             return self.pair(src, usize::from(depth), key, value);
@@ -199,6 +219,10 @@ impl<'a, D: Digest + 'a, A: Allocator + Clone + 'a> Edge<'a, D, A> {
         ensures counted { OnOk result
             (IsCounted (S.reads src.old) (S.reads src.new) (log_in self.old) (log_in self.new)) }
         ensures same { S.gives src.new ≡ S.gives src.old }
+        ensures stopped { IfErr result (IsStopped (S.gives src.old) (S.reads src.old)
+            (S.reads src.new) (log_in self.old) (task_does D.digest_of
+            (nodes_given (S.gives src.old)) (layer_of D.digest_of B) layers (task_of task.entry)
+            (edge_in self.old) (log_in self.old))) }
     {
         match task {
             Task::Gap(gap) => Ok(self.fill::<B, S>(src, layers, agenda, gap, previous)?),
@@ -238,6 +262,11 @@ impl<'a, D: Digest + 'a, A: Allocator + Clone + 'a> Edge<'a, D, A> {
         ensures counted { OnOk result
             (IsCounted (S.reads src.old) (S.reads src.new) (log_in self.old) (log_in self.new)) }
         ensures same { S.gives src.new ≡ S.gives src.old }
+        ensures stopped { IfErr result (IsStopped (S.gives src.old) (S.reads src.old)
+            (S.reads src.new) (log_in self.old) (node_does D.digest_of
+            (nodes_given (S.gives src.old)) (layer_of D.digest_of B) layers layer depth
+            changes.now rows.entry.rest
+            (edge_in self.old) (log_in self.old))) }
     {
         let mut previous = Vec::new(self.alloc()?);
         let mut agenda: Agenda<'c, 'a, A> = Vec::new(self.alloc()?);

@@ -1,6 +1,6 @@
 //! A whole tree, from its root to its new root.
 
-ghost use Rattle.std.specs.Prelude.{◌≡◌, ◌≤◌, ◌+◌, Some, length, true, IfOk};
+ghost use Rattle.std.specs.Prelude.{◌≡◌, ◌<◌, ◌≤◌, ◌+◌, [], suc, max, Some, length, true, IfOk, IfErr};
 ghost use Rattle.spec.specs.Layer.{layer as layer_of};
 ghost use Rattle.edit.specs.Steps.{nodes_given};
 ghost use Rattle.spec.specs.NodeFormat.{Shape};
@@ -8,7 +8,8 @@ ghost use Rattle.batch_laws.specs.Links.{batch_from};
 ghost use Rattle.batch_laws.specs.Previous.{previous_top};
 ghost use Rattle.batch_edit.specs.Places.{are_ascending};
 ghost use Rattle.batch_edit.specs.States.{log_in};
-ghost use Rattle.batch_edit.specs.Tops.{IsEnded};
+ghost use Rattle.batch_edit.specs.Stops.{IsStopped, at_top};
+ghost use Rattle.batch_edit.specs.Tops.{IsEnded, layers_needed};
 
 use crate::changes::Change;
 use crate::edge::Edge;
@@ -29,7 +30,15 @@ pub(crate) struct Changed<'a, D: Digest, A: Allocator> {
     pub(crate) edge: Edge<'a, D, A>,
 }
 
-/// The tree with this root, changed; before and after it has fewer than so many layers.
+/// How many layers the edge has: those up to an old top of this layer, and no fewer than the puts want.
+fn layers_for(top: u16, wanted: u16) -> u16
+    requires fits { top < 65535 }
+    ensures { result ≡ max (suc top) wanted }
+{
+    wanted.max(top + 1)
+}
+
+/// The tree with this root, changed. Each key that is put is of one of so many layers, from layer 0 up.
 pub(crate) fn change_tree<
     'a,
     D: Digest + 'a,
@@ -40,28 +49,32 @@ pub(crate) fn change_tree<
     alloc: A,
     src: &mut S,
     root: Cid,
-    layers: u16,
+    wanted: u16,
     changes: &[Change<A>],
 ) -> Result<Changed<'a, D, A>, Fault>
     requires least { 1 ≤ B }
     requires most { B ≤ 8 }
     requires ascending { are_ascending changes.now ≡ true }
     ensures changed { IfOk result (λ changed. IsEnded (batch_from D.digest_of
-        (nodes_given (S.gives src.old)) (layer_of D.digest_of B) layers changes.now root)
-        changed.root changed.gone (log_in changed.edge)) }
+        (nodes_given (S.gives src.old)) (layer_of D.digest_of B)
+        (layers_needed (layer_of D.digest_of B) wanted (nodes_given (S.gives src.old) root))
+        changes.now root) changed.root changed.gone (log_in changed.edge)) }
     ensures previous { (top : Shape) → nodes_given (S.gives src.old) root ≡ Some top
         → IfOk result (λ changed. changed.previous.items ≡ previous_top
         (nodes_given (S.gives src.old)) (layer_of D.digest_of B) changes.now top) }
     ensures counted { IfOk result (λ changed.
         S.reads src.new ≡ S.reads src.old + length changed.edge.read.items) }
     ensures same { S.gives src.new ≡ S.gives src.old }
+    ensures stopped { IfErr result (IsStopped (S.gives src.old) (S.reads src.old) (S.reads src.new)
+        (record { read = []; made = [] }) (at_top (batch_from D.digest_of
+        (nodes_given (S.gives src.old)) (layer_of D.digest_of B)
+        (layers_needed (layer_of D.digest_of B) wanted (nodes_given (S.gives src.old) root))
+        changes.now root))) }
 {
     let mut edge: Edge<'a, D, A> = Edge::new(alloc.clone()?)?;
     let view = edge.view(src, root)?;
     let top = top_layer::<D, B>(&view);
-    if layers <= top {
-        return Err(Fault::NotTree);
-    }
+    let layers = layers_for(top, wanted);
     let rows = KeyedEntries::of(&view, KeyBuf::new(alloc)?);
     let previous = edge.walk::<B, S>(src, layers, top, layers - 1 - top, rows, changes)?;
     let ended = edge.finish(src, layers)?;

@@ -1,13 +1,16 @@
-use Rattle.std.proofs.Common.{◌≡◌, ◌<◌, ◌-◌, refl, sym, ap, ◌∙◌, subst, arith, length}
+use Rattle.std.proofs.Common.{◌≡◌, ◌<◌, ◌-◌, refl, sym, ap, ◌∙◌, subst, arith, length, suc}
 use Rattle.spec.specs.Layer.{layer as layer_of}
 use Rattle.edit.specs.Steps.{nodes_given}
-use Rattle.batch_laws.specs.Links.{subtreeing}
+use Rattle.batch_laws.specs.Links.{subtreeing, ask}
 use Rattle.batch_edit.specs.Edges.{edge_of}
 use Rattle.batch_edit.specs.Agenda.{ToGap, IsDone}
 use Rattle.batch_edit.specs.Agendas.{agenda_of, gap_of}
 use Rattle.batch_edit.specs.States.{edge_in, log_in}
 use Rattle.batch_edit.proofs.Walking.{done-none, done-subtree, done-node}
 use Rattle.batch_edit.proofs.Placing.{none-left}
+use Rattle.std.proofs.lemmas.Result.{err_from_is_err_and}
+use Rattle.batch_edit.specs.Stops.{IsStopped}
+use Rattle.batch_edit.proofs.Halting.{gap-none, gap-subtree, gap-unread, gap-memory}
 use Rattle.batch_edit.proofs.edge.Edge.fill.Goals as goal
 
 pub returns-in_default-clause-done : goal.returns-in_default-clause-done
@@ -52,3 +55,59 @@ returns-clause-done g c =
     (done-node digest shows (layer_of digest g.row.B) c.args.layers fs gs gap c.in-Some.cid (c.args.gap.layer - 1)
     c.in_ok-rows.rows.rest (edge_in old) (log_in old) (log_in new) values values c.in-Some.is some
     (omega (arith, c.if-gap-eq0.false)) c.in_ok-rows.ensures.shown c.in_ok-go_on.ensures refl)
+
+pub returns-in_err-puts-clause-stopped : goal.returns-in_err-puts-clause-stopped
+returns-in_err-puts-clause-stopped g c =
+    let p = err_from_is_err_and c.from_residual.result c.from_residual.ensures.1 in
+    let digest = g.D.Digest.digest_of in
+    let gives = g.S.Source.gives c.args.src.now in
+    rw (p.1, p.2)
+    (gap-none gives digest (nodes_given gives) (layer_of digest g.row.B) c.args.layers (g.S.Source.reads c.args.src.now)
+    (g.S.Source.reads c.puts.new.src) (gap_of c.args.gap) (edge_in c.args.self.now) (log_in c.args.self.now)
+    c.in_err-puts.field-0.0 c.in_default.is c.in_err-puts.ensures.stopped)
+
+pub returns-in_err-subtree-clause-stopped : goal.returns-in_err-subtree-clause-stopped
+returns-in_err-subtree-clause-stopped g c =
+    let p = err_from_is_err_and c.from_residual-in_err-subtree.result c.from_residual-in_err-subtree.ensures.1 in
+    let digest = g.D.Digest.digest_of in
+    let gives = g.S.Source.gives c.args.src.now in
+    let shows = nodes_given gives in
+    let old = c.args.self.now in
+    let b = g.S.Source.reads c.args.src.now in
+    let a = g.S.Source.reads c.subtree.new.src in
+    let f = c.in_err-subtree.field-0.0 in
+    let none : length c.args.gap.changes.now ≡ 0 = omega (arith, c.if-count-eq0.true) in
+    let one : c.args.gap.layer ≡ suc (c.args.gap.layer - 1) = omega (arith, c.if-gap-eq0.false) in
+    rw (p.1, p.2)
+    (gap-subtree gives digest shows (layer_of digest g.row.B) c.args.layers b a (c.args.gap.layer - 1) (gap_of c.args.gap)
+    c.in-Some.cid (edge_in old) (log_in old) f c.in-Some.is one (none-left c.args.gap.changes.now none)
+    (subst (λ d. IsStopped gives b a (log_in old)
+    (subtreeing digest shows c.args.gap.layer d c.in-Some.cid (edge_in old) (log_in old)) f) c.from.ensures
+    c.in_err-subtree.ensures.stopped))
+
+pub returns-in_err-rows-clause-stopped : goal.returns-in_err-rows-clause-stopped
+returns-in_err-rows-clause-stopped g c =
+    let p = err_from_is_err_and c.from_residual-in_err-rows.result c.from_residual-in_err-rows.ensures.1 in
+    let digest = g.D.Digest.digest_of in
+    let gives = g.S.Source.gives c.args.src.now in
+    let old = c.args.self.now in
+    let some : 0 < length c.args.gap.changes.now = omega (arith, c.if-count-eq0.false) in
+    let one : c.args.gap.layer ≡ suc (c.args.gap.layer - 1) = omega (arith, c.if-gap-eq0.false) in
+    rw (p.1, p.2)
+    (gap-unread gives digest (nodes_given gives) (layer_of digest g.row.B) c.args.layers (g.S.Source.reads c.args.src.now)
+    (g.S.Source.reads c.rows.new.src) (c.args.gap.layer - 1) (gap_of c.args.gap) c.in-Some.cid (edge_in old) (log_in old)
+    c.in_err-rows.field-0.0 c.in-Some.is one some c.in_err-rows.ensures.unread)
+
+pub returns-in_err-go_on-clause-stopped : goal.returns-in_err-go_on-clause-stopped
+returns-in_err-go_on-clause-stopped g c =
+    let p = err_from_is_err_and c.from_residual-in_err-go_on.result c.from_residual-in_err-go_on.ensures.1 in
+    let digest = g.D.Digest.digest_of in
+    let gives = g.S.Source.gives c.args.src.now in
+    let old = c.args.self.now in
+    let some : 0 < length c.args.gap.changes.now = omega (arith, c.if-count-eq0.false) in
+    let one : c.args.gap.layer ≡ suc (c.args.gap.layer - 1) = omega (arith, c.if-gap-eq0.false) in
+    rw (p.1, p.2)
+    (gap-memory gives digest (nodes_given gives) (layer_of digest g.row.B) c.args.layers (g.S.Source.reads c.args.src.now)
+    (g.S.Source.reads c.rows.new.src) (c.args.gap.layer - 1) (gap_of c.args.gap) c.in-Some.cid c.in_ok-rows.rows.rest
+    (edge_in old) (log_in old) (log_in c.rows.new.self) c.in-Some.is one some c.in_ok-rows.ensures.shown
+    c.in_ok-rows.ensures.counted)

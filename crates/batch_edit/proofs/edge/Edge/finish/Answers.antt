@@ -6,6 +6,8 @@ use Rattle.batch_edit.specs.Edges.{highest_of}
 use Rattle.batch_edit.specs.States.{edge_in, log_in, shapes_in}
 use Rattle.batch_edit.proofs.Making.{shapes-count}
 use Rattle.batch_edit.proofs.Topping.{topped-all, empty-top, pruned-top, ended}
+use Rattle.std.proofs.lemmas.Result.{err_from_is_err_and}
+use Rattle.batch_edit.proofs.Ending.{top-stopped, top-memory, empty-stopped, pruned-stopped}
 use Rattle.batch_edit.proofs.edge.Edge.finish.Goals as goal
 
 pub returns-then-depth-len-clause-ended : goal.returns-then-depth-len-clause-ended
@@ -50,3 +52,44 @@ returns-clause-ended g c =
     (pruned-top digest shows c.args.layers c.highest-depth.result old.levels.items old.rest c.in-Some.cid (log_in old) (log_in now)
     c.in_ok-root-3.root 1 depth (omega (arith, c.if-depth-len.false, c.len.ensures)) c.in-Some.is c.in_ok-root-3.ensures.top)
     (omega (arith, n, c.len-2.ensures))
+
+pub returns-in_err-root-clause-stopped : goal.returns-in_err-root-clause-stopped
+returns-in_err-root-clause-stopped g c =
+    let p = err_from_is_err_and c.from_residual.result c.from_residual.ensures.1 in
+    let gives = g.S.Source.gives c.args.src.now in
+    let old = c.args.self.now in
+    let depth : c.highest-depth.result ≡ highest_of old.levels.items = c.highest-depth.ensures.depth ∙ ap highest_of c.deref.ensures.value in
+    rw (p.1, p.2)
+    (top-stopped gives g.D.Digest.digest_of (nodes_given gives) (g.S.Source.reads c.args.src.now) c.args.layers
+    c.highest-depth.result old.levels.items old.rest (log_in old) c.in_err-root.field-0.0 depth
+    (omega (arith, c.if-depth-len.true, c.len.ensures)) c.in_err-root.ensures.fault)
+
+pub returns-in_err-alloc-clause-stopped : goal.returns-in_err-alloc-clause-stopped
+returns-in_err-alloc-clause-stopped g c =
+    let p = err_from_is_err_and c.from_residual-in_err-alloc.result c.from_residual-in_err-alloc.ensures.1 in
+    let gives = g.S.Source.gives c.args.src.now in
+    let old = c.args.self.now in
+    rw (p.1, p.2)
+    (top-memory gives g.D.Digest.digest_of (nodes_given gives) (g.S.Source.reads c.args.src.now) c.args.layers (edge_in old)
+    (log_in old))
+
+pub returns-in_err-root-2-clause-stopped : goal.returns-in_err-root-2-clause-stopped
+returns-in_err-root-2-clause-stopped g c =
+    let p = err_from_is_err_and c.from_residual-in_err-root-2.result c.from_residual-in_err-root-2.ensures.1 in
+    let gives = g.S.Source.gives c.args.src.now in
+    let old = c.args.self.now in
+    rw (p.1, p.2)
+    (empty-stopped gives g.D.Digest.digest_of (nodes_given gives) (g.S.Source.reads c.args.src.now) c.args.layers (edge_in old)
+    (log_in old) c.new.result c.in_err-root-2.field-0.0 c.new.ensures c.in_err-root-2.ensures.fault)
+
+pub returns-in_err-root-3-clause-stopped : goal.returns-in_err-root-3-clause-stopped
+returns-in_err-root-3-clause-stopped g c =
+    let p = err_from_is_err_and c.from_residual-in_err-root-3.result c.from_residual-in_err-root-3.ensures.1 in
+    let gives = g.S.Source.gives c.args.src.now in
+    let old = c.args.self.now in
+    let depth : c.highest-depth.result ≡ highest_of old.levels.items = c.highest-depth.ensures.depth ∙ ap highest_of c.deref.ensures.value in
+    rw (p.1, p.2)
+    (pruned-stopped gives g.D.Digest.digest_of (nodes_given gives) (g.S.Source.reads c.args.src.now)
+    (g.S.Source.reads c.prune.new.src) c.args.layers c.highest-depth.result old.levels.items old.rest c.in-Some.cid (log_in old)
+    c.in_err-root-3.field-0.0 depth (omega (arith, c.if-depth-len.false, c.len.ensures)) c.in-Some.is
+    c.in_err-root-3.ensures.stopped)

@@ -4,6 +4,9 @@ use Rattle.batch_laws.specs.Links.{ask}
 use Rattle.batch_edit.specs.Edges.{edge_of, is_clear}
 use Rattle.batch_edit.specs.States.{log_in, IsComing}
 use Rattle.batch_edit.proofs.Subtrees.{taken-open, taken-some, coming}
+use Rattle.std.proofs.lemmas.Result.{err_from_is_err_and}
+use Rattle.batch_edit.specs.Stops.{IsUnread}
+use Rattle.batch_edit.proofs.Arriving.{part-unopened, part-unread}
 use Rattle.batch_edit.proofs.edge.Edge.place.Goals as goal
 use Rattle.batch_edit.proofs.edge.Edge.place.Goals.{else-len-depth-via-then-len-depth+else-is_none, else-len-depth-via-else-len-depth}
 
@@ -29,3 +32,40 @@ returns-clause-comes g c =
     (sym c.rows.ensures.levels)
     (subst (λ r. IsComing digest shows c.args.depth c.args.cid old.levels.items old.rest (log_in old) node mid.levels.items r
     (log_in new)) (sym c.rows.ensures.rest) k)
+
+pub returns-in_err-open_at-clause-stopped : goal.returns-in_err-open_at-clause-stopped
+returns-in_err-open_at-clause-stopped g c k =
+    let p = err_from_is_err_and c.from_residual.result c.from_residual.ensures.1 in
+    let gives = g.S.Source.gives c.args.src.now in
+    let old = c.args.self.now in
+    let taken : is_clear (edge_of (drop c.args.depth old.levels.items) old.rest) ≡ false = elim c.else-len-depth.branch [
+      | else-len-depth-via-then-len-depth+else-is_none w ↦
+          taken-some c.args.depth old.levels.items old.rest w.is_none.result w.is_none.ensures w.if-is_none.false
+      | else-len-depth-via-else-len-depth w ↦
+          taken-open c.args.depth old.levels.items old.rest (omega (arith, w.if-len-depth.false, c.len.ensures))
+    ] in
+    rw (p.1, p.2)
+    (part-unopened gives g.D.Digest.digest_of (nodes_given gives) (g.S.Source.reads c.args.src.now)
+    (g.S.Source.reads c.open_at.new.src) k c.args.cid (edge_of (drop c.args.depth old.levels.items) old.rest) (log_in old)
+    c.in_err-open_at.field-0.0 taken c.in_err-open_at.ensures.stopped)
+
+pub returns-in_err-rows-clause-stopped : goal.returns-in_err-rows-clause-stopped
+returns-in_err-rows-clause-stopped g c k =
+    let p = err_from_is_err_and c.from_residual-in_err-rows.result c.from_residual-in_err-rows.ensures.1 in
+    let gives = g.S.Source.gives c.args.src.now in
+    let old = c.args.self.now in
+    let mid = c.open_at.new.self in
+    let f = c.in_err-rows.field-0.0 in
+    let taken : is_clear (edge_of (drop c.args.depth old.levels.items) old.rest) ≡ false = elim c.else-len-depth.branch [
+      | else-len-depth-via-then-len-depth+else-is_none w ↦
+          taken-some c.args.depth old.levels.items old.rest w.is_none.result w.is_none.ensures w.if-is_none.false
+      | else-len-depth-via-else-len-depth w ↦
+          taken-open c.args.depth old.levels.items old.rest (omega (arith, w.if-len-depth.false, c.len.ensures))
+    ] in
+    rw (p.1, p.2)
+    (part-unread gives g.D.Digest.digest_of (nodes_given gives) (g.S.Source.reads c.args.src.now)
+    (g.S.Source.reads c.open_at.new.src) (g.S.Source.reads c.rows.new.src) k c.args.depth c.args.cid old.levels.items
+    mid.levels.items old.rest mid.rest (log_in old) (log_in mid) f taken c.in_ok-open_at.ensures.opened
+    c.in_ok-open_at.ensures.counted
+    (subst (λ gv. IsUnread gv (g.S.Source.reads c.open_at.new.src) (g.S.Source.reads c.rows.new.src)
+    (nodes_given gv c.args.cid) f) c.open_at.ensures.same c.in_err-rows.ensures.unread))

@@ -5,6 +5,10 @@ use Rattle.batch_edit.specs.States.{log_in}
 use Rattle.batch_edit.specs.Tops.{IsLooked}
 use Rattle.batch_edit.proofs.Pairing.{counted-then}
 use Rattle.batch_edit.proofs.Topping.{look-ends, look-goes, top-of}
+use Rattle.std.proofs.lemmas.Result.{err_from_is_err_and}
+use Rattle.batch_edit.specs.Stops.{IsUnread, at_top}
+use Rattle.batch_edit.proofs.Stopping.{from-stopped}
+use Rattle.batch_edit.proofs.Ending.{prune-stopped, look-stopped}
 use Rattle.batch_edit.proofs.edge.Edge.prune.Goals as goal
 
 pub returns-in_default-clause-top : goal.returns-in_default-clause-top
@@ -35,3 +39,22 @@ loop-left-preserved g c =
       counted = counted-then (g.S.Source.reads c.args.src.now) (g.S.Source.reads at.src) (g.S.Source.reads c.look.new.src)
           (log_in c.args.self.now) (log_in at.self) now at.invariant.counted c.in_ok-next.ensures.counted;
     }
+
+pub returns-in_err-next-clause-stopped : goal.returns-in_err-next-clause-stopped
+returns-in_err-next-clause-stopped g c =
+    let p = err_from_is_err_and c.from_residual.result c.from_residual.ensures.1 in
+    let gives = g.S.Source.gives c.args.src.now in
+    let shows = nodes_given gives in
+    let at = c.loop-left in
+    let start = log_in c.args.self.now in
+    let b = g.S.Source.reads c.args.src.now in
+    let m = g.S.Source.reads at.src in
+    let a = g.S.Source.reads c.look.new.src in
+    let f = c.in_err-next.field-0.0 in
+    rw (p.1, p.2)
+    (prune-stopped gives b a start (pruning shows c.args.layers c.args.cid start) (pruning shows at.left at.at (log_in at.self)) f
+    at.invariant.is
+    (from-stopped gives b m a start (log_in at.self) (at_top (pruning shows at.left at.at (log_in at.self))) f
+    at.invariant.counted
+    (look-stopped gives shows m a at.left (at.left - 1) at.at (log_in at.self) f (omega (arith, c.loop-left-test.true))
+    (subst (λ gv. IsUnread gv m a (nodes_given gv at.at) f) at.invariant.same c.in_err-next.ensures.unread))))

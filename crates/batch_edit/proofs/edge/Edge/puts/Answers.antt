@@ -1,4 +1,4 @@
-use Rattle.std.proofs.Common.{◌≡◌, ◌+◌, ◌++◌, [], Some, sym, ap, ◌∙◌, subst, arith}
+use Rattle.std.proofs.Common.{◌≡◌, ◌+◌, ◌++◌, [], Some, sym, ap, ◌∙◌, subst, arith, drop}
 use Rattle.std.proofs.lemmas.List.{append-nil}
 use Rattle.spec.specs.Layer.{layer as layer_of}
 use Rattle.edit.specs.Steps.{nodes_given}
@@ -10,6 +10,9 @@ use Rattle.batch_edit.specs.States.{edge_in, log_in}
 use Rattle.batch_edit.proofs.Pairing.{counted-then}
 use Rattle.batch_edit.proofs.Placing.{cut-here, drop-over}
 use Rattle.batch_edit.proofs.Putting.{put-step, none-step}
+use Rattle.std.proofs.lemmas.Result.{err_from_is_err_and}
+use Rattle.batch_edit.specs.Stops.{IsStopped}
+use Rattle.batch_edit.proofs.Halting.{puts-memory, puts-stopped}
 use Rattle.batch_edit.proofs.edge.Edge.puts.Goals as goal
 
 pub loop-change-preserved : goal.loop-change-preserved
@@ -51,3 +54,41 @@ returns-clause-previous g c =
     let at = c.loop-change in
     let over = drop-over at.change-index c.args.changes.now (omega arith) in
     sym (append-nil at.previous.items) ∙ sym (ap (λ ds. at.previous.items ++ no_values ds) over) ∙ at.invariant.previous
+
+pub returns-in_err-push-clause-stopped : goal.returns-in_err-push-clause-stopped
+returns-in_err-push-clause-stopped g c =
+    let p = err_from_is_err_and c.from_residual.result c.from_residual.ensures.1 in
+    let digest = g.D.Digest.digest_of in
+    let gives = g.S.Source.gives c.args.src.now in
+    let shows = nodes_given gives in
+    let depth = depth_of (layer_of digest g.row.B) c.args.layers in
+    let at = c.loop-change in
+    let cs = c.args.changes.now in
+    rw (p.1, p.2)
+    (puts-memory gives digest shows (g.S.Source.reads c.args.src.now) (g.S.Source.reads at.src) depth
+    (pairs_in_turn digest shows depth (puts cs) (edge_in c.args.self.now) (log_in c.args.self.now))
+    (puts (drop at.change-index cs)) (edge_in at.self) (log_in c.args.self.now) (log_in at.self) at.invariant.put
+    at.invariant.counted)
+
+pub returns-in_err-put_one-clause-stopped : goal.returns-in_err-put_one-clause-stopped
+returns-in_err-put_one-clause-stopped g c =
+    let p = err_from_is_err_and c.from_residual-in_err-put_one.result c.from_residual-in_err-put_one.ensures.1 in
+    let digest = g.D.Digest.digest_of in
+    let gives = g.S.Source.gives c.args.src.now in
+    let shows = nodes_given gives in
+    let depth = depth_of (layer_of digest g.row.B) c.args.layers in
+    let at = c.loop-change in
+    let cs = c.args.changes.now in
+    let i = at.change-index in
+    let x = c.change-item.result in
+    let m = g.S.Source.reads at.src in
+    let a = g.S.Source.reads c.put_one.new.src in
+    let f = c.in_err-put_one.field-0.0 in
+    rw (p.1, p.2)
+    (puts-stopped gives digest shows (g.S.Source.reads c.args.src.now) m a depth
+    (pairs_in_turn digest shows depth (puts cs) (edge_in c.args.self.now) (log_in c.args.self.now)) cs i x (edge_in at.self)
+    (log_in c.args.self.now) (log_in at.self) f (cut-here cs i x (omega arith) c.change-item.is) at.invariant.put
+    at.invariant.counted
+    (subst (λ gv. IsStopped gv m a (log_in at.self)
+    (pairs_in_turn digest (nodes_given gv) depth (if_put x.0 x.1 []) (edge_in at.self) (log_in at.self)) f) at.invariant.same
+    c.in_err-put_one.ensures.stopped))

@@ -1,12 +1,15 @@
-use Rattle.std.proofs.Common.{◌++◌, Some, ap, ◌∙◌, subst, arith}
+use Rattle.std.proofs.Common.{◌++◌, Some, ap, ◌∙◌, subst, arith, sym}
 use Rattle.spec.specs.Layer.{layer as layer_of}
 use Rattle.edit.specs.Steps.{nodes_given}
-use Rattle.batch_edit.specs.Agenda.{IsDone, agenda_does, agenda_meets}
+use Rattle.batch_edit.specs.Agenda.{IsDone, agenda_does, agenda_meets, node_does, task_does}
 use Rattle.batch_edit.specs.Agendas.{agenda_of, task_of}
 use Rattle.batch_edit.specs.States.{edge_in, log_in}
 use Rattle.batch_edit.proofs.Pairing.{counted-then}
 use Rattle.batch_edit.proofs.Tasking.{agenda-more, agenda-none}
 use Rattle.batch_edit.proofs.Walking.{walk-more, walk-meets, walk-smaller, walked-all, met-all}
+use Rattle.std.proofs.lemmas.Result.{err_from_is_err_and}
+use Rattle.batch_edit.specs.Stops.{IsStopped}
+use Rattle.batch_edit.proofs.Halting.{node-memory, walk-begun, task-stopped}
 use Rattle.batch_edit.proofs.edge.Edge.walk.Goals as goal
 
 pub loop-task-preserved : goal.loop-task-preserved
@@ -76,3 +79,71 @@ returns-clause-previous g c =
     (agenda_of c.go_on.new.agenda.items) (agenda_of at.agenda.items) c.new-previous.result.items at.previous.items
     c.in_ok-go_on.ensures (ap agenda_of c.new-agenda.ensures.items) c.new-previous.ensures.items at.invariant.meets
     (agenda-none at.agenda.items (omega (arith, n.0)))
+
+pub returns-in_err-alloc-clause-stopped : goal.returns-in_err-alloc-clause-stopped
+returns-in_err-alloc-clause-stopped g c =
+    let p = err_from_is_err_and c.from_residual.result c.from_residual.ensures.1 in
+    let digest = g.D.Digest.digest_of in
+    let gives = g.S.Source.gives c.args.src.now in
+    let shows = nodes_given gives in
+    let layer = layer_of digest g.row.B in
+    let n = c.args.layers in
+    let old = c.args.self.now in
+    rw (p.1, p.2)
+    (node-memory gives digest shows layer n (g.S.Source.reads c.args.src.now) c.args.layer c.args.depth c.args.changes.now
+    c.args.rows.rest (edge_in old) (log_in old))
+
+pub returns-in_err-alloc-2-clause-stopped : goal.returns-in_err-alloc-2-clause-stopped
+returns-in_err-alloc-2-clause-stopped g c =
+    let p = err_from_is_err_and c.from_residual-in_err-alloc-2.result c.from_residual-in_err-alloc-2.ensures.1 in
+    let digest = g.D.Digest.digest_of in
+    let gives = g.S.Source.gives c.args.src.now in
+    let shows = nodes_given gives in
+    let layer = layer_of digest g.row.B in
+    let n = c.args.layers in
+    let old = c.args.self.now in
+    rw (p.1, p.2)
+    (node-memory gives digest shows layer n (g.S.Source.reads c.args.src.now) c.args.layer c.args.depth c.args.changes.now
+    c.args.rows.rest (edge_in old) (log_in old))
+
+pub returns-in_err-go_on-clause-stopped : goal.returns-in_err-go_on-clause-stopped
+returns-in_err-go_on-clause-stopped g c =
+    let p = err_from_is_err_and c.from_residual-in_err-go_on.result c.from_residual-in_err-go_on.ensures.1 in
+    let digest = g.D.Digest.digest_of in
+    let gives = g.S.Source.gives c.args.src.now in
+    let shows = nodes_given gives in
+    let layer = layer_of digest g.row.B in
+    let n = c.args.layers in
+    let old = c.args.self.now in
+    rw (p.1, p.2)
+    (node-memory gives digest shows layer n (g.S.Source.reads c.args.src.now) c.args.layer c.args.depth c.args.changes.now
+    c.args.rows.rest (edge_in old) (log_in old))
+
+pub returns-in_err-perform-clause-stopped : goal.returns-in_err-perform-clause-stopped
+returns-in_err-perform-clause-stopped g c =
+    let p = err_from_is_err_and c.from_residual-in_err-perform.result c.from_residual-in_err-perform.ensures.1 in
+    let digest = g.D.Digest.digest_of in
+    let gives = g.S.Source.gives c.args.src.now in
+    let shows = nodes_given gives in
+    let layer = layer_of digest g.row.B in
+    let n = c.args.layers in
+    let old = c.args.self.now in
+    let at = c.loop-task in
+    let m = g.S.Source.reads at.src in
+    let a = g.S.Source.reads c.perform.new.src in
+    let start = agenda_of c.go_on.new.agenda.items in
+    let gs = agenda_of c.pop.new.self.items in
+    let f = task_of c.in-Some.task in
+    let fault = c.in_err-perform.field-0.0 in
+    rw (p.1, p.2)
+    (task-stopped gives digest shows layer n (g.S.Source.reads c.args.src.now) m a
+    (node_does digest shows layer n c.args.layer c.args.depth c.args.changes.now c.args.rows.rest (edge_in old) (log_in old))
+    (agenda_does digest shows layer n start (Some (edge_in old, log_in old))) (agenda_of at.agenda.items) gs f (edge_in at.self)
+    (log_in old) (log_in at.self) fault
+    (walk-begun gives digest shows layer n c.args.layer c.args.depth c.args.changes.now c.args.rows.rest
+    (agenda_of c.new-agenda.result.items) start (edge_in old) (log_in old) c.in_ok-go_on.ensures
+    (ap agenda_of c.new-agenda.ensures.items)) at.invariant.does
+    (agenda-more at.agenda.items c.pop.new.self.items c.in-Some.task c.in-Some.ensures.items) at.invariant.counted
+    (subst (λ gv. IsStopped gv m a (log_in at.self)
+    (task_does digest (nodes_given gv) layer n f (edge_in at.self) (log_in at.self)) fault) at.invariant.same
+    c.in_err-perform.ensures.stopped))

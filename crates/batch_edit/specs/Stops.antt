@@ -1,0 +1,70 @@
+-- Where a step stops: what its fault means, and how much was read by then. A step is what the laws make of it, an edge with
+-- its log, or nothing where it has no answer.
+use Rattle.std.specs.Prelude.{◌≡◌, ◌≤◌, ◌+◌, ⊤, ℕ, suc, List, ◌++◌, length, Option, Some, None}
+use Rattle.spec.specs.NodeFormat.{Shape}
+use Rattle.edit_laws.specs.Lawful.{HasKeys}
+use Rattle.batch_laws.specs.Links.{Rows, LinkEdge, LinkClear, LinkOpened, Log, Top, and_then, closing}
+use Rattle.batch_laws.specs.Written.{AreWritten, OnAnswer, GoesFrom}
+use Rattle.rewrite.specs.declared.draft.RewriteFault.{RewriteFault}
+use Rattle.rewrite.specs.declared.draft.RewriteFault.TheVariants as drafts
+use Rattle.batch_edit.specs.declared.faults.Fault.{Fault}
+use Rattle.batch_edit.specs.declared.faults.Fault.TheVariants.{Missing, NotTree, NoMemory}
+
+-- it has no answer in which each node that was made has keys of the grammar, and each that is open may still have them
+abbrev pub IsUnwritten : Option (LinkEdge × Log) → Type 0
+IsUnwritten step = OnAnswer step (λ s log. ¬ AreWritten HasKeys s log)
+
+-- a node was not written; of a want of memory nothing is said
+abbrev pub IsRefused : Option (LinkEdge × Log) → RewriteFault → Type 0
+IsRefused step drafts.NotNode = IsUnwritten step
+IsRefused step drafts.NoMemory = ⊤
+
+-- what a node that is not written is to the whole walk
+abbrev pub fault_of : RewriteFault → Fault
+fault_of drafts.NotNode = NotTree
+fault_of drafts.NoMemory = NoMemory
+
+-- the source lacks a block without which there is no answer, or there is no answer with keys of the grammar
+abbrev pub IsCause : {A : Type 0} → (List ℕ → Option A) → Option (LinkEdge × Log) → Fault → Type 0
+IsCause gives step (Missing c) = (gives c ≡ None) × (step ≡ None)
+IsCause gives step NotTree = IsUnwritten step
+IsCause gives step NoMemory = ⊤
+
+-- a step that was begun with a log stopped, after no more reads than its answer would have
+pub record IsStopped {A : Type 0} (gives : List ℕ → Option A) (before after : ℕ) (log : Log)
+    (step : Option (LinkEdge × Log)) (fault : Fault) : Type 0 where
+  pub cause : IsCause gives step fault
+  pub reads : OnAnswer step (λ s later. after + length log.read ≤ before + length later.read)
+
+-- ---- one node that is read
+
+-- the source lacks the block, or gives what is no node
+abbrev pub IsUnshown : {A : Type 0} → (List ℕ → Option A) → Option Shape → Fault → Type 0
+IsUnshown gives shown (Missing c) = (gives c ≡ None) × (shown ≡ None)
+IsUnshown gives shown NotTree = shown ≡ None
+IsUnshown gives shown NoMemory = ⊤
+
+-- a node was not read, after one read at most
+pub record IsUnread {A : Type 0} (gives : List ℕ → Option A) (before after : ℕ) (shown : Option Shape) (fault : Fault)
+    : Type 0 where
+  pub cause : IsUnshown gives shown fault
+  pub reads : after ≤ suc before
+
+-- ---- steps
+
+-- a step that goes on from each edge that it is given
+abbrev pub IsOnward : (LinkEdge → Log → Option (LinkEdge × Log)) → Type 0
+IsOnward f = (s : LinkEdge) (log : Log) → GoesFrom HasKeys s log (f s log)
+
+-- all of an edge is complete
+abbrev pub all_closed : (List ℕ → List ℕ) → LinkEdge → Log → Option (LinkEdge × Log)
+all_closed digest s log = Some (LinkClear, (closing digest s log).1)
+
+-- rows and the edge after them, as an edge
+abbrev pub open_edge : Option ((Rows × LinkEdge) × Log) → Option (LinkEdge × Log)
+open_edge step = and_then step (λ o later. Some (LinkOpened o.0 o.1, later))
+
+-- a top with all that was read for it, also the node that stays
+abbrev pub at_top : Option (Top × Log) → Option (LinkEdge × Log)
+at_top step =
+    and_then step (λ top later. Some (LinkClear, record { read = later.read ++ top.1; made = later.made }))
