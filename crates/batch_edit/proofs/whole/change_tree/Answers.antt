@@ -1,15 +1,19 @@
-use Rattle.std.proofs.Common.{Some, ap, arith, length, subst, ◌-◌, ◌∙◌, ◌≡◌}
+use Rattle.std.proofs.Common.{Some, ap, arith, length, subst, ◌-◌, ◌∙◌, ◌≡◌, suc, []}
 use Rattle.spec.specs.Layer.{layer as layer_of}
 use Rattle.rewrite.specs.Entries.{shape_of}
 use Rattle.edit.specs.Steps.{nodes_given}
-use Rattle.batch_laws.specs.Links.{topping}
+use Rattle.batch_laws.specs.Links.{topping, batch_from, LinkClear}
 use Rattle.batch_edit.specs.Edges.{edge_of}
 use Rattle.batch_edit.specs.Agenda.{node_does}
 use Rattle.batch_edit.specs.States.{edge_in, log_in}
-use Rattle.batch_edit.specs.Tops.{IsEnded}
+use Rattle.batch_edit.specs.Tops.{IsEnded, layers_needed}
 use Rattle.batch_laws.specs.Previous.{previous_node, previous_gap}
 use Rattle.batch_edit.proofs.Making.{shapes-count}
-use Rattle.batch_edit.proofs.Wholes.{whole, met, counted-all}
+use Rattle.batch_edit.proofs.Wholes.{whole, met, counted-all, needed, low-layer, root-unread, rows-memory, walk-stopped, finish-stopped}
+use Rattle.batch_edit.proofs.Topping.{was-shown}
+use Rattle.std.proofs.lemmas.Result.{err_from_is_err_and}
+use Rattle.batch_edit.specs.Stops.{IsStopped, at_top}
+use Rattle.batch_edit.specs.declared.faults.Fault.TheVariants.{NoMemory}
 use Rattle.batch_edit.proofs.whole.change_tree.Goals as goal
 
 pub returns-clause-changed : goal.returns-clause-changed
@@ -18,7 +22,7 @@ returns-clause-changed g c =
     let gives = g.S.Source.gives c.args.src.now in
     let shows = nodes_given gives in
     let layer = layer_of digest g.row.B in
-    let n = c.args.layers in
+    let n = c.layers_for-layers.result in
     let cs = c.args.changes.now in
     let none = c.in_ok-edge.edge in
     let begun = c.view.new.self in
@@ -36,9 +40,13 @@ returns-clause-changed g c =
     ≡ Some (edge_in mid, log_in mid)) (ap (λ r. r.rest) c.of-rows.ensures) walked in
     let ended = subst (λ gv. IsEnded (topping digest (nodes_given gv) n (edge_in mid) (log_in mid)) c.in_ok-ended.ended.0
     c.in_ok-ended.ended.1 (log_in last)) (c.walk.ensures.same ∙ later) c.in_ok-ended.ensures.ended in
-    whole digest shows layer n t d cs c.args.root node (log_in none) (log_in begun) (edge_in begun) (edge_in mid) (log_in mid)
+    let seen = was-shown (shows c.args.root) node (log_in none) (log_in begun) c.in_ok-view.ensures.shown in
+    let n_is = needed layer c.args.wanted t n (shows c.args.root) node seen.is c.top_layer-top.ensures c.layers_for-layers.ensures in
+    subst (λ m. IsEnded (batch_from digest shows layer m cs c.args.root) c.in_ok-ended.ended.0 c.in_ok-ended.ended.1
+    (log_in last)) n_is
+    (whole digest shows layer n t d cs c.args.root node (log_in none) (log_in begun) (edge_in begun) (edge_in mid) (log_in mid)
     c.in_ok-ended.ended.0 c.in_ok-ended.ended.1 (log_in last) c.in_ok-edge.ensures.log c.in_ok-view.ensures.shown
-    c.top_layer-top.ensures (omega arith) (same ∙ c.in_ok-edge.ensures.edge) walked_node ended
+    c.top_layer-top.ensures (omega arith) (same ∙ c.in_ok-edge.ensures.edge) walked_node ended)
 
 pub returns-clause-previous : goal.returns-clause-previous
 returns-clause-previous g c top h =
@@ -61,3 +69,122 @@ returns-clause-counted g c =
     (g.S.Source.reads c.finish.new.src) (length last.read.items) (log_in c.in_ok-edge.edge) (log_in c.view.new.self)
     (log_in c.walk.new.self) (log_in last) c.in_ok-edge.ensures.log c.in_ok-view.ensures.counted
     c.in_ok-previous.ensures.counted c.in_ok-ended.ensures.counted (shapes-count last.read.items)
+
+pub layers_for-layers-requires : goal.layers_for-layers-requires
+layers_for-layers-requires g c = record {
+  fits = low-layer g.D.Digest.digest_of g.row.B g.met.D.Digest.digest_len (shape_of c.in_ok-view.view) c.top_layer-top.result
+      c.top_layer-top.ensures;
+}
+
+pub returns-in_err-view-clause-stopped : goal.returns-in_err-view-clause-stopped
+returns-in_err-view-clause-stopped g c =
+    let p = err_from_is_err_and c.from_residual-in_err-view.result c.from_residual-in_err-view.ensures.1 in
+    let digest = g.D.Digest.digest_of in
+    let gives = g.S.Source.gives c.args.src.now in
+    let shows = nodes_given gives in
+    let layer = layer_of digest g.row.B in
+    let b = g.S.Source.reads c.args.src.now in
+    let cs = c.args.changes.now in
+    rw (p.1, p.2)
+    (root-unread gives digest shows layer (layers_needed layer c.args.wanted (shows c.args.root)) cs c.args.root b
+    (g.S.Source.reads c.view.new.src) c.in_err-view.field-0.0 c.in_err-view.ensures.unread)
+
+pub returns-in_err-new-clause-stopped : goal.returns-in_err-new-clause-stopped
+returns-in_err-new-clause-stopped g c =
+    let p = err_from_is_err_and c.from_residual-in_err-new.result c.from_residual-in_err-new.ensures.1 in
+    let digest = g.D.Digest.digest_of in
+    let gives = g.S.Source.gives c.args.src.now in
+    let shows = nodes_given gives in
+    let layer = layer_of digest g.row.B in
+    let b = g.S.Source.reads c.args.src.now in
+    let cs = c.args.changes.now in
+    let n = c.layers_for-layers.result in
+    let none = c.in_ok-edge.edge in
+    let begun = c.view.new.self in
+    let m = g.S.Source.reads c.view.new.src in
+    let node = shape_of c.in_ok-view.view in
+    let t = c.top_layer-top.result in
+    let d = n - 1 - t in
+    let clear : edge_in begun ≡ LinkClear = ap (λ ls. edge_of ls begun.rest) c.view.ensures.levels
+    ∙ ap (edge_of none.levels.items) c.view.ensures.rest ∙ c.in_ok-edge.ensures.edge in
+    let seen = was-shown (shows c.args.root) node (log_in none) (log_in begun) c.in_ok-view.ensures.shown in
+    let n_is = needed layer c.args.wanted t n (shows c.args.root) node seen.is c.top_layer-top.ensures c.layers_for-layers.ensures in
+    let d_is : d ≡ n - suc t = omega arith in
+    rw (p.1, p.2)
+    (subst (λ j. IsStopped gives b m (record { read = []; made = [] })
+    (at_top (batch_from digest shows layer j cs c.args.root)) NoMemory) n_is
+    (rows-memory gives digest shows layer n cs c.args.root t d node (log_in none) (log_in begun) (edge_in begun)
+    c.in_ok-edge.ensures.log c.in_ok-view.ensures.shown c.top_layer-top.ensures d_is clear
+    b m c.in_ok-view.ensures.counted))
+
+pub returns-in_err-previous-clause-stopped : goal.returns-in_err-previous-clause-stopped
+returns-in_err-previous-clause-stopped g c =
+    let p = err_from_is_err_and c.from_residual-in_err-previous.result c.from_residual-in_err-previous.ensures.1 in
+    let digest = g.D.Digest.digest_of in
+    let gives = g.S.Source.gives c.args.src.now in
+    let shows = nodes_given gives in
+    let layer = layer_of digest g.row.B in
+    let b = g.S.Source.reads c.args.src.now in
+    let cs = c.args.changes.now in
+    let n = c.layers_for-layers.result in
+    let none = c.in_ok-edge.edge in
+    let begun = c.view.new.self in
+    let m = g.S.Source.reads c.view.new.src in
+    let node = shape_of c.in_ok-view.view in
+    let t = c.top_layer-top.result in
+    let d = n - 1 - t in
+    let clear : edge_in begun ≡ LinkClear = ap (λ ls. edge_of ls begun.rest) c.view.ensures.levels
+    ∙ ap (edge_of none.levels.items) c.view.ensures.rest ∙ c.in_ok-edge.ensures.edge in
+    let seen = was-shown (shows c.args.root) node (log_in none) (log_in begun) c.in_ok-view.ensures.shown in
+    let n_is = needed layer c.args.wanted t n (shows c.args.root) node seen.is c.top_layer-top.ensures c.layers_for-layers.ensures in
+    let d_is : d ≡ n - suc t = omega arith in
+    let a = g.S.Source.reads c.walk.new.src in
+    let f = c.in_err-previous.field-0.0 in
+    let step = subst (λ gv. IsStopped gv m a (log_in begun) (node_does digest (nodes_given gv) layer n t d cs
+    c.of-rows.result.rest (edge_in begun) (log_in begun)) f) c.view.ensures.same c.in_err-previous.ensures.stopped in
+    rw (p.1, p.2)
+    (subst (λ j. IsStopped gives b a (record { read = []; made = [] })
+    (at_top (batch_from digest shows layer j cs c.args.root)) f) n_is
+    (walk-stopped gives digest shows layer n cs c.args.root t d node (log_in none) (log_in begun) (edge_in begun)
+    c.in_ok-edge.ensures.log c.in_ok-view.ensures.shown c.top_layer-top.ensures d_is clear
+    b m a f c.in_ok-view.ensures.counted
+    (subst (λ r. IsStopped gives m a (log_in begun) (node_does digest shows layer n t d cs r (edge_in begun) (log_in begun)) f)
+    (ap (λ r. r.rest) c.of-rows.ensures) step)))
+
+pub returns-in_err-ended-clause-stopped : goal.returns-in_err-ended-clause-stopped
+returns-in_err-ended-clause-stopped g c =
+    let p = err_from_is_err_and c.from_residual-in_err-ended.result c.from_residual-in_err-ended.ensures.1 in
+    let digest = g.D.Digest.digest_of in
+    let gives = g.S.Source.gives c.args.src.now in
+    let shows = nodes_given gives in
+    let layer = layer_of digest g.row.B in
+    let b = g.S.Source.reads c.args.src.now in
+    let cs = c.args.changes.now in
+    let n = c.layers_for-layers.result in
+    let none = c.in_ok-edge.edge in
+    let begun = c.view.new.self in
+    let m = g.S.Source.reads c.view.new.src in
+    let node = shape_of c.in_ok-view.view in
+    let t = c.top_layer-top.result in
+    let d = n - 1 - t in
+    let clear : edge_in begun ≡ LinkClear = ap (λ ls. edge_of ls begun.rest) c.view.ensures.levels
+    ∙ ap (edge_of none.levels.items) c.view.ensures.rest ∙ c.in_ok-edge.ensures.edge in
+    let seen = was-shown (shows c.args.root) node (log_in none) (log_in begun) c.in_ok-view.ensures.shown in
+    let n_is = needed layer c.args.wanted t n (shows c.args.root) node seen.is c.top_layer-top.ensures c.layers_for-layers.ensures in
+    let d_is : d ≡ n - suc t = omega arith in
+    let mid = c.walk.new.self in
+    let walked = subst (λ gv. node_does digest (nodes_given gv) layer n t d cs c.of-rows.result.rest (edge_in begun) (log_in begun)
+    ≡ Some (edge_in mid, log_in mid)) c.view.ensures.same c.in_ok-previous.ensures.walked in
+    let walked_node = subst (λ r. node_does digest shows layer n t d cs r (edge_in begun) (log_in begun)
+    ≡ Some (edge_in mid, log_in mid)) (ap (λ r. r.rest) c.of-rows.ensures) walked in
+    let k = g.S.Source.reads c.walk.new.src in
+    let a = g.S.Source.reads c.finish.new.src in
+    let f = c.in_err-ended.field-0.0 in
+    rw (p.1, p.2)
+    (subst (λ j. IsStopped gives b a (record { read = []; made = [] })
+    (at_top (batch_from digest shows layer j cs c.args.root)) f) n_is
+    (finish-stopped gives digest shows layer n cs c.args.root t d node (log_in none) (log_in begun) (edge_in begun)
+    c.in_ok-edge.ensures.log c.in_ok-view.ensures.shown c.top_layer-top.ensures d_is clear
+    b m k a f (edge_in mid) (log_in mid) c.in_ok-view.ensures.counted c.in_ok-previous.ensures.counted walked_node
+    (subst (λ gv. IsStopped gv k a (log_in mid) (at_top (topping digest (nodes_given gv) n (edge_in mid) (log_in mid))) f)
+    (c.walk.ensures.same ∙ c.view.ensures.same) c.in_err-ended.ensures.stopped)))
