@@ -13,7 +13,7 @@ pub mod Putting
 pub mod Tasking
 pub mod Wholes
 mod Placed
-pub mod Applying
+pub mod OnTree
 mod Answering
 pub mod Stopping
 pub mod Refusing

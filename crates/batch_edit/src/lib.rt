@@ -11,7 +11,7 @@
 //! A call over it, which says what comes, what goes and what its faults mean, isn't there yet.
 #![tactic(auto)]
 
-mod apply;
+mod applying;
 mod changes;
 mod differences;
 mod edge;
@@ -25,6 +25,6 @@ mod tops;
 mod walk;
 mod whole;
 
-pub use apply::apply;
+pub use applying::apply;
 pub use changes::Change;
 pub use outcome::{BatchEdit, BatchFault};

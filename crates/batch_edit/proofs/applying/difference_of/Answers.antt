@@ -2,7 +2,7 @@ use Rattle.std.proofs.Common.{◌≡◌, ◌++◌, map, subst, rules}
 use Rattle.std.specs.Arc.{arc_value}
 use Rattle.spec.specs.Blocks.{IsClashFree}
 use Rattle.batch_edit.proofs.Answering.{is-answer}
-use Rattle.batch_edit.proofs.apply.difference_of.Goals as goal
+use Rattle.batch_edit.proofs.applying.difference_of.Goals as goal
 
 pub returns-clause-free : goal.returns-clause-free
 returns-clause-free g c =

@@ -1,7 +1,7 @@
 use Rattle.std.proofs.Common.{◌≡◌, rules}
 use Rattle.spec.specs.Layer.{layer}
-use Rattle.batch_edit.proofs.Applying.{layers-step}
-use Rattle.batch_edit.proofs.apply.layers_of_puts.Goals as goal
+use Rattle.batch_edit.proofs.OnTree.{layers-step}
+use Rattle.batch_edit.proofs.applying.layers_of_puts.Goals as goal
 
 pub loop-change-preserved : goal.loop-change-preserved
 loop-change-preserved g c =

@@ -1,7 +1,7 @@
 use Rattle.std.proofs.Common.{◌≤◌, ◌∷◌, [], arith}
 use Rattle.spec.specs.Layer.{layer}
-use Rattle.batch_edit.proofs.Applying.{layer-fits}
-use Rattle.batch_edit.proofs.apply.layers_for.Goals as goal
+use Rattle.batch_edit.proofs.OnTree.{layer-fits}
+use Rattle.batch_edit.proofs.applying.layers_for.Goals as goal
 
 pub overflow_add-result : goal.overflow_add-result
 overflow_add-result g c =
