@@ -17,3 +17,4 @@ pub mod Refusing
 pub mod Arriving
 pub mod Ending
 pub mod Halting
+pub mod Spelling
