@@ -20,3 +20,4 @@ pub mod Refusing
 pub mod Arriving
 pub mod Ending
 pub mod Halting
+pub mod Spelling

@@ -14,7 +14,7 @@ use Rattle.batch_laws.specs.Links.{ask, log_shown}
 use Rattle.batch_edit.specs.States.{shapes_in}
 use Rattle.batch_edit.proofs.Making.{shape_in-shown, shapes-snoc}
 
-shape-read : (r : Result (Option (List ℕ) × List Entry) NodeFault) (v : Contents) → Some v ≡ contents_of r
+pub shape-read : (r : Result (Option (List ℕ) × List Entry) NodeFault) (v : Contents) → Some v ≡ contents_of r
     → shape_of_reading r ≡ Some (shape_of v)
 shape-read (Ok n) v h =
     let e : record { left = n.0; entries = n.1 } ≡ v = cc in

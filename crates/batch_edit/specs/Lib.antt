@@ -7,3 +7,4 @@ pub mod Agendas
 pub mod Firsts
 pub mod Batches
 pub mod Stops
+pub mod Spelled

@@ -6,14 +6,16 @@ ghost use Rattle.std.specs.Prelude.{◌≡◌, ◌∷◌, [], ◌++◌, map, IfO
 ghost use Rattle.std.specs.Arc.{arc_value};
 ghost use Rattle.spec.specs.Cid.{cid as cid_of};
 ghost use Rattle.batch_edit.specs.Firsts.{HasPlaces};
+ghost use Rattle.batch_edit.specs.Spelled.{IsSpelled};
 ghost use Rattle.spec.specs.Blocks.{IsClashFree};
 ghost use Rattle.edit_laws.specs.Changes.{add_of, drop_of};
 ghost use Rattle.edit.specs.Changes.{IsAmong};
 ghost use Rattle.edit.specs.Faults.{IsRefusal};
 
 use crate::places::Places;
+use crate::read_nodes::ReadNode;
 use cid::{Block, Cid, Collided, Digest};
-use edit::{EditFault, Lent, MarkedBlock};
+use edit::{EditFault, MarkedBlock};
 use rewrite::{Made, NodeBlock};
 use std::alloc::{AllocError, Allocator};
 use std::sync::Arc;
@@ -22,7 +24,7 @@ use std::sync::Arc;
 /// was read, or of another made one, and other bytes, is a clash.
 pub(crate) fn added<D: Digest, A: Allocator + Clone>(
     alloc: A,
-    read: &[Lent<'_, D, A>],
+    read: &[ReadNode<'_, D, A>],
     made: Made<D, A>,
 ) -> Result<Vec<MarkedBlock<D, A>, A>, EditFault<D, A>>
     ensures add { IfOk result (λ add. map arc_value add.items ≡ add_of D.digest_of
@@ -34,7 +36,7 @@ pub(crate) fn added<D: Digest, A: Allocator + Clone>(
     ensures fault { IfErr result
         (IsRefusal D.digest_of (map arc_value made.items ++ map arc_value read.now) ⊥) }
 {
-    let old = places_of_lent(alloc.clone()?, read)?;
+    let old = places_of_read(alloc.clone()?, read)?;
     let mut new = Places::new(alloc.clone()?);
     let mut add = Vec::new(alloc);
     for block in made {
@@ -50,7 +52,7 @@ pub(crate) fn added<D: Digest, A: Allocator + Clone>(
 pub(crate) fn dropped<D: Digest, A: Allocator + Clone>(
     alloc: A,
     made: &[NodeBlock<D, A>],
-    gone: &[Lent<'_, D, A>],
+    gone: &[ReadNode<'_, D, A>],
 ) -> Result<Vec<Cid, A>, AllocError>
     ensures { IfOk result (λ dropped. dropped.items ≡ drop_of D.digest_of (map arc_value made.now)
         (map arc_value gone.now)) }
@@ -67,9 +69,9 @@ pub(crate) fn dropped<D: Digest, A: Allocator + Clone>(
 }
 
 /// Where the first of the blocks with each CID stands.
-fn places_of_lent<D: Digest, A: Allocator + Clone>(
+fn places_of_read<D: Digest, A: Allocator + Clone>(
     alloc: A,
-    blocks: &[Lent<'_, D, A>],
+    blocks: &[ReadNode<'_, D, A>],
 ) -> Result<Places<A>, AllocError>
     ensures { IfOk result
         (λ places. HasPlaces (map (cid_of D.digest_of) (map arc_value blocks.now)) places.by_cid) }
@@ -79,6 +81,14 @@ fn places_of_lent<D: Digest, A: Allocator + Clone>(
         places.push(block.block().cid(), count)?;
     }
     Ok(places)
+}
+
+/// The block of a node that was made.
+fn block_of<D: Digest, A: Allocator>(node: &NodeBlock<D, A>) -> &Arc<Block<D, A>, A>
+    ensures same { result.now ≡ node.now }
+    ensures spelled { IsSpelled (arc_value node.now) }
+{
+    node.block()
 }
 
 /// Where the first of the blocks with each CID stands.
@@ -99,7 +109,7 @@ fn places_of_made<D: Digest, A: Allocator + Clone>(
 /// Whether the block is one of those that were read; its CID with other bytes is a clash.
 fn is_read<D: Digest, A: Allocator + Clone>(
     block: &NodeBlock<D, A>,
-    read: &[Lent<'_, D, A>],
+    read: &[ReadNode<'_, D, A>],
     places: &Places<A>,
 ) -> Result<bool, EditFault<D, A>>
     requires { HasPlaces (map (cid_of D.digest_of) (map arc_value read.now)) places.now.by_cid }

@@ -11,6 +11,7 @@ ghost use Rattle.batch_edit.specs.States.{edge_in, log_in, IsOpened, IsOpenAt, I
 
 use crate::faults::Fault;
 use crate::level::Level;
+use crate::read_nodes::ReadNode;
 use cid::{Cid, CidRef, Digest};
 use edit::{Lent, Source};
 use node::{KeyBuf, NodeView};
@@ -24,7 +25,7 @@ use std::clone::Clone;
 pub(crate) struct Edge<'a, D: Digest, A: Allocator> {
     pub(crate) levels: Vec<Level<A>, A>,
     pub(crate) rest: Option<Cid>,
-    pub(crate) read: Vec<Lent<'a, D, A>, A>,
+    pub(crate) read: Vec<ReadNode<'a, D, A>, A>,
     pub(crate) made: Made<D, A>,
 }
 
@@ -115,7 +116,7 @@ impl<'a, D: Digest + 'a, A: Allocator + Clone + 'a> Edge<'a, D, A> {
         let Some(view) = lent.view() else {
             return Err(Fault::NotTree);
         };
-        self.read.push(lent)?;
+        self.read.push(ReadNode::of(lent))?;
         Ok(view)
     }
 

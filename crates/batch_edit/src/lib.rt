@@ -8,7 +8,8 @@
 //! pruned one are nothing of their own.
 //!
 //! [`Change`] is a key with its new value, or none where the key goes. `whole` changes a tree from its root to its new root.
-//! A call over it, which says what comes, what goes and what its faults mean, isn't there yet.
+//! Its contract says what the new root is, what was read and made, what a fault means, and that no more was read by then
+//! than the answer would have read. A call over it, which says what comes and what goes, isn't there yet.
 #![tactic(auto)]
 
 mod applying;
@@ -20,6 +21,7 @@ mod joining;
 mod level;
 mod outcome;
 mod places;
+mod read_nodes;
 mod tasks;
 mod tops;
 mod walk;

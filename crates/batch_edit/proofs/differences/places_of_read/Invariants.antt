@@ -2,7 +2,7 @@ use Rattle.std.proofs.Common.{map, take}
 use Rattle.std.specs.Arc.{arc_value}
 use Rattle.spec.specs.Cid.{cid}
 use Rattle.batch_edit.specs.Firsts.{HasPlaces}
-use Rattle.batch_edit.proofs.differences.places_of_lent.Given as goal
+use Rattle.batch_edit.proofs.differences.places_of_read.Given as goal
 
 abbrev pub invariant-loop-count : goal.invariant-loop-count
 invariant-loop-count g l =

@@ -1,0 +1,45 @@
+-- Blocks that read as nodes are their nodes' bytes.
+use Rattle.std.proofs.Common.{◌≡◌, ℕ, true, List, [], ◌∷◌, map, Option, Result, Ok, Err, refl, sym, ap, subst, ◌∙◌}
+use Rattle.std.specs.Prelude.{is_ok}
+use Rattle.std.specs.List.{AllByRecursion}
+use Rattle.std.specs.Arc.{arc_value}
+use Rattle.std.specs.declared.sync.Arc.{Arc}
+use Rattle.std.specs.declared.option.Option.TheVariants.{Some}
+use Rattle.spec.specs.Reading.{IsBytes}
+use Rattle.spec.specs.NodeFormat.{Shape, Entry, NodeFault, shape_bytes, read_node}
+use Rattle.edit_laws.specs.Lawful.{Lawful}
+use Rattle.edit_laws.specs.Sources.{shape_from, shape_of_bytes, shape_of_reading}
+use Rattle.edit_laws.proofs.OverSource.{shape_bytes-shape_of_bytes}
+use Rattle.node.specs.Contents.{Contents}
+use Rattle.rewrite.specs.Drafts.{shape_in, reads_as_node}
+use Rattle.rewrite.specs.Entries.{shape_of}
+use Rattle.edit.specs.Nodes.{IsNodeOf, contents_of}
+use Rattle.batch_edit.specs.States.{shapes_in}
+use Rattle.batch_edit.specs.Spelled.{IsSpelled}
+use Rattle.batch_edit.proofs.Making.{shape_in-shown}
+use Rattle.batch_edit.proofs.Reading.{shape-read}
+
+-- what was read is the node that the bytes show
+pub read-is-node : (bytes : List ℕ) (v : Contents) → Some v ≡ contents_of (read_node bytes) → IsNodeOf bytes (shape_of v)
+    → IsNodeOf bytes (shape_in bytes)
+read-is-node bytes v h n =
+    subst (IsNodeOf bytes) (sym (shape_in-shown bytes (shape_of v) (shape-read (read_node bytes) v h))) n
+
+shown-by : (bytes : List ℕ) (r : Result (Option (List ℕ) × List Entry) NodeFault) → read_node bytes ≡ r → is_ok r ≡ true
+    → (s : Shape) × (shape_of_bytes bytes ≡ Some s)
+shown-by bytes (Ok n) e h = (shape_from n.0 n.1, ap shape_of_reading e)
+shown-by bytes (Err f) e h = absurd cc
+
+pub node-spelled : (bytes : List ℕ) → IsBytes bytes → reads_as_node bytes ≡ true → IsSpelled bytes
+node-spelled bytes fits h =
+    let s = shown-by bytes (read_node bytes) refl h in
+    let p = shape_bytes-shape_of_bytes bytes s.0 fits s.1 in
+    let e = shape_in-shown bytes s.0 s.1 in
+    record { spelled = p.0 ∙ ap shape_bytes (sym e); lawful = subst Lawful (sym e) p.1 }
+
+pub all-spelled : {A : Type 0} (blocks : List (Arc (List ℕ) A))
+    → AllByRecursion (λ b. arc_value b ≡ shape_bytes (shape_in (arc_value b))) blocks
+    → map arc_value blocks ≡ map shape_bytes (shapes_in blocks)
+all-spelled [] h = refl
+all-spelled (b ∷ blocks) h =
+    ap (λ x. x ∷ map arc_value blocks) h.0 ∙ ap (λ xs. shape_bytes (shape_in (arc_value b)) ∷ xs) (all-spelled blocks h.1)
