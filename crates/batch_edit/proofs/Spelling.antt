@@ -1,10 +1,11 @@
 -- Blocks that read as nodes are their nodes' bytes.
-use Rattle.std.proofs.Common.{◌≡◌, ℕ, true, List, [], ◌∷◌, map, Option, Result, Ok, Err, refl, sym, ap, subst, ◌∙◌}
+use Rattle.std.proofs.Common.{◌≡◌, ℕ, true, List, [], ◌∷◌, ◌++◌, map, Option, Result, Ok, Err, refl, sym, ap, subst, ◌∙◌}
 use Rattle.std.specs.Prelude.{is_ok}
+use Rattle.std.proofs.lemmas.List.{map-append}
 use Rattle.std.specs.List.{AllByRecursion}
 use Rattle.std.specs.Arc.{arc_value}
 use Rattle.std.specs.declared.sync.Arc.{Arc}
-use Rattle.std.specs.declared.option.Option.TheVariants.{Some}
+use Rattle.std.specs.declared.option.Option.TheVariants.{Some, None}
 use Rattle.spec.specs.Reading.{IsBytes}
 use Rattle.spec.specs.NodeFormat.{Shape, Entry, NodeFault, shape_bytes, read_node}
 use Rattle.edit_laws.specs.Lawful.{Lawful}
@@ -43,3 +44,28 @@ pub all-spelled : {A : Type 0} (blocks : List (Arc (List ℕ) A))
 all-spelled [] h = refl
 all-spelled (b ∷ blocks) h =
     ap (λ x. x ∷ map arc_value blocks) h.0 ∙ ap (λ xs. shape_bytes (shape_in (arc_value b)) ∷ xs) (all-spelled blocks h.1)
+
+-- one more
+pub spelled-more : {A : Type 0} (xs : List (Arc (List ℕ) A)) (x : Arc (List ℕ) A)
+    → map arc_value xs ≡ map shape_bytes (shapes_in xs) → IsSpelled (arc_value x)
+    → map arc_value (xs ++ x ∷ []) ≡ map shape_bytes (shapes_in (xs ++ x ∷ []))
+spelled-more xs x all one =
+    map-append arc_value xs (x ∷ [])
+    ∙ ap (λ ys. ys ++ arc_value x ∷ []) all
+    ∙ ap (λ y. map shape_bytes (shapes_in xs) ++ y ∷ []) one.spelled
+    ∙ sym (map-append shape_bytes (shapes_in xs) (shape_in (arc_value x) ∷ []))
+    ∙ sym (ap (map shape_bytes) (map-append (λ b. shape_in (arc_value b)) xs (x ∷ [])))
+
+-- a node that was looked at is spelled
+pub read-spelled : (bytes : List ℕ) (v : Contents) → Some v ≡ contents_of (read_node bytes) → IsNodeOf bytes (shape_of v)
+    → IsSpelled bytes
+read-spelled bytes v h n =
+    let i = read-is-node bytes v h n in
+    record { spelled = i.spelled; lawful = i.lawful }
+
+none-case : (r : Result (Option (List ℕ) × List Entry) NodeFault) → is_ok r ≡ true → None ≡ contents_of r → ⊥
+none-case (Ok n) h e = cc
+none-case (Err f) h e = cc
+
+pub never-none : (bytes : List ℕ) → reads_as_node bytes ≡ true → None ≡ contents_of (read_node bytes) → ⊥
+never-none bytes h e = none-case (read_node bytes) h e

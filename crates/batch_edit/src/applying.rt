@@ -7,12 +7,14 @@ ghost use Rattle.spec.specs.Layer.{layer as layer_of};
 ghost use Rattle.spec.specs.Tree.{top_layer};
 ghost use Rattle.edit.specs.Faults.{IsRefusal};
 ghost use Rattle.edit_laws.specs.Changes.{add_of, drop_of};
+ghost use Rattle.edit_laws.specs.Laws.Edits.{bytes_of};
+ghost use Rattle.batch_edit.specs.States.{log_in};
 ghost use Rattle.edit.specs.Trees.{OfTree};
 ghost use Rattle.batch_laws.specs.Counts.{most_reads};
 ghost use Rattle.batch_edit.specs.Batches.{are_changes as are_changes_of, layers_for as layers_for_key, put_layers, nodes_read, IsBatch, IsBatchRefusal, IsAnswered, IsLack};
 
 use crate::changes::Change;
-use crate::differences::{added, dropped};
+use crate::differences::{added, dropped, marked_each, places_of_read};
 use crate::edge::Edge;
 use crate::outcome::{BatchEdit, BatchFault};
 use crate::whole::{Changed, change_tree};
@@ -91,18 +93,18 @@ fn difference_of<D: Digest, A: Allocator + Clone>(
     ensures root { IfOk result (λ edit. edit.root ≡ changed.entry.root) }
     ensures previous { IfOk result (λ edit. edit.previous.items ≡ changed.entry.previous.items) }
     ensures add { IfOk result (λ edit. map arc_value edit.add.items ≡ add_of D.digest_of
-        (map arc_value changed.entry.edge.read.items) (map arc_value changed.entry.edge.made.items)) }
+        (bytes_of (log_in changed.entry.edge).read) (bytes_of (log_in changed.entry.edge).made)) }
     ensures drop { IfOk result (λ edit. edit.drop.items ≡ drop_of D.digest_of
-        (map arc_value changed.entry.edge.made.items)
-        (map arc_value (take changed.entry.gone changed.entry.edge.read.items))) }
-    ensures free { IsClashFree D.digest_of (map arc_value changed.entry.edge.read.items)
+        (bytes_of (log_in changed.entry.edge).made)
+        (take changed.entry.gone (bytes_of (log_in changed.entry.edge).read))) }
+    ensures free { IsClashFree D.digest_of (bytes_of (log_in changed.entry.edge).read)
         → IfOk result (λ edit. IsClashFree D.digest_of
-        (map arc_value edit.add.items ++ map arc_value changed.entry.edge.read.items)) }
-    ensures all_free { IsClashFree D.digest_of (map arc_value changed.entry.edge.read.items)
-        → OnOk result (IsClashFree D.digest_of (map arc_value changed.entry.edge.made.items
-        ++ map arc_value changed.entry.edge.read.items)) }
-    ensures fault { IfErr result (IsRefusal D.digest_of (map arc_value changed.entry.edge.made.items
-        ++ map arc_value changed.entry.edge.read.items) ⊥) }
+        (map arc_value edit.add.items ++ bytes_of (log_in changed.entry.edge).read)) }
+    ensures all_free { IsClashFree D.digest_of (bytes_of (log_in changed.entry.edge).read)
+        → OnOk result (IsClashFree D.digest_of (bytes_of (log_in changed.entry.edge).made
+        ++ bytes_of (log_in changed.entry.edge).read)) }
+    ensures fault { IfErr result (IsRefusal D.digest_of (bytes_of (log_in changed.entry.edge).made
+        ++ bytes_of (log_in changed.entry.edge).read) ⊥) }
 {
     let Changed {
         root,
@@ -111,8 +113,10 @@ fn difference_of<D: Digest, A: Allocator + Clone>(
         edge,
     } = changed;
     let Edge { read, made, .. } = edge;
+    let old = places_of_read(alloc.clone()?, &read)?;
+    let made = marked_each(alloc.clone()?, made)?;
     let drop = dropped(alloc.clone()?, &made, &read[..gone])?;
-    let add = added(alloc, &read, made)?;
+    let add = added(alloc, &read, &old, made)?;
     Ok(BatchEdit {
         root,
         add,

@@ -6,7 +6,8 @@ ghost use Rattle.std.specs.Prelude.{◌≡◌, ◌∷◌, [], ◌++◌, map, IfO
 ghost use Rattle.std.specs.Arc.{arc_value};
 ghost use Rattle.spec.specs.Cid.{cid as cid_of};
 ghost use Rattle.batch_edit.specs.Firsts.{HasPlaces};
-ghost use Rattle.batch_edit.specs.Spelled.{IsSpelled};
+ghost use Rattle.spec.specs.NodeFormat.{shape_bytes};
+ghost use Rattle.batch_edit.specs.States.{shapes_in};
 ghost use Rattle.spec.specs.Blocks.{IsClashFree};
 ghost use Rattle.edit_laws.specs.Changes.{add_of, drop_of};
 ghost use Rattle.edit.specs.Changes.{IsAmong};
@@ -16,17 +17,41 @@ use crate::places::Places;
 use crate::read_nodes::ReadNode;
 use cid::{Block, Cid, Collided, Digest};
 use edit::{EditFault, MarkedBlock};
-use rewrite::{Made, NodeBlock};
+use rewrite::Made;
 use std::alloc::{AllocError, Allocator};
 use std::sync::Arc;
+
+/// The blocks that were made, marked as the nodes that they are.
+pub(crate) fn marked_each<D: Digest, A: Allocator>(
+    alloc: A,
+    made: Made<D, A>,
+) -> Result<Vec<MarkedBlock<D, A>, A>, AllocError>
+    ensures same { IfOk result (λ marked. map arc_value marked.items ≡ map arc_value made.items) }
+    ensures spelled { OnOk result
+        (map arc_value made.items ≡ map shape_bytes (shapes_in made.items)) }
+{
+    let mut marked = Vec::new(alloc);
+    for block in made {
+        marked.reserve(1)?;
+        let block = MarkedBlock::of_node(block);
+        // its node is looked at for the proof alone
+        let Some(_) = block.lent().view() else {
+            unreachable!()
+        };
+        marked.push(block)?;
+    }
+    Ok(marked)
+}
 
 /// Of the blocks that were made those whose CIDs were not read, each once. A made block that has the CID of one that
 /// was read, or of another made one, and other bytes, is a clash.
 pub(crate) fn added<D: Digest, A: Allocator + Clone>(
     alloc: A,
     read: &[ReadNode<'_, D, A>],
-    made: Made<D, A>,
+    old: &Places<A>,
+    made: Vec<MarkedBlock<D, A>, A>,
 ) -> Result<Vec<MarkedBlock<D, A>, A>, EditFault<D, A>>
+    requires { HasPlaces (map (cid_of D.digest_of) (map arc_value read.now)) old.now.by_cid }
     ensures add { IfOk result (λ add. map arc_value add.items ≡ add_of D.digest_of
         (map arc_value read.now) (map arc_value made.items)) }
     ensures clash_free { IsClashFree D.digest_of (map arc_value read.now) → IfOk result
@@ -36,13 +61,12 @@ pub(crate) fn added<D: Digest, A: Allocator + Clone>(
     ensures fault { IfErr result
         (IsRefusal D.digest_of (map arc_value made.items ++ map arc_value read.now) ⊥) }
 {
-    let old = places_of_read(alloc.clone()?, read)?;
     let mut new = Places::new(alloc.clone()?);
     let mut add = Vec::new(alloc);
     for block in made {
-        if !is_read(&block, read, &old)? && !is_made(&block, &add, &new)? {
+        if !is_read(&block, read, old)? && !is_made(&block, &add, &new)? {
             new.push(block.block().cid(), add.len())?;
-            add.push(MarkedBlock::of_node(block))?;
+            add.push(block)?;
         }
     }
     Ok(add)
@@ -51,7 +75,7 @@ pub(crate) fn added<D: Digest, A: Allocator + Clone>(
 /// The CIDs of the nodes that go, but for those of blocks that are made.
 pub(crate) fn dropped<D: Digest, A: Allocator + Clone>(
     alloc: A,
-    made: &[NodeBlock<D, A>],
+    made: &[MarkedBlock<D, A>],
     gone: &[ReadNode<'_, D, A>],
 ) -> Result<Vec<Cid, A>, AllocError>
     ensures { IfOk result (λ dropped. dropped.items ≡ drop_of D.digest_of (map arc_value made.now)
@@ -69,12 +93,14 @@ pub(crate) fn dropped<D: Digest, A: Allocator + Clone>(
 }
 
 /// Where the first of the blocks with each CID stands.
-fn places_of_read<D: Digest, A: Allocator + Clone>(
+pub(crate) fn places_of_read<D: Digest, A: Allocator + Clone>(
     alloc: A,
     blocks: &[ReadNode<'_, D, A>],
 ) -> Result<Places<A>, AllocError>
-    ensures { IfOk result
+    ensures places { IfOk result
         (λ places. HasPlaces (map (cid_of D.digest_of) (map arc_value blocks.now)) places.by_cid) }
+    ensures spelled { OnOk result
+        (map arc_value blocks.now ≡ map shape_bytes (shapes_in blocks.now)) }
 {
     let mut places = Places::new(alloc);
     for (count, block) in blocks.iter().enumerate() {
@@ -83,18 +109,10 @@ fn places_of_read<D: Digest, A: Allocator + Clone>(
     Ok(places)
 }
 
-/// The block of a node that was made.
-fn block_of<D: Digest, A: Allocator>(node: &NodeBlock<D, A>) -> &Arc<Block<D, A>, A>
-    ensures same { result.now ≡ node.now }
-    ensures spelled { IsSpelled (arc_value node.now) }
-{
-    node.block()
-}
-
 /// Where the first of the blocks with each CID stands.
 fn places_of_made<D: Digest, A: Allocator + Clone>(
     alloc: A,
-    blocks: &[NodeBlock<D, A>],
+    blocks: &[MarkedBlock<D, A>],
 ) -> Result<Places<A>, AllocError>
     ensures { IfOk result
         (λ places. HasPlaces (map (cid_of D.digest_of) (map arc_value blocks.now)) places.by_cid) }
@@ -108,7 +126,7 @@ fn places_of_made<D: Digest, A: Allocator + Clone>(
 
 /// Whether the block is one of those that were read; its CID with other bytes is a clash.
 fn is_read<D: Digest, A: Allocator + Clone>(
-    block: &NodeBlock<D, A>,
+    block: &MarkedBlock<D, A>,
     read: &[ReadNode<'_, D, A>],
     places: &Places<A>,
 ) -> Result<bool, EditFault<D, A>>
@@ -130,7 +148,7 @@ fn is_read<D: Digest, A: Allocator + Clone>(
 
 /// Whether the block is one of these; its CID with other bytes is a clash.
 fn is_made<D: Digest, A: Allocator + Clone>(
-    block: &NodeBlock<D, A>,
+    block: &MarkedBlock<D, A>,
     made: &[MarkedBlock<D, A>],
     places: &Places<A>,
 ) -> Result<bool, EditFault<D, A>>

@@ -50,11 +50,11 @@ loop-block-preserved-then-not-branch-2 g c =
       added = turn-new arc_value g.D.Digest.digest_of (map arc_value c.args.read.now) at.yielded at.add.items c.in-Some.block
           at.invariant.added c.in_ok-is_read.field-0 c.in_ok-is_made.field-0 c.deref.result.now c.push-then-not-branch-2.new.self.items
           unread c.in_ok-is_read.ensures.found c.deref.ensures.value unmade c.in_ok-is_made.ensures.found
-          (c.in_ok-push-2.ensures.items ∙ ap (λ b. at.add.items ++ b ∷ []) c.of_node.ensures);
+          c.in_ok-push-2.ensures.items;
       placed = placed-more arc_value g.D.Digest.digest_of at.add.items c.push-then-not-branch-2.new.self.items c.in-Some.block c.cid.result c.push.new.self.by_cid
           (c.in_ok-push.ensures (map (cid g.D.Digest.digest_of) (map arc_value at.add.items)) at.invariant.placed
           (count-twice arc_value g.D.Digest.digest_of at.add.items c.len.result (search rules))) (search rules)
-          (c.in_ok-push-2.ensures.items ∙ ap (λ b. at.add.items ++ b ∷ []) c.of_node.ensures);
+          c.in_ok-push-2.ensures.items;
       whole = at.invariant.whole ∙ ap (λ ys. at.yielded ++ ys) steps
           ∙ sym (append_assoc at.yielded (c.in-Some.block ∷ []) (into_iter_items c.next.new.self));
       left = let was = at.invariant.left in let gone = c.in-Some.ensures.steps.1 in let short = ap length steps in omega arith;

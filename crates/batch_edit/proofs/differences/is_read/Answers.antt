@@ -39,7 +39,7 @@ returns-clause-found g c =
     among-found arc_value digest block c.args.read.now c.in-Some.place c.in-Some-get.other.now b first
     c.in-Some-get.ensures.lookup.1
     (subst (λ (x : List ℕ). IsAmong digest x (arc_value c.in-Some-get.other.now ∷ []) b) (ap arc_value c.block-2.ensures)
-    (subst (λ (x : List ℕ). IsAmong digest (arc_value c.block-2.result.now) (x ∷ []) b) (ap arc_value c.block-3.ensures) a)))
+    (subst (λ (x : List ℕ). IsAmong digest (arc_value c.block-2.result.now) (x ∷ []) b) (ap arc_value c.block-3.ensures.same) a)))
     c.is_same.ensures.found
 
 pub returns-clause-fault : goal.returns-clause-fault
@@ -52,5 +52,5 @@ returns-clause-fault g c =
     (two-within arc_value block c.args.read.now c.in-Some.place c.in-Some-get.other.now c.in-Some-get.ensures.lookup.3.0
     c.in-Some-get.ensures.lookup.1)
     (subst (λ (x : List ℕ). IsRefusal digest (x ∷ other ∷ []) ⊥ f) (ap arc_value c.block-2.ensures)
-    (subst (λ (x : List ℕ). IsRefusal digest (arc_value c.block-2.result.now ∷ x ∷ []) ⊥ f) (ap arc_value c.block-3.ensures) r)))
+    (subst (λ (x : List ℕ). IsRefusal digest (arc_value c.block-2.result.now ∷ x ∷ []) ⊥ f) (ap arc_value c.block-3.ensures.same) r)))
     c.is_same.ensures.fault
