@@ -29,16 +29,23 @@ use Rattle.batch_laws.specs.Laws.Sources.{IsBatchFrom}
 use Rattle.batch_laws.specs.Written.{AreWritten, OnAnswer}
 use Rattle.edit_laws.specs.Lawful.{HasKeys}
 use Rattle.batch_laws.proofs.Lawful.{batch-has_keys}
-use Rattle.batch_edit.specs.Stops.{IsUnwritten, at_top}
-use Rattle.batch_edit.specs.declared.outcome.BatchFault.{BatchFault}
-use Rattle.batch_edit.specs.declared.outcome.BatchFault.TheVariants.{Missing, NotTree, Clash, NoMemory}
+use Rattle.batch_laws.specs.Counts.{most_reads}
+use Rattle.batch_laws.proofs.ReadsFew.{batch-reads_few}
+use Rattle.edit.specs.Faults.{IsRefusal}
+use Rattle.edit.specs.declared.outcome.EditFault.{EditFault}
+use Rattle.edit.specs.declared.outcome.EditFault.TheVariants as edits
+use Rattle.std.specs.declared.sync.Arc.{Arc}
+use Rattle.batch_edit.specs.declared.faults.Fault.{Fault}
+use Rattle.batch_edit.specs.declared.faults.Fault.TheVariants as walks
+use Rattle.batch_edit.specs.Stops.{IsCause, at_top}
+
 use Rattle.edit_laws.proofs.Tops.{layer_of-top}
 use Rattle.batch_laws.proofs.OverSource.{batch-over_source}
 use Rattle.batch_laws.proofs.Previous.{previous-is_values}
 use Rattle.batch_laws.proofs.MakesFew.{batch-makes_few}
-use Rattle.batch_edit.specs.Batches.{have_keys, are_changes, put_layers, layers_for, layers_of, nodes_read, IsBatchOf, IsAnswer, IsClashOf}
+use Rattle.batch_edit.specs.Batches.{have_keys, are_changes, put_layers, layers_for, layers_of, nodes_read, IsBatchOf, IsAnswer, IsClashOf, IsReason, of_walk, of_difference}
 use Rattle.batch_edit.specs.Places.{are_ascending}
-use Rattle.batch_edit.specs.Tops.{layers_needed}
+use Rattle.batch_edit.specs.Tops.{IsEnded, layers_needed}
 use Rattle.batch_edit.proofs.Placing.{ascends}
 
 -- ---- changes with keys
@@ -189,46 +196,89 @@ module _ (digest : List ℕ → List ℕ) (bits : ℕ) (fits : IsDigest digest) 
       }
 
   -- why there is none, seen from the tree: nothing is missing, and each node is written
-  pub batch-refused : {D A : Type 0} (fault : BatchFault D A) → are_changes cs ≡ true
-      → (lacks : (c : List ℕ) → fault ≡ Missing c → batch_from digest (shown_by gives) (layer digest bits)
-      (layers_needed (layer digest bits) (put_layers (layer digest bits) cs) (shown_by gives root)) cs root ≡ None)
-      → (fault ≡ NotTree → IsUnwritten (at_top (batch_from digest (shown_by gives) (layer digest bits)
-      (layers_needed (layer digest bits) (put_layers (layer digest bits) cs) (shown_by gives root)) cs root)))
-      → ((pair : List ℕ × List ℕ) → fault ≡ Clash pair → ⊥)
-      → IsClashOf digest (nodes digest bits es ++ nodes digest bits (changed cs es)) fault
-  batch-refused (Missing c) are lacks unwritten none =
-      let no : Some ((root_of digest bits (changed cs es), is-batch.left), is-batch.log) ≡ None =
-      sym answers ∙ lacks c refl in
-      absurd (some-none ((root_of digest bits (changed cs es), is-batch.left), is-batch.log) no)
-  batch-refused NotTree are lacks unwritten none =
-      subst (λ a. OnAnswer (at_top a) (λ s log. ¬ AreWritten HasKeys s log)) answers (unwritten refl)
+  pub walk-refused : {A : Type 0} (D B : Type 0) (given : List ℕ → Option A) (fault : Fault) → are_changes cs ≡ true
+      → IsCause given (at_top (batch_from digest (shown_by gives) (layer digest bits)
+      (layers_needed (layer digest bits) (put_layers (layer digest bits) cs) (shown_by gives root)) cs root)) fault
+      → IsClashOf {D = D} {A = B} digest (nodes digest bits es ++ nodes digest bits (changed cs es)) (of_walk fault)
+  walk-refused D B given (walks.Missing c) are cause =
+      absurd (some-none _ (subst (λ a. at_top a ≡ None) answers cause.1))
+  walk-refused D B given walks.NotTree are unwritten =
+      subst (λ a. OnAnswer (at_top a) (λ s log. ¬ AreWritten HasKeys s log)) answers unwritten
       (record {
         made = subst (AllByRecursion HasKeys) (sym is-batch.made_is)
             (batch-has_keys digest (layer digest bits) (layers_of digest bits cs es) cs es has.pairs (are-keyed cs are)
             enough-top enough-puts);
         begun = tt;
       })
-  batch-refused (Clash pair) are lacks unwritten none = absurd (none pair refl)
-  batch-refused NoMemory are lacks unwritten none = tt
+  walk-refused D B given walks.NoMemory are cause = tt
 
-  -- a clash of what was made or read is one of old and new nodes
-  pub batch-clash : (made read : List (List ℕ)) (root' : List ℕ) (left : List Shape) (log : Log)
-      → batch_from digest (shown_by gives) (layer digest bits)
-      (layers_needed (layer digest bits) (put_layers (layer digest bits) cs) (shown_by gives root)) cs root
-      ≡ Some ((root', left), log) → made ≡ bytes_of log.made → read ≡ bytes_of (log.read ++ left)
-      → (b : List ℕ) → Contains (made ++ read) b
-      → Contains (nodes digest bits es ++ nodes digest bits (changed cs es)) b
-  batch-clash made read root' left log is made_is read_is b c =
-      let same = some-is ((root', left), log) ((root_of digest bits (changed cs es), is-batch.left), is-batch.log)
-      (sym is ∙ answers) in
-      by (made_is ∙ ap (λ (x : Top × Log). bytes_of x.1.made) same)
-      (read_is ∙ ap (λ (x : Top × Log). bytes_of (x.1.read ++ x.0.1)) same) (Contains-append_cases made read b c)
-    where
-      by : made ≡ bytes_of is-batch.log.made → read ≡ bytes_of (is-batch.log.read ++ is-batch.left)
-          → Contains made b ⊎ Contains read b → Contains (nodes digest bits es ++ nodes digest bits (changed cs es)) b
-      by m r (inl k) =
-          Contains-append_right (nodes digest bits es) (nodes digest bits (changed cs es)) b
-          (is-batch.edit.made_new b (subst (λ bs. Contains bs b) m k))
-      by m r (inr k) =
-          Contains-append_left (nodes digest bits es) (nodes digest bits (changed cs es)) b
-          (is-batch.edit.read_old b (subst (λ bs. Contains bs b) r k))
+  reads-few : length (is-batch.log.read ++ is-batch.left) ≤ suc (most_reads (top_layer (layer digest bits) es) cs)
+  reads-few =
+      let a = ap length is-batch.read_is in
+      let b = length-map (batch_read (layer digest bits) (layers_of digest bits cs es) cs (top (layer digest bits) es))
+      (shape digest) in
+      let c = batch-reads_few (layer digest bits) (layers_of digest bits cs es) cs es enough-top in
+      omega (arith, a, b, c)
+
+  -- where the walk stopped, no more was read than the batch reads
+  pub walk-few : (new old : ℕ) → OnAnswer (at_top (batch_from digest (shown_by gives) (layer digest bits)
+      (layers_needed (layer digest bits) (put_layers (layer digest bits) cs) (shown_by gives root)) cs root))
+      (λ s later. new + 0 ≤ old + length later.read)
+      → new ≤ old + suc (most_reads (top_layer (layer digest bits) es) cs)
+  walk-few new old h =
+      let r : new + 0 ≤ old + length (is-batch.log.read ++ is-batch.left) =
+      subst (λ a. OnAnswer (at_top a) (λ s later. new + 0 ≤ old + length later.read)) answers h in
+      let f = reads-few in
+      omega (arith, r, f)
+
+  module _ (root' : List ℕ) (gone : ℕ) (now : Log)
+      (ended : IsEnded (batch_from digest (shown_by gives) (layer digest bits)
+      (layers_needed (layer digest bits) (put_layers (layer digest bits) cs) (shown_by gives root)) cs root) root' gone now) where
+    same : ◌≡◌ {A = Top × Log} ((root', ended.left), ended.next)
+        ((root_of digest bits (changed cs es), is-batch.left), is-batch.log)
+    same = some-is _ _ (sym ended.is ∙ answers)
+
+    all-read : now.read ≡ is-batch.log.read ++ is-batch.left
+    all-read = ended.read ∙ ap (λ (x : Top × Log). x.1.read ++ x.0.1) same
+
+    pub tree-reads : length now.read ≡ length (nodes_read digest bits cs es)
+    tree-reads =
+        ap length all-read
+        ∙ sym (length-map (is-batch.log.read ++ is-batch.left) shape_bytes)
+        ∙ ap length read-bytes
+
+    pub tree-few : length now.read ≤ suc (most_reads (top_layer (layer digest bits) es) cs)
+    tree-few = let a = ap length all-read in let b = reads-few in omega (arith, a, b)
+
+    -- what was made or read are old and new nodes
+    pub tree-nodes : (b : List ℕ) → Contains (bytes_of now.made ++ bytes_of now.read) b
+        → Contains (nodes digest bits es ++ nodes digest bits (changed cs es)) b
+    tree-nodes b c = by (Contains-append_cases (bytes_of now.made) (bytes_of now.read) b c)
+      where
+        by : Contains (bytes_of now.made) b ⊎ Contains (bytes_of now.read) b
+            → Contains (nodes digest bits es ++ nodes digest bits (changed cs es)) b
+        by (inl k) =
+            Contains-append_right (nodes digest bits es) (nodes digest bits (changed cs es)) b
+            (is-batch.edit.made_new b (subst (λ bs. Contains bs b)
+            (ap bytes_of (ended.made ∙ ap (λ (x : Top × Log). x.1.made) same)) k))
+        by (inr k) =
+            Contains-append_left (nodes digest bits es) (nodes digest bits (changed cs es)) b
+            (is-batch.edit.read_old b (subst (λ bs. Contains bs b) (ap bytes_of all-read) k))
+
+pub difference-refused : {D A : Type 0} (digest : List ℕ → List ℕ) (xs ys : List (List ℕ)) (fault : EditFault D A)
+    → ((b : List ℕ) → Contains xs b → Contains ys b) → IsRefusal digest xs ⊥ fault
+    → IsClashOf digest ys (of_difference fault)
+difference-refused digest xs ys edits.NoSuchKey within r = absurd r
+difference-refused digest xs ys (edits.Clash pair) within r = (within pair.0 r.0, within pair.1 r.1, r.2)
+difference-refused digest xs ys edits.NoMemory within r = tt
+
+-- why there is none, over any source
+no-answer : (answer : Option (Top × Log)) → at_top answer ≡ None → answer ≡ None
+no-answer None h = refl
+no-answer (Some x) h = absurd (some-none _ h)
+
+pub walk-reason : {A : Type 0} (D : Type 0) (given : List ℕ → Option (Arc (List ℕ) A)) (answer : Option (Top × Log)) (fault : Fault)
+    → IsCause given (at_top answer) fault → IsReason {D = D} given answer (of_walk fault)
+walk-reason D given answer (walks.Missing c) cause = (cause.0, no-answer answer cause.1)
+walk-reason D given answer walks.NotTree cause = cause
+walk-reason D given answer walks.NoMemory cause = tt
