@@ -21,3 +21,4 @@ pub mod Arriving
 pub mod Ending
 pub mod Halting
 pub mod Spelling
+mod Testing

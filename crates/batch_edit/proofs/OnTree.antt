@@ -38,7 +38,6 @@ use Rattle.std.specs.declared.sync.Arc.{Arc}
 use Rattle.batch_edit.specs.declared.faults.Fault.{Fault}
 use Rattle.batch_edit.specs.declared.faults.Fault.TheVariants as walks
 use Rattle.batch_edit.specs.Stops.{IsCause, at_top}
-
 use Rattle.edit_laws.proofs.Tops.{layer_of-top}
 use Rattle.batch_laws.proofs.OverSource.{batch-over_source}
 use Rattle.batch_laws.proofs.Previous.{previous-is_values}

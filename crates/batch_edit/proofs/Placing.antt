@@ -56,7 +56,7 @@ beyond key (c ∷ cs) h =
       all_after = ap (λ o. if_greater o c (after key cs)) h.0 ∙ ap (λ ds. c ∷ ds) i.all_after;
     }
 
-later-than : (key k : List ℕ) (cs : List Change) → order k key ≡ Greater → AllByRecursion (IsLater k) cs
+pub later-than : (key k : List ℕ) (cs : List Change) → order k key ≡ Greater → AllByRecursion (IsLater k) cs
     → AllByRecursion (IsLater key) cs
 later-than key k [] g h = tt
 later-than key k (c ∷ cs) g h = (after-trans c.0 k key h.0 g, later-than key k cs g h.1)
@@ -83,18 +83,18 @@ is-less Greater h = absurd cc
 
 -- ---- the test
 
-greater-than : (o : Ordering) → is_greater o ≡ true → o ≡ Greater
+pub greater-than : (o : Ordering) → is_greater o ≡ true → o ≡ Greater
 greater-than Less h = absurd cc
 greater-than Equal h = absurd cc
 greater-than Greater h = refl
 
-later-all : (key : List ℕ) (cs : List Change) → are_later key cs ≡ true → AllByRecursion (IsLater key) cs
+pub later-all : (key : List ℕ) (cs : List Change) → are_later key cs ≡ true → AllByRecursion (IsLater key) cs
 later-all key [] h = tt
 later-all key (c ∷ cs) h =
     let b = both (is_greater (order c.0 key)) (are_later key cs) h in
     (greater-than (order c.0 key) b.0, later-all key cs b.1)
 
-all-later : (key : List ℕ) (cs : List Change) → AllByRecursion (IsLater key) cs → are_later key cs ≡ true
+pub all-later : (key : List ℕ) (cs : List Change) → AllByRecursion (IsLater key) cs → are_later key cs ≡ true
 all-later key [] h = refl
 all-later key (c ∷ cs) h = ap (λ o. is_greater o && are_later key cs) h.0 ∙ all-later key cs h.1
 

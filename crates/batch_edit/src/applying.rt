@@ -1,6 +1,6 @@
 //! Many keys of a tree changed at once.
 
-ghost use Rattle.std.specs.Prelude.{◌≡◌, ◌≤◌, ◌+◌, ◌++◌, suc, length, map, take, true, IfOk, IfErr, OnOk};
+ghost use Rattle.std.specs.Prelude.{◌≡◌, ◌≤◌, ◌+◌, ◌∷◌, ◌++◌, suc, length, map, take, true, IfOk, IfErr, OnOk};
 ghost use Rattle.std.specs.Arc.{arc_value};
 ghost use Rattle.spec.specs.Blocks.{IsClashFree};
 ghost use Rattle.spec.specs.Layer.{layer as layer_of};
@@ -19,9 +19,37 @@ use crate::edge::Edge;
 use crate::outcome::{BatchEdit, BatchFault};
 use crate::whole::{Changed, change_tree};
 use cid::{Cid, Digest, layer};
-use edit::{EditFault, Lent, Source};
+use edit::{EditFault, Lent, Source, is_key};
 use std::alloc::Allocator;
 use std::clone::Clone;
+
+/// Whether a batch takes these changes: their keys have 1 to 1,024 bytes and ascend strictly.
+pub fn are_changes<A: Allocator>(changes: &[Change<A>]) -> bool
+    ensures { result ≡ are_changes_of changes.now }
+{
+    let mut left = changes.len();
+    while left > 0 {
+        left -= 1;
+        if !comes_first(&changes[left], &changes[left + 1..]) {
+            return false;
+        }
+    }
+    true
+}
+
+/// Whether a change can come before these, which a batch takes.
+fn comes_first<A: Allocator>(change: &Change<A>, others: &[Change<A>]) -> bool
+    ensures { are_changes_of others.now ≡ true
+        → result ≡ are_changes_of (change.now ∷ others.now) }
+{
+    if !is_key(change.key()) {
+        return false;
+    }
+    let [next, ..] = others else {
+        return true;
+    };
+    next.key().cmp(change.key()).is_gt()
+}
 
 /// Changes many keys of the tree with this root at once: each change gives its key a value, or takes the key away where it
 /// has none. A key that isn't there and is taken away changes nothing.

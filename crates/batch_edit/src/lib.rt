@@ -27,6 +27,6 @@ mod tops;
 mod walk;
 mod whole;
 
-pub use applying::apply;
+pub use applying::{apply, are_changes};
 pub use changes::Change;
 pub use outcome::{BatchEdit, BatchFault};
