@@ -1,16 +1,12 @@
 -- An edit from what was read and made.
-use Rattle.std.proofs.Common.{◌≡◌, ℕ, ◌≤◌, ◌+◌, List, ◌++◌, length, map, take, Option, refl, sym, ap, subst, ◌∙◌, arith}
-use Rattle.std.specs.Arc.{arc_value}
-use Rattle.std.specs.declared.sync.Arc.{Arc}
+use Rattle.std.proofs.Common.{◌≡◌, ℕ, ◌≤◌, List, ◌++◌, length, take, Option, sym, ap, subst, ◌∙◌, arith}
 use Rattle.std.proofs.lemmas.List.{length-map, map-append, length-append}
 use Rattle.std.proofs.Math.Seq.{take-append_seam}
-use Rattle.spec.specs.NodeFormat.{Shape, shape_bytes}
+use Rattle.spec.specs.NodeFormat.{shape_bytes}
 use Rattle.spec.specs.Blocks.{IsClashFree}
 use Rattle.edit_laws.specs.Changes.{add_of, drop_of}
 use Rattle.edit_laws.specs.Laws.Edits.{bytes_of}
 use Rattle.batch_laws.specs.Links.{Log, Top}
-use Rattle.rewrite.specs.Drafts.{shape_in}
-use Rattle.batch_edit.specs.States.{shapes_in}
 use Rattle.batch_edit.specs.Tops.{IsEnded}
 use Rattle.batch_edit.specs.Batches.{IsAnswer}
 

@@ -1,27 +1,25 @@
 -- A subtree that stops on its way to the edge.
-use Rattle.std.proofs.Common.{◌≡◌, ℕ, zero, suc, ◌+◌, ◌<◌, ◌≤◌, false, List, [], ◌∷◌, ◌++◌, length, take, drop, length-append, refl, sym, ap, subst, ◌∙◌, arith, Option}
-use Rattle.std.specs.declared.option.Option.TheVariants.{Some, None}
-use Rattle.std.proofs.lemmas.List.{append_assoc}
+use Rattle.std.proofs.Common.{◌≡◌, ℕ, suc, ◌+◌, false, List, [], ◌∷◌, ◌++◌, length, take, drop, length-append, refl, sym, ap, subst, ◌∙◌, arith, Option}
+use Rattle.std.specs.declared.option.Option.TheVariants.{Some}
 use Rattle.spec.specs.Tree.{Pair}
-use Rattle.spec.specs.NodeFormat.{Shape, LastLink, MoreLinks}
+use Rattle.spec.specs.NodeFormat.{Shape, MoreLinks}
 use Rattle.edit_laws.specs.Lawful.{HasKeys}
-use Rattle.edit_laws.specs.ShapeEdit.{last_link}
 use Rattle.rewrite.specs.declared.draft.RewriteFault.{RewriteFault}
 use Rattle.rewrite.specs.declared.draft.RewriteFault.TheVariants.{NotNode, NoMemory}
 use Rattle.rewrite.specs.Drafts.{IsFaultOfAll}
 use Rattle.rewrite.proofs.Cutting.{fault-on}
-use Rattle.batch_laws.specs.Links.{Rows, LinkEdge, LinkClear, LinkWaiting, LinkOpened, Log, and_then, ask, opening, closing, joined_row, noding, parting, subtreeing, rows_in_shape, link_edge}
-use Rattle.batch_laws.proofs.Earlier.{same-earlier, parting-earlier, noding-earlier}
+use Rattle.batch_laws.specs.Links.{Rows, LinkEdge, LinkOpened, Log, and_then, ask, opening, closing, joined_row, noding, parting, subtreeing, rows_in_shape}
+use Rattle.batch_laws.proofs.Earlier.{parting-earlier, noding-earlier}
 use Rattle.batch_edit.specs.declared.faults.Fault.{Fault}
 use Rattle.batch_edit.specs.declared.faults.Fault.TheVariants as faults
 use Rattle.batch_edit.specs.Edges.{edge_of, within, joined, around, is_clear}
-use Rattle.batch_edit.specs.States.{IsOpenAt, IsOnTheWay, IsArrived, IsJoined, IsCounted}
+use Rattle.batch_edit.specs.States.{IsOpenAt, IsOnTheWay, IsArrived, IsCounted}
 use Rattle.batch_edit.specs.Stops.{IsUnwritten, IsRefused, fault_of, IsStopped, IsUnread, IsOnward, all_closed, open_edge}
 use Rattle.batch_edit.proofs.Within.{subtree-within}
 use Rattle.batch_edit.proofs.Around.{around-more, part-through}
 use Rattle.batch_edit.proofs.Cuts.{snoc-same, cut-at, take-length}
 use Rattle.batch_edit.proofs.Making.{onto-same}
-use Rattle.batch_edit.proofs.Stopping.{empty-keys, Goes, Leads, leads-refused, leads-stopped, leads-same, leads-then, opened-leads, around-leads, from-stopped, refused-stopped, memory-stopped, asked-goes, asked-unread}
+use Rattle.batch_edit.proofs.Stopping.{empty-keys, Goes, leads-refused, leads-stopped, opened-leads, around-leads, from-stopped, refused-stopped, memory-stopped, asked-goes, asked-unread}
 
 -- ---- a node comes to some rows
 

@@ -1,5 +1,5 @@
 -- A top that isn't reached.
-use Rattle.std.proofs.Common.{◌≡◌, ℕ, zero, suc, ◌+◌, ◌<◌, ◌≤◌, List, [], ◌∷◌, ◌++◌, length, take, drop, length-append, refl, sym, ap, subst, ◌∙◌, arith, Option}
+use Rattle.std.proofs.Common.{◌≡◌, ℕ, suc, ◌+◌, ◌<◌, ◌≤◌, List, [], ◌∷◌, ◌++◌, length, take, drop, length-append, refl, sym, ap, subst, ◌∙◌, arith, Option}
 use Rattle.std.specs.declared.option.Option.TheVariants.{Some, None}
 use Rattle.std.specs.List.{AllByRecursion}
 use Rattle.spec.specs.NodeFormat.{Shape, LastLink, MoreLinks}
@@ -7,7 +7,7 @@ use Rattle.edit_laws.specs.Lawful.{HasKeys}
 use Rattle.rewrite.specs.declared.draft.RewriteFault.{RewriteFault}
 use Rattle.rewrite.specs.declared.draft.RewriteFault.TheVariants.{NotNode, NoMemory}
 use Rattle.rewrite.specs.Drafts.{IsFaultOf}
-use Rattle.batch_laws.specs.Links.{Rows, LinkEdge, LinkClear, LinkWaiting, LinkOpened, Log, Top, with_read, onto_links, closing, link_edge, new_top, topping, pruning, pruning_at}
+use Rattle.batch_laws.specs.Links.{Rows, LinkEdge, LinkClear, LinkWaiting, Log, Top, with_read, onto_links, closing, link_edge, new_top, topping, pruning, pruning_at}
 use Rattle.batch_laws.specs.Written.{IsEarlier, OnAnswer}
 use Rattle.batch_laws.proofs.Earlier.{topping-earlier}
 use Rattle.batch_edit.specs.declared.faults.Fault.{Fault}

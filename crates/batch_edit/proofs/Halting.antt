@@ -1,5 +1,5 @@
 -- A walk that stops.
-use Rattle.std.proofs.Common.{◌≡◌, ℕ, zero, suc, ◌-◌, ◌<◌, List, [], ◌∷◌, ◌++◌, length, drop, refl, sym, ap, subst, ◌∙◌, arith, Option}
+use Rattle.std.proofs.Common.{◌≡◌, ℕ, suc, ◌<◌, List, [], ◌∷◌, ◌++◌, length, drop, sym, ap, subst, ◌∙◌, arith, Option}
 use Rattle.std.specs.declared.option.Option.TheVariants.{Some, None}
 use Rattle.spec.specs.Tree.{Pair}
 use Rattle.spec.specs.NodeFormat.{Shape}
@@ -7,7 +7,7 @@ use Rattle.edit_laws.specs.Lawful.{HasKeys}
 use Rattle.batch_laws.specs.Batch.{Change, puts, if_put, entry}
 use Rattle.batch_laws.specs.Walking.{depth_of}
 use Rattle.batch_laws.specs.Links.{LinkEdge, Log, and_then, ask, pairing, pairs_in_turn, subtreeing, walking_node, walking}
-use Rattle.batch_laws.proofs.Earlier.{same-earlier, steps-earlier, pairs-earlier, walking_node-earlier, walking-earlier}
+use Rattle.batch_laws.proofs.Earlier.{steps-earlier, pairs-earlier, walking_node-earlier, walking-earlier}
 use Rattle.batch_edit.specs.declared.faults.Fault.{Fault}
 use Rattle.batch_edit.specs.declared.faults.Fault.TheVariants as faults
 use Rattle.batch_edit.specs.Agenda.{Later, Gap, Task, ToPair, ToGap, node_does, task_does, agenda_does, IsGoneOn}

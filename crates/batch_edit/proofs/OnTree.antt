@@ -1,5 +1,5 @@
 -- A batch on the tree with a root, from what the walk and the difference of blocks answer.
-use Rattle.std.proofs.Common.{◌≡◌, ℕ, zero, suc, max, ◌^◌, ◌+◌, ◌-◌, ◌*◌, ◌<◌, ◌≤◌, Bool, true, ◌&&◌, List, [], ◌∷◌, ◌++◌, length, map, take, get_or, Option, refl, sym, ap, subst, ◌∙◌, ◌⊎◌, inl, inr, arith}
+use Rattle.std.proofs.Common.{◌≡◌, ℕ, suc, max, ◌^◌, ◌+◌, ◌-◌, ◌*◌, ◌<◌, ◌≤◌, true, List, [], ◌∷◌, ◌++◌, length, map, take, get_or, Option, refl, sym, ap, subst, ◌∙◌, ◌⊎◌, inl, inr, arith}
 use Rattle.std.specs.Prelude.{Contains}
 use Rattle.std.specs.declared.option.Option.TheVariants.{Some, None}
 use Rattle.std.specs.List.{AllByRecursion}
@@ -8,14 +8,13 @@ use Rattle.std.proofs.lemmas.List.{length-map, take_more}
 use Rattle.std.proofs.lemmas.List.Elements.{Contains-append_left, Contains-append_right, Contains-append_cases}
 use Rattle.spec.specs.Cid.{IsDigest}
 use Rattle.spec.specs.Layer.{layer}
-use Rattle.spec.specs.Tree.{Pair, Node, top, top_layer}
-use Rattle.spec.specs.NodeFormat.{Shape, is_key, shape, shape_bytes, node_bytes}
+use Rattle.spec.specs.Tree.{Pair, top, top_layer}
+use Rattle.spec.specs.NodeFormat.{Shape, is_key, shape, shape_bytes}
 use Rattle.spec.specs.Blocks.{IsClashFree, nodes, root as root_of}
 use Rattle.spec.proofs.Bools.{both}
 use Rattle.spec.proofs.PathNodes.{top_layer-le}
 use Rattle.edit_laws.specs.Changes.{AreChanges, add_of, drop_of}
 use Rattle.edit_laws.specs.Laws.Edits.{bytes_of}
-use Rattle.edit_laws.specs.ShapeEdit.{layer_of_shape}
 use Rattle.edit_laws.specs.Sources.{shown_by}
 use Rattle.edit_laws.proofs.OverSource.{holds-top, free-source}
 use Rattle.edit_laws.proofs.PutTopShapes.{layer-shape}
@@ -23,7 +22,7 @@ use Rattle.edit.specs.Trees.{HasTree}
 use Rattle.edit.proofs.Putting.{add-few}
 use Rattle.batch_laws.specs.Batch.{Change, puts, changed, AreKeyed}
 use Rattle.batch_laws.specs.Links.{Log, Top, batch_from}
-use Rattle.batch_laws.specs.Previous.{values, previous_top}
+use Rattle.batch_laws.specs.Previous.{previous_top}
 use Rattle.batch_laws.specs.Trace.{batch_made, batch_read}
 use Rattle.batch_laws.specs.Laws.Sources.{IsBatchFrom}
 use Rattle.batch_laws.specs.Written.{AreWritten, OnAnswer}

@@ -8,9 +8,9 @@ use Rattle.edit_laws.specs.Lawful.{HasKeys}
 use Rattle.edit_laws.specs.ShapeEdit.{close_shapes}
 use Rattle.rewrite.specs.declared.draft.RewriteFault.{RewriteFault}
 use Rattle.rewrite.specs.declared.draft.RewriteFault.TheVariants.{NotNode, NoMemory}
-use Rattle.rewrite.specs.Drafts.{onto, IsFaultOf, IsFaultOfAll}
-use Rattle.batch_laws.specs.Links.{Rows, LinkEdge, LinkClear, LinkWaiting, LinkOpened, Log, and_then, ask, log_shown, with_read, onto_links, rows_in_shape, complete, closing, opening, opened_rows, link_edge, add_row, pairing}
-use Rattle.batch_laws.specs.Written.{AreWritten, IsEarlier, OnAnswer}
+use Rattle.rewrite.specs.Drafts.{IsFaultOf, IsFaultOfAll}
+use Rattle.batch_laws.specs.Links.{Rows, LinkEdge, LinkClear, LinkWaiting, LinkOpened, Log, and_then, ask, log_shown, onto_links, rows_in_shape, complete, closing, opening, opened_rows, link_edge, add_row, pairing}
+use Rattle.batch_laws.specs.Written.{IsEarlier, OnAnswer}
 use Rattle.batch_laws.proofs.Earlier.{closing-earlier, pairing-earlier, row-earlier, opening-earlier}
 use Rattle.edit_laws.specs.ShapeEdit.{last_link}
 use Rattle.batch_edit.specs.declared.faults.Fault.{Fault}
@@ -19,11 +19,11 @@ use Rattle.batch_edit.specs.Edges.{edge_of, within, under}
 use Rattle.batch_edit.specs.States.{IsOpenAt, IsCounted}
 use Rattle.batch_edit.specs.Stops.{IsUnwritten, IsRefused, fault_of, IsStopped, IsUnread, IsOnward, all_closed, open_edge}
 use Rattle.batch_edit.proofs.Closing.{closing-from}
-use Rattle.batch_edit.proofs.Cuts.{snoc-same, take-more, drop-end}
+use Rattle.batch_edit.proofs.Cuts.{snoc-same, drop-end}
 use Rattle.batch_edit.proofs.Making.{onto-same}
 use Rattle.batch_edit.proofs.Pairing.{counted-then}
 use Rattle.batch_edit.proofs.Within.{pair-within, within-under}
-use Rattle.batch_edit.proofs.Stopping.{empty-keys, Goes, Leads, leads-refused, leads-stopped, leads-same, leads-then, onward-leads, opened-leads, row-leads, under-leads, from-stopped, refused-stopped, memory-stopped, unread-stopped, within-leads}
+use Rattle.batch_edit.proofs.Stopping.{empty-keys, Goes, Leads, leads-stopped, leads-same, leads-then, opened-leads, under-leads, from-stopped, refused-stopped, memory-stopped, unread-stopped, within-leads}
 
 -- ---- what is complete
 

@@ -1,20 +1,19 @@
 -- Where a step stops, the whole that goes on from it stops too.
-use Rattle.std.proofs.Common.{◌≡◌, ℕ, zero, suc, ◌+◌, ◌<◌, ◌≤◌, List, [], ◌∷◌, ◌++◌, length, length-append, refl, sym, subst, arith, Option}
+use Rattle.std.proofs.Common.{◌≡◌, ℕ, zero, suc, ◌+◌, ◌<◌, ◌≤◌, List, [], ◌∷◌, length, length-append, refl, sym, subst, arith, Option}
 use Rattle.std.specs.declared.option.Option.TheVariants.{Some, None}
-use Rattle.spec.specs.Tree.{Pair}
 use Rattle.spec.specs.NodeFormat.{Shape, LastLink, MoreLinks}
 use Rattle.edit_laws.specs.Lawful.{HasKeys}
 use Rattle.edit_laws.specs.ShapeEdit.{last_link}
-use Rattle.batch_laws.specs.Links.{Rows, LinkEdge, LinkClear, LinkOpened, Log, and_then, ask, log_shown, with_read, opening, closing, add_row, under_rows, pairing, joined_row, rows_in_shape, link_edge}
-use Rattle.batch_laws.specs.Written.{AreWritten, IsEarlier, OnAnswer, GoesFrom}
-use Rattle.batch_laws.proofs.Earlier.{same-earlier, then-earlier, steps-earlier, under-earlier, row-earlier, opening-earlier, pairing-earlier}
+use Rattle.batch_laws.specs.Links.{Rows, LinkEdge, LinkOpened, Log, and_then, ask, log_shown, with_read, opening, closing, under_rows, joined_row, link_edge}
+use Rattle.batch_laws.specs.Written.{IsEarlier, OnAnswer, GoesFrom}
+use Rattle.batch_laws.proofs.Earlier.{same-earlier, then-earlier, steps-earlier, under-earlier, row-earlier, opening-earlier}
 use Rattle.rewrite.specs.declared.draft.RewriteFault.{RewriteFault}
 use Rattle.rewrite.specs.declared.draft.RewriteFault.TheVariants as drafts
 use Rattle.batch_edit.specs.declared.faults.Fault.{Fault}
 use Rattle.batch_edit.specs.declared.faults.Fault.TheVariants.{Missing, NotTree, NoMemory}
 use Rattle.batch_edit.specs.Edges.{edge_of, within, under, joined, around}
 use Rattle.batch_edit.specs.States.{IsCounted}
-use Rattle.batch_edit.specs.Stops.{IsUnwritten, IsRefused, fault_of, IsCause, IsStopped, IsUnshown, IsUnread, IsOnward, all_closed, open_edge}
+use Rattle.batch_edit.specs.Stops.{IsUnwritten, IsRefused, fault_of, IsCause, IsStopped, IsUnshown, IsUnread, IsOnward, open_edge}
 
 pub empty-keys : HasKeys (LastLink None)
 empty-keys = refl

@@ -11,7 +11,6 @@ use Rattle.edit_laws.specs.Laws.Edits.{bytes_of}
 use Rattle.edit.specs.Steps.{nodes_given}
 use Rattle.edit.specs.Trees.{OfTree}
 use Rattle.batch_laws.specs.Batch.{Change, changed}
-use Rattle.batch_laws.specs.Counts.{most_reads}
 use Rattle.batch_laws.specs.Links.{Log, Top, batch_from}
 use Rattle.batch_laws.specs.Previous.{values}
 use Rattle.batch_laws.specs.Trace.{batch_read}

@@ -1,4 +1,4 @@
-use Rattle.std.proofs.Common.{◌≡◌, ◌+◌, ◌-◌, true, false, ◌∷◌, drop, sym, subst, ◌∙◌, arith}
+use Rattle.std.proofs.Common.{◌≡◌, ◌+◌, ◌-◌, true, ◌∷◌, drop, sym, subst, ◌∙◌, arith}
 use Rattle.batch_edit.specs.Batches.{are_changes}
 use Rattle.batch_edit.proofs.Testing.{none-of, one-more, rest-of}
 use Rattle.batch_edit.proofs.applying.are_changes.Goals as goal

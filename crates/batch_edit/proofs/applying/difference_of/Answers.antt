@@ -1,11 +1,9 @@
-use Rattle.std.proofs.Common.{◌≡◌, ◌++◌, ℕ, List, map, sym, ap, ◌∙◌, subst, take, rules}
+use Rattle.std.proofs.Common.{◌≡◌, ◌++◌, ℕ, List, map, sym, ap, ◌∙◌, subst, take}
 use Rattle.std.specs.Arc.{arc_value}
 use Rattle.std.proofs.lemmas.List.{take-map}
-use Rattle.spec.specs.NodeFormat.{shape_bytes}
 use Rattle.spec.specs.Blocks.{IsClashFree}
 use Rattle.edit_laws.specs.Changes.{add_of, drop_of}
 use Rattle.edit_laws.specs.Laws.Edits.{bytes_of}
-use Rattle.edit.specs.Faults.{IsRefusal}
 use Rattle.batch_edit.specs.States.{shapes_in}
 use Rattle.batch_edit.proofs.applying.difference_of.Goals as goal
 

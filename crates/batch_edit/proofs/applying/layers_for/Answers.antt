@@ -1,5 +1,4 @@
-use Rattle.std.proofs.Common.{◌≤◌, ◌∷◌, [], arith}
-use Rattle.spec.specs.Layer.{layer}
+use Rattle.std.proofs.Common.{arith}
 use Rattle.batch_edit.proofs.OnTree.{layer-fits}
 use Rattle.batch_edit.proofs.applying.layers_for.Goals as goal
 

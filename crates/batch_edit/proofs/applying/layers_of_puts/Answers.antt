@@ -1,4 +1,4 @@
-use Rattle.std.proofs.Common.{◌≡◌, rules}
+use Rattle.std.proofs.Common.{rules}
 use Rattle.spec.specs.Layer.{layer}
 use Rattle.batch_edit.proofs.OnTree.{layers-step}
 use Rattle.batch_edit.proofs.applying.layers_of_puts.Goals as goal

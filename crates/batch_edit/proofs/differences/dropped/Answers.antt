@@ -1,4 +1,4 @@
-use Rattle.std.proofs.Common.{◌≡◌, List, map, rules, true, false, sym, ap, ◌∙◌}
+use Rattle.std.proofs.Common.{◌≡◌, map, rules, true, false, sym, ap, ◌∙◌}
 use Rattle.std.specs.Arc.{arc_value}
 use Rattle.spec.specs.Cid.{cid}
 use Rattle.edit_laws.specs.Changes.{has_cid}

@@ -1,4 +1,4 @@
-use Rattle.std.proofs.Common.{◌≡◌, arith, sym, subst, IfOk, IfErr, ap}
+use Rattle.std.proofs.Common.{◌≡◌, arith, sym, subst, IfOk}
 use Rattle.batch_edit.specs.States.{log_in, shapes_in}
 use Rattle.batch_edit.proofs.Closing.{closing-from}
 use Rattle.std.proofs.lemmas.Result.{err_from_is_err_and, IfErr-weaker}

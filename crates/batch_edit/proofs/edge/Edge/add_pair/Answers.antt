@@ -1,8 +1,7 @@
 use Rattle.std.proofs.lemmas.Result.{err_from_is_err_and}
 use Rattle.rewrite.specs.Drafts.{pair_of}
 use Rattle.batch_edit.specs.States.{log_in}
-use Rattle.batch_edit.proofs.Refusing.{row-refused, closed-then-row}
-use Rattle.batch_edit.proofs.Stopping.{leads-refused}
+use Rattle.batch_edit.proofs.Refusing.{row-refused}
 use Rattle.batch_edit.proofs.edge.Edge.add_pair.Goals as goal
 
 pub returns-in_err-level-clause-fault : goal.returns-in_err-level-clause-fault

@@ -1,7 +1,7 @@
 use Rattle.std.proofs.Common.{◌≡◌, ◌<◌, ◌-◌, refl, sym, ap, ◌∙◌, subst, arith, length, suc}
 use Rattle.spec.specs.Layer.{layer as layer_of}
 use Rattle.edit.specs.Steps.{nodes_given}
-use Rattle.batch_laws.specs.Links.{subtreeing, ask}
+use Rattle.batch_laws.specs.Links.{subtreeing}
 use Rattle.batch_edit.specs.Edges.{edge_of}
 use Rattle.batch_edit.specs.Agenda.{ToGap, IsDone}
 use Rattle.batch_edit.specs.Agendas.{agenda_of, gap_of}

@@ -1,5 +1,5 @@
 use Rattle.std.proofs.lemmas.Result.{err_from_is_err_and}
-use Rattle.std.proofs.Common.{◌++◌, [], ap, subst}
+use Rattle.std.proofs.Common.{◌++◌, subst}
 use Rattle.edit.specs.Steps.{nodes_given}
 use Rattle.rewrite.specs.Drafts.{IsFaultOfAll}
 use Rattle.batch_laws.specs.Links.{rows_in_shape}

@@ -1,10 +1,9 @@
-use Rattle.std.proofs.Common.{◌∙◌, subst, arith, ◌≡◌}
+use Rattle.std.proofs.Common.{◌∙◌, subst, arith}
 use Rattle.edit.specs.Steps.{nodes_given}
 use Rattle.batch_edit.specs.States.{edge_in, log_in, IsOpened}
 use Rattle.batch_edit.proofs.Pairing.{counted-then, keeps-opened}
 use Rattle.std.proofs.lemmas.Result.{err_from_is_err_and}
 use Rattle.batch_laws.specs.Links.{opening, link_edge}
-use Rattle.batch_edit.specs.Edges.{within}
 use Rattle.batch_edit.specs.Stops.{IsStopped, open_edge}
 use Rattle.batch_edit.proofs.Refusing.{within-stopped}
 use Rattle.batch_edit.proofs.edge.Edge.open_to.Goals as goal

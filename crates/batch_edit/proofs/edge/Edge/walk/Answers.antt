@@ -1,4 +1,4 @@
-use Rattle.std.proofs.Common.{◌++◌, Some, ap, ◌∙◌, subst, arith, sym}
+use Rattle.std.proofs.Common.{◌++◌, Some, ap, ◌∙◌, subst, arith}
 use Rattle.spec.specs.Layer.{layer as layer_of}
 use Rattle.edit.specs.Steps.{nodes_given}
 use Rattle.batch_edit.specs.Agenda.{IsDone, agenda_does, agenda_meets, node_does, task_does}

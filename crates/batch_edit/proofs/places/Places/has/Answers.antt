@@ -1,4 +1,4 @@
-use Rattle.std.proofs.Common.{◌≡◌, Option, sym, ◌∙◌, refl, rules}
+use Rattle.std.proofs.Common.{◌∙◌}
 use Rattle.batch_edit.proofs.Placed.{is-there}
 use Rattle.batch_edit.proofs.places.Places.has.Goals as goal
 
