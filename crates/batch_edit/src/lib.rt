@@ -7,9 +7,24 @@
 //! subtree waits until something else comes into its gap, and is opened then. So a split, a merge, a raised top and a
 //! pruned one are nothing of their own.
 //!
-//! [`Change`] is a key with its new value, or none where the key goes. `whole` changes a tree from its root to its new root.
-//! Its contract says what the new root is, what was read and made, what a fault means, and that no more was read by then
-//! than the answer would have read. A call over it, which says what comes and what goes, isn't there yet.
+//! - [`Change`] is a key with its new value, or none where the key goes. [`are_changes`] tells whether a batch takes some.
+//! - [`apply`] changes the tree with a root, wherever its blocks are kept, and answers a [`BatchEdit`]: the root after it, the
+//!   blocks to add, the CIDs to drop, and what each key had. A [`BatchFault`] says why there is none; where the source lacks a
+//!   block, it has its CID, so that who has the block elsewhere can add it and call again.
+//!
+//! Use it where several keys change: of a node that many of them change it makes one new node, where a put or a delete for
+//! each would make one each time. For one key `edit::put` and `edit::delete` do the same work in less time.
+//!
+//! ```text
+//! let changes = [Change { key, value: Some(cid) }, Change { key: other, value: None }];
+//! if are_changes(&changes) {
+//!     let edit = apply::<Sha256, 2, _, _>(alloc, &mut source, root, &changes)?;
+//! }
+//! ```
+//!
+//! `walk` is the one side, over the `changes` around each key; `edge`, with a `level` for each layer, `joining` and `tops`
+//! are the other. `whole` puts them together, `differences` compares what was read with what was made, and `applying` is
+//! the call.
 #![tactic(auto)]
 
 mod applying;
