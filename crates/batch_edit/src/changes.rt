@@ -2,8 +2,10 @@
 
 ghost use Rattle.std.specs.Prelude.{◌≡◌, ◌≤◌, true, false, length, drop};
 ghost use Rattle.batch_edit.specs.Places.{are_ascending, is_first_before, IsPlace, IsAround};
+ghost use Rattle.batch_edit.specs.Batches.{are_changes as are_changes_of};
 
 use cid::Cid;
+use node::is_key;
 use std::alloc::{Allocator, Global};
 use std::marker::Model;
 
@@ -38,6 +40,21 @@ impl<A: Allocator> Change<A> {
     {
         self.value
     }
+}
+
+/// Whether the keys of some changes have 1 to 1,024 bytes and ascend strictly.
+pub fn are_changes<A: Allocator>(changes: &[Change<A>]) -> bool
+    ensures { result ≡ are_changes_of changes.now }
+{
+    let mut before: &[u8] = b"";
+    for change in changes {
+        let key = change.key();
+        if !is_key(key) || !before.cmp(key).is_lt() {
+            return false;
+        }
+        before = key;
+    }
+    true
 }
 
 /// The changes before a key, what the one at it makes of its value, and the changes after it.

@@ -26,5 +26,5 @@ mod walk;
 mod whole;
 
 pub use applying::apply;
-pub use changes::Change;
+pub use changes::{Change, are_changes};
 pub use outcome::{BatchEdit, BatchFault};
