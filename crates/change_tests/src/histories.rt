@@ -92,7 +92,39 @@ fn random_batch(
     Ok(changes)
 }
 
-/// Whether a batch, and the same changes one by one, both leave the tree from scratch.
+/// Whether so many batches leave the tree from scratch, each.
+fn agrees<D: Digest, const B: u8>(alloc: Global, seed: u64, batches: u32) -> bool
+    requires least { 1 ≤ B }
+    requires most { B ≤ 8 }
+{
+    let mut numbers = Numbers { state: seed };
+    let Some(mut history) = begin::<D, B>(alloc, Vec::new(alloc)) else {
+        return false;
+    };
+    for _ in 0..batches {
+        match random_batch(alloc, &mut numbers, &history.pairs) {
+            Ok(changes) if history.batch::<B>(alloc, &changes) => {}
+            _ => return false,
+        }
+    }
+    true
+}
+
+#[test]
+fn histories_under_the_toy_digest(rt: HostRuntime) {
+    let ones = agrees::<Toy, 1>(rt.alloc(), 1, 80);
+    let twos = agrees::<Toy, 2>(rt.alloc(), 2, 80);
+    assert!(rt; ones && twos && agrees::<Toy, 8>(rt.alloc(), 3, 80));
+}
+
+#[test]
+fn histories_under_sha_256(rt: HostRuntime) {
+    let ones = agrees::<Sha256, 1>(rt.alloc(), 4, 80);
+    let twos = agrees::<Sha256, 2>(rt.alloc(), 5, 80);
+    assert!(rt; ones && twos && agrees::<Sha256, 8>(rt.alloc(), 6, 80));
+}
+
+/// Whether a batch leaves the tree from scratch, and the same changes one by one leave that root.
 fn step<D: Digest, const B: u8>(
     alloc: Global,
     numbers: &mut Numbers,
@@ -112,8 +144,8 @@ fn step<D: Digest, const B: u8>(
     }
 }
 
-/// Whether a history of so many batches does so at each step.
-fn agrees<D: Digest, const B: u8>(alloc: Global, seed: u64, batches: u32) -> bool
+/// Whether so many batches do so.
+fn agrees_with_singles<D: Digest, const B: u8>(alloc: Global, seed: u64, batches: u32) -> bool
     requires least { 1 ≤ B }
     requires most { B ≤ 8 }
 {
@@ -133,15 +165,8 @@ fn agrees<D: Digest, const B: u8>(alloc: Global, seed: u64, batches: u32) -> boo
 }
 
 #[test]
-fn histories_under_the_toy_digest(rt: HostRuntime) {
-    let ones = agrees::<Toy, 1>(rt.alloc(), 1, 4);
-    let twos = agrees::<Toy, 2>(rt.alloc(), 2, 4);
-    assert!(rt; ones && twos && agrees::<Toy, 8>(rt.alloc(), 3, 4));
-}
-
-#[test]
-fn histories_under_sha_256(rt: HostRuntime) {
-    let ones = agrees::<Sha256, 1>(rt.alloc(), 4, 4);
-    let twos = agrees::<Sha256, 2>(rt.alloc(), 5, 4);
-    assert!(rt; ones && twos && agrees::<Sha256, 8>(rt.alloc(), 6, 4));
+fn the_same_changes_one_by_one(rt: HostRuntime) {
+    let toys = agrees_with_singles::<Toy, 2>(rt.alloc(), 7, 20);
+    let ones = agrees_with_singles::<Sha256, 1>(rt.alloc(), 8, 20);
+    assert!(rt; toys && ones && agrees_with_singles::<Sha256, 2>(rt.alloc(), 9, 20));
 }

@@ -2,6 +2,8 @@
 #![tactic(auto)]
 
 #[cfg(test)]
+mod faults;
+#[cfg(test)]
 mod fixtures;
 #[cfg(test)]
 mod high_layers;
@@ -13,8 +15,6 @@ mod history;
 mod memory;
 #[cfg(test)]
 mod missing;
-#[cfg(test)]
-mod no_trees;
 #[cfg(test)]
 mod plain;
 #[cfg(test)]

@@ -13,20 +13,20 @@ use std::sync::Arc;
 
 /// Changes, and the trees before and after them.
 #[derive(Drop)]
-struct Given {
+struct Batch {
     changes: Vec<Change>,
     before: Built<Toy>,
     after: Built<Toy>,
 }
 
 /// Twenty changes of a tree of 32 keys.
-fn given(alloc: Global) -> Option<Given> {
+fn twenty_of_32(alloc: Global) -> Option<Batch> {
     let mut pairs = thirty_two_pairs(alloc)?;
     let changes = twenty_changes(alloc).ok()?;
     let before = tree_of::<Toy, 2>(alloc, &pairs)?;
     change_pairs(alloc, &mut pairs, &changes).ok()?;
     let after = tree_of::<Toy, 2>(alloc, &pairs)?;
-    Some(Given {
+    Some(Batch {
         changes,
         before,
         after,
@@ -41,12 +41,12 @@ enum Ended {
 }
 
 /// How the batch ends over a source of these blocks alone, and after how many reads; none where it ends otherwise.
-fn end_over(alloc: Global, given: &Given, blocks: &[Arc<Block<Toy>>]) -> Option<(Ended, u64)> {
-    let Given {
+fn end_over(alloc: Global, batch: &Batch, blocks: &[Arc<Block<Toy>>]) -> Option<(Ended, u64)> {
+    let Batch {
         changes,
         before,
         after,
-    } = given;
+    } = batch;
     match applied::<Toy, 2>(alloc, blocks, before.root, changes) {
         Some((Err(BatchFault::Missing(cid)), reads)) => Some((Ended::Missing(cid), reads)),
         Some((Ok(edit), reads)) if leaves(alloc, &before.blocks, &edit, after) => {
@@ -57,21 +57,21 @@ fn end_over(alloc: Global, given: &Given, blocks: &[Arc<Block<Toy>>]) -> Option<
 }
 
 /// Whether the batch ends for want of the block with this CID, or doesn't need it and is right.
-fn is_right_without(alloc: Global, given: &Given, cid: Cid) -> bool {
+fn is_right_without(alloc: Global, batch: &Batch, cid: Cid) -> bool {
     let mut others = Vec::new(alloc);
-    if add_others(&mut others, &given.before.blocks, &[cid]).is_err() {
+    if add_others(&mut others, &batch.before.blocks, &[cid]).is_err() {
         return false;
     }
-    match end_over(alloc, given, &others) {
+    match end_over(alloc, batch, &others) {
         Some((ended, _)) => ended == Ended::Right || ended == Ended::Missing(cid),
         None => false,
     }
 }
 
 /// Whether that is so of each block of the tree.
-fn is_right_without_each(alloc: Global, given: &Given) -> bool {
-    for block in &given.before.blocks {
-        if !is_right_without(alloc, given, block.cid()) {
+fn is_right_without_each(alloc: Global, batch: &Batch) -> bool {
+    for block in &batch.before.blocks {
+        if !is_right_without(alloc, batch, block.cid()) {
             return false;
         }
     }
@@ -80,8 +80,8 @@ fn is_right_without_each(alloc: Global, given: &Given) -> bool {
 
 #[test]
 fn sources_that_lack_one_block(rt: HostRuntime) {
-    let given = given(rt.alloc()).expect(&rt, "a batch");
-    assert!(rt; is_right_without_each(rt.alloc(), &given));
+    let batch = twenty_of_32(rt.alloc()).expect(&rt, "a batch");
+    assert!(rt; is_right_without_each(rt.alloc(), &batch));
 }
 
 /// Adds the block with this CID, of which there is none so far, and answers whether the tree has it.
@@ -104,13 +104,13 @@ fn add_block(
 
 /// Whether the batch ends at last, over a source that has no block at first and is given each that it lacks: with as many
 /// reads as blocks were given.
-fn is_done_at_last(alloc: Global, given: &Given) -> bool {
+fn is_done_at_last(alloc: Global, batch: &Batch) -> bool {
     let mut blocks = Vec::new(alloc);
-    for _ in 0..=given.before.blocks.len() {
-        match end_over(alloc, given, &blocks) {
+    for _ in 0..=batch.before.blocks.len() {
+        match end_over(alloc, batch, &blocks) {
             Some((Ended::Right, reads)) => return reads == blocks.len() as u64,
             Some((Ended::Missing(cid), _)) => {
-                if add_block(&mut blocks, &given.before.blocks, cid) != Ok(true) {
+                if add_block(&mut blocks, &batch.before.blocks, cid) != Ok(true) {
                     return false;
                 }
             }
@@ -122,6 +122,6 @@ fn is_done_at_last(alloc: Global, given: &Given) -> bool {
 
 #[test]
 fn a_source_that_is_given_what_it_lacks(rt: HostRuntime) {
-    let given = given(rt.alloc()).expect(&rt, "a batch");
-    assert!(rt; is_done_at_last(rt.alloc(), &given));
+    let batch = twenty_of_32(rt.alloc()).expect(&rt, "a batch");
+    assert!(rt; is_done_at_last(rt.alloc(), &batch));
 }

@@ -1,4 +1,4 @@
-//! Batches over blocks that are no tree.
+//! Batches over blocks that are no tree, or clash.
 
 use crate::fixtures::{Blocks, applied, change, value};
 use batch_edit::{BatchFault, Change};
@@ -39,6 +39,7 @@ fn add<D: Digest>(
 enum Ended {
     Done(Cid),
     NotTree,
+    Clash,
     Otherwise,
 }
 
@@ -52,6 +53,7 @@ fn end_of<D: Digest>(
     match applied::<D, 2>(alloc, blocks, root, &[change]) {
         Some((Ok(edit), reads)) => (Ended::Done(edit.root), reads),
         Some((Err(BatchFault::NotTree), reads)) => (Ended::NotTree, reads),
+        Some((Err(BatchFault::Clash(_)), reads)) => (Ended::Clash, reads),
         Some((Err(_), reads)) => (Ended::Otherwise, reads),
         None => (Ended::Otherwise, 0),
     }
@@ -136,11 +138,10 @@ fn is_refused<D: Digest>(
     ended == Ended::NotTree && reads <= most
 }
 
-/// Whether puts before, at and behind the key of a node that links to itself end so, and its delete.
-fn are_refused<D: Digest>(alloc: Global, blocks: &[Arc<Block<D>>], root: Cid, most: u64) -> bool {
-    is_refused(alloc, blocks, root, b"a/r0", Some(2), most)
-        && is_refused(alloc, blocks, root, b"a/r3", Some(2), most)
-        && is_refused(alloc, blocks, root, b"a/q3", None, most)
+/// Whether a put and a delete over a node without keys that links to itself end so.
+fn are_refused(alloc: Global, blocks: &[Arc<Block<Clash>>], root: Cid) -> bool {
+    is_refused(alloc, blocks, root, b"a/q2", Some(2), 1)
+        && is_refused(alloc, blocks, root, b"a/q2", None, 1)
 }
 
 /// A node that links to itself and has no key: under this digest all blocks have one CID.
@@ -153,7 +154,7 @@ fn add_empty_loop(alloc: Global, blocks: &mut Blocks<Clash>) -> Result<Cid, Allo
 fn a_node_that_links_to_itself(rt: HostRuntime) {
     let mut blocks = Vec::new(rt.alloc());
     let root = add_empty_loop(rt.alloc(), &mut blocks).expect(&rt, "a block");
-    assert!(rt; are_refused(rt.alloc(), &blocks, root, 1));
+    assert!(rt; are_refused(rt.alloc(), &blocks, root));
 }
 
 /// A node of layer 3 that links to itself behind its key: under this digest nodes of one length have one CID.
@@ -163,9 +164,34 @@ fn add_loop(alloc: Global, blocks: &mut Blocks<Size>) -> Result<Cid, AllocError>
     add(alloc, blocks, node(alloc, None, b"a/q3", Some(root))?)
 }
 
+/// Whether puts behind the key of a node that links to itself, over two layers or at its own one, end so.
+fn puts_are_refused(alloc: Global, blocks: &[Arc<Block<Size>>], root: Cid) -> bool {
+    is_refused(alloc, blocks, root, b"a/r0", Some(2), 4)
+        && is_refused(alloc, blocks, root, b"a/r3", Some(2), 4)
+}
+
 #[test]
 fn a_node_of_a_high_layer_that_links_to_itself(rt: HostRuntime) {
     let mut blocks = Vec::new(rt.alloc());
     let root = add_loop(rt.alloc(), &mut blocks).expect(&rt, "a block");
-    assert!(rt; are_refused(rt.alloc(), &blocks, root, 9));
+    assert!(rt; puts_are_refused(rt.alloc(), &blocks, root));
+    assert!(rt; end(rt.alloc(), &blocks, root, b"a/q3", Some(2)) == (Ended::Clash, 1));
+}
+
+/// A node of two keys. Under this digest the nodes of each of them alone, which have one length, have one CID.
+fn add_two(alloc: Global, blocks: &mut Blocks<Size>) -> Result<Cid, AllocError> {
+    let mut writer = NodeWriter::begin(alloc, None)?;
+    for key in [b"a/p0", b"a/r0"] {
+        if writer.is_next(key) {
+            writer.entry(key, CidRef::from(&value(1)), None)?;
+        }
+    }
+    add(alloc, blocks, writer.finish()?)
+}
+
+#[test]
+fn a_clash_of_the_two_sides_of_a_put(rt: HostRuntime) {
+    let mut blocks = Vec::new(rt.alloc());
+    let root = add_two(rt.alloc(), &mut blocks).expect(&rt, "a block");
+    assert!(rt; end(rt.alloc(), &blocks, root, b"a/q2", Some(1)) == (Ended::Clash, 1));
 }
