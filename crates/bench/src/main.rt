@@ -176,22 +176,29 @@ fn print_get(rt: &HostRuntime, count: u32, rounds: u32) -> io::Result<()> {
 fn print_edit(rt: &HostRuntime, count: u32, rounds: u32) -> io::Result<()> {
     let plan = Plan::usual(rt.alloc(), count)?;
     match edits::measure(rt, rt.alloc(), &plan, rounds) {
-        Some(edits) => print_edits(rt, &edits),
-        None => println!(rt; "refused"),
+        Some(edits) => print_edits(rt, &edits)?,
+        None => println!(rt; "refused")?,
     }
+    for size in [1, 10, 100, 1_000, 10_000] {
+        match edits::measure_batches(rt, rt.alloc(), &plan, size, rounds) {
+            Some(turn) => print_turn(rt, "put", &turn, size)?,
+            None => println!(rt; "refused")?,
+        }
+    }
+    Ok(())
 }
 
 fn print_edits(rt: &HostRuntime, edits: &Edits) -> io::Result<()> {
-    print_turn(rt, "put", &edits.puts)?;
-    print_turn(rt, "delete of what was put", &edits.undone)?;
-    print_turn(rt, "delete of a first key", &edits.deletes)
+    print_turn(rt, "put", &edits.puts, 1)?;
+    print_turn(rt, "delete of what was put", &edits.undone, 1)?;
+    print_turn(rt, "delete of a first key", &edits.deletes, 1)
 }
 
 /// Prints what the edits of one kind did.
-fn print_turn(rt: &HostRuntime, name: &str, turn: &Turn) -> io::Result<()> {
+fn print_turn(rt: &HostRuntime, name: &str, turn: &Turn, size: usize) -> io::Result<()> {
     let done = &turn.done;
     println!(rt;
-        "{name}: {} edits, {} blocks read, {} added, {} dropped, {} ns an edit at the least",
+        "{name}, {size} at once: {} edits, {} blocks read, {} added, {} dropped, {} ns an edit at the least",
         done.edits,
         done.reads,
         done.added,
