@@ -50,13 +50,14 @@ fn end_of<D: Digest>(
     root: Cid,
     change: Change,
 ) -> (Ended, u64) {
-    match applied::<D, 2>(alloc, blocks, root, &[change]) {
-        Some((Ok(edit), reads)) => (Ended::Done(edit.root), reads),
-        Some((Err(BatchFault::NotTree), reads)) => (Ended::NotTree, reads),
-        Some((Err(BatchFault::Clash(_)), reads)) => (Ended::Clash, reads),
-        Some((Err(_), reads)) => (Ended::Otherwise, reads),
-        None => (Ended::Otherwise, 0),
-    }
+    let (answer, reads) = applied::<D, 2>(alloc, blocks, root, &[change]);
+    let ended = match answer {
+        Ok(edit) => Ended::Done(edit.root),
+        Err(BatchFault::NotTree) => Ended::NotTree,
+        Err(BatchFault::Clash(_)) => Ended::Clash,
+        Err(_) => Ended::Otherwise,
+    };
+    (ended, reads)
 }
 
 /// How a put of a key's second value, or its delete, ends.

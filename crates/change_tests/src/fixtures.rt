@@ -88,24 +88,25 @@ pub(crate) fn tree_of<D: Digest, const B: u8>(
     build::<D, B, Vec<u8>, _>(alloc, pairs).ok()
 }
 
-/// What a batch over these blocks answers, and how many of them were read for it; or none where these are no changes.
+/// What a batch over these blocks answers, and how many of them were read for it. What are no changes is answered as if there
+/// were no memory.
 pub(crate) fn applied<D: Digest, const B: u8>(
     alloc: Global,
     blocks: &[Arc<Block<D>>],
     root: Cid,
     changes: &[Change],
-) -> Option<(Result<BatchEdit<D>, BatchFault<D>>, u64)>
+) -> (Result<BatchEdit<D>, BatchFault<D>>, u64)
     requires least { 1 ≤ B }
     requires most { B ≤ 8 }
 {
     if !are_changes(changes) {
-        return None;
+        return (Err(BatchFault::NoMemory), 0);
     }
     let Ok(mut map) = BlockMap::new(alloc, blocks) else {
-        return None;
+        return (Err(BatchFault::NoMemory), 0);
     };
     let answer = apply::<D, B, _, _>(alloc, &mut map, root, changes);
-    Some((answer, map.reads()))
+    (answer, map.reads())
 }
 
 /// The CIDs of some blocks, sorted.

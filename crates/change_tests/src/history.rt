@@ -63,11 +63,12 @@ impl<D: Digest> History<D> {
         requires least { 1 ≤ B }
         requires most { B ≤ 8 }
     {
-        match applied::<D, B>(alloc, &self.blocks, self.root, changes) {
-            Some((Ok(edit), reads)) => {
+        let (answer, reads) = applied::<D, B>(alloc, &self.blocks, self.root, changes);
+        match answer {
+            Ok(edit) => {
                 reads <= most && edit.previous.as_slice() == previous && self.take(alloc, &edit)
             }
-            _ => false,
+            Err(_) => false,
         }
     }
 

@@ -42,17 +42,18 @@ enum Ended {
 
 /// How the batch ends over a source of these blocks alone, and after how many reads; none where it ends otherwise.
 fn end_over(alloc: Global, batch: &Batch, blocks: &[Arc<Block<Toy>>]) -> Option<(Ended, u64)> {
-    let Batch {
-        changes,
-        before,
-        after,
-    } = batch;
-    match applied::<Toy, 2>(alloc, blocks, before.root, changes) {
-        Some((Err(BatchFault::Missing(cid)), reads)) => Some((Ended::Missing(cid), reads)),
-        Some((Ok(edit), reads)) if leaves(alloc, &before.blocks, &edit, after) => {
-            Some((Ended::Right, reads))
+    let before = &batch.before;
+    let (answer, reads) = applied::<Toy, 2>(alloc, blocks, before.root, &batch.changes);
+    match answer {
+        Ok(edit) => {
+            if leaves(alloc, &before.blocks, &edit, &batch.after) {
+                Some((Ended::Right, reads))
+            } else {
+                None
+            }
         }
-        _ => None,
+        Err(BatchFault::Missing(cid)) => Some((Ended::Missing(cid), reads)),
+        Err(_) => None,
     }
 }
 

@@ -367,9 +367,10 @@ fn edits_as(
     ) else {
         return false;
     };
-    match applied::<Toy, 2>(alloc, blocks, root, &changes) {
-        Some((Ok(edit), _)) => is_of_row(alloc, nodes, row, &edit),
-        _ => false,
+    let (answer, _) = applied::<Toy, 2>(alloc, blocks, root, &changes);
+    match answer {
+        Ok(edit) => is_of_row(alloc, nodes, row, &edit),
+        Err(_) => false,
     }
 }
 
