@@ -60,9 +60,9 @@ fn comes_first<A: Allocator>(change: &Change<A>, others: &[Change<A>]) -> bool
 ///
 /// The source has all nodes of the tree. Then `BatchFault::Clash` shows two blocks with one CID and different bytes, each a
 /// node of the tree before or of the tree after, and `BatchFault::NoMemory` comes where memory was refused. Where the source
-/// lacks a node that is needed, `BatchFault::Missing` has its CID, so that who has it elsewhere can add it and call again;
-/// where it gives what is no tree, the fault is `BatchFault::NotTree`. After a refusal nothing has changed: the blocks are
-/// for the caller to keep.
+/// lacks a node that is needed, `BatchFault::Missing` has its CID, so that who has it elsewhere can add it and call again.
+/// `BatchFault::NotTree` comes only where the source gives what is no tree; not all of that is noticed, as only what the
+/// changes need is read. After a refusal nothing has changed: the blocks are for the caller to keep.
 pub fn apply<'a, D: Digest + 'a, const B: u8, A: Allocator + Clone + 'a, S: Source<Lent<'a, D, A>>>(
     alloc: A,
     src: &mut S,
