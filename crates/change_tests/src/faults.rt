@@ -1,7 +1,7 @@
 //! Batches over blocks that are no tree, or clash.
 
 use crate::fixtures::{Blocks, applied, change, value};
-use batch_edit::{BatchFault, Change};
+use batch_edit::{BatchEdit, BatchFault, Change};
 use cid::digests::{Clash, Size, Toy};
 use cid::{Block, Cid, CidRef, Digest};
 use node::NodeWriter;
@@ -37,10 +37,20 @@ fn add<D: Digest>(
 /// How a batch ended.
 #[derive(Clone, Copy, PartialEq, Eq)]
 enum Ended {
-    Done(Cid),
+    Done,
     NotTree,
     Clash,
     Otherwise,
+}
+
+/// How a batch ended that answered this.
+fn ended_of<D: Digest>(answer: Result<BatchEdit<D>, BatchFault<D>>) -> Ended {
+    match answer {
+        Ok(_) => Ended::Done,
+        Err(BatchFault::NotTree) => Ended::NotTree,
+        Err(BatchFault::Clash(_)) => Ended::Clash,
+        Err(_) => Ended::Otherwise,
+    }
 }
 
 /// How a batch of one change ends, and after how many reads.
@@ -51,13 +61,7 @@ fn end_of<D: Digest>(
     change: Change,
 ) -> (Ended, u64) {
     let (answer, reads) = applied::<D, 2>(alloc, blocks, root, &[change]);
-    let ended = match answer {
-        Ok(edit) => Ended::Done(edit.root),
-        Err(BatchFault::NotTree) => Ended::NotTree,
-        Err(BatchFault::Clash(_)) => Ended::Clash,
-        Err(_) => Ended::Otherwise,
-    };
-    (ended, reads)
+    (ended_of(answer), reads)
 }
 
 /// How a put of a key's second value, or its delete, ends.
@@ -91,10 +95,7 @@ fn find_no_node(alloc: Global, blocks: &[Arc<Block<Toy>>], other: Cid, root: Cid
 
 /// Whether a batch that doesn't need it is done: an update of the key.
 fn does_without(alloc: Global, blocks: &[Arc<Block<Toy>>], root: Cid) -> bool {
-    match end(alloc, blocks, root, b"a/q2", Some(2)) {
-        (Ended::Done(after), reads) => after != root && reads == 1,
-        _ => false,
-    }
+    end(alloc, blocks, root, b"a/q2", Some(2)) == (Ended::Done, 1)
 }
 
 #[test]

@@ -2,13 +2,13 @@
 
 use crate::fixtures::{thirty_two_pairs, tree_of, twenty_changes};
 use crate::plain::change_pairs;
-use batch_edit::{BatchFault, Change, apply, are_changes};
-use cid::Cid;
+use batch_edit::{BatchEdit, BatchFault, Change, apply, are_changes};
 use cid::digests::Toy;
+use cid::{Cid, Digest};
 use edit::BlockMap;
 use refusing::Refusing;
 use scratch::{Built, build, is_ascending};
-use std::alloc::Global;
+use std::alloc::{Allocator, Global};
 
 /// Memory that refuses requests, as blocks are kept in it.
 type Heap<'h> = &'h Refusing<Global>;
@@ -16,26 +16,41 @@ type Heap<'h> = &'h Refusing<Global>;
 /// How a batch ended.
 #[derive(Clone, Copy, PartialEq, Eq)]
 enum Ended {
-    Done(Cid),
+    Done,
     NoMemory,
     Otherwise,
 }
 
+/// How a batch ended that answered this, and should leave this root.
+fn ended_of<D: Digest, A: Allocator>(
+    answer: Result<BatchEdit<D, A>, BatchFault<D, A>>,
+    after: Cid,
+) -> Ended {
+    match answer {
+        Ok(edit) => {
+            if edit.root == after {
+                Ended::Done
+            } else {
+                Ended::Otherwise
+            }
+        }
+        Err(BatchFault::NoMemory) => Ended::NoMemory,
+        Err(_) => Ended::Otherwise,
+    }
+}
+
 /// How a batch over these blocks ends.
-fn batch_end<'h>(
-    heap: Heap<'h>,
-    map: &mut BlockMap<'_, Toy, Heap<'h>>,
+fn batch_end<D: Digest, A: Allocator + Clone>(
+    alloc: A,
+    map: &mut BlockMap<'_, D, A>,
     root: Cid,
-    changes: &[Change<Heap<'h>>],
+    changes: &[Change<A>],
+    after: Cid,
 ) -> Ended {
     if !are_changes(changes) {
         return Ended::Otherwise;
     }
-    match apply::<Toy, 2, _, _>(heap, map, root, changes) {
-        Ok(edit) => Ended::Done(edit.root),
-        Err(BatchFault::NoMemory) => Ended::NoMemory,
-        Err(_) => Ended::Otherwise,
-    }
+    ended_of(apply::<D, 2, _, _>(alloc, map, root, changes), after)
 }
 
 /// How the batch ends where this request is refused; none where not all memory is back.
@@ -44,11 +59,12 @@ fn end_without<'h>(
     map: &mut BlockMap<'_, Toy, Heap<'h>>,
     root: Cid,
     changes: &[Change<Heap<'h>>],
+    after: Cid,
     request: u64,
 ) -> Option<Ended> {
     let before = heap.live();
     heap.refuse(request);
-    let ended = batch_end(heap, map, root, changes);
+    let ended = batch_end(heap, map, root, changes, after);
     if heap.live() == before {
         Some(ended)
     } else {
@@ -66,10 +82,8 @@ fn is_done_at_last<'h>(
     after: Cid,
 ) -> bool {
     for request in 1..9_999u64 {
-        match end_without(heap, map, root, changes, request) {
-            Some(Ended::Done(root)) => {
-                return root == after && 100 < request && heap.refused() == request - 1;
-            }
+        match end_without(heap, map, root, changes, after, request) {
+            Some(Ended::Done) => return 100 < request && heap.refused() == request - 1,
             Some(Ended::NoMemory) if heap.refused() == request => {}
             _ => return false,
         }

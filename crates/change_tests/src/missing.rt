@@ -4,7 +4,7 @@ use crate::fixtures::{
     Blocks, add_others, applied, have, leaves, thirty_two_pairs, tree_of, twenty_changes,
 };
 use crate::plain::change_pairs;
-use batch_edit::{BatchFault, Change};
+use batch_edit::{BatchEdit, BatchFault, Change};
 use cid::digests::Toy;
 use cid::{Block, Cid};
 use scratch::Built;
@@ -33,27 +33,22 @@ fn twenty_of_32(alloc: Global) -> Option<Batch> {
     })
 }
 
-/// How a batch ended: done and right, or for want of a block.
-#[derive(Clone, Copy, PartialEq, Eq)]
-enum Ended {
-    Right,
-    Missing(Cid),
+/// What a batch answers.
+type Answer = Result<BatchEdit<Toy>, BatchFault<Toy>>;
+
+/// Whether the batch is done and right.
+fn is_right(alloc: Global, batch: &Batch, answer: &Answer) -> bool {
+    match answer {
+        Ok(edit) => leaves(alloc, &batch.before.blocks, edit, &batch.after),
+        Err(_) => false,
+    }
 }
 
-/// How the batch ends over a source of these blocks alone, and after how many reads; none where it ends otherwise.
-fn end_over(alloc: Global, batch: &Batch, blocks: &[Arc<Block<Toy>>]) -> Option<(Ended, u64)> {
-    let before = &batch.before;
-    let (answer, reads) = applied::<Toy, 2>(alloc, blocks, before.root, &batch.changes);
+/// The CID of the block that is missing.
+fn missing_of(answer: &Answer) -> Option<Cid> {
     match answer {
-        Ok(edit) => {
-            if leaves(alloc, &before.blocks, &edit, &batch.after) {
-                Some((Ended::Right, reads))
-            } else {
-                None
-            }
-        }
-        Err(BatchFault::Missing(cid)) => Some((Ended::Missing(cid), reads)),
-        Err(_) => None,
+        Err(BatchFault::Missing(cid)) => Some(*cid),
+        _ => None,
     }
 }
 
@@ -63,10 +58,8 @@ fn is_right_without(alloc: Global, batch: &Batch, cid: Cid) -> bool {
     if add_others(&mut others, &batch.before.blocks, &[cid]).is_err() {
         return false;
     }
-    match end_over(alloc, batch, &others) {
-        Some((ended, _)) => ended == Ended::Right || ended == Ended::Missing(cid),
-        None => false,
-    }
+    let (answer, _) = applied::<Toy, 2>(alloc, &others, batch.before.root, &batch.changes);
+    is_right(alloc, batch, &answer) || missing_of(&answer) == Some(cid)
 }
 
 /// Whether that is so of each block of the tree.
@@ -108,14 +101,15 @@ fn add_block(
 fn is_done_at_last(alloc: Global, batch: &Batch) -> bool {
     let mut blocks = Vec::new(alloc);
     for _ in 0..=batch.before.blocks.len() {
-        match end_over(alloc, batch, &blocks) {
-            Some((Ended::Right, reads)) => return reads == blocks.len() as u64,
-            Some((Ended::Missing(cid), _)) => {
-                if add_block(&mut blocks, &batch.before.blocks, cid) != Ok(true) {
-                    return false;
-                }
-            }
-            None => return false,
+        let (answer, reads) = applied::<Toy, 2>(alloc, &blocks, batch.before.root, &batch.changes);
+        if is_right(alloc, batch, &answer) {
+            return reads == blocks.len() as u64;
+        }
+        let Some(cid) = missing_of(&answer) else {
+            return false;
+        };
+        if add_block(&mut blocks, &batch.before.blocks, cid) != Ok(true) {
+            return false;
         }
     }
     false
