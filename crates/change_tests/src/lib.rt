@@ -12,6 +12,8 @@ mod histories;
 #[cfg(test)]
 mod history;
 #[cfg(test)]
+mod many;
+#[cfg(test)]
 mod memory;
 #[cfg(test)]
 mod missing;

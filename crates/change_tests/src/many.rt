@@ -1,0 +1,77 @@
+//! Some thousand keys changed by one batch.
+
+use crate::fixtures::{Pairs, change, value};
+use crate::history::begin;
+use batch_edit::Change;
+use cid::{Cid, Sha256};
+use std::alloc::{AllocError, Global};
+
+/// How many keys there are.
+const KEYS: usize = 3_000;
+
+/// The key of a number below 10,000. Keys ascend as their numbers do.
+fn key_of(alloc: Global, number: usize) -> Result<Vec<u8>, AllocError> {
+    let mut key = Vec::from_slice(alloc, b"app.bsky.feed.post/")?;
+    for unit in [1_000usize, 100, 10, 1] {
+        key.push(b'0' + (number / unit % 10) as u8)?;
+    }
+    Ok(key)
+}
+
+/// The pairs of the even numbers.
+fn pairs_of_even(alloc: Global) -> Result<Pairs, AllocError> {
+    let mut pairs = Vec::new(alloc);
+    for number in 0..KEYS / 2 {
+        pairs.push((key_of(alloc, 2 * number)?, value(1)))?;
+    }
+    Ok(pairs)
+}
+
+/// What the key of a number is to have: in each four numbers a key of the tree goes, one gets another value, and two new ones
+/// come.
+fn value_for(number: usize) -> Option<Cid> {
+    match number % 4 {
+        0 => None,
+        place => Some(value(place as u8)),
+    }
+}
+
+/// A change for each key.
+fn changes_of_all(alloc: Global) -> Result<Vec<Change>, AllocError> {
+    let mut changes = Vec::new(alloc);
+    for number in 0..KEYS {
+        changes.push(change(alloc, &key_of(alloc, number)?, value_for(number))?)?;
+    }
+    Ok(changes)
+}
+
+/// The same keys taken away.
+fn deletes_of_all(alloc: Global) -> Result<Vec<Change>, AllocError> {
+    let mut changes = Vec::new(alloc);
+    for number in 0..KEYS {
+        changes.push(change(alloc, &key_of(alloc, number)?, None)?)?;
+    }
+    Ok(changes)
+}
+
+/// Whether a batch that changes all keys, and then one that takes all away, leave the trees from scratch.
+fn agrees(alloc: Global) -> bool {
+    let (Ok(pairs), Ok(changes), Ok(deletes)) = (
+        pairs_of_even(alloc),
+        changes_of_all(alloc),
+        deletes_of_all(alloc),
+    ) else {
+        return false;
+    };
+    match begin::<Sha256, 2>(alloc, pairs) {
+        Some(mut history) => {
+            history.batch::<2>(alloc, &changes) && history.batch::<2>(alloc, &deletes)
+        }
+        None => false,
+    }
+}
+
+#[test]
+fn three_thousand_changes_at_once(rt: HostRuntime) {
+    assert!(rt; agrees(rt.alloc()));
+}
