@@ -10,6 +10,7 @@ use Rattle.rewrite.specs.Drafts.{IsFaultOfAll}
 use Rattle.rewrite.proofs.Cutting.{fault-on}
 use Rattle.batch_laws.specs.Links.{Rows, LinkEdge, LinkOpened, Log, and_then, ask, opening, closing, joined_row, noding, parting, subtreeing, rows_in_shape}
 use Rattle.batch_laws.proofs.Earlier.{parting-earlier, noding-earlier}
+use Rattle.batch_edit.specs.Budgets.{Budget}
 use Rattle.batch_edit.specs.declared.faults.Fault.{Fault}
 use Rattle.batch_edit.specs.declared.faults.Fault.TheVariants as faults
 use Rattle.batch_edit.specs.Edges.{edge_of, within, joined, around, is_clear}
@@ -19,7 +20,7 @@ use Rattle.batch_edit.proofs.Within.{subtree-within}
 use Rattle.batch_edit.proofs.Around.{around-more, part-through}
 use Rattle.batch_edit.proofs.Cuts.{snoc-same, cut-at, take-length}
 use Rattle.batch_edit.proofs.Making.{onto-same}
-use Rattle.batch_edit.proofs.Stopping.{empty-keys, Goes, leads-refused, leads-stopped, opened-leads, around-leads, from-stopped, refused-stopped, memory-stopped, asked-goes, asked-unread}
+use Rattle.batch_edit.proofs.Stopping.{empty-keys, Goes, leads-refused, leads-stopped, opened-leads, around-leads, from-stopped, refused-stopped, memory-stopped, none-stopped, asked-goes, asked-unread}
 
 -- ---- a node comes to some rows
 
@@ -95,8 +96,8 @@ arrived-goes digest all b fs ls rest log w =
     subst (Goes s log) (sym w.is) (around-leads digest b (take n ls) fs (Some (s, log)))
 
 pub arrived-stopped : {A : Type 0} (gives : List ℕ → Option A) (digest : List ℕ → List ℕ) (all : Option (LinkEdge × Log))
-    (a b : ℕ) (fs : List Shape) (ls : List Rows) (rest : Option (List ℕ)) (log : Log) (f : RewriteFault)
-    → IsArrived digest all b fs ls rest log → IsRefused all f → IsStopped gives a a log all (fault_of f)
+    (a : Budget) (b : ℕ) (fs : List Shape) (ls : List Rows) (rest : Option (List ℕ)) (log : Log) (f : RewriteFault)
+    → IsArrived digest all b fs ls rest log → IsRefused all f → IsStopped gives a a.0 log all (fault_of f)
 arrived-stopped gives digest all a b fs ls rest log f w r =
     refused-stopped gives a (edge_of (drop (b + length fs) ls) rest) log all f r
     (arrived-goes digest all b fs ls rest log w)
@@ -111,7 +112,7 @@ part-goes digest shows k c rows s log =
     (parting-earlier HasKeys empty-keys digest shows k) rows s m l)
 
 pub part-unopened : {A : Type 0} (gives : List ℕ → Option A) (digest : List ℕ → List ℕ) (shows : List ℕ → Option Shape)
-    (b a k : ℕ) (c : List ℕ) (s : LinkEdge) (log : Log) (f : Fault) → is_clear s ≡ false
+    (b : Budget) (a k : ℕ) (c : List ℕ) (s : LinkEdge) (log : Log) (f : Fault) → is_clear s ≡ false
     → IsStopped gives b a log (open_edge (opening shows s log)) f
     → IsStopped gives b a log (parting digest shows (suc k) (Some c) s log) f
 part-unopened gives digest shows b a k c s log f h t =
@@ -121,7 +122,7 @@ part-unopened gives digest shows b a k c s log f h t =
     (λ o l. part-goes digest shows k c o.0 o.1 l)) t)
 
 pub part-unread : {A : Type 0} (gives : List ℕ → Option A) (digest : List ℕ → List ℕ) (shows : List ℕ → Option Shape)
-    (b m a k d : ℕ) (c : List ℕ) (ls mid : List Rows) (rest link : Option (List ℕ)) (log inner : Log) (f : Fault)
+    (b m : Budget) (a k d : ℕ) (c : List ℕ) (ls mid : List Rows) (rest link : Option (List ℕ)) (log inner : Log) (f : Fault)
     → is_clear (edge_of (drop d ls) rest) ≡ false → IsOpenAt shows d ls rest log mid link inner → IsCounted b m log inner
     → IsUnread gives m a (shows c) f
     → IsStopped gives b a log (parting digest shows (suc k) (Some c) (edge_of (drop d ls) rest) log) f
@@ -139,7 +140,7 @@ part-unread gives digest shows b m a k d c ls mid rest link log inner f h o n u 
 -- ---- the way down
 
 pub way-stopped : {A : Type 0} (gives : List ℕ → Option A) (digest : List ℕ → List ℕ) (shows : List ℕ → Option Shape)
-    (all : Option (LinkEdge × Log)) (m a b k at : ℕ) (l : Option (List ℕ)) (fs : List Shape) (ls : List Rows)
+    (all : Option (LinkEdge × Log)) (m : Budget) (a b k at : ℕ) (l : Option (List ℕ)) (fs : List Shape) (ls : List Rows)
     (rest : Option (List ℕ)) (log : Log) (f : Fault) → at ≡ b + length fs
     → IsOnTheWay digest shows all b k l fs ls rest log
     → IsStopped gives m a log (parting digest shows k l (edge_of (drop at ls) rest) log) f → IsStopped gives m a log all f
@@ -151,29 +152,29 @@ way-stopped gives digest shows all m a b k at l fs ls rest log f e w s =
     (subst (λ j. IsStopped gives m a log (parting digest shows k l (edge_of (drop j ls) rest) log) f) e s))
 
 pub way-memory : {A : Type 0} (gives : List ℕ → Option A) (digest : List ℕ → List ℕ) (shows : List ℕ → Option Shape)
-    (all : Option (LinkEdge × Log)) (a b k : ℕ) (l : Option (List ℕ)) (fs : List Shape) (ls : List Rows)
+    (all : Option (LinkEdge × Log)) (a : Budget) (b k : ℕ) (l : Option (List ℕ)) (fs : List Shape) (ls : List Rows)
     (rest : Option (List ℕ)) (log : Log) → IsOnTheWay digest shows all b k l fs ls rest log
-    → IsStopped gives a a log all faults.NoMemory
+    → IsStopped gives a a.0 log all faults.NoMemory
 way-memory gives digest shows all a b k l fs ls rest log w =
     let s = edge_of (drop (b + length fs) ls) rest in
-    way-stopped gives digest shows all a a b k (b + length fs) l fs ls rest log faults.NoMemory refl w
+    way-stopped gives digest shows all a a.0 b k (b + length fs) l fs ls rest log faults.NoMemory refl w
     (memory-stopped gives a s log (parting digest shows k l s log)
     (parting-earlier HasKeys empty-keys digest shows k l s log))
 
 -- below layer 0
 pub way-ended : {A : Type 0} (gives : List ℕ → Option A) (digest : List ℕ → List ℕ) (shows : List ℕ → Option Shape)
-    (all : Option (LinkEdge × Log)) (a b k : ℕ) (c : List ℕ) (fs : List Shape) (ls : List Rows)
+    (all : Option (LinkEdge × Log)) (a : Budget) (b k : ℕ) (c : List ℕ) (fs : List Shape) (ls : List Rows)
     (rest : Option (List ℕ)) (log : Log) → k ≡ 0 → IsOnTheWay digest shows all b k (Some c) fs ls rest log
-    → IsStopped gives a a log all faults.NotTree
+    → IsStopped gives a a.0 log all faults.NotTree
 way-ended gives digest shows all a b k c fs ls rest log e w =
-    way-stopped gives digest shows all a a b k (b + length fs) (Some c) fs ls rest log faults.NotTree refl w
-    (subst (λ j. IsStopped gives a a log (parting digest shows j (Some c) (edge_of (drop (b + length fs) ls) rest) log)
-    faults.NotTree) (sym e) (record { cause = tt; reads = tt }))
+    way-stopped gives digest shows all a a.0 b k (b + length fs) (Some c) fs ls rest log faults.NotTree refl w
+    (subst (λ j. IsStopped gives a a.0 log (parting digest shows j (Some c) (edge_of (drop (b + length fs) ls) rest) log)
+    faults.NotTree) (sym e) (none-stopped gives a log))
 
 -- ---- the whole subtree
 
 pub subtree-unopened : {A : Type 0} (gives : List ℕ → Option A) (digest : List ℕ → List ℕ) (shows : List ℕ → Option Shape)
-    (b a k d : ℕ) (c : List ℕ) (s : LinkEdge) (log : Log) (f : Fault)
+    (b : Budget) (a k d : ℕ) (c : List ℕ) (s : LinkEdge) (log : Log) (f : Fault)
     → ((g : LinkEdge → Log → Option (LinkEdge × Log)) → IsOnward g → IsStopped gives b a log (within shows d g s log) f)
     → IsStopped gives b a log (subtreeing digest shows k d c s log) f
 subtree-unopened gives digest shows b a k d c s log f h =

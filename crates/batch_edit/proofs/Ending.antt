@@ -10,13 +10,14 @@ use Rattle.rewrite.specs.Drafts.{IsFaultOf}
 use Rattle.batch_laws.specs.Links.{Rows, LinkEdge, LinkClear, LinkWaiting, Log, Top, with_read, onto_links, closing, link_edge, new_top, topping, pruning, pruning_at}
 use Rattle.batch_laws.specs.Written.{IsEarlier, OnAnswer}
 use Rattle.batch_laws.proofs.Earlier.{topping-earlier}
+use Rattle.batch_edit.specs.Budgets.{Budget}
 use Rattle.batch_edit.specs.declared.faults.Fault.{Fault}
 use Rattle.batch_edit.specs.declared.faults.Fault.TheVariants as faults
 use Rattle.batch_edit.specs.Edges.{edge_of, highest_of}
 use Rattle.batch_edit.specs.Stops.{IsUnwritten, IsRefused, fault_of, IsStopped, IsUnread, all_closed, at_top}
 use Rattle.batch_edit.proofs.Cuts.{snoc-same, cut-at}
 use Rattle.batch_edit.proofs.Topping.{top-down, none-top, has-top}
-use Rattle.batch_edit.proofs.Stopping.{empty-keys, Goes, leads-refused, refused-stopped, memory-stopped, unread-stopped}
+use Rattle.batch_edit.proofs.Stopping.{empty-keys, Goes, leads-refused, refused-stopped, memory-stopped, none-stopped, unread-stopped}
 
 last-keys : (xs : List Shape) (s : Shape) → AllByRecursion HasKeys (xs ++ (s ∷ [])) → HasKeys s
 last-keys [] s h = h.0
@@ -68,10 +69,11 @@ heads : (x y : Rows) (zs : List Rows) → x ∷ zs ≡ y ∷ zs → x ≡ y
 heads x y zs h = cc
 
 pub top-stopped : {A : Type 0} (gives : List ℕ → Option A) (digest : List ℕ → List ℕ) (shows : List ℕ → Option Shape)
-    (a k d : ℕ) (ls : List Rows) (rest : Option (List ℕ)) (log : Log) (f : RewriteFault) → d ≡ highest_of ls → d < length ls
+    (a : Budget) (k d : ℕ) (ls : List Rows) (rest : Option (List ℕ)) (log : Log) (f : RewriteFault) → d ≡ highest_of ls
+    → d < length ls
     → ((above : List Rows) (rows : Rows) → take (d + 1) ls ≡ above ++ (rows ∷ [])
     → IsRefused (at_top (new_top digest rows (closing digest (edge_of (drop (d + 1) ls) rest) log))) f)
-    → IsStopped gives a a log (at_top (topping digest shows k (edge_of ls rest) log)) (fault_of f)
+    → IsStopped gives a a.0 log (at_top (topping digest shows k (edge_of ls rest) log)) (fault_of f)
 top-stopped gives digest shows a k d ls rest log f e h r =
     let g : highest_of ls < length ls = omega arith in
     let p = has-top ls g in
@@ -90,15 +92,16 @@ top-stopped gives digest shows a k d ls rest log f e h r =
     (top-goes digest shows k (edge_of ls rest) log)
 
 pub top-memory : {A : Type 0} (gives : List ℕ → Option A) (digest : List ℕ → List ℕ) (shows : List ℕ → Option Shape)
-    (a k : ℕ) (s : LinkEdge) (log : Log) → IsStopped gives a a log (at_top (topping digest shows k s log)) faults.NoMemory
+    (a : Budget) (k : ℕ) (s : LinkEdge) (log : Log)
+    → IsStopped gives a a.0 log (at_top (topping digest shows k s log)) faults.NoMemory
 top-memory gives digest shows a k s log =
     memory-stopped gives a s log (at_top (topping digest shows k s log)) (top-goes digest shows k s log)
 
 -- a node without pairs and links is never refused
 pub empty-stopped : {A : Type 0} (gives : List ℕ → Option A) (digest : List ℕ → List ℕ) (shows : List ℕ → Option Shape)
-    (a k : ℕ) (s : LinkEdge) (log : Log) (rows : Rows) (f : RewriteFault) → rows ≡ []
+    (a : Budget) (k : ℕ) (s : LinkEdge) (log : Log) (rows : Rows) (f : RewriteFault) → rows ≡ []
     → IsFaultOf (onto_links rows (LastLink None)) f
-    → IsStopped gives a a log (at_top (topping digest shows k s log)) (fault_of f)
+    → IsStopped gives a a.0 log (at_top (topping digest shows k s log)) (fault_of f)
 empty-stopped gives digest shows a k s log rows NoMemory e h = top-memory gives digest shows a k s log
 empty-stopped gives digest shows a k s log rows NotNode e h =
     absurd (h (subst (λ ys. HasKeys (onto_links ys (LastLink None))) (sym e) empty-keys))
@@ -106,7 +109,7 @@ empty-stopped gives digest shows a k s log rows NotNode e h =
 -- ---- pruning
 
 pub pruned-stopped : {A : Type 0} (gives : List ℕ → Option A) (digest : List ℕ → List ℕ) (shows : List ℕ → Option Shape)
-    (b a k d : ℕ) (ls : List Rows) (rest : Option (List ℕ)) (c : List ℕ) (log : Log) (f : Fault) → d ≡ highest_of ls
+    (b : Budget) (a k d : ℕ) (ls : List Rows) (rest : Option (List ℕ)) (c : List ℕ) (log : Log) (f : Fault) → d ≡ highest_of ls
     → length ls ≤ d → rest ≡ Some c → IsStopped gives b a log (at_top (pruning shows k c log)) f
     → IsStopped gives b a log (at_top (topping digest shows k (edge_of ls rest) log)) f
 pruned-stopped gives digest shows b a k d ls rest c log f e h n s =
@@ -139,21 +142,22 @@ pruning-reads shows k c log (Some (LastLink (Some b))) =
 pruning-reads shows k c log (Some (MoreLinks l e r)) =
     let n = length-append log.read (MoreLinks l e r ∷ []) in omega arith
 
-pub look-stopped : {A : Type 0} (gives : List ℕ → Option A) (shows : List ℕ → Option Shape) (b a k m : ℕ) (c : List ℕ)
-    (log : Log) (f : Fault) → k ≡ suc m → IsUnread gives b a (shows c) f
+pub look-stopped : {A : Type 0} (gives : List ℕ → Option A) (shows : List ℕ → Option Shape) (b : Budget) (a k m : ℕ)
+    (c : List ℕ) (log : Log) (f : Fault) → k ≡ suc m → IsUnread gives b a (shows c) f
     → IsStopped gives b a log (at_top (pruning shows k c log)) f
 look-stopped gives shows b a k m c log f e u =
     subst (λ j. IsStopped gives b a log (at_top (pruning shows j c log)) f) (sym e)
     (unread-stopped gives b a (shows c) log (at_top (pruning shows (suc m) c log)) f
     (pruning-none (pruning shows m) c log (shows c)) (pruning-reads shows m c log (shows c)) u)
 
-pub prune-ended : {A : Type 0} (gives : List ℕ → Option A) (shows : List ℕ → Option Shape) (a k : ℕ) (c : List ℕ) (log : Log)
-    → k ≡ 0 → IsStopped gives a a log (at_top (pruning shows k c log)) faults.NotTree
+pub prune-ended : {A : Type 0} (gives : List ℕ → Option A) (shows : List ℕ → Option Shape) (a : Budget) (k : ℕ)
+    (c : List ℕ) (log : Log) → k ≡ 0 → IsStopped gives a a.0 log (at_top (pruning shows k c log)) faults.NotTree
 prune-ended gives shows a k c log e =
-    subst (λ j. IsStopped gives a a log (at_top (pruning shows j c log)) faults.NotTree) (sym e)
-    (record { cause = tt; reads = tt })
+    subst (λ j. IsStopped gives a a.0 log (at_top (pruning shows j c log)) faults.NotTree) (sym e)
+    (none-stopped gives a log)
 
 -- what is pruned later is pruned from here
-pub prune-stopped : {A : Type 0} (gives : List ℕ → Option A) (b a : ℕ) (log : Log) (all now : Option (Top × Log)) (f : Fault)
-    → all ≡ now → IsStopped gives b a log (at_top now) f → IsStopped gives b a log (at_top all) f
+pub prune-stopped : {A : Type 0} (gives : List ℕ → Option A) (b : Budget) (a : ℕ) (log : Log)
+    (all now : Option (Top × Log)) (f : Fault) → all ≡ now → IsStopped gives b a log (at_top now) f
+    → IsStopped gives b a log (at_top all) f
 prune-stopped gives b a log all now f e s = subst (λ o. IsStopped gives b a log (at_top o) f) (sym e) s

@@ -8,19 +8,21 @@ use Rattle.batch_laws.specs.Batch.{Change, puts, if_put, entry}
 use Rattle.batch_laws.specs.Walking.{depth_of}
 use Rattle.batch_laws.specs.Links.{LinkEdge, Log, and_then, ask, pairing, pairs_in_turn, subtreeing, walking_node, walking}
 use Rattle.batch_laws.proofs.Earlier.{steps-earlier, pairs-earlier, walking_node-earlier, walking-earlier}
+use Rattle.batch_edit.specs.Budgets.{Budget}
 use Rattle.batch_edit.specs.declared.faults.Fault.{Fault}
 use Rattle.batch_edit.specs.declared.faults.Fault.TheVariants as faults
 use Rattle.batch_edit.specs.Agenda.{Later, Gap, Task, ToPair, ToGap, node_does, task_does, agenda_does, IsGoneOn}
 use Rattle.batch_edit.specs.States.{IsCounted}
 use Rattle.batch_edit.specs.Stops.{IsStopped, IsUnread}
-use Rattle.batch_edit.proofs.Stopping.{empty-keys, Goes, Leads, leads-stopped, leads-same, leads-then, onward-leads, from-stopped, memory-stopped, asked-unread}
+use Rattle.batch_edit.proofs.Stopping.{empty-keys, Goes, Leads, leads-stopped, leads-same, leads-then, onward-leads, from-stopped, memory-stopped, none-stopped, asked-unread}
 use Rattle.batch_edit.proofs.Putting.{alone}
 use Rattle.batch_edit.proofs.Walking.{does-more, does-none, walks-down}
 
 module _ {A : Type 0} (gives : List ℕ → Option A) (digest : List ℕ → List ℕ) (shows : List ℕ → Option Shape) where
   -- ---- pairs
 
-  pub pair-stopped : (b a : ℕ) (depth : List ℕ → ℕ) (d : ℕ) (e : Pair) (s : LinkEdge) (log : Log) (f : Fault) → d ≡ depth e.0
+  pub pair-stopped : (b : Budget) (a : ℕ) (depth : List ℕ → ℕ) (d : ℕ) (e : Pair) (s : LinkEdge) (log : Log) (f : Fault)
+      → d ≡ depth e.0
       → IsStopped gives b a log (pairing digest shows d e s log) f
       → IsStopped gives b a log (pairs_in_turn digest shows depth (e ∷ []) s log) f
   pair-stopped b a depth d e s log f h t =
@@ -28,8 +30,8 @@ module _ {A : Type 0} (gives : List ℕ → Option A) (digest : List ℕ → Lis
       (sym (alone digest shows depth (pairing digest shows (depth e.0) e s log)
       ∙ ap (λ m. pairing digest shows m e s log) (sym h))) t
 
-  pub pairs-memory : (a : ℕ) (depth : List ℕ → ℕ) (ps : List Pair) (s : LinkEdge) (log : Log)
-      → IsStopped gives a a log (pairs_in_turn digest shows depth ps s log) faults.NoMemory
+  pub pairs-memory : (a : Budget) (depth : List ℕ → ℕ) (ps : List Pair) (s : LinkEdge) (log : Log)
+      → IsStopped gives a a.0 log (pairs_in_turn digest shows depth ps s log) faults.NoMemory
   pairs-memory a depth ps s log =
       memory-stopped gives a s log (pairs_in_turn digest shows depth ps s log)
       (pairs-earlier HasKeys empty-keys digest shows depth ps s log)
@@ -45,8 +47,8 @@ module _ {A : Type 0} (gives : List ℕ → Option A) (digest : List ℕ → Lis
       (λ t l. pairs-earlier HasKeys empty-keys digest shows depth rest t l))
 
   -- one of the changes, where those before it are done
-  pub puts-stopped : (b m a : ℕ) (depth : List ℕ → ℕ) (all : Option (LinkEdge × Log)) (cs : List Change) (i : ℕ) (c : Change)
-      (s : LinkEdge) (start log : Log) (f : Fault) → drop i cs ≡ c ∷ drop (suc i) cs
+  pub puts-stopped : (b m : Budget) (a : ℕ) (depth : List ℕ → ℕ) (all : Option (LinkEdge × Log)) (cs : List Change) (i : ℕ)
+      (c : Change) (s : LinkEdge) (start log : Log) (f : Fault) → drop i cs ≡ c ∷ drop (suc i) cs
       → all ≡ pairs_in_turn digest shows depth (puts (drop i cs)) s log → IsCounted b m start log
       → IsStopped gives m a log (pairs_in_turn digest shows depth (if_put c.0 c.1 []) s log) f
       → IsStopped gives b a start all f
@@ -58,12 +60,12 @@ module _ {A : Type 0} (gives : List ℕ → Option A) (digest : List ℕ → Lis
       (leads-stopped gives m a log (pairs_in_turn digest shows depth (if_put c.0 c.1 []) s log)
       (pairs_in_turn digest shows depth (if_put c.0 c.1 rest) s log) f (first-leads depth c.0 c.1 rest s log) t))
 
-  pub puts-memory : (b a : ℕ) (depth : List ℕ → ℕ) (all : Option (LinkEdge × Log)) (ps : List Pair) (s : LinkEdge)
+  pub puts-memory : (b a : Budget) (depth : List ℕ → ℕ) (all : Option (LinkEdge × Log)) (ps : List Pair) (s : LinkEdge)
       (start log : Log) → all ≡ pairs_in_turn digest shows depth ps s log → IsCounted b a start log
-      → IsStopped gives b a start all faults.NoMemory
+      → IsStopped gives b a.0 start all faults.NoMemory
   puts-memory b a depth all ps s start log e n =
-      subst (λ o. IsStopped gives b a start o faults.NoMemory) (sym e)
-      (from-stopped gives b a a start log (pairs_in_turn digest shows depth ps s log) faults.NoMemory n
+      subst (λ o. IsStopped gives b a.0 start o faults.NoMemory) (sym e)
+      (from-stopped gives b a a.0 start log (pairs_in_turn digest shows depth ps s log) faults.NoMemory n
       (pairs-memory a depth ps s log))
 
   module _ (layer : List ℕ → ℕ) (n : ℕ) where
@@ -75,8 +77,8 @@ module _ {A : Type 0} (gives : List ℕ → Option A) (digest : List ℕ → Lis
         walking_node-earlier HasKeys empty-keys digest shows d (walking digest shows layer n k (suc d))
         (walking-earlier HasKeys empty-keys digest shows layer n k (suc d)) cs s r log
 
-    pub node-memory : (a k d : ℕ) (cs : List Change) (r : Shape) (s : LinkEdge) (log : Log)
-        → IsStopped gives a a log (node_does digest shows layer n k d cs r s log) faults.NoMemory
+    pub node-memory : (a : Budget) (k d : ℕ) (cs : List Change) (r : Shape) (s : LinkEdge) (log : Log)
+        → IsStopped gives a a.0 log (node_does digest shows layer n k d cs r s log) faults.NoMemory
     node-memory a k d cs r s log =
         memory-stopped gives a s log (node_does digest shows layer n k d cs r s log) (node-goes k d cs r s log)
 
@@ -99,7 +101,7 @@ module _ {A : Type 0} (gives : List ℕ → Option A) (digest : List ℕ → Lis
 
     -- ---- a task
 
-    pub gap-none : (b a : ℕ) (g : Gap) (s : LinkEdge) (log : Log) (f : Fault) → g.link ≡ None
+    pub gap-none : (b : Budget) (a : ℕ) (g : Gap) (s : LinkEdge) (log : Log) (f : Fault) → g.link ≡ None
         → IsStopped gives b a log (pairs_in_turn digest shows (depth_of layer n) (puts g.changes) s log) f
         → IsStopped gives b a log (task_does digest shows layer n (ToGap g) s log) f
     gap-none b a g s log f e t =
@@ -107,15 +109,15 @@ module _ {A : Type 0} (gives : List ℕ → Option A) (digest : List ℕ → Lis
         (sym (ap (λ l. walking digest shows layer n g.layer g.depth l g.changes s log) e
         ∙ does-none digest shows layer n g.layer g.depth g.changes s log)) t
 
-    pub gap-ended : (a : ℕ) (g : Gap) (c : List ℕ) (s : LinkEdge) (log : Log) → g.link ≡ Some c → g.layer ≡ 0
-        → IsStopped gives a a log (task_does digest shows layer n (ToGap g) s log) faults.NotTree
+    pub gap-ended : (a : Budget) (g : Gap) (c : List ℕ) (s : LinkEdge) (log : Log) → g.link ≡ Some c → g.layer ≡ 0
+        → IsStopped gives a a.0 log (task_does digest shows layer n (ToGap g) s log) faults.NotTree
     gap-ended a g c s log e z =
-        subst (λ o. IsStopped gives a a log o faults.NotTree)
+        subst (λ o. IsStopped gives a a.0 log o faults.NotTree)
         (sym (ap (λ l. walking digest shows layer n g.layer g.depth l g.changes s log) e
         ∙ ap (λ k. walking digest shows layer n k g.depth (Some c) g.changes s log) z))
-        (record { cause = tt; reads = tt })
+        (none-stopped gives a log)
 
-    pub gap-subtree : (b a k : ℕ) (g : Gap) (c : List ℕ) (s : LinkEdge) (log : Log) (f : Fault) → g.link ≡ Some c
+    pub gap-subtree : (b : Budget) (a k : ℕ) (g : Gap) (c : List ℕ) (s : LinkEdge) (log : Log) (f : Fault) → g.link ≡ Some c
         → g.layer ≡ suc k → g.changes ≡ [] → IsStopped gives b a log (subtreeing digest shows g.layer g.depth c s log) f
         → IsStopped gives b a log (task_does digest shows layer n (ToGap g) s log) f
     gap-subtree b a k g c s log f e m q t =
@@ -125,7 +127,7 @@ module _ {A : Type 0} (gives : List ℕ → Option A) (digest : List ℕ → Lis
         ∙ ap (λ j. walking digest shows layer n j g.depth (Some c) [] s log) m
         ∙ ap (λ j. subtreeing digest shows j g.depth c s log) (sym m))) t
 
-    gap-reads : (b a k d : ℕ) (c : List ℕ) (cs : List Change) (s : LinkEdge) (log : Log) (f : Fault) → 0 < length cs
+    gap-reads : (b : Budget) (a k d : ℕ) (c : List ℕ) (cs : List Change) (s : LinkEdge) (log : Log) (f : Fault) → 0 < length cs
         → IsUnread gives b a (shows c) f
         → IsStopped gives b a log (walking digest shows layer n (suc k) d (Some c) cs s log) f
     gap-reads b a k d c [] s log f z u = absurd (omega arith)
@@ -134,7 +136,7 @@ module _ {A : Type 0} (gives : List ℕ → Option A) (digest : List ℕ → Lis
         (walking_node digest shows d (walking digest shows layer n k (suc d)) (x ∷ cs) s) f
         (λ m l. node-goes k d (x ∷ cs) m s l) u
 
-    pub gap-unread : (b a k : ℕ) (g : Gap) (c : List ℕ) (s : LinkEdge) (log : Log) (f : Fault) → g.link ≡ Some c
+    pub gap-unread : (b : Budget) (a k : ℕ) (g : Gap) (c : List ℕ) (s : LinkEdge) (log : Log) (f : Fault) → g.link ≡ Some c
         → g.layer ≡ suc k → 0 < length g.changes → IsUnread gives b a (shows c) f
         → IsStopped gives b a log (task_does digest shows layer n (ToGap g) s log) f
     gap-unread b a k g c s log f e m z u =
@@ -143,18 +145,19 @@ module _ {A : Type 0} (gives : List ℕ → Option A) (digest : List ℕ → Lis
         ∙ ap (λ j. walking digest shows layer n j g.depth (Some c) g.changes s log) m))
         (gap-reads b a k g.depth c g.changes s log f z u)
 
-    pub gap-memory : (b a k : ℕ) (g : Gap) (c : List ℕ) (node : Shape) (s : LinkEdge) (log now : Log) → g.link ≡ Some c
+    pub gap-memory : (b a : Budget) (k : ℕ) (g : Gap) (c : List ℕ) (node : Shape) (s : LinkEdge) (log now : Log)
+        → g.link ≡ Some c
         → g.layer ≡ suc k → 0 < length g.changes → ask shows c log ≡ Some (node, now) → IsCounted b a log now
-        → IsStopped gives b a log (task_does digest shows layer n (ToGap g) s log) faults.NoMemory
+        → IsStopped gives b a.0 log (task_does digest shows layer n (ToGap g) s log) faults.NoMemory
     gap-memory b a k g c node s log now e m z q i =
-        subst (λ o. IsStopped gives b a log o faults.NoMemory)
+        subst (λ o. IsStopped gives b a.0 log o faults.NoMemory)
         (sym (ap (λ l. walking digest shows layer n g.layer g.depth l g.changes s log) e
         ∙ ap (λ j. walking digest shows layer n j g.depth (Some c) g.changes s log) m
         ∙ walks-down digest shows layer n k g.depth c g.changes node s log now z q))
-        (from-stopped gives b a a log now (node_does digest shows layer n k g.depth g.changes node s now) faults.NoMemory i
+        (from-stopped gives b a a.0 log now (node_does digest shows layer n k g.depth g.changes node s now) faults.NoMemory i
         (node-memory a k g.depth g.changes node s now))
 
-    pub entry-stopped : (b a : ℕ) (p : Later) (s : LinkEdge) (log : Log) (f : Fault)
+    pub entry-stopped : (b : Budget) (a : ℕ) (p : Later) (s : LinkEdge) (log : Log) (f : Fault)
         → IsStopped gives b a log (pairs_in_turn digest shows (λ key. p.depth) (entry p.at p.pair) s log) f
         → IsStopped gives b a log (task_does digest shows layer n (ToPair p) s log) f
     entry-stopped b a p s log f t =
@@ -163,13 +166,13 @@ module _ {A : Type 0} (gives : List ℕ → Option A) (digest : List ℕ → Lis
         leads-stopped gives b a log x (and_then x g) f
         (onward-leads x g (λ u l. node-goes p.layer p.depth p.changes p.rest u l)) t
 
-    pub entry-memory : (b a : ℕ) (p : Later) (s t : LinkEdge) (log later : Log)
+    pub entry-memory : (b a : Budget) (p : Later) (s t : LinkEdge) (log later : Log)
         → pairs_in_turn digest shows (λ key. p.depth) (entry p.at p.pair) s log ≡ Some (t, later) → IsCounted b a log later
-        → IsStopped gives b a log (task_does digest shows layer n (ToPair p) s log) faults.NoMemory
+        → IsStopped gives b a.0 log (task_does digest shows layer n (ToPair p) s log) faults.NoMemory
     entry-memory b a p s t log later e i =
         let g = node_does digest shows layer n p.layer p.depth p.changes p.rest in
-        subst (λ o. IsStopped gives b a log o faults.NoMemory) (sym (ap (λ x. and_then x g) e))
-        (from-stopped gives b a a log later (g t later) faults.NoMemory i
+        subst (λ o. IsStopped gives b a.0 log o faults.NoMemory) (sym (ap (λ x. and_then x g) e))
+        (from-stopped gives b a a.0 log later (g t later) faults.NoMemory i
         (node-memory a p.layer p.depth p.changes p.rest t later))
 
     -- ---- the whole walk
@@ -181,8 +184,8 @@ module _ {A : Type 0} (gives : List ℕ → Option A) (digest : List ℕ → Lis
         sym (ap (λ ys. agenda_does digest shows layer n ys (node_does digest shows layer n k d cs r s log)) e)
         ∙ w.does digest shows layer n s log
 
-    pub task-stopped : (b m a : ℕ) (whole all : Option (LinkEdge × Log)) (fs gs : List Task) (t : Task) (s : LinkEdge)
-        (start log : Log) (f : Fault) → whole ≡ all → all ≡ agenda_does digest shows layer n fs (Some (s, log))
+    pub task-stopped : (b m : Budget) (a : ℕ) (whole all : Option (LinkEdge × Log)) (fs gs : List Task) (t : Task)
+        (s : LinkEdge) (start log : Log) (f : Fault) → whole ≡ all → all ≡ agenda_does digest shows layer n fs (Some (s, log))
         → fs ≡ gs ++ (t ∷ []) → IsCounted b m start log
         → IsStopped gives m a log (task_does digest shows layer n t s log) f → IsStopped gives b a start whole f
     task-stopped b m a whole all fs gs t s start log f w e q i h =

@@ -1,4 +1,5 @@
 pub mod Within
+pub mod Bounds
 pub mod Around
 pub mod Cuts
 pub mod Closing
@@ -22,3 +23,8 @@ pub mod Ending
 pub mod Halting
 pub mod Spelling
 mod Testing
+mod MadeKeys
+mod WholeReads
+mod OneChange
+mod OnePut
+mod OneDelete

@@ -1,6 +1,6 @@
 -- A batch on the tree with a root, from what the walk and the difference of blocks answer.
 use Rattle.std.proofs.Common.{◌≡◌, ℕ, suc, max, ◌^◌, ◌+◌, ◌-◌, ◌*◌, ◌<◌, ◌≤◌, true, List, [], ◌∷◌, ◌++◌, length, map, take, get_or, Option, refl, sym, ap, subst, ◌∙◌, ◌⊎◌, inl, inr, arith}
-use Rattle.std.specs.Prelude.{Contains}
+use Rattle.std.specs.Prelude.{Contains, IsSome}
 use Rattle.std.specs.declared.option.Option.TheVariants.{Some, None}
 use Rattle.std.specs.List.{AllByRecursion}
 use Rattle.std.proofs.Math.Nat.{div-le_self}
@@ -10,7 +10,7 @@ use Rattle.spec.specs.Cid.{IsDigest}
 use Rattle.spec.specs.Layer.{layer}
 use Rattle.spec.specs.Tree.{Pair, top, top_layer}
 use Rattle.spec.specs.NodeFormat.{Shape, is_key, shape, shape_bytes}
-use Rattle.spec.specs.Blocks.{IsClashFree, nodes, root as root_of}
+use Rattle.spec.specs.Blocks.{ArePairs, IsClashFree, nodes, root as root_of}
 use Rattle.spec.proofs.Bools.{both}
 use Rattle.spec.proofs.PathNodes.{top_layer-le}
 use Rattle.edit_laws.specs.Changes.{AreChanges, add_of, drop_of}
@@ -20,30 +20,36 @@ use Rattle.edit_laws.proofs.OverSource.{holds-top, free-source}
 use Rattle.edit_laws.proofs.PutTopShapes.{layer-shape}
 use Rattle.edit.specs.Trees.{HasTree}
 use Rattle.edit.proofs.Putting.{add-few}
-use Rattle.batch_laws.specs.Batch.{Change, puts, changed, AreKeyed}
+use Rattle.batch_laws.specs.Batch.{Change, puts, changed, AreAscending, AreKeyed}
 use Rattle.batch_laws.specs.Links.{Log, Top, batch_from}
-use Rattle.batch_laws.specs.Previous.{previous_top}
+use Rattle.batch_laws.specs.Previous.{previous_top, values}
 use Rattle.batch_laws.specs.Trace.{batch_made, batch_read}
 use Rattle.batch_laws.specs.Laws.Sources.{IsBatchFrom}
-use Rattle.batch_laws.specs.Written.{AreWritten, OnAnswer}
+use Rattle.batch_laws.specs.Written.{OnAnswer}
 use Rattle.edit_laws.specs.Lawful.{HasKeys}
 use Rattle.batch_laws.proofs.Lawful.{batch-has_keys}
 use Rattle.batch_laws.specs.Counts.{most_reads}
 use Rattle.batch_laws.proofs.ReadsFew.{batch-reads_few}
-use Rattle.edit.specs.Faults.{IsRefusal}
+use Rattle.edit.specs.Faults.{IsRefusal as IsEditRefusal}
 use Rattle.edit.specs.declared.outcome.EditFault.{EditFault}
 use Rattle.edit.specs.declared.outcome.EditFault.TheVariants as edits
 use Rattle.std.specs.declared.sync.Arc.{Arc}
 use Rattle.batch_edit.specs.declared.faults.Fault.{Fault}
 use Rattle.batch_edit.specs.declared.faults.Fault.TheVariants as walks
-use Rattle.batch_edit.specs.Stops.{IsCause, at_top}
+use Rattle.batch_edit.specs.declared.outcome.BatchFault.{BatchFault}
+use Rattle.batch_edit.specs.declared.outcome.BatchFault.TheVariants.{Missing, NotTree, NoSuchKey, Clash, NoMemory}
+use Rattle.batch_edit.specs.Stops.{IsUnreached, IsCause, at_top}
 use Rattle.edit_laws.proofs.Tops.{layer_of-top}
 use Rattle.batch_laws.proofs.OverSource.{batch-over_source}
 use Rattle.batch_laws.proofs.Previous.{previous-is_values}
 use Rattle.batch_laws.proofs.MakesFew.{batch-makes_few}
-use Rattle.batch_edit.specs.Batches.{have_keys, are_changes, put_layers, layers_for, layers_of, nodes_read, IsBatchOf, IsAnswer, IsClashOf, IsReason, of_walk, of_difference}
+use Rattle.batch_edit.specs.Batches.{have_keys, are_changes, put_layers, layers_for, layers_of, nodes_read, IsBatchOf, IsAnswer, IsReason, of_walk, of_difference}
+use Rattle.batch_edit.specs.Budgets.{most_from}
 use Rattle.batch_edit.specs.Places.{are_ascending}
+use Rattle.batch_edit.specs.Refusals.{IsRefusal}
 use Rattle.batch_edit.specs.Tops.{IsEnded, layers_needed}
+use Rattle.batch_edit.proofs.Bounds.{most-shown}
+use Rattle.batch_edit.proofs.MadeKeys.{made-has_keys}
 use Rattle.batch_edit.proofs.Placing.{ascends}
 
 -- ---- changes with keys
@@ -129,7 +135,7 @@ module _ (digest : List ℕ → List ℕ) (bits : ℕ) (fits : IsDigest digest) 
       ∙ ap (batch_from digest (shown_by gives) (layer digest bits) (layers_of digest bits cs es) cs) has.root_is
       ∙ is-batch.answer
 
-  read-bytes : bytes_of (is-batch.log.read ++ is-batch.left) ≡ nodes_read digest bits cs es
+  pub read-bytes : bytes_of (is-batch.log.read ++ is-batch.left) ≡ nodes_read digest bits cs es
   read-bytes =
       ap bytes_of is-batch.read_is
       ∙ map-map (shape digest) shape_bytes
@@ -148,15 +154,24 @@ module _ (digest : List ℕ → List ℕ) (bits : ℕ) (fits : IsDigest digest) 
       let c = batch-makes_few (layer digest bits) (layers_of digest bits cs es) cs es enough-top in
       omega (arith, a, b, c)
 
+  -- what the walk met is what the keys had
+  pub met-values : (previous : List (Option (List ℕ))) → AreAscending cs
+      → ((m : Shape) → shown_by gives root ≡ Some m
+      → previous ≡ previous_top (shown_by gives) (layer digest bits) cs m)
+      → previous ≡ values cs es
+  met-values previous ascend had =
+      had (shape digest (top (layer digest bits) es)) shown-top
+      ∙ previous-is_values digest bits fits gives cs es has.pairs has.nodes ascend
+
   -- an edit that is of the answer is of the tree
   pub batch-edit : (root' : List ℕ) (add drop : List (List ℕ)) (previous : List (Option (List ℕ)))
-      → are_changes cs ≡ true
+      → AreAscending cs
       → IsAnswer digest (batch_from digest (shown_by gives) (layer digest bits)
       (layers_needed (layer digest bits) (put_layers (layer digest bits) cs) (shown_by gives root)) cs root) root' add drop
       → ((m : Shape) → shown_by gives root ≡ Some m
       → previous ≡ previous_top (shown_by gives) (layer digest bits) cs m)
       → IsBatchOf digest bits cs es root' add drop previous
-  batch-edit root' add drop previous are a had =
+  batch-edit root' add drop previous ascend a had =
       let same = some-is ((root', a.left), a.log) ((root_of digest bits (changed cs es), is-batch.left), is-batch.log)
       (sym a.is ∙ answers) in
       let read : bytes_of (a.log.read ++ a.left) ≡ bytes_of (is-batch.log.read ++ is-batch.left) =
@@ -175,8 +190,7 @@ module _ (digest : List ℕ → List ℕ) (bits : ℕ) (fits : IsDigest digest) 
       let changes = is-batch.edit.changes all_free in
       record {
         root_is = ap (λ (x : Top × Log). x.0.0) same;
-        previous_is = had (shape digest (top (layer digest bits) es)) shown-top
-            ∙ previous-is_values digest bits fits gives cs es has.pairs has.nodes (are-keyed cs are).ascending;
+        previous_is = met-values previous ascend had;
         changes = subst (λ bs. AreChanges digest (nodes digest bits es) (nodes digest bits (changed cs es)) bs add drop)
             read-bytes
             (subst (λ bs. AreChanges digest (nodes digest bits es) (nodes digest bits (changed cs es))
@@ -193,22 +207,19 @@ module _ (digest : List ℕ → List ℕ) (bits : ℕ) (fits : IsDigest digest) 
             omega (arith, f, g, h, i);
       }
 
-  -- why there is none, seen from the tree: nothing is missing, and each node is written
-  pub walk-refused : {A : Type 0} (D B : Type 0) (given : List ℕ → Option A) (fault : Fault) → are_changes cs ≡ true
-      → IsCause given (at_top (batch_from digest (shown_by gives) (layer digest bits)
-      (layers_needed (layer digest bits) (put_layers (layer digest bits) cs) (shown_by gives root)) cs root)) fault
-      → IsClashOf {D = D} {A = B} digest (nodes digest bits es ++ nodes digest bits (changed cs es)) (of_walk fault)
-  walk-refused D B given (walks.Missing c) are cause =
-      absurd (some-none _ (subst (λ a. at_top a ≡ None) answers cause.1))
-  walk-refused D B given walks.NotTree are unwritten =
-      subst (λ a. OnAnswer (at_top a) (λ s log. ¬ AreWritten HasKeys s log)) answers unwritten
-      (record {
-        made = subst (AllByRecursion HasKeys) (sym is-batch.made_is)
-            (batch-has_keys digest (layer digest bits) (layers_of digest bits cs es) cs es has.pairs (are-keyed cs are)
-            enough-top enough-puts);
-        begun = tt;
-      })
-  walk-refused D B given walks.NoMemory are cause = tt
+  -- keys ascend in each node that is made
+  abbrev MadeHaveKeys : Type 0
+  MadeHaveKeys = AllByRecursion HasKeys (map (shape digest)
+      (batch_made (layer digest bits) (layers_of digest bits cs es) cs (top (layer digest bits) es)))
+
+  pub keyed-changes : are_changes cs ≡ true → MadeHaveKeys
+  keyed-changes are =
+      batch-has_keys digest (layer digest bits) (layers_of digest bits cs es) cs es has.pairs (are-keyed cs are) enough-top
+      enough-puts
+
+  pub lawful-pairs : ArePairs (changed cs es) → MadeHaveKeys
+  lawful-pairs leaves =
+      made-has_keys digest fits (layer digest bits) (layers_of digest bits cs es) cs es has.pairs leaves enough-top enough-puts
 
   reads-few : length (is-batch.log.read ++ is-batch.left) ≤ suc (most_reads (top_layer (layer digest bits) es) cs)
   reads-few =
@@ -217,6 +228,29 @@ module _ (digest : List ℕ → List ℕ) (bits : ℕ) (fits : IsDigest digest) 
       (shape digest) in
       let c = batch-reads_few (layer digest bits) (layers_of digest bits cs es) cs es enough-top in
       omega (arith, a, b, c)
+
+  -- so many may be read
+  enough-reads : most_from (layer digest bits) cs (shown_by gives root) ≡ suc (most_reads (top_layer (layer digest bits) es) cs)
+  enough-reads =
+      most-shown (layer digest bits) cs (shown_by gives root) (shape digest (top (layer digest bits) es))
+      (top_layer (layer digest bits) es) shown-top
+      (sym (layer-shape digest (layer digest bits) (top (layer digest bits) es) ∙ layer_of-top (layer digest bits) es))
+
+  -- why there is none, seen from the tree: nothing is missing, and each node is written
+  pub walk-refused : {A : Type 0} (D B P : Type 0) (given : List ℕ → Option A) (fault : Fault) → MadeHaveKeys
+      → IsCause given (most_from (layer digest bits) cs (shown_by gives root) + 0)
+      (at_top (batch_from digest (shown_by gives) (layer digest bits)
+      (layers_needed (layer digest bits) (put_layers (layer digest bits) cs) (shown_by gives root)) cs root)) fault
+      → IsRefusal {D = D} {A = B} digest (nodes digest bits es ++ nodes digest bits (changed cs es)) P (of_walk fault)
+  walk-refused D B P given (walks.Missing c) keys cause =
+      absurd (some-none _ (subst (λ a. at_top a ≡ None) answers cause.1))
+  walk-refused D B P given walks.NotTree keys unreached =
+      let few = reads-few in
+      let most = enough-reads in
+      subst (λ a. IsUnreached (most_from (layer digest bits) cs (shown_by gives root) + 0) (at_top a)) answers unreached
+      (omega (arith, few, most))
+      (record { made = subst (AllByRecursion HasKeys) (sym is-batch.made_is) keys; begun = tt })
+  walk-refused D B P given walks.NoMemory keys cause = tt
 
   -- where the walk stopped, no more was read than the batch reads
   pub walk-few : (new old : ℕ) → OnAnswer (at_top (batch_from digest (shown_by gives) (layer digest bits)
@@ -264,19 +298,39 @@ module _ (digest : List ℕ → List ℕ) (bits : ℕ) (fits : IsDigest digest) 
             (is-batch.edit.read_old b (subst (λ bs. Contains bs b) (ap bytes_of all-read) k))
 
 pub difference-refused : {D A : Type 0} (digest : List ℕ → List ℕ) (xs ys : List (List ℕ)) (fault : EditFault D A)
-    → ((b : List ℕ) → Contains xs b → Contains ys b) → IsRefusal digest xs ⊥ fault
-    → IsClashOf digest ys (of_difference fault)
-difference-refused digest xs ys edits.NoSuchKey within r = absurd r
+    → ((b : List ℕ) → Contains xs b → Contains ys b) → IsEditRefusal digest xs ⊥ fault
+    → IsRefusal digest ys ⊥ (of_difference fault)
+difference-refused digest xs ys edits.NoSuchKey within r = r
 difference-refused digest xs ys (edits.Clash pair) within r = (within pair.0 r.0, within pair.1 r.1, r.2)
 difference-refused digest xs ys edits.NoMemory within r = tt
+
+pub refused-within : {D A : Type 0} (digest : List ℕ → List ℕ) (xs ys : List (List ℕ)) (P : Type 0) (fault : BatchFault D A)
+    → ((b : List ℕ) → Contains xs b → Contains ys b) → IsRefusal digest xs ⊥ fault → IsRefusal digest ys P fault
+refused-within digest xs ys P (Missing c) within r = r
+refused-within digest xs ys P NotTree within r = r
+refused-within digest xs ys P NoSuchKey within r = absurd r
+refused-within digest xs ys P (Clash pair) within r = (within pair.0 r.0, within pair.1 r.1, r.2)
+refused-within digest xs ys P NoMemory within r = tt
 
 -- why there is none, over any source
 no-answer : (answer : Option (Top × Log)) → at_top answer ≡ None → answer ≡ None
 no-answer None h = refl
 no-answer (Some x) h = absurd (some-none _ h)
 
-pub walk-reason : {A : Type 0} (D : Type 0) (given : List ℕ → Option (Arc (List ℕ) A)) (answer : Option (Top × Log)) (fault : Fault)
-    → IsCause given (at_top answer) fault → IsReason {D = D} given answer (of_walk fault)
-walk-reason D given answer (walks.Missing c) cause = (cause.0, no-answer answer cause.1)
-walk-reason D given answer walks.NotTree cause = cause
-walk-reason D given answer walks.NoMemory cause = tt
+pub walk-reason : {A : Type 0} (D P : Type 0) (given : List ℕ → Option (Arc (List ℕ) A)) (most : ℕ)
+    (answer : Option (Top × Log)) (fault : Fault) → IsCause given (most + 0) (at_top answer) fault
+    → IsReason {D = D} given most answer P (of_walk fault)
+walk-reason D P given most answer (walks.Missing c) cause = (cause.0, no-answer answer cause.1)
+walk-reason D P given most answer walks.NotTree cause =
+    let all : most + 0 ≡ most = omega arith in subst (λ m. IsUnreached m (at_top answer)) all cause
+walk-reason D P given most answer walks.NoMemory cause = tt
+
+-- there is an answer, and what it has clashes
+pub answer-reason : {D A : Type 0} (digest : List ℕ → List ℕ) (blocks : List (List ℕ)) (P : Type 0)
+    (given : List ℕ → Option (Arc (List ℕ) A)) (most : ℕ) (answer : Option (Top × Log)) (x : Top × Log)
+    (fault : BatchFault D A) → answer ≡ Some x → IsRefusal digest blocks ⊥ fault → IsReason given most answer P fault
+answer-reason digest blocks P given most answer x (Missing c) is r = absurd r
+answer-reason digest blocks P given most answer x NotTree is r = absurd r
+answer-reason digest blocks P given most answer x NoSuchKey is r = absurd r
+answer-reason digest blocks P given most answer x (Clash pair) is r = subst IsSome (sym is) refl
+answer-reason digest blocks P given most answer x NoMemory is r = tt

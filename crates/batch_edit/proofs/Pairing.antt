@@ -4,6 +4,7 @@ use Rattle.std.specs.declared.option.Option.TheVariants.{Some, None}
 use Rattle.spec.specs.Tree.{Pair}
 use Rattle.spec.specs.NodeFormat.{Shape}
 use Rattle.batch_laws.specs.Links.{Rows, LinkEdge, Log, and_then, opening, closing, pairing, add_row}
+use Rattle.batch_edit.specs.Budgets.{Budget}
 use Rattle.batch_edit.specs.Edges.{edge_of, within, under}
 use Rattle.batch_edit.specs.States.{IsOpened, IsOpenAt, IsAdded, IsCounted, KeepsWithin}
 use Rattle.batch_edit.proofs.Within.{pair-within, within-under, under-some, one-opened}
@@ -59,8 +60,9 @@ paired digest shows d e all start ls mid new rest link log inner next same h o p
     ∙ ap (λ ys. Some (edge_of ys None, below.1)) (sym p.levels)
     ∙ ap (λ l. Some (edge_of new None, l)) (sym p.log_is)
 
-pub counted-then : (b m a : ℕ) (log mid next : Log) → IsCounted b m log mid → IsCounted m a mid next → IsCounted b a log next
-counted-then b m a log mid next h k = omega arith
+pub counted-then : (b m a : Budget) (log mid next : Log) → IsCounted b m log mid → IsCounted m a mid next
+    → IsCounted b a log next
+counted-then b m a log mid next h k = record { reads = omega arith; left = omega arith }
 
 pub keeps-opened : (shows : List ℕ → Option Shape) (d : ℕ) (s : LinkEdge) (log mid next : Log) (ls new : List Rows)
     (rest link : Option (List ℕ)) → length ls < d → KeepsWithin shows d s log (edge_of ls rest) mid

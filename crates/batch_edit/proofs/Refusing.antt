@@ -13,6 +13,7 @@ use Rattle.batch_laws.specs.Links.{Rows, LinkEdge, LinkClear, LinkWaiting, LinkO
 use Rattle.batch_laws.specs.Written.{IsEarlier, OnAnswer}
 use Rattle.batch_laws.proofs.Earlier.{closing-earlier, pairing-earlier, row-earlier, opening-earlier}
 use Rattle.edit_laws.specs.ShapeEdit.{last_link}
+use Rattle.batch_edit.specs.Budgets.{Budget}
 use Rattle.batch_edit.specs.declared.faults.Fault.{Fault}
 use Rattle.batch_edit.specs.declared.faults.Fault.TheVariants as faults
 use Rattle.batch_edit.specs.Edges.{edge_of, within, under}
@@ -104,8 +105,8 @@ opening-none None log e = refl
 opening-none (Some m) log e = absurd cc
 
 -- its node isn't read
-pub open-unread : {A : Type 0} (gives : List ℕ → Option A) (shows : List ℕ → Option Shape) (b a : ℕ) (c : List ℕ)
-    (rest : Option (List ℕ)) (log : Log) (f : Fault) → rest ≡ Some c → IsUnread gives b a (shows c) f
+pub open-unread : {A : Type 0} (gives : List ℕ → Option A) (shows : List ℕ → Option Shape) (b : Budget) (a : ℕ)
+    (c : List ℕ) (rest : Option (List ℕ)) (log : Log) (f : Fault) → rest ≡ Some c → IsUnread gives b a (shows c) f
     → IsStopped gives b a log (open_edge (opening shows (link_edge rest) log)) f
 open-unread gives shows b a c rest log f e u =
     subst (λ r. IsStopped gives b a log (open_edge (opening shows (link_edge r) log)) f) (sym e)
@@ -123,26 +124,26 @@ opened-goes shows s log = found (opening shows s log) (opening-earlier HasKeys e
 
 -- its node is read, and memory is wanted or its rows are refused
 pub open-refused : {A : Type 0} (gives : List ℕ → Option A) (digest : List ℕ → List ℕ) (shows : List ℕ → Option Shape)
-    (b a : ℕ) (c : List ℕ) (rest : Option (List ℕ)) (log now : Log) (node : Shape) (f : RewriteFault) → rest ≡ Some c
+    (b a : Budget) (c : List ℕ) (rest : Option (List ℕ)) (log now : Log) (node : Shape) (f : RewriteFault) → rest ≡ Some c
     → ask shows c log ≡ Some (node, now) → IsCounted b a log now → IsFaultOfAll ([] ++ rows_in_shape node) f
-    → IsStopped gives b a log (open_edge (opening shows (link_edge rest) log)) (fault_of f)
+    → IsStopped gives b a.0 log (open_edge (opening shows (link_edge rest) log)) (fault_of f)
 open-refused gives digest shows b a c rest log now node f e q n r =
-    subst (λ l. IsStopped gives b a log (open_edge (opening shows (link_edge l) log)) (fault_of f)) (sym e)
-    (from-stopped gives b a a log now (open_edge (opening shows (LinkWaiting c) log)) (fault_of f) n
+    subst (λ l. IsStopped gives b a.0 log (open_edge (opening shows (link_edge l) log)) (fault_of f)) (sym e)
+    (from-stopped gives b a a.0 log now (open_edge (opening shows (LinkWaiting c) log)) (fault_of f) n
     (refused-stopped gives a (LinkOpened (rows_in_shape node) (link_edge (last_link node))) now
     (open_edge (opening shows (LinkWaiting c) log)) f (waiting-rows digest shows c log now node f q r)
     (subst (λ o. Goes (LinkOpened (rows_in_shape node) (link_edge (last_link node))) now (open_edge (and_then o opened_rows)))
     (sym q) (leads-same
     (Some (LinkOpened (rows_in_shape node) (link_edge (last_link node)), now))))))
 
-pub open-memory : {A : Type 0} (gives : List ℕ → Option A) (shows : List ℕ → Option Shape) (a : ℕ) (s : LinkEdge) (log : Log)
-    → IsStopped gives a a log (open_edge (opening shows s log)) faults.NoMemory
+pub open-memory : {A : Type 0} (gives : List ℕ → Option A) (shows : List ℕ → Option Shape) (a : Budget) (s : LinkEdge)
+    (log : Log) → IsStopped gives a a.0 log (open_edge (opening shows s log)) faults.NoMemory
 open-memory gives shows a s log =
     memory-stopped gives a s log (open_edge (opening shows s log)) (opened-goes shows s log)
 
 -- at the end of the open layers
-pub open-last : {A : Type 0} (gives : List ℕ → Option A) (shows : List ℕ → Option Shape) (b a d : ℕ) (ls : List Rows)
-    (rest : Option (List ℕ)) (log : Log) (f : Fault) → length ls ≤ d
+pub open-last : {A : Type 0} (gives : List ℕ → Option A) (shows : List ℕ → Option Shape) (b : Budget) (a d : ℕ)
+    (ls : List Rows) (rest : Option (List ℕ)) (log : Log) (f : Fault) → length ls ≤ d
     → IsStopped gives b a log (open_edge (opening shows (link_edge rest) log)) f
     → IsStopped gives b a log (open_edge (opening shows (edge_of (drop d ls) rest) log)) f
 open-last gives shows b a d ls rest log f h s =
@@ -161,7 +162,7 @@ pair-under digest shows d e all start ls rest log same h =
     ∙ within-under shows d (pairing digest shows zero e) ls rest log h
 
 pub pair-closed : {A : Type 0} (gives : List ℕ → Option A) (digest : List ℕ → List ℕ) (shows : List ℕ → Option Shape)
-    (b a d : ℕ) (e : Pair) (all : LinkEdge) (start : Log) (f : Fault)
+    (b : Budget) (a d : ℕ) (e : Pair) (all : LinkEdge) (start : Log) (f : Fault)
     → ((g : LinkEdge → Log → Option (LinkEdge × Log)) → IsOnward g → IsStopped gives b a start (within shows d g all start) f)
     → IsStopped gives b a start (pairing digest shows d e all start) f
 pair-closed gives digest shows b a d e all start f h =
@@ -169,7 +170,8 @@ pair-closed gives digest shows b a d e all start f h =
     (h (pairing digest shows zero e) (λ s log. pairing-earlier HasKeys empty-keys digest shows zero e s log))
 
 pub pair-unopened : {A : Type 0} (gives : List ℕ → Option A) (digest : List ℕ → List ℕ) (shows : List ℕ → Option Shape)
-    (b m a d : ℕ) (e : Pair) (all : LinkEdge) (start : Log) (ls : List Rows) (rest : Option (List ℕ)) (log : Log) (f : Fault)
+    (b m : Budget) (a d : ℕ) (e : Pair) (all : LinkEdge) (start : Log) (ls : List Rows) (rest : Option (List ℕ)) (log : Log)
+    (f : Fault)
     → ((g : LinkEdge → Log → Option (LinkEdge × Log))
     → within shows d g all start ≡ within shows d g (edge_of ls rest) log)
     → d ≤ length ls → IsCounted b m start log
@@ -187,29 +189,29 @@ pair-unopened gives digest shows b m a d e all start ls rest log f same h n s =
     (under-leads (take d ls) one)) s))
 
 pub pair-refused : {A : Type 0} (gives : List ℕ → Option A) (digest : List ℕ → List ℕ) (shows : List ℕ → Option Shape)
-    (b m a d : ℕ) (e : Pair) (all : LinkEdge) (start : Log) (ls mid : List Rows) (rest link : Option (List ℕ))
+    (b m a : Budget) (d : ℕ) (e : Pair) (all : LinkEdge) (start : Log) (ls mid : List Rows) (rest link : Option (List ℕ))
     (log inner : Log) (f : RewriteFault)
     → ((g : LinkEdge → Log → Option (LinkEdge × Log))
     → within shows d g all start ≡ within shows d g (edge_of ls rest) log)
     → d ≤ length ls → IsCounted b m start log → IsCounted m a log inner → IsOpenAt shows d ls rest log mid link inner
     → ((above : List Rows) (rows : Rows) → take (d + 1) mid ≡ above ++ (rows ∷ [])
     → IsRefused (add_row e rows (closing digest (edge_of (drop (d + 1) mid) link) inner)) f)
-    → IsStopped gives b a start (pairing digest shows d e all start) (fault_of f)
+    → IsStopped gives b a.0 start (pairing digest shows d e all start) (fault_of f)
 pair-refused gives digest shows b m a d e all start ls mid rest link log inner f same h n k o r =
     let s0 = edge_of (drop (d + 1) mid) link in
     let row = add_row e o.rows (closing digest s0 inner) in
     let met : pairing digest shows zero e (edge_of (drop d ls) rest) log ≡ row =
     ap (λ x. and_then x (λ p log1. add_row e p.0 (closing digest p.1 log1))) o.is in
-    subst (λ w. IsStopped gives b a start w (fault_of f))
+    subst (λ w. IsStopped gives b a.0 start w (fault_of f))
     (sym (pair-under digest shows d e all start ls rest log same h ∙ ap (under (take d ls)) met))
-    (from-stopped gives b a a start inner (under (take d ls) row) (fault_of f) (counted-then b m a start log inner n k)
-    (leads-stopped gives a a inner row (under (take d ls) row) (fault_of f) (under-leads (take d ls) row)
+    (from-stopped gives b a a.0 start inner (under (take d ls) row) (fault_of f) (counted-then b m a start log inner n k)
+    (leads-stopped gives a a.0 inner row (under (take d ls) row) (fault_of f) (under-leads (take d ls) row)
     (refused-stopped gives a (LinkOpened o.rows s0) inner row f (r (take d ls) o.rows o.levels)
     (row-earlier HasKeys empty-keys digest o.rows _ s0 LinkClear inner))))
 
 -- ---- so many layers are to be open
 
-pub within-stopped : {A : Type 0} (gives : List ℕ → Option A) (shows : List ℕ → Option Shape) (b m a d : ℕ)
+pub within-stopped : {A : Type 0} (gives : List ℕ → Option A) (shows : List ℕ → Option Shape) (b m : Budget) (a d : ℕ)
     (g : LinkEdge → Log → Option (LinkEdge × Log)) → IsOnward g → (all : LinkEdge) (start : Log) (ls : List Rows)
     (rest : Option (List ℕ)) (log : Log) (f : Fault) → length ls < d
     → within shows d g all start ≡ within shows d g (edge_of ls rest) log → IsCounted b m start log

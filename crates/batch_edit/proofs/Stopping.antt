@@ -9,11 +9,12 @@ use Rattle.batch_laws.specs.Written.{IsEarlier, OnAnswer, GoesFrom}
 use Rattle.batch_laws.proofs.Earlier.{same-earlier, then-earlier, steps-earlier, under-earlier, row-earlier, opening-earlier}
 use Rattle.rewrite.specs.declared.draft.RewriteFault.{RewriteFault}
 use Rattle.rewrite.specs.declared.draft.RewriteFault.TheVariants as drafts
+use Rattle.batch_edit.specs.Budgets.{Budget}
 use Rattle.batch_edit.specs.declared.faults.Fault.{Fault}
 use Rattle.batch_edit.specs.declared.faults.Fault.TheVariants.{Missing, NotTree, NoMemory}
 use Rattle.batch_edit.specs.Edges.{edge_of, within, under, joined, around}
 use Rattle.batch_edit.specs.States.{IsCounted}
-use Rattle.batch_edit.specs.Stops.{IsUnwritten, IsRefused, fault_of, IsCause, IsStopped, IsUnshown, IsUnread, IsOnward, open_edge}
+use Rattle.batch_edit.specs.Stops.{IsUnwritten, IsUnreached, IsRefused, fault_of, IsCause, IsStopped, IsUnshown, IsUnread, IsOnward, open_edge}
 
 pub empty-keys : HasKeys (LastLink None)
 empty-keys = refl
@@ -37,16 +38,22 @@ leads-unwritten None whole h u = subst IsUnwritten (sym h) tt
 leads-unwritten (Some x) None h u = tt
 leads-unwritten (Some x) (Some y) h u = λ w. u (h.written w)
 
+leads-unreached : (most : ℕ) (step whole : Option (LinkEdge × Log)) → Leads step whole → IsUnreached most step
+    → IsUnreached most whole
+leads-unreached most None whole h u = subst (IsUnreached most) (sym h) tt
+leads-unreached most (Some x) None h u = tt
+leads-unreached most (Some x) (Some y) h u = λ n w. (let i = h.reads in u (omega arith) (h.written w))
+
 pub leads-refused : (step whole : Option (LinkEdge × Log)) (f : RewriteFault) → Leads step whole → IsRefused step f
     → IsRefused whole f
 leads-refused step whole drafts.NotNode h r = leads-unwritten step whole h r
 leads-refused step whole drafts.NoMemory h r = tt
 
-leads-cause : {A : Type 0} (gives : List ℕ → Option A) (step whole : Option (LinkEdge × Log)) (f : Fault)
-    → Leads step whole → IsCause gives step f → IsCause gives whole f
-leads-cause gives step whole (Missing c) h k = (k.0, leads-none step whole h k.1)
-leads-cause gives step whole NotTree h k = leads-unwritten step whole h k
-leads-cause gives step whole NoMemory h k = tt
+leads-cause : {A : Type 0} (gives : List ℕ → Option A) (most : ℕ) (step whole : Option (LinkEdge × Log)) (f : Fault)
+    → Leads step whole → IsCause gives most step f → IsCause gives most whole f
+leads-cause gives most step whole (Missing c) h k = (k.0, leads-none step whole h k.1)
+leads-cause gives most step whole NotTree h k = leads-unreached most step whole h k
+leads-cause gives most step whole NoMemory h k = tt
 
 abbrev AreReads : ℕ → ℕ → Log → Option (LinkEdge × Log) → Type 0
 AreReads before after log step = OnAnswer step (λ s later. after + length log.read ≤ before + length later.read)
@@ -57,52 +64,84 @@ leads-reads b a log None whole h r = subst (AreReads b a log) (sym h) tt
 leads-reads b a log (Some x) None h r = tt
 leads-reads b a log (Some x) (Some y) h r = let i = h.reads in omega arith
 
-pub leads-stopped : {A : Type 0} (gives : List ℕ → Option A) (b a : ℕ) (log : Log) (step whole : Option (LinkEdge × Log))
-    (f : Fault) → Leads step whole → IsStopped gives b a log step f → IsStopped gives b a log whole f
+pub leads-stopped : {A : Type 0} (gives : List ℕ → Option A) (b : Budget) (a : ℕ) (log : Log)
+    (step whole : Option (LinkEdge × Log)) (f : Fault) → Leads step whole → IsStopped gives b a log step f
+    → IsStopped gives b a log whole f
 leads-stopped gives b a log step whole f h s = record {
-  cause = leads-cause gives step whole f h s.cause;
-  reads = leads-reads b a log step whole h s.reads;
+  cause = leads-cause gives (b.1 + length log.read) step whole f h s.cause;
+  reads = leads-reads b.0 a log step whole h s.reads;
+  few = s.few;
 }
 
 -- ---- where it stops
 
 -- after some reads
-pub from-stopped : {A : Type 0} (gives : List ℕ → Option A) (b m a : ℕ) (log now : Log) (step : Option (LinkEdge × Log))
-    (f : Fault) → IsCounted b m log now → IsStopped gives m a now step f → IsStopped gives b a log step f
-from-stopped gives b m a log now step f c s = record { cause = s.cause; reads = more step s.reads }
+pub from-stopped : {A : Type 0} (gives : List ℕ → Option A) (b m : Budget) (a : ℕ) (log now : Log)
+    (step : Option (LinkEdge × Log)) (f : Fault) → IsCounted b m log now → IsStopped gives m a now step f
+    → IsStopped gives b a log step f
+from-stopped gives b m a log now step f c s = record {
+  cause = subst (λ most. IsCause gives most step f) c.left s.cause;
+  reads = more step s.reads;
+  few = within s.few;
+}
   where
-    more : (o : Option (LinkEdge × Log)) → AreReads m a now o → AreReads b a log o
+    more : (o : Option (LinkEdge × Log)) → AreReads m.0 a now o → AreReads b.0 a log o
     more None r = tt
     more (Some x) r = omega arith
+
+    within : a ≤ m.0 + m.1 → a ≤ b.0 + b.1
+    within n = omega arith
 
 goes-reads : (a : ℕ) (s : LinkEdge) (now : Log) (step : Option (LinkEdge × Log)) → Goes s now step → AreReads a a now step
 goes-reads a s now None h = tt
 goes-reads a s now (Some x) h = let i = h.reads in omega arith
 
-pub refused-stopped : {A : Type 0} (gives : List ℕ → Option A) (a : ℕ) (s : LinkEdge) (now : Log)
-    (step : Option (LinkEdge × Log)) (f : RewriteFault) → IsRefused step f → Goes s now step
-    → IsStopped gives a a now step (fault_of f)
-refused-stopped gives a s now step drafts.NotNode r h = record { cause = r; reads = goes-reads a s now step h }
-refused-stopped gives a s now step drafts.NoMemory r h = record { cause = tt; reads = goes-reads a s now step h }
+-- where there is no answer at all, there is none for few reads
+unwritten-unreached : (most : ℕ) (step : Option (LinkEdge × Log)) → IsUnwritten step → IsUnreached most step
+unwritten-unreached most None u = tt
+unwritten-unreached most (Some x) u = λ n. u
 
-pub memory-stopped : {A : Type 0} (gives : List ℕ → Option A) (a : ℕ) (s : LinkEdge) (now : Log)
-    (step : Option (LinkEdge × Log)) → Goes s now step → IsStopped gives a a now step NoMemory
-memory-stopped gives a s now step h = record { cause = tt; reads = goes-reads a s now step h }
+pub refused-stopped : {A : Type 0} (gives : List ℕ → Option A) (a : Budget) (s : LinkEdge) (now : Log)
+    (step : Option (LinkEdge × Log)) (f : RewriteFault) → IsRefused step f → Goes s now step
+    → IsStopped gives a a.0 now step (fault_of f)
+refused-stopped gives a s now step drafts.NotNode r h = record {
+  cause = unwritten-unreached (a.1 + length now.read) step r;
+  reads = goes-reads a.0 s now step h;
+  few = omega arith;
+}
+refused-stopped gives a s now step drafts.NoMemory r h =
+    record { cause = tt; reads = goes-reads a.0 s now step h; few = omega arith }
+
+pub memory-stopped : {A : Type 0} (gives : List ℕ → Option A) (a : Budget) (s : LinkEdge) (now : Log)
+    (step : Option (LinkEdge × Log)) → Goes s now step → IsStopped gives a a.0 now step NoMemory
+memory-stopped gives a s now step h = record { cause = tt; reads = goes-reads a.0 s now step h; few = omega arith }
+
+-- a link below layer 0
+pub none-stopped : {A : Type 0} (gives : List ℕ → Option A) (a : Budget) (now : Log)
+    → IsStopped gives a a.0 now None NotTree
+none-stopped gives a now = record { cause = tt; reads = tt; few = omega arith }
 
 -- where a node was to be read, without which there is no answer
-pub unread-stopped : {A : Type 0} (gives : List ℕ → Option A) (b a : ℕ) (shown : Option Shape) (log : Log)
+pub unread-stopped : {A : Type 0} (gives : List ℕ → Option A) (b : Budget) (a : ℕ) (shown : Option Shape) (log : Log)
     (whole : Option (LinkEdge × Log)) (f : Fault) → (shown ≡ None → whole ≡ None)
     → OnAnswer whole (λ s later. suc (length log.read) ≤ length later.read) → IsUnread gives b a shown f
     → IsStopped gives b a log whole f
-unread-stopped gives b a shown log whole f n m u = record { cause = why f u.cause; reads = counted whole m }
+unread-stopped gives b a shown log whole f n m u =
+    record { cause = why b.1 f u.cause; reads = counted whole m; few = u.few }
   where
-    why : (g : Fault) → IsUnshown gives shown g → IsCause gives whole g
-    why (Missing c) k = (k.0, n k.1)
-    why NotTree k = subst IsUnwritten (sym (n k)) tt
-    why NoMemory k = tt
+    past : (o : Option (LinkEdge × Log)) → OnAnswer o (λ s later. suc (length log.read) ≤ length later.read)
+        → IsUnreached (0 + length log.read) o
+    past None r = tt
+    past (Some x) r = λ k w. absurd (omega arith)
+
+    why : (left : ℕ) (g : Fault) → IsUnshown gives left shown g → IsCause gives (left + length log.read) whole g
+    why left (Missing c) k = (k.0, n k.1)
+    why zero NotTree k = past whole m
+    why (suc left) NotTree k = subst (IsUnreached (suc left + length log.read)) (sym (n (k (omega arith)))) tt
+    why left NoMemory k = tt
 
     counted : (o : Option (LinkEdge × Log)) → OnAnswer o (λ s later. suc (length log.read) ≤ length later.read)
-        → AreReads b a log o
+        → AreReads b.0 a log o
     counted None r = tt
     counted (Some x) r = let i = u.reads in omega arith
 
@@ -220,8 +259,8 @@ asked-none None log f e = refl
 asked-none (Some m) log f e = absurd cc
 
 -- it isn't read
-pub asked-unread : {A : Type 0} (gives : List ℕ → Option A) (shows : List ℕ → Option Shape) (b a : ℕ) (c : List ℕ)
-    (s : LinkEdge) (log : Log) (g : Shape → Log → Option (LinkEdge × Log)) (f : Fault)
+pub asked-unread : {A : Type 0} (gives : List ℕ → Option A) (shows : List ℕ → Option Shape) (b : Budget) (a : ℕ)
+    (c : List ℕ) (s : LinkEdge) (log : Log) (g : Shape → Log → Option (LinkEdge × Log)) (f : Fault)
     → ((m : Shape) (l : Log) → Goes s l (g m l)) → IsUnread gives b a (shows c) f
     → IsStopped gives b a log (and_then (ask shows c log) g) f
 asked-unread gives shows b a c s log g f h u =

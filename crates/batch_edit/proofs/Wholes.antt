@@ -1,5 +1,5 @@
 -- A whole tree.
-use Rattle.std.proofs.Common.{◌≡◌, ℕ, suc, ◌+◌, ◌-◌, ◌≤◌, ◌<◌, max, List, [], length, refl, sym, ap, subst, ◌∙◌, arith, Option}
+use Rattle.std.proofs.Common.{◌≡◌, ℕ, suc, ◌+◌, ◌-◌, ◌≤◌, ◌<◌, max, List, [], ◌∷◌, length, length-append, refl, sym, ap, subst, ◌∙◌, arith, Option}
 use Rattle.std.specs.declared.option.Option.TheVariants.{Some, None}
 use Rattle.std.proofs.Math.Nat.{div-le_self}
 use Rattle.spec.specs.Layer.{zero_bits, layer as layer_of}
@@ -8,15 +8,18 @@ use Rattle.spec.proofs.LayerLaws.{zero_bits-le}
 use Rattle.edit_laws.specs.Lawful.{HasKeys}
 use Rattle.edit_laws.specs.ShapeEdit.{layer_of_shape}
 use Rattle.batch_laws.specs.Batch.{Change}
+use Rattle.batch_laws.specs.Counts.{most_reads}
 use Rattle.batch_laws.specs.Links.{LinkEdge, LinkClear, Log, Top, and_then, ask, walking, walking_top, topping, batch_from}
 use Rattle.batch_laws.specs.Written.{OnAnswer}
 use Rattle.batch_laws.proofs.Earlier.{steps-earlier, walking_node-earlier, walking-earlier}
 use Rattle.batch_laws.specs.Previous.{previous_node, previous_gap, previous_top}
 use Rattle.batch_edit.specs.Agenda.{node_does}
+use Rattle.batch_edit.specs.Budgets.{Budget, most_from}
 use Rattle.batch_edit.specs.States.{IsCounted}
+use Rattle.batch_edit.proofs.Bounds.{most-one, most-shown}
 use Rattle.batch_edit.proofs.Topping.{was-shown}
 use Rattle.batch_edit.specs.Tops.{IsEnded, layers_needed}
-use Rattle.batch_edit.specs.Stops.{IsStopped, IsUnread, at_top}
+use Rattle.batch_edit.specs.Stops.{IsStopped, IsUnshown, IsUnread, at_top}
 use Rattle.batch_edit.specs.declared.faults.Fault.{Fault}
 use Rattle.batch_edit.specs.declared.faults.Fault.TheVariants as faults
 use Rattle.batch_edit.proofs.Stopping.{empty-keys, Goes, leads-stopped, onward-leads, from-stopped, memory-stopped, asked-unread}
@@ -53,11 +56,33 @@ met shows layer t cs root node top start first values a t_is v h =
     let same : node ≡ top = cc in
     v ∙ ap (λ m. previous_node (previous_gap shows m) cs node) t_is ∙ ap (previous_top shows layer cs) same
 
-pub counted-all : (b m k a n : ℕ) (start first mid last : Log) → start ≡ record { read = []; made = [] }
-    → IsCounted b m start first → IsCounted m k first mid → IsCounted k a mid last → length last.read ≡ n → a ≡ b + n
+pub counted-all : (b m k a : Budget) (n : ℕ) (start first mid last : Log) → start ≡ record { read = []; made = [] }
+    → IsCounted b m start first → IsCounted m k first mid → IsCounted k a mid last → length last.read ≡ n → a.0 ≡ b.0 + n
 counted-all b m k a n start first mid last e f g h l =
     let none = ap (λ (x : Log). length x.read) e in
     omega arith
+
+-- no more was read than was left
+pub counted-within : (b m k a : Budget) (most : ℕ) (start first mid last : Log) → IsCounted b m start first
+    → IsCounted m k first mid → IsCounted k a mid last → b.1 ≤ most → a.0 ≤ b.0 + most
+counted-within b m k a most start first mid last f g h l = omega arith
+
+-- nor where it stopped later
+pub stopped-within : (b m : Budget) (a most : ℕ) (start first : Log) → IsCounted b m start first → a ≤ m.0 + m.1
+    → b.1 ≤ most → a ≤ b.0 + most
+stopped-within b m a most start first f h l = omega arith
+
+-- the root is read, and then as many are left as a batch reads below it
+pub first-counted : (shows : List ℕ → Option Shape) (layer : List ℕ → ℕ) (t : ℕ) (cs : List Change) (root : List ℕ)
+    (node : Shape) (start first : Log) (b m : Budget) (more : ℕ) → ask shows root start ≡ Some (node, first)
+    → t ≡ layer_of_shape layer node → b.1 ≡ 1 → more ≡ most_reads t cs → IsCounted b m start first
+    → IsCounted (b.0, most_from layer cs (shows root)) (m.0, more) start first
+first-counted shows layer t cs root node start first b m more a t_is one h i =
+    let seen = was-shown (shows root) node start first a in
+    let most = most-shown layer cs (shows root) node t seen.is t_is in
+    let now = ap (λ (x : Log). length x.read) seen.log_is in
+    let longer = length-append start.read (node ∷ []) in
+    record { reads = i.reads; left = omega arith }
 
 -- ---- how many layers it has
 
@@ -101,21 +126,37 @@ module _ {A : Type 0} (gives : List ℕ → Option A) (digest : List ℕ → Lis
       (walking-earlier HasKeys empty-keys digest shows layer n k (suc d)) cs s node log)
       (λ t l. top-goes digest shows n t l))
 
-  pub first-memory : (b : ℕ) → IsStopped gives b b none batch faults.NoMemory
-  first-memory b = record { cause = tt; reads = few batch }
+  pub first-memory : (b : Budget) → IsStopped gives b b.0 none batch faults.NoMemory
+  first-memory b = record { cause = tt; reads = few batch; few = omega arith }
     where
-      few : (o : Option (LinkEdge × Log)) → OnAnswer o (λ s later. b + length {A = Shape} [] ≤ b + length later.read)
+      few : (o : Option (LinkEdge × Log)) → OnAnswer o (λ s later. b.0 + length {A = Shape} [] ≤ b.0 + length later.read)
       few None = tt
       few (Some x) = omega arith
 
-  pub root-unread : (b a : ℕ) (f : Fault) → IsUnread gives b a (shows root) f → IsStopped gives b a none batch f
-  root-unread b a f u =
+  -- where one node might be read, more may be
+  unread-more : (b a left most : ℕ) (o : Option Shape) (f : Fault) → left ≡ 1 → 1 ≤ most → IsUnread gives (b, left) a o f
+      → IsUnread gives (b, most) a o f
+  unread-more b a left most o f e h u = record { cause = why f u.cause; reads = u.reads; few = within u.few }
+    where
+      why : (g : Fault) → IsUnshown gives left o g → IsUnshown gives most o g
+      why (faults.Missing c) k = k
+      why faults.NotTree k = λ n. k (omega arith)
+      why faults.NoMemory k = tt
+
+      within : a ≤ b + left → a ≤ b + most
+      within n = omega arith
+
+  pub root-unread : (b a left : ℕ) (f : Fault) → left ≡ 1 → IsUnread gives (b, left) a (shows root) f
+      → IsStopped gives (b, most_from layer cs (shows root)) a none batch f
+  root-unread b a left f e u =
+      let all : Budget = (b, most_from layer cs (shows root)) in
       let step = λ (m : Shape) (l : Log). at_top (and_then (walking_top digest shows layer n cs m l) (topping digest shows n)) in
-      subst (λ o. IsStopped gives b a none o f)
+      subst (λ o. IsStopped gives all a none o f)
       (sym (at-top-then (ask shows root none)
       (λ m l. and_then (walking_top digest shows layer n cs m l) (topping digest shows n))))
-      (asked-unread gives shows b a root LinkClear none step f
-      (λ m l. then-top-goes (layer_of_shape layer m) (n - suc (layer_of_shape layer m)) m LinkClear l) u)
+      (asked-unread gives shows all a root LinkClear none step f
+      (λ m l. then-top-goes (layer_of_shape layer m) (n - suc (layer_of_shape layer m)) m LinkClear l)
+      (unread-more b a left all.1 (shows root) f e (most-one layer cs (shows root)) u))
 
   batch-is : (t d : ℕ) (node : Shape) (start first : Log) (begun : LinkEdge) → start ≡ none
       → ask shows root start ≡ Some (node, first) → t ≡ layer_of_shape layer node → d ≡ n - suc t → begun ≡ LinkClear
@@ -135,18 +176,18 @@ module _ {A : Type 0} (gives : List ℕ → Option A) (digest : List ℕ → Lis
     abbrev rest : Option (LinkEdge × Log)
     rest = at_top (and_then (node_does digest shows layer n t d cs node begun first) (topping digest shows n))
 
-    from-first : (b m a : ℕ) (f : Fault) → IsCounted b m start first → IsStopped gives m a first rest f
+    from-first : (b m : Budget) (a : ℕ) (f : Fault) → IsCounted b m start first → IsStopped gives m a first rest f
         → IsStopped gives b a none batch f
     from-first b m a f i s =
         subst (λ o. IsStopped gives b a none o f) (sym (batch-is t d node start first begun e shown t_is d_is clear))
         (subst (λ l. IsStopped gives b a l rest f) e (from-stopped gives b m a start first rest f i s))
 
-    pub rows-memory : (b a : ℕ) → IsCounted b a start first → IsStopped gives b a none batch faults.NoMemory
+    pub rows-memory : (b a : Budget) → IsCounted b a start first → IsStopped gives b a.0 none batch faults.NoMemory
     rows-memory b a i =
-        from-first b a a faults.NoMemory i
+        from-first b a a.0 faults.NoMemory i
         (memory-stopped gives a begun first rest (then-top-goes t d node begun first))
 
-    pub walk-stopped : (b m a : ℕ) (f : Fault) → IsCounted b m start first
+    pub walk-stopped : (b m : Budget) (a : ℕ) (f : Fault) → IsCounted b m start first
         → IsStopped gives m a first (node_does digest shows layer n t d cs node begun first) f
         → IsStopped gives b a none batch f
     walk-stopped b m a f i s =
@@ -156,7 +197,7 @@ module _ {A : Type 0} (gives : List ℕ → Option A) (digest : List ℕ → Lis
         (leads-stopped gives m a first x (and_then x (λ u l. at_top (topping digest shows n u l))) f
         (onward-leads x (λ u l. at_top (topping digest shows n u l)) (λ u l. top-goes digest shows n u l)) s))
 
-    pub finish-stopped : (b m k a : ℕ) (f : Fault) (u : LinkEdge) (later : Log) → IsCounted b m start first
+    pub finish-stopped : (b m k : Budget) (a : ℕ) (f : Fault) (u : LinkEdge) (later : Log) → IsCounted b m start first
         → IsCounted m k first later
         → node_does digest shows layer n t d cs node begun first ≡ Some (u, later)
         → IsStopped gives k a later (at_top (topping digest shows n u later)) f → IsStopped gives b a none batch f

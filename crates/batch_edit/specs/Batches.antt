@@ -1,11 +1,11 @@
 -- What a batch answers, over the pairs of the tree and over any source.
-use Rattle.std.specs.Prelude.{◌≡◌, ◌≤◌, ◌+◌, ◌-◌, ◌*◌, ⊤, ℕ, suc, max, Bool, true, ◌&&◌, List, [], ◌∷◌, ◌++◌, map, length, Option, Some, None, Result, IfOk, IfErr}
+use Rattle.std.specs.Prelude.{◌≡◌, ◌≤◌, ◌+◌, ◌-◌, ◌*◌, ⊤, ℕ, suc, max, Bool, true, ◌&&◌, List, [], ◌∷◌, ◌++◌, map, length, Option, Some, None, IsSome, Result, IfOk, IfErr}
 use Rattle.std.specs.Arc.{arc_value}
 use Rattle.std.specs.declared.sync.Arc.{Arc}
 use Rattle.spec.specs.Tree.{Pair, top, top_layer}
 use Rattle.spec.specs.Layer.{layer as layer_of_key}
 use Rattle.spec.specs.NodeFormat.{Shape, is_key, node_bytes}
-use Rattle.spec.specs.Blocks.{IsClashFree, IsClashIn, nodes, root as root_of}
+use Rattle.spec.specs.Blocks.{IsClashFree, nodes, root as root_of}
 use Rattle.edit_laws.specs.Changes.{AreChanges, add_of, drop_of}
 use Rattle.edit_laws.specs.Laws.Edits.{bytes_of}
 use Rattle.edit.specs.Steps.{nodes_given}
@@ -14,8 +14,10 @@ use Rattle.batch_laws.specs.Batch.{Change, changed}
 use Rattle.batch_laws.specs.Links.{Log, Top, batch_from}
 use Rattle.batch_laws.specs.Previous.{values}
 use Rattle.batch_laws.specs.Trace.{batch_read}
+use Rattle.batch_edit.specs.Budgets.{most_from}
 use Rattle.batch_edit.specs.Places.{are_ascending}
-use Rattle.batch_edit.specs.Stops.{IsUnwritten, at_top}
+use Rattle.batch_edit.specs.Refusals.{IsRefusal}
+use Rattle.batch_edit.specs.Stops.{IsUnreached, at_top}
 use Rattle.batch_edit.specs.Tops.{layers_needed}
 use Rattle.edit.specs.declared.outcome.EditFault.{EditFault}
 use Rattle.edit.specs.declared.outcome.EditFault.TheVariants as edits
@@ -23,7 +25,7 @@ use Rattle.batch_edit.specs.declared.faults.Fault.{Fault}
 use Rattle.batch_edit.specs.declared.faults.Fault.TheVariants as walks
 use Rattle.batch_edit.specs.declared.outcome.BatchEdit.{BatchEdit}
 use Rattle.batch_edit.specs.declared.outcome.BatchFault.{BatchFault}
-use Rattle.batch_edit.specs.declared.outcome.BatchFault.TheVariants.{Missing, NotTree, Clash, NoMemory}
+use Rattle.batch_edit.specs.declared.outcome.BatchFault.TheVariants.{Missing, NotTree, NoSuchKey, Clash, NoMemory}
 
 -- ---- what a batch takes
 
@@ -73,13 +75,6 @@ pub record IsBatchOf (digest : List ℕ → List ℕ) (bits : ℕ) (cs : List Ch
       let n = layers_of digest bits cs es in
       length add ≤ (n - t) + length cs * (n + t)
 
--- two of these blocks clash; of a want of memory nothing is said
-abbrev pub IsClashOf : {D A : Type 0} → (List ℕ → List ℕ) → List (List ℕ) → BatchFault D A → Type 0
-IsClashOf digest blocks (Missing c) = ⊥
-IsClashOf digest blocks NotTree = ⊥
-IsClashOf digest blocks (Clash pair) = IsClashIn digest blocks pair
-IsClashOf digest blocks NoMemory = ⊤
-
 -- what a fault of the walk, and one of the difference, is to the caller
 abbrev pub of_walk : {D A : Type 0} → Fault → BatchFault D A
 of_walk walks.NotTree = NotTree
@@ -87,7 +82,7 @@ of_walk (walks.Missing c) = Missing c
 of_walk walks.NoMemory = NoMemory
 
 abbrev pub of_difference : {D A : Type 0} → EditFault D A → BatchFault D A
-of_difference edits.NoSuchKey = NotTree
+of_difference edits.NoSuchKey = NoSuchKey
 of_difference (edits.Clash pair) = Clash pair
 of_difference edits.NoMemory = NoMemory
 
@@ -101,7 +96,7 @@ IsBatch digest bits gives root cs result = OfTree digest bits gives root (λ es.
 abbrev pub IsBatchRefusal : {D A : Type 0} → (List ℕ → List ℕ) → ℕ → (List ℕ → Option (Arc (List ℕ) A)) → List ℕ
     → List Change → Result (BatchEdit D A) (BatchFault D A) → Type 0
 IsBatchRefusal digest bits gives root cs result = OfTree digest bits gives root (λ es.
-    IfErr result (IsClashOf digest (nodes digest bits es ++ nodes digest bits (changed cs es))))
+    IfErr result (IsRefusal digest (nodes digest bits es ++ nodes digest bits (changed cs es)) ⊥))
 
 -- ---- over any source
 
@@ -131,15 +126,23 @@ abbrev pub IsAnswered : {D A : Type 0} → (List ℕ → List ℕ) → ℕ → (
 IsAnswered digest bits gives root cs result = IfOk result (λ edit.
     IsAnswer digest (answer_of digest bits gives cs root) edit.root (map arc_value edit.add.items) edit.drop.items)
 
--- why there is none: the source lacks the block with this CID, without which there is no answer; or the batch has no
--- answer in which keys ascend in each node that is made
-abbrev pub IsReason : {D A : Type 0} → (List ℕ → Option (Arc (List ℕ) A)) → Option (Top × Log) → BatchFault D A → Type 0
-IsReason gives answer (Missing c) = (gives c ≡ None) × (answer ≡ None)
-IsReason gives answer NotTree = IsUnwritten (at_top answer)
-IsReason gives answer (Clash pair) = ⊤
-IsReason gives answer NoMemory = ⊤
+-- and how many nodes may be read for it: the root, and as many as the changes read at most below a top of its layer
+abbrev pub most_of : {A : Type 0} → (List ℕ → List ℕ) → ℕ → (List ℕ → Option (Arc (List ℕ) A)) → List Change
+    → List ℕ → ℕ
+most_of digest bits gives cs root = most_from (layer_of_key digest bits) cs (nodes_given gives root)
+
+-- why there is none: the source lacks the block with this CID, without which there is no answer; the batch has no answer for
+-- which at most so many nodes are read, and in which keys ascend in each node that is made; there is no such key only where
+-- P holds; or there is an answer, and two of its blocks clash
+abbrev pub IsReason : {D A : Type 0} → (List ℕ → Option (Arc (List ℕ) A)) → ℕ → Option (Top × Log) → Type 0
+    → BatchFault D A → Type 0
+IsReason gives most answer P (Missing c) = (gives c ≡ None) × (answer ≡ None)
+IsReason gives most answer P NotTree = IsUnreached most (at_top answer)
+IsReason gives most answer P NoSuchKey = P
+IsReason gives most answer P (Clash pair) = IsSome answer
+IsReason gives most answer P NoMemory = ⊤
 
 abbrev pub IsLack : {D A : Type 0} → (List ℕ → List ℕ) → ℕ → (List ℕ → Option (Arc (List ℕ) A)) → List ℕ
     → List Change → Result (BatchEdit D A) (BatchFault D A) → Type 0
 IsLack digest bits gives root cs result =
-    IfErr result (IsReason gives (answer_of digest bits gives cs root))
+    IfErr result (IsReason gives (most_of digest bits gives cs root) (answer_of digest bits gives cs root) ⊥)

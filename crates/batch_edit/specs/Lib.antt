@@ -1,4 +1,5 @@
 pub mod Edges
+pub mod Budgets
 pub mod States
 pub mod Agenda
 pub mod Tops
@@ -8,3 +9,5 @@ pub mod Firsts
 pub mod Batches
 pub mod Stops
 pub mod Spelled
+pub mod Refusals
+pub mod Singles

@@ -6,6 +6,7 @@ use Rattle.spec.specs.Tree.{Pair}
 use Rattle.spec.specs.NodeFormat.{Shape, first_link}
 use Rattle.rewrite.specs.Drafts.{shape_in}
 use Rattle.batch_laws.specs.Links.{Rows, LinkEdge, Log, opening, closing, link_edge, parting}
+use Rattle.batch_edit.specs.Budgets.{Budget}
 use Rattle.batch_edit.specs.Edges.{edge_of, within, joined, around}
 use Rattle.rewrite.specs.Entries.{Reading}
 use Rattle.batch_edit.specs.declared.edge.Edge.{Edge}
@@ -83,9 +84,10 @@ pub record IsJoined (digest : List ℕ → List ℕ) (d : ℕ) (node : Shape) (l
   pub same : take d new ≡ take d ls
   pub long : d ≤ length new
 
--- as many more reads as the log has more
-abbrev pub IsCounted : ℕ → ℕ → Log → Log → Type 0
-IsCounted before after log next = after + length log.read ≡ before + length next.read
+-- as many more reads as the log has more, and so many fewer that are left
+pub record IsCounted (before after : Budget) (log next : Log) : Type 0 where
+  pub reads : after.0 + length log.read ≡ before.0 + length next.read
+  pub left : after.1 + length next.read ≡ before.1 + length log.read
 
 -- opening layers on the way changes nothing of what comes so far below
 abbrev pub KeepsWithin : (List ℕ → Option Shape) → ℕ → LinkEdge → Log → LinkEdge → Log → Type 0

@@ -1,18 +1,23 @@
 -- Where a step stops: what its fault means, and how much was read by then. A step is what the laws make of it, an edge with
 -- its log, or nothing where it has no answer.
-use Rattle.std.specs.Prelude.{◌≡◌, ◌≤◌, ◌+◌, ⊤, ℕ, suc, List, ◌++◌, length, Option, Some, None}
+use Rattle.std.specs.Prelude.{◌≡◌, ◌<◌, ◌≤◌, ◌+◌, ⊤, ℕ, suc, List, ◌++◌, length, Option, Some, None}
 use Rattle.spec.specs.NodeFormat.{Shape}
 use Rattle.edit_laws.specs.Lawful.{HasKeys}
 use Rattle.batch_laws.specs.Links.{Rows, LinkEdge, LinkClear, LinkOpened, Log, Top, and_then, closing}
 use Rattle.batch_laws.specs.Written.{AreWritten, OnAnswer, GoesFrom}
 use Rattle.rewrite.specs.declared.draft.RewriteFault.{RewriteFault}
 use Rattle.rewrite.specs.declared.draft.RewriteFault.TheVariants as drafts
+use Rattle.batch_edit.specs.Budgets.{Budget}
 use Rattle.batch_edit.specs.declared.faults.Fault.{Fault}
 use Rattle.batch_edit.specs.declared.faults.Fault.TheVariants.{Missing, NotTree, NoMemory}
 
 -- it has no answer in which each node that was made has keys of the grammar, and each that is open may still have them
 abbrev pub IsUnwritten : Option (LinkEdge × Log) → Type 0
 IsUnwritten step = OnAnswer step (λ s log. ¬ AreWritten HasKeys s log)
+
+-- it has no such answer for which at most so many nodes are read
+abbrev pub IsUnreached : ℕ → Option (LinkEdge × Log) → Type 0
+IsUnreached most step = OnAnswer step (λ s log. length log.read ≤ most → ¬ AreWritten HasKeys s log)
 
 -- a node was not written; of a want of memory nothing is said
 abbrev pub IsRefused : Option (LinkEdge × Log) → RewriteFault → Type 0
@@ -24,31 +29,34 @@ abbrev pub fault_of : RewriteFault → Fault
 fault_of drafts.NotNode = NotTree
 fault_of drafts.NoMemory = NoMemory
 
--- the source lacks a block without which there is no answer, or there is no answer with keys of the grammar
-abbrev pub IsCause : {A : Type 0} → (List ℕ → Option A) → Option (LinkEdge × Log) → Fault → Type 0
-IsCause gives step (Missing c) = (gives c ≡ None) × (step ≡ None)
-IsCause gives step NotTree = IsUnwritten step
-IsCause gives step NoMemory = ⊤
+-- the source lacks a block without which there is no answer, or there is no answer with keys of the grammar for which so
+-- few nodes are read
+abbrev pub IsCause : {A : Type 0} → (List ℕ → Option A) → ℕ → Option (LinkEdge × Log) → Fault → Type 0
+IsCause gives most step (Missing c) = (gives c ≡ None) × (step ≡ None)
+IsCause gives most step NotTree = IsUnreached most step
+IsCause gives most step NoMemory = ⊤
 
--- a step that was begun with a log stopped, after no more reads than its answer would have
-pub record IsStopped {A : Type 0} (gives : List ℕ → Option A) (before after : ℕ) (log : Log)
+-- a step that was begun with a log stopped, after no more reads than its answer would have, and no more than were left
+pub record IsStopped {A : Type 0} (gives : List ℕ → Option A) (before : Budget) (after : ℕ) (log : Log)
     (step : Option (LinkEdge × Log)) (fault : Fault) : Type 0 where
-  pub cause : IsCause gives step fault
-  pub reads : OnAnswer step (λ s later. after + length log.read ≤ before + length later.read)
+  pub cause : IsCause gives (before.1 + length log.read) step fault
+  pub reads : OnAnswer step (λ s later. after + length log.read ≤ before.0 + length later.read)
+  pub few : after ≤ before.0 + before.1
 
 -- ---- one node that is read
 
--- the source lacks the block, or gives what is no node
-abbrev pub IsUnshown : {A : Type 0} → (List ℕ → Option A) → Option Shape → Fault → Type 0
-IsUnshown gives shown (Missing c) = (gives c ≡ None) × (shown ≡ None)
-IsUnshown gives shown NotTree = shown ≡ None
-IsUnshown gives shown NoMemory = ⊤
+-- the source lacks the block, or gives what is no node, unless no more may be read
+abbrev pub IsUnshown : {A : Type 0} → (List ℕ → Option A) → ℕ → Option Shape → Fault → Type 0
+IsUnshown gives left shown (Missing c) = (gives c ≡ None) × (shown ≡ None)
+IsUnshown gives left shown NotTree = 0 < left → shown ≡ None
+IsUnshown gives left shown NoMemory = ⊤
 
--- a node was not read, after one read at most
-pub record IsUnread {A : Type 0} (gives : List ℕ → Option A) (before after : ℕ) (shown : Option Shape) (fault : Fault)
-    : Type 0 where
-  pub cause : IsUnshown gives shown fault
-  pub reads : after ≤ suc before
+-- a node was not read, after one read at most, and none where none was left
+pub record IsUnread {A : Type 0} (gives : List ℕ → Option A) (before : Budget) (after : ℕ) (shown : Option Shape)
+    (fault : Fault) : Type 0 where
+  pub cause : IsUnshown gives before.1 shown fault
+  pub reads : after ≤ suc before.0
+  pub few : after ≤ before.0 + before.1
 
 -- ---- steps
 

@@ -1,6 +1,6 @@
 //! Many keys of a tree changed at once.
 
-ghost use Rattle.std.specs.Prelude.{◌≡◌, ◌≤◌, ◌+◌, ◌∷◌, ◌++◌, suc, length, map, take, true, IfOk, IfErr, OnOk};
+ghost use Rattle.std.specs.Prelude.{◌≡◌, ◌≤◌, ◌+◌, ◌/◌, ◌∷◌, ◌++◌, suc, length, map, take, true, IfOk, IfErr, OnOk};
 ghost use Rattle.std.specs.Arc.{arc_value};
 ghost use Rattle.spec.specs.Blocks.{IsClashFree};
 ghost use Rattle.spec.specs.Layer.{layer as layer_of};
@@ -63,6 +63,10 @@ fn comes_first<A: Allocator>(change: &Change<A>, others: &[Change<A>]) -> bool
 /// lacks a node that is needed, `BatchFault::Missing` has its CID, so that who has it elsewhere can add it and call again.
 /// `BatchFault::NotTree` comes only where the source gives what is no tree; not all of that is noticed, as only what the
 /// changes need is read. After a refusal nothing has changed: the blocks are for the caller to keep.
+///
+/// Whatever the source gives, also where its nodes go on without an end, no more blocks are read than over a tree with a
+/// root of the same layer: the root, and for each layer below it one for a put and two for a delete. A batch that would need
+/// more is told `BatchFault::NotTree`.
 pub fn apply<'a, D: Digest + 'a, const B: u8, A: Allocator + Clone + 'a, S: Source<Lent<'a, D, A>>>(
     alloc: A,
     src: &mut S,
@@ -80,6 +84,7 @@ pub fn apply<'a, D: Digest + 'a, const B: u8, A: Allocator + Clone + 'a, S: Sour
         (S.reads src.new ≡ S.reads src.old + length (nodes_read D.digest_of B changes.now es))) }
     ensures layers { OfTree D.digest_of B (S.gives src.old) root (λ es. S.reads src.new
         ≤ S.reads src.old + suc (most_reads (top_layer (layer_of D.digest_of B) es) changes.now)) }
+    ensures most { S.reads src.new ≤ S.reads src.old + suc (most_reads (256 / B) changes.now) }
     ensures same { S.gives src.new ≡ S.gives src.old }
 {
     let wanted = layers_of_puts::<D, B, A>(changes);
@@ -100,7 +105,7 @@ fn layers_for<D: Digest, const B: u8, A: Allocator>(change: &Change<A>) -> u16
 }
 
 /// And for the keys of all changes.
-fn layers_of_puts<D: Digest, const B: u8, A: Allocator>(changes: &[Change<A>]) -> u16
+pub(crate) fn layers_of_puts<D: Digest, const B: u8, A: Allocator>(changes: &[Change<A>]) -> u16
     requires least { 1 ≤ B }
     requires most { B ≤ 8 }
     ensures { result ≡ put_layers (layer_of D.digest_of B) changes.now }
@@ -113,7 +118,7 @@ fn layers_of_puts<D: Digest, const B: u8, A: Allocator>(changes: &[Change<A>]) -
 }
 
 /// What comes and what goes where a tree was changed.
-fn difference_of<D: Digest, A: Allocator + Clone>(
+pub(crate) fn difference_of<D: Digest, A: Allocator + Clone>(
     alloc: A,
     changed: Changed<'_, D, A>,
 ) -> Result<BatchEdit<D, A>, EditFault<D, A>>

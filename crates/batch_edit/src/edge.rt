@@ -27,19 +27,24 @@ pub(crate) struct Edge<'a, D: Digest, A: Allocator> {
     pub(crate) rest: Option<Cid>,
     pub(crate) read: Vec<ReadNode<'a, D, A>, A>,
     pub(crate) made: Made<D, A>,
+
+    /// How many more nodes may be read.
+    pub(crate) left: u128,
 }
 
 impl<'a, D: Digest, A: Allocator + Clone> Edge<'a, D, A> {
-    /// The edge of a tree of which nothing came so far.
+    /// The edge of a tree of which nothing came so far, and for which one node may be read.
     pub(crate) fn new(alloc: A) -> Result<Edge<'a, D, A>, AllocError>
         ensures edge { IfOk result (λ edge. edge_in edge ≡ LinkClear) }
         ensures log { IfOk result (λ edge. log_in edge ≡ record { read = []; made = [] }) }
+        ensures left { IfOk result (λ edge. edge.left ≡ 1) }
     {
         Ok(Edge {
             levels: Vec::new(alloc.clone()?),
             rest: None,
             read: Vec::new(alloc.clone()?),
             made: Vec::new(alloc),
+            left: 1,
         })
     }
 
@@ -56,6 +61,7 @@ impl<'a, D: Digest, A: Allocator + Clone> Edge<'a, D, A> {
             (edge_of (drop depth self.old.levels.items) self.old.rest) (log_in self.old)
             ≡ (link, log_in self.new)) }
         ensures read { self.new.read.items ≡ self.old.read.items }
+        ensures budget { self.new.left ≡ self.old.left }
         ensures fault { IfErr result (IsRefused (all_closed D.digest_of
             (edge_of (drop depth self.old.levels.items) self.old.rest) (log_in self.old))) }
     {
@@ -77,6 +83,7 @@ impl<'a, D: Digest, A: Allocator + Clone> Edge<'a, D, A> {
             self.new.levels.items (log_in self.new)) }
         ensures rest { OnOk result (self.new.rest ≡ None) }
         ensures read { self.new.read.items ≡ self.old.read.items }
+        ensures budget { self.new.left ≡ self.old.left }
         ensures fault { (above : List Rows) (rows : Rows)
             → take (depth + 1) self.old.levels.items ≡ above ++ (rows ∷ [])
             → IfErr result (IsRefused (add_row (pair_of key.now value.entry) rows (closing D.digest_of
@@ -94,7 +101,7 @@ impl<'a, D: Digest, A: Allocator + Clone> Edge<'a, D, A> {
 }
 
 impl<'a, D: Digest + 'a, A: Allocator + Clone + 'a> Edge<'a, D, A> {
-    /// The node with this CID is read.
+    /// The node with this CID is read, where one more may be.
     pub(crate) fn view<S: Source<Lent<'a, D, A>>>(
         &mut self,
         src: &mut S,
@@ -102,14 +109,15 @@ impl<'a, D: Digest + 'a, A: Allocator + Clone + 'a> Edge<'a, D, A> {
     ) -> Result<NodeView<'a>, Fault>
         ensures shown { IfOk result (λ view. ask (nodes_given (S.gives src.old)) cid
             (log_in self.old) ≡ Some (shape_of view, log_in self.new)) }
-        ensures counted { OnOk result
-            (IsCounted (S.reads src.old) (S.reads src.new) (log_in self.old) (log_in self.new)) }
+        ensures counted { OnOk result (IsCounted (S.reads src.old, self.old.left)
+            (S.reads src.new, self.new.left) (log_in self.old) (log_in self.new)) }
         ensures levels { self.new.levels.items ≡ self.old.levels.items }
         ensures rest { self.new.rest ≡ self.old.rest }
         ensures same { S.gives src.new ≡ S.gives src.old }
-        ensures unread { IfErr result (IsUnread (S.gives src.old) (S.reads src.old)
+        ensures unread { IfErr result (IsUnread (S.gives src.old) (S.reads src.old, self.old.left)
             (S.reads src.new) (nodes_given (S.gives src.old) cid)) }
     {
+        self.left = self.left.checked_sub(1).ok_or(Fault::NotTree)?;
         let Some(lent) = src.get(&cid) else {
             return Err(Fault::Missing(cid));
         };
@@ -128,12 +136,12 @@ impl<'a, D: Digest + 'a, A: Allocator + Clone + 'a> Edge<'a, D, A> {
     ) -> Result<KeyedEntries<'a, A>, Fault>
         ensures shown { IfOk result (λ rows. ask (nodes_given (S.gives src.old)) cid
             (log_in self.old) ≡ Some (rows.rest, log_in self.new)) }
-        ensures counted { OnOk result
-            (IsCounted (S.reads src.old) (S.reads src.new) (log_in self.old) (log_in self.new)) }
+        ensures counted { OnOk result (IsCounted (S.reads src.old, self.old.left)
+            (S.reads src.new, self.new.left) (log_in self.old) (log_in self.new)) }
         ensures levels { self.new.levels.items ≡ self.old.levels.items }
         ensures rest { self.new.rest ≡ self.old.rest }
         ensures same { S.gives src.new ≡ S.gives src.old }
-        ensures unread { IfErr result (IsUnread (S.gives src.old) (S.reads src.old)
+        ensures unread { IfErr result (IsUnread (S.gives src.old) (S.reads src.old, self.old.left)
             (S.reads src.new) (nodes_given (S.gives src.old) cid)) }
     {
         let view = self.view(src, cid)?;
@@ -145,12 +153,12 @@ impl<'a, D: Digest + 'a, A: Allocator + Clone + 'a> Edge<'a, D, A> {
         ensures opened { OnOk result (IsOpened (nodes_given (S.gives src.old))
             self.old.levels.items self.old.rest (log_in self.old)
             self.new.levels.items self.new.rest (log_in self.new)) }
-        ensures counted { OnOk result
-            (IsCounted (S.reads src.old) (S.reads src.new) (log_in self.old) (log_in self.new)) }
+        ensures counted { OnOk result (IsCounted (S.reads src.old, self.old.left)
+            (S.reads src.new, self.new.left) (log_in self.old) (log_in self.new)) }
         ensures same { S.gives src.new ≡ S.gives src.old }
-        ensures stopped { IfErr result (IsStopped (S.gives src.old) (S.reads src.old)
-            (S.reads src.new) (log_in self.old) (open_edge (opening
-            (nodes_given (S.gives src.old)) (link_edge self.old.rest) (log_in self.old)))) }
+        ensures stopped { IfErr result (IsStopped (S.gives src.old) (S.reads src.old, self.old.left)
+            (S.reads src.new) (log_in self.old) (open_edge (opening (nodes_given (S.gives src.old))
+            (link_edge self.old.rest) (log_in self.old)))) }
     {
         let Some(cid) = self.rest else {
             let level = Level::new(self.alloc()?);
@@ -174,12 +182,12 @@ impl<'a, D: Digest + 'a, A: Allocator + Clone + 'a> Edge<'a, D, A> {
         ensures keeps { OnOk result (KeepsWithin (nodes_given (S.gives src.old)) count
             (edge_in self.old) (log_in self.old) (edge_in self.new) (log_in self.new)) }
         ensures long { OnOk result (count ≤ length self.new.levels.items) }
-        ensures counted { OnOk result
-            (IsCounted (S.reads src.old) (S.reads src.new) (log_in self.old) (log_in self.new)) }
+        ensures counted { OnOk result (IsCounted (S.reads src.old, self.old.left)
+            (S.reads src.new, self.new.left) (log_in self.old) (log_in self.new)) }
         ensures same { S.gives src.new ≡ S.gives src.old }
         ensures stopped { (f : LinkEdge → Log → Option (LinkEdge × Log)) → IsOnward f
-            → IfErr result (IsStopped (S.gives src.old) (S.reads src.old) (S.reads src.new)
-            (log_in self.old) (within (nodes_given (S.gives src.old)) count f
+            → IfErr result (IsStopped (S.gives src.old) (S.reads src.old, self.old.left)
+            (S.reads src.new) (log_in self.old) (within (nodes_given (S.gives src.old)) count f
             (edge_in self.old) (log_in self.old))) }
     {
         while self.levels.len() < count {
@@ -198,10 +206,10 @@ impl<'a, D: Digest + 'a, A: Allocator + Clone + 'a> Edge<'a, D, A> {
         ensures opened { OnOk result (IsOpenAt (nodes_given (S.gives src.old)) depth
             self.old.levels.items self.old.rest (log_in self.old)
             self.new.levels.items self.new.rest (log_in self.new)) }
-        ensures counted { OnOk result
-            (IsCounted (S.reads src.old) (S.reads src.new) (log_in self.old) (log_in self.new)) }
+        ensures counted { OnOk result (IsCounted (S.reads src.old, self.old.left)
+            (S.reads src.new, self.new.left) (log_in self.old) (log_in self.new)) }
         ensures same { S.gives src.new ≡ S.gives src.old }
-        ensures stopped { IfErr result (IsStopped (S.gives src.old) (S.reads src.old)
+        ensures stopped { IfErr result (IsStopped (S.gives src.old) (S.reads src.old, self.old.left)
             (S.reads src.new) (log_in self.old) (open_edge (opening (nodes_given (S.gives src.old))
             (edge_of (drop depth self.old.levels.items) self.old.rest) (log_in self.old)))) }
     {
@@ -222,13 +230,12 @@ impl<'a, D: Digest + 'a, A: Allocator + Clone + 'a> Edge<'a, D, A> {
         ensures paired { OnOk result (pairing D.digest_of (nodes_given (S.gives src.old)) depth
             (pair_of key.now value.entry) (edge_in self.old) (log_in self.old)
             ≡ Some (edge_in self.new, log_in self.new)) }
-        ensures counted { OnOk result
-            (IsCounted (S.reads src.old) (S.reads src.new) (log_in self.old) (log_in self.new)) }
+        ensures counted { OnOk result (IsCounted (S.reads src.old, self.old.left)
+            (S.reads src.new, self.new.left) (log_in self.old) (log_in self.new)) }
         ensures same { S.gives src.new ≡ S.gives src.old }
-        ensures stopped { IfErr result (IsStopped (S.gives src.old) (S.reads src.old)
-            (S.reads src.new) (log_in self.old) (pairing D.digest_of
-            (nodes_given (S.gives src.old)) depth (pair_of key.now value.entry)
-            (edge_in self.old) (log_in self.old))) }
+        ensures stopped { IfErr result (IsStopped (S.gives src.old) (S.reads src.old, self.old.left)
+            (S.reads src.new) (log_in self.old) (pairing D.digest_of (nodes_given (S.gives src.old))
+            depth (pair_of key.now value.entry) (edge_in self.old) (log_in self.old))) }
     {
         self.open_to(src, depth)?;
         self.open_at(src, depth)?;

@@ -24,6 +24,7 @@ impl<'a, D: Digest, A: Allocator + Clone> Edge<'a, D, A> {
             self.old.levels.items self.old.rest (log_in self.old)
             self.new.levels.items self.new.rest (log_in self.new)) }
         ensures read { self.new.read.items ≡ self.old.read.items }
+        ensures budget { self.new.left ≡ self.old.left }
         ensures fault { (above : List Rows) (begun : Rows)
             → take (depth + 1) self.old.levels.items ≡ above ++ (begun ∷ [])
             → IfErr result (IsRefused (joined D.digest_of begun rows.entry.rest (Some
@@ -55,6 +56,7 @@ impl<'a, D: Digest, A: Allocator + Clone> Edge<'a, D, A> {
             (shapes_coming coming.entry.items) self.old.levels.items self.old.rest (log_in self.old)
             → OnOk result (all ≡ Some (edge_in self.new, log_in self.new)) }
         ensures read { self.new.read.items ≡ self.old.read.items }
+        ensures budget { self.new.left ≡ self.old.left }
         ensures fault { (all : Option (LinkEdge × Log)) → IsArrived D.digest_of all depth
             (shapes_coming coming.entry.items) self.old.levels.items self.old.rest (log_in self.old)
             → IfErr result (IsRefused all) }
@@ -85,12 +87,12 @@ impl<'a, D: Digest + 'a, A: Allocator + Clone + 'a> Edge<'a, D, A> {
             (nodes_given (S.gives src.old)) depth cid
             self.old.levels.items self.old.rest (log_in self.old) rows.rest
             self.new.levels.items self.new.rest (log_in self.new))) }
-        ensures counted { OnOk result
-            (IsCounted (S.reads src.old) (S.reads src.new) (log_in self.old) (log_in self.new)) }
+        ensures counted { OnOk result (IsCounted (S.reads src.old, self.old.left)
+            (S.reads src.new, self.new.left) (log_in self.old) (log_in self.new)) }
         ensures same { S.gives src.new ≡ S.gives src.old }
-        ensures stopped { (k : ℕ) → IfErr result (IsStopped (S.gives src.old) (S.reads src.old)
-            (S.reads src.new) (log_in self.old) (parting D.digest_of
-            (nodes_given (S.gives src.old)) (suc k) (Some cid)
+        ensures stopped { (k : ℕ) → IfErr result (IsStopped (S.gives src.old)
+            (S.reads src.old, self.old.left) (S.reads src.new) (log_in self.old)
+            (parting D.digest_of (nodes_given (S.gives src.old)) (suc k) (Some cid)
             (edge_of (drop depth self.old.levels.items) self.old.rest) (log_in self.old))) }
     {
         if self.levels.len() <= depth && self.rest.is_none() {
@@ -118,14 +120,14 @@ impl<'a, D: Digest + 'a, A: Allocator + Clone + 'a> Edge<'a, D, A> {
             self.new.levels.items self.new.rest (log_in self.new)) }
         ensures within { IfOk result
             (λ coming. depth + length coming.items ≤ length self.new.levels.items) }
-        ensures counted { OnOk result
-            (IsCounted (S.reads src.old) (S.reads src.new) (log_in self.old) (log_in self.new)) }
+        ensures counted { OnOk result (IsCounted (S.reads src.old, self.old.left)
+            (S.reads src.new, self.new.left) (log_in self.old) (log_in self.new)) }
         ensures same { S.gives src.new ≡ S.gives src.old }
         ensures stopped { (all : Option (LinkEdge × Log)) → IsOnTheWay D.digest_of
             (nodes_given (S.gives src.old)) all depth layers (Some cid) []
             self.old.levels.items self.old.rest (log_in self.old)
-            → IfErr result (IsStopped (S.gives src.old) (S.reads src.old) (S.reads src.new)
-            (log_in self.old) all) }
+            → IfErr result (IsStopped (S.gives src.old) (S.reads src.old, self.old.left)
+            (S.reads src.new) (log_in self.old) all) }
     {
         let mut coming = Vec::new(self.alloc()?);
         let mut next = Some(cid);
@@ -155,10 +157,10 @@ impl<'a, D: Digest + 'a, A: Allocator + Clone + 'a> Edge<'a, D, A> {
         ensures grown { OnOk result (subtreeing D.digest_of (nodes_given (S.gives src.old))
             layers depth cid (edge_in self.old) (log_in self.old)
             ≡ Some (edge_in self.new, log_in self.new)) }
-        ensures counted { OnOk result
-            (IsCounted (S.reads src.old) (S.reads src.new) (log_in self.old) (log_in self.new)) }
+        ensures counted { OnOk result (IsCounted (S.reads src.old, self.old.left)
+            (S.reads src.new, self.new.left) (log_in self.old) (log_in self.new)) }
         ensures same { S.gives src.new ≡ S.gives src.old }
-        ensures stopped { IfErr result (IsStopped (S.gives src.old) (S.reads src.old)
+        ensures stopped { IfErr result (IsStopped (S.gives src.old) (S.reads src.old, self.old.left)
             (S.reads src.new) (log_in self.old) (subtreeing D.digest_of
             (nodes_given (S.gives src.old)) layers depth cid (edge_in self.old)
             (log_in self.old))) }

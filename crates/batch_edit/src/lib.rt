@@ -11,9 +11,10 @@
 //! - [`apply`] changes the tree with a root, wherever its blocks are kept, and answers a [`BatchEdit`]: the root after it, the
 //!   blocks to add, the CIDs to drop, and what each key had. A [`BatchFault`] says why there is none; where the source lacks a
 //!   block, it has its CID, so that who has the block elsewhere can add it and call again.
+//! - [`put`] and [`delete`] change one key, each as a batch of one change, and answer an `edit::Edit`.
 //!
-//! Use it where several keys change: of a node that many of them change it makes one new node, where a put or a delete for
-//! each would make one each time. For one key `edit::put` and `edit::delete` do the same work in less time.
+//! Use a batch where several keys change: of a node that many of them change it makes one new node, where a put or a delete
+//! for each would make one each time. For one key `edit::put` and `edit::delete` do the same work in less time.
 //!
 //! ```text
 //! let changes = [Change { key, value: Some(cid) }, Change { key: other, value: None }];
@@ -23,11 +24,12 @@
 //! ```
 //!
 //! `walk` is the one side, over the `changes` around each key; `edge`, with a `level` for each layer, `joining` and `tops`
-//! are the other. `whole` puts them together, `differences` compares what was read with what was made, and `applying` is
-//! the call.
+//! are the other, and `budgets` says how many nodes may be read. `whole` puts them together, `differences` compares what was
+//! read with what was made, `applying` is the call, and `singles` the calls for one key.
 #![tactic(auto)]
 
 mod applying;
+mod budgets;
 mod changes;
 mod differences;
 mod edge;
@@ -37,6 +39,7 @@ mod level;
 mod outcome;
 mod places;
 mod read_nodes;
+mod singles;
 mod tasks;
 mod tops;
 mod walk;
@@ -45,3 +48,4 @@ mod whole;
 pub use applying::{apply, are_changes};
 pub use changes::Change;
 pub use outcome::{BatchEdit, BatchFault};
+pub use singles::{delete, put};

@@ -37,6 +37,10 @@ pub enum BatchFault<D: Digest, A: Allocator = Global> {
     #[error("the source has no tree with this root")]
     NotTree,
 
+    /// The tree doesn't have the key that was to be deleted. A batch and a put never answer it.
+    #[error("the tree does not have the key")]
+    NoSuchKey,
+
     /// Two blocks, each a node of the tree before or of the tree after, have one CID and different bytes.
     #[error("two different blocks have one CID")]
     Clash(Collided<D, A>),
@@ -83,7 +87,7 @@ impl<D: Digest, A: Allocator> From<EditFault<D, A>> for BatchFault<D, A> {
 
     fn from(fault: EditFault<D, A>) -> BatchFault<D, A> {
         match fault {
-            EditFault::NoSuchKey => BatchFault::NotTree,
+            EditFault::NoSuchKey => BatchFault::NoSuchKey,
             EditFault::Clash(pair) => BatchFault::Clash(pair),
             EditFault::NoMemory => BatchFault::NoMemory,
         }

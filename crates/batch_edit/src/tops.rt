@@ -38,6 +38,7 @@ impl<'a, D: Digest, A: Allocator + Clone> Edge<'a, D, A> {
         ensures topped { IfOk result (λ root. IsTopped D.digest_of depth
             self.old.levels.items self.old.rest (log_in self.old) root (log_in self.new)) }
         ensures read { self.new.read.items ≡ self.old.read.items }
+        ensures budget { self.new.left ≡ self.old.left }
         ensures fault { (above : List Rows) (rows : Rows)
             → take (depth + 1) self.old.levels.items ≡ above ++ (rows ∷ [])
             → IfErr result (IsRefused (at_top (new_top D.digest_of rows (closing D.digest_of
@@ -61,10 +62,10 @@ impl<'a, D: Digest + 'a, A: Allocator + Clone + 'a> Edge<'a, D, A> {
     ) -> Result<Option<Cid>, Fault>
         ensures looked { IfOk result (λ further. IsLooked (nodes_given (S.gives src.old)) cid
             (log_in self.old) further (log_in self.new)) }
-        ensures counted { OnOk result
-            (IsCounted (S.reads src.old) (S.reads src.new) (log_in self.old) (log_in self.new)) }
+        ensures counted { OnOk result (IsCounted (S.reads src.old, self.old.left)
+            (S.reads src.new, self.new.left) (log_in self.old) (log_in self.new)) }
         ensures same { S.gives src.new ≡ S.gives src.old }
-        ensures unread { IfErr result (IsUnread (S.gives src.old) (S.reads src.old)
+        ensures unread { IfErr result (IsUnread (S.gives src.old) (S.reads src.old, self.old.left)
             (S.reads src.new) (nodes_given (S.gives src.old) cid)) }
     {
         let mut rows = self.rows(src, cid)?;
@@ -84,12 +85,12 @@ impl<'a, D: Digest + 'a, A: Allocator + Clone + 'a> Edge<'a, D, A> {
     ) -> Result<Cid, Fault>
         ensures top { IfOk result (λ root. IsTop (pruning (nodes_given (S.gives src.old))
             layers cid (log_in self.old)) root 1 (log_in self.new)) }
-        ensures counted { OnOk result
-            (IsCounted (S.reads src.old) (S.reads src.new) (log_in self.old) (log_in self.new)) }
+        ensures counted { OnOk result (IsCounted (S.reads src.old, self.old.left)
+            (S.reads src.new, self.new.left) (log_in self.old) (log_in self.new)) }
         ensures same { S.gives src.new ≡ S.gives src.old }
-        ensures stopped { IfErr result (IsStopped (S.gives src.old) (S.reads src.old)
-            (S.reads src.new) (log_in self.old) (at_top (pruning
-            (nodes_given (S.gives src.old)) layers cid (log_in self.old)))) }
+        ensures stopped { IfErr result (IsStopped (S.gives src.old) (S.reads src.old, self.old.left)
+            (S.reads src.new) (log_in self.old) (at_top (pruning (nodes_given (S.gives src.old))
+            layers cid (log_in self.old)))) }
     {
         let mut at = cid;
         let mut left = layers;
@@ -112,10 +113,10 @@ impl<'a, D: Digest + 'a, A: Allocator + Clone + 'a> Edge<'a, D, A> {
         ensures ended { IfOk result (λ ended. IsEnded (topping D.digest_of
             (nodes_given (S.gives src.old)) layers (edge_in self.old) (log_in self.old))
             ended.0 ended.1 (log_in self.new)) }
-        ensures counted { OnOk result
-            (IsCounted (S.reads src.old) (S.reads src.new) (log_in self.old) (log_in self.new)) }
+        ensures counted { OnOk result (IsCounted (S.reads src.old, self.old.left)
+            (S.reads src.new, self.new.left) (log_in self.old) (log_in self.new)) }
         ensures same { S.gives src.new ≡ S.gives src.old }
-        ensures stopped { IfErr result (IsStopped (S.gives src.old) (S.reads src.old)
+        ensures stopped { IfErr result (IsStopped (S.gives src.old) (S.reads src.old, self.old.left)
             (S.reads src.new) (log_in self.old) (at_top (topping D.digest_of
             (nodes_given (S.gives src.old)) layers (edge_in self.old) (log_in self.old)))) }
     {

@@ -82,14 +82,13 @@ impl<'a, D: Digest + 'a, A: Allocator + Clone + 'a> Edge<'a, D, A> {
             (edge_in self.old) (log_in self.old) ≡ Some (edge_in self.new, log_in self.new)) }
         ensures previous { OnOk result
             (previous.new.items ≡ previous.old.items ++ no_values changes.now) }
-        ensures counted { OnOk result
-            (IsCounted (S.reads src.old) (S.reads src.new) (log_in self.old) (log_in self.new)) }
+        ensures counted { OnOk result (IsCounted (S.reads src.old, self.old.left)
+            (S.reads src.new, self.new.left) (log_in self.old) (log_in self.new)) }
         ensures same { S.gives src.new ≡ S.gives src.old }
-        ensures stopped { IfErr result (IsStopped (S.gives src.old) (S.reads src.old)
+        ensures stopped { IfErr result (IsStopped (S.gives src.old) (S.reads src.old, self.old.left)
             (S.reads src.new) (log_in self.old) (pairs_in_turn D.digest_of
             (nodes_given (S.gives src.old)) (depth_of (layer_of D.digest_of B) layers)
-            (puts changes.now)
-            (edge_in self.old) (log_in self.old))) }
+            (puts changes.now) (edge_in self.old) (log_in self.old))) }
     {
         for change in changes {
             previous.push(None)?;
@@ -110,14 +109,13 @@ impl<'a, D: Digest + 'a, A: Allocator + Clone + 'a> Edge<'a, D, A> {
         ensures put { OnOk result (pairs_in_turn D.digest_of (nodes_given (S.gives src.old))
             (depth_of (layer_of D.digest_of B) layers) (if_put change.now.0 change.now.1 [])
             (edge_in self.old) (log_in self.old) ≡ Some (edge_in self.new, log_in self.new)) }
-        ensures counted { OnOk result
-            (IsCounted (S.reads src.old) (S.reads src.new) (log_in self.old) (log_in self.new)) }
+        ensures counted { OnOk result (IsCounted (S.reads src.old, self.old.left)
+            (S.reads src.new, self.new.left) (log_in self.old) (log_in self.new)) }
         ensures same { S.gives src.new ≡ S.gives src.old }
-        ensures stopped { IfErr result (IsStopped (S.gives src.old) (S.reads src.old)
+        ensures stopped { IfErr result (IsStopped (S.gives src.old) (S.reads src.old, self.old.left)
             (S.reads src.new) (log_in self.old) (pairs_in_turn D.digest_of
             (nodes_given (S.gives src.old)) (depth_of (layer_of D.digest_of B) layers)
-            (if_put change.now.0 change.now.1 [])
-            (edge_in self.old) (log_in self.old))) }
+            (if_put change.now.0 change.now.1 []) (edge_in self.old) (log_in self.old))) }
     {
         let Some(value) = change.value() else {
             return Ok(());
@@ -143,14 +141,13 @@ impl<'a, D: Digest + 'a, A: Allocator + Clone + 'a> Edge<'a, D, A> {
             (layer_of D.digest_of B) layers (ToGap (gap_of gap.entry)) (agenda_of agenda.old.items)
             (edge_in self.old) (log_in self.old) previous.old.items
             (agenda_of agenda.new.items) (edge_in self.new) (log_in self.new) previous.new.items) }
-        ensures counted { OnOk result
-            (IsCounted (S.reads src.old) (S.reads src.new) (log_in self.old) (log_in self.new)) }
+        ensures counted { OnOk result (IsCounted (S.reads src.old, self.old.left)
+            (S.reads src.new, self.new.left) (log_in self.old) (log_in self.new)) }
         ensures same { S.gives src.new ≡ S.gives src.old }
-        ensures stopped { IfErr result (IsStopped (S.gives src.old) (S.reads src.old)
+        ensures stopped { IfErr result (IsStopped (S.gives src.old) (S.reads src.old, self.old.left)
             (S.reads src.new) (log_in self.old) (task_does D.digest_of
             (nodes_given (S.gives src.old)) (layer_of D.digest_of B) layers
-            (ToGap (gap_of gap.entry))
-            (edge_in self.old) (log_in self.old))) }
+            (ToGap (gap_of gap.entry)) (edge_in self.old) (log_in self.old))) }
     {
         let Some(cid) = gap.link else {
             self.puts::<B, S>(src, layers, gap.changes, previous)?;
@@ -183,10 +180,10 @@ impl<'a, D: Digest + 'a, A: Allocator + Clone + 'a> Edge<'a, D, A> {
             (edge_in self.old) (log_in self.old) ≡ Some (edge_in self.new, log_in self.new)) }
         ensures previous { OnOk result (previous.new.items ≡ previous.old.items
             ++ value_met at (pair_of key.now value.entry)) }
-        ensures counted { OnOk result
-            (IsCounted (S.reads src.old) (S.reads src.new) (log_in self.old) (log_in self.new)) }
+        ensures counted { OnOk result (IsCounted (S.reads src.old, self.old.left)
+            (S.reads src.new, self.new.left) (log_in self.old) (log_in self.new)) }
         ensures same { S.gives src.new ≡ S.gives src.old }
-        ensures stopped { IfErr result (IsStopped (S.gives src.old) (S.reads src.old)
+        ensures stopped { IfErr result (IsStopped (S.gives src.old) (S.reads src.old, self.old.left)
             (S.reads src.new) (log_in self.old) (pairs_in_turn D.digest_of
             (nodes_given (S.gives src.old)) (λ k. depth) (entry at (pair_of key.now value.entry))
             (edge_in self.old) (log_in self.old))) }
@@ -216,10 +213,10 @@ impl<'a, D: Digest + 'a, A: Allocator + Clone + 'a> Edge<'a, D, A> {
             (layer_of D.digest_of B) layers (task_of task.entry) (agenda_of agenda.old.items)
             (edge_in self.old) (log_in self.old) previous.old.items
             (agenda_of agenda.new.items) (edge_in self.new) (log_in self.new) previous.new.items) }
-        ensures counted { OnOk result
-            (IsCounted (S.reads src.old) (S.reads src.new) (log_in self.old) (log_in self.new)) }
+        ensures counted { OnOk result (IsCounted (S.reads src.old, self.old.left)
+            (S.reads src.new, self.new.left) (log_in self.old) (log_in self.new)) }
         ensures same { S.gives src.new ≡ S.gives src.old }
-        ensures stopped { IfErr result (IsStopped (S.gives src.old) (S.reads src.old)
+        ensures stopped { IfErr result (IsStopped (S.gives src.old) (S.reads src.old, self.old.left)
             (S.reads src.new) (log_in self.old) (task_does D.digest_of
             (nodes_given (S.gives src.old)) (layer_of D.digest_of B) layers (task_of task.entry)
             (edge_in self.old) (log_in self.old))) }
@@ -259,14 +256,13 @@ impl<'a, D: Digest + 'a, A: Allocator + Clone + 'a> Edge<'a, D, A> {
             (edge_in self.old) (log_in self.old) ≡ Some (edge_in self.new, log_in self.new)) }
         ensures previous { IfOk result (λ previous. previous.items ≡ previous_node
             (previous_gap (nodes_given (S.gives src.old)) layer) changes.now rows.entry.rest) }
-        ensures counted { OnOk result
-            (IsCounted (S.reads src.old) (S.reads src.new) (log_in self.old) (log_in self.new)) }
+        ensures counted { OnOk result (IsCounted (S.reads src.old, self.old.left)
+            (S.reads src.new, self.new.left) (log_in self.old) (log_in self.new)) }
         ensures same { S.gives src.new ≡ S.gives src.old }
-        ensures stopped { IfErr result (IsStopped (S.gives src.old) (S.reads src.old)
+        ensures stopped { IfErr result (IsStopped (S.gives src.old) (S.reads src.old, self.old.left)
             (S.reads src.new) (log_in self.old) (node_does D.digest_of
-            (nodes_given (S.gives src.old)) (layer_of D.digest_of B) layers layer depth
-            changes.now rows.entry.rest
-            (edge_in self.old) (log_in self.old))) }
+            (nodes_given (S.gives src.old)) (layer_of D.digest_of B) layers layer depth changes.now
+            rows.entry.rest (edge_in self.old) (log_in self.old))) }
     {
         let mut previous = Vec::new(self.alloc()?);
         let mut agenda: Agenda<'c, 'a, A> = Vec::new(self.alloc()?);

@@ -1,16 +1,19 @@
 //! A whole tree, from its root to its new root.
 
-ghost use Rattle.std.specs.Prelude.{◌≡◌, ◌<◌, ◌≤◌, ◌+◌, [], suc, max, Some, length, true, IfOk, IfErr};
+ghost use Rattle.std.specs.Prelude.{◌≡◌, ◌<◌, ◌≤◌, ◌+◌, ◌/◌, [], suc, max, Some, length, true, IfOk, IfErr};
 ghost use Rattle.spec.specs.Layer.{layer as layer_of};
 ghost use Rattle.edit.specs.Steps.{nodes_given};
 ghost use Rattle.spec.specs.NodeFormat.{Shape};
+ghost use Rattle.batch_laws.specs.Counts.{most_reads};
 ghost use Rattle.batch_laws.specs.Links.{batch_from};
 ghost use Rattle.batch_laws.specs.Previous.{previous_top};
+ghost use Rattle.batch_edit.specs.Budgets.{most_from};
 ghost use Rattle.batch_edit.specs.Places.{are_ascending};
 ghost use Rattle.batch_edit.specs.States.{log_in};
 ghost use Rattle.batch_edit.specs.Stops.{IsStopped, at_top};
 ghost use Rattle.batch_edit.specs.Tops.{IsEnded, layers_needed};
 
+use crate::budgets::most_reads_below;
 use crate::changes::Change;
 use crate::edge::Edge;
 use crate::faults::Fault;
@@ -65,15 +68,20 @@ pub(crate) fn change_tree<
     ensures counted { IfOk result (λ changed.
         S.reads src.new ≡ S.reads src.old + length changed.edge.read.items) }
     ensures same { S.gives src.new ≡ S.gives src.old }
-    ensures stopped { IfErr result (IsStopped (S.gives src.old) (S.reads src.old) (S.reads src.new)
-        (record { read = []; made = [] }) (at_top (batch_from D.digest_of
+    ensures stopped { IfErr result (IsStopped (S.gives src.old) (
+      S.reads src.old,
+      most_from (layer_of D.digest_of B) changes.now (nodes_given (S.gives src.old) root),
+    )
+        (S.reads src.new) (record { read = []; made = [] }) (at_top (batch_from D.digest_of
         (nodes_given (S.gives src.old)) (layer_of D.digest_of B)
         (layers_needed (layer_of D.digest_of B) wanted (nodes_given (S.gives src.old) root))
         changes.now root))) }
+    ensures most { S.reads src.new ≤ S.reads src.old + suc (most_reads (256 / B) changes.now) }
 {
     let mut edge: Edge<'a, D, A> = Edge::new(alloc.clone()?)?;
     let view = edge.view(src, root)?;
     let top = top_layer::<D, B>(&view);
+    edge.left = most_reads_below(top, changes);
     let layers = layers_for(top, wanted);
     let rows = KeyedEntries::of(&view, KeyBuf::new(alloc)?);
     let previous = edge.walk::<B, S>(src, layers, top, layers - 1 - top, rows, changes)?;

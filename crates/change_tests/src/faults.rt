@@ -180,6 +180,25 @@ fn a_node_of_a_high_layer_that_links_to_itself(rt: HostRuntime) {
     assert!(rt; end(rt.alloc(), &blocks, root, b"a/q3", Some(2)) == (Ended::Clash, 1));
 }
 
+/// A node of layer 1 with a node before its key that links to itself, and one without a key after it.
+fn add_endless(alloc: Global, blocks: &mut Blocks<Size>) -> Result<Cid, AllocError> {
+    let linked = Cid::of::<Size>(&node(alloc, Some(value(1)), b"", None)?);
+    let before = add(alloc, blocks, node(alloc, Some(linked), b"", None)?)?;
+    let after = add(alloc, blocks, node(alloc, None, b"", None)?)?;
+    add(
+        alloc,
+        blocks,
+        node(alloc, Some(before), b"a/q1", Some(after))?,
+    )
+}
+
+#[test]
+fn nodes_that_go_on_without_an_end(rt: HostRuntime) {
+    let mut blocks = Vec::new(rt.alloc());
+    let root = add_endless(rt.alloc(), &mut blocks).expect(&rt, "three blocks");
+    assert!(rt; is_refused(rt.alloc(), &blocks, root, b"a/q1", None, 3));
+}
+
 /// A node of two keys. Under this digest the nodes of each of them alone, which have one length, have one CID.
 fn add_two(alloc: Global, blocks: &mut Blocks<Size>) -> Result<Cid, AllocError> {
     let mut writer = NodeWriter::begin(alloc, None)?;

@@ -21,3 +21,5 @@ mod missing;
 mod plain;
 #[cfg(test)]
 mod rows;
+#[cfg(test)]
+mod singles;

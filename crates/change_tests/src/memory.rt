@@ -11,11 +11,11 @@ use scratch::{Built, build, is_ascending};
 use std::alloc::{Allocator, Global};
 
 /// Memory that refuses requests, as blocks are kept in it.
-type Heap<'h> = &'h Refusing<Global>;
+pub(crate) type Heap<'h> = &'h Refusing<Global>;
 
 /// How a batch ended.
 #[derive(Clone, Copy, PartialEq, Eq)]
-enum Ended {
+pub(crate) enum Ended {
     Done,
     NoMemory,
     Otherwise,
@@ -103,7 +103,7 @@ fn is_done_over<'h>(heap: Heap<'h>, tree: &Built<Toy, Heap<'h>>, after: Cid) -> 
 }
 
 /// The tree of 32 keys in such memory.
-fn tree_in<'h>(alloc: Global, heap: Heap<'h>) -> Option<Built<Toy, Heap<'h>>> {
+pub(crate) fn tree_in<'h>(alloc: Global, heap: Heap<'h>) -> Option<Built<Toy, Heap<'h>>> {
     let pairs = thirty_two_pairs(alloc)?;
     if !is_ascending(&pairs) {
         return None;

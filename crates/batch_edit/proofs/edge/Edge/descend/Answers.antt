@@ -1,5 +1,6 @@
 use Rattle.std.proofs.Common.{◌+◌, ◌-◌, [], ◌∷◌, ◌++◌, Some, sym, ap, ◌∙◌, subst, arith, length, length-append, suc, drop, ◌≡◌}
 use Rattle.edit.specs.Steps.{nodes_given}
+use Rattle.batch_edit.specs.Budgets.{Budget}
 use Rattle.batch_edit.specs.States.{log_in, shapes_coming, IsOnTheWay, IsWaiting, IsComing}
 use Rattle.batch_edit.proofs.Pairing.{counted-then}
 use Rattle.batch_edit.proofs.Subtrees.{way-more, way-none, way-waits, coming-count, coming-more}
@@ -64,7 +65,8 @@ loop-next-preserved g c =
           (subst (λ l. IsOnTheWay digest shows all c.args.depth (at.left - 1) l (shapes_coming at.coming.items ++ (node ∷ []))
           new.levels.items new.rest (log_in new)) (sym (c.to_cid-next.ensures ∙ c.link.ensures)) next));
       within = omega (arith, long, more, one, c.len.ensures);
-      counted = counted-then (g.S.Source.reads c.args.src.now) (g.S.Source.reads at.src) (g.S.Source.reads c.place.new.src)
+      counted = counted-then (g.S.Source.reads c.args.src.now, c.args.self.now.left) (g.S.Source.reads at.src, at.self.left)
+          (g.S.Source.reads c.place.new.src, c.place.new.self.left)
           (log_in c.args.self.now) (log_in at.self) (log_in new) at.invariant.counted c.in_ok-rows.ensures.counted;
     }
 
@@ -87,7 +89,8 @@ returns-in_err-alloc-clause-stopped g c all w =
     let gives = g.S.Source.gives c.args.src.now in
     let old = c.args.self.now in
     rw (p.1, p.2)
-    (way-memory gives g.D.Digest.digest_of (nodes_given gives) all (g.S.Source.reads c.args.src.now) c.args.depth c.args.layers
+    (way-memory gives g.D.Digest.digest_of (nodes_given gives) all (g.S.Source.reads c.args.src.now, c.args.self.now.left)
+    c.args.depth c.args.layers
     (Some c.args.cid) [] old.levels.items old.rest (log_in old) w)
 
 pub returns-then-left-eq0-clause-stopped : goal.returns-then-left-eq0-clause-stopped
@@ -102,9 +105,11 @@ returns-then-left-eq0-clause-stopped g c all w =
     (log_in old)) (sym (ap shapes_coming c.new-coming.ensures.items)) w in
     let way = subst (λ l. IsOnTheWay digest shows all c.args.depth at.left l fs at.self.levels.items at.self.rest (log_in at.self))
     c.in-Some.is (at.invariant.way all begun) in
-    from-stopped gives (g.S.Source.reads c.args.src.now) (g.S.Source.reads at.src) (g.S.Source.reads at.src) (log_in old)
+    from-stopped gives (g.S.Source.reads c.args.src.now, c.args.self.now.left) (g.S.Source.reads at.src, at.self.left)
+    (g.S.Source.reads at.src) (log_in old)
     (log_in at.self) all NotTree at.invariant.counted
-    (way-ended gives digest shows all (g.S.Source.reads at.src) c.args.depth at.left c.in-Some.cid fs at.self.levels.items
+    (way-ended gives digest shows all (g.S.Source.reads at.src, at.self.left) c.args.depth at.left c.in-Some.cid fs
+    at.self.levels.items
     at.self.rest (log_in at.self) (omega (arith, c.if-left-eq0.true)) way)
 
 pub returns-in_err-rows-clause-stopped : goal.returns-in_err-rows-clause-stopped
@@ -118,7 +123,7 @@ returns-in_err-rows-clause-stopped g c all w =
     let fs = shapes_coming at.coming.items in
     let d = c.args.depth + c.len.result in
     let n = coming-count at.coming.items in
-    let m = g.S.Source.reads at.src in
+    let m : Budget = (g.S.Source.reads at.src, at.self.left) in
     let a = g.S.Source.reads c.place.new.src in
     let f = c.in_err-rows.field-0.0 in
     let begun = subst (λ ss. IsOnTheWay digest shows all c.args.depth c.args.layers (Some c.args.cid) ss old.levels.items old.rest
@@ -131,7 +136,8 @@ returns-in_err-rows-clause-stopped g c all w =
     (c.in_err-rows.ensures.stopped (at.left - 1)) in
     let one : suc (at.left - 1) ≡ at.left = omega (arith, c.if-left-eq0.false) in
     rw (p.1, p.2)
-    (from-stopped gives (g.S.Source.reads c.args.src.now) m a (log_in old) (log_in at.self) all f at.invariant.counted
+    (from-stopped gives (g.S.Source.reads c.args.src.now, c.args.self.now.left) m a (log_in old) (log_in at.self) all f
+    at.invariant.counted
     (way-stopped gives digest shows all m a c.args.depth at.left d (Some c.in-Some.cid) fs at.self.levels.items at.self.rest
     (log_in at.self) f (omega (arith, n, c.len.ensures)) way
     (subst (λ j. IsStopped gives m a (log_in at.self) (parting digest shows j (Some c.in-Some.cid) below (log_in at.self)) f) one
@@ -150,8 +156,8 @@ returns-in_err-push-clause-stopped g c all w =
     let node = c.in-Some-2.rows.rest in
     let d = c.args.depth + c.len.result in
     let n = coming-count at.coming.items in
-    let m = g.S.Source.reads at.src in
-    let a = g.S.Source.reads c.place.new.src in
+    let m : Budget = (g.S.Source.reads at.src, at.self.left) in
+    let a : Budget = (g.S.Source.reads c.place.new.src, c.place.new.self.left) in
     let begun = subst (λ ss. IsOnTheWay digest shows all c.args.depth c.args.layers (Some c.args.cid) ss old.levels.items old.rest
     (log_in old)) (sym (ap shapes_coming c.new-coming.ensures.items)) w in
     let way = subst (λ l. IsOnTheWay digest shows all c.args.depth at.left l fs at.self.levels.items at.self.rest (log_in at.self))
@@ -164,8 +170,9 @@ returns-in_err-push-clause-stopped g c all w =
     new.levels.items at.self.rest new.rest (log_in at.self) (log_in new) node (omega (arith, c.if-left-eq0.false))
     (omega (arith, n, c.len.ensures)) way comes in
     rw (p.1, p.2)
-    (from-stopped gives (g.S.Source.reads c.args.src.now) a a (log_in old) (log_in new) all NoMemory
-    (counted-then (g.S.Source.reads c.args.src.now) m a (log_in old) (log_in at.self) (log_in new) at.invariant.counted
+    (from-stopped gives (g.S.Source.reads c.args.src.now, c.args.self.now.left) a a.0 (log_in old) (log_in new) all NoMemory
+    (counted-then (g.S.Source.reads c.args.src.now, c.args.self.now.left) m a (log_in old) (log_in at.self) (log_in new)
+    at.invariant.counted
     c.in_ok-rows.ensures.counted)
     (way-memory gives digest shows all a c.args.depth (at.left - 1) (first_link node) (fs ++ (node ∷ [])) new.levels.items
     new.rest (log_in new) next))

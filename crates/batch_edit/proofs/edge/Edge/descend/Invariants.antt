@@ -13,7 +13,8 @@ invariant-loop-next g l = record {
       → IsOnTheWay g.D.Digest.digest_of (nodes_given (g.S.Source.gives l.initial.src)) all l.depth l.left l.next
       (shapes_coming l.coming.items) l.self.levels.items l.self.rest (log_in l.self);
   within : l.depth + length l.coming.items ≤ length l.self.levels.items;
-  counted : IsCounted (g.S.Source.reads l.initial.src) (g.S.Source.reads l.src) (log_in l.initial.self) (log_in l.self);
+  counted : IsCounted (g.S.Source.reads l.initial.src, l.initial.self.left) (g.S.Source.reads l.src, l.self.left)
+      (log_in l.initial.self) (log_in l.self);
 }
 
 abbrev pub decreases-loop-next : goal.decreases-loop-next

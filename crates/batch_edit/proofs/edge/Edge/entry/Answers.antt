@@ -11,5 +11,6 @@ returns-in_err-push-clause-stopped g c =
     let p = err_from_is_err_and c.from_residual.result c.from_residual.ensures.1 in
     let gives = g.S.Source.gives c.args.src.now in
     rw (p.1, p.2)
-    (pairs-memory gives g.D.Digest.digest_of (nodes_given gives) (g.S.Source.reads c.args.src.now) (λ k. c.args.depth)
+    (pairs-memory gives g.D.Digest.digest_of (nodes_given gives) (g.S.Source.reads c.args.src.now, c.args.self.now.left)
+    (λ k. c.args.depth)
     (entry c.args.at (pair_of c.args.key.now c.args.value)) (edge_in c.args.self.now) (log_in c.args.self.now))

@@ -2,6 +2,7 @@ use Rattle.std.proofs.Common.{◌≡◌, ◌<◌, ◌-◌, refl, sym, ap, ◌∙
 use Rattle.spec.specs.Layer.{layer as layer_of}
 use Rattle.edit.specs.Steps.{nodes_given}
 use Rattle.batch_laws.specs.Links.{subtreeing}
+use Rattle.batch_edit.specs.Budgets.{Budget}
 use Rattle.batch_edit.specs.Edges.{edge_of}
 use Rattle.batch_edit.specs.Agenda.{ToGap, IsDone}
 use Rattle.batch_edit.specs.Agendas.{agenda_of, gap_of}
@@ -62,7 +63,8 @@ returns-in_err-puts-clause-stopped g c =
     let digest = g.D.Digest.digest_of in
     let gives = g.S.Source.gives c.args.src.now in
     rw (p.1, p.2)
-    (gap-none gives digest (nodes_given gives) (layer_of digest g.row.B) c.args.layers (g.S.Source.reads c.args.src.now)
+    (gap-none gives digest (nodes_given gives) (layer_of digest g.row.B) c.args.layers
+    (g.S.Source.reads c.args.src.now, c.args.self.now.left)
     (g.S.Source.reads c.puts.new.src) (gap_of c.args.gap) (edge_in c.args.self.now) (log_in c.args.self.now)
     c.in_err-puts.field-0.0 c.in_default.is c.in_err-puts.ensures.stopped)
 
@@ -73,7 +75,7 @@ returns-in_err-subtree-clause-stopped g c =
     let gives = g.S.Source.gives c.args.src.now in
     let shows = nodes_given gives in
     let old = c.args.self.now in
-    let b = g.S.Source.reads c.args.src.now in
+    let b : Budget = (g.S.Source.reads c.args.src.now, c.args.self.now.left) in
     let a = g.S.Source.reads c.subtree.new.src in
     let f = c.in_err-subtree.field-0.0 in
     let none : length c.args.gap.changes.now ≡ 0 = omega (arith, c.if-count-eq0.true) in
@@ -94,7 +96,8 @@ returns-in_err-rows-clause-stopped g c =
     let some : 0 < length c.args.gap.changes.now = omega (arith, c.if-count-eq0.false) in
     let one : c.args.gap.layer ≡ suc (c.args.gap.layer - 1) = omega (arith, c.if-gap-eq0.false) in
     rw (p.1, p.2)
-    (gap-unread gives digest (nodes_given gives) (layer_of digest g.row.B) c.args.layers (g.S.Source.reads c.args.src.now)
+    (gap-unread gives digest (nodes_given gives) (layer_of digest g.row.B) c.args.layers
+    (g.S.Source.reads c.args.src.now, c.args.self.now.left)
     (g.S.Source.reads c.rows.new.src) (c.args.gap.layer - 1) (gap_of c.args.gap) c.in-Some.cid (edge_in old) (log_in old)
     c.in_err-rows.field-0.0 c.in-Some.is one some c.in_err-rows.ensures.unread)
 
@@ -107,7 +110,9 @@ returns-in_err-go_on-clause-stopped g c =
     let some : 0 < length c.args.gap.changes.now = omega (arith, c.if-count-eq0.false) in
     let one : c.args.gap.layer ≡ suc (c.args.gap.layer - 1) = omega (arith, c.if-gap-eq0.false) in
     rw (p.1, p.2)
-    (gap-memory gives digest (nodes_given gives) (layer_of digest g.row.B) c.args.layers (g.S.Source.reads c.args.src.now)
-    (g.S.Source.reads c.rows.new.src) (c.args.gap.layer - 1) (gap_of c.args.gap) c.in-Some.cid c.in_ok-rows.rows.rest
+    (gap-memory gives digest (nodes_given gives) (layer_of digest g.row.B) c.args.layers
+    (g.S.Source.reads c.args.src.now, c.args.self.now.left)
+    (g.S.Source.reads c.rows.new.src, c.rows.new.self.left) (c.args.gap.layer - 1) (gap_of c.args.gap) c.in-Some.cid
+    c.in_ok-rows.rows.rest
     (edge_in old) (log_in old) (log_in c.rows.new.self) c.in-Some.is one some c.in_ok-rows.ensures.shown
     c.in_ok-rows.ensures.counted)

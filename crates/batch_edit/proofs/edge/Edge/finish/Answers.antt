@@ -60,7 +60,8 @@ returns-in_err-root-clause-stopped g c =
     let old = c.args.self.now in
     let depth : c.highest-depth.result ≡ highest_of old.levels.items = c.highest-depth.ensures.depth ∙ ap highest_of c.deref.ensures.value in
     rw (p.1, p.2)
-    (top-stopped gives g.D.Digest.digest_of (nodes_given gives) (g.S.Source.reads c.args.src.now) c.args.layers
+    (top-stopped gives g.D.Digest.digest_of (nodes_given gives) (g.S.Source.reads c.args.src.now, c.args.self.now.left)
+    c.args.layers
     c.highest-depth.result old.levels.items old.rest (log_in old) c.in_err-root.field-0.0 depth
     (omega (arith, c.if-depth-len.true, c.len.ensures)) c.in_err-root.ensures.fault)
 
@@ -70,7 +71,8 @@ returns-in_err-alloc-clause-stopped g c =
     let gives = g.S.Source.gives c.args.src.now in
     let old = c.args.self.now in
     rw (p.1, p.2)
-    (top-memory gives g.D.Digest.digest_of (nodes_given gives) (g.S.Source.reads c.args.src.now) c.args.layers (edge_in old)
+    (top-memory gives g.D.Digest.digest_of (nodes_given gives) (g.S.Source.reads c.args.src.now, c.args.self.now.left)
+    c.args.layers (edge_in old)
     (log_in old))
 
 pub returns-in_err-root-2-clause-stopped : goal.returns-in_err-root-2-clause-stopped
@@ -79,7 +81,8 @@ returns-in_err-root-2-clause-stopped g c =
     let gives = g.S.Source.gives c.args.src.now in
     let old = c.args.self.now in
     rw (p.1, p.2)
-    (empty-stopped gives g.D.Digest.digest_of (nodes_given gives) (g.S.Source.reads c.args.src.now) c.args.layers (edge_in old)
+    (empty-stopped gives g.D.Digest.digest_of (nodes_given gives) (g.S.Source.reads c.args.src.now, c.args.self.now.left)
+    c.args.layers (edge_in old)
     (log_in old) c.new.result c.in_err-root-2.field-0.0 c.new.ensures c.in_err-root-2.ensures.fault)
 
 pub returns-in_err-root-3-clause-stopped : goal.returns-in_err-root-3-clause-stopped
@@ -89,7 +92,7 @@ returns-in_err-root-3-clause-stopped g c =
     let old = c.args.self.now in
     let depth : c.highest-depth.result ≡ highest_of old.levels.items = c.highest-depth.ensures.depth ∙ ap highest_of c.deref.ensures.value in
     rw (p.1, p.2)
-    (pruned-stopped gives g.D.Digest.digest_of (nodes_given gives) (g.S.Source.reads c.args.src.now)
+    (pruned-stopped gives g.D.Digest.digest_of (nodes_given gives) (g.S.Source.reads c.args.src.now, c.args.self.now.left)
     (g.S.Source.reads c.prune.new.src) c.args.layers c.highest-depth.result old.levels.items old.rest c.in-Some.cid (log_in old)
     c.in_err-root-3.field-0.0 depth (omega (arith, c.if-depth-len.false, c.len.ensures)) c.in-Some.is
     c.in_err-root-3.ensures.stopped)

@@ -13,7 +13,8 @@ returns-in_err-opened-clause-stopped g c =
     let gives = g.S.Source.gives c.args.src.now in
     let f = c.in_err-opened.field-0.0 in
     rw (p.1, p.2)
-    (open-refused gives g.D.Digest.digest_of (nodes_given gives) (g.S.Source.reads c.args.src.now)
-    (g.S.Source.reads c.rows.new.src) c.in-Some.cid c.args.self.now.rest (log_in c.args.self.now) (log_in c.rows.new.self)
+    (open-refused gives g.D.Digest.digest_of (nodes_given gives) (g.S.Source.reads c.args.src.now, c.args.self.now.left)
+    (g.S.Source.reads c.rows.new.src, c.rows.new.self.left) c.in-Some.cid c.args.self.now.rest (log_in c.args.self.now)
+    (log_in c.rows.new.self)
     c.in_ok-rows.rows.rest f c.in-Some.is c.in_ok-rows.ensures.shown c.in_ok-rows.ensures.counted
     (subst (λ (xs : _). IsFaultOfAll (xs ++ rows_in_shape c.in_ok-rows.rows.rest) f) c.new.ensures c.in_err-opened.ensures.fault))

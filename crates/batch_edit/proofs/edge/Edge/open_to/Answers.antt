@@ -20,8 +20,9 @@ loop-self-preserved g c =
           (omega (arith, c.loop-self-test.true, c.len.ensures)) at.invariant.keeps
           (subst (λ gives. IsOpened (nodes_given gives) at.self.levels.items at.self.rest (log_in at.self) new.levels.items
           new.rest (log_in new)) at.invariant.same c.in_ok-open_level.ensures.opened);
-      counted = counted-then (g.S.Source.reads c.args.src.now) (g.S.Source.reads at.src)
-          (g.S.Source.reads c.open_level.new.src) (log_in start) (log_in at.self) (log_in new) at.invariant.counted
+      counted = counted-then (g.S.Source.reads c.args.src.now, c.args.self.now.left) (g.S.Source.reads at.src, at.self.left)
+          (g.S.Source.reads c.open_level.new.src, c.open_level.new.self.left) (log_in start) (log_in at.self) (log_in new)
+          at.invariant.counted
           c.in_ok-open_level.ensures.counted;
     }
 
@@ -33,9 +34,10 @@ returns-in_err-open_level-clause-stopped g c f onward =
     let start = c.args.self.now in
     let fault = c.in_err-open_level.field-0.0 in
     rw (p.1, p.2)
-    (within-stopped gives (nodes_given gives) (g.S.Source.reads c.args.src.now) (g.S.Source.reads at.src)
+    (within-stopped gives (nodes_given gives) (g.S.Source.reads c.args.src.now, c.args.self.now.left)
+    (g.S.Source.reads at.src, at.self.left)
     (g.S.Source.reads c.open_level.new.src) c.args.count f onward (edge_in start) (log_in start) at.self.levels.items at.self.rest
     (log_in at.self) fault (omega (arith, c.loop-self-test.true, c.len.ensures)) (at.invariant.keeps f) at.invariant.counted
-    (subst (λ gv. IsStopped gv (g.S.Source.reads at.src) (g.S.Source.reads c.open_level.new.src) (log_in at.self)
+    (subst (λ gv. IsStopped gv (g.S.Source.reads at.src, at.self.left) (g.S.Source.reads c.open_level.new.src) (log_in at.self)
     (open_edge (opening (nodes_given gv) (link_edge at.self.rest) (log_in at.self))) fault) at.invariant.same
     c.in_err-open_level.ensures.stopped))

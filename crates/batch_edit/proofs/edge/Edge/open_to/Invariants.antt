@@ -8,7 +8,8 @@ invariant-loop-self g l = record {
   same : g.S.Source.gives l.src ≡ g.S.Source.gives l.initial.src;
   keeps : KeepsWithin (nodes_given (g.S.Source.gives l.initial.src)) l.count (edge_in l.initial.self)
       (log_in l.initial.self) (edge_in l.self) (log_in l.self);
-  counted : IsCounted (g.S.Source.reads l.initial.src) (g.S.Source.reads l.src) (log_in l.initial.self) (log_in l.self);
+  counted : IsCounted (g.S.Source.reads l.initial.src, l.initial.self.left) (g.S.Source.reads l.src, l.self.left)
+      (log_in l.initial.self) (log_in l.self);
 }
 
 abbrev pub decreases-loop-self : goal.decreases-loop-self

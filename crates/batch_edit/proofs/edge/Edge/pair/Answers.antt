@@ -30,7 +30,7 @@ returns-in_err-open_to-clause-stopped g c =
     let p = err_from_is_err_and c.from_residual.result c.from_residual.ensures.1 in
     let gives = g.S.Source.gives c.args.src.now in
     rw (p.1, p.2)
-    (pair-closed gives g.D.Digest.digest_of (nodes_given gives) (g.S.Source.reads c.args.src.now)
+    (pair-closed gives g.D.Digest.digest_of (nodes_given gives) (g.S.Source.reads c.args.src.now, c.args.self.now.left)
     (g.S.Source.reads c.open_to.new.src) c.args.depth (pair_of c.args.key.now c.args.value) (edge_in c.args.self.now)
     (log_in c.args.self.now) c.in_err-open_to.field-0.0 c.in_err-open_to.ensures.stopped)
 
@@ -42,11 +42,12 @@ returns-in_err-open_at-clause-stopped g c =
     let above = c.open_to.new.self in
     let fault = c.in_err-open_at.field-0.0 in
     rw (p.1, p.2)
-    (pair-unopened gives g.D.Digest.digest_of (nodes_given gives) (g.S.Source.reads c.args.src.now)
-    (g.S.Source.reads c.open_to.new.src) (g.S.Source.reads c.open_at.new.src) c.args.depth
+    (pair-unopened gives g.D.Digest.digest_of (nodes_given gives) (g.S.Source.reads c.args.src.now, c.args.self.now.left)
+    (g.S.Source.reads c.open_to.new.src, c.open_to.new.self.left) (g.S.Source.reads c.open_at.new.src) c.args.depth
     (pair_of c.args.key.now c.args.value) (edge_in old) (log_in old) above.levels.items above.rest (log_in above) fault
     c.in_ok-open_to.ensures.keeps c.in_ok-open_to.ensures.long c.in_ok-open_to.ensures.counted
-    (subst (λ gv. IsStopped gv (g.S.Source.reads c.open_to.new.src) (g.S.Source.reads c.open_at.new.src) (log_in above)
+    (subst (λ gv. IsStopped gv (g.S.Source.reads c.open_to.new.src, c.open_to.new.self.left)
+    (g.S.Source.reads c.open_at.new.src) (log_in above)
     (open_edge (opening (nodes_given gv) (edge_of (drop c.args.depth above.levels.items) above.rest) (log_in above))) fault)
     c.open_to.ensures.same c.in_err-open_at.ensures.stopped))
 
@@ -58,8 +59,9 @@ returns-in_err-add_pair-clause-stopped g c =
     let above = c.open_to.new.self in
     let mid = c.open_at.new.self in
     rw (p.1, p.2)
-    (pair-refused gives g.D.Digest.digest_of (nodes_given gives) (g.S.Source.reads c.args.src.now)
-    (g.S.Source.reads c.open_to.new.src) (g.S.Source.reads c.open_at.new.src) c.args.depth
+    (pair-refused gives g.D.Digest.digest_of (nodes_given gives) (g.S.Source.reads c.args.src.now, c.args.self.now.left)
+    (g.S.Source.reads c.open_to.new.src, c.open_to.new.self.left)
+    (g.S.Source.reads c.open_at.new.src, c.open_at.new.self.left) c.args.depth
     (pair_of c.args.key.now c.args.value) (edge_in old) (log_in old) above.levels.items mid.levels.items above.rest mid.rest
     (log_in above) (log_in mid) c.in_err-add_pair.field-0.0 c.in_ok-open_to.ensures.keeps c.in_ok-open_to.ensures.long
     c.in_ok-open_to.ensures.counted c.in_ok-open_at.ensures.counted

@@ -6,6 +6,7 @@ use Rattle.edit.specs.Steps.{nodes_given}
 use Rattle.batch_laws.specs.Batch.{entry}
 use Rattle.batch_laws.specs.Previous.{value_met}
 use Rattle.batch_laws.specs.Links.{pairs_in_turn}
+use Rattle.batch_edit.specs.Budgets.{Budget}
 use Rattle.batch_edit.specs.Agenda.{IsDone, task_does}
 use Rattle.batch_edit.specs.Agendas.{later_of, task_of, agenda_of}
 use Rattle.batch_edit.specs.States.{edge_in, log_in}
@@ -24,7 +25,7 @@ returns-in_err-entry-in-Pair-clause-stopped g c =
     let layer = layer_of digest g.row.B in
     let n = c.args.layers in
     let old = c.args.self.now in
-    let b = g.S.Source.reads c.args.src.now in
+    let b : Budget = (g.S.Source.reads c.args.src.now, c.args.self.now.left) in
     let a = g.S.Source.reads c.entry.new.src in
     let f = later_of c.in-Pair.next in
     let v = bytes_of c.in-Pair.next.value in
@@ -46,13 +47,13 @@ returns-in_err-go_on-in-Pair-clause-stopped g c =
     let layer = layer_of digest g.row.B in
     let n = c.args.layers in
     let old = c.args.self.now in
-    let b = g.S.Source.reads c.args.src.now in
-    let a = g.S.Source.reads c.entry.new.src in
+    let b : Budget = (g.S.Source.reads c.args.src.now, c.args.self.now.left) in
+    let a : Budget = (g.S.Source.reads c.entry.new.src, c.entry.new.self.left) in
     let f = later_of c.in-Pair.next in
     let v = bytes_of c.in-Pair.next.value in
     let new = c.entry.new.self in
     rw (p.1, p.2)
-    (subst (λ t. IsStopped gives b a (log_in old) (task_does digest shows layer n t (edge_in old) (log_in old)) NoMemory)
+    (subst (λ t. IsStopped gives b a.0 (log_in old) (task_does digest shows layer n t (edge_in old) (log_in old)) NoMemory)
     (sym (ap task_of c.in-Pair.is))
     (entry-memory gives digest shows layer n b a f (edge_in old) (edge_in new) (log_in old) (log_in new)
     (subst (λ k. pairs_in_turn digest shows (λ key. f.depth) (entry f.at (k, v)) (edge_in old) (log_in old)

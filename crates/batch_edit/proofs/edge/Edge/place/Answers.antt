@@ -45,7 +45,7 @@ returns-in_err-open_at-clause-stopped g c k =
           taken-open c.args.depth old.levels.items old.rest (omega (arith, w.if-len-depth.false, c.len.ensures))
     ] in
     rw (p.1, p.2)
-    (part-unopened gives g.D.Digest.digest_of (nodes_given gives) (g.S.Source.reads c.args.src.now)
+    (part-unopened gives g.D.Digest.digest_of (nodes_given gives) (g.S.Source.reads c.args.src.now, c.args.self.now.left)
     (g.S.Source.reads c.open_at.new.src) k c.args.cid (edge_of (drop c.args.depth old.levels.items) old.rest) (log_in old)
     c.in_err-open_at.field-0.0 taken c.in_err-open_at.ensures.stopped)
 
@@ -63,9 +63,10 @@ returns-in_err-rows-clause-stopped g c k =
           taken-open c.args.depth old.levels.items old.rest (omega (arith, w.if-len-depth.false, c.len.ensures))
     ] in
     rw (p.1, p.2)
-    (part-unread gives g.D.Digest.digest_of (nodes_given gives) (g.S.Source.reads c.args.src.now)
-    (g.S.Source.reads c.open_at.new.src) (g.S.Source.reads c.rows.new.src) k c.args.depth c.args.cid old.levels.items
+    (part-unread gives g.D.Digest.digest_of (nodes_given gives) (g.S.Source.reads c.args.src.now, c.args.self.now.left)
+    (g.S.Source.reads c.open_at.new.src, c.open_at.new.self.left) (g.S.Source.reads c.rows.new.src) k c.args.depth c.args.cid
+    old.levels.items
     mid.levels.items old.rest mid.rest (log_in old) (log_in mid) f taken c.in_ok-open_at.ensures.opened
     c.in_ok-open_at.ensures.counted
-    (subst (λ gv. IsUnread gv (g.S.Source.reads c.open_at.new.src) (g.S.Source.reads c.rows.new.src)
+    (subst (λ gv. IsUnread gv (g.S.Source.reads c.open_at.new.src, c.open_at.new.self.left) (g.S.Source.reads c.rows.new.src)
     (nodes_given gv c.args.cid) f) c.open_at.ensures.same c.in_err-rows.ensures.unread))

@@ -1,6 +1,7 @@
 use Rattle.std.proofs.Common.{◌-◌, Some, None, ◌∙◌, subst, arith}
 use Rattle.edit.specs.Steps.{nodes_given}
 use Rattle.batch_laws.specs.Links.{pruning}
+use Rattle.batch_edit.specs.Budgets.{Budget}
 use Rattle.batch_edit.specs.States.{log_in}
 use Rattle.batch_edit.specs.Tops.{IsLooked}
 use Rattle.batch_edit.proofs.Pairing.{counted-then}
@@ -36,7 +37,8 @@ loop-left-preserved g c =
       same = c.look.ensures.same ∙ at.invariant.same;
       is = at.invariant.is ∙ look-goes shows at.left (at.left - 1) at.at c.in-Some.next (log_in at.self) now
           (omega (arith, c.loop-left-test.true)) looked;
-      counted = counted-then (g.S.Source.reads c.args.src.now) (g.S.Source.reads at.src) (g.S.Source.reads c.look.new.src)
+      counted = counted-then (g.S.Source.reads c.args.src.now, c.args.self.now.left) (g.S.Source.reads at.src, at.self.left)
+          (g.S.Source.reads c.look.new.src, c.look.new.self.left)
           (log_in c.args.self.now) (log_in at.self) now at.invariant.counted c.in_ok-next.ensures.counted;
     }
 
@@ -47,8 +49,8 @@ returns-in_err-next-clause-stopped g c =
     let shows = nodes_given gives in
     let at = c.loop-left in
     let start = log_in c.args.self.now in
-    let b = g.S.Source.reads c.args.src.now in
-    let m = g.S.Source.reads at.src in
+    let b : Budget = (g.S.Source.reads c.args.src.now, c.args.self.now.left) in
+    let m : Budget = (g.S.Source.reads at.src, at.self.left) in
     let a = g.S.Source.reads c.look.new.src in
     let f = c.in_err-next.field-0.0 in
     rw (p.1, p.2)

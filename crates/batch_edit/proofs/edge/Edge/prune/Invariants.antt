@@ -9,7 +9,8 @@ invariant-loop-left g l = record {
   same : g.S.Source.gives l.src ≡ g.S.Source.gives l.initial.src;
   is : pruning (nodes_given (g.S.Source.gives l.initial.src)) l.initial.left l.initial.at (log_in l.initial.self)
       ≡ pruning (nodes_given (g.S.Source.gives l.initial.src)) l.left l.at (log_in l.self);
-  counted : IsCounted (g.S.Source.reads l.initial.src) (g.S.Source.reads l.src) (log_in l.initial.self) (log_in l.self);
+  counted : IsCounted (g.S.Source.reads l.initial.src, l.initial.self.left) (g.S.Source.reads l.src, l.self.left)
+      (log_in l.initial.self) (log_in l.self);
 }
 
 abbrev pub decreases-loop-left : goal.decreases-loop-left

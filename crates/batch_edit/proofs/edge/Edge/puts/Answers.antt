@@ -6,6 +6,7 @@ use Rattle.batch_laws.specs.Batch.{puts, if_put}
 use Rattle.batch_laws.specs.Walking.{depth_of}
 use Rattle.batch_laws.specs.Previous.{no_values}
 use Rattle.batch_laws.specs.Links.{pairs_in_turn}
+use Rattle.batch_edit.specs.Budgets.{Budget}
 use Rattle.batch_edit.specs.States.{edge_in, log_in}
 use Rattle.batch_edit.proofs.Pairing.{counted-then}
 use Rattle.batch_edit.proofs.Placing.{cut-here, drop-over}
@@ -35,7 +36,8 @@ loop-change-preserved g c =
           ≡ Some (edge_in new, log_in new)) at.invariant.same c.in_ok-put_one.ensures.put);
       previous = none-step (c.args.previous.now.items ++ no_values cs) at.previous.items c.push.new.self.items cs i (i + 1) x
           (omega arith) here at.invariant.previous c.in_ok-push.ensures.items;
-      counted = counted-then (g.S.Source.reads c.args.src.now) (g.S.Source.reads at.src) (g.S.Source.reads c.put_one.new.src)
+      counted = counted-then (g.S.Source.reads c.args.src.now, c.args.self.now.left) (g.S.Source.reads at.src, at.self.left)
+          (g.S.Source.reads c.put_one.new.src, c.put_one.new.self.left)
           (log_in c.args.self.now) (log_in at.self) (log_in new) at.invariant.counted c.in_ok-put_one.ensures.counted;
     }
 
@@ -65,7 +67,8 @@ returns-in_err-push-clause-stopped g c =
     let at = c.loop-change in
     let cs = c.args.changes.now in
     rw (p.1, p.2)
-    (puts-memory gives digest shows (g.S.Source.reads c.args.src.now) (g.S.Source.reads at.src) depth
+    (puts-memory gives digest shows (g.S.Source.reads c.args.src.now, c.args.self.now.left)
+    (g.S.Source.reads at.src, at.self.left) depth
     (pairs_in_turn digest shows depth (puts cs) (edge_in c.args.self.now) (log_in c.args.self.now))
     (puts (drop at.change-index cs)) (edge_in at.self) (log_in c.args.self.now) (log_in at.self) at.invariant.put
     at.invariant.counted)
@@ -81,11 +84,11 @@ returns-in_err-put_one-clause-stopped g c =
     let cs = c.args.changes.now in
     let i = at.change-index in
     let x = c.change-item.result in
-    let m = g.S.Source.reads at.src in
+    let m : Budget = (g.S.Source.reads at.src, at.self.left) in
     let a = g.S.Source.reads c.put_one.new.src in
     let f = c.in_err-put_one.field-0.0 in
     rw (p.1, p.2)
-    (puts-stopped gives digest shows (g.S.Source.reads c.args.src.now) m a depth
+    (puts-stopped gives digest shows (g.S.Source.reads c.args.src.now, c.args.self.now.left) m a depth
     (pairs_in_turn digest shows depth (puts cs) (edge_in c.args.self.now) (log_in c.args.self.now)) cs i x (edge_in at.self)
     (log_in c.args.self.now) (log_in at.self) f (cut-here cs i x (omega arith) c.change-item.is) at.invariant.put
     at.invariant.counted

@@ -16,5 +16,6 @@ invariant-loop-change g l = record {
       ≡ pairs_in_turn g.D.Digest.digest_of (nodes_given (g.S.Source.gives l.initial.src))
       (depth_of (layer_of g.D.Digest.digest_of g.row.B) l.layers) (puts (drop l.change-index l.changes)) (edge_in l.self) (log_in l.self);
   previous : l.previous.items ++ no_values (drop l.change-index l.changes) ≡ l.initial.previous.items ++ no_values l.changes;
-  counted : IsCounted (g.S.Source.reads l.initial.src) (g.S.Source.reads l.src) (log_in l.initial.self) (log_in l.self);
+  counted : IsCounted (g.S.Source.reads l.initial.src, l.initial.self.left) (g.S.Source.reads l.src, l.self.left)
+      (log_in l.initial.self) (log_in l.self);
 }

@@ -1,6 +1,7 @@
 use Rattle.std.proofs.Common.{◌++◌, Some, ap, ◌∙◌, subst, arith}
 use Rattle.spec.specs.Layer.{layer as layer_of}
 use Rattle.edit.specs.Steps.{nodes_given}
+use Rattle.batch_edit.specs.Budgets.{Budget}
 use Rattle.batch_edit.specs.Agenda.{IsDone, agenda_does, agenda_meets, node_does, task_does}
 use Rattle.batch_edit.specs.Agendas.{agenda_of, task_of}
 use Rattle.batch_edit.specs.States.{edge_in, log_in}
@@ -36,7 +37,8 @@ loop-task-preserved g c =
           (edge_in at.self) (edge_in new) (log_in at.self) (log_in new) at.previous.items values at.invariant.does e w;
       meets = walk-meets digest shows layer n (c.new-previous.result.items ++ agenda_meets shows start) fs gs next f
           (edge_in at.self) (edge_in new) (log_in at.self) (log_in new) at.previous.items values at.invariant.meets e w;
-      counted = counted-then (g.S.Source.reads c.args.src.now) (g.S.Source.reads at.src) (g.S.Source.reads c.perform.new.src)
+      counted = counted-then (g.S.Source.reads c.args.src.now, c.args.self.now.left) (g.S.Source.reads at.src, at.self.left)
+          (g.S.Source.reads c.perform.new.src, c.perform.new.self.left)
           (log_in old) (log_in at.self) (log_in new) at.invariant.counted c.in_ok-perform.ensures.counted;
     }
 
@@ -90,7 +92,8 @@ returns-in_err-alloc-clause-stopped g c =
     let n = c.args.layers in
     let old = c.args.self.now in
     rw (p.1, p.2)
-    (node-memory gives digest shows layer n (g.S.Source.reads c.args.src.now) c.args.layer c.args.depth c.args.changes.now
+    (node-memory gives digest shows layer n (g.S.Source.reads c.args.src.now, c.args.self.now.left) c.args.layer c.args.depth
+    c.args.changes.now
     c.args.rows.rest (edge_in old) (log_in old))
 
 pub returns-in_err-alloc-2-clause-stopped : goal.returns-in_err-alloc-2-clause-stopped
@@ -103,7 +106,8 @@ returns-in_err-alloc-2-clause-stopped g c =
     let n = c.args.layers in
     let old = c.args.self.now in
     rw (p.1, p.2)
-    (node-memory gives digest shows layer n (g.S.Source.reads c.args.src.now) c.args.layer c.args.depth c.args.changes.now
+    (node-memory gives digest shows layer n (g.S.Source.reads c.args.src.now, c.args.self.now.left) c.args.layer c.args.depth
+    c.args.changes.now
     c.args.rows.rest (edge_in old) (log_in old))
 
 pub returns-in_err-go_on-clause-stopped : goal.returns-in_err-go_on-clause-stopped
@@ -116,7 +120,8 @@ returns-in_err-go_on-clause-stopped g c =
     let n = c.args.layers in
     let old = c.args.self.now in
     rw (p.1, p.2)
-    (node-memory gives digest shows layer n (g.S.Source.reads c.args.src.now) c.args.layer c.args.depth c.args.changes.now
+    (node-memory gives digest shows layer n (g.S.Source.reads c.args.src.now, c.args.self.now.left) c.args.layer c.args.depth
+    c.args.changes.now
     c.args.rows.rest (edge_in old) (log_in old))
 
 pub returns-in_err-perform-clause-stopped : goal.returns-in_err-perform-clause-stopped
@@ -129,14 +134,14 @@ returns-in_err-perform-clause-stopped g c =
     let n = c.args.layers in
     let old = c.args.self.now in
     let at = c.loop-task in
-    let m = g.S.Source.reads at.src in
+    let m : Budget = (g.S.Source.reads at.src, at.self.left) in
     let a = g.S.Source.reads c.perform.new.src in
     let start = agenda_of c.go_on.new.agenda.items in
     let gs = agenda_of c.pop.new.self.items in
     let f = task_of c.in-Some.task in
     let fault = c.in_err-perform.field-0.0 in
     rw (p.1, p.2)
-    (task-stopped gives digest shows layer n (g.S.Source.reads c.args.src.now) m a
+    (task-stopped gives digest shows layer n (g.S.Source.reads c.args.src.now, c.args.self.now.left) m a
     (node_does digest shows layer n c.args.layer c.args.depth c.args.changes.now c.args.rows.rest (edge_in old) (log_in old))
     (agenda_does digest shows layer n start (Some (edge_in old, log_in old))) (agenda_of at.agenda.items) gs f (edge_in at.self)
     (log_in old) (log_in at.self) fault

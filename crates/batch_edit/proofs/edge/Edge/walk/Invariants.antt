@@ -15,7 +15,8 @@ invariant-loop-task g l = record {
       l.layers (agenda_of l.agenda.items) (Some (edge_in l.self, log_in l.self));
   meets : l.initial.previous.items ++ agenda_meets (nodes_given (g.S.Source.gives l.initial.src)) (agenda_of l.initial.agenda.items)
       ≡ l.previous.items ++ agenda_meets (nodes_given (g.S.Source.gives l.initial.src)) (agenda_of l.agenda.items);
-  counted : IsCounted (g.S.Source.reads l.initial.src) (g.S.Source.reads l.src) (log_in l.initial.self) (log_in l.self);
+  counted : IsCounted (g.S.Source.reads l.initial.src, l.initial.self.left) (g.S.Source.reads l.src, l.self.left)
+      (log_in l.initial.self) (log_in l.self);
 }
 
 abbrev pub decreases-loop-task : goal.decreases-loop-task
