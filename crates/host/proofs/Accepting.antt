@@ -37,7 +37,7 @@ refused digest bits w old stamp batch full fuller (Ok a) seen e = e
 refused digest bits w old stamp batch full fuller (Err e) seen why = (old, seen, (full, fuller, why))
 
 -- a version of such a state has what a lawful state has
-pub version_is : {E : Type 0} (digest : List ℕ → List ℕ) (bits : ℕ) (w : Wanted) (s : State) (r : Result Version E) → IsSeen w s
+pub version_is : {A E : Type 0} (digest : List ℕ → List ℕ) (bits : ℕ) (w : Wanted) (s : State) (r : Result (Version A) E) → IsSeen w s
     → IfOk r (IsVersionIn digest bits s) → IfOk r (IsVersion digest bits)
 version_is digest bits w s (Ok v) seen here = record {
   writes_are = ap is_lawful_list here.writes_are ∙ seen.lawful.writes;
@@ -45,3 +45,12 @@ version_is digest bits w s (Ok v) seen here = record {
   root_is = here.root_is ∙ ap (λ (l : List spec.Write). repository_root digest bits (leaves l)) (sym here.writes_are);
 }
 version_is digest bits w s (Err e) seen here = here
+
+-- what follows from each value, or from each fault
+pub ok_then : {T E : Type 0} {P Q : T → Type 0} (r : Result T E) → ((x : T) → P x → Q x) → IfOk r P → IfOk r Q
+ok_then (Ok x) f p = f x p
+ok_then (Err e) f p = p
+
+pub err_then : {T E : Type 0} {P Q : E → Type 0} (r : Result T E) → ((e : E) → P e → Q e) → IfErr r P → IfErr r Q
+err_then (Ok x) f p = p
+err_then (Err e) f p = f e p

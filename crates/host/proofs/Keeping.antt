@@ -1,9 +1,9 @@
 -- What a writer keeps stays in order.
-use Rattle.std.proofs.Common.{◌≡◌, suc, ◌+◌, List, [], ◌∷◌, ◌++◌, length, subst, arith, append_assoc, length-append}
+use Rattle.std.proofs.Common.{◌≡◌, suc, ◌+◌, ◌%◌, ◌^◌, List, [], ◌∷◌, ◌++◌, length, sym, ap, ◌∙◌, subst, arith, append_assoc, length-append}
 use Rattle.std.proofs.lemmas.List.Elements.{All-push}
 use Rattle.notices.specs.declared.notice.Notice.{Notice}
 use Rattle.notices.specs.Numbering.{NumberedFrom}
-use Rattle.notices.specs.Views.{PassView, sent_one}
+use Rattle.notices.specs.Views.{PassView, SenderView, WasFull, sent_one, refused_once}
 use Rattle.std.proofs.Common.{ℕ}
 use Rattle.closing.specs.Ending.{told}
 use Rattle.host.specs.Views.{IsOrderly}
@@ -31,3 +31,10 @@ orderly_rest pass n rest h = record {
 
 pub told_rest : (pass : PassView) (n : Notice) (rest : List Notice) → told (sent_one pass n) rest ≡ told pass (n ∷ rest)
 told_rest pass n rest = append_assoc pass.sent (n ∷ []) rest
+
+-- a queue that gave a notice back was full, and has counted that once
+pub given_back : (room before : ℕ) (was now : SenderView) → now ≡ refused_once was → WasFull was.room was.pass → was.room ≡ room → was.refused ≡ before → WasFull room now.pass × (now.refused ≡ (before + 1) % 2 ^ 64)
+given_back room before was now once full same first = (
+  subst (λ r. WasFull r now.pass) same (subst (WasFull was.room) (sym (ap (λ (s : SenderView). s.pass) once)) full),
+  ap (λ (s : SenderView). s.refused) once ∙ ap (λ (n : ℕ). (n + 1) % 2 ^ 64) first,
+)

@@ -1,3 +1,5 @@
 pub mod Keeping
 pub mod Seats
 pub mod Accepting
+pub mod Sizes
+pub mod Wanting

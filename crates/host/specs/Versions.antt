@@ -9,18 +9,20 @@ use Rattle.host.specs.Seeing.{IsSeen}
 use Rattle.host.specs.declared.locked.Wanted.{Wanted}
 use Rattle.host.specs.declared.version.Version.{Version}
 
-abbrev pub version_writes : Version → List ws.Write
+abbrev pub version_writes : {A : Type 0} → Version A → List ws.Write
 version_writes v = shared_writes v.writes.items
 
 -- its writes are a lawful list, its number is their count, and its root is that of the tree from
 -- scratch of the records that they leave
-pub record IsVersion (digest : List ℕ → List ℕ) (bits : ℕ) (v : Version) : Type 0 where
+pub record IsVersion {A : Type 0} (digest : List ℕ → List ℕ) (bits : ℕ) (v : Version A)
+    : Type 0 where
   pub writes_are : is_lawful_list (version_writes v) ≡ true
   pub number_is : v.number ≡ length (version_writes v)
   pub root_is : v.root ≡ repository_root digest bits (leaves (version_writes v))
 
 -- the version is that of this state
-pub record IsVersionIn (digest : List ℕ → List ℕ) (bits : ℕ) (s : State) (v : Version) : Type 0 where
+pub record IsVersionIn {A : Type 0} (digest : List ℕ → List ℕ) (bits : ℕ) (s : State)
+    (v : Version A) : Type 0 where
   pub writes_are : version_writes v ≡ s.accepted
   pub number_is : v.number ≡ length s.accepted
   pub root_is : v.root ≡ state_root digest bits s
@@ -28,7 +30,7 @@ pub record IsVersionIn (digest : List ℕ → List ℕ) (bits : ℕ) (s : State)
 
 -- the version is that of a lawful state of the wanted repository, of at least as many writes as were
 -- seen there
-abbrev pub IsOfState : (List ℕ → List ℕ) → ℕ → Wanted → Version → Type 0
+abbrev pub IsOfState : {A : Type 0} → (List ℕ → List ℕ) → ℕ → Wanted → Version A → Type 0
 IsOfState digest bits w v = (s : State) × IsSeen w s
     × (version_writes v ≡ s.accepted) × (v.number ≡ length s.accepted)
     × (v.root ≡ state_root digest bits s) × (v.repo ≡ w.repo)

@@ -1,5 +1,5 @@
 -- What a contract sees of a host and of its writers.
-use Rattle.std.specs.Prelude.{◌≡◌, ◌+◌, ℕ, List, [], length, map, replicate, slice_set, All}
+use Rattle.std.specs.Prelude.{◌≡◌, ◌≤◌, ◌+◌, ℕ, List, [], length, map, replicate, slice_set, All}
 use Rattle.boxcar.specs.Table.{Shelves}
 use Rattle.notices.specs.declared.notice.Notice.{Notice}
 use Rattle.notices.specs.Numbering.{NumberedFrom}
@@ -58,10 +58,12 @@ pub record IsOrderly (pass : PassView) (kept : List Notice) : Type 0 where
   pub own : All (λ n. n.writer ≡ pass.writer) kept
   pub numbered : NumberedFrom (length pass.sent + 1) kept
 
--- What a writer knows of its fields: its pass is one of its host's queue; its notices are in order,
--- and last is the number of the last one; and it has a place for each repository.
-pub record IsWriting (host : HostView) (sender : SenderView) (kept : List Notice) (last : ℕ)
-    (seen : List ℕ) : Type 0 where
+-- What a writer knows of its fields: its list of hosts has one; its pass is one of its host's queue;
+-- its notices are in order, and last is the number of the last one; and it has a place for each
+-- repository.
+pub record IsWriting (host : HostView) (hosts : List HostView) (sender : SenderView)
+    (kept : List Notice) (last : ℕ) (seen : List ℕ) : Type 0 where
+  pub lent : 1 ≤ length hosts
   pub queue : sender.pass.queue_id ≡ host.queue.queue_id
   pub orderly : IsOrderly sender.pass kept
   pub last_is : last ≡ length sender.pass.sent + length kept

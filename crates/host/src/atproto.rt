@@ -4,21 +4,22 @@ use crate::host::{Host, Opened};
 use crate::version::Receipt;
 use crate::writer::Writer;
 use closing::{Closed, Uneven};
+use std::alloc::Global;
 
 /// A host of repositories of the AT Protocol (repository v3, MST structure: two zero bits a layer).
-pub type AtprotoHost<D> = Host<D, 2>;
+pub type AtprotoHost<D, A = Global> = Host<D, 2, A>;
 
 /// Such a host that was opened.
-pub type AtprotoOpened<D> = Opened<D, 2>;
+pub type AtprotoOpened<D, A = Global> = Opened<D, 2, A>;
 
 /// A writer of such a host.
-pub type AtprotoWriter<'a, D> = Writer<'a, D, 2>;
+pub type AtprotoWriter<'a, D, A = Global> = Writer<'a, D, 2, A>;
 
 /// A receipt of a version of such a host.
-pub type AtprotoReceipt<D> = Receipt<D, 2>;
+pub type AtprotoReceipt<D, A = Global> = Receipt<D, 2, A>;
 
 /// Such a host that has closed.
-pub type AtprotoClosed<D> = Closed<D, 2>;
+pub type AtprotoClosed<D, A = Global> = Closed<D, 2, A>;
 
 /// Such a host that doesn't close.
-pub type AtprotoUneven<D> = Uneven<D, 2>;
+pub type AtprotoUneven<D, A = Global> = Uneven<D, 2, A>;

@@ -15,15 +15,16 @@ use crate::fault::{CarFault, ProveFault};
 use crate::host::Host;
 use crate::locked::{Wanted, is_wanted};
 use cid::{Block, Digest};
+use closing::element;
 use export::{ExportFault, Out, car, prove};
 use repo::Core;
-use std::alloc::{AllocError, Global};
+use std::alloc::{AllocError, Allocator};
 use std::sync::{Arc, Wait};
 
 /// Writes the core's CAR, where the core is the wanted one.
-fn car_in<D: Digest, const B: u8, W: Out>(
-    alloc: Global,
-    core: &Core<D, B>,
+fn car_in<D: Digest, const B: u8, A: Allocator + Copy, W: Out>(
+    alloc: A,
+    core: &Core<D, B, A>,
     wanted: Wanted,
     out: &mut W,
 ) -> Option<Result<u64, ExportFault>>
@@ -44,12 +45,12 @@ fn car_in<D: Digest, const B: u8, W: Out>(
 }
 
 /// The proof of a key, where the core is the wanted one.
-fn proof_in<D: Digest, const B: u8>(
-    alloc: Global,
-    core: &Core<D, B>,
+fn proof_in<D: Digest, const B: u8, A: Allocator + Copy>(
+    alloc: A,
+    core: &Core<D, B, A>,
     wanted: Wanted,
     key: &[u8],
-) -> Option<Result<Vec<Arc<Block<D>>>, AllocError>>
+) -> Option<Result<Vec<Arc<Block<D, A>, A>, A>, AllocError>>
     requires { 1 ≤ B }
     ensures seen { IfSome result (λ r. IsSeen wanted core.now) }
     ensures passed { IfNone result (IsPassedOver wanted core.now) }
@@ -62,12 +63,12 @@ fn proof_in<D: Digest, const B: u8>(
     Some(prove(alloc, core, key))
 }
 
-impl<D: Digest, const B: u8> Host<D, B> {
+impl<D: Digest, const B: u8, A: Allocator + Copy> Host<D, B, A> {
     /// Writes the core's CAR once the lock is had.
     fn car_once<W: Out, R: Wait>(
         &self,
         rt: &R,
-        alloc: Global,
+        alloc: A,
         repo: usize,
         out: &mut W,
     ) -> Result<u64, ExportFault>
@@ -78,8 +79,9 @@ impl<D: Digest, const B: u8> Host<D, B> {
         ensures cause { HasCause (W.failures out.old) (W.failures out.new) result }
     {
         let wanted = self.wanted(repo, 0);
+        let repository = element(&self.repositories, repo);
         for _ in rt.forever() {
-            let core = self.repositories[repo].lock.read(rt);
+            let core = repository.lock.read(rt);
             if let Some(answer) = car_in(alloc, &core, wanted, out) {
                 return answer;
             }
@@ -96,7 +98,7 @@ impl<D: Digest, const B: u8> Host<D, B> {
     pub fn car<W: Out, R: Wait>(
         &self,
         rt: &R,
-        alloc: Global,
+        alloc: A,
         repo: usize,
         out: &mut W,
     ) -> Result<u64, CarFault>
@@ -119,18 +121,19 @@ impl<D: Digest, const B: u8> Host<D, B> {
     fn proof_once<R: Wait>(
         &self,
         rt: &R,
-        alloc: Global,
+        alloc: A,
         repo: usize,
         key: &[u8],
-    ) -> Result<Vec<Arc<Block<D>>>, AllocError>
+    ) -> Result<Vec<Arc<Block<D, A>, A>, A>, AllocError>
         requires least_bits { 1 ≤ B }
         requires repo { repo < self.now.repos }
         ensures { IfOk result (λ nodes.
             IsProofOf D.digest_of B (wanted_of self.now repo 0) key.now nodes.items) }
     {
         let wanted = self.wanted(repo, 0);
+        let repository = element(&self.repositories, repo);
         for _ in rt.forever() {
-            let core = self.repositories[repo].lock.read(rt);
+            let core = repository.lock.read(rt);
             if let Some(answer) = proof_in(alloc, &core, wanted, key) {
                 return answer;
             }
@@ -145,10 +148,10 @@ impl<D: Digest, const B: u8> Host<D, B> {
     pub fn prove<R: Wait>(
         &self,
         rt: &R,
-        alloc: Global,
+        alloc: A,
         repo: usize,
         key: &[u8],
-    ) -> Result<Vec<Arc<Block<D>>>, ProveFault>
+    ) -> Result<Vec<Arc<Block<D, A>, A>, A>, ProveFault>
         requires { 1 ≤ B }
         ensures proof { IfOk result (λ nodes.
             IsProofOf D.digest_of B (wanted_of self.now repo 0) key.now nodes.items) }

@@ -11,11 +11,12 @@ use crate::seat::Seat;
 use crate::version::{Receipt, Shelf, Version};
 use crate::writer::Writer;
 use cid::Digest;
-use closing::{Closed, Ended, Feed, Taker, Uneven, close, end_all};
+use closing::{Closed, Ended, Feed, Taker, Uneven, close, element, end_all};
 use notices::Queue;
 use repo::{Core, Repository};
-use std::alloc::Global;
+use std::alloc::{Allocator, Global};
 use std::marker::Model;
+use std::slice::from_ref;
 use store::Shards;
 
 /// Many repositories, each behind its own lock, the shards with their blocks, the queue of notices, and the published versions.
@@ -24,17 +25,17 @@ use store::Shards;
 /// is dropped gives its blocks back, as one that closes does.
 ///
 /// A contract sees its queue, its published versions, how many repositories it has, and how many writes each may have.
-pub struct Host<D: Digest, const B: u8> {
-    pub(crate) queue: Queue,
-    pub(crate) repositories: Vec<Repository<D, B>>,
+pub struct Host<D: Digest, const B: u8, A: Allocator = Global> {
+    pub(crate) queue: Queue<A>,
+    pub(crate) repositories: Vec<Repository<D, B, A>, A>,
     pub(crate) limit: usize,
-    pub(crate) shards: Shards<D>,
+    pub(crate) shards: Shards<D, A>,
     // for the cores, at the close
-    pub(crate) room: Vec<Core<D, B>>,
-    pub(crate) shelf: Shelf<D, B>,
+    pub(crate) room: Vec<Core<D, B, A>, A>,
+    pub(crate) shelf: Shelf<D, B, A>,
 }
 
-impl<D: Digest, const B: u8> Model for Host<D, B> {
+impl<D: Digest, const B: u8, A: Allocator> Model for Host<D, B, A> {
     ghost use Rattle.std.specs.Prelude.{◌≡◌, ◌≤◌, length, vec_len, vec_capacity};
     ghost use Rattle.host.specs.Views.{HostView};
 
@@ -48,21 +49,21 @@ impl<D: Digest, const B: u8> Model for Host<D, B> {
     } };
 
     ghost invariant = { λ h. (vec_len h.room ≡ 0) × (vec_len h.repositories ≤ vec_capacity h.room)
-        × (length h.repositories.items ≤ 1024) };
+        × (1 ≤ length h.repositories.items) × (length h.repositories.items ≤ 1024) };
 }
 
 /// A host that was opened: a seat for each writer, in the order of their numbers, and the feed of its queue.
 #[derive(Drop)]
-pub struct Opened<D: Digest, const B: u8> {
+pub struct Opened<D: Digest, const B: u8, A: Allocator = Global> {
     /// The host.
-    pub host: Host<D, B>,
+    pub host: Host<D, B, A>,
     /// The seat of each writer, at the place of its number.
-    pub seats: Vec<Seat>,
+    pub seats: Vec<Seat<A>, A>,
     /// The feed.
-    pub feed: Feed,
+    pub feed: Feed<A>,
 }
 
-impl<D: Digest, const B: u8> Host<D, B> {
+impl<D: Digest, const B: u8, A: Allocator> Host<D, B, A> {
     /// How many repositories there are.
     pub fn repos(&self) -> usize
         ensures repos { result ≡ self.now.repos }
@@ -72,13 +73,14 @@ impl<D: Digest, const B: u8> Host<D, B> {
     }
 
     /// The writer of this seat, which must be of this host. It takes no memory.
-    pub fn writer(&self, seat: Seat) -> Writer<'_, D, B>
+    pub fn writer(&self, seat: Seat<A>) -> Writer<'_, D, B, A>
         requires { IsSeatOf self.now seat }
         ensures { result ≡ beginning self.now seat }
     {
         let Seat { pass, kept, seen } = seat;
         Writer {
             host: self,
+            hosts: from_ref(self),
             sender: self.queue.sender(pass),
             kept,
             last: 0,
@@ -87,7 +89,7 @@ impl<D: Digest, const B: u8> Host<D, B> {
     }
 
     /// The one that takes notices, by this feed, which must be of this host. It takes no memory.
-    pub fn taker(&self, feed: Feed) -> Taker<'_>
+    pub fn taker(&self, feed: Feed<A>) -> Taker<'_, A>
         requires { feed.queue_id ≡ self.now.queue.queue_id }
         ensures { result ≡ feed }
     {
@@ -95,7 +97,7 @@ impl<D: Digest, const B: u8> Host<D, B> {
     }
 
     /// The version of a receipt, which must be of this host: the same for good, on any thread. It takes no lock and no memory.
-    pub fn version<'a>(&'a self, receipt: &Receipt<D, B>) -> &'a Version
+    pub fn version<'a>(&'a self, receipt: &Receipt<D, B, A>) -> &'a Version<A>
         requires { Shows self.now.shelf receipt.now }
         ensures value { result.now ≡ receipt.now.value }
         ensures lawful { IsVersion D.digest_of B result.now }
@@ -105,10 +107,10 @@ impl<D: Digest, const B: u8> Host<D, B> {
 }
 
 /// The cores, out of their locks, in order. There is room for all of them.
-fn take_out<D: Digest, const B: u8>(
-    repositories: Vec<Repository<D, B>>,
-    mut room: Vec<Core<D, B>>,
-) -> Vec<Core<D, B>>
+fn take_out<D: Digest, const B: u8, A: Allocator>(
+    repositories: Vec<Repository<D, B, A>, A>,
+    mut room: Vec<Core<D, B, A>, A>,
+) -> Vec<Core<D, B, A>, A>
     requires empty { vec_len room ≡ 0 }
     requires enough { vec_len repositories ≤ vec_capacity room }
     ensures { vec_len result ≡ vec_len repositories }
@@ -122,7 +124,7 @@ fn take_out<D: Digest, const B: u8>(
     room
 }
 
-impl<D: Digest, const B: u8> Drop for Host<D, B> {
+impl<D: Digest, const B: u8, A: Allocator> Drop for Host<D, B, A> {
     fn drop(self) {
         let Host {
             queue: _,
@@ -132,17 +134,22 @@ impl<D: Digest, const B: u8> Drop for Host<D, B> {
             room,
             shelf: _,
         } = self;
+        let _ = element(&repositories, 0);
         end_all(take_out(repositories, room), shards.tables());
     }
 }
 
-impl<D: Digest, const B: u8> Host<D, B> {
+impl<D: Digest, const B: u8, A: Allocator> Host<D, B, A> {
     /// Takes cores and tables out of their locks, and compares them with each other and with what writers have seen.
     ///
     /// These must be all writers and the feed that `Host::open` gave. Where all agree, it answers the closed host; otherwise
     /// `Uneven`, which holds cores, tables and what the writers ended with, and shows in what these don't agree. It takes no
     /// memory.
-    pub fn close(self, ended: Vec<Ended>, feed: Feed) -> Result<Closed<D, B>, Uneven<D, B>>
+    pub fn close(
+        self,
+        ended: Vec<Ended<A>, A>,
+        feed: Feed<A>,
+    ) -> Result<Closed<D, B, A>, Uneven<D, B, A>>
         requires feed { feed.queue_id ≡ self.queue.queue_id }
         requires fresh { feed.joined ≡ [] }
         requires ended { All (IsEndedAt self.queue.queue_id self.repos) ended.items }
@@ -164,6 +171,7 @@ impl<D: Digest, const B: u8> Host<D, B> {
             room,
             shelf: _,
         } = self;
+        let _ = element(&repositories, 0);
         let cores = take_out(repositories, room);
         close(queue, feed, ended, cores, shards.tables())
     }

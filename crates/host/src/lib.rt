@@ -141,6 +141,7 @@
 mod atproto;
 mod exporting;
 mod fault;
+mod fitting;
 mod host;
 mod limits;
 mod locked;

@@ -4,7 +4,7 @@
 //! number, of another limit, or of fewer accepted writes than its caller has seen. The caller then lets the lock go and tries
 //! again.
 
-ghost use Rattle.std.specs.Prelude.{◌≡◌, IsTrue, IfOk, IfErr, IfNone, IfSome, OnErr, false, option_map};
+ghost use Rattle.std.specs.Prelude.{◌≡◌, ◌≤◌, Decides, IsTrue, IfOk, IfErr, IfNone, IfSome, OnErr, false, option_map};
 ghost use Rattle.batches.specs.Values.{stamp_of, writes_of};
 ghost use Rattle.edit.specs.Walks.{pairs_given};
 ghost use Rattle.store.specs.Stores.{IsStore};
@@ -17,7 +17,7 @@ ghost use Rattle.host.specs.Seeing.{IsSeen, IsPassedOver, IsTakenBy, IsRecordIn,
 use batches::{RepoFault, Stamp, Write};
 use cid::{Block, Cid, Digest};
 use repo::{Applied, Core};
-use std::alloc::{AllocError, Global};
+use std::alloc::{AllocError, Allocator};
 use std::sync::Arc;
 use store::{BlockStore, Hold, StoreFault};
 
@@ -31,26 +31,38 @@ pub(crate) struct Wanted {
 }
 
 /// Whether the core is of the wanted repository, and has no fewer accepted writes than were seen there.
-pub(crate) fn is_wanted<D: Digest, const B: u8>(core: &Core<D, B>, wanted: Wanted) -> bool
+pub(crate) fn is_wanted<D: Digest, const B: u8, A: Allocator>(
+    core: &Core<D, B, A>,
+    wanted: Wanted,
+) -> bool
     ensures seen { IsTrue result → IsSeen wanted core.now }
     ensures passed { result ≡ false → IsPassedOver wanted core.now }
 {
-    core.me() == wanted.repo && core.limit() == wanted.limit && wanted.seen <= core.number()
+    is_met_by(wanted, core.me(), core.limit(), core.number())
+}
+
+/// Whether a core of this number and this limit, with so many accepted writes, is the wanted one.
+fn is_met_by(wanted: Wanted, me: u32, limit: usize, number: u64) -> bool
+    ensures { Decides result
+        ((me ≡ wanted.repo) × (limit ≡ wanted.limit) × (wanted.seen ≤ number)) }
+{
+    me == wanted.repo && limit == wanted.limit && wanted.seen <= number
 }
 
 /// Applies the batch, where the core is the wanted one. Where it isn't, and where the batch is refused, the core is as before.
 pub(crate) fn apply_at<
     D: Digest,
     const B: u8,
-    S: BlockStore<Arc<Block<D>>, Hold<D>, StoreFault<D>>,
+    A: Allocator + Copy,
+    S: BlockStore<Arc<Block<D, A>, A>, Hold<D, A>, StoreFault<D, A>>,
 >(
-    alloc: Global,
+    alloc: A,
     store: &mut S,
-    core: &mut Core<D, B>,
+    core: &mut Core<D, B, A>,
     wanted: Wanted,
-    stamp: &Stamp,
-    writes: &[Write],
-) -> Option<Result<Applied, (usize, RepoFault<D>)>>
+    stamp: &Stamp<A>,
+    writes: &[Write<A>],
+) -> Option<Result<Applied, (usize, RepoFault<D, A>)>>
     requires store { IsStore D.digest_of S.fulls S.answers }
     ensures seen { IfSome result (λ r. IsSeen wanted core.old) }
     ensures passed { IfNone result (IsPassedOver wanted core.old) }
@@ -77,12 +89,12 @@ pub(crate) fn apply_at<
 }
 
 /// The record of a key, with the number of accepted writes, where the core is the wanted one.
-pub(crate) fn record_in<D: Digest, const B: u8>(
-    alloc: Global,
-    core: &Core<D, B>,
+pub(crate) fn record_in<D: Digest, const B: u8, A: Allocator>(
+    alloc: A,
+    core: &Core<D, B, A>,
     wanted: Wanted,
     key: &[u8],
-) -> Option<Result<(u64, Option<Vec<u8>>), AllocError>>
+) -> Option<Result<(u64, Option<Vec<u8, A>>), AllocError>>
     ensures seen { IfSome result (λ o. IsSeen wanted core.now) }
     ensures passed { IfNone result (IsPassedOver wanted core.now) }
     ensures found { IfSome result (λ o. IfOk o (λ r.
@@ -102,13 +114,13 @@ pub(crate) fn record_in<D: Digest, const B: u8>(
 }
 
 /// The first pairs from a key on, with the number of accepted writes, where the core is the wanted one.
-pub(crate) fn pairs_in<D: Digest, const B: u8>(
-    alloc: Global,
-    core: &Core<D, B>,
+pub(crate) fn pairs_in<D: Digest, const B: u8, A: Allocator + Copy>(
+    alloc: A,
+    core: &Core<D, B, A>,
     wanted: Wanted,
     from: &[u8],
     limit: usize,
-) -> Option<Result<(u64, Vec<(Vec<u8>, Cid)>), AllocError>>
+) -> Option<Result<(u64, Vec<(Vec<u8, A>, Cid), A>), AllocError>>
     ensures seen { IfSome result (λ o. IsSeen wanted core.now) }
     ensures passed { IfNone result (IsPassedOver wanted core.now) }
     ensures listed { IfSome result (λ o. IfOk o (λ r.

@@ -6,6 +6,7 @@ ghost use Rattle.host.specs.Opening.{AreLawful, IsOutOfRange};
 ghost use Rattle.host.specs.Views.{fresh_seat, fresh_seats};
 
 use crate::fault::OpenFault;
+use crate::fitting::fits_in_memory;
 use crate::host::{Host, Opened};
 use crate::limits::Limits;
 use crate::seat::Seat;
@@ -14,7 +15,7 @@ use cid::Digest;
 use closing::Feed;
 use notices::{Queue, SendPass};
 use repo::{Core, Repository};
-use std::alloc::{AllocError, Global};
+use std::alloc::{AllocError, Allocator};
 use std::collections::VecDeque;
 use std::sync::{RwLock, Wait};
 use store::{LockedShards, Shards};
@@ -43,7 +44,11 @@ fn tested(limits: &Limits) -> Result<(), OpenFault>
 }
 
 /// A seat for each pass, with a place for each repository.
-fn seats_of(alloc: Global, passes: Vec<SendPass>, repos: usize) -> Result<Vec<Seat>, AllocError>
+fn seats_of<A: Allocator + Copy>(
+    alloc: A,
+    passes: Vec<SendPass, A>,
+    repos: usize,
+) -> Result<Vec<Seat<A>, A>, AllocError>
     requires { All (λ p. p.sent ≡ []) passes.items }
     ensures { IfOk result (λ seats. seats.items ≡ map (fresh_seat repos) passes.items) }
 {
@@ -61,10 +66,10 @@ fn seats_of(alloc: Global, passes: Vec<SendPass>, repos: usize) -> Result<Vec<Se
 }
 
 /// Gives the blocks of these repositories back.
-fn give_back<D: Digest, const B: u8, R: Wait>(
+fn give_back<D: Digest, const B: u8, A: Allocator + Clone, R: Wait>(
     rt: &R,
-    shards: &Shards<D>,
-    mut repositories: Vec<Repository<D, B>>,
+    shards: &Shards<D, A>,
+    mut repositories: Vec<Repository<D, B, A>, A>,
 ) {
     let mut store = LockedShards::new(rt, shards);
     while let Some(repository) = repositories.pop() {
@@ -75,13 +80,13 @@ fn give_back<D: Digest, const B: u8, R: Wait>(
 }
 
 /// So many repositories without writes, and room for their cores. What was opened before a refusal is given back.
-fn open_all<D: Digest, const B: u8, R: Wait>(
+fn open_all<D: Digest, const B: u8, A: Allocator + Copy, R: Wait>(
     rt: &R,
-    alloc: Global,
-    shards: &Shards<D>,
+    alloc: A,
+    shards: &Shards<D, A>,
     count: u32,
     limit: usize,
-) -> Result<(Vec<Repository<D, B>>, Vec<Core<D, B>>), AllocError>
+) -> Result<(Vec<Repository<D, B, A>, A>, Vec<Core<D, B, A>, A>), AllocError>
     requires least_bits { 1 ≤ B }
     requires most_bits { B ≤ 8 }
     requires few { count ≤ 1024 }
@@ -114,12 +119,70 @@ fn open_all<D: Digest, const B: u8, R: Wait>(
     Ok((repositories, room))
 }
 
-impl<D: Digest, const B: u8> Host<D, B> {
+/// The queue of a host, the seat of each writer in the order of their numbers, and the feed.
+fn queue_of<A: Allocator + Copy>(
+    alloc: A,
+    limits: &Limits,
+) -> Result<(Queue<A>, Vec<Seat<A>, A>, Feed<A>), AllocError>
+    requires { AreLawful limits.now }
+    ensures room { IfOk result (λ r. r.0.room ≡ limits.now.queue) }
+    ensures seats { IfOk result (λ r. r.1.items
+        ≡ fresh_seats r.0.queue_id limits.now.writers limits.now.repos) }
+    ensures feed { IfOk result (λ r. r.2 ≡ fresh_feed r.0.queue_id limits.now.writers) }
+{
+    let made = Queue::open(alloc, limits.writers, limits.queue)?;
+    let (queue, passes, feed) = made;
+    let seats = seats_of(alloc, passes, limits.repos as usize)?;
+    let feed = Feed::with_room(alloc, feed, limits.writers)?;
+    Ok((queue, seats, feed))
+}
+
+impl<D: Digest, const B: u8, A: Allocator + Copy> Host<D, B, A> {
+    /// A host with these limits. There is no memory for one whose parts don't fit in it.
+    fn with_limits<R: Wait>(
+        rt: &R,
+        alloc: A,
+        limits: &Limits,
+    ) -> Result<Opened<D, B, A>, AllocError>
+        requires least_bits { 1 ≤ B }
+        requires most_bits { B ≤ 8 }
+        requires lawful { AreLawful limits.now }
+        ensures repos { IfOk result (λ o. o.host.repos ≡ limits.now.repos) }
+        ensures limit { IfOk result (λ o. o.host.limit ≡ limits.now.repo_writes) }
+        ensures room { IfOk result (λ o. o.host.queue.room ≡ limits.now.queue) }
+        ensures feed { IfOk result (λ o.
+            o.feed ≡ fresh_feed o.host.queue.queue_id limits.now.writers) }
+        ensures seats { IfOk result (λ o. o.seats.items
+            ≡ fresh_seats o.host.queue.queue_id limits.now.writers limits.now.repos) }
+    {
+        if !fits_in_memory::<Shards<D, A>>()
+            || !fits_in_memory::<Core<D, B, A>>()
+            || !fits_in_memory::<Repository<D, B, A>>()
+        {
+            return Err(AllocError);
+        }
+        let opened = queue_of(alloc, limits)?;
+        let (queue, seats, feed) = opened;
+        let shelf = Shelf::open(alloc)?;
+        let shards = Shards::open(alloc, limits.shard_blocks);
+        let (repositories, room) = open_all(rt, alloc, &shards, limits.repos, limits.repo_writes)?;
+        let host = Host {
+            queue,
+            repositories,
+            limit: limits.repo_writes,
+            shards,
+            room,
+            shelf,
+        };
+        Ok(Opened { host, seats, feed })
+    }
+
     /// A host of repositories without writes, with the seat of each writer in the order of their numbers, and the feed.
     ///
     /// All limits are tested first, in their order, and the fault names the first one that is out of its range. After that
-    /// only memory can be refused, `OpenFault::NoMemory`; all that was taken is given back then.
-    pub fn open<R: Wait>(rt: &R, alloc: Global, limits: Limits) -> Result<Opened<D, B>, OpenFault>
+    /// only memory can be refused, `OpenFault::NoMemory`, also where shards, cores or repositories over this allocator would be
+    /// too large for any memory; all that was taken is given back then.
+    pub fn open<R: Wait>(rt: &R, alloc: A, limits: Limits) -> Result<Opened<D, B, A>, OpenFault>
         requires least_bits { 1 ≤ B }
         requires most_bits { B ≤ 8 }
         ensures lawful { OnOk result (AreLawful limits) }
@@ -133,20 +196,9 @@ impl<D: Digest, const B: u8> Host<D, B> {
             ≡ fresh_seats o.host.queue.queue_id limits.writers limits.repos) }
     {
         tested(&limits)?;
-        let (queue, passes, feed) = Queue::open(alloc, limits.writers, limits.queue)?;
-        let seats = seats_of(alloc, passes, limits.repos as usize)?;
-        let feed = Feed::with_room(alloc, feed, limits.writers)?;
-        let shelf = Shelf::open(alloc)?;
-        let shards = Shards::open(alloc, limits.shard_blocks);
-        let (repositories, room) = open_all(rt, alloc, &shards, limits.repos, limits.repo_writes)?;
-        let host = Host {
-            queue,
-            repositories,
-            limit: limits.repo_writes,
-            shards,
-            room,
-            shelf,
-        };
-        Ok(Opened { host, seats, feed })
+        match Host::with_limits(rt, alloc, &limits) {
+            Ok(opened) => Ok(opened),
+            Err(_) => Err(OpenFault::NoMemory),
+        }
     }
 }

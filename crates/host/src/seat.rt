@@ -3,6 +3,7 @@
 ghost use Rattle.std.specs.Prelude.{◌≡◌};
 
 use notices::{Notice, SendPass};
+use std::alloc::{Allocator, Global};
 use std::collections::VecDeque;
 use std::marker::Model;
 
@@ -11,13 +12,13 @@ use std::marker::Model;
 /// There is one for each writer, and it can't be copied. It goes from thread to thread. A contract sees the writer's pass, by
 /// which nothing has been sent, and for each repository how many accepted writes were seen there.
 #[derive(Drop)]
-pub struct Seat {
+pub struct Seat<A: Allocator = Global> {
     pub(crate) pass: SendPass,
-    pub(crate) kept: VecDeque<Notice>,
-    pub(crate) seen: Vec<u64>,
+    pub(crate) kept: VecDeque<Notice, A>,
+    pub(crate) seen: Vec<u64, A>,
 }
 
-impl Model for Seat {
+impl<A: Allocator> Model for Seat<A> {
     ghost use Rattle.std.specs.Prelude.{◌≡◌, []};
     ghost use Rattle.host.specs.Views.{SeatView};
 
@@ -28,7 +29,7 @@ impl Model for Seat {
     ghost invariant = { λ s. (s.pass.sent ≡ []) × (s.kept.items ≡ []) };
 }
 
-impl Seat {
+impl<A: Allocator> Seat<A> {
     /// The writer's number.
     pub fn writer(&self) -> u32
         ensures { result ≡ self.now.pass.writer }

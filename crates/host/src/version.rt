@@ -12,13 +12,13 @@ use boxcar::tag::Tag;
 use boxcar::{Keeps, Pushed};
 use cid::{Cid, Digest};
 use repo::Core;
-use std::alloc::{AllocError, Global};
+use std::alloc::{AllocError, Allocator, Global};
 use std::marker::{Model, PhantomData};
 use std::sync::{Arc, Wait};
 
 /// What a repository was at some moment.
 #[derive(Drop)]
-pub struct Version {
+pub struct Version<A: Allocator = Global> {
     /// The repository's number.
     pub repo: u32,
     /// How many writes were accepted.
@@ -26,7 +26,7 @@ pub struct Version {
     /// The root of its tree.
     pub root: Cid,
     /// The accepted writes, the oldest first.
-    pub writes: Vec<Arc<Write>>,
+    pub writes: Vec<Arc<Write<A>, A>, A>,
 }
 
 /// The rule that each published version keeps.
@@ -34,7 +34,7 @@ pub struct Lawful<D: Digest, const B: u8> {
     digest: PhantomData<D>,
 }
 
-impl<D: Digest, const B: u8> Keeps<Version> for Lawful<D, B> {
+impl<D: Digest, const B: u8, A: Allocator> Keeps<Version<A>> for Lawful<D, B> {
     ghost use Rattle.host.specs.Versions.{IsVersion};
 
     ghost holds = { λ tag index version. IsVersion D.digest_of B version };
@@ -42,11 +42,11 @@ impl<D: Digest, const B: u8> Keeps<Version> for Lawful<D, B> {
 
 /// The versions that were published.
 #[derive(Drop)]
-pub(crate) struct Shelf<D: Digest, const B: u8> {
-    versions: boxcar::Vec<Version, Global, Lawful<D, B>>,
+pub(crate) struct Shelf<D: Digest, const B: u8, A: Allocator> {
+    versions: boxcar::Vec<Version<A>, A, Lawful<D, B>>,
 }
 
-impl<D: Digest, const B: u8> Model for Shelf<D, B> {
+impl<D: Digest, const B: u8, A: Allocator> Model for Shelf<D, B, A> {
     ghost use Rattle.boxcar.specs.Table.{Shelves, shelves_coded};
 
     ghost Value = { Shelves };
@@ -60,25 +60,25 @@ impl<D: Digest, const B: u8> Model for Shelf<D, B> {
 ///
 /// A contract sees the version, and where it stands.
 #[derive(Drop)]
-pub struct Receipt<D: Digest, const B: u8> {
-    pushed: Pushed<Version, Global, Lawful<D, B>>,
+pub struct Receipt<D: Digest, const B: u8, A: Allocator = Global> {
+    pushed: Pushed<Version<A>, A, Lawful<D, B>>,
 }
 
-impl<D: Digest, const B: u8> Model for Receipt<D, B> {
+impl<D: Digest, const B: u8, A: Allocator> Model for Receipt<D, B, A> {
     ghost use Rattle.boxcar.specs.Table.{Where};
     ghost use Rattle.host.specs.declared.version.Version.{Version};
     ghost use Rattle.host.specs.Versions.{IsVersion};
 
-    ghost Value = { Where Version };
+    ghost Value = { Where (Version A) };
 
     ghost view = { λ r. r.pushed };
 
     ghost invariant = { λ r. IsVersion D.digest_of B r.pushed.value };
 }
 
-impl<D: Digest, const B: u8> Shelf<D, B> {
+impl<D: Digest, const B: u8, A: Allocator + Clone> Shelf<D, B, A> {
     /// No versions so far.
-    pub(crate) fn open(alloc: Global) -> Result<Shelf<D, B>, AllocError> {
+    pub(crate) fn open(alloc: A) -> Result<Shelf<D, B, A>, AllocError> {
         let versions = boxcar::Vec::with_rule(alloc, Tag::empty())?;
         Ok(Shelf { versions })
     }
@@ -87,8 +87,8 @@ impl<D: Digest, const B: u8> Shelf<D, B> {
     pub(crate) fn publish<R: Wait>(
         &self,
         rt: &R,
-        version: Version,
-    ) -> Result<Receipt<D, B>, Version>
+        version: Version<A>,
+    ) -> Result<Receipt<D, B, A>, Version<A>>
         requires { IsVersion D.digest_of B version }
         ensures shown { IfOk result (Shows self.now) }
         ensures value { IfOk result (λ receipt. receipt.value ≡ version) }
@@ -97,9 +97,11 @@ impl<D: Digest, const B: u8> Shelf<D, B> {
         let pushed = self.versions.push_shown(rt, version)?;
         Ok(Receipt { pushed })
     }
+}
 
+impl<D: Digest, const B: u8, A: Allocator> Shelf<D, B, A> {
     /// The version of a receipt.
-    pub(crate) fn version<'a>(&'a self, receipt: &Receipt<D, B>) -> &'a Version
+    pub(crate) fn version<'a>(&'a self, receipt: &Receipt<D, B, A>) -> &'a Version<A>
         requires { Shows self.now receipt.now }
         ensures value { result.now ≡ receipt.now.value }
         ensures lawful { IsVersion D.digest_of B result.now }
@@ -109,11 +111,11 @@ impl<D: Digest, const B: u8> Shelf<D, B> {
 }
 
 /// The core's version, where the core is the wanted one.
-pub(crate) fn version_in<D: Digest, const B: u8>(
-    alloc: Global,
-    core: &Core<D, B>,
+pub(crate) fn version_in<D: Digest, const B: u8, A: Allocator>(
+    alloc: A,
+    core: &Core<D, B, A>,
     wanted: Wanted,
-) -> Option<Result<Version, AllocError>>
+) -> Option<Result<Version<A>, AllocError>>
     ensures seen { IfSome result (λ r. IsSeen wanted core.now) }
     ensures passed { IfNone result (IsPassedOver wanted core.now) }
     ensures version { IfSome result (λ r. IfOk r (IsVersionIn D.digest_of B core.now)) }
@@ -133,7 +135,10 @@ pub(crate) fn version_in<D: Digest, const B: u8>(
 }
 
 /// The same writes, shared once more.
-fn shared(alloc: Global, accepted: &[Arc<Write>]) -> Result<Vec<Arc<Write>>, AllocError>
+fn shared<A: Allocator>(
+    alloc: A,
+    accepted: &[Arc<Write<A>, A>],
+) -> Result<Vec<Arc<Write<A>, A>, A>, AllocError>
     ensures { IfOk result (λ v. shared_writes v.items ≡ shared_writes accepted.now) }
 {
     let mut writes = Vec::with_capacity(alloc, accepted.len())?;

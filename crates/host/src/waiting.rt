@@ -15,12 +15,13 @@ use crate::locked::{Wanted, apply_at, pairs_in, record_in};
 use crate::version::{Receipt, Version, version_in};
 use batches::{RepoFault, Stamp, Write};
 use cid::{Cid, Digest};
+use closing::element;
 use repo::Applied;
-use std::alloc::{AllocError, Global};
+use std::alloc::{AllocError, Allocator};
 use std::sync::Wait;
 use store::LockedShards;
 
-impl<D: Digest, const B: u8> Host<D, B> {
+impl<D: Digest, const B: u8, A: Allocator> Host<D, B, A> {
     /// The repository of this number, of which so many accepted writes were seen.
     pub(crate) fn wanted(&self, repo: usize, seen: u64) -> Wanted
         requires { repo < self.now.repos }
@@ -34,17 +35,19 @@ impl<D: Digest, const B: u8> Host<D, B> {
             seen,
         }
     }
+}
 
+impl<D: Digest, const B: u8, A: Allocator + Copy> Host<D, B, A> {
     /// Applies the batch under the repository's write lock, once the core has at least `seen` accepted writes.
     pub(crate) fn apply<R: Wait>(
         &self,
         rt: &R,
-        alloc: Global,
+        alloc: A,
         repo: usize,
         seen: u64,
-        stamp: &Stamp,
-        writes: &[Write],
-    ) -> Result<Applied, (usize, RepoFault<D>)>
+        stamp: &Stamp<A>,
+        writes: &[Write<A>],
+    ) -> Result<Applied, (usize, RepoFault<D, A>)>
         requires { repo < self.now.repos }
         ensures accepted { IfOk result
             (IsTaken D.digest_of B (wanted_of self.now repo seen) stamp.now writes.now) }
@@ -52,8 +55,9 @@ impl<D: Digest, const B: u8> Host<D, B> {
             (IsRefusedSo D.digest_of B (wanted_of self.now repo seen) stamp.now writes.now) }
     {
         let wanted = self.wanted(repo, seen);
+        let repository = element(&self.repositories, repo);
         for _ in rt.forever() {
-            let mut core = self.repositories[repo].lock.write(rt);
+            let mut core = repository.lock.write(rt);
             let mut store = LockedShards::new(rt, &self.shards);
             let answer = apply_at(alloc, &mut store, &mut core, wanted, stamp, writes);
             if let Some(answer) = answer {
@@ -68,18 +72,19 @@ impl<D: Digest, const B: u8> Host<D, B> {
     pub(crate) fn record<R: Wait>(
         &self,
         rt: &R,
-        alloc: Global,
+        alloc: A,
         repo: usize,
         seen: u64,
         key: &[u8],
-    ) -> Result<(u64, Option<Vec<u8>>), AllocError>
+    ) -> Result<(u64, Option<Vec<u8, A>>), AllocError>
         requires { repo < self.now.repos }
         ensures { IfOk result (λ r.
             IsFound (wanted_of self.now repo seen) key.now r.0 (option_map (λ v. v.items) r.1)) }
     {
         let wanted = self.wanted(repo, seen);
+        let repository = element(&self.repositories, repo);
         for _ in rt.forever() {
-            let core = self.repositories[repo].lock.read(rt);
+            let core = repository.lock.read(rt);
             if let Some(answer) = record_in(alloc, &core, wanted, key) {
                 return answer;
             }
@@ -92,19 +97,20 @@ impl<D: Digest, const B: u8> Host<D, B> {
     pub(crate) fn pairs<R: Wait>(
         &self,
         rt: &R,
-        alloc: Global,
+        alloc: A,
         repo: usize,
         seen: u64,
         from: &[u8],
         limit: usize,
-    ) -> Result<(u64, Vec<(Vec<u8>, Cid)>), AllocError>
+    ) -> Result<(u64, Vec<(Vec<u8, A>, Cid), A>), AllocError>
         requires { repo < self.now.repos }
         ensures { IfOk result (λ r. IsListed D.digest_of (wanted_of self.now repo seen)
             from.now limit r.0 (pairs_given r.1.items)) }
     {
         let wanted = self.wanted(repo, seen);
+        let repository = element(&self.repositories, repo);
         for _ in rt.forever() {
-            let core = self.repositories[repo].lock.read(rt);
+            let core = repository.lock.read(rt);
             if let Some(answer) = pairs_in(alloc, &core, wanted, from, limit) {
                 return answer;
             }
@@ -116,17 +122,18 @@ impl<D: Digest, const B: u8> Host<D, B> {
     pub(crate) fn version_from<R: Wait>(
         &self,
         rt: &R,
-        alloc: Global,
+        alloc: A,
         repo: usize,
         seen: u64,
-    ) -> Result<Version, AllocError>
+    ) -> Result<Version<A>, AllocError>
         requires { repo < self.now.repos }
         ensures lawful { IfOk result (IsVersion D.digest_of B) }
         ensures state { IfOk result (IsOfState D.digest_of B (wanted_of self.now repo seen)) }
     {
         let wanted = self.wanted(repo, seen);
+        let repository = element(&self.repositories, repo);
         for _ in rt.forever() {
-            let core = self.repositories[repo].lock.read(rt);
+            let core = repository.lock.read(rt);
             if let Some(answer) = version_in(alloc, &core, wanted) {
                 return answer;
             }
@@ -138,8 +145,8 @@ impl<D: Digest, const B: u8> Host<D, B> {
     pub(crate) fn publish<R: Wait>(
         &self,
         rt: &R,
-        version: Version,
-    ) -> Result<Receipt<D, B>, Version>
+        version: Version<A>,
+    ) -> Result<Receipt<D, B, A>, Version<A>>
         requires { IsVersion D.digest_of B version }
         ensures shown { IfOk result (Shows self.now.shelf) }
         ensures value { IfOk result (λ receipt. receipt.value ≡ version) }

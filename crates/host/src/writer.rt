@@ -5,7 +5,7 @@ ghost use Rattle.std.specs.VecDeque.{deque_len, deque_capacity};
 ghost use Rattle.boxcar.specs.Table.{Shows};
 ghost use Rattle.edit.specs.Walks.{pairs_given};
 ghost use Rattle.closing.specs.Ending.{IsEndedAt};
-ghost use Rattle.host.specs.Seeing.{wanted_by};
+ghost use Rattle.host.specs.Seeing.{IsTaken, IsRefusedSo, wanted_by};
 ghost use Rattle.host.specs.Versions.{IsVersion, IsOfState};
 ghost use Rattle.host.specs.Views.{ended_of, with_seen};
 ghost use Rattle.host.specs.Telling.{IsFault, IsReadFault, IsPushed, HasNoneBack, IsSame, IsTold, IsOfBatch};
@@ -15,11 +15,12 @@ ghost use Rattle.host.specs.declared.fault.HostFault.TheVariants as faults;
 use crate::fault::HostFault;
 use crate::host::Host;
 use crate::version::Receipt;
-use batches::{Stamp, Write};
+use batches::{RepoFault, Stamp, Write};
 use cid::{Cid, Digest};
-use closing::Ended;
+use closing::{Ended, element};
 use notices::{Notice, Sender};
-use std::alloc::Global;
+use repo::Applied;
+use std::alloc::{Allocator, Global};
 use std::collections::VecDeque;
 use std::marker::Model;
 use std::sync::Wait;
@@ -32,15 +33,17 @@ use std::sync::Wait;
 ///
 /// A contract sees its host, how often the queue was full, modulo 2^64, its pass, the notices that it keeps, and what it has seen.
 #[derive(Drop)]
-pub struct Writer<'a, D: Digest, const B: u8> {
-    pub(crate) host: &'a Host<D, B>,
-    pub(crate) sender: Sender<'a>,
-    pub(crate) kept: VecDeque<Notice>,
+pub struct Writer<'a, D: Digest, const B: u8, A: Allocator = Global> {
+    pub(crate) host: &'a Host<D, B, A>,
+    // the same once more: of a slice that has an element it is known that a host fits in memory
+    pub(crate) hosts: &'a [Host<D, B, A>],
+    pub(crate) sender: Sender<'a, A>,
+    pub(crate) kept: VecDeque<Notice, A>,
     pub(crate) last: u64,
-    pub(crate) seen: Vec<u64>,
+    pub(crate) seen: Vec<u64, A>,
 }
 
-impl<'a, D: Digest, const B: u8> Model for Writer<'a, D, B> {
+impl<'a, D: Digest, const B: u8, A: Allocator> Model for Writer<'a, D, B, A> {
     ghost use Rattle.host.specs.Views.{WriterView, IsWriting};
 
     ghost Value = { WriterView };
@@ -53,10 +56,42 @@ impl<'a, D: Digest, const B: u8> Model for Writer<'a, D, B> {
       seen = w.seen.items;
     } };
 
-    ghost invariant = { λ w. IsWriting w.host.now w.sender w.kept.items w.last w.seen.items };
+    ghost invariant = { λ w.
+        IsWriting w.host.now w.hosts.now w.sender w.kept.items w.last w.seen.items };
 }
 
-impl<'a, D: Digest, const B: u8> Writer<'a, D, B> {
+impl<'a, D: Digest, const B: u8, A: Allocator> Writer<'a, D, B, A> {
+    /// How many repositories its host has.
+    fn repos(&self) -> usize
+        ensures repos { result ≡ self.now.host.repos }
+        ensures few { result ≤ 1024 }
+    {
+        let _ = element(self.hosts, 0);
+        self.host.repos()
+    }
+}
+
+impl<'a, D: Digest, const B: u8, A: Allocator + Copy> Writer<'a, D, B, A> {
+    /// What its host answers to a batch.
+    fn taken<R: Wait>(
+        &self,
+        rt: &R,
+        alloc: A,
+        repo: usize,
+        stamp: &Stamp<A>,
+        writes: &[Write<A>],
+    ) -> Result<Applied, (usize, RepoFault<D, A>)>
+        requires { repo < self.now.host.repos }
+        ensures accepted { IfOk result
+            (IsTaken D.digest_of B (wanted_by self.now repo) stamp.now writes.now) }
+        ensures refused { IfErr result
+            (IsRefusedSo D.digest_of B (wanted_by self.now repo) stamp.now writes.now) }
+    {
+        let _ = element(self.hosts, 0);
+        self.host
+            .apply(rt, alloc, repo, self.seen[repo], stamp, writes)
+    }
+
     /// Applies a batch to a repository, all its writes or none, and tells of it where it is accepted.
     ///
     /// `HostFault::NoSuchRepository` comes first, then `HostFault::SeqFull`, which says that this writer's last accepted call has
@@ -69,11 +104,11 @@ impl<'a, D: Digest, const B: u8> Writer<'a, D, B> {
     pub fn apply<R: Wait>(
         &mut self,
         rt: &R,
-        alloc: Global,
+        alloc: A,
         repo: usize,
-        stamp: &Stamp,
-        writes: &[Write],
-    ) -> Result<Notice, HostFault<D>>
+        stamp: &Stamp<A>,
+        writes: &[Write<A>],
+    ) -> Result<Notice, HostFault<D, A>>
         ensures told { IfOk result
             (λ n. told_by_writer self.new ≡ told_by_writer self.old ++ n ∷ []) }
         ensures notice { IfOk result (IsTold self.old repo) }
@@ -89,7 +124,7 @@ impl<'a, D: Digest, const B: u8> Writer<'a, D, B> {
         ensures seq_full { repo < self.old.host.repos → HasNoNumber self.old
             → result ≡ Err faults.SeqFull }
     {
-        if repo >= self.host.repos() {
+        if repo >= self.repos() {
             return Err(HostFault::NoSuchRepository);
         }
         if self.last == u64::MAX {
@@ -98,10 +133,7 @@ impl<'a, D: Digest, const B: u8> Writer<'a, D, B> {
         let Ok(()) = self.kept.reserve(1) else {
             return Err(HostFault::NoMemory);
         };
-        let applied = match self
-            .host
-            .apply(rt, alloc, repo, self.seen[repo], stamp, writes)
-        {
+        let applied = match self.taken(rt, alloc, repo, stamp, writes) {
             Ok(applied) => applied,
             Err((place, fault)) => return Err(HostFault::Refused(place, fault)),
         };
@@ -127,16 +159,17 @@ impl<'a, D: Digest, const B: u8> Writer<'a, D, B> {
     pub fn get<R: Wait>(
         &mut self,
         rt: &R,
-        alloc: Global,
+        alloc: A,
         repo: usize,
         key: &[u8],
-    ) -> Result<Option<Vec<u8>>, HostFault<D>>
+    ) -> Result<Option<Vec<u8, A>>, HostFault<D, A>>
         ensures found { IfOk result (λ o.
             HasFound self.old self.new repo key.now (option_map (λ v. v.items) o)) }
         ensures unchanged { OnErr result (self.new ≡ self.old) }
         ensures fault { IfErr result (IsReadFault self.old.host repo) }
         ensures missing { self.old.host.repos ≤ repo → result ≡ Err faults.NoSuchRepository }
     {
+        let _ = element(self.hosts, 0);
         if repo >= self.host.repos() {
             return Err(HostFault::NoSuchRepository);
         }
@@ -156,17 +189,18 @@ impl<'a, D: Digest, const B: u8> Writer<'a, D, B> {
     pub fn list<R: Wait>(
         &mut self,
         rt: &R,
-        alloc: Global,
+        alloc: A,
         repo: usize,
         from: &[u8],
         limit: usize,
-    ) -> Result<Vec<(Vec<u8>, Cid)>, HostFault<D>>
+    ) -> Result<Vec<(Vec<u8, A>, Cid), A>, HostFault<D, A>>
         ensures found { IfOk result (λ v.
             HasListed D.digest_of self.old self.new repo from.now limit (pairs_given v.items)) }
         ensures unchanged { OnErr result (self.new ≡ self.old) }
         ensures fault { IfErr result (IsReadFault self.old.host repo) }
         ensures missing { self.old.host.repos ≤ repo → result ≡ Err faults.NoSuchRepository }
     {
+        let _ = element(self.hosts, 0);
         if repo >= self.host.repos() {
             return Err(HostFault::NoSuchRepository);
         }
@@ -189,9 +223,9 @@ impl<'a, D: Digest, const B: u8> Writer<'a, D, B> {
     pub fn publish<R: Wait>(
         &mut self,
         rt: &R,
-        alloc: Global,
+        alloc: A,
         repo: usize,
-    ) -> Result<Receipt<D, B>, HostFault<D>>
+    ) -> Result<Receipt<D, B, A>, HostFault<D, A>>
         ensures shown { IfOk result (Shows self.new.host.shelf) }
         ensures lawful { IfOk result (λ r. IsVersion D.digest_of B r.value) }
         ensures state { IfOk result (λ r.
@@ -201,6 +235,7 @@ impl<'a, D: Digest, const B: u8> Writer<'a, D, B> {
         ensures fault { IfErr result (IsReadFault self.old.host repo) }
         ensures missing { self.old.host.repos ≤ repo → result ≡ Err faults.NoSuchRepository }
     {
+        let _ = element(self.hosts, 0);
         if repo >= self.host.repos() {
             return Err(HostFault::NoSuchRepository);
         }
@@ -216,7 +251,9 @@ impl<'a, D: Digest, const B: u8> Writer<'a, D, B> {
             Err(_) => Err(HostFault::NoMemory),
         }
     }
+}
 
+impl<'a, D: Digest, const B: u8, A: Allocator> Writer<'a, D, B, A> {
     /// Pushes the kept notices in order until the queue is full, and answers how many are still kept. It takes no memory, and waits
     /// for nothing but the queue's own steps.
     pub fn flush<R: Wait>(&mut self, rt: &R) -> usize
@@ -239,12 +276,13 @@ impl<'a, D: Digest, const B: u8> Writer<'a, D, B> {
     }
 
     /// Ends the writer. It drops nothing, and takes no memory.
-    pub fn end(self) -> Ended
+    pub fn end(self) -> Ended<A>
         ensures same { result ≡ ended_of self.entry }
         ensures ended { IsEndedAt self.entry.host.queue.queue_id self.entry.host.repos result }
     {
         let Writer {
             host: _,
+            hosts: _,
             sender,
             kept,
             last: _,
@@ -255,7 +293,7 @@ impl<'a, D: Digest, const B: u8> Writer<'a, D, B> {
 }
 
 /// Keeps one more notice, for which there is room.
-fn keep(kept: &mut VecDeque<Notice>, notice: &Notice)
+fn keep<A: Allocator>(kept: &mut VecDeque<Notice, A>, notice: &Notice)
     requires { deque_len kept.old < deque_capacity kept.old }
     ensures { kept.new.items ≡ kept.old.items ++ notice.now ∷ [] }
 {

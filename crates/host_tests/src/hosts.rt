@@ -8,7 +8,7 @@ use host::{HostFault, Limits, Writer};
 use notices::Notice;
 use repo_fixtures::batch::{Batch, Step, batch_at};
 use repo_fixtures::ends::{Why, why_of};
-use std::alloc::{AllocError, Global};
+use std::alloc::{AllocError, Allocator};
 use std::sync::Wait;
 
 /// So many repositories and writers, and a queue with this room.
@@ -38,7 +38,9 @@ pub(crate) enum Answer {
 }
 
 /// The answer of a call.
-fn answer_of<D: Digest>(answer: Result<Notice, HostFault<D>>) -> Answer {
+pub(crate) fn answer_of<D: Digest, A: Allocator>(
+    answer: Result<Notice, HostFault<D, A>>,
+) -> Answer {
     match answer {
         Ok(notice) => Answer::Told(notice.seq, notice.number),
         Err(HostFault::NoSuchRepository) => Answer::NoSuchRepository,
@@ -49,12 +51,12 @@ fn answer_of<D: Digest>(answer: Result<Notice, HostFault<D>>) -> Answer {
 }
 
 /// How a writer's batch is answered, for which there may have been no memory.
-fn apply<D: Digest, const B: u8, R: Wait>(
+fn apply<D: Digest, const B: u8, A: Allocator + Copy, R: Wait>(
     rt: &R,
-    alloc: Global,
-    writer: &mut Writer<'_, D, B>,
+    alloc: A,
+    writer: &mut Writer<'_, D, B, A>,
     repo: usize,
-    batch: Result<Batch<Global>, AllocError>,
+    batch: Result<Batch<A>, AllocError>,
 ) -> Answer
     ensures { writer.new.host ≡ writer.old.host }
 {
@@ -65,10 +67,10 @@ fn apply<D: Digest, const B: u8, R: Wait>(
 }
 
 /// How the batch of these steps is answered, under the stamp that comes so many after the first one.
-pub(crate) fn apply_steps<D: Digest, const B: u8, R: Wait>(
+pub(crate) fn apply_steps<D: Digest, const B: u8, A: Allocator + Copy, R: Wait>(
     rt: &R,
-    alloc: Global,
-    writer: &mut Writer<'_, D, B>,
+    alloc: A,
+    writer: &mut Writer<'_, D, B, A>,
     repo: usize,
     turn: u16,
     steps: &[Step<'_>],
@@ -79,10 +81,10 @@ pub(crate) fn apply_steps<D: Digest, const B: u8, R: Wait>(
 }
 
 /// Whether the writer finds this record under the key "a/b0".
-pub(crate) fn finds<const B: u8, R: Wait>(
+pub(crate) fn finds<const B: u8, A: Allocator + Copy, R: Wait>(
     rt: &R,
-    alloc: Global,
-    writer: &mut Writer<'_, Toy, B>,
+    alloc: A,
+    writer: &mut Writer<'_, Toy, B, A>,
     repo: usize,
     record: Option<&[u8]>,
 ) -> bool

@@ -14,6 +14,8 @@ mod hosts;
 #[cfg(test)]
 mod listing;
 #[cfg(test)]
+mod no_memory;
+#[cfg(test)]
 mod opening;
 #[cfg(test)]
 mod queue_of_two;

@@ -10,7 +10,7 @@ use closing::{Closed, Ended, Feed, Taker};
 use host::Writer;
 use notices::Notice;
 use repo_fixtures::batch::{ONE, Step, TWO};
-use std::alloc::Global;
+use std::alloc::{Allocator, Global};
 use std::process::Abort;
 use std::sync::Wait;
 
@@ -26,7 +26,7 @@ fn seq_of(notice: Option<Notice>) -> u64 {
 }
 
 /// The number of the next notice, 0 where there is none.
-pub(crate) fn popped<R: Wait>(rt: &R, taker: &mut Taker<'_>) -> u64
+pub(crate) fn popped<A: Allocator, R: Wait>(rt: &R, taker: &mut Taker<'_, A>) -> u64
     ensures queue { taker.new.queue_id ≡ taker.old.queue_id }
     ensures made { taker.new.made ≡ taker.old.made }
     ensures joined { taker.new.joined ≡ taker.old.joined }
@@ -49,9 +49,9 @@ fn tells_three<R: Wait>(rt: &R, alloc: Global, writer: &mut Writer<'_, Toy, 2>) 
 
 /// What a writer and a taker leave, and whether all was right so far.
 #[derive(Drop)]
-pub(crate) struct Left {
-    pub(crate) ended: Ended,
-    pub(crate) feed: Feed,
+pub(crate) struct Left<A: Allocator = Global> {
+    pub(crate) ended: Ended<A>,
+    pub(crate) feed: Feed<A>,
     pub(crate) is_right: bool,
 }
 
@@ -82,7 +82,7 @@ fn take_all<R: Wait>(
 }
 
 /// Whether a host that closed has this one repository of three writes, and nothing was left.
-pub(crate) fn is_closed<R: Wait>(rt: &R, mut closed: Closed<Toy, 2>) -> bool {
+fn is_closed<R: Wait>(rt: &R, mut closed: Closed<Toy, 2>) -> bool {
     let number = match closed.cores().first() {
         Some(core) => core.number(),
         None => 0,

@@ -9,16 +9,16 @@ use cid::Digest;
 use cid::digests::Toy;
 use closing::{Closed, Ended, Feed};
 use host::{Host, Opened, Seat};
-use std::alloc::Global;
+use std::alloc::{Allocator, Global};
 use std::process::Abort;
 use std::sync::Wait;
 
 /// A host with one writer.
 #[derive(Drop)]
-pub(crate) struct Alone<D: Digest, const B: u8> {
-    pub(crate) host: Host<D, B>,
-    pub(crate) seat: Seat,
-    pub(crate) feed: Feed,
+pub(crate) struct Alone<D: Digest, const B: u8, A: Allocator = Global> {
+    pub(crate) host: Host<D, B, A>,
+    pub(crate) seat: Seat<A>,
+    pub(crate) feed: Feed<A>,
 }
 
 /// A host of so many repositories and one writer, and a queue with this room.

@@ -6,7 +6,7 @@ use Rattle.host.specs.Views.{fresh_seat}
 use Rattle.host.proofs.opening.seats_of.Goals as goal
 
 pub loop-pass-preserved : goal.loop-pass-preserved
-loop-pass-preserved c =
+loop-pass-preserved g c =
     let i = c.loop-pass.invariant in
     let x : PassView = c.in-Some.pass in
     let f = fresh_seat c.args.repos in

@@ -2,17 +2,16 @@ use Rattle.std.proofs.Common.{◌≡◌, ◌++◌, ◌∷◌, [], map, take, sym
 use Rattle.std.proofs.lemmas.List.{take_more, map-append}
 use Rattle.std.specs.Arc.{arc_value}
 use Rattle.std.specs.declared.sync.Arc.{Arc}
-use Rattle.std.specs.declared.alloc.Global.{Global}
 use Rattle.spec.specs.Writes as writes
 use Rattle.batches.specs.declared.write.Write.{Write}
 use Rattle.batches.specs.Values.{write_of}
 use Rattle.host.proofs.version.shared.Goals as goal
 
-abbrev f : Arc (Write Global) Global → writes.Write
+abbrev f : {A : Type 0} → Arc (Write A) A → writes.Write
 f w = write_of (arc_value w)
 
 pub loop-write-preserved : goal.loop-write-preserved
-loop-write-preserved c =
+loop-write-preserved g c =
     let i = c.loop-write.invariant in
     let p = c.push_reserved.ensures in
     let xs = c.args.accepted.now in

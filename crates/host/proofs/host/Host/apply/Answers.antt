@@ -1,4 +1,7 @@
-use Rattle.std.proofs.Common.{subst}
+use Rattle.std.proofs.Common.{rules, subst}
+use denote.Param.{layout, param, number}
+use Rattle.repo.specs.contracts.repository.Repository as repository
+use Rattle.host.proofs.Sizes.{core_fits}
 use Rattle.host.specs.Seeing.{IsSeen}
 use Rattle.host.proofs.Accepting.{taken, refused}
 use Rattle.host.proofs.host.Host.apply.Goals as goal
@@ -14,3 +17,15 @@ returns-in-Some-answer-clause-refused g c =
     let e = c.in-Some-answer.ensures in
     let seen = subst (λ w. IsSeen w c.deref_mut.result.now) c.wanted-wanted.ensures e.seen in
     refused g.D.Digest.digest_of g.row.B _ _ c.args.stamp.now c.args.writes.now _ _ _ seen e.refused
+
+pub apply_at-answer-requires : goal.apply_at-answer-requires
+apply_at-answer-requires g c =
+    (core_fits (layout (repository.the_row (param 0 g.row.D) (number g.row.B) (param 2 g.row.A) g.D.Digest g.A.Allocator)) c.element-repository.ensures.fits, search rules)
+
+pub drop-core-requires-room-T-Destruct : goal.drop-core-requires-room-T-Destruct
+drop-core-requires-room-T-Destruct g c κs within =
+    core_fits (layout (repository.the_row (param 0 g.row.D) (number g.row.B) (param 2 g.row.A) g.D.Digest g.A.Allocator)) c.element-repository.ensures.fits
+
+pub drop-core-requires-in-loop-room-T-Destruct : goal.drop-core-requires-in-loop-room-T-Destruct
+drop-core-requires-in-loop-room-T-Destruct g c κs within =
+    core_fits (layout (repository.the_row (param 0 g.row.D) (number g.row.B) (param 2 g.row.A) g.D.Digest g.A.Allocator)) c.element-repository.ensures.fits

@@ -4,7 +4,7 @@ use Rattle.notices.specs.declared.notice.Notice.{Notice}
 use Rattle.notices.specs.Views.{SenderView, with_sent}
 use Rattle.closing.specs.Ending.{told}
 use Rattle.host.specs.Views.{IsOrderly, IsWriting}
-use Rattle.host.proofs.Keeping.{orderly_rest, told_rest}
+use Rattle.host.proofs.Keeping.{orderly_rest, told_rest, given_back}
 use Rattle.host.proofs.writer.Writer.flush.Goals as goal
 
 -- the first of the kept notices was sent, and is taken away
@@ -20,7 +20,8 @@ loop-first-preserved g c =
     let w = held.writing in
     record {
       told = ap (λ (s : SenderView). told s.pass rest) sent ∙ told_rest was.sender.pass n rest ∙ ap (told was.sender.pass) (sym cons) ∙ held.told;
-      writing = subst (λ (s : SenderView). IsWriting was.host.now s rest was.last was.seen.items) (sym sent) (record {
+      writing = subst (λ (s : SenderView). IsWriting was.host.now was.hosts.now s rest was.last was.seen.items) (sym sent) (record {
+        lent = w.lent;
         queue = w.queue;
         orderly = orderly_rest was.sender.pass n rest (subst (IsOrderly was.sender.pass) cons w.orderly);
         last_is = omega (arith, w.last_is, ap length cons, length-append was.sender.pass.sent (n ∷ []));
@@ -33,3 +34,10 @@ loop-first-preserved g c =
       queue = ap (λ (s : SenderView). s.pass.queue_id) sent ∙ held.queue;
       writer = ap (λ (s : SenderView). s.pass.writer) sent ∙ held.writer;
     }
+
+pub returns-in-Err-clause-pushed : goal.returns-in-Err-clause-pushed
+returns-in-Err-clause-pushed g c some =
+    let was = c.loop-first.self-inside in
+    let held = c.loop-first.invariant in
+    let e = c.in-Err.ensures in
+    given_back was.host.now.queue.room c.args.self.now.refused was.sender c.push.new.self e.refused e.full held.writing.room held.refused
