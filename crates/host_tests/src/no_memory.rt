@@ -35,6 +35,39 @@ fn put_without<'h, R: Wait + Abort>(
     answer
 }
 
+/// Whether a look-up says that there is no memory.
+fn gets_nothing<'h, R: Wait>(
+    rt: &R,
+    heap: &'h Heap,
+    writer: &mut Writer<'_, Toy, 2, &'h Heap>,
+) -> bool
+    ensures { writer.new.host ≡ writer.old.host }
+{
+    matches!(writer.get(rt, heap, 0, b"a/b0"), Err(HostFault::NoMemory))
+}
+
+/// Whether a list of pairs does so.
+fn lists_nothing<'h, R: Wait>(
+    rt: &R,
+    heap: &'h Heap,
+    writer: &mut Writer<'_, Toy, 2, &'h Heap>,
+) -> bool
+    ensures { writer.new.host ≡ writer.old.host }
+{
+    matches!(writer.list(rt, heap, 0, b"", 9), Err(HostFault::NoMemory))
+}
+
+/// Whether a version that is to be published does so.
+fn publishes_nothing<'h, R: Wait>(
+    rt: &R,
+    heap: &'h Heap,
+    writer: &mut Writer<'_, Toy, 2, &'h Heap>,
+) -> bool
+    ensures { writer.new.host ≡ writer.old.host }
+{
+    matches!(writer.publish(rt, heap, 0), Err(HostFault::NoMemory))
+}
+
 /// Whether each reading call says that there is no memory.
 fn reads_nothing<'h, R: Wait>(
     rt: &R,
@@ -44,9 +77,9 @@ fn reads_nothing<'h, R: Wait>(
     ensures { writer.new.host ≡ writer.old.host }
 {
     heap.refuse_from(1);
-    let is_refused = matches!(writer.get(rt, heap, 0, b"a/b0"), Err(HostFault::NoMemory))
-        && matches!(writer.list(rt, heap, 0, b"", 9), Err(HostFault::NoMemory))
-        && matches!(writer.publish(rt, heap, 0), Err(HostFault::NoMemory));
+    let is_refused = gets_nothing(rt, heap, writer)
+        && lists_nothing(rt, heap, writer)
+        && publishes_nothing(rt, heap, writer);
     heap.refuse(0);
     is_refused
 }
