@@ -11,12 +11,11 @@ use Rattle.edit_laws.specs.Order.{order}
 use Rattle.edit_laws.specs.Pairs.{Each, Ascending, IsBefore, value_in, value_first}
 use Rattle.edit_laws.specs.Sources.{Holds, shown_by}
 use Rattle.edit_laws.specs.TreeEdit.{layer_of}
-use Rattle.edit_laws.proofs.Balance.{within-top}
+use Rattle.edit_laws.proofs.Within.{within-top, IsWithin, AllWithin}
 use Rattle.edit_laws.proofs.EachPair.{halves}
 use Rattle.edit_laws.proofs.Orders.{order-equal, order-same, turned, turned_back, before-trans}
 use Rattle.edit_laws.proofs.OverSource.{holds-top}
 use Rattle.edit_laws.proofs.RecordMaps.{ascending-sorted, find-is}
-use Rattle.edit_laws.proofs.Within.{IsWithin, AllWithin}
 use Rattle.batch_laws.specs.Batch.{Change, if_less, if_greater, before, at_key, after, AreAscending}
 use Rattle.batch_laws.specs.Previous.{values, value_met, previous_node, previous_gap}
 use Rattle.batch_laws.specs.Laws.Sources.{PreviousIsValues}

@@ -4,8 +4,8 @@ ghost use Rattle.std.specs.Prelude.{◌≤◌};
 
 use cid::digests::{Size, Toy};
 use cid::{Block, Cid, Digest};
-use edit::{Lent, MarkedBlock, Source, is_node};
 use kept::Kept;
+use lookups::{Lent, MarkedBlock, Source, is_node};
 use repo_fixtures::batch::{EMPTY, ONE, TWO};
 use repo_fixtures::cores::counts;
 use std::alloc::{AllocError, Global};

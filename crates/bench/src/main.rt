@@ -6,7 +6,7 @@ mod command;
 mod edits;
 mod exports;
 mod hosts;
-mod lookups;
+mod look_ups;
 mod made;
 mod plans;
 mod queues;
@@ -158,7 +158,7 @@ fn print_get(rt: &HostRuntime, count: u32, rounds: u32) -> io::Result<()> {
     let pairs = made::pairs(alloc, count)?;
     let places = made::some(alloc, pairs.len(), ASKED)?;
     let blocks = trees::nodes(alloc, &pairs).unwrap_or(Vec::new(alloc));
-    let Some(found) = lookups::measure(rt, alloc, &blocks, &pairs, &places, rounds) else {
+    let Some(found) = look_ups::measure(rt, alloc, &blocks, &pairs, &places, rounds) else {
         return println!(rt; "refused");
     };
     println!(rt;

@@ -21,7 +21,7 @@ use Rattle.spec.proofs.RepositoryBlocks.{block-sets}
 use Rattle.spec.proofs.WriteLaws.{is_sorted-leaves}
 use Rattle.edit_laws.specs.Sources.{HasBlocks}
 use Rattle.edit_laws.proofs.BlockSources.{source-nodes}
-use Rattle.edit.specs.Trees.{HasTree}
+use Rattle.lookups.specs.Trees.{HasTree}
 use Rattle.export.proofs.Exported.{car-met}
 use Rattle.built_car.specs.declared.building.BuiltBlocks.{BuiltBlocks}
 use Rattle.built_car.specs.Building.{HasClash, IsBuiltOf, IsFileOf, commit_over, given_of}

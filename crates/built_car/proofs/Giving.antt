@@ -12,7 +12,7 @@ use Rattle.std.specs.Str.{bytes_eq}
 use Rattle.spec.specs.Blocks.{IsClash, IsClashFree, IsClashIn, block_at}
 use Rattle.edit_laws.specs.Sources.{HasBlocks}
 use Rattle.edit_laws.proofs.BlockSources.{blocks-source}
-use Rattle.edit.specs.Maps.{first_of}
+use Rattle.lookups.specs.Maps.{first_of}
 use Rattle.built_car.specs.Building.{HasClash}
 
 module _ (digest : List ℕ → List ℕ) (gives : List ℕ → Option (List ℕ)) where

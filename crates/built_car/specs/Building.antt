@@ -7,8 +7,8 @@ use Rattle.spec.specs.Cid.{cid}
 use Rattle.spec.specs.Commits.{commit_bytes}
 use Rattle.spec.specs.Stamps.{Stamp}
 use Rattle.edit_laws.specs.Sources.{HasBlocks}
-use Rattle.edit.specs.Maps.{Lending, first_of}
-use Rattle.edit.specs.Steps.{layers}
+use Rattle.lookups.specs.Maps.{Lending, first_of}
+use Rattle.lookups.specs.Steps.{layers}
 use Rattle.export.specs.Walks.{car_met}
 use Rattle.scratch.specs.declared.tree.Built.{Built}
 use Rattle.built_car.specs.declared.building.BuiltBlocks.{BuiltBlocks}

@@ -6,7 +6,7 @@ use Rattle.spec.specs.Proof.{path}
 use Rattle.spec.specs.Tree.{Pair}
 use Rattle.spec.specs.Writes.{Write, leaves}
 use Rattle.edit_laws.specs.Sources.{HasBlocks}
-use Rattle.edit.specs.Trees.{HasTree}
+use Rattle.lookups.specs.Trees.{HasTree}
 use Rattle.built_car.specs.Building.{given_of}
 use Rattle.built_car.specs.declared.building.BuiltBlocks.{BuiltBlocks}
 use Rattle.built_car.specs.declared.path.BuiltPath.{BuiltPath}

@@ -10,7 +10,7 @@ ghost use Rattle.built_car.specs.Records.{records_in};
 use crate::building::BuiltBlocks;
 use crate::records::Records;
 use cid::{Block, Digest};
-use edit::{BlockMap, Lent, Source};
+use lookups::{BlockMap, Lent, Source};
 use std::alloc::{AllocError, Allocator};
 use std::sync::Arc;
 

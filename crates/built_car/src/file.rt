@@ -13,8 +13,8 @@ use crate::blocks::source_of;
 use crate::building::{BuiltBlocks, blocks_of_writes};
 use batches::{Stamp, Write};
 use cid::{Block, Cid, Digest};
-use edit::{BlockMap, Lent, Source};
 use export::{ToMemory, car_over};
+use lookups::{BlockMap, Lent, Source};
 use std::alloc::{AllocError, Allocator};
 use std::sync::Arc;
 

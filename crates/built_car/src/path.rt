@@ -12,8 +12,8 @@ use crate::blocks::source_of;
 use crate::building::{BuiltBlocks, blocks_of_writes};
 use batches::{Stamp, Write};
 use cid::{Block, Cid, Digest};
-use edit::BlockMap;
 use export::path_over;
+use lookups::BlockMap;
 use std::alloc::{AllocError, Allocator, Global};
 use std::sync::Arc;
 

@@ -1,9 +1,9 @@
 //! Batches over blocks that are no tree, or clash.
 
-use crate::fixtures::{Blocks, applied, change, value};
-use batch_edit::{BatchEdit, BatchFault, Change};
+use crate::fixtures::{Blocks, applied, value};
 use cid::digests::{Clash, Size, Toy};
 use cid::{Block, Cid, CidRef, Digest};
+use edit::{BatchEdit, Change, EditFault};
 use node::NodeWriter;
 use std::alloc::{AllocError, Global};
 use std::sync::Arc;
@@ -44,27 +44,16 @@ enum Ended {
 }
 
 /// How a batch ended that answered this.
-fn ended_of<D: Digest>(answer: Result<BatchEdit<D>, BatchFault<D>>) -> Ended {
+fn ended_of<D: Digest>(answer: Result<BatchEdit<D>, EditFault<D>>) -> Ended {
     match answer {
         Ok(_) => Ended::Done,
-        Err(BatchFault::NotTree) => Ended::NotTree,
-        Err(BatchFault::Clash(_)) => Ended::Clash,
+        Err(EditFault::NotTree) => Ended::NotTree,
+        Err(EditFault::Clash(_)) => Ended::Clash,
         Err(_) => Ended::Otherwise,
     }
 }
 
-/// How a batch of one change ends, and after how many reads.
-fn end_of<D: Digest>(
-    alloc: Global,
-    blocks: &[Arc<Block<D>>],
-    root: Cid,
-    change: Change,
-) -> (Ended, u64) {
-    let (answer, reads) = applied::<D, 2>(alloc, blocks, root, &[change]);
-    (ended_of(answer), reads)
-}
-
-/// How a put of a key's second value, or its delete, ends.
+/// How a batch of one put or delete ends, and after how many reads.
 fn end<D: Digest>(
     alloc: Global,
     blocks: &[Arc<Block<D>>],
@@ -72,10 +61,12 @@ fn end<D: Digest>(
     key: &[u8],
     number: Option<u8>,
 ) -> (Ended, u64) {
-    match change(alloc, key, number.map(value)) {
-        Ok(change) => end_of(alloc, blocks, root, change),
-        Err(_) => (Ended::Otherwise, 0),
-    }
+    let change = Change {
+        key,
+        value: number.map(value),
+    };
+    let (answer, reads) = applied::<D, 2>(alloc, blocks, root, &[change]);
+    (ended_of(answer), reads)
 }
 
 /// A block that is no node, and a node of `a/q2` with a link to it after its key: their CIDs.

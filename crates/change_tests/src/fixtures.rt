@@ -2,10 +2,10 @@
 
 ghost use Rattle.std.specs.Prelude.{◌≤◌};
 
-use batch_edit::{BatchEdit, BatchFault, Change, apply, are_changes};
 use cid::digests::Toy;
 use cid::{Block, Cid, Digest};
-use edit::{BlockMap, MarkedBlock};
+use edit::{BatchEdit, Change, EditFault, apply, are_changes};
+use lookups::{BlockMap, MarkedBlock};
 use scratch::{Built, build, is_ascending};
 use std::alloc::{AllocError, Allocator, Global};
 use std::sync::Arc;
@@ -35,16 +35,6 @@ pub(crate) fn value(number: u8) -> Cid {
     Cid::of::<Toy>(&[number])
 }
 
-/// A change that gives a key a value, or takes it away where there is none.
-pub(crate) fn change<A: Allocator>(
-    alloc: A,
-    key: &[u8],
-    value: Option<Cid>,
-) -> Result<Change<A>, AllocError> {
-    let key = Vec::from_slice(alloc, key)?;
-    Ok(Change { key, value })
-}
-
 /// The pairs of every third key.
 fn pairs_of_every_third(alloc: Global) -> Result<Pairs, AllocError> {
     let mut pairs = Vec::new(alloc);
@@ -60,16 +50,17 @@ pub(crate) fn thirty_two_pairs(alloc: Global) -> Option<Pairs> {
 }
 
 /// Changes of every fifth key, one in four of which takes it away. Of the keys some are in the tree of every third one.
-pub(crate) fn twenty_changes<A: Allocator + Copy>(
+pub(crate) fn twenty_changes<A: Allocator>(
     alloc: A,
-) -> Result<Vec<Change<A>, A>, AllocError> {
+) -> Result<Vec<Change<'static>, A>, AllocError> {
     let mut changes = Vec::new(alloc);
     for place in 0..20usize {
         let value = match place % 4 {
             0 => None,
             number => Some(value(number as u8)),
         };
-        changes.push(change(alloc, KEYS[(5 * place) % 96], value)?)?;
+        let key = KEYS[(5 * place) % 96];
+        changes.push(Change { key, value })?;
     }
     Ok(changes)
 }
@@ -94,16 +85,16 @@ pub(crate) fn applied<D: Digest, const B: u8>(
     alloc: Global,
     blocks: &[Arc<Block<D>>],
     root: Cid,
-    changes: &[Change],
-) -> (Result<BatchEdit<D>, BatchFault<D>>, u64)
+    changes: &[Change<'_>],
+) -> (Result<BatchEdit<D>, EditFault<D>>, u64)
     requires least { 1 ≤ B }
     requires most { B ≤ 8 }
 {
     if !are_changes(changes) {
-        return (Err(BatchFault::NoMemory), 0);
+        return (Err(EditFault::NoMemory), 0);
     }
     let Ok(mut map) = BlockMap::new(alloc, blocks) else {
-        return (Err(BatchFault::NoMemory), 0);
+        return (Err(EditFault::NoMemory), 0);
     };
     let answer = apply::<D, B, _, _>(alloc, &mut map, root, changes);
     (answer, map.reads())

@@ -2,10 +2,10 @@
 
 ghost use Rattle.std.specs.Prelude.{◌≤◌};
 
-use crate::fixtures::{Pairs, change, value};
+use crate::fixtures::{Pairs, value};
 use crate::history::begin;
-use batch_edit::Change;
 use cid::{Cid, Sha256};
+use edit::Change;
 use std::alloc::{AllocError, Global};
 
 /// Keys whose digests begin with 0, 9, 17 and 3 zero bits, as they ascend.
@@ -56,10 +56,13 @@ fn value_for(chosen: bool) -> Option<Cid> {
 }
 
 /// The changes after which the chosen keys are in the tree, and no others.
-fn changes_to(alloc: Global, chosen: &Chosen) -> Result<Vec<Change>, AllocError> {
+fn changes_to(alloc: Global, chosen: &Chosen) -> Result<Vec<Change<'static>>, AllocError> {
     let mut changes = Vec::new(alloc);
     for place in 0..4usize {
-        changes.push(change(alloc, KEYS[place], value_for(chosen[place]))?)?;
+        changes.push(Change {
+            key: KEYS[place],
+            value: value_for(chosen[place]),
+        })?;
     }
     Ok(changes)
 }

@@ -1,14 +1,13 @@
-//! Random histories of batches, each step beside the tree from scratch of the pairs that it leaves, and beside the same
-//! changes one by one.
+//! Random histories of batches, each step beside the tree from scratch of the pairs that it leaves.
 
 ghost use Rattle.std.specs.Prelude.{◌≤◌, ◌<◌};
 
-use crate::fixtures::{KEYS, change, value};
-use crate::history::{History, Singles, begin, begin_singles};
+use crate::fixtures::{KEYS, value};
+use crate::history::begin;
 use crate::plain::place_of;
-use batch_edit::Change;
 use cid::digests::Toy;
 use cid::{Cid, Digest, Sha256};
+use edit::Change;
 use std::alloc::{AllocError, Global};
 
 /// Numbers that look random, the same in each run.
@@ -79,14 +78,15 @@ fn random_batch(
     alloc: Global,
     numbers: &mut Numbers,
     pairs: &[(Vec<u8>, Cid)],
-) -> Result<Vec<Change>, AllocError> {
+) -> Result<Vec<Change<'static>>, AllocError> {
     let kind = random_kind(numbers);
     let odds = numbers.below(21);
     let mut changes = Vec::new(alloc);
-    for key in &KEYS {
+    for key in KEYS {
         if takes(numbers, kind, odds, key) {
             let (_, old) = place_of(pairs, key);
-            changes.push(change(alloc, key, random_value(numbers, kind, old))?)?;
+            let value = random_value(numbers, kind, old);
+            changes.push(Change { key, value })?;
         }
     }
     Ok(changes)
@@ -122,51 +122,4 @@ fn histories_under_sha_256(rt: HostRuntime) {
     let ones = agrees::<Sha256, 1>(rt.alloc(), 4, 80);
     let twos = agrees::<Sha256, 2>(rt.alloc(), 5, 80);
     assert!(rt; ones && twos && agrees::<Sha256, 8>(rt.alloc(), 6, 80));
-}
-
-/// Whether a batch leaves the tree from scratch, and the same changes one by one leave that root.
-fn step<D: Digest, const B: u8>(
-    alloc: Global,
-    numbers: &mut Numbers,
-    history: &mut History<D>,
-    singles: &mut Singles<D>,
-) -> bool
-    requires least { 1 ≤ B }
-    requires most { B ≤ 8 }
-{
-    match random_batch(alloc, numbers, &history.pairs) {
-        Ok(changes) => {
-            history.batch::<B>(alloc, &changes)
-                && singles.write_each::<B>(alloc, &changes)
-                && singles.root == history.root
-        }
-        Err(_) => false,
-    }
-}
-
-/// Whether so many batches do so.
-fn agrees_with_singles<D: Digest, const B: u8>(alloc: Global, seed: u64, batches: u32) -> bool
-    requires least { 1 ≤ B }
-    requires most { B ≤ 8 }
-{
-    let mut numbers = Numbers { state: seed };
-    let (Some(mut history), Some(mut singles)) = (
-        begin::<D, B>(alloc, Vec::new(alloc)),
-        begin_singles::<D, B>(alloc),
-    ) else {
-        return false;
-    };
-    for _ in 0..batches {
-        if !step::<D, B>(alloc, &mut numbers, &mut history, &mut singles) {
-            return false;
-        }
-    }
-    true
-}
-
-#[test]
-fn the_same_changes_one_by_one(rt: HostRuntime) {
-    let toys = agrees_with_singles::<Toy, 2>(rt.alloc(), 7, 20);
-    let ones = agrees_with_singles::<Sha256, 1>(rt.alloc(), 8, 20);
-    assert!(rt; toys && ones && agrees_with_singles::<Sha256, 2>(rt.alloc(), 9, 20));
 }

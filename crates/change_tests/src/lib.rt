@@ -2,9 +2,13 @@
 #![tactic(auto)]
 
 #[cfg(test)]
+mod by_hand;
+#[cfg(test)]
 mod faults;
 #[cfg(test)]
 mod fixtures;
+#[cfg(test)]
+mod flat;
 #[cfg(test)]
 mod high_layers;
 #[cfg(test)]
@@ -19,7 +23,5 @@ mod memory;
 mod missing;
 #[cfg(test)]
 mod plain;
-#[cfg(test)]
-mod rows;
 #[cfg(test)]
 mod singles;

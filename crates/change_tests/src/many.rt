@@ -1,9 +1,9 @@
 //! Some thousand keys changed by one batch.
 
-use crate::fixtures::{Pairs, change, value};
+use crate::fixtures::{Pairs, value};
 use crate::history::begin;
-use batch_edit::Change;
 use cid::{Cid, Sha256};
+use edit::Change;
 use std::alloc::{AllocError, Global};
 
 /// How many keys there are.
@@ -36,30 +36,40 @@ fn value_for(number: usize) -> Option<Cid> {
     }
 }
 
-/// A change for each key.
-fn changes_of_all(alloc: Global) -> Result<Vec<Change>, AllocError> {
-    let mut changes = Vec::new(alloc);
+/// The keys of all numbers.
+fn all_keys(alloc: Global) -> Result<Vec<Vec<u8>>, AllocError> {
+    let mut keys = Vec::new(alloc);
     for number in 0..KEYS {
-        changes.push(change(alloc, &key_of(alloc, number)?, value_for(number))?)?;
+        keys.push(key_of(alloc, number)?)?;
+    }
+    Ok(keys)
+}
+
+/// A change for each key.
+fn changes_of(alloc: Global, keys: &[Vec<u8>]) -> Result<Vec<Change<'_>>, AllocError> {
+    let mut changes = Vec::new(alloc);
+    for (number, key) in keys.iter().enumerate() {
+        let value = value_for(number);
+        changes.push(Change { key, value })?;
     }
     Ok(changes)
 }
 
 /// The same keys taken away.
-fn deletes_of_all(alloc: Global) -> Result<Vec<Change>, AllocError> {
+fn deletes_of(alloc: Global, keys: &[Vec<u8>]) -> Result<Vec<Change<'_>>, AllocError> {
     let mut changes = Vec::new(alloc);
-    for number in 0..KEYS {
-        changes.push(change(alloc, &key_of(alloc, number)?, None)?)?;
+    for key in keys {
+        changes.push(Change { key, value: None })?;
     }
     Ok(changes)
 }
 
 /// Whether a batch that changes all keys, and then one that takes all away, leave the trees from scratch.
-fn agrees(alloc: Global) -> bool {
+fn agrees(alloc: Global, keys: &[Vec<u8>]) -> bool {
     let (Ok(pairs), Ok(changes), Ok(deletes)) = (
         pairs_of_even(alloc),
-        changes_of_all(alloc),
-        deletes_of_all(alloc),
+        changes_of(alloc, keys),
+        deletes_of(alloc, keys),
     ) else {
         return false;
     };
@@ -73,5 +83,6 @@ fn agrees(alloc: Global) -> bool {
 
 #[test]
 fn three_thousand_changes_at_once(rt: HostRuntime) {
-    assert!(rt; agrees(rt.alloc()));
+    let keys = all_keys(rt.alloc()).expect(&rt, "keys");
+    assert!(rt; agrees(rt.alloc(), &keys));
 }

@@ -2,10 +2,10 @@
 
 use crate::fixtures::{thirty_two_pairs, tree_of, twenty_changes};
 use crate::plain::change_pairs;
-use batch_edit::{BatchEdit, BatchFault, Change, apply, are_changes};
 use cid::digests::Toy;
 use cid::{Cid, Digest};
-use edit::BlockMap;
+use edit::{BatchEdit, Change, EditFault, apply, are_changes};
+use lookups::BlockMap;
 use refusing::Refusing;
 use scratch::{Built, build, is_ascending};
 use std::alloc::{Allocator, Global};
@@ -23,7 +23,7 @@ pub(crate) enum Ended {
 
 /// How a batch ended that answered this, and should leave this root.
 fn ended_of<D: Digest, A: Allocator>(
-    answer: Result<BatchEdit<D, A>, BatchFault<D, A>>,
+    answer: Result<BatchEdit<D, A>, EditFault<D, A>>,
     after: Cid,
 ) -> Ended {
     match answer {
@@ -34,7 +34,7 @@ fn ended_of<D: Digest, A: Allocator>(
                 Ended::Otherwise
             }
         }
-        Err(BatchFault::NoMemory) => Ended::NoMemory,
+        Err(EditFault::NoMemory) => Ended::NoMemory,
         Err(_) => Ended::Otherwise,
     }
 }
@@ -44,7 +44,7 @@ fn batch_end<D: Digest, A: Allocator + Clone>(
     alloc: A,
     map: &mut BlockMap<'_, D, A>,
     root: Cid,
-    changes: &[Change<A>],
+    changes: &[Change<'_>],
     after: Cid,
 ) -> Ended {
     if !are_changes(changes) {
@@ -58,7 +58,7 @@ fn end_without<'h>(
     heap: Heap<'h>,
     map: &mut BlockMap<'_, Toy, Heap<'h>>,
     root: Cid,
-    changes: &[Change<Heap<'h>>],
+    changes: &[Change<'_>],
     after: Cid,
     request: u64,
 ) -> Option<Ended> {
@@ -78,7 +78,7 @@ fn is_done_at_last<'h>(
     heap: Heap<'h>,
     map: &mut BlockMap<'_, Toy, Heap<'h>>,
     root: Cid,
-    changes: &[Change<Heap<'h>>],
+    changes: &[Change<'_>],
     after: Cid,
 ) -> bool {
     for request in 1..9_999u64 {

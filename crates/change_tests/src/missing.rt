@@ -4,9 +4,9 @@ use crate::fixtures::{
     Blocks, add_others, applied, have, leaves, thirty_two_pairs, tree_of, twenty_changes,
 };
 use crate::plain::change_pairs;
-use batch_edit::{BatchEdit, BatchFault, Change};
 use cid::digests::Toy;
 use cid::{Block, Cid};
+use edit::{BatchEdit, Change, EditFault};
 use scratch::Built;
 use std::alloc::{AllocError, Global};
 use std::sync::Arc;
@@ -14,7 +14,7 @@ use std::sync::Arc;
 /// Changes, and the trees before and after them.
 #[derive(Drop)]
 struct Batch {
-    changes: Vec<Change>,
+    changes: Vec<Change<'static>>,
     before: Built<Toy>,
     after: Built<Toy>,
 }
@@ -34,7 +34,7 @@ fn twenty_of_32(alloc: Global) -> Option<Batch> {
 }
 
 /// What a batch answers.
-type Answer = Result<BatchEdit<Toy>, BatchFault<Toy>>;
+type Answer = Result<BatchEdit<Toy>, EditFault<Toy>>;
 
 /// Whether the batch is done and right.
 fn is_right(alloc: Global, batch: &Batch, answer: &Answer) -> bool {
@@ -47,7 +47,7 @@ fn is_right(alloc: Global, batch: &Batch, answer: &Answer) -> bool {
 /// The CID of the block that is missing.
 fn missing_of(answer: &Answer) -> Option<Cid> {
     match answer {
-        Err(BatchFault::Missing(cid)) => Some(*cid),
+        Err(EditFault::Missing(cid)) => Some(*cid),
         _ => None,
     }
 }

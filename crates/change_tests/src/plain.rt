@@ -3,8 +3,8 @@
 ghost use Rattle.std.specs.Prelude.{◌≤◌};
 
 use crate::fixtures::Pairs;
-use batch_edit::Change;
 use cid::{Cid, Digest, layer};
+use edit::Change;
 use std::alloc::{AllocError, Global};
 use std::cmp::Ordering;
 
@@ -39,14 +39,14 @@ fn insert(
 fn change_pair(
     alloc: Global,
     pairs: &mut Pairs,
-    change: &Change,
+    change: &Change<'_>,
 ) -> Result<Option<Cid>, AllocError> {
-    let (place, previous) = place_of(pairs, &change.key);
+    let (place, previous) = place_of(pairs, change.key);
     if previous.is_some() && place < pairs.len() {
         pairs.remove(place);
     }
     if let Some(value) = change.value {
-        insert(alloc, pairs, place, &change.key, value)?;
+        insert(alloc, pairs, place, change.key, value)?;
     }
     Ok(previous)
 }
@@ -55,7 +55,7 @@ fn change_pair(
 pub(crate) fn change_pairs(
     alloc: Global,
     pairs: &mut Pairs,
-    changes: &[Change],
+    changes: &[Change<'_>],
 ) -> Result<Vec<Option<Cid>>, AllocError> {
     let mut previous = Vec::new(alloc);
     for change in changes {
@@ -80,7 +80,7 @@ fn top_layer<D: Digest, const B: u8>(pairs: &[(Vec<u8>, Cid)]) -> u16
 /// put, and two for a delete.
 pub(crate) fn most_reads<D: Digest, const B: u8>(
     pairs: &[(Vec<u8>, Cid)],
-    changes: &[Change],
+    changes: &[Change<'_>],
 ) -> u64
     requires least { 1 ≤ B }
     requires most { B ≤ 8 }

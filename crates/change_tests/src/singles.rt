@@ -1,12 +1,12 @@
 //! A put and a delete of one key, beside the tree from scratch.
 
-use crate::fixtures::{Blocks, KEYS, add_others, change, leaves, thirty_two_pairs, tree_of, value};
+use crate::fixtures::{Blocks, KEYS, add_others, leaves, thirty_two_pairs, tree_of, value};
 use crate::memory::{Ended, Heap, tree_in};
 use crate::plain::{change_pairs, place_of};
-use batch_edit::{BatchEdit, BatchFault, Change, delete, put};
 use cid::digests::Toy;
 use cid::{Block, Cid};
-use edit::{BlockMap, Edit, is_key};
+use edit::{BatchEdit, Change, Edit, EditFault, delete, is_key, put};
+use lookups::BlockMap;
 use refusing::Refusing;
 use scratch::Built;
 use std::alloc::{AllocError, Allocator, Global};
@@ -14,22 +14,22 @@ use std::slice;
 use std::sync::Arc;
 
 /// What a put or a delete of one key answers.
-type Answer<A> = Result<Edit<Toy, A>, BatchFault<Toy, A>>;
+type Answer<A> = Result<Edit<Toy, A>, EditFault<Toy, A>>;
 
 /// Does a change of one key, by a put or a delete. A put of what is no key is answered as if the tree lacked it.
 fn written<A: Allocator + Clone>(
     alloc: A,
     map: &mut BlockMap<'_, Toy, A>,
     root: Cid,
-    change: &Change<A>,
+    change: &Change<'_>,
 ) -> Answer<A> {
     let Some(value) = change.value else {
-        return delete::<Toy, 2, _, _>(alloc, map, root, &change.key);
+        return delete::<Toy, 2, _, _>(alloc, map, root, change.key);
     };
-    if !is_key(&change.key) {
-        return Err(BatchFault::NoSuchKey);
+    if !is_key(change.key) {
+        return Err(EditFault::NoSuchKey);
     }
-    put::<Toy, 2, _, _>(alloc, map, root, &change.key, value)
+    put::<Toy, 2, _, _>(alloc, map, root, change.key, value)
 }
 
 /// The same over these blocks, and how many were read for it.
@@ -37,10 +37,10 @@ fn written_over(
     alloc: Global,
     blocks: &[Arc<Block<Toy>>],
     root: Cid,
-    change: &Change,
+    change: &Change<'_>,
 ) -> (Answer<Global>, u64) {
     let Ok(mut map) = BlockMap::new(alloc, blocks) else {
-        return (Err(BatchFault::NoMemory), 0);
+        return (Err(EditFault::NoMemory), 0);
     };
     let answer = written(alloc, &mut map, root, change);
     (answer, map.reads())
@@ -65,7 +65,7 @@ fn as_batch(alloc: Global, edit: Edit<Toy>) -> Result<BatchEdit<Toy>, AllocError
 }
 
 /// Whether the edit is that of a change of this tree of 32 keys: the tree from scratch after it, and what the key had.
-fn is_edit(alloc: Global, tree: &Built<Toy>, change: &Change, edit: Edit<Toy>) -> bool {
+fn is_edit(alloc: Global, tree: &Built<Toy>, change: &Change<'_>, edit: Edit<Toy>) -> bool {
     let Some(mut pairs) = thirty_two_pairs(alloc) else {
         return false;
     };
@@ -95,13 +95,13 @@ fn leaves_tree_of(
 
 /// Whether a change of one key of this tree of 32 is done and right; that a key isn't there is right where it isn't and was
 /// to be deleted.
-fn is_right(alloc: Global, tree: &Built<Toy>, change: &Change, answer: Answer<Global>) -> bool {
+fn is_right(alloc: Global, tree: &Built<Toy>, change: &Change<'_>, answer: Answer<Global>) -> bool {
     match answer {
         Ok(edit) => {
             (change.value.is_some() || edit.previous.is_some())
                 && is_edit(alloc, tree, change, edit)
         }
-        Err(BatchFault::NoSuchKey) => change.value.is_none() && !has_key(alloc, &change.key),
+        Err(EditFault::NoSuchKey) => change.value.is_none() && !has_key(alloc, change.key),
         Err(_) => false,
     }
 }
@@ -117,16 +117,21 @@ fn has_key(alloc: Global, key: &[u8]) -> bool {
 /// The CID of the block that is missing.
 fn missing_of(answer: &Answer<Global>) -> Option<Cid> {
     match answer {
-        Err(BatchFault::Missing(cid)) => Some(*cid),
+        Err(EditFault::Missing(cid)) => Some(*cid),
         _ => None,
     }
 }
 
 /// What the change answers where the block with this CID is missing.
-fn written_without(alloc: Global, tree: &Built<Toy>, change: &Change, cid: Cid) -> Answer<Global> {
+fn written_without(
+    alloc: Global,
+    tree: &Built<Toy>,
+    change: &Change<'_>,
+    cid: Cid,
+) -> Answer<Global> {
     let mut others: Blocks<Toy> = Vec::new(alloc);
     if add_others(&mut others, &tree.blocks, &[cid]).is_err() {
-        return Err(BatchFault::NoMemory);
+        return Err(EditFault::NoMemory);
     }
     let (answer, _) = written_over(alloc, &others, tree.root, change);
     answer
@@ -149,9 +154,7 @@ fn count_missing(alloc: Global, tree: &Built<Toy>, change: &Change) -> Option<u6
 
 /// Whether a change of this key is right, and each block that it reads is named where it is missing.
 fn is_right_change(alloc: Global, tree: &Built<Toy>, key: &[u8], value: Option<Cid>) -> bool {
-    let Ok(change) = change(alloc, key, value) else {
-        return false;
-    };
+    let change = Change { key, value };
     let (answer, reads) = written_over(alloc, &tree.blocks, tree.root, &change);
     is_right(alloc, tree, &change, answer) && count_missing(alloc, tree, &change) == Some(reads)
 }
@@ -180,7 +183,7 @@ fn are_right(alloc: Global, tree: &Built<Toy>) -> bool {
 fn ended_of(answer: Answer<Heap<'_>>) -> Ended {
     match answer {
         Ok(_) => Ended::Done,
-        Err(BatchFault::NoMemory) => Ended::NoMemory,
+        Err(EditFault::NoMemory) => Ended::NoMemory,
         Err(_) => Ended::Otherwise,
     }
 }
@@ -190,7 +193,7 @@ fn end_without<'h>(
     heap: Heap<'h>,
     map: &mut BlockMap<'_, Toy, Heap<'h>>,
     root: Cid,
-    change: &Change<Heap<'h>>,
+    change: &Change<'_>,
     request: u64,
 ) -> Option<Ended> {
     let before = heap.live();
@@ -209,7 +212,7 @@ fn is_done_at_last<'h>(
     heap: Heap<'h>,
     map: &mut BlockMap<'_, Toy, Heap<'h>>,
     root: Cid,
-    change: &Change<Heap<'h>>,
+    change: &Change<'_>,
 ) -> bool {
     for request in 1..9_999u64 {
         match end_without(heap, map, root, change, request) {
@@ -223,8 +226,9 @@ fn is_done_at_last<'h>(
 
 /// Whether that is so over this tree, which is kept in such memory.
 fn is_done_over<'h>(heap: Heap<'h>, tree: &Built<Toy, Heap<'h>>, value: Option<Cid>) -> bool {
-    let Ok(change) = change(heap, KEYS[48], value) else {
-        return false;
+    let change = Change {
+        key: KEYS[48],
+        value,
     };
     match BlockMap::new(heap, &tree.blocks) {
         Ok(mut map) => is_done_at_last(heap, &mut map, tree.root, &change),

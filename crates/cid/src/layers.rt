@@ -5,11 +5,10 @@ use crate::digest::Digest;
 
 /// The layer of a key in a tree: how many zero bits its digest begins with, divided by `B` and rounded down.
 ///
-/// `B` is the number of zero bits that count for one layer, from 1 to 8. With 2, the AT Protocol's, a layer is from
+/// `B` is the number of zero bits that count for one layer, at least 1. With 2, the AT Protocol's, a layer is from
 /// 0 to 128 (AT Protocol repository v3, MST structure; Auvolat and Taïani, SRDS 2019: base `2 ^ B`).
 pub fn layer<D: Digest, const B: u8>(key: &[u8]) -> u16
     requires least { 1 ≤ B }
-    requires most { B ≤ 8 }
     ensures { result ≡ layer_of D.digest_of B key.now }
 {
     zero_bits(&D::digest(key)) / u16::from(B)
@@ -19,7 +18,6 @@ pub fn layer<D: Digest, const B: u8>(key: &[u8]) -> u16
 /// calls of [`layer`].
 pub fn layer_four<D: Digest, const B: u8>(a: &[u8], b: &[u8], c: &[u8], d: &[u8]) -> [u16; 4]
     requires least { 1 ≤ B }
-    requires most { B ≤ 8 }
     ensures { result ≡ layer_of D.digest_of B a.now ∷ layer_of D.digest_of B b.now
         ∷ layer_of D.digest_of B c.now ∷ layer_of D.digest_of B d.now ∷ [] }
 {

@@ -3,7 +3,8 @@
 use crate::fixtures::{are_of, edited, tree, tree_of, value};
 use cid::digests::{Size, Toy};
 use cid::{Block, Cid, Collided};
-use edit::{Edit, EditFault, MarkedBlock};
+use edit::{Edit, EditFault};
+use lookups::MarkedBlock;
 use scratch::Built;
 use std::alloc::{AllocError, Global};
 use std::sync::Arc;
@@ -246,22 +247,16 @@ fn another_value_of_a_key(rt: HostRuntime) {
     assert!(rt; leaves_the_other_of_three(rt.alloc(), other));
 }
 
-/// Whether an edit answered that there is no such key; none where it had another fault.
-fn is_missed(answer: Result<Edit<Toy>, EditFault<Toy>>) -> Option<bool> {
-    match answer {
-        Ok(_) => Some(false),
-        Err(EditFault::NoSuchKey) => Some(true),
-        Err(_) => None,
-    }
-}
-
 /// Whether a delete of a key misses it in the tree of five nodes, in so many reads at most.
 fn delete_is_missed(alloc: Global, key: &[u8], most_reads: u64) -> bool {
     let Some(before) = tree::<Toy>(alloc, FIVE) else {
         return false;
     };
     let (answer, reads) = edited::<Toy, 2>(alloc, &before.blocks, before.root, key, None);
-    is_missed(answer) == Some(true) && reads <= most_reads
+    match answer {
+        Err(EditFault::NoSuchKey) => reads <= most_reads,
+        _ => false,
+    }
 }
 
 #[test]
@@ -279,7 +274,11 @@ fn misses(
     value: Option<Cid>,
 ) -> Option<bool> {
     let (answer, _) = edited::<Toy, 2>(alloc, blocks, root, key, value);
-    is_missed(answer)
+    match answer {
+        Ok(_) => Some(false),
+        Err(EditFault::Missing(_)) => Some(true),
+        Err(_) => None,
+    }
 }
 
 /// Whether the edits miss a block of the tree: a put of `a/p1` and a delete of `a/p0` where it stands on the way to the left,

@@ -2,7 +2,7 @@
 
 use cid::{Cid, Sha256};
 use dagcbor::Value;
-use edit::BlockMap;
+use lookups::BlockMap;
 use node::NodeView;
 use scratch::{Built, build, is_ascending};
 use std::test::Fail;

@@ -4,7 +4,8 @@ ghost use Rattle.std.specs.Prelude.{◌≤◌};
 
 use cid::digests::Toy;
 use cid::{Block, Cid, Digest};
-use edit::{BlockMap, Edit, EditFault, delete, is_key, put};
+use edit::{Edit, EditFault, delete, is_key, put};
+use lookups::BlockMap;
 use scratch::{Built, build, is_ascending};
 use std::alloc::{AllocError, Global};
 use std::convert::AsSlice;

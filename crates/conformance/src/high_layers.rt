@@ -4,7 +4,7 @@ ghost use Rattle.std.specs.Prelude.{◌≤◌};
 
 use crate::histories::{History, Write, begin, place_of, put_of};
 use cid::Sha256;
-use edit::{BlockMap, get, walk};
+use lookups::{BlockMap, get, walk};
 use std::alloc::Global;
 
 /// Keys whose digests begin with 0, 3, 9 and 17 zero bits, in two orders.

@@ -12,7 +12,7 @@ mod high_layers;
 #[cfg(test)]
 mod histories;
 #[cfg(test)]
-mod lookups;
+mod look_ups;
 #[cfg(test)]
 mod published;
 #[cfg(test)]

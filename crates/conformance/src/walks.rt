@@ -5,7 +5,7 @@ ghost use Rattle.std.specs.Prelude.{◌≤◌};
 use crate::fixtures::{three_pairs, tree_of};
 use cid::digests::Toy;
 use cid::{Cid, Digest, Sha256};
-use edit::{BlockMap, walk};
+use lookups::{BlockMap, walk};
 use scratch::Built;
 use std::alloc::{AllocError, Global};
 

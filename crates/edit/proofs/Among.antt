@@ -1,20 +1,20 @@
 -- A block among others, and what is added over a list of made blocks.
-use Rattle.std.proofs.Common.{◌≡◌, ℕ, zero, suc, ◌+◌, ◌<◌, ◌≤◌, Bool, true, false, cond, not, ◌||◌, ◌⊎◌, inl, inr, List, [], ◌∷◌, ◌++◌, length, take, map, get_or, refl, sym, ap, ◌∙◌, subst, arith}
+use Rattle.std.proofs.Common.{◌≡◌, ℕ, zero, suc, ◌<◌, ◌≤◌, Bool, true, false, cond, not, ◌||◌, ◌⊎◌, inl, inr, List, [], ◌∷◌, ◌++◌, length, map, get_or, refl, sym, ap, ◌∙◌, subst, arith}
 use Rattle.std.specs.Prelude.{Contains}
 use Rattle.std.specs.List.{filter, list_any}
 use Rattle.std.specs.Str.{bytes_eq}
-use Rattle.std.proofs.lemmas.List.{take_all, append-nil, map-append}
+use Rattle.std.proofs.lemmas.List.{append-nil, map-append}
 use Rattle.std.proofs.lemmas.List.Elements.{filter-append, Contains-append_left, Contains-append_right, Contains-append_cases, Contains-push, Contains-push_cases}
-use Rattle.std.proofs.lemmas.List.Folds.{list_any_more, list_any_at}
+use Rattle.std.proofs.lemmas.List.Folds.{list_any_at}
 use Rattle.std.proofs.lemmas.Slice.Eq.{bytes_eq-Decides}
 use Rattle.spec.specs.Cid.{cid}
 use Rattle.spec.specs.Blocks.{IsClashFree, firsts, IsClash, IsClashIn}
 use Rattle.spec.proofs.RootLaws.{in_head, in_tail}
 use Rattle.edit_laws.specs.Changes.{has_cid, add_of}
-use Rattle.edit.specs.Changes.{IsAmong}
-use Rattle.edit.specs.Faults.{IsRefusal}
+use Rattle.edit.specs.Among.{IsAmong}
+use Rattle.edit.specs.Refusals.{IsRefusal}
 use Rattle.edit.specs.declared.outcome.EditFault.{EditFault}
-use Rattle.edit.specs.declared.outcome.EditFault.TheVariants.{NoSuchKey, Clash, NoMemory}
+use Rattle.edit.specs.declared.outcome.EditFault.TheVariants.{Missing, NotTree, NoSuchKey, Clash, NoMemory}
 
 any-map : {A B : Type 0} (p : B → Bool) (f : A → B) (xs : List A) → list_any p (map f xs) ≡ list_any (λ x. p (f x)) xs
 any-map p f [] = refl
@@ -30,10 +30,6 @@ or-false false = refl
 abbrev pub is_like : {X : Type 0} → (X → List ℕ) → (List ℕ → List ℕ) → List ℕ → X → Bool
 is_like view digest block x = bytes_eq (cid digest block) (cid digest (view x))
 
--- none of the first i has its CID
-abbrev pub NoneBefore : {X : Type 0} → (X → List ℕ) → (List ℕ → List ℕ) → List ℕ → List X → ℕ → Type 0
-NoneBefore view digest block xs i = list_any (is_like view digest block) (take i xs) ≡ false
-
 module _ {X : Type 0} (view : X → List ℕ) (digest : List ℕ → List ℕ) (block : List ℕ) where
   has-like : (xs : List X)
       → has_cid (cid digest block) (map (cid digest) (map view xs)) ≡ list_any (is_like view digest block) xs
@@ -43,13 +39,6 @@ module _ {X : Type 0} (view : X → List ℕ) (digest : List ℕ → List ℕ) (
 
   like-of : (x : X) (b : Bool) → IsAmong digest block (view x ∷ []) b → is_like view digest block x ≡ b
   like-of x b h = sym (or-false (is_like view digest block x)) ∙ sym h.by_cid
-
-  pub none-all : (xs : List X) (i : ℕ) → length xs ≤ i → NoneBefore view digest block xs i
-      → IsAmong digest block (map view xs) false
-  none-all xs i l none = record {
-    by_cid = sym (has-like xs ∙ ap (list_any (is_like view digest block)) (sym (take_all i xs l)) ∙ none);
-    here = λ h. cc;
-  }
 
   in-map : (xs : List X) (i : ℕ) (x : X) → i < length xs → x ≡ get_or xs i x → Contains (map view xs) (view x)
   in-map [] i x l e = absurd (omega arith)
@@ -70,32 +59,6 @@ module _ {X : Type 0} (view : X → List ℕ) (digest : List ℕ → List ℕ) (
       only a b (zero, k, q) = q
       only a b (suc i, k, q) = absurd (omega arith)
 
--- whether a block has the CID c
-abbrev pub has_mark : {X : Type 0} → (X → List ℕ) → (List ℕ → List ℕ) → List ℕ → X → Bool
-has_mark view digest c x = bytes_eq c (cid digest (view x))
-
-pub any-mark : {X : Type 0} (view : X → List ℕ) (digest : List ℕ → List ℕ) (c : List ℕ) (xs : List X)
-    → list_any (has_mark view digest c) xs ≡ has_cid c (map (cid digest) (map view xs))
-any-mark view digest c xs =
-    sym (any-map (bytes_eq c) (cid digest) (map view xs) ∙ any-map (λ b. bytes_eq c (cid digest b)) view xs)
-
-module _ {X : Type 0} (view : X → List ℕ) (digest : List ℕ → List ℕ) (c : List ℕ) where
-  pub mark-more : (xs : List X) (i : ℕ) (x : X) → i < length xs → x ≡ get_or xs i x → has_mark view digest c x ≡ false
-      → list_any (has_mark view digest c) (take i xs) ≡ false → list_any (has_mark view digest c) (take (i + 1) xs) ≡ false
-  mark-more xs i x l e h none =
-      list_any_more (has_mark view digest c) xs i x l
-      ∙ ap (λ b. b || has_mark view digest c (get_or xs i x)) none ∙ ap (has_mark view digest c) (sym e) ∙ h
-
-  pub mark-here : (xs : List X) (i : ℕ) (x : X) → i < length xs → x ≡ get_or xs i x → has_mark view digest c x ≡ true
-      → true ≡ has_cid c (map (cid digest) (map view xs))
-  mark-here xs i x l e h =
-      sym (list_any_at (has_mark view digest c) xs i x l (ap (has_mark view digest c) (sym e) ∙ h)) ∙ any-mark view digest c xs
-
-  pub mark-none : (xs : List X) (i : ℕ) → length xs ≤ i → list_any (has_mark view digest c) (take i xs) ≡ false
-      → false ≡ has_cid c (map (cid digest) (map view xs))
-  mark-none xs i l none =
-      sym none ∙ ap (list_any (has_mark view digest c)) (take_all i xs l) ∙ any-mark view digest c xs
-
 -- ---- refusals
 
 pub clash-two : (digest : List ℕ → List ℕ) (a b : List ℕ) (pair : List ℕ × List ℕ) → IsClash digest a b → pair ≡ (a, b)
@@ -104,10 +67,12 @@ clash-two digest a b pair h e =
     subst (IsClashIn digest (a ∷ b ∷ [])) (sym e) (in_head a (b ∷ []), in_tail a b (b ∷ []) (in_head b []), h)
 
 pub refusal-within : {D A : Type 0} (digest : List ℕ → List ℕ) (P : Type 0) (xs ys : List (List ℕ)) (fault : EditFault D A)
-    → ((b : List ℕ) → Contains xs b → Contains ys b) → IsRefusal digest xs P fault → IsRefusal digest ys P fault
-refusal-within digest P xs ys NoSuchKey h r = r
-refusal-within digest P xs ys (Clash pair) h r = (h pair.0 r.0, h pair.1 r.1, r.2)
-refusal-within digest P xs ys NoMemory h r = tt
+    → ((b : List ℕ) → Contains xs b → Contains ys b) → IsRefusal digest xs ⊥ fault → IsRefusal digest ys P fault
+refusal-within digest P xs ys (Missing c) within r = r
+refusal-within digest P xs ys NotTree within r = r
+refusal-within digest P xs ys NoSuchKey within r = absurd r
+refusal-within digest P xs ys (Clash pair) within r = (within pair.0 r.0, within pair.1 r.1, r.2)
+refusal-within digest P xs ys NoMemory within r = tt
 
 -- a block and one of others, among the block and all others
 pub two-within : {X : Type 0} (view : X → List ℕ) (block : List ℕ) (xs : List X) (i : ℕ) (x : X) → i < length xs
@@ -388,3 +353,26 @@ module _ {X : Type 0} (view : X → List ℕ) (digest : List ℕ → List ℕ) (
 pub over : {X : Type 0} (all so_far rest : List X) → all ≡ so_far ++ rest → length rest ≡ 0 → so_far ≡ all
 over all so_far [] h n = sym (h ∙ append-nil so_far)
 over all so_far (x ∷ xs) h n = absurd (omega arith)
+
+-- ---- how many come
+
+shorter-case : (p : List ℕ → Bool) (x : List ℕ) (xs : List (List ℕ)) (t : Bool) → length (filter p xs) ≤ length xs
+    → length (cond t (x ∷ filter p xs) (filter p xs)) ≤ suc (length xs)
+shorter-case p x xs true h = omega arith
+shorter-case p x xs false h = omega arith
+
+shorter : (p : List ℕ → Bool) (xs : List (List ℕ)) → length (filter p xs) ≤ length xs
+shorter p [] = omega arith
+shorter p (x ∷ xs) = shorter-case p x xs (p x) (shorter p xs)
+
+fewer : (mark : List ℕ → List ℕ) (xs : List (List ℕ)) → length (firsts mark xs) ≤ length xs
+fewer mark [] = omega arith
+fewer mark (x ∷ xs) =
+    let a = fewer mark xs in
+    let b = shorter (λ c. not (bytes_eq (mark x) (mark c))) (firsts mark xs) in omega arith
+
+pub add-few : (digest : List ℕ → List ℕ) (read made : List (List ℕ)) → length (add_of digest read made) ≤ length made
+add-few digest read made =
+    let unread : List ℕ → Bool = λ b. not (has_cid (cid digest b) (map (cid digest) read)) in
+    let a = fewer (cid digest) (filter unread made) in
+    let b = shorter unread made in omega arith

@@ -1,15 +1,34 @@
-pub mod Mapping
-pub mod Stepping
+mod Results
+mod Lists
+mod Among
+pub mod Within
+pub mod Bounds
+pub mod Around
+pub mod Cuts
+pub mod Closing
+pub mod Pairing
+pub mod Subtrees
+pub mod Making
+pub mod Reading
+pub mod Topping
 pub mod Walking
-pub mod Among
-pub mod NodeLaws
-pub mod PathReading
-pub mod PutSteps
+pub mod Placing
 pub mod Putting
-pub mod Building
-pub mod Deleting
-pub mod DeletePlan
-pub mod DeleteReading
-pub mod DeleteWhole
-pub mod DeleteAnswers
-pub mod DeleteBound
+pub mod Tasking
+pub mod Wholes
+mod Placed
+pub mod OnTree
+mod Answering
+pub mod Stopping
+pub mod Refusing
+pub mod Arriving
+pub mod Ending
+pub mod Halting
+pub mod Untouched
+pub mod Spelling
+mod Testing
+mod MadeKeys
+mod WholeReads
+mod OneChange
+mod OnePut
+mod OneDelete

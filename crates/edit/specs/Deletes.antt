@@ -1,71 +1,46 @@
--- What a delete reads and writes.
-use Rattle.std.specs.Prelude.{◌≡◌, ◌≤◌, ◌+◌, ⊤, ℕ, List, [], ◌∷◌, ◌++◌, length, map, Option, Some, None, IsSome, Result, IfOk, IfErr}
-use Rattle.std.specs.Arc.{arc_value}
-use Rattle.std.specs.declared.sync.Arc.{Arc}
-use Rattle.spec.specs.Blocks.{IsClashFree, nodes, value_of}
+-- What a delete reads and answers.
+use Rattle.std.specs.Prelude.{◌≡◌, ◌*◌, ℕ, zero, suc, List, length, map, Option, Some, None, IsSome}
 use Rattle.spec.specs.Layer.{layer}
 use Rattle.spec.specs.Tree.{Pair, top}
 use Rattle.spec.specs.Writes.{without_key}
+use Rattle.spec.specs.NodeFormat.{Shape, LastLink, MoreLinks, first_link, node_bytes}
 use Rattle.edit_laws.specs.Trace.{delete_path_read}
-use Rattle.edit.specs.declared.deletes.change.Change.{Change}
-use Rattle.edit.specs.declared.deletes.change.Change.TheVariants.{Within, Top}
-use Rattle.edit.specs.declared.outcome.Edit.{Edit}
-use Rattle.edit.specs.declared.outcome.EditFault.{EditFault}
+use Rattle.edit_laws.specs.ShapeEdit.{last_link, links_beside}
+use Rattle.edit_laws.specs.PathEdit.{lowest_shape, prune_link}
+use Rattle.edit_laws.specs.Sources.{path_from, value_from, seam_from, pruned_from, delete_seam_from}
+use Rattle.lookups.specs.Steps.{IsWholePath}
 use Rattle.edit.specs.Edits.{IsEditOf}
-use Rattle.edit.specs.Faults.{IsRefusal}
-use Rattle.edit.specs.Trees.{OfTree}
-use Rattle.edit.specs.Trimmed.{chain_of, IsTrimmed}
-use Rattle.spec.specs.NodeFormat.{Shape, shape_cid, node_bytes}
-use Rattle.edit_laws.specs.Lawful.{AllLawful}
-use Rattle.edit_laws.specs.ShapeEdit.{head_shape, merge_shapes, links_beside}
-use Rattle.rewrite.specs.Cursors.{links_if_single}
-use Rattle.edit_laws.specs.PathEdit.{climb_shapes, all_but_last, lowest_shape, prune_link, delete_here, delete_below, delete_root, delete_written, delete_read, delete_gone_shapes}
-use Rattle.edit_laws.specs.Changes.{add_of, drop_of}
-use Rattle.edit_laws.specs.Laws.Edits.{bytes_of}
-use Rattle.edit_laws.specs.Sources.{path_from, value_from, delete_seam_from}
-use Rattle.edit.specs.Steps.{asked_from, asked_seam, asked_pruned, IsWholePath, IsWholeSeam, IsWholeChain}
 
--- what is made where the key isn't the only one of the top
-abbrev pub within_written : (List ℕ → List ℕ) → List ℕ → List Shape → List (Shape × Shape) → List Shape
-within_written digest key path seam =
-    merge_shapes digest seam
-    ++ (climb_shapes digest key (all_but_last path) (delete_here digest key path seam)
-    ++ (delete_below digest key path seam ∷ []))
+-- ---- over any source
 
--- a chain that begins at a link has a last node
-abbrev pub Ends : Option (List ℕ) → List Shape → Type 0
-Ends None ss = ⊤
-Ends (Some c) ss = 1 ≤ length ss
+abbrev pub asked_seam_at : (Option (List ℕ) → Option (List ℕ) → ℕ) → Option Shape → Option Shape → ℕ
+asked_seam_at further None t = 1
+asked_seam_at further (Some s) None = 2
+asked_seam_at further (Some s) (Some t) = suc (suc (further (last_link s) (first_link t)))
 
--- what is made is of the grammar, from nodes that are there
-pub record CanWriteWithin (digest : List ℕ → List ℕ) (key : List ℕ) (path : List Shape) (seam : List (Shape × Shape)) : Type 0 where
-  pub some : 1 ≤ length path
-  pub lawful : AllLawful (within_written digest key path seam)
+-- how many blocks are asked for where the nodes below two links meet: none unless both links are there
+abbrev pub asked_seam : (List ℕ → Option Shape) → ℕ → Option (List ℕ) → Option (List ℕ) → ℕ
+asked_seam shows zero x y = 0
+asked_seam shows (suc n) None y = 0
+asked_seam shows (suc n) (Some c) None = 0
+asked_seam shows (suc n) (Some c) (Some d) = asked_seam_at (asked_seam shows n) (shows c) (shows d)
 
-pub record CanDelete (digest : List ℕ → List ℕ) (key : List ℕ) (path : List Shape) (seam : List (Shape × Shape))
-    (pruned : List Shape) : Type 0 where
-  pub some : 1 ≤ length path
-  pub lawful : AllLawful (delete_written digest key path seam)
-  pub ends : Ends (prune_link key path seam) pruned
+abbrev pub IsWholeSeam : (List ℕ → Option Shape) → ℕ → Option (List ℕ) → Option (List ℕ) → Type 0
+IsWholeSeam shows n x y = asked_seam shows n x y ≡ 2 * length (seam_from shows n x y)
 
--- ---- what is to be done, by what was read
+abbrev pub asked_pruned_at : (Option (List ℕ) → ℕ) → Option Shape → ℕ
+asked_pruned_at further None = 1
+asked_pruned_at further (Some (LastLink l)) = suc (further l)
+asked_pruned_at further (Some (MoreLinks l e r)) = 1
 
--- the chain that was read
-abbrev pub pruned_of : {D A : Type 0} → Change D A → List Shape
-pruned_of (Within x y) = []
-pruned_of (Top trimmed) = chain_of trimmed
+-- how many blocks are asked for from a link down to the first node with a key
+abbrev pub asked_pruned : (List ℕ → Option Shape) → ℕ → Option (List ℕ) → ℕ
+asked_pruned shows zero l = 0
+asked_pruned shows (suc n) None = 0
+asked_pruned shows (suc n) (Some c) = asked_pruned_at (asked_pruned shows n) (shows c)
 
--- there are links, and this holds of them
-abbrev pub OnLinks : Option (Option (List ℕ) × Option (List ℕ)) → (Option (List ℕ) → Option (List ℕ) → Type 0) → Type 0
-OnLinks None P = ⊥
-OnLinks (Some p) P = P p.0 p.1
-
--- it is what these nodes ask for: the key's node stays, or the top loses its only key and gives way to this
-abbrev pub IsChangeOf : {D A : Type 0} → List ℕ → List Shape → List (Shape × Shape) → Change D A → Type 0
-IsChangeOf key path seam (Within x y) =
-    (links_if_single key (head_shape path) ≡ None) × ((x, y) ≡ links_beside key (lowest_shape path))
-IsChangeOf key path seam (Top trimmed) =
-    OnLinks (links_if_single key (head_shape path)) (λ x y. IsTrimmed x y seam trimmed)
+abbrev pub IsWholeChain : (List ℕ → Option Shape) → ℕ → Option (List ℕ) → Type 0
+IsWholeChain shows n l = asked_pruned shows n l ≡ length (pruned_from shows n l)
 
 -- the key is there, and each block that is asked for is there and is a node
 pub record CanReadDelete (shows : List ℕ → Option Shape) (n : ℕ) (key root : List ℕ) : Type 0 where
@@ -75,24 +50,7 @@ pub record CanReadDelete (shows : List ℕ → Option Shape) (n : ℕ) (key root
   pub chain : let path = path_from shows n key (Some root) in
       IsWholeChain shows n (prune_link key path (delete_seam_from shows n key path))
 
--- how many blocks are asked for in all, where the key is there
-abbrev pub asked_delete : (List ℕ → Option Shape) → ℕ → List ℕ → List ℕ → ℕ
-asked_delete shows n key root =
-    let path = path_from shows n key (Some root) in
-    let x = links_beside key (lowest_shape path) in
-    asked_from shows n key (Some root)
-    + (asked_seam shows n x.0 x.1 + asked_pruned shows n (prune_link key path (delete_seam_from shows n key path)))
-
--- what a delete leaves, from what was read
-pub record IsDeleteOn (digest : List ℕ → List ℕ) (key : List ℕ) (path : List Shape) (seam : List (Shape × Shape))
-    (pruned : List Shape) (root : List ℕ) (add drop : List (List ℕ)) : Type 0 where
-  pub root_is : root ≡ shape_cid digest (delete_root digest key path seam pruned)
-  pub added : add ≡ add_of digest (bytes_of (delete_read path seam pruned)) (bytes_of (delete_written digest key path seam))
-  pub dropped : drop ≡ drop_of digest (bytes_of (delete_written digest key path seam)) (bytes_of (delete_gone_shapes path seam pruned))
-  pub free : IsClashFree digest (bytes_of (delete_read path seam pruned))
-      → IsClashFree digest (add ++ bytes_of (delete_read path seam pruned))
-  pub all_free : IsClashFree digest (bytes_of (delete_read path seam pruned))
-      → IsClashFree digest (bytes_of (delete_written digest key path seam) ++ bytes_of (delete_read path seam pruned))
+-- ---- over the pairs of a tree
 
 -- the nodes that a delete reads: those of the key's path, those that meet where the key stood, and the chain below a top
 -- that loses its only key
@@ -105,31 +63,3 @@ pub record IsDeleteOf (digest : List ℕ → List ℕ) (bits : ℕ) (es : List P
     (add drop : List (List ℕ)) (previous : Option (List ℕ)) : Type 0 where
   pub there : IsSome previous
   pub edit : IsEditOf digest bits es (without_key es key) key (nodes_read digest bits es key) root add drop previous
-
--- the same over an edit, whose blocks are seen as their bytes
-abbrev pub IsDeleteFrom : {D A : Type 0} → (List ℕ → List ℕ) → List ℕ → List Shape → List (Shape × Shape) → List Shape
-    → Edit D A → Type 0
-IsDeleteFrom digest key path seam pruned edit =
-    IsDeleteOn digest key path seam pruned edit.root (map arc_value edit.add.items) edit.drop.items
-
--- there is none only where what was read can't be written without the key, or blocks that are made and read clash
-abbrev pub IsDeleteFault : {D A : Type 0} → (List ℕ → List ℕ) → List ℕ → List Shape → List (Shape × Shape) → List Shape
-    → EditFault D A → Type 0
-IsDeleteFault digest key path seam pruned = IsRefusal digest
-    (bytes_of (delete_written digest key path seam) ++ bytes_of (delete_read path seam pruned))
-    (¬ CanDelete digest key path seam pruned)
-
--- ---- over the tree with a root, for whatever pairs it has in a source
-
--- the edit is that of a delete of the key
-abbrev pub IsDelete : {D A : Type 0} → (List ℕ → List ℕ) → ℕ → (List ℕ → Option (Arc (List ℕ) A)) → List ℕ → List ℕ
-    → Result (Edit D A) (EditFault D A) → Type 0
-IsDelete digest bits gives root key result = OfTree digest bits gives root (λ es. IfOk result (λ edit.
-    IsDeleteOf digest bits es key edit.root (map arc_value edit.add.items) edit.drop.items edit.previous))
-
--- it is refused as the tree doesn't have the key, nodes of the tree before and after clash, or memory was wanted
-abbrev pub IsDeleteRefusal : {D A : Type 0} → (List ℕ → List ℕ) → ℕ → (List ℕ → Option (Arc (List ℕ) A)) → List ℕ
-    → List ℕ → Result (Edit D A) (EditFault D A) → Type 0
-IsDeleteRefusal digest bits gives root key result = OfTree digest bits gives root (λ es.
-    IfErr result (IsRefusal digest (nodes digest bits es ++ nodes digest bits (without_key es key))
-    (value_of key es ≡ None)))

@@ -1,62 +1,63 @@
-//! Look-ups, walks and edits over the blocks of one tree, wherever these are kept.
+//! A tree changed, by one key or by many at once: each node that is read is read once, each node that changes is written
+//! once.
 //!
-//! A tree is a root CID and a [`Source`] that gives blocks by CID. For whatever pairs the tree has (`HasTree`), what
-//! comes out is that of these pairs.
+//! - [`put`] and [`delete`] change one key of the tree with a root, wherever its blocks are kept ([`lookups::Source`]), and
+//!   answer an [`Edit`]: the root after it, the blocks to add, the CIDs to drop, and the value that the key had. They change
+//!   nothing themselves: that is for who keeps the blocks. Those that stay with those that come are the blocks of the tree
+//!   built from scratch.
+//! - [`apply`] changes many keys at once, and answers a [`BatchEdit`], with the values that they had. A [`Change`] is a key
+//!   with its new value, or none where the key goes; it lends the key. [`are_changes`] tells whether a batch takes some.
+//! - An [`EditFault`] says why there is no edit; where the source lacks a block, it has its CID, so that who has the block
+//!   elsewhere can add it and call again.
 //!
-//! - [`get`] answers the value of a key. It reads one block for each node of the key's path, and takes no memory.
-//! - [`walk`] lists pairs from a key on, up to a limit, and reads no block that it doesn't need.
-//! - [`put`] and [`delete`] answer an [`Edit`]: the root after it, the blocks to add and the CIDs to drop, so that those
-//!   that stay with those that come are the blocks of the tree built from scratch. They read and write along one path,
-//!   and change nothing themselves: that is for who keeps the blocks.
-//!
-//! A put reads the nodes of its key's path (`loading`), and makes the nodes that change from the lowest up: below the key
-//! (`below`) and above it (`above`), each by a function of the crate `rewrite`. What was made is then compared with what
-//! was read (`block_difference`). A delete also reads the seam, the nodes that meet where its key stood.
-//!
-//! - [`BlockMap`] is a source over a slice of blocks. The crate `kept` has the one of a repository.
-//!
-//! What a source gives is a [`Lent`] block: with a mark, where it is known to be a node, which spares the test of its bytes
-//! at each read. A source of one's own tests its blocks once, says for each CID what it gives, and counts its reads for
-//! proofs alone:
+//! Use a batch where several keys change: of a node that many of them change it makes one new node, where a put or a delete
+//! for each would make one each time. A put and a delete are a batch of one change.
 //!
 //! ```text
-//! struct OneBlock<'a, D: Digest> { block: &'a MarkedBlock<D>, asked: ReadCount }
+//! let edit = put::<Sha256, 2, _, _>(alloc, &mut source, root, b"app.bsky.feed.post/3l", record)?;
 //!
-//! impl<'a, D: Digest> Source<Lent<'a, D>> for OneBlock<'a, D> {
-//!     ghost gives = { λ one. first_of D.digest_of (one.block.now ∷ []) };
-//!     ghost reads = { λ one. one.asked.times };
-//!
-//!     fn get(&mut self, cid: &Cid) -> Option<Lent<'a, D>> {
-//!         self.asked = self.asked.once_more();
-//!         let lent = self.block.lent();
-//!         if lent.block().cid() == *cid { Some(lent) } else { None }
-//!     }
+//! let changes = [Change { key, value: Some(cid) }, Change { key: other, value: None }];
+//! if are_changes(&changes) {
+//!     let edit = apply::<Sha256, 2, _, _>(alloc, &mut source, root, &changes)?;
 //! }
-//!
-//! let value = get::<Sha256, 2, _, _>(&mut source, root, b"app.bsky.feed.post/3l");
 //! ```
 //!
-//! An [`EditFault`] says why there is no edit: a key to delete that isn't there, two blocks that clash, refused memory.
 //! README.md has an example of a put.
+//!
+//! There are two sides. The walk goes over the old tree in the order of keys, merges it with the changes, and says what
+//! the new tree has: pairs, and subtrees in which no change lies, which aren't read. The edge takes these one after
+//! another. It is the right edge of the new tree, from the top down: for each layer the node in the making, and below the
+//! lowest of them nothing, or one subtree that waits and isn't read. A pair closes all that stands below its layer; a
+//! subtree waits until something else comes into its gap, and is opened then. So a split, a merge, a raised top and a
+//! pruned one are nothing of their own.
+//!
+//! `walk` is the one side, over the `changes` around each key, each of which was `hashed` once; `edge`, with a `level` for
+//! each layer, `joining` and `tops` are the other, and `budgets` says how many nodes may be read. `whole` puts them
+//! together, `differences` compares what was read with what was made, `applying` is the call for many keys, and `singles` has
+//! those for one.
 #![tactic(auto)]
 
-mod above;
-mod below;
-mod block_difference;
-mod block_map;
-mod deletes;
-mod loading;
-mod lookups;
+mod applying;
+mod budgets;
+mod changes;
+mod differences;
+mod edge;
+mod faults;
+mod hashed;
+mod joining;
+mod level;
 mod outcome;
-mod puts;
-mod source;
-mod walks;
+mod passing;
+mod places;
+mod read_nodes;
+mod singles;
+mod tasks;
+mod tops;
+mod walk;
+mod whole;
 
-pub use block_map::BlockMap;
-pub use deletes::delete;
-pub use lookups::get;
+pub use applying::{apply, are_changes};
+pub use changes::Change;
 pub use node::is_key;
-pub use outcome::{Edit, EditFault};
-pub use puts::put;
-pub use source::{Lent, MarkedBlock, ReadCount, Source, is_node};
-pub use walks::walk;
+pub use outcome::{BatchEdit, Edit, EditFault};
+pub use singles::{delete, put};

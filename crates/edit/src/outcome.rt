@@ -1,36 +1,57 @@
-//! What an edit leaves, or why there is none.
+//! What a change leaves, or why there is no edit.
 
 ghost use Rattle.std.specs.Prelude.{◌≡◌};
 ghost use Rattle.edit.specs.declared.outcome.EditFault.TheVariants.{NoMemory};
 
-use crate::source::MarkedBlock;
+use crate::faults::Fault;
 use cid::{Cid, Collided, Digest};
-use rewrite::RewriteFault;
+use lookups::MarkedBlock;
 use std::alloc::{AllocError, AllocFailed, Allocator, Global};
 use thiserror::Error;
 
-/// What one write does to a tree and to the set of its blocks. The blocks before, without those of `drop` and with
-/// those of `add`, are the blocks after.
+/// What a batch does to a tree and to the set of its blocks. The blocks before, without those of `drop` and with those of
+/// `add`, are the blocks after.
+#[derive(Drop)]
+#[derive_where(Debug)]
+pub struct BatchEdit<D: Digest, A: Allocator = Global> {
+    /// The root after the batch.
+    pub root: Cid,
+    /// New blocks, each once, none of which was read, and each marked as a node. A subtree's blocks come before the node
+    /// that links to it, the new top last, where it is new.
+    pub add: Vec<MarkedBlock<D, A>, A>,
+    /// The CIDs of the blocks that go, each once. What is both added and dropped stands in neither.
+    pub drop: Vec<Cid, A>,
+    /// The value that the key of each change had before, in the order of the changes.
+    pub previous: Vec<Option<Cid>, A>,
+}
+
+/// What the change of one key does: a [`BatchEdit`] of one change.
 #[derive(Drop)]
 #[derive_where(Debug)]
 pub struct Edit<D: Digest, A: Allocator = Global> {
-    /// The root after the write.
+    /// The root after the change.
     pub root: Cid,
-    /// New blocks, each once, none of which was read, and each marked as a node; those of lower layers come first on each
-    /// side of the key, the new top last, where it is new.
+    /// New blocks, as in a [`BatchEdit`].
     pub add: Vec<MarkedBlock<D, A>, A>,
-    /// The CIDs of the blocks that go, each once. What is both added and dropped stands in neither.
+    /// The CIDs of the blocks that go, as in a [`BatchEdit`].
     pub drop: Vec<Cid, A>,
     /// The value that the key had before.
     pub previous: Option<Cid>,
 }
 
-/// Why a tree was not edited. Nothing is left behind then.
+/// Why a tree was not changed. Nothing is left behind then.
 #[derive(Drop, Error)]
 #[derive_where(Debug)]
 pub enum EditFault<D: Digest, A: Allocator = Global> {
-    /// The tree doesn't have the key that was to be deleted; or, at a put too, the source lacks a node that was to be
-    /// read, or gives what is no node.
+    /// The source lacks the block with this CID, which is needed. A source that has the tree never does.
+    #[error("the source lacks a block of the tree")]
+    Missing(Cid),
+
+    /// The source gives a block that is no node, or nodes that aren't a tree's. A source that has the tree never does.
+    #[error("the source has no tree with this root")]
+    NotTree,
+
+    /// The tree doesn't have the key that was to be deleted. A batch and a put never answer it.
     #[error("the tree does not have the key")]
     NoSuchKey,
 
@@ -59,15 +80,16 @@ impl<D: Digest, A: Allocator, T: Drop> From<AllocFailed<T>> for EditFault<D, A> 
     }
 }
 
-impl<D: Digest, A: Allocator> From<RewriteFault> for EditFault<D, A> {
-    ghost use Rattle.edit.specs.Faults.{IsEditFault};
+impl<D: Digest, A: Allocator> From<Fault> for EditFault<D, A> {
+    ghost use Rattle.edit.specs.Batches.{of_walk};
 
-    ghost from_gives = { λ draft fault. IsEditFault draft fault };
+    ghost from_gives = { λ walk fault. fault ≡ of_walk walk };
 
-    fn from(fault: RewriteFault) -> EditFault<D, A> {
+    fn from(fault: Fault) -> EditFault<D, A> {
         match fault {
-            RewriteFault::NotNode => EditFault::NoSuchKey,
-            RewriteFault::NoMemory => EditFault::NoMemory,
+            Fault::Missing(cid) => EditFault::Missing(cid),
+            Fault::NotTree => EditFault::NotTree,
+            Fault::NoMemory => EditFault::NoMemory,
         }
     }
 }

@@ -5,7 +5,7 @@ use Rattle.std.specs.declared.cmp.Ordering.{Ordering}
 use Rattle.std.specs.declared.cmp.Ordering.TheVariants.{Less, Equal, Greater}
 use Rattle.edit_laws.specs.Order.{order}
 use Rattle.spec.specs.Tree.{Pair}
-use Rattle.edit_laws.specs.Pairs.{Each, IsBefore, IsAfter, Ascending, put_pair, delete_pair, value_in}
+use Rattle.edit_laws.specs.Pairs.{Each, IsBefore, IsAfter, Ascending, value_in}
 use Rattle.edit_laws.proofs.Orders.{order-same, after-same, after-trans, order-equal}
 
 -- the pairs with a key: none or one
@@ -29,22 +29,6 @@ value_of (e ∷ es) = Some e.1
 
 present-equal : (key : List ℕ) (e : Pair) → e.0 ≡ key → order e.0 key ≡ Equal
 present-equal key e h = rw h (order-same key)
-
-pub put_pair-around : (p : Pair) (xs mid ys : List Pair) → Each (IsBefore p.0) xs → Here p.0 mid → Each (IsAfter p.0) ys
-    → put_pair p (xs ++ (mid ++ ys)) ≡ xs ++ p ∷ ys
-put_pair-around p (x ∷ xs) mid ys hx hm hy = rw hx.0 (ap (λ t. x ∷ t) (put_pair-around p xs mid ys hx.1 hm hy))
-put_pair-around p [] [] [] hx hm hy = refl
-put_pair-around p [] [] (y ∷ ys) hx hm hy = rw hy.0
-put_pair-around p [] (_ ∷ _) ys hx (present e q) hy = rw (present-equal p.0 e q)
-
-pub delete_pair-around : (key : List ℕ) (xs mid ys : List Pair) → Each (IsBefore key) xs → Here key mid
-    → Each (IsAfter key) ys
-    → delete_pair key (xs ++ (mid ++ ys)) ≡ xs ++ ys
-delete_pair-around key (x ∷ xs) mid ys hx hm hy =
-    rw hx.0 (ap (λ t. x ∷ t) (delete_pair-around key xs mid ys hx.1 hm hy))
-delete_pair-around key [] [] [] hx hm hy = refl
-delete_pair-around key [] [] (y ∷ ys) hx hm hy = rw hy.0
-delete_pair-around key [] (_ ∷ _) ys hx (present e q) hy = rw (present-equal key e q)
 
 pub value_in-around : (key : List ℕ) (xs mid ys : List Pair) → Each (IsBefore key) xs → Here key mid
     → Each (IsAfter key) ys

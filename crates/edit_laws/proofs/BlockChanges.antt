@@ -1,8 +1,6 @@
 -- An edit of the tree of some pairs: what it adds and drops makes the blocks of the new tree.
-use Rattle.std.proofs.Common.{◌≡◌, ℕ, zero, suc, ◌+◌, ◌<◌, ◌≤◌, List, [], ◌∷◌, ◌++◌, length, map, refl, sym, ap, ◌∙◌, arith}
-use Rattle.std.proofs.lemmas.List.{map-append, length-append}
-use Rattle.std.specs.declared.cmp.Ordering.{Ordering}
-use Rattle.std.specs.declared.cmp.Ordering.TheVariants.{Less, Equal, Greater}
+use Rattle.std.proofs.Common.{◌≡◌, ℕ, ◌+◌, ◌<◌, ◌≤◌, List, [], ◌∷◌, ◌++◌, map, refl, sym, ap, ◌∙◌, arith}
+use Rattle.std.proofs.lemmas.List.{map-append}
 use Rattle.spec.specs.Cid.{IsDigest, cid}
 use Rattle.spec.specs.Layer.{layer}
 use Rattle.spec.specs.Tree.{Pair, Node, Part, Last, More, Nothing, Sub, top}
@@ -11,17 +9,12 @@ use Rattle.spec.specs.Blocks.{blocks_in, blocks_under, no_record, nodes, ArePair
 use Rattle.spec.proofs.SameTree.{Stands, free_shapes}
 use Rattle.spec.proofs.RootLaws.{stands-top}
 use Rattle.std.specs.Prelude.{Contains}
-use Rattle.edit_laws.specs.Order.{order, if_equal}
-use Rattle.edit_laws.specs.Pairs.{put_pair, delete_pair}
 use Rattle.edit_laws.specs.Changes.{count, marked, add_of, drop_of, AreChanges}
-use Rattle.edit_laws.specs.Trace.{weight, weight_under, total, put_top_gone, put_top_made, delete_path_gone, delete_path_made, delete_gone, delete_path_reads, trim_gone, trim_reads, trim_left, left_stays, delete_left, delete_path_read}
-use Rattle.edit_laws.proofs.Balance.{put-balance, delete-balance}
+use Rattle.edit_laws.specs.Trace.{weight, weight_under, total}
 use Rattle.edit_laws.proofs.Changes.{changes}
-use Rattle.edit_laws.proofs.Gone.{put_top-old, delete_path-old}
 use Rattle.edit_laws.proofs.Lists.{count-append, count-map, contains-counted, counted-contains}
 use Rattle.edit_laws.proofs.NodesOnce.{nodes-once}
 use Rattle.edit_laws.proofs.RecordMaps.{ascending-sorted}
-use Rattle.edit_laws.proofs.Weights.{weight-prune, total-append}
 
 -- ---- counts in lists of blocks are weights of trees
 
@@ -163,107 +156,3 @@ module _ (digest : List ℕ → List ℕ) where
             omega (arith, m, old_is b);
         free = apart;
       })
-
-  -- ---- put: what is used up is what is read
-
-  pub put-changes : (bits : ℕ) → IsDigest digest → (p : Pair) (es : List Pair) → ArePairs es
-      → IsClashFree digest (nodes digest bits es)
-      → let made = bytes_of (put_top_made (layer digest bits) p (top (layer digest bits) es)) in
-      let read = bytes_of (put_top_gone (layer digest bits) p (top (layer digest bits) es)) in
-      IsClashFree digest (made ++ read)
-      → AreChanges digest (nodes digest bits es) (nodes digest bits (put_pair p es)) read (add_of digest read made)
-      (drop_of digest made read)
-  put-changes bits fits p es are free apart =
-      let l = layer digest bits in
-      let t = top l es in
-      let gone = put_top_gone l p t in
-      edited bits fits es (put_pair p es) (put_top_made l p t) gone gone are free
-      (λ w. put-balance l w p es (ascending-sorted es are.sorted))
-      (λ w. omega arith)
-      (λ w. put_top-old w l p t)
-      (λ b k. let i = put_top-old (marked (node_bytes digest) b) l p t in omega arith)
-      apart
-
-  -- ---- delete: one node more may be read
-
-  stays-old : (w : Node → ℕ) (n : ℕ) (p : Part) → total w (left_stays (n, p)) ≤ weight w p
-  stays-old w n Nothing = omega arith
-  stays-old w n (Sub m) = let i = weight-prune w n m in omega arith
-
-  left-old : (w : Node → ℕ) (n : ℕ) (p q : Part) → weight w (trim_left n p q).1 ≤ weight w p + weight w q
-  left-old w zero p q = omega arith
-  left-old w (suc n) Nothing q = omega arith
-  left-old w (suc n) (Sub m) Nothing = omega arith
-  left-old w (suc n) (Sub (Last p)) (Sub (Last q)) = let i = left-old w n p q in omega arith
-  left-old w (suc n) (Sub (Last p)) (Sub (More q e r)) = omega arith
-  left-old w (suc n) (Sub (More p e r)) (Sub k) = omega arith
-
-  single-old : (w : Node → ℕ) (t : ℕ) (p q : Part) (o : Ordering)
-      → weight w (if_equal o (trim_left t p q) (0, Nothing)).1 ≤ weight w p + weight w q
-  single-old w t p q Less = omega arith
-  single-old w t p q Equal = left-old w t p q
-  single-old w t p q Greater = omega arith
-
-  delete_left-old : (l : List ℕ → ℕ) (w : Node → ℕ) (key : List ℕ) (m : Node)
-      → weight w (delete_left l key m).1 ≤ weight w (Sub m)
-  delete_left-old l w key (Last p) = omega arith
-  delete_left-old l w key (More p e (Last q)) = let i = single-old w (l e.0) p q (order e.0 key) in omega arith
-  delete_left-old l w key (More p e (More q f r)) = omega arith
-
-  pub read-old : (l : List ℕ → ℕ) (b : List ℕ) (key : List ℕ) (m : Node) → let w = marked (node_bytes digest) b in
-      0 < total w (delete_path_read l key m) → 0 < weight w (Sub m)
-  read-old l b key m k =
-      let w = marked (node_bytes digest) b in
-      let a = total-append w (delete_path_gone l key m) (left_stays (delete_left l key m)) in
-      let g = delete_path-old w l key m in
-      let s = stays-old w (delete_left l key m).0 (delete_left l key m).1 in
-      let d = delete_left-old l w key m in
-      omega arith
-
-  pub delete-changes : (bits : ℕ) → IsDigest digest → (key : List ℕ) (es : List Pair) → ArePairs es
-      → IsClashFree digest (nodes digest bits es)
-      → let made = bytes_of (delete_path_made (layer digest bits) key (top (layer digest bits) es)) in
-      let gone = bytes_of (delete_path_gone (layer digest bits) key (top (layer digest bits) es)) in
-      let read = bytes_of (delete_path_read (layer digest bits) key (top (layer digest bits) es)) in
-      IsClashFree digest (made ++ read)
-      → AreChanges digest (nodes digest bits es) (nodes digest bits (delete_pair key es)) read
-      (add_of digest read made) (drop_of digest made gone)
-  delete-changes bits fits key es are free apart =
-      let l = layer digest bits in
-      let t = top l es in
-      let gone = delete_path_gone l key t in
-      edited bits fits es (delete_pair key es) (delete_path_made l key t) gone (delete_path_read l key t) are free
-      (λ w. delete-balance l w key es (ascending-sorted es are.sorted))
-      (λ w. let a = total-append w gone (left_stays (delete_left l key t)) in omega arith)
-      (λ w. delete_path-old w l key t)
-      (λ b k. read-old l b key t k)
-      apart
-
--- as many as are counted
-trim-read : (n : ℕ) (p q : Part)
-    → length (trim_gone n p q) + length (left_stays (trim_left n p q)) ≡ trim_reads n p q
-trim-read zero p q = refl
-trim-read (suc n) Nothing Nothing = refl
-trim-read (suc n) Nothing (Sub k) = omega arith
-trim-read (suc n) (Sub m) Nothing = omega arith
-trim-read (suc n) (Sub (Last p)) (Sub (Last q)) = let i = trim-read n p q in omega arith
-trim-read (suc n) (Sub (Last p)) (Sub (More q e r)) = omega arith
-trim-read (suc n) (Sub (More p e r)) (Sub k) = omega arith
-
-single-read : (l : List ℕ → ℕ) (key : List ℕ) (t : ℕ) (p q : Part) (gone : List Node) (o : Ordering)
-    → length (if_equal o (trim_gone t p q) gone) + length
-    (left_stays (if_equal o (trim_left t p q) (0, Nothing))) ≡ if_equal o (trim_reads t p q) (length gone)
-single-read l key t p q gone Less = omega arith
-single-read l key t p q gone Equal = trim-read t p q
-single-read l key t p q gone Greater = omega arith
-
-pub delete_path-read : (l : List ℕ → ℕ) (key : List ℕ) (m : Node)
-    → length (delete_path_read l key m) ≡ delete_path_reads l key m
-delete_path-read l key (Last p) = let i = length-append (delete_path_gone l key (Last p)) [] in omega arith
-delete_path-read l key (More p e (Last q)) =
-    let m = More p e (Last q) in
-    let i = length-append (delete_path_gone l key m) (left_stays (delete_left l key m)) in
-    let j = single-read l key (l e.0) p q (delete_gone l (l e.0) key m) (order e.0 key) in
-    omega arith
-delete_path-read l key (More p e (More q f r)) =
-    let i = length-append (delete_path_gone l key (More p e (More q f r))) [] in omega arith

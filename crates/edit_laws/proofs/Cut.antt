@@ -1,6 +1,6 @@
 -- How a cut list joins, and where a key's place is in a node made from it.
 use Rattle.std.proofs.Common.{◌≡◌, ℕ, Bool, true, false, nat_eq, List, [], ◌∷◌, ◌++◌, refl, ap, ◌∙◌}
-use Rattle.spec.specs.Tree.{Pair, Node, Part, Last, More, Groups, LastGroup, MoreGroups, push, enter, cut, node_of}
+use Rattle.spec.specs.Tree.{Pair, Node, Part, Last, More, Groups, LastGroup, MoreGroups, push, enter, cut, node_of, below, tree}
 use Rattle.edit_laws.specs.TreeEdit.{first, with_first, onto, locate}
 use Rattle.edit_laws.specs.Pairs.{IsBefore}
 
@@ -55,6 +55,14 @@ pub node-glue : (part : List Pair → Part) (g h : Groups)
 node-glue part (LastGroup a) h = node-cursor part a h
 node-glue part (MoreGroups a e r) h = ap (More (part a) e) (node-glue part r h)
 
+pub tree-append : (layer : List ℕ → ℕ) (n : ℕ) (xs ys : List Pair)
+    → tree layer n (xs ++ ys)
+    ≡ onto (befores (below layer n) (cut layer n xs))
+    (with_first (below layer n (last_group (cut layer n xs) ++ first_group (cut layer n ys))) (tree layer n ys))
+tree-append layer n xs ys =
+    ap (node_of (below layer n)) (cut-append layer n xs ys)
+    ∙ node-glue (below layer n) (cut layer n xs) (cut layer n ys)
+
 pub node-whole : (part : List Pair → Part) (g : Groups)
     → onto (befores part g) (Last (part (last_group g))) ≡ node_of part g
 node-whole part (LastGroup a) = refl
@@ -63,19 +71,6 @@ node-whole part (MoreGroups a e r) = ap (More (part a) e) (node-whole part r)
 pub first-with_first : (p : Part) (m : Node) → first (with_first p m) ≡ p
 first-with_first p (Last q) = refl
 first-with_first p (More q e r) = refl
-
-pub with_first-with_first : (p q : Part) (m : Node) → with_first p (with_first q m) ≡ with_first p m
-with_first-with_first p q (Last o) = refl
-with_first-with_first p q (More o e r) = refl
-
-pub first-node_of : (part : List Pair → Part) (g : Groups) → first (node_of part g) ≡ part (first_group g)
-first-node_of part (LastGroup g) = refl
-first-node_of part (MoreGroups g e r) = refl
-
-pub with_first-same : (part : List Pair → Part) (g : Groups)
-    → with_first (part (first_group g)) (node_of part g) ≡ node_of part g
-with_first-same part (LastGroup g) = refl
-with_first-same part (MoreGroups g e r) = refl
 
 -- P holds of the key of each
 abbrev pub Keys : (Pair → Type 0) → List (Part × Pair) → Type 0

@@ -8,7 +8,7 @@ use Rattle.edit_laws.specs.Order.{order, if_equal}
 use Rattle.edit_laws.specs.TreeEdit.{first, locate, further, Place, open_part, layer_of}
 use Rattle.edit_laws.specs.Trace.{beside, lowest_at, merge_pairs, seam_pairs, trim_left, delete_left, prune_path}
 use Rattle.edit_laws.specs.ShapeEdit.{trim_links, single_shape}
-use Rattle.edit_laws.specs.PathEdit.{flat, all_but_last}
+use Rattle.edit_laws.specs.PathEdit.{flat}
 use Rattle.edit_laws.specs.Sources.{seam_from, pruned_from}
 use Rattle.edit_laws.proofs.DeleteShapes.{within-row}
 use Rattle.edit_laws.proofs.Enough.{merge_pairs-enough, prune_path-enough}
@@ -67,11 +67,6 @@ pub map-flat : {A B : Type 0} (f : A → B) (xs : List (A × A))
     → map f (flat xs) ≡ flat (map (λ (x : A × A). (f x.0, f x.1)) xs)
 map-flat f [] = refl
 map-flat f (x ∷ xs) = ap (λ t. f x.0 ∷ f x.1 ∷ t) (map-flat f xs)
-
-pub map-all_but_last : {A B : Type 0} (f : A → B) (xs : List A) → map f (all_but_last xs) ≡ all_but_last (map f xs)
-map-all_but_last f [] = refl
-map-all_but_last f (x ∷ []) = refl
-map-all_but_last f (x ∷ y ∷ ys) = ap (λ t. f x ∷ t) (map-all_but_last f (y ∷ ys))
 
 module _ (digest : List ℕ → List ℕ) (shows : List ℕ → Option Shape) where
   -- ---- the pairs that meet

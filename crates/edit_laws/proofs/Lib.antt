@@ -4,18 +4,16 @@ pub mod Orders
 pub mod EachPair
 pub mod Around
 pub mod RecordMaps
--- ---- an edit of a tree is the tree from scratch
+pub mod PairsLeft
+-- ---- a key's place in the tree of a list, and a look-up of it
 pub mod Cut
 pub mod Groups
-pub mod Split
 pub mod Places
-pub mod Edits
+pub mod Finding
 pub mod Tops
-pub mod Trim
--- ---- which nodes are read and made, and how many
 pub mod Within
+-- ---- which nodes are read, and how many
 pub mod Weights
-pub mod Gone
 pub mod Counts
 pub mod Traces
 pub mod Enough
@@ -26,11 +24,8 @@ pub mod WalkPairs
 pub mod WalkReads
 -- ---- the same from shapes
 pub mod ShapeBridges
-pub mod PutTopShapes
 pub mod DeleteShapes
 pub mod TrimShapes
-pub mod DeleteTopShapes
-pub mod PathForms
 -- ---- the same over a source
 pub mod SourceLaws
 pub mod DeleteSource
@@ -39,16 +34,13 @@ pub mod OverSource
 pub mod Lists
 pub mod Changes
 pub mod NodesOnce
-pub mod Balance
 pub mod BlockChanges
+pub mod EditShapes
 -- ---- the laws
 pub mod LookupTheorems
 pub mod WalkRanges
 pub mod WalkTheorems
-pub mod PutTheorems
-pub mod DeleteTheorems
-pub mod Lawful
-pub mod LawfulDeletes
+pub mod DeleteReads
 pub mod RecordTheorems
 -- ---- how often a repository's blocks are used
 pub mod RecordCounts

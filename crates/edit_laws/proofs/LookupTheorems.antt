@@ -15,7 +15,7 @@ use Rattle.edit_laws.specs.TreeEdit.{layer_of}
 use Rattle.edit_laws.specs.Trace.{find_path}
 use Rattle.edit_laws.specs.Sources.{shown_by, entry_value, entry_value_at, gap, gap_at}
 use Rattle.edit_laws.specs.Laws.Lookups.{FindIsValue, FindReads, TopHasLayer, KeyHasLayer, PathIsRead, found_at, StepIsPlace, PathBound, LookupOverSource}
-use Rattle.edit_laws.proofs.Balance.{within-top}
+use Rattle.edit_laws.proofs.Within.{within-top, IsWithin, within-under-up}
 use Rattle.edit_laws.proofs.Counts.{find_path-most}
 use Rattle.edit_laws.proofs.Enough.{find-enough, find_path-enough}
 use Rattle.edit_laws.proofs.Orders.{order-is}
@@ -24,7 +24,6 @@ use Rattle.edit_laws.proofs.PathIsRead.{path-layer}
 use Rattle.edit_laws.proofs.RecordMaps.{ascending-sorted, find-is}
 use Rattle.edit_laws.proofs.SourceLaws.{path-holds, value-holds, path-most}
 use Rattle.edit_laws.proofs.Tops.{find-top, layer_of-top}
-use Rattle.edit_laws.proofs.Within.{IsWithin, within-under-up}
 
 -- as many layers as are wanted, above the top's
 pub within-bound : (layer : List ℕ → ℕ) (n : ℕ) (es : List Pair) → layer_of layer (top layer es) < n

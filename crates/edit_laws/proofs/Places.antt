@@ -1,13 +1,12 @@
 -- A key's place in the tree of a list that is taken apart at that key.
-use Rattle.std.proofs.Common.{◌≡◌, ℕ, zero, suc, true, false, nat_eq, List, [], ◌∷◌, ◌++◌, refl, sym, ap, ◌∙◌, append-nil}
+use Rattle.std.proofs.Common.{◌≡◌, ℕ, suc, true, false, nat_eq, List, [], ◌∷◌, ◌++◌, refl, ap, ◌∙◌, append-nil}
 use Rattle.std.specs.declared.cmp.Ordering.TheVariants.{Equal}
 use Rattle.edit_laws.specs.Order.{order}
 use Rattle.spec.specs.Tree.{Pair, Part, More, Sub, Groups, LastGroup, MoreGroups, push, cut, node_of, below, tree}
-use Rattle.edit_laws.specs.TreeEdit.{with_first, onto, locate, open_part, descend}
+use Rattle.edit_laws.specs.TreeEdit.{with_first, onto, locate}
 use Rattle.edit_laws.specs.Pairs.{Each, IsBefore, IsAfter}
-use Rattle.edit_laws.proofs.Cut.{befores, last_group, first_group, locate-onto, first-with_first, with_first-with_first}
+use Rattle.edit_laws.proofs.Cut.{befores, last_group, first_group, tree-append, locate-onto}
 use Rattle.edit_laws.proofs.Groups.{cut-in, befores-in, stops}
-use Rattle.edit_laws.proofs.Split.{tree-append}
 
 abbrev pub IsOutside : (List ℕ → ℕ) → ℕ → Pair → Type 0
 IsOutside layer n e = nat_eq (layer e.0) n ≡ false
@@ -81,21 +80,6 @@ locate-here layer n key xs e ys h q hx =
     ∙ locate-onto key _ _
     (befores-in (IsBefore key) (below layer n) (cut layer n xs) (cut-in (IsBefore key) layer n xs hx))
     (rw q)
-
--- one subtree put anew
-pub descend-tree : (layer : List ℕ → ℕ) (n : ℕ) (key : List ℕ) (change : Part → Part) (xs mid new ys : List Pair)
-    → Each (IsOutside layer n) mid → Each (IsOutside layer n) new → Each (IsBefore key) xs → Each (IsAfter key) ys
-    → change (below layer n (last_group (cut layer n xs) ++ (mid ++ first_group (cut layer n ys))))
-    ≡ below layer n (last_group (cut layer n xs) ++ (new ++ first_group (cut layer n ys)))
-    → descend key change (tree layer n (xs ++ (mid ++ ys))) ≡ tree layer n (xs ++ (new ++ ys))
-descend-tree layer n key change xs mid new ys hm hn hx hy c =
-    rw (locate-outside layer n key xs mid ys hm hx hy, first-with_first, with_first-with_first, c)
-    (sym (tree-outside layer n xs new ys hn))
-
-pub open-below : (layer : List ℕ → ℕ) (n : ℕ) (es : List Pair) → open_part (below layer (suc n) es) ≡ tree layer n es
-open-below layer zero [] = refl
-open-below layer (suc n) [] = refl
-open-below layer n (e ∷ es) = refl
 
 pub sub-tree : (layer : List ℕ → ℕ) (n : ℕ) (xs : List Pair) (e : Pair) (ys : List Pair)
     → Sub (tree layer n (xs ++ e ∷ ys)) ≡ below layer (suc n) (xs ++ e ∷ ys)

@@ -1,16 +1,13 @@
--- Get, put and delete in the whole tree.
-use Rattle.std.proofs.Common.{◌≡◌, ◌⊎◌, ℕ, zero, suc, ◌+◌, ◌-◌, ◌<◌, ◌≤◌, max, Bool, true, false, nat_eq, nat_lt, List, [], ◌∷◌, ◌++◌, refl, sym, ap, subst, ◌∙◌, arith, inl, inr, cond}
-use Rattle.std.proofs.lemmas.Bool.{eqb-false, eqb-true, eq-eqb, ne_eqb, ltb-true, ltb-false, cases_lt}
+-- The top of a tree: its layer, its pruning, and a look-up from it on.
+use Rattle.std.proofs.Common.{◌≡◌, ◌⊎◌, ℕ, zero, suc, ◌+◌, ◌-◌, ◌<◌, ◌≤◌, max, Bool, true, false, nat_eq, List, [], ◌∷◌, ◌++◌, refl, sym, ap, subst, ◌∙◌, arith, inl, inr}
+use Rattle.std.proofs.lemmas.Bool.{eqb-false, eqb-true, ne_eqb, cases_lt}
 use Rattle.spec.specs.Tree.{Pair, Part, Last, Sub, Groups, LastGroup, MoreGroups, push, enter, cut, node_of, below, tree, top_layer, top}
-use Rattle.edit_laws.specs.TreeEdit.{close, pad, layer_of, node_put, put_above, put_top, node_delete, prune, delete_top, find}
-use Rattle.edit_laws.specs.Pairs.{Each, Ascending, put_pair, delete_pair, value_in}
+use Rattle.edit_laws.specs.TreeEdit.{layer_of, prune, find}
+use Rattle.edit_laws.specs.Pairs.{Each, Ascending, value_in}
 use Rattle.spec.proofs.TreeLaws.{IsLower, lower-from_top}
-use Rattle.edit_laws.proofs.Around.{Here, absent, present, Around, around, put_pair-around, delete_pair-around, value_in-around}
-use Rattle.edit_laws.proofs.EachPair.{each-both, each-left, each-right}
-use Rattle.edit_laws.proofs.Edits.{Lows, put-tree, delete-tree, find-tree}
-use Rattle.edit_laws.proofs.Groups.{close-tree}
-use Rattle.edit_laws.proofs.Places.{tree-here}
-use Rattle.edit_laws.proofs.Split.{split-below}
+use Rattle.edit_laws.proofs.Around.{Around, around, value_in-around}
+use Rattle.edit_laws.proofs.EachPair.{each-left, each-right}
+use Rattle.edit_laws.proofs.Finding.{Lows, find-tree}
 
 cut-none : (layer : List ℕ → ℕ) (n : ℕ) (es : List Pair) → Each (IsLower layer n) es → cut layer n es ≡ LastGroup es
 cut-none layer n [] h = refl
@@ -19,33 +16,11 @@ cut-none layer n (e ∷ es) h =
     let b : nat_eq (layer e.0) n ≡ false = ne_eqb (layer e.0) n (λ q. omega arith) in
     rw (b, cut-none layer n es h.1)
 
-lower-up : (layer : List ℕ → ℕ) (m n : ℕ) (es : List Pair) → m ≤ n → Each (IsLower layer m) es
-    → Each (IsLower layer n) es
-lower-up layer m n [] l h = tt
-lower-up layer m n (e ∷ es) l h = (let k : layer e.0 < m = h.0 in omega arith, lower-up layer m n es l h.1)
-
 tree-none : (layer : List ℕ → ℕ) (n : ℕ) (es : List Pair) → Each (IsLower layer n) es
     → tree layer n es ≡ Last (below layer n es)
 tree-none layer n es h = ap (node_of (below layer n)) (cut-none layer n es h)
 
-pub pad-below : (layer : List ℕ → ℕ) (d n : ℕ) (es : List Pair) → Each (IsLower layer n) es
-    → pad d (below layer n es) ≡ below layer (d + n) es
-pad-below layer zero n es h = let q : n ≡ zero + n = omega arith in ap (λ m. below layer m es) q
-pad-below layer (suc d) n es h =
-    let k = lower-up layer n (d + n) es (omega arith) h in
-    let u = lower-up layer n (suc (d + n)) es (omega arith) h in
-    let q : suc (d + n) ≡ suc d + n = omega arith in
-    ap (λ p. close (Last p)) (pad-below layer d n es h)
-    ∙ ap close (sym (tree-none layer (d + n) es k))
-    ∙ close-tree layer (d + n) es u
-    ∙ ap (λ m. below layer m es) q
-
 -- ---- the top's layer
-
-pub top_layer-append : (layer : List ℕ → ℕ) (xs ys : List Pair)
-    → top_layer layer (xs ++ ys) ≡ max (top_layer layer xs) (top_layer layer ys)
-top_layer-append layer [] ys = omega arith
-top_layer-append layer (x ∷ xs) ys = rw (top_layer-append layer xs ys) (omega arith)
 
 pub top-from_lower : (layer : List ℕ → ℕ) (n : ℕ) (es : List Pair) → Each (IsLower layer (suc n)) es
     → top_layer layer es ≤ n
@@ -144,8 +119,6 @@ lows-of layer n key es a h =
       back_after = a.back_after;
     }
 
--- ---- get
-
 pub find-top : (layer : List ℕ → ℕ) (key : List ℕ) (es : List Pair) → Ascending es
     → find (suc (layer_of layer (top layer es))) key (Sub (top layer es)) ≡ value_in key es
 find-top layer key es s =
@@ -156,84 +129,3 @@ find-top layer key es s =
     (ap (λ x. find (suc t) key (Sub (tree layer t x))) a.whole
     ∙ find-tree layer key t a.front a.mid a.back c
     ∙ sym (ap (value_in key) a.whole ∙ value_in-around key a.front a.mid a.back a.front_before a.mid_here a.back_after))
-
--- ---- delete
-
-pub delete-top : (layer : List ℕ → ℕ) (key : List ℕ) (es : List Pair) → Ascending es
-    → delete_top layer key (top layer es) ≡ top layer (delete_pair key es)
-delete-top layer key es s =
-    let a = around key es s in
-    let t = top_layer layer es in
-    let c = lows-of layer (suc t) key es a (lower-from_top layer t es (omega arith)) in
-    rw (layer_of-top layer es)
-    (ap (λ x. prune t (node_delete layer t key (tree layer t x))) a.whole
-    ∙ ap (prune t) (delete-tree layer key t a.front a.mid a.back c)
-    ∙ prune-tree layer t (a.front ++ a.back) (each-both (IsLower layer (suc t)) a.front a.back c.front_low c.back_low)
-    ∙ ap (top layer) (sym (ap (delete_pair key) a.whole
-    ∙ delete_pair-around key a.front a.mid a.back a.front_before a.mid_here a.back_after)))
-
--- ---- put
-
--- the top's layer after a put
-mid-layer : (layer : List ℕ → ℕ) (key : List ℕ) (mid : List Pair) → Here key mid → top_layer layer mid ≤ layer key
-mid-layer layer key [] absent = omega arith
-mid-layer layer key (_ ∷ _) (present e q) = let l : layer e.0 ≡ layer key = ap layer q in omega arith
-
-put-within : (layer : List ℕ → ℕ) (p : Pair) (xs mid ys : List Pair) (t : ℕ)
-    → t ≡ top_layer layer (xs ++ (mid ++ ys)) → layer p.0 ≤ t
-    → Here p.0 mid → Lows layer (suc t) p.0 xs mid ys
-    → node_put layer t p (tree layer t (xs ++ (mid ++ ys))) ≡ top layer (xs ++ p ∷ ys)
-put-within layer p xs mid ys t e l m c =
-    let old : top_layer layer (xs ++ (mid ++ ys))
-    ≡ max (top_layer layer xs) (max (top_layer layer mid) (top_layer layer ys)) =
-    top_layer-append layer xs (mid ++ ys) ∙ ap (max (top_layer layer xs)) (top_layer-append layer mid ys) in
-    let new = top_layer-append layer xs (p ∷ ys) in
-    let k = mid-layer layer p.0 mid m in
-    let q : t ≡ top_layer layer (xs ++ p ∷ ys) = omega arith in
-    put-tree layer p t xs mid ys (omega arith) c ∙ ap (λ n. tree layer n (xs ++ p ∷ ys)) q
-
-put-over : (layer : List ℕ → ℕ) (p : Pair) (xs ys : List Pair) (t : ℕ) → t ≡ top_layer layer (xs ++ ys) → t < layer p.0
-    → Lows layer (suc t) p.0 xs [] ys
-    → put_above (layer p.0) t p (tree layer t (xs ++ ys)) ≡ top layer (xs ++ p ∷ ys)
-put-over layer p xs ys t e l c =
-    let j = layer p.0 in
-    let old = top_layer-append layer xs ys in
-    let new = top_layer-append layer xs (p ∷ ys) in
-    let q : j ≡ top_layer layer (xs ++ p ∷ ys) = omega arith in
-    let r : j - suc t + suc t ≡ j = omega arith in
-    let w = each-both (IsLower layer (suc t)) xs ys c.front_low c.back_low in
-    let s = split-below layer p.0 (suc t) xs ys c.front_low c.back_low c.front_before c.back_after in
-    let hx = lower-up layer (suc t) j xs (omega arith) c.front_low in
-    let hy = lower-up layer (suc t) j ys (omega arith) c.back_low in
-    let fx = pad-below layer (j - suc t) (suc t) xs c.front_low ∙ ap (λ n. below layer n xs) r in
-    let fy = pad-below layer (j - suc t) (suc t) ys c.back_low ∙ ap (λ n. below layer n ys) r in
-    let b : nat_eq j j ≡ true = eq-eqb j j refl in
-    rw (close-tree layer t (xs ++ ys) w, s, fx, fy)
-    (sym (ap (λ n. tree layer n (xs ++ p ∷ ys)) (sym q) ∙ tree-here layer j xs p ys b
-    ∙ rw (cut-none layer j xs hx, cut-none layer j ys hy)))
-
-put-choice : (layer : List ℕ → ℕ) (p : Pair) (xs mid ys : List Pair) (t : ℕ) (b : Bool)
-    → t ≡ top_layer layer (xs ++ (mid ++ ys)) → nat_lt t (layer p.0) ≡ b
-    → Here p.0 mid → Lows layer (suc t) p.0 xs mid ys
-    → cond b (put_above (layer p.0) t p (tree layer t (xs ++ (mid ++ ys))))
-    (node_put layer t p (tree layer t (xs ++ (mid ++ ys)))) ≡ top layer (xs ++ p ∷ ys)
-put-choice layer p xs mid ys t false e h m c =
-    let l = ltb-false t (layer p.0) h in put-within layer p xs mid ys t e l m c
-put-choice layer p xs [] ys t true e h absent c =
-    let l = ltb-true t (layer p.0) h in put-over layer p xs ys t e l c
-put-choice layer p xs (_ ∷ _) ys t true e h (present d q) c =
-    let l = ltb-true t (layer p.0) h in
-    let k : layer d.0 < suc t = c.mid_low.0 in let j : layer d.0 ≡ layer p.0 = ap layer q in absurd (omega arith)
-
-pub put-top : (layer : List ℕ → ℕ) (p : Pair) (es : List Pair) → Ascending es
-    → put_top layer p (top layer es) ≡ top layer (put_pair p es)
-put-top layer p es s =
-    let a = around p.0 es s in
-    let t = top_layer layer es in
-    let c = lows-of layer (suc t) p.0 es a (lower-from_top layer t es (omega arith)) in
-    rw (layer_of-top layer es)
-    (ap (λ x. cond (nat_lt t (layer p.0)) (put_above (layer p.0) t p (tree layer t x))
-    (node_put layer t p (tree layer t x))) a.whole
-    ∙ put-choice layer p a.front a.mid a.back t (nat_lt t (layer p.0)) (ap (top_layer layer) a.whole) refl a.mid_here c
-    ∙ ap (top layer) (sym (ap (put_pair p) a.whole
-    ∙ put_pair-around p a.front a.mid a.back a.front_before a.mid_here a.back_after)))

@@ -5,17 +5,8 @@ use Rattle.std.proofs.lemmas.Bool.{eq-eqb}
 use Rattle.spec.specs.Tree.{Pair, Node, Part, Last, More, Nothing}
 use Rattle.edit_laws.specs.Order.{order}
 use Rattle.edit_laws.specs.TreeEdit.{locate}
-use Rattle.edit_laws.specs.Trace.{put_gone, delete_path_nodes, lowest_at, beside, seam_pairs, merge_pairs}
+use Rattle.edit_laws.specs.Trace.{delete_path_nodes, lowest_at, beside, seam_pairs, merge_pairs}
 use Rattle.edit_laws.proofs.Orders.{order-equal}
-
--- below a node that isn't there is no node
-pub put-nothing : (layer : List ℕ → ℕ) (n : ℕ) (p : Pair) → put_gone layer n p (Last Nothing) ≡ []
-put-nothing layer zero p = refl
-put-nothing layer (suc n) p = go (nat_eq (layer p.0) (suc n)) (put-nothing layer n p)
-  where
-    go : (b : Bool) → put_gone layer n p (Last Nothing) ≡ [] → cond b [] (put_gone layer n p (Last Nothing)) ≡ []
-    go true h = refl
-    go false h = h
 
 pub nodes-none : (layer : List ℕ → ℕ) (n : ℕ) (key : List ℕ) → delete_path_nodes layer n key (Last Nothing) ≡ []
 nodes-none layer zero key = refl
@@ -31,11 +22,6 @@ pub row-here : (layer : List ℕ → ℕ) (key : List ℕ) (n : ℕ) (m : Node) 
     → lowest_at layer n key m ≡ (n, (locate key m).here)
 row-here layer key zero m h = refl
 row-here layer key (suc n) m h = rw h refl
-
-pub nodes-here : (layer : List ℕ → ℕ) (key : List ℕ) (n : ℕ) (m : Node) → nat_eq (layer key) n ≡ true
-    → delete_path_nodes layer n key m ≡ []
-nodes-here layer key zero m h = refl
-nodes-here layer key (suc n) m h = rw h refl
 
 pub single-seam : (layer : List ℕ → ℕ) (key : List ℕ) (p : Part) (e : Pair) (q : Part) → order e.0 key ≡ Equal
     → seam_pairs layer (layer e.0) key (More p e (Last q)) ≡ merge_pairs (layer e.0) p q

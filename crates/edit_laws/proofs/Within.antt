@@ -2,10 +2,11 @@
 use Rattle.std.proofs.Common.{ℕ, zero, suc, ◌≤◌, List, [], ◌∷◌, arith}
 use Rattle.std.specs.declared.cmp.Ordering.{Ordering}
 use Rattle.std.specs.declared.cmp.Ordering.TheVariants.{Less, Equal, Greater}
-use Rattle.spec.specs.Tree.{Pair, Node, Part, Last, More, Nothing, Sub, Groups, LastGroup, MoreGroups, cut, node_of, below, tree}
+use Rattle.spec.specs.Tree.{Pair, Node, Part, Last, More, Nothing, Sub, Groups, LastGroup, MoreGroups, cut, node_of, below, tree, top_layer, top}
 use Rattle.edit_laws.specs.Order.{order}
-use Rattle.edit_laws.specs.TreeEdit.{first, Place, further, locate, open_part}
+use Rattle.edit_laws.specs.TreeEdit.{first, Place, further, locate, open_part, layer_of}
 use Rattle.edit_laws.specs.Trace.{last_part}
+use Rattle.edit_laws.proofs.Tops.{layer_of-top}
 
 -- at most n layers of nodes
 abbrev mutual
@@ -71,3 +72,7 @@ within-below layer (suc n) (e ∷ es) = within-groups n (below layer n) (within-
 
 pub within-tree : (layer : List ℕ → ℕ) (n : ℕ) (es : List Pair) → AllWithin n (tree layer n es)
 within-tree layer n es = within-groups n (below layer n) (within-below layer n) (cut layer n es)
+
+-- a whole tree keeps within the layer of its top
+pub within-top : (layer : List ℕ → ℕ) (es : List Pair) → AllWithin (layer_of layer (top layer es)) (top layer es)
+within-top layer es = rw (layer_of-top layer es) (within-tree layer (top_layer layer es) es)

@@ -1,7 +1,7 @@
 -- Nodes that can be written, and read again.
-use Rattle.std.specs.Prelude.{◌≡◌, ◌<◌, ◌^◌, true, length, List, []}
+use Rattle.std.specs.Prelude.{◌≡◌, true, List, []}
 use Rattle.std.specs.List.{AllByRecursion}
-use Rattle.spec.specs.NodeFormat.{Shape, first_link, entries_of, shape_bytes, is_node, are_keys_after}
+use Rattle.spec.specs.NodeFormat.{Shape, first_link, entries_of, is_node, are_keys_after}
 
 -- what a block shows is of the node grammar
 abbrev pub Lawful : Shape → Type 0
@@ -13,7 +13,3 @@ HasKeys s = are_keys_after [] (entries_of s) ≡ true
 
 abbrev pub AllLawful : List Shape → Type 0
 AllLawful ss = AllByRecursion Lawful ss
-
--- each has fewer bytes than a machine can count
-abbrev pub AllShort : List Shape → Type 0
-AllShort ss = AllByRecursion (λ s. length (shape_bytes s) < 2 ^ 64) ss

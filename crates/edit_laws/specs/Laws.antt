@@ -2,8 +2,6 @@
 pub mod Lookups
 pub mod Walks
 pub mod Edits
-pub mod Puts
-pub mod Deletes
 pub mod Records
 pub mod Sources
 pub mod Uses

@@ -1,4 +1,4 @@
--- Look-ups, edits and walks over a source of blocks, which shows the node with a CID, where it has it. Each function is
+-- Look-ups, walks and what a delete reads over a source of blocks, which shows the node with a CID, where it has it. Each function is
 -- what a loop reads, also where a block is missing.
 use Rattle.std.specs.Prelude.{◌≡◌, ℕ, zero, suc, List, [], ◌∷◌, ◌++◌, Contains, Option, Some, None, Result, Ok, Err, option_and_then}
 use Rattle.std.specs.declared.cmp.Ordering.{Ordering}

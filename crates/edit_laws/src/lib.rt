@@ -5,9 +5,7 @@
 //! here is a law of them, and does nothing when it is called.
 #![tactic(auto)]
 
-pub mod deletes;
 pub mod lookups;
-pub mod puts;
 pub mod records;
 pub mod sources;
 pub mod staging;

@@ -9,7 +9,7 @@ use Rattle.spec.specs.States.{State, state_blocks}
 use Rattle.spec.specs.Tree.{Pair}
 use Rattle.edit_laws.specs.Sources.{HasBlocks}
 use Rattle.edit_laws.specs.Uses.{uses}
-use Rattle.edit.specs.Trees.{HasTree}
+use Rattle.lookups.specs.Trees.{HasTree}
 use Rattle.kept.specs.Uses.{Uses, at}
 use Rattle.kept.specs.declared.kept_use.Use.{Use}
 use Rattle.kept.proofs.LentTrees.{lent_tree}

@@ -33,8 +33,8 @@ use Rattle.edit_laws.proofs.EachPair.{each-parts}
 use Rattle.edit_laws.proofs.LookupTheorems.{top-has_layer, within-bound}
 use Rattle.edit_laws.proofs.OverSource.{shape_of_bytes-shape_bytes}
 use Rattle.edit_laws.proofs.Within.{AllWithin, IsWithin}
-use Rattle.edit.specs.Steps.{layers}
-use Rattle.edit.specs.Trees.{HasTree}
+use Rattle.lookups.specs.Steps.{layers}
+use Rattle.lookups.specs.Trees.{HasTree}
 use Rattle.export.specs.Walks.{blocks_at, blocks_met, car_met, cids_from, cids_in, cids_of, commit_block}
 use Rattle.export.specs.Once.{AreSingle}
 use Rattle.edit_laws.specs.Uses.{uses}

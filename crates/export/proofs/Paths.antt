@@ -9,9 +9,9 @@ use Rattle.spec.specs.NodeFormat.{Shape, Entry, read_node, shape_bytes}
 use Rattle.spec.specs.Proof.{Place, place, path}
 use Rattle.edit_laws.specs.Sources.{gap, path_at, path_from, shown, shape_of_reading, shape_of_bytes, shown_by}
 use Rattle.edit_laws.specs.Laws.Lookups.{found_at}
-use Rattle.edit.specs.Trees.{HasTree}
-use Rattle.edit.specs.Steps.{layers}
-use Rattle.edit.proofs.Stepping.{is-lookup, place-found}
+use Rattle.lookups.specs.Trees.{HasTree}
+use Rattle.lookups.specs.Steps.{layers}
+use Rattle.lookups.proofs.Stepping.{is-lookup, place-found}
 
 -- the link that a place in a node that was read goes on with
 pub link-found : (key bytes : List ℕ) (left : Option (List ℕ)) (es : List Entry) (p : Place) (l : Option (List ℕ))

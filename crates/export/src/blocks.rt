@@ -14,7 +14,7 @@ use crate::repeats::Repeats;
 use crate::seen::Seen;
 use crate::walk::{Step, Walk};
 use cid::{Cid, Digest};
-use edit::{Lent, Source};
+use lookups::{Lent, Source};
 use std::alloc::Allocator;
 
 /// Writes the sections of the commit, if there is one, and of the blocks that a walk is still to come to, and answers how

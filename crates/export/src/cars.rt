@@ -18,7 +18,7 @@ use crate::sections::write_header;
 use crate::seen::Seen;
 use crate::walk::Walk;
 use cid::{Block, Cid, Digest};
-use edit::{Lent, Source};
+use lookups::{Lent, Source};
 use repo::Core;
 use std::alloc::Allocator;
 use std::sync::Arc;

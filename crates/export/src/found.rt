@@ -4,8 +4,8 @@ ghost use Rattle.std.specs.Prelude.{true, option_map};
 ghost use Rattle.export.specs.Founds.{found_in, unmarked};
 
 use cid::{Cid, Digest};
-use edit::{Lent, Source};
 use kept::Lender;
+use lookups::{Lent, Source};
 use std::alloc::Allocator;
 
 /// What a source lends, with a mark where it may stand more than once in what is exported.

@@ -12,7 +12,7 @@ use crate::out::Out;
 use crate::sections::write_section;
 use crate::seen::Seen;
 use cid::Digest;
-use edit::Lent;
+use lookups::Lent;
 use std::alloc::Allocator;
 
 /// Writes the section of a block unless one with its CID was written, and answers how many bytes that are.

@@ -8,12 +8,12 @@ ghost use Rattle.spec.specs.Proof.{path};
 ghost use Rattle.edit_laws.specs.Sources.{gap, path_from, shape_of_bytes, shown_by};
 ghost use Rattle.edit_laws.specs.Laws.Lookups.{found_at};
 ghost use Rattle.node.specs.Views.{place_of};
-ghost use Rattle.edit.specs.Trees.{HasTree};
+ghost use Rattle.lookups.specs.Trees.{HasTree};
 ghost use Rattle.export.specs.Exports.{ArePathOf};
 
 use cid::{Block, Cid, Digest};
-use edit::{Lent, Source};
 use kept::Lender;
+use lookups::{Lent, Source};
 use node::Place;
 use repo::Core;
 use std::alloc::{AllocError, Allocator};

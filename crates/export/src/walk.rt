@@ -10,7 +10,7 @@ ghost use Rattle.export.specs.Walks.{entered, next_row, turned, without_link, Is
 
 use crate::found::Found;
 use cid::{Cid, CidRef, Digest};
-use edit::{Lent, Source};
+use lookups::{Lent, Source};
 use node::{Entries, EntryView};
 use std::alloc::{AllocError, Allocator};
 use std::marker::Model;

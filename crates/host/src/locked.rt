@@ -6,7 +6,7 @@
 
 ghost use Rattle.std.specs.Prelude.{◌≡◌, ◌≤◌, Decides, IsTrue, IfOk, IfErr, IfNone, IfSome, OnErr, false, option_map};
 ghost use Rattle.batches.specs.Values.{stamp_of, writes_of};
-ghost use Rattle.edit.specs.Walks.{pairs_given};
+ghost use Rattle.lookups.specs.Walks.{pairs_given};
 ghost use Rattle.store.specs.Stores.{IsStore};
 ghost use Rattle.kept.specs.Entering.{Enters};
 ghost use Rattle.repo.specs.Fulls.{fulls_after_batch};

@@ -6,7 +6,7 @@
 
 ghost use Rattle.std.specs.Prelude.{◌≡◌, ◌<◌, IfOk, IfErr, option_map};
 ghost use Rattle.boxcar.specs.Table.{Shows};
-ghost use Rattle.edit.specs.Walks.{pairs_given};
+ghost use Rattle.lookups.specs.Walks.{pairs_given};
 ghost use Rattle.host.specs.Seeing.{IsTaken, IsRefusedSo, IsFound, IsListed, wanted_of};
 ghost use Rattle.host.specs.Versions.{IsVersion, IsOfState};
 

@@ -3,7 +3,7 @@
 ghost use Rattle.std.specs.Prelude.{◌≡◌, ◌<◌, ◌≤◌, ◌+◌, ◌++◌, ◌∷◌, [], length, IfOk, IfErr, OnErr, OnOk, Err, slice_index, option_map};
 ghost use Rattle.std.specs.VecDeque.{deque_len, deque_capacity};
 ghost use Rattle.boxcar.specs.Table.{Shows};
-ghost use Rattle.edit.specs.Walks.{pairs_given};
+ghost use Rattle.lookups.specs.Walks.{pairs_given};
 ghost use Rattle.closing.specs.Ending.{IsEndedAt};
 ghost use Rattle.host.specs.Seeing.{IsTaken, IsRefusedSo, wanted_by};
 ghost use Rattle.host.specs.Versions.{IsVersion, IsOfState};

@@ -3,7 +3,7 @@ use Rattle.std.proofs.Common.{◌≡◌, ℕ, List}
 use Rattle.std.specs.Prelude.{Option, Some}
 use Rattle.spec.specs.Cid.{cid as cid_of}
 use Rattle.spec.specs.Tree.{Pair}
-use Rattle.edit.specs.Trees.{HasTree}
+use Rattle.lookups.specs.Trees.{HasTree}
 
 -- a source that has each block of another one has its trees
 pub lent_tree : (digest : List ℕ → List ℕ) (bits : ℕ) (gives shown : List ℕ → Option (List ℕ)) (root : List ℕ) (es : List Pair)

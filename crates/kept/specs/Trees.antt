@@ -9,12 +9,12 @@ use Rattle.spec.specs.Blocks.{nodes, value_of, listed}
 use Rattle.spec.specs.Writes.{with_key, without_key}
 use Rattle.spec.specs.Proof.{path}
 use Rattle.edit_laws.specs.TreeEdit.{layer_of}
+use Rattle.lookups.specs.Trees.{HasTree}
+use Rattle.lookups.specs.Walks.{pairs_given}
+use Rattle.lookups.specs.declared.source.ReadCount.{ReadCount}
 use Rattle.edit.specs.Edits.{IsEditOf}
 use Rattle.edit.specs.Deletes.{IsDeleteOf}
-use Rattle.edit.specs.Faults.{IsRefusal}
-use Rattle.edit.specs.Trees.{HasTree}
-use Rattle.edit.specs.Walks.{pairs_given}
-use Rattle.edit.specs.declared.source.ReadCount.{ReadCount}
+use Rattle.edit.specs.Refusals.{IsRefusal}
 use Rattle.edit.specs.declared.outcome.Edit.{Edit}
 use Rattle.edit.specs.declared.outcome.EditFault.{EditFault}
 use Rattle.kept.specs.Counts.{Counts, bytes_at}

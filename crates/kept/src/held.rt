@@ -2,10 +2,10 @@
 
 ghost use Rattle.std.specs.Prelude.{◌≡◌};
 ghost use Rattle.std.specs.Arc.{arc_value};
-ghost use Rattle.edit.specs.Nodes.{IsMarked};
+ghost use Rattle.lookups.specs.Nodes.{IsMarked};
 
 use cid::{Block, Digest};
-use edit::Lent;
+use lookups::Lent;
 use std::alloc::Allocator;
 use std::marker::Model;
 use std::sync::Arc;
@@ -23,7 +23,7 @@ impl<D: Digest, A: Allocator> Model for Held<D, A> {
     ghost use Rattle.std.specs.Prelude.{ℕ, List};
     ghost use Rattle.std.specs.Arc.{arc_value};
     ghost use Rattle.std.specs.declared.sync.Arc.{Arc};
-    ghost use Rattle.edit.specs.Nodes.{IsMarked};
+    ghost use Rattle.lookups.specs.Nodes.{IsMarked};
 
     ghost Value = { Arc (List ℕ) A × ℕ };
 

@@ -15,7 +15,7 @@ use crate::kept_use::End;
 use crate::lender::Lender;
 use crate::use_map::UseMap;
 use cid::{Block, Cid, Digest};
-use edit::{MarkedBlock, ReadCount};
+use lookups::{MarkedBlock, ReadCount};
 use std::alloc::{AllocError, Allocator, Global};
 use std::marker::Model;
 use std::sync::Arc;

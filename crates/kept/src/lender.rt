@@ -5,7 +5,7 @@ ghost use Rattle.kept.specs.Uses.{at, lent, uses_of};
 
 use crate::use_map::UseMap;
 use cid::{Cid, Digest};
-use edit::{Lent, ReadCount, Source};
+use lookups::{Lent, ReadCount, Source};
 use std::alloc::{Allocator, Global};
 
 /// The blocks that a core keeps, as a source: those that were accepted, and those that are staged.

@@ -7,7 +7,8 @@ ghost use Rattle.kept.specs.Trees.{IsPut, IsPutRefusal, IsDelete, IsDeleteRefusa
 
 use crate::kept::Kept;
 use cid::{Cid, Digest};
-use edit::{Edit, EditFault, ReadCount};
+use edit::{Edit, EditFault};
+use lookups::ReadCount;
 use std::alloc::{AllocError, Allocator};
 use std::clone::Clone;
 
@@ -23,7 +24,7 @@ pub fn value_accepted<'a, D: Digest + 'a, const B: u8, A: Allocator + 'a>(
     ensures { OfTree D.digest_of B kept.now.before root (IsValue key.now result) }
 {
     let mut source = kept.lender();
-    edit::get::<D, B, A, _>(&mut source, root, key)
+    lookups::get::<D, B, A, _>(&mut source, root, key)
 }
 
 /// The first `limit` pairs from a key on in a tree that was accepted, in the order of the keys.
@@ -40,7 +41,7 @@ pub fn pairs_accepted<'a, D: Digest + 'a, const B: u8, A: Allocator + Clone + 'a
     ensures { OfTree D.digest_of B kept.now.before root (AreListed from.now limit result) }
 {
     let mut source = kept.lender();
-    edit::walk::<D, B, A, _>(alloc, &mut source, root, from, limit)
+    lookups::walk::<D, B, A, _>(alloc, &mut source, root, from, limit)
 }
 
 /// The value of a key in a tree that is staged, or `None` where that doesn't have the key, and how many blocks were read for
@@ -57,7 +58,7 @@ pub fn value_staged<'a, D: Digest + 'a, const B: u8, A: Allocator + 'a>(
     ensures reads { IsReadOnce D.digest_of B kept.now.staged root result.1 }
 {
     let mut source = kept.lender();
-    let value = edit::get::<D, B, A, _>(&mut source, root, key);
+    let value = lookups::get::<D, B, A, _>(&mut source, root, key);
     (value, source.asked)
 }
 
@@ -65,7 +66,7 @@ pub fn value_staged<'a, D: Digest + 'a, const B: u8, A: Allocator + 'a>(
 /// stages nothing.
 ///
 /// `EditFault::Clash` shows two nodes, of the tree before or after, with one CID and different bytes, and
-/// `EditFault::NoMemory` comes where memory was refused. It is never `EditFault::NoSuchKey`.
+/// `EditFault::NoMemory` comes where memory was refused. It is no other fault.
 pub fn put_staged<'a, D: Digest + 'a, const B: u8, A: Allocator + Clone + 'a>(
     alloc: A,
     kept: &'a Kept<D, A>,
@@ -74,7 +75,6 @@ pub fn put_staged<'a, D: Digest + 'a, const B: u8, A: Allocator + Clone + 'a>(
     value: Cid,
 ) -> Result<(Edit<D, A>, ReadCount), EditFault<D, A>>
     requires least { 1 ≤ B }
-    requires most { B ≤ 8 }
     requires key { is_key key.now ≡ true }
     ensures edit { IsPut D.digest_of B kept.now.staged root key.now value result }
     ensures reads { IfOk result (λ made. IsReadOnce D.digest_of B kept.now.staged root made.1) }
@@ -89,14 +89,14 @@ pub fn put_staged<'a, D: Digest + 'a, const B: u8, A: Allocator + Clone + 'a>(
 /// for the lowest. It stages nothing.
 ///
 /// `EditFault::NoSuchKey` says that the tree doesn't have the key, `EditFault::Clash` shows two nodes, of the tree before or
-/// after, with one CID and different bytes, and `EditFault::NoMemory` comes where memory was refused.
+/// after, with one CID and different bytes, and `EditFault::NoMemory` comes where memory was refused. It is no other fault.
 pub fn delete_staged<'a, D: Digest + 'a, const B: u8, A: Allocator + Clone + 'a>(
     alloc: A,
     kept: &'a Kept<D, A>,
     root: Cid,
     key: &[u8],
 ) -> Result<(Edit<D, A>, ReadCount), EditFault<D, A>>
-    requires { 1 ≤ B }
+    requires least { 1 ≤ B }
     ensures edit { IsDelete D.digest_of B kept.now.staged root key.now result }
     ensures reads { IfOk result (λ made. IsReadTwice D.digest_of B kept.now.staged root made.1) }
     ensures fault { IsDeleteRefusal D.digest_of B kept.now.staged root key.now result }

@@ -5,12 +5,12 @@ use Rattle.spec.specs.Tree.{Pair}
 use Rattle.spec.specs.Blocks.{IsClashIn, nodes}
 use Rattle.spec.specs.Writes.{with_key}
 use Rattle.edit_laws.proofs.BlockSources.{source-free, clash-new}
+use Rattle.lookups.specs.Trees.{HasTree}
 use Rattle.edit.specs.Edits.{IsEditOf}
 use Rattle.edit.specs.Deletes.{IsDeleteOf, nodes_read}
-use Rattle.edit.specs.Faults.{IsRefusal}
-use Rattle.edit.specs.Trees.{HasTree}
+use Rattle.edit.specs.Refusals.{IsRefusal}
 use Rattle.edit.specs.declared.outcome.EditFault.{EditFault}
-use Rattle.edit.specs.declared.outcome.EditFault.TheVariants.{NoSuchKey, Clash, NoMemory}
+use Rattle.edit.specs.declared.outcome.EditFault.TheVariants.{Missing, NotTree, NoSuchKey, Clash, NoMemory}
 use Rattle.repo.specs.Staging.{IsTreeEdit, IsTreeRefusal, IsClashAt}
 
 pub put-edit : (digest : List ℕ → List ℕ) (bits : ℕ) (es : List Pair) (key value : List ℕ) (v : Option (List ℕ)) (read : List (List ℕ)) (root : List ℕ) (add drop : List (List ℕ)) (previous : Option (List ℕ))
@@ -35,6 +35,8 @@ clash-at digest bits gives root es fs pair has h = record {
 
 pub edit-refused : {D A : Type 0} (digest : List ℕ → List ℕ) (bits : ℕ) (gives : List ℕ → Option (List ℕ)) (root : List ℕ) (es fs gs : List Pair) (P : Type 0) (fault : EditFault D A)
     → gs ≡ fs → HasTree digest bits gives root es → IsRefusal digest (nodes digest bits es ++ nodes digest bits fs) P fault → IsTreeRefusal digest (nodes digest bits gs) fault
+edit-refused digest bits gives root es fs gs P (Missing c) e has h = h
+edit-refused digest bits gives root es fs gs P NotTree e has h = h
 edit-refused digest bits gives root es fs gs P NoSuchKey e has h = tt
 edit-refused digest bits gives root es fs gs P (Clash pair) e has h = subst (λ (x : List Pair). IsClashAt digest (nodes digest bits x) pair) (sym e) (clash-at digest bits gives root es fs pair has h)
 edit-refused digest bits gives root es fs gs P NoMemory e has h = tt

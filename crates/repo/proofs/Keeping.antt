@@ -20,7 +20,7 @@ use Rattle.spec.proofs.StateLaws.{batch-keeps_state}
 use Rattle.edit_laws.specs.Staged.{old_commit}
 use Rattle.edit_laws.specs.Uses.{uses}
 use Rattle.edit_laws.proofs.BlockSources.{source-gives, source-nodes}
-use Rattle.edit.specs.Trees.{HasTree}
+use Rattle.lookups.specs.Trees.{HasTree}
 use Rattle.kept.specs.Counts.{Keeping, bytes_at, count_of}
 use Rattle.repo.specs.Cores.{IsCore}
 use Rattle.repo.specs.Keeping.{IsStillBefore}

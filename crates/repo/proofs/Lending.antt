@@ -4,7 +4,7 @@ use Rattle.spec.specs.Cid.{cid, IsDigest}
 use Rattle.spec.specs.Blocks.{pairs}
 use Rattle.spec.specs.States.{State, records, state_blocks, state_root}
 use Rattle.edit_laws.specs.Sources.{HasBlocks, Extends}
-use Rattle.edit.specs.Trees.{HasTree}
+use Rattle.lookups.specs.Trees.{HasTree}
 use Rattle.kept.specs.Counts.{Keeping, bytes_at}
 use Rattle.kept.proofs.LentTrees.{lent_tree}
 use Rattle.repo.specs.Cores.{IsCore}

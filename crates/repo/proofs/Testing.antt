@@ -15,7 +15,7 @@ use Rattle.spec.proofs.BatchSteps.{test-by_value}
 use Rattle.spec.proofs.RecordPairs.{repository-key}
 use Rattle.edit_laws.specs.Staged.{records_after}
 use Rattle.edit_laws.proofs.StagedBatches.{staged-tree}
-use Rattle.edit.specs.Trees.{HasTree}
+use Rattle.lookups.specs.Trees.{HasTree}
 use Rattle.kept.specs.Counts.{Counts, bytes_at, count_at}
 use Rattle.batches.specs.Tests.{write_fault, IsTestFault, IsNamed}
 use Rattle.repo.specs.Staging.{IsStagedBy, IsStagedWrite, IsBlockFault, blocks_left}

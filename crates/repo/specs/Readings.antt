@@ -9,7 +9,7 @@ use Rattle.spec.specs.Tree.{Pair}
 use Rattle.spec.specs.Blocks.{block_at, listed, pairs}
 use Rattle.spec.specs.States.{State, records, state_root, state_blocks}
 use Rattle.edit_laws.specs.Sources.{HasBlocks}
-use Rattle.edit.specs.Trees.{HasTree}
+use Rattle.lookups.specs.Trees.{HasTree}
 use Rattle.edit_laws.specs.Uses.{uses as uses_of}
 use Rattle.kept.specs.declared.kept_use.Use.{Use}
 use Rattle.kept.specs.Uses.{Uses, at, lent}

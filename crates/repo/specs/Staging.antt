@@ -11,8 +11,8 @@ use Rattle.spec.specs.States.{State, IsLawful}
 use Rattle.edit_laws.specs.Changes.{AreChanges}
 use Rattle.edit_laws.specs.Staged.{IsStaged}
 use Rattle.edit_laws.specs.Uses.{brought, pairs_after}
-use Rattle.edit.specs.Trees.{HasTree}
-use Rattle.edit.specs.declared.source.ReadCount.{ReadCount}
+use Rattle.lookups.specs.Trees.{HasTree}
+use Rattle.lookups.specs.declared.source.ReadCount.{ReadCount}
 use Rattle.edit.specs.declared.outcome.Edit.{Edit}
 use Rattle.edit.specs.declared.outcome.EditFault.{EditFault}
 use Rattle.edit.specs.declared.outcome.EditFault.TheVariants as edits
@@ -101,9 +101,12 @@ IsBlockFault digest bs before after faults.BadDid = ⊥
 IsBlockFault digest bs before after faults.BadRev = ⊥
 IsBlockFault digest bs before after faults.RevOrder = ⊥
 
--- why an edit is refused: a clash of which one block is among these; of other faults nothing is said
+-- why an edit is refused: a clash of which one block is among these, and no node is missing or is none; of other faults
+-- nothing is said
 abbrev pub IsTreeRefusal : {D A : Type 0} → (List ℕ → List ℕ) → List (List ℕ) → EditFault D A
     → Type 0
+IsTreeRefusal digest bs (edits.Missing c) = ⊥
+IsTreeRefusal digest bs edits.NotTree = ⊥
 IsTreeRefusal digest bs edits.NoSuchKey = ⊤
 IsTreeRefusal digest bs (edits.Clash pair) = IsClashAt digest bs pair
 IsTreeRefusal digest bs edits.NoMemory = ⊤

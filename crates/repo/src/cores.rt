@@ -2,7 +2,7 @@
 
 ghost use Rattle.std.specs.Prelude.{◌≡◌, ◌≤◌, ◌<◌, ◌+◌, ◌++◌, ◌∷◌, [], ℕ, List, Some, Ok, length, option_map, IfOk, IfErr, OnOk, OnErr};
 ghost use Rattle.std.specs.Arc.{arc_value};
-ghost use Rattle.edit.specs.Walks.{pairs_given};
+ghost use Rattle.lookups.specs.Walks.{pairs_given};
 ghost use Rattle.spec.specs.States.{IsLawful, fresh, after_batch, state_blocks, state_root, state_commit, state_test};
 ghost use Rattle.edit_laws.specs.Uses.{uses as uses_of};
 ghost use Rattle.spec.specs.Stamps.{last, rev_of};

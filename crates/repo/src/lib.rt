@@ -8,7 +8,7 @@
 //! - `Core::open` begins a repository without writes, `apply` accepts a batch or refuses it whole, and `end` gives all
 //!   blocks back to the store. A core can't be dropped, as its blocks are counted there.
 //! - `get`, `list`, `block`, `blocks`, `uses`, `root`, `commit`, `accepted` and `stamps` read; but for `list` none takes memory.
-//!   `lender` lends the blocks as a source, for `edit` and for exports.
+//!   `lender` lends the blocks as a source, for `lookups`, `edit` and exports.
 //! - What a core asks of the store goes through `store::BlockStore`: the sixteen locked shards, which several cores share, or
 //!   one shard that is lent. `end_in` gives the blocks back to shards that the caller has for itself.
 //! - [`Repository`] is a core behind a lock, for threads.

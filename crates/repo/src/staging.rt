@@ -17,8 +17,9 @@ ghost use Rattle.store.specs.Stores.{IsStore};
 
 use batches::{RepoFault, Write};
 use cid::{Block, Cid, Digest};
-use edit::{Edit, EditFault, MarkedBlock, ReadCount};
+use edit::{Edit, EditFault};
 use kept::{Kept, delete_staged, put_staged};
+use lookups::{MarkedBlock, ReadCount};
 use std::alloc::{AllocError, Allocator};
 use std::clone::Clone;
 use std::sync::Arc;
@@ -108,7 +109,7 @@ fn edit_over<'a, D: Digest + 'a, const B: u8, A: Allocator + Clone + 'a>(
     match put_or_delete::<D, B, A>(alloc, kept, root, key, value) {
         Ok(made) => Ok(made),
         Err(EditFault::Clash(pair)) => Err(RepoFault::Collision(pair)),
-        // a key that is to go was found before
+        // a key that is to go was found before, and each node of the tree is kept
         Err(_) => Err(RepoFault::NoMemory),
     }
 }

@@ -1,7 +1,7 @@
 //! What the lines of a script are answered.
 
 use crate::closes::{limits, run};
-use crate::rows::{Doing, Row, lines_of};
+use crate::tables::{Doing, Row, lines_of};
 use cid::digests::Toy;
 use host::{HostFault, Limits};
 use repo_fixtures::batch::Step::{Create, Delete, Put};

@@ -2,7 +2,7 @@
 
 use crate::answers::{Said, are_said};
 use crate::closes::{limits, run};
-use crate::rows::{Doing, Row, line_of, lines_of};
+use crate::tables::{Doing, Row, line_of, lines_of};
 use repo_fixtures::batch::EMPTY;
 use repo_fixtures::batch::Step::Put;
 use scripts::{Gate, Line};

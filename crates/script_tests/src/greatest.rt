@@ -1,7 +1,7 @@
 //! A host of as many repositories and writers as there may be.
 
 use crate::closes::{Ran, limits, run};
-use crate::rows::{Doing, line_of};
+use crate::tables::{Doing, line_of};
 use cid::Cid;
 use cid::digests::Toy;
 use closing::Closed;

@@ -16,6 +16,6 @@ mod locks;
 #[cfg(test)]
 mod random;
 #[cfg(test)]
-mod rows;
+mod tables;
 #[cfg(test)]
 mod taking;

@@ -6,7 +6,7 @@ ghost use Rattle.host.specs.Views.{IsSeatOf};
 use crate::answers::{Said, are_said};
 use crate::closes::{limits, open};
 use crate::gates::Event;
-use crate::rows::{Doing, Row, lines_of};
+use crate::tables::{Doing, Row, lines_of};
 use cid::digests::Toy;
 use export::{Failed, Out, ToMemory};
 use host::{CarFault, Host, Opened, Seat};

@@ -5,7 +5,7 @@ ghost use Rattle.closing.specs.Ending.{IsEndedAt};
 ghost use Rattle.host.specs.Views.{IsSeatOf};
 
 use crate::closes::{limits, open};
-use crate::rows::{Doing, line_of};
+use crate::tables::{Doing, line_of};
 use cid::digests::Toy;
 use closing::{Closed, Feed};
 use host::{Host, Opened, Seat};

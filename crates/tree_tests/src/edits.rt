@@ -5,7 +5,8 @@ use crate::fixtures::{
 };
 use cid::digests::{Clash, Toy};
 use cid::{Block, Cid, Digest};
-use edit::{BlockMap, Edit, EditFault, delete, get, is_key, put, walk};
+use edit::{Edit, EditFault, delete, is_key, put};
+use lookups::{BlockMap, get, walk};
 use refusing::Refusing;
 use std::alloc::{AllocError, Allocator, Global};
 use std::sync::Arc;
@@ -138,6 +139,8 @@ fn walks_where_a_block_is_missing(rt: HostRuntime) {
 #[derive(Clone, Copy, PartialEq, Eq)]
 enum Ended {
     Done,
+    Missing,
+    NotTree,
     NoSuchKey,
     Clash,
     NoMemory,
@@ -147,6 +150,8 @@ enum Ended {
 fn end_of<D: Digest, A: Allocator>(edited: Result<Edit<D, A>, EditFault<D, A>>) -> Ended {
     match edited {
         Ok(_) => Ended::Done,
+        Err(EditFault::Missing(_)) => Ended::Missing,
+        Err(EditFault::NotTree) => Ended::NotTree,
         Err(EditFault::NoSuchKey) => Ended::NoSuchKey,
         Err(EditFault::Clash(_)) => Ended::Clash,
         Err(EditFault::NoMemory) => Ended::NoMemory,
@@ -201,8 +206,8 @@ fn edits_find_no_node(alloc: Global, blocks: &[Arc<Block<Toy>>], root: Cid) -> b
     let Ok(mut map) = BlockMap::new(alloc, blocks) else {
         return false;
     };
-    put_end(alloc, &mut map, root, b"a/r0") == Some(Ended::NoSuchKey)
-        && delete_end(alloc, &mut map, root, b"a/q2") == Ended::NoSuchKey
+    put_end(alloc, &mut map, root, b"a/r0") == Some(Ended::NotTree)
+        && delete_end(alloc, &mut map, root, b"a/q2") == Ended::NotTree
 }
 
 /// Whether look-ups, a walk and edits with this root take the block that is no node for none.
@@ -229,20 +234,21 @@ fn readers_end_after_all_layers(alloc: Global, map: &mut BlockMap<'_, Clash>, ro
         && map.reads() == 258
 }
 
-/// Whether a put and a delete, which come then, do so too.
-fn edits_end_after_all_layers(alloc: Global, map: &mut BlockMap<'_, Clash>, root: Cid) -> bool {
-    put_end(alloc, map, root, b"a/q2") == Some(Ended::Clash)
-        && map.reads() == 387
-        && delete_end(alloc, map, root, b"a/q2") == Ended::NoSuchKey
-        && map.reads() == 516
+/// Whether a put and a delete, which come then, find that it is no tree by that node alone: of a top without keys a node below
+/// is none of a tree.
+fn edits_end_at_once(alloc: Global, map: &mut BlockMap<'_, Clash>, root: Cid) -> bool {
+    put_end(alloc, map, root, b"a/q2") == Some(Ended::NotTree)
+        && map.reads() == 259
+        && delete_end(alloc, map, root, b"a/q2") == Ended::NotTree
+        && map.reads() == 260
 }
 
-/// Whether all four do.
-fn end_after_all_layers(alloc: Global, blocks: &[Arc<Block<Clash>>], root: Cid) -> bool {
+/// Whether all four end so.
+fn all_end(alloc: Global, blocks: &[Arc<Block<Clash>>], root: Cid) -> bool {
     match BlockMap::new(alloc, blocks) {
         Ok(mut map) => {
             readers_end_after_all_layers(alloc, &mut map, root)
-                && edits_end_after_all_layers(alloc, &mut map, root)
+                && edits_end_at_once(alloc, &mut map, root)
         }
         Err(_) => false,
     }
@@ -259,7 +265,7 @@ fn self_linked(alloc: Global, root: Cid) -> Result<Blocks<Clash>, AllocError> {
 fn a_node_that_links_to_itself(rt: HostRuntime) {
     let root = Cid::of::<Clash>(b"");
     let blocks = self_linked(rt.alloc(), root).expect(&rt, "a block");
-    assert!(rt; end_after_all_layers(rt.alloc(), &blocks, root));
+    assert!(rt; all_end(rt.alloc(), &blocks, root));
 }
 
 /// Memory that refuses requests, as blocks are kept in it.

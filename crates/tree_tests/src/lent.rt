@@ -3,8 +3,8 @@
 use crate::fixtures::{node, value};
 use cid::digests::Toy;
 use cid::{Block, Cid};
-use edit::{Lent, MarkedBlock, is_node};
-use rewrite::to_cid;
+use lookups::{Lent, MarkedBlock, is_node};
+use rows::to_cid;
 use std::alloc::{AllocError, Global};
 use std::sync::Arc;
 

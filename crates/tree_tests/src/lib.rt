@@ -1,5 +1,5 @@
 //! Tests of trees from scratch, beside a plain, slow builder that follows the definition, of look-ups, walks and
-//! edits over blocks, and of nodes made of another node.
+//! edits over blocks, and of nodes read and written pair by pair.
 #![tactic(auto)]
 
 #[cfg(test)]
@@ -11,8 +11,8 @@ mod lent;
 #[cfg(test)]
 mod own_source;
 #[cfg(test)]
-mod plain;
+mod pair_by_pair;
 #[cfg(test)]
-mod rewrites;
+mod plain;
 #[cfg(test)]
 mod trees;

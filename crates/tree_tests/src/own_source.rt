@@ -1,11 +1,11 @@
-//! The example of the root of `edit`: a source of one's own.
+//! The example of the root of `lookups`: a source of one's own.
 
 ghost use Rattle.std.specs.Prelude.{◌∷◌, []};
-ghost use Rattle.edit.specs.Maps.{first_of};
+ghost use Rattle.lookups.specs.Maps.{first_of};
 
 use crate::fixtures::{node, value};
 use cid::{Block, Cid, Digest, Sha256};
-use edit::{Lent, MarkedBlock, ReadCount, Source, get};
+use lookups::{Lent, MarkedBlock, ReadCount, Source, get};
 use std::alloc::{AllocError, Global};
 use std::sync::Arc;
 

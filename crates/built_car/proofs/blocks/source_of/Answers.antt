@@ -2,7 +2,7 @@ use Rattle.std.proofs.Common.{◌≡◌, ◌∙◌, List, ℕ, Option, map, opti
 use Rattle.std.specs.Arc.{arc_value}
 use Rattle.std.specs.declared.sync.Arc.{Arc}
 use Rattle.edit_laws.specs.Sources.{HasBlocks}
-use Rattle.edit.specs.Maps.{first_of}
+use Rattle.lookups.specs.Maps.{first_of}
 use Rattle.built_car.proofs.Giving.{has-own}
 use Rattle.built_car.proofs.blocks.source_of.Goals as goal
 

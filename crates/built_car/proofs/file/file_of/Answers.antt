@@ -1,7 +1,7 @@
 use Rattle.std.proofs.Common.{◌∙◌, ap, option_map}
 use Rattle.std.specs.Prelude.{Some}
 use Rattle.std.specs.Arc.{arc_value}
-use Rattle.edit.specs.Steps.{layers}
+use Rattle.lookups.specs.Steps.{layers}
 use Rattle.export.specs.Walks.{car_met}
 use Rattle.built_car.specs.Building.{IsSourceOf}
 use Rattle.built_car.proofs.file.file_of.Goals as goal

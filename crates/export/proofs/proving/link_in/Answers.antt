@@ -3,7 +3,7 @@ use Rattle.std.specs.Arc.{arc_value}
 use Rattle.spec.specs.NodeFormat.{read_node, shape_bytes}
 use Rattle.node.specs.Views.{place_of}
 use Rattle.edit_laws.specs.Sources.{gap, shape_of_reading}
-use Rattle.edit.proofs.NodeLaws.{read-some, nothing-shown}
+use Rattle.lookups.proofs.NodeLaws.{read-some, nothing-shown}
 use Rattle.std.specs.declared.option.Option.TheVariants.{Some}
 use Rattle.export.proofs.Paths.{link-found}
 use Rattle.export.proofs.proving.link_in.Goals as goal

@@ -1,7 +1,7 @@
 use Rattle.std.proofs.Common.{List, ℕ, subst, sym}
 use Rattle.spec.specs.Blocks.{pairs}
 use Rattle.spec.specs.States.{records}
-use Rattle.edit.specs.Trees.{HasTree}
+use Rattle.lookups.specs.Trees.{HasTree}
 use Rattle.repo.specs.Readings.{bytes_lent}
 use Rattle.export.proofs.proving.prove.Goals as goal
 

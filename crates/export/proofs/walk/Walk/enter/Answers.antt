@@ -2,7 +2,7 @@ use Rattle.std.proofs.Common.{◌<◌, ◌∷◌, [], ap, ◌∙◌, length, ari
 use Rattle.std.proofs.lemmas.List.{length-append}
 use Rattle.export.specs.Walks.{turned}
 use Rattle.export.proofs.Walked.{turned-push, turned-size}
-use Rattle.edit.proofs.NodeLaws.{read-some}
+use Rattle.lookups.proofs.NodeLaws.{read-some}
 use Rattle.export.proofs.walk.Walk.enter.Goals as goal
 
 pub invariant_of-self-in-Some : goal.invariant_of-self-in-Some

@@ -1,5 +1,5 @@
 use Rattle.std.proofs.Common.{rules, ap, subst}
-use Rattle.edit.specs.Walks.{pairs_given}
+use Rattle.lookups.specs.Walks.{pairs_given}
 use Rattle.host.specs.Seeing.{IsListed}
 use Rattle.host.specs.Views.{WriterView, with_seen}
 use Rattle.host.specs.declared.locked.Wanted.{Wanted}

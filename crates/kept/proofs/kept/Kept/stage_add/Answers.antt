@@ -1,7 +1,7 @@
 use Rattle.std.proofs.Common.{◌≡◌, ◌∙◌, sym, ap, subst, ℕ, List}
 use Rattle.std.specs.Arc.{arc_value}
 use Rattle.spec.specs.Cid.{cid as cid_of}
-use Rattle.edit.specs.Nodes.{IsMarked}
+use Rattle.lookups.specs.Nodes.{IsMarked}
 use Rattle.kept.specs.Counts.{Keeping, raised, HasNoOther, with_use_more}
 use Rattle.kept.specs.Entering.{EntersKept}
 use Rattle.kept.specs.Uses.{IsKept, Uses, keeping_of, with_note}

@@ -3,7 +3,7 @@ use Rattle.std.specs.Prelude.{Ok, is_some}
 use Rattle.std.specs.Arc.{arc_value}
 use Rattle.std.proofs.lemmas.Result.{on_err_weaker, IfOk-weaker}
 use Rattle.spec.specs.Cid.{cid as cid_of}
-use Rattle.edit.specs.Nodes.{IsMarked}
+use Rattle.lookups.specs.Nodes.{IsMarked}
 use Rattle.std.specs.FinMap as map
 use Rattle.kept.specs.Entering.{Enters, has_entry}
 use Rattle.kept.specs.Uses.{Uses, at, Updated, IsUse, is_noted}

@@ -1,5 +1,0 @@
-use Rattle.std.proofs.Common.{length}
-use Rattle.batch_edit.proofs.edge.Edge.+join.Given as goal
-
-abbrev pub decreases-join : goal.decreases-join
-decreases-join g l = length l.coming.items

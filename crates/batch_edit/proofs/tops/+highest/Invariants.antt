@@ -1,5 +1,0 @@
-use Rattle.std.proofs.Common.{length}
-use Rattle.batch_edit.proofs.tops.+highest.Given as goal
-
-abbrev pub decreases-highest : goal.decreases-highest
-decreases-highest g l = length l.levels.now

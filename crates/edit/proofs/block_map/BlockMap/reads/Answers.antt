@@ -1,5 +1,0 @@
-use Rattle.std.proofs.Common.{rules}
-use Rattle.edit.proofs.block_map.BlockMap.reads.Goals as goal
-
-pub returns : goal.returns
-returns g c = search rules

@@ -1,0 +1,16 @@
+use Rattle.std.proofs.lemmas.Result.{err_from_is_err_and}
+use Rattle.lookups.specs.Steps.{nodes_given}
+use Rattle.rows.specs.Drafts.{pair_of}
+use Rattle.batch_laws.specs.Batch.{entry}
+use Rattle.edit.specs.States.{edge_in, log_in}
+use Rattle.edit.proofs.Halting.{pairs-memory}
+use Rattle.edit.proofs.edge.Edge.entry.Goals as goal
+
+pub returns-in_err-push-clause-stopped : goal.returns-in_err-push-clause-stopped
+returns-in_err-push-clause-stopped g c =
+    let p = err_from_is_err_and c.from_residual.result c.from_residual.ensures.1 in
+    let gives = g.S.Source.gives c.args.src.now in
+    rw (p.1, p.2)
+    (pairs-memory gives g.D.Digest.digest_of (nodes_given gives) (g.S.Source.reads c.args.src.now, c.args.self.now.left)
+    (λ k. c.args.depth)
+    (entry c.args.at (pair_of c.args.key.now c.args.value)) (edge_in c.args.self.now) (log_in c.args.self.now))

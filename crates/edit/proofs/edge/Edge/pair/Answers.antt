@@ -1,0 +1,69 @@
+use Rattle.std.proofs.Common.{sym, ap, ◌∙◌, subst, Some, drop}
+use Rattle.lookups.specs.Steps.{nodes_given}
+use Rattle.rows.specs.Drafts.{pair_of}
+use Rattle.edit.specs.Edges.{edge_of}
+use Rattle.edit.specs.States.{edge_in, log_in, IsOpenAt}
+use Rattle.edit.proofs.Pairing.{paired}
+use Rattle.std.proofs.lemmas.Result.{err_from_is_err_and}
+use Rattle.batch_laws.specs.Links.{opening}
+use Rattle.edit.specs.Stops.{IsStopped, open_edge}
+use Rattle.edit.proofs.Refusing.{pair-closed, pair-unopened, pair-refused}
+use Rattle.edit.proofs.edge.Edge.pair.Goals as goal
+
+pub returns-clause-paired : goal.returns-clause-paired
+returns-clause-paired g c =
+    let shows = nodes_given (g.S.Source.gives c.args.src.now) in
+    let old = c.args.self.now in
+    let above = c.open_to.new.self in
+    let mid = c.open_at.new.self in
+    let new = c.add_pair.new.self in
+    paired g.D.Digest.digest_of shows c.args.depth (pair_of c.args.key.now c.args.value) (edge_in old) (log_in old)
+    above.levels.items mid.levels.items new.levels.items above.rest mid.rest (log_in above) (log_in mid) (log_in new)
+    c.in_ok-open_to.ensures.keeps c.in_ok-open_to.ensures.long
+    (subst (λ gives. IsOpenAt (nodes_given gives) c.args.depth above.levels.items above.rest (log_in above) mid.levels.items mid.rest
+    (log_in mid)) c.open_to.ensures.same c.in_ok-open_at.ensures.opened)
+    c.in_ok-add_pair.ensures.added
+    ∙ ap (λ r. Some (edge_of new.levels.items r, log_in new)) (sym c.in_ok-add_pair.ensures.rest)
+
+pub returns-in_err-open_to-clause-stopped : goal.returns-in_err-open_to-clause-stopped
+returns-in_err-open_to-clause-stopped g c =
+    let p = err_from_is_err_and c.from_residual.result c.from_residual.ensures.1 in
+    let gives = g.S.Source.gives c.args.src.now in
+    rw (p.1, p.2)
+    (pair-closed gives g.D.Digest.digest_of (nodes_given gives) (g.S.Source.reads c.args.src.now, c.args.self.now.left)
+    (g.S.Source.reads c.open_to.new.src) c.args.depth (pair_of c.args.key.now c.args.value) (edge_in c.args.self.now)
+    (log_in c.args.self.now) c.in_err-open_to.field-0.0 c.in_err-open_to.ensures.stopped)
+
+pub returns-in_err-open_at-clause-stopped : goal.returns-in_err-open_at-clause-stopped
+returns-in_err-open_at-clause-stopped g c =
+    let p = err_from_is_err_and c.from_residual-in_err-open_at.result c.from_residual-in_err-open_at.ensures.1 in
+    let gives = g.S.Source.gives c.args.src.now in
+    let old = c.args.self.now in
+    let above = c.open_to.new.self in
+    let fault = c.in_err-open_at.field-0.0 in
+    rw (p.1, p.2)
+    (pair-unopened gives g.D.Digest.digest_of (nodes_given gives) (g.S.Source.reads c.args.src.now, c.args.self.now.left)
+    (g.S.Source.reads c.open_to.new.src, c.open_to.new.self.left) (g.S.Source.reads c.open_at.new.src) c.args.depth
+    (pair_of c.args.key.now c.args.value) (edge_in old) (log_in old) above.levels.items above.rest (log_in above) fault
+    c.in_ok-open_to.ensures.keeps c.in_ok-open_to.ensures.long c.in_ok-open_to.ensures.counted
+    (subst (λ gv. IsStopped gv (g.S.Source.reads c.open_to.new.src, c.open_to.new.self.left)
+    (g.S.Source.reads c.open_at.new.src) (log_in above)
+    (open_edge (opening (nodes_given gv) (edge_of (drop c.args.depth above.levels.items) above.rest) (log_in above))) fault)
+    c.open_to.ensures.same c.in_err-open_at.ensures.stopped))
+
+pub returns-in_err-add_pair-clause-stopped : goal.returns-in_err-add_pair-clause-stopped
+returns-in_err-add_pair-clause-stopped g c =
+    let p = err_from_is_err_and c.from_residual-in_err-add_pair.result c.from_residual-in_err-add_pair.ensures.1 in
+    let gives = g.S.Source.gives c.args.src.now in
+    let old = c.args.self.now in
+    let above = c.open_to.new.self in
+    let mid = c.open_at.new.self in
+    rw (p.1, p.2)
+    (pair-refused gives g.D.Digest.digest_of (nodes_given gives) (g.S.Source.reads c.args.src.now, c.args.self.now.left)
+    (g.S.Source.reads c.open_to.new.src, c.open_to.new.self.left)
+    (g.S.Source.reads c.open_at.new.src, c.open_at.new.self.left) c.args.depth
+    (pair_of c.args.key.now c.args.value) (edge_in old) (log_in old) above.levels.items mid.levels.items above.rest mid.rest
+    (log_in above) (log_in mid) c.in_err-add_pair.field-0.0 c.in_ok-open_to.ensures.keeps c.in_ok-open_to.ensures.long
+    c.in_ok-open_to.ensures.counted c.in_ok-open_at.ensures.counted
+    (subst (λ gv. IsOpenAt (nodes_given gv) c.args.depth above.levels.items above.rest (log_in above) mid.levels.items mid.rest
+    (log_in mid)) c.open_to.ensures.same c.in_ok-open_at.ensures.opened) c.in_err-add_pair.ensures.fault)

@@ -1,0 +1,141 @@
+-- What a batch answers, over the pairs of the tree and over any source.
+use Rattle.std.specs.Prelude.{◌≡◌, ◌≤◌, ◌+◌, ◌-◌, ◌*◌, ⊤, ℕ, suc, max, Bool, true, ◌&&◌, List, [], ◌∷◌, ◌++◌, map, length, Option, Some, None, IsSome, Result, IfOk, IfErr}
+use Rattle.std.specs.Arc.{arc_value}
+use Rattle.std.specs.declared.sync.Arc.{Arc}
+use Rattle.spec.specs.Tree.{Pair, top, top_layer}
+use Rattle.spec.specs.Layer.{layer as layer_of_key}
+use Rattle.spec.specs.NodeFormat.{Shape, is_key, node_bytes}
+use Rattle.spec.specs.Blocks.{IsClashFree, nodes, root as root_of}
+use Rattle.edit_laws.specs.Changes.{AreChanges, add_of, drop_of}
+use Rattle.edit_laws.specs.Laws.Edits.{bytes_of}
+use Rattle.lookups.specs.Steps.{nodes_given}
+use Rattle.lookups.specs.Trees.{OfTree}
+use Rattle.batch_laws.specs.Batch.{Change, changed}
+use Rattle.batch_laws.specs.Links.{Log, Top, batch_from}
+use Rattle.batch_laws.specs.Previous.{values}
+use Rattle.batch_laws.specs.Trace.{batch_read}
+use Rattle.edit.specs.Budgets.{most_from}
+use Rattle.edit.specs.Places.{are_ascending}
+use Rattle.edit.specs.Refusals.{IsRefusal}
+use Rattle.edit.specs.Stops.{IsUnreached, at_top}
+use Rattle.edit.specs.Tops.{layers_needed}
+use Rattle.edit.specs.declared.faults.Fault.{Fault}
+use Rattle.edit.specs.declared.faults.Fault.TheVariants as walks
+use Rattle.edit.specs.declared.outcome.BatchEdit.{BatchEdit}
+use Rattle.edit.specs.declared.outcome.EditFault.{EditFault}
+use Rattle.edit.specs.declared.outcome.EditFault.TheVariants.{Missing, NotTree, NoSuchKey, Clash, NoMemory}
+
+-- ---- what a batch takes
+
+abbrev pub have_keys : List Change → Bool
+have_keys [] = true
+have_keys (c ∷ cs) = is_key c.0 && have_keys cs
+
+-- whether keys have 1 to 1,024 bytes and ascend strictly
+abbrev pub are_changes : List Change → Bool
+are_changes cs = are_ascending cs && have_keys cs
+
+-- how many layers the new tree has at least for a key that gets this value
+abbrev pub layers_for : (List ℕ → ℕ) → List ℕ → Option (List ℕ) → ℕ
+layers_for layer key None = 0
+layers_for layer key (Some v) = suc (layer key)
+
+-- and for the keys of all changes
+abbrev pub put_layers : (List ℕ → ℕ) → List Change → ℕ
+put_layers layer [] = 0
+put_layers layer (c ∷ cs) = max (layers_for layer c.0 c.1) (put_layers layer cs)
+
+-- how many layers the old tree or the new one has
+abbrev pub layers_of : (List ℕ → List ℕ) → ℕ → List Change → List Pair → ℕ
+layers_of digest bits cs es =
+    let layer = layer_of_key digest bits in max (suc (top_layer layer es)) (put_layers layer cs)
+
+-- ---- over the pairs of a tree
+
+-- the nodes that a batch reads, as bytes
+abbrev pub nodes_read : (List ℕ → List ℕ) → ℕ → List Change → List Pair → List (List ℕ)
+nodes_read digest bits cs es =
+    let layer = layer_of_key digest bits in
+    map (node_bytes digest) (batch_read layer (layers_of digest bits cs es) cs (top layer es))
+
+-- The tree of es is changed: the new root, the blocks that come, the CIDs of those that go, and the value that the key of
+-- each change had.
+pub record IsBatchOf (digest : List ℕ → List ℕ) (bits : ℕ) (cs : List Change) (es : List Pair) (root : List ℕ)
+    (add drop : List (List ℕ)) (previous : List (Option (List ℕ))) : Type 0 where
+  pub root_is : root ≡ root_of digest bits (changed cs es)
+  pub previous_is : previous ≡ values cs es
+  pub changes : AreChanges digest (nodes digest bits es) (nodes digest bits (changed cs es)) (nodes_read digest bits cs es)
+      add drop
+  -- no block that comes clashes with another one or with one that was read
+  pub clash_free : IsClashFree digest (add ++ nodes_read digest bits cs es)
+  -- two nodes a layer for each change, and one a layer more where the tree rises
+  pub count : let t = top_layer (layer_of_key digest bits) es in
+      let n = layers_of digest bits cs es in
+      length add ≤ (n - t) + length cs * (n + t)
+
+-- what a fault of the walk is to the caller
+abbrev pub of_walk : {D A : Type 0} → Fault → EditFault D A
+of_walk walks.NotTree = NotTree
+of_walk (walks.Missing c) = Missing c
+of_walk walks.NoMemory = NoMemory
+
+-- the edit is that of the tree with this root, for whatever pairs it has in a source
+abbrev pub IsBatch : {D A : Type 0} → (List ℕ → List ℕ) → ℕ → (List ℕ → Option (Arc (List ℕ) A)) → List ℕ
+    → List Change → Result (BatchEdit D A) (EditFault D A) → Type 0
+IsBatch digest bits gives root cs result = OfTree digest bits gives root (λ es. IfOk result (λ edit.
+    IsBatchOf digest bits cs es edit.root (map arc_value edit.add.items) edit.drop.items edit.previous.items))
+
+-- it is refused as nodes of the tree before and after clash, or memory was wanted
+abbrev pub IsBatchRefusal : {D A : Type 0} → (List ℕ → List ℕ) → ℕ → (List ℕ → Option (Arc (List ℕ) A)) → List ℕ
+    → List Change → Result (BatchEdit D A) (EditFault D A) → Type 0
+IsBatchRefusal digest bits gives root cs result = OfTree digest bits gives root (λ es.
+    IfErr result (IsRefusal digest (nodes digest bits es ++ nodes digest bits (changed cs es)) ⊥))
+
+-- ---- over any source
+
+-- the edit is this answer's
+pub record IsAnswer (digest : List ℕ → List ℕ) (answer : Option (Top × Log)) (root : List ℕ) (add drop : List (List ℕ))
+    : Type 0 where
+  pub left : List Shape
+  pub log : Log
+  pub is : answer ≡ Some ((root, left), log)
+  pub added : add ≡ add_of digest (bytes_of (log.read ++ left)) (bytes_of log.made)
+  pub dropped : drop ≡ drop_of digest (bytes_of log.made) (bytes_of log.read)
+  pub free : IsClashFree digest (bytes_of (log.read ++ left)) → IsClashFree digest (add ++ bytes_of (log.read ++ left))
+  pub all_free : IsClashFree digest (bytes_of (log.read ++ left))
+      → IsClashFree digest (bytes_of log.made ++ bytes_of (log.read ++ left))
+
+-- what a batch with these changes answers from a root, over a source of blocks
+abbrev pub answer_of : {A : Type 0} → (List ℕ → List ℕ) → ℕ → (List ℕ → Option (Arc (List ℕ) A)) → List Change
+    → List ℕ → Option (Top × Log)
+answer_of digest bits gives cs root =
+    let layer = layer_of_key digest bits in
+    let shows = nodes_given gives in
+    batch_from digest shows layer (layers_needed layer (put_layers layer cs) (shows root)) cs root
+
+-- the edit is what the batch answers, whatever the source has
+abbrev pub IsAnswered : {D A : Type 0} → (List ℕ → List ℕ) → ℕ → (List ℕ → Option (Arc (List ℕ) A)) → List ℕ
+    → List Change → Result (BatchEdit D A) (EditFault D A) → Type 0
+IsAnswered digest bits gives root cs result = IfOk result (λ edit.
+    IsAnswer digest (answer_of digest bits gives cs root) edit.root (map arc_value edit.add.items) edit.drop.items)
+
+-- and how many nodes may be read for it: the root, and as many as the changes read at most below a top of its layer
+abbrev pub most_of : {A : Type 0} → (List ℕ → List ℕ) → ℕ → (List ℕ → Option (Arc (List ℕ) A)) → List Change
+    → List ℕ → ℕ
+most_of digest bits gives cs root = most_from (layer_of_key digest bits) cs (nodes_given gives root)
+
+-- why there is none: the source lacks the block with this CID, without which there is no answer; the batch has no answer for
+-- which at most so many nodes are read, and in which keys ascend in each node that is made; there is no such key only where
+-- P holds; or there is an answer, and two of its blocks clash
+abbrev pub IsReason : {D A : Type 0} → (List ℕ → Option (Arc (List ℕ) A)) → ℕ → Option (Top × Log) → Type 0
+    → EditFault D A → Type 0
+IsReason gives most answer P (Missing c) = (gives c ≡ None) × (answer ≡ None)
+IsReason gives most answer P NotTree = IsUnreached most (at_top answer)
+IsReason gives most answer P NoSuchKey = P
+IsReason gives most answer P (Clash pair) = IsSome answer
+IsReason gives most answer P NoMemory = ⊤
+
+abbrev pub IsLack : {D A : Type 0} → (List ℕ → List ℕ) → ℕ → (List ℕ → Option (Arc (List ℕ) A)) → List ℕ
+    → List Change → Result (BatchEdit D A) (EditFault D A) → Type 0
+IsLack digest bits gives root cs result =
+    IfErr result (IsReason gives (most_of digest bits gives cs root) (answer_of digest bits gives cs root) ⊥)

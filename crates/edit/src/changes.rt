@@ -1,0 +1,97 @@
+//! Changes by key, and where a key stands among them.
+
+ghost use Rattle.std.specs.Prelude.{◌≡◌, ◌≤◌, true, false, length, drop};
+ghost use Rattle.edit.specs.Places.{are_ascending, is_first_before, IsPlace, IsAround};
+
+use crate::hashed::HashedChange;
+use cid::{Cid, Digest};
+use std::marker::Model;
+
+/// A key, and the value that it is to have, or none where it is to go.
+///
+/// A contract sees it as the pair of both.
+#[derive(Drop)]
+pub struct Change<'k> {
+    pub key: &'k [u8],
+    pub value: Option<Cid>,
+}
+
+impl<'k> Model for Change<'k> {
+    ghost use Rattle.std.specs.Prelude.{ℕ, List, Option};
+
+    ghost Value = { List ℕ × Option (List ℕ) };
+
+    ghost view = { λ c. (c.key.now, c.value) };
+}
+
+impl<'k> Change<'k> {
+    /// The key.
+    pub(crate) fn key(&self) -> &'k [u8]
+        ensures { result.now ≡ self.now.0 }
+    {
+        self.key
+    }
+
+    /// The value that it is to have.
+    pub(crate) fn value(&self) -> Option<Cid>
+        ensures { result ≡ self.now.1 }
+    {
+        self.value
+    }
+}
+
+/// The changes before a key, what the one at it makes of its value, and the changes after it.
+#[derive(Drop)]
+pub(crate) struct Around<'c, D: Digest> {
+    pub(crate) before: &'c [HashedChange<'c, D>],
+    pub(crate) at: Option<Option<Cid>>,
+    pub(crate) after: &'c [HashedChange<'c, D>],
+}
+
+/// How many of the changes stand before a key.
+fn count_before<D: Digest>(changes: &[HashedChange<'_, D>], key: &[u8]) -> usize
+    ensures within { result ≤ length changes.now }
+    ensures place { IsPlace key.now changes.now result }
+    ensures first { is_first_before key.now (drop result changes.now) ≡ false }
+{
+    let mut count = 0;
+    while count < changes.len() {
+        if !changes[count].key().cmp(key).is_lt() {
+            return count;
+        }
+        count += 1;
+    }
+    count
+}
+
+/// The changes around a key.
+pub(crate) fn changes_around<'c, D: Digest>(
+    changes: &'c [HashedChange<'c, D>],
+    key: &[u8],
+) -> Around<'c, D>
+    requires { are_ascending changes.now ≡ true }
+    ensures { IsAround key.now changes.now result.before.now
+        result.at result.after.now }
+{
+    let place = count_before(changes, key);
+    let (before, rest) = changes.split_at(place);
+    let [first, after @ ..] = rest else {
+        return Around {
+            before,
+            at: None,
+            after: rest,
+        };
+    };
+    if first.key().cmp(key).is_eq() {
+        return Around {
+            before,
+            at: Some(first.value()),
+            after,
+        };
+    }
+    Around {
+        before,
+        at: None,
+        after: rest,
+    }
+}

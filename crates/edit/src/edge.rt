@@ -1,0 +1,244 @@
+//! The right edge of the new tree, and a pair that comes to it.
+
+ghost use Rattle.std.specs.Prelude.{◌≡◌, ◌<◌, ◌≤◌, ◌+◌, ◌∷◌, ◌++◌, [], List, Option, None, Some, length, take, drop, IfOk, IfErr, OnOk};
+ghost use Rattle.lookups.specs.Steps.{nodes_given};
+ghost use Rattle.rows.specs.Drafts.{pair_of};
+ghost use Rattle.rows.specs.Entries.{shape_of};
+ghost use Rattle.batch_laws.specs.Links.{Rows, LinkEdge, LinkClear, Log, ask, add_row, opening, closing, link_edge, pairing};
+ghost use Rattle.edit.specs.Edges.{edge_of, within};
+ghost use Rattle.edit.specs.Stops.{IsRefused, IsStopped, IsUnread, IsOnward, all_closed, open_edge};
+ghost use Rattle.edit.specs.States.{edge_in, log_in, IsOpened, IsOpenAt, IsAdded, IsCounted, KeepsWithin};
+
+use crate::faults::Fault;
+use crate::level::Level;
+use crate::read_nodes::ReadNode;
+use cid::{Cid, CidRef, Digest};
+use lookups::{Lent, Source};
+use node::{KeyBuf, NodeView};
+use rows::{DraftFault, KeyedEntries, Made};
+use std::alloc::{AllocError, Allocator};
+use std::clone::Clone;
+
+/// The right edge of a tree in the making: the node of each open layer, from the top down, and what waits below the lowest
+/// of them; with what was read and made for it.
+#[derive(Drop)]
+pub(crate) struct Edge<'a, D: Digest, A: Allocator> {
+    pub(crate) levels: Vec<Level<A>, A>,
+    pub(crate) rest: Option<Cid>,
+    pub(crate) read: Vec<ReadNode<'a, D, A>, A>,
+    pub(crate) made: Made<D, A>,
+
+    /// How many more nodes may be read.
+    pub(crate) left: u128,
+}
+
+impl<'a, D: Digest, A: Allocator + Clone> Edge<'a, D, A> {
+    /// The edge of a tree of which nothing came so far, and for which one node may be read.
+    pub(crate) fn new(alloc: A) -> Result<Edge<'a, D, A>, AllocError>
+        ensures edge { IfOk result (λ edge. edge_in edge ≡ LinkClear) }
+        ensures log { IfOk result (λ edge. log_in edge ≡ record { read = []; made = [] }) }
+        ensures left { IfOk result (λ edge. edge.left ≡ 1) }
+    {
+        Ok(Edge {
+            levels: Vec::new(alloc.clone()?),
+            rest: None,
+            read: Vec::new(alloc.clone()?),
+            made: Vec::new(alloc),
+            left: 1,
+        })
+    }
+
+    /// An allocator for what is kept beside it.
+    pub(crate) fn alloc(&self) -> Result<A, AllocError> {
+        self.levels.allocator().clone()
+    }
+
+    /// All that stands below a depth is complete: the link to it.
+    pub(crate) fn close_below(&mut self, depth: usize) -> Result<Option<Cid>, DraftFault>
+        requires within { depth ≤ length self.old.levels.items }
+        ensures left { OnOk result (self.new.levels.items ≡ take depth self.old.levels.items) }
+        ensures closed { IfOk result (λ link. closing D.digest_of
+            (edge_of (drop depth self.old.levels.items) self.old.rest) (log_in self.old)
+            ≡ (link, log_in self.new)) }
+        ensures read { self.new.read.items ≡ self.old.read.items }
+        ensures budget { self.new.left ≡ self.old.left }
+        ensures fault { IfErr result (IsRefused (all_closed D.digest_of
+            (edge_of (drop depth self.old.levels.items) self.old.rest) (log_in self.old))) }
+    {
+        if self.levels.len() <= depth {
+            return Ok(self.rest);
+        }
+        let Some(level) = self.levels.pop() else {
+            unreachable!()
+        };
+        self.rest = level.close(self.rest, &mut self.made)?;
+        self.close_below(depth)
+    }
+
+    /// One more pair on the open layer of this depth: all below it is complete.
+    fn add_pair(&mut self, depth: usize, key: &[u8], value: CidRef<'_>) -> Result<(), DraftFault>
+        requires within { depth < length self.old.levels.items }
+        ensures added { OnOk result (IsAdded D.digest_of depth (pair_of key.now value.entry)
+            self.old.levels.items self.old.rest (log_in self.old)
+            self.new.levels.items (log_in self.new)) }
+        ensures rest { OnOk result (self.new.rest ≡ None) }
+        ensures read { self.new.read.items ≡ self.old.read.items }
+        ensures budget { self.new.left ≡ self.old.left }
+        ensures fault { (above : List Rows) (rows : Rows)
+            → take (depth + 1) self.old.levels.items ≡ above ++ (rows ∷ [])
+            → IfErr result (IsRefused (add_row (pair_of key.now value.entry) rows (closing D.digest_of
+            (edge_of (drop (depth + 1) self.old.levels.items) self.old.rest) (log_in self.old)))) }
+    {
+        let link = self.close_below(depth + 1)?;
+        let Some(level) = self.levels.pop() else {
+            unreachable!()
+        };
+        let level = level.with_pair(link, key, value)?;
+        self.levels.push(level)?;
+        self.rest = None;
+        Ok(())
+    }
+}
+
+impl<'a, D: Digest + 'a, A: Allocator + Clone + 'a> Edge<'a, D, A> {
+    /// The node with this CID is read, where one more may be.
+    pub(crate) fn view<S: Source<Lent<'a, D, A>>>(
+        &mut self,
+        src: &mut S,
+        cid: Cid,
+    ) -> Result<NodeView<'a>, Fault>
+        ensures shown { IfOk result (λ view. ask (nodes_given (S.gives src.old)) cid
+            (log_in self.old) ≡ Some (shape_of view, log_in self.new)) }
+        ensures counted { OnOk result (IsCounted (S.reads src.old, self.old.left)
+            (S.reads src.new, self.new.left) (log_in self.old) (log_in self.new)) }
+        ensures levels { self.new.levels.items ≡ self.old.levels.items }
+        ensures rest { self.new.rest ≡ self.old.rest }
+        ensures same { S.gives src.new ≡ S.gives src.old }
+        ensures unread { IfErr result (IsUnread (S.gives src.old) (S.reads src.old, self.old.left)
+            (S.reads src.new) (nodes_given (S.gives src.old) cid)) }
+    {
+        self.left = self.left.checked_sub(1).ok_or(Fault::NotTree)?;
+        let Some(lent) = src.get(&cid) else {
+            return Err(Fault::Missing(cid));
+        };
+        let Some(view) = lent.view() else {
+            return Err(Fault::NotTree);
+        };
+        self.read.push(ReadNode::of(lent))?;
+        Ok(view)
+    }
+
+    /// The pairs and links of the node with this CID, which is read.
+    pub(crate) fn rows<S: Source<Lent<'a, D, A>>>(
+        &mut self,
+        src: &mut S,
+        cid: Cid,
+    ) -> Result<KeyedEntries<'a, A>, Fault>
+        ensures shown { IfOk result (λ rows. ask (nodes_given (S.gives src.old)) cid
+            (log_in self.old) ≡ Some (rows.rest, log_in self.new)) }
+        ensures counted { OnOk result (IsCounted (S.reads src.old, self.old.left)
+            (S.reads src.new, self.new.left) (log_in self.old) (log_in self.new)) }
+        ensures levels { self.new.levels.items ≡ self.old.levels.items }
+        ensures rest { self.new.rest ≡ self.old.rest }
+        ensures same { S.gives src.new ≡ S.gives src.old }
+        ensures unread { IfErr result (IsUnread (S.gives src.old) (S.reads src.old, self.old.left)
+            (S.reads src.new) (nodes_given (S.gives src.old) cid)) }
+    {
+        let view = self.view(src, cid)?;
+        Ok(KeyedEntries::of(&view, KeyBuf::new(self.alloc()?)?))
+    }
+
+    /// One layer more is open: that of the node that waits, which is read, or one without pairs.
+    fn open_level<S: Source<Lent<'a, D, A>>>(&mut self, src: &mut S) -> Result<(), Fault>
+        ensures opened { OnOk result (IsOpened (nodes_given (S.gives src.old))
+            self.old.levels.items self.old.rest (log_in self.old)
+            self.new.levels.items self.new.rest (log_in self.new)) }
+        ensures counted { OnOk result (IsCounted (S.reads src.old, self.old.left)
+            (S.reads src.new, self.new.left) (log_in self.old) (log_in self.new)) }
+        ensures same { S.gives src.new ≡ S.gives src.old }
+        ensures stopped { IfErr result (IsStopped (S.gives src.old) (S.reads src.old, self.old.left)
+            (S.reads src.new) (log_in self.old) (open_edge (opening (nodes_given (S.gives src.old))
+            (link_edge self.old.rest) (log_in self.old)))) }
+    {
+        let Some(cid) = self.rest else {
+            let level = Level::new(self.alloc()?);
+            self.levels.push(level)?;
+            return Ok(());
+        };
+        let mut rows = self.rows(src, cid)?;
+        let opened = Level::new(self.alloc()?).with_rows(&mut rows)?;
+        let (level, link) = opened;
+        self.rest = link;
+        self.levels.push(level)?;
+        Ok(())
+    }
+
+    /// So many layers are open.
+    pub(crate) fn open_to<S: Source<Lent<'a, D, A>>>(
+        &mut self,
+        src: &mut S,
+        count: usize,
+    ) -> Result<(), Fault>
+        ensures keeps { OnOk result (KeepsWithin (nodes_given (S.gives src.old)) count
+            (edge_in self.old) (log_in self.old) (edge_in self.new) (log_in self.new)) }
+        ensures long { OnOk result (count ≤ length self.new.levels.items) }
+        ensures counted { OnOk result (IsCounted (S.reads src.old, self.old.left)
+            (S.reads src.new, self.new.left) (log_in self.old) (log_in self.new)) }
+        ensures same { S.gives src.new ≡ S.gives src.old }
+        ensures stopped { (f : LinkEdge → Log → Option (LinkEdge × Log)) → IsOnward f
+            → IfErr result (IsStopped (S.gives src.old) (S.reads src.old, self.old.left)
+            (S.reads src.new) (log_in self.old) (within (nodes_given (S.gives src.old)) count f
+            (edge_in self.old) (log_in self.old))) }
+    {
+        while self.levels.len() < count {
+            self.open_level(src)?;
+        }
+        Ok(())
+    }
+
+    /// The layer of this depth is open, where those above it are.
+    pub(crate) fn open_at<S: Source<Lent<'a, D, A>>>(
+        &mut self,
+        src: &mut S,
+        depth: usize,
+    ) -> Result<(), Fault>
+        requires above { depth ≤ length self.old.levels.items }
+        ensures opened { OnOk result (IsOpenAt (nodes_given (S.gives src.old)) depth
+            self.old.levels.items self.old.rest (log_in self.old)
+            self.new.levels.items self.new.rest (log_in self.new)) }
+        ensures counted { OnOk result (IsCounted (S.reads src.old, self.old.left)
+            (S.reads src.new, self.new.left) (log_in self.old) (log_in self.new)) }
+        ensures same { S.gives src.new ≡ S.gives src.old }
+        ensures stopped { IfErr result (IsStopped (S.gives src.old) (S.reads src.old, self.old.left)
+            (S.reads src.new) (log_in self.old) (open_edge (opening (nodes_given (S.gives src.old))
+            (edge_of (drop depth self.old.levels.items) self.old.rest) (log_in self.old)))) }
+    {
+        if depth < self.levels.len() {
+            return Ok(());
+        }
+        self.open_level(src)
+    }
+
+    /// One more pair, so many layers below the top: what waits above it is opened, what stands below it is complete.
+    pub(crate) fn pair<S: Source<Lent<'a, D, A>>>(
+        &mut self,
+        src: &mut S,
+        depth: usize,
+        key: &[u8],
+        value: CidRef<'_>,
+    ) -> Result<(), Fault>
+        ensures paired { OnOk result (pairing D.digest_of (nodes_given (S.gives src.old)) depth
+            (pair_of key.now value.entry) (edge_in self.old) (log_in self.old)
+            ≡ Some (edge_in self.new, log_in self.new)) }
+        ensures counted { OnOk result (IsCounted (S.reads src.old, self.old.left)
+            (S.reads src.new, self.new.left) (log_in self.old) (log_in self.new)) }
+        ensures same { S.gives src.new ≡ S.gives src.old }
+        ensures stopped { IfErr result (IsStopped (S.gives src.old) (S.reads src.old, self.old.left)
+            (S.reads src.new) (log_in self.old) (pairing D.digest_of (nodes_given (S.gives src.old))
+            depth (pair_of key.now value.entry) (edge_in self.old) (log_in self.old))) }
+    {
+        self.open_to(src, depth)?;
+        self.open_at(src, depth)?;
+        Ok(self.add_pair(depth, key, value)?)
+    }
+}

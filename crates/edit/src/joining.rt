@@ -1,0 +1,172 @@
+//! A subtree that comes to the edge.
+
+ghost use Rattle.std.specs.Prelude.{◌≡◌, [], ◌∷◌, ◌++◌, ◌<◌, ◌≤◌, ◌+◌, ℕ, suc, List, Option, Some, map, take, drop, length, IfOk, IfErr, IfSome, IfNone, OnOk};
+ghost use Rattle.lookups.specs.Steps.{nodes_given};
+ghost use Rattle.batch_laws.specs.Links.{Rows, LinkEdge, Log, parting, subtreeing};
+ghost use Rattle.edit.specs.Edges.{edge_of, joined};
+ghost use Rattle.edit.specs.Stops.{IsRefused, IsStopped};
+ghost use Rattle.edit.specs.States.{edge_in, log_in, shapes_coming, IsComing, IsWaiting, IsOnTheWay, IsArrived, IsJoined, IsCounted};
+
+use crate::edge::Edge;
+use crate::faults::Fault;
+use cid::{Cid, Digest};
+use lookups::{Lent, Source};
+use rows::{DraftFault, KeyedEntries, to_cid};
+use std::alloc::Allocator;
+use std::clone::Clone;
+
+impl<'a, D: Digest, A: Allocator + Clone> Edge<'a, D, A> {
+    /// The pairs of a node come to the open layer of this depth, and its last link waits; what came before its first pair
+    /// stands below that layer, and is complete. Of a node without pairs nothing is left to come.
+    fn join_rows(&mut self, depth: usize, mut rows: KeyedEntries<'a, A>) -> Result<(), DraftFault>
+        requires within { depth < length self.old.levels.items }
+        ensures joined { OnOk result (IsJoined D.digest_of depth rows.entry.rest
+            self.old.levels.items self.old.rest (log_in self.old)
+            self.new.levels.items self.new.rest (log_in self.new)) }
+        ensures read { self.new.read.items ≡ self.old.read.items }
+        ensures budget { self.new.left ≡ self.old.left }
+        ensures fault { (above : List Rows) (begun : Rows)
+            → take (depth + 1) self.old.levels.items ≡ above ++ (begun ∷ [])
+            → IfErr result (IsRefused (joined D.digest_of begun rows.entry.rest (Some
+            (edge_of (drop (depth + 1) self.old.levels.items) self.old.rest, log_in self.old)))) }
+    {
+        let Some(value) = rows.next() else {
+            return Ok(());
+        };
+        let link = self.close_below(depth + 1)?;
+        let Some(level) = self.levels.pop() else {
+            unreachable!()
+        };
+        let level = level.with_pair(link, rows.key(), value)?;
+        let filled = level.with_rows(&mut rows)?;
+        let (level, last) = filled;
+        self.rest = last;
+        self.levels.push(level)?;
+        Ok(())
+    }
+
+    /// The same of nodes one below the other from this depth on, the lowest first.
+    fn join(
+        &mut self,
+        depth: usize,
+        mut coming: Vec<KeyedEntries<'a, A>, A>,
+    ) -> Result<(), DraftFault>
+        requires within { depth + length coming.items ≤ length self.old.levels.items }
+        ensures joined { (all : Option (LinkEdge × Log)) → IsArrived D.digest_of all depth
+            (shapes_coming coming.entry.items) self.old.levels.items self.old.rest (log_in self.old)
+            → OnOk result (all ≡ Some (edge_in self.new, log_in self.new)) }
+        ensures read { self.new.read.items ≡ self.old.read.items }
+        ensures budget { self.new.left ≡ self.old.left }
+        ensures fault { (all : Option (LinkEdge × Log)) → IsArrived D.digest_of all depth
+            (shapes_coming coming.entry.items) self.old.levels.items self.old.rest (log_in self.old)
+            → IfErr result (IsRefused all) }
+    {
+        let Some(rows) = coming.pop() else {
+            return Ok(());
+        };
+        self.join_rows(depth + coming.len(), rows)?;
+        self.join(depth, coming)
+    }
+}
+
+impl<'a, D: Digest + 'a, A: Allocator + Clone + 'a> Edge<'a, D, A> {
+    /// A subtree of the layer of this depth, where all above is open: it waits where nothing stands there. Else that
+    /// layer is open, and the subtree's node is read.
+    fn place<S: Source<Lent<'a, D, A>>>(
+        &mut self,
+        src: &mut S,
+        depth: usize,
+        cid: Cid,
+    ) -> Result<Option<KeyedEntries<'a, A>>, Fault>
+        requires above { depth ≤ length self.old.levels.items }
+        ensures waits { IfOk result (λ placed. IfNone placed (IsWaiting D.digest_of
+            (nodes_given (S.gives src.old)) depth cid
+            self.old.levels.items self.old.rest (log_in self.old)
+            self.new.levels.items self.new.rest (log_in self.new))) }
+        ensures comes { IfOk result (λ placed. IfSome placed (λ rows. IsComing D.digest_of
+            (nodes_given (S.gives src.old)) depth cid
+            self.old.levels.items self.old.rest (log_in self.old) rows.rest
+            self.new.levels.items self.new.rest (log_in self.new))) }
+        ensures counted { OnOk result (IsCounted (S.reads src.old, self.old.left)
+            (S.reads src.new, self.new.left) (log_in self.old) (log_in self.new)) }
+        ensures same { S.gives src.new ≡ S.gives src.old }
+        ensures stopped { (k : ℕ) → IfErr result (IsStopped (S.gives src.old)
+            (S.reads src.old, self.old.left) (S.reads src.new) (log_in self.old)
+            (parting D.digest_of (nodes_given (S.gives src.old)) (suc k) (Some cid)
+            (edge_of (drop depth self.old.levels.items) self.old.rest) (log_in self.old))) }
+    {
+        if self.levels.len() <= depth && self.rest.is_none() {
+            self.rest = Some(cid);
+            return Ok(None);
+        }
+        self.open_at(src, depth)?;
+        Ok(Some(self.rows(src, cid)?))
+    }
+
+    /// The nodes of a subtree that come, so many layers at most, from the top down to where nothing stands or nothing
+    /// comes.
+    fn descend<S: Source<Lent<'a, D, A>>>(
+        &mut self,
+        src: &mut S,
+        depth: usize,
+        layers: u16,
+        cid: Cid,
+    ) -> Result<Vec<KeyedEntries<'a, A>, A>, Fault>
+        requires above { depth ≤ length self.old.levels.items }
+        ensures arrived { (all : Option (LinkEdge × Log)) → IsOnTheWay D.digest_of
+            (nodes_given (S.gives src.old)) all depth layers (Some cid) []
+            self.old.levels.items self.old.rest (log_in self.old)
+            → IfOk result (λ coming. IsArrived D.digest_of all depth (shapes_coming coming.items)
+            self.new.levels.items self.new.rest (log_in self.new)) }
+        ensures within { IfOk result
+            (λ coming. depth + length coming.items ≤ length self.new.levels.items) }
+        ensures counted { OnOk result (IsCounted (S.reads src.old, self.old.left)
+            (S.reads src.new, self.new.left) (log_in self.old) (log_in self.new)) }
+        ensures same { S.gives src.new ≡ S.gives src.old }
+        ensures stopped { (all : Option (LinkEdge × Log)) → IsOnTheWay D.digest_of
+            (nodes_given (S.gives src.old)) all depth layers (Some cid) []
+            self.old.levels.items self.old.rest (log_in self.old)
+            → IfErr result (IsStopped (S.gives src.old) (S.reads src.old, self.old.left)
+            (S.reads src.new) (log_in self.old) all) }
+    {
+        let mut coming = Vec::new(self.alloc()?);
+        let mut next = Some(cid);
+        let mut left = layers;
+        while let Some(cid) = next {
+            if left == 0 {
+                return Err(Fault::NotTree);
+            }
+            left -= 1;
+            let Some(rows) = self.place(src, depth + coming.len(), cid)? else {
+                return Ok(coming);
+            };
+            next = to_cid(rows.link());
+            coming.push(rows)?;
+        }
+        Ok(coming)
+    }
+
+    /// One more subtree, so many layers below the top and of so many layers at most.
+    pub(crate) fn subtree<S: Source<Lent<'a, D, A>>>(
+        &mut self,
+        src: &mut S,
+        depth: usize,
+        layers: u16,
+        cid: Cid,
+    ) -> Result<(), Fault>
+        ensures grown { OnOk result (subtreeing D.digest_of (nodes_given (S.gives src.old))
+            layers depth cid (edge_in self.old) (log_in self.old)
+            ≡ Some (edge_in self.new, log_in self.new)) }
+        ensures counted { OnOk result (IsCounted (S.reads src.old, self.old.left)
+            (S.reads src.new, self.new.left) (log_in self.old) (log_in self.new)) }
+        ensures same { S.gives src.new ≡ S.gives src.old }
+        ensures stopped { IfErr result (IsStopped (S.gives src.old) (S.reads src.old, self.old.left)
+            (S.reads src.new) (log_in self.old) (subtreeing D.digest_of
+            (nodes_given (S.gives src.old)) layers depth cid (edge_in self.old)
+            (log_in self.old))) }
+    {
+        self.open_to(src, depth)?;
+        let coming = self.descend(src, depth, layers, cid)?;
+        Ok(self.join(depth, coming)?)
+    }
+}

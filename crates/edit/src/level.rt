@@ -1,0 +1,235 @@
+//! The node in the making of one layer.
+
+ghost use Rattle.std.specs.Prelude.{◌≡◌, ◌<◌, ◌∷◌, ◌++◌, [], true, List, IfOk, IfErr, IfSome, IfNone, OnOk};
+ghost use Rattle.spec.specs.NodeFormat.{Shape, LastLink, shape_cid};
+ghost use Rattle.edit_laws.specs.ShapeEdit.{last_link};
+ghost use Rattle.rows.specs.Drafts.{onto, pair_of, IsFaultOf, IsFaultOfAll};
+ghost use Rattle.rows.specs.Entries.{shape_at};
+ghost use Rattle.batch_laws.specs.Links.{onto_links, complete, rows_in_shape};
+ghost use Rattle.edit.specs.Edges.{has_rows};
+ghost use Rattle.edit.specs.Passing.{IsTaken, IsUntaken, pairs_left};
+ghost use Rattle.edit.specs.Places.{are_ascending};
+ghost use Rattle.edit.specs.States.{shapes_in};
+
+use crate::hashed::HashedChange;
+use crate::passing::{Ahead, is_untouched};
+use cid::{Cid, CidRef, Digest};
+use rows::{DraftFault, KeyedEntries, Made, Writer, to_cid};
+use std::alloc::Allocator;
+use std::clone::Clone;
+use std::marker::Model;
+
+/// A node in the making: its pairs so far, each with the link before it.
+#[derive(Drop)]
+pub(crate) struct Level<A: Allocator> {
+    rows: Writer<A>,
+    has_pairs: bool,
+}
+
+impl<A: Allocator> Model for Level<A> {
+    ghost use Rattle.std.specs.Prelude.{◌≡◌, ℕ, List, Option};
+    ghost use Rattle.spec.specs.Tree.{Pair};
+    ghost use Rattle.edit.specs.Edges.{has_rows};
+
+    ghost Value = { List (Option (List ℕ) × Pair) };
+
+    ghost view = { λ l. l.rows };
+
+    ghost invariant = { λ l. l.has_pairs ≡ has_rows l.rows };
+}
+
+impl<A: Allocator + Clone> Level<A> {
+    /// Without pairs so far.
+    pub(crate) fn new(alloc: A) -> Level<A>
+        ensures { result ≡ [] }
+    {
+        Level {
+            rows: Writer::new(alloc),
+            has_pairs: false,
+        }
+    }
+
+    /// Whether it has a pair.
+    pub(crate) fn has_pairs(&self) -> bool
+        ensures { result ≡ has_rows self.now }
+    {
+        self.has_pairs
+    }
+
+    /// With a link more and the pair after it.
+    pub(crate) fn with_pair(
+        self,
+        link: Option<Cid>,
+        key: &[u8],
+        value: CidRef<'_>,
+    ) -> Result<Level<A>, DraftFault>
+        ensures ok { IfOk result
+            (λ level. level ≡ self ++ (link, pair_of key.now value.entry) ∷ []) }
+        ensures fault { IfErr result
+            (IsFaultOfAll (self ++ (link, pair_of key.now value.entry) ∷ [])) }
+    {
+        let Level { mut rows, .. } = self;
+        rows.pair(link, key, value)?;
+        Ok(Level {
+            rows,
+            has_pairs: true,
+        })
+    }
+
+    /// With the pairs of a node that are left, each with the link before it; and the last link.
+    pub(crate) fn with_rows(
+        self,
+        rows: &mut KeyedEntries<'_, A>,
+    ) -> Result<(Level<A>, Option<Cid>), DraftFault>
+        ensures rows { IfOk result (λ taken. taken.0 ≡ self ++ rows_in_shape rows.old.rest) }
+        ensures last { IfOk result (λ taken. taken.1 ≡ last_link rows.old.rest) }
+        ensures fault { IfErr result (IsFaultOfAll (self ++ rows_in_shape rows.old.rest)) }
+    {
+        let Level {
+            rows: mut written,
+            has_pairs,
+        } = self;
+        let copied = copy_rows(&mut written, has_pairs, rows)?;
+        let (has_pairs, last) = copied;
+        let level = Level {
+            rows: written,
+            has_pairs,
+        };
+        Ok((level, last))
+    }
+
+    /// With the next pairs of a node that no change touches, each with the link before it; and what comes after them.
+    pub(crate) fn with_untouched<D: Digest>(
+        self,
+        layer: u16,
+        rows: &mut KeyedEntries<'_, A>,
+        changes: &[HashedChange<'_, D>],
+    ) -> Result<(Level<A>, Option<Cid>, Option<Cid>), DraftFault>
+        requires { are_ascending changes.now ≡ true }
+        ensures taken { IfOk result (λ taken. IsTaken layer changes.now self
+            rows.old.rest taken.0 (shape_at taken.1 taken.2 rows.new)) }
+        ensures fault { IfErr result
+            (IsUntaken layer changes.now self rows.old.rest) }
+    {
+        let Level {
+            rows: mut written,
+            has_pairs,
+        } = self;
+        let copied = copy_untouched(&mut written, has_pairs, layer, rows, changes)?;
+        let (has_pairs, link, value) = copied;
+        let level = Level {
+            rows: written,
+            has_pairs,
+        };
+        Ok((level, link, value))
+    }
+
+    /// The node is complete: its link, and none where it has neither pairs nor a link.
+    pub(crate) fn close<D: Digest>(
+        self,
+        below: Option<Cid>,
+        made: &mut Made<D, A>,
+    ) -> Result<Option<Cid>, DraftFault>
+        ensures closed { IfOk result (λ link. (read : List Shape) → complete D.digest_of self
+            (below, record { read = read; made = shapes_in made.old.items })
+            ≡ (link, record { read = read; made = shapes_in made.new.items })) }
+        ensures fault { IfErr result (IsFaultOf (onto_links self (LastLink below))) }
+    {
+        Ok(self.rows.finish(below)?.close(made)?)
+    }
+
+    /// The node is complete, and the top of its tree: its CID.
+    pub(crate) fn close_top<D: Digest>(
+        self,
+        below: Option<Cid>,
+        made: &mut Made<D, A>,
+    ) -> Result<Cid, DraftFault>
+        ensures root { IfOk result
+            (λ root. root ≡ shape_cid D.digest_of (onto_links self (LastLink below))) }
+        ensures made { IfOk result (λ root. shapes_in made.new.items
+            ≡ shapes_in made.old.items ++ onto_links self (LastLink below) ∷ []) }
+        ensures fault { IfErr result (IsFaultOf (onto_links self (LastLink below))) }
+    {
+        Ok(self.rows.finish(below)?.push(made)?)
+    }
+}
+
+/// The pairs of a node that are left come to a node that is written, each with the link before it. Whether that has a pair
+/// then, and the last link.
+fn copy_rows<A: Allocator + Clone>(
+    written: &mut Writer<A>,
+    had_pairs: bool,
+    rows: &mut KeyedEntries<'_, A>,
+) -> Result<(bool, Option<Cid>), DraftFault>
+    requires pairs { had_pairs ≡ has_rows written.old }
+    ensures rows { OnOk result (written.new ≡ written.old ++ rows_in_shape rows.old.rest) }
+    ensures pairs { IfOk result (λ copied. copied.0 ≡ has_rows written.new) }
+    ensures last { IfOk result (λ copied. copied.1 ≡ last_link rows.old.rest) }
+    ensures fault { IfErr result (IsFaultOfAll (written.old ++ rows_in_shape rows.old.rest)) }
+{
+    let mut has_pairs = had_pairs;
+    loop {
+        let link = to_cid(rows.link());
+        let Some(value) = rows.next() else {
+            return Ok((has_pairs, link));
+        };
+        written.pair(link, rows.key(), value)?;
+        has_pairs = true;
+    }
+}
+
+/// The next pairs of a node that no change touches come to a node that is written, each with the link before it. Whether
+/// that has a pair then, and what comes after them.
+fn copy_untouched<D: Digest, A: Allocator + Clone>(
+    written: &mut Writer<A>,
+    had_pairs: bool,
+    layer: u16,
+    rows: &mut KeyedEntries<'_, A>,
+    changes: &[HashedChange<'_, D>],
+) -> Result<(bool, Option<Cid>, Option<Cid>), DraftFault>
+    requires ascending { are_ascending changes.now ≡ true }
+    requires pairs { had_pairs ≡ has_rows written.old }
+    ensures taken { IfOk result (λ taken. IsTaken layer changes.now written.old
+        rows.old.rest written.new (shape_at taken.1 taken.2 rows.new)) }
+    ensures pairs { IfOk result (λ taken. taken.0 ≡ has_rows written.new) }
+    ensures fault { IfErr result (IsUntaken layer changes.now written.old rows.old.rest) }
+{
+    let mut has_pairs = had_pairs;
+    loop {
+        let next = copy_next(written, layer, rows, changes)?;
+        if let Some(ahead) = next {
+            let (link, value) = ahead;
+            return Ok((has_pairs, link, value));
+        }
+        has_pairs = true;
+    }
+}
+
+/// The next pair of a node comes to a node that is written, where no change touches it; else what comes next.
+fn copy_next<D: Digest, A: Allocator + Clone>(
+    written: &mut Writer<A>,
+    layer: u16,
+    rows: &mut KeyedEntries<'_, A>,
+    changes: &[HashedChange<'_, D>],
+) -> Result<Option<Ahead>, DraftFault>
+    requires ascending { are_ascending changes.now ≡ true }
+    ensures came { IfOk result (λ next. IfNone next (IsTaken layer changes.now written.old
+        rows.old.rest written.new rows.new.rest)) }
+    ensures fewer { IfOk result
+        (λ next. IfNone next (pairs_left rows.new.rest < pairs_left rows.old.rest)) }
+    ensures pairs { IfOk result (λ next. IfNone next (has_rows written.new ≡ true)) }
+    ensures ahead { IfOk result (λ next. IfSome next
+        (λ ahead. rows.old.rest ≡ shape_at ahead.0 ahead.1 rows.new)) }
+    ensures same { IfOk result (λ next. IfSome next (λ ahead. written.new ≡ written.old)) }
+    ensures fault { IfErr result (IsUntaken layer changes.now written.old rows.old.rest) }
+{
+    let link = to_cid(rows.link());
+    let Some(value) = rows.next() else {
+        return Ok(Some((link, None)));
+    };
+    if !is_untouched(layer, link.is_some(), rows.key(), changes) {
+        return Ok(Some((link, Some(value.to_cid()))));
+    }
+    written.pair(link, rows.key(), value)?;
+    Ok(None)
+}

@@ -1,0 +1,139 @@
+//! Pairs of an old node that no change touches, which come to the edge as they stand.
+
+ghost use Rattle.std.specs.Prelude.{◌≡◌, ◌+◌, ◌++◌, ◌∷◌, [], ℕ, List, Option, true, None, is_some, length, IfOk, IfErr, OnOk};
+ghost use Rattle.rows.specs.Entries.{shape_at};
+ghost use Rattle.edit.specs.Edges.{edge_of};
+ghost use Rattle.edit.specs.Passing.{IsUntouched, IsTaken, IsPassed, IsUnpassed};
+ghost use Rattle.edit.specs.Places.{are_ascending};
+ghost use Rattle.edit.specs.States.{edge_in, log_in};
+
+use crate::edge::Edge;
+use crate::hashed::HashedChange;
+use crate::level::Level;
+use cid::{Cid, Digest};
+use rows::{DraftFault, KeyedEntries, to_cid};
+use std::alloc::Allocator;
+use std::clone::Clone;
+
+/// What comes next of a node that is read pair by pair: a link, and the value of the pair after it, whose key the reader
+/// has; no value where the link is the last one.
+pub(crate) type Ahead = (Option<Cid>, Option<Cid>);
+
+/// The next link of a node, and the pair after it.
+pub(crate) fn ahead_of<A: Allocator>(rows: &mut KeyedEntries<'_, A>) -> Ahead
+    ensures { shape_at result.0 result.1 rows.new ≡ rows.old.rest }
+{
+    let link = to_cid(rows.link());
+    let value = to_cid(rows.next());
+    (link, value)
+}
+
+/// Whether no change touches the pair with this key, below which stand so many layers, and the link before it, if there is
+/// one.
+pub(crate) fn is_untouched<D: Digest>(
+    layer: u16,
+    has_link: bool,
+    key: &[u8],
+    changes: &[HashedChange<'_, D>],
+) -> bool
+    requires { are_ascending changes.now ≡ true }
+    ensures { (link : Option (List ℕ)) → has_link ≡ is_some link → result ≡ true
+        → IsUntouched layer changes.now link key.now }
+{
+    if layer == 0 && has_link {
+        return false;
+    }
+    let [first, ..] = changes else {
+        return true;
+    };
+    first.key().cmp(key).is_gt()
+}
+
+impl<'a, D: Digest, A: Allocator + Clone> Edge<'a, D, A> {
+    /// The next pairs of a node of this depth come as they stand, as far as no change touches them, and where the node's
+    /// layer is open or could be, and nothing stands below it. What comes after them.
+    pub(crate) fn pass(
+        &mut self,
+        layer: u16,
+        depth: u16,
+        rows: &mut KeyedEntries<'a, A>,
+        changes: &[HashedChange<'_, D>],
+    ) -> Result<Ahead, DraftFault>
+        requires ascending { are_ascending changes.now ≡ true }
+        ensures passed { IfOk result (λ next. IsPassed layer depth changes.now
+            rows.old.rest (shape_at next.0 next.1 rows.new)
+            (edge_in self.old) (edge_in self.new)) }
+        ensures log { log_in self.new ≡ log_in self.old }
+        ensures budget { self.new.left ≡ self.old.left }
+        ensures fault { IfErr result (IsUnpassed layer depth changes.now
+            rows.old.rest (edge_in self.old) (log_in self.old)) }
+    {
+        let None = self.rest else {
+            return Ok(ahead_of(rows));
+        };
+        let count = self.levels.len();
+        if count == usize::from(depth) + 1 {
+            return self.pass_open(layer, depth, rows, changes);
+        }
+        if count == usize::from(depth) {
+            return self.pass_first(layer, depth, rows, changes);
+        }
+        Ok(ahead_of(rows))
+    }
+
+    /// The same, where the node's layer is the lowest that is open, and nothing stands below it.
+    fn pass_open(
+        &mut self,
+        layer: u16,
+        depth: u16,
+        rows: &mut KeyedEntries<'a, A>,
+        changes: &[HashedChange<'_, D>],
+    ) -> Result<Ahead, DraftFault>
+        requires ascending { are_ascending changes.now ≡ true }
+        requires open { length self.old.levels.items ≡ depth + 1 }
+        requires clear { self.old.rest ≡ None }
+        ensures passed { IfOk result (λ next. IsPassed layer depth changes.now
+            rows.old.rest (shape_at next.0 next.1 rows.new)
+            (edge_in self.old) (edge_in self.new)) }
+        ensures log { log_in self.new ≡ log_in self.old }
+        ensures budget { self.new.left ≡ self.old.left }
+        ensures fault { IfErr result (IsUnpassed layer depth changes.now
+            rows.old.rest (edge_in self.old) (log_in self.old)) }
+    {
+        let Some(level) = self.levels.pop() else {
+            unreachable!()
+        };
+        let taken = level.with_untouched(layer, rows, changes)?;
+        let (level, link, value) = taken;
+        self.levels.push(level)?;
+        Ok((link, value))
+    }
+
+    /// The same, where all layers above the node's are open, and nothing stands below them.
+    fn pass_first(
+        &mut self,
+        layer: u16,
+        depth: u16,
+        rows: &mut KeyedEntries<'a, A>,
+        changes: &[HashedChange<'_, D>],
+    ) -> Result<Ahead, DraftFault>
+        requires ascending { are_ascending changes.now ≡ true }
+        requires closed { length self.old.levels.items ≡ depth }
+        requires clear { self.old.rest ≡ None }
+        ensures passed { IfOk result (λ next. IsPassed layer depth changes.now
+            rows.old.rest (shape_at next.0 next.1 rows.new)
+            (edge_in self.old) (edge_in self.new)) }
+        ensures log { log_in self.new ≡ log_in self.old }
+        ensures budget { self.new.left ≡ self.old.left }
+        ensures fault { IfErr result (IsUnpassed layer depth changes.now
+            rows.old.rest (edge_in self.old) (log_in self.old)) }
+    {
+        let level = Level::new(self.alloc()?);
+        let taken = level.with_untouched(layer, rows, changes)?;
+        let (level, link, value) = taken;
+        if level.has_pairs() {
+            self.levels.push(level)?;
+        }
+        Ok((link, value))
+    }
+}

@@ -1,0 +1,60 @@
+//! Blocks that were read, and found to be nodes.
+
+ghost use Rattle.std.specs.Prelude.{◌≡◌};
+ghost use Rattle.std.specs.Arc.{arc_value};
+ghost use Rattle.lookups.specs.Nodes.{IsNodeOf};
+ghost use Rattle.rows.specs.Drafts.{shape_in};
+
+use cid::{Block, Digest};
+use lookups::Lent;
+use std::alloc::{Allocator, Global};
+use std::marker::Model;
+use std::sync::Arc;
+
+/// A block that a source lent, and that was found to be a node when it was read.
+///
+/// A contract sees it as the block.
+#[derive(Drop)]
+pub(crate) struct ReadNode<'a, D: Digest, A: Allocator = Global> {
+    lent: Lent<'a, D, A>,
+}
+
+impl<'a, D: Digest, A: Allocator> Model for ReadNode<'a, D, A> {
+    ghost use Rattle.std.specs.Prelude.{ℕ, List};
+    ghost use Rattle.std.specs.Arc.{arc_value};
+    ghost use Rattle.std.specs.declared.sync.Arc.{Arc};
+    ghost use Rattle.lookups.specs.Nodes.{IsNodeOf};
+    ghost use Rattle.rows.specs.Drafts.{shape_in};
+
+    ghost Value = { Arc (List ℕ) A };
+
+    ghost view = { λ n. n.lent };
+
+    ghost invariant = { λ n. IsNodeOf (arc_value n.lent) (shape_in (arc_value n.lent)) };
+}
+
+impl<'a, D: Digest, A: Allocator> ReadNode<'a, D, A> {
+    /// A block that was read as a node.
+    pub(crate) fn of(lent: Lent<'a, D, A>) -> ReadNode<'a, D, A>
+        requires { IsNodeOf (arc_value lent) (shape_in (arc_value lent)) }
+        ensures { result ≡ lent.entry }
+    {
+        ReadNode { lent }
+    }
+
+    /// The block as it was lent.
+    pub(crate) fn lent(&self) -> &Lent<'a, D, A>
+        ensures same { result.now ≡ self.now }
+        ensures node { IsNodeOf (arc_value self.now) (shape_in (arc_value self.now)) }
+    {
+        &self.lent
+    }
+
+    /// The block.
+    pub(crate) fn block(&self) -> &'a Arc<Block<D, A>, A>
+        ensures same { result.now ≡ self.now }
+        ensures node { IsNodeOf (arc_value self.now) (shape_in (arc_value self.now)) }
+    {
+        self.lent.block()
+    }
+}

@@ -1,0 +1,90 @@
+//! A whole tree, from its root to its new root.
+
+ghost use Rattle.std.specs.Prelude.{◌≡◌, ◌<◌, ◌≤◌, ◌+◌, ◌/◌, [], suc, max, Some, length, true, IfOk, IfErr};
+ghost use Rattle.spec.specs.Layer.{layer as layer_of};
+ghost use Rattle.lookups.specs.Steps.{nodes_given};
+ghost use Rattle.spec.specs.NodeFormat.{Shape};
+ghost use Rattle.batch_laws.specs.Counts.{most_reads};
+ghost use Rattle.batch_laws.specs.Previous.{previous_top};
+ghost use Rattle.edit.specs.Batches.{answer_of, most_of};
+ghost use Rattle.edit.specs.Places.{are_ascending};
+ghost use Rattle.edit.specs.States.{log_in};
+ghost use Rattle.edit.specs.Stops.{IsStopped, at_top};
+ghost use Rattle.edit.specs.Tops.{IsEnded};
+
+use crate::budgets::most_reads_below;
+use crate::edge::Edge;
+use crate::faults::Fault;
+use crate::hashed::{HashedChange, layers_of_puts};
+use cid::{Cid, Digest};
+use lookups::{Lent, Source};
+use node::KeyBuf;
+use rows::{KeyedEntries, top_layer};
+use std::alloc::Allocator;
+use std::clone::Clone;
+
+/// The new root, how many of the nodes that were read go, what the changed keys had, and what was read and made.
+#[derive(Drop)]
+pub(crate) struct Changed<'a, D: Digest, A: Allocator> {
+    pub(crate) root: Cid,
+    pub(crate) gone: usize,
+    pub(crate) previous: Vec<Option<Cid>, A>,
+    pub(crate) edge: Edge<'a, D, A>,
+}
+
+/// How many layers the edge has: those up to an old top of this layer, and no fewer than the puts want.
+fn layers_for(top: u16, wanted: u16) -> u16
+    requires fits { top < 65535 }
+    ensures { result ≡ max (suc top) wanted }
+{
+    wanted.max(top + 1)
+}
+
+/// The tree with this root, changed.
+pub(crate) fn change_tree<
+    'a,
+    D: Digest + 'a,
+    const B: u8,
+    A: Allocator + Clone + 'a,
+    S: Source<Lent<'a, D, A>>,
+>(
+    alloc: A,
+    src: &mut S,
+    root: Cid,
+    changes: &[HashedChange<'_, D>],
+) -> Result<Changed<'a, D, A>, Fault>
+    requires least { 1 ≤ B }
+    requires ascending { are_ascending changes.now ≡ true }
+    ensures changed { IfOk result (λ changed. IsEnded
+        (answer_of D.digest_of B (S.gives src.old) changes.now root)
+        changed.root changed.gone (log_in changed.edge)) }
+    ensures previous { (top : Shape) → nodes_given (S.gives src.old) root ≡ Some top
+        → IfOk result (λ changed. changed.previous.items ≡ previous_top
+        (nodes_given (S.gives src.old)) (layer_of D.digest_of B) changes.now top) }
+    ensures counted { IfOk result (λ changed.
+        S.reads src.new ≡ S.reads src.old + length changed.edge.read.items) }
+    ensures same { S.gives src.new ≡ S.gives src.old }
+    ensures stopped { IfErr result (IsStopped (S.gives src.old) (
+      S.reads src.old,
+      most_of D.digest_of B (S.gives src.old) changes.now root,
+    )
+        (S.reads src.new) (record { read = []; made = [] })
+        (at_top (answer_of D.digest_of B (S.gives src.old) changes.now root))) }
+    ensures most { S.reads src.new ≤ S.reads src.old + suc (most_reads (256 / B) changes.now) }
+{
+    let mut edge: Edge<'a, D, A> = Edge::new(alloc.clone()?)?;
+    let view = edge.view(src, root)?;
+    let top = top_layer::<D, B>(&view);
+    edge.left = most_reads_below(top, changes);
+    let layers = layers_for(top, layers_of_puts::<D, B>(changes));
+    let rows = KeyedEntries::of(&view, KeyBuf::new(alloc)?);
+    let previous = edge.walk::<B, S>(src, layers, top, layers - 1 - top, rows, changes)?;
+    let ended = edge.finish(src, layers)?;
+    let (root, gone) = ended;
+    Ok(Changed {
+        root,
+        gone,
+        previous,
+        edge,
+    })
+}

@@ -1,0 +1,4 @@
+pub mod Mapping
+pub mod Stepping
+pub mod Walking
+pub mod NodeLaws

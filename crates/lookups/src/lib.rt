@@ -1,0 +1,41 @@
+//! Look-ups and walks over the blocks of one tree, wherever these are kept.
+//!
+//! A tree is a root CID and a [`Source`] that gives blocks by CID. For whatever pairs the tree has (`HasTree`), what
+//! comes out is that of these pairs.
+//!
+//! - [`get`] answers the value of a key. It reads one block for each node of the key's path, and takes no memory.
+//! - [`walk`] lists pairs from a key on, up to a limit, and reads no block that it doesn't need.
+//! - [`BlockMap`] is a source over a slice of blocks. The crate `kept` has the one of a repository, and `edit` changes trees
+//!   over any.
+//!
+//! What a source gives is a [`Lent`] block: with a mark, where it is known to be a node, which spares the test of its bytes
+//! at each read. A source of one's own tests its blocks once, says for each CID what it gives, and counts its reads for
+//! proofs alone:
+//!
+//! ```text
+//! struct OneBlock<'a, D: Digest> { block: &'a MarkedBlock<D>, asked: ReadCount }
+//!
+//! impl<'a, D: Digest> Source<Lent<'a, D>> for OneBlock<'a, D> {
+//!     ghost gives = { λ one. first_of D.digest_of (one.block.now ∷ []) };
+//!     ghost reads = { λ one. one.asked.times };
+//!
+//!     fn get(&mut self, cid: &Cid) -> Option<Lent<'a, D>> {
+//!         self.asked = self.asked.once_more();
+//!         let lent = self.block.lent();
+//!         if lent.block().cid() == *cid { Some(lent) } else { None }
+//!     }
+//! }
+//!
+//! let value = get::<Sha256, 2, _, _>(&mut source, root, b"app.bsky.feed.post/3l");
+//! ```
+#![tactic(auto)]
+
+mod block_map;
+mod lookups;
+mod source;
+mod walks;
+
+pub use block_map::BlockMap;
+pub use lookups::get;
+pub use source::{Lent, MarkedBlock, ReadCount, Source, is_node};
+pub use walks::walk;

@@ -1,0 +1,3 @@
+pub mod NodeReading
+pub mod FirstRow
+pub mod Drafting

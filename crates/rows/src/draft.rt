@@ -1,0 +1,135 @@
+//! Nodes that were written, their blocks, and why one was not written.
+
+ghost use Rattle.std.specs.Prelude.{◌≡◌, ◌∷◌, [], true, IfOk, OnOk};
+ghost use Rattle.std.specs.Arc.{arc_value};
+ghost use Rattle.spec.specs.NodeFormat.{shape_cid};
+ghost use Rattle.edit_laws.specs.Lawful.{Lawful};
+ghost use Rattle.edit_laws.specs.ShapeEdit.{close_link, close_shapes};
+ghost use Rattle.rows.specs.Drafts.{Adds, reads_as_node};
+ghost use Rattle.rows.specs.declared.draft.DraftFault.TheVariants.{NoMemory};
+
+use cid::{Block, Cid, Digest};
+use std::alloc::{AllocError, AllocFailed, Allocator, Global};
+use std::marker::Model;
+use std::sync::Arc;
+
+/// The blocks that an edit makes, in the order in which they are made.
+pub type Made<D, A> = Vec<NodeBlock<D, A>, A>;
+
+/// A block whose bytes are a node's (AT Protocol repository v3, MST node data format). Only a [`Draft`] is made one, so
+/// nobody need test it again.
+///
+/// A contract sees it as the block.
+#[derive(Drop)]
+pub struct NodeBlock<D: Digest, A: Allocator = Global> {
+    block: Arc<Block<D, A>, A>,
+}
+
+impl<D: Digest, A: Allocator> Model for NodeBlock<D, A> {
+    ghost use Rattle.std.specs.Prelude.{◌≡◌, ℕ, List, true};
+    ghost use Rattle.std.specs.Arc.{arc_value};
+    ghost use Rattle.std.specs.declared.sync.Arc.{Arc};
+    ghost use Rattle.rows.specs.Drafts.{reads_as_node};
+
+    ghost Value = { Arc (List ℕ) A };
+
+    ghost view = { λ n. n.block };
+
+    ghost invariant = { λ n. reads_as_node (arc_value n.block) ≡ true };
+}
+
+impl<D: Digest, A: Allocator> NodeBlock<D, A> {
+    /// The block.
+    pub fn block(&self) -> &Arc<Block<D, A>, A>
+        ensures { result.now ≡ self.now }
+    {
+        &self.block
+    }
+
+    /// The block alone.
+    pub fn into_block(self) -> Arc<Block<D, A>, A>
+        ensures same { result ≡ self }
+        ensures node { reads_as_node (arc_value self) ≡ true }
+    {
+        self.block
+    }
+}
+
+/// The bytes of a node that was written, not yet a block: nothing has hashed them.
+///
+/// A contract sees it as the node's links and pairs in turn.
+#[derive(Drop)]
+pub struct Draft<A: Allocator> {
+    pub(crate) bytes: Vec<u8, A>,
+    pub(crate) is_empty: bool,
+}
+
+impl<A: Allocator> Model for Draft<A> {
+    ghost use Rattle.spec.specs.NodeFormat.{Shape};
+    ghost use Rattle.rows.specs.Drafts.{IsDraft, shape_in};
+    ghost use Rattle.rows.specs.Codes.{shape_code};
+
+    ghost Value = { Shape };
+
+    ghost coded = { shape_code };
+
+    ghost view = { λ d. shape_in d.bytes.items };
+
+    ghost invariant = { λ d. IsDraft d.bytes.items d.is_empty };
+}
+
+impl<A: Allocator + Clone> Draft<A> {
+    /// Makes the block of the node as the last of `made`, and answers its CID. `AllocError` comes where memory was refused;
+    /// nothing is promised of `made` then.
+    pub fn push<D: Digest>(self, made: &mut Made<D, A>) -> Result<Cid, AllocError>
+        ensures cid { IfOk result (λ cid. cid ≡ shape_cid D.digest_of self) }
+        ensures made { OnOk result (Adds made.old made.new (self ∷ [])) }
+        ensures lawful { Lawful self }
+    {
+        let block = Block::of(self.bytes);
+        let cid = block.cid();
+        let alloc = made.allocator().clone()?;
+        let block = Arc::new(alloc, block)?;
+        made.push(NodeBlock { block })?;
+        Ok(cid)
+    }
+
+    /// Makes the block of the node as the last of `made`, and answers its link. An empty node, one without pairs and without
+    /// a link, makes no block and has no link. `AllocError` comes where memory was refused; nothing is promised of `made`
+    /// then.
+    pub fn close<D: Digest>(self, made: &mut Made<D, A>) -> Result<Option<Cid>, AllocError>
+        ensures link { IfOk result (λ link. link ≡ close_link D.digest_of self) }
+        ensures made { OnOk result (Adds made.old made.new (close_shapes self)) }
+        ensures lawful { Lawful self }
+    {
+        if self.is_empty {
+            return Ok(None);
+        }
+        Ok(Some(self.push(made)?))
+    }
+}
+
+/// Why a node was not written.
+#[derive(Clone, Copy, Debug, Drop)]
+pub enum DraftFault {
+    /// What was to be written is no node: keys that don't ascend, or one of no bytes or of more than 1,024.
+    NotNode,
+    /// Memory was refused.
+    NoMemory,
+}
+
+impl From<AllocError> for DraftFault {
+    ghost from_gives = { λ _ fault. fault ≡ NoMemory };
+
+    fn from(_: AllocError) -> DraftFault {
+        DraftFault::NoMemory
+    }
+}
+
+impl<T: Drop> From<AllocFailed<T>> for DraftFault {
+    ghost from_gives = { λ _ fault. fault ≡ NoMemory };
+
+    fn from(_: AllocFailed<T>) -> DraftFault {
+        DraftFault::NoMemory
+    }
+}
