@@ -83,10 +83,10 @@ fn told<R: Abort>(rt: &R, alloc: Global, has_commit: bool, steps: &[Step<'_>]) -
 
 /// Whether the core has a commit already, the batch, and how many requests are told so.
 const ROWS: [(bool, &[Step<'static>], [u64; 5]); 4] = [
-    (false, &WITHOUT_COMMIT, [18, 25, 12, 2, 0]),
-    (false, &WRITES, [18, 25, 18, 0, 2]),
-    (true, &WITHOUT_COMMIT, [19, 16, 12, 2, 0]),
-    (true, &WRITES, [19, 16, 18, 0, 1]),
+    (false, &WITHOUT_COMMIT, [25, 28, 20, 2, 0]),
+    (false, &WRITES, [25, 28, 26, 0, 2]),
+    (true, &WITHOUT_COMMIT, [30, 23, 20, 2, 0]),
+    (true, &WRITES, [30, 23, 26, 0, 1]),
 ];
 
 /// What serves the whole batch is told at its first write, and what a write takes at that write, in their order. The commit's
