@@ -155,7 +155,7 @@ below-after : (key : List ℕ) (es : List Pair) → Each (IsAfter key) es → be
 below-after key [] h = refl
 below-after key (e ∷ es) h = and _ _ (lt-less key e.0 (turned e.0 key h.0)) (below-after key es h.1)
 
-sorted-ascending : (es : List Pair) → Ascending es → is_sorted (slice_cmp nat_cmp) es ≡ true
+pub sorted-ascending : (es : List Pair) → Ascending es → is_sorted (slice_cmp nat_cmp) es ≡ true
 sorted-ascending [] a = refl
 sorted-ascending (e ∷ es) a = and _ _ (below-after e.0 es a.0) (sorted-ascending es a.1)
 

@@ -1,6 +1,6 @@
 -- What a batch writes on its way. Nodes that are made stay made, and rows that are open stay the front of a node: so what
 -- holds of all nodes in the end, as that their keys ascend, never fails before.
-use Rattle.std.specs.Prelude.{◌≡◌, ◌≤◌, length, Option, Some, None}
+use Rattle.std.specs.Prelude.{◌≤◌, length, Option, Some, None}
 use Rattle.std.specs.List.{AllByRecursion}
 use Rattle.spec.specs.NodeFormat.{Shape}
 use Rattle.batch_laws.specs.Links.{Rows, LinkEdge, LinkClear, LinkWaiting, LinkOpened, Log, onto_links}

@@ -1,4 +1,4 @@
-//! The blocks that a core keeps: uses that are staged, accepted and refused.
+//! The blocks that a core keeps: uses that come and go, and those that are refused.
 
 ghost use Rattle.std.specs.Prelude.{◌≤◌};
 
@@ -9,7 +9,6 @@ use lookups::{Lent, MarkedBlock, Source, is_node};
 use repo_fixtures::batch::{EMPTY, ONE, TWO};
 use repo_fixtures::cores::counts;
 use std::alloc::{AllocError, Global};
-use std::process::Abort;
 use std::sync::Arc;
 use store::{LentShard, Shard, StoreFault};
 
@@ -18,15 +17,11 @@ fn block_of<D: Digest>(alloc: Global, bytes: &[u8]) -> Result<Arc<Block<D>>, All
     Ok(Arc::new(alloc, Block::of(Vec::from_slice(alloc, bytes)?))?)
 }
 
-/// What is done to what is kept.
+/// What is exchanged: the blocks of these bytes come, and then those of these go.
 #[derive(Clone, Copy)]
-enum Act {
-    /// One use more of the block of these bytes is staged.
-    Add(&'static [u8]),
-    /// One use less.
-    Drop(&'static [u8]),
-    Accept,
-    Refuse,
+struct Act {
+    come: &'static [&'static [u8]],
+    go: &'static [&'static [u8]],
 }
 
 /// What comes of it.
@@ -39,7 +34,7 @@ enum End {
     Other,
 }
 
-/// What comes of staging a block.
+/// What comes of an exchange.
 fn end_of<D: Digest>(answer: Result<(), StoreFault<D>>) -> End {
     match answer {
         Ok(()) => End::Done,
@@ -56,75 +51,208 @@ type Uses = (u64, u64);
 /// An act, what comes of it, the uses of `ONE` and of `TWO` after it, and how many blocks are used.
 type Row = (Act, End, Uses, Uses, u64);
 
-/// A block that is used, and what is staged, accepted and refused of it and another one.
-static USES: [Row; 18] = [
-    (Act::Add(ONE), End::Done, (0, 1), (0, 0), 0),
-    (Act::Add(ONE), End::Done, (0, 1), (0, 0), 0),
-    (Act::Accept, End::Done, (2, 1), (0, 0), 1),
-    (Act::Drop(ONE), End::Done, (2, 1), (0, 0), 1),
-    (Act::Add(TWO), End::Done, (2, 1), (0, 1), 1),
-    (Act::Refuse, End::Done, (2, 1), (0, 0), 1),
-    // what is staged alone is given back at once
-    (Act::Add(TWO), End::Done, (2, 1), (0, 1), 1),
-    (Act::Drop(TWO), End::Done, (2, 1), (0, 0), 1),
-    (Act::Drop(ONE), End::Done, (2, 1), (0, 0), 1),
-    (Act::Accept, End::Done, (1, 1), (0, 0), 1),
-    // a use that goes and comes
-    (Act::Drop(ONE), End::Done, (1, 1), (0, 0), 1),
-    (Act::Add(ONE), End::Done, (1, 1), (0, 0), 1),
-    (Act::Accept, End::Done, (1, 1), (0, 0), 1),
+/// A block that comes and goes, beside another one.
+static USES: [Row; 9] = [
+    (
+        Act {
+            come: &[ONE],
+            go: &[],
+        },
+        End::Done,
+        (1, 1),
+        (0, 0),
+        1,
+    ),
+    (
+        Act {
+            come: &[ONE],
+            go: &[],
+        },
+        End::Done,
+        (2, 1),
+        (0, 0),
+        1,
+    ),
+    (
+        Act {
+            come: &[TWO, TWO],
+            go: &[ONE],
+        },
+        End::Done,
+        (1, 1),
+        (2, 1),
+        2,
+    ),
+    (
+        Act {
+            come: &[],
+            go: &[TWO, TWO],
+        },
+        End::Done,
+        (1, 1),
+        (0, 0),
+        1,
+    ),
+    // a use that comes and goes
+    (
+        Act {
+            come: &[ONE],
+            go: &[ONE],
+        },
+        End::Done,
+        (1, 1),
+        (0, 0),
+        1,
+    ),
+    (
+        Act {
+            come: &[TWO],
+            go: &[TWO],
+        },
+        End::Done,
+        (1, 1),
+        (0, 0),
+        1,
+    ),
     // a block that isn't there
-    (Act::Drop(TWO), End::Done, (1, 1), (0, 0), 1),
-    (Act::Refuse, End::Done, (1, 1), (0, 0), 1),
-    (Act::Drop(ONE), End::Done, (1, 1), (0, 0), 1),
-    (Act::Drop(ONE), End::Done, (1, 1), (0, 0), 1),
-    (Act::Accept, End::Done, (0, 0), (0, 0), 0),
+    (
+        Act {
+            come: &[],
+            go: &[TWO],
+        },
+        End::Done,
+        (1, 1),
+        (0, 0),
+        1,
+    ),
+    (
+        Act {
+            come: &[],
+            go: &[ONE],
+        },
+        End::Done,
+        (0, 0),
+        (0, 0),
+        0,
+    ),
+    (
+        Act {
+            come: &[],
+            go: &[ONE],
+        },
+        End::Done,
+        (0, 0),
+        (0, 0),
+        0,
+    ),
 ];
 
-/// The blocks that are accepted are listed, and those that are staged are not.
-static LISTED_BLOCKS: [Row; 5] = [
-    (Act::Add(TWO), End::Done, (0, 0), (0, 1), 0),
-    (Act::Add(ONE), End::Done, (0, 1), (0, 1), 0),
-    (Act::Accept, End::Done, (1, 1), (1, 1), 2),
-    (Act::Add(EMPTY), End::Done, (1, 1), (1, 1), 2),
-    (Act::Accept, End::Done, (1, 1), (1, 1), 3),
+/// The blocks that are used are listed.
+static LISTED_BLOCKS: [Row; 2] = [
+    (
+        Act {
+            come: &[TWO],
+            go: &[],
+        },
+        End::Done,
+        (0, 0),
+        (1, 1),
+        1,
+    ),
+    (
+        Act {
+            come: &[ONE, EMPTY],
+            go: &[],
+        },
+        End::Done,
+        (1, 1),
+        (1, 1),
+        3,
+    ),
 ];
 
-/// A block of the length of the one that is staged has its CID under `Size`; a longer one finds the store full.
-static WHAT_IS_NOT_STAGED: [Row; 4] = [
-    (Act::Add(ONE), End::Done, (0, 1), (0, 0), 0),
-    (Act::Add(TWO), End::Clash, (0, 1), (0, 0), 0),
-    (Act::Add(EMPTY), End::Full, (0, 1), (0, 0), 0),
-    (Act::Refuse, End::Done, (0, 0), (0, 0), 0),
+/// A block of the length of the one that is held has its CID under `Size`; a longer one finds the store full. What came before
+/// it in the same exchange has gone again.
+static WHAT_IS_REFUSED: [Row; 5] = [
+    (
+        Act {
+            come: &[ONE],
+            go: &[],
+        },
+        End::Done,
+        (1, 1),
+        (0, 0),
+        1,
+    ),
+    (
+        Act {
+            come: &[TWO],
+            go: &[],
+        },
+        End::Clash,
+        (1, 1),
+        (0, 0),
+        1,
+    ),
+    (
+        Act {
+            come: &[EMPTY],
+            go: &[],
+        },
+        End::Full,
+        (1, 1),
+        (0, 0),
+        1,
+    ),
+    (
+        Act {
+            come: &[ONE, TWO],
+            go: &[ONE],
+        },
+        End::Clash,
+        (1, 1),
+        (0, 0),
+        1,
+    ),
+    (
+        Act {
+            come: &[ONE, EMPTY],
+            go: &[ONE],
+        },
+        End::Full,
+        (1, 1),
+        (0, 0),
+        1,
+    ),
 ];
 
-/// Stages one use more of the block of these bytes.
-fn add<D: Digest>(alloc: Global, shard: &mut Shard<D>, kept: &mut Kept<D>, bytes: &[u8]) -> End {
-    let Ok(block) = block_of(alloc, bytes) else {
-        return End::Other;
-    };
-    end_of(kept.stage_add(&mut LentShard::new(shard), MarkedBlock::of(block)))
+/// The blocks of these bytes.
+fn blocks_of<D: Digest>(alloc: Global, list: &[&[u8]]) -> Result<Vec<MarkedBlock<D>>, AllocError> {
+    let mut blocks = Vec::new(alloc);
+    for bytes in list {
+        blocks.push(MarkedBlock::of(block_of(alloc, bytes)?))?;
+    }
+    Ok(blocks)
+}
+
+/// Their CIDs.
+fn cids_of<D: Digest>(alloc: Global, list: &[&[u8]]) -> Result<Vec<Cid>, AllocError> {
+    let mut cids = Vec::new(alloc);
+    for bytes in list {
+        cids.push(Cid::of::<D>(bytes))?;
+    }
+    Ok(cids)
 }
 
 /// Does an act.
 fn done<D: Digest>(alloc: Global, shard: &mut Shard<D>, kept: &mut Kept<D>, act: Act) -> End {
-    match act {
-        Act::Add(bytes) => add(alloc, shard, kept, bytes),
-        Act::Drop(bytes) => {
-            match kept.stage_drop(&mut LentShard::new(shard), Cid::of::<D>(bytes)) {
-                Ok(()) => End::Done,
-                Err(_) => End::Other,
-            }
-        }
-        Act::Accept => {
-            kept.accept(&mut LentShard::new(shard));
-            End::Done
-        }
-        Act::Refuse => {
-            kept.refuse(&mut LentShard::new(shard));
-            End::Done
-        }
-    }
+    let Ok(blocks) = blocks_of(alloc, act.come) else {
+        return End::Other;
+    };
+    let Ok(cids) = cids_of::<D>(alloc, act.go) else {
+        return End::Other;
+    };
+    end_of(kept.exchange(&mut LentShard::new(shard), blocks, &cids))
 }
 
 /// Whether there is a block where there is to be one, with these bytes.
@@ -145,8 +273,7 @@ fn is_lent<D: Digest>(lent: Option<Lent<'_, D>>, bytes: &[u8], there: bool) -> b
     }
 }
 
-/// Whether the block of these bytes is used so by what was accepted, is found where it is used at all, and is lent as long as
-/// the store holds it.
+/// Whether the block of these bytes is used so, is found and lent where it is used at all, and is held by so many cores.
 fn is_used<D: Digest>(shard: &Shard<D>, kept: &Kept<D>, bytes: &[u8], uses: Uses) -> bool {
     let cid = Cid::of::<D>(bytes);
     let (times, cores) = uses;
@@ -204,18 +331,12 @@ fn end_so<D: Digest>(
 }
 
 /// The same in a store with room for so many blocks, which has none in the end.
-fn are_acts<R: Abort, D: Digest>(
-    rt: &R,
-    alloc: Global,
-    room: usize,
-    blocks: [&[u8]; 2],
-    rows: &[Row],
-) -> bool
+fn are_acts<D: Digest>(alloc: Global, room: usize, blocks: [&[u8]; 2], rows: &[Row]) -> bool
     requires least { 1 ≤ room }
     requires most { room ≤ 3 }
 {
     let mut shard: Shard<D> = Shard::new(alloc, room);
-    let mut kept = Kept::open(alloc, 5).expect(rt, "memory");
+    let mut kept = Kept::open(alloc, 5);
     let is_right = end_so(alloc, &mut shard, &mut kept, blocks, rows);
     kept.end(&mut LentShard::new(&mut shard));
     is_right && counts(&shard) == (0, 0)
@@ -223,7 +344,7 @@ fn are_acts<R: Abort, D: Digest>(
 
 #[test]
 fn uses_of_blocks(rt: HostRuntime) {
-    assert!(rt; are_acts::<_, Toy>(&rt, rt.alloc(), 2, [ONE, TWO], &USES));
-    assert!(rt; are_acts::<_, Toy>(&rt, rt.alloc(), 3, [ONE, TWO], &LISTED_BLOCKS));
-    assert!(rt; are_acts::<_, Size>(&rt, rt.alloc(), 1, [ONE, EMPTY], &WHAT_IS_NOT_STAGED));
+    assert!(rt; are_acts::<Toy>(rt.alloc(), 2, [ONE, TWO], &USES));
+    assert!(rt; are_acts::<Toy>(rt.alloc(), 3, [ONE, TWO], &LISTED_BLOCKS));
+    assert!(rt; are_acts::<Size>(rt.alloc(), 1, [ONE, EMPTY], &WHAT_IS_REFUSED));
 }

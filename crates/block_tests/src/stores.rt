@@ -1,4 +1,4 @@
-//! What a core asks of a store, by each of the two that there are.
+//! What a core asks of a store, by each of those that there are.
 
 use crate::fixtures::{EMPTY, ONE, block, entry_count};
 use cid::digests::{Clash, Size, Toy};
@@ -7,7 +7,10 @@ use refusing::Refusing;
 use std::alloc::{Allocator, Global};
 use std::process::Abort;
 use std::sync::{Arc, Wait};
-use store::{BlockStore, Hold, LentShard, LockedShards, SHARDS, Shard, Shards, StoreFault};
+use store::{
+    BlockStore, Hold, LentShard, LentShards, LockedShards, SHARDS, Shard, Shards, StoreFault,
+    empty_shards,
+};
 
 /// Whether the store is full for this block.
 fn is_full<S: BlockStore<Arc<Block<Toy>>, Hold<Toy>, StoreFault<Toy>>>(
@@ -75,6 +78,14 @@ fn locked_shards_are_a_store(rt: HostRuntime) {
     let mut locked = LockedShards::new(&rt, &shards);
     assert!(rt; holds_one(&rt, rt.alloc(), &mut locked, &EMPTY, &EMPTY_LIST));
     assert!(rt; are_empty(&shards.tables()));
+}
+
+#[test]
+fn sixteen_shards_are_lent(rt: HostRuntime) {
+    let mut shards: [Shard<Toy>; SHARDS] = empty_shards(rt.alloc(), 1);
+    let mut lent = LentShards::<Toy, 1>::new(&mut shards);
+    assert!(rt; holds_one(&rt, rt.alloc(), &mut lent, &EMPTY, &EMPTY_LIST));
+    assert!(rt; are_empty(&shards));
 }
 
 /// The DAG-CBOR bytes of the map of "a" to 2, as many as those of the map to 1.

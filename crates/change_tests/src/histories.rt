@@ -12,11 +12,16 @@ use std::alloc::{AllocError, Global};
 
 /// Numbers that look random, the same in each run.
 #[derive(Drop)]
-struct Numbers {
+pub(crate) struct Numbers {
     state: u64,
 }
 
 impl Numbers {
+    /// The numbers of a seed.
+    pub(crate) fn of(seed: u64) -> Numbers {
+        Numbers { state: seed }
+    }
+
     /// The next number below `bound`.
     fn below(&mut self, bound: usize) -> usize
         requires { 1 ≤ bound }
@@ -74,7 +79,7 @@ fn random_value(numbers: &mut Numbers, kind: Kind, old: Option<Cid>) -> Option<C
 }
 
 /// A batch over these pairs: no changes, or up to 60 or so; or of all keys.
-fn random_batch(
+pub(crate) fn random_batch(
     alloc: Global,
     numbers: &mut Numbers,
     pairs: &[(Vec<u8>, Cid)],
@@ -97,7 +102,7 @@ fn agrees<D: Digest, const B: u8>(alloc: Global, seed: u64, batches: u32) -> boo
     requires least { 1 ≤ B }
     requires most { B ≤ 8 }
 {
-    let mut numbers = Numbers { state: seed };
+    let mut numbers = Numbers::of(seed);
     let Some(mut history) = begin::<D, B>(alloc, Vec::new(alloc)) else {
         return false;
     };

@@ -4,6 +4,8 @@
 #[cfg(test)]
 mod by_hand;
 #[cfg(test)]
+mod clashing;
+#[cfg(test)]
 mod faults;
 #[cfg(test)]
 mod fixtures;

@@ -19,7 +19,7 @@ use Rattle.std.specs.FinSet as set
 use Rattle.spec.specs.Cid.{cid as cid_of}
 use Rattle.store.specs.Table.{Table, Held, cores_at, cores_of, shard_of, listed, with_cores, entry_at, IsLawful}
 use Rattle.spec.specs.States.{State}
-use Rattle.kept.specs.Leaving.{no_table}
+use Rattle.store.specs.Shards.{no_table}
 use Rattle.closing.specs.Tally.{has, has_in, entered, have, NumberedFrom, IsEven, IsMiscounted, IsMisnumbered, IsEntered, IsMissed, AllHave, IsWithout, AreHad, AreWithout}
 
 -- ---- numbers

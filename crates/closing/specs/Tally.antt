@@ -8,7 +8,7 @@ use Rattle.std.specs.FinSet as set
 use Rattle.spec.specs.Cid.{cid as cid_of}
 use Rattle.spec.specs.States.{State, state_blocks}
 use Rattle.store.specs.Table.{Table, cores_at, shard_of}
-use Rattle.kept.specs.Leaving.{cores_in, no_table}
+use Rattle.store.specs.Shards.{cores_in, no_table}
 
 -- whether one of these blocks has this CID
 abbrev pub has_in : (List ℕ → List ℕ) → List (List ℕ) → List ℕ → Bool

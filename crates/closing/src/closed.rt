@@ -37,14 +37,14 @@ use store::{SHARDS, Shard};
 ///
 /// A contract sees it as the states of its cores, the tables, the feed, and the writers as they ended.
 #[derive(Drop)]
-pub struct Closed<D: Digest, const B: u8, A: Allocator = Global> {
+pub struct Closed<D: Digest, const B: u8, A: Allocator + Clone = Global> {
     queue: Queue<A>,
     feed: notices::Feed,
     settled: Vec<Settled<A>, A>,
     repositories: Repositories<D, B, A>,
 }
 
-impl<D: Digest, const B: u8, A: Allocator> Model for Closed<D, B, A> {
+impl<D: Digest, const B: u8, A: Allocator + Clone> Model for Closed<D, B, A> {
     ghost use Rattle.std.specs.Coded.{codes};
     ghost use Rattle.store.specs.Table.{table_code};
     ghost use Rattle.closing.specs.Settling.{ClosedView, IsClosed};
@@ -69,13 +69,13 @@ impl<D: Digest, const B: u8, A: Allocator> Model for Closed<D, B, A> {
 ///
 /// A contract sees it as the states of the cores, the tables, the writers as they ended, and in what they don't agree.
 #[derive(Drop)]
-pub struct Uneven<D: Digest, const B: u8, A: Allocator = Global> {
+pub struct Uneven<D: Digest, const B: u8, A: Allocator + Clone = Global> {
     repositories: Repositories<D, B, A>,
     ended: Vec<Ended<A>, A>,
     mismatch: Mismatch,
 }
 
-impl<D: Digest, const B: u8, A: Allocator> Model for Uneven<D, B, A> {
+impl<D: Digest, const B: u8, A: Allocator + Clone> Model for Uneven<D, B, A> {
     ghost use Rattle.std.specs.Coded.{codes};
     ghost use Rattle.store.specs.Table.{table_code};
     ghost use Rattle.closing.specs.Settling.{UnevenView, IsUneven};
@@ -95,7 +95,7 @@ impl<D: Digest, const B: u8, A: Allocator> Model for Uneven<D, B, A> {
         u.repositories.tables u.ended.items u.mismatch };
 }
 
-impl<D: Digest, const B: u8, A: Allocator> Closed<D, B, A> {
+impl<D: Digest, const B: u8, A: Allocator + Clone> Closed<D, B, A> {
     /// The cores, in the order of their numbers.
     pub fn cores(&self) -> &[Core<D, B, A>]
         ensures { result.now ≡ self.now.cores }
@@ -176,14 +176,14 @@ impl<D: Digest, const B: u8, A: Allocator + Clone> Closed<D, B, A> {
     }
 }
 
-impl<D: Digest, const B: u8, A: Allocator> Closed<D, B, A> {
+impl<D: Digest, const B: u8, A: Allocator + Clone> Closed<D, B, A> {
     /// Gives all blocks back, as a drop does. It takes no lock and no memory.
     pub fn end(self) {
         drop(self);
     }
 }
 
-impl<D: Digest, const B: u8, A: Allocator> Uneven<D, B, A> {
+impl<D: Digest, const B: u8, A: Allocator + Clone> Uneven<D, B, A> {
     /// In what they don't agree. Where there is more than one such thing, it is one of them.
     pub fn mismatch(&self) -> Mismatch
         ensures mismatch { result ≡ self.now.mismatch }
@@ -212,7 +212,7 @@ impl<D: Digest, const B: u8, A: Allocator> Uneven<D, B, A> {
 /// left in it.
 ///
 /// It takes no lock and no memory.
-pub fn close<D: Digest, const B: u8, A: Allocator>(
+pub fn close<D: Digest, const B: u8, A: Allocator + Clone>(
     queue: Queue<A>,
     feed: Feed<A>,
     ended: Vec<Ended<A>, A>,

@@ -12,7 +12,7 @@ use refusing::Refusing;
 use repo::Core;
 use std::process::Abort;
 use std::sync::{Arc, Wait};
-use store::{SHARDS, Shard, Shards, shard_number};
+use store::{LentShards, SHARDS, Shard, Shards, empty_shards, shard_number};
 
 /// How many cores there are after a close, and in what they don't agree with the rest.
 fn compared<'h>(answer: Answer<'h, Toy, 2>) -> (usize, Result<(), Mismatch>) {
@@ -71,8 +71,8 @@ fn closed_without_the_third<'h, R: Wait + Abort>(
     let is_right = !is_put || is_taken(rt, heap, &shards, &mut third, b'2', Some(EMPTY));
     let cores = two_cores(rt, heap, &shards, (0, 1), &[]);
     let found = compared(closed(rt, heap, cores, shards.tables(), 0));
-    let mut others = Shards::open(heap, 9).tables();
-    third.end_in(&mut others);
+    let mut others = empty_shards(heap, 9);
+    third.end(&mut LentShards::<Toy, 0, Heap<'h>>::new(&mut others));
     assert!(rt; is_right);
     found
 }

@@ -45,9 +45,6 @@ low-none k (Some c) s h = absurd cc
 pub not-low : (k : ℕ) (l : Option (List ℕ)) → 0 < k → k ≡ 0 → l ≡ None
 not-low k l p h = absurd (omega arith)
 
-pub none-later : (key : List ℕ) (cs : List Change) → cs ≡ [] → AllByRecursion (IsLater key) cs
-none-later key cs e = subst (AllByRecursion (IsLater key)) (sym e) tt
-
 pub is-later : (o : Ordering) → is_gt o ≡ true → o ≡ Greater
 is-later Less h = absurd cc
 is-later Equal h = absurd cc
@@ -266,10 +263,6 @@ rows-size gap (x ∷ more) rest = let i = rows-size gap more rest in omega arith
 
 -- ---- they come
 
-pub pass-none : (k d : ℕ) (cs : List Change) (node : Shape) (s : LinkEdge) → IsPassed k d cs node node s s
-pass-none k d cs node s =
-    record { does = λ digest shows layer n log. refl; meets = λ shows. refl; smaller = λ shows. omega arith }
-
 pass-taken : (k d : ℕ) (cs : List Change) (node rest : Shape) (s t : LinkEdge) (begun filled : Rows)
     → (taken : IsTaken k cs begun node filled rest)
     → ((digest : List ℕ → List ℕ) (shows : List ℕ → Option Shape) (layer : List ℕ → ℕ) (n : ℕ) (log : Log)
@@ -398,11 +391,6 @@ refused-first k d cs node ls begun link log f h c b u = λ digest shows layer n.
     some digest shows layer n NotNode (x ∷ more) t q =
         subst (λ o. IsRefused o NotNode) (sym (first-come digest shows layer n k d cs x more u.rest ls log h t))
         (rows-refused digest shows layer n k d cs u.rest ls (x ∷ more) log NotNode q)
-
--- a want of memory says nothing
-pub memory-unpassed : (k d : ℕ) (cs : List Change) (node : Shape) (s : LinkEdge) (log : Log)
-    → IsUnpassed k d cs node s log NoMemory
-memory-unpassed k d cs node s log = λ digest shows layer n. tt
 
 -- ---- and the rest is put off
 

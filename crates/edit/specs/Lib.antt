@@ -15,3 +15,4 @@ pub mod Refusals
 pub mod Edits
 pub mod Deletes
 pub mod Singles
+pub mod Changing

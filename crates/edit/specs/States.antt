@@ -89,6 +89,10 @@ pub record IsCounted (before after : Budget) (log next : Log) : Type 0 where
   pub reads : after.0 + length log.read ≡ before.0 + length next.read
   pub left : after.1 + length next.read ≡ before.1 + length log.read
 
+-- the same of an edge before and after, and of how often the source was asked by then
+abbrev pub IsCountedOn : {D A : Type 0} → ℕ → Edge D A → ℕ → Edge D A → Type 0
+IsCountedOn before old after new = IsCounted (before, old.left) (after, new.left) (log_in old) (log_in new)
+
 -- opening layers on the way changes nothing of what comes so far below
 abbrev pub KeepsWithin : (List ℕ → Option Shape) → ℕ → LinkEdge → Log → LinkEdge → Log → Type 0
 KeepsWithin shows d s log t next =

@@ -16,6 +16,7 @@ ghost use Rattle.edit.specs.Refusals.{IsRefusal};
 use crate::outcome::EditFault;
 use crate::places::Places;
 use crate::read_nodes::ReadNode;
+use crate::shown::Shown;
 use cid::{Block, Cid, Collided, Digest};
 use lookups::MarkedBlock;
 use rows::Made;
@@ -66,7 +67,7 @@ pub(crate) fn added<D: Digest, A: Allocator + Clone>(
     let mut new = Places::new(alloc.clone()?, count)?;
     let mut add = Vec::new(alloc);
     for block in made {
-        if !is_read(&block, read, old)? && !is_made(&block, &add, &new)? {
+        if !is_among(&block, read, old)? && !is_among(&block, &add, &new)? {
             new.push(block.block().cid(), add.len())?;
             add.push(block)?;
         }
@@ -126,48 +127,25 @@ fn places_of_made<D: Digest, A: Allocator + Clone>(
     Ok(places)
 }
 
-/// Whether the block is one of those that were read; its CID with other bytes is a clash.
-fn is_read<D: Digest, A: Allocator + Clone>(
-    block: &MarkedBlock<D, A>,
-    read: &[ReadNode<'_, D, A>],
-    places: &Places<A>,
-) -> Result<bool, EditFault<D, A>>
-    requires { HasPlaces (map (cid_of D.digest_of) (map arc_value read.now)) places.now }
-    ensures found { IfOk result
-        (IsAmong D.digest_of (arc_value block.now) (map arc_value read.now)) }
-    ensures fault { IfErr result
-        (IsRefusal D.digest_of (arc_value block.now ∷ map arc_value read.now) ⊥) }
-{
-    let cid = block.block().cid();
-    let Some(place) = places.find(&cid) else {
-        return Ok(false);
-    };
-    let Some(other) = read.get(place) else {
-        unreachable!()
-    };
-    is_same(block.block(), other.block())
-}
-
 /// Whether the block is one of these; its CID with other bytes is a clash.
-fn is_made<D: Digest, A: Allocator + Clone>(
+fn is_among<D: Digest, A: Allocator + Clone, T: Shown<D, A>>(
     block: &MarkedBlock<D, A>,
-    made: &[MarkedBlock<D, A>],
+    others: &[T],
     places: &Places<A>,
 ) -> Result<bool, EditFault<D, A>>
-    requires { HasPlaces (map (cid_of D.digest_of) (map arc_value made.now)) places.now }
-    ensures found { IfOk result
-        (IsAmong D.digest_of (arc_value block.now) (map arc_value made.now)) }
+    requires { HasPlaces (map (cid_of D.digest_of) (map T.bytes others.now)) places.now }
+    ensures found { IfOk result (IsAmong D.digest_of (arc_value block.now) (map T.bytes others.now)) }
     ensures fault { IfErr result
-        (IsRefusal D.digest_of (arc_value block.now ∷ map arc_value made.now) ⊥) }
+        (IsRefusal D.digest_of (arc_value block.now ∷ map T.bytes others.now) ⊥) }
 {
     let cid = block.block().cid();
     let Some(place) = places.find(&cid) else {
         return Ok(false);
     };
-    let Some(other) = made.get(place) else {
+    let Some(other) = others.get(place) else {
         unreachable!()
     };
-    is_same(block.block(), other.block())
+    is_same(block.block(), other.shown())
 }
 
 /// Whether two blocks are the same; one CID with different bytes is a clash.

@@ -7,23 +7,24 @@ ghost use Rattle.rows.specs.Entries.{shape_of};
 ghost use Rattle.batch_laws.specs.Links.{Rows, LinkEdge, LinkClear, Log, ask, add_row, opening, closing, link_edge, pairing};
 ghost use Rattle.edit.specs.Edges.{edge_of, within};
 ghost use Rattle.edit.specs.Stops.{IsRefused, IsStopped, IsUnread, IsOnward, all_closed, open_edge};
-ghost use Rattle.edit.specs.States.{edge_in, log_in, IsOpened, IsOpenAt, IsAdded, IsCounted, KeepsWithin};
+ghost use Rattle.edit.specs.States.{edge_in, log_in, IsOpened, IsOpenAt, IsAdded, IsCountedOn, KeepsWithin};
 
 use crate::faults::Fault;
 use crate::level::Level;
-use crate::read_nodes::ReadNode;
-use cid::{Cid, CidRef, Digest};
+use crate::read_nodes::{ReadNode, count_to};
+use cid::{Block, Cid, CidRef, Digest};
 use lookups::{Lent, Source};
 use node::{KeyBuf, NodeView};
 use rows::{DraftFault, KeyedEntries, Made};
 use std::alloc::{AllocError, Allocator};
 use std::clone::Clone;
+use std::sync::Arc;
 
 /// The right edge of a tree in the making: the node of each open layer, from the top down, and what waits below the lowest
 /// of them; with what was read and made for it.
 #[derive(Drop)]
 pub(crate) struct Edge<'a, D: Digest, A: Allocator> {
-    pub(crate) levels: Vec<Level<A>, A>,
+    pub(crate) levels: Vec<Level<'a, A>, A>,
     pub(crate) rest: Option<Cid>,
     pub(crate) read: Vec<ReadNode<'a, D, A>, A>,
     pub(crate) made: Made<D, A>,
@@ -53,6 +54,14 @@ impl<'a, D: Digest, A: Allocator + Clone> Edge<'a, D, A> {
         self.levels.allocator().clone()
     }
 
+    /// The block of the old node that the one of the layer below all that are open may be: the one read last on that layer.
+    /// It may be another, as one of a layer above where none was read, so its bytes are to be compared.
+    pub(crate) fn read_last(&self) -> Option<&'a Arc<Block<D, A>, A>> {
+        let count = count_to(&self.read, self.levels.len());
+        let last = self.read.get(count.checked_sub(1)?)?;
+        Some(last.block())
+    }
+
     /// All that stands below a depth is complete: the link to it.
     pub(crate) fn close_below(&mut self, depth: usize) -> Result<Option<Cid>, DraftFault>
         requires within { depth ≤ length self.old.levels.items }
@@ -71,12 +80,19 @@ impl<'a, D: Digest, A: Allocator + Clone> Edge<'a, D, A> {
         let Some(level) = self.levels.pop() else {
             unreachable!()
         };
-        self.rest = level.close(self.rest, &mut self.made)?;
+        let like = self.read_last();
+        self.rest = level.close(self.rest, like, &mut self.made)?;
         self.close_below(depth)
     }
 
-    /// One more pair on the open layer of this depth: all below it is complete.
-    fn add_pair(&mut self, depth: usize, key: &[u8], value: CidRef<'_>) -> Result<(), DraftFault>
+    /// One more pair on the open layer of this depth, which may be one of an old node: all below it is complete.
+    fn add_pair(
+        &mut self,
+        depth: usize,
+        node: Option<&NodeView<'a>>,
+        key: &[u8],
+        value: CidRef<'_>,
+    ) -> Result<(), DraftFault>
         requires within { depth < length self.old.levels.items }
         ensures added { OnOk result (IsAdded D.digest_of depth (pair_of key.now value.entry)
             self.old.levels.items self.old.rest (log_in self.old)
@@ -93,7 +109,7 @@ impl<'a, D: Digest, A: Allocator + Clone> Edge<'a, D, A> {
         let Some(level) = self.levels.pop() else {
             unreachable!()
         };
-        let level = level.with_pair(link, key, value)?;
+        let level = level.with_pair(node, link, key, value)?;
         self.levels.push(level)?;
         self.rest = None;
         Ok(())
@@ -101,16 +117,16 @@ impl<'a, D: Digest, A: Allocator + Clone> Edge<'a, D, A> {
 }
 
 impl<'a, D: Digest + 'a, A: Allocator + Clone + 'a> Edge<'a, D, A> {
-    /// The node with this CID is read, where one more may be.
+    /// The node with this CID, of this depth, is read, where one more may be.
     pub(crate) fn view<S: Source<Lent<'a, D, A>>>(
         &mut self,
         src: &mut S,
+        depth: usize,
         cid: Cid,
     ) -> Result<NodeView<'a>, Fault>
         ensures shown { IfOk result (λ view. ask (nodes_given (S.gives src.old)) cid
             (log_in self.old) ≡ Some (shape_of view, log_in self.new)) }
-        ensures counted { OnOk result (IsCounted (S.reads src.old, self.old.left)
-            (S.reads src.new, self.new.left) (log_in self.old) (log_in self.new)) }
+        ensures counted { OnOk result (IsCountedOn (S.reads src.old) self.old (S.reads src.new) self.new) }
         ensures levels { self.new.levels.items ≡ self.old.levels.items }
         ensures rest { self.new.rest ≡ self.old.rest }
         ensures same { S.gives src.new ≡ S.gives src.old }
@@ -124,27 +140,28 @@ impl<'a, D: Digest + 'a, A: Allocator + Clone + 'a> Edge<'a, D, A> {
         let Some(view) = lent.view() else {
             return Err(Fault::NotTree);
         };
-        self.read.push(ReadNode::of(lent))?;
+        let above = count_to(&self.read, depth.saturating_sub(1));
+        self.read.push(ReadNode::of(lent, depth, above))?;
         Ok(view)
     }
 
-    /// The pairs and links of the node with this CID, which is read.
+    /// The pairs and links of the node with this CID, of this depth, which is read.
     pub(crate) fn rows<S: Source<Lent<'a, D, A>>>(
         &mut self,
         src: &mut S,
+        depth: usize,
         cid: Cid,
     ) -> Result<KeyedEntries<'a, A>, Fault>
         ensures shown { IfOk result (λ rows. ask (nodes_given (S.gives src.old)) cid
             (log_in self.old) ≡ Some (rows.rest, log_in self.new)) }
-        ensures counted { OnOk result (IsCounted (S.reads src.old, self.old.left)
-            (S.reads src.new, self.new.left) (log_in self.old) (log_in self.new)) }
+        ensures counted { OnOk result (IsCountedOn (S.reads src.old) self.old (S.reads src.new) self.new) }
         ensures levels { self.new.levels.items ≡ self.old.levels.items }
         ensures rest { self.new.rest ≡ self.old.rest }
         ensures same { S.gives src.new ≡ S.gives src.old }
         ensures unread { IfErr result (IsUnread (S.gives src.old) (S.reads src.old, self.old.left)
             (S.reads src.new) (nodes_given (S.gives src.old) cid)) }
     {
-        let view = self.view(src, cid)?;
+        let view = self.view(src, depth, cid)?;
         Ok(KeyedEntries::of(&view, KeyBuf::new(self.alloc()?)?))
     }
 
@@ -153,8 +170,7 @@ impl<'a, D: Digest + 'a, A: Allocator + Clone + 'a> Edge<'a, D, A> {
         ensures opened { OnOk result (IsOpened (nodes_given (S.gives src.old))
             self.old.levels.items self.old.rest (log_in self.old)
             self.new.levels.items self.new.rest (log_in self.new)) }
-        ensures counted { OnOk result (IsCounted (S.reads src.old, self.old.left)
-            (S.reads src.new, self.new.left) (log_in self.old) (log_in self.new)) }
+        ensures counted { OnOk result (IsCountedOn (S.reads src.old) self.old (S.reads src.new) self.new) }
         ensures same { S.gives src.new ≡ S.gives src.old }
         ensures stopped { IfErr result (IsStopped (S.gives src.old) (S.reads src.old, self.old.left)
             (S.reads src.new) (log_in self.old) (open_edge (opening (nodes_given (S.gives src.old))
@@ -165,7 +181,8 @@ impl<'a, D: Digest + 'a, A: Allocator + Clone + 'a> Edge<'a, D, A> {
             self.levels.push(level)?;
             return Ok(());
         };
-        let mut rows = self.rows(src, cid)?;
+        let depth = self.levels.len();
+        let mut rows = self.rows(src, depth, cid)?;
         let opened = Level::new(self.alloc()?).with_rows(&mut rows)?;
         let (level, link) = opened;
         self.rest = link;
@@ -182,8 +199,7 @@ impl<'a, D: Digest + 'a, A: Allocator + Clone + 'a> Edge<'a, D, A> {
         ensures keeps { OnOk result (KeepsWithin (nodes_given (S.gives src.old)) count
             (edge_in self.old) (log_in self.old) (edge_in self.new) (log_in self.new)) }
         ensures long { OnOk result (count ≤ length self.new.levels.items) }
-        ensures counted { OnOk result (IsCounted (S.reads src.old, self.old.left)
-            (S.reads src.new, self.new.left) (log_in self.old) (log_in self.new)) }
+        ensures counted { OnOk result (IsCountedOn (S.reads src.old) self.old (S.reads src.new) self.new) }
         ensures same { S.gives src.new ≡ S.gives src.old }
         ensures stopped { (f : LinkEdge → Log → Option (LinkEdge × Log)) → IsOnward f
             → IfErr result (IsStopped (S.gives src.old) (S.reads src.old, self.old.left)
@@ -206,8 +222,7 @@ impl<'a, D: Digest + 'a, A: Allocator + Clone + 'a> Edge<'a, D, A> {
         ensures opened { OnOk result (IsOpenAt (nodes_given (S.gives src.old)) depth
             self.old.levels.items self.old.rest (log_in self.old)
             self.new.levels.items self.new.rest (log_in self.new)) }
-        ensures counted { OnOk result (IsCounted (S.reads src.old, self.old.left)
-            (S.reads src.new, self.new.left) (log_in self.old) (log_in self.new)) }
+        ensures counted { OnOk result (IsCountedOn (S.reads src.old) self.old (S.reads src.new) self.new) }
         ensures same { S.gives src.new ≡ S.gives src.old }
         ensures stopped { IfErr result (IsStopped (S.gives src.old) (S.reads src.old, self.old.left)
             (S.reads src.new) (log_in self.old) (open_edge (opening (nodes_given (S.gives src.old))
@@ -219,19 +234,20 @@ impl<'a, D: Digest + 'a, A: Allocator + Clone + 'a> Edge<'a, D, A> {
         self.open_level(src)
     }
 
-    /// One more pair, so many layers below the top: what waits above it is opened, what stands below it is complete.
+    /// One more pair, so many layers below the top, which may be one of an old node: what waits above it is opened, what stands
+    /// below it is complete.
     pub(crate) fn pair<S: Source<Lent<'a, D, A>>>(
         &mut self,
         src: &mut S,
         depth: usize,
+        node: Option<&NodeView<'a>>,
         key: &[u8],
         value: CidRef<'_>,
     ) -> Result<(), Fault>
         ensures paired { OnOk result (pairing D.digest_of (nodes_given (S.gives src.old)) depth
             (pair_of key.now value.entry) (edge_in self.old) (log_in self.old)
             ≡ Some (edge_in self.new, log_in self.new)) }
-        ensures counted { OnOk result (IsCounted (S.reads src.old, self.old.left)
-            (S.reads src.new, self.new.left) (log_in self.old) (log_in self.new)) }
+        ensures counted { OnOk result (IsCountedOn (S.reads src.old) self.old (S.reads src.new) self.new) }
         ensures same { S.gives src.new ≡ S.gives src.old }
         ensures stopped { IfErr result (IsStopped (S.gives src.old) (S.reads src.old, self.old.left)
             (S.reads src.new) (log_in self.old) (pairing D.digest_of (nodes_given (S.gives src.old))
@@ -239,6 +255,6 @@ impl<'a, D: Digest + 'a, A: Allocator + Clone + 'a> Edge<'a, D, A> {
     {
         self.open_to(src, depth)?;
         self.open_at(src, depth)?;
-        Ok(self.add_pair(depth, key, value)?)
+        Ok(self.add_pair(depth, node, key, value)?)
     }
 }

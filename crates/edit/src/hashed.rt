@@ -1,6 +1,6 @@
 //! Changes whose keys were hashed, each once.
 
-ghost use Rattle.std.specs.Prelude.{◌≡◌, ◌≤◌, ◌∷◌, ◌++◌, [], IfOk, OnOk};
+ghost use Rattle.std.specs.Prelude.{◌≡◌, ◌≤◌, ◌∷◌, ◌++◌, [], IfOk, IfSome, OnOk};
 ghost use Rattle.spec.specs.Layer.{layer as layer_of};
 ghost use Rattle.edit.specs.Batches.{layers_for, put_layers};
 
@@ -43,17 +43,12 @@ impl<'k, D: Digest> HashedChange<'k, D> {
             Some(_) => layer::<D, 1>(change.key()),
             None => 0,
         };
-        HashedChange {
-            key: change.key(),
-            value: change.value(),
-            zeros,
-            digest: PhantomData,
-        }
+        HashedChange::with_zeros(change, zeros)
     }
 
-    /// The change, whose key's digest begins with so many zero bits.
+    /// The change: where its key is put, the key's digest begins with so many zero bits.
     fn with_zeros(change: &Change<'k>, zeros: u16) -> HashedChange<'k, D>
-        requires { zeros ≡ layer_of D.digest_of 1 change.now.0 }
+        requires { IfSome change.now.1 (λ _. zeros ≡ layer_of D.digest_of 1 change.now.0) }
         ensures { result ≡ change.now }
     {
         HashedChange {

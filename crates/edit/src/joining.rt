@@ -5,7 +5,7 @@ ghost use Rattle.lookups.specs.Steps.{nodes_given};
 ghost use Rattle.batch_laws.specs.Links.{Rows, LinkEdge, Log, parting, subtreeing};
 ghost use Rattle.edit.specs.Edges.{edge_of, joined};
 ghost use Rattle.edit.specs.Stops.{IsRefused, IsStopped};
-ghost use Rattle.edit.specs.States.{edge_in, log_in, shapes_coming, IsComing, IsWaiting, IsOnTheWay, IsArrived, IsJoined, IsCounted};
+ghost use Rattle.edit.specs.States.{edge_in, log_in, shapes_coming, IsComing, IsWaiting, IsOnTheWay, IsArrived, IsJoined, IsCountedOn};
 
 use crate::edge::Edge;
 use crate::faults::Fault;
@@ -37,7 +37,7 @@ impl<'a, D: Digest, A: Allocator + Clone> Edge<'a, D, A> {
         let Some(level) = self.levels.pop() else {
             unreachable!()
         };
-        let level = level.with_pair(link, rows.key(), value)?;
+        let level = level.with_pair(Some(rows.node()), link, rows.key(), value)?;
         let filled = level.with_rows(&mut rows)?;
         let (level, last) = filled;
         self.rest = last;
@@ -87,8 +87,7 @@ impl<'a, D: Digest + 'a, A: Allocator + Clone + 'a> Edge<'a, D, A> {
             (nodes_given (S.gives src.old)) depth cid
             self.old.levels.items self.old.rest (log_in self.old) rows.rest
             self.new.levels.items self.new.rest (log_in self.new))) }
-        ensures counted { OnOk result (IsCounted (S.reads src.old, self.old.left)
-            (S.reads src.new, self.new.left) (log_in self.old) (log_in self.new)) }
+        ensures counted { OnOk result (IsCountedOn (S.reads src.old) self.old (S.reads src.new) self.new) }
         ensures same { S.gives src.new ≡ S.gives src.old }
         ensures stopped { (k : ℕ) → IfErr result (IsStopped (S.gives src.old)
             (S.reads src.old, self.old.left) (S.reads src.new) (log_in self.old)
@@ -100,7 +99,7 @@ impl<'a, D: Digest + 'a, A: Allocator + Clone + 'a> Edge<'a, D, A> {
             return Ok(None);
         }
         self.open_at(src, depth)?;
-        Ok(Some(self.rows(src, cid)?))
+        Ok(Some(self.rows(src, depth, cid)?))
     }
 
     /// The nodes of a subtree that come, so many layers at most, from the top down to where nothing stands or nothing
@@ -120,8 +119,7 @@ impl<'a, D: Digest + 'a, A: Allocator + Clone + 'a> Edge<'a, D, A> {
             self.new.levels.items self.new.rest (log_in self.new)) }
         ensures within { IfOk result
             (λ coming. depth + length coming.items ≤ length self.new.levels.items) }
-        ensures counted { OnOk result (IsCounted (S.reads src.old, self.old.left)
-            (S.reads src.new, self.new.left) (log_in self.old) (log_in self.new)) }
+        ensures counted { OnOk result (IsCountedOn (S.reads src.old) self.old (S.reads src.new) self.new) }
         ensures same { S.gives src.new ≡ S.gives src.old }
         ensures stopped { (all : Option (LinkEdge × Log)) → IsOnTheWay D.digest_of
             (nodes_given (S.gives src.old)) all depth layers (Some cid) []
@@ -157,8 +155,7 @@ impl<'a, D: Digest + 'a, A: Allocator + Clone + 'a> Edge<'a, D, A> {
         ensures grown { OnOk result (subtreeing D.digest_of (nodes_given (S.gives src.old))
             layers depth cid (edge_in self.old) (log_in self.old)
             ≡ Some (edge_in self.new, log_in self.new)) }
-        ensures counted { OnOk result (IsCounted (S.reads src.old, self.old.left)
-            (S.reads src.new, self.new.left) (log_in self.old) (log_in self.new)) }
+        ensures counted { OnOk result (IsCountedOn (S.reads src.old) self.old (S.reads src.new) self.new) }
         ensures same { S.gives src.new ≡ S.gives src.old }
         ensures stopped { IfErr result (IsStopped (S.gives src.old) (S.reads src.old, self.old.left)
             (S.reads src.new) (log_in self.old) (subtreeing D.digest_of

@@ -13,20 +13,22 @@ ghost use Rattle.edit.specs.States.{shapes_in};
 
 use crate::hashed::HashedChange;
 use crate::passing::{Ahead, is_untouched};
-use cid::{Cid, CidRef, Digest};
+use cid::{Block, Cid, CidRef, Digest};
+use node::NodeView;
 use rows::{DraftFault, KeyedEntries, Made, Writer, to_cid};
 use std::alloc::Allocator;
 use std::clone::Clone;
 use std::marker::Model;
+use std::sync::Arc;
 
 /// A node in the making: its pairs so far, each with the link before it.
 #[derive(Drop)]
-pub(crate) struct Level<A: Allocator> {
-    rows: Writer<A>,
+pub(crate) struct Level<'a, A: Allocator> {
+    rows: Writer<'a, A>,
     has_pairs: bool,
 }
 
-impl<A: Allocator> Model for Level<A> {
+impl<'a, A: Allocator> Model for Level<'a, A> {
     ghost use Rattle.std.specs.Prelude.{◌≡◌, ℕ, List, Option};
     ghost use Rattle.spec.specs.Tree.{Pair};
     ghost use Rattle.edit.specs.Edges.{has_rows};
@@ -38,9 +40,9 @@ impl<A: Allocator> Model for Level<A> {
     ghost invariant = { λ l. l.has_pairs ≡ has_rows l.rows };
 }
 
-impl<A: Allocator + Clone> Level<A> {
+impl<'a, A: Allocator + Clone> Level<'a, A> {
     /// Without pairs so far.
-    pub(crate) fn new(alloc: A) -> Level<A>
+    pub(crate) fn new(alloc: A) -> Level<'a, A>
         ensures { result ≡ [] }
     {
         Level {
@@ -56,20 +58,21 @@ impl<A: Allocator + Clone> Level<A> {
         self.has_pairs
     }
 
-    /// With a link more and the pair after it.
+    /// With a link more and the pair after it, which may be one of an old node.
     pub(crate) fn with_pair(
         self,
+        node: Option<&NodeView<'a>>,
         link: Option<Cid>,
         key: &[u8],
         value: CidRef<'_>,
-    ) -> Result<Level<A>, DraftFault>
+    ) -> Result<Level<'a, A>, DraftFault>
         ensures ok { IfOk result
-            (λ level. level ≡ self ++ (link, pair_of key.now value.entry) ∷ []) }
+            (λ level. level ≡ self.entry ++ (link, pair_of key.now value.entry) ∷ []) }
         ensures fault { IfErr result
-            (IsFaultOfAll (self ++ (link, pair_of key.now value.entry) ∷ [])) }
+            (IsFaultOfAll (self.entry ++ (link, pair_of key.now value.entry) ∷ [])) }
     {
         let Level { mut rows, .. } = self;
-        rows.pair(link, key, value)?;
+        rows.pair_like(node, link, key, value)?;
         Ok(Level {
             rows,
             has_pairs: true,
@@ -79,11 +82,11 @@ impl<A: Allocator + Clone> Level<A> {
     /// With the pairs of a node that are left, each with the link before it; and the last link.
     pub(crate) fn with_rows(
         self,
-        rows: &mut KeyedEntries<'_, A>,
-    ) -> Result<(Level<A>, Option<Cid>), DraftFault>
-        ensures rows { IfOk result (λ taken. taken.0 ≡ self ++ rows_in_shape rows.old.rest) }
+        rows: &mut KeyedEntries<'a, A>,
+    ) -> Result<(Level<'a, A>, Option<Cid>), DraftFault>
+        ensures rows { IfOk result (λ taken. taken.0 ≡ self.entry ++ rows_in_shape rows.old.rest) }
         ensures last { IfOk result (λ taken. taken.1 ≡ last_link rows.old.rest) }
-        ensures fault { IfErr result (IsFaultOfAll (self ++ rows_in_shape rows.old.rest)) }
+        ensures fault { IfErr result (IsFaultOfAll (self.entry ++ rows_in_shape rows.old.rest)) }
     {
         let Level {
             rows: mut written,
@@ -102,14 +105,14 @@ impl<A: Allocator + Clone> Level<A> {
     pub(crate) fn with_untouched<D: Digest>(
         self,
         layer: u16,
-        rows: &mut KeyedEntries<'_, A>,
+        rows: &mut KeyedEntries<'a, A>,
         changes: &[HashedChange<'_, D>],
-    ) -> Result<(Level<A>, Option<Cid>, Option<Cid>), DraftFault>
+    ) -> Result<(Level<'a, A>, Option<Cid>, Option<Cid>), DraftFault>
         requires { are_ascending changes.now ≡ true }
-        ensures taken { IfOk result (λ taken. IsTaken layer changes.now self
+        ensures taken { IfOk result (λ taken. IsTaken layer changes.now self.entry
             rows.old.rest taken.0 (shape_at taken.1 taken.2 rows.new)) }
         ensures fault { IfErr result
-            (IsUntaken layer changes.now self rows.old.rest) }
+            (IsUntaken layer changes.now self.entry rows.old.rest) }
     {
         let Level {
             rows: mut written,
@@ -124,42 +127,45 @@ impl<A: Allocator + Clone> Level<A> {
         Ok((level, link, value))
     }
 
-    /// The node is complete: its link, and none where it has neither pairs nor a link.
+    /// The node is complete: its link, and none where it has neither pairs nor a link. Where it is the block `like`, it
+    /// isn't hashed.
     pub(crate) fn close<D: Digest>(
         self,
         below: Option<Cid>,
+        like: Option<&Arc<Block<D, A>, A>>,
         made: &mut Made<D, A>,
     ) -> Result<Option<Cid>, DraftFault>
-        ensures closed { IfOk result (λ link. (read : List Shape) → complete D.digest_of self
+        ensures closed { IfOk result (λ link. (read : List Shape) → complete D.digest_of self.entry
             (below, record { read = read; made = shapes_in made.old.items })
             ≡ (link, record { read = read; made = shapes_in made.new.items })) }
-        ensures fault { IfErr result (IsFaultOf (onto_links self (LastLink below))) }
+        ensures fault { IfErr result (IsFaultOf (onto_links self.entry (LastLink below))) }
     {
-        Ok(self.rows.finish(below)?.close(made)?)
+        Ok(self.rows.finish(below)?.close(like, made)?)
     }
 
-    /// The node is complete, and the top of its tree: its CID.
+    /// The node is complete, and the top of its tree: its CID. Where it is the block `like`, it isn't hashed.
     pub(crate) fn close_top<D: Digest>(
         self,
         below: Option<Cid>,
+        like: Option<&Arc<Block<D, A>, A>>,
         made: &mut Made<D, A>,
     ) -> Result<Cid, DraftFault>
         ensures root { IfOk result
-            (λ root. root ≡ shape_cid D.digest_of (onto_links self (LastLink below))) }
+            (λ root. root ≡ shape_cid D.digest_of (onto_links self.entry (LastLink below))) }
         ensures made { IfOk result (λ root. shapes_in made.new.items
-            ≡ shapes_in made.old.items ++ onto_links self (LastLink below) ∷ []) }
-        ensures fault { IfErr result (IsFaultOf (onto_links self (LastLink below))) }
+            ≡ shapes_in made.old.items ++ onto_links self.entry (LastLink below) ∷ []) }
+        ensures fault { IfErr result (IsFaultOf (onto_links self.entry (LastLink below))) }
     {
-        Ok(self.rows.finish(below)?.push(made)?)
+        Ok(self.rows.finish(below)?.push(like, made)?)
     }
 }
 
 /// The pairs of a node that are left come to a node that is written, each with the link before it. Whether that has a pair
 /// then, and the last link.
-fn copy_rows<A: Allocator + Clone>(
-    written: &mut Writer<A>,
+fn copy_rows<'a, A: Allocator + Clone>(
+    written: &mut Writer<'a, A>,
     had_pairs: bool,
-    rows: &mut KeyedEntries<'_, A>,
+    rows: &mut KeyedEntries<'a, A>,
 ) -> Result<(bool, Option<Cid>), DraftFault>
     requires pairs { had_pairs ≡ has_rows written.old }
     ensures rows { OnOk result (written.new ≡ written.old ++ rows_in_shape rows.old.rest) }
@@ -173,18 +179,18 @@ fn copy_rows<A: Allocator + Clone>(
         let Some(value) = rows.next() else {
             return Ok((has_pairs, link));
         };
-        written.pair(link, rows.key(), value)?;
+        written.pair_like(Some(rows.node()), link, rows.key(), value)?;
         has_pairs = true;
     }
 }
 
 /// The next pairs of a node that no change touches come to a node that is written, each with the link before it. Whether
 /// that has a pair then, and what comes after them.
-fn copy_untouched<D: Digest, A: Allocator + Clone>(
-    written: &mut Writer<A>,
+fn copy_untouched<'a, D: Digest, A: Allocator + Clone>(
+    written: &mut Writer<'a, A>,
     had_pairs: bool,
     layer: u16,
-    rows: &mut KeyedEntries<'_, A>,
+    rows: &mut KeyedEntries<'a, A>,
     changes: &[HashedChange<'_, D>],
 ) -> Result<(bool, Option<Cid>, Option<Cid>), DraftFault>
     requires ascending { are_ascending changes.now ≡ true }
@@ -206,10 +212,10 @@ fn copy_untouched<D: Digest, A: Allocator + Clone>(
 }
 
 /// The next pair of a node comes to a node that is written, where no change touches it; else what comes next.
-fn copy_next<D: Digest, A: Allocator + Clone>(
-    written: &mut Writer<A>,
+fn copy_next<'a, D: Digest, A: Allocator + Clone>(
+    written: &mut Writer<'a, A>,
     layer: u16,
-    rows: &mut KeyedEntries<'_, A>,
+    rows: &mut KeyedEntries<'a, A>,
     changes: &[HashedChange<'_, D>],
 ) -> Result<Option<Ahead>, DraftFault>
     requires ascending { are_ascending changes.now ≡ true }
@@ -230,6 +236,6 @@ fn copy_next<D: Digest, A: Allocator + Clone>(
     if !is_untouched(layer, link.is_some(), rows.key(), changes) {
         return Ok(Some((link, Some(value.to_cid()))));
     }
-    written.pair(link, rows.key(), value)?;
+    written.pair_like(Some(rows.node()), link, rows.key(), value)?;
     Ok(None)
 }

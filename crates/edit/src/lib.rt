@@ -50,6 +50,7 @@ mod outcome;
 mod passing;
 mod places;
 mod read_nodes;
+mod shown;
 mod singles;
 mod tasks;
 mod tops;

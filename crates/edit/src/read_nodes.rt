@@ -17,6 +17,12 @@ use std::sync::Arc;
 #[derive(Drop)]
 pub(crate) struct ReadNode<'a, D: Digest, A: Allocator = Global> {
     lent: Lent<'a, D, A>,
+
+    /// How many layers below the top of the new tree it was read.
+    depth: usize,
+
+    /// How many were read up to the one read last on a layer above its own.
+    above: usize,
 }
 
 impl<'a, D: Digest, A: Allocator> Model for ReadNode<'a, D, A> {
@@ -34,12 +40,12 @@ impl<'a, D: Digest, A: Allocator> Model for ReadNode<'a, D, A> {
 }
 
 impl<'a, D: Digest, A: Allocator> ReadNode<'a, D, A> {
-    /// A block that was read as a node.
-    pub(crate) fn of(lent: Lent<'a, D, A>) -> ReadNode<'a, D, A>
+    /// A block that was read as a node, at this depth. So many were read up to the one read last on a layer above its own.
+    pub(crate) fn of(lent: Lent<'a, D, A>, depth: usize, above: usize) -> ReadNode<'a, D, A>
         requires { IsNodeOf (arc_value lent) (shape_in (arc_value lent)) }
         ensures { result ≡ lent.entry }
     {
-        ReadNode { lent }
+        ReadNode { lent, depth, above }
     }
 
     /// The block as it was lent.
@@ -57,4 +63,23 @@ impl<'a, D: Digest, A: Allocator> ReadNode<'a, D, A> {
     {
         self.lent.block()
     }
+}
+
+/// How many of these nodes were read up to the last one of this depth or less. All that were read after it lie deeper.
+///
+/// Each node says where the next one above it stands, so that one node a layer is looked at. No contract says what is
+/// answered: who asks compares bytes.
+pub(crate) fn count_to<D: Digest, A: Allocator>(
+    read: &[ReadNode<'_, D, A>],
+    depth: usize,
+) -> usize {
+    let mut count = read.len();
+    while count > 0 {
+        let node = &read[count - 1];
+        if node.depth <= depth {
+            return count;
+        }
+        count = node.above.min(count - 1);
+    }
+    0
 }

@@ -6,6 +6,7 @@ ghost use Rattle.spec.specs.Layer.{layer as layer_of};
 ghost use Rattle.spec.specs.NodeFormat.{is_key, Shape};
 ghost use Rattle.spec.specs.Proof.{path};
 ghost use Rattle.edit_laws.specs.Laws.Edits.{bytes_of};
+ghost use Rattle.edit.specs.Changing.{HasPrevious, IsChanged, IsReadFor, IsUnchanged};
 ghost use Rattle.edit.specs.Deletes.{CanReadDelete, nodes_read};
 ghost use Rattle.lookups.specs.Steps.{layers, IsWholePath, nodes_given};
 ghost use Rattle.lookups.specs.Trees.{OfTree, top_layer};
@@ -121,21 +122,12 @@ fn change_one<
     value: Option<Cid>,
 ) -> Result<Changed<'a, D, A>, Fault>
     requires least { 1 ≤ B }
-    ensures changed { IfOk result (λ changed. IsEnded
-        (answer_of D.digest_of B (S.gives src.old) ((key.now, value) ∷ []) root)
-        changed.root changed.gone (log_in changed.edge)) }
-    ensures previous { (top : Shape) → nodes_given (S.gives src.old) root ≡ Some top
-        → IfOk result (λ changed. changed.previous.items ≡ previous_top
-        (nodes_given (S.gives src.old)) (layer_of D.digest_of B) ((key.now, value) ∷ []) top) }
-    ensures counted { IfOk result (λ changed.
-        S.reads src.new ≡ S.reads src.old + length changed.edge.read.items) }
+    ensures changed { IsChanged D.digest_of B (S.gives src.old) ((key.now, value) ∷ []) root result }
+    ensures previous { HasPrevious D.digest_of B (S.gives src.old) ((key.now, value) ∷ []) root result }
+    ensures counted { IsReadFor (S.reads src.old) (S.reads src.new) result }
     ensures same { S.gives src.new ≡ S.gives src.old }
-    ensures stopped { IfErr result (IsStopped (S.gives src.old) (
-      S.reads src.old,
-      most_of D.digest_of B (S.gives src.old) ((key.now, value) ∷ []) root,
-    )
-        (S.reads src.new) (record { read = []; made = [] })
-        (at_top (answer_of D.digest_of B (S.gives src.old) ((key.now, value) ∷ []) root))) }
+    ensures stopped { IsUnchanged D.digest_of B (S.gives src.old) ((key.now, value) ∷ []) root
+        (S.reads src.old) (S.reads src.new) result }
     ensures most { S.reads src.new
         ≤ S.reads src.old + suc (most_reads (256 / B) ((key.now, value) ∷ [])) }
 {

@@ -5,7 +5,7 @@ ghost use Rattle.lookups.specs.Steps.{nodes_given};
 ghost use Rattle.batch_laws.specs.Links.{Rows, closing, new_top, pruning, topping};
 ghost use Rattle.edit.specs.Edges.{edge_of, highest_of};
 ghost use Rattle.edit.specs.Stops.{IsRefused, IsStopped, IsUnread, at_top};
-ghost use Rattle.edit.specs.States.{edge_in, log_in, IsCounted};
+ghost use Rattle.edit.specs.States.{edge_in, log_in, IsCountedOn};
 ghost use Rattle.edit.specs.Tops.{IsTopped, IsLooked, IsTop, IsEnded};
 
 use crate::edge::Edge;
@@ -18,7 +18,7 @@ use std::alloc::Allocator;
 use std::clone::Clone;
 
 /// The depth of the highest layer with a pair, or how many layers are open where none has one.
-fn highest<A: Allocator + Clone>(levels: &[Level<A>]) -> usize
+fn highest<A: Allocator + Clone>(levels: &[Level<'_, A>]) -> usize
     ensures depth { result ≡ highest_of levels.now }
     ensures within { result ≤ length levels.now }
 {
@@ -49,7 +49,8 @@ impl<'a, D: Digest, A: Allocator + Clone> Edge<'a, D, A> {
         let Some(level) = self.levels.pop() else {
             unreachable!()
         };
-        level.close_top(link, &mut self.made)
+        let like = self.read_last();
+        level.close_top(link, like, &mut self.made)
     }
 }
 
@@ -62,13 +63,13 @@ impl<'a, D: Digest + 'a, A: Allocator + Clone + 'a> Edge<'a, D, A> {
     ) -> Result<Option<Cid>, Fault>
         ensures looked { IfOk result (λ further. IsLooked (nodes_given (S.gives src.old)) cid
             (log_in self.old) further (log_in self.new)) }
-        ensures counted { OnOk result (IsCounted (S.reads src.old, self.old.left)
-            (S.reads src.new, self.new.left) (log_in self.old) (log_in self.new)) }
+        ensures counted { OnOk result (IsCountedOn (S.reads src.old) self.old (S.reads src.new) self.new) }
         ensures same { S.gives src.new ≡ S.gives src.old }
         ensures unread { IfErr result (IsUnread (S.gives src.old) (S.reads src.old, self.old.left)
             (S.reads src.new) (nodes_given (S.gives src.old) cid)) }
     {
-        let mut rows = self.rows(src, cid)?;
+        // no layer is closed after this, so nothing asks for its depth
+        let mut rows = self.rows(src, 0, cid)?;
         let link = to_cid(rows.link());
         match rows.next() {
             Some(_) => Ok(None),
@@ -85,8 +86,7 @@ impl<'a, D: Digest + 'a, A: Allocator + Clone + 'a> Edge<'a, D, A> {
     ) -> Result<Cid, Fault>
         ensures top { IfOk result (λ root. IsTop (pruning (nodes_given (S.gives src.old))
             layers cid (log_in self.old)) root 1 (log_in self.new)) }
-        ensures counted { OnOk result (IsCounted (S.reads src.old, self.old.left)
-            (S.reads src.new, self.new.left) (log_in self.old) (log_in self.new)) }
+        ensures counted { OnOk result (IsCountedOn (S.reads src.old) self.old (S.reads src.new) self.new) }
         ensures same { S.gives src.new ≡ S.gives src.old }
         ensures stopped { IfErr result (IsStopped (S.gives src.old) (S.reads src.old, self.old.left)
             (S.reads src.new) (log_in self.old) (at_top (pruning (nodes_given (S.gives src.old))
@@ -113,8 +113,7 @@ impl<'a, D: Digest + 'a, A: Allocator + Clone + 'a> Edge<'a, D, A> {
         ensures ended { IfOk result (λ ended. IsEnded (topping D.digest_of
             (nodes_given (S.gives src.old)) layers (edge_in self.old) (log_in self.old))
             ended.0 ended.1 (log_in self.new)) }
-        ensures counted { OnOk result (IsCounted (S.reads src.old, self.old.left)
-            (S.reads src.new, self.new.left) (log_in self.old) (log_in self.new)) }
+        ensures counted { OnOk result (IsCountedOn (S.reads src.old) self.old (S.reads src.new) self.new) }
         ensures same { S.gives src.new ≡ S.gives src.old }
         ensures stopped { IfErr result (IsStopped (S.gives src.old) (S.reads src.old, self.old.left)
             (S.reads src.new) (log_in self.old) (at_top (topping D.digest_of
@@ -126,7 +125,8 @@ impl<'a, D: Digest + 'a, A: Allocator + Clone + 'a> Edge<'a, D, A> {
             return Ok((root, self.read.len()));
         }
         let Some(cid) = self.rest else {
-            let root = Level::new(self.alloc()?).close_top(None, &mut self.made)?;
+            let like = self.read_last();
+            let root = Level::new(self.alloc()?).close_top(None, like, &mut self.made)?;
             return Ok((root, self.read.len()));
         };
         let root = self.prune(src, layers, cid)?;

@@ -11,7 +11,7 @@ ghost use Rattle.batch_laws.specs.Walking.{depth_of};
 ghost use Rattle.batch_laws.specs.Links.{pairs_in_turn};
 ghost use Rattle.edit.specs.Agenda.{ToGap, IsPutOff, IsGoneOn, IsDone, node_does, task_does};
 ghost use Rattle.edit.specs.Stops.{IsStopped};
-ghost use Rattle.edit.specs.States.{edge_in, log_in, IsCounted};
+ghost use Rattle.edit.specs.States.{edge_in, log_in, IsCountedOn};
 ghost use Rattle.edit.specs.Places.{are_ascending};
 ghost use Rattle.edit.specs.Agendas.{agenda_of, task_of, gap_of};
 ghost use Rattle.edit.specs.Passing.{IsUnpassed};
@@ -23,6 +23,7 @@ use crate::hashed::HashedChange;
 use crate::tasks::{Agenda, NextGap, NextPair, Task};
 use cid::{Cid, CidRef, Digest};
 use lookups::{Lent, Source};
+use node::NodeView;
 use rows::{DraftFault, KeyedEntries};
 use std::alloc::{AllocError, Allocator};
 use std::clone::Clone;
@@ -112,8 +113,7 @@ impl<'a, D: Digest + 'a, A: Allocator + Clone + 'a> Edge<'a, D, A> {
             (edge_in self.old) (log_in self.old) ≡ Some (edge_in self.new, log_in self.new)) }
         ensures previous { OnOk result
             (previous.new.items ≡ previous.old.items ++ no_values changes.now) }
-        ensures counted { OnOk result (IsCounted (S.reads src.old, self.old.left)
-            (S.reads src.new, self.new.left) (log_in self.old) (log_in self.new)) }
+        ensures counted { OnOk result (IsCountedOn (S.reads src.old) self.old (S.reads src.new) self.new) }
         ensures same { S.gives src.new ≡ S.gives src.old }
         ensures stopped { IfErr result (IsStopped (S.gives src.old) (S.reads src.old, self.old.left)
             (S.reads src.new) (log_in self.old) (pairs_in_turn D.digest_of
@@ -138,8 +138,7 @@ impl<'a, D: Digest + 'a, A: Allocator + Clone + 'a> Edge<'a, D, A> {
         ensures put { OnOk result (pairs_in_turn D.digest_of (nodes_given (S.gives src.old))
             (depth_of (layer_of D.digest_of B) layers) (if_put change.now.0 change.now.1 [])
             (edge_in self.old) (log_in self.old) ≡ Some (edge_in self.new, log_in self.new)) }
-        ensures counted { OnOk result (IsCounted (S.reads src.old, self.old.left)
-            (S.reads src.new, self.new.left) (log_in self.old) (log_in self.new)) }
+        ensures counted { OnOk result (IsCountedOn (S.reads src.old) self.old (S.reads src.new) self.new) }
         ensures same { S.gives src.new ≡ S.gives src.old }
         ensures stopped { IfErr result (IsStopped (S.gives src.old) (S.reads src.old, self.old.left)
             (S.reads src.new) (log_in self.old) (pairs_in_turn D.digest_of
@@ -150,7 +149,7 @@ impl<'a, D: Digest + 'a, A: Allocator + Clone + 'a> Edge<'a, D, A> {
             return Ok(());
         };
         let depth = usize::from(layers.saturating_sub(change.layers::<B>()));
-        self.pair(src, depth, change.key(), CidRef::from(&value))
+        self.pair(src, depth, None, change.key(), CidRef::from(&value))
     }
 
     /// What comes in a gap: its changes where nothing stands there, its subtree where nothing changes; else the subtree's
@@ -168,8 +167,7 @@ impl<'a, D: Digest + 'a, A: Allocator + Clone + 'a> Edge<'a, D, A> {
             (layer_of D.digest_of B) layers (ToGap (gap_of gap.entry)) (agenda_of agenda.old.items)
             (edge_in self.old) (log_in self.old) previous.old.items
             (agenda_of agenda.new.items) (edge_in self.new) (log_in self.new) previous.new.items) }
-        ensures counted { OnOk result (IsCounted (S.reads src.old, self.old.left)
-            (S.reads src.new, self.new.left) (log_in self.old) (log_in self.new)) }
+        ensures counted { OnOk result (IsCountedOn (S.reads src.old) self.old (S.reads src.new) self.new) }
         ensures same { S.gives src.new ≡ S.gives src.old }
         ensures stopped { IfErr result (IsStopped (S.gives src.old) (S.reads src.old, self.old.left)
             (S.reads src.new) (log_in self.old) (task_does D.digest_of
@@ -188,7 +186,7 @@ impl<'a, D: Digest + 'a, A: Allocator + Clone + 'a> Edge<'a, D, A> {
             self.subtree(src, usize::from(gap.depth), gap.layer, cid)?;
             return Ok(());
         }
-        let rows = self.rows(src, cid)?;
+        let rows = self.rows(src, usize::from(gap.depth), cid)?;
         Ok(self.go_on(agenda, gap.layer - 1, gap.depth, rows, gap.changes)?)
     }
 
@@ -197,6 +195,7 @@ impl<'a, D: Digest + 'a, A: Allocator + Clone + 'a> Edge<'a, D, A> {
         &mut self,
         src: &mut S,
         depth: u16,
+        node: &NodeView<'a>,
         key: &[u8],
         value: CidRef<'_>,
         at: Option<Option<Cid>>,
@@ -207,8 +206,7 @@ impl<'a, D: Digest + 'a, A: Allocator + Clone + 'a> Edge<'a, D, A> {
             (edge_in self.old) (log_in self.old) ≡ Some (edge_in self.new, log_in self.new)) }
         ensures previous { OnOk result (previous.new.items ≡ previous.old.items
             ++ value_met at (pair_of key.now value.entry)) }
-        ensures counted { OnOk result (IsCounted (S.reads src.old, self.old.left)
-            (S.reads src.new, self.new.left) (log_in self.old) (log_in self.new)) }
+        ensures counted { OnOk result (IsCountedOn (S.reads src.old) self.old (S.reads src.new) self.new) }
         ensures same { S.gives src.new ≡ S.gives src.old }
         ensures stopped { IfErr result (IsStopped (S.gives src.old) (S.reads src.old, self.old.left)
             (S.reads src.new) (log_in self.old) (pairs_in_turn D.digest_of
@@ -216,13 +214,13 @@ impl<'a, D: Digest + 'a, A: Allocator + Clone + 'a> Edge<'a, D, A> {
             (edge_in self.old) (log_in self.old))) }
     {
         let Some(change) = at else {
-            return self.pair(src, usize::from(depth), key, value);
+            return self.pair(src, usize::from(depth), Some(node), key, value);
         };
         previous.push(Some(value.to_cid()))?;
         let Some(new) = change else {
             return Ok(());
         };
-        self.pair(src, usize::from(depth), key, CidRef::from(&new))
+        self.pair(src, usize::from(depth), Some(node), key, CidRef::from(&new))
     }
 
     /// One task.
@@ -239,8 +237,7 @@ impl<'a, D: Digest + 'a, A: Allocator + Clone + 'a> Edge<'a, D, A> {
             (layer_of D.digest_of B) layers (task_of task.entry) (agenda_of agenda.old.items)
             (edge_in self.old) (log_in self.old) previous.old.items
             (agenda_of agenda.new.items) (edge_in self.new) (log_in self.new) previous.new.items) }
-        ensures counted { OnOk result (IsCounted (S.reads src.old, self.old.left)
-            (S.reads src.new, self.new.left) (log_in self.old) (log_in self.new)) }
+        ensures counted { OnOk result (IsCountedOn (S.reads src.old) self.old (S.reads src.new) self.new) }
         ensures same { S.gives src.new ≡ S.gives src.old }
         ensures stopped { IfErr result (IsStopped (S.gives src.old) (S.reads src.old, self.old.left)
             (S.reads src.new) (log_in self.old) (task_does D.digest_of
@@ -253,6 +250,7 @@ impl<'a, D: Digest + 'a, A: Allocator + Clone + 'a> Edge<'a, D, A> {
                 self.entry(
                     src,
                     next.depth,
+                    next.rest.node(),
                     next.rest.key(),
                     CidRef::from(&next.value),
                     next.at,
@@ -281,8 +279,7 @@ impl<'a, D: Digest + 'a, A: Allocator + Clone + 'a> Edge<'a, D, A> {
             (edge_in self.old) (log_in self.old) ≡ Some (edge_in self.new, log_in self.new)) }
         ensures previous { IfOk result (λ previous. previous.items ≡ previous_node
             (previous_gap (nodes_given (S.gives src.old)) layer) changes.now rows.entry.rest) }
-        ensures counted { OnOk result (IsCounted (S.reads src.old, self.old.left)
-            (S.reads src.new, self.new.left) (log_in self.old) (log_in self.new)) }
+        ensures counted { OnOk result (IsCountedOn (S.reads src.old) self.old (S.reads src.new) self.new) }
         ensures same { S.gives src.new ≡ S.gives src.old }
         ensures stopped { IfErr result (IsStopped (S.gives src.old) (S.reads src.old, self.old.left)
             (S.reads src.new) (log_in self.old) (node_does D.digest_of

@@ -7,6 +7,7 @@ ghost use Rattle.spec.specs.NodeFormat.{Shape};
 ghost use Rattle.batch_laws.specs.Counts.{most_reads};
 ghost use Rattle.batch_laws.specs.Previous.{previous_top};
 ghost use Rattle.edit.specs.Batches.{answer_of, most_of};
+ghost use Rattle.edit.specs.Changing.{HasPrevious, IsChanged, IsReadFor, IsUnchanged};
 ghost use Rattle.edit.specs.Places.{are_ascending};
 ghost use Rattle.edit.specs.States.{log_in};
 ghost use Rattle.edit.specs.Stops.{IsStopped, at_top};
@@ -55,25 +56,17 @@ pub(crate) fn change_tree<
 ) -> Result<Changed<'a, D, A>, Fault>
     requires least { 1 ≤ B }
     requires ascending { are_ascending changes.now ≡ true }
-    ensures changed { IfOk result (λ changed. IsEnded
-        (answer_of D.digest_of B (S.gives src.old) changes.now root)
-        changed.root changed.gone (log_in changed.edge)) }
-    ensures previous { (top : Shape) → nodes_given (S.gives src.old) root ≡ Some top
-        → IfOk result (λ changed. changed.previous.items ≡ previous_top
-        (nodes_given (S.gives src.old)) (layer_of D.digest_of B) changes.now top) }
-    ensures counted { IfOk result (λ changed.
-        S.reads src.new ≡ S.reads src.old + length changed.edge.read.items) }
+    ensures changed { IsChanged D.digest_of B (S.gives src.old) changes.now root result }
+    ensures previous { HasPrevious D.digest_of B (S.gives src.old) changes.now root result }
+    ensures counted { IsReadFor (S.reads src.old) (S.reads src.new) result }
     ensures same { S.gives src.new ≡ S.gives src.old }
-    ensures stopped { IfErr result (IsStopped (S.gives src.old) (
-      S.reads src.old,
-      most_of D.digest_of B (S.gives src.old) changes.now root,
-    )
-        (S.reads src.new) (record { read = []; made = [] })
-        (at_top (answer_of D.digest_of B (S.gives src.old) changes.now root))) }
+    ensures stopped { IsUnchanged D.digest_of B (S.gives src.old) changes.now root
+        (S.reads src.old) (S.reads src.new) result }
     ensures most { S.reads src.new ≤ S.reads src.old + suc (most_reads (256 / B) changes.now) }
 {
     let mut edge: Edge<'a, D, A> = Edge::new(alloc.clone()?)?;
-    let view = edge.view(src, root)?;
+    // how deep it lies in the new tree is known once it is read, and nothing is read above it
+    let view = edge.view(src, 0, root)?;
     let top = top_layer::<D, B>(&view);
     edge.left = most_reads_below(top, changes);
     let layers = layers_for(top, layers_of_puts::<D, B>(changes));

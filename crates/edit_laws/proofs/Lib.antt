@@ -41,11 +41,9 @@ pub mod LookupTheorems
 pub mod WalkRanges
 pub mod WalkTheorems
 pub mod DeleteReads
-pub mod RecordTheorems
 -- ---- how often a repository's blocks are used
 pub mod RecordCounts
 pub mod Using
 pub mod BlockSources
 pub mod Writing
 pub mod StagedBatches
-pub mod Examples

@@ -1,18 +1,15 @@
 -- The pairs of an edit are those of the standard library's sorted lists, and of record maps.
-use Rattle.std.proofs.Common.{◌≡◌, ℕ, Bool, true, false, cond, not, List, [], ◌∷◌, None, refl, sym, ap, ◌∙◌}
+use Rattle.std.proofs.Common.{◌≡◌, ℕ, Bool, true, false, not, List, [], ◌∷◌, None, refl, sym, ap, ◌∙◌}
 use Rattle.std.specs.Str.{bytes_eq}
 use Rattle.std.specs.Ordering.{nat_cmp, is_lt, ordering_reverse}
 use Rattle.std.specs.Cmp.Lexicographic.{slice_cmp}
 use Rattle.std.specs.declared.cmp.Ordering.{Ordering}
 use Rattle.std.specs.declared.cmp.Ordering.TheVariants.{Less, Equal, Greater}
 use Rattle.std.specs.FinMap.{is_sorted, find, put}
-use Rattle.std.specs.FinMap.Entries.{below_all, where_key, by_order}
+use Rattle.std.specs.FinMap.Entries.{below_all, where_key}
 use Rattle.std.proofs.lemmas.Cmp.{nat_list_cmp_total}
 use Rattle.std.proofs.lemmas.Slice.Eq.{bytes_eq-Decides}
-use Rattle.spec.specs.Cid.{cid}
 use Rattle.spec.specs.Tree.{Pair}
-use Rattle.spec.specs.Blocks.{pairs}
-use Rattle.spec.specs.Writes.{with_key}
 use Rattle.spec.proofs.NodeLaws.{both}
 use Rattle.edit_laws.specs.Order.{order}
 use Rattle.edit_laws.specs.Pairs.{Each, IsAfter, Ascending, put_first, put_pair, delete_first, delete_pair, value_first, value_in}
@@ -104,33 +101,3 @@ pub delete-is : (key : List ℕ) (es : List Pair) → Ascending es
     → where_key (slice_cmp nat_cmp) (λ k. not (bytes_eq key k)) es ≡ delete_pair key es
 delete-is key [] h = refl
 delete-is key (e ∷ es) h = without-case key e es (order e.0 key) refl h.0 (delete-is key es h.1)
-
--- ---- the pairs of a record map after a write
-
--- a put
-pub pairs-put : (digest : List ℕ → List ℕ) (m : List (List ℕ × List ℕ)) (key bytes : List ℕ)
-    → pairs digest (with_key m key bytes) ≡ put (slice_cmp nat_cmp) key (cid digest bytes) (pairs digest m)
-pairs-put digest [] key bytes = refl
-pairs-put digest (e ∷ m) key bytes =
-    elim (slice_cmp nat_cmp key e.0) as
-    (λ o. pairs digest (by_order o ((key, bytes) ∷ e ∷ m) ((e.0, bytes) ∷ m) (e ∷ with_key m key bytes))
-    ≡ by_order o ((key, cid digest bytes) ∷ (e.0, cid digest e.1) ∷ pairs digest m)
-    ((e.0, cid digest bytes) ∷ pairs digest m)
-    ((e.0, cid digest e.1) ∷ put (slice_cmp nat_cmp) key (cid digest bytes) (pairs digest m))) [
-      | Less ↦ refl
-      | Equal ↦ refl
-      | Greater ↦ ap (λ (t : List Pair). (e.0, cid digest e.1) ∷ t) (pairs-put digest m key bytes)
-    ]
-
--- and a filter of keys
-pub pairs-filter : (digest : List ℕ → List ℕ) (p : List ℕ → Bool) (m : List (List ℕ × List ℕ))
-    → pairs digest (where_key (slice_cmp nat_cmp) p m) ≡ where_key (slice_cmp nat_cmp) p (pairs digest m)
-pairs-filter digest p [] = refl
-pairs-filter digest p (e ∷ m) =
-    elim (p e.0) as (λ t. pairs digest
-    (cond t (e ∷ where_key (slice_cmp nat_cmp) p m) (where_key (slice_cmp nat_cmp) p m))
-    ≡ cond t ((e.0, cid digest e.1) ∷ where_key (slice_cmp nat_cmp) p (pairs digest m))
-    (where_key (slice_cmp nat_cmp) p (pairs digest m))) [
-      | true ↦ ap (λ (t : List Pair). (e.0, cid digest e.1) ∷ t) (pairs-filter digest p m)
-      | false ↦ pairs-filter digest p m
-    ]

@@ -1,5 +1,5 @@
 -- The top of a tree: its layer, its pruning, and a look-up from it on.
-use Rattle.std.proofs.Common.{◌≡◌, ◌⊎◌, ℕ, zero, suc, ◌+◌, ◌-◌, ◌<◌, ◌≤◌, max, Bool, true, false, nat_eq, List, [], ◌∷◌, ◌++◌, refl, sym, ap, subst, ◌∙◌, arith, inl, inr}
+use Rattle.std.proofs.Common.{◌≡◌, ◌⊎◌, ℕ, zero, suc, ◌<◌, ◌≤◌, max, Bool, true, false, nat_eq, List, [], ◌∷◌, ◌++◌, refl, sym, ap, subst, ◌∙◌, arith, inl, inr}
 use Rattle.std.proofs.lemmas.Bool.{eqb-false, eqb-true, ne_eqb, cases_lt}
 use Rattle.spec.specs.Tree.{Pair, Part, Last, Sub, Groups, LastGroup, MoreGroups, push, enter, cut, node_of, below, tree, top_layer, top}
 use Rattle.edit_laws.specs.TreeEdit.{layer_of, prune, find}

@@ -1,5 +1,5 @@
 -- Numbers over all nodes: of two lists, and of a node that is put together.
-use Rattle.std.proofs.Common.{◌≡◌, ℕ, ◌+◌, ◌-◌, List, [], ◌∷◌, ◌++◌, refl, arith}
+use Rattle.std.proofs.Common.{◌≡◌, ℕ, ◌+◌, List, [], ◌∷◌, ◌++◌, refl, arith}
 use Rattle.spec.specs.Tree.{Pair, Node, Part, Last, More, Nothing, Sub}
 use Rattle.edit_laws.specs.TreeEdit.{onto, close}
 use Rattle.edit_laws.specs.Trace.{weight, weight_under, total, made_close}

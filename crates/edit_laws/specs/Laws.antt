@@ -2,7 +2,5 @@
 pub mod Lookups
 pub mod Walks
 pub mod Edits
-pub mod Records
 pub mod Sources
 pub mod Uses
-pub mod Staging

@@ -95,33 +95,16 @@ fn node_in_the_room_of_another(rt: HostRuntime) {
     assert!(rt; bytes == two_entries(&rt, rt.alloc()));
 }
 
-/// Whether the node of two entries becomes a node of these, with a link put into the gap next to a key.
-fn becomes(
-    rt: &impl Abort,
-    alloc: Global,
-    link: Cid,
-    key: &[u8],
-    left: Left,
-    entries: &[Entry<'_>],
-) -> bool {
-    let bytes = two_entries(rt, alloc);
-    let view = NodeView::parse(&bytes).expect(rt, "a node");
-    let with_link = view.with_link(alloc, key, Some(link));
-    with_link.expect(rt, "memory for a node") == written(rt, alloc, left, entries)
-}
-
 #[test]
-fn a_link_put_into_each_gap(rt: HostRuntime) {
+fn another_link_before_all_entries(rt: HostRuntime) {
     let value = identifier(&rt, 0x11);
     let link = identifier(&rt, 0x22);
-    let first: [Entry<'_>; 2] = [(b"a/b", value, None), (b"a/cd", value, None)];
-    let middle: [Entry<'_>; 2] = [(b"a/b", value, Some(link)), (b"a/cd", value, None)];
-    let last: [Entry<'_>; 2] = [(b"a/b", value, None), (b"a/cd", value, Some(link))];
-    assert!(rt;
-        becomes(&rt, rt.alloc(), link, b"a/a", Some(link), &first)
-            && becomes(&rt, rt.alloc(), link, b"a/c", None, &middle)
-            && becomes(&rt, rt.alloc(), link, b"a/d", None, &last)
-    );
+    let entries: [Entry<'_>; 2] = [(b"a/b", value, None), (b"a/cd", value, None)];
+    let bytes = two_entries(&rt, rt.alloc());
+    let view = NodeView::parse(&bytes).expect(&rt, "a node");
+    let linked = view.with_link_at(rt.alloc(), 0, view.left(), Some(link));
+    let linked = linked.expect(&rt, "memory for a node");
+    assert!(rt; linked == written(&rt, rt.alloc(), Some(link), &entries));
 }
 
 /// The bytes of a node of the keys `ka` to `kz`, with this one identifier for each value and each link.

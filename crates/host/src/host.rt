@@ -25,7 +25,7 @@ use store::Shards;
 /// is dropped gives its blocks back, as one that closes does.
 ///
 /// A contract sees its queue, its published versions, how many repositories it has, and how many writes each may have.
-pub struct Host<D: Digest, const B: u8, A: Allocator = Global> {
+pub struct Host<D: Digest, const B: u8, A: Allocator + Clone = Global> {
     pub(crate) queue: Queue<A>,
     pub(crate) repositories: Vec<Repository<D, B, A>, A>,
     pub(crate) limit: usize,
@@ -35,7 +35,7 @@ pub struct Host<D: Digest, const B: u8, A: Allocator = Global> {
     pub(crate) shelf: Shelf<D, B, A>,
 }
 
-impl<D: Digest, const B: u8, A: Allocator> Model for Host<D, B, A> {
+impl<D: Digest, const B: u8, A: Allocator + Clone> Model for Host<D, B, A> {
     ghost use Rattle.std.specs.Prelude.{◌≡◌, ◌≤◌, length, vec_len, vec_capacity};
     ghost use Rattle.host.specs.Views.{HostView};
 
@@ -54,7 +54,7 @@ impl<D: Digest, const B: u8, A: Allocator> Model for Host<D, B, A> {
 
 /// A host that was opened: a seat for each writer, in the order of their numbers, and the feed of its queue.
 #[derive(Drop)]
-pub struct Opened<D: Digest, const B: u8, A: Allocator = Global> {
+pub struct Opened<D: Digest, const B: u8, A: Allocator + Clone = Global> {
     /// The host.
     pub host: Host<D, B, A>,
     /// The seat of each writer, at the place of its number.
@@ -63,7 +63,7 @@ pub struct Opened<D: Digest, const B: u8, A: Allocator = Global> {
     pub feed: Feed<A>,
 }
 
-impl<D: Digest, const B: u8, A: Allocator> Host<D, B, A> {
+impl<D: Digest, const B: u8, A: Allocator + Clone> Host<D, B, A> {
     /// How many repositories there are.
     pub fn repos(&self) -> usize
         ensures repos { result ≡ self.now.repos }
@@ -124,7 +124,7 @@ fn take_out<D: Digest, const B: u8, A: Allocator>(
     room
 }
 
-impl<D: Digest, const B: u8, A: Allocator> Drop for Host<D, B, A> {
+impl<D: Digest, const B: u8, A: Allocator + Clone> Drop for Host<D, B, A> {
     fn drop(self) {
         let Host {
             queue: _,
@@ -139,7 +139,7 @@ impl<D: Digest, const B: u8, A: Allocator> Drop for Host<D, B, A> {
     }
 }
 
-impl<D: Digest, const B: u8, A: Allocator> Host<D, B, A> {
+impl<D: Digest, const B: u8, A: Allocator + Clone> Host<D, B, A> {
     /// Takes cores and tables out of their locks, and compares them with each other and with what writers have seen.
     ///
     /// These must be all writers and the feed that `Host::open` gave. Where all agree, it answers the closed host; otherwise

@@ -21,7 +21,7 @@ use std::alloc::{AllocError, Allocator};
 use std::sync::Wait;
 use store::LockedShards;
 
-impl<D: Digest, const B: u8, A: Allocator> Host<D, B, A> {
+impl<D: Digest, const B: u8, A: Allocator + Clone> Host<D, B, A> {
     /// The repository of this number, of which so many accepted writes were seen.
     pub(crate) fn wanted(&self, repo: usize, seen: u64) -> Wanted
         requires { repo < self.now.repos }

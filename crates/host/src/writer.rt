@@ -33,7 +33,7 @@ use std::sync::Wait;
 ///
 /// A contract sees its host, how often the queue was full, modulo 2^64, its pass, the notices that it keeps, and what it has seen.
 #[derive(Drop)]
-pub struct Writer<'a, D: Digest, const B: u8, A: Allocator = Global> {
+pub struct Writer<'a, D: Digest, const B: u8, A: Allocator + Clone = Global> {
     pub(crate) host: &'a Host<D, B, A>,
     // the same once more: of a slice that has an element it is known that a host fits in memory
     pub(crate) hosts: &'a [Host<D, B, A>],
@@ -43,7 +43,7 @@ pub struct Writer<'a, D: Digest, const B: u8, A: Allocator = Global> {
     pub(crate) seen: Vec<u64, A>,
 }
 
-impl<'a, D: Digest, const B: u8, A: Allocator> Model for Writer<'a, D, B, A> {
+impl<'a, D: Digest, const B: u8, A: Allocator + Clone> Model for Writer<'a, D, B, A> {
     ghost use Rattle.host.specs.Views.{WriterView, IsWriting};
 
     ghost Value = { WriterView };
@@ -60,7 +60,7 @@ impl<'a, D: Digest, const B: u8, A: Allocator> Model for Writer<'a, D, B, A> {
         IsWriting w.host.now w.hosts.now w.sender w.kept.items w.last w.seen.items };
 }
 
-impl<'a, D: Digest, const B: u8, A: Allocator> Writer<'a, D, B, A> {
+impl<'a, D: Digest, const B: u8, A: Allocator + Clone> Writer<'a, D, B, A> {
     /// How many repositories its host has.
     fn repos(&self) -> usize
         ensures repos { result ≡ self.now.host.repos }
@@ -253,7 +253,7 @@ impl<'a, D: Digest, const B: u8, A: Allocator + Copy> Writer<'a, D, B, A> {
     }
 }
 
-impl<'a, D: Digest, const B: u8, A: Allocator> Writer<'a, D, B, A> {
+impl<'a, D: Digest, const B: u8, A: Allocator + Clone> Writer<'a, D, B, A> {
     /// Pushes the kept notices in order until the queue is full, and answers how many are still kept. It takes no memory, and waits
     /// for nothing but the queue's own steps.
     pub fn flush<R: Wait>(&mut self, rt: &R) -> usize

@@ -15,7 +15,7 @@ use std::sync::Wait;
 
 /// A host with one writer.
 #[derive(Drop)]
-pub(crate) struct Alone<D: Digest, const B: u8, A: Allocator = Global> {
+pub(crate) struct Alone<D: Digest, const B: u8, A: Allocator + Clone = Global> {
     pub(crate) host: Host<D, B, A>,
     pub(crate) seat: Seat<A>,
     pub(crate) feed: Feed<A>,

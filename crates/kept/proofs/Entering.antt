@@ -1,6 +1,6 @@
 -- The cores that a core's calls enter in its store.
-use Rattle.std.proofs.Common.{◌≡◌, ℕ, ◌<◌, List, length, refl, ap, sym, ◌∙◌, subst, cond, Bool, true, false, arith, nat_eq}
-use Rattle.std.specs.Prelude.{◌≢◌, Option, Some, None, Result, Ok, Err, is_some, ◌&&◌}
+use Rattle.std.proofs.Common.{◌≡◌, ℕ, ◌<◌, List, length, refl, ap, sym, ◌∙◌, cond, Bool, true, false, arith, nat_eq}
+use Rattle.std.specs.Prelude.{◌≢◌, Option, Some, None, Result, Ok, is_some, ◌&&◌}
 use Rattle.std.specs.Arc.{arc_value}
 use Rattle.std.proofs.lemmas.Bool.Decides.{nat_tests}
 use Rattle.std.specs.BTreeMap.{is_at}
@@ -13,15 +13,13 @@ use Rattle.spec.specs.Cid.{cid as cid_of}
 use Rattle.store.specs.Stores.{Entered, with_core}
 use Rattle.store.specs.declared.fault.StoreFault.{StoreFault}
 use Rattle.kept.specs.Counts.{Keeping}
-use Rattle.kept.specs.Entering.{Enters, EntersKept, EntersUses, has_entry, no_block}
+use Rattle.kept.specs.Entering.{Enters, EntersKept, Follows, has_entry, no_block}
 use Rattle.kept.specs.Leaving.{is_held}
-use Rattle.kept.specs.Uses.{Uses, AreUses, IsUse, IsKept, Updated, at, keeping_of, settled, settled_use}
-use Rattle.kept.specs.declared.kept_use.End.{End}
-use Rattle.kept.specs.declared.kept_use.End.TheVariants.{Accept, Refuse}
+use Rattle.kept.specs.Uses.{Uses, AreUses, IsUse, IsKept, IsChanged, Updated, at, keeping_of, lowered_in}
 use Rattle.kept.specs.declared.kept_use.Use.{Use}
-use Rattle.kept.proofs.Counting.{use_settled}
+use Rattle.kept.proofs.Counting.{uses_lowered}
 use Rattle.kept.proofs.Entries.{here, listed_at, shown_at, shown_updated, put_cut}
-use Rattle.kept.proofs.Leaving.{held_by, some_used, none_in}
+use Rattle.kept.proofs.Leaving.{held_none, held_some, none_in}
 
 -- ---- one core is entered, or taken out
 
@@ -87,10 +85,6 @@ module _ {D A : Type 0} where
   pub none_some : (u : Use D A) → ◌≡◌ {A = Option (Use D A)} None (Some u) → ⊥
   none_some u h = absurd cc
 
-  pub settled_hold : (end : End) (u : Use D A) → (settled_use end u).hold ≡ u.hold
-  settled_hold Accept u = refl
-  settled_hold Refuse u = refl
-
   pub uses_left : (digest : List ℕ → List ℕ) (me : ℕ) (f g : List ℕ → Option (Use D A)) (k : List ℕ) → AreUses digest me f → Updated f g k None
       → AreUses digest me g
   uses_left digest me f g k is h q u e = by_key (is_at (slice_cmp nat_cmp k) q) (sym (h q) ∙ e)
@@ -99,26 +93,14 @@ module _ {D A : Type 0} where
       by_key true e = absurd cc
       by_key false e = is q u e
 
-  pub uses_settled : (digest : List ℕ → List ℕ) (me : ℕ) (end : End) (m n : Uses D A) (k : List ℕ) → AreUses digest me (at m)
-      → Updated (at m) (at n) k (settled end (at m k)) → AreUses digest me (at n)
-  uses_settled digest me end m n k are h q u e = by_key (is_at (slice_cmp nat_cmp k) q) refl (sym (h q) ∙ e)
-    where
-      by_key : (b : Bool) → is_at (slice_cmp nat_cmp k) q ≡ b → cond b (settled end (at m k)) (at m q) ≡ Some u → IsUse digest me q u
-      by_key true a e =
-          (use_settled digest me q end (at m q) true (are q) (λ v x y. absurd cc) u (sym (ap (λ x. settled end (at m x)) (here k q a)) ∙ e)).0
-      by_key false a e = are q u e
-
   -- what is held is what has an entry
-  pub held_is : (digest : List ℕ → List ℕ) (me : ℕ) (m : Uses D A) (touched : List (List ℕ)) → IsKept digest me m touched
+  pub held_is : (digest : List ℕ → List ℕ) (me : ℕ) (m : Uses D A) → IsKept digest me m
       → (c : List ℕ) → is_held (keeping_of me m) c ≡ has_entry m c
-  held_is digest me m touched is c = by_entry (at m c) refl
+  held_is digest me m is c = by_entry (at m c) refl
     where
       by_entry : (w : Option (Use D A)) → at m c ≡ w → is_held (keeping_of me m) c ≡ has_entry m c
-      by_entry None e = held_by digest m c me None e ∙ sym (ap (λ (w : Option (Use D A)). is_some w) e)
-      by_entry (Some u) e =
-          held_by digest m c me (Some u) e
-          ∙ some_used (arc_value u.hold.0) u.uses u.next (is.entries c u e).used
-          ∙ sym (ap (λ (w : Option (Use D A)). is_some w) e)
+      by_entry None e = held_none digest m c me e ∙ sym (ap (λ (w : Option (Use D A)). is_some w) e)
+      by_entry (Some u) e = held_some digest m c me u e (is.entries c u e).used ∙ sym (ap (λ (w : Option (Use D A)). is_some w) e)
 
 -- ---- what the store's readings tell
 
@@ -177,19 +159,11 @@ module _ {S D A : Type 0} (digest : List ℕ → List ℕ)
         others = λ c core ne. ap (λ (x : Entered). x c core) e ∙ core_other (entered s) k me true c core ne;
       }
 
-  -- an acquire is refused
-  pub is_refused : (me : ℕ) (p : List ℕ → Bool) (b : Arc (List ℕ) A) (fault : StoreFault D A) (s t : S) → makes s b me (Err fault) t
-      → Enters digest makes leaves me p p s t
-  is_refused me p b fault s t answer entered is = record {
-    mine = λ c e. ap (λ (x : Entered). x c me) (is.refused s b me fault t answer) ∙ e;
-    others = λ c core ne. ap (λ (x : Entered). x c core) (is.refused s b me fault t answer);
-  }
-
   -- of the code's entries: one is still there
-  pub one_stays : (es fs : List (List ℕ × Use D A)) (m : Uses D A) (k : List ℕ) (u v : Use D A) (s : S) → map.from_entries es ≡ m
+  pub one_stays : (es fs : List (List ℕ × Use D A)) (m : Uses D A) (k : List ℕ) (u v : Use D A) (me : ℕ) (s : S) → map.from_entries es ≡ m
       → listed_at es k ≡ Some u → Updated (listed_at es) (listed_at fs) k (Some v)
-      → EntersUses digest makes leaves m (map.from_entries fs) s s
-  one_stays es fs m k u v s e a put me are =
+      → Enters digest makes leaves me (has_entry m) (has_entry (map.from_entries fs)) s s
+  one_stays es fs m k u v me s e a put =
       stays me (has_entry m) (has_entry (map.from_entries fs)) s
       (entry_same (at m) (at (map.from_entries fs)) k (Some v) (shown_updated es fs m k (Some v) e put)
       (sym (ap (λ (w : Option (Use D A)). is_some w) (sym (shown_at es m e k) ∙ a))))
@@ -197,7 +171,8 @@ module _ {S D A : Type 0} (digest : List ℕ → List ℕ)
   -- one is taken out, and its hold is given back
   pub one_goes : (es ms fs : List (List ℕ × Use D A)) (m : Uses D A) (k : List ℕ) (u v : Use D A) (s t : S) → map.from_entries es ≡ m
       → listed_at es k ≡ Some u → v.hold ≡ u.hold → Updated (listed_at es) (listed_at ms) k (Some v) → Updated (listed_at ms) (listed_at fs) k None
-      → leaves s v.hold t → EntersUses digest makes leaves m (map.from_entries fs) s t
+      → leaves s v.hold t → (me : ℕ) → AreUses digest me (at m)
+      → Enters digest makes leaves me (has_entry m) (has_entry (map.from_entries fs)) s t
   one_goes es ms fs m k u v s t e a same put cut left me are =
       let is = are k u (sym (shown_at es m e k) ∙ a) in
       goes_out me (has_entry m) (has_entry (map.from_entries fs)) k v.hold s t
@@ -227,28 +202,21 @@ module _ {S D A : Type 0} (digest : List ℕ → List ℕ)
       by_key c true e = ap (λ q. has_entry m q) (sym (here k c e)) ∙ ap (λ (w : Option (Use D A)). is_some w) none
       by_key c false e = refl
 
-  -- of what is kept: nothing was asked, and one call after the other
+  -- of what is kept: nothing was asked
   pub kept_stays : (k : Keeping) (s : S) → EntersKept digest makes leaves k k s s
   kept_stays k s = stays k.me (is_held k) (is_held k) s (λ c. refl)
 
-  pub kept_then : (k l n : Keeping) (s t u : S) → l.me ≡ k.me → EntersKept digest makes leaves k l s t → EntersKept digest makes leaves l n t u
-      → EntersKept digest makes leaves k n s u
-  kept_then k l n s t u e a b =
-      then k.me (is_held k) (is_held l) (is_held n) s t u a (subst (λ me. Enters digest makes leaves me (is_held l) (is_held n) t u) e b)
-
   -- of the code's map
-  pub kept_entered : (me : ℕ) (m n : Uses D A) (ts us : List (List ℕ)) (s t : S) → IsKept digest me m ts → IsKept digest me n us
+  pub kept_entered : (me : ℕ) (m n : Uses D A) (s t : S) → IsKept digest me m → IsKept digest me n
       → Enters digest makes leaves me (has_entry m) (has_entry n) s t → EntersKept digest makes leaves (keeping_of me m) (keeping_of me n) s t
-  kept_entered me m n ts us s t is are h =
+  kept_entered me m n s t is are h =
       in_words me (has_entry m) (has_entry n) (is_held (keeping_of me m)) (is_held (keeping_of me n)) s t
-      (held_is digest me m ts is) (held_is digest me n us are) h
+      (held_is digest me m is) (held_is digest me n are) h
 
   -- ---- step by step
 
-  -- from the entries f to the entries g, which are uses of each core of which those are
   abbrev pub Following : (f g : List ℕ → Option (Use D A)) → S → S → Type 0
-  Following f g s t = (me : ℕ) → AreUses digest me f
-      → AreUses digest me g × Enters digest makes leaves me (λ c. is_some (f c)) (λ c. is_some (g c)) s t
+  Following f g s t = Follows digest makes leaves f g s t
 
   pub following_first : (f g : List ℕ → Option (Use D A)) (s : S) → ((q : List ℕ) → g q ≡ f q) → Following f g s s
   following_first f g s same me are =
@@ -275,7 +243,7 @@ module _ {S D A : Type 0} (digest : List ℕ → List ℕ)
       in_words me (λ c. is_some (f c)) (λ c. is_some (listed_at es c)) (λ c. is_some (f c)) no_block s t (λ c. refl)
       (λ c. sym (ap (λ (w : Option (Use D A)). is_some w) (none_in digest es c never))) (following me are).1
 
-  -- what is staged ends for one CID
-  pub following_settled : (end : End) (m n : Uses D A) (s t : S) (k : List ℕ) → Updated (at m) (at n) k (settled end (at m k))
-      → EntersUses digest makes leaves m n s t → Following (at m) (at n) s t
-  following_settled end m n s t k h entered me are = (uses_settled digest me end m n k are h, entered me are)
+  -- a use goes, and its entry may go with it
+  pub following_lowered : (m n : Uses D A) (s t : S) (k : List ℕ) → IsChanged lowered_in m n k
+      → ((me : ℕ) → AreUses digest me (at m) → Enters digest makes leaves me (has_entry m) (has_entry n) s t) → Following (at m) (at n) s t
+  following_lowered m n s t k h entered me are = (uses_lowered digest me (at m) (at n) k are h, entered me are)

@@ -1,6 +1,6 @@
 -- The entries of the map of kept blocks, as a function of the CID, and how they follow the code's changes.
 use Rattle.std.proofs.Common.{zero, suc, ◌≡◌, ℕ, ◌∷◌, [], List, refl, ap, sym, ◌∙◌, subst, cond, Bool, true, false, arith, nat_lt, nat_eq}
-use Rattle.std.specs.Prelude.{Option, Some, None, ◌||◌, ◌+◌, option_map, is_some, length, IfSome, IsTrue}
+use Rattle.std.specs.Prelude.{Option, Some, None, ◌+◌, option_map, is_some, length, IfSome, IsTrue}
 use Rattle.std.specs.Arc.{arc_value}
 use Rattle.std.proofs.lemmas.Bool.Decides.{nat_tests}
 use Rattle.std.specs.Ordering.{nat_cmp, is_eq}
@@ -14,9 +14,8 @@ use Rattle.std.specs.FinMap as map
 use Rattle.std.specs.FinMap.{find, slice_cmp-IsAntisymmetric, nat_cmp-IsAntisymmetric}
 use Rattle.spec.specs.Cid.{cid as cid_of}
 pub use Rattle.kept.specs.Uses.{listed_at}
-use Rattle.kept.specs.Uses.{Uses, settled_use, lowered_use, lowered_in, if_kept, if_used, settled, at, Updated, IsTaken, IsUse, IsRaised, next_of, uses_of}
+use Rattle.kept.specs.Uses.{Uses, lowered_use, lowered_in, if_used, at, Updated, IsTaken, IsUse, IsRaised, uses_of}
 use Rattle.kept.specs.declared.kept_use.Use.{Use}
-use Rattle.kept.specs.declared.kept_use.End.{End}
 
 -- only equal CIDs tie
 pub same : map.IsAntisymmetric (slice_cmp nat_cmp)
@@ -99,8 +98,7 @@ module _ {D A : Type 0} where
         u = h.u;
         bytes_are = h.bytes_are;
         mine = h.mine;
-        uses_are = h.uses_are ∙ ap uses_of s;
-        next_is = h.next_is ∙ ap (λ (o : Option (Use D A)). suc (next_of o)) s;
+        uses_are = h.uses_are ∙ ap (λ (o : Option (Use D A)). suc (uses_of o)) s;
         no_other = λ v y. h.no_other v (s ∙ y);
         updated = shown_updated es fs m c (Some h.u) e h.updated;
       }
@@ -108,43 +106,41 @@ module _ {D A : Type 0} where
   -- ---- the entry that is raised
 
   raised_here : (digest : List ℕ → List ℕ) (me : ℕ) (f g : List ℕ → Option (Use D A)) (bytes : List ℕ) (v w : Use D A)
-      → IsUse digest me (cid_of digest bytes) v → w ≡ (record v { next = suc v.next; noted = true }) → arc_value v.hold.0 ≡ bytes
+      → IsUse digest me (cid_of digest bytes) v → w ≡ (record v { uses = suc v.uses }) → arc_value v.hold.0 ≡ bytes
       → f (cid_of digest bytes) ≡ Some v → Updated f g (cid_of digest bytes) (Some w) → IsRaised digest me f g bytes
   raised_here digest me f g bytes v w is e b a h = record {
     u = w;
     bytes_are = ap (λ (u : Use D A). arc_value u.hold.0) e ∙ b;
     mine = ap (λ (u : Use D A). u.hold.1) e ∙ is.mine;
-    uses_are = ap (λ (u : Use D A). u.uses) e ∙ ap uses_of (sym a);
-    next_is = ap (λ (u : Use D A). u.next) e ∙ ap (λ o. suc (next_of o)) (sym a);
+    uses_are = ap (λ (u : Use D A). u.uses) e ∙ ap (λ o. suc (uses_of o)) (sym a);
     no_other = λ x y. ap (λ (u : Use D A). arc_value u.hold.0) (the_same x v (sym y ∙ a)) ∙ b;
     updated = h;
   }
 
   pub raised_held : (digest : List ℕ → List ℕ) (me : ℕ) (f g : List ℕ → Option (Use D A)) (bytes k : List ℕ) (v w : Use D A) → k ≡ cid_of digest bytes
-      → IsUse digest me k v → w ≡ (record v { next = suc v.next; noted = true }) → arc_value v.hold.0 ≡ bytes
+      → IsUse digest me k v → w ≡ (record v { uses = suc v.uses }) → arc_value v.hold.0 ≡ bytes
       → f k ≡ Some v → Updated f g k (Some w) → IsRaised digest me f g bytes
   raised_held digest me f g bytes k v w name is e b a h =
       raised_here digest me f g bytes v w (subst (λ (x : List ℕ). IsUse digest me x v) name is) e b (ap f (sym name) ∙ a)
       (subst (λ (x : List ℕ). Updated f g x (Some w)) name h)
 
   raised_first : (digest : List ℕ → List ℕ) (me : ℕ) (f g : List ℕ → Option (Use D A)) (bytes : List ℕ) (w : Use D A)
-      → arc_value w.hold.0 ≡ bytes → w.hold.1 ≡ me → w.uses ≡ 0 → w.next ≡ 1
+      → arc_value w.hold.0 ≡ bytes → w.hold.1 ≡ me → w.uses ≡ 1
       → f (cid_of digest bytes) ≡ None → Updated f g (cid_of digest bytes) (Some w) → IsRaised digest me f g bytes
-  raised_first digest me f g bytes w b m z o a h = record {
+  raised_first digest me f g bytes w b m o a h = record {
     u = w;
     bytes_are = b;
     mine = m;
-    uses_are = z ∙ ap uses_of (sym a);
-    next_is = o ∙ ap (λ o. suc (next_of o)) (sym a);
+    uses_are = o ∙ ap (λ o. suc (uses_of o)) (sym a);
     no_other = λ x y. absurd (let never : Some x ≡ None = sym y ∙ a in cc);
     updated = h;
   }
 
   pub raised_new : (digest : List ℕ → List ℕ) (me : ℕ) (f g : List ℕ → Option (Use D A)) (bytes k : List ℕ) (w : Use D A) → k ≡ cid_of digest bytes
-      → arc_value w.hold.0 ≡ bytes → w.hold.1 ≡ me → w.uses ≡ 0 → w.next ≡ 1
+      → arc_value w.hold.0 ≡ bytes → w.hold.1 ≡ me → w.uses ≡ 1
       → f k ≡ None → Updated f g k (Some w) → IsRaised digest me f g bytes
-  raised_new digest me f g bytes k w name b m z o a h =
-      raised_first digest me f g bytes w b m z o (ap f (sym name) ∙ a) (subst (λ (x : List ℕ). Updated f g x (Some w)) name h)
+  raised_new digest me f g bytes k w name b m o a h =
+      raised_first digest me f g bytes w b m o (ap f (sym name) ∙ a) (subst (λ (x : List ℕ). Updated f g x (Some w)) name h)
 
   -- the same entry is put again
   pub same_entry : (f g : List ℕ → Option (Use D A)) (k : List ℕ) (v w : Use D A) → f k ≡ Some v → Updated f g k (Some w) → w ≡ v
@@ -180,39 +176,15 @@ module _ {D A : Type 0} where
   if_gone u zero e = refl
   if_gone u (suc n) e = absurd (grind (arith, nat_tests))
 
-  -- a use that stays, and one that goes
-  pub used_left : (end : End) (f g : List ℕ → Option (Use D A)) (k : List ℕ) (v w : Use D A) → f k ≡ Some v → w ≡ settled_use end v
-      → nat_lt 0 w.uses ≡ true → Updated f g k (Some w) → Updated f g k (settled end (f k))
-  used_left end f g k v w a e l h =
-      subst (λ (o : Option (Use D A)). Updated f g k o)
-      (sym (if_left w w.uses l) ∙ ap (λ (u : Use D A). if_used u u.uses) e ∙ ap (settled end) (sym a)) h
-
-  pub used_gone : (end : End) (f g : List ℕ → Option (Use D A)) (k : List ℕ) (v w : Use D A) → f k ≡ Some v → w ≡ settled_use end v
-      → nat_lt 0 w.uses ≡ false → Updated f g k None → Updated f g k (settled end (f k))
-  used_gone end f g k v w a e l h =
-      subst (λ (o : Option (Use D A)). Updated f g k o)
-      (sym (if_gone w w.uses l) ∙ ap (λ (u : Use D A). if_used u u.uses) e ∙ ap (settled end) (sym a)) h
-
-  -- ---- a use that is lowered, and stays or goes
-
-  kept_left : (u : Use D A) (m n : ℕ) → (nat_lt 0 m || nat_lt 0 n) ≡ true → if_kept u m n ≡ Some u
-  kept_left u zero zero e = absurd cc
-  kept_left u zero (suc n) e = refl
-  kept_left u (suc m) n e = refl
-
-  kept_gone : (u : Use D A) (m n : ℕ) → (nat_lt 0 m || nat_lt 0 n) ≡ false → if_kept u m n ≡ None
-  kept_gone u zero zero e = refl
-  kept_gone u zero (suc n) e = absurd (grind (arith, nat_tests))
-  kept_gone u (suc m) n e = absurd (grind (arith, nat_tests))
-
+  -- a use that is lowered stays, or goes
   pub lowered_left : (f g : List ℕ → Option (Use D A)) (k : List ℕ) (v w : Use D A) → f k ≡ Some v → w ≡ lowered_use v
-      → (nat_lt 0 w.uses || nat_lt 0 w.next) ≡ true → Updated f g k (Some w) → Updated f g k (lowered_in (f k))
+      → nat_lt 0 w.uses ≡ true → Updated f g k (Some w) → Updated f g k (lowered_in (f k))
   lowered_left f g k v w a e l h =
       subst (λ (o : Option (Use D A)). Updated f g k o)
-      (sym (kept_left w w.uses w.next l) ∙ ap (λ (u : Use D A). if_kept u u.uses u.next) e ∙ ap lowered_in (sym a)) h
+      (sym (if_left w w.uses l) ∙ ap (λ (u : Use D A). if_used u u.uses) e ∙ ap lowered_in (sym a)) h
 
   pub lowered_gone : (f g : List ℕ → Option (Use D A)) (k : List ℕ) (v w : Use D A) → f k ≡ Some v → w ≡ lowered_use v
-      → (nat_lt 0 w.uses || nat_lt 0 w.next) ≡ false → Updated f g k None → Updated f g k (lowered_in (f k))
+      → nat_lt 0 w.uses ≡ false → Updated f g k None → Updated f g k (lowered_in (f k))
   lowered_gone f g k v w a e l h =
       subst (λ (o : Option (Use D A)). Updated f g k o)
-      (sym (kept_gone w w.uses w.next l) ∙ ap (λ (u : Use D A). if_kept u u.uses u.next) e ∙ ap lowered_in (sym a)) h
+      (sym (if_gone w w.uses l) ∙ ap (λ (u : Use D A). if_used u u.uses) e ∙ ap lowered_in (sym a)) h

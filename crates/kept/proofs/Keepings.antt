@@ -2,8 +2,8 @@
 use Rattle.std.proofs.Common.{◌≡◌, ℕ}
 use Rattle.kept.specs.Counts.{Counts, Keeping}
 
-abbrev pub keeping : ℕ → Counts → Counts → Keeping
-keeping me before staged = record { me = me; before = before; staged = staged }
+abbrev pub keeping : ℕ → Counts → Keeping
+keeping me uses = record { me = me; uses = uses }
 
-pub keeping_same : (me : ℕ) {a b c d : Counts} → a ≡ b → c ≡ d → keeping me a c ≡ keeping me b d
-keeping_same me e f = λ i. keeping me (e i) (f i)
+pub keeping_same : (me : ℕ) {a b : Counts} → a ≡ b → keeping me a ≡ keeping me b
+keeping_same me e = λ i. keeping me (e i)

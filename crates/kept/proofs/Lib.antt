@@ -1,9 +1,10 @@
 pub mod Entries
 pub mod Counting
+pub mod Gains
+pub mod Exchanging
 pub mod Outcomes
 pub mod Keepings
 pub mod LentTrees
 pub mod Listing
 pub mod Leaving
 pub mod Entering
-pub mod Reading

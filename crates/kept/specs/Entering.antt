@@ -1,11 +1,12 @@
 -- What a core's calls do to the cores that are entered in its store.
-use Rattle.std.specs.Prelude.{◌≡◌, ◌≢◌, ℕ, List, Bool, false, is_some, Result}
+use Rattle.std.specs.Prelude.{◌≡◌, ◌≢◌, ℕ, List, Bool, false, is_some, Option, Result}
 use Rattle.std.specs.declared.sync.Arc.{Arc}
 use Rattle.store.specs.Stores.{Entered, IsReading}
 use Rattle.store.specs.declared.fault.StoreFault.{StoreFault}
 use Rattle.kept.specs.Counts.{Keeping}
 use Rattle.kept.specs.Leaving.{is_held}
 use Rattle.kept.specs.Uses.{Uses, AreUses, at}
+use Rattle.kept.specs.declared.kept_use.Use.{Use}
 
 -- a core that was entered for just the blocks of one set is entered for just those of another
 -- afterwards, and no other core's entries have changed
@@ -36,9 +37,11 @@ no_block c = false
 abbrev pub has_entry : {D A : Type 0} → Uses D A → List ℕ → Bool
 has_entry m c = is_some (at m c)
 
--- the same of the code's map, whose uses are those of some core
-abbrev pub EntersUses : {S D A : Type 0} → (List ℕ → List ℕ)
+-- from the entries f to the entries g of the code's map: where those are a core's uses, these are too, and the core
+-- is entered as before for just what has an entry
+abbrev pub Follows : {S D A : Type 0} → (List ℕ → List ℕ)
     → (S → Arc (List ℕ) A → ℕ → Result (Arc (List ℕ) A × ℕ) (StoreFault D A) → S → Type 0)
-    → (S → Arc (List ℕ) A × ℕ → S → Type 0) → Uses D A → Uses D A → S → S → Type 0
-EntersUses digest makes leaves m n old new = (me : ℕ) → AreUses digest me (at m)
-    → Enters digest makes leaves me (has_entry m) (has_entry n) old new
+    → (S → Arc (List ℕ) A × ℕ → S → Type 0)
+    → (List ℕ → Option (Use D A)) → (List ℕ → Option (Use D A)) → S → S → Type 0
+Follows digest makes leaves f g old new = (me : ℕ) → AreUses digest me f
+    → AreUses digest me g × Enters digest makes leaves me (λ c. is_some (f c)) (λ c. is_some (g c)) old new

@@ -10,7 +10,7 @@ use std::alloc::{Allocator, Global};
 use std::collections::hash_map::Iter;
 use std::sync::Arc;
 
-/// The blocks that what was accepted uses: those that are left.
+/// The blocks that are kept: those that are left.
 #[derive(Drop)]
 pub struct Blocks<'a, D: Digest, A: Allocator = Global> {
     pub(crate) entries: Iter<'a, Cid, Use<D, A>>,
@@ -24,11 +24,7 @@ impl<'a, D: Digest, A: Allocator> Iterator for Blocks<'a, D, A> {
     ghost remaining = { item_count (λ left. used_blocks left.entries) };
 
     fn next(&mut self) -> Option<&'a Arc<Block<D, A>, A>> {
-        while let Some((_, held)) = self.entries.next() {
-            if held.uses > 0 {
-                return Some(held.hold.block());
-            }
-        }
-        None
+        let (_, held) = self.entries.next()?;
+        Some(held.hold.block())
     }
 }

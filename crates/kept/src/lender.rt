@@ -8,7 +8,7 @@ use cid::{Cid, Digest};
 use lookups::{Lent, ReadCount, Source};
 use std::alloc::{Allocator, Global};
 
-/// The blocks that a core keeps, as a source: those that were accepted, and those that are staged.
+/// The blocks that a core keeps, as a source.
 #[derive(Drop)]
 pub struct Lender<'a, D: Digest, A: Allocator = Global> {
     pub(crate) blocks: &'a UseMap<D, A>,
@@ -16,7 +16,7 @@ pub struct Lender<'a, D: Digest, A: Allocator = Global> {
 }
 
 impl<'a, D: Digest, A: Allocator> Lender<'a, D, A> {
-    /// The block with this CID, as `get` gives it, with how often what was accepted uses it: one look-up for both.
+    /// The block with this CID, as `get` gives it, with how often it is used: one look-up for both.
     pub fn get_counted(&mut self, cid: &Cid) -> Option<(Lent<'a, D, A>, u64)>
         ensures found { option_map (λ found. found.0) result ≡ lent self.old.blocks.now cid.now }
         ensures uses { IfSome result

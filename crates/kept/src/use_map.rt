@@ -1,28 +1,29 @@
 //! The blocks that a core keeps, by their CIDs.
 
-ghost use Rattle.std.specs.Prelude.{◌≡◌, ◌<◌, ℕ, nat_eq, option_map, [], IfSome, IfNone, IfOk, IfErr, OnOk, OnErr};
+ghost use Rattle.std.specs.Prelude.{◌≡◌, ◌<◌, ℕ, nat_eq, map as each, option_map, [], IfSome, IfNone, IfErr, OnOk, OnErr};
 ghost use Rattle.std.specs.Arc.{arc_value};
 ghost use Rattle.std.specs.Cmp.Lexicographic.{pointwise};
 ghost use Rattle.std.specs.List.{IsDistinct};
 ghost use Rattle.std.specs.Map.{keys_of};
 ghost use Rattle.std.specs.FinMap as map;
-ghost use Rattle.lookups.specs.Nodes.{IsMarked};
 ghost use Rattle.store.specs.Faults.{IsRefusalOf};
 ghost use Rattle.store.specs.Stores.{IsStore, fulls_after};
-ghost use Rattle.kept.specs.Uses.{at, AreUses, lowered_in, settled, is_unnoted, IsChanged, IsRaisedIn, IsTaken, is_fresh};
-ghost use Rattle.kept.specs.Leaving.{AreNamed, AreGivenBack};
-ghost use Rattle.kept.specs.Entering.{Enters, EntersUses, has_entry, no_block};
+ghost use Rattle.kept.specs.Counts.{Counts, AllUsed, ComeAlone, gained, lost};
+ghost use Rattle.kept.specs.Uses.{at, counted, AreUses, lowered_in, IsChanged, IsRaisedIn, IsTaken};
+ghost use Rattle.kept.specs.Faults.{IsRefusalOfOne};
+ghost use Rattle.kept.specs.Entering.{Enters, Follows, has_entry, no_block};
 
 use crate::held::Held;
-use crate::kept_use::{End, Use};
+use crate::kept_use::Use;
 use cid::{Block, Cid, Digest};
-use std::alloc::{AllocFailed, Allocator};
+use lookups::MarkedBlock;
+use std::alloc::{AllocError, AllocFailed, Allocator};
 use std::collections::HashMap;
 use std::collections::hash_map::Iter;
 use std::hash::{BuildHasherDefault, FoldHasher};
 use std::marker::Model;
 use std::sync::Arc;
-use store::{BlockStore, Hold, SHARDS, Shard, StoreFault};
+use store::{BlockStore, Hold, StoreFault};
 
 type Blocks<D, A> = HashMap<Cid, Use<D, A>, BuildHasherDefault<FoldHasher>, A>;
 
@@ -80,52 +81,64 @@ impl<D: Digest, A: Allocator> UseMap<D, A> {
         self.blocks.iter()
     }
 
-    /// Stages one use less of the block with this CID, where there is one, and tells whether it wasn't noted before. A
-    /// block that is then used neither before nor by what is staged is given back. It takes no memory.
-    pub(crate) fn lower<S: BlockStore<Arc<Block<D, A>, A>, Hold<D, A>, StoreFault<D, A>>>(
+    /// Counts one use less of the block with this CID, where there is one. A block without a use is given back. It takes no
+    /// memory.
+    fn lower<S: BlockStore<Arc<Block<D, A>, A>, Hold<D, A>, StoreFault<D, A>>>(
         &mut self,
         store: &mut S,
         cid: &Cid,
-    ) -> bool
+    )
         ensures lowered { IsChanged lowered_in self.old self.new cid.now }
-        ensures fresh { result ≡ is_unnoted (at self.old cid.now) }
         ensures fulls { S.fulls store.new ≡ S.fulls store.old }
-        ensures entered { EntersUses D.digest_of S.makes S.leaves
-            self.old self.new store.old store.new }
+        ensures followed { Follows D.digest_of S.makes S.leaves
+            (at self.old) (at self.new) store.old store.new }
     {
         let Some(held) = self.blocks.get_mut(cid) else {
-            return false;
+            return;
         };
-        let fresh = !held.noted;
         if held.lower() {
-            return fresh;
+            return;
         }
         if let Some(unused) = self.blocks.remove(cid) {
             unused.give_back(store);
         }
-        fresh
     }
 
-    /// Ends what is staged for this CID. A block without a use is given back. It takes no memory.
-    pub(crate) fn settle<S: BlockStore<Arc<Block<D, A>, A>, Hold<D, A>, StoreFault<D, A>>>(
+    /// Counts one use less of each of the blocks with these CIDs, where there is one. A block without a use is given back. It
+    /// takes no memory.
+    pub(crate) fn lose<S: BlockStore<Arc<Block<D, A>, A>, Hold<D, A>, StoreFault<D, A>>>(
         &mut self,
         store: &mut S,
-        cid: &Cid,
-        end: End,
+        go: &[Cid],
     )
-        ensures settled { IsChanged (settled end) self.old self.new cid.now }
+        ensures lost { counted self.new ≡ lost (counted self.old) go.now }
         ensures fulls { S.fulls store.new ≡ S.fulls store.old }
-        ensures entered { EntersUses D.digest_of S.makes S.leaves
-            self.old self.new store.old store.new }
+        ensures followed { Follows D.digest_of S.makes S.leaves
+            (at self.old) (at self.new) store.old store.new }
     {
-        let Some(held) = self.blocks.get_mut(cid) else {
-            return;
-        };
-        if held.settle(end) {
-            return;
+        for cid in go {
+            self.lower(store, cid);
         }
-        if let Some(unused) = self.blocks.remove(cid) {
-            unused.give_back(store);
+    }
+
+    /// Takes back one use of each of these blocks, which came last, one after the other. It takes no memory.
+    fn take_back<S: BlockStore<Arc<Block<D, A>, A>, Hold<D, A>, StoreFault<D, A>>>(
+        &mut self,
+        store: &mut S,
+        came: &[MarkedBlock<D, A>],
+    )
+        ensures taken_back { (before : Counts) → AllUsed before
+            → ComeAlone D.digest_of before (each arc_value came.now)
+            → counted self.old ≡ gained D.digest_of before (each arc_value came.now)
+            → counted self.new ≡ before }
+        ensures fulls { S.fulls store.new ≡ S.fulls store.old }
+        ensures followed { Follows D.digest_of S.makes S.leaves
+            (at self.old) (at self.new) store.old store.new }
+    {
+        let mut left = came.len();
+        while left > 0 {
+            left -= 1;
+            self.lower(store, &came[left].block().cid());
         }
     }
 
@@ -144,55 +157,77 @@ impl<D: Digest, A: Allocator> UseMap<D, A> {
         }
         blocks.destroy_empty();
     }
-
-    /// Gives all blocks back to these sixteen shards. It takes no memory.
-    pub(crate) fn end_in(self, tables: &mut [Shard<D, A>; SHARDS])
-        requires { AreNamed D.digest_of (at self) }
-        ensures { AreGivenBack (at self) tables.old tables.new }
-    {
-        let UseMap { mut blocks } = self;
-        while let Some((_, held)) = take_one(&mut blocks) {
-            held.give_back_in(tables);
-        }
-        blocks.destroy_empty();
-    }
 }
 
 impl<D: Digest, A: Allocator + Clone> UseMap<D, A> {
-    /// Stages one use more of a block, which may be marked as a node and is acquired for the core where it isn't held, and
-    /// tells whether it wasn't noted before.
-    pub(crate) fn raise<S: BlockStore<Arc<Block<D, A>, A>, Hold<D, A>, StoreFault<D, A>>>(
+    /// Counts one use more of each of these blocks, in their order. What isn't held is acquired for the core, with room made
+    /// first. A refusal changes nothing: all that came before it is taken back.
+    pub(crate) fn gain<S: BlockStore<Arc<Block<D, A>, A>, Hold<D, A>, StoreFault<D, A>>>(
         &mut self,
         store: &mut S,
         me: u32,
-        block: Arc<Block<D, A>, A>,
-        is_node: bool,
-    ) -> Result<bool, StoreFault<D, A>>
+        come: &[MarkedBlock<D, A>],
+    ) -> Result<(), StoreFault<D, A>>
         requires small { me < 1024 }
-        requires marked { IsMarked (arc_value block) is_node }
         requires uses { AreUses D.digest_of me (at self.old) }
         requires store { IsStore D.digest_of S.fulls S.answers }
-        ensures raised { OnOk result (IsRaisedIn D.digest_of me self.old self.new
-            (arc_value block)) }
-        ensures fresh { IfOk result (λ b. b ≡ is_fresh D.digest_of self.old (arc_value block)) }
-        ensures unchanged { OnErr result (self.new ≡ self.old) }
-        ensures fault { IfErr result (IsRefusalOf D.digest_of (arc_value block)) }
+        ensures gained { OnOk result (counted self.new
+            ≡ gained D.digest_of (counted self.old) (each arc_value come.now)) }
+        ensures alone { OnOk result
+            (ComeAlone D.digest_of (counted self.old) (each arc_value come.now)) }
+        ensures unchanged { OnErr result (counted self.new ≡ counted self.old) }
+        ensures fault { IfErr result (IsRefusalOfOne D.digest_of (each arc_value come.now)) }
+        ensures uses { AreUses D.digest_of me (at self.new) }
         ensures fulls { S.fulls store.new ≡ fulls_after (S.fulls store.old) result }
         ensures entered { Enters D.digest_of S.makes S.leaves me
             (has_entry self.old) (has_entry self.new) store.old store.new }
     {
+        self.reserve(come.len())?;
+        for (place, block) in come.iter().enumerate() {
+            match self.raise(store, me, block) {
+                Ok(()) => {}
+                Err(fault) => {
+                    self.take_back(store, &come[..place]);
+                    return Err(fault);
+                }
+            }
+        }
+        Ok(())
+    }
+
+    /// Makes room for so many blocks more.
+    fn reserve(&mut self, more: usize) -> Result<(), AllocError>
+        ensures { self.new ≡ self.old }
+    {
+        self.blocks.reserve(more)
+    }
+
+    /// Counts one use more of a block, which is acquired for the core where it isn't held.
+    fn raise<S: BlockStore<Arc<Block<D, A>, A>, Hold<D, A>, StoreFault<D, A>>>(
+        &mut self,
+        store: &mut S,
+        me: u32,
+        marked: &MarkedBlock<D, A>,
+    ) -> Result<(), StoreFault<D, A>>
+        requires small { me < 1024 }
+        requires uses { AreUses D.digest_of me (at self.old) }
+        requires store { IsStore D.digest_of S.fulls S.answers }
+        ensures raised { OnOk result (IsRaisedIn D.digest_of me self.old self.new
+            (arc_value marked.now)) }
+        ensures unchanged { OnErr result (self.new ≡ self.old) }
+        ensures fault { IfErr result (IsRefusalOf D.digest_of (arc_value marked.now)) }
+        ensures fulls { S.fulls store.new ≡ fulls_after (S.fulls store.old) result }
+        ensures entered { Enters D.digest_of S.makes S.leaves me
+            (has_entry self.old) (has_entry self.new) store.old store.new }
+    {
+        let block = marked.block();
         let cid = block.cid();
         if let Some(held) = self.blocks.get_mut(&cid) {
             return held.raise(block);
         }
-        let hold = Held::of(store.acquire(me, block)?, is_node);
-        let new = Use {
-            hold,
-            uses: 0,
-            next: 1,
-            noted: true,
-        };
-        let before = match self.blocks.insert(cid, new) {
+        let shared = Arc::try_clone(block)?;
+        let hold = Held::of(store.acquire(me, shared)?, marked.is_node());
+        let before = match self.blocks.insert(cid, Use { hold, uses: 1 }) {
             Ok(before) => before,
             Err(
                 AllocFailed {
@@ -207,6 +242,6 @@ impl<D: Digest, A: Allocator + Clone> UseMap<D, A> {
         if let Some(other) = before {
             other.give_back(store);
         }
-        Ok(true)
+        Ok(())
     }
 }

@@ -8,7 +8,7 @@ use Rattle.spec.specs.NodeFormat.{Entry, common, is_key, are_keys_after}
 use Rattle.spec.specs.Proof.{Place, Here, by_order, gap_of, place}
 use Rattle.spec.proofs.Bools.{both}
 use Rattle.node.specs.Rows.{Row, row_after, rows}
-use Rattle.node.specs.Search.{gap_before, passed_by, links_beside, order_after, common_after}
+use Rattle.node.specs.Search.{gap_before, order_after, common_after}
 use Rattle.node.specs.Views.{row_with}
 use Rattle.node.proofs.Comparing.{cmp, beside, cmp-turn, common-turn, cmp-equal}
 
@@ -105,34 +105,6 @@ gap_found-past key same gap r rs o = rw o refl
 -- ---- the entries before it
 
 -- how many they are, by the rows
-abbrev pub passed_found : List ℕ → ℕ → List Row → ℕ
-passed_found key same [] = 0
-passed_found key same (r ∷ rs) = by_order (order_after same key r) (suc (passed_found key (common_after same key r) rs)) 0 0
-
-passed_from : (before key : List ℕ) (es : List Entry) → are_keys_after before es ≡ true → IsAhead before key → passed_found key (common before key) (rows before es) ≡ passed_by key es
-passed_from before key [] keys ahead = refl
-passed_from before key (e ∷ es) keys ahead =
-    let parts = both (is_lt (cmp before e.key) && is_key e.key) (are_keys_after e.key es) keys in
-    let less = both (is_lt (cmp before e.key)) (is_key e.key) parts.0 in
-    let t = tells before e key less.0 ahead (common-fits before key) (common-fits before e.key) in
-    let first : passed_found key (common before key) (rows before (e ∷ es)) ≡ by_order (cmp e.key key) (suc (passed_found key (common e.key key) (rows e.key es))) 0 0 =
-    rw (t.order, t.same) refl in
-    first ∙ by_less (cmp e.key key) _ _ _ _ (λ is. ap suc (passed_from e.key key es parts.1 (inr (ap is_lt is))))
-
-pub passed_found-by : (key : List ℕ) (es : List Entry) → are_keys_after [] es ≡ true → passed_found key 0 (rows [] es) ≡ passed_by key es
-passed_found-by key es keys = passed_from [] key es keys (inl refl)
-
-pub passed_found-less : (key : List ℕ) (same : ℕ) (r : Row) (rs : List Row) → order_after same key r ≡ Less → passed_found key same (r ∷ rs) ≡ suc (passed_found key (common_after same key r) rs)
-passed_found-less key same r rs o = rw o refl
-
-pub passed_found-here : (key : List ℕ) (same : ℕ) (r : Row) (rs : List Row) → order_after same key r ≡ Equal → passed_found key same (r ∷ rs) ≡ 0
-passed_found-here key same r rs o = rw o refl
-
-pub passed_found-past : (key : List ℕ) (same : ℕ) (r : Row) (rs : List Row) → order_after same key r ≡ Greater → passed_found key same (r ∷ rs) ≡ 0
-passed_found-past key same r rs o = rw o refl
-
--- ---- the row of the key
-
 abbrev pub row_found : List ℕ → ℕ → List Row → Option Row
 row_found key same [] = None
 row_found key same (r ∷ rs) = by_order (order_after same key r) (row_found key (common_after same key r) rs) (Some r) None
@@ -181,19 +153,3 @@ place-sought before key gap (e ∷ es) =
     refl refl refl (place-sought e.key key e.tree es)
 
 -- and the links beside it
-abbrev pub links_sought : Option (List ℕ) → Option Row → Option (List ℕ) × Option (List ℕ)
-links_sought gap None = (None, None)
-links_sought gap (Some r) = (gap, r.tree)
-
-links-by : (o : Ordering) (gap further : Option (List ℕ)) (r : Row) (found : Option Row) (p : Option (List ℕ) × Option (List ℕ))
-    → links_sought further found ≡ p
-    → links_sought (by_order o further gap gap) (by_order o found (Some r) None) ≡ by_order o p (gap, r.tree) (None, None)
-links-by Less gap further r found p h = h
-links-by Equal gap further r found p h = refl
-links-by Greater gap further r found p h = refl
-
-pub links-sought : (before key : List ℕ) (gap : Option (List ℕ)) (es : List Entry) → links_sought (gap_before key gap es) (row_with key before es) ≡ links_beside key gap es
-links-sought before key gap [] = refl
-links-sought before key gap (e ∷ es) =
-    links-by (cmp e.key key) gap (gap_before key e.tree es) (row_after before e) (row_with key e.key es) (links_beside key e.tree es)
-    (links-sought e.key key e.tree es)

@@ -1,61 +1,18 @@
 -- A node with another link in a gap: its other bytes stay.
 use Rattle.std.proofs.Common.{◌≡◌, ℕ, zero, suc, ◌+◌, ◌-◌, ◌<◌, ◌≤◌, ◌^◌, Bool, true, ◌&&◌, nat_lt, List, [], ◌∷◌, ◌++◌, length, take, drop, Option, Result, Ok, Err, IsOk, OnOk, refl, sym, ap, subst, ◌∙◌, append_assoc, arith, length-append}
-use Rattle.std.specs.declared.cmp.Ordering.{Ordering}
-use Rattle.std.specs.declared.cmp.Ordering.TheVariants.{Less, Equal, Greater}
 use Rattle.std.specs.Cmp.Lexicographic.{slice_cmp}
 use Rattle.std.specs.Ordering.{nat_cmp, is_lt}
-use Rattle.std.proofs.lemmas.Bool.{ltb-true}
 use Rattle.std.proofs.lemmas.List.{append-nil, take_at, drop_at, take_rest, length-drop}
 use Rattle.spec.specs.Head.{head}
 use Rattle.spec.specs.Cid.{link, is_own_cid}
 use Rattle.spec.specs.NodeFormat.{Entry, common, suffix_after, link_or_null, entry_bytes, entries_bytes, is_key, are_keys_after, are_links, is_own_cid_or_none, is_node, node_spelling}
-use Rattle.spec.specs.Proof.{by_order}
 use Rattle.spec.proofs.Bools.{both}
-use Rattle.node.specs.Contents.{Contents, last_key, entries_shown, IsRead}
+use Rattle.node.specs.Contents.{last_key, entries_shown, IsRead}
 use Rattle.node.specs.Runs.{Begins, after_rows}
-use Rattle.node.specs.Search.{gap_before, passed_by, before, relinked, gap_at, relink_at}
+use Rattle.node.specs.Search.{gap_at, relink_at}
 use Rattle.node.proofs.Joining.{and}
 use Rattle.node.proofs.Passing.{read-begins, begins-rows, begins-after, begins-run}
 use Rattle.node.proofs.TestedNodes.{own-length}
-
--- ---- by the number of entries before the gap
-
-abbrev contents : Option (List ℕ) → List Entry → Contents
-contents left es = record { left = left; entries = es }
-
-within-by : (o : Ordering) (n m : ℕ) → n ≤ m → by_order o (suc n) 0 0 ≤ suc m
-within-by Less n m h = omega arith
-within-by Equal n m h = omega arith
-within-by Greater n m h = omega arith
-
-pub passed_by-within : (key : List ℕ) (es : List Entry) → passed_by key es ≤ length es
-passed_by-within key [] = omega arith
-passed_by-within key (e ∷ es) =
-    within-by (slice_cmp nat_cmp e.key key) (passed_by key es) (length es) (passed_by-within key es)
-
-gap-by : (o : Ordering) (n : ℕ) (gap further : Option (List ℕ)) (e : Entry) (es : List Entry) → further ≡ gap_at n e.tree es
-    → by_order o further gap gap ≡ gap_at (by_order o (suc n) 0 0) gap (e ∷ es)
-gap-by Less n gap further e es h = h
-gap-by Equal n gap further e es h = refl
-gap-by Greater n gap further e es h = refl
-
-pub gap_before-at : (key : List ℕ) (gap : Option (List ℕ)) (es : List Entry) → gap_before key gap es ≡ gap_at (passed_by key es) gap es
-gap_before-at key gap [] = refl
-gap_before-at key gap (e ∷ es) =
-    gap-by (slice_cmp nat_cmp e.key key) (passed_by key es) gap (gap_before key e.tree es) e es (gap_before-at key e.tree es)
-
-relinked-by : (o : Ordering) (n : ℕ) (gap new : Option (List ℕ)) (further : Contents) (e : Entry) (es : List Entry)
-    → further ≡ relink_at n e.tree es new
-    → by_order o (before gap e further) (contents new (e ∷ es)) (contents new (e ∷ es)) ≡ relink_at (by_order o (suc n) 0 0) gap (e ∷ es) new
-relinked-by Less n gap new further e es h = ap (before gap e) h
-relinked-by Equal n gap new further e es h = refl
-relinked-by Greater n gap new further e es h = refl
-
-pub relinked-at : (key : List ℕ) (gap : Option (List ℕ)) (es : List Entry) (new : Option (List ℕ))
-    → relinked key gap es new ≡ relink_at (passed_by key es) gap es new
-relinked-at key gap [] new = refl
-relinked-at key gap (e ∷ es) new =
-    relinked-by (slice_cmp nat_cmp e.key key) (passed_by key es) gap new (relinked key e.tree es new) e es (relinked-at key e.tree es new)
 
 -- ---- the bytes
 
@@ -225,10 +182,9 @@ links-by (suc n) gap new (e ∷ es) links own own_new =
     (and _ _ (and _ _ own_parts.0 more.1) more.0, own)
 
 -- a node stays one
-pub relinked-node : (key : List ℕ) (gap : Option (List ℕ)) (es : List Entry) (new : Option (List ℕ)) → is_node gap es ≡ true
-    → is_own_cid_or_none new ≡ true → is_node (relinked key gap es new).left (relinked key gap es new).entries ≡ true
-relinked-node key gap es new node own_new =
-    let n = passed_by key es in
+pub relinked-node : (n : ℕ) (gap : Option (List ℕ)) (es : List Entry) (new : Option (List ℕ)) → is_node gap es ≡ true
+    → is_own_cid_or_none new ≡ true → is_node (relink_at n gap es new).left (relink_at n gap es new).entries ≡ true
+relinked-node n gap es new node own_new =
     let few = nat_lt (length es) (2 ^ 64) in
     let a = both (few && are_keys_after [] es && are_links es) (is_own_cid_or_none gap) node in
     let b = both (few && are_keys_after [] es) (are_links es) a.0 in
@@ -236,18 +192,9 @@ relinked-node key gap es new node own_new =
     let links = links-by n gap new es b.1 a.1 own_new in
     let few_new : nat_lt (length (relink_at n gap es new).entries) (2 ^ 64) ≡ true =
     ap (λ (m : ℕ). nat_lt m (2 ^ 64)) (count-by n gap new es) ∙ c.0 in
-    let at : is_node (relink_at n gap es new).left (relink_at n gap es new).entries ≡ true =
-    and _ _ (and _ _ (and _ _ few_new (keys-by n [] gap new es ∙ c.1)) links.0) links.1 in
-    ap (λ (r : Contents). is_node r.left r.entries) (relinked-at key gap es new) ∙ at
+    and _ _ (and _ _ (and _ _ few_new (keys-by n [] gap new es ∙ c.1)) links.0) links.1
 
--- its entries can be counted, and their links are of the host's form
-pub few-entries : (left : Option (List ℕ)) (es : List Entry) → is_node left es ≡ true → length es < 2 ^ 64
-few-entries left es node =
-    let few = nat_lt (length es) (2 ^ 64) in
-    let a = both (few && are_keys_after [] es && are_links es) (is_own_cid_or_none left) node in
-    let b = both (few && are_keys_after [] es) (are_links es) a.0 in
-    ltb-true _ _ (both few (are_keys_after [] es) b.0).0
-
+-- its links are of the host's form
 pub linked-entries : (left : Option (List ℕ)) (es : List Entry) → is_node left es ≡ true → are_links es ≡ true
 linked-entries left es node =
     let few = nat_lt (length es) (2 ^ 64) in

@@ -1,5 +1,5 @@
--- A key that is sought among entries: the gap before its place, the links beside it, and an entry's key against it.
-use Rattle.std.specs.Prelude.{ℕ, zero, suc, ◌+◌, List, [], ◌∷◌, drop, Option, None}
+-- A key that is sought among entries: the gap before its place, and an entry's key against it.
+use Rattle.std.specs.Prelude.{ℕ, zero, suc, ◌+◌, List, [], ◌∷◌, drop, Option}
 use Rattle.std.specs.Ordering.{nat_cmp}
 use Rattle.std.specs.Cmp.Lexicographic.{slice_cmp}
 use Rattle.std.specs.declared.cmp.Ordering.{Ordering}
@@ -14,22 +14,10 @@ abbrev pub gap_before : List ℕ → Option (List ℕ) → List Entry → Option
 gap_before key gap [] = gap
 gap_before key gap (e ∷ es) = by_order (slice_cmp nat_cmp e.key key) (gap_before key e.tree es) gap gap
 
--- how many entries stand before the key
-abbrev pub passed_by : List ℕ → List Entry → ℕ
-passed_by key [] = 0
-passed_by key (e ∷ es) = by_order (slice_cmp nat_cmp e.key key) (suc (passed_by key es)) 0 0
-
 -- an entry before others, with the link that stands before these
 abbrev pub before : Option (List ℕ) → Entry → Contents → Contents
 before gap e more =
     record { left = gap; entries = record { key = e.key; value = e.value; tree = more.left } ∷ more.entries }
-
--- the same with another link in the gap before the first entry that isn't below the key
-abbrev pub relinked : List ℕ → Option (List ℕ) → List Entry → Option (List ℕ) → Contents
-relinked key gap [] new = record { left = new; entries = [] }
-relinked key gap (e ∷ es) new =
-    let here : Contents = record { left = new; entries = e ∷ es } in
-    by_order (slice_cmp nat_cmp e.key key) (before gap e (relinked key e.tree es new)) here here
 
 -- ---- by the number of entries before a gap
 
@@ -44,12 +32,6 @@ abbrev pub relink_at : ℕ → Option (List ℕ) → List Entry → Option (List
 relink_at zero gap es new = record { left = new; entries = es }
 relink_at (suc n) gap [] new = record { left = gap; entries = [] }
 relink_at (suc n) gap (e ∷ es) new = before gap e (relink_at n e.tree es new)
-
--- the links before and after the entry with the key, and none where there is no such entry
-abbrev pub links_beside : List ℕ → Option (List ℕ) → List Entry → Option (List ℕ) × Option (List ℕ)
-links_beside key gap [] = (None, None)
-links_beside key gap (e ∷ es) =
-    by_order (slice_cmp nat_cmp e.key key) (links_beside key e.tree es) (gap, e.tree) (None, None)
 
 -- ---- by the rows
 

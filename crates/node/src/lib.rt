@@ -8,10 +8,9 @@
 //!   `of_tested` shows a block that is known to be a node, without the tests.
 //! - `entries` goes through the entries one by one, each an [`EntryView`]; [`KeyBuf`] puts whole keys together on the
 //!   way.
-//! - `find` says where a key stands, [`Place`]: in this node with its value, or below a link, or nowhere. `links_beside`
-//!   answers the links on both sides of a key.
+//! - `find` says where a key stands, [`Place`]: in this node with its value, or below a link, or nowhere.
 //! - [`NodeWriter`] writes a node entry by entry, in the order of the keys, or copies runs of entries from a view.
-//!   `with_link` of a view copies all of a node but one link, and puts another one in its place.
+//!   `with_link_at` of a view copies all of a node but one link, and puts another one in its place.
 //!
 //! Which nodes make a tree is for the crates above: `scratch` builds whole trees, `edit` changes one path. README.md has
 //! an example that reads the top of a tree.

@@ -10,7 +10,7 @@ ghost use Rattle.node.specs.Fault.{fault_of};
 ghost use Rattle.node.specs.Rows.{rows};
 ghost use Rattle.node.specs.Contents.{last_key};
 ghost use Rattle.node.specs.Runs.{Begins};
-ghost use Rattle.node.specs.Search.{gap_at, gap_before, links_beside, passed_by, relink_at, relinked};
+ghost use Rattle.node.specs.Search.{gap_at, gap_before, relink_at};
 ghost use Rattle.node.specs.Views.{place_of, row_of, row_with, IsRowWith};
 
 use crate::encode::{lend, push_link};
@@ -82,6 +82,17 @@ impl<'a> NodeView<'a> {
         NodeView { left, count, first }
     }
 
+    /// The same node once more: only what is lent is copied.
+    pub fn again(&self) -> NodeView<'a>
+        ensures { result ≡ self.now }
+    {
+        NodeView {
+            left: self.left,
+            count: self.count,
+            first: self.first,
+        }
+    }
+
     /// The link of the subtree before all keys of the node.
     pub fn left(&self) -> Option<CidRef<'a>>
         ensures { option_map bytes_of result ≡ self.now.left }
@@ -128,40 +139,29 @@ impl<'a> NodeView<'a> {
         }
     }
 
-    /// The links before and after the entry of a key: those of the subtrees of the keys next to it. Both are `None` where
-    /// the node doesn't have the key.
-    pub fn links_beside(&self, key: &[u8]) -> (Option<CidRef<'a>>, Option<CidRef<'a>>)
-        ensures { (option_map bytes_of result.0, option_map bytes_of result.1)
-            ≡ links_beside key.now self.now.left self.now.entries }
-    {
-        let sought = self.seek(key);
-        match sought.entry {
-            Some(entry) => (sought.gap, entry.tree),
-            None => (None, None),
-        }
-    }
-
-    /// The bytes of this node with another link in the gap next to `key`: the one before the first entry that isn't below
-    /// the key. All other bytes are copied as they stand. `AllocError` comes where memory was refused.
-    pub fn with_link<A: Allocator>(
+    /// The bytes of this node with another link in the gap behind so many entries, where `gap` stands. All other bytes are
+    /// copied as they stand. `AllocError` comes where memory was refused.
+    pub fn with_link_at<A: Allocator>(
         &self,
         alloc: A,
-        key: &[u8],
+        passed: u64,
+        gap: Option<CidRef<'_>>,
         new: Option<Cid>,
     ) -> Result<Vec<u8, A>, AllocError>
+        requires within { passed ≤ length self.now.entries }
+        requires gap { option_map bytes_of gap ≡ gap_at passed self.now.left self.now.entries }
         ensures bytes { IfOk result (λ bytes. bytes.items ≡ node_spelling
-            (relinked key.now self.now.left self.now.entries new).left
-            (relinked key.now self.now.left self.now.entries new).entries) }
+            (relink_at passed self.now.left self.now.entries new).left
+            (relink_at passed self.now.left self.now.entries new).entries) }
         ensures grammar { OnOk result (is_node
-            (relinked key.now self.now.left self.now.entries new).left
-            (relinked key.now self.now.left self.now.entries new).entries ≡ true) }
+            (relink_at passed self.now.left self.now.entries new).left
+            (relink_at passed self.now.left self.now.entries new).entries ≡ true) }
     {
-        let sought = self.seek(key);
-        self.with_link_at(alloc, sought.passed, sought.gap, lend(&new))
+        self.copied_around(alloc, passed, gap, lend(&new))
     }
 
-    /// The bytes of this node with another link in the gap behind so many entries, where `gap` stands.
-    fn with_link_at<A: Allocator>(
+    /// The same with a link that is lent.
+    fn copied_around<A: Allocator>(
         &self,
         alloc: A,
         passed: u64,
@@ -220,45 +220,40 @@ impl<'a> NodeView<'a> {
         Ok(bytes)
     }
 
-    /// The gap before the first entry that isn't below a key, how many stand before it, and that entry, where it is the key's.
+    /// The gap before the first entry that isn't below a key, and that entry, where it is the key's.
     fn seek(&self, key: &[u8]) -> Sought<'a>
         ensures gap { option_map bytes_of result.gap
             ≡ gap_before key.now self.now.left self.now.entries }
-        ensures passed { result.passed ≡ passed_by key.now self.now.entries }
         ensures row { option_map row_of result.entry ≡ row_with key.now [] self.now.entries }
     {
         let mut gap = self.left;
-        let mut passed = 0;
         let mut same = 0;
         for entry in self.entries() {
             let (order, common) = compare_after(same, key, &entry);
             match order {
                 Ordering::Less => {
                     gap = entry.tree;
-                    passed += 1;
                     same = common;
                 }
                 Ordering::Equal => {
                     let entry = Some(entry);
-                    return Sought { gap, passed, entry };
+                    return Sought { gap, entry };
                 }
                 Ordering::Greater => {
                     let entry = None;
-                    return Sought { gap, passed, entry };
+                    return Sought { gap, entry };
                 }
             }
         }
         let entry = None;
-        Sought { gap, passed, entry }
+        Sought { gap, entry }
     }
 }
 
-/// What is found where a key is sought: the link before its place, how many entries stand before it, and its entry, where
-/// there is one.
+/// What is found where a key is sought: the link before its place, and its entry, where there is one.
 #[derive(Drop)]
 struct Sought<'a> {
     gap: Option<CidRef<'a>>,
-    passed: u64,
     entry: Option<EntryView<'a>>,
 }
 

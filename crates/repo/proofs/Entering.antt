@@ -1,6 +1,6 @@
 -- The cores that a repository's calls enter in its store.
 use Rattle.std.proofs.Common.{◌≡◌, ◌∙◌, ℕ, List, ap, sym, subst, refl, false}
-use Rattle.std.specs.Prelude.{Option, Result, is_some, option_map, ◌||◌}
+use Rattle.std.specs.Prelude.{Option, Result, is_some, option_map}
 use Rattle.std.specs.Cmp.Lexicographic.{slice_cmp}
 use Rattle.std.specs.FinMap as map
 use Rattle.std.specs.Ordering.{nat_cmp}
@@ -17,7 +17,7 @@ use Rattle.repo.proofs.Ended.{held}
 
 -- nothing is held so far
 none_held : (me : ℕ) (c : List ℕ) → is_held (none_kept me) c ≡ false
-none_held me c = ap (λ (o : Option (List ℕ × ℕ)). is_some (option_map (λ u. u.0) o) || is_some (option_map (λ u. u.0) o)) (map.get-empty (slice_cmp nat_cmp) c)
+none_held me c = ap (λ (o : Option (List ℕ × ℕ)). is_some (option_map (λ u. u.0) o)) (map.get-empty (slice_cmp nat_cmp) c)
 
 module _ {S D A : Type 0} (digest : List ℕ → List ℕ)
     (makes : S → Arc (List ℕ) A → ℕ → Result (Arc (List ℕ) A × ℕ) (StoreFault D A) → S → Type 0)

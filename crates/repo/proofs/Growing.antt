@@ -1,5 +1,5 @@
 -- A core's lists after a batch.
-use Rattle.std.proofs.Common.{◌≡◌, ◌<◌, ◌-◌, ℕ, zero, suc, List, [], ◌∷◌, ◌++◌, length, map, refl, sym, ap, subst, ◌∙◌, arith, Option, Ok}
+use Rattle.std.proofs.Common.{◌≡◌, ◌-◌, ℕ, zero, suc, List, [], ◌∷◌, ◌++◌, length, map, refl, sym, ap, subst, ◌∙◌, Option}
 use Rattle.std.specs.declared.option.Option.TheVariants.{Some}
 use Rattle.std.specs.Prelude.{slice_get, option_map}
 use Rattle.std.specs.Arc.{arc_value}
@@ -8,7 +8,7 @@ use Rattle.std.proofs.lemmas.List.{length-map}
 use Rattle.spec.specs.Stamps as stamps
 use Rattle.spec.specs.Stamps.{Stamped, rev_of, last}
 use Rattle.spec.specs.Writes as writes
-use Rattle.spec.specs.States.{State, after_batch, state_root, state_commit, state_test}
+use Rattle.spec.specs.States.{State, after_batch, state_root, state_commit}
 use Rattle.kept.specs.Counts.{Counts}
 use Rattle.repo.specs.Refusals.{IsStagedBatch, IsApplied, IsRefusal}
 use Rattle.batches.specs.Values.{write_of, shared_writes, stamp_of, stamps_of}
@@ -57,10 +57,6 @@ applied-after digest bits s given t stamp batch number root first commit m v e h
   previous = f ∙ ap (state_root digest bits) v;
   commit = h.commit_is ∙ ap (state_commit digest bits) (sym e);
 }
-
-pub some-of : (s : State) (stamp : stamps.Stamp) (batch : List writes.Write) → state_test s stamp batch ≡ Ok tt → 0 < length batch
-some-of s stamp [] h = absurd cc
-some-of s stamp (w ∷ ws) h = omega arith
 
 pub refused-on : {D A : Type 0} (digest : List ℕ → List ℕ) (bits : ℕ) (s given : State) (stamp : stamps.Stamp) (batch : List writes.Write) (full fuller last : ℕ) (e : ℕ × RepoFault D A)
     → s ≡ given → last ≡ fuller → IsRefusal digest bits s stamp batch full fuller e → IsRefusal digest bits given stamp batch full last e

@@ -7,11 +7,10 @@ use Rattle.std.specs.Cmp.Lexicographic.{slice_cmp}
 use Rattle.std.specs.Ordering.{nat_cmp, eq_by_cmp}
 use Rattle.std.specs.FinMap.{find}
 use Rattle.std.proofs.lemmas.Bool.{lt-ltb}
-use Rattle.std.proofs.lemmas.List.{append-nil}
 use Rattle.spec.specs.Cid.{cid, IsDigest}
 use Rattle.spec.specs.Blocks.{block_at, value_of, pairs, record_blocks}
-use Rattle.spec.specs.States.{State, after_batch, records, state_blocks}
-use Rattle.spec.specs.Stamps.{Stamp, Stamped}
+use Rattle.spec.specs.States.{State, IsLawful, after_batch, records, state_root, state_blocks}
+use Rattle.spec.specs.Stamps.{Stamp}
 use Rattle.spec.specs.Writes.{Write}
 use Rattle.spec.proofs.RootLaws.{in_head, in_tail}
 use Rattle.spec.proofs.RecordPairs.{lawful-pairs, value-record}
@@ -21,14 +20,12 @@ use Rattle.edit_laws.specs.Staged.{old_commit}
 use Rattle.edit_laws.specs.Uses.{uses}
 use Rattle.edit_laws.proofs.BlockSources.{source-gives, source-nodes}
 use Rattle.lookups.specs.Trees.{HasTree}
-use Rattle.kept.specs.Counts.{Keeping, bytes_at, count_of}
+use Rattle.kept.specs.Counts.{Counts, Keeping, bytes_at, count_of}
 use Rattle.repo.specs.Cores.{IsCore}
-use Rattle.repo.specs.Keeping.{IsStillBefore}
-use Rattle.repo.specs.Refusals.{IsBatchOn, IsStagedBatch}
-use Rattle.repo.proofs.Staged.{sorted-after, staged-first}
-
-sorted-records : (s : State) → finmap.is_sorted (slice_cmp nat_cmp) (records s) ≡ true
-sorted-records s = subst (λ ws. finmap.is_sorted (slice_cmp nat_cmp) (Rattle.spec.specs.Writes.leaves ws) ≡ true) (append-nil s.accepted) (sorted-after s [])
+use Rattle.repo.specs.Keeping.{AreKept}
+use Rattle.repo.specs.Refusals.{IsStagedBatch}
+use Rattle.repo.specs.Tested.{IsTestStart}
+use Rattle.repo.proofs.Exchanging.{sorted-records}
 
 -- the record that is found is one of the records
 found-case : (key : List ℕ) (e : List ℕ × List ℕ) (m : List (List ℕ × List ℕ)) (r : List ℕ) (t : Bool) → (find (slice_cmp nat_cmp) key m ≡ Some r → Contains (record_blocks m) r)
@@ -40,15 +37,20 @@ found-record : (key : List ℕ) (m : List (List ℕ × List ℕ)) (r : List ℕ)
 found-record key [] r h = absurd cc
 found-record key (e ∷ m) r h = found-case key e m r (eq_by_cmp (slice_cmp nat_cmp) key e.0) (found-record key m r) h
 
-module _ (digest : List ℕ → List ℕ) (bits : ℕ) (s : State) (root : List ℕ) (commit : Option (List ℕ)) (k : Keeping) (is : IsCore digest bits s root commit k) where
-  pub core-tree : IsDigest digest → HasTree digest bits (bytes_at k.before) root (pairs digest (records s))
-  core-tree fits = record {
-    pairs = let a = is.lawful.within_limit in let b = is.lawful.limit_fits in lawful-pairs digest fits s.accepted is.lawful.writes (omega arith);
-    root_is = is.root_is;
-    nodes = source-nodes digest bits (old_commit digest bits s) (records s) (sorted-records s) (bytes_at k.before) is.kept.has;
-  }
+-- what is kept of a lawful state has its tree
+pub kept-tree : (digest : List ℕ → List ℕ) (bits : ℕ) → IsDigest digest → (s : State) (m : Counts) → IsLawful s → AreKept digest (state_blocks digest bits s) m
+    → HasTree digest bits (bytes_at m) (state_root digest bits s) (pairs digest (records s))
+kept-tree digest bits fits s m lawful kept = record {
+  pairs = let a = lawful.within_limit in let b = lawful.limit_fits in lawful-pairs digest fits s.accepted lawful.writes (omega arith);
+  root_is = refl;
+  nodes = source-nodes digest bits (old_commit digest bits s) (records s) (sorted-records s) (bytes_at m) kept.has;
+}
 
-  at_kept : (c : List ℕ) (o : Option (List ℕ × ℕ)) → finmap.get k.before c ≡ o
+module _ (digest : List ℕ → List ℕ) (bits : ℕ) (s : State) (root : List ℕ) (commit : Option (List ℕ)) (k : Keeping) (is : IsCore digest bits s root commit k) where
+  pub core-tree : IsDigest digest → HasTree digest bits (bytes_at k.uses) root (pairs digest (records s))
+  core-tree fits = subst (λ (r : List ℕ). HasTree digest bits (bytes_at k.uses) r (pairs digest (records s))) (sym is.root_is) (kept-tree digest bits fits s k.uses is.lawful is.kept)
+
+  at_kept : (c : List ℕ) (o : Option (List ℕ × ℕ)) → finmap.get k.uses c ≡ o
       → option_map (λ u. u.0) o ≡ (if nat_lt 0 (uses digest c (state_blocks digest bits s)) then option_map (λ u. u.0) o else None)
   at_kept c None e = same (nat_lt 0 (uses digest c (state_blocks digest bits s)))
     where
@@ -63,10 +65,10 @@ module _ (digest : List ℕ → List ℕ) (bits : ℕ) (s : State) (root : List 
       ap (λ (x : Bool). if x then Some u.0 else None) (sym t)
 
   -- what is kept under a CID is the block with that CID
-  pub core-block : (c : List ℕ) → bytes_at k.before c ≡ block_at digest c (state_blocks digest bits s)
-  core-block c = at_kept c (finmap.get k.before c) refl ∙ sym (source-gives digest (state_blocks digest bits s) (bytes_at k.before) is.kept.has c)
+  pub core-block : (c : List ℕ) → bytes_at k.uses c ≡ block_at digest c (state_blocks digest bits s)
+  core-block c = at_kept c (finmap.get k.uses c) refl ∙ sym (source-gives digest (state_blocks digest bits s) (bytes_at k.uses) is.kept.has c)
 
-  core-record : (r : List ℕ) → Contains (record_blocks (records s)) r → bytes_at k.before (cid digest r) ≡ Some r
+  core-record : (r : List ℕ) → Contains (record_blocks (records s)) r → bytes_at k.uses (cid digest r) ≡ Some r
   core-record r h = is.kept.has r (record-in digest bits (old_commit digest bits s) (records s) (sorted-records s) r h)
 
   by_found : (key c : List ℕ) (o : Option (List ℕ)) → find (slice_cmp nat_cmp) key (records s) ≡ o → ◌≡◌ {A = Option (List ℕ)} (Some c) (option_map (cid digest) o)
@@ -80,18 +82,9 @@ module _ (digest : List ℕ → List ℕ) (bits : ℕ) (s : State) (root : List 
   pub core-get : (key c : List ℕ) → Some c ≡ value_of key (pairs digest (records s)) → block_at digest c (state_blocks digest bits s) ≡ find (slice_cmp nat_cmp) key (records s)
   core-get key c h = by_found key c (find (slice_cmp nat_cmp) key (records s)) refl (h ∙ (value-record digest (records s) key).0)
 
-  -- a batch begins on the state
-  pub core-on : (room : ℕ) (rev : Option (List ℕ)) → length s.accepted + room ≡ s.limit → rev ≡ Rattle.spec.specs.Stamps.rev_of (Rattle.spec.specs.Stamps.last s.stamps)
-      → IsBatchOn digest bits s room root commit rev k.staged
-  core-on room rev r e = record {
-    start = record {
-      room_is = r;
-      by = subst (λ m. Rattle.repo.specs.Staging.IsStagedBy digest bits s [] root m) (sym is.still)
-          (subst (λ (x : List ℕ). Rattle.repo.specs.Staging.IsStagedBy digest bits s [] x k.before) (sym is.root_is) (staged-first digest bits s k.before is.lawful is.kept));
-    };
-    commit_is = is.commit_is;
-    rev_is = e;
-  }
+  -- a batch is tested on the state
+  pub core-tested : IsDigest digest → (room : ℕ) → length s.accepted + room ≡ s.limit → IsTestStart digest bits s room root k.uses
+  core-tested fits room r = record { room_is = r; tree = core-tree fits }
 
 none-found : (digest : List ℕ → List ℕ) (o : Option (List ℕ)) → None ≡ option_map (cid digest) o → None ≡ o
 none-found digest None h = refl
@@ -102,27 +95,21 @@ get-none digest s key h = none-found digest (find (slice_cmp nat_cmp) key (recor
 
 -- ---- after a batch
 
--- what was staged counts: the core is that of the state after the batch
-pub core-after : (digest : List ℕ → List ℕ) (bits : ℕ) (s t : State) (stamp : Stamp) (batch : List Write) (root : List ℕ) (before : Option (List ℕ)) (first commit : List ℕ) (k l n : Keeping)
-    → IsCore digest bits s first before k → t ≡ after_batch s stamp batch → n ≡ record l { before = l.staged } → IsStagedBatch digest bits s stamp batch root commit l.staged → IsCore digest bits t root (Some commit) n
-core-after digest bits s t stamp batch root before first commit k l n is e f h =
-    subst (λ (x : State). IsCore digest bits x root (Some commit) n) (sym e) (subst (λ (x : Keeping). IsCore digest bits (after_batch s stamp batch) root (Some commit) x) (sym f) (record {
+-- what has been exchanged is kept: the core is that of the state after the batch
+pub core-after : (digest : List ℕ → List ℕ) (bits : ℕ) (s t : State) (stamp : Stamp) (batch : List Write) (root : List ℕ) (before : Option (List ℕ)) (first commit : List ℕ) (k n : Keeping)
+    → IsCore digest bits s first before k → t ≡ after_batch s stamp batch → IsStagedBatch digest bits s stamp batch root commit n.uses → IsCore digest bits t root (Some commit) n
+core-after digest bits s t stamp batch root before first commit k n is e h =
+    subst (λ (x : State). IsCore digest bits x root (Some commit) n) (sym e) (record {
       least_bits = is.least_bits;
       most_bits = is.most_bits;
       lawful = batch-keeps_state s stamp batch is.lawful h.passes;
       root_is = h.root_is;
       commit_is = h.commit_is;
-      still = refl;
       kept = h.kept;
-    }))
+    })
 
-keeping-is : (k l : Keeping) → IsStillBefore k l → k.staged ≡ k.before → ◌≡◌ {A = Keeping} (record l { staged = l.before }) k
-keeping-is k l h e = λ i. record { me = h.me i; before = h.before i; staged = (h.before ∙ sym e) i }
+-- ---- after a refusal
 
--- nothing was staged in the end
-pub core-back : (k l n : Keeping) → IsStillBefore k l → k.staged ≡ k.before → n ≡ record l { staged = l.before } → n ≡ k
-core-back k l n h e f = f ∙ keeping-is k l h e
-
-pub refused-core : (digest : List ℕ → List ℕ) (bits : ℕ) (s t : State) (root : List ℕ) (commit : Option (List ℕ)) (k n : Keeping) → IsCore digest bits s root commit k → n ≡ k → t ≡ s → IsCore digest bits t root commit n
-refused-core digest bits s t root commit k n is e f =
+pub core-same : (digest : List ℕ → List ℕ) (bits : ℕ) (s t : State) (root : List ℕ) (commit : Option (List ℕ)) (k n : Keeping) → IsCore digest bits s root commit k → n ≡ k → t ≡ s → IsCore digest bits t root commit n
+core-same digest bits s t root commit k n is e f =
     subst (λ (x : State). IsCore digest bits x root commit n) (sym f) (subst (λ (x : Keeping). IsCore digest bits s root commit x) (sym e) is)

@@ -159,7 +159,7 @@ turned digest all once list is p = record {
 }
 
 pub core-blocks : (digest : List ℕ → List ℕ) (bits : ℕ) (s given : State) (root : List ℕ) (commit : Option (List ℕ)) (k : Keeping) (list : List (List ℕ)) → IsCore digest bits s root commit k → s ≡ given
-    → IsPermutation (blocks_of k.before) list → AreEachOnce digest (state_blocks digest bits given) list
+    → IsPermutation (blocks_of k.uses) list → AreEachOnce digest (state_blocks digest bits given) list
 core-blocks digest bits s given root commit k list is e p =
     subst (λ (x : State). AreEachOnce digest (state_blocks digest bits x) list) e
-    (turned digest (state_blocks digest bits s) (blocks_of k.before) list (kept-once digest (state_blocks digest bits s) k.before is.kept) p)
+    (turned digest (state_blocks digest bits s) (blocks_of k.uses) list (kept-once digest (state_blocks digest bits s) k.uses is.kept) p)

@@ -8,7 +8,7 @@ use Rattle.kept.specs.Counts.{Keeping}
 use Rattle.repo.specs.Keeping.{AreKept}
 
 -- A core's fields are those of its state, which is lawful: the root, the last commit, and the
--- blocks with their uses. Nothing is staged.
+-- blocks with their uses.
 pub record IsCore (digest : List ℕ → List ℕ) (bits : ℕ) (s : State) (root : List ℕ)
     (commit : Option (List ℕ)) (k : Keeping) : Type 0 where
   pub least_bits : 1 ≤ bits
@@ -16,8 +16,7 @@ pub record IsCore (digest : List ℕ → List ℕ) (bits : ℕ) (s : State) (roo
   pub lawful : IsLawful s
   pub root_is : root ≡ state_root digest bits s
   pub commit_is : commit ≡ state_commit digest bits s
-  pub still : k.staged ≡ k.before
-  pub kept : AreKept digest (state_blocks digest bits s) k.before
+  pub kept : AreKept digest (state_blocks digest bits s) k.uses
 
 -- the second list has the blocks of the first, each once: no two of it have one CID
 pub record AreEachOnce (digest : List ℕ → List ℕ) (all once : List (List ℕ)) : Type 0 where

@@ -1,8 +1,10 @@
 pub mod Views
 pub mod Keeping
-pub mod Staging
+pub mod BlockFaults
 pub mod Cores
 pub mod Refusals
 pub mod Readings
-pub mod Ending
 pub mod Fulls
+pub mod Tested
+pub mod Exchanging
+pub mod Edits

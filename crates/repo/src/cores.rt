@@ -6,9 +6,9 @@ ghost use Rattle.lookups.specs.Walks.{pairs_given};
 ghost use Rattle.spec.specs.States.{IsLawful, fresh, after_batch, state_blocks, state_root, state_commit, state_test};
 ghost use Rattle.edit_laws.specs.Uses.{uses as uses_of};
 ghost use Rattle.spec.specs.Stamps.{last, rev_of};
+ghost use Rattle.kept.specs.Trees.{OfTree, IsValue};
 ghost use Rattle.kept.specs.Uses.{used_blocks};
 ghost use Rattle.kept.specs.Entering.{Enters, no_block};
-ghost use Rattle.repo.specs.Ending.{IsEnded};
 ghost use Rattle.repo.specs.Fulls.{fulls_after_batch, fulls_after_step};
 ghost use Rattle.repo.specs.Readings.{AreBlocksOnce, CountsBlocks, LendsBlocks, LendsTree, has_block, pairs_from, record_at, state_block};
 ghost use Rattle.repo.specs.Refusals.{IsRefusal, IsApplied, IsOpenRefusal};
@@ -16,15 +16,18 @@ ghost use Rattle.batches.specs.Values.{stamp_of, stamps_of, writes_of, shared_wr
 ghost use Rattle.store.specs.Stores.{IsStore};
 
 use crate::applied::Applied;
-use crate::opening::{empty_node, kept_once};
-use crate::staged_batch::{StagedBatch, Start, stage_batch};
+use crate::copies::{copies_of, grow, make_room};
+use crate::exchanges::exchange_of;
+use crate::opening::empty_node;
+use crate::write_tests::test_batch;
 use batches::{RepoFault, Stamp, Write};
 use cid::{Block, Cid, Digest};
-use kept::{Blocks, Kept, Lender, pairs_accepted, value_accepted};
+use kept::{Blocks, Kept, Lender, value_at};
+use lookups::MarkedBlock;
 use std::alloc::{AllocError, Allocator, Global};
 use std::marker::Model;
 use std::sync::Arc;
-use store::{BlockStore, Hold, SHARDS, Shard, StoreFault};
+use store::{BlockStore, Hold, StoreFault};
 
 /// One repository: its accepted writes and their stamps, the root of its tree, and its blocks.
 ///
@@ -153,23 +156,6 @@ impl<D: Digest, const B: u8, A: Allocator> Core<D, B, A> {
         kept.end(store);
     }
 
-    /// Gives its blocks back to the sixteen shards, which its caller has for itself: in the table of its CID's shard each of
-    /// its blocks has its other cores left, and goes where there are none. Nothing else in the tables changes. It takes no
-    /// memory and can't fail.
-    pub fn end_in(self, tables: &mut [Shard<D, A>; SHARDS])
-        ensures { IsEnded D.digest_of B self tables.old tables.new }
-    {
-        let Core {
-            limit: _,
-            accepted: _,
-            stamps: _,
-            root: _,
-            commit: _,
-            kept,
-        } = self;
-        kept.end_in(tables);
-    }
-
     /// Its block with this CID: the last commit, a node or a record. It takes no memory.
     pub fn block(&self, cid: &Cid) -> Option<&Arc<Block<D, A>, A>>
         ensures value { option_map (λ block. arc_value block.now) result
@@ -193,7 +179,7 @@ impl<D: Digest, const B: u8, A: Allocator> Core<D, B, A> {
         ensures value { option_map (λ block. block.now) result ≡ record_at self.now key.now }
         ensures lawful { IsLawful self.now }
     {
-        match value_accepted::<D, B, A>(&self.kept, self.root, key) {
+        match value_in::<D, B, A>(&self.kept, self.root, key) {
             Some(cid) => match self.block(&cid) {
                 Some(block) => Some(block),
                 None => None,
@@ -217,7 +203,7 @@ impl<D: Digest, const B: u8, A: Allocator + Copy> Core<D, B, A> {
             ≡ pairs_from D.digest_of self.now from.now limit) }
         ensures lawful { IsLawful self.now }
     {
-        pairs_accepted::<D, B, A>(alloc, &self.kept, self.root, from, limit)
+        kept::pairs_from::<D, B, A>(alloc, &self.kept, self.root, from, limit)
     }
 
     /// A repository without writes, which may have `limit` of them, under its own number in the store.
@@ -248,8 +234,10 @@ impl<D: Digest, const B: u8, A: Allocator + Copy> Core<D, B, A> {
     {
         let node = empty_node(alloc)?;
         let root = node.cid();
-        match kept_once(alloc, store, me, node) {
-            Ok(kept) => Ok(Core {
+        let come = vec![in alloc; MarkedBlock::of(node)]?;
+        let mut kept = Kept::open(alloc, me);
+        match kept.exchange(store, come, &[]) {
+            Ok(()) => Ok(Core {
                 limit,
                 accepted: Vec::new(alloc),
                 stamps: Vec::new(alloc),
@@ -257,7 +245,10 @@ impl<D: Digest, const B: u8, A: Allocator + Copy> Core<D, B, A> {
                 commit: None,
                 kept,
             }),
-            Err(fault) => Err(fault),
+            Err(fault) => {
+                kept.end(store);
+                Err(RepoFault::from(fault))
+            }
         }
     }
 
@@ -266,13 +257,14 @@ impl<D: Digest, const B: u8, A: Allocator + Copy> Core<D, B, A> {
     /// The tests come in this order: a batch without writes is `RepoFault::EmptyBatch`; the stamp, `RepoFault::BadDid`,
     /// `RepoFault::BadRev`, `RepoFault::RevOrder`; and then write by write, each on the records that those before it leave:
     /// `RepoFault::WritesFull`, `RepoFault::BadKey`, `RepoFault::RecordSize`, `RepoFault::BadRecord`, `RepoFault::NotAMap`,
-    /// `RepoFault::KeyExists` or `RepoFault::NoSuchKey`. Where a write's blocks are made, `RepoFault::Collision` shows two
-    /// blocks that clash, of which one is of the repository after the writes up to that place, and `RepoFault::StoreFull`
-    /// says that the store answered so. `RepoFault::NoMemory` comes where memory was refused; where it serves the whole
-    /// batch, at place 0. The commit's own refusals stand at the place of the last write.
+    /// `RepoFault::KeyExists` or `RepoFault::NoSuchKey`. Then the blocks are made and held, all at once:
+    /// `RepoFault::Collision` shows two blocks that clash, of which one is of the repository after the batch, and
+    /// `RepoFault::StoreFull` says that the store answered so. `RepoFault::NoMemory` comes where memory was refused.
     ///
-    /// A refusal names the place of the refused write, from 0; all is then as before, and each hold that was taken has been
-    /// given back.
+    /// A refusal names a place, from 0. What a test finds stands at its write's place, and what comes of the blocks at the
+    /// last write's; a want of memory stands at that of the write that is tested, of the last one where blocks are made and
+    /// held, and at 0 for the copies that are to be kept. All is then as before, and each hold that was taken has been given
+    /// back.
     pub fn apply<S: BlockStore<Arc<Block<D, A>, A>, Hold<D, A>, StoreFault<D, A>>>(
         &mut self,
         alloc: A,
@@ -297,45 +289,52 @@ impl<D: Digest, const B: u8, A: Allocator + Copy> Core<D, B, A> {
             (has_block D.digest_of B self.old) (has_block D.digest_of B self.new)
             store.old store.new }
     {
-        let start = Start {
-            room: room_for(self.limit, &self.accepted),
-            root: self.root,
-            commit: self.commit,
+        let room = room_for(self.limit, &self.accepted);
+        let rev = last_rev(&self.stamps);
+        let root = self.root;
+        let changes = test_batch::<D, B, A>(&self.kept, alloc, room, root, rev, stamp, writes)?;
+        let last = writes.len() - 1;
+
+        let made = exchange_of::<D, B, A>(&self.kept, alloc, root, self.commit, stamp, &changes);
+        let exchange = match made {
+            Ok(exchange) => exchange,
+            Err(fault) => return Err((last, fault)),
         };
-        let last = last_rev(&self.stamps);
-        match stage_batch::<D, B, A, S>(&mut self.kept, store, alloc, start, last, stamp, writes) {
-            Ok(staged) => {
-                let StagedBatch {
-                    root,
-                    commit,
-                    writes: shared,
-                    stamp: copy,
-                } = staged;
-                match grow(&mut self.accepted, &mut self.stamps, shared, copy) {
-                    Ok(number) => {
-                        self.kept.accept(store);
-                        let previous = self.root;
-                        self.root = root;
-                        self.commit = Some(commit);
-                        Ok(Applied {
-                            number,
-                            root,
-                            previous,
-                            commit,
-                        })
-                    }
-                    Err(_) => {
-                        self.kept.refuse(store);
-                        Err((0, RepoFault::NoMemory))
-                    }
-                }
-            }
-            Err(refusal) => {
-                self.kept.refuse(store);
-                Err(refusal)
-            }
+        let Ok(copies) = copies_of(alloc, stamp, writes) else {
+            return Err((0, RepoFault::NoMemory));
+        };
+        let Ok(()) = make_room(&mut self.accepted, &mut self.stamps, writes.len()) else {
+            return Err((0, RepoFault::NoMemory));
+        };
+        match self.kept.exchange(store, exchange.come, &exchange.go) {
+            Ok(()) => {}
+            Err(fault) => return Err((last, RepoFault::from(fault))),
         }
+
+        let number = grow(&mut self.accepted, &mut self.stamps, copies);
+        let previous = self.root;
+        self.root = exchange.root;
+        self.commit = Some(exchange.commit);
+        Ok(Applied {
+            number,
+            root: exchange.root,
+            previous,
+            commit: exchange.commit,
+        })
     }
+}
+
+/// The value of a key in the tree with this root.
+fn value_in<D: Digest, const B: u8, A: Allocator>(
+    kept: &Kept<D, A>,
+    root: Cid,
+    key: &[u8],
+) -> Option<Cid>
+    requires { 1 ≤ B }
+    ensures { OfTree D.digest_of B kept.now.uses root (IsValue key.now result) }
+{
+    let (value, _) = value_at::<D, B, A>(kept, root, key);
+    value
 }
 
 /// The last batch's revision, or `None` before the first one.
@@ -354,26 +353,4 @@ fn room_for<A: Allocator>(limit: usize, accepted: &[Arc<Write<A>, A>]) -> usize
     ensures { length (shared_writes accepted.now) + result ≡ limit }
 {
     limit - accepted.len()
-}
-
-/// Puts a batch's writes and its stamp to the others, and answers how many writes there are then; or changes nothing.
-fn grow<A: Allocator>(
-    accepted: &mut Vec<Arc<Write<A>, A>, A>,
-    stamps: &mut Vec<(Stamp<A>, u64), A>,
-    mut shared: Vec<Arc<Write<A>, A>, A>,
-    stamp: Stamp<A>,
-) -> Result<u64, AllocError>
-    ensures writes { OnOk result (shared_writes accepted.new.items
-        ≡ shared_writes accepted.old.items ++ shared_writes shared.items) }
-    ensures stamps { OnOk result (stamps_of stamps.new.items
-        ≡ stamps_of stamps.old.items ++ (stamp_of stamp, length accepted.new.items) ∷ []) }
-    ensures number { IfOk result (λ number. number ≡ length accepted.new.items) }
-    ensures same_writes { OnErr result (accepted.new.items ≡ accepted.old.items) }
-    ensures same_stamps { OnErr result (stamps.new.items ≡ stamps.old.items) }
-{
-    stamps.reserve(1)?;
-    accepted.append(&mut shared)?;
-    let number = accepted.len() as u64;
-    stamps.push_reserved((stamp, number));
-    Ok(number)
 }

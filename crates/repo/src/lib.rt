@@ -9,8 +9,8 @@
 //!   blocks back to the store. A core can't be dropped, as its blocks are counted there.
 //! - `get`, `list`, `block`, `blocks`, `uses`, `root`, `commit`, `accepted` and `stamps` read; but for `list` none takes memory.
 //!   `lender` lends the blocks as a source, for `lookups`, `edit` and exports.
-//! - What a core asks of the store goes through `store::BlockStore`: the sixteen locked shards, which several cores share, or
-//!   one shard that is lent. `end_in` gives the blocks back to shards that the caller has for itself.
+//! - What a core asks of the store goes through `store::BlockStore`: the sixteen locked shards, which several cores share,
+//!   sixteen without locks that are lent, or one of them.
 //! - [`Repository`] is a core behind a lock, for threads.
 //!
 //! Writes, stamps, their tests and the faults stand in the crate `batches`.
@@ -64,12 +64,13 @@
 #![tactic(auto)]
 
 mod applied;
-mod batch;
+mod changes;
+mod copies;
 mod cores;
+mod exchanges;
 mod opening;
 mod repository;
-mod staged_batch;
-mod staging;
+mod write_tests;
 
 pub use applied::Applied;
 pub use cores::Core;

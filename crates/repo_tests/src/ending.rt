@@ -6,7 +6,7 @@ use cid::digests::Toy;
 use refusing::Refusing;
 use repo::Core;
 use repo_fixtures::cores::counts;
-use store::Shards;
+use store::{LentShards, Shards};
 
 /// It takes no memory. The node without entries stands in the last shard.
 #[test]
@@ -18,7 +18,7 @@ fn ends_in_its_shards(rt: HostRuntime) {
     let stood = counts(&tables[15]) == (1, 1);
     let refused = heap.refused();
     heap.refuse_from(1);
-    core.end_in(&mut tables);
+    core.end(&mut LentShards::<Toy, 0, &Heap>::new(&mut tables));
     let is_empty = heap.refused() == refused && counts(&tables[15]) == (0, 0);
     drop(tables);
     assert!(rt; stood && is_empty && heap.live() == 0);

@@ -24,7 +24,7 @@ fn is_refused<'h, R: Wait + Abort>(
     let ended = store.apply(heap, &mut core, &batch);
     let left = (store.counts(), store.count(&Cid::of::<Toy>(EMPTY_NODE)));
     store.end(core);
-    ended == Refused(0, Why::StoreFull) && left == ((1, 1), 1) && store.counts() == (0, 0)
+    ended == Refused(1, Why::StoreFull) && left == ((1, 1), 1) && store.counts() == (0, 0)
 }
 
 #[test]

@@ -29,3 +29,5 @@ mod stories;
 mod thousand;
 #[cfg(test)]
 mod turns;
+#[cfg(test)]
+mod whole_batches;

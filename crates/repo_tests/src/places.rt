@@ -10,15 +10,15 @@ use repo_fixtures::batch::{EMPTY, ONE, Step, batch_at};
 use repo_fixtures::cores::{apply, apply_steps, end};
 use repo_fixtures::ends::Ended::{Accepted, Refused};
 use repo_fixtures::ends::Why;
-use std::alloc::Global;
+use std::alloc::{AllocError, Global};
 use std::process::Abort;
 use store::Shard;
 
 /// Three writes, each of which takes memory.
 const WRITES: [Step; 3] = [Put(b"a/b0", EMPTY), Put(b"a/c1", ONE), Delete(b"a/b0")];
 
-/// The same before one that is refused, so that no commit is made.
-const WITHOUT_COMMIT: [Step; 4] = [
+/// The same before one that its test refuses, so that no block is made.
+const REFUSED: [Step; 4] = [
     Put(b"a/b0", EMPTY),
     Put(b"a/c1", ONE),
     Delete(b"a/b0"),
@@ -62,40 +62,45 @@ fn place_without<R: Abort>(
     }
 }
 
-/// How many requests are told at each of four places, one place after the other, and then at place 0 once more; all 0 where the
-/// places come in another order.
-fn told<R: Abort>(rt: &R, alloc: Global, has_commit: bool, steps: &[Step<'_>]) -> [u64; 5] {
-    let mut counts = [0u64; 5];
-    let mut latest = 0usize;
+/// At which places the requests for memory are told, one after the other, with how many of them there are in turn.
+fn told<R: Abort>(
+    rt: &R,
+    alloc: Global,
+    has_commit: bool,
+    steps: &[Step<'_>],
+) -> Result<Vec<(usize, u64)>, AllocError> {
+    let mut runs = Vec::new(alloc);
+    let (mut here, mut count) = (0, 0u64);
     for request in 1..400u64 {
         let Some(place) = place_without(rt, alloc, has_commit, steps, request) else {
             break;
         };
-        let next = if place == 0 && latest > 0 { 4 } else { place };
-        if next < latest || next > 4 {
-            return [0; 5];
+        if place != here {
+            runs.push((here, count))?;
+            here = place;
+            count = 0;
         }
-        latest = next;
-        counts[next] = counts[next].saturating_add(1);
+        count = count.saturating_add(1);
     }
-    counts
+    runs.push((here, count))?;
+    Ok(runs)
 }
 
-/// Whether the core has a commit already, the batch, and how many requests are told so.
-const ROWS: [(bool, &[Step<'static>], [u64; 5]); 4] = [
-    (false, &WITHOUT_COMMIT, [25, 28, 20, 2, 0]),
-    (false, &WRITES, [25, 28, 26, 0, 2]),
-    (true, &WITHOUT_COMMIT, [30, 23, 20, 2, 0]),
-    (true, &WRITES, [30, 23, 26, 0, 1]),
+/// Whether the core has a commit already, the batch, and where its requests are told.
+const ROWS: [(bool, &[Step<'static>], &[(usize, u64)]); 4] = [
+    (false, &REFUSED, &[(0, 1), (1, 1)]),
+    (false, &WRITES, &[(0, 1), (1, 1), (2, 31), (0, 13)]),
+    (true, &REFUSED, &[(0, 1), (1, 1)]),
+    (true, &WRITES, &[(0, 1), (1, 1), (2, 28), (0, 12)]),
 ];
 
-/// What serves the whole batch is told at its first write, and what a write takes at that write, in their order. The commit's
-/// own 6 requests, as its 102 bytes grow and for its block, are told at the last write. Room for the lists of stamps, which a
-/// core with a commit has, and of accepted writes comes last and serves the whole batch.
+/// What the test of a write takes is told at that write, in their order, and what the edit takes at the last one. Copies of
+/// the writes and of the stamp and room for them in the core's lists serve the whole batch; room for the blocks that come is
+/// told at the last write again. Over the tree that these very writes left its node stays, and so no block is made of it.
 #[test]
 fn want_of_memory_is_told_at_its_write(rt: HostRuntime) {
     for (has_commit, steps, wanted) in &ROWS {
-        let counts = told(&rt, rt.alloc(), *has_commit, steps);
-        assert!(rt; counts == *wanted, "{counts:?}");
+        let runs = told(&rt, rt.alloc(), *has_commit, steps).expect(&rt, "memory");
+        assert!(rt; runs.as_slice() == *wanted, "{runs:?}");
     }
 }

@@ -158,12 +158,12 @@ fn draw<D: Digest>(
     Ok(drawn)
 }
 
-/// Whether a batch may end so: as it was drawn or, in a store that is small, since it is full for a write before the
-/// refused one.
+/// Whether a batch may end so: as it was drawn or, where no test refuses it, at its last write since a small store is full.
 fn may_end(drawn: &Drawn, ended: Ended, is_small: bool) -> bool {
     match (ended, drawn.ended) {
-        (Refused(place, Why::StoreFull), Refused(before, _)) => is_small && place < before,
-        (Refused(place, Why::StoreFull), _) => is_small && place < drawn.steps.len(),
+        (Refused(place, Why::StoreFull), Accepted(_)) => {
+            is_small && place.saturating_add(1) == drawn.steps.len()
+        }
         _ => ended == drawn.ended,
     }
 }

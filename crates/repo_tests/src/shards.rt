@@ -119,9 +119,9 @@ fn a_repository_behind_its_lock(rt: HostRuntime) {
     assert!(rt; is_so(&rt, rt.alloc(), 2, &[PUT], Refused(0, Why::StoreFull)));
     assert!(rt; is_so(&rt, rt.alloc(), 3, &[PUT, PUT], Accepted(2)));
     assert!(rt; is_so(&rt, rt.alloc(), 2, &[PUT, PUT], Refused(1, Why::StoreFull)));
-    // the second of three writes wants a node more
+    // the tree after three writes has a node more
     let writes = [PUT, Put(b"a/b1", THREE), PUT];
-    assert!(rt; is_so(&rt, rt.alloc(), 2, &writes, Refused(1, Why::StoreFull)));
+    assert!(rt; is_so(&rt, rt.alloc(), 2, &writes, Refused(2, Why::StoreFull)));
 }
 
 /// Whether each block of the core is held by so many cores, each in its shard.

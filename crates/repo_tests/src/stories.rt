@@ -252,12 +252,72 @@ const TWO_REPOSITORIES_WITH_TWO_STAMPS: [Turn; 3] = [
     },
 ];
 
+/// Twenty writes of all kinds, of which some overwrite others, on a tree of four nodes: one of five is left.
+const TWENTY_WRITES: [Turn; 2] = [
+    Turn {
+        second: false,
+        rev: 0,
+        batch: &[
+            Put(b"a/b0", ONE),
+            Put(b"a/d1", TWO),
+            Put(b"a/f0", EMPTY),
+            Put(b"a/h2", ONE),
+        ],
+        ended: Accepted(4),
+        records: &[
+            (b"a/b0", ONE),
+            (b"a/d1", TWO),
+            (b"a/f0", EMPTY),
+            (b"a/h2", ONE),
+        ],
+        blocks: (8, 1, 9),
+    },
+    Turn {
+        second: false,
+        rev: 1,
+        batch: &[
+            Update(b"a/b0", TWO),
+            Create(b"a/c0", ONE),
+            Delete(b"a/d1"),
+            Create(b"a/d1", ONE),
+            Put(b"a/e0", TWO),
+            Delete(b"a/f0"),
+            Put(b"a/g1", EMPTY),
+            Update(b"a/g1", ONE),
+            Delete(b"a/h2"),
+            Put(b"a/i0", ONE),
+            Put(b"a/j0", TWO),
+            Delete(b"a/i0"),
+            Create(b"a/i0", TWO),
+            Put(b"a/k2", ONE),
+            Put(b"a/l0", EMPTY),
+            Put(b"a/l0", ONE),
+            Delete(b"a/l0"),
+            Put(b"a/m3", TWO),
+            Delete(b"a/m3"),
+            Update(b"a/k2", TWO),
+        ],
+        ended: Accepted(24),
+        records: &[
+            (b"a/b0", TWO),
+            (b"a/c0", ONE),
+            (b"a/d1", ONE),
+            (b"a/e0", TWO),
+            (b"a/g1", ONE),
+            (b"a/i0", TWO),
+            (b"a/j0", TWO),
+            (b"a/k2", TWO),
+        ],
+        blocks: (8, 1, 9),
+    },
+];
+
 /// A store with room for two blocks has none for a record and its node beside the node without entries.
 const FULL_SHARD: [Turn; 1] = [Turn {
     second: false,
     rev: 0,
     batch: &[Put(b"a/b0", EMPTY), Put(b"a/c0", ONE)],
-    ended: Refused(0, Why::StoreFull),
+    ended: Refused(1, Why::StoreFull),
     records: &[],
     blocks: (1, 1, 1),
 }];
@@ -273,7 +333,7 @@ const OPENED_IN_A_FULL_SHARD: [Turn; 1] = [Turn {
 }];
 
 /// Stories under `Toy`, with the room that their stores have beside the one block of repositories without writes.
-const STORIES: [(&str, u8, &[Turn]); 11] = [
+const STORIES: [(&str, u8, &[Turn]); 12] = [
     ("refused batches", 99, &REFUSED_BATCHES),
     ("writes in order", 99, &WRITES_IN_ORDER),
     ("the same put twice", 99, &THE_SAME_PUT_TWICE),
@@ -295,6 +355,7 @@ const STORIES: [(&str, u8, &[Turn]); 11] = [
         99,
         &TWO_REPOSITORIES_WITH_TWO_STAMPS,
     ),
+    ("twenty writes", 99, &TWENTY_WRITES),
     ("full shard", 1, &FULL_SHARD),
     ("opened in a full shard", 0, &OPENED_IN_A_FULL_SHARD),
 ];
@@ -319,12 +380,12 @@ const TWO_RECORDS_OF_ONE_REPOSITORY: [Turn; 2] = [
     },
 ];
 
-/// They clash in one batch, whose last write is never come to.
+/// They clash in one batch, which is refused at its last write.
 const TWO_RECORDS_OF_ONE_BATCH: [Turn; 1] = [Turn {
     second: false,
     rev: 0,
     batch: &[Put(b"a/b0", ONE), Put(b"a/c0", TWO), Put(b"a/d0", EMPTY)],
-    ended: Refused(1, Why::CollisionOfRecords),
+    ended: Refused(2, Why::CollisionOfRecords),
     records: &[],
     blocks: (1, 1, 1),
 }];
@@ -346,6 +407,34 @@ const RECORDS_OF_TWO_REPOSITORIES: [Turn; 2] = [
         ended: Refused(0, Why::CollisionOfRecords),
         records: &[],
         blocks: (3, 1, 4),
+    },
+];
+
+/// Two repositories share a record, and another one of its length clashes with it for both.
+const RECORDS_SHARED_AND_CLASHING: [Turn; 3] = [
+    Turn {
+        second: false,
+        rev: 0,
+        batch: &[Put(b"a/b0", ONE)],
+        ended: Accepted(1),
+        records: &[(b"a/b0", ONE)],
+        blocks: (3, 1, 4),
+    },
+    Turn {
+        second: true,
+        rev: 0,
+        batch: &[Put(b"a/b0", ONE)],
+        ended: Accepted(1),
+        records: &[(b"a/b0", ONE)],
+        blocks: (3, 3, 3),
+    },
+    Turn {
+        second: true,
+        rev: 1,
+        batch: &[Put(b"a/c0", ONE), Put(b"a/d0", TWO)],
+        ended: Refused(1, Why::CollisionOfRecords),
+        records: &[(b"a/b0", ONE)],
+        blocks: (3, 3, 3),
     },
 ];
 
@@ -386,6 +475,7 @@ fn blocks_that_clash(rt: HostRuntime) {
     assert!(rt; are_turns::<_, Size>(&rt, rt.alloc(), 8, &TWO_RECORDS_OF_ONE_REPOSITORY));
     assert!(rt; are_turns::<_, Size>(&rt, rt.alloc(), 8, &TWO_RECORDS_OF_ONE_BATCH));
     assert!(rt; are_turns::<_, Size>(&rt, rt.alloc(), 8, &RECORDS_OF_TWO_REPOSITORIES));
+    assert!(rt; are_turns::<_, Size>(&rt, rt.alloc(), 8, &RECORDS_SHARED_AND_CLASHING));
     assert!(rt; are_turns::<_, Size>(&rt, rt.alloc(), 8, &COMMIT_AND_RECORD));
     assert!(rt; are_turns::<_, Clash>(&rt, rt.alloc(), 8, &COLLIDING_RECORD));
 }

@@ -108,7 +108,7 @@ fn end_at_last<'h, R: Wait, D: Digest, const B: u8>(
     core: &mut Core<D, B, &'h Heap>,
     batch: &Batch<&'h Heap>,
 ) -> Ended {
-    for request in 1..400u64 {
+    for request in 1..2000u64 {
         match end_of_four(heap, store, core, batch, request) {
             None => {}
             Some(Accepted(_)) if request == 1 => return Unmade,

@@ -4,5 +4,4 @@ pub mod Repositories
 pub mod Endings
 pub mod Making
 pub mod AtOnce
-pub mod Sharding
 pub mod Readings

@@ -12,9 +12,8 @@ ghost use Rattle.repository_commands.specs.Views.{given_of};
 
 use crate::ending::write_made;
 use crate::fault::CommandFault;
-use crate::filling::{MOST_WRITES, filled};
+use crate::filling::{MOST_BLOCKS, MOST_WRITES, filled};
 use crate::puts::{Puts, read_puts};
-use crate::tables::Tables;
 use batches::{Stamp, is_did, is_tid};
 use built_car::built_car;
 use cid::Digest;
@@ -22,6 +21,7 @@ use export::ToMemory;
 use repo::Core;
 use std::alloc::{AllocError, Global};
 use std::io::{Read, Write};
+use store::{LentShards, empty_shards};
 
 /// Reads lines `KEY HEX`, puts each record under its key into one repository, all in one batch under a stamp, and writes
 /// the repository as one file (CARv1; AT Protocol repository v3, unsigned commits). Without lines there is no batch. The
@@ -137,8 +137,9 @@ fn car_put_by_put<D: Digest>(
         (IsRefusedLine D.digest_of (stamp_of stamp.now) (given_of puts) (WasFull D.digest_of)) }
     ensures kind { IfErr result (λ e. is_write_failure e ≡ false) }
 {
-    let mut store = Tables::new(alloc)?;
-    let core = filled::<D, Tables<D, Global>>(alloc, &mut store, stamp, puts)?;
+    let mut shards = empty_shards(alloc, MOST_BLOCKS);
+    let mut store = LentShards::<D, MOST_BLOCKS, Global>::new(&mut shards);
+    let core = filled::<D, LentShards<'_, D, MOST_BLOCKS, Global>>(alloc, &mut store, stamp, puts)?;
     let file = car_in_memory(alloc, &core);
     core.end(&mut store);
     Ok(file?)

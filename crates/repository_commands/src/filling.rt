@@ -20,6 +20,9 @@ use store::{BlockStore, Hold, StoreFault};
 /// How many writes the repository may have.
 pub(crate) const MOST_WRITES: usize = 1_048_576;
 
+/// How many blocks a shard of its store may have.
+pub(crate) const MOST_BLOCKS: usize = 1_048_576;
+
 /// The repository that has all puts as one batch under a stamp, and none where there are no puts; or the first line at
 /// fault. The puts before a line that is none are tried first. At `Err` no block is held. The puts are let go: the repository
 /// has copies of its own.

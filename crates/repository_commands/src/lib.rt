@@ -29,7 +29,6 @@ mod proving;
 mod puts;
 mod refusal_name;
 mod running;
-mod tables;
 mod verifying;
 mod words;
 

@@ -13,9 +13,8 @@ ghost use Rattle.repository_commands.specs.Views.{given_of, nodes_of};
 
 use crate::ending::write_made;
 use crate::fault::CommandFault;
-use crate::filling::{MOST_WRITES, filled};
+use crate::filling::{MOST_BLOCKS, MOST_WRITES, filled};
 use crate::puts::{Puts, read_puts};
-use crate::tables::Tables;
 use batches::Stamp;
 use built_car::built_path;
 use cid::{Block, Cid, Digest};
@@ -24,6 +23,7 @@ use node::is_key;
 use std::alloc::{AllocError, Allocator, Global};
 use std::io::{Read, Write};
 use std::sync::Arc;
+use store::{LentShards, empty_shards};
 
 /// Reads lines `KEY HEX` into one repository, as `car_text` does, and writes the proof of a key: the text of the CID of the
 /// tree's root, and then a line in hexadecimal for each node of the key's path, from the top. The tree is built at once;
@@ -164,8 +164,9 @@ fn path_put_by_put<D: Digest>(
         (IsRefusedLine D.digest_of (stamp_of stamp.now) (given_of puts) (WasFull D.digest_of)) }
     ensures kind { IfErr result (λ e. is_write_failure e ≡ false) }
 {
-    let mut store = Tables::new(alloc)?;
-    let core = filled::<D, Tables<D, Global>>(alloc, &mut store, stamp, puts)?;
+    let mut shards = empty_shards(alloc, MOST_BLOCKS);
+    let mut store = LentShards::<D, MOST_BLOCKS, Global>::new(&mut shards);
+    let core = filled::<D, LentShards<'_, D, MOST_BLOCKS, Global>>(alloc, &mut store, stamp, puts)?;
     let root = core.root();
     let nodes = prove(alloc, &core, key);
     core.end(&mut store);

@@ -1,3 +1,5 @@
 pub mod NodeReading
 pub mod FirstRow
 pub mod Drafting
+pub mod Relinked
+pub mod Following

@@ -1,3 +1,5 @@
 pub mod Entries
 pub mod Drafts
+pub mod Written
 pub mod Codes
+pub mod OldNodes

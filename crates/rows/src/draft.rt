@@ -79,25 +79,32 @@ impl<A: Allocator> Model for Draft<A> {
 }
 
 impl<A: Allocator + Clone> Draft<A> {
-    /// Makes the block of the node as the last of `made`, and answers its CID. `AllocError` comes where memory was refused;
-    /// nothing is promised of `made` then.
-    pub fn push<D: Digest>(self, made: &mut Made<D, A>) -> Result<Cid, AllocError>
+    /// Makes the block of the node as the last of `made`, and answers its CID. Nothing is hashed where the node is the block
+    /// `like`, whatever that is. `AllocError` comes where memory was refused; nothing is promised of `made` then.
+    pub fn push<D: Digest>(
+        self,
+        like: Option<&Arc<Block<D, A>, A>>,
+        made: &mut Made<D, A>,
+    ) -> Result<Cid, AllocError>
         ensures cid { IfOk result (λ cid. cid ≡ shape_cid D.digest_of self) }
         ensures made { OnOk result (Adds made.old made.new (self ∷ [])) }
         ensures lawful { Lawful self }
     {
-        let block = Block::of(self.bytes);
-        let cid = block.cid();
         let alloc = made.allocator().clone()?;
-        let block = Arc::new(alloc, block)?;
+        let block = block_of(alloc, self.bytes, like)?;
+        let cid = block.cid();
         made.push(NodeBlock { block })?;
         Ok(cid)
     }
 
     /// Makes the block of the node as the last of `made`, and answers its link. An empty node, one without pairs and without
-    /// a link, makes no block and has no link. `AllocError` comes where memory was refused; nothing is promised of `made`
-    /// then.
-    pub fn close<D: Digest>(self, made: &mut Made<D, A>) -> Result<Option<Cid>, AllocError>
+    /// a link, makes no block and has no link. Nothing is hashed where the node is the block `like`, whatever that is.
+    /// `AllocError` comes where memory was refused; nothing is promised of `made` then.
+    pub fn close<D: Digest>(
+        self,
+        like: Option<&Arc<Block<D, A>, A>>,
+        made: &mut Made<D, A>,
+    ) -> Result<Option<Cid>, AllocError>
         ensures link { IfOk result (λ link. link ≡ close_link D.digest_of self) }
         ensures made { OnOk result (Adds made.old made.new (close_shapes self)) }
         ensures lawful { Lawful self }
@@ -105,8 +112,25 @@ impl<A: Allocator + Clone> Draft<A> {
         if self.is_empty {
             return Ok(None);
         }
-        Ok(Some(self.push(made)?))
+        Ok(Some(self.push(like, made)?))
     }
+}
+
+/// The block of these bytes. It is the block `like` where that has the very bytes: equal bytes have one CID, so they are
+/// compared, their lengths first, and not hashed.
+fn block_of<D: Digest, A: Allocator>(
+    alloc: A,
+    bytes: Vec<u8, A>,
+    like: Option<&Arc<Block<D, A>, A>>,
+) -> Result<Arc<Block<D, A>, A>, AllocError>
+    ensures { IfOk result (λ block. arc_value block ≡ bytes.items) }
+{
+    if let Some(block) = like {
+        if block.bytes() == bytes.as_slice() {
+            return Arc::try_clone(block);
+        }
+    }
+    Ok(Arc::new(alloc, Block::of(bytes))?)
 }
 
 /// Why a node was not written.

@@ -16,6 +16,7 @@ use std::marker::Model;
 /// A contract sees it as the key of the pair before, and what is left of the node: a link, then a pair, and so on.
 #[derive(Drop)]
 pub struct KeyedEntries<'a, A: Allocator> {
+    node: NodeView<'a>,
     link: Option<CidRef<'a>>,
     entries: Entries<'a>,
     key: KeyBuf<A>,
@@ -44,10 +45,16 @@ impl<'a, A: Allocator> KeyedEntries<'a, A> {
         let mut key = key;
         key.reset();
         KeyedEntries {
+            node: view.again(),
             link: view.left(),
             entries: view.entries(),
             key,
         }
+    }
+
+    /// The node.
+    pub fn node(&self) -> &NodeView<'a> {
+        &self.node
     }
 
     /// The link before the next pair, or the last link.

@@ -2,13 +2,13 @@
 
 ghost use Rattle.std.specs.Prelude.{◌≡◌, ◌<◌, ℕ, Result};
 
-/// Where a core acquires and releases its blocks: the sixteen shards behind their locks (`LockedShards`), or one shard
-/// that its owner lends (`LentShard`). What is proved over any store holds for both.
+/// Where a core acquires and releases its blocks: the sixteen shards behind their locks (`LockedShards`), sixteen without
+/// locks that their owner lends (`LentShards`), or one of them (`LentShard`). What is proved over any store holds for each.
 ///
 /// `T` is what holds a block, `Arc<Block<D, A>, A>`; `H` is a core's right to one, `Hold<D, A>`; `F` is `StoreFault<D, A>`.
 /// A contract sees how often the answer was `StoreFault::Full`, so that a layer above can say that it answers so only
 /// where the store did, and which answers may come. Code over any store asks that these are the answers of an acquire
-/// (`IsStore`), which holds for both. It sees too what an acquire and a release may make of the store, so that a layer above
+/// (`IsStore`), which holds for each. It sees too what an acquire and a release may make of the store, so that a layer above
 /// can say what its calls have done here, and not in another store: whatever tells of the states of this store for which
 /// blocks a core is entered, and follows these steps (`IsReading`), follows what the core holds.
 pub trait BlockStore<T, H, F> {

@@ -1,4 +1,5 @@
 ghost use Rattle.std.specs.Prelude.{◌≡◌, ◌<◌, ◌≤◌};
+ghost use Rattle.store.specs.Shards.{AreEmpty, empty_shard};
 ghost use Rattle.store.specs.Table.{shard_of};
 
 use crate::shard::Shard;
@@ -17,6 +18,15 @@ pub fn shard_number(cid: &Cid) -> usize
     ensures small { result < 16 }
 {
     usize::from(cid.as_bytes()[4]) % SHARDS
+}
+
+/// Sixteen empty shards, each of at most `limit` blocks, 1 to 1,048,576. It takes no memory yet.
+pub fn empty_shards<D: Digest, A: Allocator + Copy>(alloc: A, limit: usize) -> [Shard<D, A>; SHARDS]
+    requires least { 1 ≤ limit }
+    requires most { limit ≤ 1048576 }
+    ensures { AreEmpty limit result }
+{
+    array::from_fn(|_| Shard::new(alloc, limit))
 }
 
 /// Sixteen locked shards, which threads share. A block stands in the shard of its CID.

@@ -2,10 +2,11 @@
 
 use crate::fixtures::{node, value};
 use cid::digests::Toy;
-use cid::{Cid, CidRef, Sha256};
+use cid::{Block, Cid, CidRef, Sha256};
 use node::{KeyBuf, NodeView};
 use rows::{Draft, DraftFault, KeyedEntries, Writer, to_cid, top_layer};
 use std::alloc::{AllocError, Global};
+use std::sync::Arc;
 
 /// One of several links.
 fn link(number: u8) -> Option<Cid> {
@@ -27,7 +28,7 @@ fn written(
 /// The CID of the block of a node that was written.
 fn cid_of(alloc: Global, draft: Draft<Global>) -> Option<Cid> {
     let mut made = Vec::new(alloc);
-    draft.push::<Sha256>(&mut made).ok()
+    draft.push::<Sha256>(None, &mut made).ok()
 }
 
 /// Whether the node of this key between the links 1 and 2 is written as it should be.
@@ -44,6 +45,47 @@ fn is_written(alloc: Global, key: &[u8]) -> bool {
 #[test]
 fn a_node_written(rt: HostRuntime) {
     assert!(rt; is_written(rt.alloc(), b"k"));
+}
+
+/// A node with these links that is like that of the key `k` between the links 1 and 2.
+fn like_an_old_one(
+    alloc: Global,
+    before: Option<u8>,
+    after: Option<u8>,
+) -> Result<Draft<Global>, DraftFault> {
+    let bytes = node(alloc, link(1), b"k", link(2))?;
+    let Ok(old) = NodeView::parse(&bytes) else {
+        return Err(DraftFault::NotNode);
+    };
+    let mut writer = Writer::new(alloc);
+    writer.pair_like(Some(&old), link_of(before), b"k", CidRef::from(&value()))?;
+    writer.finish(link_of(after))
+}
+
+/// The link of a number, where there is one.
+fn link_of(number: Option<u8>) -> Option<Cid> {
+    match number {
+        Some(number) => link(number),
+        None => None,
+    }
+}
+
+/// Whether it is written as it should be.
+fn is_written_like(alloc: Global, before: Option<u8>, after: Option<u8>) -> bool {
+    let Ok(bytes) = node(alloc, link_of(before), b"k", link_of(after)) else {
+        return false;
+    };
+    match like_an_old_one(alloc, before, after) {
+        Ok(draft) => cid_of(alloc, draft) == Some(Cid::of::<Sha256>(&bytes)),
+        Err(_) => false,
+    }
+}
+
+#[test]
+fn an_old_node_with_other_links(rt: HostRuntime) {
+    assert!(rt; is_written_like(rt.alloc(), Some(1), Some(2)));
+    assert!(rt; is_written_like(rt.alloc(), Some(3), Some(2)));
+    assert!(rt; is_written_like(rt.alloc(), None, None));
 }
 
 /// Whether a second pair with this key, after one with the key `k`, is refused as none of a node.
@@ -95,7 +137,7 @@ fn a_node_read(rt: HostRuntime) {
 fn link_of_pad(alloc: Global, below: Option<Cid>) -> Result<Option<Cid>, DraftFault> {
     let mut made = Vec::new(alloc);
     let draft = Writer::new(alloc).finish(below)?;
-    Ok(draft.close::<Sha256>(&mut made)?)
+    Ok(draft.close::<Sha256>(None, &mut made)?)
 }
 
 /// Whether a call answered no link.
@@ -112,12 +154,27 @@ fn the_empty_node_has_no_link(rt: HostRuntime) {
     assert!(rt; !is_unlinked(link_of_pad(rt.alloc(), link(1))));
 }
 
+/// How many owners the block of the node of this key has, once that of the key `k` was made, which may be this one.
+fn owners_of(alloc: Global, key: &[u8]) -> Result<usize, DraftFault> {
+    let bytes = node(alloc, link(1), key, link(2))?;
+    let block: Arc<Block<Sha256>> = Arc::new(alloc, Block::of(bytes))?;
+    let mut made = Vec::new(alloc);
+    written(alloc, link(1), b"k", link(2))?.push(Some(&block), &mut made)?;
+    Ok(Arc::strong_count(&block))
+}
+
+#[test]
+fn a_node_that_is_a_block_shares_it(rt: HostRuntime) {
+    assert!(rt; owners_of(rt.alloc(), b"k").ok() == Some(2));
+    assert!(rt; owners_of(rt.alloc(), b"j").ok() == Some(1));
+}
+
 /// The example of the crate's root: a node of one record.
 fn of_a_record(alloc: Global, record: Cid) -> Result<Cid, DraftFault> {
     let mut writer = Writer::new(alloc);
     writer.pair(None, b"app.bsky.feed.post/3l", CidRef::from(&record))?;
     let mut made = Vec::new(alloc);
-    Ok(writer.finish(None)?.push::<Sha256>(&mut made)?)
+    Ok(writer.finish(None)?.push::<Sha256>(None, &mut made)?)
 }
 
 /// Whether it makes the node of this key alone.

@@ -1,7 +1,7 @@
 use Rattle.std.proofs.Common.{subst, sym, ◌∙◌, get_or, below_more, arith}
 use Rattle.std.proofs.lemmas.List.{get_or_read}
 use Rattle.store.specs.Table.{Table}
-use Rattle.kept.specs.Leaving.{no_table}
+use Rattle.store.specs.Shards.{no_table}
 use Rattle.closing.specs.Tally.{AreHad, AreWithout}
 use Rattle.closing.proofs.Entries.{without_is}
 use Rattle.closing.proofs.comparing.all_had.Goals as goal

@@ -1,5 +1,5 @@
 use Rattle.std.proofs.Common.{ℕ, ◌<◌, slice_index_or}
-use Rattle.kept.specs.Leaving.{no_table}
+use Rattle.store.specs.Shards.{no_table}
 use Rattle.closing.specs.Tally.{AreHad}
 use Rattle.closing.proofs.comparing.all_had.Given as goal
 

@@ -10,46 +10,46 @@ use Rattle.spec.specs.Cid.{cid}
 use Rattle.edit.specs.Firsts.{HasPlaces}
 use Rattle.edit.proofs.Placed.{placed-more, count-twice}
 use Rattle.edit.proofs.differences.added.Goals as goal
-use Rattle.edit.proofs.differences.added.Goals.{else-not-branch-via-then-not-branch+in_ok-is_made+else-not-branch-2, else-not-branch-via-else-not-branch}
+use Rattle.edit.proofs.differences.added.Goals.{else-not-branch-via-then-not-branch+in_ok-is_among-2+else-not-branch-2, else-not-branch-via-else-not-branch}
 
-pub returns-in_err-is_read-clause-fault : goal.returns-in_err-is_read-clause-fault
-returns-in_err-is_read-clause-fault g c =
-    let p = err_from_is_err_and c.from_residual-in_err-is_read.result c.from_residual-in_err-is_read.ensures.1 in
+pub returns-in_err-is_among-clause-fault : goal.returns-in_err-is_among-clause-fault
+returns-in_err-is_among-clause-fault g c =
+    let p = err_from_is_err_and c.from_residual-in_err-is_among.result c.from_residual-in_err-is_among.ensures.1 in
     let at = c.loop-block in
     let read = map arc_value c.args.read.now in
     let whole = sym c.into_iter-block-iterator.ensures.into_iter_gives.0 ∙ at.invariant.whole
     ∙ ap (λ ys. at.yielded ++ ys) c.in-Some.ensures.steps.0 in
     rw (p.1, p.2)
     (refusal-within g.D.Digest.digest_of ⊥ (arc_value c.in-Some.block ∷ read) (map arc_value c.args.made.items ++ read)
-    c.in_err-is_read.field-0.0
+    c.in_err-is_among.field-0.0
     (among-read arc_value read c.args.made.items at.yielded (into_iter_items c.next.new.self) c.in-Some.block whole)
-    c.in_err-is_read.ensures.fault)
+    c.in_err-is_among.ensures.fault)
 
-pub returns-in_err-is_made-clause-fault : goal.returns-in_err-is_made-clause-fault
-returns-in_err-is_made-clause-fault g c =
-    let p = err_from_is_err_and c.from_residual-in_err-is_made.result c.from_residual-in_err-is_made.ensures.1 in
+pub returns-in_err-is_among-2-clause-fault : goal.returns-in_err-is_among-2-clause-fault
+returns-in_err-is_among-2-clause-fault g c =
+    let p = err_from_is_err_and c.from_residual-in_err-is_among-2.result c.from_residual-in_err-is_among-2.ensures.1 in
     let at = c.loop-block in
     let read = map arc_value c.args.read.now in
     let whole = sym c.into_iter-block-iterator.ensures.into_iter_gives.0 ∙ at.invariant.whole
     ∙ ap (λ ys. at.yielded ++ ys) c.in-Some.ensures.steps.0 in
     rw (p.1, p.2)
     (refusal-within g.D.Digest.digest_of ⊥ (arc_value c.in-Some.block ∷ map arc_value at.add.items)
-    (map arc_value c.args.made.items ++ read) c.in_err-is_made.field-0.0
+    (map arc_value c.args.made.items ++ read) c.in_err-is_among-2.field-0.0
     (among-made arc_value read c.args.made.items at.yielded (into_iter_items c.next.new.self) c.in-Some.block whole
     g.D.Digest.digest_of (map arc_value at.add.items) at.invariant.added)
-    (subst (λ (ys : List (List ℕ)). IsRefusal g.D.Digest.digest_of (arc_value c.in-Some.block ∷ ys) ⊥ c.in_err-is_made.field-0.0)
-    (ap (map arc_value) c.deref.ensures.value) c.in_err-is_made.ensures.fault))
+    (subst (λ (ys : List (List ℕ)). IsRefusal g.D.Digest.digest_of (arc_value c.in-Some.block ∷ ys) ⊥ c.in_err-is_among-2.field-0.0)
+    (ap (map arc_value) c.deref.ensures.value) c.in_err-is_among-2.ensures.fault))
 
 pub loop-block-preserved-then-not-branch-2 : goal.loop-block-preserved-then-not-branch-2
 loop-block-preserved-then-not-branch-2 g c =
     let at = c.loop-block in
     let steps : into_iter_items at.block-iterator ≡ c.in-Some.block ∷ into_iter_items c.next.new.self = c.in-Some.ensures.steps.0 in
-    let unread : c.in_ok-is_read.field-0 ≡ false = search rules in
-    let unmade : c.in_ok-is_made.field-0 ≡ false = search rules in
+    let unread : c.in_ok-is_among.field-0 ≡ false = search rules in
+    let unmade : c.in_ok-is_among-2.field-0 ≡ false = search rules in
     record {
       added = turn-new arc_value g.D.Digest.digest_of (map arc_value c.args.read.now) at.yielded at.add.items c.in-Some.block
-          at.invariant.added c.in_ok-is_read.field-0 c.in_ok-is_made.field-0 c.deref.result.now c.push-then-not-branch-2.new.self.items
-          unread c.in_ok-is_read.ensures.found c.deref.ensures.value unmade c.in_ok-is_made.ensures.found
+          at.invariant.added c.in_ok-is_among.field-0 c.in_ok-is_among-2.field-0 c.deref.result.now c.push-then-not-branch-2.new.self.items
+          unread c.in_ok-is_among.ensures.found c.deref.ensures.value unmade c.in_ok-is_among-2.ensures.found
           c.in_ok-push-2.ensures.items;
       placed = placed-more arc_value g.D.Digest.digest_of at.add.items c.push-then-not-branch-2.new.self.items c.in-Some.block c.cid.result c.push.new.self
           (c.in_ok-push.ensures (map (cid g.D.Digest.digest_of) (map arc_value at.add.items)) at.invariant.placed
@@ -66,16 +66,16 @@ loop-block-preserved g c =
     let steps : into_iter_items at.block-iterator ≡ c.in-Some.block ∷ into_iter_items c.next.new.self = c.in-Some.ensures.steps.0 in
     record {
       added = elim c.else-not-branch.branch [
-        | else-not-branch-via-then-not-branch+in_ok-is_made+else-not-branch-2 w ↦
-            (let unread : c.in_ok-is_read.field-0 ≡ false = search rules in
-            let held : w.in_ok-is_made.field-0 ≡ true = search rules in
+        | else-not-branch-via-then-not-branch+in_ok-is_among-2+else-not-branch-2 w ↦
+            (let unread : c.in_ok-is_among.field-0 ≡ false = search rules in
+            let held : w.in_ok-is_among-2.field-0 ≡ true = search rules in
             turn-held arc_value g.D.Digest.digest_of (map arc_value c.args.read.now) at.yielded at.add.items c.in-Some.block
-            at.invariant.added c.in_ok-is_read.field-0 w.in_ok-is_made.field-0 w.deref.result.now
-            unread c.in_ok-is_read.ensures.found w.deref.ensures.value held w.in_ok-is_made.ensures.found)
+            at.invariant.added c.in_ok-is_among.field-0 w.in_ok-is_among-2.field-0 w.deref.result.now
+            unread c.in_ok-is_among.ensures.found w.deref.ensures.value held w.in_ok-is_among-2.ensures.found)
         | else-not-branch-via-else-not-branch w ↦
-            (let was_read : c.in_ok-is_read.field-0 ≡ true = search rules in
+            (let was_read : c.in_ok-is_among.field-0 ≡ true = search rules in
             turn-read arc_value g.D.Digest.digest_of (map arc_value c.args.read.now) at.yielded at.add.items c.in-Some.block
-            at.invariant.added c.in_ok-is_read.field-0 was_read c.in_ok-is_read.ensures.found)
+            at.invariant.added c.in_ok-is_among.field-0 was_read c.in_ok-is_among.ensures.found)
       ];
       placed = at.invariant.placed;
       whole = at.invariant.whole ∙ ap (λ ys. at.yielded ++ ys) steps
@@ -105,8 +105,8 @@ returns-clause-made g c =
     λ free. subst (λ (ys : List (List ℕ)). IsClashFree g.D.Digest.digest_of (ys ++ read)) (ap (map arc_value) all)
     (added-free g.D.Digest.digest_of read (map arc_value at.yielded) (map arc_value at.add.items) at.invariant.added free)
 
-pub is_made-requires : goal.is_made-requires
-is_made-requires g c =
+pub is_among-requires-then-not-branch : goal.is_among-requires-then-not-branch
+is_among-requires-then-not-branch g c =
     subst (λ (ys : List _). HasPlaces (map (cid g.D.Digest.digest_of) (map arc_value ys)) c.loop-block.new)
     (sym c.deref.ensures.value) c.loop-block.invariant.placed
 

@@ -1,3 +1,4 @@
+use Rattle.std.proofs.Common.{arith}
 use Rattle.batches.specs.Values.{stamp_of}
 use Rattle.repository_commands.specs.Views.{given_of}
 use Rattle.repository_commands.proofs.Repositories.{passed_further}
@@ -5,5 +6,5 @@ use Rattle.repository_commands.proofs.proving.path_put_by_put.Goals as goal
 
 pub returns-in_err-core-clause-refused : goal.returns-in_err-core-clause-refused
 returns-in_err-core-clause-refused g c =
-    passed_further g.D.Digest.digest_of (stamp_of c.args.stamp.now) (given_of c.args.puts) c.filled.new.store.full
-    c.from_residual-in_err-core.result c.in_err-core.field-0.0 c.from_residual-in_err-core.ensures.1 c.in_err-core.ensures.refused
+    passed_further g.D.Digest.digest_of (stamp_of c.args.stamp.now) (given_of c.args.puts) (c.filled.new.store.full (omega arith))
+    c.from_residual.result c.in_err-core.field-0.0 c.from_residual.ensures.1 c.in_err-core.ensures.refused

@@ -17,8 +17,8 @@ take_out-requires g c =
 
 pub tables-requires : goal.tables-requires
 tables-requires g c =
-    let whole = layout (host.the_row (param 0 g.row.D) (number g.row.B) (param 2 g.row.A) g.D.Digest g.A.Allocator) in
-    let fits : size (layout (host.the_row (param 0 g.row.D) (number g.row.B) (param 2 g.row.A) g.D.Digest g.A.Allocator)) < 2 ^ 63 = search rules in
+    let whole = layout (host.the_row (param 0 g.row.D) (number g.row.B) (param 2 g.row.A) g.D.Digest g.A.Allocator g.A.Clone) in
+    let fits : size (layout (host.the_row (param 0 g.row.D) (number g.row.B) (param 2 g.row.A) g.D.Digest g.A.Allocator g.A.Clone)) < 2 ^ 63 = search rules in
     let shards = field_fits whole 3 fits in
     let mutex = elem (field (field whole 3) 0) in
     let tables = sixteen_fit (size (field (field mutex 1) 0)) (size (field mutex 1)) (size mutex) (field_smaller (field mutex 1) 0) (field_smaller mutex 1) (field_fits (field whole 3) 0 shards) in
@@ -31,8 +31,8 @@ end_all-requires g c =
     let slots = field_fits (field row 0) 2 lock in
     let cell = field_fits (field (field row 0) 2) 1 slots in
     let core = field_fits (field (field (field row 0) 2) 1) 0 cell in
-    let whole = layout (host.the_row (param 0 g.row.D) (number g.row.B) (param 2 g.row.A) g.D.Digest g.A.Allocator) in
-    let fits : size (layout (host.the_row (param 0 g.row.D) (number g.row.B) (param 2 g.row.A) g.D.Digest g.A.Allocator)) < 2 ^ 63 = search rules in
+    let whole = layout (host.the_row (param 0 g.row.D) (number g.row.B) (param 2 g.row.A) g.D.Digest g.A.Allocator g.A.Clone) in
+    let fits : size (layout (host.the_row (param 0 g.row.D) (number g.row.B) (param 2 g.row.A) g.D.Digest g.A.Allocator g.A.Clone)) < 2 ^ 63 = search rules in
     let shards = field_fits whole 3 fits in
     let mutex = elem (field (field whole 3) 0) in
     let tables = sixteen_fit (size (field (field mutex 1) 0)) (size (field mutex 1)) (size mutex) (field_smaller (field mutex 1) 0) (field_smaller mutex 1) (field_fits (field whole 3) 0 shards) in

@@ -7,5 +7,5 @@ use Rattle.kept.proofs.kept.Kept.blocks.Goals as goal
 
 pub returns : goal.returns
 returns g c =
-    subst (λ (k : Keeping). IsPermutation (blocks_of k.before) (used_blocks c.iter.result)) c.self.view_is
-    (used_shuffled c.iter.result c.self.inside.blocks c.iter.ensures.entries c.iter.ensures.distinct)
+    subst (λ (k : Keeping). IsPermutation (blocks_of k.uses) (used_blocks c.iter.result)) c.self.view_is
+    (used_shuffled c.iter.result c.self.inside.blocks c.iter.ensures.entries c.iter.ensures.distinct (λ q u e. (c.self.invariant.entries q u e).used))

@@ -1,12 +1,12 @@
-use Rattle.std.proofs.Common.{◌≡◌, ◌∙◌, sym, ap, subst, refl, ℕ, List, true, not, Some, None}
+use Rattle.std.proofs.Common.{◌≡◌, ◌∙◌, sym, ap, subst, refl, ℕ, List, Some, None}
 use Rattle.std.specs.Prelude.{Ok, is_some}
 use Rattle.std.specs.Arc.{arc_value}
-use Rattle.std.proofs.lemmas.Result.{on_err_weaker, IfOk-weaker}
+use Rattle.std.proofs.lemmas.Result.{on_err_weaker}
 use Rattle.spec.specs.Cid.{cid as cid_of}
 use Rattle.lookups.specs.Nodes.{IsMarked}
 use Rattle.std.specs.FinMap as map
 use Rattle.kept.specs.Entering.{Enters, has_entry}
-use Rattle.kept.specs.Uses.{Uses, at, Updated, IsUse, is_noted}
+use Rattle.kept.specs.Uses.{Uses, at, Updated, IsUse, IsRaisedIn}
 use Rattle.kept.specs.declared.kept_use.Use.{Use}
 use Rattle.kept.proofs.Entries.{listed_at, seen_at, seen_updated, raised_held, raised_new, same_entry, shown_at, shown_same, shown_raised}
 use Rattle.kept.proofs.Entering.{in_words, one_comes, one_stays, one_tried, none_some}
@@ -18,14 +18,15 @@ pub raise-requires : goal.raise-requires
 raise-requires g c =
     let k = c.cid-cid.result in
     let here : Some c.in-Some.held.now ≡ listed_at c.self.inside.blocks.entries k = c.in-Some.ensures.value ∙ seen_at c.self.inside.blocks.entries k in
-    let name : k ≡ cid_of g.D.Digest.digest_of (arc_value c.args.block) = c.cid-cid.ensures ∙ ap (cid_of g.D.Digest.digest_of) c.deref.ensures in
+    let name : k ≡ cid_of g.D.Digest.digest_of (arc_value c.block-block.result.now) = c.cid-cid.ensures ∙ ap (cid_of g.D.Digest.digest_of) c.deref.ensures in
     let is = c.requires.uses k c.in-Some.held.now (sym (here ∙ shown_at c.self.inside.blocks.entries c.args.self.now c.self.view_is k)) in
     sym name ∙ is.named
 
 pub of-hold-requires : goal.of-hold-requires
 of-hold-requires g c =
-    let a = c.requires.store c.args.store.now c.args.block c.args.me (Ok c.in_ok-acquire.field-0) c.acquire.new.self c.in_ok-acquire.ensures.answer in
-    subst (λ (b : List ℕ). IsMarked b c.args.is_node) (sym a.hold.0) c.requires.marked
+    let a = c.requires.store c.args.store.now c.in_ok-shared.shared c.args.me (Ok c.in_ok-acquire.field-0) c.acquire.new.self c.in_ok-acquire.ensures.answer in
+    subst (λ (b : List ℕ). IsMarked b c.is_node.result) (sym (a.hold.0 ∙ c.in_ok-shared.ensures ∙ ap arc_value c.block-block.ensures))
+    (λ marked. sym c.is_node.ensures ∙ marked)
 
 pub returns-in-Some-clause-raised : goal.returns-in-Some-clause-raised
 returns-in-Some-clause-raised g c =
@@ -34,25 +35,16 @@ returns-in-Some-clause-raised g c =
     let k = c.cid-cid.result in
     let seen = c.in-Some.ensures.value in
     let here : listed_at es k ≡ Some c.in-Some.held.now = sym (seen_at es k) ∙ sym seen in
-    let name : k ≡ cid_of g.D.Digest.digest_of (arc_value c.args.block) = c.cid-cid.ensures ∙ ap (cid_of g.D.Digest.digest_of) c.deref.ensures in
+    let name : k ≡ cid_of g.D.Digest.digest_of (arc_value c.block-block.result.now) = c.cid-cid.ensures ∙ ap (cid_of g.D.Digest.digest_of) c.deref.ensures in
     let w = c.get_mut.follows.holds c.raise.new.self in
     let put : Updated (listed_at es) (listed_at fs) k (Some c.raise.new.self) = seen_updated es fs k _ (w.3 (rw (sym seen) refl)).0 in
     let is : IsUse g.D.Digest.digest_of c.args.me k c.in-Some.held.now =
     c.requires.uses k c.in-Some.held.now (sym (shown_at es c.args.self.now c.self.view_is k) ∙ here) in
     on_ok_two c.raise.result
-    (λ e b. shown_raised g.D.Digest.digest_of c.args.me es fs c.args.self.now (arc_value c.args.block) c.self.view_is
-    (raised_held g.D.Digest.digest_of c.args.me (listed_at es) (listed_at fs) (arc_value c.args.block) k c.in-Some.held.now c.raise.new.self name is e b here put))
+    (λ e b. subst (λ x. IsRaisedIn g.D.Digest.digest_of c.args.me c.args.self.now (map.from_entries fs) (arc_value x)) c.block-block.ensures
+    (shown_raised g.D.Digest.digest_of c.args.me es fs c.args.self.now (arc_value c.block-block.result.now) c.self.view_is
+    (raised_held g.D.Digest.digest_of c.args.me (listed_at es) (listed_at fs) (arc_value c.block-block.result.now) k c.in-Some.held.now c.raise.new.self name is e b here put)))
     c.raise.ensures.raised c.raise.ensures.same_bytes
-
-pub returns-in-Some-clause-fresh : goal.returns-in-Some-clause-fresh
-returns-in-Some-clause-fresh g c =
-    let es = c.self.inside.blocks.entries in
-    let k = c.cid-cid.result in
-    let here : Some c.in-Some.held.now ≡ listed_at es k = c.in-Some.ensures.value ∙ seen_at es k in
-    let name : k ≡ cid_of g.D.Digest.digest_of (arc_value c.args.block) = c.cid-cid.ensures ∙ ap (cid_of g.D.Digest.digest_of) c.deref.ensures in
-    IfOk-weaker c.raise.result _ _
-    (λ fresh e. e ∙ ap (λ o. not (is_noted o)) (here ∙ shown_at es c.args.self.now c.self.view_is k ∙ ap (at c.args.self.now) name))
-    c.raise.ensures.fresh
 
 pub returns-in-Some-clause-unchanged : goal.returns-in-Some-clause-unchanged
 returns-in-Some-clause-unchanged g c =
@@ -72,24 +64,17 @@ returns-clause-raised g c =
     let es = c.self.inside.blocks.entries in
     let fs = c.insert.new.self.entries in
     let k = c.cid-cid.result in
-    let name : k ≡ cid_of g.D.Digest.digest_of (arc_value c.args.block) = c.cid-cid.ensures ∙ ap (cid_of g.D.Digest.digest_of) c.deref.ensures in
+    let name : k ≡ cid_of g.D.Digest.digest_of (arc_value c.block-block.result.now) = c.cid-cid.ensures ∙ ap (cid_of g.D.Digest.digest_of) c.deref.ensures in
     let none : listed_at es k ≡ None = sym (seen_at es k) ∙ sym c.in_default.ensures.value in
     let kept : c.get_mut.follows.lender-at-none.entries ≡ es = ap (λ m. m.entries) c.get_mut.follows.holds-at-none in
-    let w : Use g.row.D.Denot g.row.A.Denot = record { hold = c.of-hold.result; uses = 0; next = 1; noted = true } in
-    let a = c.requires.store c.args.store.now c.args.block c.args.me (Ok c.in_ok-acquire.field-0) c.acquire.new.self c.in_ok-acquire.ensures.answer in
+    let w : Use g.row.D.Denot g.row.A.Denot = record { hold = c.of-hold.result; uses = 1 } in
+    let a = c.requires.store c.args.store.now c.in_ok-shared.shared c.args.me (Ok c.in_ok-acquire.field-0) c.acquire.new.self c.in_ok-acquire.ensures.answer in
     let is = c.of-hold.ensures in
-    shown_raised g.D.Digest.digest_of c.args.me es fs c.args.self.now (arc_value c.args.block) c.self.view_is
-    (raised_new g.D.Digest.digest_of c.args.me (listed_at es) (listed_at fs) (arc_value c.args.block) k w name
-    (ap (λ h. arc_value h.0) is ∙ a.hold.0) (ap (λ h. h.1) is ∙ a.hold.1) refl refl none
-    (subst (λ (xs : List (List ℕ × Use g.row.D.Denot g.row.A.Denot)). Updated (listed_at xs) (listed_at fs) k (Some w)) kept (seen_updated c.get_mut.follows.lender-at-none.entries fs k _ c.in-Ok.ensures.updates.0)))
-
-pub returns-clause-fresh : goal.returns-clause-fresh
-returns-clause-fresh g c =
-    let es = c.self.inside.blocks.entries in
-    let k = c.cid-cid.result in
-    let name : k ≡ cid_of g.D.Digest.digest_of (arc_value c.args.block) = c.cid-cid.ensures ∙ ap (cid_of g.D.Digest.digest_of) c.deref.ensures in
-    let none : None ≡ listed_at es k = c.in_default.ensures.value ∙ seen_at es k in
-    ap (λ o. not (is_noted o)) (none ∙ shown_at es c.args.self.now c.self.view_is k ∙ ap (at c.args.self.now) name)
+    subst (λ x. IsRaisedIn g.D.Digest.digest_of c.args.me c.args.self.now (map.from_entries fs) (arc_value x)) c.block-block.ensures
+    (shown_raised g.D.Digest.digest_of c.args.me es fs c.args.self.now (arc_value c.block-block.result.now) c.self.view_is
+    (raised_new g.D.Digest.digest_of c.args.me (listed_at es) (listed_at fs) (arc_value c.block-block.result.now) k w name
+    (ap (λ h. arc_value h.0) is ∙ a.hold.0 ∙ c.in_ok-shared.ensures) (ap (λ h. h.1) is ∙ a.hold.1) refl none
+    (subst (λ (xs : List (List ℕ × Use g.row.D.Denot g.row.A.Denot)). Updated (listed_at xs) (listed_at fs) k (Some w)) kept (seen_updated c.get_mut.follows.lender-at-none.entries fs k _ c.in-Ok.ensures.updates.0))))
 
 pub returns-in-Some-clause-entered : goal.returns-in-Some-clause-entered
 returns-in-Some-clause-entered g c =
@@ -100,40 +85,39 @@ returns-in-Some-clause-entered g c =
     let here : listed_at es k ≡ Some c.in-Some.held.now = sym (seen_at es k) ∙ sym seen in
     let w = c.get_mut.follows.holds c.raise.new.self in
     let put : Updated (listed_at es) (listed_at fs) k (Some c.raise.new.self) = seen_updated es fs k _ (w.3 (rw (sym seen) refl)).0 in
-    one_stays g.D.Digest.digest_of g.S.BlockStore.makes g.S.BlockStore.leaves es fs c.args.self.now k c.in-Some.held.now c.raise.new.self c.args.store.now c.self.view_is here put
-    c.args.me c.requires.uses
+    one_stays g.D.Digest.digest_of g.S.BlockStore.makes g.S.BlockStore.leaves es fs c.args.self.now k c.in-Some.held.now c.raise.new.self c.args.me c.args.store.now c.self.view_is here put
 
 pub returns-in-Err-clause-entered : goal.returns-in-Err-clause-entered
 returns-in-Err-clause-entered g c =
     let es = c.self.inside.blocks.entries in
     let k = c.cid-cid.result in
-    let name : k ≡ cid_of g.D.Digest.digest_of (arc_value c.args.block) = c.cid-cid.ensures ∙ ap (cid_of g.D.Digest.digest_of) c.deref.ensures in
+    let name : k ≡ cid_of g.D.Digest.digest_of (arc_value c.block-block.result.now) = c.cid-cid.ensures ∙ ap (cid_of g.D.Digest.digest_of) c.deref.ensures in
     let none : at c.args.self.now k ≡ None = sym (shown_at es c.args.self.now c.self.view_is k) ∙ sym (seen_at es k) ∙ sym c.in_default.ensures.value in
-    let a = c.requires.store c.args.store.now c.args.block c.args.me (Ok c.in_ok-acquire.field-0) c.acquire.new.self c.in_ok-acquire.ensures.answer in
+    let a = c.requires.store c.args.store.now c.in_ok-shared.shared c.args.me (Ok c.in_ok-acquire.field-0) c.acquire.new.self c.in_ok-acquire.ensures.answer in
     let back : c.in-Err.field-0.value.1.hold ≡ c.in_ok-acquire.field-0 =
     ap (λ p. p.1.hold) c.in-Err.ensures.value_returned ∙ c.of-hold.ensures in
     let kept : c.insert.new.self.entries ≡ es = c.in-Err.ensures.err ∙ ap (λ m. m.entries) c.get_mut.follows.holds-at-none in
     in_words g.D.Digest.digest_of g.S.BlockStore.makes g.S.BlockStore.leaves c.args.me (has_entry c.args.self.now) (has_entry c.args.self.now) (has_entry c.args.self.now) (has_entry (map.from_entries c.insert.new.self.entries))
     c.args.store.now c.give_back.new.store (λ q. refl)
     (λ q. ap (λ xs. is_some (at (map.from_entries xs) q)) kept ∙ ap (λ (n : Uses g.row.D.Denot g.row.A.Denot). is_some (at n q)) c.self.view_is)
-    (one_tried g.D.Digest.digest_of g.S.BlockStore.makes g.S.BlockStore.leaves c.args.self.now k c.args.block c.in_ok-acquire.field-0 c.in-Err.field-0.value.1.hold c.args.me
-    c.args.store.now c.acquire.new.self c.give_back.new.store name none c.in_ok-acquire.ensures.made
-    (name ∙ ap (cid_of g.D.Digest.digest_of) (sym (ap (λ h. arc_value h.0) back ∙ a.hold.0))) (ap (λ h. h.1) back ∙ a.hold.1) c.give_back.ensures.left)
+    (one_tried g.D.Digest.digest_of g.S.BlockStore.makes g.S.BlockStore.leaves c.args.self.now k c.in_ok-shared.shared c.in_ok-acquire.field-0 c.in-Err.field-0.value.1.hold c.args.me
+    c.args.store.now c.acquire.new.self c.give_back.new.store (name ∙ ap (cid_of g.D.Digest.digest_of) (sym c.in_ok-shared.ensures)) none c.in_ok-acquire.ensures.made
+    (name ∙ ap (cid_of g.D.Digest.digest_of) (sym (ap (λ h. arc_value h.0) back ∙ a.hold.0 ∙ c.in_ok-shared.ensures))) (ap (λ h. h.1) back ∙ a.hold.1) c.give_back.ensures.left)
 
 pub returns-clause-entered : goal.returns-clause-entered
 returns-clause-entered g c =
     let es = c.self.inside.blocks.entries in
     let fs = c.insert.new.self.entries in
     let k = c.cid-cid.result in
-    let name : k ≡ cid_of g.D.Digest.digest_of (arc_value c.args.block) = c.cid-cid.ensures ∙ ap (cid_of g.D.Digest.digest_of) c.deref.ensures in
+    let name : k ≡ cid_of g.D.Digest.digest_of (arc_value c.block-block.result.now) = c.cid-cid.ensures ∙ ap (cid_of g.D.Digest.digest_of) c.deref.ensures in
     let none : listed_at es k ≡ None = sym (seen_at es k) ∙ sym c.in_default.ensures.value in
     let kept : c.get_mut.follows.lender-at-none.entries ≡ es = ap (λ m. m.entries) c.get_mut.follows.holds-at-none in
-    let w : Use g.row.D.Denot g.row.A.Denot = record { hold = c.of-hold.result; uses = 0; next = 1; noted = true } in
+    let w : Use g.row.D.Denot g.row.A.Denot = record { hold = c.of-hold.result; uses = 1 } in
     let put : Updated (listed_at es) (listed_at fs) k (Some w) =
     subst (λ (xs : List (List ℕ × Use g.row.D.Denot g.row.A.Denot)). Updated (listed_at xs) (listed_at fs) k (Some w)) kept
     (seen_updated c.get_mut.follows.lender-at-none.entries fs k _ c.in-Ok.ensures.updates.0) in
-    let come = one_comes g.D.Digest.digest_of g.S.BlockStore.makes g.S.BlockStore.leaves es fs c.args.self.now k c.args.block c.in_ok-acquire.field-0 w c.args.me c.args.store.now c.acquire.new.self
-    c.self.view_is name put c.in_ok-acquire.ensures.made in
+    let come = one_comes g.D.Digest.digest_of g.S.BlockStore.makes g.S.BlockStore.leaves es fs c.args.self.now k c.in_ok-shared.shared c.in_ok-acquire.field-0 w c.args.me c.args.store.now c.acquire.new.self
+    c.self.view_is (name ∙ ap (cid_of g.D.Digest.digest_of) (sym c.in_ok-shared.ensures)) put c.in_ok-acquire.ensures.made in
     elim c.match-before.branch [
       | in-Some-before w ↦ absurd (none_some w.in-Some-before.other
           (sym none ∙ sym (ap (λ m. listed_at m.entries k) c.get_mut.follows.holds-at-none)

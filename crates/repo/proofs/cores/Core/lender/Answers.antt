@@ -13,13 +13,13 @@ pub returns-clause-blocks : goal.returns-clause-blocks
 returns-clause-blocks g c =
     let old = c.self.inside in
     core-lends g.D.Digest.digest_of g.row.B (state_view old.kept.me old.limit old.accepted.items old.stamps.items) c.args.self.now old.root old.commit old.kept
-    (λ q. option_map arc_value (lent c.lender.result.blocks.now q)) c.self.invariant c.self.view_is c.lender.ensures.before
+    (λ q. option_map arc_value (lent c.lender.result.blocks.now q)) c.self.invariant c.self.view_is c.lender.ensures.blocks
 
 pub returns-clause-tree : goal.returns-clause-tree
 returns-clause-tree g c =
     let old = c.self.inside in
     core-lends_tree g.D.Digest.digest_of g.row.B (state_view old.kept.me old.limit old.accepted.items old.stamps.items) c.args.self.now old.root old.commit old.kept
-    (λ q. option_map arc_value (lent c.lender.result.blocks.now q)) c.self.invariant c.self.view_is c.lender.ensures.before g.met.D.Digest.digest_len
+    (λ q. option_map arc_value (lent c.lender.result.blocks.now q)) c.self.invariant c.self.view_is c.lender.ensures.blocks g.met.D.Digest.digest_len
 
 pub returns-clause-uses : goal.returns-clause-uses
 returns-clause-uses g c q u h =

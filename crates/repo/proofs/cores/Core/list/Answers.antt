@@ -10,4 +10,4 @@ returns-clause-pairs g c =
     let dig = g.D.Digest.digest_of in
     let is : IsCore dig g.row.B c.args.self.now c.self.inside.root c.self.inside.commit c.self.inside.kept =
     subst (λ (s : State). IsCore dig g.row.B s c.self.inside.root c.self.inside.commit c.self.inside.kept) c.self.view_is c.self.invariant in
-    c.pairs_accepted.ensures (pairs dig (records c.args.self.now)) (core-tree dig g.row.B c.args.self.now c.self.inside.root c.self.inside.commit c.self.inside.kept is g.met.D.Digest.digest_len)
+    c.pairs_from.ensures (pairs dig (records c.args.self.now)) (core-tree dig g.row.B c.args.self.now c.self.inside.root c.self.inside.commit c.self.inside.kept is g.met.D.Digest.digest_len)

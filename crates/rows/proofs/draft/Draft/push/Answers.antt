@@ -5,5 +5,5 @@ use Rattle.rows.proofs.draft.Draft.push.Goals as goal
 
 pub invariant_of-push : goal.invariant_of-push
 invariant_of-push g c =
-    ap reads_as_node (c.in_ok-block.ensures.ok ∙ c.of-block.ensures)
+    ap reads_as_node c.in_ok-block.ensures
     ∙ draft-reads c.self.inside.bytes.items c.self.inside.is_empty c.self.invariant

@@ -1,0 +1,8 @@
+pub mod Lacking
+pub mod GivenSteps
+pub mod Pairs
+pub mod Values
+pub mod Undone
+pub mod Showing
+pub mod Missing
+pub mod Rows

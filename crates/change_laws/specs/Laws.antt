@@ -1,0 +1,80 @@
+-- The laws of a proof of changes.
+use Rattle.std.specs.Prelude.{◌≡◌, Contains, ◌<◌, ◌^◌, ℕ, suc, max, List, [], length, map, Option, Some, None, Ok, Err}
+use Rattle.spec.specs.Cid.{IsDigest}
+use Rattle.spec.specs.Layer.{layer as layer_of_key}
+use Rattle.spec.specs.Tree.{Pair, top, top_layer}
+use Rattle.spec.specs.NodeFormat.{node_bytes}
+use Rattle.spec.specs.Blocks.{ArePairs, ClashesWithNone, nodes, root}
+use Rattle.edit_laws.specs.Sources.{shown_by}
+use Rattle.batch_laws.specs.Batch.{Change, changed, AreKeyed, HaveOwnCids}
+use Rattle.batch_laws.specs.Trace.{batch_read}
+use Rattle.batch_laws.specs.Links.{Log, batch_from}
+use Rattle.change_laws.specs.Told.{KeyChange, undone, DifferBy}
+use Rattle.change_laws.specs.Given.{Step, BlockMissing, given_at, batch_at, put_layers}
+use Rattle.change_laws.specs.Verdict.{change_verdict}
+
+-- ---- what the walk over given blocks is
+
+-- its answer, where it has one
+abbrev pub answer_of : {A : Type 0} → Step A → Option (A × Log)
+answer_of (Ok x) = Some x
+answer_of (Err fault) = None
+
+-- it answers what the batch over the source does
+abbrev pub GivenIsBatch : Type 0
+GivenIsBatch = (digest : List ℕ → List ℕ) (gives : List ℕ → Option (List ℕ)) (layer : List ℕ → ℕ) (n : ℕ)
+    (cs : List Change) (root : List ℕ)
+    → answer_of (batch_at digest gives layer n cs root) ≡ batch_from digest (shown_by gives) layer n cs root
+
+-- ---- what a verdict says
+
+-- the pairs with each change undone are those that the root before names
+pub record IsShown (digest : List ℕ → List ℕ) (bits : ℕ) (before : List ℕ) (cs : List KeyChange) (new : List Pair)
+    : Type 0 where
+  pub root_is : before ≡ root digest bits (changed (undone cs) new)
+  pub differ : DifferBy cs (changed (undone cs) new) new
+
+-- Where no node of the new tree clashes with a given block, changes that are shown are true of its pairs. The nodes may clash
+-- among themselves, and so may the given blocks.
+abbrev pub VerdictIsSound : Type 0
+VerdictIsSound = (digest : List ℕ → List ℕ) (bits : ℕ) → IsDigest digest → (before : List ℕ) (new : List Pair)
+    → ArePairs new → (given : List (List ℕ)) → ClashesWithNone digest (nodes digest bits new) given
+    → (cs : List KeyChange) → AreKeyed (undone cs)
+    → change_verdict digest bits before (root digest bits new) given cs ≡ Ok tt → IsShown digest bits before cs new
+
+-- And where no node of the tree before clashes with one of the tree that undoing leads to, the pairs before are just these.
+abbrev pub OldIsUndone : Type 0
+OldIsUndone = (digest : List ℕ → List ℕ) (bits : ℕ) → IsDigest digest → (old new : List Pair) → ArePairs old → ArePairs new
+    → (cs : List KeyChange) → AreKeyed (undone cs) → HaveOwnCids (undone cs)
+    → length (changed (undone cs) new) < 2 ^ 64
+    → ClashesWithNone digest (nodes digest bits old) (nodes digest bits (changed (undone cs) new))
+    → IsShown digest bits (root digest bits old) cs new
+    → (old ≡ changed (undone cs) new) × DifferBy cs old new
+
+-- the nodes that undoing changes reads, from the top
+abbrev pub change_path : (List ℕ → List ℕ) → ℕ → List KeyChange → List Pair → List (List ℕ)
+change_path digest bits cs new =
+    let layer = layer_of_key digest bits in
+    let n = max (suc (top_layer layer new)) (put_layers layer (undone cs)) in
+    map (node_bytes digest) (batch_read layer n (undone cs) (top layer new))
+
+-- where they are given, changes that are true are shown
+abbrev pub VerdictIsComplete : Type 0
+VerdictIsComplete = (digest : List ℕ → List ℕ) (bits : ℕ) → IsDigest digest → (old new : List Pair) → ArePairs old
+    → ArePairs new → (given : List (List ℕ)) → ClashesWithNone digest (nodes digest bits new) given
+    → (cs : List KeyChange) → AreKeyed (undone cs) → DifferBy cs old new
+    → ((b : List ℕ) → Contains (change_path digest bits cs new) b → Contains given b)
+    → change_verdict digest bits (root digest bits old) (root digest bits new) given cs ≡ Ok tt
+
+-- ---- faults
+
+-- where nothing is given, the root after is what is missing first
+abbrev pub NothingGiven : Type 0
+NothingGiven = (digest : List ℕ → List ℕ) (bits : ℕ) (before after : List ℕ) (cs : List KeyChange)
+    → change_verdict digest bits before after [] cs ≡ Err (BlockMissing after)
+
+-- what is missing isn't given
+abbrev pub MissingIsMissing : Type 0
+MissingIsMissing = (digest : List ℕ → List ℕ) (bits : ℕ) (before after : List ℕ) (given : List (List ℕ))
+    (cs : List KeyChange) (c : List ℕ)
+    → change_verdict digest bits before after given cs ≡ Err (BlockMissing c) → given_at digest given c ≡ None

@@ -1,0 +1,6 @@
+-- In the order in which a newcomer reads them: what a change says, a batch over given blocks, the verdict, its laws, rows of it.
+pub mod Told
+pub mod Given
+pub mod Verdict
+pub mod Laws
+pub mod Rows

@@ -1,0 +1,40 @@
+//! What a verdict means.
+
+ghost use Rattle.change_laws.specs.Laws.{GivenIsBatch, VerdictIsSound, OldIsUndone, VerdictIsComplete, NothingGiven, MissingIsMissing};
+ghost use Rattle.change_laws.specs.Rows.{AreRows, by_last_digit};
+
+/// A batch over given blocks answers what the batch over the source does that they are.
+pub fn given_is_the_batch()
+    ensures { GivenIsBatch }
+{}
+
+/// Changes that are shown are true of the pairs after them, whatever pairs these are: each key has the value that is told, and
+/// the pairs with each change undone are those that the root before names.
+pub fn verdict_is_sound()
+    ensures { VerdictIsSound }
+{}
+
+/// And where no two nodes clash, the pairs before are just these.
+pub fn old_pairs_are_the_undone()
+    ensures { OldIsUndone }
+{}
+
+/// Changes that are true are shown where the nodes are given that undoing reads.
+pub fn verdict_is_complete()
+    ensures { VerdictIsComplete }
+{}
+
+/// Where nothing is given, the root after is what is missing first.
+pub fn nothing_shows_nothing()
+    ensures { NothingGiven }
+{}
+
+/// What is called missing isn't given.
+pub fn missing_is_not_given()
+    ensures { MissingIsMissing }
+{}
+
+/// The rows worked by hand come out as they should.
+pub fn rows_come_out()
+    ensures { AreRows by_last_digit }
+{}

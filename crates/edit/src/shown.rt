@@ -1,0 +1,36 @@
+//! What shows a block.
+
+ghost use Rattle.std.specs.Prelude.{◌≡◌, ℕ, List};
+ghost use Rattle.std.specs.Arc.{arc_value};
+
+use crate::read_nodes::ReadNode;
+use cid::{Block, Digest};
+use lookups::MarkedBlock;
+use std::alloc::Allocator;
+use std::sync::Arc;
+
+/// What shows a block: a node that was read, or a block with its mark.
+pub(crate) trait Shown<D: Digest, A: Allocator> {
+    /// The bytes of the block.
+    ghost bytes: { Self → List ℕ };
+
+    /// The block.
+    fn shown(&self) -> &Arc<Block<D, A>, A>
+        ensures { arc_value result.now ≡ bytes self.now };
+}
+
+impl<'a, D: Digest, A: Allocator> Shown<D, A> for ReadNode<'a, D, A> {
+    ghost bytes = { arc_value };
+
+    fn shown(&self) -> &Arc<Block<D, A>, A> {
+        self.block()
+    }
+}
+
+impl<D: Digest, A: Allocator> Shown<D, A> for MarkedBlock<D, A> {
+    ghost bytes = { arc_value };
+
+    fn shown(&self) -> &Arc<Block<D, A>, A> {
+        self.block()
+    }
+}

@@ -1,0 +1,148 @@
+//! What a batch exchanges: which blocks come with it, and which go.
+
+ghost use Rattle.std.specs.Prelude.{◌≡◌, ◌≤◌, ◌++◌, ◌∷◌, [], true, map, IfOk, IfErr, OnOk};
+ghost use Rattle.std.specs.List.{cons_option};
+ghost use Rattle.std.specs.Arc.{arc_value};
+ghost use Rattle.spec.specs.Commits.{commit_bytes};
+ghost use Rattle.batch_laws.specs.Collecting.{with_cids};
+ghost use Rattle.batch_laws.specs.Uses.{given, records_come};
+ghost use Rattle.edit.specs.Batches.{are_changes};
+ghost use Rattle.kept.specs.Trees.{OfTree};
+ghost use Rattle.batches.specs.Values.{stamp_of};
+ghost use Rattle.repo.specs.Edits.{IsEditMade, IsEditRefusal, IsExchangeMade, OnTested};
+ghost use Rattle.repo.specs.Tested.{changes_in};
+
+use crate::changes::Collected;
+use batches::{RepoFault, Stamp, commit_bytes};
+use cid::{Block, Cid, Digest};
+use edit::{BatchEdit, EditFault};
+use kept::{Kept, apply_over};
+use lookups::MarkedBlock;
+use std::alloc::{AllocError, Allocator};
+use std::sync::Arc;
+
+/// The root after a batch, the CID of its commit, the blocks that come, and the CIDs of those that go.
+#[derive(Drop)]
+pub(crate) struct Exchange<D: Digest, A: Allocator> {
+    pub(crate) root: Cid,
+    pub(crate) commit: Cid,
+    pub(crate) come: Vec<MarkedBlock<D, A>, A>,
+    pub(crate) go: Vec<Cid, A>,
+}
+
+/// What a batch that passed its tests exchanges over the tree with this root and the last commit, by what its writes change.
+pub(crate) fn exchange_of<D: Digest, const B: u8, A: Allocator + Copy>(
+    kept: &Kept<D, A>,
+    alloc: A,
+    root: Cid,
+    last: Option<Cid>,
+    stamp: &Stamp<A>,
+    changes: &Collected<'_, A>,
+) -> Result<Exchange<D, A>, RepoFault<D, A>>
+    requires least { 1 ≤ B }
+    requires changes { are_changes (with_cids D.digest_of (changes_in changes.now)) ≡ true }
+    ensures exchange { OnTested D.digest_of B root last stamp.now changes.now kept.now.uses
+        (λ s batch. IfOk result (IsExchangeMade D.digest_of B s (stamp_of stamp.now) batch)) }
+    ensures fault { OfTree D.digest_of B kept.now.uses root (λ es. IfErr result
+        (IsEditRefusal D.digest_of B (with_cids D.digest_of (changes_in changes.now)) es)) }
+{
+    let records = changes.blocks::<D>(alloc)?;
+    let edit = edit_for::<D, B, A>(kept, alloc, root, changes, &records)?;
+    let block = commit_block(alloc, stamp, edit.root)?;
+    let commit = block.cid();
+    let BatchEdit {
+        root,
+        add,
+        drop,
+        previous,
+    } = edit;
+    let come = all_that_come(add, records, block)?;
+    let go = all_that_go(drop, previous, last)?;
+    Ok(Exchange {
+        root,
+        commit,
+        come,
+        go,
+    })
+}
+
+/// The edit of the tree with this root that makes these changes. It owns the blocks that it adds.
+fn edit_for<D: Digest, const B: u8, A: Allocator + Copy>(
+    kept: &Kept<D, A>,
+    alloc: A,
+    root: Cid,
+    changes: &Collected<'_, A>,
+    records: &[Arc<Block<D, A>, A>],
+) -> Result<BatchEdit<D, A>, RepoFault<D, A>>
+    requires least { 1 ≤ B }
+    requires changes { are_changes (with_cids D.digest_of (changes_in changes.now)) ≡ true }
+    requires records { map arc_value records.now ≡ records_come (changes_in changes.now) }
+    ensures edit { OfTree D.digest_of B kept.now.uses root (λ es. IfOk result
+        (IsEditMade D.digest_of B (with_cids D.digest_of (changes_in changes.now)) es)) }
+    ensures fault { OfTree D.digest_of B kept.now.uses root (λ es. IfErr result
+        (IsEditRefusal D.digest_of B (with_cids D.digest_of (changes_in changes.now)) es)) }
+{
+    let changes = changes.for_edit(alloc, records)?;
+    match apply_over::<D, B, A>(alloc, kept, root, &changes) {
+        Ok((edit, _)) => Ok(edit),
+        Err(EditFault::Clash(pair)) => Err(RepoFault::Collision(pair)),
+        // each node of the tree is kept, and a batch lacks no key
+        Err(_) => Err(RepoFault::NoMemory),
+    }
+}
+
+/// The block of a commit.
+fn commit_block<D: Digest, A: Allocator + Copy>(
+    alloc: A,
+    stamp: &Stamp<A>,
+    root: Cid,
+) -> Result<Arc<Block<D, A>, A>, AllocError>
+    ensures { IfOk result (λ block. arc_value block ≡ commit_bytes (stamp_of stamp.now) root) }
+{
+    let bytes = commit_bytes(alloc, stamp, root)?;
+    Ok(Arc::new(alloc, Block::of(bytes))?)
+}
+
+/// The nodes, and after them the records and the commit.
+fn all_that_come<D: Digest, A: Allocator>(
+    nodes: Vec<MarkedBlock<D, A>, A>,
+    records: Vec<Arc<Block<D, A>, A>, A>,
+    commit: Arc<Block<D, A>, A>,
+) -> Result<Vec<MarkedBlock<D, A>, A>, AllocError>
+    ensures { IfOk result (λ all. map arc_value all.items
+        ≡ (map arc_value nodes.items ++ map arc_value records.items) ++ arc_value commit ∷ []) }
+{
+    let mut all = nodes;
+    for record in records {
+        all.push(MarkedBlock::of(record))?;
+    }
+    all.push(MarkedBlock::of(commit))?;
+    Ok(all)
+}
+
+/// The nodes, and after them the records and the commit where there were any before.
+fn all_that_go<A: Allocator>(
+    nodes: Vec<Cid, A>,
+    records: Vec<Option<Cid>, A>,
+    commit: Option<Cid>,
+) -> Result<Vec<Cid, A>, AllocError>
+    ensures { IfOk result (λ all.
+        all.items ≡ (nodes.items ++ given records.items) ++ cons_option commit []) }
+{
+    let mut all = nodes;
+    for record in records {
+        push_some(&mut all, record)?;
+    }
+    push_some(&mut all, commit)?;
+    Ok(all)
+}
+
+/// A CID comes behind others, where there is one.
+fn push_some<A: Allocator>(cids: &mut Vec<Cid, A>, cid: Option<Cid>) -> Result<(), AllocError>
+    ensures { OnOk result (cids.new.items ≡ cids.old.items ++ cons_option cid []) }
+{
+    match cid {
+        Some(cid) => Ok(cids.push(cid)?),
+        None => Ok(()),
+    }
+}
