@@ -1,6 +1,6 @@
 # The two commands: `make demo` shows the program at work, `make test` is the gate.
 
-.PHONY: demo build install test check edits answers plant bench gate-times pictures clean help
+.PHONY: demo build install library install-library test test-library check edits answers plant bench gate-times pictures clean help
 
 PREFIX ?= /usr/local
 
@@ -8,7 +8,10 @@ help:
 	@echo 'make demo              msthost at work on the examples: at once without proofs, and then proved'
 	@echo 'make build             proves msthost with all that it stands on, and builds target/msthost'
 	@echo 'make install PREFIX=.. puts target/msthost, its manual page and what shells complete of it below PREFIX'
+	@echo 'make library           proves the library for programs in C, Rust and Python, and builds it into target/library'
+	@echo 'make install-library PREFIX=..  puts it, its header and its pkg-config file below PREFIX'
 	@echo 'make test              the gate: every proof, must-fail edit, test and program, from nothing'
+	@echo 'make test-library      tries the library from Rust, C and Python'
 	@echo 'make check             every crate, quickly, over what earlier checks kept'
 	@echo 'make edits             the wrong bodies that the gate does not try, before a release; CRATE=name: of one crate'
 	@echo 'make answers CRATE=name  writes out the answers that the must-fail edits of a crate break, over what make check kept'
@@ -27,6 +30,12 @@ build:
 install: build
 	@tools/install $(PREFIX)
 
+library:
+	@tools/library
+
+install-library: library
+	@tools/library --install $(PREFIX)
+
 test:
 	@tools/layout
 	@tools/edits --apply
@@ -34,6 +43,9 @@ test:
 	@tools/must-not-compile
 	@tools/crate-tables --compare
 	@rt ci
+
+test-library: library
+	@tools/test-library
 
 check:
 	@rt all check

@@ -1,9 +1,10 @@
 -- What a verdict says, and when it says so.
-use Rattle.std.proofs.Common.{◌≡◌, ℕ, zero, suc, ◌<◌, ◌≤◌, max, Bool, true, false, List, [], ◌∷◌, map, refl, sym, ap, subst, ◌∙◌, arith, Option, Ok, Err}
+use Rattle.std.proofs.Common.{◌≡◌, ℕ, zero, suc, ◌<◌, ◌≤◌, max, Bool, true, false, List, [], ◌∷◌, ◌++◌, length, map, refl, sym, ap, subst, ◌∙◌, arith, Option, Ok, Err}
 use Rattle.std.specs.Prelude.{Contains, option_and_then}
 use Rattle.std.specs.List.{AllByRecursion}
 use Rattle.std.specs.Str.{bytes_eq}
 use Rattle.std.proofs.lemmas.Slice.Eq.{bytes_eq-Decides}
+use Rattle.std.proofs.lemmas.List.{length-map, map-append}
 use Rattle.std.specs.declared.option.Option.TheVariants.{Some, None}
 use Rattle.spec.specs.Cid.{IsDigest}
 use Rattle.spec.specs.Reading.{ensure}
@@ -17,6 +18,7 @@ use Rattle.spec.proofs.TreeNodes.{IsLawful, EachNode-top}
 use Rattle.spec.proofs.RootLaws.{Among, among-part, both-part, in_head, in_tail}
 use Rattle.spec.proofs.VerifyLaws.{IsOnly, block_of-only, block_of-given, each-part_is}
 use Rattle.edit_laws.specs.Changes.{marked}
+use Rattle.edit_laws.specs.Lawful.{HasKeys}
 use Rattle.edit_laws.specs.Sources.{shape_of_bytes, shown_by}
 use Rattle.edit_laws.specs.Trace.{weight, weight_under, total}
 use Rattle.edit_laws.proofs.BlockChanges.{read-stands}
@@ -24,16 +26,19 @@ use Rattle.edit_laws.proofs.OverSource.{shape_of_bytes-shape_bytes}
 use Rattle.edit_laws.proofs.RecordMaps.{ascending-sorted}
 use Rattle.edit_laws.proofs.Tops.{layer_of-top}
 use Rattle.edit_laws.proofs.Within.{IsWithin, within-top, within-up, within-below}
-use Rattle.batch_laws.specs.Batch.{Change, puts, changed, AreAscending}
+use Rattle.batch_laws.specs.Batch.{Change, puts, changed, AreAscending, AreKeyed}
 use Rattle.batch_laws.specs.Edge.{Edge, Clear, Waiting, Opened}
 use Rattle.batch_laws.specs.Walking.{walk_top}
+use Rattle.batch_laws.specs.Counts.{most_reads}
 use Rattle.batch_laws.specs.Trace.{batch_gone, batch_read, top_left}
 use Rattle.batch_laws.specs.Links.{Log, Top, ask, batch_from}
 use Rattle.batch_laws.specs.Previous.{values}
 use Rattle.batch_laws.proofs.Edges.{IsEdge}
 use Rattle.batch_laws.proofs.Walks.{walk-top, batch-is_top}
 use Rattle.batch_laws.proofs.Bridges.{layer-same}
+use Rattle.batch_laws.proofs.Lawful.{batch-has_keys}
 use Rattle.batch_laws.proofs.Old.{read-old}
+use Rattle.batch_laws.proofs.ReadsFew.{batch-reads_few}
 use Rattle.change_laws.specs.Told.{KeyChange, undone}
 use Rattle.change_laws.specs.Given.{Step, OtherValue, OtherRoot, given_at, put_layers, layers_needed, batch_given}
 use Rattle.change_laws.specs.Verdict.{previous_of, values_given, is_same, are_told, change_verdict}
@@ -278,6 +283,37 @@ module _ (digest : List ℕ → List ℕ) (bits : ℕ) (fits : IsDigest digest) 
       (read-stands digest bits es (batch_read lay most cs own_top)
       (λ b h. (let a = read-old (marked (node_bytes digest) b) lay most cs own_top in omega arith)))
       has
+
+  -- ---- where all that is read is there
+
+  -- there is an answer, for which few nodes are read, and keys ascend in each node that is made
+  pub record Reached : Type 0 where
+    pub x : Top × Log
+    pub is : step ≡ Ok x
+    pub made : AllByRecursion HasKeys x.1.made
+    pub few : length (x.1.read ++ x.0.1) ≤ suc (most_reads (top_layer lay es) cs)
+    pub top_is : shows digest given (root digest bits es) ≡ Some (shape digest own_top)
+
+  reached-of : AreKeyed cs → AllRead → (q : batch layers ≡ batch most) → Reached
+  reached-of keyed all q =
+      let gone = batch_gone lay most cs own_top in
+      let left = top_left (walk_top lay most cs own_top) in
+      record {
+        x = _;
+        is = answer-is step _ (step-batch ∙ q ∙ needs.0 all);
+        made = batch-has_keys digest lay most cs es are keyed tree-within puts-are-within;
+        few =
+            let a = ap length (sym (map-append (shape digest) gone left)) in
+            let b = length-map (gone ++ left) (shape digest) in
+            let c = batch-reads_few lay most cs es tree-within in
+            omega (arith, a, b, c);
+        top_is = all.0;
+      }
+
+  pub reached : AreKeyed cs
+      → ((b : List ℕ) → Contains (map (node_bytes digest) (batch_read lay most cs own_top)) b → Contains given b)
+      → Reached
+  reached keyed has = let all = read-shown has in reached-of keyed all (ap batch (layers-are all.0))
 
 -- ---- the values that are told
 

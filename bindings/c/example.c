@@ -1,0 +1,38 @@
+/* A batch, a record, a file and a proof: cc -Itarget/library bindings/c/example.c target/library/libtizulgech.a */
+#include "tizulgech.h"
+#include <stdio.h>
+#include <string.h>
+#define TEXT(s) (const uint8_t *)(s), strlen(s)
+
+static const char *key = "app.bsky.feed.post/3jzfcijpj2z2a";
+
+int main(void) {
+    tizulgech_repository repo = {0};
+    uint8_t root[36], before[36], commit[36], value[36], text[60] = {0}, record[64], proof[4096];
+    size_t place, size;
+    /* none is open yet */
+    if (tizulgech_get(&repo, TEXT(key), record, sizeof record, &size) != TIZULGECH_CLOSED) return 1;
+    if (tizulgech_open(1000, &repo) != TIZULGECH_DONE || tizulgech_open(1000, &repo) != TIZULGECH_OPEN) return 2;
+    tizulgech_stage(&repo, 0, TEXT(key), TEXT("\xa1\x64text\x65hello"));
+    uint8_t code = tizulgech_apply(&repo, TEXT("did:web:example.com"), TEXT("3jzfcijpj2z2a"), &place, root, 36, before, 36, commit, 36);
+    if (code != TIZULGECH_DONE) {
+        printf("refused: %d at %zu\n", code, place);
+        return 3;
+    }
+    tizulgech_cid_text(root, 36, text, 59);
+    if (tizulgech_get(&repo, TEXT(key), record, sizeof record, &size) != TIZULGECH_DONE) return 4;
+    printf("%s, a record of %zu bytes\n", text, size);
+    /* no room: the size that is wanted; a null pointer beside 0 is an empty room, or an empty key */
+    if (tizulgech_car(&repo, NULL, 0, &size) != TIZULGECH_SMALL) return 5;
+    printf("a file of %zu bytes\n", size);
+    if (tizulgech_list(&repo, NULL, 0, 10, proof, sizeof proof, &size) != TIZULGECH_DONE || size != 8 + strlen(key) + 36) return 6;
+    /* the proof of a tree of one node is that node: its length, and then its bytes */
+    if (tizulgech_prove(&repo, TEXT(key), proof, sizeof proof, &size) != TIZULGECH_DONE) return 7;
+    size_t end = size - 8;
+    if (tizulgech_verify(proof + 8, end, &end, 1, root, 36, TEXT(key), value, 36) != TIZULGECH_DONE) return 8;
+    tizulgech_cid(record, 12, before, 36);
+    if (memcmp(value, before, 36) != 0) return 9;
+    tizulgech_close(&repo);
+    tizulgech_close(&repo);
+    return tizulgech_number(&repo, &(uint64_t){0}) == TIZULGECH_CLOSED ? 0 : 10;
+}

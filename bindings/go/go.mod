@@ -1,0 +1,3 @@
+module tizulgech.example/go
+
+go 1.21

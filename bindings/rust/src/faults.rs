@@ -1,0 +1,208 @@
+//! The numbers that calls answer, as enums.
+use std::{error::Error, fmt};
+
+macro_rules! faults {
+    ($(#[$doc:meta])* $name:ident { $($variant:ident = $number:literal $text:literal,)* }) => {
+        $(#[$doc])*
+        #[derive(Clone, Copy, Debug, PartialEq, Eq, Hash)]
+        #[non_exhaustive]
+        pub enum $name { $(#[doc = $text] $variant,)* }
+        impl $name {
+            pub(crate) fn of(number: u8) -> $name {
+                match number { $($number => $name::$variant,)* number => unreachable!("number {number}") }
+            }
+        }
+        impl fmt::Display for $name {
+            fn fmt(&self, f: &mut fmt::Formatter<'_>) -> fmt::Result {
+                f.write_str(match self { $($name::$variant => $text,)* })
+            }
+        }
+        impl Error for $name {}
+    };
+}
+
+faults! {
+    /// Why bytes are no record (DAG-CBOR).
+    RecordFault {
+        Truncated = 1 "the bytes end within a value",
+        LongHead = 2 "a head is longer than it needs to be",
+        Indefinite = 3 "an indefinite length",
+        BadTag = 4 "a tag that isn't 42",
+        BadLink = 5 "a link that is no CID",
+        KeyNotText = 6 "a key of a map that isn't text",
+        KeyOrder = 7 "keys of a map that are out of order or stand twice",
+        BadUtf8 = 8 "text that isn't UTF-8",
+        Float = 9 "a floating-point number",
+        Simple = 10 "a simple value",
+        IntegerRange = 11 "an integer outside of 64 bits with sign",
+        TooDeep = 12 "values that are nested too deep",
+        Trailing = 13 "bytes after the value",
+        NoMemory = 255 "out of memory",
+    }
+}
+faults! {
+    /// Why text is no CID of this profile.
+    CidFault {
+        BadLength = 1 "the text doesn't have 59 letters",
+        BadPrefix = 2 "the text doesn't begin with b",
+        BadLetter = 3 "a letter that base32 doesn't have",
+        BadBits = 4 "bits behind the last byte",
+        NotThisProfile = 5 "not a CIDv1 of DAG-CBOR with SHA-256",
+    }
+}
+faults! {
+    /// Why a stamp isn't taken.
+    StampFault {
+        BadDid = 27 "the DID is not one",
+        BadRev = 28 "the revision is not a timestamp identifier",
+        RevOrder = 29 "the revision is not after the last one",
+    }
+}
+faults! {
+    /// Why there is no root or no file of a listing.
+    TreeFault {
+        NotAscending = 3 "the keys don't ascend",
+        NotBuilt = 32 "a repository doesn't take these records",
+        Bad = 252 "an argument that is none",
+        Clash = 253 "two blocks clash",
+        NoMemory = 255 "out of memory",
+    }
+}
+faults! {
+    /// Why blocks prove nothing of a key.
+    ProofFault {
+        BlockMissing = 2 "a block of the path is missing",
+        KeyLength = 20 "a key has no bytes or more than 1,024",
+        BadNode = 30 "a block of the path is no node",
+        TooDeep = 31 "the path is longer than any tree is deep",
+        NoMemory = 255 "out of memory",
+    }
+}
+
+/// Memory was refused.
+#[derive(Clone, Copy, Debug, PartialEq, Eq)]
+pub struct NoMemory;
+
+impl fmt::Display for NoMemory {
+    fn fmt(&self, f: &mut fmt::Formatter<'_>) -> fmt::Result {
+        f.write_str("out of memory")
+    }
+}
+impl Error for NoMemory {}
+
+/// Why a repository wasn't opened.
+#[derive(Clone, Copy, Debug, PartialEq, Eq)]
+#[non_exhaustive]
+pub enum OpenError {
+    /// The limit isn't 1 to 1,048,576.
+    Limit,
+    /// Memory was refused.
+    NoMemory,
+}
+
+impl fmt::Display for OpenError {
+    fn fmt(&self, f: &mut fmt::Formatter<'_>) -> fmt::Result {
+        f.write_str(match self {
+            OpenError::Limit => "a repository may have 1 to 1,048,576 writes",
+            OpenError::NoMemory => "out of memory",
+        })
+    }
+}
+impl Error for OpenError {}
+
+/// Why a batch was refused. Nothing has changed then.
+#[derive(Clone, Copy, Debug, PartialEq, Eq)]
+pub struct BatchError {
+    /// The place of the refused write, from 0; 0 where the whole batch is refused.
+    pub place: usize,
+    /// Why it was refused.
+    pub fault: BatchFault,
+}
+
+/// Why a write, or a batch, was refused.
+#[derive(Clone, Copy, Debug, PartialEq, Eq)]
+#[non_exhaustive]
+pub enum BatchFault {
+    /// The record isn't DAG-CBOR.
+    BadRecord(RecordFault),
+    /// The key isn't that of a record.
+    BadKey,
+    /// The record is no map.
+    NotAMap,
+    /// The record has more than 1,048,576 bytes.
+    RecordSize,
+    /// A create of a key that is there.
+    KeyExists,
+    /// An update or a delete of a key that isn't there.
+    NoSuchKey,
+    /// The repository takes no more writes.
+    WritesFull,
+    /// The batch has no write.
+    EmptyBatch,
+    /// The stamp's DID isn't one.
+    BadDid,
+    /// The stamp's revision isn't a timestamp identifier.
+    BadRev,
+    /// The stamp's revision isn't after the last one.
+    RevOrder,
+    /// Two different blocks have one CID.
+    Clash,
+    /// The repository has 1,048,576 blocks.
+    StoreFull,
+    /// Memory was refused.
+    NoMemory,
+}
+
+impl BatchFault {
+    pub(crate) fn of(number: u8) -> BatchFault {
+        use BatchFault::*;
+        match number {
+            20 => BadKey,
+            21 => NotAMap,
+            22 => RecordSize,
+            23 => KeyExists,
+            24 => NoSuchKey,
+            25 => WritesFull,
+            26 => EmptyBatch,
+            27 => BadDid,
+            28 => BadRev,
+            29 => RevOrder,
+            253 => Clash,
+            254 => StoreFull,
+            255 => NoMemory,
+            number => BadRecord(RecordFault::of(number)),
+        }
+    }
+}
+
+impl fmt::Display for BatchError {
+    fn fmt(&self, f: &mut fmt::Formatter<'_>) -> fmt::Result {
+        use BatchFault::*;
+        let text = match self.fault {
+            BadRecord(fault) => return write!(f, "write {}: the record is not DAG-CBOR: {fault}", self.place),
+            BadKey => "the key is not that of a record",
+            NotAMap => "the record is not a map",
+            RecordSize => "the record is too long",
+            KeyExists => "the key is there already",
+            NoSuchKey => "there is no such key",
+            WritesFull => "the repository takes no more writes",
+            EmptyBatch => "the batch is empty",
+            BadDid => "the DID is not one",
+            BadRev => "the revision is not a timestamp identifier",
+            RevOrder => "the revision is not after the last one",
+            Clash => "two different blocks have one CID",
+            StoreFull => "the store is full",
+            NoMemory => "out of memory",
+        };
+        write!(f, "write {}: {text}", self.place)
+    }
+}
+
+impl Error for BatchError {
+    fn source(&self) -> Option<&(dyn Error + 'static)> {
+        match &self.fault {
+            BatchFault::BadRecord(fault) => Some(fault),
+            _ => None,
+        }
+    }
+}

@@ -1,0 +1,49 @@
+//! A verified AT Protocol repository: safe calls over a static library whose code is proved.
+//!
+//! - [`Repository`] is a whole repository in memory: batches in, records, listings, roots, commits, CAR files and proofs out.
+//! - [`tree`] changes a tree whose nodes stand elsewhere, as in a database.
+//! - [`Cid`], [`check_record`], [`check_stamp`], [`commit_bytes`], [`tree_root`], [`listing_car`] and [`Proof`] need no state.
+//!
+//! ```
+//! use tizulgech::{Cid, Repository, Stamp, Write};
+//!
+//! let mut repository = Repository::open(1000)?;
+//! let key = "app.bsky.feed.post/3jzfcijpj2z2a";
+//! let stamp = Stamp { did: "did:web:example.com", rev: "3jzfcijpj2z2a" };
+//! let applied = repository.apply(stamp, &[Write::Create(key, b"\xa1\x64text\x65hello")])?;
+//! assert_eq!(repository.get(key)?.as_deref(), Some(&b"\xa1\x64text\x65hello"[..]));
+//!
+//! // Whoever knows the root alone can check the record.
+//! let proof = repository.prove(key)?;
+//! assert_eq!(proof.verify(&applied.root, key)?, Some(Cid::of(b"\xa1\x64text\x65hello")));
+//! # Ok::<(), Box<dyn std::error::Error>>(())
+//! ```
+//!
+//! # What is proved, and what is trusted
+//!
+//! What is proved ends at the calls of the C interface: each has a contract, which is proved of its code together with its
+//! safety and its end. Of this crate nothing is proved. Trusted are:
+//!
+//! - that the declarations in `sys` are those of the library;
+//! - that `sys` passes slices as they are, and arrays where a call wants a fixed length;
+//! - that a repository is given to one call at a time (it is neither `Send` nor `Sync`);
+//! - that `framing` reads answers as the library spells them;
+//! - that the numbers of `faults` are those of the library;
+//! - the program's `malloc`, `realloc` and `free`;
+//! - the compilers and the linker.
+#![deny(missing_docs)]
+#![deny(unsafe_op_in_unsafe_fn)]
+
+mod faults;
+mod framing;
+mod repository;
+#[allow(missing_docs)]
+mod sys;
+pub mod tree;
+mod values;
+
+pub use faults::{BatchError, BatchFault, CidFault, NoMemory, OpenError, ProofFault, RecordFault, StampFault, TreeFault};
+pub use repository::{Applied, Pairs, Repository, Stamp, Write};
+pub use values::{
+    Cid, Proof, check_record, check_stamp, commit_bytes, is_did, is_key, is_repository_key, is_tid, layer, listing_car, tree_root,
+};

@@ -1,0 +1,218 @@
+//! A repository in memory.
+use crate::faults::{BatchError, BatchFault, NoMemory, OpenError};
+use crate::framing::{Reader, filled};
+use crate::sys;
+use crate::values::{Cid, Proof};
+use std::{fmt, io};
+
+/// What a batch is stamped with.
+#[derive(Clone, Copy, Debug, PartialEq, Eq)]
+pub struct Stamp<'a> {
+    /// Whose repository it is.
+    pub did: &'a str,
+    /// A timestamp identifier, bytewise after that of the batch before.
+    pub rev: &'a str,
+}
+
+/// A write: a key, and the record's bytes in DAG-CBOR.
+#[derive(Clone, Copy, Debug, PartialEq, Eq)]
+pub enum Write<'a> {
+    /// The record stands under the key, whatever stood there.
+    Put(&'a str, &'a [u8]),
+    /// The record stands under the key, where nothing stood there.
+    Create(&'a str, &'a [u8]),
+    /// The record stands under the key, where another one stood there.
+    Update(&'a str, &'a [u8]),
+    /// The key goes with its record.
+    Delete(&'a str),
+}
+
+impl<'a> Write<'a> {
+    fn parts(self) -> (u8, &'a str, &'a [u8]) {
+        match self {
+            Write::Put(key, record) => (0, key, record),
+            Write::Create(key, record) => (1, key, record),
+            Write::Update(key, record) => (2, key, record),
+            Write::Delete(key) => (3, key, &[]),
+        }
+    }
+}
+
+/// What an accepted batch leaves.
+#[derive(Clone, Copy, Debug, PartialEq, Eq)]
+pub struct Applied {
+    /// The root of the tree.
+    pub root: Cid,
+    /// The root before the batch.
+    pub previous: Cid,
+    /// The CID of the batch's commit.
+    pub commit: Cid,
+}
+
+/// A repository in memory. Its root and its blocks are always those of the tree built from scratch of its records: this is
+/// proved.
+///
+/// It keeps all its writes, and takes 1,048,576 of them at most. It stays on its thread:
+///
+/// ```compile_fail
+/// let repository = tizulgech::Repository::open(10).unwrap();
+/// std::thread::spawn(move || repository.number()); // `*mut u8` cannot be sent between threads safely
+/// ```
+pub struct Repository {
+    handle: sys::Handle,
+}
+
+impl Repository {
+    /// A repository that takes at most so many writes.
+    pub fn open(limit: usize) -> Result<Repository, OpenError> {
+        match sys::Handle::open(limit) {
+            Ok(handle) => Ok(Repository { handle }),
+            Err(252) => Err(OpenError::Limit),
+            Err(_) => Err(OpenError::NoMemory),
+        }
+    }
+
+    /// Accepts all writes of a batch, in order, or none of them.
+    pub fn apply(&mut self, stamp: Stamp<'_>, writes: &[Write<'_>]) -> Result<Applied, BatchError> {
+        for write in writes {
+            let (kind, key, record) = write.parts();
+            if self.handle.stage(kind, key.as_bytes(), record) != 0 {
+                self.handle.clear();
+                return Err(BatchError { place: 0, fault: BatchFault::NoMemory });
+            }
+        }
+        let (mut place, mut root, mut previous, mut commit) = (0, [0; 36], [0; 36], [0; 36]);
+        let (did, rev) = (stamp.did.as_bytes(), stamp.rev.as_bytes());
+        match self.handle.apply(did, rev, &mut place, &mut root, &mut previous, &mut commit) {
+            0 => Ok(Applied { root: Cid(root), previous: Cid(previous), commit: Cid(commit) }),
+            number => Err(BatchError { place, fault: BatchFault::of(number) }),
+        }
+    }
+
+    /// The record of a key.
+    pub fn get(&self, key: impl AsRef<[u8]>) -> Result<Option<Vec<u8>>, NoMemory> {
+        match filled(1024, |out, size| self.handle.get(key.as_ref(), out, size)) {
+            Ok(record) => Ok(Some(record)),
+            Err(24) => Ok(None),
+            Err(_) => Err(NoMemory),
+        }
+    }
+
+    /// The first keys from a key on, so many at most, each with its record's CID.
+    pub fn list(&self, from: impl AsRef<[u8]>, most: usize) -> Result<Vec<(Vec<u8>, Cid)>, NoMemory> {
+        let bytes = filled(96 * most.min(1024), |out, size| self.handle.list(from.as_ref(), most, out, size)).map_err(|_| NoMemory)?;
+        let mut reader = Reader(&bytes);
+        let mut pairs = Vec::new();
+        while !reader.is_empty() {
+            pairs.push((reader.part().to_vec(), reader.cid()));
+        }
+        Ok(pairs)
+    }
+
+    /// All pairs from a key on, in the order of the keys, read page by page.
+    pub fn pairs(&self, from: impl AsRef<[u8]>) -> Pairs<'_> {
+        Pairs { repository: self, next: Some(from.as_ref().to_vec()), page: Vec::new().into_iter() }
+    }
+
+    /// The root of the tree.
+    pub fn root(&self) -> Cid {
+        let mut root = [0; 36];
+        let number = self.handle.root(&mut root);
+        debug_assert_eq!(number, 0);
+        Cid(root)
+    }
+
+    /// The CID of the last batch's commit.
+    pub fn commit(&self) -> Option<Cid> {
+        let mut commit = [0; 36];
+        (self.handle.commit(&mut commit) == 0).then_some(Cid(commit))
+    }
+
+    /// How many writes are accepted.
+    pub fn number(&self) -> u64 {
+        let mut count = 0;
+        let number = self.handle.number(&mut count);
+        debug_assert_eq!(number, 0);
+        count
+    }
+
+    /// The repository as one file (CARv1).
+    pub fn car(&self) -> Result<Vec<u8>, NoMemory> {
+        let length = usize::try_from(self.car_length()?).map_err(|_| NoMemory)?;
+        filled(length, |out, size| self.handle.car(out, size)).map_err(|_| NoMemory)
+    }
+
+    /// How many bytes that file has. None of them is made.
+    pub fn car_length(&self) -> Result<u64, NoMemory> {
+        let mut length = 0;
+        match self.handle.car_length(&mut length) {
+            0 => Ok(length),
+            _ => Err(NoMemory),
+        }
+    }
+
+    /// The bytes of that file from a place on, to the front of `out`, and how many they are: fewer than there is room for only
+    /// where the file ends.
+    pub fn car_part(&self, from: u64, out: &mut [u8]) -> Result<usize, NoMemory> {
+        let mut size = 0;
+        match self.handle.car_part(from, out, &mut size) {
+            0 => Ok(size),
+            _ => Err(NoMemory),
+        }
+    }
+
+    /// That file into a writer, in parts of a million bytes.
+    pub fn write_car(&self, out: &mut impl io::Write) -> io::Result<u64> {
+        let (mut part, mut done) = (vec![0; 1_000_000], 0);
+        loop {
+            let count = self.car_part(done, &mut part).map_err(|_| io::Error::from(io::ErrorKind::OutOfMemory))?;
+            if count == 0 {
+                return Ok(done);
+            }
+            out.write_all(&part[..count])?;
+            done += count as u64;
+        }
+    }
+
+    /// The proof of a key.
+    pub fn prove(&self, key: impl AsRef<[u8]>) -> Result<Proof, NoMemory> {
+        let bytes = filled(8192, |out, size| self.handle.prove(key.as_ref(), out, size)).map_err(|_| NoMemory)?;
+        let mut reader = Reader(&bytes);
+        let mut nodes = Vec::new();
+        while !reader.is_empty() {
+            nodes.push(reader.part().to_vec());
+        }
+        Ok(Proof { nodes })
+    }
+}
+
+impl fmt::Debug for Repository {
+    fn fmt(&self, f: &mut fmt::Formatter<'_>) -> fmt::Result {
+        f.debug_struct("Repository").field("number", &self.number()).field("root", &self.root()).finish()
+    }
+}
+
+/// The pairs of a repository. It ends early where memory is refused.
+pub struct Pairs<'a> {
+    repository: &'a Repository,
+    next: Option<Vec<u8>>,
+    page: std::vec::IntoIter<(Vec<u8>, Cid)>,
+}
+
+impl Iterator for Pairs<'_> {
+    type Item = (Vec<u8>, Cid);
+    fn next(&mut self) -> Option<(Vec<u8>, Cid)> {
+        if let Some(pair) = self.page.next() {
+            return Some(pair);
+        }
+        let page = self.repository.list(self.next.take()?, 256).ok()?;
+        if page.len() == 256 {
+            // the least key after the last one
+            let mut next = page[255].0.clone();
+            next.push(0);
+            self.next = Some(next);
+        }
+        self.page = page.into_iter();
+        self.page.next()
+    }
+}

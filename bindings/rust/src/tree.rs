@@ -1,0 +1,208 @@
+//! A tree whose nodes stand elsewhere, as in a database.
+//!
+//! The host keeps the nodes by their CIDs, and the root. [`get`] goes down node by node. [`apply`], [`put`] and [`delete`]
+//! answer an [`Edit`]: the root after it, the new nodes to insert and the CIDs to remove, which the host does in one
+//! transaction. Nothing is kept between calls.
+//!
+//! ```
+//! use std::collections::HashMap;
+//! use tizulgech::{Cid, tree};
+//!
+//! let mut root: Cid = tree::EMPTY_ROOT.parse()?;
+//! let mut nodes = HashMap::from([(root, tree::EMPTY_NODE.to_vec())]);
+//! let edit = tree::put(|cid| Ok::<_, std::io::Error>(nodes.get(cid).cloned()), &root, "a/b", &Cid::of(b"record"))?;
+//! for cid in &edit.drop {
+//!     nodes.remove(cid);
+//! }
+//! nodes.extend(edit.add);
+//! root = edit.root;
+//! assert_eq!(tree::get(|cid| Ok::<_, std::io::Error>(nodes.get(cid).cloned()), &root, "a/b")?, Some(Cid::of(b"record")));
+//! # Ok::<(), Box<dyn std::error::Error>>(())
+//! ```
+use crate::framing::{Joined, Reader, filled};
+use crate::sys;
+use crate::values::Cid;
+use std::collections::HashSet;
+use std::error::Error;
+use std::fmt;
+
+/// The node without entries, which is the tree of no pairs.
+pub const EMPTY_NODE: &[u8] = b"\xa2\x61e\x80\x61l\xf6";
+/// Its CID.
+pub const EMPTY_ROOT: &str = "bafyreie5737gdxlw5i64vzichcalba3z2v5n6icifvx5xytvske7mr3hpm";
+
+/// A key, and the value that it is to have, or none where it is to go.
+#[derive(Clone, Copy, Debug, PartialEq, Eq)]
+pub struct Change<'a> {
+    /// The key: 1 to 1,024 bytes.
+    pub key: &'a [u8],
+    /// The CID of its record.
+    pub value: Option<Cid>,
+}
+
+/// What changes do to the set of a tree's nodes.
+#[derive(Clone, Debug, PartialEq, Eq)]
+pub struct Edit {
+    /// The root after them.
+    pub root: Cid,
+    /// New nodes, to insert, each under its CID.
+    pub add: Vec<(Cid, Vec<u8>)>,
+    /// The CIDs of the nodes that the tree doesn't have any more, to remove.
+    pub drop: Vec<Cid>,
+    /// The value that the key of each change had before.
+    pub previous: Vec<Option<Cid>>,
+}
+
+/// Why there is no edit or no value. `E` is the fault of whoever gives the nodes.
+#[derive(Clone, Debug, PartialEq, Eq)]
+#[non_exhaustive]
+pub enum EditError<E> {
+    /// A key has 1 to 1,024 bytes, and the keys of a batch ascend.
+    BadKeys,
+    /// There is no node with this CID.
+    Missing(Cid),
+    /// A block is no node of a tree, or not the one of its CID.
+    BadNode,
+    /// Two nodes have one CID.
+    Clash,
+    /// Memory was refused.
+    NoMemory,
+    /// The fault of whoever gives the nodes.
+    Source(E),
+}
+
+impl<E: fmt::Display> fmt::Display for EditError<E> {
+    fn fmt(&self, f: &mut fmt::Formatter<'_>) -> fmt::Result {
+        match self {
+            EditError::BadKeys => f.write_str("keys have 1 to 1,024 bytes and ascend"),
+            EditError::Missing(cid) => write!(f, "there is no node {cid}"),
+            EditError::BadNode => f.write_str("a block is no node of the tree"),
+            EditError::Clash => f.write_str("two different nodes have one CID"),
+            EditError::NoMemory => f.write_str("out of memory"),
+            EditError::Source(fault) => fault.fmt(f),
+        }
+    }
+}
+
+impl<E: Error + 'static> Error for EditError<E> {
+    fn source(&self) -> Option<&(dyn Error + 'static)> {
+        match self {
+            EditError::Source(fault) => Some(fault),
+            _ => None,
+        }
+    }
+}
+
+/// Goes from a root down to a key, and shows each node of its path with its CID; and then answers the key's value.
+fn walk<E>(
+    mut nodes: impl FnMut(&Cid) -> Result<Option<Vec<u8>>, E>,
+    root: &Cid,
+    key: &[u8],
+    mut visit: impl FnMut(Cid, &[u8]),
+) -> Result<Option<Cid>, EditError<E>> {
+    let mut cid = *root;
+    // No tree has more layers.
+    for _ in 0..=128 {
+        let node = nodes(&cid).map_err(EditError::Source)?.ok_or(EditError::Missing(cid))?;
+        visit(cid, &node);
+        let mut out = [0; 36];
+        match sys::step(&node, key, &mut out) {
+            0 => return Ok(Some(Cid(out))),
+            1 => cid = Cid(out),
+            24 => return Ok(None),
+            _ => return Err(EditError::BadNode),
+        }
+    }
+    Err(EditError::BadNode)
+}
+
+/// The value of a key. The nodes are taken to have the CIDs that they stand under.
+pub fn get<E>(
+    nodes: impl FnMut(&Cid) -> Result<Option<Vec<u8>>, E>,
+    root: &Cid,
+    key: impl AsRef<[u8]>,
+) -> Result<Option<Cid>, EditError<E>> {
+    walk(nodes, root, key.as_ref(), |_, _| ())
+}
+
+/// Puts a key with a value into a tree: a batch of one change.
+pub fn put<E>(
+    nodes: impl FnMut(&Cid) -> Result<Option<Vec<u8>>, E>,
+    root: &Cid,
+    key: impl AsRef<[u8]>,
+    value: &Cid,
+) -> Result<Edit, EditError<E>> {
+    apply(nodes, root, &[Change { key: key.as_ref(), value: Some(*value) }])
+}
+
+/// Takes a key out of a tree: a batch of one change. Where the tree doesn't have it, nothing changes, and `previous` says so.
+pub fn delete<E>(
+    nodes: impl FnMut(&Cid) -> Result<Option<Vec<u8>>, E>,
+    root: &Cid,
+    key: impl AsRef<[u8]>,
+) -> Result<Edit, EditError<E>> {
+    apply(nodes, root, &[Change { key: key.as_ref(), value: None }])
+}
+
+/// Changes keys of a tree at once. The keys ascend.
+///
+/// The nodes of each key's path are read first, each once; few changes need others, and those are asked for as the library
+/// names them.
+pub fn apply<E>(
+    mut nodes: impl FnMut(&Cid) -> Result<Option<Vec<u8>>, E>,
+    root: &Cid,
+    changes: &[Change<'_>],
+) -> Result<Edit, EditError<E>> {
+    let keys = Joined::of(changes.iter().map(|change| change.key));
+    let values: Vec<u8> = changes.iter().flat_map(|change| change.value.map_or([0; 36], |cid| cid.0)).collect();
+    if !changes.iter().all(|change| sys::is_key(change.key)) || !changes.is_sorted_by(|one, other| one.key < other.key) {
+        return Err(EditError::BadKeys);
+    }
+    let mut given = Joined::default();
+    let mut known = HashSet::new();
+    if changes.is_empty() {
+        given.push(&nodes(root).map_err(EditError::Source)?.ok_or(EditError::Missing(*root))?);
+    }
+    for change in changes {
+        walk(&mut nodes, root, change.key, |cid, node| {
+            if known.insert(cid) {
+                given.push(node);
+            }
+        })?;
+    }
+    loop {
+        let mut missing = [0; 36];
+        let answer = filled(given.len() + 256 * changes.len() + 1024, |out, size| {
+            sys::tree_apply(given.parts(), &root.0, keys.parts(), &values, &mut missing, out, size)
+        });
+        match answer {
+            Ok(bytes) => return Ok(read(&bytes, changes.len())),
+            // A node beside the paths. A block that isn't of its CID would be asked for again.
+            Err(2) => {
+                let cid = Cid(missing);
+                if !known.insert(cid) {
+                    return Err(EditError::BadNode);
+                }
+                given.push(&nodes(&cid).map_err(EditError::Source)?.ok_or(EditError::Missing(cid))?);
+            }
+            Err(30) => return Err(EditError::BadNode),
+            Err(252) => return Err(EditError::BadKeys),
+            Err(253) => return Err(EditError::Clash),
+            Err(_) => return Err(EditError::NoMemory),
+        }
+    }
+}
+
+/// The edit of so many changes.
+fn read(bytes: &[u8], changes: usize) -> Edit {
+    let mut reader = Reader(bytes);
+    let root = reader.cid();
+    let previous = (0..changes).map(|_| reader.value()).collect();
+    let gone = reader.number();
+    let drop = (0..gone).map(|_| reader.cid()).collect();
+    let mut add = Vec::new();
+    while !reader.is_empty() {
+        add.push((reader.cid(), reader.part().to_vec()));
+    }
+    Edit { root, add, drop, previous }
+}

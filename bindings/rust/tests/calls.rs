@@ -1,0 +1,340 @@
+//! The calls against published values, and against plain maps with trees from scratch.
+use std::collections::{BTreeMap, HashMap};
+use tizulgech::*;
+
+/// A small generator: the tests need no crate.
+struct Random(u64);
+impl Random {
+    fn next(&mut self) -> u64 {
+        self.0 ^= self.0 << 13;
+        self.0 ^= self.0 >> 7;
+        self.0 ^= self.0 << 17;
+        self.0
+    }
+    fn below(&mut self, n: u64) -> u64 {
+        self.next() % n
+    }
+}
+
+fn hex(s: &str) -> Vec<u8> {
+    (0..s.len()).step_by(2).map(|i| u8::from_str_radix(&s[i..i + 2], 16).unwrap()).collect()
+}
+fn key(i: u64) -> String {
+    format!("app.bsky.feed.post/{}", &Cid::of(&i.to_be_bytes()).to_string()[20..33])
+}
+fn record(n: u64) -> Vec<u8> {
+    [b"\xa1\x64text\x58\x20".as_slice(), &Cid::of(&n.to_le_bytes()).as_bytes()[4..]].concat()
+}
+fn tid(n: u64) -> String {
+    let letters = b"234567abcdefghijklmnopqrstuvwxyz";
+    (0..13).rev().map(|i| letters[(n >> (5 * i)) as usize % 32] as char).collect()
+}
+fn scratch(records: &BTreeMap<String, Vec<u8>>) -> Cid {
+    let pairs: Vec<(&String, Cid)> = records.iter().map(|(k, r)| (k, Cid::of(r))).collect();
+    tree_root(&pairs.iter().map(|(k, c)| (k.as_str(), *c)).collect::<Vec<_>>()).unwrap().0
+}
+const DID: &str = "did:web:example.com";
+
+#[test]
+fn published() {
+    let e = Cid::of(tree::EMPTY_NODE);
+    assert_eq!(e.to_string(), tree::EMPTY_ROOT);
+    assert_eq!(tree::EMPTY_ROOT.parse(), Ok(e));
+    assert_eq!("".parse::<Cid>(), Err(CidFault::BadLength));
+    assert_eq!(tree::EMPTY_ROOT.replacen('b', "B", 1).parse::<Cid>(), Err(CidFault::BadPrefix));
+    assert_eq!(Cid::from_bytes([0; 36]), None);
+    assert_eq!(Cid::from_bytes(*e.as_bytes()), Some(e));
+    for (key, want) in [("", 0), ("asdf", 0), ("blue", 1), ("2653ae71", 0), ("88bfafc7", 2), ("2a92d355", 4), ("884976f5", 6), ("app.bsky.feed.post/454397e440ec", 4), ("app.bsky.feed.post/9adeb165882c", 8)] {
+        assert_eq!(layer(key), want, "{key}");
+    }
+    assert_eq!(check_record(&hex("a26162f6626161f5")), Ok(()));
+    assert_eq!(check_record(&hex("a2626161f56162f6")), Err(RecordFault::KeyOrder));
+    assert_eq!(check_record(&vec![0x81; 1_000_000]), Err(RecordFault::TooDeep));
+    assert_eq!(check_record(&[]), Err(RecordFault::Truncated));
+    assert!(is_key("a") && !is_key("") && !is_key("k".repeat(1025)) && is_repository_key("a.b.c/d") && !is_repository_key("a/b/c"));
+}
+
+#[test]
+fn published_roots() {
+    let mut count = 0;
+    for line in include_str!("vectors.txt").lines() {
+        let mut words = line.split_whitespace();
+        let (root, value): (Cid, Cid) = (words.next().unwrap().parse().unwrap(), words.next().unwrap().parse().unwrap());
+        let pairs: Vec<(&str, Cid)> = words.map(|k| (k, value)).collect();
+        assert_eq!(tree_root(&pairs).unwrap().0, root);
+        // the same one by one, from the last
+        let mut blocks = HashMap::from([(tree::EMPTY_ROOT.parse().unwrap(), tree::EMPTY_NODE.to_vec())]);
+        let mut now: Cid = tree::EMPTY_ROOT.parse().unwrap();
+        for (key, value) in pairs.iter().rev() {
+            now = change(&mut blocks, |b| tree::put(from(b), &now, key, value).unwrap()).0;
+        }
+        assert_eq!(now, root);
+        count += 1;
+    }
+    assert_eq!(count, 11);
+    let e = Cid::of(b"x");
+    assert_eq!(tree_root(&[("b", e), ("a", e)]), Err(TreeFault::NotAscending));
+}
+
+type Nodes = HashMap<Cid, Vec<u8>>;
+
+fn change(nodes: &mut Nodes, edit: impl FnOnce(&Nodes) -> tree::Edit) -> (Cid, Vec<Option<Cid>>) {
+    let edit = edit(nodes);
+    for cid in &edit.drop {
+        assert!(nodes.remove(cid).is_some());
+    }
+    for (cid, node) in edit.add {
+        assert_eq!(cid, Cid::of(&node));
+        assert!(nodes.insert(cid, node).is_none());
+    }
+    (edit.root, edit.previous)
+}
+
+/// What a host's map of nodes gives.
+fn from(nodes: &Nodes) -> impl FnMut(&Cid) -> Result<Option<Vec<u8>>, ()> + '_ {
+    |cid| Ok(nodes.get(cid).cloned())
+}
+
+/// Random batches of all kinds: the repository is the plain map, and its root that of the tree from scratch.
+#[test]
+fn random_batches() {
+    let mut random = Random(0x9e3779b97f4a7c15);
+    for _ in 0..20 {
+        let mut repository = Repository::open(5000).unwrap();
+        let mut plain: BTreeMap<String, Vec<u8>> = BTreeMap::new();
+        let (mut number, mut commit) = (0, None);
+        for batch in 0..40u64 {
+            let (mut next, mut refused) = (plain.clone(), None);
+            let made: Vec<(u64, String, Vec<u8>)> = (0..random.below(8)).map(|_| (random.below(4), key(random.below(60)), record(random.below(50)))).collect();
+            for (place, (kind, key, record)) in made.iter().enumerate() {
+                let there = next.contains_key(key);
+                let fault = match kind {
+                    1 if there => Some(BatchFault::KeyExists),
+                    2 | 3 if !there => Some(BatchFault::NoSuchKey),
+                    _ => None,
+                };
+                if let Some(fault) = fault {
+                    refused = Some(BatchError { place, fault });
+                    break;
+                }
+                if *kind == 3 { next.remove(key); } else { next.insert(key.clone(), record.clone()); }
+            }
+            if made.is_empty() {
+                refused = Some(BatchError { place: 0, fault: BatchFault::EmptyBatch });
+            }
+            let writes: Vec<Write> = made.iter().map(|(kind, key, record)| match kind { 0 => Write::Put(key, record), 1 => Write::Create(key, record), 2 => Write::Update(key, record), _ => Write::Delete(key) }).collect();
+            let before = repository.root();
+            match repository.apply(Stamp { did: DID, rev: &tid(batch + 1) }, &writes) {
+                Ok(applied) => {
+                    assert_eq!(refused, None);
+                    plain = next;
+                    number += writes.len() as u64;
+                    assert_eq!((applied.previous, applied.root), (before, scratch(&plain)));
+                    commit = Some(applied.commit);
+                }
+                Err(error) => assert_eq!(Some(error), refused),
+            }
+            assert_eq!((repository.root(), repository.number(), repository.commit()), (scratch(&plain), number, commit));
+            let key = key(random.below(60));
+            assert_eq!(repository.get(&key).unwrap().as_ref(), plain.get(&key));
+            let proof = repository.prove(&key).unwrap();
+            assert_eq!(proof.verify(&repository.root(), &key), Ok(plain.get(&key).map(|r| Cid::of(r))));
+            let from = format!("app.bsky.feed.post/{}", random.below(10));
+            let want: Vec<(Vec<u8>, Cid)> = plain.range(from.clone()..).take(5).map(|(k, r)| (k.clone().into_bytes(), Cid::of(r))).collect();
+            assert_eq!(repository.list(&from, 5).unwrap(), want);
+        }
+        assert!(repository.pairs("").eq(plain.iter().map(|(k, r)| (k.clone().into_bytes(), Cid::of(r)))));
+        let car = repository.car().unwrap();
+        assert!(car.windows(36).any(|w| w == commit.unwrap().as_bytes()));
+    }
+}
+
+#[test]
+fn each_fault() {
+    let mut repository = Repository::open(3).unwrap();
+    let (k, r) = ("a.b.c/d", &b"\xa0"[..]);
+    let mut fault = |rev: &str, did: &str, writes: &[Write]| repository.apply(Stamp { did, rev }, writes).unwrap_err();
+    let at = |place, fault| BatchError { place, fault };
+    assert_eq!(fault(&tid(1), DID, &[]), at(0, BatchFault::EmptyBatch));
+    assert_eq!(fault(&tid(1), "did", &[Write::Put(k, r)]), at(0, BatchFault::BadDid));
+    assert_eq!(fault("1", DID, &[Write::Put(k, r)]), at(0, BatchFault::BadRev));
+    assert_eq!(fault(&tid(1), DID, &[Write::Put(k, r), Write::Put("a", r)]), at(1, BatchFault::BadKey));
+    assert_eq!(fault(&tid(1), DID, &[Write::Put(k, b"\xf5")]), at(0, BatchFault::NotAMap));
+    assert_eq!(fault(&tid(1), DID, &[Write::Put(k, b"\xa1")]), at(0, BatchFault::BadRecord(RecordFault::Truncated)));
+    assert_eq!(fault(&tid(1), DID, &[Write::Put(k, &vec![0; 1_048_577])]), at(0, BatchFault::RecordSize));
+    assert_eq!(fault(&tid(1), DID, &[Write::Update(k, r)]), at(0, BatchFault::NoSuchKey));
+    assert_eq!(fault(&tid(1), DID, &[Write::Put(k, r); 4]), at(3, BatchFault::WritesFull));
+    assert_eq!(at(1, BatchFault::BadRecord(RecordFault::KeyOrder)).to_string(), "write 1: the record is not DAG-CBOR: keys of a map that are out of order or stand twice");
+    assert_eq!(repository.number(), 0);
+    repository.apply(Stamp { did: DID, rev: &tid(5) }, &[Write::Create(k, r)]).unwrap();
+    let again = repository.apply(Stamp { did: DID, rev: &tid(5) }, &[Write::Put(k, r)]).unwrap_err();
+    assert_eq!(again, at(0, BatchFault::RevOrder));
+    assert_eq!(Repository::open(0).unwrap_err(), OpenError::Limit);
+    assert_eq!(Repository::open(1_048_577).unwrap_err(), OpenError::Limit);
+}
+
+/// The file of a list of puts is that of the repository.
+#[test]
+fn files() {
+    let records: Vec<(String, Vec<u8>)> = (0..500).map(|i| (key(i), record(i % 100))).collect();
+    let writes: Vec<Write> = records.iter().map(|(k, r)| Write::Put(k, r)).collect();
+    let stamp = Stamp { did: DID, rev: "3jzfcijpj2z2a" };
+    let mut repository = Repository::open(1000).unwrap();
+    repository.apply(stamp, &writes).unwrap();
+    let file = repository.car().unwrap();
+    assert_eq!(file, listing_car(stamp, &records).unwrap());
+    assert_eq!(repository.car_length().unwrap(), file.len() as u64);
+    let mut written = Vec::new();
+    assert_eq!(repository.write_car(&mut written).unwrap(), file.len() as u64);
+    assert_eq!(written, file);
+    for room in [1, 100, 4096, file.len(), file.len() + 1] {
+        let (mut part, mut parts) = (vec![0; room], Vec::new());
+        while parts.len() < file.len().min(50 * room) {
+            let count = repository.car_part(parts.len() as u64, &mut part).unwrap();
+            parts.extend_from_slice(&part[..count]);
+        }
+        assert_eq!(parts, file[..parts.len()]);
+    }
+    assert_eq!(repository.car_part(file.len() as u64, &mut [0; 10]).unwrap(), 0);
+    assert_eq!(repository.car_part(u64::MAX, &mut [0; 10]).unwrap(), 0);
+    assert_eq!(listing_car(stamp, &[("bad", b"\xa0")]), Err(TreeFault::NotBuilt));
+    // a proof with a byte changed proves nothing
+    let root = repository.root();
+    let mut proof = repository.prove(key(7)).unwrap();
+    assert!(proof.verify(&root, key(7)).unwrap().is_some());
+    proof.nodes.last_mut().unwrap()[0] ^= 1;
+    assert_eq!(proof.verify(&root, key(7)), Err(ProofFault::BlockMissing));
+    assert_eq!(Proof::default().verify(&root, ""), Err(ProofFault::KeyLength));
+}
+
+/// Puts and deletes over nodes that the host keeps leave exactly the nodes of the tree from scratch.
+#[test]
+fn edits() {
+    let mut random = Random(7);
+    let mut root: Cid = tree::EMPTY_ROOT.parse().unwrap();
+    let mut nodes = HashMap::from([(root, tree::EMPTY_NODE.to_vec())]);
+    let mut plain: BTreeMap<String, Cid> = BTreeMap::new();
+    for i in 0..3000u64 {
+        let key = key(random.below(400));
+        let before = plain.get(&key).copied();
+        let edited = if random.below(5) < 3 {
+            let value = Cid::of(&i.to_le_bytes());
+            plain.insert(key.clone(), value);
+            change(&mut nodes, |n| tree::put(from(n), &root, &key, &value).unwrap())
+        } else {
+            plain.remove(&key);
+            change(&mut nodes, |n| tree::delete(from(n), &root, &key).unwrap())
+        };
+        assert_eq!(edited.1, [before]);
+        root = edited.0;
+        assert_eq!((root, nodes.len()), of_scratch(&plain));
+        assert_eq!(tree::get(from(&nodes), &root, &key).unwrap(), plain.get(&key).copied());
+    }
+    let none = |_: &Cid| Ok::<_, ()>(None);
+    assert_eq!(tree::put(none, &root, "a", &root), Err(tree::EditError::Missing(root)));
+    assert_eq!(tree::put(none, &root, "", &root), Err(tree::EditError::BadKeys));
+    assert_eq!(tree::put(|_: &Cid| Ok::<_, ()>(Some(vec![1])), &root, "a", &root), Err(tree::EditError::BadNode));
+    assert_eq!(tree::put(|_: &Cid| Err("no database"), &root, "a", &root), Err(tree::EditError::Source("no database")));
+}
+
+fn of_scratch(plain: &BTreeMap<String, Cid>) -> (Cid, usize) {
+    let pairs: Vec<(&str, Cid)> = plain.iter().map(|(k, v)| (k.as_str(), *v)).collect();
+    tree_root(&pairs).unwrap()
+}
+
+/// Batches over nodes that the host keeps.
+#[test]
+fn batches_of_changes() {
+    let mut random = Random(99);
+    let mut root: Cid = tree::EMPTY_ROOT.parse().unwrap();
+    let mut nodes = HashMap::from([(root, tree::EMPTY_NODE.to_vec())]);
+    let mut plain: BTreeMap<String, Cid> = BTreeMap::new();
+    for turn in 0..200u64 {
+        let drawn: BTreeMap<String, Option<Cid>> = (0..random.below(30))
+            .map(|i| (key(random.below(300)), (random.below(2) == 0).then(|| Cid::of(&(turn * 100 + i).to_le_bytes()))))
+            .collect();
+        let changes: Vec<tree::Change> = drawn.iter().map(|(k, v)| tree::Change { key: k.as_bytes(), value: *v }).collect();
+        let before: Vec<Option<Cid>> = drawn.keys().map(|k| plain.get(k).copied()).collect();
+        let edited = change(&mut nodes, |n| tree::apply(from(n), &root, &changes).unwrap());
+        assert_eq!(edited.1, before);
+        root = edited.0;
+        for (key, value) in drawn {
+            match value {
+                Some(value) => plain.insert(key, value),
+                None => plain.remove(&key),
+            };
+        }
+        assert_eq!((root, nodes.len()), of_scratch(&plain));
+    }
+    let two = [tree::Change { key: b"b", value: None }, tree::Change { key: b"a", value: None }];
+    assert_eq!(tree::apply(from(&nodes), &root, &two), Err(tree::EditError::BadKeys));
+}
+
+/// Each node that an edit asks for missing in turn: the fault has its CID, and with it the edit goes through.
+#[test]
+fn each_node_missing() {
+    let mut root: Cid = tree::EMPTY_ROOT.parse().unwrap();
+    let mut nodes = HashMap::from([(root, tree::EMPTY_NODE.to_vec())]);
+    for i in 0..200u64 {
+        root = change(&mut nodes, |n| tree::put(from(n), &root, key(i), &Cid::of(b"")).unwrap()).0;
+    }
+    for i in 0..40u64 {
+        let (mut asked, whole) = (Vec::new(), from(&nodes));
+        let mut whole = whole;
+        let edit = tree::delete(
+            |cid: &Cid| {
+                asked.push(*cid);
+                whole(cid)
+            },
+            &root,
+            key(i),
+        )
+        .unwrap();
+        assert_eq!(edit.previous, [Some(Cid::of(b""))]);
+        assert!(edit.drop.iter().all(|cid| asked.contains(cid)));
+        for gone in &asked {
+            let some = |cid: &Cid| Ok::<_, ()>(nodes.get(cid).filter(|_| cid != gone).cloned());
+            assert_eq!(tree::delete(some, &root, key(i)), Err(tree::EditError::Missing(*gone)));
+            // Another node under its CID is noticed.
+            let wrong = |cid: &Cid| Ok::<_, ()>(if cid == gone { Some(tree::EMPTY_NODE.to_vec()) } else { nodes.get(cid).cloned() });
+            assert!(tree::delete(wrong, &root, key(i)).is_err());
+        }
+    }
+}
+
+/// Stamps and commits without a repository are those of one.
+#[test]
+fn stamps() {
+    let stamp = Stamp { did: DID, rev: "3jzfcijpj2z2a" };
+    assert_eq!(check_stamp(None, stamp), Ok(()));
+    assert_eq!(check_stamp(Some("3jzfcijpj2z22"), stamp), Ok(()));
+    assert_eq!(check_stamp(Some(stamp.rev), stamp), Err(StampFault::RevOrder));
+    assert_eq!(check_stamp(None, Stamp { did: "did:", ..stamp }), Err(StampFault::BadDid));
+    assert_eq!(check_stamp(None, Stamp { rev: "1", ..stamp }), Err(StampFault::BadRev));
+    let mut repository = Repository::open(10).unwrap();
+    let applied = repository.apply(stamp, &[Write::Put("a.b.c/d", b"\xa0")]).unwrap();
+    let commit = commit_bytes(stamp, &applied.root).unwrap();
+    assert_eq!(Cid::of(&commit), applied.commit);
+    assert!(check_record(&commit).is_ok() && is_did(DID) && is_tid(stamp.rev));
+}
+
+/// One repository a thread, beside calls without state.
+#[test]
+fn threads() {
+    std::thread::scope(|s| {
+        for t in 0..8u64 {
+            s.spawn(move || {
+                let mut repository = Repository::open(2000).unwrap();
+                let mut plain = BTreeMap::new();
+                for i in 0..300 {
+                    let (key, record) = (key(t * 1000 + i), record(i));
+                    let applied = repository.apply(Stamp { did: DID, rev: &tid(i + 1) }, &[Write::Create(&key, &record)]).unwrap();
+                    plain.insert(key, record);
+                    if i % 50 == 0 { assert_eq!(applied.root, scratch(&plain)); }
+                    let cid = Cid::of(&i.to_le_bytes());
+                    assert_eq!(cid.to_string().parse(), Ok(cid));
+                }
+            });
+        }
+    });
+}

@@ -1,0 +1,22 @@
+//! The room that a caller has.
+
+ghost use Rattle.buffers.specs.Answers.{IsHanded};
+
+/// The number of a call that did what it says.
+pub const DONE: u8 = 0;
+
+/// The number of a call whose answer has no room.
+pub const SMALL: u8 = 251;
+
+/// Copies bytes to the front of the caller's room, where they have room there, and tells how many they are.
+pub fn hand(bytes: &[u8], room: &mut [u8], size: &mut usize) -> u8
+    ensures { IsHanded result bytes.now room.old room.new size.new }
+{
+    *size = bytes.len();
+    if bytes.len() > room.len() {
+        return SMALL;
+    }
+    let (front, _) = room.split_at_mut(bytes.len());
+    front.copy_from_slice(bytes);
+    DONE
+}

@@ -1,0 +1,12 @@
+//! A CAR file in parts, and how long it is, for who can't keep a whole one in memory.
+//!
+//! [`car_length`] answers how many bytes the file of a repository has, and makes none of them. [`car_part`] answers so many of
+//! them from a place on: the parts behind one another are the file. Of what is before the part nothing is kept, and what is
+//! behind it isn't written.
+#![tactic(auto)]
+
+mod parts;
+mod window;
+
+pub use parts::{car_length, car_part};
+pub use window::Window;

@@ -1,0 +1,86 @@
+//! A proof of a change where memory is refused.
+
+use crate::fixtures::{Side, changes, tree_of};
+use change_proofs::{ChangeFault, KeyChange, are_key_changes, verify_change};
+use cid::Cid;
+use cid::digests::Toy;
+use refusing::Refusing;
+use std::alloc::{AllocError, Global};
+
+/// Memory that refuses requests.
+type Heap<'h> = &'h Refusing<Global>;
+
+/// What a proof says, by how it ended; none where not all memory is back.
+fn is_shown_without<'h>(
+    heap: Heap<'h>,
+    before: Cid,
+    after: Cid,
+    blocks: &[Vec<u8>],
+    changes: &[KeyChange<'_>],
+    request: u64,
+) -> Option<bool> {
+    let live = heap.live();
+    if !are_key_changes(changes) {
+        return None;
+    }
+    heap.refuse(request);
+    let answer = verify_change::<Toy, 2, Heap<'h>, Vec<u8>>(heap, before, after, blocks, changes);
+    let is_shown = match answer {
+        Ok(()) => true,
+        Err(ChangeFault::NoMemory) => false,
+        Err(_) => return None,
+    };
+    if heap.live() == live {
+        Some(is_shown)
+    } else {
+        None
+    }
+}
+
+/// Whether it ends for want of memory alone, where each request in turn is refused, and is done once that is none of its own.
+fn is_shown_at_last(
+    heap: &Refusing<Global>,
+    before: Cid,
+    after: Cid,
+    blocks: &[Vec<u8>],
+    changes: &[KeyChange<'_>],
+) -> bool {
+    for request in 1..9_999u64 {
+        match is_shown_without(heap, before, after, blocks, changes, request) {
+            Some(true) => return 30 < request && heap.refused() == request - 1,
+            Some(false) if heap.refused() == request => {}
+            _ => return false,
+        }
+    }
+    false
+}
+
+/// The bytes of the tree after, and both roots.
+fn proof(alloc: Global) -> Option<(Cid, Cid, Vec<Vec<u8>>)> {
+    let before = tree_of(alloc, Side::Before)?;
+    let after = tree_of(alloc, Side::After)?;
+    let mut lists = Vec::new(alloc);
+    for block in &after.blocks {
+        lists
+            .push(Vec::from_slice(alloc, block.bytes()).ok()?)
+            .ok()?;
+    }
+    Some((before.root, after.root, lists))
+}
+
+/// Whether all of this holds.
+fn is_shown_without_memory(alloc: Global) -> bool {
+    let heap = Refusing::new(alloc);
+    let changes: Result<Vec<KeyChange<'static>>, AllocError> = changes(alloc);
+    match (proof(alloc), changes) {
+        (Some((before, after, blocks)), Ok(changes)) => {
+            is_shown_at_last(&heap, before, after, &blocks, &changes)
+        }
+        _ => false,
+    }
+}
+
+#[test]
+fn a_proof_without_memory(rt: HostRuntime) {
+    assert!(rt; is_shown_without_memory(rt.alloc()));
+}

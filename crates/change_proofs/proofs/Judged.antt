@@ -1,0 +1,166 @@
+-- What the code answers over given blocks is the verdict.
+use Rattle.std.proofs.Common.{◌≡◌, ℕ, suc, ◌/◌, ◌≤◌, max, Bool, true, false, cond, List, [], ◌∷◌, map, refl, sym, ap, subst, ◌∙◌, arith, Option, option_map, Result, Ok, Err}
+use Rattle.std.specs.Prelude.{IsSome}
+use Rattle.std.specs.Arc.{arc_value}
+use Rattle.std.proofs.Math.Path.{fun_ext}
+use Rattle.std.specs.Str.{bytes_eq}
+use Rattle.std.specs.declared.option.Option.TheVariants.{Some, None}
+use Rattle.std.specs.declared.sync.Arc.{Arc}
+use Rattle.spec.specs.Cid.{cid, IsDigest}
+use Rattle.spec.specs.Reading.{◌>>=◌, ensure}
+use Rattle.spec.specs.Layer.{layer}
+use Rattle.spec.specs.NodeFormat.{Shape, LastLink, MoreLinks}
+use Rattle.spec.proofs.PathNodes.{top_layer-le}
+use Rattle.edit_laws.specs.ShapeEdit.{layer_of_shape}
+use Rattle.edit_laws.specs.Sources.{shown_by}
+use Rattle.lookups.specs.Maps.{first_of}
+use Rattle.lookups.specs.Steps.{layers, nodes_given}
+use Rattle.batch_laws.specs.Batch.{Change, AreAscending, AreKeyed}
+use Rattle.batch_laws.specs.Links.{Log, Top, batch_from}
+use Rattle.edit.specs.Batches.{answer_of as answer_over, put_layers as edit_put_layers}
+use Rattle.edit.specs.Budgets.{most_from}
+use Rattle.edit.specs.Stops.{IsUnreached, at_top}
+use Rattle.edit.specs.Tops.{layers_needed as edit_layers_needed}
+use Rattle.change_laws.specs.Told.{KeyChange, undone}
+use Rattle.change_laws.specs.Given.{Step, ChangeFault as GivenFault, OtherRoot as HasOtherRoot, given_at, put_layers, layers_needed, batch_given}
+use Rattle.change_laws.specs.Verdict.{are_told, values_given, change_verdict}
+use Rattle.change_laws.specs.Laws.{answer_of}
+use Rattle.change_laws.proofs.GivenSteps.{given-is_batch}
+use Rattle.change_laws.proofs.Lacking.{IsAnswered}
+use Rattle.change_laws.proofs.Showing.{verdict-sound}
+use Rattle.change_proofs.specs.Verdicts.{SaysOf, IsSaidOver, IsVerdict, IsRight, values_from}
+use Rattle.change_proofs.specs.declared.change_fault.ChangeFault.{ChangeFault}
+use Rattle.change_proofs.specs.declared.change_fault.ChangeFault.TheVariants.{BlockMissing, NotTree, OtherValue, OtherRoot, Clash, NoMemory}
+use Rattle.change_proofs.proofs.Looked.{values-looked}
+
+-- ---- given blocks as a source
+
+first-is : {A : Type 0} (digest : List ℕ → List ℕ) (bs : List (Arc (List ℕ) A)) (c : List ℕ)
+    → option_map arc_value (first_of digest bs c) ≡ given_at digest (map arc_value bs) c
+first-is digest [] c = refl
+first-is digest (b ∷ bs) c = at (bytes_eq (cid digest (arc_value b)) c) (first-is digest bs c)
+  where
+    at : (t : Bool) → option_map arc_value (first_of digest bs c) ≡ given_at digest (map arc_value bs) c
+        → option_map arc_value (cond t (Some b) (first_of digest bs c))
+        ≡ cond t (Some (arc_value b)) (given_at digest (map arc_value bs) c)
+    at true h = refl
+    at false h = h
+
+gives-same : {A : Type 0} (digest : List ℕ → List ℕ) (bs : List (Arc (List ℕ) A))
+    → ◌≡◌ {A = List ℕ → Option (List ℕ)} (λ c. option_map arc_value (first_of digest bs c))
+    (given_at digest (map arc_value bs))
+gives-same digest bs = fun_ext (λ c. first-is digest bs c)
+
+shows-same : {A : Type 0} (digest : List ℕ → List ℕ) (bs : List (Arc (List ℕ) A))
+    → nodes_given (first_of digest bs) ≡ shown_by (given_at digest (map arc_value bs))
+shows-same digest bs = ap shown_by (gives-same digest bs)
+
+-- ---- layers
+
+puts-same : (lay : List ℕ → ℕ) (cs : List Change) → edit_put_layers lay cs ≡ put_layers lay cs
+puts-same lay [] = refl
+puts-same lay ((key, None) ∷ cs) = ap (max 0) (puts-same lay cs)
+puts-same lay ((key, Some v) ∷ cs) = ap (max (suc (lay key))) (puts-same lay cs)
+
+needed-same : (lay : List ℕ → ℕ) (w : ℕ) (o : Option Shape) → edit_layers_needed lay w o ≡ layers_needed lay w o
+needed-same lay w None = refl
+needed-same lay w (Some s) = refl
+
+layer-fits : (digest : List ℕ → List ℕ) (bits : ℕ) → IsDigest digest → (s : Shape)
+    → layer_of_shape (layer digest bits) s ≤ 256 / bits
+layer-fits digest bits fits (LastLink l) = omega arith
+layer-fits digest bits fits (MoreLinks l e r) = let a = top_layer-le digest bits fits (e ∷ []) in omega (arith, a)
+
+-- ---- the batch over given blocks
+
+answer-same : {A : Type 0} (digest : List ℕ → List ℕ) (bits : ℕ) (bs : List (Arc (List ℕ) A)) (cs : List Change)
+    (root : List ℕ)
+    → answer_over digest bits (first_of digest bs) cs root ≡ answer_of (batch_given digest bits (map arc_value bs) cs root)
+answer-same digest bits bs cs root =
+    let lay = layer digest bits in
+    let gives = given_at digest (map arc_value bs) in
+    let shows = shown_by gives in
+    ap (λ (s : List ℕ → Option Shape).
+    batch_from digest s lay (edit_layers_needed lay (edit_put_layers lay cs) (s root)) cs root) (shows-same digest bs)
+    ∙ ap (λ w. batch_from digest shows lay (edit_layers_needed lay w (shows root)) cs root) (puts-same lay cs)
+    ∙ ap (λ n. batch_from digest shows lay n cs root) (needed-same lay (put_layers lay cs) (shows root))
+    ∙ sym (given-is_batch digest gives lay (layers_needed lay (put_layers lay cs) (shows root)) cs root)
+
+-- an answer says what the steps of a verdict come to
+steps-say : (step : Step Top) (vs ws : List (Option (List ℕ))) (cs : List KeyChange) (before : List ℕ)
+    (r : Result (Unit {0}) GivenFault) → (IsAnswered (answer_of step) → ws ≡ vs) → SaysOf (answer_of step) vs cs before r
+    → (step >>= (λ old. are_told 0 ws cs >>= (λ told. ensure (bytes_eq old.0.0 before) HasOtherRoot))) ≡ r
+steps-say (Ok x) vs ws cs before r q h =
+    ap (λ us. are_told 0 us cs >>= (λ told. ensure (bytes_eq x.0.0 before) HasOtherRoot)) (q tt) ∙ h
+steps-say (Err fault) vs ws cs before r q h = absurd h
+
+module _ {A : Type 0} (digest : List ℕ → List ℕ) (bits : ℕ) (fits : IsDigest digest) (before after : List ℕ)
+    (bs : List (Arc (List ℕ) A)) (cs : List KeyChange) (keyed : AreAscending (undone cs)) where
+  abbrev given : List (List ℕ)
+  given = map arc_value bs
+
+  abbrev shows : List ℕ → Option Shape
+  shows = shown_by (given_at digest given)
+
+  abbrev values : List (Option (List ℕ))
+  values = values_from shows (layers bits) after cs
+
+  values-same : IsAnswered (answer_of (batch_given digest bits given (undone cs) after))
+      → values_given digest bits given (undone cs) after ≡ values
+  values-same h =
+      let lay = layer digest bits in
+      let most : layers bits ≡ suc (256 / bits) = omega arith in
+      let n = layers_needed lay (put_layers lay (undone cs)) (shows after) in
+      let answered = subst (λ (a : Option (Top × Log)). IsAnswered a)
+      (given-is_batch digest (given_at digest given) lay n (undone cs) after) h in
+      values-looked digest shows lay n cs after (256 / bits) (layer-fits digest bits fits) keyed answered
+      ∙ sym (ap (λ m. values_from shows m after cs) most)
+
+  says-is : (r : Result (Unit {0}) GivenFault)
+      → SaysOf (answer_over digest bits (first_of digest bs) (undone cs) after)
+      (values_from (nodes_given (first_of digest bs)) (layers bits) after cs) cs before r
+      → change_verdict digest bits before after given cs ≡ r
+  unfolding change_verdict
+  says-is r h =
+      let step = batch_given digest bits given (undone cs) after in
+      let a = subst (λ (s : List ℕ → Option Shape).
+      SaysOf (answer_over digest bits (first_of digest bs) (undone cs) after) (values_from s (layers bits) after cs) cs before r)
+      (shows-same digest bs) h in
+      let b = subst (λ (o : Option (Top × Log)). SaysOf o values cs before r)
+      (answer-same digest bits bs (undone cs) after) a in
+      steps-say step values (values_given digest bits given (undone cs) after) cs before r values-same b
+
+  fault-is : {D : Type 0} (fault : ChangeFault D A)
+      → IsSaidOver digest bits (first_of digest bs) before after cs (Err fault)
+      → IsVerdict digest bits before after given cs (Err fault)
+  fault-is (BlockMissing c) h = (
+    sym (first-is digest bs c) ∙ ap (option_map arc_value) h.0,
+    sym (answer-same digest bits bs (undone cs) after) ∙ h.1,
+  )
+  fault-is NotTree h =
+      subst (λ (o : Option (Top × Log)). IsUnreached (most_from (layer digest bits) (undone cs) (shows after)) (at_top o))
+      (answer-same digest bits bs (undone cs) after)
+      (subst (λ (s : List ℕ → Option Shape). IsUnreached (most_from (layer digest bits) (undone cs) (s after))
+      (at_top (answer_over digest bits (first_of digest bs) (undone cs) after))) (shows-same digest bs) h)
+  fault-is (OtherValue place) h = says-is _ h
+  fault-is OtherRoot h = says-is _ h
+  fault-is (Clash pair) h =
+      subst (λ (o : Option (Top × Log)). IsSome o) (answer-same digest bits bs (undone cs) after) h
+  fault-is NoMemory h = tt
+
+  pub verdict-is : {D : Type 0} (result : Result (Unit {0}) (ChangeFault D A))
+      → IsSaidOver digest bits (first_of digest bs) before after cs result
+      → IsVerdict digest bits before after given cs result
+  verdict-is (Ok x) h = says-is _ h
+  verdict-is (Err fault) h = fault-is fault h
+
+-- ---- what the verdict means
+
+module _ {D A : Type 0} (digest : List ℕ → List ℕ) (bits : ℕ) (fits : IsDigest digest) (before after : List ℕ)
+    (given : List (List ℕ)) (cs : List KeyChange) (keyed : AreKeyed (undone cs)) where
+  pub verdict-right : (result : Result (Unit {0}) (ChangeFault D A)) → IsVerdict digest bits before after given cs result
+      → IsRight digest bits before after given cs result
+  verdict-right (Ok x) h new are is free =
+      verdict-sound digest bits fits before new are given free cs keyed
+      (subst (λ a. change_verdict digest bits before a given cs ≡ Ok tt) is h)
+  verdict-right (Err fault) h new are is free = tt

@@ -1,0 +1,7 @@
+pub mod Lists
+pub mod Testing
+pub mod Telling
+pub mod Looked
+pub mod Judged
+pub mod Saying
+pub mod Wholes

@@ -1,0 +1,72 @@
+-- The test of changes, from the last one on.
+use Rattle.std.proofs.Common.{◌≡◌, ℕ, zero, suc, ◌+◌, ◌<◌, Bool, true, false, ◌&&◌, List, [], ◌∷◌, length, get_or, drop, refl, sym, ap, ◌∙◌, arith}
+use Rattle.std.proofs.lemmas.List.{drop-map}
+use Rattle.std.proofs.Math.Seq.{drop-cons}
+use Rattle.std.specs.Ordering.{is_gt}
+use Rattle.std.specs.declared.cmp.Ordering.{Ordering}
+use Rattle.std.specs.declared.cmp.Ordering.TheVariants.{Less, Equal, Greater}
+use Rattle.spec.specs.NodeFormat.{is_key}
+use Rattle.spec.proofs.Bools.{both}
+use Rattle.edit_laws.specs.Order.{order}
+use Rattle.batch_laws.specs.Batch.{Change}
+use Rattle.edit.specs.Batches.{have_keys, are_changes}
+use Rattle.edit.specs.Places.{is_greater, are_later, are_ascending}
+use Rattle.edit.proofs.Placing.{greater-than, later-than, later-all, all-later}
+use Rattle.change_laws.specs.Told.{KeyChange, undone}
+
+all-true : (a b k d : Bool) → a ≡ true → b ≡ true → k ≡ true → d ≡ true → ((a && b) && (k && d)) ≡ true
+all-true true true true true h i j l = refl
+all-true false b k d h i j l = absurd cc
+all-true true false k d h i j l = absurd cc
+all-true true true false d h i j l = absurd cc
+all-true true true true false h i j l = absurd cc
+
+next-case : (c n : Change) (ns : List Change) (b : Bool) → are_changes (n ∷ ns) ≡ true → is_key c.0 ≡ true
+    → is_greater (order n.0 c.0) ≡ b → b ≡ are_changes (c ∷ n ∷ ns)
+next-case c n ns true h k g =
+    let parts = both (are_ascending (n ∷ ns)) (have_keys (n ∷ ns)) h in
+    let order_of = both (are_later n.0 ns) (are_ascending ns) parts.0 in
+    let later = later-than c.0 n.0 ns (greater-than (order n.0 c.0) g) (later-all n.0 ns order_of.0) in
+    let all : are_later c.0 (n ∷ ns) ≡ true = ap (λ x. x && are_later c.0 ns) g ∙ all-later c.0 ns later in
+    sym (all-true (are_later c.0 (n ∷ ns)) (are_ascending (n ∷ ns)) (is_key c.0) (have_keys (n ∷ ns)) all parts.0 k parts.1)
+next-case c n ns false h k g =
+    sym (ap (λ x. ((x && are_later c.0 ns) && are_ascending (n ∷ ns)) && (is_key c.0 && have_keys (n ∷ ns))) g)
+
+pub next-one : (c n : Change) (ns : List Change) (b : Bool) → are_changes (n ∷ ns) ≡ true → is_key c.0 ≡ true
+    → b ≡ is_greater (order n.0 c.0) → b ≡ are_changes (c ∷ n ∷ ns)
+next-one c n ns b h k g = g ∙ next-case c n ns (is_greater (order n.0 c.0)) h k refl
+
+tail-case : (a b k d : Bool) → (b && d) ≡ false → ((a && b) && (k && d)) ≡ false
+tail-case true true true true h = absurd cc
+tail-case true true true false h = refl
+tail-case true true false d h = refl
+tail-case true false k d h = refl
+tail-case false b k d h = refl
+
+-- what some changes at the end aren't, all of them aren't
+none-of : (cs : List Change) (i : ℕ) → are_changes (drop i cs) ≡ false → are_changes cs ≡ false
+none-of cs zero h = h
+none-of [] (suc i) h = absurd cc
+none-of (c ∷ cs) (suc i) h =
+    tail-case (are_later c.0 cs) (are_ascending cs) (is_key c.0) (have_keys cs) (none-of cs i h)
+
+pub gt-is : (o : Ordering) → is_gt o ≡ is_greater o
+gt-is Less = refl
+gt-is Equal = refl
+gt-is Greater = refl
+
+-- ---- undone changes
+
+-- what some changes at the end aren't, all of them aren't
+pub none-undone : (cs : List KeyChange) (i : ℕ) → are_changes (undone (drop i cs)) ≡ false
+    → are_changes (undone cs) ≡ false
+none-undone cs i h =
+    none-of (undone cs) i (ap are_changes (drop-map (λ (c : KeyChange). (c.key, c.before)) i cs) ∙ h)
+
+-- one more to the front
+pub one-more : (cs : List KeyChange) (i : ℕ) (c : KeyChange) (b : Bool) → i < length cs → c ≡ get_or cs i c
+    → b ≡ are_changes (undone (c ∷ drop (i + 1) cs)) → b ≡ are_changes (undone (drop i cs))
+one-more cs i c b l is h =
+    let next : i + 1 ≡ suc i = omega arith in
+    let e : drop i cs ≡ c ∷ drop (suc i) cs = drop-cons cs i c l ∙ ap (λ t. t ∷ drop (suc i) cs) (sym is) in
+    h ∙ ap (λ n. are_changes (undone (c ∷ drop n cs))) next ∙ sym (ap (λ t. are_changes (undone t)) e)

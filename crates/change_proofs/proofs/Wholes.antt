@@ -1,0 +1,80 @@
+-- Changes that are true are shown where the nodes are given that undoing reads.
+use Rattle.std.proofs.Common.{◌≡◌, ℕ, suc, List, sym, ap, subst, ◌∙◌, arith, Option, Result, Ok, Err}
+use Rattle.std.specs.Prelude.{Contains}
+use Rattle.std.specs.declared.option.Option.TheVariants.{Some, None}
+use Rattle.spec.specs.Cid.{IsDigest}
+use Rattle.spec.specs.Layer.{layer}
+use Rattle.spec.specs.Tree.{Pair, top, top_layer}
+use Rattle.spec.specs.NodeFormat.{Shape, shape}
+use Rattle.spec.specs.Blocks.{ArePairs, ClashesWithNone, nodes, root as root_of}
+use Rattle.edit_laws.proofs.ShapeBridges.{layer-shape}
+use Rattle.edit_laws.proofs.Tops.{layer_of-top}
+use Rattle.edit_laws.specs.Sources.{shown_by}
+use Rattle.batch_laws.specs.Batch.{AreKeyed}
+use Rattle.batch_laws.specs.Counts.{most_reads}
+use Rattle.batch_laws.specs.Links.{Log, Top}
+use Rattle.edit.specs.Budgets.{most_from}
+use Rattle.edit.specs.Stops.{IsUnreached, at_top}
+use Rattle.edit.proofs.Bounds.{most-shown}
+use Rattle.change_laws.specs.Told.{KeyChange, undone, DifferBy}
+use Rattle.change_laws.specs.Given.{given_at, batch_given}
+use Rattle.change_laws.specs.Verdict.{change_verdict}
+use Rattle.change_laws.specs.Laws.{answer_of, change_path}
+use Rattle.change_laws.proofs.Showing.{Reached, reached, verdict-complete}
+use Rattle.change_proofs.specs.Verdicts.{IsVerdict, IsWhole, IsWant}
+use Rattle.change_proofs.specs.declared.change_fault.ChangeFault.{ChangeFault}
+use Rattle.change_proofs.specs.declared.change_fault.ChangeFault.TheVariants.{BlockMissing, NotTree, OtherValue, OtherRoot, Clash, NoMemory}
+
+some-none : {X : Type 0} (x : X) → Some x ≡ None → ⊥
+some-none x h = cc
+
+ok-err : {X Y : Type 0} (x : X) (y : Y) → ◌≡◌ {A = Result X Y} (Ok x) (Err y) → ⊥
+ok-err x y h = cc
+
+module _ (digest : List ℕ → List ℕ) (bits : ℕ) (fits : IsDigest digest) (given : List (List ℕ)) (cs : List KeyChange)
+    (keyed : AreKeyed (undone cs)) where
+  module _ (old new : List Pair) (are_old : ArePairs old) (are_new : ArePairs new)
+      (free : ClashesWithNone digest (nodes digest bits new) given) (differ : DifferBy cs old new)
+      (has : (b : List ℕ) → Contains (change_path digest bits cs new) b → Contains given b) where
+    abbrev root_after : List ℕ
+    root_after = root_of digest bits new
+
+    abbrev shows : List ℕ → Option Shape
+    shows = shown_by (given_at digest given)
+
+    is-shown : change_verdict digest bits (root_of digest bits old) root_after given cs ≡ Ok tt
+    is-shown = verdict-complete digest bits fits old new are_old are_new given free cs keyed differ has
+
+    there : Reached digest bits fits given new are_new free (undone cs)
+    there = reached digest bits fits given new are_new free (undone cs) keyed has
+
+    answer-is : answer_of (batch_given digest bits given (undone cs) root_after) ≡ Some there.x
+    answer-is = ap answer_of there.is
+
+    enough : most_from (layer digest bits) (undone cs) (shows root_after)
+        ≡ suc (most_reads (top_layer (layer digest bits) new) (undone cs))
+    enough =
+        most-shown (layer digest bits) (undone cs) (shows root_after) (shape digest (top (layer digest bits) new))
+        (top_layer (layer digest bits) new) there.top_is
+        (sym (layer-shape digest (layer digest bits) (top (layer digest bits) new) ∙ layer_of-top (layer digest bits) new))
+
+    wants : {D A : Type 0} (fault : ChangeFault D A)
+        → IsVerdict digest bits (root_of digest bits old) root_after given cs (Err fault) → IsWant fault
+    wants (BlockMissing c) h = some-none there.x (sym answer-is ∙ h.1)
+    wants NotTree h =
+        let few = there.few in
+        let most = enough in
+        subst (λ (o : Option (Top × Log)). IsUnreached (most_from (layer digest bits) (undone cs) (shows root_after)) (at_top o))
+        answer-is h (omega (arith, few, most)) (record { made = there.made; begun = tt })
+    wants (OtherValue place) h = ok-err tt _ (sym is-shown ∙ h)
+    wants OtherRoot h = ok-err tt _ (sym is-shown ∙ h)
+    wants (Clash pair) h = tt
+    wants NoMemory h = tt
+
+  pub verdict-whole : {D A : Type 0} (before after : List ℕ) (result : Result (Unit {0}) (ChangeFault D A))
+      → IsVerdict digest bits before after given cs result → IsWhole digest bits before after given cs result
+  verdict-whole before after (Ok x) h old new are_old are_new before_is after_is free differ has = tt
+  verdict-whole before after (Err fault) h old new are_old are_new before_is after_is free differ has =
+      wants old new are_old are_new free differ has fault
+      (subst (λ a. IsVerdict digest bits (root_of digest bits old) a given cs (Err fault)) after_is
+      (subst (λ b. IsVerdict digest bits b after given cs (Err fault)) before_is h))

@@ -1,0 +1,29 @@
+//! What some blocks show of a change between two roots.
+//!
+//! Who knows a repository's root before a batch and its root after it, and is told which keys changed and how, need neither
+//! believe it nor fetch the repository. [`verify_change`] undoes the changes on the nodes of the tree after them, as far as
+//! these are given, and sees whether the root before comes out. Nothing of the host that gave the blocks is trusted, but that
+//! it found no other bytes with the CID of a node of the tree after.
+//!
+//! ```text
+//! let changes = [KeyChange { key, before: None, after: Some(cid) }];
+//! if are_key_changes(&changes) {
+//!     verify_change::<Sha256, 2, _, _>(alloc, before, after, &blocks, &changes)?;
+//! }
+//! ```
+//!
+//! `told` is a change with what its key had before and has after it, `undoing` the root that comes out, `values` what the
+//! changed keys have in the tree after, `given` the blocks, and `verifying` puts these together. What a verdict is and what
+//! it means is defined in the crate `change_laws`.
+#![tactic(auto)]
+
+mod change_fault;
+mod given;
+mod told;
+mod undoing;
+mod values;
+mod verifying;
+
+pub use change_fault::ChangeFault;
+pub use told::{KeyChange, are_key_changes};
+pub use verifying::{verify_blocks, verify_change};

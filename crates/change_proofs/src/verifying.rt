@@ -1,0 +1,114 @@
+//! Whether given blocks show some changes.
+
+ghost use Rattle.std.specs.Prelude.{◌≡◌, ◌≤◌, true, map, None};
+ghost use Rattle.std.specs.Arc.{arc_value};
+ghost use Rattle.edit.specs.Batches.{are_changes as are_changes_of};
+ghost use Rattle.change_laws.specs.Told.{undone as undone_of};
+ghost use Rattle.change_proofs.specs.Verdicts.{IsJudged, judgement, told_of, IsSaidOver, IsVerdict, IsRight, IsWhole};
+
+use crate::change_fault::ChangeFault;
+use crate::given::blocks_of;
+use crate::told::KeyChange;
+use crate::undoing::root_before;
+use crate::values::other_value;
+use cid::{Block, Cid, Digest};
+use lookups::{BlockMap, Lent, Source};
+use std::alloc::Allocator;
+use std::clone::Clone;
+use std::convert::AsSlice;
+use std::sync::Arc;
+
+/// Whether the tree with the root `before` became that with the root `after` by these changes, as some nodes of the tree
+/// after show.
+pub fn verify_change<D: Digest, const B: u8, A: Allocator + Clone, K: AsSlice<u8>>(
+    alloc: A,
+    before: Cid,
+    after: Cid,
+    blocks: &[K],
+    changes: &[KeyChange<'_>],
+) -> Result<(), ChangeFault<D, A>>
+    requires least { 1 ≤ B }
+    requires changes { are_changes_of (undone_of changes.now) ≡ true }
+    ensures verdict { IsVerdict D.digest_of B before after (map K.items blocks.now)
+        changes.now result }
+
+    // Changes that are shown are true of the pairs of each tree with this root.
+    ensures right { IsRight D.digest_of B before after (map K.items blocks.now)
+        changes.now result }
+
+    // Changes that are true are shown where the nodes are given that undoing reads.
+    ensures comes { IsWhole D.digest_of B before after (map K.items blocks.now)
+        changes.now result }
+{
+    let own = blocks_of::<D, A, K>(alloc.clone()?, blocks)?;
+    verify_blocks::<D, B, A>(alloc, before, after, &own, changes)
+}
+
+/// The same over blocks whose CIDs are known.
+pub fn verify_blocks<D: Digest, const B: u8, A: Allocator + Clone>(
+    alloc: A,
+    before: Cid,
+    after: Cid,
+    blocks: &[Arc<Block<D, A>, A>],
+    changes: &[KeyChange<'_>],
+) -> Result<(), ChangeFault<D, A>>
+    requires least { 1 ≤ B }
+    requires changes { are_changes_of (undone_of changes.now) ≡ true }
+    ensures verdict { IsVerdict D.digest_of B before after (map arc_value blocks.now)
+        changes.now result }
+    ensures right { IsRight D.digest_of B before after (map arc_value blocks.now)
+        changes.now result }
+    ensures comes { IsWhole D.digest_of B before after (map arc_value blocks.now)
+        changes.now result }
+{
+    let mut source = BlockMap::new(alloc.clone()?, blocks)?;
+    verify_over::<D, B, A, BlockMap<'_, D, A>>(alloc, before, after, &mut source, changes)
+}
+
+/// The same over a source of blocks.
+fn verify_over<
+    'a,
+    D: Digest + 'a,
+    const B: u8,
+    A: Allocator + Clone + 'a,
+    S: Source<Lent<'a, D, A>>,
+>(
+    alloc: A,
+    before: Cid,
+    after: Cid,
+    src: &mut S,
+    changes: &[KeyChange<'_>],
+) -> Result<(), ChangeFault<D, A>>
+    requires least { 1 ≤ B }
+    requires changes { are_changes_of (undone_of changes.now) ≡ true }
+    ensures { IsSaidOver D.digest_of B (S.gives src.old) before after changes.now result }
+{
+    let old = root_before::<D, B, A, S>(alloc, src, after, changes)?;
+    let other = other_value::<D, B, A, S>(src, after, changes);
+    judged(other, &old, &before)
+}
+
+/// What is to be said where the key of the change at a place has another value, or each the one that is told, and the changes
+/// undone lead to this root.
+fn judged<D: Digest, A: Allocator>(
+    other: Option<usize>,
+    old: &Cid,
+    before: &Cid,
+) -> Result<(), ChangeFault<D, A>>
+    ensures { IsJudged (judgement (told_of other) old.now before.now) result }
+{
+    match other {
+        Some(place) => Err(ChangeFault::OtherValue(place)),
+        None => compared(old, before),
+    }
+}
+
+/// What is to be said where the changes undone lead to this root.
+fn compared<D: Digest, A: Allocator>(old: &Cid, before: &Cid) -> Result<(), ChangeFault<D, A>>
+    ensures { IsJudged (judgement (told_of None) old.now before.now) result }
+{
+    if old == before {
+        return Ok(());
+    }
+    Err(ChangeFault::OtherRoot)
+}

@@ -1,0 +1,142 @@
+//! The repository, its store and its next batch.
+
+ghost use Rattle.std.specs.Prelude.{◌≡◌, ◌≤◌, Ok, IfOk, IfErr, OnOk, OnErr};
+ghost use Rattle.sha2.specs.Sha256.{sha256};
+ghost use Rattle.spec.specs.States.{IsLawful, after_batch, fresh, state_test};
+ghost use Rattle.repo.specs.Fulls.{fulls_after_batch, fulls_after_step};
+ghost use Rattle.repo.specs.Refusals.{IsRefusal, IsApplied, IsOpenRefusal};
+ghost use Rattle.batches.specs.Values.{stamp_of, write_of, writes_of};
+ghost use Rattle.owned_repo.specs.Owning.{opened, staged, cleared, applied};
+
+use batches::{RepoFault, Stamp, Write};
+use cid::Sha256;
+use repo::{Applied, Core};
+use std::alloc::{AllocError, Global};
+use std::marker::Model;
+use std::mem::replace;
+use store::{LentShards, SHARDS, Shard, empty_shards};
+
+/// How many blocks each shard of its store may have.
+const MOST_BLOCKS: usize = 1_048_576;
+
+/// One repository with a store of its own, and the writes that wait for a stamp.
+///
+/// A contract sees it as its state and these writes.
+pub struct OwnedRepo {
+    core: Core<Sha256, 2>,
+    shards: [Shard<Sha256>; SHARDS],
+    pending: Vec<Write>,
+}
+
+impl Model for OwnedRepo {
+    ghost use Rattle.batches.specs.Values.{writes_of};
+    ghost use Rattle.owned_repo.specs.Owning.{Owned};
+
+    ghost Value = { Owned };
+
+    ghost view = { λ o. record { state = o.core; pending = writes_of o.pending.items } };
+}
+
+impl Drop for OwnedRepo {
+    fn drop(self) {
+        let OwnedRepo {
+            core,
+            mut shards,
+            pending,
+        } = self;
+        core.end(&mut lent(&mut shards));
+        drop(pending);
+        drop(shards);
+    }
+}
+
+impl OwnedRepo {
+    /// A repository without writes, which may have `limit` of them.
+    pub fn open(alloc: Global, limit: usize) -> Result<OwnedRepo, RepoFault<Sha256>>
+        requires least { 1 ≤ limit }
+        requires most { limit ≤ 1048576 }
+        ensures opened { IfOk result (λ repo. repo ≡ opened limit) }
+        ensures fault { IfErr result (IsOpenRefusal sha256 2 (fresh 0 limit)
+            0 (fulls_after_step 0 result)) }
+    {
+        let mut shards = empty_shards(alloc, MOST_BLOCKS);
+        match Core::open(alloc, &mut lent(&mut shards), 0, limit) {
+            Ok(core) => Ok(OwnedRepo {
+                core,
+                shards,
+                pending: Vec::new(alloc),
+            }),
+            Err(fault) => Err(fault),
+        }
+    }
+
+    /// The repository: for all that reads.
+    pub fn core(&self) -> &Core<Sha256, 2>
+        ensures { result.now ≡ self.now.state }
+    {
+        &self.core
+    }
+
+    /// One more write waits for a stamp.
+    pub fn stage(&mut self, write: Write) -> Result<(), AllocError>
+        ensures staged { OnOk result (self.new ≡ staged self.old (write_of write)) }
+        ensures unchanged { OnErr result (self.new ≡ self.old) }
+    {
+        self.pending.push(write)?;
+        Ok(())
+    }
+
+    /// No write waits any more.
+    pub fn clear(&mut self, alloc: Global)
+        ensures { self.new ≡ cleared self.old }
+    {
+        self.pending = Vec::new(alloc);
+    }
+
+    /// Accepts all writes that wait, in order, as one batch under this stamp, or none of them. None waits afterwards.
+    pub fn apply(
+        &mut self,
+        alloc: Global,
+        stamp: &Stamp,
+    ) -> Result<Applied, (usize, RepoFault<Sha256>)>
+        ensures lawful { IsLawful self.new.state }
+        ensures accepted { OnOk result (self.new ≡ applied self.old (stamp_of stamp.now)) }
+        ensures passes { OnOk result
+            (state_test self.old.state (stamp_of stamp.now) self.old.pending ≡ Ok tt) }
+        ensures applied { IfOk result (IsApplied sha256 2 self.old.state self.new.state) }
+        ensures refused { OnErr result (self.new ≡ cleared self.old) }
+        ensures fault { IfErr result (IsRefusal sha256 2 self.old.state
+            (stamp_of stamp.now) self.old.pending 0 (fulls_after_batch 0 result)) }
+    {
+        let writes = replace(&mut self.pending, Vec::new(alloc));
+        apply_in(&mut self.core, &mut self.shards, alloc, stamp, &writes)
+    }
+}
+
+/// The same of writes that are given.
+fn apply_in(
+    core: &mut Core<Sha256, 2>,
+    shards: &mut [Shard<Sha256>; SHARDS],
+    alloc: Global,
+    stamp: &Stamp,
+    writes: &[Write],
+) -> Result<Applied, (usize, RepoFault<Sha256>)>
+    ensures lawful { IsLawful core.new }
+    ensures accepted { OnOk result
+        (core.new ≡ after_batch core.old (stamp_of stamp.now) (writes_of writes.now)) }
+    ensures passes { OnOk result
+        (state_test core.old (stamp_of stamp.now) (writes_of writes.now) ≡ Ok tt) }
+    ensures applied { IfOk result (IsApplied sha256 2 core.old core.new) }
+    ensures refused { OnErr result (core.new ≡ core.old) }
+    ensures fault { IfErr result (IsRefusal sha256 2 core.old
+        (stamp_of stamp.now) (writes_of writes.now) 0 (fulls_after_batch 0 result)) }
+{
+    core.apply(alloc, &mut lent(shards), stamp, writes)
+}
+
+/// Its shards as a store, of which nothing is said of how many blocks they have.
+fn lent(shards: &mut [Shard<Sha256>; SHARDS]) -> LentShards<'_, Sha256, 0>
+    ensures { result.fulls.times ≡ 0 }
+{
+    LentShards::new(shards)
+}

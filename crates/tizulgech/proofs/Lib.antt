@@ -1,0 +1,5 @@
+mod Found
+mod Told
+mod Shown
+mod Rows
+mod Staged

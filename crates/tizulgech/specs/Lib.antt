@@ -1,0 +1,10 @@
+pub mod Held
+pub mod Numbers
+pub mod Trees
+pub use Rattle.spec.specs.Cid
+pub use Rattle.spec.specs.Layer
+pub use Rattle.spec.specs.States
+pub use Rattle.spec.specs.Writes
+pub use Rattle.spec.specs.DagCbor
+pub use Rattle.spec.specs.Keys
+pub use Rattle.spec.specs.NodeFormat

@@ -1,0 +1,158 @@
+//! The root and the CAR file of a listing, built from scratch.
+
+ghost use Rattle.std.specs.Prelude.{◌≡◌, length, map, option_map, nat_eq, false, true, IfOk};
+ghost use Rattle.spec.specs.NodeFormat.{is_ascending as is_ascending_of};
+ghost use Rattle.batches.specs.Values.{stamp_of, writes_of};
+ghost use Rattle.scratch.specs.Pairs.{pairs_of};
+ghost use Rattle.buffers.specs.Framing.{cut};
+ghost use Rattle.tizulgech.specs.Trees.{listing, puts, puts_in, IsFileOf, IsFiled, IsListed, IsTreeOf};
+
+use crate::codes::{BAD, CLASH, NO_MEMORY};
+use crate::stamps::stamp_of_bytes;
+use batches::{Stamp, Write};
+use buffers::{DONE, hand, pairs, slices};
+use built_car::built_car;
+use cid::{Cid, Sha256};
+use scratch::{ScratchFault, build, is_ascending};
+use std::alloc::{AllocError, Global};
+
+/// 0, the root and the number of nodes of the tree of these pairs; 252 for what is no listing; 3 for keys that don't ascend,
+/// or have no bytes or more than 1,024; 253 for a clash; 255 for want of memory.
+#[unsafe(no_mangle)]
+pub extern "C" fn tizulgech_tree_root(
+    alloc: Global,
+    keys: &[u8],
+    ends: &[usize],
+    cids: &[u8],
+    out: &mut [u8],
+    nodes: &mut usize,
+) -> u8
+    requires { length out.old ≡ 36 }
+    ensures { nat_eq result 255 ≡ false → IsListed result out.new nodes.new
+        (listing keys.now ends.now cids.now) }
+{
+    let Ok(pairs) = pairs_at(alloc, keys, ends, cids) else {
+        return NO_MEMORY;
+    };
+    let Some(pairs) = pairs else {
+        return BAD;
+    };
+    if !is_ascending(&pairs) {
+        return 3;
+    }
+    root_told(alloc, &pairs, out, nodes)
+}
+
+/// The pairs of a listing.
+fn pairs_at(
+    alloc: Global,
+    keys: &[u8],
+    ends: &[usize],
+    cids: &[u8],
+) -> Result<Option<Vec<(Vec<u8>, Cid)>>, AllocError>
+    ensures { IfOk result (λ pairs. option_map (λ pairs. pairs_of (λ key. key.items) pairs.items) pairs
+        ≡ listing keys.now ends.now cids.now) }
+{
+    let Some(parts) = slices(alloc, keys, ends)? else {
+        return Ok(None);
+    };
+    pairs(alloc, &parts, cids)
+}
+
+/// The same of pairs that have a tree.
+fn root_told(alloc: Global, pairs: &[(Vec<u8>, Cid)], out: &mut [u8], nodes: &mut usize) -> u8
+    requires ascending { is_ascending_of (pairs_of (λ key. key.items) pairs.now) ≡ true }
+    requires room { length out.old ≡ 36 }
+    ensures { IsTreeOf result out.new nodes.new (pairs_of (λ key. key.items) pairs.now) }
+{
+    match build::<Sha256, 2, _, _>(alloc, pairs) {
+        Ok(built) => {
+            out.copy_from_slice(built.root.as_bytes());
+            *nodes = built.blocks.len();
+            DONE
+        }
+        Err(ScratchFault::Clash(_)) => CLASH,
+        Err(ScratchFault::NoMemory) => NO_MEMORY,
+    }
+}
+
+/// The puts of keys and records.
+fn puts_of(alloc: Global, keys: &[&[u8]], records: &[&[u8]]) -> Result<Vec<Write>, AllocError>
+    requires { length keys.now ≡ length records.now }
+    ensures { IfOk result (λ writes. writes_of writes.items
+        ≡ puts (map (λ key. key.now) keys.now) (map (λ bytes. bytes.now) records.now)) }
+{
+    let mut writes = Vec::new(alloc);
+    let mut place = 0;
+    while place < keys.len() {
+        let key = Vec::from_slice(alloc, keys[place])?;
+        let bytes = Vec::from_slice(alloc, records[place])?;
+        writes.push(Write::Put(key, bytes))?;
+        place += 1;
+    }
+    Ok(writes)
+}
+
+/// The puts of a listing.
+fn puts_at(
+    alloc: Global,
+    keys: &[u8],
+    key_ends: &[usize],
+    records: &[u8],
+    record_ends: &[usize],
+) -> Result<Option<Vec<Write>>, AllocError>
+    ensures { IfOk result (λ writes. option_map (λ writes. writes_of writes.items) writes
+        ≡ puts_in (cut 0 key_ends.now keys.now) (cut 0 record_ends.now records.now)) }
+{
+    let Some(keys) = slices(alloc, keys, key_ends)? else {
+        return Ok(None);
+    };
+    let Some(records) = slices(alloc, records, record_ends)? else {
+        return Ok(None);
+    };
+    if keys.len() != records.len() {
+        return Ok(None);
+    }
+    Ok(Some(puts_of(alloc, &keys, &records)?))
+}
+
+/// The CAR file of a repository whose one batch puts these records under this stamp: 0 and the file; 32 where there is none to
+/// build; 251 where `out` has not the room of `size` bytes; 252 for what is no listing; 255 for want of memory.
+#[unsafe(no_mangle)]
+pub extern "C" fn tizulgech_listing_car(
+    alloc: Global,
+    did: &[u8],
+    rev: &[u8],
+    keys: &[u8],
+    key_ends: &[usize],
+    records: &[u8],
+    record_ends: &[usize],
+    out: &mut [u8],
+    size: &mut usize,
+) -> u8
+    ensures { nat_eq result 255 ≡ false → IsFiled result out.old out.new size.new
+        (record { did = did.now; rev = rev.now })
+        (puts_in (cut 0 key_ends.now keys.now) (cut 0 record_ends.now records.now)) }
+{
+    let Ok(writes) = puts_at(alloc, keys, key_ends, records, record_ends) else {
+        return NO_MEMORY;
+    };
+    let Some(writes) = writes else {
+        return BAD;
+    };
+    let Ok(stamp) = stamp_of_bytes(alloc, did, rev) else {
+        return NO_MEMORY;
+    };
+    file_told(alloc, &stamp, &writes, out, size)
+}
+
+/// The same of writes.
+fn file_told(alloc: Global, stamp: &Stamp, writes: &[Write], out: &mut [u8], size: &mut usize) -> u8
+    ensures { IsFileOf result out.old out.new size.new (stamp_of stamp.now) (writes_of writes.now) }
+{
+    match built_car::<Sha256, 2, _>(alloc, 1_048_576, stamp, writes) {
+        Ok(Some(file)) => hand(&file, out, size),
+        Ok(None) => 32,
+        Err(_) => NO_MEMORY,
+    }
+}

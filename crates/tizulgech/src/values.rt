@@ -1,0 +1,111 @@
+//! Records, keys, identifiers and single nodes, with no state.
+
+ghost use Rattle.std.specs.Prelude.{◌≡◌, length, true, false, Ok};
+ghost use Rattle.sha2.specs.Sha256.{sha256};
+ghost use Rattle.spec.specs.Cid.{cid as cid_of, text as text_of, cid_of_text, is_own_cid};
+ghost use Rattle.spec.specs.Layer.{layer as layer_of};
+ghost use Rattle.spec.specs.DagCbor.{read as record_of};
+ghost use Rattle.spec.specs.Keys.{is_repository_key as is_repository_key_of};
+ghost use Rattle.spec.specs.NodeFormat.{is_key as is_key_of, read_node};
+ghost use Rattle.tizulgech.specs.Numbers.{IsCidRead, IsRecordAnswer, IsStepIn};
+
+use crate::codes::{code_of_record, tell_cid};
+use cid::{Cid, Sha256};
+use node::{NodeView, Place};
+use std::alloc::Global;
+
+/// 0 where the bytes are one DAG-CBOR value, else the number of the first fault, or 255 for want of memory.
+#[unsafe(no_mangle)]
+#[tactic(auto, using(crate::proofs::Told::record_told))]
+pub extern "C" fn tizulgech_record_fault(alloc: Global, bytes: &[u8]) -> u8
+    ensures { IsRecordAnswer result (record_of bytes.now) }
+{
+    let read = dagcbor::read(alloc, bytes);
+    code_of_record(&read)
+}
+
+/// The layer of a key.
+#[unsafe(no_mangle)]
+pub extern "C" fn tizulgech_layer(key: &[u8]) -> u16
+    ensures { result ≡ layer_of sha256 2 key.now }
+{
+    cid::layer::<Sha256, 2>(key)
+}
+
+/// Whether a tree may have the key: 1 to 1,024 bytes.
+#[unsafe(no_mangle)]
+pub extern "C" fn tizulgech_is_key(key: &[u8]) -> bool
+    ensures { result ≡ is_key_of key.now }
+{
+    node::is_key(key)
+}
+
+/// Whether a repository may have a record under the key: a collection, a slash and a record key.
+#[unsafe(no_mangle)]
+pub extern "C" fn tizulgech_is_repository_key(key: &[u8]) -> bool
+    ensures { result ≡ is_repository_key_of key.now }
+{
+    batches::is_repository_key(key)
+}
+
+/// The CID of a block.
+#[unsafe(no_mangle)]
+pub extern "C" fn tizulgech_cid(block: &[u8], out: &mut [u8])
+    requires { length out.old ≡ 36 }
+    ensures { out.new ≡ cid_of sha256 block.now }
+{
+    out.copy_from_slice(Cid::of::<Sha256>(block).as_bytes());
+}
+
+/// The text of a CID of 36 bytes; false where the bytes are no CID of this profile.
+#[unsafe(no_mangle)]
+pub extern "C" fn tizulgech_cid_text(cid: &[u8], out: &mut [u8]) -> bool
+    requires size { length cid.now ≡ 36 }
+    requires room { length out.old ≡ 59 }
+    ensures own { result ≡ is_own_cid cid.now }
+    ensures text { result ≡ true → out.new ≡ text_of cid.now }
+{
+    let mut bytes = [0; 36];
+    bytes.copy_from_slice(cid);
+    match Cid::from_bytes(bytes) {
+        Some(cid) => {
+            out.copy_from_slice(&cid.text());
+            true
+        }
+        None => false,
+    }
+}
+
+/// 0 and the 36 bytes of the CID with this text, or the number of the first fault, from 1 on.
+#[unsafe(no_mangle)]
+#[tactic(auto, using(crate::proofs::Told::cid_told))]
+pub extern "C" fn tizulgech_cid_from_text(text: &[u8], out: &mut [u8]) -> u8
+    requires room { length out.old ≡ 36 }
+    ensures { IsCidRead result out.new (cid_of_text text.now) }
+{
+    let read = Cid::from_text(text);
+    tell_cid(&read, out)
+}
+
+/// Where a key stands in the node of these bytes: 0 and its value, 1 and the CID of the node below which it is, 24 where
+/// the node has no subtree there, and 30 where the bytes are no node. A host goes from a root down by it, and takes no memory.
+#[unsafe(no_mangle)]
+pub extern "C" fn tizulgech_step(node: &[u8], key: &[u8], out: &mut [u8]) -> u8
+    requires room { length out.old ≡ 36 }
+    ensures { IsStepIn result out.new key.now (read_node node.now) }
+{
+    let Ok(view) = NodeView::parse(node) else {
+        return 30;
+    };
+    match view.find(key) {
+        Place::Here(entry) => {
+            out.copy_from_slice(entry.value.as_bytes());
+            0
+        }
+        Place::Below(link) => {
+            out.copy_from_slice(link.as_bytes());
+            1
+        }
+        Place::Gap => 24,
+    }
+}
