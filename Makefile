@@ -11,7 +11,7 @@ help:
 	@echo 'make library           proves the library for programs in C, Rust and Python, and builds it into target/library'
 	@echo 'make install-library PREFIX=..  puts it, its header and its pkg-config file below PREFIX'
 	@echo 'make test              the gate: every proof, must-fail edit, test and program, from nothing'
-	@echo 'make test-library      tries the library from Rust, C and Python'
+	@echo 'make test-library      proves and builds the library, and tries it from Rust, C, C++, Python and Go'
 	@echo 'make check             every crate, quickly, over what earlier checks kept'
 	@echo 'make edits             the wrong bodies that the gate does not try, before a release; CRATE=name: of one crate'
 	@echo 'make answers CRATE=name  writes out the answers that the must-fail edits of a crate break, over what make check kept'
@@ -42,9 +42,10 @@ test:
 	@tools/readme-example
 	@tools/must-not-compile
 	@tools/crate-tables --compare
+	@tools/library-declarations
 	@rt ci
 
-test-library: library
+test-library:
 	@tools/test-library
 
 check:

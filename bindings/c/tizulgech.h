@@ -1,8 +1,8 @@
 /* A verified AT Protocol repository: calls of a static library whose code is proved.
  *
  * What a call needs of its caller, which nothing checks:
- *  - a pointer beside a length N is to N readable elements, or writable ones where it isn't const; it may be null where N is 0. What is
- *    written overlaps nothing else that is passed;
+ *  - a pointer beside a length N is to N readable elements, or writable ones where it isn't const; it may be null where N is 0, if the
+ *    call is written with this header. Any other pointer is to one object. What is written overlaps nothing else that is passed;
  *  - a CID that is written wants a room of 36 bytes, and the text of one a room of 59;
  *  - a tizulgech_repository is all zero bytes before tizulgech_open, is changed by these calls alone, isn't copied, is given to one
  *    call at a time, and stays on its thread. One that is closed may be given to any call, which says so;
@@ -98,7 +98,8 @@ uint8_t tizulgech_tree_apply(const uint8_t *nodes, size_t nodes_len, const size_
                              size_t *size);
 
 /* What blocks prove of a key in the tree with this root: DONE, and its value is written; NONE, the tree doesn't have it; MISSING, a
- * block of the path isn't there; BAD_NODE, one is no node; TOO_MANY_NODES; BAD_KEY, no tree has it; BAD; NO_MEMORY. */
+ * block of the path isn't there; BAD_NODE, one is no node; TOO_MANY_NODES, the path is longer than any tree is deep; BAD_KEY, no tree has
+ * it; BAD for arguments that are none; NO_MEMORY. */
 uint8_t tizulgech_verify(const uint8_t *blocks, size_t blocks_len, const size_t *ends, size_t count, const uint8_t *root, size_t root_len,
                          const uint8_t *key, size_t key_len, uint8_t *value, size_t value_room);
 
@@ -107,8 +108,8 @@ uint8_t tizulgech_verify(const uint8_t *blocks, size_t blocks_len, const size_t 
 uint8_t tizulgech_tree_root(const uint8_t *keys, size_t keys_len, const size_t *ends, size_t count, const uint8_t *cids, size_t cids_len,
                             uint8_t *out, size_t room, size_t *nodes);
 
-/* The CAR file of a repository whose one batch puts these records under this stamp, which isn't tested: DONE, NOT_BUILT where a
- * repository doesn't take them, SMALL, BAD, NO_MEMORY. */
+/* The CAR file of a repository whose one batch puts these records under this stamp: DONE, NOT_BUILT where a repository doesn't take
+ * them, or not under this stamp, or there are none, SMALL, BAD, CLASH, FULL, NO_MEMORY. */
 uint8_t tizulgech_listing_car(const uint8_t *did, size_t did_len, const uint8_t *rev, size_t rev_len, const uint8_t *keys, size_t keys_len,
                               const size_t *key_ends, size_t key_count, const uint8_t *records, size_t records_len,
                               const size_t *record_ends, size_t record_count, uint8_t *out, size_t room, size_t *size);
@@ -171,7 +172,8 @@ uint8_t tizulgech_prove(tizulgech_repository *repository, const uint8_t *key, si
 }
 #endif
 
-/* ---- a null pointer beside the length 0 becomes one to something, as the library wants it */
+/* ---- a null pointer beside the length 0 becomes one to something, as the library wants it. So it does where a call is written by its
+ * name and its arguments; who takes a call's address, or binds it by its name from elsewhere, passes no null pointer. */
 static inline const uint8_t *tizulgech_some(const uint8_t *bytes) {
     static const uint8_t none = 0;
     return bytes ? bytes : &none;

@@ -1,3 +1,3 @@
 module tizulgech.example/go
 
-go 1.21
+go 1.19

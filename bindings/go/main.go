@@ -1,9 +1,9 @@
-// A batch, a record and a file from Go, by cgo. In this folder:
+// A batch, a record and a file from Go, by cgo and the shared library. In this folder:
 //
-//	PKG_CONFIG_PATH=../../target/library/pkgconfig go run .
+//	L=$PWD/../../target/library; PKG_CONFIG_PATH=$L/pkgconfig LD_LIBRARY_PATH=$L go run .
 package main
 
-// #cgo pkg-config: --static tizulgech
+// #cgo pkg-config: tizulgech
 // #include <tizulgech.h>
 import "C"
 

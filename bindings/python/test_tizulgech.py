@@ -1,6 +1,7 @@
 """python3 -m unittest discover bindings/python"""
 import hashlib
 import random
+import threading
 import unittest
 
 import tizulgech as t
@@ -58,6 +59,14 @@ class Trees(unittest.TestCase):
             self.assertTrue(all(t.Cid.of(node) == cid for cid, node in nodes.items()))
         some = next(iter(plain))
         self.assertEqual(t.tree_get(nodes.get, root, some), plain[some])
+        with self.assertRaisesRegex(t.Fault, "don't ascend"):
+            t.tree_root([("b", root), ("a", root)])
+        with self.assertRaisesRegex(t.Fault, "is missing"):
+            t.verify(root, [], "a")
+        with self.assertRaisesRegex(t.Fault, "no bytes"):
+            t.verify(root, [], "")
+        with self.assertRaisesRegex(t.Fault, "is no node"):
+            t.tree_apply(lambda cid: t.EMPTY_NODE, root, {"a": root})
         with self.assertRaises(t.Missing) as it:
             t.tree_apply({}.get, root, {"a": root})
         self.assertEqual(it.exception.cid, root)
@@ -96,7 +105,32 @@ class Repositories(unittest.TestCase):
         self.assertIsNone(repository.commit)
         repository.close()
         repository.close()
-        self.assertRaises(t.Fault, repository.get, "a.b.c/d")
+        for call in (repository.get, repository.prove, repository.list):
+            with self.assertRaises(t.Fault) as it:
+                call("a.b.c/d")
+            self.assertEqual(it.exception.number, 250)
+
+    def test_threads(self):
+        """One repository a thread; one of another thread is refused."""
+        roots, refused, other = [], [], t.Repository(1)
+
+        def work():
+            with t.Repository(100) as repository:
+                for turn in range(50):
+                    repository.apply(DID, tid(turn + 1), [t.Put(key(turn), record(turn))])
+                roots.append(repository.root)
+            try:
+                other.get("a.b.c/d")
+            except RuntimeError:
+                refused.append(other)
+
+        threads = [threading.Thread(target=work) for _ in range(4)]
+        for it in threads:
+            it.start()
+        for it in threads:
+            it.join()
+        wanted = t.tree_root(sorted((key(turn), t.Cid.of(record(turn))) for turn in range(50)))[0]
+        self.assertEqual((roots, refused), ([wanted] * 4, [other] * 4))
 
 
 if __name__ == "__main__":

@@ -12,6 +12,7 @@ from __future__ import annotations
 import ctypes
 import ctypes.util
 import os
+import threading
 from collections.abc import Callable, Iterator, Sequence
 from dataclasses import dataclass, field
 
@@ -28,6 +29,9 @@ FAULTS = {
     32: "a repository doesn't take these records", 249: "the repository is open already", 250: "the repository is closed",
     252: "an argument that is none", 253: "two blocks clash", 254: "the store is full", 255: "out of memory",
 }
+
+# The numbers that say something else of a tree and of its nodes.
+FAULTS_OF_TREES = {2: "a block of the path is missing", 3: "the keys don't ascend", 20: "a key has no bytes or more than 1,024"}
 
 
 class Fault(Exception):
@@ -210,7 +214,7 @@ def tree_root(pairs: Sequence[tuple[str | bytes, Cid]]) -> tuple[Cid, int]:
     out, count = ctypes.create_string_buffer(36), ctypes.c_size_t()
     number = _call("tree_root", *_joined([_bytes(key) for key, _ in pairs]), b"".join(cid.bytes for _, cid in pairs), out, ctypes.byref(count))
     if number:
-        raise Fault(number)
+        raise Fault(number, text=FAULTS_OF_TREES.get(number))
     return Cid(out.raw), count.value
 
 
@@ -219,7 +223,7 @@ def verify(root: Cid, proof: Sequence[bytes], key: str | bytes) -> Cid | None:
     value = ctypes.create_string_buffer(36)
     number = _call("verify", *_joined(proof), root.bytes, _bytes(key), value)
     if number not in (0, 24):
-        raise Fault(number)
+        raise Fault(number, text=FAULTS_OF_TREES.get(number))
     return Cid(value.raw) if number == 0 else None
 
 
@@ -268,19 +272,30 @@ def tree_apply(nodes: Nodes, root: Cid, changes: dict[str | bytes, Cid | None]) 
     """Changes keys of a tree at once: each gets a value, or goes where that is None."""
     ordered = sorted((_bytes(key), value) for key, value in changes.items())
     values = b"".join(value.bytes if value else bytes(36) for _, value in ordered)
-    given = {node: None for key, _ in ordered for node in tree_path(nodes, root, key)[0]} or {_node(nodes, root): None}
-    missing, asked = ctypes.create_string_buffer(36), set()
+    given: dict[Cid, bytes] = {}
+
+    def node(cid: Cid) -> bytes | None:
+        """A node, for which the host is asked once."""
+        if cid not in given:
+            given[cid] = _node(nodes, cid)
+        return given[cid]
+
+    node(root)
+    for key, _ in ordered:
+        tree_path(node, root, key)
+    missing = ctypes.create_string_buffer(36)
     while True:
         try:
             keys = _joined([key for key, _ in ordered])
-            reader = _Reader(_filled("tree_apply", *_joined(list(given)), root.bytes, *keys, values, missing, first=1 << 16))
+            reader = _Reader(_filled("tree_apply", *_joined(list(given.values())), root.bytes, *keys, values, missing, first=1 << 16))
             break
         except Fault as fault:
-            cid = Cid(missing.raw)
-            if fault.number != 2 or cid in asked:
+            if fault.number != 2:
                 raise
-            asked.add(cid)
-            given[_node(nodes, cid)] = None
+            # A block that isn't of its CID would be asked for again.
+            if Cid(missing.raw) in given:
+                raise Fault(30) from None
+            node(Cid(missing.raw))
     root = reader.cid()
     previous = [reader.value() for _ in ordered]
     drop = [reader.cid() for _ in range(reader.number())]
@@ -332,10 +347,13 @@ class Applied:
 
 
 class Repository:
-    """A repository in memory, for one thread at a time. It is closed at the end of a `with`, or by `close`."""
+    """A repository in memory. It is closed at the end of a `with`, or by `close`.
+
+    It stays on the thread that opened it, as ctypes lets other threads go on during a call: any other raises a RuntimeError.
+    """
 
     def __init__(self, limit: int) -> None:
-        self._raw = _Raw()
+        self._own, self._thread = _Raw(), threading.get_ident()
         number = _call("open", ctypes.c_size_t(limit), ctypes.byref(self._raw))
         if number:
             raise Fault(number)
@@ -347,8 +365,14 @@ class Repository:
         self.close()
 
     def __del__(self) -> None:
-        if hasattr(self, "_raw"):
+        if getattr(self, "_thread", None) == threading.get_ident():
             self.close()
+
+    @property
+    def _raw(self) -> _Raw:
+        if self._thread != threading.get_ident():
+            raise RuntimeError("a repository stays on the thread that opened it")
+        return self._own
 
     def close(self) -> None:
         """Lets it go. Any later call raises a fault."""

@@ -65,6 +65,7 @@ faults! {
         NotBuilt = 32 "a repository doesn't take these records",
         Bad = 252 "an argument that is none",
         Clash = 253 "two blocks clash",
+        StoreFull = 254 "the store is full",
         NoMemory = 255 "out of memory",
     }
 }
@@ -147,7 +148,7 @@ pub enum BatchFault {
     RevOrder,
     /// Two different blocks have one CID.
     Clash,
-    /// The repository has 1,048,576 blocks.
+    /// One of the sixteen parts of the repository's store, among which blocks go by their CIDs, has 1,048,576 of them.
     StoreFull,
     /// Memory was refused.
     NoMemory,

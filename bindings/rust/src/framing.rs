@@ -43,6 +43,12 @@ impl Joined {
         Parts { bytes: &self.bytes, ends: &self.ends }
     }
 
+    /// The part at a place.
+    pub fn part(&self, place: usize) -> &[u8] {
+        let start = place.checked_sub(1).map_or(0, |before| self.ends[before]);
+        &self.bytes[start..self.ends[place]]
+    }
+
     /// How many bytes all parts have.
     pub fn len(&self) -> usize {
         self.bytes.len()

@@ -22,15 +22,17 @@
 //! # What is proved, and what is trusted
 //!
 //! What is proved ends at the calls of the C interface: each has a contract, which is proved of its code together with its
-//! safety and its end. Of this crate nothing is proved. Trusted are:
+//! safety and its end. Of this crate nothing is proved: 1,100 lines of code, which tests try call by call.
+//! Trusted are:
 //!
-//! - that the declarations in `sys` are those of the library;
-//! - that `sys` passes slices as they are, and arrays where a call wants a fixed length;
-//! - that a repository is given to one call at a time (it is neither `Send` nor `Sync`);
-//! - that `framing` reads answers as the library spells them;
+//! - that the declarations in `sys` are those of the library (a script of the repository compares them);
+//! - that `sys`, where all `unsafe` stands, passes slices as they are, and arrays where a call wants a fixed length;
+//! - that a repository is given to one call at a time, on its thread: it is neither `Send` nor `Sync`;
+//! - that `framing` reads answers and writes lists as the library spells them;
 //! - that the numbers of `faults` are those of the library;
-//! - the program's `malloc`, `realloc` and `free`;
-//! - the compilers and the linker.
+//! - of [`tree`], that a host's nodes are asked for as the library wants them; the library hashes what it is given, so a wrong
+//!   node is refused by `apply`, `put` and `delete`, and believed by `get`, which hashes nothing;
+//! - the program's `malloc`, `realloc` and `free`, the compilers and the linker.
 #![deny(missing_docs)]
 #![deny(unsafe_op_in_unsafe_fn)]
 

@@ -52,11 +52,38 @@ pub struct Applied {
 /// A repository in memory. Its root and its blocks are always those of the tree built from scratch of its records: this is
 /// proved.
 ///
-/// It keeps all its writes, and takes 1,048,576 of them at most. It stays on its thread:
+/// It keeps all its writes, and takes 1,048,576 of them at most.
+///
+/// It stays on its thread, since that what the library keeps behind its pointer may go to another one isn't proved:
 ///
 /// ```compile_fail
 /// let repository = tizulgech::Repository::open(10).unwrap();
 /// std::thread::spawn(move || repository.number()); // `*mut u8` cannot be sent between threads safely
+/// ```
+///
+/// Threads share one by way of the thread that has it:
+///
+/// ```
+/// use std::{sync::mpsc, thread};
+/// use tizulgech::{Repository, Stamp, Write};
+///
+/// let (sender, batches) = mpsc::channel::<(String, Vec<u8>)>();
+/// let owner = thread::spawn(move || {
+///     let mut repository = Repository::open(1000).unwrap();
+///     for (turn, (key, record)) in batches.into_iter().enumerate() {
+///         let rev = format!("3jzfcijpj2z2{}", char::from(b'a' + turn as u8));
+///         repository.apply(Stamp { did: "did:web:example.com", rev: &rev }, &[Write::Put(&key, &record)]).unwrap();
+///     }
+///     (repository.number(), repository.root())
+/// });
+/// thread::scope(|scope| {
+///     for key in ["app.bsky.feed.post/3jzfcijpj2z2a", "app.bsky.feed.post/3jzfcijpj2z2b"] {
+///         let sender = sender.clone();
+///         scope.spawn(move || sender.send((key.into(), b"\xa0".to_vec())));
+///     }
+/// });
+/// drop(sender);
+/// assert_eq!(owner.join().unwrap().0, 2);
 /// ```
 pub struct Repository {
     handle: sys::Handle,
@@ -73,6 +100,18 @@ impl Repository {
     }
 
     /// Accepts all writes of a batch, in order, or none of them.
+    ///
+    /// ```
+    /// use tizulgech::{BatchFault, Repository, Stamp, Write};
+    /// let mut repository = Repository::open(1000)?;
+    /// let (did, key) = ("did:web:example.com", "app.bsky.feed.post/3jzfcijpj2z2a");
+    /// let applied = repository.apply(Stamp { did, rev: "3jzfcijpj2z2a" }, &[Write::Create(key, b"\xa0")])?;
+    /// let writes = [Write::Delete(key), Write::Update(key, b"\xa0")];
+    /// let refused = repository.apply(Stamp { did, rev: "3jzfcijpj2z2b" }, &writes).unwrap_err();
+    /// assert_eq!((refused.place, refused.fault), (1, BatchFault::NoSuchKey));
+    /// assert_eq!((repository.root(), repository.number()), (applied.root, 1));
+    /// # Ok::<(), Box<dyn std::error::Error>>(())
+    /// ```
     pub fn apply(&mut self, stamp: Stamp<'_>, writes: &[Write<'_>]) -> Result<Applied, BatchError> {
         for write in writes {
             let (kind, key, record) = write.parts();
@@ -100,7 +139,8 @@ impl Repository {
 
     /// The first keys from a key on, so many at most, each with its record's CID.
     pub fn list(&self, from: impl AsRef<[u8]>, most: usize) -> Result<Vec<(Vec<u8>, Cid)>, NoMemory> {
-        let bytes = filled(96 * most.min(1024), |out, size| self.handle.list(from.as_ref(), most, out, size)).map_err(|_| NoMemory)?;
+        let bytes =
+            filled(96 * most.min(1024), |out, size| self.handle.list(from.as_ref(), most, out, size)).map_err(|_| NoMemory)?;
         let mut reader = Reader(&bytes);
         let mut pairs = Vec::new();
         while !reader.is_empty() {
@@ -110,6 +150,16 @@ impl Repository {
     }
 
     /// All pairs from a key on, in the order of the keys, read page by page.
+    ///
+    /// ```
+    /// # use tizulgech::{Cid, Repository, Stamp, Write};
+    /// # let mut repository = Repository::open(1000)?;
+    /// let stamp = Stamp { did: "did:web:example.com", rev: "3jzfcijpj2z2a" };
+    /// repository.apply(stamp, &[Write::Put("a.b.c/two", b"\xa0"), Write::Put("a.b.c/one", b"\xa0")])?;
+    /// let keys: Vec<Vec<u8>> = repository.pairs("a.b.c/").map(|(key, _)| key).collect();
+    /// assert_eq!(keys, [b"a.b.c/one", b"a.b.c/two"]);
+    /// # Ok::<(), Box<dyn std::error::Error>>(())
+    /// ```
     pub fn pairs(&self, from: impl AsRef<[u8]>) -> Pairs<'_> {
         Pairs { repository: self, next: Some(from.as_ref().to_vec()), page: Vec::new().into_iter() }
     }
@@ -162,6 +212,14 @@ impl Repository {
     }
 
     /// That file into a writer, in parts of a million bytes.
+    ///
+    /// ```
+    /// # let repository = tizulgech::Repository::open(1000)?;
+    /// let mut file = Vec::new();
+    /// assert_eq!(repository.write_car(&mut file)?, repository.car_length()?);
+    /// assert_eq!(file, repository.car()?);
+    /// # Ok::<(), Box<dyn std::error::Error>>(())
+    /// ```
     pub fn write_car(&self, out: &mut impl io::Write) -> io::Result<u64> {
         let (mut part, mut done) = (vec![0; 1_000_000], 0);
         loop {
@@ -174,7 +232,14 @@ impl Repository {
         }
     }
 
-    /// The proof of a key.
+    /// The proof of a key, there or not: the nodes of its path.
+    ///
+    /// ```
+    /// # let repository = tizulgech::Repository::open(1000)?;
+    /// let proof = repository.prove("app.bsky.feed.post/3jzfcijpj2z2a")?;
+    /// assert_eq!(proof.verify(&repository.root(), "app.bsky.feed.post/3jzfcijpj2z2a")?, None);
+    /// # Ok::<(), Box<dyn std::error::Error>>(())
+    /// ```
     pub fn prove(&self, key: impl AsRef<[u8]>) -> Result<Proof, NoMemory> {
         let bytes = filled(8192, |out, size| self.handle.prove(key.as_ref(), out, size)).map_err(|_| NoMemory)?;
         let mut reader = Reader(&bytes);

@@ -10,45 +10,153 @@ use std::ptr::null_mut;
 
 /// `tizulgech_repository`.
 #[repr(C)]
-struct Raw {
-    is_open: bool,
-    at: *mut u8,
+pub struct Raw {
+    pub is_open: bool,
+    pub at: *mut u8,
 }
 
 // It has to lie as the header says.
 const _: () = assert!(size_of::<Raw>() == 2 * size_of::<usize>());
 
 unsafe extern "C" {
-    fn tizulgech_record_fault(bytes: *const u8, len: usize) -> u8;
-    fn tizulgech_layer(key: *const u8, len: usize) -> u16;
-    fn tizulgech_is_key(key: *const u8, len: usize) -> bool;
-    fn tizulgech_is_repository_key(key: *const u8, len: usize) -> bool;
-    fn tizulgech_cid(block: *const u8, len: usize, out: *mut u8, room: usize);
-    fn tizulgech_cid_text(cid: *const u8, len: usize, out: *mut u8, room: usize) -> bool;
-    fn tizulgech_cid_from_text(text: *const u8, len: usize, out: *mut u8, room: usize) -> u8;
-    fn tizulgech_step(node: *const u8, len: usize, key: *const u8, key_len: usize, out: *mut u8, room: usize) -> u8;
-    fn tizulgech_is_did(did: *const u8, len: usize) -> bool;
-    fn tizulgech_is_tid(rev: *const u8, len: usize) -> bool;
-    fn tizulgech_stamp_fault(before: *const u8, before_len: usize, did: *const u8, did_len: usize, rev: *const u8, rev_len: usize) -> u8;
-    fn tizulgech_commit_bytes(did: *const u8, did_len: usize, rev: *const u8, rev_len: usize, root: *const u8, root_len: usize, out: *mut u8, room: usize, size: *mut usize) -> u8;
-    fn tizulgech_tree_apply(nodes: *const u8, nodes_len: usize, node_ends: *const usize, node_count: usize, root: *const u8, root_len: usize, keys: *const u8, keys_len: usize, key_ends: *const usize, key_count: usize, values: *const u8, values_len: usize, missing: *mut u8, missing_room: usize, out: *mut u8, room: usize, size: *mut usize) -> u8;
-    fn tizulgech_verify(blocks: *const u8, blocks_len: usize, ends: *const usize, count: usize, root: *const u8, root_len: usize, key: *const u8, key_len: usize, value: *mut u8, value_room: usize) -> u8;
-    fn tizulgech_tree_root(keys: *const u8, keys_len: usize, ends: *const usize, count: usize, cids: *const u8, cids_len: usize, out: *mut u8, room: usize, nodes: *mut usize) -> u8;
-    fn tizulgech_listing_car(did: *const u8, did_len: usize, rev: *const u8, rev_len: usize, keys: *const u8, keys_len: usize, key_ends: *const usize, key_count: usize, records: *const u8, records_len: usize, record_ends: *const usize, record_count: usize, out: *mut u8, room: usize, size: *mut usize) -> u8;
-    fn tizulgech_open(limit: usize, repository: *mut Raw) -> u8;
-    fn tizulgech_close(repository: *mut Raw);
-    fn tizulgech_stage(repository: *mut Raw, kind: u8, key: *const u8, key_len: usize, record: *const u8, record_len: usize) -> u8;
-    fn tizulgech_clear(repository: *mut Raw) -> u8;
-    fn tizulgech_apply(repository: *mut Raw, did: *const u8, did_len: usize, rev: *const u8, rev_len: usize, place: *mut usize, root: *mut u8, root_room: usize, previous: *mut u8, previous_room: usize, commit: *mut u8, commit_room: usize) -> u8;
-    fn tizulgech_get(repository: *mut Raw, key: *const u8, key_len: usize, out: *mut u8, room: usize, size: *mut usize) -> u8;
-    fn tizulgech_list(repository: *mut Raw, from: *const u8, from_len: usize, most: usize, out: *mut u8, room: usize, size: *mut usize) -> u8;
-    fn tizulgech_root(repository: *mut Raw, root: *mut u8, room: usize) -> u8;
-    fn tizulgech_commit(repository: *mut Raw, commit: *mut u8, room: usize) -> u8;
-    fn tizulgech_number(repository: *mut Raw, number: *mut u64) -> u8;
-    fn tizulgech_car(repository: *mut Raw, out: *mut u8, room: usize, size: *mut usize) -> u8;
-    fn tizulgech_car_length(repository: *mut Raw, length: *mut u64) -> u8;
-    fn tizulgech_car_part(repository: *mut Raw, from: u64, out: *mut u8, room: usize, size: *mut usize) -> u8;
-    fn tizulgech_prove(repository: *mut Raw, key: *const u8, key_len: usize, out: *mut u8, room: usize, size: *mut usize) -> u8;
+    pub fn tizulgech_record_fault(bytes: *const u8, len: usize) -> u8;
+    pub fn tizulgech_layer(key: *const u8, len: usize) -> u16;
+    pub fn tizulgech_is_key(key: *const u8, len: usize) -> bool;
+    pub fn tizulgech_is_repository_key(key: *const u8, len: usize) -> bool;
+    pub fn tizulgech_cid(block: *const u8, len: usize, out: *mut u8, room: usize);
+    pub fn tizulgech_cid_text(cid: *const u8, len: usize, out: *mut u8, room: usize) -> bool;
+    pub fn tizulgech_cid_from_text(text: *const u8, len: usize, out: *mut u8, room: usize) -> u8;
+    pub fn tizulgech_step(node: *const u8, len: usize, key: *const u8, key_len: usize, out: *mut u8, room: usize) -> u8;
+    pub fn tizulgech_is_did(did: *const u8, len: usize) -> bool;
+    pub fn tizulgech_is_tid(rev: *const u8, len: usize) -> bool;
+    pub fn tizulgech_stamp_fault(
+        before: *const u8,
+        before_len: usize,
+        did: *const u8,
+        did_len: usize,
+        rev: *const u8,
+        rev_len: usize,
+    ) -> u8;
+    pub fn tizulgech_commit_bytes(
+        did: *const u8,
+        did_len: usize,
+        rev: *const u8,
+        rev_len: usize,
+        root: *const u8,
+        root_len: usize,
+        out: *mut u8,
+        room: usize,
+        size: *mut usize,
+    ) -> u8;
+    pub fn tizulgech_tree_apply(
+        nodes: *const u8,
+        nodes_len: usize,
+        node_ends: *const usize,
+        node_count: usize,
+        root: *const u8,
+        root_len: usize,
+        keys: *const u8,
+        keys_len: usize,
+        key_ends: *const usize,
+        key_count: usize,
+        values: *const u8,
+        values_len: usize,
+        missing: *mut u8,
+        missing_room: usize,
+        out: *mut u8,
+        room: usize,
+        size: *mut usize,
+    ) -> u8;
+    pub fn tizulgech_verify(
+        blocks: *const u8,
+        blocks_len: usize,
+        ends: *const usize,
+        count: usize,
+        root: *const u8,
+        root_len: usize,
+        key: *const u8,
+        key_len: usize,
+        value: *mut u8,
+        value_room: usize,
+    ) -> u8;
+    pub fn tizulgech_tree_root(
+        keys: *const u8,
+        keys_len: usize,
+        ends: *const usize,
+        count: usize,
+        cids: *const u8,
+        cids_len: usize,
+        out: *mut u8,
+        room: usize,
+        nodes: *mut usize,
+    ) -> u8;
+    pub fn tizulgech_listing_car(
+        did: *const u8,
+        did_len: usize,
+        rev: *const u8,
+        rev_len: usize,
+        keys: *const u8,
+        keys_len: usize,
+        key_ends: *const usize,
+        key_count: usize,
+        records: *const u8,
+        records_len: usize,
+        record_ends: *const usize,
+        record_count: usize,
+        out: *mut u8,
+        room: usize,
+        size: *mut usize,
+    ) -> u8;
+    pub fn tizulgech_open(limit: usize, repository: *mut Raw) -> u8;
+    pub fn tizulgech_close(repository: *mut Raw);
+    pub fn tizulgech_stage(
+        repository: *mut Raw,
+        kind: u8,
+        key: *const u8,
+        key_len: usize,
+        record: *const u8,
+        record_len: usize,
+    ) -> u8;
+    pub fn tizulgech_clear(repository: *mut Raw) -> u8;
+    pub fn tizulgech_apply(
+        repository: *mut Raw,
+        did: *const u8,
+        did_len: usize,
+        rev: *const u8,
+        rev_len: usize,
+        place: *mut usize,
+        root: *mut u8,
+        root_room: usize,
+        previous: *mut u8,
+        previous_room: usize,
+        commit: *mut u8,
+        commit_room: usize,
+    ) -> u8;
+    pub fn tizulgech_get(repository: *mut Raw, key: *const u8, key_len: usize, out: *mut u8, room: usize, size: *mut usize)
+    -> u8;
+    pub fn tizulgech_list(
+        repository: *mut Raw,
+        from: *const u8,
+        from_len: usize,
+        most: usize,
+        out: *mut u8,
+        room: usize,
+        size: *mut usize,
+    ) -> u8;
+    pub fn tizulgech_root(repository: *mut Raw, root: *mut u8, room: usize) -> u8;
+    pub fn tizulgech_commit(repository: *mut Raw, commit: *mut u8, room: usize) -> u8;
+    pub fn tizulgech_number(repository: *mut Raw, number: *mut u64) -> u8;
+    pub fn tizulgech_car(repository: *mut Raw, out: *mut u8, room: usize, size: *mut usize) -> u8;
+    pub fn tizulgech_car_length(repository: *mut Raw, length: *mut u64) -> u8;
+    pub fn tizulgech_car_part(repository: *mut Raw, from: u64, out: *mut u8, room: usize, size: *mut usize) -> u8;
+    pub fn tizulgech_prove(
+        repository: *mut Raw,
+        key: *const u8,
+        key_len: usize,
+        out: *mut u8,
+        room: usize,
+        size: *mut usize,
+    ) -> u8;
 }
 
 pub type Cid = [u8; 36];
@@ -117,33 +225,116 @@ pub fn stamp_fault(before: &[u8], did: &[u8], rev: &[u8]) -> u8 {
 
 pub fn commit_bytes(did: &[u8], rev: &[u8], root: &Cid, out: &mut [u8], size: &mut usize) -> u8 {
     // SAFETY: as above.
-    unsafe { tizulgech_commit_bytes(did.as_ptr(), did.len(), rev.as_ptr(), rev.len(), root.as_ptr(), 36, out.as_mut_ptr(), out.len(), size) }
+    unsafe {
+        tizulgech_commit_bytes(
+            did.as_ptr(),
+            did.len(),
+            rev.as_ptr(),
+            rev.len(),
+            root.as_ptr(),
+            36,
+            out.as_mut_ptr(),
+            out.len(),
+            size,
+        )
+    }
 }
 
-pub fn tree_apply(nodes: Parts<'_>, root: &Cid, keys: Parts<'_>, values: &[u8], missing: &mut Cid, out: &mut [u8], size: &mut usize) -> u8 {
+pub fn tree_apply(
+    nodes: Parts<'_>,
+    root: &Cid,
+    keys: Parts<'_>,
+    values: &[u8],
+    missing: &mut Cid,
+    out: &mut [u8],
+    size: &mut usize,
+) -> u8 {
     // SAFETY: as above, and room for 36 bytes.
-    unsafe { tizulgech_tree_apply(nodes.bytes.as_ptr(), nodes.bytes.len(), nodes.ends.as_ptr(), nodes.ends.len(), root.as_ptr(), 36, keys.bytes.as_ptr(), keys.bytes.len(), keys.ends.as_ptr(), keys.ends.len(), values.as_ptr(), values.len(), missing.as_mut_ptr(), 36, out.as_mut_ptr(), out.len(), size) }
+    unsafe {
+        tizulgech_tree_apply(
+            nodes.bytes.as_ptr(),
+            nodes.bytes.len(),
+            nodes.ends.as_ptr(),
+            nodes.ends.len(),
+            root.as_ptr(),
+            36,
+            keys.bytes.as_ptr(),
+            keys.bytes.len(),
+            keys.ends.as_ptr(),
+            keys.ends.len(),
+            values.as_ptr(),
+            values.len(),
+            missing.as_mut_ptr(),
+            36,
+            out.as_mut_ptr(),
+            out.len(),
+            size,
+        )
+    }
 }
 
 pub fn verify(blocks: Parts<'_>, root: &Cid, key: &[u8], value: &mut Cid) -> u8 {
     // SAFETY: as above, and room for 36 bytes.
-    unsafe { tizulgech_verify(blocks.bytes.as_ptr(), blocks.bytes.len(), blocks.ends.as_ptr(), blocks.ends.len(), root.as_ptr(), 36, key.as_ptr(), key.len(), value.as_mut_ptr(), 36) }
+    unsafe {
+        tizulgech_verify(
+            blocks.bytes.as_ptr(),
+            blocks.bytes.len(),
+            blocks.ends.as_ptr(),
+            blocks.ends.len(),
+            root.as_ptr(),
+            36,
+            key.as_ptr(),
+            key.len(),
+            value.as_mut_ptr(),
+            36,
+        )
+    }
 }
 
 pub fn tree_root(keys: Parts<'_>, cids: &[u8], out: &mut Cid, nodes: &mut usize) -> u8 {
     // SAFETY: as above, and room for 36 bytes.
-    unsafe { tizulgech_tree_root(keys.bytes.as_ptr(), keys.bytes.len(), keys.ends.as_ptr(), keys.ends.len(), cids.as_ptr(), cids.len(), out.as_mut_ptr(), 36, nodes) }
+    unsafe {
+        tizulgech_tree_root(
+            keys.bytes.as_ptr(),
+            keys.bytes.len(),
+            keys.ends.as_ptr(),
+            keys.ends.len(),
+            cids.as_ptr(),
+            cids.len(),
+            out.as_mut_ptr(),
+            36,
+            nodes,
+        )
+    }
 }
 
 pub fn listing_car(did: &[u8], rev: &[u8], keys: Parts<'_>, records: Parts<'_>, out: &mut [u8], size: &mut usize) -> u8 {
     // SAFETY: as above.
-    unsafe { tizulgech_listing_car(did.as_ptr(), did.len(), rev.as_ptr(), rev.len(), keys.bytes.as_ptr(), keys.bytes.len(), keys.ends.as_ptr(), keys.ends.len(), records.bytes.as_ptr(), records.bytes.len(), records.ends.as_ptr(), records.ends.len(), out.as_mut_ptr(), out.len(), size) }
+    unsafe {
+        tizulgech_listing_car(
+            did.as_ptr(),
+            did.len(),
+            rev.as_ptr(),
+            rev.len(),
+            keys.bytes.as_ptr(),
+            keys.bytes.len(),
+            keys.ends.as_ptr(),
+            keys.ends.len(),
+            records.bytes.as_ptr(),
+            records.bytes.len(),
+            records.ends.as_ptr(),
+            records.ends.len(),
+            out.as_mut_ptr(),
+            out.len(),
+            size,
+        )
+    }
 }
 
 /// A repository that is open, until it is dropped.
 ///
 /// Calls that only read write to it too, while they run. So it isn't `Sync`; and since no call calls back, one call at a
-/// time has it. Nor is it `Send`: that isn't proved of the library's type yet.
+/// time has it. Nor is it `Send`: that what stands behind the pointer may go to another thread isn't proved.
 pub struct Handle {
     raw: UnsafeCell<Raw>,
 }
@@ -168,9 +359,32 @@ impl Handle {
         unsafe { tizulgech_clear(self.raw.get()) }
     }
 
-    pub fn apply(&mut self, did: &[u8], rev: &[u8], place: &mut usize, root: &mut Cid, previous: &mut Cid, commit: &mut Cid) -> u8 {
+    pub fn apply(
+        &mut self,
+        did: &[u8],
+        rev: &[u8],
+        place: &mut usize,
+        root: &mut Cid,
+        previous: &mut Cid,
+        commit: &mut Cid,
+    ) -> u8 {
         // SAFETY: as above, and room for three times 36 bytes.
-        unsafe { tizulgech_apply(self.raw.get(), did.as_ptr(), did.len(), rev.as_ptr(), rev.len(), place, root.as_mut_ptr(), 36, previous.as_mut_ptr(), 36, commit.as_mut_ptr(), 36) }
+        unsafe {
+            tizulgech_apply(
+                self.raw.get(),
+                did.as_ptr(),
+                did.len(),
+                rev.as_ptr(),
+                rev.len(),
+                place,
+                root.as_mut_ptr(),
+                36,
+                previous.as_mut_ptr(),
+                36,
+                commit.as_mut_ptr(),
+                36,
+            )
+        }
     }
 
     pub fn get(&self, key: &[u8], out: &mut [u8], size: &mut usize) -> u8 {

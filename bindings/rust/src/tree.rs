@@ -19,10 +19,26 @@
 //! assert_eq!(tree::get(|cid| Ok::<_, std::io::Error>(nodes.get(cid).cloned()), &root, "a/b")?, Some(Cid::of(b"record")));
 //! # Ok::<(), Box<dyn std::error::Error>>(())
 //! ```
+//!
+//! A mirror that knows the root before a batch, and is told the root after it and what each key had and has, undoes the batch
+//! over some nodes of the tree after: what is true gives the root before, and as values before those that the keys have.
+//!
+//! ```
+//! # use std::{collections::HashMap, convert::Infallible};
+//! # use tizulgech::{Cid, tree};
+//! # let before: Cid = tree::EMPTY_ROOT.parse()?;
+//! # let edit = tree::put(|_| Ok::<_, Infallible>(Some(tree::EMPTY_NODE.to_vec())), &before, "a/b", &Cid::of(b"record"))?;
+//! # let (after, nodes): (Cid, HashMap<Cid, Vec<u8>>) = (edit.root, edit.add.into_iter().collect());
+//! let told = [("a/b", None, Some(Cid::of(b"record")))];
+//! let undone = told.map(|(key, was, _)| tree::Change { key: key.as_bytes(), value: was });
+//! let found = tree::apply(|cid| Ok::<_, Infallible>(nodes.get(cid).cloned()), &after, &undone)?;
+//! assert!(found.root == before && found.previous == told.map(|(_, _, is)| is));
+//! # Ok::<(), Box<dyn std::error::Error>>(())
+//! ```
 use crate::framing::{Joined, Reader, filled};
 use crate::sys;
 use crate::values::Cid;
-use std::collections::HashSet;
+use std::collections::HashMap;
 use std::error::Error;
 use std::fmt;
 
@@ -93,27 +109,51 @@ impl<E: Error + 'static> Error for EditError<E> {
     }
 }
 
-/// Goes from a root down to a key, and shows each node of its path with its CID; and then answers the key's value.
-fn walk<E>(
-    mut nodes: impl FnMut(&Cid) -> Result<Option<Vec<u8>>, E>,
-    root: &Cid,
-    key: &[u8],
-    mut visit: impl FnMut(Cid, &[u8]),
-) -> Result<Option<Cid>, EditError<E>> {
-    let mut cid = *root;
-    // No tree has more layers.
-    for _ in 0..=128 {
-        let node = nodes(&cid).map_err(EditError::Source)?.ok_or(EditError::Missing(cid))?;
-        visit(cid, &node);
-        let mut out = [0; 36];
-        match sys::step(&node, key, &mut out) {
-            0 => return Ok(Some(Cid(out))),
-            1 => cid = Cid(out),
-            24 => return Ok(None),
-            _ => return Err(EditError::BadNode),
-        }
+/// The nodes that a host was asked for, each once.
+struct Asked<F> {
+    nodes: F,
+    given: Joined,
+    places: HashMap<Cid, usize>,
+}
+
+impl<F> Asked<F> {
+    fn new<E>(nodes: F) -> Asked<F>
+    where
+        F: FnMut(&Cid) -> Result<Option<Vec<u8>>, E>,
+    {
+        Asked { nodes, given: Joined::default(), places: HashMap::new() }
     }
-    Err(EditError::BadNode)
+
+    fn node<E>(&mut self, cid: &Cid) -> Result<&[u8], EditError<E>>
+    where
+        F: FnMut(&Cid) -> Result<Option<Vec<u8>>, E>,
+    {
+        let next = self.places.len();
+        let place = *self.places.entry(*cid).or_insert(next);
+        if place == next {
+            self.given.push(&(self.nodes)(cid).map_err(EditError::Source)?.ok_or(EditError::Missing(*cid))?);
+        }
+        Ok(self.given.part(place))
+    }
+
+    /// Goes from a root down to a key, and answers its value.
+    fn walk<E>(&mut self, root: &Cid, key: &[u8]) -> Result<Option<Cid>, EditError<E>>
+    where
+        F: FnMut(&Cid) -> Result<Option<Vec<u8>>, E>,
+    {
+        let mut cid = *root;
+        // No tree has more layers.
+        for _ in 0..=128 {
+            let mut out = [0; 36];
+            match sys::step(self.node(&cid)?, key, &mut out) {
+                0 => return Ok(Some(Cid(out))),
+                1 => cid = Cid(out),
+                24 => return Ok(None),
+                _ => return Err(EditError::BadNode),
+            }
+        }
+        Err(EditError::BadNode)
+    }
 }
 
 /// The value of a key. The nodes are taken to have the CIDs that they stand under.
@@ -122,7 +162,7 @@ pub fn get<E>(
     root: &Cid,
     key: impl AsRef<[u8]>,
 ) -> Result<Option<Cid>, EditError<E>> {
-    walk(nodes, root, key.as_ref(), |_, _| ())
+    Asked::new(nodes).walk(root, key.as_ref())
 }
 
 /// Puts a key with a value into a tree: a batch of one change.
@@ -149,7 +189,7 @@ pub fn delete<E>(
 /// The nodes of each key's path are read first, each once; few changes need others, and those are asked for as the library
 /// names them.
 pub fn apply<E>(
-    mut nodes: impl FnMut(&Cid) -> Result<Option<Vec<u8>>, E>,
+    nodes: impl FnMut(&Cid) -> Result<Option<Vec<u8>>, E>,
     root: &Cid,
     changes: &[Change<'_>],
 ) -> Result<Edit, EditError<E>> {
@@ -158,32 +198,26 @@ pub fn apply<E>(
     if !changes.iter().all(|change| sys::is_key(change.key)) || !changes.is_sorted_by(|one, other| one.key < other.key) {
         return Err(EditError::BadKeys);
     }
-    let mut given = Joined::default();
-    let mut known = HashSet::new();
-    if changes.is_empty() {
-        given.push(&nodes(root).map_err(EditError::Source)?.ok_or(EditError::Missing(*root))?);
-    }
+    let mut asked = Asked::new(nodes);
+    asked.node(root)?;
     for change in changes {
-        walk(&mut nodes, root, change.key, |cid, node| {
-            if known.insert(cid) {
-                given.push(node);
-            }
-        })?;
+        asked.walk(root, change.key)?;
     }
     loop {
         let mut missing = [0; 36];
-        let answer = filled(given.len() + 256 * changes.len() + 1024, |out, size| {
-            sys::tree_apply(given.parts(), &root.0, keys.parts(), &values, &mut missing, out, size)
+        let first = asked.given.len() + 256 * changes.len() + 1024;
+        let answer = filled(first, |out, size| {
+            sys::tree_apply(asked.given.parts(), &root.0, keys.parts(), &values, &mut missing, out, size)
         });
         match answer {
             Ok(bytes) => return Ok(read(&bytes, changes.len())),
             // A node beside the paths. A block that isn't of its CID would be asked for again.
             Err(2) => {
                 let cid = Cid(missing);
-                if !known.insert(cid) {
+                if asked.places.contains_key(&cid) {
                     return Err(EditError::BadNode);
                 }
-                given.push(&nodes(&cid).map_err(EditError::Source)?.ok_or(EditError::Missing(cid))?);
+                asked.node(&cid)?;
             }
             Err(30) => return Err(EditError::BadNode),
             Err(252) => return Err(EditError::BadKeys),

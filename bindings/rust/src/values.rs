@@ -145,10 +145,8 @@ pub fn check_stamp(before: Option<&str>, stamp: Stamp<'_>) -> Result<(), StampFa
 /// # Ok::<(), Box<dyn std::error::Error>>(())
 /// ```
 pub fn commit_bytes(stamp: Stamp<'_>, root: &Cid) -> Result<Vec<u8>, TreeFault> {
-    filled(128 + stamp.did.len(), |out, size| {
-        sys::commit_bytes(stamp.did.as_bytes(), stamp.rev.as_bytes(), &root.0, out, size)
-    })
-    .map_err(TreeFault::of)
+    filled(128 + stamp.did.len(), |out, size| sys::commit_bytes(stamp.did.as_bytes(), stamp.rev.as_bytes(), &root.0, out, size))
+        .map_err(TreeFault::of)
 }
 
 /// The root and the number of nodes of the tree of these pairs, whose keys ascend.
@@ -169,7 +167,8 @@ pub fn tree_root<K: AsRef<[u8]>>(pairs: &[(K, Cid)]) -> Result<(Cid, usize), Tre
     }
 }
 
-/// The CAR file of a repository whose only batch puts these records under this stamp, which isn't tested.
+/// The CAR file of a repository whose only batch puts these records under this stamp. `TreeFault::NotBuilt` comes where a
+/// repository doesn't take them, or not under this stamp, or there are none.
 ///
 /// ```
 /// use tizulgech::{Stamp, listing_car};

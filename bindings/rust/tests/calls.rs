@@ -1,39 +1,11 @@
 //! The calls against published values, and against plain maps with trees from scratch.
-use std::collections::{BTreeMap, HashMap};
+#[path = "common/car.rs"]
+mod car;
+mod common;
+
+use common::*;
+use std::collections::{BTreeMap, BTreeSet};
 use tizulgech::*;
-
-/// A small generator: the tests need no crate.
-struct Random(u64);
-impl Random {
-    fn next(&mut self) -> u64 {
-        self.0 ^= self.0 << 13;
-        self.0 ^= self.0 >> 7;
-        self.0 ^= self.0 << 17;
-        self.0
-    }
-    fn below(&mut self, n: u64) -> u64 {
-        self.next() % n
-    }
-}
-
-fn hex(s: &str) -> Vec<u8> {
-    (0..s.len()).step_by(2).map(|i| u8::from_str_radix(&s[i..i + 2], 16).unwrap()).collect()
-}
-fn key(i: u64) -> String {
-    format!("app.bsky.feed.post/{}", &Cid::of(&i.to_be_bytes()).to_string()[20..33])
-}
-fn record(n: u64) -> Vec<u8> {
-    [b"\xa1\x64text\x58\x20".as_slice(), &Cid::of(&n.to_le_bytes()).as_bytes()[4..]].concat()
-}
-fn tid(n: u64) -> String {
-    let letters = b"234567abcdefghijklmnopqrstuvwxyz";
-    (0..13).rev().map(|i| letters[(n >> (5 * i)) as usize % 32] as char).collect()
-}
-fn scratch(records: &BTreeMap<String, Vec<u8>>) -> Cid {
-    let pairs: Vec<(&String, Cid)> = records.iter().map(|(k, r)| (k, Cid::of(r))).collect();
-    tree_root(&pairs.iter().map(|(k, c)| (k.as_str(), *c)).collect::<Vec<_>>()).unwrap().0
-}
-const DID: &str = "did:web:example.com";
 
 #[test]
 fn published() {
@@ -44,14 +16,26 @@ fn published() {
     assert_eq!(tree::EMPTY_ROOT.replacen('b', "B", 1).parse::<Cid>(), Err(CidFault::BadPrefix));
     assert_eq!(Cid::from_bytes([0; 36]), None);
     assert_eq!(Cid::from_bytes(*e.as_bytes()), Some(e));
-    for (key, want) in [("", 0), ("asdf", 0), ("blue", 1), ("2653ae71", 0), ("88bfafc7", 2), ("2a92d355", 4), ("884976f5", 6), ("app.bsky.feed.post/454397e440ec", 4), ("app.bsky.feed.post/9adeb165882c", 8)] {
+    for (key, want) in [
+        ("", 0),
+        ("asdf", 0),
+        ("blue", 1),
+        ("2653ae71", 0),
+        ("88bfafc7", 2),
+        ("2a92d355", 4),
+        ("884976f5", 6),
+        ("app.bsky.feed.post/454397e440ec", 4),
+        ("app.bsky.feed.post/9adeb165882c", 8),
+    ] {
         assert_eq!(layer(key), want, "{key}");
     }
     assert_eq!(check_record(&hex("a26162f6626161f5")), Ok(()));
     assert_eq!(check_record(&hex("a2626161f56162f6")), Err(RecordFault::KeyOrder));
     assert_eq!(check_record(&vec![0x81; 1_000_000]), Err(RecordFault::TooDeep));
     assert_eq!(check_record(&[]), Err(RecordFault::Truncated));
-    assert!(is_key("a") && !is_key("") && !is_key("k".repeat(1025)) && is_repository_key("a.b.c/d") && !is_repository_key("a/b/c"));
+    assert!(
+        is_key("a") && !is_key("") && !is_key("k".repeat(1025)) && is_repository_key("a.b.c/d") && !is_repository_key("a/b/c")
+    );
 }
 
 #[test]
@@ -63,8 +47,7 @@ fn published_roots() {
         let pairs: Vec<(&str, Cid)> = words.map(|k| (k, value)).collect();
         assert_eq!(tree_root(&pairs).unwrap().0, root);
         // the same one by one, from the last
-        let mut blocks = HashMap::from([(tree::EMPTY_ROOT.parse().unwrap(), tree::EMPTY_NODE.to_vec())]);
-        let mut now: Cid = tree::EMPTY_ROOT.parse().unwrap();
+        let (mut now, mut blocks) = no_pairs();
         for (key, value) in pairs.iter().rev() {
             now = change(&mut blocks, |b| tree::put(from(b), &now, key, value).unwrap()).0;
         }
@@ -74,25 +57,6 @@ fn published_roots() {
     assert_eq!(count, 11);
     let e = Cid::of(b"x");
     assert_eq!(tree_root(&[("b", e), ("a", e)]), Err(TreeFault::NotAscending));
-}
-
-type Nodes = HashMap<Cid, Vec<u8>>;
-
-fn change(nodes: &mut Nodes, edit: impl FnOnce(&Nodes) -> tree::Edit) -> (Cid, Vec<Option<Cid>>) {
-    let edit = edit(nodes);
-    for cid in &edit.drop {
-        assert!(nodes.remove(cid).is_some());
-    }
-    for (cid, node) in edit.add {
-        assert_eq!(cid, Cid::of(&node));
-        assert!(nodes.insert(cid, node).is_none());
-    }
-    (edit.root, edit.previous)
-}
-
-/// What a host's map of nodes gives.
-fn from(nodes: &Nodes) -> impl FnMut(&Cid) -> Result<Option<Vec<u8>>, ()> + '_ {
-    |cid| Ok(nodes.get(cid).cloned())
 }
 
 /// Random batches of all kinds: the repository is the plain map, and its root that of the tree from scratch.
@@ -105,7 +69,8 @@ fn random_batches() {
         let (mut number, mut commit) = (0, None);
         for batch in 0..40u64 {
             let (mut next, mut refused) = (plain.clone(), None);
-            let made: Vec<(u64, String, Vec<u8>)> = (0..random.below(8)).map(|_| (random.below(4), key(random.below(60)), record(random.below(50)))).collect();
+            let made: Vec<(u64, String, Vec<u8>)> =
+                (0..random.below(8)).map(|_| (random.below(4), key(random.below(60)), record(random.below(50)))).collect();
             for (place, (kind, key, record)) in made.iter().enumerate() {
                 let there = next.contains_key(key);
                 let fault = match kind {
@@ -117,12 +82,24 @@ fn random_batches() {
                     refused = Some(BatchError { place, fault });
                     break;
                 }
-                if *kind == 3 { next.remove(key); } else { next.insert(key.clone(), record.clone()); }
+                if *kind == 3 {
+                    next.remove(key);
+                } else {
+                    next.insert(key.clone(), record.clone());
+                }
             }
             if made.is_empty() {
                 refused = Some(BatchError { place: 0, fault: BatchFault::EmptyBatch });
             }
-            let writes: Vec<Write> = made.iter().map(|(kind, key, record)| match kind { 0 => Write::Put(key, record), 1 => Write::Create(key, record), 2 => Write::Update(key, record), _ => Write::Delete(key) }).collect();
+            let writes: Vec<Write> = made
+                .iter()
+                .map(|(kind, key, record)| match kind {
+                    0 => Write::Put(key, record),
+                    1 => Write::Create(key, record),
+                    2 => Write::Update(key, record),
+                    _ => Write::Delete(key),
+                })
+                .collect();
             let before = repository.root();
             match repository.apply(Stamp { did: DID, rev: &tid(batch + 1) }, &writes) {
                 Ok(applied) => {
@@ -131,6 +108,9 @@ fn random_batches() {
                     number += writes.len() as u64;
                     assert_eq!((applied.previous, applied.root), (before, scratch(&plain)));
                     commit = Some(applied.commit);
+                    let car = car::read(&repository.car().unwrap());
+                    assert_eq!((&*car.did, car.rev, Some(car.commit), car.root), (DID, tid(batch + 1), commit, applied.root));
+                    assert_eq!(car.records, plain);
                 }
                 Err(error) => assert_eq!(Some(error), refused),
             }
@@ -140,12 +120,11 @@ fn random_batches() {
             let proof = repository.prove(&key).unwrap();
             assert_eq!(proof.verify(&repository.root(), &key), Ok(plain.get(&key).map(|r| Cid::of(r))));
             let from = format!("app.bsky.feed.post/{}", random.below(10));
-            let want: Vec<(Vec<u8>, Cid)> = plain.range(from.clone()..).take(5).map(|(k, r)| (k.clone().into_bytes(), Cid::of(r))).collect();
+            let want: Vec<(Vec<u8>, Cid)> =
+                plain.range(from.clone()..).take(5).map(|(k, r)| (k.clone().into_bytes(), Cid::of(r))).collect();
             assert_eq!(repository.list(&from, 5).unwrap(), want);
         }
         assert!(repository.pairs("").eq(plain.iter().map(|(k, r)| (k.clone().into_bytes(), Cid::of(r)))));
-        let car = repository.car().unwrap();
-        assert!(car.windows(36).any(|w| w == commit.unwrap().as_bytes()));
     }
 }
 
@@ -164,7 +143,10 @@ fn each_fault() {
     assert_eq!(fault(&tid(1), DID, &[Write::Put(k, &vec![0; 1_048_577])]), at(0, BatchFault::RecordSize));
     assert_eq!(fault(&tid(1), DID, &[Write::Update(k, r)]), at(0, BatchFault::NoSuchKey));
     assert_eq!(fault(&tid(1), DID, &[Write::Put(k, r); 4]), at(3, BatchFault::WritesFull));
-    assert_eq!(at(1, BatchFault::BadRecord(RecordFault::KeyOrder)).to_string(), "write 1: the record is not DAG-CBOR: keys of a map that are out of order or stand twice");
+    assert_eq!(
+        at(1, BatchFault::BadRecord(RecordFault::KeyOrder)).to_string(),
+        "write 1: the record is not DAG-CBOR: keys of a map that are out of order or stand twice"
+    );
     assert_eq!(repository.number(), 0);
     repository.apply(Stamp { did: DID, rev: &tid(5) }, &[Write::Create(k, r)]).unwrap();
     let again = repository.apply(Stamp { did: DID, rev: &tid(5) }, &[Write::Put(k, r)]).unwrap_err();
@@ -197,7 +179,19 @@ fn files() {
     }
     assert_eq!(repository.car_part(file.len() as u64, &mut [0; 10]).unwrap(), 0);
     assert_eq!(repository.car_part(u64::MAX, &mut [0; 10]).unwrap(), 0);
+    let read = car::read(&file);
+    assert_eq!((read.rev.as_str(), read.root, read.records), (stamp.rev, repository.root(), records.iter().cloned().collect()));
     assert_eq!(listing_car(stamp, &[("bad", b"\xa0")]), Err(TreeFault::NotBuilt));
+    assert_eq!(listing_car(stamp, &[] as &[(&str, &[u8])]), Err(TreeFault::NotBuilt));
+    assert_eq!(listing_car(Stamp { did: "nobody", ..stamp }, &records), Err(TreeFault::NotBuilt));
+    // one without a batch has no commit: its file's root is that of its tree
+    let none = Repository::open(1).unwrap().car().unwrap();
+    assert!(
+        none.ends_with(
+            &[&[36 + tree::EMPTY_NODE.len() as u8], &tree::EMPTY_ROOT.parse::<Cid>().unwrap().as_bytes()[..], tree::EMPTY_NODE]
+                .concat()
+        )
+    );
     // a proof with a byte changed proves nothing
     let root = repository.root();
     let mut proof = repository.prove(key(7)).unwrap();
@@ -211,8 +205,7 @@ fn files() {
 #[test]
 fn edits() {
     let mut random = Random(7);
-    let mut root: Cid = tree::EMPTY_ROOT.parse().unwrap();
-    let mut nodes = HashMap::from([(root, tree::EMPTY_NODE.to_vec())]);
+    let (mut root, mut nodes) = no_pairs();
     let mut plain: BTreeMap<String, Cid> = BTreeMap::new();
     for i in 0..3000u64 {
         let key = key(random.below(400));
@@ -237,17 +230,11 @@ fn edits() {
     assert_eq!(tree::put(|_: &Cid| Err("no database"), &root, "a", &root), Err(tree::EditError::Source("no database")));
 }
 
-fn of_scratch(plain: &BTreeMap<String, Cid>) -> (Cid, usize) {
-    let pairs: Vec<(&str, Cid)> = plain.iter().map(|(k, v)| (k.as_str(), *v)).collect();
-    tree_root(&pairs).unwrap()
-}
-
 /// Batches over nodes that the host keeps.
 #[test]
 fn batches_of_changes() {
     let mut random = Random(99);
-    let mut root: Cid = tree::EMPTY_ROOT.parse().unwrap();
-    let mut nodes = HashMap::from([(root, tree::EMPTY_NODE.to_vec())]);
+    let (mut root, mut nodes) = no_pairs();
     let mut plain: BTreeMap<String, Cid> = BTreeMap::new();
     for turn in 0..200u64 {
         let drawn: BTreeMap<String, Option<Cid>> = (0..random.below(30))
@@ -270,35 +257,52 @@ fn batches_of_changes() {
     assert_eq!(tree::apply(from(&nodes), &root, &two), Err(tree::EditError::BadKeys));
 }
 
-/// Each node that an edit asks for missing in turn: the fault has its CID, and with it the edit goes through.
+/// Each node that changes ask for missing in turn: the fault has its CID, and with it the changes go through.
 #[test]
 fn each_node_missing() {
-    let mut root: Cid = tree::EMPTY_ROOT.parse().unwrap();
-    let mut nodes = HashMap::from([(root, tree::EMPTY_NODE.to_vec())]);
+    let (mut root, mut nodes) = no_pairs();
     for i in 0..200u64 {
         root = change(&mut nodes, |n| tree::put(from(n), &root, key(i), &Cid::of(b"")).unwrap()).0;
     }
+    let new = Cid::of(b"new");
     for i in 0..40u64 {
-        let (mut asked, whole) = (Vec::new(), from(&nodes));
-        let mut whole = whole;
-        let edit = tree::delete(
-            |cid: &Cid| {
-                asked.push(*cid);
-                whole(cid)
-            },
-            &root,
-            key(i),
-        )
-        .unwrap();
-        assert_eq!(edit.previous, [Some(Cid::of(b""))]);
-        assert!(edit.drop.iter().all(|cid| asked.contains(cid)));
-        for gone in &asked {
-            let some = |cid: &Cid| Ok::<_, ()>(nodes.get(cid).filter(|_| cid != gone).cloned());
-            assert_eq!(tree::delete(some, &root, key(i)), Err(tree::EditError::Missing(*gone)));
-            // Another node under its CID is noticed.
-            let wrong = |cid: &Cid| Ok::<_, ()>(if cid == gone { Some(tree::EMPTY_NODE.to_vec()) } else { nodes.get(cid).cloned() });
-            assert!(tree::delete(wrong, &root, key(i)).is_err());
+        // a delete, a new value, a new key, and all of them at once with others
+        let wanted: [&[(u64, Option<Cid>)]; 4] = [
+            &[(i, None)],
+            &[(i, Some(new))],
+            &[(i + 1000, Some(new))],
+            &[(i, None), (i + 50, Some(new)), (i + 100, None), (i + 1000, Some(new))],
+        ];
+        for wanted in wanted {
+            let wanted: BTreeMap<String, Option<Cid>> = wanted.iter().map(|(i, value)| (key(*i), *value)).collect();
+            let changes: Vec<tree::Change> =
+                wanted.iter().map(|(key, value)| tree::Change { key: key.as_bytes(), value: *value }).collect();
+            each_missing(&nodes, &root, &changes);
         }
+    }
+}
+
+fn each_missing(nodes: &Nodes, root: &Cid, changes: &[tree::Change]) {
+    let mut asked = Vec::new();
+    let all = |cid: &Cid| {
+        asked.push(*cid);
+        Ok::<_, ()>(nodes.get(cid).cloned())
+    };
+    let edit = tree::apply(all, root, changes).unwrap();
+    assert_eq!(asked.iter().collect::<BTreeSet<_>>().len(), asked.len(), "a node is asked for twice");
+    for change in changes {
+        let place = changes.iter().position(|other| other.key == change.key).unwrap();
+        assert_eq!(edit.previous[place], tree::get(from(nodes), root, change.key).unwrap());
+    }
+    assert!(edit.drop.iter().all(|cid| asked.contains(cid)));
+    for gone in &asked {
+        let some = |cid: &Cid| Ok::<_, ()>(nodes.get(cid).filter(|_| cid != gone).cloned());
+        assert_eq!(tree::apply(some, root, changes), Err(tree::EditError::Missing(*gone)));
+        let faulty = |cid: &Cid| if cid == gone { Err(*cid) } else { Ok(nodes.get(cid).cloned()) };
+        assert_eq!(tree::apply(faulty, root, changes), Err(tree::EditError::Source(*gone)));
+        // Another node under its CID is noticed.
+        let wrong = |cid: &Cid| Ok::<_, ()>(if cid == gone { Some(tree::EMPTY_NODE.to_vec()) } else { nodes.get(cid).cloned() });
+        assert!(tree::apply(wrong, root, changes).is_err());
     }
 }
 
@@ -328,13 +332,39 @@ fn threads() {
                 let mut plain = BTreeMap::new();
                 for i in 0..300 {
                     let (key, record) = (key(t * 1000 + i), record(i));
-                    let applied = repository.apply(Stamp { did: DID, rev: &tid(i + 1) }, &[Write::Create(&key, &record)]).unwrap();
+                    let applied =
+                        repository.apply(Stamp { did: DID, rev: &tid(i + 1) }, &[Write::Create(&key, &record)]).unwrap();
                     plain.insert(key, record);
-                    if i % 50 == 0 { assert_eq!(applied.root, scratch(&plain)); }
+                    if i % 50 == 0 {
+                        assert_eq!(applied.root, scratch(&plain));
+                    }
                     let cid = Cid::of(&i.to_le_bytes());
                     assert_eq!(cid.to_string().parse(), Ok(cid));
                 }
             });
         }
     });
+}
+
+/// A repository takes 1,048,576 writes, and not one more. It holds two gigabytes, for a minute or more:
+/// cargo test --release -- --ignored
+#[test]
+#[ignore]
+fn most_writes() {
+    let mut repository = Repository::open(1_048_576).unwrap();
+    let mut apply = |rev: u64, numbers: std::ops::Range<u64>| {
+        let writes: Vec<(String, Vec<u8>)> = numbers.map(|i| (key(i), record(i))).collect();
+        let writes: Vec<Write> = writes.iter().map(|(key, record)| Write::Put(key, record)).collect();
+        repository.apply(Stamp { did: DID, rev: &tid(rev) }, &writes)
+    };
+    for turn in 0..104 {
+        apply(turn + 1, turn * 10_000..(turn + 1) * 10_000).unwrap();
+    }
+    let full = |place| Err(BatchError { place, fault: BatchFault::WritesFull });
+    assert_eq!(apply(105, 1_040_000..1_050_000), full(8576));
+    let applied = apply(106, 1_040_000..1_048_576).unwrap();
+    let pairs: BTreeMap<String, Cid> = (0..1_048_576).map(|i| (key(i), Cid::of(&record(i)))).collect();
+    assert_eq!(applied.root, of_scratch(&pairs).0);
+    assert_eq!(repository.apply(Stamp { did: DID, rev: &tid(107) }, &[Write::Delete(&key(0))]), full(0));
+    assert_eq!((repository.number(), repository.root(), repository.get(key(0))), (1_048_576, applied.root, Ok(Some(record(0)))));
 }

@@ -2,10 +2,11 @@
 
 ghost use Rattle.std.specs.Prelude.{◌≤◌};
 
+use block::Block;
 use cid::digests::{Size, Toy};
-use cid::{Block, Cid, Digest};
+use cid::{Cid, Digest};
 use kept::Kept;
-use lookups::{Lent, MarkedBlock, Source, is_node};
+use lookups::Source;
 use repo_fixtures::batch::{EMPTY, ONE, TWO};
 use repo_fixtures::cores::counts;
 use std::alloc::{AllocError, Global};
@@ -227,10 +228,10 @@ static WHAT_IS_REFUSED: [Row; 5] = [
 ];
 
 /// The blocks of these bytes.
-fn blocks_of<D: Digest>(alloc: Global, list: &[&[u8]]) -> Result<Vec<MarkedBlock<D>>, AllocError> {
+fn blocks_of<D: Digest>(alloc: Global, list: &[&[u8]]) -> Result<Vec<Arc<Block<D>>>, AllocError> {
     let mut blocks = Vec::new(alloc);
     for bytes in list {
-        blocks.push(MarkedBlock::of(block_of(alloc, bytes)?))?;
+        blocks.push(block_of(alloc, bytes)?)?;
     }
     Ok(blocks)
 }
@@ -263,16 +264,6 @@ fn is_block<D: Digest>(block: Option<&Arc<Block<D>>>, bytes: &[u8], there: bool)
     }
 }
 
-/// Whether a block is lent where one is to be, with these bytes, and shows a node where the bytes are one.
-fn is_lent<D: Digest>(lent: Option<Lent<'_, D>>, bytes: &[u8], there: bool) -> bool {
-    match lent {
-        Some(lent) => {
-            there && lent.block().bytes() == bytes && lent.view().is_some() == is_node(bytes)
-        }
-        None => !there,
-    }
-}
-
 /// Whether the block of these bytes is used so, is found and lent where it is used at all, and is held by so many cores.
 fn is_used<D: Digest>(shard: &Shard<D>, kept: &Kept<D>, bytes: &[u8], uses: Uses) -> bool {
     let cid = Cid::of::<D>(bytes);
@@ -280,9 +271,9 @@ fn is_used<D: Digest>(shard: &Shard<D>, kept: &Kept<D>, bytes: &[u8], uses: Uses
     kept.uses(&cid) == times
         && shard.count(&cid) == cores
         && is_block(kept.block(&cid), bytes, times > 0)
-        && is_lent(kept.lender().get(&cid), bytes, cores > 0)
+        && is_block(kept.lender().get(&cid), bytes, cores > 0)
         && match kept.lender().get_counted(&cid) {
-            Some((lent, told)) => told == times && is_lent(Some(lent), bytes, cores > 0),
+            Some((lent, told)) => told == times && is_block(Some(lent), bytes, cores > 0),
             None => cores == 0,
         }
 }

@@ -3,7 +3,8 @@
 ghost use Rattle.std.specs.Prelude.{◌≡◌};
 ghost use Rattle.batches.specs.declared.fault.RepoFault.TheVariants as faults;
 
-use cid::{Collided, Digest};
+use block::Collided;
+use cid::Digest;
 use dagcbor::CborFault;
 use std::alloc::{AllocError, AllocFailed, Allocator, Global};
 use store::StoreFault;

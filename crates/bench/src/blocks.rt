@@ -1,4 +1,5 @@
-use cid::{Block, Sha256};
+use block::Block;
+use cid::Sha256;
 use std::alloc::{AllocError, Global};
 use std::sync::Arc;
 use store::{Hold, Shard, StoreFault};

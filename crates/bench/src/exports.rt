@@ -1,7 +1,8 @@
 //! The CAR of a repository, and proofs of its keys.
 
 use crate::watch::Watch;
-use cid::{Block, Cid, Sha256};
+use block::Block;
+use cid::{Cid, Sha256};
 use export::{ToMemory, car, prove, verify};
 use repo::Core;
 use std::alloc::{AllocError, Global};

@@ -1,7 +1,8 @@
 //! Look-ups over the blocks of one tree in memory.
 
 use crate::watch::Watch;
-use cid::{Block, Cid, Sha256};
+use block::Block;
+use cid::{Cid, Sha256};
 use lookups::{BlockMap, get};
 use std::alloc::Global;
 use std::sync::Arc;

@@ -1,8 +1,9 @@
 //! Trees from listings of keys and CIDs.
 
 use crate::watch::Watch;
+use block::Block;
 use bstr::ByteSlice;
-use cid::{Block, Cid, Sha256};
+use cid::{Cid, Sha256};
 use scratch::{build, is_ascending};
 use std::alloc::{AllocError, Global};
 use std::sync::Arc;

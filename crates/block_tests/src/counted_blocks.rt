@@ -1,8 +1,9 @@
 //! One table of counted blocks: who holds them, its limit, collisions, want of memory, and that equal blocks are shared.
 
 use crate::fixtures::{EMPTY, ONE, acquired, block, entry_count, keep, release_each};
+use block::Block;
 use cid::digests::{Clash, Toy};
-use cid::{Block, Cid, Digest};
+use cid::{Cid, Digest};
 use refusing::Refusing;
 use std::alloc::{Allocator, Global};
 use std::process::Abort;

@@ -1,7 +1,8 @@
 //! Blocks and holds for the tests.
 ghost use Rattle.std.specs.Prelude.{◌<◌};
 
-use cid::{Block, Digest};
+use block::Block;
+use cid::Digest;
 use std::alloc::Allocator;
 use std::process::Abort;
 use std::sync::Arc;

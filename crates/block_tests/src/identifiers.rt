@@ -2,8 +2,9 @@
 ghost use Rattle.std.specs.Prelude.{◌<◌};
 
 use crate::fixtures::{EMPTY_NODE, block};
+use block::{Block, Collided};
 use cid::digests::Clash;
-use cid::{Block, Cid, CidFault, CidRef, Collided, Sha256};
+use cid::{Cid, CidFault, CidRef, Sha256};
 use std::alloc::Global;
 use std::cmp::Ordering;
 use std::hash::{DefaultHasher, Hash, Hasher};

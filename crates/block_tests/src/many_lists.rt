@@ -1,8 +1,9 @@
 //! Digests and blocks of many lists of bytes at once.
 
 use crate::fixtures::EMPTY_NODE;
+use block::Block;
 use cid::digests::Toy;
-use cid::{Block, Cid, Digest, Sha256};
+use cid::{Cid, Digest, Sha256};
 use std::test::Fail;
 
 const LISTS: [&[u8]; 5] = [b"", b"a", &EMPTY_NODE, b"a", b"blue"];

@@ -2,8 +2,9 @@
 //! behind it.
 
 use crate::fixtures::{EMPTY, block, entry_count, keep};
+use block::Block;
 use cid::digests::Toy;
-use cid::{Block, Cid, Digest, Sha256};
+use cid::{Cid, Digest, Sha256};
 use std::alloc::Global;
 use std::process::Abort;
 use std::sync::{Arc, Wait};

@@ -1,8 +1,9 @@
 //! What a core asks of a store, by each of those that there are.
 
 use crate::fixtures::{EMPTY, ONE, block, entry_count};
+use block::Block;
 use cid::digests::{Clash, Size, Toy};
-use cid::{Block, Cid, Digest};
+use cid::{Cid, Digest};
 use refusing::Refusing;
 use std::alloc::{Allocator, Global};
 use std::process::Abort;

@@ -1,8 +1,9 @@
 //! Blocks are made of given bytes where all memory is refused.
 
 use crate::fixtures::EMPTY;
+use block::Block;
 use cid::digests::Toy;
-use cid::{Block, Cid, Digest, Sha256};
+use cid::{Cid, Digest, Sha256};
 use refusing::Refusing;
 use std::alloc::Global;
 

@@ -3,7 +3,8 @@
 ghost use Rattle.std.specs.Prelude.{◌≡◌, ◌++◌, OnOk};
 ghost use Rattle.buffers.specs.Answers.{block_bytes, cids_bytes, number_bytes, pair_bytes, part_bytes, value_bytes, values_bytes};
 
-use cid::{Block, Cid, Digest};
+use block::Block;
+use cid::{Cid, Digest};
 use std::alloc::AllocError;
 
 /// Puts a number at the end: eight bytes, the lowest first.

@@ -3,7 +3,8 @@
 ghost use Rattle.std.specs.Prelude.{◌≡◌, ◌<◌, ◌≤◌, [], true, suc, length, IfOk, OnOk, OnErr};
 ghost use Rattle.car_parts.specs.Windows.{part_of};
 
-use export::{Failed, Log, Out};
+use counts::Count;
+use export::{Failed, Out, Taken};
 use std::alloc::Global;
 use std::marker::Model;
 
@@ -16,7 +17,8 @@ pub struct Window {
     room: usize,
     left: u64,
     part: Vec<u8>,
-    log: Log,
+    taken: Taken,
+    failures: Count,
 }
 
 impl Model for Window {
@@ -27,11 +29,11 @@ impl Model for Window {
     ghost view = { λ w. record {
       from = w.from;
       room = w.room;
-      taken = w.log.taken;
-      failures = w.log.failures;
+      taken = w.taken.bytes;
+      failures = w.failures.times;
     } };
 
-    ghost invariant = { λ w. IsWindow w.from w.room w.log.taken w.left w.part.items };
+    ghost invariant = { λ w. IsWindow w.from w.room w.taken.bytes w.left w.part.items };
 }
 
 impl Window {
@@ -39,13 +41,13 @@ impl Window {
     pub fn new(alloc: Global, from: u64, room: usize) -> Window
         ensures { result ≡ record { from = from; room = room; taken = []; failures = 0 } }
     {
-        let log = Log::empty();
         Window {
             from,
             room,
             left: from,
             part: Vec::new(alloc),
-            log,
+            taken: Taken::nothing(),
+            failures: Count::never(),
         }
     }
 
@@ -74,22 +76,22 @@ impl Out for Window {
         if self.left > 0 {
             let count = least(self.left, bytes.len());
             self.left -= count as u64;
-            self.log = self.log.with(&bytes[..count]);
+            self.taken = self.taken.with(&bytes[..count]);
             return Ok(count);
         }
         let free = self.room - self.part.len();
         let count = least(free as u64, bytes.len());
         if count == 0 && !bytes.is_empty() {
-            self.log = self.log.failed();
+            self.failures = self.failures.once_more();
             return Err(Failed);
         }
         match self.part.extend_from_slice(&bytes[..count]) {
             Ok(()) => {
-                self.log = self.log.with(&bytes[..count]);
+                self.taken = self.taken.with(&bytes[..count]);
                 Ok(count)
             }
             Err(_) => {
-                self.log = self.log.failed();
+                self.failures = self.failures.once_more();
                 Err(Failed)
             }
         }

@@ -1,8 +1,10 @@
 //! A change of twenty keys, and the trees before and after it.
 
-use change_proofs::{ChangeFault, KeyChange, are_key_changes, verify_blocks};
+use block::Block;
+use change_proofs::{ChangeFault, KeyChange, are_key_changes, prove_change_over, verify_blocks};
+use cid::Cid;
 use cid::digests::Toy;
-use cid::{Block, Cid};
+use lookups::BlockMap;
 use scratch::{Built, build, is_ascending};
 use std::alloc::{AllocError, Allocator, Global};
 use std::sync::Arc;
@@ -53,13 +55,18 @@ fn pairs_of(alloc: Global, side: Side) -> Result<Vec<(Vec<u8>, Cid)>, AllocError
     Ok(pairs)
 }
 
+/// The tree of these pairs from scratch.
+pub(crate) fn built(alloc: Global, pairs: &[(Vec<u8>, Cid)]) -> Option<Built<Toy>> {
+    if !is_ascending(pairs) {
+        return None;
+    }
+    build::<Toy, 2, Vec<u8>, _>(alloc, pairs).ok()
+}
+
 /// The tree of a side from scratch.
 pub(crate) fn tree_of(alloc: Global, side: Side) -> Option<Built<Toy>> {
     let pairs = pairs_of(alloc, side).ok()?;
-    if !is_ascending(&pairs) {
-        return None;
-    }
-    build::<Toy, 2, Vec<u8>, _>(alloc, &pairs).ok()
+    built(alloc, &pairs)
 }
 
 /// The changes between them.
@@ -105,6 +112,21 @@ pub(crate) fn verified(
         return Err(ChangeFault::NoMemory);
     }
     verify_blocks::<Toy, 2, _>(alloc, before, after, blocks, changes)
+}
+
+/// The nodes that show these changes in the tree with this root over these blocks. What are no changes is answered as if there
+/// were no memory.
+pub(crate) fn proved(
+    alloc: Global,
+    blocks: &[Arc<Block<Toy>>],
+    after: Cid,
+    changes: &[KeyChange<'_>],
+) -> Result<Blocks, ChangeFault<Toy>> {
+    if !are_key_changes(changes) {
+        return Err(ChangeFault::NoMemory);
+    }
+    let mut map = BlockMap::new(alloc, blocks)?;
+    prove_change_over::<Toy, 2, _, _>(alloc, &mut map, after, changes)
 }
 
 /// Adds some blocks to others, but for the one of this CID.

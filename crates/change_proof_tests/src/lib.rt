@@ -2,12 +2,20 @@
 #![tactic(auto)]
 
 #[cfg(test)]
+mod by_hand;
+#[cfg(test)]
+mod deep;
+#[cfg(test)]
 mod example;
 #[cfg(test)]
 mod fixtures;
 #[cfg(test)]
 mod memory;
 #[cfg(test)]
+mod random;
+#[cfg(test)]
 mod refusals;
+#[cfg(test)]
+mod repositories;
 #[cfg(test)]
 mod shown;

@@ -7,7 +7,7 @@ use cid::digests::Toy;
 use std::alloc::{AllocError, Global};
 
 /// The block that is told as missing, if one is.
-fn missing_in(answer: &Result<(), ChangeFault<Toy>>) -> Option<Cid> {
+pub(crate) fn missing_in(answer: &Result<(), ChangeFault<Toy>>) -> Option<Cid> {
     match answer {
         Err(ChangeFault::BlockMissing(cid)) => Some(*cid),
         _ => None,
@@ -15,7 +15,7 @@ fn missing_in(answer: &Result<(), ChangeFault<Toy>>) -> Option<Cid> {
 }
 
 /// The place whose value is told as another, if one is.
-fn other_value_in(answer: &Result<(), ChangeFault<Toy>>) -> Option<usize> {
+pub(crate) fn other_value_in(answer: &Result<(), ChangeFault<Toy>>) -> Option<usize> {
     match answer {
         Err(ChangeFault::OtherValue(place)) => Some(*place),
         _ => None,
@@ -23,7 +23,7 @@ fn other_value_in(answer: &Result<(), ChangeFault<Toy>>) -> Option<usize> {
 }
 
 /// Whether another root is told.
-fn is_other_root(answer: &Result<(), ChangeFault<Toy>>) -> bool {
+pub(crate) fn is_other_root(answer: &Result<(), ChangeFault<Toy>>) -> bool {
     match answer {
         Err(ChangeFault::OtherRoot) => true,
         _ => false,
@@ -89,7 +89,7 @@ fn a_block_is_missing(rt: HostRuntime) {
 
 /// Which value of a change is another.
 #[derive(Clone, Copy)]
-enum Part {
+pub(crate) enum Part {
     Before,
     After,
 }
@@ -120,7 +120,7 @@ fn same(change: &KeyChange<'static>) -> KeyChange<'static> {
 }
 
 /// The changes, of which the one at a place is altered.
-fn with_altered(
+pub(crate) fn with_altered(
     alloc: Global,
     changes: &[KeyChange<'static>],
     place: usize,

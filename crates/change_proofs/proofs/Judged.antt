@@ -57,7 +57,7 @@ shows-same digest bs = ap shown_by (gives-same digest bs)
 
 -- ---- layers
 
-puts-same : (lay : List ℕ → ℕ) (cs : List Change) → edit_put_layers lay cs ≡ put_layers lay cs
+pub puts-same : (lay : List ℕ → ℕ) (cs : List Change) → edit_put_layers lay cs ≡ put_layers lay cs
 puts-same lay [] = refl
 puts-same lay ((key, None) ∷ cs) = ap (max 0) (puts-same lay cs)
 puts-same lay ((key, Some v) ∷ cs) = ap (max (suc (lay key))) (puts-same lay cs)

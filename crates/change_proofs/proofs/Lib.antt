@@ -5,3 +5,4 @@ pub mod Looked
 pub mod Judged
 pub mod Saying
 pub mod Wholes
+pub mod ReadNodes

@@ -1,10 +1,15 @@
 -- Lists from a place on, and by their first element.
-use Rattle.std.proofs.Common.{◌≡◌, ℕ, ◌+◌, ◌-◌, ◌≤◌, List, [], ◌∷◌, length, get_or, take, drop, sym, ap, ◌∙◌, arith}
+use Rattle.std.proofs.Common.{◌≡◌, ℕ, ◌+◌, ◌-◌, ◌≤◌, ◌<◌, List, [], ◌∷◌, length, get_or, take, drop, refl, sym, ap, ◌∙◌, arith}
 use Rattle.std.proofs.lemmas.List.{take_all, length-drop}
 
 -- all from a place on
 pub rest-of : {X : Type 0} (xs : List X) (i : ℕ) → take (length xs - i) (drop i xs) ≡ drop i xs
 rest-of xs i = let l = length-drop i xs in take_all (length xs - i) (drop i xs) (omega (arith, l))
+
+-- a list without a first element
+pub none-below : {X : Type 0} (xs : List X) → length xs < 1 → xs ≡ []
+none-below [] h = refl
+none-below (x ∷ xs) h = absurd (omega arith)
 
 -- a list by its first element and the others
 pub head-tail : {X : Type 0} (xs : List X) (x : X) → 1 ≤ length xs → x ≡ get_or xs 0 x

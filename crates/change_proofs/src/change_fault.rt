@@ -3,7 +3,8 @@
 ghost use Rattle.std.specs.Prelude.{◌≡◌};
 ghost use Rattle.change_proofs.specs.declared.change_fault.ChangeFault.TheVariants.{NoMemory};
 
-use cid::{Cid, Collided, Digest};
+use block::Collided;
+use cid::{Cid, Digest};
 use edit::EditFault;
 use std::alloc::{AllocError, AllocFailed, Allocator, Global};
 use thiserror::Error;

@@ -3,7 +3,8 @@
 ghost use Rattle.std.specs.Prelude.{◌≡◌, map, IfOk};
 ghost use Rattle.std.specs.Arc.{arc_value};
 
-use cid::{Block, Digest};
+use block::Block;
+use cid::Digest;
 use std::alloc::{AllocError, Allocator};
 use std::clone::Clone;
 use std::convert::AsSlice;

@@ -19,11 +19,15 @@
 
 mod change_fault;
 mod given;
+mod proving;
+mod proving_fault;
 mod told;
 mod undoing;
 mod values;
 mod verifying;
 
 pub use change_fault::ChangeFault;
+pub use proving::{prove_change, prove_change_over};
+pub use proving_fault::ProvingFault;
 pub use told::{KeyChange, are_key_changes};
 pub use verifying::{verify_blocks, verify_change};

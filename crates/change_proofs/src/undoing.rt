@@ -7,11 +7,13 @@ ghost use Rattle.change_proofs.specs.Verdicts.{IsUndone};
 
 use crate::change_fault::ChangeFault;
 use crate::told::{KeyChange, undone};
+use block::Block;
 use cid::{Cid, Digest};
 use edit::apply;
-use lookups::{Lent, Source};
+use lookups::Source;
 use std::alloc::Allocator;
 use std::clone::Clone;
+use std::sync::Arc;
 
 /// The root of the tree with this root, with each change undone.
 pub(crate) fn root_before<
@@ -19,7 +21,7 @@ pub(crate) fn root_before<
     D: Digest + 'a,
     const B: u8,
     A: Allocator + Clone + 'a,
-    S: Source<Lent<'a, D, A>>,
+    S: Source<&'a Arc<Block<D, A>, A>>,
 >(alloc: A, src: &mut S, root: Cid, changes: &[KeyChange<'_>]) -> Result<Cid, ChangeFault<D, A>>
     requires least { 1 ≤ B }
     requires changes { are_changes_of (undone_of changes.now) ≡ true }

@@ -8,10 +8,12 @@ ghost use Rattle.change_laws.specs.Verdict.{are_told, is_same as is_same_of};
 ghost use Rattle.change_proofs.specs.Verdicts.{told_of, values_from};
 
 use crate::told::KeyChange;
+use block::Block;
 use cid::{Cid, Digest};
-use lookups::{Lent, Source};
+use lookups::Source;
 use node::Place;
 use std::alloc::Allocator;
+use std::sync::Arc;
 
 /// The place of the first change whose key has another value than the one told after it, or `None`.
 pub(crate) fn other_value<
@@ -19,7 +21,7 @@ pub(crate) fn other_value<
     D: Digest + 'a,
     const B: u8,
     A: Allocator + 'a,
-    S: Source<Lent<'a, D, A>>,
+    S: Source<&'a Arc<Block<D, A>, A>>,
 >(src: &mut S, root: Cid, changes: &[KeyChange<'_>]) -> Option<usize>
     requires { 1 ≤ B }
     ensures told { are_told 0
@@ -40,8 +42,30 @@ pub(crate) fn other_value<
     None
 }
 
+/// The place of the first change after which another value is told than the one that its key has, or `None`. There is a value
+/// for each of the changes.
+pub(crate) fn first_other(values: &[Option<Cid>], changes: &[KeyChange<'_>]) -> Option<usize>
+    ensures { are_told 0 values.now changes.now ≡ told_of result }
+{
+    let mut place = 0;
+    let mut left = changes;
+    let mut rest = values;
+    while let [change, later @ ..] = left {
+        let [value, others @ ..] = rest else {
+            return Some(place);
+        };
+        if !is_same(*value, change.after()) {
+            return Some(place);
+        }
+        left = later;
+        rest = others;
+        place += 1;
+    }
+    None
+}
+
 /// Whether the key of a change has the value that is told after it, looked up over `most` nodes at most.
-fn is_told<'a, D: Digest + 'a, A: Allocator + 'a, S: Source<Lent<'a, D, A>>>(
+fn is_told<'a, D: Digest + 'a, A: Allocator + 'a, S: Source<&'a Arc<Block<D, A>, A>>>(
     src: &mut S,
     root: Cid,
     most: u16,
@@ -68,15 +92,18 @@ fn is_same(value: Option<Cid>, told: Option<Cid>) -> bool
 }
 
 /// Where the key stands in the node of a block, or `None` where it is no node.
-fn place_in<'a, D: Digest, A: Allocator>(lent: Lent<'a, D, A>, key: &[u8]) -> Option<Place<'a>>
+fn place_in<'a, D: Digest, A: Allocator>(
+    block: &'a Arc<Block<D, A>, A>,
+    key: &[u8],
+) -> Option<Place<'a>>
     ensures { option_map (place_found key.now) result ≡ option_map (place_of_key key.now)
-        (shape_of_bytes (arc_value lent.entry)) }
+        (shape_of_bytes (arc_value block.now)) }
 {
-    Some(lent.view()?.find(key))
+    Some(block.node()?.find(key))
 }
 
 /// The value of a key from this root on, over `most` nodes at most, whatever the source gives.
-fn value_below<'a, D: Digest + 'a, A: Allocator + 'a, S: Source<Lent<'a, D, A>>>(
+fn value_below<'a, D: Digest + 'a, A: Allocator + 'a, S: Source<&'a Arc<Block<D, A>, A>>>(
     src: &mut S,
     root: Cid,
     key: &[u8],

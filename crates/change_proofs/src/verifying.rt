@@ -11,8 +11,9 @@ use crate::given::blocks_of;
 use crate::told::KeyChange;
 use crate::undoing::root_before;
 use crate::values::other_value;
-use cid::{Block, Cid, Digest};
-use lookups::{BlockMap, Lent, Source};
+use block::Block;
+use cid::{Cid, Digest};
+use lookups::{BlockMap, Source};
 use std::alloc::Allocator;
 use std::clone::Clone;
 use std::convert::AsSlice;
@@ -71,7 +72,7 @@ fn verify_over<
     D: Digest + 'a,
     const B: u8,
     A: Allocator + Clone + 'a,
-    S: Source<Lent<'a, D, A>>,
+    S: Source<&'a Arc<Block<D, A>, A>>,
 >(
     alloc: A,
     before: Cid,

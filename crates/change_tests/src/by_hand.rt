@@ -1,8 +1,9 @@
 //! Batches over small trees, beside nodes that are written here by hand.
 
 use crate::fixtures::{Blocks, applied, value};
+use block::Block;
 use cid::digests::Toy;
-use cid::{Block, Cid, CidRef, Digest};
+use cid::{Cid, CidRef, Digest};
 use edit::{BatchEdit, Change};
 use node::NodeWriter;
 use std::alloc::{AllocError, Global};
@@ -324,7 +325,7 @@ fn are_at(nodes: &[Arc<Block<Toy>>], places: &[usize], cids: &[Cid]) -> bool {
 fn cids_of(alloc: Global, edit: &BatchEdit<Toy>) -> Result<Vec<Cid>, AllocError> {
     let mut cids = Vec::new(alloc);
     for block in &edit.add {
-        cids.push(block.block().cid())?;
+        cids.push(block.cid())?;
     }
     Ok(cids)
 }

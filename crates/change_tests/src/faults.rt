@@ -1,8 +1,9 @@
 //! Batches over blocks that are no tree, or clash.
 
 use crate::fixtures::{Blocks, applied, value};
+use block::Block;
 use cid::digests::{Clash, Size, Toy};
-use cid::{Block, Cid, CidRef, Digest};
+use cid::{Cid, CidRef, Digest};
 use edit::{BatchEdit, Change, EditFault};
 use node::NodeWriter;
 use std::alloc::{AllocError, Global};

@@ -2,10 +2,11 @@
 
 ghost use Rattle.std.specs.Prelude.{◌≤◌};
 
+use block::Block;
 use cid::digests::Toy;
-use cid::{Block, Cid, Digest};
+use cid::{Cid, Digest};
 use edit::{BatchEdit, Change, EditFault, apply, are_changes};
-use lookups::{BlockMap, MarkedBlock};
+use lookups::BlockMap;
 use scratch::{Built, build, is_ascending};
 use std::alloc::{AllocError, Allocator, Global};
 use std::sync::Arc;
@@ -138,9 +139,9 @@ pub(crate) fn add_others<D: Digest>(
 }
 
 /// Adds the blocks that come by a batch.
-fn add_come<D: Digest>(blocks: &mut Blocks<D>, come: &[MarkedBlock<D>]) -> Result<(), AllocError> {
+fn add_come<D: Digest>(blocks: &mut Blocks<D>, come: &[Arc<Block<D>>]) -> Result<(), AllocError> {
     for block in come {
-        blocks.push(Arc::try_clone(block.block())?)?;
+        blocks.push(Arc::try_clone(block)?)?;
     }
     Ok(())
 }
@@ -156,9 +157,9 @@ pub(crate) fn have<D: Digest>(blocks: &[Arc<Block<D>>], cid: &Cid) -> bool {
 }
 
 /// Whether some of the blocks that come were there before.
-fn have_some<D: Digest>(blocks: &[Arc<Block<D>>], come: &[MarkedBlock<D>]) -> bool {
+fn have_some<D: Digest>(blocks: &[Arc<Block<D>>], come: &[Arc<Block<D>>]) -> bool {
     for block in come {
-        if have(blocks, &block.block().cid()) {
+        if have(blocks, &block.cid()) {
             return true;
         }
     }

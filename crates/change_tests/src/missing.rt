@@ -4,8 +4,9 @@ use crate::fixtures::{
     Blocks, add_others, applied, have, leaves, thirty_two_pairs, tree_of, twenty_changes,
 };
 use crate::plain::change_pairs;
+use block::Block;
+use cid::Cid;
 use cid::digests::Toy;
-use cid::{Block, Cid};
 use edit::{BatchEdit, Change, EditFault};
 use scratch::Built;
 use std::alloc::{AllocError, Global};

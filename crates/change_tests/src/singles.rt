@@ -3,8 +3,9 @@
 use crate::fixtures::{Blocks, KEYS, add_others, leaves, thirty_two_pairs, tree_of, value};
 use crate::memory::{Ended, Heap, tree_in};
 use crate::plain::{change_pairs, place_of};
+use block::Block;
+use cid::Cid;
 use cid::digests::Toy;
-use cid::{Block, Cid};
 use edit::{BatchEdit, Change, Edit, EditFault, delete, is_key, put};
 use lookups::BlockMap;
 use refusing::Refusing;

@@ -4,4 +4,3 @@ pub mod Letters
 pub mod BigEndian
 pub mod Ordering
 pub mod Groups
-pub mod Together

@@ -50,8 +50,8 @@ impl Cid {
         Cid::of_digest(&D::digest(bytes))
     }
 
-    /// The CID of a block with this digest.
-    pub(crate) fn of_digest(digest: &[u8; 32]) -> Cid
+    /// The CID of a block with this digest. Who has the digests of many blocks at once makes their CIDs of them.
+    pub fn of_digest(digest: &[u8; 32]) -> Cid
         ensures value { result ≡ prefix ++ digest.now }
     {
         let mut whole = [0; 36];

@@ -1,15 +1,11 @@
-//! Digests, layers of keys, content identifiers, and blocks of bytes under their identifiers.
+//! Digests, layers of keys, and content identifiers.
 //!
 //! - [`Cid`] is the identifier of a block: CIDv1, codec dag-cbor, SHA-256, 36 bytes (AT Protocol, data model; CID
 //!   specification). `Cid::of` hashes bytes, `text` and `from_text` are its base 32, `from_bytes` takes no other
 //!   bytes. [`CidRef`] is one that is lent from a block's bytes.
-//! - [`Block`] is bytes together with their CID, hashed once, when the block is made. A block shared by `Arc` is what
-//!   the crates above pass round.
-//! - [`Collided`] shows two blocks with one CID and other bytes. It can't be made without two such blocks, so an error
-//!   that carries one is always a real clash.
 //! - [`Digest`] is the hash that all is generic in. [`Sha256`] is the one of the protocol; those in [`digests`] are for
 //!   tests, where layers and collisions are wanted at will. Who has many lists of bytes at once has their digests in
-//!   about half the time by `Digest::digest_each` or `digest_four`, and blocks of them by `Block::of_each`.
+//!   about half the time by `Digest::digest_each` or `digest_four`.
 //! - [`layer`] is the number of zero bits that a key's digest begins with, divided by the zero bits a layer, `B`, which
 //!   is 2 in the AT Protocol. [`layer_four`] hashes four keys side by side.
 //!
@@ -17,19 +13,15 @@
 #![tactic(auto)]
 
 mod base32;
-mod block;
 mod cid;
 mod cid_fault;
 mod cid_ref;
-mod collided;
 mod digest;
 pub mod digests;
 mod layers;
 
-pub use block::Block;
 pub use cid::Cid;
 pub use cid_fault::CidFault;
 pub use cid_ref::CidRef;
-pub use collided::Collided;
 pub use digest::{Digest, Sha256};
 pub use layers::{layer, layer_four};

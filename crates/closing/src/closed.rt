@@ -15,8 +15,8 @@ ghost use Rattle.closing.specs.Counts.{count_in, positive};
 ghost use Rattle.closing.specs.Ending.{IsEndedAt, joined_all, kept_by};
 ghost use Rattle.closing.specs.Settling.{IsSettled, IsUneven, IsAllTold};
 
+use crate::block_counts::{all_counts, count_in_shard, listed};
 use crate::comparing::compare;
-use crate::counts::{all_counts, count_in_shard, listed};
 use crate::ended::Ended;
 use crate::feed::Feed;
 use crate::fitting::element;

@@ -18,9 +18,9 @@
 //! Not said: that cores and tables are those that stood behind some locks, which is their caller's to see to.
 #![tactic(auto)]
 
+mod block_counts;
 mod closed;
 mod comparing;
-mod counts;
 mod ended;
 mod feed;
 mod fitting;

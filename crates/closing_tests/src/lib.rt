@@ -2,9 +2,9 @@
 #![tactic(auto)]
 
 #[cfg(test)]
-mod closes;
+mod block_counts;
 #[cfg(test)]
-mod counts;
+mod closes;
 #[cfg(test)]
 mod memory;
 #[cfg(test)]

@@ -2,11 +2,12 @@
 
 ghost use Rattle.std.specs.Prelude.{◌<◌};
 
+use crate::block_counts::are_counts;
 use crate::closes::{Answer, closed, closed_after};
-use crate::counts::are_counts;
 use crate::repositories::{Batch, EMPTY, Heap, is_taken, opened, two_cores};
+use block::Block;
+use cid::Cid;
 use cid::digests::Toy;
-use cid::{Block, Cid};
 use closing::{Mismatch, end_all};
 use refusing::Refusing;
 use repo::Core;

@@ -1,10 +1,10 @@
 //! Puts and deletes over whole trees, beside the trees from scratch of the pairs that they leave.
 
 use crate::fixtures::{are_of, edited, tree, tree_of, value};
+use block::{Block, Collided};
+use cid::Cid;
 use cid::digests::{Size, Toy};
-use cid::{Block, Cid, Collided};
 use edit::{Edit, EditFault};
-use lookups::MarkedBlock;
 use scratch::Built;
 use std::alloc::{AllocError, Global};
 use std::sync::Arc;
@@ -18,18 +18,15 @@ const FIVE: Keys = &[b"a/p0", b"a/q2", b"a/r0"];
 fn sizes(edit: &Edit<Toy>) -> (usize, usize, usize) {
     let mut bytes = 0usize;
     for block in &edit.add {
-        bytes = bytes.saturating_add(block.block().bytes().len());
+        bytes = bytes.saturating_add(block.bytes().len());
     }
     (edit.add.len(), edit.drop.len(), bytes)
 }
 
 /// Adds the blocks that come by an edit to others.
-fn add_come(
-    blocks: &mut Vec<Arc<Block<Toy>>>,
-    come: &[MarkedBlock<Toy>],
-) -> Result<(), AllocError> {
+fn add_come(blocks: &mut Vec<Arc<Block<Toy>>>, come: &[Arc<Block<Toy>>]) -> Result<(), AllocError> {
     for block in come {
-        blocks.push(Arc::try_clone(block.block())?)?;
+        blocks.push(Arc::try_clone(block)?)?;
     }
     Ok(())
 }
@@ -205,8 +202,8 @@ fn the_same_put_twice(rt: HostRuntime) {
 fn replaces_the_root(edit: &Edit<Toy>, root: Cid) -> bool {
     match (edit.add.as_slice(), edit.drop.as_slice()) {
         ([added], [dropped]) => {
-            (added.block().cid(), *dropped) == (edit.root, root)
-                && added.block().bytes().len() == 144
+            (added.cid(), *dropped) == (edit.root, root)
+                && added.bytes().len() == 144
                 && edit.previous == Some(value())
         }
         _ => false,

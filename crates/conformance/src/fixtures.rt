@@ -2,8 +2,9 @@
 
 ghost use Rattle.std.specs.Prelude.{◌≤◌};
 
+use block::Block;
 use cid::digests::Toy;
-use cid::{Block, Cid, Digest};
+use cid::{Cid, Digest};
 use edit::{Edit, EditFault, delete, is_key, put};
 use lookups::BlockMap;
 use scratch::{Built, build, is_ascending};

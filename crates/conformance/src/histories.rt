@@ -3,10 +3,10 @@
 ghost use Rattle.std.specs.Prelude.{◌≤◌, ◌<◌};
 
 use crate::fixtures::{are_of, edited, tree_of, value};
+use block::Block;
 use cid::digests::Toy;
-use cid::{Block, Cid, Digest, Sha256};
+use cid::{Cid, Digest, Sha256};
 use edit::{Edit, EditFault};
-use lookups::MarkedBlock;
 use std::alloc::{AllocError, Global};
 use std::cmp::Ordering;
 use std::sync::Arc;
@@ -147,9 +147,9 @@ impl<D: Digest> History<D> {
     }
 
     /// Adds the blocks that come by an edit.
-    fn push_each(&mut self, add: Vec<MarkedBlock<D>>) -> Result<(), AllocError> {
+    fn push_each(&mut self, add: Vec<Arc<Block<D>>>) -> Result<(), AllocError> {
         for block in add {
-            self.blocks.push(block.into_block())?;
+            self.blocks.push(block)?;
         }
         Ok(())
     }

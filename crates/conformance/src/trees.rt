@@ -3,7 +3,7 @@
 ghost use Rattle.std.specs.Prelude.{◌≤◌};
 
 use crate::fixtures::{three_pairs, tree_of};
-use cid::Block;
+use block::Block;
 use cid::digests::Toy;
 use std::alloc::Global;
 use std::sync::Arc;

@@ -24,6 +24,7 @@ pub mod Refusing
 pub mod Arriving
 pub mod Ending
 pub mod Halting
+mod Runs
 pub mod Untouched
 pub mod Spelling
 mod Testing
@@ -32,3 +33,4 @@ mod WholeReads
 mod OneChange
 mod OnePut
 mod OneDelete
+mod Previewing

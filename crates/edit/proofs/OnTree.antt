@@ -303,7 +303,7 @@ module _ (digest : List ℕ → List ℕ) (bits : ℕ) (fits : IsDigest digest) 
             (is-batch.edit.read_old b (subst (λ bs. Contains bs b) (ap bytes_of all-read) k))
 
 -- why there is none, over any source
-no-answer : (answer : Option (Top × Log)) → at_top answer ≡ None → answer ≡ None
+pub no-answer : (answer : Option (Top × Log)) → at_top answer ≡ None → answer ≡ None
 no-answer None h = refl
 no-answer (Some x) h = absurd (some-none _ h)
 

@@ -8,7 +8,7 @@ use Rattle.spec.specs.NodeFormat.{Shape, Entry, NodeFault, read_node}
 use Rattle.node.specs.Contents.{Contents}
 use Rattle.edit_laws.specs.Sources.{shape_of_bytes, shape_of_reading}
 use Rattle.rows.specs.Entries.{shape_of}
-use Rattle.lookups.specs.Nodes.{contents_of}
+use Rattle.block.specs.Nodes.{contents_of}
 use Rattle.lookups.specs.Steps.{nodes_given}
 use Rattle.batch_laws.specs.Links.{ask, log_shown}
 use Rattle.edit.specs.States.{shapes_in}

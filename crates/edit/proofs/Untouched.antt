@@ -1,5 +1,5 @@
 -- Pairs of a node that no change touches.
-use Rattle.std.proofs.Common.{◌≡◌, ℕ, zero, suc, ◌+◌, ◌<◌, ◌≤◌, true, false, List, [], ◌∷◌, ◌++◌, length, length-append, refl, sym, ap, subst, ◌∙◌, arith, Option}
+use Rattle.std.proofs.Common.{◌≡◌, ℕ, zero, suc, ◌+◌, ◌<◌, ◌≤◌, true, false, List, [], ◌∷◌, ◌++◌, length, take, length-append, refl, sym, ap, subst, ◌∙◌, arith, Option, option_map}
 use Rattle.std.proofs.lemmas.List.{append_assoc, append-nil}
 use Rattle.std.specs.List.{AllByRecursion}
 use Rattle.std.specs.declared.option.Option.TheVariants.{Some, None}
@@ -14,6 +14,7 @@ use Rattle.edit_laws.specs.Order.{order}
 use Rattle.rows.specs.declared.draft.DraftFault.{DraftFault}
 use Rattle.rows.specs.declared.draft.DraftFault.TheVariants.{NotNode, NoMemory}
 use Rattle.rows.specs.Drafts.{IsFaultOfAll}
+use Rattle.rows.specs.Entries.{part_of}
 use Rattle.batch_laws.specs.Batch.{Change, at_key, after, entry, IsLater}
 use Rattle.batch_laws.specs.Previous.{value_met, previous_node, previous_gap}
 use Rattle.batch_laws.specs.Links.{Rows, LinkEdge, Log, and_then, add_row, under_rows, onto_links, pairing, pairs_in_turn, subtreeing, walking}
@@ -28,9 +29,14 @@ use Rattle.edit.proofs.Halting.{node-goes}
 use Rattle.edit.proofs.Making.{onto-same}
 use Rattle.edit.proofs.Placing.{beyond, later-than, ascends}
 use Rattle.edit.proofs.Putting.{one-pair}
+use Rattle.edit.proofs.Runs.{part-is}
 use Rattle.edit.proofs.Stopping.{empty-keys, leads-refused}
 
 -- ---- the test
+
+pub some-mapped : {A B : Type 0} (f : A → B) (x : Option A) (y : Option B) → option_map f x ≡ y → is_some x ≡ is_some y
+some-mapped f None y e = ap is_some e
+some-mapped f (Some a) y e = ap is_some e
 
 pub none-touch : (k : ℕ) (cs : List Change) (l : Option (List ℕ)) (key : List ℕ) → AllByRecursion (IsLater key) cs
     → (k ≡ 0 → l ≡ None) → IsUntouched k cs l key
@@ -71,6 +77,12 @@ untouched-snoc k cs (x ∷ rows) l e h u = (h.0, untouched-snoc k cs rows l e h.
 pub taken-none : (k : ℕ) (cs : List Change) (begun : Rows) (node : Shape) → IsTaken k cs begun node begun node
 taken-none k cs begun node =
     record { more = []; new_is = sym (append-nil begun); node_is = refl; untouched = tt }
+
+-- nothing came
+pub taken-ahead : (k : ℕ) (cs : List Change) (begun new : Rows) (node rest : Shape) → new ≡ begun → node ≡ rest
+    → IsTaken k cs begun node new rest
+taken-ahead k cs begun new node rest new_is node_is =
+    record { more = []; new_is = new_is ∙ sym (append-nil begun); node_is = node_is; untouched = tt }
 
 pub taken-more : (k : ℕ) (cs : List Change) (begun rows new : Rows) (node mid rest : Shape) (l : Option (List ℕ)) (e : Pair)
     → IsTaken k cs begun node rows mid → mid ≡ MoreLinks l e rest → IsUntouched k cs l e.0
@@ -123,6 +135,23 @@ untaken-then k cs begun rows node mid f t u = record {
   untouched = untouched-both k cs t.more u.more t.untouched u.untouched;
   refused = subst (λ xs. IsFaultOfAll xs f)
       (ap (λ ys. ys ++ u.more) t.new_is ∙ append_assoc begun t.more u.more) u.refused;
+}
+
+-- ---- pairs that were read, and then came at once
+
+run-is : (k : ℕ) (cs : List Change) (begun read last now : Rows) (node rest : Shape) (from to : ℕ) → from ≡ length begun
+    → to ≡ length read → now ≡ read ++ last → (t : IsTaken k cs begun node read rest) → part_of from to now ≡ t.more
+run-is k cs begun read last now node rest from to from_is to_is now_is t =
+    part-is begun t.more read last now from to from_is to_is now_is t.new_is
+
+pub taken-run : (k : ℕ) (cs : List Change) (begun read last now written new : Rows) (node rest : Shape) (from to : ℕ)
+    → from ≡ length begun → to ≡ length read → now ≡ read ++ last → IsTaken k cs begun node read rest
+    → new ≡ written ++ part_of from to now → IsTaken k cs written node new rest
+taken-run k cs begun read last now written new node rest from to from_is to_is now_is t n = record {
+  more = t.more;
+  new_is = n ∙ ap (λ ys. written ++ ys) (run-is k cs begun read last now node rest from to from_is to_is now_is t);
+  node_is = t.node_is;
+  untouched = t.untouched;
 }
 
 -- ---- what it makes of an edge

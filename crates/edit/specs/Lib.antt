@@ -10,9 +10,9 @@ pub mod Firsts
 pub mod Among
 pub mod Batches
 pub mod Stops
-pub mod Spelled
 pub mod Refusals
 pub mod Edits
 pub mod Deletes
 pub mod Singles
 pub mod Changing
+pub mod Previews

@@ -1,9 +1,11 @@
 -- Pairs of a node that no change touches: each comes to the open layer of its node's depth as it stands, with the link
 -- before it.
-use Rattle.std.specs.Prelude.{◌≡◌, ◌≤◌, ℕ, suc, List, [], ◌++◌, Option, None}
+use Rattle.std.specs.Prelude.{◌≡◌, ◌≤◌, ℕ, List, [], ◌∷◌, ◌++◌, length, Option, None}
+use Rattle.spec.specs.Tree.{Pair}
 use Rattle.std.specs.List.{AllByRecursion}
-use Rattle.spec.specs.NodeFormat.{Shape, LastLink, MoreLinks}
+use Rattle.spec.specs.NodeFormat.{Shape, MoreLinks, first_link}
 use Rattle.rows.specs.Drafts.{IsFaultOfAll}
+use Rattle.rows.specs.Entries.{Reading, shape_at}
 use Rattle.rows.specs.declared.draft.DraftFault.{DraftFault}
 use Rattle.batch_laws.specs.Batch.{Change, before, at_key, after}
 use Rattle.batch_laws.specs.Previous.{previous_node, previous_gap}
@@ -52,7 +54,18 @@ IsUnpassed k d cs node s log fault =
     (digest : List ℕ → List ℕ) (shows : List ℕ → Option Shape) (layer : List ℕ → ℕ) (n : ℕ)
     → IsRefused (node_does digest shows layer n k d cs node s log) fault
 
--- how many pairs are left of a node
-abbrev pub pairs_left : Shape → ℕ
-pairs_left (LastLink l) = 0
-pairs_left (MoreLinks l e r) = suc (pairs_left r)
+-- one pair more of a node was read, and no change touches it
+pub record IsNextUntouched (k : ℕ) (cs : List Change) (old new : Reading) : Type 0 where
+  pub pair : Pair
+  pub next_is : old.rest ≡ MoreLinks (first_link old.rest) pair new.rest
+  pub passed_is : new.passed ≡ old.passed ++ (first_link old.rest, pair) ∷ []
+  pub start_is : new.start ≡ old.start
+  pub untouched : IsUntouched k cs (first_link old.rest) pair.0
+
+-- the next pair of a node was read, if there is one
+pub record IsNextTouched (value : Option (List ℕ)) (old new : Reading) : Type 0 where
+  pub last : Rows
+  pub next_is : old.rest ≡ shape_at (first_link old.rest) value new
+  pub passed_is : new.passed ≡ old.passed ++ last
+  pub few : length last ≤ 1
+  pub start_is : new.start ≡ old.start

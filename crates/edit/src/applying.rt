@@ -14,16 +14,18 @@ ghost use Rattle.batch_laws.specs.Counts.{most_reads};
 ghost use Rattle.edit.specs.Batches.{are_changes as are_changes_of, nodes_read, IsBatch, IsBatchRefusal, IsAnswered, IsLack};
 
 use crate::changes::Change;
-use crate::differences::{added, dropped, marked_each, places_of_read};
+use crate::differences::{added, dropped, places_of_read};
 use crate::edge::Edge;
 use crate::hashed::hash_each;
 use crate::outcome::{BatchEdit, EditFault};
 use crate::whole::{Changed, change_tree};
+use block::Block;
 use cid::{Cid, Digest};
-use lookups::{Lent, Source};
+use lookups::Source;
 use node::is_key;
 use std::alloc::Allocator;
 use std::clone::Clone;
+use std::sync::Arc;
 
 /// Whether a batch takes these changes: their keys have 1 to 1,024 bytes and ascend strictly.
 pub fn are_changes(changes: &[Change<'_>]) -> bool
@@ -69,7 +71,13 @@ fn comes_first(change: &Change<'_>, others: &[Change<'_>]) -> bool
 /// Whatever the source gives, also where its nodes go on without an end, no more blocks are read than over a tree with a
 /// root of the same layer: the root, and for each layer below it one for a put and two for a delete. A batch that would need
 /// more is told `EditFault::NotTree`.
-pub fn apply<'a, D: Digest + 'a, const B: u8, A: Allocator + Clone + 'a, S: Source<Lent<'a, D, A>>>(
+pub fn apply<
+    'a,
+    D: Digest + 'a,
+    const B: u8,
+    A: Allocator + Clone + 'a,
+    S: Source<&'a Arc<Block<D, A>, A>>,
+>(
     alloc: A,
     src: &mut S,
     root: Cid,
@@ -123,7 +131,7 @@ pub(crate) fn difference_of<D: Digest, A: Allocator + Clone>(
     } = changed;
     let Edge { read, made, .. } = edge;
     let old = places_of_read(alloc.clone()?, &read)?;
-    let made = marked_each(alloc.clone()?, made)?;
+    let made = made.into_blocks();
     let drop = dropped(alloc.clone()?, &made, &read[..gone])?;
     let add = added(alloc, &read, &old, made)?;
     Ok(BatchEdit {

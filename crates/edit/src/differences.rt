@@ -17,33 +17,10 @@ use crate::outcome::EditFault;
 use crate::places::Places;
 use crate::read_nodes::ReadNode;
 use crate::shown::Shown;
-use cid::{Block, Cid, Collided, Digest};
-use lookups::MarkedBlock;
-use rows::Made;
+use block::{Block, Collided};
+use cid::{Cid, Digest};
 use std::alloc::{AllocError, Allocator};
 use std::sync::Arc;
-
-/// The blocks that were made, marked as the nodes that they are.
-pub(crate) fn marked_each<D: Digest, A: Allocator>(
-    alloc: A,
-    made: Made<D, A>,
-) -> Result<Vec<MarkedBlock<D, A>, A>, AllocError>
-    ensures same { IfOk result (λ marked. map arc_value marked.items ≡ map arc_value made.items) }
-    ensures spelled { OnOk result
-        (map arc_value made.items ≡ map shape_bytes (shapes_in made.items)) }
-{
-    let mut marked = Vec::new(alloc);
-    for block in made {
-        marked.reserve(1)?;
-        let block = MarkedBlock::of_node(block);
-        // its node is looked at for the proof alone
-        let Some(_) = block.lent().view() else {
-            unreachable!()
-        };
-        marked.push(block)?;
-    }
-    Ok(marked)
-}
 
 /// Of the blocks that were made those whose CIDs were not read, each once. A made block that has the CID of one that
 /// was read, or of another made one, and other bytes, is a clash.
@@ -51,8 +28,8 @@ pub(crate) fn added<D: Digest, A: Allocator + Clone>(
     alloc: A,
     read: &[ReadNode<'_, D, A>],
     old: &Places<A>,
-    made: Vec<MarkedBlock<D, A>, A>,
-) -> Result<Vec<MarkedBlock<D, A>, A>, EditFault<D, A>>
+    made: Vec<Arc<Block<D, A>, A>, A>,
+) -> Result<Vec<Arc<Block<D, A>, A>, A>, EditFault<D, A>>
     requires { HasPlaces (map (cid_of D.digest_of) (map arc_value read.now)) old.now }
     ensures add { IfOk result (λ add. map arc_value add.items ≡ add_of D.digest_of
         (map arc_value read.now) (map arc_value made.items)) }
@@ -68,7 +45,7 @@ pub(crate) fn added<D: Digest, A: Allocator + Clone>(
     let mut add = Vec::new(alloc);
     for block in made {
         if !is_among(&block, read, old)? && !is_among(&block, &add, &new)? {
-            new.push(block.block().cid(), add.len())?;
+            new.push(block.cid(), add.len())?;
             add.push(block)?;
         }
     }
@@ -78,7 +55,7 @@ pub(crate) fn added<D: Digest, A: Allocator + Clone>(
 /// The CIDs of the nodes that go, but for those of blocks that are made.
 pub(crate) fn dropped<D: Digest, A: Allocator + Clone>(
     alloc: A,
-    made: &[MarkedBlock<D, A>],
+    made: &[Arc<Block<D, A>, A>],
     gone: &[ReadNode<'_, D, A>],
 ) -> Result<Vec<Cid, A>, AllocError>
     ensures { IfOk result (λ dropped. dropped.items ≡ drop_of D.digest_of (map arc_value made.now)
@@ -115,21 +92,21 @@ pub(crate) fn places_of_read<D: Digest, A: Allocator + Clone>(
 /// Where the first of the blocks with each CID stands.
 fn places_of_made<D: Digest, A: Allocator + Clone>(
     alloc: A,
-    blocks: &[MarkedBlock<D, A>],
+    blocks: &[Arc<Block<D, A>, A>],
 ) -> Result<Places<A>, AllocError>
     ensures { IfOk result
         (λ places. HasPlaces (map (cid_of D.digest_of) (map arc_value blocks.now)) places) }
 {
     let mut places = Places::new(alloc, blocks.len())?;
     for (count, block) in blocks.iter().enumerate() {
-        places.push(block.block().cid(), count)?;
+        places.push(block.cid(), count)?;
     }
     Ok(places)
 }
 
 /// Whether the block is one of these; its CID with other bytes is a clash.
 fn is_among<D: Digest, A: Allocator + Clone, T: Shown<D, A>>(
-    block: &MarkedBlock<D, A>,
+    block: &Arc<Block<D, A>, A>,
     others: &[T],
     places: &Places<A>,
 ) -> Result<bool, EditFault<D, A>>
@@ -138,14 +115,14 @@ fn is_among<D: Digest, A: Allocator + Clone, T: Shown<D, A>>(
     ensures fault { IfErr result
         (IsRefusal D.digest_of (arc_value block.now ∷ map T.bytes others.now) ⊥) }
 {
-    let cid = block.block().cid();
+    let cid = block.cid();
     let Some(place) = places.find(&cid) else {
         return Ok(false);
     };
     let Some(other) = others.get(place) else {
         unreachable!()
     };
-    is_same(block.block(), other.shown())
+    is_same(block, other.shown())
 }
 
 /// Whether two blocks are the same; one CID with different bytes is a clash.

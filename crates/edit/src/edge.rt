@@ -12,8 +12,9 @@ ghost use Rattle.edit.specs.States.{edge_in, log_in, IsOpened, IsOpenAt, IsAdded
 use crate::faults::Fault;
 use crate::level::Level;
 use crate::read_nodes::{ReadNode, count_to};
-use cid::{Block, Cid, CidRef, Digest};
-use lookups::{Lent, Source};
+use block::Block;
+use cid::{Cid, CidRef, Digest};
+use lookups::{Source, view_of};
 use node::{KeyBuf, NodeView};
 use rows::{DraftFault, KeyedEntries, Made};
 use std::alloc::{AllocError, Allocator};
@@ -44,7 +45,7 @@ impl<'a, D: Digest, A: Allocator + Clone> Edge<'a, D, A> {
             levels: Vec::new(alloc.clone()?),
             rest: None,
             read: Vec::new(alloc.clone()?),
-            made: Vec::new(alloc),
+            made: Made::new(alloc),
             left: 1,
         })
     }
@@ -85,14 +86,8 @@ impl<'a, D: Digest, A: Allocator + Clone> Edge<'a, D, A> {
         self.close_below(depth)
     }
 
-    /// One more pair on the open layer of this depth, which may be one of an old node: all below it is complete.
-    fn add_pair(
-        &mut self,
-        depth: usize,
-        node: Option<&NodeView<'a>>,
-        key: &[u8],
-        value: CidRef<'_>,
-    ) -> Result<(), DraftFault>
+    /// One more pair on the open layer of this depth: all below it is complete.
+    fn add_pair(&mut self, depth: usize, key: &[u8], value: CidRef<'_>) -> Result<(), DraftFault>
         requires within { depth < length self.old.levels.items }
         ensures added { OnOk result (IsAdded D.digest_of depth (pair_of key.now value.entry)
             self.old.levels.items self.old.rest (log_in self.old)
@@ -109,7 +104,7 @@ impl<'a, D: Digest, A: Allocator + Clone> Edge<'a, D, A> {
         let Some(level) = self.levels.pop() else {
             unreachable!()
         };
-        let level = level.with_pair(node, link, key, value)?;
+        let level = level.with_pair(link, key, value)?;
         self.levels.push(level)?;
         self.rest = None;
         Ok(())
@@ -118,7 +113,7 @@ impl<'a, D: Digest, A: Allocator + Clone> Edge<'a, D, A> {
 
 impl<'a, D: Digest + 'a, A: Allocator + Clone + 'a> Edge<'a, D, A> {
     /// The node with this CID, of this depth, is read, where one more may be.
-    pub(crate) fn view<S: Source<Lent<'a, D, A>>>(
+    pub(crate) fn view<S: Source<&'a Arc<Block<D, A>, A>>>(
         &mut self,
         src: &mut S,
         depth: usize,
@@ -134,19 +129,19 @@ impl<'a, D: Digest + 'a, A: Allocator + Clone + 'a> Edge<'a, D, A> {
             (S.reads src.new) (nodes_given (S.gives src.old) cid)) }
     {
         self.left = self.left.checked_sub(1).ok_or(Fault::NotTree)?;
-        let Some(lent) = src.get(&cid) else {
+        let Some(block) = src.get(&cid) else {
             return Err(Fault::Missing(cid));
         };
-        let Some(view) = lent.view() else {
+        let Some(view) = view_of(block) else {
             return Err(Fault::NotTree);
         };
         let above = count_to(&self.read, depth.saturating_sub(1));
-        self.read.push(ReadNode::of(lent, depth, above))?;
+        self.read.push(ReadNode::of(block, depth, above))?;
         Ok(view)
     }
 
     /// The pairs and links of the node with this CID, of this depth, which is read.
-    pub(crate) fn rows<S: Source<Lent<'a, D, A>>>(
+    pub(crate) fn rows<S: Source<&'a Arc<Block<D, A>, A>>>(
         &mut self,
         src: &mut S,
         depth: usize,
@@ -166,7 +161,7 @@ impl<'a, D: Digest + 'a, A: Allocator + Clone + 'a> Edge<'a, D, A> {
     }
 
     /// One layer more is open: that of the node that waits, which is read, or one without pairs.
-    fn open_level<S: Source<Lent<'a, D, A>>>(&mut self, src: &mut S) -> Result<(), Fault>
+    fn open_level<S: Source<&'a Arc<Block<D, A>, A>>>(&mut self, src: &mut S) -> Result<(), Fault>
         ensures opened { OnOk result (IsOpened (nodes_given (S.gives src.old))
             self.old.levels.items self.old.rest (log_in self.old)
             self.new.levels.items self.new.rest (log_in self.new)) }
@@ -191,7 +186,7 @@ impl<'a, D: Digest + 'a, A: Allocator + Clone + 'a> Edge<'a, D, A> {
     }
 
     /// So many layers are open.
-    pub(crate) fn open_to<S: Source<Lent<'a, D, A>>>(
+    pub(crate) fn open_to<S: Source<&'a Arc<Block<D, A>, A>>>(
         &mut self,
         src: &mut S,
         count: usize,
@@ -213,7 +208,7 @@ impl<'a, D: Digest + 'a, A: Allocator + Clone + 'a> Edge<'a, D, A> {
     }
 
     /// The layer of this depth is open, where those above it are.
-    pub(crate) fn open_at<S: Source<Lent<'a, D, A>>>(
+    pub(crate) fn open_at<S: Source<&'a Arc<Block<D, A>, A>>>(
         &mut self,
         src: &mut S,
         depth: usize,
@@ -234,13 +229,11 @@ impl<'a, D: Digest + 'a, A: Allocator + Clone + 'a> Edge<'a, D, A> {
         self.open_level(src)
     }
 
-    /// One more pair, so many layers below the top, which may be one of an old node: what waits above it is opened, what stands
-    /// below it is complete.
-    pub(crate) fn pair<S: Source<Lent<'a, D, A>>>(
+    /// One more pair, so many layers below the top: what waits above it is opened, what stands below it is complete.
+    pub(crate) fn pair<S: Source<&'a Arc<Block<D, A>, A>>>(
         &mut self,
         src: &mut S,
         depth: usize,
-        node: Option<&NodeView<'a>>,
         key: &[u8],
         value: CidRef<'_>,
     ) -> Result<(), Fault>
@@ -255,6 +248,6 @@ impl<'a, D: Digest + 'a, A: Allocator + Clone + 'a> Edge<'a, D, A> {
     {
         self.open_to(src, depth)?;
         self.open_at(src, depth)?;
-        Ok(self.add_pair(depth, node, key, value)?)
+        Ok(self.add_pair(depth, key, value)?)
     }
 }

@@ -9,11 +9,13 @@ ghost use Rattle.edit.specs.States.{edge_in, log_in, shapes_coming, IsComing, Is
 
 use crate::edge::Edge;
 use crate::faults::Fault;
+use block::Block;
 use cid::{Cid, Digest};
-use lookups::{Lent, Source};
+use lookups::Source;
 use rows::{DraftFault, KeyedEntries, to_cid};
 use std::alloc::Allocator;
 use std::clone::Clone;
+use std::sync::Arc;
 
 impl<'a, D: Digest, A: Allocator + Clone> Edge<'a, D, A> {
     /// The pairs of a node come to the open layer of this depth, and its last link waits; what came before its first pair
@@ -37,7 +39,7 @@ impl<'a, D: Digest, A: Allocator + Clone> Edge<'a, D, A> {
         let Some(level) = self.levels.pop() else {
             unreachable!()
         };
-        let level = level.with_pair(Some(rows.node()), link, rows.key(), value)?;
+        let level = level.with_pair(link, rows.key(), value)?;
         let filled = level.with_rows(&mut rows)?;
         let (level, last) = filled;
         self.rest = last;
@@ -72,7 +74,7 @@ impl<'a, D: Digest, A: Allocator + Clone> Edge<'a, D, A> {
 impl<'a, D: Digest + 'a, A: Allocator + Clone + 'a> Edge<'a, D, A> {
     /// A subtree of the layer of this depth, where all above is open: it waits where nothing stands there. Else that
     /// layer is open, and the subtree's node is read.
-    fn place<S: Source<Lent<'a, D, A>>>(
+    fn place<S: Source<&'a Arc<Block<D, A>, A>>>(
         &mut self,
         src: &mut S,
         depth: usize,
@@ -104,7 +106,7 @@ impl<'a, D: Digest + 'a, A: Allocator + Clone + 'a> Edge<'a, D, A> {
 
     /// The nodes of a subtree that come, so many layers at most, from the top down to where nothing stands or nothing
     /// comes.
-    fn descend<S: Source<Lent<'a, D, A>>>(
+    fn descend<S: Source<&'a Arc<Block<D, A>, A>>>(
         &mut self,
         src: &mut S,
         depth: usize,
@@ -145,7 +147,7 @@ impl<'a, D: Digest + 'a, A: Allocator + Clone + 'a> Edge<'a, D, A> {
     }
 
     /// One more subtree, so many layers below the top and of so many layers at most.
-    pub(crate) fn subtree<S: Source<Lent<'a, D, A>>>(
+    pub(crate) fn subtree<S: Source<&'a Arc<Block<D, A>, A>>>(
         &mut self,
         src: &mut S,
         depth: usize,

@@ -1,20 +1,20 @@
 //! The node in the making of one layer.
 
-ghost use Rattle.std.specs.Prelude.{◌≡◌, ◌<◌, ◌∷◌, ◌++◌, [], true, List, IfOk, IfErr, IfSome, IfNone, OnOk};
+ghost use Rattle.std.specs.Prelude.{◌≡◌, ◌∷◌, ◌++◌, [], true, List, IfOk, IfErr, IfSome, IfNone, OnOk};
 ghost use Rattle.spec.specs.NodeFormat.{Shape, LastLink, shape_cid};
 ghost use Rattle.edit_laws.specs.ShapeEdit.{last_link};
 ghost use Rattle.rows.specs.Drafts.{onto, pair_of, IsFaultOf, IsFaultOfAll};
-ghost use Rattle.rows.specs.Entries.{shape_at};
+ghost use Rattle.rows.specs.Entries.{shape_at, key_behind};
 ghost use Rattle.batch_laws.specs.Links.{onto_links, complete, rows_in_shape};
 ghost use Rattle.edit.specs.Edges.{has_rows};
-ghost use Rattle.edit.specs.Passing.{IsTaken, IsUntaken, pairs_left};
+ghost use Rattle.edit.specs.Passing.{IsTaken, IsUntaken, IsNextTouched, IsNextUntouched};
 ghost use Rattle.edit.specs.Places.{are_ascending};
 ghost use Rattle.edit.specs.States.{shapes_in};
 
 use crate::hashed::HashedChange;
 use crate::passing::{Ahead, is_untouched};
-use cid::{Block, Cid, CidRef, Digest};
-use node::NodeView;
+use block::Block;
+use cid::{Cid, CidRef, Digest};
 use rows::{DraftFault, KeyedEntries, Made, Writer, to_cid};
 use std::alloc::Allocator;
 use std::clone::Clone;
@@ -58,10 +58,9 @@ impl<'a, A: Allocator + Clone> Level<'a, A> {
         self.has_pairs
     }
 
-    /// With a link more and the pair after it, which may be one of an old node.
+    /// With a link more and the pair after it.
     pub(crate) fn with_pair(
         self,
-        node: Option<&NodeView<'a>>,
         link: Option<Cid>,
         key: &[u8],
         value: CidRef<'_>,
@@ -72,7 +71,7 @@ impl<'a, A: Allocator + Clone> Level<'a, A> {
             (IsFaultOfAll (self.entry ++ (link, pair_of key.now value.entry) ∷ [])) }
     {
         let Level { mut rows, .. } = self;
-        rows.pair_like(node, link, key, value)?;
+        rows.pair(link, key, value)?;
         Ok(Level {
             rows,
             has_pairs: true,
@@ -173,14 +172,39 @@ fn copy_rows<'a, A: Allocator + Clone>(
     ensures last { IfOk result (λ copied. copied.1 ≡ last_link rows.old.rest) }
     ensures fault { IfErr result (IsFaultOfAll (written.old ++ rows_in_shape rows.old.rest)) }
 {
-    let mut has_pairs = had_pairs;
+    if written.follows(rows) {
+        return run_rows(written, had_pairs, rows);
+    }
+    let link = to_cid(rows.link());
+    let Some(value) = rows.next() else {
+        return Ok((had_pairs, link));
+    };
+    written.pair(link, rows.key(), value)?;
+    run_rows(written, true, rows)
+}
+
+/// The same where they can come as a run.
+fn run_rows<'a, A: Allocator + Clone>(
+    written: &mut Writer<'a, A>,
+    had_pairs: bool,
+    rows: &mut KeyedEntries<'a, A>,
+) -> Result<(bool, Option<Cid>), DraftFault>
+    requires pairs { had_pairs ≡ has_rows written.old }
+    requires follows { key_behind [] written.old ≡ rows.old.before }
+    ensures rows { OnOk result (written.new ≡ written.old ++ rows_in_shape rows.old.rest) }
+    ensures pairs { IfOk result (λ copied. copied.0 ≡ has_rows written.new) }
+    ensures last { IfOk result (λ copied. copied.1 ≡ last_link rows.old.rest) }
+    ensures fault { IfErr result (IsFaultOfAll (written.old ++ rows_in_shape rows.old.rest)) }
+{
+    rows.start_here();
+    let from = rows.passed();
     loop {
-        let link = to_cid(rows.link());
-        let Some(value) = rows.next() else {
-            return Ok((has_pairs, link));
-        };
-        written.pair_like(Some(rows.node()), link, rows.key(), value)?;
-        has_pairs = true;
+        let last = rows.link();
+        if rows.next().is_none() {
+            let to = rows.passed();
+            written.run(rows, to)?;
+            return Ok((had_pairs || from < to, to_cid(last)));
+        }
     }
 }
 
@@ -200,15 +224,64 @@ fn copy_untouched<'a, D: Digest, A: Allocator + Clone>(
     ensures pairs { IfOk result (λ taken. taken.0 ≡ has_rows written.new) }
     ensures fault { IfErr result (IsUntaken layer changes.now written.old rows.old.rest) }
 {
-    let mut has_pairs = had_pairs;
-    loop {
-        let next = copy_next(written, layer, rows, changes)?;
-        if let Some(ahead) = next {
-            let (link, value) = ahead;
-            return Ok((has_pairs, link, value));
-        }
-        has_pairs = true;
+    if written.follows(rows) {
+        return run_untouched(written, had_pairs, layer, rows, changes);
     }
+    let next = copy_next(written, layer, rows, changes)?;
+    let Some(ahead) = next else {
+        return run_untouched(written, true, layer, rows, changes);
+    };
+    let (link, value) = ahead;
+    Ok((had_pairs, link, value))
+}
+
+/// The same where they can come as a run.
+fn run_untouched<'a, D: Digest, A: Allocator + Clone>(
+    written: &mut Writer<'a, A>,
+    had_pairs: bool,
+    layer: u16,
+    rows: &mut KeyedEntries<'a, A>,
+    changes: &[HashedChange<'_, D>],
+) -> Result<(bool, Option<Cid>, Option<Cid>), DraftFault>
+    requires ascending { are_ascending changes.now ≡ true }
+    requires pairs { had_pairs ≡ has_rows written.old }
+    requires follows { key_behind [] written.old ≡ rows.old.before }
+    ensures taken { IfOk result (λ taken. IsTaken layer changes.now written.old
+        rows.old.rest written.new (shape_at taken.1 taken.2 rows.new)) }
+    ensures pairs { IfOk result (λ taken. taken.0 ≡ has_rows written.new) }
+    ensures fault { IfErr result (IsUntaken layer changes.now written.old rows.old.rest) }
+{
+    rows.start_here();
+    let from = rows.passed();
+    loop {
+        let to = rows.passed();
+        let after = rows.link();
+        if let Some(value) = touched(layer, rows, changes) {
+            written.run(rows, to)?;
+            return Ok((had_pairs || from < to, to_cid(after), value));
+        }
+    }
+}
+
+/// Reads the next pair of a node. Its value, where a change touches it, and no value where no pair is left; `None` where no
+/// change touches it.
+fn touched<D: Digest, A: Allocator>(
+    layer: u16,
+    rows: &mut KeyedEntries<'_, A>,
+    changes: &[HashedChange<'_, D>],
+) -> Option<Option<Cid>>
+    requires { are_ascending changes.now ≡ true }
+    ensures untouched { IfNone result (IsNextUntouched layer changes.now rows.old rows.new) }
+    ensures touched { IfSome result (λ value. IsNextTouched value rows.old rows.new) }
+{
+    let has_link = rows.link().is_some();
+    let Some(value) = rows.next() else {
+        return Some(None);
+    };
+    if is_untouched(layer, has_link, rows.key(), changes) {
+        return None;
+    }
+    Some(Some(value.to_cid()))
 }
 
 /// The next pair of a node comes to a node that is written, where no change touches it; else what comes next.
@@ -221,9 +294,9 @@ fn copy_next<'a, D: Digest, A: Allocator + Clone>(
     requires ascending { are_ascending changes.now ≡ true }
     ensures came { IfOk result (λ next. IfNone next (IsTaken layer changes.now written.old
         rows.old.rest written.new rows.new.rest)) }
-    ensures fewer { IfOk result
-        (λ next. IfNone next (pairs_left rows.new.rest < pairs_left rows.old.rest)) }
     ensures pairs { IfOk result (λ next. IfNone next (has_rows written.new ≡ true)) }
+    ensures follows { IfOk result
+        (λ next. IfNone next (key_behind [] written.new ≡ rows.new.before)) }
     ensures ahead { IfOk result (λ next. IfSome next
         (λ ahead. rows.old.rest ≡ shape_at ahead.0 ahead.1 rows.new)) }
     ensures same { IfOk result (λ next. IfSome next (λ ahead. written.new ≡ written.old)) }
@@ -236,6 +309,6 @@ fn copy_next<'a, D: Digest, A: Allocator + Clone>(
     if !is_untouched(layer, link.is_some(), rows.key(), changes) {
         return Ok(Some((link, Some(value.to_cid()))));
     }
-    written.pair_like(Some(rows.node()), link, rows.key(), value)?;
+    written.pair(link, rows.key(), value)?;
     Ok(None)
 }

@@ -4,9 +4,10 @@ ghost use Rattle.std.specs.Prelude.{◌≡◌};
 ghost use Rattle.edit.specs.declared.outcome.EditFault.TheVariants.{NoMemory};
 
 use crate::faults::Fault;
-use cid::{Cid, Collided, Digest};
-use lookups::MarkedBlock;
+use block::{Block, Collided};
+use cid::{Cid, Digest};
 use std::alloc::{AllocError, AllocFailed, Allocator, Global};
+use std::sync::Arc;
 use thiserror::Error;
 
 /// What a batch does to a tree and to the set of its blocks. The blocks before, without those of `drop` and with those of
@@ -16,9 +17,9 @@ use thiserror::Error;
 pub struct BatchEdit<D: Digest, A: Allocator = Global> {
     /// The root after the batch.
     pub root: Cid,
-    /// New blocks, each once, none of which was read, and each marked as a node. A subtree's blocks come before the node
-    /// that links to it, the new top last, where it is new.
-    pub add: Vec<MarkedBlock<D, A>, A>,
+    /// New blocks, each once, none of which was read, and each a node. A subtree's blocks come before the node that links
+    /// to it, the new top last, where it is new.
+    pub add: Vec<Arc<Block<D, A>, A>, A>,
     /// The CIDs of the blocks that go, each once. What is both added and dropped stands in neither.
     pub drop: Vec<Cid, A>,
     /// The value that the key of each change had before, in the order of the changes.
@@ -32,7 +33,7 @@ pub struct Edit<D: Digest, A: Allocator = Global> {
     /// The root after the change.
     pub root: Cid,
     /// New blocks, as in a [`BatchEdit`].
-    pub add: Vec<MarkedBlock<D, A>, A>,
+    pub add: Vec<Arc<Block<D, A>, A>, A>,
     /// The CIDs of the blocks that go, as in a [`BatchEdit`].
     pub drop: Vec<Cid, A>,
     /// The value that the key had before.

@@ -2,11 +2,11 @@
 
 ghost use Rattle.std.specs.Prelude.{◌≡◌};
 ghost use Rattle.std.specs.Arc.{arc_value};
-ghost use Rattle.lookups.specs.Nodes.{IsNodeOf};
 ghost use Rattle.rows.specs.Drafts.{shape_in};
+ghost use Rattle.lookups.specs.Nodes.{IsNodeOf};
 
-use cid::{Block, Digest};
-use lookups::Lent;
+use block::Block;
+use cid::Digest;
 use std::alloc::{Allocator, Global};
 use std::marker::Model;
 use std::sync::Arc;
@@ -16,7 +16,7 @@ use std::sync::Arc;
 /// A contract sees it as the block.
 #[derive(Drop)]
 pub(crate) struct ReadNode<'a, D: Digest, A: Allocator = Global> {
-    lent: Lent<'a, D, A>,
+    block: &'a Arc<Block<D, A>, A>,
 
     /// How many layers below the top of the new tree it was read.
     depth: usize,
@@ -34,26 +34,26 @@ impl<'a, D: Digest, A: Allocator> Model for ReadNode<'a, D, A> {
 
     ghost Value = { Arc (List ℕ) A };
 
-    ghost view = { λ n. n.lent };
+    ghost view = { λ n. n.block.now };
 
-    ghost invariant = { λ n. IsNodeOf (arc_value n.lent) (shape_in (arc_value n.lent)) };
+    ghost invariant = { λ n. IsNodeOf (arc_value n.block.now) (shape_in (arc_value n.block.now)) };
 }
 
 impl<'a, D: Digest, A: Allocator> ReadNode<'a, D, A> {
     /// A block that was read as a node, at this depth. So many were read up to the one read last on a layer above its own.
-    pub(crate) fn of(lent: Lent<'a, D, A>, depth: usize, above: usize) -> ReadNode<'a, D, A>
-        requires { IsNodeOf (arc_value lent) (shape_in (arc_value lent)) }
-        ensures { result ≡ lent.entry }
+    pub(crate) fn of(
+        block: &'a Arc<Block<D, A>, A>,
+        depth: usize,
+        above: usize,
+    ) -> ReadNode<'a, D, A>
+        requires { IsNodeOf (arc_value block.now) (shape_in (arc_value block.now)) }
+        ensures { result ≡ block.now }
     {
-        ReadNode { lent, depth, above }
-    }
-
-    /// The block as it was lent.
-    pub(crate) fn lent(&self) -> &Lent<'a, D, A>
-        ensures same { result.now ≡ self.now }
-        ensures node { IsNodeOf (arc_value self.now) (shape_in (arc_value self.now)) }
-    {
-        &self.lent
+        ReadNode {
+            block,
+            depth,
+            above,
+        }
     }
 
     /// The block.
@@ -61,7 +61,7 @@ impl<'a, D: Digest, A: Allocator> ReadNode<'a, D, A> {
         ensures same { result.now ≡ self.now }
         ensures node { IsNodeOf (arc_value self.now) (shape_in (arc_value self.now)) }
     {
-        self.lent.block()
+        self.block
     }
 }
 

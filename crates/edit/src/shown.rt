@@ -4,12 +4,12 @@ ghost use Rattle.std.specs.Prelude.{◌≡◌, ℕ, List};
 ghost use Rattle.std.specs.Arc.{arc_value};
 
 use crate::read_nodes::ReadNode;
-use cid::{Block, Digest};
-use lookups::MarkedBlock;
+use block::Block;
+use cid::Digest;
 use std::alloc::Allocator;
 use std::sync::Arc;
 
-/// What shows a block: a node that was read, or a block with its mark.
+/// What shows a block: a node that was read, or a block itself.
 pub(crate) trait Shown<D: Digest, A: Allocator> {
     /// The bytes of the block.
     ghost bytes: { Self → List ℕ };
@@ -27,10 +27,10 @@ impl<'a, D: Digest, A: Allocator> Shown<D, A> for ReadNode<'a, D, A> {
     }
 }
 
-impl<D: Digest, A: Allocator> Shown<D, A> for MarkedBlock<D, A> {
+impl<D: Digest, A: Allocator> Shown<D, A> for Arc<Block<D, A>, A> {
     ghost bytes = { arc_value };
 
     fn shown(&self) -> &Arc<Block<D, A>, A> {
-        self.block()
+        self
     }
 }

@@ -26,10 +26,12 @@ use crate::faults::Fault;
 use crate::hashed::HashedChange;
 use crate::outcome::{BatchEdit, Edit, EditFault};
 use crate::whole::{Changed, change_tree};
+use block::Block;
 use cid::{Cid, Digest};
-use lookups::{Lent, Source};
+use lookups::Source;
 use std::alloc::Allocator;
 use std::clone::Clone;
+use std::sync::Arc;
 
 /// Puts a key with a value into the tree with this root; where the tree has the key, the value takes the place of the
 /// old one.
@@ -42,13 +44,13 @@ use std::clone::Clone;
 /// each a node of the tree before or of the tree after, and `EditFault::NoMemory` comes where memory was refused. Where
 /// the source lacks a node of the path, `EditFault::Missing` has its CID; where it gives what is no node of a tree, and
 /// that is noticed, the fault is `EditFault::NotTree`. Whatever it gives, no more blocks are read than a tree has layers.
-pub fn put<'a, D: Digest + 'a, const B: u8, A: Allocator + Clone + 'a, S: Source<Lent<'a, D, A>>>(
-    alloc: A,
-    src: &mut S,
-    root: Cid,
-    key: &[u8],
-    value: Cid,
-) -> Result<Edit<D, A>, EditFault<D, A>>
+pub fn put<
+    'a,
+    D: Digest + 'a,
+    const B: u8,
+    A: Allocator + Clone + 'a,
+    S: Source<&'a Arc<Block<D, A>, A>>,
+>(alloc: A, src: &mut S, root: Cid, key: &[u8], value: Cid) -> Result<Edit<D, A>, EditFault<D, A>>
     requires least { 1 ≤ B }
     requires key { is_key key.now ≡ true }
     ensures edit { IsPut D.digest_of B (S.gives src.old) root key.now value result }
@@ -84,7 +86,7 @@ pub fn delete<
     D: Digest + 'a,
     const B: u8,
     A: Allocator + Clone + 'a,
-    S: Source<Lent<'a, D, A>>,
+    S: Source<&'a Arc<Block<D, A>, A>>,
 >(alloc: A, src: &mut S, root: Cid, key: &[u8]) -> Result<Edit<D, A>, EditFault<D, A>>
     requires least { 1 ≤ B }
     ensures edit { IsDelete D.digest_of B (S.gives src.old) root key.now result }
@@ -113,7 +115,7 @@ fn change_one<
     D: Digest + 'a,
     const B: u8,
     A: Allocator + Clone + 'a,
-    S: Source<Lent<'a, D, A>>,
+    S: Source<&'a Arc<Block<D, A>, A>>,
 >(
     alloc: A,
     src: &mut S,

@@ -11,11 +11,13 @@ ghost use Rattle.edit.specs.Tops.{IsTopped, IsLooked, IsTop, IsEnded};
 use crate::edge::Edge;
 use crate::faults::Fault;
 use crate::level::Level;
+use block::Block;
 use cid::{Cid, Digest};
-use lookups::{Lent, Source};
+use lookups::Source;
 use rows::{DraftFault, to_cid};
 use std::alloc::Allocator;
 use std::clone::Clone;
+use std::sync::Arc;
 
 /// The depth of the highest layer with a pair, or how many layers are open where none has one.
 fn highest<A: Allocator + Clone>(levels: &[Level<'_, A>]) -> usize
@@ -56,7 +58,7 @@ impl<'a, D: Digest, A: Allocator + Clone> Edge<'a, D, A> {
 
 impl<'a, D: Digest + 'a, A: Allocator + Clone + 'a> Edge<'a, D, A> {
     /// The node with this CID is read. It is the top where it has a pair, or no link; else its link is answered.
-    fn look<S: Source<Lent<'a, D, A>>>(
+    fn look<S: Source<&'a Arc<Block<D, A>, A>>>(
         &mut self,
         src: &mut S,
         cid: Cid,
@@ -78,7 +80,7 @@ impl<'a, D: Digest + 'a, A: Allocator + Clone + 'a> Edge<'a, D, A> {
     }
 
     /// The first node with a pair from here down, where no node above it has a pair.
-    fn prune<S: Source<Lent<'a, D, A>>>(
+    fn prune<S: Source<&'a Arc<Block<D, A>, A>>>(
         &mut self,
         src: &mut S,
         layers: u16,
@@ -105,7 +107,7 @@ impl<'a, D: Digest + 'a, A: Allocator + Clone + 'a> Edge<'a, D, A> {
     }
 
     /// No more comes: the root, and how many of the nodes that were read go. That is all of them, or all but the last.
-    pub(crate) fn finish<S: Source<Lent<'a, D, A>>>(
+    pub(crate) fn finish<S: Source<&'a Arc<Block<D, A>, A>>>(
         &mut self,
         src: &mut S,
         layers: u16,

@@ -21,12 +21,13 @@ use crate::edge::Edge;
 use crate::faults::Fault;
 use crate::hashed::HashedChange;
 use crate::tasks::{Agenda, NextGap, NextPair, Task};
+use block::Block;
 use cid::{Cid, CidRef, Digest};
-use lookups::{Lent, Source};
-use node::NodeView;
+use lookups::Source;
 use rows::{DraftFault, KeyedEntries};
 use std::alloc::{AllocError, Allocator};
 use std::clone::Clone;
+use std::sync::Arc;
 
 /// What is left of a node of this depth and of so many layers below it is put off: its next gap comes next, and the pair
 /// after it later.
@@ -100,7 +101,7 @@ impl<'a, D: Digest, A: Allocator + Clone> Edge<'a, D, A> {
 
 impl<'a, D: Digest + 'a, A: Allocator + Clone + 'a> Edge<'a, D, A> {
     /// Changes where the old tree has nothing.
-    fn puts<const B: u8, S: Source<Lent<'a, D, A>>>(
+    fn puts<const B: u8, S: Source<&'a Arc<Block<D, A>, A>>>(
         &mut self,
         src: &mut S,
         layers: u16,
@@ -128,7 +129,7 @@ impl<'a, D: Digest + 'a, A: Allocator + Clone + 'a> Edge<'a, D, A> {
     }
 
     /// The pair of a change where the old tree has nothing.
-    fn put_one<const B: u8, S: Source<Lent<'a, D, A>>>(
+    fn put_one<const B: u8, S: Source<&'a Arc<Block<D, A>, A>>>(
         &mut self,
         src: &mut S,
         layers: u16,
@@ -149,12 +150,12 @@ impl<'a, D: Digest + 'a, A: Allocator + Clone + 'a> Edge<'a, D, A> {
             return Ok(());
         };
         let depth = usize::from(layers.saturating_sub(change.layers::<B>()));
-        self.pair(src, depth, None, change.key(), CidRef::from(&value))
+        self.pair(src, depth, change.key(), CidRef::from(&value))
     }
 
     /// What comes in a gap: its changes where nothing stands there, its subtree where nothing changes; else the subtree's
     /// node is read, and is the next task.
-    fn fill<'c, const B: u8, S: Source<Lent<'a, D, A>>>(
+    fn fill<'c, const B: u8, S: Source<&'a Arc<Block<D, A>, A>>>(
         &mut self,
         src: &mut S,
         layers: u16,
@@ -191,11 +192,10 @@ impl<'a, D: Digest + 'a, A: Allocator + Clone + 'a> Edge<'a, D, A> {
     }
 
     /// A pair of an old node, unless its change takes it away.
-    fn entry<S: Source<Lent<'a, D, A>>>(
+    fn entry<S: Source<&'a Arc<Block<D, A>, A>>>(
         &mut self,
         src: &mut S,
         depth: u16,
-        node: &NodeView<'a>,
         key: &[u8],
         value: CidRef<'_>,
         at: Option<Option<Cid>>,
@@ -214,17 +214,17 @@ impl<'a, D: Digest + 'a, A: Allocator + Clone + 'a> Edge<'a, D, A> {
             (edge_in self.old) (log_in self.old))) }
     {
         let Some(change) = at else {
-            return self.pair(src, usize::from(depth), Some(node), key, value);
+            return self.pair(src, usize::from(depth), key, value);
         };
         previous.push(Some(value.to_cid()))?;
         let Some(new) = change else {
             return Ok(());
         };
-        self.pair(src, usize::from(depth), Some(node), key, CidRef::from(&new))
+        self.pair(src, usize::from(depth), key, CidRef::from(&new))
     }
 
     /// One task.
-    fn perform<'c, const B: u8, S: Source<Lent<'a, D, A>>>(
+    fn perform<'c, const B: u8, S: Source<&'a Arc<Block<D, A>, A>>>(
         &mut self,
         src: &mut S,
         layers: u16,
@@ -250,7 +250,6 @@ impl<'a, D: Digest + 'a, A: Allocator + Clone + 'a> Edge<'a, D, A> {
                 self.entry(
                     src,
                     next.depth,
-                    next.rest.node(),
                     next.rest.key(),
                     CidRef::from(&next.value),
                     next.at,
@@ -262,7 +261,7 @@ impl<'a, D: Digest + 'a, A: Allocator + Clone + 'a> Edge<'a, D, A> {
     }
 
     /// All that comes of a node of this depth with these changes: what the changed keys had before.
-    pub(crate) fn walk<'c, const B: u8, S: Source<Lent<'a, D, A>>>(
+    pub(crate) fn walk<'c, const B: u8, S: Source<&'a Arc<Block<D, A>, A>>>(
         &mut self,
         src: &mut S,
         layers: u16,

@@ -17,12 +17,14 @@ use crate::budgets::most_reads_below;
 use crate::edge::Edge;
 use crate::faults::Fault;
 use crate::hashed::{HashedChange, layers_of_puts};
+use block::Block;
 use cid::{Cid, Digest};
-use lookups::{Lent, Source};
+use lookups::Source;
 use node::KeyBuf;
 use rows::{KeyedEntries, top_layer};
 use std::alloc::Allocator;
 use std::clone::Clone;
+use std::sync::Arc;
 
 /// The new root, how many of the nodes that were read go, what the changed keys had, and what was read and made.
 #[derive(Drop)]
@@ -47,7 +49,7 @@ pub(crate) fn change_tree<
     D: Digest + 'a,
     const B: u8,
     A: Allocator + Clone + 'a,
-    S: Source<Lent<'a, D, A>>,
+    S: Source<&'a Arc<Block<D, A>, A>>,
 >(
     alloc: A,
     src: &mut S,

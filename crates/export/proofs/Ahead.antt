@@ -6,7 +6,7 @@ use Rattle.std.specs.List.{cons_option}
 use Rattle.std.proofs.lemmas.List.{length-append}
 use Rattle.spec.specs.Cid.{cid}
 use Rattle.edit_laws.specs.Sources.{shown_by}
-use Rattle.export.specs.Founds.{bytes_found}
+use Rattle.export.specs.Founds.{bytes_found, seen_found}
 use Rattle.export.specs.Once.{AreSingle, HasNoted, capped, sections, section_once}
 use Rattle.export.specs.Outs.{Leaves, TakesBeginning, Takes}
 use Rattle.export.specs.Walks.{Walking, GoesBy, IsStep, blocks_at, blocks_behind, blocks_left, cids_left, steps_behind}
@@ -25,7 +25,7 @@ blocks-by gives old new o by =
 -- what is left before a step is what stands behind it
 pub behind : {D A : Type 0} (gives : List ℕ → Option (List ℕ)) (step : Step D A) (old new : Walking) → IsStep gives old new step
     → blocks_left gives old ≡ blocks_behind gives step new
-behind gives (steps.Found b) old new by = blocks-by gives old new (Some (bytes_found b)) by
+behind gives (steps.Found b) old new by = blocks-by gives old new (Some (bytes_found (seen_found b))) by
 behind gives steps.Missing old new by = blocks-by gives old new None by
 behind gives steps.End old new e = ap (blocks_at gives) e
 

@@ -1,6 +1,7 @@
 -- Blocks as an export finds them, each with a mark where it may stand more than once.
-use Rattle.std.specs.Prelude.{◌≡◌, ℕ, List, Bool, true, nat_lt, Option, Some, option_map}
+use Rattle.std.specs.Prelude.{◌≡◌, ℕ, List, Bool, nat_lt, Option, Some, option_map}
 use Rattle.std.specs.Arc.{arc_value}
+use Rattle.std.specs.Borrow.{Bor}
 use Rattle.std.specs.declared.sync.Arc.{Arc}
 use Rattle.spec.specs.Cid.{cid}
 use Rattle.kept.specs.Uses.{Uses, at}
@@ -11,9 +12,9 @@ use Rattle.export.specs.declared.found.Found.{Found}
 abbrev pub bytes_found : {A : Type 0} → Found (Arc (List ℕ) A) → List ℕ
 bytes_found f = arc_value f.lent
 
--- a block of which nothing is known
-abbrev pub unmarked : {T : Type 0} → T → Found T
-unmarked b = record { lent = b; may_repeat = true }
+-- a block that is lent, as what is lent
+abbrev pub seen_found : {T : Type 0} → Found (Bor T) → Found T
+seen_found f = record { lent = f.lent.now; may_repeat = f.may_repeat }
 
 -- a block that is kept: it may repeat where it has more uses than one
 abbrev pub counted : {D A : Type 0} → Use D A → Found (Arc (List ℕ) A)

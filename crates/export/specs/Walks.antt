@@ -7,7 +7,7 @@ use Rattle.spec.specs.Car.{car_of}
 use Rattle.spec.specs.Commits.{car_root}
 use Rattle.edit_laws.specs.Sources.{shown_by}
 use Rattle.node.specs.Rows.{Row, rows}
-use Rattle.export.specs.Founds.{bytes_found}
+use Rattle.export.specs.Founds.{bytes_found, seen_found}
 use Rattle.export.specs.Once.{sections}
 use Rattle.export.specs.declared.found.Found.{Found}
 use Rattle.export.specs.declared.walk.Step.{Step}
@@ -99,7 +99,7 @@ blocks_due gives commit w = commit_block gives commit ++ blocks_left gives w
 
 -- the blocks that are still to be written behind a step: that which it came to, and those left after it
 abbrev pub blocks_behind : {D A : Type 0} → (List ℕ → Option (List ℕ)) → Step D A → Walking → List (List ℕ)
-blocks_behind gives (steps.Found b) w = bytes_found b ∷ blocks_left gives w
+blocks_behind gives (steps.Found b) w = bytes_found (seen_found b) ∷ blocks_left gives w
 blocks_behind gives steps.Missing w = blocks_left gives w
 blocks_behind gives steps.End w = []
 
@@ -152,12 +152,12 @@ pub record GoesBy (gives : List ℕ → Option (List ℕ)) (old new : Walking) (
 
 -- a step of a walk, over a source
 abbrev pub IsStep : {D A : Type 0} → (List ℕ → Option (List ℕ)) → Walking → Walking → Step D A → Type 0
-IsStep gives old new (steps.Found b) = GoesBy gives old new (Some (bytes_found b))
+IsStep gives old new (steps.Found b) = GoesBy gives old new (Some (bytes_found (seen_found b)))
 IsStep gives old new steps.Missing = GoesBy gives old new None
 IsStep gives old new steps.End = cids_left (shown_by gives) old ≡ []
 
 -- what a step found is what a source gives for some CID
 abbrev pub IsStepFrom : {D A : Type 0} → (List ℕ → Option (Found (Arc (List ℕ) A))) → Step D A → Type 0
-IsStepFrom gives (steps.Found f) = (c : List ℕ) × (gives c ≡ Some f)
+IsStepFrom gives (steps.Found f) = (c : List ℕ) × (gives c ≡ Some (seen_found f))
 IsStepFrom gives steps.Missing = ⊤
 IsStepFrom gives steps.End = ⊤

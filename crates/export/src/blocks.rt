@@ -13,9 +13,11 @@ use crate::out::Out;
 use crate::repeats::Repeats;
 use crate::seen::Seen;
 use crate::walk::{Step, Walk};
+use block::Block;
 use cid::{Cid, Digest};
-use lookups::{Lent, Source};
+use lookups::Source;
 use std::alloc::Allocator;
+use std::sync::Arc;
 
 /// Writes the sections of the commit, if there is one, and of the blocks that a walk is still to come to, and answers how
 /// many bytes that are.
@@ -23,7 +25,7 @@ pub(crate) fn write_sections<
     'a,
     D: Digest + 'a,
     A: Allocator + Clone + 'a,
-    S: Source<Found<Lent<'a, D, A>>>,
+    S: Source<Found<&'a Arc<Block<D, A>, A>>>,
     R: Repeats,
     W: Out,
 >(
@@ -56,7 +58,7 @@ fn write_commit<
     'a,
     D: Digest + 'a,
     A: Allocator + Clone + 'a,
-    S: Source<Found<Lent<'a, D, A>>>,
+    S: Source<Found<&'a Arc<Block<D, A>, A>>>,
     R: Repeats,
     W: Out,
 >(
@@ -97,7 +99,7 @@ fn write_blocks<
     'a,
     D: Digest + 'a,
     A: Allocator + Clone + 'a,
-    S: Source<Found<Lent<'a, D, A>>>,
+    S: Source<Found<&'a Arc<Block<D, A>, A>>>,
     R: Repeats,
     W: Out,
 >(

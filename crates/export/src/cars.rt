@@ -1,7 +1,6 @@
 //! CAR files (CARv1).
 
 ghost use Rattle.std.specs.Prelude.{◌≡◌, ◌≤◌, length, option_map, IfOk};
-ghost use Rattle.std.specs.Arc.{arc_value};
 ghost use Rattle.spec.specs.Commits.{car_root};
 ghost use Rattle.export.specs.Exports.{TakesCar, car_length};
 ghost use Rattle.export.specs.Founds.{bytes_found, AreMarked};
@@ -11,14 +10,15 @@ ghost use Rattle.export.specs.Walks.{blocks_met, car_met};
 
 use crate::blocks::write_sections;
 use crate::export_fault::ExportFault;
-use crate::found::{Counted, Found, Unmarked};
+use crate::found::{Counted, Found};
 use crate::out::Out;
-use crate::repeats::{AnyMayRepeat, Repeats};
+use crate::repeats::Repeats;
 use crate::sections::write_header;
 use crate::seen::Seen;
 use crate::walk::Walk;
-use cid::{Block, Cid, Digest};
-use lookups::{Lent, Source};
+use block::Block;
+use cid::{Cid, Digest};
+use lookups::Source;
 use repo::Core;
 use std::alloc::Allocator;
 use std::sync::Arc;
@@ -48,7 +48,6 @@ pub fn car<D: Digest, const B: u8, A: Allocator + Clone, W: Out>(
     write_car(
         alloc,
         core,
-        0,
         &mut counted,
         commit,
         root,
@@ -57,54 +56,18 @@ pub fn car<D: Digest, const B: u8, A: Allocator + Clone, W: Out>(
     )
 }
 
-/// Writes the CAR of a commit, if there is one, and of the tree with this root, over `most` layers at most: of each
-/// block that the source has, and answers how many bytes that are.
-///
-/// It is for who has a repository's blocks and no `Core`. A CID that the source has no block for is passed over. The faults
-/// are those of [`car`]. `blocks` is how many blocks are expected: room for the CIDs of so many is made at once, before
-/// anything is written, and for more as they come.
-pub fn car_over<'a, D: Digest + 'a, A: Allocator + Clone + 'a, S: Source<Lent<'a, D, A>>, W: Out>(
-    alloc: A,
-    blocks: usize,
-    src: &mut S,
-    commit: Option<Cid>,
-    root: Cid,
-    most: u16,
-    out: &mut W,
-) -> Result<u64, ExportFault>
-    ensures taken { Takes (W.taken out.old) (W.taken out.new) result
-        (car_met D.digest_of (λ c. option_map arc_value (S.gives src.old c)) most commit root) }
-    ensures length { IfOk result (λ count. count
-        ≡ capped (length (car_met D.digest_of
-        (λ c. option_map arc_value (S.gives src.old c)) most commit root))) }
-    ensures cause { HasCause (W.failures out.old) (W.failures out.new) result }
-{
-    let mut unmarked = Unmarked { src };
-    write_car(
-        alloc,
-        &AnyMayRepeat,
-        blocks,
-        &mut unmarked,
-        commit,
-        root,
-        most,
-        out,
-    )
-}
-
-/// Writes this CAR where it is known of some of its blocks that they stand once. Of the others the CIDs are noted: room
-/// for so many is made at once.
+/// Writes the CAR of a commit, if there is one, and of the tree with this root, over `most` layers at most: of each block
+/// that the source has. It is known of some of them that they stand once; of the others the CIDs are noted.
 fn write_car<
     'a,
     D: Digest + 'a,
     A: Allocator + Clone + 'a,
-    S: Source<Found<Lent<'a, D, A>>>,
+    S: Source<Found<&'a Arc<Block<D, A>, A>>>,
     R: Repeats,
     W: Out,
 >(
     alloc: A,
     repeats: &R,
-    room: usize,
     src: &mut S,
     commit: Option<Cid>,
     root: Cid,
@@ -121,7 +84,7 @@ fn write_car<
         (λ c. option_map bytes_found (S.gives src.old c)) most commit root))) }
     ensures cause { HasCause (W.failures out.old) (W.failures out.new) result }
 {
-    let mut seen = Seen::with_room(alloc.clone()?, room)?;
+    let mut seen = Seen::none(alloc.clone()?);
     let header = write_header(out, &root_of(commit, root))?;
     let walk = Walk::from_top(alloc, root, most);
     let others = write_sections(repeats, src, commit, walk, &mut seen, out)?;

@@ -1,12 +1,11 @@
 //! Exports of a repository, and proofs about its single keys.
 //!
 //! [`car`] writes a repository as one file (CARv1) to whatever is an [`Out`]: [`ToMemory`], or [`ToWriter`] over a writer of
-//! the standard library. [`car_over`] does so for blocks that stand elsewhere than in a `Core`.
+//! the standard library.
 //!
 //! A proof that a tree has a value under a key, or none, is the list of the nodes on the key's path. [`prove`] makes it,
-//! [`path_over`] does so over blocks that stand elsewhere, and [`verify`] tells what such blocks prove to someone who knows
-//! the tree's root alone: nothing of the host that gave them is trusted, but that it found no other bytes with the CID of a
-//! block of the tree.
+//! and [`verify`] tells what such blocks prove to someone who knows the tree's root alone: nothing of the host that gave them
+//! is trusted, but that it found no other bytes with the CID of a block of the tree.
 //!
 //! ```text
 //! let mut out = ToMemory::new(alloc);
@@ -23,7 +22,6 @@ mod export_fault;
 mod found;
 mod given;
 mod hashed;
-mod log;
 mod once;
 mod out;
 mod proof_fault;
@@ -31,6 +29,7 @@ mod proving;
 mod repeats;
 mod sections;
 mod seen;
+mod taken;
 mod to_memory;
 mod to_writer;
 mod varint;
@@ -38,12 +37,12 @@ mod verifying;
 mod walk;
 mod whole;
 
-pub use cars::{car, car_over};
+pub use cars::car;
 pub use export_fault::ExportFault;
-pub use log::Log;
 pub use out::{Failed, Out};
 pub use proof_fault::ProofFault;
-pub use proving::{path_over, prove};
+pub use proving::prove;
+pub use taken::Taken;
 pub use to_memory::ToMemory;
 pub use to_writer::ToWriter;
 pub use verifying::verify;

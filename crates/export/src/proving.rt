@@ -11,9 +11,10 @@ ghost use Rattle.node.specs.Views.{place_of};
 ghost use Rattle.lookups.specs.Trees.{HasTree};
 ghost use Rattle.export.specs.Exports.{ArePathOf};
 
-use cid::{Block, Cid, Digest};
+use block::Block;
+use cid::{Cid, Digest};
 use kept::Lender;
-use lookups::{Lent, Source};
+use lookups::{Source, view_of};
 use node::Place;
 use repo::Core;
 use std::alloc::{AllocError, Allocator};
@@ -33,29 +34,11 @@ pub fn prove<D: Digest, const B: u8, A: Allocator>(
 {
     let root = core.root();
     let mut lender = core.lender();
-    path_over::<D, B, A, Lender<'_, D, A>>(alloc, &mut lender, root, key)
+    path_within::<D, A, Lender<'_, D, A>>(alloc, &mut lender, root, key, 256 / B as u16 + 1)
 }
 
-/// The nodes of a key's path in the tree with this root, from the top, over a source that has all nodes of the tree.
-///
-/// It is for who has a tree's blocks and no `Core`. Where the source lacks a node of the path, or gives what is none, the
-/// path ends. `AllocError` comes where memory was refused.
-pub fn path_over<'a, D: Digest + 'a, const B: u8, A: Allocator + 'a, S: Source<Lent<'a, D, A>>>(
-    alloc: A,
-    src: &mut S,
-    root: Cid,
-    key: &[u8],
-) -> Result<Vec<Arc<Block<D, A>, A>, A>, AllocError>
-    requires { 1 ≤ B }
-    ensures { (es : List Pair) → HasTree D.digest_of B
-        (λ c. option_map arc_value (S.gives src.old c)) root es
-        → IfOk result (λ nodes. map arc_value nodes.items ≡ path D.digest_of B es key.now) }
-{
-    path_within(alloc, src, root, key, 256 / B as u16 + 1)
-}
-
-/// The same over `most` nodes at most. Where a block is missing or is no node, the path ends.
-fn path_within<'a, D: Digest + 'a, A: Allocator + 'a, S: Source<Lent<'a, D, A>>>(
+/// The nodes of a key's path below a root, over `most` nodes at most. Where a block is missing or is no node, the path ends.
+fn path_within<'a, D: Digest + 'a, A: Allocator + 'a, S: Source<&'a Arc<Block<D, A>, A>>>(
     alloc: A,
     src: &mut S,
     root: Cid,
@@ -74,25 +57,25 @@ fn path_within<'a, D: Digest + 'a, A: Allocator + 'a, S: Source<Lent<'a, D, A>>>
         let Some(cid) = link else {
             return Ok(nodes);
         };
-        let Some(lent) = src.get(&cid) else {
+        let Some(block) = src.get(&cid) else {
             return Ok(nodes);
         };
-        let Some(next) = link_in(&lent, key) else {
+        let Some(next) = link_in(block, key) else {
             return Ok(nodes);
         };
-        nodes.push(Arc::try_clone(lent.block())?)?;
+        nodes.push(Arc::try_clone(block)?)?;
         link = next;
     }
     Ok(nodes)
 }
 
 /// The link below which a key lies in the node of a block, or `None` where the block is no node.
-fn link_in<D: Digest, A: Allocator>(lent: &Lent<'_, D, A>, key: &[u8]) -> Option<Option<Cid>>
-    ensures link { result ≡ option_map (gap key.now) (shape_of_bytes (arc_value lent.now)) }
+fn link_in<D: Digest, A: Allocator>(block: &Arc<Block<D, A>, A>, key: &[u8]) -> Option<Option<Cid>>
+    ensures link { result ≡ option_map (gap key.now) (shape_of_bytes (arc_value block.now)) }
     ensures bytes { IfSome result (λ link. option_map shape_bytes
-        (shape_of_bytes (arc_value lent.now)) ≡ Some (arc_value lent.now)) }
+        (shape_of_bytes (arc_value block.now)) ≡ Some (arc_value block.now)) }
 {
-    match lent.view() {
+    match view_of(block) {
         Some(node) => Some(link_at(node.find(key))),
         None => None,
     }

@@ -1,6 +1,6 @@
 //! Which blocks may stand more than once.
 
-ghost use Rattle.std.specs.Prelude.{ℕ, List, Bool, true, nat_lt};
+ghost use Rattle.std.specs.Prelude.{ℕ, List, Bool, nat_lt};
 ghost use Rattle.spec.specs.States.{state_blocks};
 ghost use Rattle.edit_laws.specs.Uses.{uses};
 
@@ -18,12 +18,4 @@ pub(crate) trait Repeats {
 /// A repository knows how often each of its blocks is used.
 impl<D: Digest, const B: u8, A: Allocator> Repeats for Core<D, B, A> {
     ghost may_repeat = { λ s c. nat_lt 1 (uses D.digest_of c (state_blocks D.digest_of B s)) };
-}
-
-/// Nothing is known of the blocks, so each may stand more than once.
-#[derive(Clone, Copy)]
-pub(crate) struct AnyMayRepeat;
-
-impl Repeats for AnyMayRepeat {
-    ghost may_repeat = { λ _ _. true };
 }

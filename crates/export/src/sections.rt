@@ -7,7 +7,8 @@ ghost use Rattle.export.specs.Outs.{Fails, Takes};
 use crate::out::{Failed, Out};
 use crate::varint::varint;
 use crate::whole::write_three;
-use cid::{Block, Cid, Digest};
+use block::Block;
+use cid::{Cid, Digest};
 use std::alloc::Allocator;
 
 /// The bytes of the header before the CID of the root: its length, and a map with `roots`, a list of one link.

@@ -27,13 +27,13 @@ impl<A: Allocator> Model for Seen<A> {
 }
 
 impl<A: Allocator + Clone> Seen<A> {
-    /// None so far, with room for so many.
-    pub(crate) fn with_room(alloc: A, room: usize) -> Result<Seen<A>, AllocError>
-        ensures { IfOk result (λ seen. seen ≡ []) }
+    /// None so far.
+    pub(crate) fn none(alloc: A) -> Seen<A>
+        ensures { result ≡ [] }
     {
-        Ok(Seen {
-            cids: HashSet::with_capacity(alloc, room)?,
-        })
+        Seen {
+            cids: HashSet::new(alloc),
+        }
     }
 
     /// Whether this one is new. It is noted if it may come again: of one that can't it is known without a look, and nobody

@@ -2,8 +2,8 @@
 
 ghost use Rattle.std.specs.Prelude.{◌≡◌, ◌<◌, ◌≤◌, ◌++◌, [], suc, length, take, IfOk, OnOk, OnErr};
 
-use crate::log::Log;
 use crate::out::{Failed, Out};
+use counts::Count;
 use std::alloc::{Allocator, Global};
 use std::marker::Model;
 
@@ -13,7 +13,7 @@ use std::marker::Model;
 #[derive(Drop)]
 pub struct ToMemory<A: Allocator = Global> {
     bytes: Vec<u8, A>,
-    log: Log,
+    failures: Count,
 }
 
 impl<A: Allocator> Model for ToMemory<A> {
@@ -21,7 +21,7 @@ impl<A: Allocator> Model for ToMemory<A> {
 
     ghost Value = { Filling };
 
-    ghost view = { λ m. record { taken = m.bytes.items; failures = m.log.failures } };
+    ghost view = { λ m. record { taken = m.bytes.items; failures = m.failures.times } };
 }
 
 impl<A: Allocator> ToMemory<A> {
@@ -37,8 +37,8 @@ impl<A: Allocator> ToMemory<A> {
     pub fn over(bytes: Vec<u8, A>) -> ToMemory<A>
         ensures { result ≡ record { taken = bytes.items; failures = 0 } }
     {
-        let log = Log::empty();
-        ToMemory { bytes, log }
+        let failures = Count::never();
+        ToMemory { bytes, failures }
     }
 
     /// The bytes that it has taken.
@@ -65,7 +65,7 @@ impl<A: Allocator> Out for ToMemory<A> {
         match self.bytes.extend_from_slice(bytes) {
             Ok(()) => Ok(bytes.len()),
             Err(_) => {
-                self.log = self.log.failed();
+                self.failures = self.failures.once_more();
                 Err(Failed)
             }
         }

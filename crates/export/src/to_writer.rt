@@ -3,8 +3,9 @@
 ghost use Rattle.std.specs.Prelude.{◌≡◌, ◌<◌, ◌≤◌, ◌++◌, [], suc, length, take, IfOk, OnOk, OnErr};
 ghost use Rattle.export.specs.Outs.{held, Holds, TakesFirst, WriterTakes};
 
-use crate::log::Log;
 use crate::out::{Failed, Out};
+use crate::taken::Taken;
+use counts::Count;
 use std::io::Write;
 use std::marker::Model;
 
@@ -17,7 +18,8 @@ use std::marker::Model;
 #[derive(Drop)]
 pub struct ToWriter<W: Write> {
     writer: W,
-    log: Log,
+    taken: Taken,
+    failures: Count,
 }
 
 impl<W: Write> Model for ToWriter<W> {
@@ -25,9 +27,9 @@ impl<W: Write> Model for ToWriter<W> {
 
     ghost Value = { Writing W };
 
-    ghost view = { λ w. record { writer = w.writer; taken = w.log.taken; failures = w.log.failures } };
+    ghost view = { λ w. record { writer = w.writer; taken = w.taken.bytes; failures = w.failures.times } };
 
-    ghost invariant = { λ w. Holds (λ v. W.contents v) w.writer w.log.taken };
+    ghost invariant = { λ w. Holds (λ v. W.contents v) w.writer w.taken.bytes };
 }
 
 impl<W: Write> ToWriter<W> {
@@ -39,8 +41,12 @@ impl<W: Write> ToWriter<W> {
           failures = 0;
         } }
     {
-        let log = Log::after(&writer);
-        ToWriter { writer, log }
+        let taken = Taken::after(&writer);
+        ToWriter {
+            writer,
+            taken,
+            failures: Count::never(),
+        }
     }
 
     /// The writer. It holds what it held from the start, and then what was taken: so a contract knows of a vector that a
@@ -73,11 +79,11 @@ impl<W: Write> Out for ToWriter<W> {
         }
         match self.writer.write(bytes) {
             Ok(count) if count > 0 => {
-                self.log = self.log.with(&bytes[..count]);
+                self.taken = self.taken.with(&bytes[..count]);
                 Ok(count)
             }
             _ => {
-                self.log = self.log.failed();
+                self.failures = self.failures.once_more();
                 Err(Failed)
             }
         }

@@ -9,17 +9,19 @@ ghost use Rattle.export.specs.Founds.{bytes_found};
 ghost use Rattle.export.specs.Walks.{entered, next_row, turned, without_link, IsNext, IsStep, IsStepFrom};
 
 use crate::found::Found;
+use block::Block;
 use cid::{Cid, CidRef, Digest};
-use lookups::{Lent, Source};
+use lookups::Source;
 use node::{Entries, EntryView};
 use std::alloc::{AllocError, Allocator};
 use std::marker::Model;
+use std::sync::Arc;
 
 /// What a walk came to.
 #[derive(Drop)]
 pub(crate) enum Step<'a, D: Digest, A: Allocator> {
     /// A block.
-    Found(Found<Lent<'a, D, A>>),
+    Found(Found<&'a Arc<Block<D, A>, A>>),
     /// A CID without a block.
     Missing,
     /// Its end.
@@ -68,7 +70,7 @@ impl<'a, A: Allocator> Walk<'a, A> {
     /// waits. So what is called for each block of a file is inlined by an attribute, here and where a block is found, noted and
     /// written: a file takes a fifth less time.
     #[inline(always)]
-    pub(crate) fn step<D: Digest + 'a, S: Source<Found<Lent<'a, D, A>>>>(
+    pub(crate) fn step<D: Digest + 'a, S: Source<Found<&'a Arc<Block<D, A>, A>>>>(
         &mut self,
         src: &mut S,
     ) -> Result<Step<'a, D, A>, AllocError>
@@ -83,7 +85,7 @@ impl<'a, A: Allocator> Walk<'a, A> {
             let Some(found) = src.get(&cid) else {
                 return Ok(Step::Missing);
             };
-            self.enter(&found.lent)?;
+            self.enter(found.lent)?;
             return Ok(Step::Found(found));
         }
         let Some(cid) = self.next_record()? else {
@@ -122,13 +124,13 @@ impl<'a, A: Allocator> Walk<'a, A> {
     }
 
     /// Goes into a node, if the block is one.
-    fn enter<D: Digest>(&mut self, lent: &Lent<'a, D, A>) -> Result<(), AllocError>
+    fn enter<D: Digest>(&mut self, block: &'a Arc<Block<D, A>, A>) -> Result<(), AllocError>
     where
         A: 'a,
         requires { length self.old.stack < self.old.most }
-        ensures { OnOk result (self.new ≡ entered self.old (read_node (arc_value lent.now))) }
+        ensures { OnOk result (self.new ≡ entered self.old (read_node (arc_value block.now))) }
     {
-        if let Some(node) = lent.view() {
+        if let Some(node) = block.node() {
             self.stack.push(node.entries())?;
             self.link = to_cid(node.left());
         }

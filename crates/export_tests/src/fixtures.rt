@@ -3,8 +3,10 @@
 ghost use Rattle.std.specs.Prelude.{◌≤◌};
 
 use batches::{Stamp, Write};
-use cid::{Block, Digest};
-use export::{Failed, Log, Out, ToMemory, car};
+use block::Block;
+use cid::Digest;
+use counts::Count;
+use export::{Failed, Out, Taken, ToMemory, car};
 use repo::Core;
 use std::alloc::{AllocError, Allocator, Global};
 use std::process::Abort;
@@ -165,7 +167,8 @@ pub(crate) struct Checked<'a> {
     a_call: usize,
     in_all: usize,
     is_right: bool,
-    log: Log,
+    taken: Taken,
+    failures: Count,
 }
 
 impl<'a> Checked<'a> {
@@ -175,7 +178,8 @@ impl<'a> Checked<'a> {
             a_call,
             in_all,
             is_right: true,
-            log: Log::empty(),
+            taken: Taken::nothing(),
+            failures: Count::never(),
         }
     }
 
@@ -190,14 +194,14 @@ impl<'a> Checked<'a> {
 }
 
 impl<'a> Out for Checked<'a> {
-    ghost taken = { λ c. c.log.taken };
+    ghost taken = { λ c. c.taken.bytes };
 
-    ghost failures = { λ c. c.log.failures };
+    ghost failures = { λ c. c.failures.times };
 
     fn write(&mut self, bytes: &[u8]) -> Result<usize, Failed> {
         let count = bytes.len().min(self.a_call).min(self.in_all);
         if count == 0 && !bytes.is_empty() {
-            self.log = self.log.failed();
+            self.failures = self.failures.once_more();
             return Err(Failed);
         }
         let part = &bytes[..count];
@@ -206,7 +210,7 @@ impl<'a> Out for Checked<'a> {
             None => self.is_right = false,
         }
         self.in_all -= count;
-        self.log = self.log.with(part);
+        self.taken = self.taken.with(part);
         Ok(count)
     }
 }

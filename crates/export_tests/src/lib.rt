@@ -3,8 +3,6 @@
 #![tactic(auto)]
 
 #[cfg(test)]
-mod built_at_once;
-#[cfg(test)]
 mod cars;
 #[cfg(test)]
 mod chains;
@@ -15,7 +13,7 @@ mod key_proofs;
 #[cfg(test)]
 mod memory;
 #[cfg(test)]
-mod paths_at_once;
+mod one_batch;
 #[cfg(test)]
 mod proofs;
 #[cfg(test)]

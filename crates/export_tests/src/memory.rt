@@ -3,8 +3,9 @@
 use crate::fixtures::{
     FIVE_NODES, ONE_RECORD_TWICE, Proof, Record, copies_of, end, file_of, opened, takes,
 };
+use block::Block;
+use cid::Cid;
 use cid::digests::Toy;
-use cid::{Block, Cid};
 use export::{ExportFault, ProofFault, ToMemory, car, prove, verify};
 use refusing::Refusing;
 use repo::Core;

@@ -3,7 +3,7 @@ ghost use Rattle.std.specs.Prelude.{◌≡◌, ◌≤◌, [], length, take};
 ghost use Rattle.node.specs.Contents.{last_key};
 
 use cid::{Cid, CidRef};
-use node::{EntryView, KeyBuf, NodeView, NodeWriter, Place};
+use node::{EntryView, Gap, KeyBuf, NodeView, NodeWriter, Place};
 use std::alloc::{Allocator, Global};
 use std::process::Abort;
 
@@ -93,18 +93,6 @@ fn node_in_the_room_of_another(rt: HostRuntime) {
     write_entries(&rt, &mut writer, &entries);
     let bytes = writer.bytes().expect(&rt, "memory for the bytes");
     assert!(rt; bytes == two_entries(&rt, rt.alloc()));
-}
-
-#[test]
-fn another_link_before_all_entries(rt: HostRuntime) {
-    let value = identifier(&rt, 0x11);
-    let link = identifier(&rt, 0x22);
-    let entries: [Entry<'_>; 2] = [(b"a/b", value, None), (b"a/cd", value, None)];
-    let bytes = two_entries(&rt, rt.alloc());
-    let view = NodeView::parse(&bytes).expect(&rt, "a node");
-    let linked = view.with_link_at(rt.alloc(), 0, view.left(), Some(link));
-    let linked = linked.expect(&rt, "memory for a node");
-    assert!(rt; linked == written(&rt, rt.alloc(), Some(link), &entries));
 }
 
 /// The bytes of a node of the keys `ka` to `kz`, with this one identifier for each value and each link.
@@ -301,15 +289,15 @@ fn keys_put_together(rt: HostRuntime) {
     );
 }
 
-/// The bytes of a node that goes on with the entries of another from this one on.
-fn continued(rt: &impl Abort, writer: NodeWriter, view: &NodeView<'_>, from: u64) -> Vec<u8>
-    requires within { from ≤ length view.now.entries }
-    requires follows { last_key [] writer.entries ≡ last_key [] (take from view.now.entries) }
+/// The bytes of a node that goes on with the entries of another from a gap on, up to so many.
+fn continued(rt: &impl Abort, writer: NodeWriter, from: &Gap<'_>, to: u64) -> Vec<u8>
+    requires order { from.now.passed ≤ to }
+    requires within { to ≤ length from.now.node.entries }
+    requires follows { last_key [] writer.entries
+        ≡ last_key [] (take from.now.passed from.now.node.entries) }
 {
     let mut writer = writer;
-    writer
-        .copy(view, from, view.entry_count())
-        .expect(rt, "memory for entries");
+    writer.copy(from, to).expect(rt, "memory for entries");
     writer.finish().expect(rt, "memory for the last part")
 }
 
@@ -319,7 +307,7 @@ fn entries_copied(rt: HostRuntime) {
     let view = NodeView::parse(&bytes).expect(&rt, "a node");
     assert!(rt; view.entry_count() == 2);
     let writer = NodeWriter::begin(rt.alloc(), None).expect(&rt, "memory for a node");
-    assert!(rt; continued(&rt, writer, &view, 0) == bytes);
+    assert!(rt; continued(&rt, writer, &Gap::first(&view), 2) == bytes);
 }
 
 #[test]
@@ -327,11 +315,12 @@ fn entries_copied_after_one_written(rt: HostRuntime) {
     let bytes = two_entries(&rt, rt.alloc());
     let view = NodeView::parse(&bytes).expect(&rt, "a node");
     assert!(rt; view.entry_count() == 2);
-    let first = view.entries().next().expect(&rt, "an entry");
+    let mut gap = Gap::first(&view);
+    let first = gap.next().expect(&rt, "an entry");
     let mut writer = NodeWriter::begin(rt.alloc(), None).expect(&rt, "memory for a node");
     assert!(rt; writer.is_next(first.suffix));
     writer
         .entry(first.suffix, first.value, None)
         .expect(&rt, "memory for an entry");
-    assert!(rt; continued(&rt, writer, &view, 1) == bytes);
+    assert!(rt; continued(&rt, writer, &gap, 2) == bytes);
 }

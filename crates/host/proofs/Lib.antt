@@ -3,3 +3,4 @@ pub mod Seats
 pub mod Accepting
 pub mod Sizes
 pub mod Wanting
+mod ChangeProving

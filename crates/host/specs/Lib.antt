@@ -4,3 +4,4 @@ pub mod Seeing
 pub mod Versions
 pub mod Telling
 pub mod Exporting
+pub mod ChangeProofs

@@ -4,6 +4,7 @@ ghost use Rattle.std.specs.Prelude.{◌≡◌};
 ghost use Rattle.host.specs.declared.fault.OpenFault.TheVariants as faults;
 
 use batches::RepoFault;
+use change_proofs::ProvingFault;
 use cid::Digest;
 use export::ExportFault;
 use std::alloc::{AllocError, Allocator, Global};
@@ -47,6 +48,33 @@ pub enum ProveFault {
     /// Memory was refused.
     #[error("out of memory")]
     NoMemory,
+}
+
+/// Why there is no proof of some changes of a host's repository.
+#[derive(Clone, Copy, Debug, PartialEq, Eq, Error)]
+pub enum ProveChangeFault {
+    /// There is no repository of this number.
+    #[error("there is no such repository")]
+    NoSuchRepository,
+    /// The key of the change at this place has another value in the repository than the one told after it.
+    #[error("the key of change {0} has another value")]
+    OtherValue(usize),
+    /// Memory was refused.
+    #[error("out of memory")]
+    NoMemory,
+}
+
+impl From<ProvingFault> for ProveChangeFault {
+    ghost use Rattle.host.specs.ChangeProofs.{of_proving};
+
+    ghost from_gives = { λ given fault. fault ≡ of_proving given };
+
+    fn from(fault: ProvingFault) -> ProveChangeFault {
+        match fault {
+            ProvingFault::OtherValue(place) => ProveChangeFault::OtherValue(place),
+            ProvingFault::NoMemory => ProveChangeFault::NoMemory,
+        }
+    }
 }
 
 /// Why a host wasn't opened.

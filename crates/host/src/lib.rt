@@ -9,8 +9,8 @@
 //!   less of a repository than this writer has seen there.
 //! - `Writer::publish` makes a version, which `Host::version` shows for good and without a lock: what is to be read often,
 //!   or over a long time, is read by a version.
-//! - `Host::car` writes a repository as one file, and `Host::prove` gives the nodes that prove what a key holds, each while it
-//!   shares the repository's lock with readers.
+//! - `Host::car` writes a repository as one file, `Host::prove` gives the nodes that prove what a key holds, and
+//!   `Host::prove_change` those that prove which keys changed and how, each while it shares the repository's lock with readers.
 //! - `Host::taker` makes the one that takes notices out of the queue. What a full queue doesn't take a writer keeps, in
 //!   order, until `apply` or `flush` finds room.
 //! - `Writer::end` and the taker's `end` leave what `Host::close` wants of all of them. A host that has closed tells how many
@@ -34,11 +34,11 @@
 //! # What is proved
 //!
 //! Each answer of a writer is right for a lawful list of accepted writes of a repository of this number and this host's
-//! limit, of no fewer writes than the writer has seen there; each of `car` and `prove` for some such list. What a call does
-//! to a core whose lock it has is said exactly: an accepted batch leaves the state that its writes and its stamp leave, and
-//! where the batch is refused, or the core isn't the wanted one, the core is as before. Once the host has closed, each
-//! repository is what its accepted writes leave, by the Merkle search tree built from scratch from their records, and each
-//! block's count is the number of repositories that have it.
+//! limit, of no fewer writes than the writer has seen there; each of `car`, `prove` and `prove_change` for some such list.
+//! What a call does to a core whose lock it has is said exactly: an accepted batch leaves the state that its writes and its
+//! stamp leave, and where the batch is refused, or the core isn't the wanted one, the core is as before. Once the host has
+//! closed, each repository is what its accepted writes leave, by the Merkle search tree built from scratch from their records,
+//! and each block's count is the number of repositories that have it.
 //!
 //! No proof says that a lock is got or that a thread runs, nor which lock a call took and what stood behind it. So each call
 //! passes over a repository of another number, of another limit, or of fewer writes than were seen. Nor does one say that the
@@ -139,6 +139,7 @@
 #![tactic(auto)]
 
 mod atproto;
+mod change_proving;
 mod exporting;
 mod fault;
 mod fitting;
@@ -154,7 +155,7 @@ mod writer;
 pub use atproto::{
     AtprotoClosed, AtprotoHost, AtprotoOpened, AtprotoReceipt, AtprotoUneven, AtprotoWriter,
 };
-pub use fault::{CarFault, HostFault, OpenFault, ProveFault};
+pub use fault::{CarFault, HostFault, OpenFault, ProveChangeFault, ProveFault};
 pub use host::{Host, Opened};
 pub use limits::Limits;
 pub use seat::Seat;

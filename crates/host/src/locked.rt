@@ -15,7 +15,8 @@ ghost use Rattle.repo.specs.Refusals.{IsRefusal};
 ghost use Rattle.host.specs.Seeing.{IsSeen, IsPassedOver, IsTakenBy, IsRecordIn, ArePairsIn};
 
 use batches::{RepoFault, Stamp, Write};
-use cid::{Block, Cid, Digest};
+use block::Block;
+use cid::{Cid, Digest};
 use repo::{Applied, Core};
 use std::alloc::{AllocError, Allocator};
 use std::sync::Arc;
@@ -63,7 +64,7 @@ pub(crate) fn apply_at<
     stamp: &Stamp<A>,
     writes: &[Write<A>],
 ) -> Option<Result<Applied, (usize, RepoFault<D, A>)>>
-    requires store { IsStore D.digest_of S.fulls S.answers }
+    requires store { IsStore D.digest_of S.BlockStore }
     ensures seen { IfSome result (λ r. IsSeen wanted core.old) }
     ensures passed { IfNone result (IsPassedOver wanted core.old) }
     ensures accepted { IfSome result (λ r. IfOk r (IsTakenBy D.digest_of B core.old core.new
@@ -75,7 +76,7 @@ pub(crate) fn apply_at<
         S.fulls store.new ≡ fulls_after_batch (S.fulls store.old) r) }
     ensures uncounted { IfNone result (S.fulls store.new ≡ S.fulls store.old) }
     ensures untouched { IfNone result (core.new ≡ core.old) }
-    ensures entered { Enters D.digest_of S.makes S.leaves core.old.me
+    ensures entered { Enters D.digest_of S.BlockStore core.old.me
         (has_block D.digest_of B core.old) (has_block D.digest_of B core.new)
         store.old store.new }
 {

@@ -3,8 +3,9 @@
 ghost use Rattle.closing.specs.Ending.{IsEndedAt};
 
 use crate::seated::{Alone, close_one, open_one};
+use block::Block;
+use cid::Cid;
 use cid::digests::Toy;
-use cid::{Block, Cid};
 use closing::{Closed, Ended};
 use export::{ExportFault, ToMemory, car, verify};
 use host::{CarFault, Host, ProveFault, Writer};

@@ -10,7 +10,7 @@ use Rattle.std.specs.Cmp.Lexicographic.{slice_cmp, nat_list_cmp_total}
 use Rattle.std.specs.Ordering.{nat_cmp, is_eq}
 use Rattle.std.specs.declared.sync.Arc.{Arc}
 use Rattle.spec.specs.Cid.{cid as cid_of}
-use Rattle.store.specs.Stores.{Entered, with_core}
+use Rattle.store.specs.Stores.{Entered, Store, with_core}
 use Rattle.store.specs.declared.fault.StoreFault.{StoreFault}
 use Rattle.kept.specs.Counts.{Keeping}
 use Rattle.kept.specs.Entering.{Enters, EntersKept, Follows, has_entry, no_block}
@@ -104,19 +104,17 @@ module _ {D A : Type 0} where
 
 -- ---- what the store's readings tell
 
-module _ {S D A : Type 0} (digest : List ℕ → List ℕ)
-    (makes : S → Arc (List ℕ) A → ℕ → Result (Arc (List ℕ) A × ℕ) (StoreFault D A) → S → Type 0)
-    (leaves : S → Arc (List ℕ) A × ℕ → S → Type 0) where
+module _ {S D A : Type 0} (digest : List ℕ → List ℕ) (store : Store S D A) where
   -- nothing was asked of the store
-  pub stays : (me : ℕ) (p q : List ℕ → Bool) (s : S) → ((c : List ℕ) → q c ≡ p c) → Enters digest makes leaves me p q s s
+  pub stays : (me : ℕ) (p q : List ℕ → Bool) (s : S) → ((c : List ℕ) → q c ≡ p c) → Enters digest store me p q s s
   stays me p q s same entered is = record {
     mine = λ c e. e ∙ sym (same c);
     others = λ c core ne. refl;
   }
 
   -- one call after the other
-  pub then : (me : ℕ) (p q r : List ℕ → Bool) (s t u : S) → Enters digest makes leaves me p q s t → Enters digest makes leaves me q r t u
-      → Enters digest makes leaves me p r s u
+  pub then : (me : ℕ) (p q r : List ℕ → Bool) (s t u : S) → Enters digest store me p q s t → Enters digest store me q r t u
+      → Enters digest store me p r s u
   then me p q r s t u a b entered is = record {
     mine = λ c e. (b entered is).mine c ((a entered is).mine c e);
     others = λ c core ne. (b entered is).others c core ne ∙ (a entered is).others c core ne;
@@ -124,7 +122,7 @@ module _ {S D A : Type 0} (digest : List ℕ → List ℕ)
 
   -- the same sets in other words
   pub in_words : (me : ℕ) (p q x y : List ℕ → Bool) (s t : S) → ((c : List ℕ) → x c ≡ p c) → ((c : List ℕ) → y c ≡ q c)
-      → Enters digest makes leaves me p q s t → Enters digest makes leaves me x y s t
+      → Enters digest store me p q s t → Enters digest store me x y s t
   in_words me p q x y s t e f a entered is = record {
     mine = λ c h. (a entered is).mine c (h ∙ e c) ∙ sym (f c);
     others = (a entered is).others;
@@ -132,7 +130,7 @@ module _ {S D A : Type 0} (digest : List ℕ → List ℕ)
 
   -- a hold of this core is given back
   pub goes_out : (me : ℕ) (p q : List ℕ → Bool) (k : List ℕ) (h : Arc (List ℕ) A × ℕ) (s t : S) → k ≡ cid_of digest (arc_value h.0) → h.1 ≡ me
-      → leaves s h t → ((c : List ℕ) → q c ≡ cond (is_at (slice_cmp nat_cmp k) c) false (p c)) → Enters digest makes leaves me p q s t
+      → store.leaves s h t → ((c : List ℕ) → q c ≡ cond (is_at (slice_cmp nat_cmp k) c) false (p c)) → Enters digest store me p q s t
   goes_out me p q k h s t name mine left gone entered is =
       let e : entered t ≡ with_core (entered s) k me false =
       is.released s h t left ∙ (λ i. with_core (entered s) (sym name i) (mine i) false) in record {
@@ -146,8 +144,8 @@ module _ {S D A : Type 0} (digest : List ℕ → List ℕ)
 
   -- a block is acquired
   pub comes_in : (me : ℕ) (p q : List ℕ → Bool) (k : List ℕ) (b : Arc (List ℕ) A) (h : Arc (List ℕ) A × ℕ) (s t : S)
-      → k ≡ cid_of digest (arc_value b) → makes s b me (Ok h) t
-      → ((c : List ℕ) → q c ≡ cond (is_at (slice_cmp nat_cmp k) c) true (p c)) → Enters digest makes leaves me p q s t
+      → k ≡ cid_of digest (arc_value b) → store.makes s b me (Ok h) t
+      → ((c : List ℕ) → q c ≡ cond (is_at (slice_cmp nat_cmp k) c) true (p c)) → Enters digest store me p q s t
   comes_in me p q k b h s t name answer come entered is =
       let e : entered t ≡ with_core (entered s) k me true =
       is.acquired s b me h t answer ∙ ap (λ x. with_core (entered s) x me true) (sym name) in record {
@@ -162,7 +160,7 @@ module _ {S D A : Type 0} (digest : List ℕ → List ℕ)
   -- of the code's entries: one is still there
   pub one_stays : (es fs : List (List ℕ × Use D A)) (m : Uses D A) (k : List ℕ) (u v : Use D A) (me : ℕ) (s : S) → map.from_entries es ≡ m
       → listed_at es k ≡ Some u → Updated (listed_at es) (listed_at fs) k (Some v)
-      → Enters digest makes leaves me (has_entry m) (has_entry (map.from_entries fs)) s s
+      → Enters digest store me (has_entry m) (has_entry (map.from_entries fs)) s s
   one_stays es fs m k u v me s e a put =
       stays me (has_entry m) (has_entry (map.from_entries fs)) s
       (entry_same (at m) (at (map.from_entries fs)) k (Some v) (shown_updated es fs m k (Some v) e put)
@@ -171,8 +169,8 @@ module _ {S D A : Type 0} (digest : List ℕ → List ℕ)
   -- one is taken out, and its hold is given back
   pub one_goes : (es ms fs : List (List ℕ × Use D A)) (m : Uses D A) (k : List ℕ) (u v : Use D A) (s t : S) → map.from_entries es ≡ m
       → listed_at es k ≡ Some u → v.hold ≡ u.hold → Updated (listed_at es) (listed_at ms) k (Some v) → Updated (listed_at ms) (listed_at fs) k None
-      → leaves s v.hold t → (me : ℕ) → AreUses digest me (at m)
-      → Enters digest makes leaves me (has_entry m) (has_entry (map.from_entries fs)) s t
+      → store.leaves s v.hold t → (me : ℕ) → AreUses digest me (at m)
+      → Enters digest store me (has_entry m) (has_entry (map.from_entries fs)) s t
   one_goes es ms fs m k u v s t e a same put cut left me are =
       let is = are k u (sym (shown_at es m e k) ∙ a) in
       goes_out me (has_entry m) (has_entry (map.from_entries fs)) k v.hold s t
@@ -183,15 +181,15 @@ module _ {S D A : Type 0} (digest : List ℕ → List ℕ)
   -- one comes, whose block is acquired
   pub one_comes : (es fs : List (List ℕ × Use D A)) (m : Uses D A) (k : List ℕ) (b : Arc (List ℕ) A) (h : Arc (List ℕ) A × ℕ) (v : Use D A) (me : ℕ)
       (s t : S) → map.from_entries es ≡ m → k ≡ cid_of digest (arc_value b) → Updated (listed_at es) (listed_at fs) k (Some v)
-      → makes s b me (Ok h) t → Enters digest makes leaves me (has_entry m) (has_entry (map.from_entries fs)) s t
+      → store.makes s b me (Ok h) t → Enters digest store me (has_entry m) (has_entry (map.from_entries fs)) s t
   one_comes es fs m k b h v me s t e name put answer =
       comes_in me (has_entry m) (has_entry (map.from_entries fs)) k b h s t name answer
       (entry_new (at m) (at (map.from_entries fs)) k v (shown_updated es fs m k (Some v) e put))
 
   -- one comes, but has no room, and its hold is given back
   pub one_tried : (m : Uses D A) (k : List ℕ) (b : Arc (List ℕ) A) (h back : Arc (List ℕ) A × ℕ) (me : ℕ) (s t v : S)
-      → k ≡ cid_of digest (arc_value b) → at m k ≡ None → makes s b me (Ok h) t → k ≡ cid_of digest (arc_value back.0) → back.1 ≡ me
-      → leaves t back v → Enters digest makes leaves me (has_entry m) (has_entry m) s v
+      → k ≡ cid_of digest (arc_value b) → at m k ≡ None → store.makes s b me (Ok h) t → k ≡ cid_of digest (arc_value back.0) → back.1 ≡ me
+      → store.leaves t back v → Enters digest store me (has_entry m) (has_entry m) s v
   one_tried m k b h back me s t v name none answer named mine left =
       then me (has_entry m) (λ c. cond (is_at (slice_cmp nat_cmp k) c) true (has_entry m c)) (has_entry m) s t v
       (comes_in me (has_entry m) (λ c. cond (is_at (slice_cmp nat_cmp k) c) true (has_entry m c)) k b h s t name answer (λ c. refl))
@@ -203,12 +201,12 @@ module _ {S D A : Type 0} (digest : List ℕ → List ℕ)
       by_key c false e = refl
 
   -- of what is kept: nothing was asked
-  pub kept_stays : (k : Keeping) (s : S) → EntersKept digest makes leaves k k s s
+  pub kept_stays : (k : Keeping) (s : S) → EntersKept digest store k k s s
   kept_stays k s = stays k.me (is_held k) (is_held k) s (λ c. refl)
 
   -- of the code's map
   pub kept_entered : (me : ℕ) (m n : Uses D A) (s t : S) → IsKept digest me m → IsKept digest me n
-      → Enters digest makes leaves me (has_entry m) (has_entry n) s t → EntersKept digest makes leaves (keeping_of me m) (keeping_of me n) s t
+      → Enters digest store me (has_entry m) (has_entry n) s t → EntersKept digest store (keeping_of me m) (keeping_of me n) s t
   kept_entered me m n s t is are h =
       in_words me (has_entry m) (has_entry n) (is_held (keeping_of me m)) (is_held (keeping_of me n)) s t
       (held_is digest me m is) (held_is digest me n are) h
@@ -216,7 +214,7 @@ module _ {S D A : Type 0} (digest : List ℕ → List ℕ)
   -- ---- step by step
 
   abbrev pub Following : (f g : List ℕ → Option (Use D A)) → S → S → Type 0
-  Following f g s t = Follows digest makes leaves f g s t
+  Following f g s t = Follows digest store f g s t
 
   pub following_first : (f g : List ℕ → Option (Use D A)) (s : S) → ((q : List ℕ) → g q ≡ f q) → Following f g s s
   following_first f g s same me are =
@@ -230,7 +228,7 @@ module _ {S D A : Type 0} (digest : List ℕ → List ℕ)
 
   -- an entry goes, and its hold is given back
   pub following_gone : (f g : List ℕ → Option (Use D A)) (s t : S) (k : List ℕ) (u : Use D A) → f k ≡ Some u → Updated f g k None
-      → leaves s u.hold t → Following f g s t
+      → store.leaves s u.hold t → Following f g s t
   following_gone f g s t k u a gone left me are = (
     uses_left digest me f g k are gone,
     goes_out me (λ c. is_some (f c)) (λ c. is_some (g c)) k u.hold s t (are k u a).named (are k u a).mine left (entry_gone f g k gone),
@@ -238,12 +236,12 @@ module _ {S D A : Type 0} (digest : List ℕ → List ℕ)
 
   -- all were given back
   pub following_last : (f : List ℕ → Option (Use D A)) (es : List (List ℕ × Use D A)) (s t : S) → Following f (listed_at es) s t → (0 < length es → ⊥)
-      → (me : ℕ) → AreUses digest me f → Enters digest makes leaves me (λ c. is_some (f c)) no_block s t
+      → (me : ℕ) → AreUses digest me f → Enters digest store me (λ c. is_some (f c)) no_block s t
   following_last f es s t following never me are =
       in_words me (λ c. is_some (f c)) (λ c. is_some (listed_at es c)) (λ c. is_some (f c)) no_block s t (λ c. refl)
       (λ c. sym (ap (λ (w : Option (Use D A)). is_some w) (none_in digest es c never))) (following me are).1
 
   -- a use goes, and its entry may go with it
   pub following_lowered : (m n : Uses D A) (s t : S) (k : List ℕ) → IsChanged lowered_in m n k
-      → ((me : ℕ) → AreUses digest me (at m) → Enters digest makes leaves me (has_entry m) (has_entry n) s t) → Following (at m) (at n) s t
+      → ((me : ℕ) → AreUses digest me (at m) → Enters digest store me (has_entry m) (has_entry n) s t) → Following (at m) (at n) s t
   following_lowered m n s t k h entered me are = (uses_lowered digest me (at m) (at n) k are h, entered me are)

@@ -1,8 +1,6 @@
 -- What a core's calls do to the cores that are entered in its store.
-use Rattle.std.specs.Prelude.{◌≡◌, ◌≢◌, ℕ, List, Bool, false, is_some, Option, Result}
-use Rattle.std.specs.declared.sync.Arc.{Arc}
-use Rattle.store.specs.Stores.{Entered, IsReading}
-use Rattle.store.specs.declared.fault.StoreFault.{StoreFault}
+use Rattle.std.specs.Prelude.{◌≡◌, ◌≢◌, ℕ, List, Bool, false, is_some, Option}
+use Rattle.store.specs.Stores.{Entered, IsReading, Store}
 use Rattle.kept.specs.Counts.{Keeping}
 use Rattle.kept.specs.Leaving.{is_held}
 use Rattle.kept.specs.Uses.{Uses, AreUses, at}
@@ -16,18 +14,16 @@ pub record IsFollowed (me : ℕ) (before after : List ℕ → Bool) (old new : E
 
 -- so says each reading of the store's states that follows what is made of them: what the core did, it did in
 -- this store
-abbrev pub Enters : {S D A : Type 0} → (List ℕ → List ℕ)
-    → (S → Arc (List ℕ) A → ℕ → Result (Arc (List ℕ) A × ℕ) (StoreFault D A) → S → Type 0)
-    → (S → Arc (List ℕ) A × ℕ → S → Type 0) → ℕ → (List ℕ → Bool) → (List ℕ → Bool) → S → S → Type 0
-Enters {S} digest makes leaves me before after old new = (entered : S → Entered)
-    → IsReading digest makes leaves entered → IsFollowed me before after (entered old) (entered new)
+abbrev pub Enters : {S D A : Type 0} → (List ℕ → List ℕ) → Store S D A → ℕ
+    → (List ℕ → Bool) → (List ℕ → Bool) → S → S → Type 0
+Enters {S} digest store me before after old new = (entered : S → Entered)
+    → IsReading digest store.makes store.leaves entered → IsFollowed me before after (entered old) (entered new)
 
 -- a core that was entered for just what it keeps is so afterwards
-abbrev pub EntersKept : {S D A : Type 0} → (List ℕ → List ℕ)
-    → (S → Arc (List ℕ) A → ℕ → Result (Arc (List ℕ) A × ℕ) (StoreFault D A) → S → Type 0)
-    → (S → Arc (List ℕ) A × ℕ → S → Type 0) → Keeping → Keeping → S → S → Type 0
-EntersKept digest makes leaves k l old new =
-    Enters digest makes leaves k.me (is_held k) (is_held l) old new
+abbrev pub EntersKept : {S D A : Type 0} → (List ℕ → List ℕ) → Store S D A
+    → Keeping → Keeping → S → S → Type 0
+EntersKept digest store k l old new =
+    Enters digest store k.me (is_held k) (is_held l) old new
 
 -- no block is held
 abbrev pub no_block : List ℕ → Bool
@@ -39,9 +35,7 @@ has_entry m c = is_some (at m c)
 
 -- from the entries f to the entries g of the code's map: where those are a core's uses, these are too, and the core
 -- is entered as before for just what has an entry
-abbrev pub Follows : {S D A : Type 0} → (List ℕ → List ℕ)
-    → (S → Arc (List ℕ) A → ℕ → Result (Arc (List ℕ) A × ℕ) (StoreFault D A) → S → Type 0)
-    → (S → Arc (List ℕ) A × ℕ → S → Type 0)
+abbrev pub Follows : {S D A : Type 0} → (List ℕ → List ℕ) → Store S D A
     → (List ℕ → Option (Use D A)) → (List ℕ → Option (Use D A)) → S → S → Type 0
-Follows digest makes leaves f g old new = (me : ℕ) → AreUses digest me f
-    → AreUses digest me g × Enters digest makes leaves me (λ c. is_some (f c)) (λ c. is_some (g c)) old new
+Follows digest store f g old new = (me : ℕ) → AreUses digest me f
+    → AreUses digest me g × Enters digest store me (λ c. is_some (f c)) (λ c. is_some (g c)) old new

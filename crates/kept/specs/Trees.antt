@@ -11,7 +11,7 @@ use Rattle.batch_laws.specs.Batch.{Change, changed}
 use Rattle.batch_laws.specs.Counts.{most_reads}
 use Rattle.lookups.specs.Trees.{HasTree}
 use Rattle.lookups.specs.Walks.{pairs_given}
-use Rattle.lookups.specs.declared.source.ReadCount.{ReadCount}
+use Rattle.counts.specs.declared.count.Count.{Count}
 use Rattle.edit.specs.Batches.{IsBatchOf, nodes_read}
 use Rattle.edit.specs.Refusals.{IsRefusal}
 use Rattle.edit.specs.declared.outcome.BatchEdit.{BatchEdit}
@@ -37,29 +37,29 @@ AreListed from limit result es =
     IfOk result (λ pairs. pairs_given pairs.items ≡ listed from limit es)
 
 -- one block was read for each layer, at most
-abbrev pub IsReadOnce : (List ℕ → List ℕ) → ℕ → Counts → List ℕ → ReadCount → Type 0
+abbrev pub IsReadOnce : (List ℕ → List ℕ) → ℕ → Counts → List ℕ → Count → Type 0
 IsReadOnce digest bits m root asked =
     OfTree digest bits m root (λ es. asked.times ≤ suc (top_layer digest bits es))
 
 -- the edit is that of these changes
 abbrev pub IsApplied : {D A : Type 0} → (List ℕ → List ℕ) → ℕ → Counts → List ℕ → List Change
-    → Result (BatchEdit D A × ReadCount) (EditFault D A) → Type 0
+    → Result (BatchEdit D A × Count) (EditFault D A) → Type 0
 IsApplied digest bits m root cs result = OfTree digest bits m root (λ es. IfOk result (λ made.
     IsBatchOf digest bits cs es made.0.root
     (each arc_value made.0.add.items) made.0.drop.items made.0.previous.items))
 
 -- it is refused as nodes of the tree before and after clash, or memory was wanted
 abbrev pub IsApplyRefusal : {D A : Type 0} → (List ℕ → List ℕ) → ℕ → Counts → List ℕ → List Change
-    → Result (BatchEdit D A × ReadCount) (EditFault D A) → Type 0
+    → Result (BatchEdit D A × Count) (EditFault D A) → Type 0
 IsApplyRefusal digest bits m root cs result = OfTree digest bits m root (λ es.
     IfErr result (IsRefusal digest (nodes digest bits es ++ nodes digest bits (changed cs es)) ⊥))
 
 -- just the nodes that the changes need were read
-abbrev pub AreReadFor : (List ℕ → List ℕ) → ℕ → Counts → List ℕ → List Change → ReadCount → Type 0
+abbrev pub AreReadFor : (List ℕ → List ℕ) → ℕ → Counts → List ℕ → List Change → Count → Type 0
 AreReadFor digest bits m root cs asked =
     OfTree digest bits m root (λ es. asked.times ≡ length (nodes_read digest bits cs es))
 
 -- the root was read, and for each layer below it one block for a value and two for a key that goes, at most
-abbrev pub IsReadAtMost : (List ℕ → List ℕ) → ℕ → Counts → List ℕ → List Change → ReadCount → Type 0
+abbrev pub IsReadAtMost : (List ℕ → List ℕ) → ℕ → Counts → List ℕ → List Change → Count → Type 0
 IsReadAtMost digest bits m root cs asked = OfTree digest bits m root
     (λ es. asked.times ≤ suc (most_reads (top_of (layer digest bits) es) cs))

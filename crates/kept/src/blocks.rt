@@ -5,7 +5,8 @@ ghost use Rattle.std.specs.Iterator.{YieldsFirstBy, item_count};
 ghost use Rattle.kept.specs.Uses.{used_blocks};
 
 use crate::kept_use::Use;
-use cid::{Block, Cid, Digest};
+use block::Block;
+use cid::{Cid, Digest};
 use std::alloc::{Allocator, Global};
 use std::collections::hash_map::Iter;
 use std::sync::Arc;

@@ -14,8 +14,9 @@ ghost use Rattle.kept.specs.Entering.{Enters, EntersKept, no_block};
 use crate::blocks::Blocks;
 use crate::lender::Lender;
 use crate::use_map::UseMap;
-use cid::{Block, Cid, Digest};
-use lookups::{MarkedBlock, ReadCount};
+use block::Block;
+use cid::{Cid, Digest};
+use counts::Count;
 use std::alloc::{Allocator, Global};
 use std::marker::Model;
 use std::sync::Arc;
@@ -100,7 +101,7 @@ impl<D: Digest, A: Allocator> Kept<D, A> {
     {
         Lender {
             blocks: &self.blocks,
-            asked: ReadCount::never(),
+            asked: Count::never(),
         }
     }
 
@@ -110,7 +111,7 @@ impl<D: Digest, A: Allocator> Kept<D, A> {
         store: &mut S,
     )
         ensures fulls { S.fulls store.new ≡ S.fulls store.old }
-        ensures entered { Enters D.digest_of S.makes S.leaves self.me
+        ensures entered { Enters D.digest_of S.BlockStore self.me
             (is_held self) no_block store.old store.new }
     {
         let Kept { me: _, blocks } = self;
@@ -120,8 +121,8 @@ impl<D: Digest, A: Allocator> Kept<D, A> {
 
 impl<D: Digest, A: Allocator + Clone> Kept<D, A> {
     /// Counts one use more of each block that comes, in their order, and then one use less of the block with each of the CIDs
-    /// that go, where there is one. What isn't held is acquired, with its mark whether it is a node, and a block without a
-    /// use is given back. A block may come several times, and go several times.
+    /// that go, where there is one. What isn't held is acquired, and a block without a use is given back. A block may come
+    /// several times, and go several times.
     ///
     /// `StoreFault::Collision` shows a block that comes and the held one where other bytes are held under its CID, here or in
     /// the store; `StoreFault::Full` and `StoreFault::NoMemory` are the store's, the latter also where memory to keep a block
@@ -129,10 +130,10 @@ impl<D: Digest, A: Allocator + Clone> Kept<D, A> {
     pub fn exchange<S: BlockStore<Arc<Block<D, A>, A>, Hold<D, A>, StoreFault<D, A>>>(
         &mut self,
         store: &mut S,
-        come: Vec<MarkedBlock<D, A>, A>,
+        come: Vec<Arc<Block<D, A>, A>, A>,
         go: &[Cid],
     ) -> Result<(), StoreFault<D, A>>
-        requires { IsStore D.digest_of S.fulls S.answers }
+        requires { IsStore D.digest_of S.BlockStore }
         ensures exchanged { OnOk result (self.new
             ≡ exchanged D.digest_of self.old (map arc_value come.items) go.now) }
         ensures no_other { OnOk result
@@ -141,7 +142,7 @@ impl<D: Digest, A: Allocator + Clone> Kept<D, A> {
         ensures unchanged { OnErr result (self.new ≡ self.old) }
         ensures fault { IfErr result (IsRefusalOfOne D.digest_of (map arc_value come.items)) }
         ensures fulls { S.fulls store.new ≡ fulls_after (S.fulls store.old) result }
-        ensures entered { EntersKept D.digest_of S.makes S.leaves
+        ensures entered { EntersKept D.digest_of S.BlockStore
             self.old self.new store.old store.new }
     {
         self.blocks.gain(store, self.me, &come)?;

@@ -6,15 +6,15 @@ ghost use Rattle.store.specs.Faults.{IsRefusalOf};
 ghost use Rattle.kept.specs.Uses.{lowered_use, HaveOneCid, raised_use};
 ghost use Rattle.kept.specs.Faults.{IsNotFull};
 
-use crate::held::Held;
-use cid::{Block, Collided, Digest};
+use block::{Block, Collided};
+use cid::Digest;
 use std::alloc::Allocator;
 use std::sync::Arc;
 use store::{BlockStore, Hold, StoreFault};
 
 /// A block that a core holds, and how many uses it has.
 pub(crate) struct Use<D: Digest, A: Allocator> {
-    pub(crate) hold: Held<D, A>,
+    pub(crate) hold: Hold<D, A>,
     pub(crate) uses: u64,
 }
 
@@ -76,6 +76,6 @@ impl<D: Digest, A: Allocator> Use<D, A> {
         ensures left { S.leaves store.old self.hold store.new }
     {
         let Use { hold, uses: _ } = self;
-        store.release(hold.into_hold());
+        store.release(hold);
     }
 }

@@ -11,7 +11,6 @@
 #![tactic(auto)]
 
 mod blocks;
-mod held;
 mod kept;
 mod kept_use;
 mod lender;

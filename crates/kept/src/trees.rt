@@ -6,8 +6,8 @@ ghost use Rattle.kept.specs.Trees.{OfTree, IsValue, AreListed, IsReadOnce, IsApp
 
 use crate::kept::Kept;
 use cid::{Cid, Digest};
+use counts::Count;
 use edit::{BatchEdit, Change, EditFault};
-use lookups::ReadCount;
 use std::alloc::{AllocError, Allocator};
 use std::clone::Clone;
 
@@ -19,7 +19,7 @@ pub fn value_at<'a, D: Digest + 'a, const B: u8, A: Allocator + 'a>(
     kept: &'a Kept<D, A>,
     root: Cid,
     key: &[u8],
-) -> (Option<Cid>, ReadCount)
+) -> (Option<Cid>, Count)
     requires { 1 ≤ B }
     ensures value { OfTree D.digest_of B kept.now.uses root (IsValue key.now result.0) }
     ensures reads { IsReadOnce D.digest_of B kept.now.uses root result.1 }
@@ -57,7 +57,7 @@ pub fn apply_over<'a, D: Digest + 'a, const B: u8, A: Allocator + Clone + 'a>(
     kept: &'a Kept<D, A>,
     root: Cid,
     changes: &[Change<'_>],
-) -> Result<(BatchEdit<D, A>, ReadCount), EditFault<D, A>>
+) -> Result<(BatchEdit<D, A>, Count), EditFault<D, A>>
     requires least { 1 ≤ B }
     requires changes { are_changes changes.now ≡ true }
     ensures edit { IsApplied D.digest_of B kept.now.uses root changes.now result }

@@ -13,10 +13,9 @@ ghost use Rattle.kept.specs.Uses.{at, counted, AreUses, lowered_in, IsChanged, I
 ghost use Rattle.kept.specs.Faults.{IsRefusalOfOne};
 ghost use Rattle.kept.specs.Entering.{Enters, Follows, has_entry, no_block};
 
-use crate::held::Held;
 use crate::kept_use::Use;
-use cid::{Block, Cid, Digest};
-use lookups::MarkedBlock;
+use block::Block;
+use cid::{Cid, Digest};
 use std::alloc::{AllocError, AllocFailed, Allocator};
 use std::collections::HashMap;
 use std::collections::hash_map::Iter;
@@ -90,7 +89,7 @@ impl<D: Digest, A: Allocator> UseMap<D, A> {
     )
         ensures lowered { IsChanged lowered_in self.old self.new cid.now }
         ensures fulls { S.fulls store.new ≡ S.fulls store.old }
-        ensures followed { Follows D.digest_of S.makes S.leaves
+        ensures followed { Follows D.digest_of S.BlockStore
             (at self.old) (at self.new) store.old store.new }
     {
         let Some(held) = self.blocks.get_mut(cid) else {
@@ -113,7 +112,7 @@ impl<D: Digest, A: Allocator> UseMap<D, A> {
     )
         ensures lost { counted self.new ≡ lost (counted self.old) go.now }
         ensures fulls { S.fulls store.new ≡ S.fulls store.old }
-        ensures followed { Follows D.digest_of S.makes S.leaves
+        ensures followed { Follows D.digest_of S.BlockStore
             (at self.old) (at self.new) store.old store.new }
     {
         for cid in go {
@@ -125,20 +124,20 @@ impl<D: Digest, A: Allocator> UseMap<D, A> {
     fn take_back<S: BlockStore<Arc<Block<D, A>, A>, Hold<D, A>, StoreFault<D, A>>>(
         &mut self,
         store: &mut S,
-        came: &[MarkedBlock<D, A>],
+        came: &[Arc<Block<D, A>, A>],
     )
         ensures taken_back { (before : Counts) → AllUsed before
             → ComeAlone D.digest_of before (each arc_value came.now)
             → counted self.old ≡ gained D.digest_of before (each arc_value came.now)
             → counted self.new ≡ before }
         ensures fulls { S.fulls store.new ≡ S.fulls store.old }
-        ensures followed { Follows D.digest_of S.makes S.leaves
+        ensures followed { Follows D.digest_of S.BlockStore
             (at self.old) (at self.new) store.old store.new }
     {
         let mut left = came.len();
         while left > 0 {
             left -= 1;
-            self.lower(store, &came[left].block().cid());
+            self.lower(store, &came[left].cid());
         }
     }
 
@@ -149,7 +148,7 @@ impl<D: Digest, A: Allocator> UseMap<D, A> {
     )
         ensures fulls { S.fulls store.new ≡ S.fulls store.old }
         ensures entered { (me : ℕ) → AreUses D.digest_of me (at self) → Enters D.digest_of
-            S.makes S.leaves me (has_entry self) no_block store.old store.new }
+            S.BlockStore me (has_entry self) no_block store.old store.new }
     {
         let UseMap { mut blocks } = self;
         while let Some((_, held)) = take_one(&mut blocks) {
@@ -166,11 +165,11 @@ impl<D: Digest, A: Allocator + Clone> UseMap<D, A> {
         &mut self,
         store: &mut S,
         me: u32,
-        come: &[MarkedBlock<D, A>],
+        come: &[Arc<Block<D, A>, A>],
     ) -> Result<(), StoreFault<D, A>>
         requires small { me < 1024 }
         requires uses { AreUses D.digest_of me (at self.old) }
-        requires store { IsStore D.digest_of S.fulls S.answers }
+        requires store { IsStore D.digest_of S.BlockStore }
         ensures gained { OnOk result (counted self.new
             ≡ gained D.digest_of (counted self.old) (each arc_value come.now)) }
         ensures alone { OnOk result
@@ -179,7 +178,7 @@ impl<D: Digest, A: Allocator + Clone> UseMap<D, A> {
         ensures fault { IfErr result (IsRefusalOfOne D.digest_of (each arc_value come.now)) }
         ensures uses { AreUses D.digest_of me (at self.new) }
         ensures fulls { S.fulls store.new ≡ fulls_after (S.fulls store.old) result }
-        ensures entered { Enters D.digest_of S.makes S.leaves me
+        ensures entered { Enters D.digest_of S.BlockStore me
             (has_entry self.old) (has_entry self.new) store.old store.new }
     {
         self.reserve(come.len())?;
@@ -207,26 +206,25 @@ impl<D: Digest, A: Allocator + Clone> UseMap<D, A> {
         &mut self,
         store: &mut S,
         me: u32,
-        marked: &MarkedBlock<D, A>,
+        block: &Arc<Block<D, A>, A>,
     ) -> Result<(), StoreFault<D, A>>
         requires small { me < 1024 }
         requires uses { AreUses D.digest_of me (at self.old) }
-        requires store { IsStore D.digest_of S.fulls S.answers }
+        requires store { IsStore D.digest_of S.BlockStore }
         ensures raised { OnOk result (IsRaisedIn D.digest_of me self.old self.new
-            (arc_value marked.now)) }
+            (arc_value block.now)) }
         ensures unchanged { OnErr result (self.new ≡ self.old) }
-        ensures fault { IfErr result (IsRefusalOf D.digest_of (arc_value marked.now)) }
+        ensures fault { IfErr result (IsRefusalOf D.digest_of (arc_value block.now)) }
         ensures fulls { S.fulls store.new ≡ fulls_after (S.fulls store.old) result }
-        ensures entered { Enters D.digest_of S.makes S.leaves me
+        ensures entered { Enters D.digest_of S.BlockStore me
             (has_entry self.old) (has_entry self.new) store.old store.new }
     {
-        let block = marked.block();
         let cid = block.cid();
         if let Some(held) = self.blocks.get_mut(&cid) {
             return held.raise(block);
         }
         let shared = Arc::try_clone(block)?;
-        let hold = Held::of(store.acquire(me, shared)?, marked.is_node());
+        let hold = store.acquire(me, shared)?;
         let before = match self.blocks.insert(cid, Use { hold, uses: 1 }) {
             Ok(before) => before,
             Err(

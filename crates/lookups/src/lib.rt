@@ -5,24 +5,23 @@
 //!
 //! - [`get`] answers the value of a key. It reads one block for each node of the key's path, and takes no memory.
 //! - [`walk`] lists pairs from a key on, up to a limit, and reads no block that it doesn't need.
+//! - [`view_of`] shows the node that a block is.
 //! - [`BlockMap`] is a source over a slice of blocks. The crate `kept` has the one of a repository, and `edit` changes trees
 //!   over any.
 //!
-//! What a source gives is a [`Lent`] block: with a mark, where it is known to be a node, which spares the test of its bytes
-//! at each read. A source of one's own tests its blocks once, says for each CID what it gives, and counts its reads for
-//! proofs alone:
+//! What a source gives is lent, `&'a Arc<Block<D, A>, A>`, and a block itself knows whether it is a node. A source of one's
+//! own says for each CID what it gives, and counts its reads for proofs alone:
 //!
 //! ```text
-//! struct OneBlock<'a, D: Digest> { block: &'a MarkedBlock<D>, asked: ReadCount }
+//! struct OneBlock<'a, D: Digest> { block: &'a Arc<Block<D>>, asked: Count }
 //!
-//! impl<'a, D: Digest> Source<Lent<'a, D>> for OneBlock<'a, D> {
+//! impl<'a, D: Digest> Source<&'a Arc<Block<D>>> for OneBlock<'a, D> {
 //!     ghost gives = { λ one. first_of D.digest_of (one.block.now ∷ []) };
 //!     ghost reads = { λ one. one.asked.times };
 //!
-//!     fn get(&mut self, cid: &Cid) -> Option<Lent<'a, D>> {
+//!     fn get(&mut self, cid: &Cid) -> Option<&'a Arc<Block<D>>> {
 //!         self.asked = self.asked.once_more();
-//!         let lent = self.block.lent();
-//!         if lent.block().cid() == *cid { Some(lent) } else { None }
+//!         if self.block.cid() == *cid { Some(self.block) } else { None }
 //!     }
 //! }
 //!
@@ -32,10 +31,12 @@
 
 mod block_map;
 mod lookups;
+mod nodes;
 mod source;
 mod walks;
 
 pub use block_map::BlockMap;
 pub use lookups::get;
-pub use source::{Lent, MarkedBlock, ReadCount, Source, is_node};
+pub use nodes::view_of;
+pub use source::{Given, Source};
 pub use walks::walk;

@@ -8,8 +8,9 @@ ghost use Rattle.spec.specs.Blocks.{value_of};
 ghost use Rattle.spec.specs.Proof.{path};
 ghost use Rattle.lookups.specs.Trees.{OfTree, top_layer};
 
-use crate::source::{Lent, Source};
-use cid::{Block, Cid, Digest};
+use crate::source::Source;
+use block::Block;
+use cid::{Cid, Digest};
 use node::Place;
 use std::alloc::Allocator;
 use std::sync::Arc;
@@ -24,13 +25,13 @@ pub(crate) fn layers<const B: u8>() -> u16
 
 /// Where the key stands in the node of a block, or `None` where it is no node.
 pub(crate) fn place_in<'a, D: Digest, A: Allocator>(
-    lent: Lent<'a, D, A>,
+    block: &'a Arc<Block<D, A>, A>,
     key: &[u8],
 ) -> Option<Place<'a>>
     ensures { option_map (place_found key.now) result ≡ option_map (place_of_key key.now)
-        (shape_of_bytes (arc_value lent.entry)) }
+        (shape_of_bytes (arc_value block.now)) }
 {
-    Some(lent.view()?.find(key))
+    Some(block.node()?.find(key))
 }
 
 /// The value of a key in the tree with this root, or `None` where the tree doesn't have the key.
@@ -40,7 +41,7 @@ pub(crate) fn place_in<'a, D: Digest, A: Allocator>(
 /// least 1 (AT Protocol repository v3, MST structure). It takes no memory and copies no block.
 ///
 /// The source has all nodes of the tree. Where it lacks one, or gives what is no node, this ends with `None`.
-pub fn get<'a, D: Digest + 'a, const B: u8, A: Allocator + 'a, S: Source<Lent<'a, D, A>>>(
+pub fn get<'a, D: Digest + 'a, const B: u8, A: Allocator + 'a, S: Source<&'a Arc<Block<D, A>, A>>>(
     src: &mut S,
     root: Cid,
     key: &[u8],
@@ -59,7 +60,7 @@ pub fn get<'a, D: Digest + 'a, const B: u8, A: Allocator + 'a, S: Source<Lent<'a
 }
 
 /// The value of a key in the tree with this root, looked up over `most` nodes at most.
-fn value_below<'a, D: Digest + 'a, A: Allocator + 'a, S: Source<Lent<'a, D, A>>>(
+fn value_below<'a, D: Digest + 'a, A: Allocator + 'a, S: Source<&'a Arc<Block<D, A>, A>>>(
     src: &mut S,
     root: Cid,
     key: &[u8],

@@ -11,8 +11,9 @@ ghost use Rattle.lookups.specs.Steps.{layers, asked_from, nodes_given};
 ghost use Rattle.lookups.specs.Trees.{OfTree};
 
 use crate::lookups::layers;
-use crate::source::{Lent, Source};
-use cid::{Block, Cid, CidRef, Digest};
+use crate::source::Source;
+use block::Block;
+use cid::{Cid, CidRef, Digest};
 use node::{KeyBuf, NodeView};
 use rows::{KeyedEntries, to_cid};
 use std::alloc::{AllocError, Allocator};
@@ -20,7 +21,7 @@ use std::cmp::Ordering;
 use std::sync::Arc;
 
 /// The node with a CID, or `None` where the source doesn't have it, or its block is no node.
-pub(crate) fn node_of<'a, D: Digest + 'a, A: Allocator + 'a, S: Source<Lent<'a, D, A>>>(
+pub(crate) fn node_of<'a, D: Digest + 'a, A: Allocator + 'a, S: Source<&'a Arc<Block<D, A>, A>>>(
     src: &mut S,
     cid: &Cid,
 ) -> Option<NodeView<'a>>
@@ -28,7 +29,7 @@ pub(crate) fn node_of<'a, D: Digest + 'a, A: Allocator + 'a, S: Source<Lent<'a, 
     ensures counted { S.reads src.new ≡ suc (S.reads src.old) }
     ensures same { S.gives src.new ≡ S.gives src.old }
 {
-    src.get(cid)?.view()
+    src.get(cid)?.node()
 }
 
 /// Goes to the first pair of a node that isn't below a key. It answers the link to go down from before that pair, which is
@@ -101,7 +102,13 @@ pub(crate) fn go_on<'a, A: Allocator>(
 /// The source has all nodes of the tree. Where it lacks one, or gives what is no node, this ends with the pairs so far;
 /// in any case it reads no more than `256 / B + 1` blocks for each pair of the limit. `AllocError` comes where memory was
 /// refused.
-pub fn walk<'a, D: Digest + 'a, const B: u8, A: Allocator + Clone + 'a, S: Source<Lent<'a, D, A>>>(
+pub fn walk<
+    'a,
+    D: Digest + 'a,
+    const B: u8,
+    A: Allocator + Clone + 'a,
+    S: Source<&'a Arc<Block<D, A>, A>>,
+>(
     alloc: A,
     src: &mut S,
     root: Cid,
@@ -121,7 +128,7 @@ pub fn walk<'a, D: Digest + 'a, const B: u8, A: Allocator + Clone + 'a, S: Sourc
 }
 
 /// The same walk, where each way down passes `most` nodes at most.
-fn walk_within<'a, D: Digest + 'a, A: Allocator + Clone + 'a, S: Source<Lent<'a, D, A>>>(
+fn walk_within<'a, D: Digest + 'a, A: Allocator + Clone + 'a, S: Source<&'a Arc<Block<D, A>, A>>>(
     alloc: A,
     src: &mut S,
     root: Cid,
@@ -155,7 +162,7 @@ fn walk_within<'a, D: Digest + 'a, A: Allocator + Clone + 'a, S: Source<Lent<'a,
 
 /// Goes down to the first pair from a link on that isn't below a key, over `most` nodes at most. Where a block is missing,
 /// or is no node, nothing is to come any more.
-fn down<'a, D: Digest + 'a, A: Allocator + Clone + 'a, S: Source<Lent<'a, D, A>>>(
+fn down<'a, D: Digest + 'a, A: Allocator + Clone + 'a, S: Source<&'a Arc<Block<D, A>, A>>>(
     src: &mut S,
     stack: &mut Vec<Frame<'a, A>, A>,
     link: Option<Cid>,

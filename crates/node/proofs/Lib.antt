@@ -3,6 +3,7 @@ pub mod Comparing
 pub mod Copying
 pub mod Faults
 pub mod Finding
+pub mod Gaps
 pub mod Growing
 pub mod Joining
 pub mod KeyParts

@@ -36,7 +36,7 @@ unfolding after_rows
 after_rows-first zero bytes some ok = absurd (omega arith)
 after_rows-first (suc n) bytes some ok = all_read (row_at bytes) (first_ok (row_at bytes) _ ok)
 
-after_rows-entries : (n : ℕ) (before bytes : List ℕ) (x : List Entry × List ℕ) → entries_at n before bytes ≡ Ok x → after_rows n bytes ≡ Ok x.1
+pub after_rows-entries : (n : ℕ) (before bytes : List ℕ) (x : List Entry × List ℕ) → entries_at n before bytes ≡ Ok x → after_rows n bytes ≡ Ok x.1
 unfolding entries_at after_rows
 after_rows-entries zero before bytes x e =
     let rest : List Entry × List ℕ → Result (List ℕ) NodeFault = λ y. Ok y.1 in

@@ -1,18 +1,17 @@
 -- A node with another link in a gap: its other bytes stay.
-use Rattle.std.proofs.Common.{◌≡◌, ℕ, zero, suc, ◌+◌, ◌-◌, ◌<◌, ◌≤◌, ◌^◌, Bool, true, ◌&&◌, nat_lt, List, [], ◌∷◌, ◌++◌, length, take, drop, Option, Result, Ok, Err, IsOk, OnOk, refl, sym, ap, subst, ◌∙◌, append_assoc, arith, length-append}
+use Rattle.std.proofs.Common.{◌≡◌, ℕ, zero, suc, ◌+◌, ◌-◌, ◌<◌, ◌≤◌, ◌^◌, Bool, true, ◌&&◌, nat_lt, List, [], ◌∷◌, ◌++◌, length, take, drop, Option, None, Result, Ok, Err, OnOk, refl, sym, ap, subst, ◌∙◌, append_assoc, arith, length-append}
 use Rattle.std.specs.Cmp.Lexicographic.{slice_cmp}
 use Rattle.std.specs.Ordering.{nat_cmp, is_lt}
-use Rattle.std.proofs.lemmas.List.{append-nil, take_at, drop_at, take_rest, length-drop}
+use Rattle.std.proofs.lemmas.List.{append-nil, take_at, drop_at}
 use Rattle.spec.specs.Head.{head}
 use Rattle.spec.specs.Cid.{link, is_own_cid}
 use Rattle.spec.specs.NodeFormat.{Entry, common, suffix_after, link_or_null, entry_bytes, entries_bytes, is_key, are_keys_after, are_links, is_own_cid_or_none, is_node, node_spelling}
 use Rattle.spec.proofs.Bools.{both}
-use Rattle.node.specs.Contents.{last_key, entries_shown, IsRead}
-use Rattle.node.specs.Runs.{Begins, after_rows}
+use Rattle.node.specs.Contents.{Contents, last_key, entries_in, Spells, IsWritten}
 use Rattle.node.specs.Search.{gap_at, relink_at}
 use Rattle.node.proofs.Joining.{and}
-use Rattle.node.proofs.Passing.{read-begins, begins-rows, begins-after, begins-run}
 use Rattle.node.proofs.TestedNodes.{own-length}
+use Rattle.node.proofs.Writing.{contents, spells-written}
 
 -- ---- the bytes
 
@@ -111,51 +110,6 @@ copied (suc n) left [] front some within links is = absurd (omega arith)
 copied (suc n) left (e ∷ es) front some within links is =
     copied-split n left (e ∷ es) front (split n [] left (e ∷ es) (omega arith) links) is (λ new. refl)
 
--- ---- the runs before and behind a gap
-
-pub record Runs (n : ℕ) (first rest end : List ℕ) (es : List Entry) : Type 0 where
-  pub within_first : length rest ≤ length first
-  pub within_rest : length end ≤ length rest
-  pub front : take (length first - length rest) first ≡ entries_bytes [] (take n es)
-  pub others : take (length rest - length end) rest ≡ entries_bytes (last_key [] (take n es)) (drop n es)
-
--- a node's entries, as its view has them
-pub record Shown (left : Option (List ℕ)) (count : ℕ) (first : List ℕ) (es : List Entry) : Type 0 where
-  pub begins : Begins first [] es
-  pub counted : count ≡ length es
-
-pub shown : (left : Option (List ℕ)) (count : ℕ) (first : List ℕ) (es : List Entry) → IsRead left count first
-    → entries_shown count first ≡ es → Shown left count first es
-shown left count first es read is =
-    let r = read-begins left count first read in
-    record { begins = subst (Begins first []) is r.0; counted = sym r.1 ∙ ap length is }
-
-pub runs-front : (left : Option (List ℕ)) (n count : ℕ) (first : List ℕ) (es : List Entry) → Shown left count first es → n ≤ length es
-    → IsOk (after_rows n first)
-runs-front left n count first es s within = begins-rows n first [] es s.begins within
-
-pub runs-others : (left : Option (List ℕ)) (n count : ℕ) (first rest : List ℕ) (es : List Entry) → Shown left count first es
-    → n ≤ length es → after_rows n first ≡ Ok rest → IsOk (after_rows (count - n) rest)
-runs-others left n count first rest es s within after =
-    let b = begins-after n first [] es rest s.begins within after in
-    begins-rows (count - n) rest (last_key [] (take n es)) (drop n es) b (omega (arith, length-drop n es, s.counted))
-
-pub runs : (left : Option (List ℕ)) (n count : ℕ) (first rest end : List ℕ) (es : List Entry) → Shown left count first es
-    → n ≤ length es → after_rows n first ≡ Ok rest → after_rows (count - n) rest ≡ Ok end → Runs n first rest end es
-runs left n count first rest end es s within after ended =
-    let key = last_key [] (take n es) in
-    let b = begins-after n first [] es rest s.begins within after in
-    let front = begins-run n first [] es rest s.begins within after in
-    let behind = begins-run (count - n) rest key (drop n es) end b (omega (arith, length-drop n es, s.counted)) ended in
-    let all : take (count - n) (drop n es) ≡ drop n es =
-    ap (λ (m : ℕ). take (m - n) (drop n es)) s.counted ∙ take_rest es n in
-    record {
-      within_first = front.0;
-      within_rest = behind.0;
-      front = front.1;
-      others = behind.1 ∙ ap (entries_bytes key) all;
-    }
-
 -- ---- the grammar
 
 count-by : (n : ℕ) (gap new : Option (List ℕ)) (es : List Entry) → length (relink_at n gap es new).entries ≡ length es
@@ -181,19 +135,6 @@ links-by (suc n) gap new (e ∷ es) links own own_new =
     let more = links-by n e.tree new es parts.1 own_parts.1 own_new in
     (and _ _ (and _ _ own_parts.0 more.1) more.0, own)
 
--- a node stays one
-pub relinked-node : (n : ℕ) (gap : Option (List ℕ)) (es : List Entry) (new : Option (List ℕ)) → is_node gap es ≡ true
-    → is_own_cid_or_none new ≡ true → is_node (relink_at n gap es new).left (relink_at n gap es new).entries ≡ true
-relinked-node n gap es new node own_new =
-    let few = nat_lt (length es) (2 ^ 64) in
-    let a = both (few && are_keys_after [] es && are_links es) (is_own_cid_or_none gap) node in
-    let b = both (few && are_keys_after [] es) (are_links es) a.0 in
-    let c = both few (are_keys_after [] es) b.0 in
-    let links = links-by n gap new es b.1 a.1 own_new in
-    let few_new : nat_lt (length (relink_at n gap es new).entries) (2 ^ 64) ≡ true =
-    ap (λ (m : ℕ). nat_lt m (2 ^ 64)) (count-by n gap new es) ∙ c.0 in
-    and _ _ (and _ _ (and _ _ few_new (keys-by n [] gap new es ∙ c.1)) links.0) links.1
-
 -- its links are of the host's form
 pub linked-entries : (left : Option (List ℕ)) (es : List Entry) → is_node left es ≡ true → are_links es ≡ true
 linked-entries left es node =
@@ -201,29 +142,83 @@ linked-entries left es node =
     let a = both (few && are_keys_after [] es && are_links es) (is_own_cid_or_none left) node in
     (both (few && are_keys_after [] es) (are_links es) a.0).1
 
--- ---- all of a node
+-- its keys ascend
+pub ascending-entries : (left : Option (List ℕ)) (es : List Entry) → is_node left es ≡ true → are_keys_after [] es ≡ true
+ascending-entries left es node =
+    let few = nat_lt (length es) (2 ^ 64) in
+    let a = both (few && are_keys_after [] es && are_links es) (is_own_cid_or_none left) node in
+    (both few (are_keys_after [] es) (both (few && are_keys_after [] es) (are_links es) a.0).0).1
 
-pub relink-count : (n : ℕ) (left new : Option (List ℕ)) (es : List Entry) → length (relink_at n left es new).entries ≡ length es
-relink-count n left new es = count-by n left new es
+-- ---- the last link of a node that is written
 
-joined : (h a t b o l : List ℕ) → h ++ a ++ t ++ b ++ o ++ l ≡ h ++ (a ++ (t ++ (b ++ o))) ++ l
-joined h a t b o l = simp append_assoc
+all-before : (es : List Entry) → take (length es) es ≡ es
+all-before [] = refl
+all-before (e ∷ es) = ap (λ (xs : List Entry). e ∷ xs) (all-before es)
 
--- the bytes with a link put in behind the first entries
-pub spelled-behind : (n : ℕ) (left : Option (List ℕ)) (es : List Entry) (front others : List ℕ) (new : Option (List ℕ))
-    → Copied n left es front → others ≡ entries_bytes (last_key [] (take n es)) (drop n es)
-    → (0xa2 ∷ 0x61 ∷ 0x65 ∷ head 4 (length es))
-    ++ take (length front - 43 - (2 + length (link_or_null (gap_at n left es)))) front
-    ++ field 0x74 new ++ drop (length front - 43) front ++ others ++ field 0x6c left
-    ≡ node_spelling (relink_at n left es new).left (relink_at n left es new).entries
-spelled-behind n left es front others new c is =
-    let h : ℕ → List ℕ = λ m. 0xa2 ∷ 0x61 ∷ 0x65 ∷ head 4 m in
-    joined (h (length es)) (take (length front - 43 - (2 + length (link_or_null (gap_at n left es)))) front) (field 0x74 new)
-    (drop (length front - 43) front) others (field 0x6c left)
-    ∙ ap (λ (x : List ℕ). h (length es) ++ x ++ field 0x6c left) (c.anew new others is)
-    ∙ ap (λ (m : ℕ). h m ++ entries_bytes [] (relink_at n left es new).entries ++ field 0x6c left) (sym (count-by n left new es))
-    ∙ ap (λ (l : Option (List ℕ)). h (length (relink_at n left es new).entries) ++ entries_bytes [] (relink_at n left es new).entries ++ field 0x6c l) (sym (c.left_is new))
+none-behind : (es : List Entry) → drop (length es) es ≡ []
+none-behind [] = refl
+none-behind (e ∷ es) = none-behind es
 
-pub on-ok : {A E P Q : Type 0} (r : Result A E) → (P → Q) → OnOk r P → OnOk r Q
-on-ok (Ok x) f p = f p
-on-ok (Err e) f p = p
+last-by : (n : ℕ) (ahead : List ℕ) (gap new : Option (List ℕ)) (es : List Entry)
+    → last_key ahead (relink_at n gap es new).entries ≡ last_key ahead es
+last-by zero ahead gap new es = refl
+last-by (suc n) ahead gap new [] = refl
+last-by (suc n) ahead gap new (e ∷ es) = last-by n e.key e.tree new es
+
+same-entries : (n : ℕ) (gap other new : Option (List ℕ)) (es : List Entry)
+    → (relink_at n gap es new).entries ≡ (relink_at n other es new).entries
+same-entries zero gap other new es = refl
+same-entries (suc n) gap other new [] = refl
+same-entries (suc n) gap other new (e ∷ es) = refl
+
+left-by : (gap new : Option (List ℕ)) (es : List Entry) → 0 < length es → (relink_at (length es) gap es new).left ≡ gap
+left-by gap new [] some = absurd (omega arith)
+left-by gap new (e ∷ es) some = refl
+
+-- what a writer has, with another link behind the last entry
+pub record LastRelinked (n : ℕ) (bytes last : List ℕ) (left old new : Option (List ℕ)) (now : Contents) : Type 0 where
+  pub room : 43 + (2 + length (link_or_null old)) ≤ length bytes
+  pub anew : (text : List ℕ) → text ≡ take (length bytes - 43 - (2 + length (link_or_null old))) bytes ++ field 0x74 new ++ drop (length bytes - 43) bytes
+      → IsWritten n text last × (contents left (entries_in n text) ≡ relink_at (length now.entries) now.left now.entries new)
+
+last-relinked-of : (n : ℕ) (bytes last : List ℕ) (left old new : Option (List ℕ)) (es : List Entry) → Spells n bytes last es
+    → n < 2 ^ 64 → 0 < length es → old ≡ gap_at (length es) left es → is_own_cid_or_none new ≡ true
+    → LastRelinked n bytes last left old new (contents left es)
+last-relinked-of n bytes last left old new es s small some old_is own =
+    let m = length es in
+    let front : bytes ≡ entries_bytes [] (take m es) = s.spelled ∙ ap (entries_bytes []) (sym (all-before es)) in
+    let c = copied m left es bytes some (omega arith) s.linked front in
+    let room = c.room in
+    let size : 2 + length (link_or_null old) ≡ 2 + length (link_or_null (gap_at m left es)) =
+    ap (λ (l : Option (List ℕ)). 2 + length (link_or_null l)) old_is in
+    let made = (relink_at m left es new).entries in
+    let none : [] ≡ entries_bytes (last_key [] (take m es)) (drop m es) = sym (ap (entries_bytes (last_key [] (take m es))) (none-behind es)) in
+    let links = links-by m None new es s.linked refl own in
+    record {
+      room = omega (arith, room, size);
+      anew = λ text is.
+          let spells : Spells n text last made = record {
+            spelled = is
+                ∙ ap (λ (k : ℕ). take (length bytes - 43 - k) bytes ++ field 0x74 new ++ drop (length bytes - 43) bytes) size
+                ∙ append_assoc (take (length bytes - 43 - (2 + length (link_or_null (gap_at m left es)))) bytes) (field 0x74 new) (drop (length bytes - 43) bytes)
+                ∙ ap (λ (x : List ℕ). take (length bytes - 43 - (2 + length (link_or_null (gap_at m left es)))) bytes ++ (field 0x74 new ++ x))
+                (sym (append-nil (drop (length bytes - 43) bytes)))
+                ∙ c.anew new [] none;
+            counted = s.counted ∙ sym (count-by m left new es);
+            ended = s.ended ∙ sym (last-by m [] left new es);
+            ascending = keys-by m [] left new es ∙ s.ascending;
+            linked = ap are_links (same-entries m left None new es) ∙ links.0;
+          } in
+          let w = spells-written n text last left made spells small in
+          (w.0, w.1 ∙ ap (λ (l : Option (List ℕ)). contents l made) (sym (left-by left new es some)));
+    }
+
+pub last-relinked : (n : ℕ) (bytes last : List ℕ) (left old new : Option (List ℕ)) (now : Contents) → IsWritten n bytes last
+    → contents left (entries_in n bytes) ≡ now → n < 2 ^ 64 → 0 < length now.entries
+    → old ≡ gap_at (length now.entries) now.left now.entries → is_own_cid_or_none new ≡ true
+    → LastRelinked n bytes last left old new now
+last-relinked n bytes last left old new now written is small some old_is own =
+    let es = entries_in n bytes in
+    let here : 0 < length es = subst (λ (m : Contents). 0 < length m.entries) (sym is) some in
+    let link : old ≡ gap_at (length es) left es = old_is ∙ sym (ap (λ (m : Contents). gap_at (length m.entries) m.left m.entries) is) in
+    subst (LastRelinked n bytes last left old new) is (last-relinked-of n bytes last left old new es written small here link own)

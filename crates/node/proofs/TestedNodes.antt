@@ -3,14 +3,14 @@ use Rattle.std.proofs.Common.{◌≡◌, ℕ, ◌+◌, ◌-◌, ◌≤◌, ◌<�
 use Rattle.std.specs.Str.{bytes_eq}
 use Rattle.std.specs.Cmp.Lexicographic.{same_text}
 use Rattle.std.proofs.Math.Seq.{drop-append-add}
-use Rattle.std.proofs.lemmas.Bool.{eqb-true}
+use Rattle.std.proofs.lemmas.Bool.{eqb-true, ltb-true}
 use Rattle.std.proofs.lemmas.List.{append-nil, length-append, length-drop, take-append-drop, get_or-append-add}
 use Rattle.spec.specs.Reading.{IsBytes, ◌>>=◌}
 use Rattle.spec.specs.Head.{CborFault, head, head_at}
 use Rattle.spec.specs.Cid.{prefix, link, is_own_cid}
 use Rattle.spec.specs.NodeFormat.{Entry, NodeFault, NotNode, or_not_node, common, suffix_after, link_or_null, entry_bytes, entries_bytes, node_spelling, are_keys_after, are_links, is_own_cid_or_none, is_node, literal, argument_of, link_at, link_or_null_at, entries_at, read_node}
 use Rattle.spec.proofs.Bools.{both}
-use Rattle.spec.proofs.HeadLaws.{head_takes}
+use Rattle.spec.proofs.HeadLaws.{head_at-head, head_takes}
 use Rattle.spec.proofs.Taking.{IsBytes-drop, bind_then, ensure_ok, front-append, ok_is}
 use Rattle.spec.proofs.NodeTakes.{read_node_takes}
 use Rattle.node.proofs.ReadAgain.{literal-again, read-ok}
@@ -239,6 +239,21 @@ argument-rest bytes n fits e =
     let rest = (head_takes bytes h.0.0 h.0.1 h.1 fits (omega (arith, is)) (head-is (head_at bytes) h read)).0.rest_fits in
     subst IsBytes (ap (λ (x : ℕ × List ℕ). x.1) (ok_is NodeFault (h.0.1, h.1) n a.1)) rest)
 
+-- behind the number of entries stand these and the left link
+ends-of : (bytes : List ℕ) (left : Option (List ℕ)) (es : List Entry) (n : ℕ × List ℕ) → bytes ≡ node_spelling left es
+    → is_node left es ≡ true → argument_of 4 (drop 3 bytes) ≡ Ok n → n.1 ≡ entries_bytes [] es ++ (0x61 ∷ 0x6c ∷ link_or_null left)
+ends-of bytes left es n spelled node n_is =
+    let few = nat_lt (length es) (2 ^ 64) in
+    let a = both (few && are_keys_after [] es && are_links es) (is_own_cid_or_none left) node in
+    let b = both (few && are_keys_after [] es) (are_links es) a.0 in
+    let small = both few (are_keys_after [] es) b.0 in
+    let after : List ℕ = entries_bytes [] es ++ (0x61 ∷ 0x6c ∷ link_or_null left) in
+    let text : drop 3 bytes ≡ head 4 (length es) ++ after =
+    ap (drop 3) spelled ∙ append_assoc (head 4 (length es)) (entries_bytes [] es) (0x61 ∷ 0x6c ∷ link_or_null left) in
+    let read : argument_of 4 (head 4 (length es) ++ after) ≡ Ok (length es, after) =
+    rw (head_at-head 4 (length es) after (omega arith) (ltb-true _ _ small.0)) refl in
+    ap (λ (x : ℕ × List ℕ). x.1) (ok_is NodeFault n (length es, after) (sym n_is ∙ ap (argument_of 4) text ∙ read))
+
 -- the parts of a node whose ends were read
 pub record NodeAgain (bytes : List ℕ) (left : Option (List ℕ)) (n : ℕ × List ℕ) : Type 0 where
   pub node : read_node bytes ≡ Ok (left, entries_shown n.0 n.1)
@@ -259,5 +274,7 @@ node-again bytes left n fits ok left_is n_is =
         fits = argument-rest (drop 3 bytes) n (IsBytes-drop 3 bytes fits) n_is;
         all = es.0;
         grammar = (read_node_takes bytes left (entries_shown n.0 n.1) fits node).1;
+        ends = let t = read_node_takes bytes left (entries_shown n.0 n.1) fits node in
+            ends-of bytes left (entries_shown n.0 n.1) n t.0 t.1 n_is;
       };
     }

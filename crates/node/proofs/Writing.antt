@@ -82,6 +82,12 @@ more_written n m bytes last text whole more left now written w count is fits =
       ap (contents left) (entries_in-entries_bytes m text whole _ s fits) ∙ ap (λ (x : Contents). contents x.left (x.entries ++ more)) is,
     )
 
+-- what these entries spell is what a writer has
+pub spells-written : (n : ℕ) (bytes last : List ℕ) (left : Option (List ℕ)) (es : List Entry) → Spells n bytes last es → n < 2 ^ 64
+    → IsWritten n bytes last × (contents left (entries_in n bytes) ≡ contents left es)
+spells-written n bytes last left es s small =
+    (IsWritten-from_spells n bytes last es s small, ap (contents left) (entries_in-entries_bytes n bytes last es s small))
+
 -- ---- one entry
 
 -- the pieces that are written for one more entry

@@ -4,7 +4,7 @@ use Rattle.std.specs.Cmp.Lexicographic.{slice_cmp}
 use Rattle.std.specs.Ordering.{nat_cmp, is_lt}
 use Rattle.spec.specs.Reading.{IsBytes}
 use Rattle.spec.specs.Head.{head}
-use Rattle.spec.specs.NodeFormat.{Entry, NodeFault, is_key, entries_bytes, are_keys_after, are_links, is_node, entries_at, read_node}
+use Rattle.spec.specs.NodeFormat.{Entry, NodeFault, is_key, link_or_null, entries_bytes, are_keys_after, are_links, is_node, entries_at, read_node}
 
 -- the subtree before the entries, and the entries
 pub record Contents : Type 0 where
@@ -51,8 +51,9 @@ entries_of_reading (Err f) = []
 unfoldable pub entries_shown : ℕ → List ℕ → List Entry
 entries_shown n bytes = entries_of_reading (entries_at n [] bytes)
 
--- so many entries can be read, and are a node's
+-- so many entries can be read, and are a node's; behind them stands the left link, and nothing more
 pub record IsRead (left : Option (List ℕ)) (n : ℕ) (bytes : List ℕ) : Type 0 where
   pub fits : IsBytes bytes
   pub all : IsOk (entries_at n [] bytes)
   pub grammar : is_node left (entries_shown n bytes) ≡ true
+  pub ends : bytes ≡ entries_bytes [] (entries_shown n bytes) ++ (0x61 ∷ 0x6c ∷ link_or_null left)

@@ -1,6 +1,7 @@
 pub mod Bytes
 pub mod Contents
 pub mod Fault
+pub mod Gaps
 pub mod KeyParts
 pub mod Rows
 pub mod Runs

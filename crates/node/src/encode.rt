@@ -1,7 +1,7 @@
 //! The parts of a node's bytes (AT Protocol repository v3, MST node data format). Where memory is refused, what
 //! stood in the bytes before stays at their front.
 
-ghost use Rattle.std.specs.Prelude.{◌≡◌, ◌∷◌, ◌++◌, [], length, true, OnOk, option_map};
+ghost use Rattle.std.specs.Prelude.{◌≡◌, ◌+◌, ◌∷◌, ◌++◌, [], length, true, OnOk, option_map};
 ghost use Rattle.spec.specs.Cid.{link};
 ghost use Rattle.spec.specs.Head.{head};
 ghost use Rattle.spec.specs.NodeFormat.{link_or_null, is_own_cid_or_none};
@@ -73,6 +73,19 @@ pub(crate) fn push_link<A: Allocator>(
             out.extend_from_slice(&[b'a', name, LINK_HEAD[0], LINK_HEAD[1], 0x58, 37, BEFORE_CID])?;
             out.extend_from_slice(cid.as_bytes())
         }
+    }
+}
+
+/// How many bytes the field of a record's link has, its name with them: the last one of each entry.
+pub(crate) const VALUE_FIELD: usize = 43;
+
+/// How many bytes the field of a link or null has, its name of one letter with them.
+pub(crate) fn field_len(link: Option<CidRef<'_>>) -> usize
+    ensures { result ≡ 2 + length (link_or_null (option_map bytes_of link.entry)) }
+{
+    match link {
+        Some(_) => VALUE_FIELD,
+        None => 3,
     }
 }
 

@@ -9,8 +9,9 @@
 //! - `entries` goes through the entries one by one, each an [`EntryView`]; [`KeyBuf`] puts whole keys together on the
 //!   way.
 //! - `find` says where a key stands, [`Place`]: in this node with its value, or below a link, or nowhere.
-//! - [`NodeWriter`] writes a node entry by entry, in the order of the keys, or copies runs of entries from a view.
-//!   `with_link_at` of a view copies all of a node but one link, and puts another one in its place.
+//! - [`Gap`] goes through the gaps between the entries, and knows where it stands in the bytes.
+//! - [`NodeWriter`] writes a node entry by entry, in the order of the keys, or copies runs of entries from a gap on; `relinked`
+//!   puts another link behind the last entry.
 //!
 //! Which nodes make a tree is for the crates above: `scratch` builds whole trees, `edit` changes one path. README.md has
 //! an example that reads the top of a tree.
@@ -22,6 +23,7 @@ mod encode;
 mod entries;
 mod entry;
 mod fault;
+mod gap;
 mod key_before;
 mod key_buf;
 mod parts;
@@ -36,6 +38,7 @@ pub use common::is_key;
 pub use entries::Entries;
 pub use entry::EntryView;
 pub use fault::NodeFault;
+pub use gap::Gap;
 pub use key_buf::KeyBuf;
 pub use place::Place;
 pub use view::NodeView;

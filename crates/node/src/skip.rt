@@ -1,26 +1,11 @@
 //! Runs of a node's entries, as they stand in its bytes.
 
 ghost use Rattle.std.specs.Prelude.{◌≡◌, IsOk, Ok};
-ghost use Rattle.node.specs.Runs.{after_rows, after_keys};
+ghost use Rattle.node.specs.Runs.{after_keys};
 
 use crate::key_buf::KeyBuf;
 use crate::tested::tested_entry;
 use std::alloc::Allocator;
-
-/// The bytes after so many entries.
-pub(crate) fn after(count: u64, bytes: &[u8]) -> &[u8]
-    requires { IsOk (after_rows count bytes.now) }
-    ensures { after_rows count bytes.now ≡ Ok result.now }
-{
-    let mut rest = bytes;
-    let mut left = count;
-    while left > 0 {
-        let (_, after) = tested_entry(rest);
-        rest = after;
-        left -= 1;
-    }
-    rest
-}
 
 /// The bytes after so many entries, while `key` goes on from the key before them to the last one of theirs.
 pub(crate) fn pass<'a, A: Allocator>(key: &mut KeyBuf<A>, count: u64, bytes: &'a [u8]) -> &'a [u8]

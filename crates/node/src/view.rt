@@ -1,38 +1,25 @@
 //! Nodes as their blocks show them.
 
-ghost use Rattle.std.specs.Prelude.{◌≡◌, ◌≤◌, ◌+◌, ◌∷◌, ◌++◌, [], true, length, take, drop, option_map, IfOk, IsOk, Ok, OnOk};
+ghost use Rattle.std.specs.Prelude.{◌≡◌, ◌∷◌, ◌++◌, [], true, length, option_map, IsOk, Ok};
 ghost use Rattle.spec.specs.Reading.{Gives};
-ghost use Rattle.spec.specs.Head.{head};
-ghost use Rattle.spec.specs.NodeFormat.{are_keys_after, entries_bytes, is_node, is_own_cid_or_none, link_or_null, node_spelling, read_node};
+ghost use Rattle.spec.specs.NodeFormat.{are_keys_after, entries_bytes, is_node, link_or_null, read_node};
 ghost use Rattle.spec.specs.Proof.{place};
 ghost use Rattle.cid.specs.CidRef.{bytes_of};
 ghost use Rattle.node.specs.Fault.{fault_of};
 ghost use Rattle.node.specs.Rows.{rows};
-ghost use Rattle.node.specs.Contents.{last_key};
-ghost use Rattle.node.specs.Runs.{Begins};
-ghost use Rattle.node.specs.Search.{gap_at, gap_before, relink_at};
+ghost use Rattle.node.specs.Search.{gap_before};
 ghost use Rattle.node.specs.Views.{place_of, row_of, row_with, IsRowWith};
 
-use crate::encode::{lend, push_link};
 use crate::entries::Entries;
 use crate::entry::EntryView;
 use crate::fault::NodeFault;
 use crate::parts::{NodeParts, node};
 use crate::place::{Place, place_in_gap};
 use crate::search::compare_after;
-use crate::skip::after;
 use crate::tested::tested_node;
-use cid::{Cid, CidRef};
-use dagcbor::{Major, push_head};
-use std::alloc::{AllocError, Allocator};
+use cid::CidRef;
 use std::cmp::Ordering;
 use std::marker::Model;
-
-/// How many bytes the field of a record's link has, its name with them: the last one of each entry.
-const VALUE_FIELD: usize = 43;
-
-/// How many bytes a node has at most beside its entries.
-const ENDS: usize = 55;
 
 /// A node as its block shows it (AT Protocol repository v3, MST node data format). Nothing is copied: all of its parts
 /// are lent by the block.
@@ -68,8 +55,8 @@ impl<'a> NodeView<'a> {
     pub fn parse(bytes: &'a [u8]) -> Result<NodeView<'a>, NodeFault>
         ensures { Gives (λ view. (view.left, view.entries)) fault_of result (read_node bytes.now) }
     {
-        let NodeParts { left, count, first } = node(bytes)?;
-        Ok(NodeView { left, count, first })
+        let _ = node(bytes)?;
+        Ok(NodeView::of_tested(bytes))
     }
 
     /// The node of a block that is known to be one, as its bytes were tested by `parse` before or written as a node's. It
@@ -118,13 +105,13 @@ impl<'a> NodeView<'a> {
         }
     }
 
-    /// The bytes from the `from`-th entry on.
-    pub(crate) fn bytes_from(&self, from: u64) -> &'a [u8]
-        requires { from ≤ length self.now.entries }
-        ensures { Begins result.now (last_key [] (take from self.now.entries))
-            (drop from self.now.entries) }
+    /// The bytes of its entries, and the left link behind them.
+    pub(crate) fn bytes(&self) -> &'a [u8]
+        ensures spelled { result.now ≡ entries_bytes [] self.now.entries
+            ++ (0x61 ∷ 0x6c ∷ link_or_null self.now.left) }
+        ensures grammar { is_node self.now.left self.now.entries ≡ true }
     {
-        after(from, self.first)
+        self.first
     }
 
     /// Where a key stands. No key is put together: an entry's suffix decides, or what it keeps of the key before.
@@ -137,87 +124,6 @@ impl<'a> NodeView<'a> {
             Some(entry) => Place::Here(entry),
             None => place_in_gap(sought.gap),
         }
-    }
-
-    /// The bytes of this node with another link in the gap behind so many entries, where `gap` stands. All other bytes are
-    /// copied as they stand. `AllocError` comes where memory was refused.
-    pub fn with_link_at<A: Allocator>(
-        &self,
-        alloc: A,
-        passed: u64,
-        gap: Option<CidRef<'_>>,
-        new: Option<Cid>,
-    ) -> Result<Vec<u8, A>, AllocError>
-        requires within { passed ≤ length self.now.entries }
-        requires gap { option_map bytes_of gap ≡ gap_at passed self.now.left self.now.entries }
-        ensures bytes { IfOk result (λ bytes. bytes.items ≡ node_spelling
-            (relink_at passed self.now.left self.now.entries new).left
-            (relink_at passed self.now.left self.now.entries new).entries) }
-        ensures grammar { OnOk result (is_node
-            (relink_at passed self.now.left self.now.entries new).left
-            (relink_at passed self.now.left self.now.entries new).entries ≡ true) }
-    {
-        self.copied_around(alloc, passed, gap, lend(&new))
-    }
-
-    /// The same with a link that is lent.
-    fn copied_around<A: Allocator>(
-        &self,
-        alloc: A,
-        passed: u64,
-        gap: Option<CidRef<'_>>,
-        new: Option<CidRef<'_>>,
-    ) -> Result<Vec<u8, A>, AllocError>
-        requires within { passed ≤ length self.now.entries }
-        requires gap { option_map bytes_of gap ≡ gap_at passed self.now.left self.now.entries }
-        ensures bytes { IfOk result (λ bytes. bytes.items ≡ node_spelling
-            (relink_at passed self.now.left self.now.entries (option_map bytes_of new.entry)).left
-            (relink_at passed self.now.left self.now.entries
-            (option_map bytes_of new.entry)).entries) }
-        ensures grammar { OnOk result (is_node self.now.left self.now.entries ≡ true) }
-    {
-        let (front, others) = self.runs(passed);
-        let mut bytes = self.begin(alloc, front.len().saturating_add(others.len()))?;
-        if passed == 0 {
-            bytes.extend_from_slice(others)?;
-            push_link(&mut bytes, b'l', new)?;
-            return Ok(bytes);
-        }
-        let value = front.len() - VALUE_FIELD;
-        let tree = value - field_len(gap);
-        bytes.extend_from_slice(&front[..tree])?;
-        push_link(&mut bytes, b't', new)?;
-        bytes.extend_from_slice(&front[value..])?;
-        bytes.extend_from_slice(others)?;
-        push_link(&mut bytes, b'l', self.left)?;
-        Ok(bytes)
-    }
-
-    /// The bytes of so many entries from the front, and those of the others.
-    fn runs(&self, passed: u64) -> (&'a [u8], &'a [u8])
-        requires { passed ≤ length self.now.entries }
-        ensures front { result.0.now ≡ entries_bytes [] (take passed self.now.entries) }
-        ensures others { result.1.now ≡ entries_bytes (last_key [] (take passed self.now.entries))
-            (drop passed self.now.entries) }
-        ensures grammar { is_node self.now.left self.now.entries ≡ true }
-    {
-        let rest = after(passed, self.first);
-        let end = after(self.count - passed, rest);
-        let front = &self.first[..self.first.len() - rest.len()];
-        let others = &rest[..rest.len() - end.len()];
-        (front, others)
-    }
-
-    /// The bytes of this node up to its first entry, with room for entries of so many bytes.
-    fn begin<A: Allocator>(&self, alloc: A, room: usize) -> Result<Vec<u8, A>, AllocError>
-        ensures { IfOk result (λ bytes. bytes.items
-            ≡ 0xa2 ∷ 0x61 ∷ 0x65 ∷ head 4 (length self.now.entries)) }
-    {
-        let count = self.entry_count();
-        let mut bytes = Vec::with_capacity(alloc, room.saturating_add(ENDS))?;
-        bytes.extend_from_slice(&[0xa2, b'a', b'e'])?;
-        push_head(&mut bytes, Major::Array as u8, count)?;
-        Ok(bytes)
     }
 
     /// The gap before the first entry that isn't below a key, and that entry, where it is the key's.
@@ -255,14 +161,4 @@ impl<'a> NodeView<'a> {
 struct Sought<'a> {
     gap: Option<CidRef<'a>>,
     entry: Option<EntryView<'a>>,
-}
-
-/// How many bytes the field of a link or null has, its name of one letter with them.
-fn field_len(link: Option<CidRef<'_>>) -> usize
-    ensures { result ≡ 2 + length (link_or_null (option_map bytes_of link.entry)) }
-{
-    match link {
-        Some(_) => 43,
-        None => 3,
-    }
 }

@@ -1,15 +1,16 @@
 //! Nodes written entry by entry.
 
-ghost use Rattle.std.specs.Prelude.{◌≡◌, ◌-◌, ◌≤◌, [], ◌∷◌, ◌++◌, length, take, drop, true, IfOk, OnOk, OnErr};
+ghost use Rattle.std.specs.Prelude.{◌≡◌, ◌-◌, ◌<◌, ◌≤◌, [], ◌∷◌, ◌++◌, length, take, drop, true, option_map, IfOk, OnOk, OnErr};
 ghost use Rattle.spec.specs.NodeFormat.{is_node, node_spelling};
 ghost use Rattle.node.specs.Contents.{Contents, last_key, is_next_key};
+ghost use Rattle.node.specs.Search.{gap_at, relink_at};
 ghost use Rattle.cid.specs.CidRef.{bytes_of};
 
 use crate::common::{common_len, is_key};
-use crate::encode::{lend, push_entry, push_link};
+use crate::encode::{VALUE_FIELD, field_len, lend, push_entry, push_link};
+use crate::gap::Gap;
 use crate::key_buf::KeyBuf;
 use crate::skip::pass;
-use crate::view::NodeView;
 use cid::{Cid, CidRef};
 use dagcbor::{Major, push_head};
 use std::alloc::{AllocError, Allocator, Global};
@@ -66,6 +67,13 @@ impl<A: Allocator + Clone> NodeWriter<A> {
         self.last.key().cmp(key).is_lt() && is_key(key)
     }
 
+    /// The last key, and the empty key before the first.
+    pub fn last_key(&self) -> &[u8]
+        ensures { result.now ≡ last_key [] self.now.entries }
+    {
+        self.last.key()
+    }
+
     /// Adds an entry: a key, its record's CID, and the link of the subtree after it. Keys ascend strictly and have 1
     /// to 1,024 bytes; `is_next` is the test. Where memory is refused, the writer stays as it was.
     pub fn entry(
@@ -100,22 +108,24 @@ impl<A: Allocator + Clone> NodeWriter<A> {
         }
     }
 
-    /// Adds entries as they stand in the block of a node: those from the `from`-th on, up to the `to`-th. Their bytes
-    /// are copied at once. The last key of this writer is the key before them in that node, or there is none before in
-    /// both. Where memory is refused, the writer stays as it was.
-    pub fn copy(&mut self, node: &NodeView<'_>, from: u64, to: u64) -> Result<(), AllocError>
-        requires order { from ≤ to }
-        requires within { to ≤ length node.now.entries }
-        requires follows { last_key [] self.old.entries ≡ last_key [] (take from node.now.entries) }
+    /// Adds entries as they stand in the block of a node: those from a gap on, up to the `to`-th. Their bytes are copied
+    /// at once. The last key of this writer is the key before them in that node, or there is none before in both. Where
+    /// memory is refused, the writer stays as it was.
+    pub fn copy(&mut self, from: &Gap<'_>, to: u64) -> Result<(), AllocError>
+        requires order { from.now.passed ≤ to }
+        requires within { to ≤ length from.now.node.entries }
+        requires follows { last_key [] self.old.entries
+            ≡ last_key [] (take from.now.passed from.now.node.entries) }
         ensures ok { OnOk result (self.new
             ≡ record {
               left = self.old.left;
               entries = self.old.entries
-                  ++ take (to - from) (drop from node.now.entries);
+                  ++ take (to - from.now.passed) (drop from.now.passed from.now.node.entries);
             }) }
         ensures unchanged { OnErr result (self.new ≡ self.old) }
     {
-        let start = node.bytes_from(from);
+        let start = from.rest();
+        let from = from.passed();
         self.entries.reserve(start.len())?;
         let rest = pass(&mut self.last, to - from, start);
         let Ok(()) = self
@@ -126,6 +136,37 @@ impl<A: Allocator + Clone> NodeWriter<A> {
         };
         self.count += to - from;
         Ok(())
+    }
+
+    /// The same with another link behind its last entry, where `old` stands. `AllocError` comes where memory was refused.
+    pub fn relinked(
+        self,
+        old: Option<CidRef<'_>>,
+        new: Option<Cid>,
+    ) -> Result<NodeWriter<A>, AllocError>
+        requires some { 0 < length self.entries }
+        requires old { option_map bytes_of old ≡ gap_at (length self.entries) self.left self.entries }
+        ensures { IfOk result (λ writer. writer
+            ≡ relink_at (length self.entries) self.left self.entries new) }
+    {
+        let NodeWriter {
+            left: first,
+            count,
+            mut entries,
+            last,
+        } = self;
+        let at = entries.len() - VALUE_FIELD;
+        let mut value = [0; VALUE_FIELD];
+        value.copy_from_slice(&entries[at..]);
+        entries.truncate(at - field_len(old));
+        push_link(&mut entries, b't', lend(&new))?;
+        entries.extend_from_slice(&value)?;
+        Ok(NodeWriter {
+            left: first,
+            count,
+            entries,
+            last,
+        })
     }
 
     /// Begins another node in the room of the last: `left` is the link of the subtree before all its keys. This takes no

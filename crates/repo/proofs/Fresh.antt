@@ -81,8 +81,8 @@ first-refused {D} {A} digest block come full last fault here e c l h =
     subst (λ (f : RepoFault D A). IsBlockFault digest (block ∷ []) full last f) (sym e) (refused digest block come full last fault c l h)
 
 -- one block alone
-pub one-block : {A : Type 0} (xs : List (Arc (List ℕ) A)) (x y : Arc (List ℕ) A) → xs ≡ x ∷ [] → x ≡ y → map arc_value xs ≡ arc_value y ∷ []
-one-block {A} xs x y e f = ap (λ (zs : List (Arc (List ℕ) A)). map arc_value zs) e ∙ ap (λ (z : Arc (List ℕ) A). arc_value z ∷ []) f
+pub one-block : {A : Type 0} (xs : List (Arc (List ℕ) A)) (x : Arc (List ℕ) A) → xs ≡ x ∷ [] → map arc_value xs ≡ arc_value x ∷ []
+one-block {A} xs x e = ap (λ (zs : List (Arc (List ℕ) A)). map arc_value zs) e
 
 pub open-refused : {D A : Type 0} (digest : List ℕ → List ℕ) (bits me limit : ℕ) (node : List ℕ) (full fuller : ℕ) (fault : RepoFault D A) → node ≡ node_spelling None []
     → IsBlockFault digest (node ∷ []) full fuller fault → IsOpenRefusal digest bits (fresh me limit) full fuller fault

@@ -11,6 +11,7 @@ use Rattle.batch_laws.specs.Collecting.{collected}
 use Rattle.edit.specs.Batches.{IsBatchOf}
 use Rattle.edit.specs.declared.outcome.BatchEdit.{BatchEdit}
 use Rattle.kept.specs.Counts.{Counts}
+use Rattle.kept.specs.Trees.{OfTree}
 use Rattle.batches.specs.Values.{stamp_of}
 use Rattle.batches.specs.declared.stamp.Stamp.{Stamp}
 use Rattle.batches.specs.declared.fault.RepoFault.{RepoFault}
@@ -20,6 +21,10 @@ use Rattle.repo.specs.Keeping.{AreKept}
 use Rattle.repo.specs.Tested.{changes_in}
 use Rattle.repo.specs.declared.changes.Collected.{Collected}
 use Rattle.repo.specs.declared.exchanges.Exchange.{Exchange}
+
+-- there is a list of pairs whose tree has this root among these blocks
+abbrev pub HasSomeTree : (List ℕ → List ℕ) → ℕ → Counts → List ℕ → Type 0
+HasSomeTree digest bits m root = OfTree digest bits m root (λ es. ⊥) → ⊥
 
 -- the edit that these changes make of the tree of these pairs
 abbrev pub IsEditMade : {D A : Type 0} → (List ℕ → List ℕ) → ℕ → List Change → List Pair

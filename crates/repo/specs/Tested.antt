@@ -14,7 +14,7 @@ use Rattle.batch_laws.specs.Batch.{Change, at_key}
 use Rattle.batch_laws.specs.Collecting.{there_after}
 use Rattle.batch_laws.specs.Staged.{old_pairs}
 use Rattle.lookups.specs.Trees.{HasTree}
-use Rattle.lookups.specs.declared.source.ReadCount.{ReadCount}
+use Rattle.counts.specs.declared.count.Count.{Count}
 use Rattle.kept.specs.Counts.{Counts, bytes_at}
 use Rattle.batches.specs.Tests.{write_fault, IsTestFault}
 use Rattle.batches.specs.declared.fault.RepoFault.{RepoFault}
@@ -68,7 +68,7 @@ is_known changes (Update key bytes) = is_named changes key
 is_known changes (Delete key) = is_named changes key
 
 -- then no block was read
-abbrev pub IsUnread : List Change → Write → ReadCount → Type 0
+abbrev pub IsUnread : List Change → Write → Count → Type 0
 IsUnread changes w looked = is_known changes w ≡ true → looked.times ≡ 0
 
 -- ---- the test of a batch

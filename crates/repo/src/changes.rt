@@ -12,7 +12,8 @@ ghost use Rattle.batches.specs.Values.{write_of};
 ghost use Rattle.repo.specs.Tested.{bytes_of, changes_in, lent};
 
 use batches::Write;
-use cid::{Block, Cid, Digest};
+use block::Block;
+use cid::{Cid, Digest};
 use edit::Change;
 use std::alloc::{AllocError, Allocator};
 use std::collections::BTreeMap;

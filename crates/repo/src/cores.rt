@@ -21,9 +21,9 @@ use crate::exchanges::exchange_of;
 use crate::opening::empty_node;
 use crate::write_tests::test_batch;
 use batches::{RepoFault, Stamp, Write};
-use cid::{Block, Cid, Digest};
+use block::Block;
+use cid::{Cid, Digest};
 use kept::{Blocks, Kept, Lender, value_at};
-use lookups::MarkedBlock;
 use std::alloc::{AllocError, Allocator, Global};
 use std::marker::Model;
 use std::sync::Arc;
@@ -142,7 +142,7 @@ impl<D: Digest, const B: u8, A: Allocator> Core<D, B, A> {
         store: &mut S,
     )
         ensures fulls { S.fulls store.new ≡ S.fulls store.old }
-        ensures entered { Enters D.digest_of S.makes S.leaves self.me
+        ensures entered { Enters D.digest_of S.BlockStore self.me
             (has_block D.digest_of B self) no_block store.old store.new }
     {
         let Core {
@@ -222,19 +222,19 @@ impl<D: Digest, const B: u8, A: Allocator + Copy> Core<D, B, A> {
         requires small { me < 1024 }
         requires least { 1 ≤ limit }
         requires most { limit ≤ 1048576 }
-        requires store { IsStore D.digest_of S.fulls S.answers }
+        requires store { IsStore D.digest_of S.BlockStore }
         ensures fresh { IfOk result (λ core. core ≡ fresh me limit) }
         ensures fault { IfErr result (IsOpenRefusal D.digest_of B (fresh me limit)
             (S.fulls store.old) (S.fulls store.new)) }
         ensures counted { S.fulls store.new ≡ fulls_after_step (S.fulls store.old) result }
-        ensures entered { OnOk result (Enters D.digest_of S.makes S.leaves me
+        ensures entered { OnOk result (Enters D.digest_of S.BlockStore me
             no_block (has_block D.digest_of B (fresh me limit)) store.old store.new) }
-        ensures left { OnErr result (Enters D.digest_of S.makes S.leaves me
+        ensures left { OnErr result (Enters D.digest_of S.BlockStore me
             no_block no_block store.old store.new) }
     {
         let node = empty_node(alloc)?;
         let root = node.cid();
-        let come = vec![in alloc; MarkedBlock::of(node)]?;
+        let come = vec![in alloc; node]?;
         let mut kept = Kept::open(alloc, me);
         match kept.exchange(store, come, &[]) {
             Ok(()) => Ok(Core {
@@ -272,7 +272,7 @@ impl<D: Digest, const B: u8, A: Allocator + Copy> Core<D, B, A> {
         stamp: &Stamp<A>,
         writes: &[Write<A>],
     ) -> Result<Applied, (usize, RepoFault<D, A>)>
-        requires store { IsStore D.digest_of S.fulls S.answers }
+        requires store { IsStore D.digest_of S.BlockStore }
         ensures lawful { IsLawful self.old }
         ensures still_lawful { IsLawful self.new }
         ensures accepted { OnOk result
@@ -285,7 +285,7 @@ impl<D: Digest, const B: u8, A: Allocator + Copy> Core<D, B, A> {
             (IsRefusal D.digest_of B self.old (stamp_of stamp.now) (writes_of writes.now)
             (S.fulls store.old) (S.fulls store.new)) }
         ensures counted { S.fulls store.new ≡ fulls_after_batch (S.fulls store.old) result }
-        ensures entered { Enters D.digest_of S.makes S.leaves self.old.me
+        ensures entered { Enters D.digest_of S.BlockStore self.old.me
             (has_block D.digest_of B self.old) (has_block D.digest_of B self.new)
             store.old store.new }
     {

@@ -9,15 +9,15 @@ ghost use Rattle.batch_laws.specs.Uses.{given, records_come};
 ghost use Rattle.edit.specs.Batches.{are_changes};
 ghost use Rattle.kept.specs.Trees.{OfTree};
 ghost use Rattle.batches.specs.Values.{stamp_of};
-ghost use Rattle.repo.specs.Edits.{IsEditMade, IsEditRefusal, IsExchangeMade, OnTested};
+ghost use Rattle.repo.specs.Edits.{HasSomeTree, IsEditMade, IsEditRefusal, IsExchangeMade, OnTested};
 ghost use Rattle.repo.specs.Tested.{changes_in};
 
 use crate::changes::Collected;
 use batches::{RepoFault, Stamp, commit_bytes};
-use cid::{Block, Cid, Digest};
+use block::Block;
+use cid::{Cid, Digest};
 use edit::{BatchEdit, EditFault};
 use kept::{Kept, apply_over};
-use lookups::MarkedBlock;
 use std::alloc::{AllocError, Allocator};
 use std::sync::Arc;
 
@@ -26,7 +26,7 @@ use std::sync::Arc;
 pub(crate) struct Exchange<D: Digest, A: Allocator> {
     pub(crate) root: Cid,
     pub(crate) commit: Cid,
-    pub(crate) come: Vec<MarkedBlock<D, A>, A>,
+    pub(crate) come: Vec<Arc<Block<D, A>, A>, A>,
     pub(crate) go: Vec<Cid, A>,
 }
 
@@ -40,6 +40,7 @@ pub(crate) fn exchange_of<D: Digest, const B: u8, A: Allocator + Copy>(
     changes: &Collected<'_, A>,
 ) -> Result<Exchange<D, A>, RepoFault<D, A>>
     requires least { 1 ≤ B }
+    requires tree { HasSomeTree D.digest_of B kept.now.uses root }
     requires changes { are_changes (with_cids D.digest_of (changes_in changes.now)) ≡ true }
     ensures exchange { OnTested D.digest_of B root last stamp.now changes.now kept.now.uses
         (λ s batch. IfOk result (IsExchangeMade D.digest_of B s (stamp_of stamp.now) batch)) }
@@ -75,6 +76,7 @@ fn edit_for<D: Digest, const B: u8, A: Allocator + Copy>(
     records: &[Arc<Block<D, A>, A>],
 ) -> Result<BatchEdit<D, A>, RepoFault<D, A>>
     requires least { 1 ≤ B }
+    requires tree { HasSomeTree D.digest_of B kept.now.uses root }
     requires changes { are_changes (with_cids D.digest_of (changes_in changes.now)) ≡ true }
     requires records { map arc_value records.now ≡ records_come (changes_in changes.now) }
     ensures edit { OfTree D.digest_of B kept.now.uses root (λ es. IfOk result
@@ -86,8 +88,9 @@ fn edit_for<D: Digest, const B: u8, A: Allocator + Copy>(
     match apply_over::<D, B, A>(alloc, kept, root, &changes) {
         Ok((edit, _)) => Ok(edit),
         Err(EditFault::Clash(pair)) => Err(RepoFault::Collision(pair)),
+        Err(EditFault::NoMemory) => Err(RepoFault::NoMemory),
         // each node of the tree is kept, and a batch lacks no key
-        Err(_) => Err(RepoFault::NoMemory),
+        Err(EditFault::Missing(_) | EditFault::NotTree | EditFault::NoSuchKey) => unreachable!(),
     }
 }
 
@@ -105,18 +108,18 @@ fn commit_block<D: Digest, A: Allocator + Copy>(
 
 /// The nodes, and after them the records and the commit.
 fn all_that_come<D: Digest, A: Allocator>(
-    nodes: Vec<MarkedBlock<D, A>, A>,
+    nodes: Vec<Arc<Block<D, A>, A>, A>,
     records: Vec<Arc<Block<D, A>, A>, A>,
     commit: Arc<Block<D, A>, A>,
-) -> Result<Vec<MarkedBlock<D, A>, A>, AllocError>
+) -> Result<Vec<Arc<Block<D, A>, A>, A>, AllocError>
     ensures { IfOk result (λ all. map arc_value all.items
         ≡ (map arc_value nodes.items ++ map arc_value records.items) ++ arc_value commit ∷ []) }
 {
     let mut all = nodes;
     for record in records {
-        all.push(MarkedBlock::of(record))?;
+        all.push(record)?;
     }
-    all.push(MarkedBlock::of(commit))?;
+    all.push(commit)?;
     Ok(all)
 }
 

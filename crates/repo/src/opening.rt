@@ -4,7 +4,8 @@ ghost use Rattle.std.specs.Prelude.{◌≡◌, None, [], IfOk};
 ghost use Rattle.std.specs.Arc.{arc_value};
 ghost use Rattle.spec.specs.NodeFormat.{node_spelling};
 
-use cid::{Block, Digest};
+use block::Block;
+use cid::Digest;
 use std::alloc::{AllocError, Allocator};
 use std::sync::Arc;
 

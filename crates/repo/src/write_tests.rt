@@ -15,8 +15,8 @@ ghost use Rattle.repo.specs.Tested.{HaveSameTest, IsFailedWrite, IsUnread, OnOld
 use crate::changes::Collected;
 use batches::{RepoFault, Stamp, Write, test_stamp, test_write};
 use cid::{Cid, Digest};
+use counts::Count;
 use kept::{Kept, value_at};
-use lookups::ReadCount;
 use std::alloc::Allocator;
 
 /// Tests a batch over the tree with this root, where there is room for so many writes and the revision before is the last
@@ -84,7 +84,7 @@ fn take_write<'w, D: Digest, const B: u8, A: Allocator + Copy>(
     root: Cid,
     changes: &mut Collected<'w, A>,
     write: &'w Write<A>,
-) -> Result<ReadCount, RepoFault<D, A>>
+) -> Result<Count, RepoFault<D, A>>
     requires { 1 ≤ B }
     ensures passed { OfTree D.digest_of B kept.now.uses root (λ es. OnOk result
         (test_after room (changes_in changes.old) es (write_of write.now) ≡ Ok tt)) }
@@ -113,7 +113,7 @@ fn test_next<D: Digest, const B: u8, A: Allocator + Copy>(
     root: Cid,
     changes: &Collected<'_, A>,
     write: &Write<A>,
-) -> Result<ReadCount, RepoFault<D, A>>
+) -> Result<Count, RepoFault<D, A>>
     requires { 1 ≤ B }
     ensures passed { OfTree D.digest_of B kept.now.uses root (λ es. OnOk result
         (test_after room (changes_in changes.now) es (write_of write.now) ≡ Ok tt)) }
@@ -140,7 +140,7 @@ fn there_next<D: Digest, const B: u8, A: Allocator + Copy>(
     root: Cid,
     changes: &Collected<'_, A>,
     write: &Write<A>,
-) -> (bool, ReadCount)
+) -> (bool, Count)
     requires { 1 ≤ B }
     ensures there { OfTree D.digest_of B kept.now.uses root (λ es. HaveSameTest result.0
         (is_there (changes_in changes.now) es (key_of (write_of write.now))) (write_of write.now)) }
@@ -148,7 +148,7 @@ fn there_next<D: Digest, const B: u8, A: Allocator + Copy>(
     ensures unread { IsUnread (changes_in changes.now) (write_of write.now) result.1 }
 {
     match write {
-        Write::Put(_, _) => (false, ReadCount::never()),
+        Write::Put(_, _) => (false, Count::never()),
         Write::Create(key, _) | Write::Update(key, _) | Write::Delete(key) => {
             there_after::<D, B, A>(kept, root, changes, key)
         }
@@ -161,7 +161,7 @@ fn there_after<D: Digest, const B: u8, A: Allocator + Copy>(
     root: Cid,
     changes: &Collected<'_, A>,
     key: &[u8],
-) -> (bool, ReadCount)
+) -> (bool, Count)
     requires { 1 ≤ B }
     ensures there { OfTree D.digest_of B kept.now.uses root (λ es.
         result.0 ≡ is_there (changes_in changes.now) es key.now) }
@@ -169,7 +169,7 @@ fn there_after<D: Digest, const B: u8, A: Allocator + Copy>(
     ensures unread { is_named (changes_in changes.now) key.now ≡ true → result.1.times ≡ 0 }
 {
     match changes.there(key) {
-        Some(there) => (there, ReadCount::never()),
+        Some(there) => (there, Count::never()),
         None => {
             let found = value_at::<D, B, A>(kept, root, key);
             let (value, looked) = found;

@@ -2,7 +2,8 @@
 
 use crate::batch::{ONE, TWO};
 use batches::RepoFault;
-use cid::{Collided, Digest};
+use block::Collided;
+use cid::Digest;
 use dagcbor::CborFault;
 use repo::Applied;
 use std::alloc::Allocator;

@@ -3,8 +3,9 @@
 ghost use Rattle.std.specs.Prelude.{◌≤◌, ◌<◌};
 
 use crate::stores::{Heap, Store, both_stores};
+use block::Block;
+use cid::Digest;
 use cid::digests::{Clash, Toy};
-use cid::{Block, Digest};
 use refusing::Refusing;
 use repo::Core;
 use repo_fixtures::batch::{EMPTY, ONE};

@@ -89,7 +89,7 @@ fn told<R: Abort>(
 /// Whether the core has a commit already, the batch, and where its requests are told.
 const ROWS: [(bool, &[Step<'static>], &[(usize, u64)]); 4] = [
     (false, &REFUSED, &[(0, 1), (1, 1)]),
-    (false, &WRITES, &[(0, 1), (1, 1), (2, 31), (0, 13)]),
+    (false, &WRITES, &[(0, 1), (1, 1), (2, 29), (0, 13)]),
     (true, &REFUSED, &[(0, 1), (1, 1)]),
     (true, &WRITES, &[(0, 1), (1, 1), (2, 28), (0, 12)]),
 ];

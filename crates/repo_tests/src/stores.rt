@@ -3,7 +3,8 @@
 ghost use Rattle.std.specs.Prelude.{◌≤◌, ◌<◌};
 
 use batches::RepoFault;
-use cid::{Block, Cid, Digest};
+use block::Block;
+use cid::{Cid, Digest};
 use refusing::Refusing;
 use repo::Core;
 use repo_fixtures::batch::Batch;

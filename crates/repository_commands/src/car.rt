@@ -1,5 +1,5 @@
 //! The command `car`: the repository that the lines of its input leave, as one file.
-ghost use Rattle.std.specs.Prelude.{◌≡◌, true, false, Ok, IfErr, IfOk, IfSome, IsErr};
+ghost use Rattle.std.specs.Prelude.{◌≡◌, true, false, IfErr, IfOk, IfSome, IsErr};
 ghost use Rattle.spec.specs.Reading.{Gives};
 ghost use Rattle.spec.specs.States.{state_car};
 ghost use Rattle.batches.specs.Values.{stamp_of};
@@ -15,7 +15,6 @@ use crate::fault::CommandFault;
 use crate::filling::{MOST_BLOCKS, MOST_WRITES, filled};
 use crate::puts::{Puts, read_puts};
 use batches::{Stamp, is_did, is_tid};
-use built_car::built_car;
 use cid::Digest;
 use export::ToMemory;
 use repo::Core;
@@ -24,8 +23,7 @@ use std::io::{Read, Write};
 use store::{LentShards, empty_shards};
 
 /// Reads lines `KEY HEX`, puts each record under its key into one repository, all in one batch under a stamp, and writes
-/// the repository as one file (CARv1; AT Protocol repository v3, unsigned commits). Without lines there is no batch. The
-/// file is built at once; where it can't be, the puts are tried one by one, to tell the line at fault.
+/// the repository as one file (CARv1; AT Protocol repository v3, unsigned commits). Without lines there is no batch.
 ///
 /// Lines end at LF or CR LF, and a last line needs no end. An empty line is passed over, and counted. The key is all before
 /// the first space, and the record's bytes stand after it in hexadecimal, in either case. A line of another shape is
@@ -90,43 +88,8 @@ fn check_stamp<D: Digest>(stamp: &Stamp) -> Result<(), CommandFault<D>>
     Ok(())
 }
 
-/// The file of the repository of these puts: built at once where that can be, and else put by put, which tells the first line
-/// at fault.
+/// The file of the repository of these puts.
 fn car_of_puts<D: Digest>(
-    alloc: Global,
-    stamp: &Stamp,
-    puts: Puts<Global>,
-) -> Result<Vec<u8>, CommandFault<D>>
-    ensures file { Gives (λ bytes. bytes.items) fault_of result
-        (car_of_given D.digest_of (stamp_of stamp.now) (given_of puts)) }
-    ensures refused { IfErr result
-        (IsRefusedLine D.digest_of (stamp_of stamp.now) (given_of puts) (WasFull D.digest_of)) }
-    ensures kind { IfErr result (λ e. is_write_failure e ≡ false) }
-{
-    match car_at_once::<D>(alloc, stamp, &puts) {
-        Ok(Some(file)) => Ok(file),
-        Ok(None) => car_put_by_put(alloc, stamp, puts),
-        Err(_) => Err(CommandFault::NoMemory),
-    }
-}
-
-/// The file, built at once, where each line is a put that is taken and no two blocks clash.
-fn car_at_once<D: Digest>(
-    alloc: Global,
-    stamp: &Stamp,
-    puts: &Puts<Global>,
-) -> Result<Option<Vec<u8>>, AllocError>
-    ensures { IfOk result (λ found. IfSome found (λ file.
-        car_of_given D.digest_of (stamp_of stamp.now) (given_of puts.now) ≡ Ok file.items)) }
-{
-    if puts.stop.is_some() || puts.writes.is_empty() {
-        return Ok(None);
-    }
-    built_car::<D, 2, Global>(alloc, MOST_WRITES, stamp, &puts.writes)
-}
-
-/// The file, put by put.
-fn car_put_by_put<D: Digest>(
     alloc: Global,
     stamp: &Stamp,
     puts: Puts<Global>,

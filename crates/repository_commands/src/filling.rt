@@ -11,7 +11,8 @@ ghost use Rattle.repository_commands.specs.Views.{given_of};
 use crate::fault::{CommandFault, LineFault};
 use crate::puts::Puts;
 use batches::{RepoFault, Stamp};
-use cid::{Block, Digest};
+use block::Block;
+use cid::Digest;
 use repo::Core;
 use std::alloc::{AllocError, Global};
 use std::sync::Arc;
@@ -32,7 +33,7 @@ pub(crate) fn filled<D: Digest, S: BlockStore<Arc<Block<D>>, Hold<D>, StoreFault
     stamp: &Stamp,
     puts: Puts<Global>,
 ) -> Result<Core<D, 2>, CommandFault<D>>
-    requires store { IsStore D.digest_of S.fulls S.answers }
+    requires store { IsStore D.digest_of S.BlockStore }
     ensures state { Gives (λ core. core) fault_of result
         (state_of_given (stamp_of stamp.now) (given_of puts)) }
     ensures refused { IfErr result
@@ -57,7 +58,7 @@ fn empty<D: Digest, S: BlockStore<Arc<Block<D>>, Hold<D>, StoreFault<D>>>(
     alloc: Global,
     store: &mut S,
 ) -> Result<Core<D, 2>, AllocError>
-    requires store { IsStore D.digest_of S.fulls S.answers }
+    requires store { IsStore D.digest_of S.BlockStore }
     ensures { IfOk result (λ core. core ≡ no_writes) }
 {
     match Core::open(alloc, store, 0, MOST_WRITES) {
@@ -75,7 +76,7 @@ fn apply_puts<D: Digest, S: BlockStore<Arc<Block<D>>, Hold<D>, StoreFault<D>>>(
     stamp: &Stamp,
     puts: &Puts<Global>,
 ) -> Result<(), CommandFault<D>>
-    requires store { IsStore D.digest_of S.fulls S.answers }
+    requires store { IsStore D.digest_of S.BlockStore }
     requires empty { core.old ≡ no_writes }
     ensures state { Gives (λ _. core.new) fault_of result
         (state_of_given (stamp_of stamp.now) (given_of puts.now)) }
@@ -96,7 +97,7 @@ fn apply_writes<D: Digest, S: BlockStore<Arc<Block<D>>, Hold<D>, StoreFault<D>>>
     stamp: &Stamp,
     puts: &Puts<Global>,
 ) -> Result<(), CommandFault<D>>
-    requires store { IsStore D.digest_of S.fulls S.answers }
+    requires store { IsStore D.digest_of S.BlockStore }
     requires empty { core.old ≡ no_writes }
     ensures passes { Gives (λ ok. ok) fault_of result
         (writes_check (given_of puts.now)) }

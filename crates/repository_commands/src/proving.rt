@@ -1,5 +1,5 @@
 //! The command `prove`: it puts the lines of its input into a repository and writes the proof of a key.
-ghost use Rattle.std.specs.Prelude.{◌≡◌, ◌++◌, true, false, Ok, map, IfErr, IfOk, IfSome, IsErr, OnOk};
+ghost use Rattle.std.specs.Prelude.{◌≡◌, ◌++◌, true, false, map, IfErr, IfOk, IfSome, IsErr, OnOk};
 ghost use Rattle.std.specs.Arc.{arc_value};
 ghost use Rattle.std.specs.List.{flat_map};
 ghost use Rattle.spec.specs.Reading.{Gives};
@@ -16,8 +16,8 @@ use crate::fault::CommandFault;
 use crate::filling::{MOST_BLOCKS, MOST_WRITES, filled};
 use crate::puts::{Puts, read_puts};
 use batches::Stamp;
-use built_car::built_path;
-use cid::{Block, Cid, Digest};
+use block::Block;
+use cid::{Cid, Digest};
 use export::{ProofFault, prove};
 use node::is_key;
 use std::alloc::{AllocError, Allocator, Global};
@@ -26,8 +26,7 @@ use std::sync::Arc;
 use store::{LentShards, empty_shards};
 
 /// Reads lines `KEY HEX` into one repository, as `car_text` does, and writes the proof of a key: the text of the CID of the
-/// tree's root, and then a line in hexadecimal for each node of the key's path, from the top. The tree is built at once;
-/// where it can't be, the puts are tried one by one, to tell the line at fault.
+/// tree's root, and then a line in hexadecimal for each node of the key's path, from the top.
 ///
 /// The key has 1 to 1,024 bytes, else it is `ProofFault::KeyLength` before the input is read. The stamp is one that passes
 /// its test, as the program's own does. The other faults are those of `car_text`.
@@ -107,52 +106,8 @@ pub(crate) struct PathNodes<D: Digest> {
     nodes: Vec<Arc<Block<D>>>,
 }
 
-/// The path of a key in the repository of these puts: in a tree that is built at once where that can be, and else put by
-/// put, which tells the first line at fault.
+/// The path of a key in the repository of these puts.
 fn path_of_puts<D: Digest>(
-    alloc: Global,
-    stamp: &Stamp,
-    key: &[u8],
-    puts: Puts<Global>,
-) -> Result<PathNodes<D>, CommandFault<D>>
-    ensures path { Gives nodes_of fault_of result
-        (path_of_given D.digest_of (stamp_of stamp.now) key.now (given_of puts)) }
-    ensures refused { IfErr result
-        (IsRefusedLine D.digest_of (stamp_of stamp.now) (given_of puts) (WasFull D.digest_of)) }
-    ensures kind { IfErr result (λ e. is_write_failure e ≡ false) }
-{
-    match path_at_once::<D>(alloc, stamp, key, &puts) {
-        Ok(Some(path)) => Ok(path),
-        Ok(None) => path_put_by_put(alloc, stamp, key, puts),
-        Err(_) => Err(CommandFault::NoMemory),
-    }
-}
-
-/// The path, in a tree that is built at once, where each line is a put that is taken and no two blocks clash.
-fn path_at_once<D: Digest>(
-    alloc: Global,
-    stamp: &Stamp,
-    key: &[u8],
-    puts: &Puts<Global>,
-) -> Result<Option<PathNodes<D>>, AllocError>
-    ensures { IfOk result (λ found. IfSome found (λ path.
-        path_of_given D.digest_of (stamp_of stamp.now) key.now (given_of puts.now)
-        ≡ Ok (nodes_of path))) }
-{
-    if puts.stop.is_some() || puts.writes.is_empty() {
-        return Ok(None);
-    }
-    match built_path::<D, 2, Global>(alloc, MOST_WRITES, stamp, &puts.writes, key)? {
-        Some(path) => Ok(Some(PathNodes {
-            root: path.root,
-            nodes: path.nodes,
-        })),
-        None => Ok(None),
-    }
-}
-
-/// The path, put by put.
-fn path_put_by_put<D: Digest>(
     alloc: Global,
     stamp: &Stamp,
     key: &[u8],

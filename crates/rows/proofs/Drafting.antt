@@ -1,10 +1,10 @@
 -- Nodes written pair by pair.
-use Rattle.std.proofs.Common.{◌≡◌, ℕ, ◌^◌, Bool, true, false, ◌&&◌, ltb, List, [], ◌∷◌, ◌++◌, length, Option, None, Some, refl, sym, ap, subst, ◌∙◌}
+use Rattle.std.proofs.Common.{◌≡◌, ℕ, Bool, true, false, ◌&&◌, List, [], ◌∷◌, ◌++◌, Option, None, Some, refl, sym, ap, subst, ◌∙◌}
 use Rattle.std.specs.Prelude.{not, is_some, is_ok}
 use Rattle.std.specs.Cmp.Lexicographic.{slice_cmp}
 use Rattle.std.specs.Ordering.{nat_cmp, is_lt}
 use Rattle.spec.specs.Tree.{Pair}
-use Rattle.spec.specs.NodeFormat.{Entry, Shape, LastLink, MoreLinks, first_link, entries_of, node_spelling, shape_bytes, is_key, are_keys_after, are_links, is_own_cid_or_none, is_node, read_node}
+use Rattle.spec.specs.NodeFormat.{Entry, Shape, LastLink, MoreLinks, first_link, entries_of, node_spelling, shape_bytes, is_key, are_keys_after, is_node, read_node}
 use Rattle.spec.proofs.Bools.{both}
 use Rattle.spec.proofs.NodeLaws.{read_node-node_spelling}
 use Rattle.node.specs.Contents.{Contents, last_key, is_next_key}
@@ -12,7 +12,8 @@ use Rattle.edit_laws.specs.Lawful.{Lawful, HasKeys}
 use Rattle.edit_laws.specs.Sources.{shape_from, shape_of_reading}
 use Rattle.rows.specs.declared.draft.DraftFault.{DraftFault}
 use Rattle.rows.specs.declared.draft.DraftFault.TheVariants.{NotNode, NoMemory}
-use Rattle.rows.specs.Drafts.{onto, or_empty, shape_in, reads_as_node, IsDraft, IsFaultOf, IsFaultOfAll, is_empty_node, turned}
+use Rattle.block.specs.Nodes.{reads_as_node}
+use Rattle.rows.specs.Drafts.{onto, or_empty, shape_in, IsDraft, IsFaultOf, IsFaultOfAll, is_empty_node}
 use Rattle.rows.proofs.NodeReading.{first_link-from, entries_of-from}
 
 abbrev pub Links : Type 0
@@ -23,20 +24,14 @@ entry_with p tree = record { key = p.0; value = p.1; tree = tree }
 
 -- ---- pairs with the links before them, and with those after them
 
+-- links and pairs in turn, from the first link, the entries with the links after them, and a last pair
+abbrev pub turned : Option (List ℕ) → List Entry → Pair → Links
+turned left [] p = (left, p) ∷ []
+turned left (e ∷ es) p = (left, (e.key, e.value)) ∷ turned e.tree es p
+
 pub onto-append : (xs ys : Links) (s : Shape) → onto (xs ++ ys) s ≡ onto xs (onto ys s)
 onto-append [] ys s = refl
 onto-append (x ∷ xs) ys s = ap (MoreLinks x.0 x.1) (onto-append xs ys s)
-
-pub onto-turned : (left : Option (List ℕ)) (es : List Entry) (p : Pair) (last : Option (List ℕ))
-    → onto (turned left es p) (LastLink last) ≡ shape_from left (es ++ entry_with p last ∷ [])
-onto-turned left [] p last = refl
-onto-turned left (e ∷ es) p last = ap (MoreLinks left (e.key, e.value)) (onto-turned e.tree es p last)
-
-pub turned-append : (left : Option (List ℕ)) (es : List Entry) (p q : Pair) (link : Option (List ℕ))
-    → turned left (es ++ entry_with p link ∷ []) q ≡ turned left es p ++ (link, q) ∷ []
-turned-append left [] p q link = refl
-turned-append left (e ∷ es) p q link =
-    ap (λ (xs : Links). (left, (e.key, e.value)) ∷ xs) (turned-append e.tree es p q link)
 
 first-turned : (left : Option (List ℕ)) (es : List Entry) (p : Pair) (s : Shape) → first_link (onto (turned left es p) s) ≡ left
 first-turned left [] p s = refl
@@ -79,13 +74,6 @@ unlawful left es p s other h =
     let c : true ≡ false = sym m ∙ other in
     cc
 
-pub unlawful-on : (left : Option (List ℕ)) (es : List Entry) (p : Pair) (xs ys : Links) (s : Shape)
-    → turned left es p ≡ xs → is_next_key es p.0 ≡ false → HasKeys (onto (xs ++ ys) s) → ⊥
-unlawful-on left es p xs ys s is other h =
-    let e : onto (xs ++ ys) s ≡ onto (turned left es p) (onto ys s) =
-    onto-append xs ys s ∙ ap (λ (zs : Links). onto zs (onto ys s)) (sym is) in
-    unlawful left es p (onto ys s) other (subst HasKeys e h)
-
 -- ---- what was written is a node
 
 shape_in-spelling : (left : Option (List ℕ)) (es : List Entry) (bytes : List ℕ) → is_node left es ≡ true
@@ -124,40 +112,6 @@ pub draft-reads : (bytes : List ℕ) (is_empty : Bool) → IsDraft bytes is_empt
 draft-reads bytes is_empty d =
     let s = shape_in bytes in
     ap reads_as_node d.spelled ∙ ap is_ok (read_node-node_spelling (first_link s) (entries_of s) d.lawful)
-
-never-is_empty : (left : Option (List ℕ)) (es : List Entry) (e : Entry) → false ≡ is_empty_node (shape_from left (es ++ e ∷ []))
-never-is_empty left [] e = refl
-never-is_empty left (d ∷ es) e = refl
-
--- a writer with an entry more
-pub grown : (left : Option (List ℕ)) (es : List Entry) (p : Pair) (link : Option (List ℕ)) (k v : List ℕ) (now : Contents)
-    → now ≡ record { left = left; entries = es ++ record { key = k; value = v; tree = link } ∷ [] } → k ≡ p.0 → v ≡ p.1
-    → now ≡ record { left = left; entries = es ++ entry_with p link ∷ [] }
-grown left es p link k v now is key value =
-    let with : List ℕ → List ℕ → Contents = λ x y. record { left = left; entries = es ++ entry_with (x, y) link ∷ [] } in
-    is ∙ ap (λ (x : List ℕ). with x v) key ∙ ap (with p.0) value
-
--- the last pair of an open node was added with the last link, and then the bytes were made
-pub record Closes (left : Option (List ℕ)) (es : List Entry) (p : Pair) (last : Option (List ℕ)) (k v bytes : List ℕ)
-    (now : Contents) (xs : Links) : Type 0 where
-  pub was : turned left es p ≡ xs
-  pub now_is : now ≡ record { left = left; entries = es ++ record { key = k; value = v; tree = last } ∷ [] }
-  pub key : k ≡ p.0
-  pub value : v ≡ p.1
-  pub node : is_node now.left now.entries ≡ true
-  pub spelled : bytes ≡ node_spelling now.left now.entries
-
-pub closed : (left : Option (List ℕ)) (es : List Entry) (p : Pair) (last : Option (List ℕ)) (k v bytes : List ℕ)
-    (now : Contents) (xs : Links) → Closes left es p last k v bytes now xs
-    → IsDraft bytes false × (shape_in bytes ≡ onto xs (LastLink last))
-closed left es p last k v bytes now xs c =
-    let g = grown left es p last k v now c.now_is c.key c.value in
-    let w = written left (es ++ entry_with p last ∷ []) bytes
-    (sym (ap (λ (x : Contents). is_node x.left x.entries) g) ∙ c.node)
-    (c.spelled ∙ ap (λ (x : Contents). node_spelling x.left x.entries) g) in
-    let is : shape_from left (es ++ entry_with p last ∷ []) ≡ onto xs (LastLink last) =
-    sym (onto-turned left es p last) ∙ ap (λ (zs : Links). onto zs (LastLink last)) c.was in
-    (w.draft false (never-is_empty left es (entry_with p last)), w.view ∙ is)
 
 is_empty-last : (last : Option (List ℕ)) (b : Bool) → is_some last ≡ not b → b ≡ is_empty_node (LastLink last)
 is_empty-last None true h = refl

@@ -1,5 +1,6 @@
 pub mod NodeReading
 pub mod FirstRow
 pub mod Drafting
-pub mod Relinked
-pub mod Following
+pub mod Steps
+pub mod Runs
+pub mod ReadingOn

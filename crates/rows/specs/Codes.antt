@@ -18,14 +18,18 @@ pub onto-pairs : (s : Shape) → onto (all_pairs s) (LastLink (last_link s)) ≡
 onto-pairs (LastLink l) = refl
 onto-pairs (MoreLinks l e r) = rw (onto-pairs r) refl
 
+abbrev rows_code : Coded (List (Option (List ℕ) × Pair))
+rows_code = coded_list (coded× link_code (coded× text_code text_code))
+
 -- a node is stored as its pairs, each with the link before it, and the last link
 abbrev pub shape_code : Coded Shape
 shape_code =
-    code_by (List (Option (List ℕ) × Pair) × Option (List ℕ))
-    (coded× (coded_list (coded× link_code (coded× text_code text_code))) link_code) (λ s. (all_pairs s, last_link s))
-    (λ x. onto x.0 (LastLink x.1)) onto-pairs
+    code_by (List (Option (List ℕ) × Pair) × Option (List ℕ)) (coded× rows_code link_code)
+    (λ s. (all_pairs s, last_link s)) (λ x. onto x.0 (LastLink x.1)) onto-pairs
 
 abbrev pub reading_code : Coded Reading
 reading_code =
-    code_by (List ℕ × Shape) (coded× text_code shape_code) (λ r. (r.before, r.rest))
-    (λ x. record { before = x.0; rest = x.1 }) (λ _. refl)
+    code_by (List ℕ × (List (Option (List ℕ) × Pair) × (ℕ × Shape)))
+    (coded× text_code (coded× rows_code (coded× coded_ℕ shape_code)))
+    (λ r. (r.before, (r.passed, (r.start, r.rest))))
+    (λ x. record { before = x.0; passed = x.1.0; start = x.1.1.0; rest = x.1.1.1 }) (λ _. refl)

@@ -1,12 +1,12 @@
 -- Nodes that are written anew, and when one can't be written.
-use Rattle.std.specs.Prelude.{◌≡◌, ⊤, ℕ, Bool, true, false, List, [], ◌∷◌, ◌++◌, map, Option, Some, None, is_ok}
+use Rattle.std.specs.Prelude.{◌≡◌, ⊤, ℕ, Bool, true, false, List, [], ◌∷◌, ◌++◌, map, Option, Some, None}
 use Rattle.std.specs.Arc.{arc_value}
 use Rattle.std.specs.declared.sync.Arc.{Arc}
 use Rattle.std.specs.declared.vec.Vec.{Vec}
 use Rattle.cid.specs.CidRef.{bytes_of}
 use Rattle.cid.specs.declared.cid_ref.CidRef.{CidRef}
 use Rattle.spec.specs.Tree.{Pair}
-use Rattle.spec.specs.NodeFormat.{Entry, Shape, LastLink, MoreLinks, shape_bytes, read_node}
+use Rattle.spec.specs.NodeFormat.{Shape, LastLink, MoreLinks, shape_bytes}
 use Rattle.edit_laws.specs.Lawful.{Lawful, HasKeys}
 use Rattle.edit_laws.specs.Sources.{shape_of_bytes}
 use Rattle.rows.specs.declared.draft.DraftFault.{DraftFault}
@@ -53,21 +53,13 @@ pub record IsDraft (bytes : List ℕ) (is_empty : Bool) : Type 0 where
   pub spelled : bytes ≡ shape_bytes (shape_in bytes)
   pub empty : is_empty ≡ is_empty_node (shape_in bytes)
 
--- whether the bytes of a block are a node's
-abbrev pub reads_as_node : List ℕ → Bool
-reads_as_node bytes = is_ok (read_node bytes)
+-- bytes that are a node's
+abbrev pub IsSpelled : List ℕ → Type 0
+IsSpelled bytes = bytes ≡ shape_bytes (shape_in bytes)
 
--- ---- nodes by their entries
-
--- links and pairs in turn, from the first link, the entries with the links after them, and a last pair
-abbrev pub turned : Option (List ℕ) → List Entry → Pair → List (Option (List ℕ) × Pair)
-turned left [] p = (left, p) ∷ []
-turned left (e ∷ es) p = (left, (e.key, e.value)) ∷ turned e.tree es p
-
--- what is written while a node is open
-abbrev pub so_far : {A : Type 0} → Option (List A) → List A
-so_far None = []
-so_far (Some xs) = xs
+-- each of these blocks is one
+abbrev pub AreSpelled : {A : Type 0} → List (Arc (List ℕ) A) → Type 0
+AreSpelled blocks = map arc_value blocks ≡ map shape_bytes (map (λ b. shape_in (arc_value b)) blocks)
 
 -- a lent key and a lent value
 abbrev pub pair_of : List ℕ → CidRef → Pair

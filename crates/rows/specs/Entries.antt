@@ -1,13 +1,21 @@
 -- What is left of a node that is read pair by pair.
-use Rattle.std.specs.Prelude.{◌≤◌, ◌+◌, ⊤, ℕ, suc, List, [], ◌∷◌, ◌++◌, length, take, Option, Some, None}
-use Rattle.spec.specs.NodeFormat.{Shape, LastLink, MoreLinks}
-use Rattle.node.specs.Contents.{Contents}
+use Rattle.std.specs.Prelude.{◌≡◌, ◌≤◌, ◌+◌, ◌-◌, ⊤, ℕ, suc, List, [], ◌∷◌, ◌++◌, length, take, drop, Option, Some, None}
+use Rattle.spec.specs.Tree.{Pair}
+use Rattle.spec.specs.NodeFormat.{Shape, LastLink, MoreLinks, first_link}
+use Rattle.node.specs.Contents.{Contents, last_key}
+use Rattle.node.specs.Gaps.{GapIn, rows_behind}
 use Rattle.node.specs.Rows.{Row}
+use Rattle.node.specs.Search.{gap_at}
 use Rattle.edit_laws.specs.Sources.{shape_from}
+use Rattle.rows.specs.Drafts.{onto}
+use Rattle.rows.specs.OldNodes.{linked, first_rows}
 
--- the key of the pair before, the empty one before the first pair, and what is left as a node
+-- the key of the pair before, the empty one before the first pair; the pairs that were read, and how many of them stand before
+-- the start of a run; and what is left as a node
 pub record Reading : Type 0 where
   pub before : List ℕ
+  pub passed : List (Option (List ℕ) × Pair)
+  pub start : ℕ
   pub rest : Shape
 
 -- the key of a row, after the key before
@@ -38,3 +46,62 @@ shape_of n = shape_from n.left n.entries
 abbrev pub pairs_left : Shape → ℕ
 pairs_left (LastLink l) = 0
 pairs_left (MoreLinks l e r) = suc (pairs_left r)
+
+-- the key of the last of some pairs, or the key before them
+abbrev pub key_behind : List ℕ → List (Option (List ℕ) × Pair) → List ℕ
+key_behind before [] = before
+key_behind before (x ∷ xs) = key_behind x.1.0 xs
+
+-- so many pairs of a node were read, the last with this key, and this is left
+pub record IsReading (node : Contents) (passed : ℕ) (key : List ℕ) (link : Option (List ℕ)) (rows : List Row) : Type 0 where
+  pub keys : AreKeys key rows
+  pub within : passed ≤ length node.entries
+  pub rest_is : shape_of_rows key link rows ≡ shape_from (gap_at passed node.left node.entries) (drop passed node.entries)
+  pub key_is : key ≡ last_key [] (take passed node.entries)
+
+-- what was read and what is left are the node's
+pub record IsPartOf (node : Contents) (r : Reading) : Type 0 where
+  pub within : length r.passed ≤ length node.entries
+  pub passed_is : r.passed ≡ first_rows (length r.passed) node
+
+-- a reader that stands in this gap of a node, where the key before is this one, and has noted the start of a run
+abbrev pub reading_at : GapIn → ℕ → List ℕ → Reading
+reading_at gap start key = record {
+  before = key;
+  passed = first_rows gap.passed gap.node;
+  start = start;
+  rest = shape_of_rows key (gap_at gap.passed gap.node.left gap.node.entries) (rows_behind gap.passed gap.node);
+}
+
+-- a reader stands in this gap, behind the last pair, and that pair stands behind the other gap; a run starts in or before it
+pub record IsReader (gap last start : GapIn) (key : List ℕ) : Type 0 where
+  pub reading : IsReading gap.node gap.passed key (gap_at gap.passed gap.node.left gap.node.entries)
+      (rows_behind gap.passed gap.node)
+  pub last_node : last.node ≡ gap.node
+  pub last_passed : last.passed ≡ gap.passed - 1
+  pub start_node : start.node ≡ gap.node
+  pub start_within : start.passed ≤ gap.passed
+
+-- a gap behind so many pairs of the node that is read
+pub record IsGapOf (gap : GapIn) (pairs : ℕ) (r : Reading) : Type 0 where
+  pub part : IsPartOf gap.node r
+  pub pairs_are : gap.passed ≡ pairs
+  pub within : pairs ≤ length r.passed
+
+-- two gaps of the node that is read
+pub record AreGapsOf (start end : GapIn) (pairs : ℕ) (r : Reading) : Type 0 where
+  pub first : IsGapOf start r.start r
+  pub then : IsGapOf end pairs r
+  pub same : end.node ≡ start.node
+
+-- the pairs from this one on, up to that one
+abbrev pub part_of : ℕ → ℕ → List (Option (List ℕ) × Pair) → List (Option (List ℕ) × Pair)
+part_of from to rows = drop from (take to rows)
+
+-- the same of a node
+abbrev pub rows_between : ℕ → ℕ → Contents → List (Option (List ℕ) × Pair)
+rows_between from to node = linked (gap_at from node.left node.entries) (take (to - from) (drop from node.entries))
+
+-- the link behind the first so many pairs of a node that is read
+abbrev pub link_behind : ℕ → Reading → Option (List ℕ)
+link_behind to r = first_link (onto (drop to r.passed) r.rest)

@@ -3,3 +3,4 @@ pub mod Drafts
 pub mod Written
 pub mod Codes
 pub mod OldNodes
+pub mod Begun

@@ -6,5 +6,4 @@ use Rattle.rows.specs.declared.writer.Rows.TheVariants as variants
 
 abbrev pub rows_in : {A : Type 0} → code.Rows A → List (Option (List ℕ) × Pair)
 rows_in variants.Nothing = []
-rows_in (variants.Old rows) = rows
 rows_in (variants.Open rows) = rows

@@ -5,55 +5,16 @@ ghost use Rattle.std.specs.Arc.{arc_value};
 ghost use Rattle.spec.specs.NodeFormat.{shape_cid};
 ghost use Rattle.edit_laws.specs.Lawful.{Lawful};
 ghost use Rattle.edit_laws.specs.ShapeEdit.{close_link, close_shapes};
-ghost use Rattle.rows.specs.Drafts.{Adds, reads_as_node};
+ghost use Rattle.block.specs.Nodes.{reads_as_node};
+ghost use Rattle.rows.specs.Drafts.{Adds};
 ghost use Rattle.rows.specs.declared.draft.DraftFault.TheVariants.{NoMemory};
 
-use cid::{Block, Cid, Digest};
-use std::alloc::{AllocError, AllocFailed, Allocator, Global};
+use crate::made::Made;
+use block::Block;
+use cid::{Cid, Digest};
+use std::alloc::{AllocError, AllocFailed, Allocator};
 use std::marker::Model;
 use std::sync::Arc;
-
-/// The blocks that an edit makes, in the order in which they are made.
-pub type Made<D, A> = Vec<NodeBlock<D, A>, A>;
-
-/// A block whose bytes are a node's (AT Protocol repository v3, MST node data format). Only a [`Draft`] is made one, so
-/// nobody need test it again.
-///
-/// A contract sees it as the block.
-#[derive(Drop)]
-pub struct NodeBlock<D: Digest, A: Allocator = Global> {
-    block: Arc<Block<D, A>, A>,
-}
-
-impl<D: Digest, A: Allocator> Model for NodeBlock<D, A> {
-    ghost use Rattle.std.specs.Prelude.{◌≡◌, ℕ, List, true};
-    ghost use Rattle.std.specs.Arc.{arc_value};
-    ghost use Rattle.std.specs.declared.sync.Arc.{Arc};
-    ghost use Rattle.rows.specs.Drafts.{reads_as_node};
-
-    ghost Value = { Arc (List ℕ) A };
-
-    ghost view = { λ n. n.block };
-
-    ghost invariant = { λ n. reads_as_node (arc_value n.block) ≡ true };
-}
-
-impl<D: Digest, A: Allocator> NodeBlock<D, A> {
-    /// The block.
-    pub fn block(&self) -> &Arc<Block<D, A>, A>
-        ensures { result.now ≡ self.now }
-    {
-        &self.block
-    }
-
-    /// The block alone.
-    pub fn into_block(self) -> Arc<Block<D, A>, A>
-        ensures same { result ≡ self }
-        ensures node { reads_as_node (arc_value self) ≡ true }
-    {
-        self.block
-    }
-}
 
 /// The bytes of a node that was written, not yet a block: nothing has hashed them.
 ///
@@ -90,10 +51,10 @@ impl<A: Allocator + Clone> Draft<A> {
         ensures made { OnOk result (Adds made.old made.new (self ∷ [])) }
         ensures lawful { Lawful self }
     {
-        let alloc = made.allocator().clone()?;
+        let alloc = made.alloc()?;
         let block = block_of(alloc, self.bytes, like)?;
         let cid = block.cid();
-        made.push(NodeBlock { block })?;
+        made.push(block)?;
         Ok(cid)
     }
 
@@ -116,13 +77,14 @@ impl<A: Allocator + Clone> Draft<A> {
     }
 }
 
-/// The block of these bytes. It is the block `like` where that has the very bytes: equal bytes have one CID, so they are
-/// compared, their lengths first, and not hashed.
+/// The block of these bytes, which are a node's. It is the block `like` where that has the very bytes: equal bytes have one
+/// CID, so they are compared, their lengths first, and not hashed.
 fn block_of<D: Digest, A: Allocator>(
     alloc: A,
     bytes: Vec<u8, A>,
     like: Option<&Arc<Block<D, A>, A>>,
 ) -> Result<Arc<Block<D, A>, A>, AllocError>
+    requires { reads_as_node bytes.items ≡ true }
     ensures { IfOk result (λ block. arc_value block ≡ bytes.items) }
 {
     if let Some(block) = like {
@@ -130,7 +92,7 @@ fn block_of<D: Digest, A: Allocator>(
             return Arc::try_clone(block);
         }
     }
-    Ok(Arc::new(alloc, Block::of(bytes))?)
+    Ok(Arc::new(alloc, Block::of_node(bytes))?)
 }
 
 /// Why a node was not written.

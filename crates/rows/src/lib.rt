@@ -3,17 +3,17 @@
 //! - [`KeyedEntries`] goes through the entries of a node from the front, each with its whole key, from the view of its bytes
 //!   ([`node::NodeView`]).
 //! - A [`Writer`] takes a link and a pair, a link and a pair, and so on, and the last link. It ends as a [`Draft`], which is
-//!   the bytes of the new node and not yet a block. By `pair_like` it is told which old node the new one may be like: as long
-//!   as one link at most is another, nothing is written, and at the end the old node is copied around this link.
-//! - `Draft::push` makes the block of a node, a [`NodeBlock`], and answers its CID. `Draft::close` does so too, but for an
-//!   empty node, one without pairs and without a link: there is no such node in a tree but the one of the empty tree, so it
-//!   has no link. Both may be told a block that the node may be; where it is, it isn't hashed again.
+//!   the bytes of the new node and not yet a block. Pairs of an old node come in runs, as they stand in its bytes
+//!   (`Writer::run`), where they follow the key before them (`Writer::follows`).
+//! - `Draft::push` makes the block of a node, which needs no test, and answers its CID. `Draft::close` does so too, but for
+//!   an empty node, one without pairs and without a link: there is no such node in a tree but the one of the empty tree, so
+//!   it has no link. Both may be told a block that the node may be; where it is, it isn't hashed again.
 //! - [`top_layer`] is the layer of a node's keys, by the first of them.
 //!
 //! ```text
 //! let mut writer = Writer::new(alloc);
 //! writer.pair(None, b"app.bsky.feed.post/3l", CidRef::from(&record))?;
-//! let mut made = Vec::new(alloc);
+//! let mut made = Made::new(alloc);
 //! let cid = writer.finish(None)?.push::<Sha256>(None, &mut made)?; // the block is the last of made
 //! ```
 //!
@@ -24,10 +24,11 @@
 mod draft;
 mod entries;
 mod layers;
-mod old_rows;
+mod made;
 mod writer;
 
-pub use draft::{Draft, DraftFault, Made, NodeBlock};
+pub use draft::{Draft, DraftFault};
 pub use entries::{KeyedEntries, to_cid};
 pub use layers::top_layer;
+pub use made::Made;
 pub use writer::Writer;

@@ -1,23 +1,26 @@
-//! Nodes written link by link and pair by pair.
+//! Nodes written link by link and pair by pair, or in runs of an old node's.
 
-ghost use Rattle.std.specs.Prelude.{◌≡◌, ◌∷◌, ◌++◌, [], IfOk, IfErr, OnOk};
+ghost use Rattle.std.specs.Prelude.{◌≡◌, ◌≤◌, ◌+◌, ◌<◌, ◌∷◌, ◌++◌, [], true, length, take, option_map, IfOk, IfErr, OnOk};
 ghost use Rattle.spec.specs.NodeFormat.{LastLink};
-ghost use Rattle.rows.specs.Drafts.{onto, turned, IsFaultOf, IsFaultOfAll, pair_of, IsNode};
+ghost use Rattle.node.specs.Contents.{last_key};
+ghost use Rattle.node.specs.Search.{gap_at};
+ghost use Rattle.cid.specs.CidRef.{bytes_of};
+ghost use Rattle.rows.specs.Drafts.{onto, IsFaultOf, IsFaultOfAll, pair_of, IsNode};
+ghost use Rattle.rows.specs.Entries.{part_of, key_behind, rows_between};
+ghost use Rattle.rows.specs.OldNodes.{linked};
 ghost use Rattle.rows.specs.Written.{rows_in};
 
 use crate::draft::{Draft, DraftFault};
-use crate::old_rows::OldRows;
+use crate::entries::{KeyedEntries, to_cid};
 use cid::{Cid, CidRef};
-use node::{NodeView, NodeWriter};
+use node::{Gap, NodeWriter};
 use std::alloc::{AllocError, Allocator};
 use std::clone::Clone;
 use std::marker::Model;
+use std::mem::replace;
 
-/// How many bytes of a key there is room for from the beginning: most keys have no more.
-const KEY_ROOM: usize = 64;
-
-/// A node that is being written: a link, a pair, a link, a pair and so on, and the last link at the end. As long as it is
-/// an old node up to one link, nothing is written; at the end the old node is copied around this link.
+/// A node that is being written: a link, a pair, a link, a pair and so on, and the last link at the end. Pairs of an old node
+/// come one by one or in runs, each run as it stands in that node's bytes.
 ///
 /// A contract sees it as the pairs so far, each with the link before it.
 #[derive(Drop)]
@@ -30,8 +33,7 @@ pub struct Writer<'a, A: Allocator> {
 #[derive(Drop)]
 pub(crate) enum Rows<'a, A: Allocator> {
     Nothing,
-    Old(OldRows<'a, A>),
-    Open(OpenNode<A>),
+    Open(OpenNode<'a, A>),
 }
 
 impl<'a, A: Allocator> Model for Writer<'a, A> {
@@ -66,37 +68,42 @@ impl<'a, A: Allocator + Clone> Writer<'a, A> {
         ensures fault { IfErr result
             (IsFaultOfAll (self.old ++ (link, pair_of key.now value.entry) ∷ [])) }
     {
-        self.pair_like(None, link, key, value)
+        let alloc = self.alloc.clone()?;
+        let rows = replace(&mut self.rows, Rows::Nothing);
+        self.rows = rows.with_pair(alloc, link, key, value)?;
+        Ok(())
     }
 
-    /// The same, where the node is maybe much like an old one: as long as it is that node up to one link, nothing is spelled
-    /// anew.
-    pub fn pair_like(
-        &mut self,
-        node: Option<&NodeView<'a>>,
-        link: Option<Cid>,
-        key: &[u8],
-        value: CidRef<'_>,
-    ) -> Result<(), DraftFault>
-        ensures ok { OnOk result (self.new ≡ self.old ++ (link, pair_of key.now value.entry) ∷ []) }
-        ensures fault { IfErr result
-            (IsFaultOfAll (self.old ++ (link, pair_of key.now value.entry) ∷ [])) }
+    /// Whether the last pair has the key that a reader read last, so that the pairs that it reads from here on can come as a
+    /// run; and whether nothing was read, where there is no pair.
+    pub fn follows(&self, rows: &KeyedEntries<'a, A>) -> bool
+        ensures { result ≡ true → key_behind [] self.now ≡ rows.now.before }
     {
-        let alloc = self.alloc.clone()?;
-        match &mut self.rows {
-            Rows::Nothing => {
-                self.rows = Rows::begin(alloc, node, link, key, value)?;
-                Ok(())
-            }
-            Rows::Old(rows) => {
-                if !rows.goes_on(link, key, value) {
-                    let closed = rows.closed(alloc.clone()?, link)?;
-                    self.rows = Rows::Open(OpenNode::after(alloc, closed, key, value)?);
-                }
-                Ok(())
-            }
-            Rows::Open(node) => node.pair(link, key, value),
+        match &self.rows {
+            Rows::Nothing => rows.key().is_empty(),
+            Rows::Open(node) => node.ends_with(rows.key()),
         }
+    }
+
+    /// Adds a run of pairs of an old node, each with the link before it: those from the start that was noted, behind the key of
+    /// the last pair here, up to the last one that was read, or the one before it. After a refusal nothing is promised of the
+    /// writer.
+    pub fn run(&mut self, rows: &KeyedEntries<'a, A>, to: u64) -> Result<(), AllocError>
+        requires order { rows.now.start ≤ to }
+        requires within { to ≤ length rows.now.passed }
+        requires near { length rows.now.passed ≤ to + 1 }
+        requires follows { key_behind [] self.old
+            ≡ key_behind [] (take rows.now.start rows.now.passed) }
+        ensures { OnOk result (self.new ≡ self.old ++ part_of rows.now.start to rows.now.passed) }
+    {
+        let (start, end) = rows.run_to(to);
+        if start.passed() == to {
+            return Ok(());
+        }
+        let alloc = self.alloc.clone()?;
+        let rows = replace(&mut self.rows, Rows::Nothing);
+        self.rows = rows.with_run(alloc, start, end)?;
+        Ok(())
     }
 
     /// Adds the last link.
@@ -110,125 +117,230 @@ impl<'a, A: Allocator + Clone> Writer<'a, A> {
                 bytes: NodeWriter::begin(alloc, last)?.finish()?,
                 is_empty: last.is_none(),
             }),
-            Rows::Old(rows) => Ok(rows.finish(alloc, last)?),
-            Rows::Open(node) => node.finish(last),
+            Rows::Open(node) => Ok(node.finish(last)?),
         }
     }
 }
 
 impl<'a, A: Allocator + Clone> Rows<'a, A> {
-    /// A link and the first pair after it.
-    fn begin(
+    /// With a link more and the pair after it.
+    fn with_pair(
+        self,
         alloc: A,
-        node: Option<&NodeView<'a>>,
         link: Option<Cid>,
         key: &[u8],
         value: CidRef<'_>,
-    ) -> Result<Rows<'a, A>, AllocError>
-        ensures { IfOk result
-            (λ rows. rows_in rows ≡ (link, pair_of key.now value.entry) ∷ []) }
+    ) -> Result<Rows<'a, A>, DraftFault>
+        ensures ok { IfOk result (λ rows. rows_in rows
+            ≡ rows_in self.entry ++ (link, pair_of key.now value.entry) ∷ []) }
+        ensures fault { IfErr result
+            (IsFaultOfAll (rows_in self.entry ++ (link, pair_of key.now value.entry) ∷ [])) }
     {
-        if let Some(node) = node {
-            if let Some(rows) = OldRows::begin(alloc.clone()?, node, link, key, value)? {
-                return Ok(Rows::Old(rows));
-            }
+        match self {
+            Rows::Nothing => Ok(Rows::Open(OpenNode::begin(alloc, link, key, value)?)),
+            Rows::Open(node) => Ok(Rows::Open(node.pair(link, key, value)?)),
         }
-        Ok(Rows::Open(OpenNode::begin(alloc, link, key, value)?))
+    }
+
+    /// With a run of pairs of an old node more.
+    fn with_run(self, alloc: A, start: &Gap<'a>, end: &Gap<'a>) -> Result<Rows<'a, A>, AllocError>
+        requires same { end.now.node ≡ start.now.node }
+        requires order { start.now.passed < end.now.passed }
+        requires follows { key_behind [] (rows_in self)
+            ≡ last_key [] (take start.now.passed start.now.node.entries) }
+        ensures { IfOk result (λ rows. rows_in rows ≡ rows_in self.entry
+            ++ rows_between start.now.passed end.now.passed start.now.node) }
+    {
+        match self {
+            Rows::Nothing => Ok(Rows::Open(OpenNode::of(alloc, start, end)?)),
+            Rows::Open(node) => Ok(Rows::Open(node.run(start, end)?)),
+        }
     }
 }
 
-/// A node that is being written, with its last pair still to be closed by a link.
+/// A node that is being written and has a pair. The link behind its last pair isn't known yet: another one stands there.
 ///
 /// A contract sees it as its pairs, each with the link before it.
 #[derive(Drop)]
-pub(crate) struct OpenNode<A: Allocator> {
-    closed: NodeWriter<A>,
-    key: Vec<u8, A>,
-    value: Cid,
+pub(crate) struct OpenNode<'a, A: Allocator> {
+    written: NodeWriter<A>,
+
+    /// The link that stands behind the last pair.
+    behind: Option<CidRef<'a>>,
 }
 
-impl<A: Allocator> Model for OpenNode<A> {
-    ghost use Rattle.std.specs.Prelude.{ℕ, List, Option};
+impl<'a, A: Allocator> Model for OpenNode<'a, A> {
+    ghost use Rattle.std.specs.Prelude.{ℕ, List, Option, option_map};
     ghost use Rattle.spec.specs.Tree.{Pair};
-    ghost use Rattle.rows.specs.Drafts.{turned};
+    ghost use Rattle.cid.specs.CidRef.{bytes_of};
+    ghost use Rattle.rows.specs.OldNodes.{linked};
+    ghost use Rattle.rows.specs.Begun.{IsBegun};
 
     ghost Value = { List (Option (List ℕ) × Pair) };
 
-    ghost view = { λ n. turned n.closed.left n.closed.entries (n.key.items, n.value) };
+    ghost view = { λ n. linked n.written.left n.written.entries };
+
+    ghost invariant = { λ n. IsBegun n.written (option_map bytes_of n.behind) };
 }
 
-impl<A: Allocator + Clone> OpenNode<A> {
+impl<'a, A: Allocator + Clone> OpenNode<'a, A> {
     /// Begins a node with a link and the pair after it.
-    pub(crate) fn begin(
+    fn begin(
         alloc: A,
         link: Option<Cid>,
         key: &[u8],
         value: CidRef<'_>,
-    ) -> Result<OpenNode<A>, AllocError>
-        ensures { IfOk result (λ node. node ≡ (link, pair_of key.now value.entry) ∷ []) }
+    ) -> Result<OpenNode<'a, A>, DraftFault>
+        ensures ok { IfOk result (λ node. node ≡ (link, pair_of key.now value.entry) ∷ []) }
+        ensures fault { IfErr result (IsFaultOfAll ((link, pair_of key.now value.entry) ∷ [])) }
     {
-        let closed = NodeWriter::begin(alloc.clone()?, link)?;
-        OpenNode::after(alloc, closed, key, value)
+        OpenNode::after(NodeWriter::begin(alloc, link)?, key, value)
     }
 
-    /// A pair after those of a node that are closed.
-    pub(crate) fn after(
-        alloc: A,
+    /// Begins a node with a run of pairs of an old one, which has no pair before them.
+    fn of(alloc: A, start: &Gap<'a>, end: &Gap<'a>) -> Result<OpenNode<'a, A>, AllocError>
+        requires same { end.now.node ≡ start.now.node }
+        requires order { start.now.passed < end.now.passed }
+        requires first { last_key [] (take start.now.passed start.now.node.entries) ≡ [] }
+        ensures { IfOk result (λ node. node
+            ≡ rows_between start.now.passed end.now.passed start.now.node) }
+    {
+        OpenNode::copied(NodeWriter::begin(alloc, to_cid(start.link()))?, start, end)
+    }
+
+    /// A pair after those of a node, behind whose last one its link stands.
+    fn after(
         closed: NodeWriter<A>,
         key: &[u8],
         value: CidRef<'_>,
-    ) -> Result<OpenNode<A>, AllocError>
-        ensures { IfOk result (λ node. node
-            ≡ turned closed.left closed.entries (pair_of key.now value.entry)) }
+    ) -> Result<OpenNode<'a, A>, DraftFault>
+        ensures ok { IfOk result (λ node. node ≡ linked closed.left closed.entries
+            ++ (
+              gap_at (length closed.entries) closed.left closed.entries,
+              pair_of key.now value.entry,
+            ) ∷ []) }
+        ensures fault { IfErr result (IsFaultOfAll (linked closed.left closed.entries
+            ++ (
+              gap_at (length closed.entries) closed.left closed.entries,
+              pair_of key.now value.entry,
+            ) ∷ [])) }
     {
-        let mut bytes = Vec::with_capacity(alloc, KEY_ROOM)?;
-        bytes.extend_from_slice(key)?;
+        if !closed.is_next(key) {
+            return Err(DraftFault::NotNode);
+        }
+        let mut written = closed;
+        written.entry(key, value, None)?;
         Ok(OpenNode {
-            closed,
-            key: bytes,
-            value: value.to_cid(),
+            written,
+            behind: None,
         })
     }
 
-    /// Adds a link and the pair after it. After a refusal nothing is promised of the node.
-    pub(crate) fn pair(
-        &mut self,
+    /// A run of pairs of an old node after those of a node, behind whose last one the first link of the run stands.
+    fn copied(
+        closed: NodeWriter<A>,
+        start: &Gap<'a>,
+        end: &Gap<'a>,
+    ) -> Result<OpenNode<'a, A>, AllocError>
+        requires same { end.now.node ≡ start.now.node }
+        requires order { start.now.passed < end.now.passed }
+        requires follows { last_key [] closed.entries
+            ≡ last_key [] (take start.now.passed start.now.node.entries) }
+        requires link { gap_at (length closed.entries) closed.left closed.entries
+            ≡ gap_at start.now.passed start.now.node.left start.now.node.entries }
+        ensures { IfOk result (λ node. node ≡ linked closed.left closed.entries
+            ++ rows_between start.now.passed end.now.passed start.now.node) }
+    {
+        let mut written = closed;
+        written.copy(start, end.passed())?;
+        Ok(OpenNode {
+            written,
+            behind: end.link(),
+        })
+    }
+
+    /// Whether the last pair has this key.
+    fn ends_with(&self, key: &[u8]) -> bool
+        ensures { result ≡ true → key_behind [] self.now ≡ key.now }
+    {
+        is_same_key(self.written.last_key(), key)
+    }
+
+    /// With a link more and the pair after it.
+    fn pair(
+        self,
         link: Option<Cid>,
         key: &[u8],
         value: CidRef<'_>,
-    ) -> Result<(), DraftFault>
-        ensures ok { OnOk result (self.new ≡ self.old ++ (link, pair_of key.now value.entry) ∷ []) }
+    ) -> Result<OpenNode<'a, A>, DraftFault>
+        ensures ok { IfOk result
+            (λ node. node ≡ self.entry ++ (link, pair_of key.now value.entry) ∷ []) }
         ensures fault { IfErr result
-            (IsFaultOfAll (self.old ++ (link, pair_of key.now value.entry) ∷ [])) }
+            (IsFaultOfAll (self.entry ++ (link, pair_of key.now value.entry) ∷ [])) }
     {
-        if !self.closed.is_next(&self.key) {
-            return Err(DraftFault::NotNode);
+        OpenNode::after(self.closed(link)?, key, value)
+    }
+
+    /// With a run of pairs of an old node more.
+    fn run(self, start: &Gap<'a>, end: &Gap<'a>) -> Result<OpenNode<'a, A>, AllocError>
+        requires same { end.now.node ≡ start.now.node }
+        requires order { start.now.passed < end.now.passed }
+        requires follows { key_behind [] self
+            ≡ last_key [] (take start.now.passed start.now.node.entries) }
+        ensures { IfOk result (λ node. node
+            ≡ self.entry ++ rows_between start.now.passed end.now.passed start.now.node) }
+    {
+        OpenNode::copied(self.closed(to_cid(start.link()))?, start, end)
+    }
+
+    /// The node with this link behind its last pair.
+    fn closed(self, link: Option<Cid>) -> Result<NodeWriter<A>, AllocError>
+        ensures rows { IfOk result (λ closed. linked closed.left closed.entries ≡ self.entry) }
+        ensures link { IfOk result
+            (λ closed. gap_at (length closed.entries) closed.left closed.entries ≡ link) }
+        ensures some { IfOk result (λ closed. 0 < length closed.entries) }
+    {
+        let OpenNode { written, behind } = self;
+        if is_same(&link, behind) {
+            return Ok(written);
         }
-        self.closed
-            .entry(&self.key, CidRef::from(&self.value), link)?;
-        self.key.clear();
-        self.key.extend_from_slice(key)?;
-        self.value = value.to_cid();
-        Ok(())
+        written.relinked(behind, link)
     }
 
     /// Adds the last link.
-    pub(crate) fn finish(self, last: Option<Cid>) -> Result<Draft<A>, DraftFault>
-        ensures ok { IfOk result (IsNode (onto self (LastLink last))) }
-        ensures fault { IfErr result (IsFaultOf (onto self (LastLink last))) }
+    fn finish(self, last: Option<Cid>) -> Result<Draft<A>, AllocError>
+        ensures { IfOk result (IsNode (onto self.entry (LastLink last))) }
     {
-        let OpenNode {
-            mut closed,
-            key,
-            value,
-        } = self;
-        if !closed.is_next(&key) {
-            return Err(DraftFault::NotNode);
-        }
-        closed.entry(&key, CidRef::from(&value), last)?;
         Ok(Draft {
-            bytes: closed.finish()?,
+            bytes: self.closed(last)?.finish()?,
             is_empty: false,
         })
     }
+}
+
+/// Whether a link is this one.
+fn is_same(link: &Option<Cid>, lent: Option<CidRef<'_>>) -> bool
+    ensures { result ≡ true → link.now ≡ option_map bytes_of lent.entry }
+{
+    match lent {
+        None => link.is_none(),
+        Some(lent) => match link {
+            Some(link) => is_same_cid(CidRef::from(link), lent),
+            None => false,
+        },
+    }
+}
+
+/// Whether two CIDs are the same. Most that aren't differ in their last byte.
+fn is_same_cid(one: CidRef<'_>, other: CidRef<'_>) -> bool
+    ensures { result ≡ true → bytes_of one.entry ≡ bytes_of other.entry }
+{
+    one.as_bytes()[35] == other.as_bytes()[35] && one == other
+}
+
+/// Whether two keys are the same.
+fn is_same_key(one: &[u8], other: &[u8]) -> bool
+    ensures { result ≡ true → one.now ≡ other.now }
+{
+    one == other
 }

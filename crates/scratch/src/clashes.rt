@@ -5,7 +5,8 @@ ghost use Rattle.std.specs.Arc.{arc_value};
 ghost use Rattle.spec.specs.Blocks.{IsClashFree, IsClashIn};
 ghost use Rattle.scratch.specs.Faults.{AreClashing};
 
-use cid::{Block, Cid, Collided, Digest};
+use block::{Block, Collided};
+use cid::{Cid, Digest};
 use std::alloc::{AllocError, Allocator};
 use std::collections::HashMap;
 use std::hash::{BuildHasherDefault, FoldHasher};

@@ -3,7 +3,8 @@
 ghost use Rattle.std.specs.Prelude.{◌≡◌};
 ghost use Rattle.scratch.specs.declared.fault.ScratchFault.TheVariants.{NoMemory};
 
-use cid::{Collided, Digest};
+use block::Collided;
+use cid::Digest;
 use std::alloc::{AllocError, AllocFailed, Allocator, Global};
 use thiserror::Error;
 

@@ -12,7 +12,8 @@ use crate::merging::{Blocks, merge};
 use crate::nodes::write_layer;
 use crate::rows::Row;
 use crate::unread::Unread;
-use cid::{Block, Digest};
+use block::Block;
+use cid::Digest;
 use std::alloc::{AllocError, Allocator};
 
 /// A tree cut at a layer: all nodes below it, in the order of the export, and the rows of this layer and above. So many

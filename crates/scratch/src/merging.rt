@@ -6,7 +6,8 @@ ghost use Rattle.std.specs.Vec.Iter.{into_iter_items};
 ghost use Rattle.scratch.specs.Level.{part_from, parts_from, tops_left, under_left};
 
 use crate::rows::Row;
-use cid::{Block, Digest};
+use block::Block;
+use cid::Digest;
 use std::alloc::{AllocError, Allocator};
 use std::sync::Arc;
 use std::vec::IntoIter;

@@ -6,7 +6,8 @@ ghost use Rattle.scratch.specs.Cut.{is_node_next, is_row_at, link_to, nodes_afte
 ghost use Rattle.scratch.specs.Rows.{pair_of};
 
 use crate::rows::Row;
-use cid::{Block, Cid, Digest};
+use block::Block;
+use cid::{Cid, Digest};
 use std::alloc::Allocator;
 use std::marker::Model;
 use std::sync::Arc;

@@ -9,6 +9,7 @@ use Rattle.spec.specs.Cid.{cid as cid_of}
 use Rattle.store.specs.Faults.{IsRefusalOf}
 use Rattle.store.specs.Holds.{IsHoldOf}
 use Rattle.store.specs.Table.{Table, entered}
+use Rattle.store.specs.declared.block_store.BlockStore.{Ghosts}
 use Rattle.store.specs.declared.fault.StoreFault.{StoreFault}
 use Rattle.store.specs.declared.fault.StoreFault.TheVariants.{Collision, Full, NoMemory}
 
@@ -29,12 +30,15 @@ pub record IsAnswer {D A : Type 0} (digest : List ℕ → List ℕ) (bytes : Lis
   pub fault : IfErr result (IsRefusalOf digest bytes)
   pub counted : after ≡ fulls_after before result
 
+-- what a contract sees of a store of shared blocks: all that its trait tells
+abbrev pub Store : Type 0 → Type 0 → Type 0 → Type 1
+Store S D A = Ghosts S (Arc (List ℕ) A) (Arc (List ℕ) A × ℕ) (StoreFault D A)
+
 -- a store gives such answers alone
-abbrev pub IsStore : {S D A : Type 0} → (List ℕ → List ℕ) → (S → ℕ)
-    → (S → Arc (List ℕ) A → ℕ → Result (Arc (List ℕ) A × ℕ) (StoreFault D A) → S → Type 0) → Type 0
-IsStore {S} {D} {A} digest fulls answers =
+abbrev pub IsStore : {S D A : Type 0} → (List ℕ → List ℕ) → Store S D A → Type 0
+IsStore {S} {D} {A} digest store =
     (s : S) (b : Arc (List ℕ) A) (core : ℕ) (r : Result (Arc (List ℕ) A × ℕ) (StoreFault D A)) (t : S)
-    → answers s b core r t → IsAnswer digest (arc_value b) core (fulls s) r (fulls t)
+    → store.answers s b core r t → IsAnswer digest (arc_value b) core (store.fulls s) r (store.fulls t)
 
 -- ---- which cores are entered, as far as the answers of a store tell
 

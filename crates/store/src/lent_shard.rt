@@ -9,9 +9,10 @@ ghost use Rattle.store.specs.Table.{left};
 
 use crate::block_store::BlockStore;
 use crate::fault::StoreFault;
-use crate::full_count::FullCount;
 use crate::shard::{Hold, Shard};
-use cid::{Block, Digest};
+use block::Block;
+use cid::Digest;
+use counts::Count;
 use std::alloc::{Allocator, Global};
 use std::sync::Arc;
 
@@ -21,7 +22,7 @@ use std::sync::Arc;
 #[derive(Drop)]
 pub struct LentShard<'a, D: Digest, A: Allocator = Global> {
     shard: &'a mut Shard<D, A>,
-    fulls: FullCount,
+    fulls: Count,
 }
 
 impl<'a, D: Digest, A: Allocator> LentShard<'a, D, A> {
@@ -29,7 +30,7 @@ impl<'a, D: Digest, A: Allocator> LentShard<'a, D, A> {
     pub fn new(shard: &'a mut Shard<D, A>) -> LentShard<'a, D, A> {
         LentShard {
             shard,
-            fulls: FullCount::never(),
+            fulls: Count::never(),
         }
     }
 }

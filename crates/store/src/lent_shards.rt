@@ -8,10 +8,11 @@ ghost use Rattle.store.specs.Shards.{AreEmpty, AreShardsOf, IsMadeIn, WasFull, l
 
 use crate::block_store::BlockStore;
 use crate::fault::StoreFault;
-use crate::full_count::FullCount;
 use crate::shard::{Hold, Shard};
 use crate::shards::{SHARDS, shard_number};
-use cid::{Block, Digest};
+use block::Block;
+use cid::Digest;
+use counts::Count;
 use std::alloc::{Allocator, Global};
 use std::sync::Arc;
 
@@ -25,7 +26,7 @@ use std::sync::Arc;
 #[derive(Drop)]
 pub struct LentShards<'a, D: Digest, const LIMIT: usize, A: Allocator = Global> {
     shards: &'a mut [Shard<D, A>],
-    fulls: FullCount,
+    fulls: Count,
     pub ghost sixteen: { length shards.now ≡ 16 },
     pub ghost own: { 0 < LIMIT → AreShardsOf LIMIT shards.now },
     pub ghost full: { 0 < LIMIT → 0 < fulls.times → WasFull D.digest_of LIMIT },
@@ -39,7 +40,7 @@ impl<'a, D: Digest, const LIMIT: usize, A: Allocator> LentShards<'a, D, LIMIT, A
     {
         LentShards {
             shards: shards.as_mut_slice(),
-            fulls: FullCount::never(),
+            fulls: Count::never(),
         }
     }
 }

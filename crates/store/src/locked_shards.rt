@@ -6,10 +6,11 @@ ghost use Rattle.store.specs.Stores.{IsAnswer};
 
 use crate::block_store::BlockStore;
 use crate::fault::StoreFault;
-use crate::full_count::FullCount;
 use crate::shard::{Hold, Shard};
 use crate::shards::{SHARDS, Shards, shard_number};
-use cid::{Block, Digest};
+use block::Block;
+use cid::Digest;
+use counts::Count;
 use std::alloc::{Allocator, Global};
 use std::sync::{Arc, Mutex, Wait};
 
@@ -20,7 +21,7 @@ pub struct LockedShards<'a, R: Wait, D: Digest, A: Allocator = Global> {
     rt: &'a R,
     // That sixteen locks of an allocator of unknown size fit in memory is known only where the shards are passed.
     locks: [&'a Mutex<Shard<D, A>>; SHARDS],
-    fulls: FullCount,
+    fulls: Count,
 }
 
 impl<'a, R: Wait, D: Digest, A: Allocator> LockedShards<'a, R, D, A> {
@@ -29,7 +30,7 @@ impl<'a, R: Wait, D: Digest, A: Allocator> LockedShards<'a, R, D, A> {
         LockedShards {
             rt,
             locks: shards.locks(),
-            fulls: FullCount::never(),
+            fulls: Count::never(),
         }
     }
 }

@@ -8,7 +8,8 @@ ghost use Rattle.store.specs.Holds.{IsHoldOf};
 ghost use Rattle.store.specs.Faults.{IsRefusal};
 
 use crate::fault::StoreFault;
-use cid::{Block, Cid, Digest};
+use block::Block;
+use cid::{Cid, Digest};
 use std::alloc::{Allocator, Global};
 use std::collections::BTreeMap;
 use std::marker::Model;

@@ -3,3 +3,4 @@ mod Told
 mod Shown
 mod Rows
 mod Staged
+mod Filed

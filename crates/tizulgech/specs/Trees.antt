@@ -10,17 +10,18 @@ use Rattle.spec.specs.NodeFormat.{is_ascending}
 use Rattle.spec.specs.Blocks.{IsClashFree, nodes, root as root_of}
 use Rattle.spec.specs.Stamps.{Stamp}
 use Rattle.spec.specs.Writes as writes
-use Rattle.spec.specs.States.{after_batch, fresh, state_car}
+use Rattle.spec.specs.States.{BatchFault, after_batch, fresh, state_car, state_test}
 use Rattle.batch_laws.specs.Batch.{Change}
 use Rattle.edit.specs.Batches.{are_changes, IsBatch, IsBatchRefusal, IsAnswered, IsLack}
 use Rattle.edit.specs.declared.outcome.BatchEdit.{BatchEdit}
 use Rattle.edit.specs.declared.outcome.EditFault.{EditFault}
 use Rattle.edit.specs.declared.outcome.EditFault.TheVariants.{Missing, NotTree, NoSuchKey, Clash, NoMemory}
 use Rattle.lookups.specs.Maps.{first_of}
-use Rattle.built_car.specs.Refusing.{IsNotBuilt}
+use Rattle.batches.specs.declared.fault.RepoFault.{RepoFault}
+use Rattle.batches.specs.declared.fault.RepoFault.TheVariants as faults
 use Rattle.buffers.specs.Answers.{IsHanded, blocks_bytes, cids_bytes, number_bytes, values_bytes}
 use Rattle.buffers.specs.Framing.{cid_at, cid_or_none_at, cut, with_values}
-use Rattle.tizulgech.specs.Numbers.{IsHandedOr255}
+use Rattle.tizulgech.specs.Numbers.{IsHandedOr255, is_other}
 
 -- ---- listings
 
@@ -112,11 +113,23 @@ puts_in None records = None
 puts_in (Some keys) None = None
 puts_in (Some keys) (Some records) = if nat_eq (length keys) (length records) then Some (puts keys records) else None
 
--- 0 and the file of a repository whose one batch has these writes; 32 where there is none; 255 for want of memory
+-- the number of a fault of a batch: 253 for a clash, 254 for a full store, 255 for want of memory, and 32 for what a test finds
+abbrev pub batch_number : {D A : Type 0} → RepoFault D A → ℕ
+batch_number (faults.Collision pair) = 253
+batch_number faults.StoreFull = 254
+batch_number faults.NoMemory = 255
+batch_number fault = 32
+
+-- the test of these writes as the one batch of a repository
+abbrev pub batch_tested : Stamp → List writes.Write → Result (Unit {0}) (ℕ × BatchFault)
+batch_tested stamp ws = state_test (fresh 0 1048576) stamp ws
+
+-- 0 and the file of a repository whose one batch has these writes; 32 where their test fails; 253 to 255 for what no test tells
 pub record IsFileOf (code : ℕ) (before room : List ℕ) (size : ℕ) (stamp : Stamp) (ws : List writes.Write) : Type 0 where
-  pub file : nat_eq code 255 ≡ false → nat_eq code 32 ≡ false
+  pub file : is_other code ≡ false → nat_eq code 32 ≡ false
       → IsHanded code (state_car sha256 2 (after_batch (fresh 0 1048576) stamp ws)) before room size
-  pub none : code ≡ 32 → IsNotBuilt sha256 2 1048576 stamp ws
+  pub passes : is_other code ≡ false → nat_eq code 32 ≡ false → batch_tested stamp ws ≡ Ok tt
+  pub none : code ≡ 32 → batch_tested stamp ws ≡ Ok tt → ⊥
 
 -- 252 for what is no listing
 abbrev pub IsFiled : ℕ → List ℕ → List ℕ → ℕ → Stamp → Option (List writes.Write) → Type 0

@@ -9,12 +9,13 @@ ghost use Rattle.buffers.specs.Framing.{cid_at, cid_or_none_at, cut, with_values
 ghost use Rattle.tizulgech.specs.Trees.{changes_in, edit_bytes, IsEdited, IsEditOver, IsEditTold};
 
 use crate::codes::{BAD, CLASH, MISSING, NO_MEMORY, NONE};
+use block::Block;
 use buffers::{
     cid_in, hand, next_value, push_block, push_cids, push_number, push_values, slices, value_in,
 };
-use cid::{Block, Cid, Sha256};
+use cid::{Cid, Sha256};
 use edit::{BatchEdit, Change, EditFault, apply, are_changes};
-use lookups::{BlockMap, MarkedBlock};
+use lookups::BlockMap;
 use std::alloc::{AllocError, Global};
 use std::sync::Arc;
 
@@ -127,12 +128,12 @@ fn written(alloc: Global, edit: &BatchEdit<Sha256>) -> Result<Vec<u8>, AllocErro
 }
 
 /// Puts nodes at the end, each with its CID and its length in front.
-fn push_nodes(bytes: &mut Vec<u8>, nodes: &[MarkedBlock<Sha256>]) -> Result<(), AllocError>
+fn push_nodes(bytes: &mut Vec<u8>, nodes: &[Arc<Block<Sha256>>]) -> Result<(), AllocError>
     ensures { OnOk result (bytes.new.items
         ≡ bytes.old.items ++ blocks_bytes sha256 (map arc_value nodes.now)) }
 {
     for node in nodes {
-        push_block(bytes, node.block())?;
+        push_block(bytes, node)?;
     }
     Ok(())
 }

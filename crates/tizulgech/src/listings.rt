@@ -1,18 +1,21 @@
-//! The root and the CAR file of a listing, built from scratch.
+//! The root of a listing's tree, and the CAR file of a repository that takes it as one batch.
 
-ghost use Rattle.std.specs.Prelude.{◌≡◌, length, map, option_map, nat_eq, false, true, IfOk};
+ghost use Rattle.std.specs.Prelude.{◌≡◌, ◌++◌, length, map, option_map, nat_eq, false, true, IfOk, OnOk};
+ghost use Rattle.sha2.specs.Sha256.{sha256};
 ghost use Rattle.spec.specs.NodeFormat.{is_ascending as is_ascending_of};
 ghost use Rattle.batches.specs.Values.{stamp_of, writes_of};
 ghost use Rattle.scratch.specs.Pairs.{pairs_of};
 ghost use Rattle.buffers.specs.Framing.{cut};
-ghost use Rattle.tizulgech.specs.Trees.{listing, puts, puts_in, IsFileOf, IsFiled, IsListed, IsTreeOf};
+ghost use Rattle.owned_repo.specs.Owning.{opened};
+ghost use Rattle.tizulgech.specs.Trees.{batch_number, listing, puts, puts_in, IsFileOf, IsFiled, IsListed, IsTreeOf};
 
-use crate::codes::{BAD, CLASH, NO_MEMORY};
+use crate::codes::{BAD, CLASH, FULL, NO_MEMORY};
+use crate::repository::{car_handed, code_of_opening};
 use crate::stamps::stamp_of_bytes;
-use batches::{Stamp, Write};
-use buffers::{DONE, hand, pairs, slices};
-use built_car::built_car;
+use batches::{RepoFault, Stamp, Write};
+use buffers::{DONE, pairs, slices};
 use cid::{Cid, Sha256};
+use owned_repo::OwnedRepo;
 use scratch::{ScratchFault, build, is_ascending};
 use std::alloc::{AllocError, Global};
 
@@ -116,8 +119,9 @@ fn puts_at(
     Ok(Some(puts_of(alloc, &keys, &records)?))
 }
 
-/// The CAR file of a repository whose one batch puts these records under this stamp: 0 and the file; 32 where there is none to
-/// build; 251 where `out` has not the room of `size` bytes; 252 for what is no listing; 255 for want of memory.
+/// The CAR file of a repository whose one batch puts these records under this stamp: 0 and the file; 32 where a repository
+/// doesn't take them, or there are none; 251 where `out` has not the room of `size` bytes; 252 for what is no listing; 253 for a
+/// clash; 254 for a full store; 255 for want of memory.
 #[unsafe(no_mangle)]
 pub extern "C" fn tizulgech_listing_car(
     alloc: Global,
@@ -143,16 +147,67 @@ pub extern "C" fn tizulgech_listing_car(
     let Ok(stamp) = stamp_of_bytes(alloc, did, rev) else {
         return NO_MEMORY;
     };
-    file_told(alloc, &stamp, &writes, out, size)
+    file_told(alloc, &stamp, writes, out, size)
 }
 
 /// The same of writes.
-fn file_told(alloc: Global, stamp: &Stamp, writes: &[Write], out: &mut [u8], size: &mut usize) -> u8
-    ensures { IsFileOf result out.old out.new size.new (stamp_of stamp.now) (writes_of writes.now) }
+fn file_told(
+    alloc: Global,
+    stamp: &Stamp,
+    writes: Vec<Write>,
+    out: &mut [u8],
+    size: &mut usize,
+) -> u8
+    ensures { IsFileOf result out.old out.new size.new (stamp_of stamp.now) (writes_of writes.items) }
 {
-    match built_car::<Sha256, 2, _>(alloc, 1_048_576, stamp, writes) {
-        Ok(Some(file)) => hand(&file, out, size),
-        Ok(None) => 32,
-        Err(_) => NO_MEMORY,
+    match OwnedRepo::open(alloc, 1_048_576) {
+        Ok(mut repo) => batch_filed(alloc, &mut repo, stamp, writes, out, size),
+        Err(fault) => code_of_opening(&fault),
+    }
+}
+
+/// The same of a repository without writes, which takes them.
+fn batch_filed(
+    alloc: Global,
+    repo: &mut OwnedRepo,
+    stamp: &Stamp,
+    writes: Vec<Write>,
+    out: &mut [u8],
+    size: &mut usize,
+) -> u8
+    requires { repo.old ≡ opened 1048576 }
+    ensures { IsFileOf result out.old out.new size.new (stamp_of stamp.now) (writes_of writes.items) }
+{
+    let Ok(()) = stage_all(repo, writes) else {
+        return NO_MEMORY;
+    };
+    match repo.apply(alloc, stamp) {
+        Ok(_) => car_handed(alloc, repo, out, size),
+        Err((_, fault)) => code_of_batch(&fault),
+    }
+}
+
+/// All of these writes wait for a stamp.
+fn stage_all(repo: &mut OwnedRepo, writes: Vec<Write>) -> Result<(), AllocError>
+    ensures { OnOk result (repo.new ≡ record {
+      state = repo.old.state;
+      pending = repo.old.pending ++ writes_of writes.items;
+    }) }
+{
+    for write in writes {
+        repo.stage(write)?;
+    }
+    Ok(())
+}
+
+/// The number of a fault of the one batch.
+fn code_of_batch(fault: &RepoFault<Sha256>) -> u8
+    ensures { result ≡ batch_number fault.now }
+{
+    match fault {
+        RepoFault::Collision(_) => CLASH,
+        RepoFault::StoreFull => FULL,
+        RepoFault::NoMemory => NO_MEMORY,
+        _ => 32,
     }
 }

@@ -19,9 +19,10 @@ use crate::codes::{BAD, CLASH, CLOSED, FULL, NO_MEMORY, NONE, OPEN, code_of_faul
 use crate::handle::Repository;
 use crate::stamps::stamp_of_bytes;
 use batches::RepoFault;
+use block::Block;
 use buffers::{DONE, hand, push_pair, push_part};
 use car_parts::{car_length, car_part};
-use cid::{Block, Cid, Sha256};
+use cid::{Cid, Sha256};
 use export::{ToMemory, car, prove};
 use owned_repo::OwnedRepo;
 use repo::Applied;
@@ -58,7 +59,7 @@ pub extern "C" fn tizulgech_open(alloc: Global, limit: usize, repository: &mut R
 }
 
 /// The number of a fault for which no argument is to blame.
-fn code_of_opening(fault: &RepoFault<Sha256>) -> u8
+pub(crate) fn code_of_opening(fault: &RepoFault<Sha256>) -> u8
     ensures { is_other result ≡ true }
 {
     match fault {
@@ -398,7 +399,7 @@ fn car_part_bytes(
 }
 
 /// The CAR file of a repository in the caller's room.
-fn car_handed(alloc: Global, repo: &OwnedRepo, out: &mut [u8], size: &mut usize) -> u8
+pub(crate) fn car_handed(alloc: Global, repo: &OwnedRepo, out: &mut [u8], size: &mut usize) -> u8
     ensures { IsHandedOr255 result (state_car sha256 2 repo.now.state) out.old out.new size.new }
 {
     match car_bytes(alloc, repo) {

@@ -6,7 +6,8 @@ ghost use Rattle.spec.specs.Cid.{text};
 ghost use Rattle.tree_command.specs.TreeText.{block_line};
 ghost use Rattle.console.specs.Written.{Writes};
 
-use cid::{Block, Cid, Digest};
+use block::Block;
+use cid::{Cid, Digest};
 use console::{WriteFault, write_hex, write_whole};
 use std::alloc::Allocator;
 use std::io::Write;

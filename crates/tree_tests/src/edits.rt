@@ -3,8 +3,9 @@
 use crate::fixtures::{
     Blocks, add, add_node, cid_at, five_nodes, five_nodes_without, node, root_of_five_nodes, value,
 };
+use block::Block;
 use cid::digests::{Clash, Toy};
-use cid::{Block, Cid, Digest};
+use cid::{Cid, Digest};
 use edit::{Edit, EditFault, delete, is_key, put};
 use lookups::{BlockMap, get, walk};
 use refusing::Refusing;

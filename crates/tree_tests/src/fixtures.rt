@@ -1,7 +1,8 @@
 //! Blocks for the tests of look-ups, walks and edits.
 
+use block::Block;
 use cid::digests::Toy;
-use cid::{Block, Cid, CidRef, Digest};
+use cid::{Cid, CidRef, Digest};
 use node::NodeWriter;
 use std::alloc::{AllocError, Allocator, Global};
 use std::sync::Arc;

@@ -7,7 +7,7 @@ mod edits;
 #[cfg(test)]
 mod fixtures;
 #[cfg(test)]
-mod lent;
+mod known_nodes;
 #[cfg(test)]
 mod own_source;
 #[cfg(test)]

@@ -1,10 +1,11 @@
 //! Nodes read and written pair by pair, and the example of the root of `rows`.
 
 use crate::fixtures::{node, value};
+use block::Block;
 use cid::digests::Toy;
-use cid::{Block, Cid, CidRef, Sha256};
+use cid::{Cid, CidRef, Sha256};
 use node::{KeyBuf, NodeView};
-use rows::{Draft, DraftFault, KeyedEntries, Writer, to_cid, top_layer};
+use rows::{Draft, DraftFault, KeyedEntries, Made, Writer, to_cid, top_layer};
 use std::alloc::{AllocError, Global};
 use std::sync::Arc;
 
@@ -27,7 +28,7 @@ fn written(
 
 /// The CID of the block of a node that was written.
 fn cid_of(alloc: Global, draft: Draft<Global>) -> Option<Cid> {
-    let mut made = Vec::new(alloc);
+    let mut made = Made::new(alloc);
     draft.push::<Sha256>(None, &mut made).ok()
 }
 
@@ -47,45 +48,43 @@ fn a_node_written(rt: HostRuntime) {
     assert!(rt; is_written(rt.alloc(), b"k"));
 }
 
-/// A node with these links that is like that of the key `k` between the links 1 and 2.
-fn like_an_old_one(
-    alloc: Global,
-    before: Option<u8>,
-    after: Option<u8>,
-) -> Result<Draft<Global>, DraftFault> {
+/// The node of a run, which is the only pair of that of the key `k` between the links 1 and 2, and of this last link.
+fn of_a_run(alloc: Global, after: Option<Cid>) -> Result<Draft<Global>, DraftFault> {
     let bytes = node(alloc, link(1), b"k", link(2))?;
     let Ok(old) = NodeView::parse(&bytes) else {
         return Err(DraftFault::NotNode);
     };
-    let mut writer = Writer::new(alloc);
-    writer.pair_like(Some(&old), link_of(before), b"k", CidRef::from(&value()))?;
-    writer.finish(link_of(after))
-}
-
-/// The link of a number, where there is one.
-fn link_of(number: Option<u8>) -> Option<Cid> {
-    match number {
-        Some(number) => link(number),
-        None => None,
+    let mut rows = KeyedEntries::of(&old, KeyBuf::new(alloc)?);
+    rows.start_here();
+    if rows.next().is_none() {
+        return Err(DraftFault::NotNode);
     }
+    let mut writer = Writer::new(alloc);
+    writer.run(&rows, 1)?;
+    writer.finish(after)
 }
 
-/// Whether it is written as it should be.
-fn is_written_like(alloc: Global, before: Option<u8>, after: Option<u8>) -> bool {
-    let Ok(bytes) = node(alloc, link_of(before), b"k", link_of(after)) else {
+/// The link of this number, and none for 0.
+fn link_or_none(number: u8) -> Option<Cid> {
+    if number == 0 { None } else { link(number) }
+}
+
+/// Whether it is written as it should be with the last link of this number.
+fn is_written_of_a_run(alloc: Global, after: u8) -> bool {
+    let Ok(bytes) = node(alloc, link(1), b"k", link_or_none(after)) else {
         return false;
     };
-    match like_an_old_one(alloc, before, after) {
+    match of_a_run(alloc, link_or_none(after)) {
         Ok(draft) => cid_of(alloc, draft) == Some(Cid::of::<Sha256>(&bytes)),
         Err(_) => false,
     }
 }
 
 #[test]
-fn an_old_node_with_other_links(rt: HostRuntime) {
-    assert!(rt; is_written_like(rt.alloc(), Some(1), Some(2)));
-    assert!(rt; is_written_like(rt.alloc(), Some(3), Some(2)));
-    assert!(rt; is_written_like(rt.alloc(), None, None));
+fn a_run_of_an_old_node(rt: HostRuntime) {
+    assert!(rt; is_written_of_a_run(rt.alloc(), 2));
+    assert!(rt; is_written_of_a_run(rt.alloc(), 3));
+    assert!(rt; is_written_of_a_run(rt.alloc(), 0));
 }
 
 /// Whether a second pair with this key, after one with the key `k`, is refused as none of a node.
@@ -94,11 +93,8 @@ fn is_refused_after(alloc: Global, key: &[u8]) -> bool {
     if writer.pair(None, b"k", CidRef::from(&value())).is_err() {
         return false;
     }
-    if writer.pair(None, key, CidRef::from(&value())).is_err() {
-        return false;
-    }
-    match writer.finish(None) {
-        Ok(_) => false,
+    match writer.pair(None, key, CidRef::from(&value())) {
+        Ok(()) => false,
         Err(fault) => match fault {
             DraftFault::NotNode => true,
             DraftFault::NoMemory => false,
@@ -135,7 +131,7 @@ fn a_node_read(rt: HostRuntime) {
 
 /// The link of the empty node, which is none, or of one without pairs above a link.
 fn link_of_pad(alloc: Global, below: Option<Cid>) -> Result<Option<Cid>, DraftFault> {
-    let mut made = Vec::new(alloc);
+    let mut made = Made::new(alloc);
     let draft = Writer::new(alloc).finish(below)?;
     Ok(draft.close::<Sha256>(None, &mut made)?)
 }
@@ -158,7 +154,7 @@ fn the_empty_node_has_no_link(rt: HostRuntime) {
 fn owners_of(alloc: Global, key: &[u8]) -> Result<usize, DraftFault> {
     let bytes = node(alloc, link(1), key, link(2))?;
     let block: Arc<Block<Sha256>> = Arc::new(alloc, Block::of(bytes))?;
-    let mut made = Vec::new(alloc);
+    let mut made = Made::new(alloc);
     written(alloc, link(1), b"k", link(2))?.push(Some(&block), &mut made)?;
     Ok(Arc::strong_count(&block))
 }
@@ -173,7 +169,7 @@ fn a_node_that_is_a_block_shares_it(rt: HostRuntime) {
 fn of_a_record(alloc: Global, record: Cid) -> Result<Cid, DraftFault> {
     let mut writer = Writer::new(alloc);
     writer.pair(None, b"app.bsky.feed.post/3l", CidRef::from(&record))?;
-    let mut made = Vec::new(alloc);
+    let mut made = Made::new(alloc);
     Ok(writer.finish(None)?.push::<Sha256>(None, &mut made)?)
 }
 

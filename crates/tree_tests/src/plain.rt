@@ -1,7 +1,8 @@
 //! The tree by its definition, plain and slow, for tests to compare with: the pairs of each layer cut the others into
 //! groups, and each group has a node of the layer below.
 
-use cid::{Block, Cid, CidRef, Digest, layer};
+use block::Block;
+use cid::{Cid, CidRef, Digest, layer};
 use node::NodeWriter;
 use std::alloc::{AllocError, Global};
 

@@ -4,8 +4,9 @@ ghost use Rattle.std.specs.Prelude.{◌≤◌};
 
 use crate::fixtures::value;
 use crate::plain;
+use block::{Block, Collided};
 use cid::digests::{Clash, Size, Toy};
-use cid::{Block, Cid, Collided, Digest, Sha256};
+use cid::{Cid, Digest, Sha256};
 use refusing::Refusing;
 use scratch::{Built, ScratchFault, build, is_ascending};
 use std::alloc::{AllocError, Allocator, Global};

@@ -11,7 +11,7 @@ returns-in-Here-clause-value g c =
     let read = ap (λ v. Some (Some v, None)) c.to_cid.ensures
     ∙ ap (λ p. Some (place_found c.args.key.now p)) (sym c.in-Here.is) ∙ c.in_ok-entry.ensures in
     let s = look arc_value (g.S.Source.gives c.args.src.now) (g.S.Source.gives c.loop-remaining.src) c.args.key.now c.loop-remaining.cid
-    (arc_value c.in_ok-get.field-0) c.in_ok-get.field-0 (Some c.to_cid.result) None c.loop-remaining.remaining
+    (arc_value c.in_ok-get.field-0.now) c.in_ok-get.field-0.now (Some c.to_cid.result) None c.loop-remaining.remaining
     c.loop-remaining.invariant.same c.in_ok-get.ensures.found refl read c.loop-remaining-test.true in
     sym (c.loop-remaining.invariant.value ∙ s.0)
 
@@ -20,7 +20,7 @@ loop-remaining-preserved g c =
     let read = ap (λ v. Some (None, Some v)) c.to_cid-cid.ensures
     ∙ ap (λ p. Some (place_found c.args.key.now p)) (sym c.in-Below.is) ∙ c.in_ok-entry.ensures in
     let s = look arc_value (g.S.Source.gives c.args.src.now) (g.S.Source.gives c.loop-remaining.src) c.args.key.now c.loop-remaining.cid
-    (arc_value c.in_ok-get.field-0) c.in_ok-get.field-0 None (Some c.to_cid-cid.result) c.loop-remaining.remaining
+    (arc_value c.in_ok-get.field-0.now) c.in_ok-get.field-0.now None (Some c.to_cid-cid.result) c.loop-remaining.remaining
     c.loop-remaining.invariant.same c.in_ok-get.ensures.found refl read c.loop-remaining-test.true in
     record {
       same = c.get.ensures.same ∙ c.loop-remaining.invariant.same;
@@ -31,6 +31,6 @@ pub returns-in-Gap-clause-value : goal.returns-in-Gap-clause-value
 returns-in-Gap-clause-value g c =
     let read = ap (λ p. Some (place_found c.args.key.now p)) (sym c.in-Gap.is) ∙ c.in_ok-entry.ensures in
     let s = look arc_value (g.S.Source.gives c.args.src.now) (g.S.Source.gives c.loop-remaining.src) c.args.key.now c.loop-remaining.cid
-    (arc_value c.in_ok-get.field-0) c.in_ok-get.field-0 None None c.loop-remaining.remaining
+    (arc_value c.in_ok-get.field-0.now) c.in_ok-get.field-0.now None None c.loop-remaining.remaining
     c.loop-remaining.invariant.same c.in_ok-get.ensures.found refl read c.loop-remaining-test.true in
     sym (c.loop-remaining.invariant.value ∙ s.0 ∙ value-none (shown_by (λ d. option_map arc_value (g.S.Source.gives c.args.src.now d))) c.args.key.now _)

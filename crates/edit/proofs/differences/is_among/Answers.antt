@@ -41,8 +41,7 @@ returns-clause-found g c =
     if-ok c.is_same.result (λ b a.
     among-found bytes digest block c.args.others.now c.in-Some.place c.in-Some-get.other.now b first
     c.in-Some-get.ensures.lookup.1
-    (subst (λ (x : List ℕ). IsAmong digest x (bytes c.in-Some-get.other.now ∷ []) b) (ap arc_value c.block-2.ensures)
-    (subst (λ (x : List ℕ). IsAmong digest (arc_value c.block-2.result.now) (x ∷ []) b) c.shown.ensures a)))
+    (subst (λ (x : List ℕ). IsAmong digest block (x ∷ []) b) c.shown.ensures a))
     c.is_same.ensures.found
 
 pub returns-clause-fault : goal.returns-clause-fault
@@ -55,6 +54,5 @@ returns-clause-fault g c =
     refusal-within digest ⊥ (block ∷ other ∷ []) (block ∷ map bytes c.args.others.now) f
     (two-within bytes block c.args.others.now c.in-Some.place c.in-Some-get.other.now c.in-Some-get.ensures.lookup.3.0
     c.in-Some-get.ensures.lookup.1)
-    (subst (λ (x : List ℕ). IsRefusal digest (x ∷ other ∷ []) ⊥ f) (ap arc_value c.block-2.ensures)
-    (subst (λ (x : List ℕ). IsRefusal digest (arc_value c.block-2.result.now ∷ x ∷ []) ⊥ f) c.shown.ensures r)))
+    (subst (λ (x : List ℕ). IsRefusal digest (block ∷ x ∷ []) ⊥ f) c.shown.ensures r))
     c.is_same.ensures.fault

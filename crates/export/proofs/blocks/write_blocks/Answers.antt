@@ -1,6 +1,6 @@
-use Rattle.std.proofs.Common.{ℕ, List, Option, ◌+◌, ◌++◌, length, option_map, refl, sym, ap, subst, ◌∙◌, arith}
+use Rattle.std.proofs.Common.{ℕ, List, Option, ◌+◌, length, option_map, refl, sym, ap, subst, ◌∙◌, arith}
 use Rattle.spec.specs.Cid.{cid}
-use Rattle.export.specs.Founds.{bytes_found, AreMarked}
+use Rattle.export.specs.Founds.{bytes_found, seen_found}
 use Rattle.export.specs.Once.{AreSingle, capped, sections}
 use Rattle.export.specs.Walks.{blocks_left, steps_behind, IsStepFrom}
 use Rattle.export.proofs.Ahead.{ahead-stops, behind, smaller, step-same, single-others, written-stops, written-leaves, written-count}
@@ -30,7 +30,7 @@ returns-in_err-next-in-Found-clause-taken g c =
 pub returns-in_err-write_once-in-Found-clause-taken :
     goal.returns-in_err-write_once-in-Found-clause-taken
 returns-in_err-write_once-in-Found-clause-taken g c =
-    written-stops g.D.Digest.digest_of c.steps.seen (bytes_found c.in-Found.found) (bytes_found c.in-Found.found) (blocks_left (λ d. option_map bytes_found (g.S.Source.gives c.args.src.now d)) c.steps.walk) refl
+    written-stops g.D.Digest.digest_of c.steps.seen (bytes_found (seen_found c.in-Found.found)) (bytes_found (seen_found c.in-Found.found)) (blocks_left (λ d. option_map bytes_found (g.S.Source.gives c.args.src.now d)) c.steps.walk) refl
     (g.W.Out.taken c.args.out.now) (g.W.Out.taken c.steps.out) (g.W.Out.taken c.write_once.new.out) _ c.from_residual-in_err-write_once-in-Found.result
     (rw c.in-Found.is at c.steps.invariant.leaves) c.from_residual-in_err-write_once-in-Found.ensures.0 c.in_err-write_once-in-Found.ensures.taken
 
@@ -47,19 +47,19 @@ steps-preserved-in-Found g c =
     let by = step-same bytes_found (g.S.Source.gives c.args.src.now) (g.S.Source.gives c.steps.src) c.in_ok-next-in-Found.next c.steps.walk c.step.new.self c.steps.invariant.same c.in_ok-next-in-Found.ensures.step in
     let left = behind base c.in_ok-next-in-Found.next c.steps.walk c.step.new.self by in
     let single = rw c.in-Found.is at c.steps.invariant.single in
-    let noted = noted-as g.D.Digest.digest_of (g.S.Source.gives c.args.src.now) may_repeat c.in-Found.found (rw c.in-Found.is at c.steps.invariant.from) c.steps.invariant.marked
+    let noted = noted-as g.D.Digest.digest_of (g.S.Source.gives c.args.src.now) may_repeat (seen_found c.in-Found.found) (rw c.in-Found.is at c.steps.invariant.from) c.steps.invariant.marked
     c.steps.seen c.write_once.new.seen c.in_ok-write_once-in-Found.ensures.seen in
     record {
       same = c.in_ok-next-in-Found.ensures.same ∙ c.steps.invariant.same;
-      leaves = written-leaves g.D.Digest.digest_of c.steps.seen (bytes_found c.in-Found.found) (bytes_found c.in-Found.found) (blocks_left base c.steps.walk) refl may_repeat c.write_once.new.seen _ left
+      leaves = written-leaves g.D.Digest.digest_of c.steps.seen (bytes_found (seen_found c.in-Found.found)) (bytes_found (seen_found c.in-Found.found)) (blocks_left base c.steps.walk) refl may_repeat c.write_once.new.seen _ left
           single noted (g.W.Out.taken c.args.out.now) (g.W.Out.taken c.steps.out) (g.W.Out.taken c.write_once.new.out) _
           (rw c.in-Found.is at c.steps.invariant.leaves) c.in_ok-write_once-in-Found.ensures.taken;
-      count = written-count g.D.Digest.digest_of c.steps.seen (bytes_found c.in-Found.found) (bytes_found c.in-Found.found) (blocks_left base c.steps.walk) refl may_repeat c.write_once.new.seen _ left
+      count = written-count g.D.Digest.digest_of c.steps.seen (bytes_found (seen_found c.in-Found.found)) (bytes_found (seen_found c.in-Found.found)) (blocks_left base c.steps.walk) refl may_repeat c.write_once.new.seen _ left
           single noted c.steps.written c.in_ok-write_once-in-Found.field-0 c.saturating_add-written.result _
           (rw c.in-Found.is at c.steps.invariant.count) c.in_ok-write_once-in-Found.ensures.length c.saturating_add-written.ensures;
       fits = let e = c.saturating_add-written.ensures in omega arith;
-      noted = repeats-more may_repeat c.steps.seen c.write_once.new.seen (cid g.D.Digest.digest_of (bytes_found c.in-Found.found)) c.steps.invariant.noted noted;
-      single = single-others g.D.Digest.digest_of c.steps.seen (bytes_found c.in-Found.found) (bytes_found c.in-Found.found) (blocks_left base c.steps.walk) refl may_repeat c.write_once.new.seen _ left
+      noted = repeats-more may_repeat c.steps.seen c.write_once.new.seen (cid g.D.Digest.digest_of (bytes_found (seen_found c.in-Found.found))) c.steps.invariant.noted noted;
+      single = single-others g.D.Digest.digest_of c.steps.seen (bytes_found (seen_found c.in-Found.found)) (bytes_found (seen_found c.in-Found.found)) (blocks_left base c.steps.walk) refl may_repeat c.write_once.new.seen _ left
           single noted;
       marked = c.steps.invariant.marked;
       from = subst (λ f. IsStepFrom f c.in_ok-next-in-Found.next) c.steps.invariant.same c.in_ok-next-in-Found.ensures.from;
@@ -104,5 +104,5 @@ returns-in-End-clause-length g c =
 
 pub write_once-requires : goal.write_once-requires
 write_once-requires g c =
-    is-new g.D.Digest.digest_of (g.S.Source.gives c.args.src.now) (g.R.Repeats.may_repeat c.args.repeats.now) c.in-Found.found
+    is-new g.D.Digest.digest_of (g.S.Source.gives c.args.src.now) (g.R.Repeats.may_repeat c.args.repeats.now) (seen_found c.in-Found.found)
     (rw c.in-Found.is at c.steps.invariant.from) c.steps.invariant.marked c.steps.seen c.steps.invariant.noted

@@ -26,8 +26,8 @@ returns-in_default-link_in g c =
     let at = c.loop-left in
     ends (map arc_value at.nodes.items) (ahead arc_value was c.args.key.now at.left at.link) (ahead arc_value was c.args.key.now c.args.most (Some c.args.root)) at.invariant.path
     (ap (ahead arc_value was c.args.key.now at.left) c.in-Some.is
-    ∙ ahead-other arc_value was c.args.key.now at.left c.in-Some.cid (arc_value c.in-Some-get.lent) c.in-Some-get.lent c.loop-left-test.true
-    (given was (g.S.Source.gives at.src) c.in-Some.cid (Some c.in-Some-get.lent) at.invariant.same c.in-Some-get.ensures.found)
+    ∙ ahead-other arc_value was c.args.key.now at.left c.in-Some.cid (arc_value c.in-Some-get.block.now) c.in-Some-get.block.now c.loop-left-test.true
+    (given was (g.S.Source.gives at.src) c.in-Some.cid (Some c.in-Some-get.block.now) at.invariant.same c.in-Some-get.ensures.found)
     refl c.in_default-link_in.ensures.link)
 
 pub loop-left-preserved : goal.loop-left-preserved
@@ -35,13 +35,13 @@ loop-left-preserved g c =
     let was = g.S.Source.gives c.args.src.now in
     let at = c.loop-left in
     let e = ap (ahead arc_value was c.args.key.now at.left) c.in-Some.is
-    ∙ ahead-node arc_value was c.args.key.now at.left c.in-Some.cid (arc_value c.in-Some-get.lent) c.in-Some-get.lent c.in-Some-link_in.next c.loop-left-test.true
-    (given was (g.S.Source.gives at.src) c.in-Some.cid (Some c.in-Some-get.lent) at.invariant.same c.in-Some-get.ensures.found)
+    ∙ ahead-node arc_value was c.args.key.now at.left c.in-Some.cid (arc_value c.in-Some-get.block.now) c.in-Some-get.block.now c.in-Some-link_in.next c.loop-left-test.true
+    (given was (g.S.Source.gives at.src) c.in-Some.cid (Some c.in-Some-get.block.now) at.invariant.same c.in-Some-get.ensures.found)
     refl c.in-Some-link_in.ensures.link c.in-Some-link_in.ensures.bytes in
     record {
       same = c.get.ensures.same ∙ at.invariant.same;
       path = goes arc_value at.nodes.items c.push.new.self.items c.in_ok-try_clone.field-0
           (ahead arc_value was c.args.key.now at.left at.link) (ahead arc_value was c.args.key.now (at.left - 1) c.in-Some-link_in.next)
           (ahead arc_value was c.args.key.now c.args.most (Some c.args.root)) at.invariant.path
-          (e ∙ ap (λ v. v ∷ ahead arc_value was c.args.key.now (at.left - 1) c.in-Some-link_in.next) (sym (c.in_ok-try_clone.ensures ∙ ap arc_value c.block.ensures))) c.in_ok-push.ensures.items;
+          (e ∙ ap (λ v. v ∷ ahead arc_value was c.args.key.now (at.left - 1) c.in-Some-link_in.next) (sym c.in_ok-try_clone.ensures)) c.in_ok-push.ensures.items;
     }

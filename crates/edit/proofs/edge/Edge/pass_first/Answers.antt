@@ -5,7 +5,7 @@ use Rattle.edit.specs.Passing.{IsPassed}
 use Rattle.edit.specs.States.{edge_in, log_in}
 use Rattle.edit.proofs.Untouched.{pass-opens, pass-nothing, refused-first}
 use Rattle.edit.proofs.edge.Edge.pass_first.Goals as goal
-use Rattle.edit.proofs.edge.Edge.pass_first.Goals.{then-has_pairs+in_ok-push, else-has_pairs+in-Nothing-1, else-has_pairs+in-Old-1, else-has_pairs+in-Open-1}
+use Rattle.edit.proofs.edge.Edge.pass_first.Goals.{then-has_pairs+in_ok-push, else-has_pairs+in-Nothing-1, else-has_pairs+in-Open-1}
 
 pub returns-in_err-taken-clause-fault : goal.returns-in_err-taken-clause-fault
 returns-in_err-taken-clause-fault g c =
@@ -31,10 +31,6 @@ returns-clause-passed g c =
           c.requires.closed c.requires.clear c.requires.clear c.new-level.ensures c.in_ok-taken.ensures.taken
           (sym c.has_pairs.ensures ∙ w.if-has_pairs.true) w.in_ok-push.ensures.items)
       | else-has_pairs+in-Nothing-1 w ↦
-          subst (λ s. IsPassed k d cs node rest (edge_in old) (edge_in s)) (sym w.self-is)
-          (pass-nothing k d cs node rest (edge_in old) c.new-level.result next.0 c.new-level.ensures c.in_ok-taken.ensures.taken
-          (sym c.has_pairs.ensures ∙ w.if-has_pairs.false))
-      | else-has_pairs+in-Old-1 w ↦
           subst (λ s. IsPassed k d cs node rest (edge_in old) (edge_in s)) (sym w.self-is)
           (pass-nothing k d cs node rest (edge_in old) c.new-level.result next.0 c.new-level.ensures c.in_ok-taken.ensures.taken
           (sym c.has_pairs.ensures ∙ w.if-has_pairs.false))

@@ -7,10 +7,10 @@ use Rattle.edit.proofs.edge.Edge.view.Goals as goal
 
 pub of-requires : goal.of-requires
 of-requires g c =
-    read-is-node (arc_value c.in-Some.lent) c.in-Some-view.view c.in-Some-view.ensures.contents c.in-Some-view.ensures.lawful
+    read-is-node (arc_value c.in-Some.block.now) c.in-Some-view_of.view c.in-Some-view_of.ensures.contents c.in-Some-view_of.ensures.lawful
 
 pub returns-clause-shown : goal.returns-clause-shown
 returns-clause-shown g c =
-    node-read (g.S.Source.gives c.args.src.now) c.args.cid c.in-Some.lent c.in-Some-view.view c.args.self.now.read.items
-    c.push.new.self.items (shapes_in c.args.self.now.made.items) c.in-Some.ensures.found c.in-Some-view.ensures.contents
+    node-read (g.S.Source.gives c.args.src.now) c.args.cid c.in-Some.block.now c.in-Some-view_of.view c.args.self.now.read.items
+    c.push.new.self.items (shapes_in c.args.self.now.made.items) c.in-Some.ensures.found c.in-Some-view_of.ensures.contents
     (c.in_ok-push.ensures.items ∙ ap (λ x. c.args.self.now.read.items ++ (x ∷ [])) c.of.ensures)

@@ -1,5 +1,7 @@
 use Rattle.std.proofs.Common.{◌<◌, ◌∷◌, [], ap, ◌∙◌, length, arith}
 use Rattle.std.proofs.lemmas.List.{length-append}
+use Rattle.spec.specs.NodeFormat.{read_node}
+use Rattle.block.specs.Nodes.{contents_of}
 use Rattle.export.specs.Walks.{turned}
 use Rattle.export.proofs.Walked.{turned-push, turned-size}
 use Rattle.lookups.proofs.NodeLaws.{read-some}
@@ -16,4 +18,4 @@ pub returns-in_ok-push : goal.returns-in_ok-push
 returns-in_ok-push g c =
     let link = c.to_cid-self-inside.ensures ∙ c.left.ensures in
     let stack = turned-push c.self.inside.stack.items c.push.new.self.items c.entries.result c.in_ok-push.ensures.items in
-    rw (link, stack, c.entries.ensures.rows, read-some _ _ c.in-Some.ensures.contents, ← c.self.view_is)
+    rw (link, stack, c.entries.ensures.rows, read-some _ _ (c.in-Some.ensures ∙ ap (λ b. contents_of (read_node b)) c.deref.ensures), ← c.self.view_is)

@@ -11,8 +11,8 @@ returns-clause-entered g c =
     let me = c.self.inside.me in
     let m = c.self.inside.blocks in
     let is = c.self.invariant in
-    subst (λ (k : Keeping). Enters g.D.Digest.digest_of g.S.BlockStore.makes g.S.BlockStore.leaves k.me (is_held k) no_block c.args.store.now c.end.new.store)
+    subst (λ (k : Keeping). Enters g.D.Digest.digest_of g.S.BlockStore k.me (is_held k) no_block c.args.store.now c.end.new.store)
     c.self.view_is
-    (in_words g.D.Digest.digest_of g.S.BlockStore.makes g.S.BlockStore.leaves me (has_entry m) no_block (is_held (keeping_of me m)) no_block
+    (in_words g.D.Digest.digest_of g.S.BlockStore me (has_entry m) no_block (is_held (keeping_of me m)) no_block
     c.args.store.now c.end.new.store (held_is g.D.Digest.digest_of me m is) (λ q. refl)
     (c.end.ensures.entered me (λ q u e. is.entries q u e)))

@@ -52,10 +52,10 @@ returns-clause-entered g c =
     let m = c.self.inside.blocks in
     let n = c.lose.new.self in
     let less = c.lose.ensures.followed me c.in_ok-gain.ensures.uses in
-    subst (λ (k : Keeping). EntersKept dig g.S.BlockStore.makes g.S.BlockStore.leaves k (keeping_of me n) c.args.store.now c.lose.new.store) c.self.view_is
-    (kept_entered dig g.S.BlockStore.makes g.S.BlockStore.leaves me m n c.args.store.now c.lose.new.store c.self.invariant
+    subst (λ (k : Keeping). EntersKept dig g.S.BlockStore k (keeping_of me n) c.args.store.now c.lose.new.store) c.self.view_is
+    (kept_entered dig g.S.BlockStore me m n c.args.store.now c.lose.new.store c.self.invariant
     (record { small = c.self.invariant.small; entries = less.0 })
-    (then dig g.S.BlockStore.makes g.S.BlockStore.leaves me (has_entry m) (has_entry c.gain.new.self) (has_entry n)
+    (then dig g.S.BlockStore me (has_entry m) (has_entry c.gain.new.self) (has_entry n)
     c.args.store.now c.gain.new.store c.lose.new.store c.in_ok-gain.ensures.entered less.1))
 
 pub returns-in_err-gain-clause-entered : goal.returns-in_err-gain-clause-entered
@@ -64,6 +64,6 @@ returns-in_err-gain-clause-entered g c =
     let me = c.self.inside.me in
     let m = c.self.inside.blocks in
     let n = c.gain.new.self in
-    subst (λ (k : Keeping). EntersKept dig g.S.BlockStore.makes g.S.BlockStore.leaves k (keeping_of me n) c.args.store.now c.gain.new.store) c.self.view_is
-    (kept_entered dig g.S.BlockStore.makes g.S.BlockStore.leaves me m n c.args.store.now c.gain.new.store c.self.invariant
+    subst (λ (k : Keeping). EntersKept dig g.S.BlockStore k (keeping_of me n) c.args.store.now c.gain.new.store) c.self.view_is
+    (kept_entered dig g.S.BlockStore me m n c.args.store.now c.gain.new.store c.self.invariant
     (record { small = c.self.invariant.small; entries = c.in_err-gain.ensures.uses }) c.in_err-gain.ensures.entered)

@@ -9,7 +9,7 @@ loop-held-init g c =
     let es = c.self.inside.blocks.entries in
     record {
       fulls = refl;
-      following = following_first g.D.Digest.digest_of g.S.BlockStore.makes g.S.BlockStore.leaves (at c.args.self) (listed_at es) c.args.store.now
+      following = following_first g.D.Digest.digest_of g.S.BlockStore (at c.args.self) (listed_at es) c.args.store.now
           (shown_at es c.args.self c.self.view_is);
     }
 
@@ -22,15 +22,15 @@ loop-held-preserved g c =
     let kept = c.loop-held.invariant in
     record {
       fulls = c.give_back.ensures.counted ∙ kept.fulls;
-      following = following_on dig g.S.BlockStore.makes g.S.BlockStore.leaves (at c.args.self) (listed_at es) (listed_at fs)
+      following = following_on dig g.S.BlockStore (at c.args.self) (listed_at es) (listed_at fs)
           c.args.store.now c.loop-held.store c.give_back.new.store kept.following
-          (following_gone dig g.S.BlockStore.makes g.S.BlockStore.leaves (listed_at es) (listed_at fs) c.loop-held.store c.give_back.new.store
+          (following_gone dig g.S.BlockStore (listed_at es) (listed_at fs) c.loop-held.store c.give_back.new.store
           c.in-Some.field-0-0 c.in-Some.held taken.here taken.gone c.give_back.ensures.left);
     }
 
 pub returns-clause-entered : goal.returns-clause-entered
 returns-clause-entered g c =
-    following_last g.D.Digest.digest_of g.S.BlockStore.makes g.S.BlockStore.leaves (at c.args.self) c.loop-held.blocks.entries
+    following_last g.D.Digest.digest_of g.S.BlockStore (at c.args.self) c.loop-held.blocks.entries
     c.args.store.now c.loop-held.store c.loop-held.invariant.following
     (λ some. let none : c.loop-held.blocks.entries ≡ [] = c.in_default.ensures.none in
     absurd (let never : 0 < 0 = subst (λ xs. 0 < length xs) none some in omega (arith, never)))

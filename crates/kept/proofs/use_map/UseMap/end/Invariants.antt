@@ -8,7 +8,7 @@ use Rattle.kept.proofs.use_map.UseMap.end.Given as goal
 abbrev pub invariant-loop-held : goal.invariant-loop-held
 invariant-loop-held g l = record {
   fulls : g.S.BlockStore.fulls l.store ≡ g.S.BlockStore.fulls l.initial.store;
-  following : Following g.D.Digest.digest_of g.S.BlockStore.makes g.S.BlockStore.leaves (at l.fn.self) (listed_at l.blocks.entries)
+  following : Following g.D.Digest.digest_of g.S.BlockStore (at l.fn.self) (listed_at l.blocks.entries)
       l.initial.store l.store;
 }
 

@@ -22,7 +22,7 @@ loop-place-init g c =
       alone = tt;
       uses = subst (λ (m : Uses g.row.D.Denot g.row.A.Denot). AreUses g.D.Digest.digest_of c.args.me (at m)) (sym same) c.requires.uses;
       fulls = refl;
-      entered = stays g.D.Digest.digest_of g.S.BlockStore.makes g.S.BlockStore.leaves c.args.me (has_entry c.args.self.now) (has_entry c.reserve.new.self) c.args.store.now
+      entered = stays g.D.Digest.digest_of g.S.BlockStore c.args.me (has_entry c.args.self.now) (has_entry c.reserve.new.self) c.args.store.now
           (λ q. ap (λ (m : Uses g.row.D.Denot g.row.A.Denot). is_some (at m q)) same);
     }
 
@@ -47,7 +47,7 @@ loop-place-preserved g c =
           (raised_no_other dig c.args.me so_far.self c.raise.new.self (arc_value x) e.raised)));
       uses = uses_raised dig c.args.me (at so_far.self) (at c.raise.new.self) (arc_value x) so_far.invariant.uses e.raised;
       fulls = e.fulls ∙ so_far.invariant.fulls;
-      entered = then dig g.S.BlockStore.makes g.S.BlockStore.leaves c.args.me (has_entry c.args.self.now) (has_entry so_far.self) (has_entry c.raise.new.self)
+      entered = then dig g.S.BlockStore c.args.me (has_entry c.args.self.now) (has_entry so_far.self) (has_entry c.raise.new.self)
           c.args.store.now so_far.store c.raise.new.store so_far.invariant.entered e.entered;
     }
 
@@ -72,8 +72,8 @@ returns-in-Err-clause-entered g c =
     let so_far = c.loop-place in
     let back = c.take_back.ensures.followed c.args.me
     (subst (λ (m : Uses g.row.D.Denot g.row.A.Denot). AreUses g.D.Digest.digest_of c.args.me (at m)) (sym c.in-Err.ensures.unchanged) so_far.invariant.uses) in
-    then g.D.Digest.digest_of g.S.BlockStore.makes g.S.BlockStore.leaves c.args.me (has_entry c.args.self.now) (has_entry c.raise.new.self) (has_entry c.take_back.new.self)
+    then g.D.Digest.digest_of g.S.BlockStore c.args.me (has_entry c.args.self.now) (has_entry c.raise.new.self) (has_entry c.take_back.new.self)
     c.args.store.now c.raise.new.store c.take_back.new.store
-    (then g.D.Digest.digest_of g.S.BlockStore.makes g.S.BlockStore.leaves c.args.me (has_entry c.args.self.now) (has_entry so_far.self) (has_entry c.raise.new.self)
+    (then g.D.Digest.digest_of g.S.BlockStore c.args.me (has_entry c.args.self.now) (has_entry so_far.self) (has_entry c.raise.new.self)
     c.args.store.now so_far.store c.raise.new.store so_far.invariant.entered c.in-Err.ensures.entered)
     back.1

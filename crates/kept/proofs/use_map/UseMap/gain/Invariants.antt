@@ -11,5 +11,5 @@ invariant-loop-place g l = record {
   alone : ComeAlone g.D.Digest.digest_of (counted l.fn.self) (each arc_value (take l.place l.come));
   uses : AreUses g.D.Digest.digest_of l.me (at l.self);
   fulls : g.S.BlockStore.fulls l.store ≡ g.S.BlockStore.fulls l.fn.store;
-  entered : Enters g.D.Digest.digest_of g.S.BlockStore.makes g.S.BlockStore.leaves l.me (has_entry l.fn.self) (has_entry l.self) l.fn.store l.store;
+  entered : Enters g.D.Digest.digest_of g.S.BlockStore l.me (has_entry l.fn.self) (has_entry l.self) l.fn.store l.store;
 }

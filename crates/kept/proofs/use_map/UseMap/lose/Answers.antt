@@ -20,6 +20,6 @@ loop-cid-preserved g c =
           ∙ sym (lost-more before (take so_far.cid-index go) x)
           ∙ ap (lost before) (sym more);
       fulls = c.lower.ensures.fulls ∙ so_far.invariant.fulls;
-      followed = following_on g.D.Digest.digest_of g.S.BlockStore.makes g.S.BlockStore.leaves (at c.args.self.now) (at so_far.self) (at c.lower.new.self)
+      followed = following_on g.D.Digest.digest_of g.S.BlockStore (at c.args.self.now) (at so_far.self) (at c.lower.new.self)
           c.args.store.now so_far.store c.lower.new.store so_far.invariant.followed c.lower.ensures.followed;
     }

@@ -48,7 +48,7 @@ returns-clause-lowered g c =
 
 pub returns-in_default-clause-followed : goal.returns-in_default-clause-followed
 returns-in_default-clause-followed g c =
-    following_first g.D.Digest.digest_of g.S.BlockStore.makes g.S.BlockStore.leaves (at c.args.self.now) (at (map.from_entries c.get_mut.follows.lender-at-none.entries)) c.args.store.now
+    following_first g.D.Digest.digest_of g.S.BlockStore (at c.args.self.now) (at (map.from_entries c.get_mut.follows.lender-at-none.entries)) c.args.store.now
     (λ q. ap (λ m. at (map.from_entries m.entries) q) c.get_mut.follows.holds-at-none
     ∙ ap (λ (n : Uses g.row.D.Denot g.row.A.Denot). at n q) c.self.view_is)
 
@@ -62,10 +62,10 @@ returns-then-lower-clause-followed g c =
     let w = c.get_mut.follows.holds c.lower.new.self in
     let put : Updated (listed_at es) (listed_at fs) k (Some c.lower.new.self) = seen_updated es fs k _ (w.3 (rw (sym seen) refl)).0 in
     let f : Option (Use g.row.D.Denot g.row.A.Denot) → Option (Use g.row.D.Denot g.row.A.Denot) = λ o. lowered_in o in
-    following_lowered g.D.Digest.digest_of g.S.BlockStore.makes g.S.BlockStore.leaves c.args.self.now (map.from_entries fs) c.args.store.now c.args.store.now k
+    following_lowered g.D.Digest.digest_of g.S.BlockStore c.args.self.now (map.from_entries fs) c.args.store.now c.args.store.now k
     (shown_change f es fs c.args.self.now k c.self.view_is
     (lowered_left (listed_at es) (listed_at fs) k c.in-Some.held.now c.lower.new.self here c.lower.ensures.lowered (sym c.lower.ensures.used ∙ c.if-lower.true) put))
-    (λ me are. one_stays g.D.Digest.digest_of g.S.BlockStore.makes g.S.BlockStore.leaves es fs c.args.self.now k c.in-Some.held.now c.lower.new.self me
+    (λ me are. one_stays g.D.Digest.digest_of g.S.BlockStore es fs c.args.self.now k c.in-Some.held.now c.lower.new.self me
     c.args.store.now c.self.view_is here put)
 
 pub returns-clause-followed : goal.returns-clause-followed
@@ -89,9 +89,9 @@ returns-clause-followed g c =
           let gone : w.in-Some-remove.unused ≡ c.lower.new.self = the_same w.in-Some-remove.unused c.lower.new.self
           (w.in-Some-remove.ensures.value ∙ seen_at ms k ∙ still) in
           let left = subst (λ (u : Use g.row.D.Denot g.row.A.Denot). g.S.BlockStore.leaves c.args.store.now u.hold w.give_back.new.store) gone w.give_back.ensures.left in
-          subst (λ (t : g.row.S.Denot). Follows g.D.Digest.digest_of g.S.BlockStore.makes g.S.BlockStore.leaves (at c.args.self.now) (at (map.from_entries fs)) c.args.store.now t) (sym w.store-is)
-          (following_lowered g.D.Digest.digest_of g.S.BlockStore.makes g.S.BlockStore.leaves c.args.self.now (map.from_entries fs) c.args.store.now w.give_back.new.store k changed
-          (one_goes g.D.Digest.digest_of g.S.BlockStore.makes g.S.BlockStore.leaves es ms fs c.args.self.now k c.in-Some.held.now c.lower.new.self c.args.store.now w.give_back.new.store c.self.view_is here
+          subst (λ (t : g.row.S.Denot). Follows g.D.Digest.digest_of g.S.BlockStore (at c.args.self.now) (at (map.from_entries fs)) c.args.store.now t) (sym w.store-is)
+          (following_lowered g.D.Digest.digest_of g.S.BlockStore c.args.self.now (map.from_entries fs) c.args.store.now w.give_back.new.store k changed
+          (one_goes g.D.Digest.digest_of g.S.BlockStore es ms fs c.args.self.now k c.in-Some.held.now c.lower.new.self c.args.store.now w.give_back.new.store c.self.view_is here
           (ap (λ (u : Use g.row.D.Denot g.row.A.Denot). u.hold) c.lower.ensures.lowered) put cut left))
       | in_default-remove w ↦ absurd (none_some c.lower.new.self (w.in_default-remove.ensures.value ∙ seen_at ms k ∙ still))
     ]

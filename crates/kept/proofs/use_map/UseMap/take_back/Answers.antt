@@ -21,7 +21,7 @@ loop-left-preserved g c =
     let first = bytes_of (take i came) in
     let more : bytes_of (take (i + 1) came) ≡ first ++ arc_value x ∷ [] = block_further came i x (omega arith) c.index-came-left.is in
     let name : c.cid.result ≡ cid_of dig (arc_value x) =
-    c.cid.ensures ∙ ap (cid_of dig) c.deref.ensures ∙ ap (λ b. cid_of dig (arc_value b)) c.block.ensures in
+    c.cid.ensures ∙ ap (cid_of dig) c.deref.ensures in
     record {
       within = omega (arith, within);
       taken_back = λ before used alone is.
@@ -32,6 +32,6 @@ loop-left-preserved g c =
           ∙ last-taken_back dig before first (arc_value x) used
           (subst (λ (bs : List (List ℕ)). ComeAlone dig before bs) more (alone_take dig before came (i + 1) alone));
       fulls = c.lower.ensures.fulls ∙ so_far.invariant.fulls;
-      followed = following_on dig g.S.BlockStore.makes g.S.BlockStore.leaves (at c.args.self.now) (at so_far.self) (at c.lower.new.self)
+      followed = following_on dig g.S.BlockStore (at c.args.self.now) (at so_far.self) (at c.lower.new.self)
           c.args.store.now so_far.store c.lower.new.store so_far.invariant.followed c.lower.ensures.followed;
     }

@@ -12,7 +12,7 @@ invariant-loop-left g l = record {
       → counted l.fn.self ≡ gained g.D.Digest.digest_of before (each arc_value l.came)
       → counted l.self ≡ gained g.D.Digest.digest_of before (each arc_value (take l.left l.came));
   fulls : g.S.BlockStore.fulls l.store ≡ g.S.BlockStore.fulls l.fn.store;
-  followed : Follows g.D.Digest.digest_of g.S.BlockStore.makes g.S.BlockStore.leaves (at l.fn.self) (at l.self) l.fn.store l.store;
+  followed : Follows g.D.Digest.digest_of g.S.BlockStore (at l.fn.self) (at l.self) l.fn.store l.store;
 }
 
 abbrev pub decreases-loop-left : goal.decreases-loop-left

@@ -62,6 +62,13 @@ exchange_of-made-requires-clause-changes g c =
     let passes = c.in_ok-changes.ensures.passed s start rev in
     subst (λ (cs : List Change). are_changes (with_cids dig cs) ≡ true) (sym c.in_ok-changes.ensures.changes) (batch-changes dig g.met.D.Digest.digest_len s stamp batch passes)
 
+pub exchange_of-made-requires-clause-tree : goal.exchange_of-made-requires-clause-tree
+exchange_of-made-requires-clause-tree g c =
+    let dig = g.D.Digest.digest_of in
+    let old = c.self.inside in
+    let s = state_view old.kept.me old.limit old.accepted.items old.stamps.items in
+    λ none. none (old_pairs dig s) (core-tree dig g.row.B s old.root old.commit old.kept c.self.invariant g.met.D.Digest.digest_len)
+
 pub returns-in-Err-clause-fault : goal.returns-in-Err-clause-fault
 returns-in-Err-clause-fault g c =
     let dig = g.D.Digest.digest_of in
@@ -101,11 +108,11 @@ returns-in_default-make_room-clause-entered g c =
     let old = c.self.inside in
     let s = state_view old.kept.me old.limit old.accepted.items old.stamps.items in
     let room = c.make_room.ensures in
-    core_entered dig g.row.B g.S.BlockStore.makes g.S.BlockStore.leaves c.args.self.now s _ old.root old.root old.commit old.commit old.kept old.kept
+    core_entered dig g.row.B g.S.BlockStore c.args.self.now s _ old.root old.root old.commit old.commit old.kept old.kept
     c.args.store.now c.args.store.now c.self.view_is refl c.self.invariant refl
     (core-same dig g.row.B s _ old.root old.commit old.kept old.kept c.self.invariant refl
     (state-same old.kept.me old.kept.me old.limit old.accepted.items c.make_room.new.accepted.items old.stamps.items c.make_room.new.stamps.items refl room.same_writes room.same_stamps))
-    (kept_stays dig g.S.BlockStore.makes g.S.BlockStore.leaves old.kept c.args.store.now)
+    (kept_stays dig g.S.BlockStore old.kept c.args.store.now)
 
 pub returns-in-Err-exchange-clause-fault : goal.returns-in-Err-exchange-clause-fault
 returns-in-Err-exchange-clause-fault g c =
@@ -134,7 +141,7 @@ returns-in-Err-exchange-clause-entered g c =
     let s = state_view old.kept.me old.limit old.accepted.items old.stamps.items in
     let room = c.make_room.ensures in
     let same = c.in-Err-exchange.ensures.unchanged in
-    core_entered dig g.row.B g.S.BlockStore.makes g.S.BlockStore.leaves c.args.self.now s _ old.root old.root old.commit old.commit old.kept c.exchange.new.self
+    core_entered dig g.row.B g.S.BlockStore c.args.self.now s _ old.root old.root old.commit old.commit old.kept c.exchange.new.self
     c.args.store.now c.exchange.new.store c.self.view_is refl c.self.invariant refl
     (core-same dig g.row.B s _ old.root old.commit old.kept c.exchange.new.self c.self.invariant same
     (state-same old.kept.me c.exchange.new.self.me old.limit old.accepted.items c.make_room.new.accepted.items old.stamps.items c.make_room.new.stamps.items (ap (λ (k : Keeping). k.me) same) room.same_writes room.same_stamps))
@@ -275,5 +282,5 @@ returns-clause-entered g c =
     (ap (λ (k : Keeping). k.me) c.in-Ok-exchange.ensures.exchanged)
     (grown.writes ∙ ap (λ xs. shared_writes xs ++ shared_writes copies.writes.items) room.same_writes) c.in-Ok-copies_of.ensures.writes
     (grown.stamps ∙ ap (λ xs. stamps_of xs ++ (stamp_of copies.stamp, length now.accepted.items) ∷ []) room.same_stamps) c.in-Ok-copies_of.ensures.stamp in
-    core_entered dig g.row.B g.S.BlockStore.makes g.S.BlockStore.leaves c.args.self.now s _ old.root c.in-Ok.exchange.root old.commit _ old.kept c.exchange.new.self
+    core_entered dig g.row.B g.S.BlockStore c.args.self.now s _ old.root c.in-Ok.exchange.root old.commit _ old.kept c.exchange.new.self
     c.args.store.now c.exchange.new.store c.self.view_is refl c.self.invariant refl (core-after dig g.row.B s _ stamp batch c.in-Ok.exchange.root old.commit old.root c.in-Ok.exchange.commit old.kept c.exchange.new.self c.self.invariant e staged) c.in-Ok-exchange.ensures.entered

@@ -16,7 +16,7 @@ returns-in_ok-finish-in-Nothing-clause-ok g c =
     c.in_ok-finish-in-Nothing.ensures.bytes c.is_none.ensures).1
     ∙ ap (λ (xs : Links). onto xs (LastLink c.args.last)) (sym (ap rows_in c.in-Nothing.is) ∙ c.self.view_is)
 
-pub returns-in_ok-finish-in-Old-clause-ok : goal.returns-in_ok-finish-in-Old-clause-ok
-returns-in_ok-finish-in-Old-clause-ok g c =
-    c.in_ok-finish-in-Old.ensures
-    ∙ ap (λ (xs : Links). onto xs (LastLink c.args.last)) (sym (ap rows_in c.in-Old.is) ∙ c.self.view_is)
+pub returns-in_ok-finish-in-Open-clause-ok : goal.returns-in_ok-finish-in-Open-clause-ok
+returns-in_ok-finish-in-Open-clause-ok g c =
+    c.in_ok-finish-in-Open.ensures
+    ∙ ap (λ (xs : Links). onto xs (LastLink c.args.last)) (sym (ap rows_in c.in-Open.is) ∙ c.self.view_is)

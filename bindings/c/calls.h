@@ -1,0 +1,89 @@
+/* Each call of the library once, over a repository of three records in which one write waits, and an empty one: what the tests of the
+ * heap go through. */
+#include "tizulgech.h"
+#include <stdio.h>
+#include <string.h>
+#define TEXT(s) (const uint8_t *)(s), strlen(s)
+
+static tizulgech_repository repository, empty;
+static uint8_t root[36], cid[36], out[8192], node[4096], proof[4096];
+static size_t node_end, place, size;
+static const size_t key_ends[] = {7, 14}, record_ends[] = {1, 2};
+
+/* The repositories, and the node of the first one's tree. */
+static int is_begun(void) {
+    static const char *keys[] = {"a.b.c/d", "a.b.c/e", "a.b.c/f"};
+    if (tizulgech_open(100, &repository) || tizulgech_open(1, &empty)) return 0;
+    for (int i = 0; i < 3; i++)
+        if (tizulgech_stage(&repository, 0, TEXT(keys[i]), TEXT("\xa1\x61k\x01"))) return 0;
+    if (tizulgech_apply(&repository, TEXT("did:web:a.b"), TEXT("3jzfcijpj2z2a"), &place, root, 36, cid, 36, cid, 36)) return 0;
+    if (tizulgech_prove(&repository, TEXT("a.b.c/d"), proof, sizeof proof, &size)) return 0;
+    node_end = size - 8;
+    memcpy(node, proof + 8, node_end);
+    return tizulgech_stage(&repository, 0, TEXT("a.b.c/g"), TEXT("\xa0")) == TIZULGECH_DONE;
+}
+static void end(void) {
+    tizulgech_close(&repository);
+    tizulgech_close(&empty);
+}
+
+static int of_record(void) { return tizulgech_record_fault(TEXT("\xa1\x61k\x81\xa1\x61k\x01")); }
+static int of_commit_bytes(void) { return tizulgech_commit_bytes(TEXT("did:web:a.b"), TEXT("3jzfcijpj2z2b"), root, 36, out, sizeof out, &size); }
+static int of_tree(void) {
+    static const uint8_t values[72];
+    return tizulgech_tree_apply(node, node_end, &node_end, 1, root, 36, TEXT("a.b.c/da.b.c/z"), key_ends, 2, values, 72, cid, 36, out, sizeof out, &size);
+}
+static int of_verify(void) { return tizulgech_verify(node, node_end, &node_end, 1, root, 36, TEXT("a.b.c/d"), cid, 36); }
+static int of_root_of_tree(void) {
+    uint8_t cids[72];
+    memcpy(cids, root, 36), memcpy(cids + 36, root, 36);
+    return tizulgech_tree_root(TEXT("a.b.c/da.b.c/z"), key_ends, 2, cids, 72, cid, 36, &size);
+}
+static int of_listing(void) {
+    return tizulgech_listing_car(TEXT("did:web:a.b"), TEXT("3jzfcijpj2z2b"), TEXT("a.b.c/da.b.c/z"), key_ends, 2, TEXT("\xa0\xa0"), record_ends, 2, out, sizeof out, &size);
+}
+static int of_open(void) {
+    tizulgech_repository other = {0};
+    int number = tizulgech_open(10, &other);
+    if (other.is_open != (number == 0)) return 1;
+    tizulgech_close(&other);
+    return number;
+}
+static int of_stage(void) {
+    int number = tizulgech_stage(&empty, 1, TEXT("a.b.c/h"), TEXT("\xa0"));
+    return tizulgech_clear(&empty) ? 1 : number;
+}
+static int of_list(void) { return tizulgech_list(&repository, NULL, 0, 9, out, sizeof out, &size); }
+static int of_car(void) { return tizulgech_car(&repository, out, sizeof out, &size); }
+static int of_length(void) { return tizulgech_car_length(&repository, &(uint64_t){0}); }
+static int of_part(void) { return tizulgech_car_part(&repository, 9, out, 99, &size); }
+static int of_prove(void) { return tizulgech_prove(&repository, TEXT("a.b.c/d"), out, sizeof out, &size); }
+
+/* These take no memory. */
+static int of_values(void) {
+    static uint8_t text[59];
+    tizulgech_cid(node, node_end, cid, 36);
+    return memcmp(cid, root, 36) || !tizulgech_cid_text(root, 36, text, 59) || tizulgech_cid_from_text(text, 59, cid, 36)
+        || tizulgech_layer(TEXT("blue")) != 1 || !tizulgech_is_key(TEXT("blue")) || tizulgech_is_repository_key(TEXT("blue"))
+        || !tizulgech_is_did(TEXT("did:web:a.b")) || tizulgech_is_tid(TEXT("1"))
+        || tizulgech_step(node, node_end, TEXT("a.b.c/e"), cid, 36)
+        || tizulgech_stamp_fault(NULL, 0, TEXT("did:web:a.b"), TEXT("1")) != TIZULGECH_BAD_REV;
+}
+static int of_reading(void) {
+    uint64_t number = 0;
+    return tizulgech_get(&repository, TEXT("a.b.c/d"), out, sizeof out, &size) || tizulgech_root(&repository, cid, 36) || memcmp(cid, root, 36)
+        || tizulgech_commit(&repository, cid, 36) || tizulgech_number(&repository, &number) || number != 3;
+}
+
+/* The calls, how many of the library's calls each is, and whether it takes memory. */
+static const struct {
+    const char *name;
+    int (*call)(void);
+    int count, takes_memory;
+} calls[] = {
+    {"record_fault", of_record, 1, 1}, {"commit_bytes", of_commit_bytes, 1, 1}, {"tree_apply", of_tree, 1, 1}, {"verify", of_verify, 1, 1},
+    {"tree_root", of_root_of_tree, 1, 1}, {"listing_car", of_listing, 1, 1}, {"open", of_open, 2, 1}, {"stage", of_stage, 2, 1},
+    {"list", of_list, 1, 1}, {"car", of_car, 1, 1}, {"car_length", of_length, 1, 1}, {"car_part", of_part, 1, 1}, {"prove", of_prove, 1, 1},
+    {"those of values", of_values, 10, 0}, {"those of reading", of_reading, 4, 0},
+};
+enum { CALLS = sizeof calls / sizeof *calls };

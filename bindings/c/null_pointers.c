@@ -1,0 +1,59 @@
+/* A null pointer beside the length 0 is no bytes, in C and in C++.
+ * cc -Itarget/library bindings/c/null_pointers.c target/library/libtizulgech.a, or c++ -x c++ of the same */
+#include "tizulgech.h"
+#include <string.h>
+
+#define KEY (const uint8_t *)"a.b.c/d", 7
+#define DID (const uint8_t *)"did:web:a.b", 11
+#define REV (const uint8_t *)"3jzfcijpj2z2a", 13
+#define RECORD (const uint8_t *)"\xa0", 1
+#define NODE (const uint8_t *)"\xa2\x61\x65\x80\x61\x6c\xf6", 7
+
+static int of_values(void) {
+    uint8_t none[36], cid[36];
+    tizulgech_cid(NULL, 0, none, 36);
+    tizulgech_cid((const uint8_t *)"", 0, cid, 36);
+    return memcmp(none, cid, 36) == 0 && tizulgech_record_fault(NULL, 0) == TIZULGECH_TRUNCATED && tizulgech_layer(NULL, 0) == tizulgech_layer((const uint8_t *)"", 0)
+        && !tizulgech_is_key(NULL, 0) && !tizulgech_is_repository_key(NULL, 0) && !tizulgech_is_did(NULL, 0) && !tizulgech_is_tid(NULL, 0)
+        && tizulgech_cid_from_text(NULL, 0, cid, 36) == TIZULGECH_CID_LENGTH && tizulgech_step(NULL, 0, KEY, cid, 36) == TIZULGECH_BAD_NODE
+        && tizulgech_step(NODE, NULL, 0, cid, 36) == TIZULGECH_NONE && tizulgech_stamp_fault(NULL, 0, DID, REV) == TIZULGECH_DONE
+        && tizulgech_stamp_fault(NULL, 0, NULL, 0, REV) == TIZULGECH_BAD_DID && tizulgech_stamp_fault(NULL, 0, DID, NULL, 0) == TIZULGECH_BAD_REV;
+}
+
+static int of_trees(void) {
+    uint8_t root[36], cid[36];
+    size_t end = 7, size;
+    tizulgech_cid(NODE, root, 36);
+    return tizulgech_commit_bytes(NULL, 0, NULL, 0, root, 36, NULL, 0, &size) == TIZULGECH_SMALL
+        && tizulgech_commit_bytes(DID, REV, NULL, 0, NULL, 0, &size) == TIZULGECH_BAD
+        && tizulgech_tree_apply(NODE, &end, 1, root, 36, NULL, 0, NULL, 0, NULL, 0, cid, 36, NULL, 0, &size) == TIZULGECH_SMALL
+        && tizulgech_tree_apply(NULL, 0, NULL, 0, root, 36, NULL, 0, NULL, 0, NULL, 0, cid, 36, NULL, 0, &size) == TIZULGECH_MISSING
+        && tizulgech_tree_apply(NULL, 0, NULL, 0, NULL, 0, NULL, 0, NULL, 0, NULL, 0, cid, 36, NULL, 0, &size) == TIZULGECH_BAD
+        && tizulgech_verify(NULL, 0, NULL, 0, root, 36, KEY, cid, 36) == TIZULGECH_MISSING
+        && tizulgech_verify(NODE, &end, 1, root, 36, NULL, 0, cid, 36) == TIZULGECH_BAD_KEY
+        && tizulgech_tree_root(NULL, 0, NULL, 0, NULL, 0, cid, 36, &size) == TIZULGECH_DONE && memcmp(cid, root, 36) == 0
+        && tizulgech_listing_car(NULL, 0, NULL, 0, NULL, 0, NULL, 0, NULL, 0, NULL, 0, NULL, 0, &size) == TIZULGECH_SMALL;
+}
+
+static int of_repositories(void) {
+    tizulgech_repository repository = {false, NULL};
+    uint8_t root[36], cid[36];
+    size_t place, size;
+    int well = tizulgech_open(10, &repository) == TIZULGECH_DONE && tizulgech_stage(&repository, 0, NULL, 0, NULL, 0) == TIZULGECH_DONE
+        && tizulgech_apply(&repository, NULL, 0, NULL, 0, &place, root, 36, root, 36, cid, 36) == TIZULGECH_BAD_DID
+        && tizulgech_stage(&repository, 0, KEY, RECORD) == TIZULGECH_DONE && tizulgech_stage(&repository, 3, KEY, NULL, 0) == TIZULGECH_DONE
+        && tizulgech_stage(&repository, 0, KEY, RECORD) == TIZULGECH_DONE
+        && tizulgech_apply(&repository, DID, REV, &place, root, 36, root, 36, cid, 36) == TIZULGECH_DONE
+        && tizulgech_get(&repository, KEY, NULL, 0, &size) == TIZULGECH_SMALL && tizulgech_get(&repository, NULL, 0, NULL, 0, &size) == TIZULGECH_NONE
+        && tizulgech_list(&repository, NULL, 0, 9, NULL, 0, &size) == TIZULGECH_SMALL && tizulgech_list(&repository, NULL, 0, 0, NULL, 0, &size) == TIZULGECH_DONE
+        && tizulgech_car(&repository, NULL, 0, &size) == TIZULGECH_SMALL && tizulgech_car_part(&repository, 0, NULL, 0, &size) == TIZULGECH_DONE && size == 0
+        && tizulgech_prove(&repository, NULL, 0, NULL, 0, &size) == TIZULGECH_SMALL;
+    tizulgech_close(&repository);
+    return well;
+}
+
+int main(void) {
+    if (!of_values()) return 1;
+    if (!of_trees()) return 2;
+    return of_repositories() ? 0 : 3;
+}

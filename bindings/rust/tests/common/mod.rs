@@ -1,0 +1,75 @@
+//! What the tests share: made keys and records, plain maps and trees from scratch, a host's own map of nodes.
+#![allow(dead_code)]
+use std::collections::{BTreeMap, HashMap};
+use tizulgech::*;
+
+pub const DID: &str = "did:web:example.com";
+
+/// A small generator: the tests need no crate.
+pub struct Random(pub u64);
+
+impl Random {
+    pub fn next(&mut self) -> u64 {
+        self.0 ^= self.0 << 13;
+        self.0 ^= self.0 >> 7;
+        self.0 ^= self.0 << 17;
+        self.0
+    }
+
+    pub fn below(&mut self, most: u64) -> u64 {
+        self.next() % most
+    }
+}
+
+pub fn hex(text: &str) -> Vec<u8> {
+    (0..text.len()).step_by(2).map(|at| u8::from_str_radix(&text[at..at + 2], 16).unwrap()).collect()
+}
+
+pub fn key(number: u64) -> String {
+    format!("app.bsky.feed.post/{}", &Cid::of(&number.to_be_bytes()).to_string()[20..33])
+}
+
+pub fn record(number: u64) -> Vec<u8> {
+    [b"\xa1\x64text\x58\x20".as_slice(), &Cid::of(&number.to_le_bytes()).as_bytes()[4..]].concat()
+}
+
+pub fn tid(number: u64) -> String {
+    let letters = b"234567abcdefghijklmnopqrstuvwxyz";
+    (0..13).rev().map(|place| letters[(number >> (5 * place)) as usize % 32] as char).collect()
+}
+
+/// The root of the tree from scratch of these records.
+pub fn scratch(records: &BTreeMap<String, Vec<u8>>) -> Cid {
+    of_scratch(&records.iter().map(|(key, record)| (key.clone(), Cid::of(record))).collect()).0
+}
+
+/// The root and the number of nodes of the tree from scratch of these pairs.
+pub fn of_scratch(pairs: &BTreeMap<String, Cid>) -> (Cid, usize) {
+    tree_root(&pairs.iter().map(|(key, value)| (key.as_str(), *value)).collect::<Vec<_>>()).unwrap()
+}
+
+pub type Nodes = HashMap<Cid, Vec<u8>>;
+
+/// The tree without entries.
+pub fn no_pairs() -> (Cid, Nodes) {
+    let root = tree::EMPTY_ROOT.parse().unwrap();
+    (root, HashMap::from([(root, tree::EMPTY_NODE.to_vec())]))
+}
+
+/// What a host's map of nodes gives.
+pub fn from(nodes: &Nodes) -> impl FnMut(&Cid) -> Result<Option<Vec<u8>>, ()> + '_ {
+    |cid| Ok(nodes.get(cid).cloned())
+}
+
+/// Does an edit to a host's map of nodes, and answers the root and the values before it.
+pub fn change(nodes: &mut Nodes, edit: impl FnOnce(&Nodes) -> tree::Edit) -> (Cid, Vec<Option<Cid>>) {
+    let edit = edit(nodes);
+    for cid in &edit.drop {
+        assert!(nodes.remove(cid).is_some());
+    }
+    for (cid, node) in edit.add {
+        assert_eq!(cid, Cid::of(&node));
+        assert!(nodes.insert(cid, node).is_none());
+    }
+    (edit.root, edit.previous)
+}

@@ -1,4 +1,0 @@
-pub mod Building
-pub mod Paths
-pub mod Records
-pub mod Refusing

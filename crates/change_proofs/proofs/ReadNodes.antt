@@ -1,0 +1,134 @@
+-- The nodes that show changes, from what the batch that undoes them reads.
+use Rattle.std.proofs.Common.{◌≡◌, ℕ, suc, max, List, map, sym, ap, subst, ◌∙◌, Option, Result, Ok, Err}
+use Rattle.std.specs.Prelude.{Contains, IfOk, IfErr, OnOk}
+use Rattle.std.specs.declared.sync.Arc.{Arc}
+use Rattle.spec.specs.Cid.{IsDigest}
+use Rattle.spec.specs.Layer.{layer}
+use Rattle.spec.specs.Tree.{Pair, top, top_layer}
+use Rattle.spec.specs.NodeFormat.{node_bytes}
+use Rattle.spec.specs.Blocks.{ArePairs, ClashesWithNone, nodes, pairs, root as root_of}
+use Rattle.spec.specs.States.{State, records}
+use Rattle.batch_laws.specs.Batch.{AreKeyed}
+use Rattle.batch_laws.specs.Trace.{batch_read}
+use Rattle.edit.specs.Batches.{answer_of as answer_over, most_of, nodes_read}
+use Rattle.edit.specs.Previews.{IsPreview, IsPreviewOf, IsPreviewReason, IsWant}
+use Rattle.edit.specs.declared.outcome.EditFault.{EditFault}
+use Rattle.edit.specs.declared.outcome.EditFault.TheVariants as edits
+use Rattle.change_laws.specs.Told.{KeyChange, undone, DifferBy}
+use Rattle.change_laws.specs.Verdict.{are_told, change_verdict}
+use Rattle.change_laws.specs.Laws.{change_path}
+use Rattle.change_laws.proofs.Showing.{verdict-complete}
+use Rattle.change_proofs.specs.Verdicts.{of_edit}
+use Rattle.change_proofs.specs.Provings.{AreNodes, AreNodesOver, IsFaultOf, IsLackOver, IsOtherValue, IsUntrue, fault_of}
+use Rattle.change_proofs.specs.declared.change_fault.ChangeFault.{ChangeFault}
+use Rattle.change_proofs.specs.declared.change_fault.ChangeFault.TheVariants.{BlockMissing, NotTree, OtherValue, OtherRoot, Clash, NoMemory}
+use Rattle.change_proofs.specs.declared.proving_fault.ProvingFault.{ProvingFault}
+use Rattle.change_proofs.proofs.Judged.{puts-same}
+
+-- what holds of an answer and beside it
+pub ok-with : {T E : Type 0} {P Q : T → Type 0} {R : Type 0} (r : Result T E) → ((x : T) → P x → R → Q x) → IfOk r P → OnOk r R
+    → IfOk r Q
+ok-with (Ok x) f p h = f x p h
+ok-with (Err e) f p h = tt
+
+pub err-with : {T E : Type 0} {P Q : E → Type 0} (r : Result T E) → ((e : E) → P e → Q e) → IfErr r P → IfErr r Q
+err-with (Ok x) f p = tt
+err-with (Err e) f p = f e p
+
+-- ---- over a source that has a tree
+
+-- the nodes that a batch reads are those of the laws
+path-same : (digest : List ℕ → List ℕ) (bits : ℕ) (cs : List KeyChange) (es : List Pair)
+    → nodes_read digest bits (undone cs) es ≡ change_path digest bits cs es
+path-same digest bits cs es =
+    let lay = layer digest bits in
+    ap (λ w. map (node_bytes digest) (batch_read lay (max (suc (top_layer lay es)) w) (undone cs) (top lay es)))
+    (puts-same lay (undone cs))
+
+pub tree-nodes : (digest : List ℕ → List ℕ) (bits : ℕ) (cs : List KeyChange) (es : List Pair) (new : List ℕ)
+    (previous : List (Option (List ℕ))) (read : List (List ℕ)) → IsPreviewOf digest bits (undone cs) es new previous read
+    → are_told 0 previous cs ≡ Ok tt → AreNodes digest bits cs es read
+tree-nodes digest bits cs es new previous read p t = record {
+  told = ap (λ vs. are_told 0 vs cs) (sym p.previous_is) ∙ t;
+  nodes_are = p.read_is ∙ path-same digest bits cs es;
+}
+
+pub tree-other : {D A : Type 0} (digest : List ℕ → List ℕ) (bits : ℕ) (cs : List KeyChange) (es : List Pair) (new : List ℕ)
+    (previous : List (Option (List ℕ))) (read : List (List ℕ)) → IsPreviewOf digest bits (undone cs) es new previous read
+    → (fault : ChangeFault D A) → IsOtherValue previous cs fault → IsFaultOf es cs fault
+tree-other digest bits cs es new previous read p (BlockMissing c) h = h
+tree-other digest bits cs es new previous read p NotTree h = h
+tree-other digest bits cs es new previous read p (OtherValue place) h = ap (λ vs. are_told 0 vs cs) (sym p.previous_is) ∙ h
+tree-other digest bits cs es new previous read p OtherRoot h = h
+tree-other digest bits cs es new previous read p (Clash pair) h = h
+tree-other digest bits cs es new previous read p NoMemory h = tt
+
+pub tree-want : {D A : Type 0} (cs : List KeyChange) (es : List Pair) (fault : EditFault D A) → IsWant fault
+    → IsFaultOf {D = D} {A = A} es cs (of_edit fault)
+tree-want cs es (edits.Missing c) h = h
+tree-want cs es edits.NotTree h = h
+tree-want cs es edits.NoSuchKey h = h
+tree-want cs es (edits.Clash pair) h = h
+tree-want cs es edits.NoMemory h = tt
+
+-- ---- over any source
+
+module _ {A : Type 0} (digest : List ℕ → List ℕ) (bits : ℕ) (gives : List ℕ → Option (Arc (List ℕ) A)) (root : List ℕ)
+    (cs : List KeyChange) where
+  pub over-nodes : (new : List ℕ) (previous : List (Option (List ℕ))) (read : List (List ℕ))
+      → IsPreview digest bits gives (undone cs) root new previous read → are_told 0 previous cs ≡ Ok tt
+      → AreNodesOver digest bits gives root cs read
+  over-nodes new previous read p t = record {
+    new = new;
+    left = p.left;
+    log = p.log;
+    is = p.is;
+    told = λ m shown. ap (λ vs. are_told 0 vs cs) (sym (p.previous_is m shown)) ∙ t;
+    nodes_are = p.read_is;
+  }
+
+  pub over-other : {D : Type 0} (new : List ℕ) (previous : List (Option (List ℕ))) (read : List (List ℕ))
+      → IsPreview digest bits gives (undone cs) root new previous read → (fault : ChangeFault D A)
+      → IsOtherValue previous cs fault → IsLackOver digest bits gives root cs fault
+  over-other new previous read p (BlockMissing c) h = absurd h
+  over-other new previous read p NotTree h = absurd h
+  over-other new previous read p (OtherValue place) h =
+      λ m shown. ap (λ vs. are_told 0 vs cs) (sym (p.previous_is m shown)) ∙ h
+  over-other new previous read p OtherRoot h = h
+  over-other new previous read p (Clash pair) h = h
+  over-other new previous read p NoMemory h = tt
+
+  pub over-lack : {D : Type 0} (fault : EditFault D A)
+      → IsPreviewReason gives (most_of digest bits gives (undone cs) root) (answer_over digest bits gives (undone cs) root) fault
+      → IsLackOver digest bits gives root cs {D = D} (of_edit fault)
+  over-lack (edits.Missing c) h = h
+  over-lack edits.NotTree h = h
+  over-lack edits.NoSuchKey h = absurd h
+  over-lack (edits.Clash pair) h = h
+  over-lack edits.NoMemory h = tt
+
+-- ---- what the nodes show
+
+pub nodes-show : (digest : List ℕ → List ℕ) (bits : ℕ) → IsDigest digest → (cs : List KeyChange) (es : List Pair)
+    → ArePairs es → AreKeyed (undone cs) → (proof : List (List ℕ)) → AreNodes digest bits cs es proof → (old : List Pair)
+    → ArePairs old → DifferBy cs old es → (given : List (List ℕ)) → ClashesWithNone digest (nodes digest bits es) given
+    → ((b : List ℕ) → Contains proof b → Contains given b)
+    → change_verdict digest bits (root_of digest bits old) (root_of digest bits es) given cs ≡ Ok tt
+nodes-show digest bits fits cs es are keyed proof n old are_old differ given free has =
+    verdict-complete digest bits fits old es are_old are given free cs keyed differ
+    (λ b c. has b (subst (λ p. Contains p b) (sym n.nodes_are) c))
+
+-- ---- of a repository
+
+fault-told : {D A : Type 0} (digest : List ℕ → List ℕ) (s : State) (cs : List KeyChange) (fault : ChangeFault D A)
+    → IsFaultOf (pairs digest (records s)) cs fault → IsUntrue digest s cs (fault_of fault)
+fault-told digest s cs (BlockMissing c) h = tt
+fault-told digest s cs NotTree h = tt
+fault-told digest s cs (OtherValue place) h = h
+fault-told digest s cs OtherRoot h = tt
+fault-told digest s cs (Clash pair) h = tt
+fault-told digest s cs NoMemory h = tt
+
+pub told-fault : {D A : Type 0} (digest : List ℕ → List ℕ) (s : State) (cs : List KeyChange) (fault : ChangeFault D A)
+    (told : ProvingFault) → told ≡ fault_of fault → IsFaultOf (pairs digest (records s)) cs fault → IsUntrue digest s cs told
+told-fault digest s cs fault told e h = subst (IsUntrue digest s cs) (sym e) (fault-told digest s cs fault h)

@@ -1,7 +1,0 @@
-use Rattle.std.proofs.Common.{rules}
-use Rattle.spec.specs.Cid.{cid}
-use Rattle.cid.proofs.block.Block.with_digest.Goals as goal
-
-pub invariant_of-result : goal.invariant_of-result
-unfolding cid
-invariant_of-result g c = search rules

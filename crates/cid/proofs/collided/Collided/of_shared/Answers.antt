@@ -1,8 +1,0 @@
-use Rattle.std.proofs.Common.{rules}
-use Rattle.cid.proofs.collided.Collided.of_shared.Goals as goal
-
-pub new-requires : goal.new-requires
-new-requires g c = search rules
-
-pub returns : goal.returns
-returns g c = search rules
