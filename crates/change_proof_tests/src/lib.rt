@@ -12,10 +12,8 @@ mod fixtures;
 #[cfg(test)]
 mod memory;
 #[cfg(test)]
-mod random;
 #[cfg(test)]
 mod refusals;
 #[cfg(test)]
-mod repositories;
 #[cfg(test)]
 mod shown;
