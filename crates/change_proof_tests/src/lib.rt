@@ -12,8 +12,6 @@ mod fixtures;
 #[cfg(test)]
 mod memory;
 #[cfg(test)]
-#[cfg(test)]
 mod refusals;
-#[cfg(test)]
 #[cfg(test)]
 mod shown;

@@ -6,7 +6,6 @@ mod asked_again;
 #[cfg(test)]
 mod atproto;
 #[cfg(test)]
-#[cfg(test)]
 mod example;
 #[cfg(test)]
 mod exports;
