@@ -24,7 +24,7 @@ returns-in-Some-change_proof_in-clause-fault g c =
 
 pub change_proof_in-requires : goal.change_proof_in-requires
 change_proof_in-requires g c =
-    (core_fits (layout (repository.the_row (param 0 g.row.D) (number g.row.B) (param 2 g.row.A) g.D.Digest g.A.Allocator)) c.element-repository.ensures.fits, c.requires.least_bits)
+    (core_fits (layout (repository.the_row (param 0 g.row.D) (number g.row.B) (param 2 g.row.A) g.D.Digest g.A.Allocator)) c.element-repository.ensures.fits, (c.requires.least_bits, c.requires.changes))
 
 pub drop-core-requires-room-T-Destruct : goal.drop-core-requires-room-T-Destruct
 drop-core-requires-room-T-Destruct g c κs within =
