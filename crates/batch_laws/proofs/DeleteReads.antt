@@ -1,6 +1,6 @@
 -- One delete reads the path of its key, what meets where the key stood, and the chain that is pruned, whatever the source
 -- shows.
-use Rattle.std.proofs.Common.{◌≡◌, ℕ, zero, suc, ◌-◌, ◌<◌, ◌≤◌, List, [], ◌∷◌, ◌++◌, refl, sym, ap, subst, ◌∙◌, arith, append_assoc, Option}
+use Rattle.std.proofs.Common.{◌≡◌, ℕ, zero, suc, ◌-◌, ◌<◌, ◌≤◌, List, [], ◌∷◌, ◌++◌, refl, sym, ap, subst, ◌∙◌, arith, append_assoc, Option, Ok, Err}
 use Rattle.std.proofs.lemmas.List.{append-nil}
 use Rattle.std.specs.declared.option.Option.TheVariants.{Some, None}
 use Rattle.std.specs.declared.cmp.Ordering.{Ordering}
@@ -13,7 +13,7 @@ use Rattle.edit_laws.specs.ShapeEdit.{last_shape, layer_of_shape, links_beside, 
 use Rattle.edit_laws.specs.Sources.{gap, value_at, value_from, path_from, path_at, seam_from, delete_seam_from, pruned_from}
 use Rattle.edit_laws.proofs.Orders.{order-equal, order-same, turned, turned_back}
 use Rattle.batch_laws.specs.Batch.{Change}
-use Rattle.batch_laws.specs.Links.{LinkEdge, LinkClear, LinkWaiting, Log, with_read, and_then, log_shown, parting, pairs_in_turn, walking_node, walking, walking_top, Top, topping}
+use Rattle.batch_laws.specs.Links.{LinkEdge, LinkClear, LinkWaiting, Log, with_read, and_then, log_shown, parting, pairs_in_turn, walking_node, walking, walking_top, Top, topping, Step}
 use Rattle.batch_laws.specs.Written.{OnAnswer}
 use Rattle.batch_laws.specs.Paths.{IsWhole, IsWholeAt, IsWholeSeam, IsWholeChain, IsDeleteRead}
 use Rattle.batch_laws.specs.Previous.{previous_top}
@@ -23,17 +23,17 @@ use Rattle.batch_laws.proofs.OnePrevious.{found-enough, one-node, one-part}
 use Rattle.batch_laws.proofs.PutReads.{Reads, after-unread, before-unread, path-none, whole-none, enough}
 use Rattle.batch_laws.proofs.SeamReads.{top_link, top-pair, top-place, seam-left, seam-right, whole-left, whole-right, seam-enough, chain-enough, IsSeam, seam-reads, ChainReads, top-reads}
 
-then-assoc : {A B C : Type 0} (o : Option (A × Log)) (f : A → Log → Option (B × Log)) (g : B → Log → Option (C × Log))
+then-assoc : {A B C : Type 0} (o : Step A) (f : A → Log → Step B) (g : B → Log → Step C)
     → and_then (and_then o f) g ≡ and_then o (λ a l. and_then (f a l) g)
-then-assoc None f g = refl
-then-assoc (Some x) f g = refl
+then-assoc (Err stop) f g = refl
+then-assoc (Ok x) f g = refl
 
 module _ (digest : List ℕ → List ℕ) (shows : List ℕ → Option Shape) (layer : List ℕ → ℕ) (n : ℕ) (key : List ℕ)
     (most : ℕ) where
   abbrev one : List Change
   one = (key, None) ∷ []
 
-  abbrev walked : ℕ → ℕ → Option (List ℕ) → List Change → LinkEdge → Log → Option (LinkEdge × Log)
+  abbrev walked : ℕ → ℕ → Option (List ℕ) → List Change → LinkEdge → Log → Step LinkEdge
   walked k d = walking digest shows layer n k d
 
   -- the links beside the key in the lowest of some nodes
@@ -63,7 +63,7 @@ module _ (digest : List ℕ → List ℕ) (shows : List ℕ → Option Shape) (l
     pair : HasPair s → HasPair t
     prune : s ≡ LinkClear → top_link t ≡ trim_links x y (seam_from shows most x y)
 
-  abbrev two : ℕ → ℕ → Option (List ℕ) → Option (List ℕ) → LinkEdge → Log → Option (LinkEdge × Log)
+  abbrev two : ℕ → ℕ → Option (List ℕ) → Option (List ℕ) → LinkEdge → Log → Step LinkEdge
   two k d x y s log = and_then (walked k (suc d) x [] s log) (walked k (suc d) y [])
 
   joined-none : (d : ℕ) (s : LinkEdge) (log : Log) → Quiet (suc d) s
@@ -94,12 +94,12 @@ module _ (digest : List ℕ → List ℕ) (shows : List ℕ → Option Shape) (l
   )
 
   joined-both : (k d : ℕ) (c b : List ℕ) (s : LinkEdge) (log : Log) → k ≤ most → Quiet (suc d) s
-      → (o : Option (LinkEdge × Log))
+      → (o : Step LinkEdge)
       → Reads o log (flat (seam_from shows k (Some c) (Some b))) (IsSeam digest shows k (Some c) (Some b))
       → Reads (placed digest shows (suc d) s o) log (flat (seam_from shows most (Some c) (Some b)))
       (IsJoined d (Some c) (Some b) s)
-  joined-both k d c b s log l h None j = tt
-  joined-both k d c b s log l h (Some x) j =
+  joined-both k d c b s log l h (Err stop) j = tt
+  joined-both k d c b s log l h (Ok x) j =
       let e = seam-enough shows k most (Some c) (Some b) l j.1.0 in (
         j.0 ∙ ap (λ ss. log.read ++ flat ss) e.0,
         record {
@@ -173,10 +173,10 @@ module _ (digest : List ℕ → List ℕ) (shows : List ℕ → Option Shape) (l
       subst (λ path. Whole m path) (sym (ap (path_from shows k key) q))
       (subst (λ x. IsWholeSeam shows most x.0 x.1) (sym (beside-same m r (below k r) b)) w)
 
-  moved : (o : Option (LinkEdge × Log)) (log : Log) (xs ys : List Shape) (P Q : LinkEdge → Type 0) → xs ≡ ys
+  moved : (o : Step LinkEdge) (log : Log) (xs ys : List Shape) (P Q : LinkEdge → Type 0) → xs ≡ ys
       → ((t : LinkEdge) → P t → Q t) → Reads o log xs P → Reads o log ys Q
-  moved None log xs ys P Q q f j = tt
-  moved (Some x) log xs ys P Q q f j = (j.0 ∙ ap (λ zs. log.read ++ zs) q, f x.0 j.1)
+  moved (Err stop) log xs ys P Q q f j = tt
+  moved (Ok x) log xs ys P Q q f j = (j.0 ∙ ap (λ zs. log.read ++ zs) q, f x.0 j.1)
 
   -- pairs that stay, after what goes
   abbrev IsKept : ℕ → LinkEdge → Type 0
@@ -192,10 +192,10 @@ module _ (digest : List ℕ → List ℕ) (shows : List ℕ → Option Shape) (l
       (λ u log2 p. has u log2 p.1 (walking_node digest shows d (walked k (suc d)) [] u r log2)
       (still-node digest shows layer n k d r u log2 p.0))
     where
-      has : (u : LinkEdge) (log2 : Log) → HasPair u → (o : Option (LinkEdge × Log))
+      has : (u : LinkEdge) (log2 : Log) → HasPair u → (o : Step LinkEdge)
           → Unread o log2 (IsStill digest shows layer n (suc d) u) → Unread o log2 (IsKept d)
-      has u log2 p None j = tt
-      has u log2 p (Some y) j = (j.0, (j.1.0, j.1.1 p))
+      has u log2 p (Err stop) j = tt
+      has u log2 p (Ok y) j = (j.0, (j.1.0, j.1.1 p))
 
   -- the top has a pair that stays
   single-other : (l : Option (List ℕ)) (e : Pair) (r : Shape) (ss : List (Shape × Shape)) (o : Ordering)
@@ -229,10 +229,10 @@ module _ (digest : List ℕ → List ℕ) (shows : List ℕ → Option Shape) (l
       (two-reads k d l x s log q h)
       (λ u log2 j. kept log2 j.whole (rest u log2) (rest-kept k d f r u log2 j.calm)))
     where
-      kept : (log2 : Log) → IsWholeSeam shows most l x → (o : Option (LinkEdge × Log)) → Unread o log2 (IsKept d)
+      kept : (log2 : Log) → IsWholeSeam shows most l x → (o : Step LinkEdge) → Unread o log2 (IsKept d)
           → Unread o log2 (IsHere d l (MoreLinks x f r) s)
-      kept log2 w None j = tt
-      kept log2 w (Some y) j = (j.0, (w, j.1.0, λ p. j.1.1, λ c e o. top-pair y.0 j.1.1))
+      kept log2 w (Err stop) j = tt
+      kept log2 w (Ok y) j = (j.0, (w, j.1.0, λ p. j.1.1, λ c e o. top-pair y.0 j.1.1))
 
   gone-more : (k d : ℕ) (l : Option (List ℕ)) (e : Pair) (r : Shape) (s : LinkEdge) (log : Log) (o : Ordering)
       → order key e.0 ≡ o → k ≤ most → DeletesPart k
@@ -262,10 +262,10 @@ module _ (digest : List ℕ → List ℕ) (shows : List ℕ → Option Shape) (l
       rw q done
     where
       with_path : (log1 : Log) → IsWhole shows k key l → Whole (LastLink l) (path_from shows k key l)
-          → (o : Option (LinkEdge × Log)) → Unread o log1 (IsKept d)
+          → (o : Step LinkEdge) → Unread o log1 (IsKept d)
           → Unread o log1 (λ t. IsWhole shows k key l × Whole (LastLink l) (path_from shows k key l) × IsKept d t)
-      with_path log1 p w None j = tt
-      with_path log1 p w (Some y) j = (j.0, (p, w, j.1))
+      with_path log1 p w (Err stop) j = tt
+      with_path log1 p w (Ok y) j = (j.0, (p, w, j.1))
   gone-more k d l e r s log Equal q z ih rest h =
       let m = MoreLinks l e r in
       let same : order e.0 key ≡ Equal = subst (λ x. order e.0 x ≡ Equal) (sym (order-equal key e.0 q)) (order-same e.0) in
@@ -346,7 +346,7 @@ module _ (digest : List ℕ → List ℕ) (shows : List ℕ → Option Shape) (l
   -- a node that is read, of the path
   gone-shown : (k d : ℕ) (c : List ℕ) (o : Option Shape) (s : LinkEdge) (log : Log) → k ≤ most → DeletesPart k → Quiet d s
       → let path = path_at (path_from shows k key) key o in
-      Reads (and_then (log_shown o log) (walking_node digest shows d (walked k (suc d)) one s)) log
+      Reads (and_then (log_shown c o log) (walking_node digest shows d (walked k (suc d)) one s)) log
       (path ++ flat (seam (LastLink (Some c)) path))
       (λ t. IsWholeAt (IsWhole shows k key) key o × Whole (LastLink (Some c)) path × Calm d t × (HasPair s → HasPair t))
   gone-shown k d c None s log z ih h = tt
@@ -354,11 +354,11 @@ module _ (digest : List ℕ → List ℕ) (shows : List ℕ → Option Shape) (l
       after (walking_node digest shows d (walked k (suc d)) one s m (with_read m log))
       (gone-node k d m s (with_read m log) z ih (quiet-more d s h))
     where
-      after : (x : Option (LinkEdge × Log)) → Reads x (with_read m log) (node_reads k m) (IsGone k d m s)
+      after : (x : Step LinkEdge) → Reads x (with_read m log) (node_reads k m) (IsGone k d m s)
           → Reads x log (m ∷ node_reads k m)
           (λ t. IsWhole shows k key (gap key m) × Whole m (below k m) × Calm d t × (HasPair s → HasPair t))
-      after None j = tt
-      after (Some y) j = (
+      after (Err stop) j = tt
+      after (Ok y) j = (
         j.0 ∙ append_assoc log.read (m ∷ []) (node_reads k m),
         (j.1.path, j.1.whole, calm-less d y.0 j.1.calm, j.1.pair),
       )
@@ -400,11 +400,11 @@ module _ (digest : List ℕ → List ℕ) (shows : List ℕ → Option Shape) (l
   prune-at k d (MoreLinks l e r) log xs q j =
       of (walking_node digest shows d (walked k (suc d)) one LinkClear (MoreLinks l e r) log) j
     where
-      of : (x : Option (LinkEdge × Log)) → Reads x log xs (IsGone k d (MoreLinks l e r) LinkClear)
+      of : (x : Step LinkEdge) → Reads x log xs (IsGone k d (MoreLinks l e r) LinkClear)
           → OnAnswer x (λ u later. top_link u ≡ prune_link key (MoreLinks l e r ∷ below k (MoreLinks l e r))
           (seam (MoreLinks l e r) (below k (MoreLinks l e r))))
-      of None j = tt
-      of (Some y) j = j.1.prune refl
+      of (Err stop) j = tt
+      of (Ok y) j = j.1.prune refl
 
   facts : (k d : ℕ) (m : Shape) (u : LinkEdge) (later : Log) (top : Top) (last : Log) → n ≤ most
       → later.read ≡ m ∷ node_reads k m → IsGone k d m LinkClear u
@@ -424,7 +424,7 @@ module _ (digest : List ℕ → List ℕ) (shows : List ℕ → Option Shape) (l
 
   gone-top : (root : List ℕ) → ((k : List ℕ) → layer k < most) → n ≤ most → (o : Option Shape) → shows root ≡ o
       → let log : Log = record { read = []; made = [] } in
-      OnAnswer (and_then (log_shown o log) (λ s log1. and_then (walking_top digest shows layer n one s log1)
+      OnAnswer (and_then (log_shown root o log) (λ s log1. and_then (walking_top digest shows layer n one s log1)
       (topping digest shows n))) (IsDeleteRead shows layer most key root)
   gone-top root f z None q = tt
   gone-top root f z (Some m) q =
@@ -469,11 +469,11 @@ module _ (digest : List ℕ → List ℕ) (shows : List ℕ → Option Shape) (l
       ends : (u : LinkEdge) (later : Log) → later.read ≡ m ∷ node_reads (layer_of_shape layer m) m
           → IsGone (layer_of_shape layer m) (n - suc (layer_of_shape layer m)) m LinkClear u
           → top_link u ≡ prune_link key (m ∷ below (layer_of_shape layer m) m)
-          (seam m (below (layer_of_shape layer m) m)) → (x : Option (Top × Log))
+          (seam m (below (layer_of_shape layer m) m)) → (x : Step Top)
           → ChainReads digest shows x later (pruned_from shows n (top_link u)) (IsWholeChain shows n (top_link u))
           → OnAnswer x (IsDeleteRead shows layer most key root)
-      ends u later r gone p None j = tt
-      ends u later r gone p (Some x) j =
+      ends u later r gone p (Err stop) j = tt
+      ends u later r gone p (Ok x) j =
           let t = layer_of_shape layer m in
           let i = path gone.path in
           let all = subst (λ xs. Facts xs x.0 x.1) i.0
@@ -486,14 +486,14 @@ module _ (digest : List ℕ → List ℕ) (shows : List ℕ → Option Shape) (l
             previous = λ s r. previous gone.path s r;
           }
 
-      after : (x : Option (LinkEdge × Log))
+      after : (x : Step LinkEdge)
           → Reads x (first_log m) (node_reads (layer_of_shape layer m) m)
           (IsGone (layer_of_shape layer m) (n - suc (layer_of_shape layer m)) m LinkClear)
           → OnAnswer x (λ u later. top_link u ≡ prune_link key (m ∷ below (layer_of_shape layer m) m)
           (seam m (below (layer_of_shape layer m) m)))
           → OnAnswer (and_then x (topping digest shows n)) (IsDeleteRead shows layer most key root)
-      after None j p = tt
-      after (Some x) j p = ends x.0 x.1 j.0 j.1 p (topping digest shows n x.0 x.1) (top-reads digest shows n x.0 x.1)
+      after (Err stop) j p = tt
+      after (Ok x) j p = ends x.0 x.1 j.0 j.1 p (topping digest shows n x.0 x.1) (top-reads digest shows n x.0 x.1)
 
 pub delete-reads : OneDeleteReads
 delete-reads digest shows layer n key most root f z =

@@ -1,5 +1,5 @@
 -- What is written in the end was written rightly on the way.
-use Rattle.std.proofs.Common.{◌≡◌, ℕ, zero, suc, List, [], ◌∷◌, ◌++◌, refl, ap, subst, arith, length-append, Option}
+use Rattle.std.proofs.Common.{◌≡◌, ℕ, zero, suc, List, [], ◌∷◌, ◌++◌, refl, ap, subst, arith, length-append, Option, Ok, Err}
 use Rattle.std.specs.List.{AllByRecursion}
 use Rattle.std.specs.declared.option.Option.TheVariants.{Some, None}
 use Rattle.spec.specs.Tree.{Pair}
@@ -7,7 +7,7 @@ use Rattle.spec.specs.NodeFormat.{Shape, LastLink, MoreLinks}
 use Rattle.edit_laws.specs.ShapeEdit.{close_shapes, last_link}
 use Rattle.batch_laws.specs.Batch.{Change, before, at_key, after, puts, entry}
 use Rattle.batch_laws.specs.Walking.{depth_of}
-use Rattle.batch_laws.specs.Links.{Rows, LinkEdge, LinkClear, LinkWaiting, LinkOpened, Log, with_read, and_then, ask, log_shown, link_edge, rows_in_shape, onto_links, complete, closing, opened_rows, opening, add_row, under_rows, pairing, joined_row, noding, parting, subtreeing, pairs_in_turn, walking_node, walking, Top, pruning_at, pruning, new_top, topping}
+use Rattle.batch_laws.specs.Links.{Rows, LinkEdge, LinkClear, LinkWaiting, LinkOpened, Log, with_read, and_then, ask, log_shown, link_edge, rows_in_shape, onto_links, complete, closing, opened_rows, opening, add_row, under_rows, pairing, joined_row, noding, parting, subtreeing, pairs_in_turn, walking_node, walking, Top, pruning_at, pruning, new_top, topping, Step}
 use Rattle.batch_laws.specs.Written.{GoesOn, IsEarlier, OnAnswer, GoesFrom}
 
 all-front : (P : Shape → Type 0) (xs ys : List Shape) → AllByRecursion P (xs ++ ys) → AllByRecursion P xs
@@ -40,17 +40,17 @@ module _ (P : Shape → Type 0) (empty : P (LastLink None)) where
 
   -- a step, and then another with its answer, which stands for an edge
   onward-earlier : {B : Type 0} (s : LinkEdge) (log : Log) (t : LinkEdge) (mid : Log) (last : B → LinkEdge)
-      (o : Option (B × Log)) → IsEarlier P s log t mid → OnAnswer o (λ b m. IsEarlier P t mid (last b) m)
+      (o : Step B) → IsEarlier P s log t mid → OnAnswer o (λ b m. IsEarlier P t mid (last b) m)
       → OnAnswer o (λ b m. IsEarlier P s log (last b) m)
-  onward-earlier s log t mid last None h k = tt
-  onward-earlier s log t mid last (Some y) h k = then-earlier s log t mid (last y.0) y.1 h k
+  onward-earlier s log t mid last (Err stop) h k = tt
+  onward-earlier s log t mid last (Ok y) h k = then-earlier s log t mid (last y.0) y.1 h k
 
-  pub steps-earlier : {A B : Type 0} (step : Option (A × Log)) (f : A → Log → Option (B × Log)) (s : LinkEdge) (log : Log)
+  pub steps-earlier : {A B : Type 0} (step : Step A) (f : A → Log → Step B) (s : LinkEdge) (log : Log)
       (edge : A → LinkEdge) (last : B → LinkEdge) → OnAnswer step (λ a l. IsEarlier P s log (edge a) l)
       → ((a : A) (l : Log) → OnAnswer (f a l) (λ b m. IsEarlier P (edge a) l (last b) m))
       → OnAnswer (and_then step f) (λ b m. IsEarlier P s log (last b) m)
-  steps-earlier None f s log edge last h k = tt
-  steps-earlier (Some x) f s log edge last h k =
+  steps-earlier (Err stop) f s log edge last h k = tt
+  steps-earlier (Ok x) f s log edge last h k =
       onward-earlier s log (edge x.0) x.1 last (f x.0 x.1) h (k x.0 x.1)
 
   -- the same below some rows
@@ -62,15 +62,15 @@ module _ (P : Shape → Type 0) (empty : P (LastLink None)) where
     reads = h.reads;
   }
 
-  below-earlier : (rows : Rows) (s : LinkEdge) (log : Log) (step : Option (LinkEdge × Log)) → GoesFrom P s log step
+  below-earlier : (rows : Rows) (s : LinkEdge) (log : Log) (step : Step LinkEdge) → GoesFrom P s log step
       → OnAnswer step (λ t later. IsEarlier P (LinkOpened rows s) log (LinkOpened rows t) later)
-  below-earlier rows s log None h = tt
-  below-earlier rows s log (Some x) h = rows-earlier rows s log x.0 x.1 h
+  below-earlier rows s log (Err stop) h = tt
+  below-earlier rows s log (Ok x) h = rows-earlier rows s log x.0 x.1 h
 
-  pub under-earlier : (rows : Rows) (s : LinkEdge) (log : Log) (step : Option (LinkEdge × Log)) → GoesFrom P s log step
+  pub under-earlier : (rows : Rows) (s : LinkEdge) (log : Log) (step : Step LinkEdge) → GoesFrom P s log step
       → GoesFrom P (LinkOpened rows s) log (and_then step (under_rows rows))
-  under-earlier rows s log None h = tt
-  under-earlier rows s log (Some x) h = rows-earlier rows s log x.0 x.1 h
+  under-earlier rows s log (Err stop) h = tt
+  under-earlier rows s log (Ok x) h = rows-earlier rows s log x.0 x.1 h
 
   -- ---- what is complete
 
@@ -115,7 +115,7 @@ module _ (P : Shape → Type 0) (empty : P (LastLink None)) where
       record { written = λ w. record { made = w.made; begun = tt }; reads = omega arith }
 
   opened-earlier : (c : List ℕ) (shown : Option Shape) (log : Log)
-      → OnAnswer (and_then (log_shown shown log) opened_rows)
+      → OnAnswer (and_then (log_shown c shown log) opened_rows)
       (λ o later. IsEarlier P (LinkWaiting c) log (LinkOpened o.0 o.1) later)
   opened-earlier c None log = tt
   opened-earlier c (Some m) log = read-earlier c m log (LinkOpened (rows_in_shape m) (link_edge (last_link m)))
@@ -128,12 +128,12 @@ module _ (P : Shape → Type 0) (empty : P (LastLink None)) where
   opening-earlier shows (LinkOpened rows s) log = same-earlier (LinkOpened rows s) log
 
   -- a node that is read at this place
-  asked-earlier : {B : Type 0} (shown : Option Shape) (s : LinkEdge) (log : Log) (f : Shape → Log → Option (B × Log))
+  asked-earlier : {B : Type 0} (c : List ℕ) (shown : Option Shape) (s : LinkEdge) (log : Log) (f : Shape → Log → Step B)
       (last : B → LinkEdge) → ((m : Shape) (l : Log) → OnAnswer (f m l) (λ b later. IsEarlier P s l (last b) later))
-      → OnAnswer (and_then (log_shown shown log) f) (λ b later. IsEarlier P s log (last b) later)
-  asked-earlier shown s log f last k = steps-earlier (log_shown shown log) f s log (λ m. s) last (asked shown) k
+      → OnAnswer (and_then (log_shown c shown log) f) (λ b later. IsEarlier P s log (last b) later)
+  asked-earlier c shown s log f last k = steps-earlier (log_shown c shown log) f s log (λ m. s) last (asked shown) k
     where
-      asked : (o : Option Shape) → OnAnswer (log_shown o log) (λ m l. IsEarlier P s log s l)
+      asked : (o : Option Shape) → OnAnswer (log_shown c o log) (λ m l. IsEarlier P s log s l)
       asked None = tt
       asked (Some m) =
           let a = length-append log.read (m ∷ []) in
@@ -153,10 +153,10 @@ module _ (P : Shape → Type 0) (empty : P (LastLink None)) where
         (λ o. LinkOpened o.0 o.1) (λ t. t) (opening-earlier shows s log)
         (λ o l. under-earlier o.0 o.1 l (pairing digest shows d e o.1 l) (pairing-earlier d e o.1 l))
 
-    abbrev pub Parts : (Option (List ℕ) → LinkEdge → Log → Option (LinkEdge × Log)) → Type 0
+    abbrev pub Parts : (Option (List ℕ) → LinkEdge → Log → Step LinkEdge) → Type 0
     Parts further = (l : Option (List ℕ)) (s : LinkEdge) (log : Log) → GoesFrom P s log (further l s log)
 
-    pub noding-earlier : (further : Option (List ℕ) → LinkEdge → Log → Option (LinkEdge × Log)) → Parts further
+    pub noding-earlier : (further : Option (List ℕ) → LinkEdge → Log → Step LinkEdge) → Parts further
         → (rows : Rows) (s : LinkEdge) (m : Shape) (log : Log)
         → GoesFrom P (LinkOpened rows s) log (noding digest further rows s m log)
     noding-earlier further h rows s (LastLink l) log = under-earlier rows s log (further l s log) (h l s log)
@@ -175,17 +175,17 @@ module _ (P : Shape → Type 0) (empty : P (LastLink None)) where
         steps-earlier (ask shows b log) (λ t log1. and_then (ask shows c log1)
         (noding digest (parting digest shows k) (rows_in_shape t) (link_edge (last_link t)))) (LinkWaiting b) log
         (λ t. LinkOpened (rows_in_shape t) (link_edge (last_link t))) (λ t. t) (shown (shows b))
-        (λ t l. asked-earlier (shows c) (LinkOpened (rows_in_shape t) (link_edge (last_link t))) l
+        (λ t l. asked-earlier c (shows c) (LinkOpened (rows_in_shape t) (link_edge (last_link t))) l
         (noding digest (parting digest shows k) (rows_in_shape t) (link_edge (last_link t))) (λ u. u)
         (λ m l1. noding-earlier (parting digest shows k) (parting-earlier k) (rows_in_shape t)
         (link_edge (last_link t)) m l1))
       where
-        shown : (o : Option Shape) → OnAnswer (log_shown o log)
+        shown : (o : Option Shape) → OnAnswer (log_shown b o log)
             (λ t l. IsEarlier P (LinkWaiting b) log (LinkOpened (rows_in_shape t) (link_edge (last_link t))) l)
         shown None = tt
         shown (Some t) = read-earlier b t log (LinkOpened (rows_in_shape t) (link_edge (last_link t)))
     parting-earlier (suc k) (Some c) (LinkOpened rows s) log =
-        asked-earlier (shows c) (LinkOpened rows s) log (noding digest (parting digest shows k) rows s) (λ t. t)
+        asked-earlier c (shows c) (LinkOpened rows s) log (noding digest (parting digest shows k) rows s) (λ t. t)
         (λ m l. noding-earlier (parting digest shows k) (parting-earlier k) rows s m l)
 
     pub subtreeing-earlier : (k d : ℕ) (c : List ℕ) (s : LinkEdge) (log : Log)
@@ -206,10 +206,10 @@ module _ (P : Shape → Type 0) (empty : P (LastLink None)) where
         steps-earlier (pairing digest shows (depth p.0) p s log) (pairs_in_turn digest shows depth ps) s log (λ t. t)
         (λ t. t) (pairing-earlier (depth p.0) p s log) (λ t l. pairs-earlier depth ps t l)
 
-    abbrev pub Gaps : (Option (List ℕ) → List Change → LinkEdge → Log → Option (LinkEdge × Log)) → Type 0
+    abbrev pub Gaps : (Option (List ℕ) → List Change → LinkEdge → Log → Step LinkEdge) → Type 0
     Gaps gap = (l : Option (List ℕ)) (cs : List Change) (s : LinkEdge) (log : Log) → GoesFrom P s log (gap l cs s log)
 
-    pub walking_node-earlier : (d : ℕ) (gap : Option (List ℕ) → List Change → LinkEdge → Log → Option (LinkEdge × Log))
+    pub walking_node-earlier : (d : ℕ) (gap : Option (List ℕ) → List Change → LinkEdge → Log → Step LinkEdge)
         → Gaps gap → (cs : List Change) (s : LinkEdge) (m : Shape) (log : Log)
         → GoesFrom P s log (walking_node digest shows d gap cs s m log)
     walking_node-earlier d gap h cs s (LastLink l) log = h l cs s log
@@ -229,17 +229,17 @@ module _ (P : Shape → Type 0) (empty : P (LastLink None)) where
     walking-earlier layer n (suc k) d None cs s log = pairs-earlier (depth_of layer n) (puts cs) s log
     walking-earlier layer n (suc k) d (Some c) [] s log = subtreeing-earlier (suc k) d c s log
     walking-earlier layer n (suc k) d (Some c) (x ∷ cs) s log =
-        asked-earlier (shows c) s log
+        asked-earlier c (shows c) s log
         (walking_node digest shows d (walking digest shows layer n k (suc d)) (x ∷ cs) s) (λ t. t)
         (λ m l. walking_node-earlier d (walking digest shows layer n k (suc d)) (walking-earlier layer n k (suc d))
         (x ∷ cs) s m l)
 
     -- ---- the top
 
-    abbrev Tops : LinkEdge → Log → Option (Top × Log) → Type 0
+    abbrev Tops : LinkEdge → Log → Step Top → Type 0
     Tops s log step = OnAnswer step (λ top later. IsEarlier P s log LinkClear later)
 
-    looks-earlier : (c : List ℕ) (log : Log) (further : List ℕ → Log → Option (Top × Log))
+    looks-earlier : (c : List ℕ) (log : Log) (further : List ℕ → Log → Step Top)
         → ((b : List ℕ) (l : Log) → Tops (LinkWaiting b) l (further b l)) → (o : Option Shape)
         → Tops (LinkWaiting c) log (pruning_at further c log o)
     looks-earlier c log further h None = tt
@@ -277,9 +277,9 @@ module _ (P : Shape → Type 0) (empty : P (LastLink None)) where
     topping-earlier k (LinkOpened [] s) log =
         bare (topping digest shows k s log) (topping-earlier k s log)
       where
-        bare : (o : Option (Top × Log)) → Tops s log o → Tops (LinkOpened [] s) log o
-        bare None h = tt
-        bare (Some x) h = record {
+        bare : (o : Step Top) → Tops s log o → Tops (LinkOpened [] s) log o
+        bare (Err stop) h = tt
+        bare (Ok x) h = record {
           written = λ w. (let i = h.written w in record { made = i.made; begun = ((LastLink None, empty), i.begun) });
           reads = h.reads;
         }

@@ -1,9 +1,9 @@
 -- Links: where nothing waits nothing is read, whatever the source shows.
-use Rattle.std.proofs.Common.{◌≡◌, ℕ, zero, suc, List, [], ◌∷◌, ◌++◌, refl, sym, subst, ◌∙◌, Option}
+use Rattle.std.proofs.Common.{◌≡◌, ℕ, zero, suc, List, [], ◌∷◌, ◌++◌, refl, sym, subst, ◌∙◌, Option, Ok, Err}
 use Rattle.std.specs.declared.option.Option.TheVariants.{Some, None}
 use Rattle.spec.specs.Tree.{Pair}
 use Rattle.spec.specs.NodeFormat.{Shape, LastLink, MoreLinks}
-use Rattle.batch_laws.specs.Links.{Rows, LinkEdge, LinkClear, LinkWaiting, LinkOpened, Log, and_then, closing, add_row, under_rows, pairing, parting, subtreeing, pairs_in_turn, walking_node, walking}
+use Rattle.batch_laws.specs.Links.{Rows, LinkEdge, LinkClear, LinkWaiting, LinkOpened, Log, and_then, closing, add_row, under_rows, pairing, parting, subtreeing, pairs_in_turn, walking_node, walking, Step}
 use Rattle.batch_laws.specs.Written.{OnAnswer}
 
 -- nothing waits on the first d layers
@@ -96,7 +96,7 @@ closing-reads digest (LinkWaiting c) log = refl
 closing-reads digest (LinkOpened rows s) log = closing-reads digest s log
 
 -- a step that reads nothing more
-abbrev pub Unread : Option (LinkEdge × Log) → Log → (LinkEdge → Type 0) → Type 0
+abbrev pub Unread : Step LinkEdge → Log → (LinkEdge → Type 0) → Type 0
 Unread step log P = OnAnswer step (λ t later. (later.read ≡ log.read) × P t)
 
 module _ (digest : List ℕ → List ℕ) (shows : List ℕ → Option Shape) where
@@ -110,10 +110,10 @@ module _ (digest : List ℕ → List ℕ) (shows : List ℕ → Option Shape) wh
   row-calm e rows s log =
       (closing-reads digest s log, (refl, has-more rows ((closing digest s log).0, e) [] LinkClear))
 
-  under-calm : (d : ℕ) (rows : Rows) (step : Option (LinkEdge × Log)) (log : Log) → Unread step log (IsPairAt d)
+  under-calm : (d : ℕ) (rows : Rows) (step : Step LinkEdge) (log : Log) → Unread step log (IsPairAt d)
       → Unread (and_then step (under_rows rows)) log (IsPairAt (suc d))
-  under-calm d rows None log h = tt
-  under-calm d rows (Some x) log h = (h.0, (h.1.0, has-rows rows x.0 h.1.1))
+  under-calm d rows (Err stop) log h = tt
+  under-calm d rows (Ok x) log h = (h.0, (h.1.0, has-rows rows x.0 h.1.1))
 
   pub pairing-calm : (d : ℕ) (e : Pair) (s : LinkEdge) (log : Log) → Calm (suc d) s
       → Unread (pairing digest shows d e s log) log (IsPairAt d)
@@ -130,35 +130,35 @@ module _ (digest : List ℕ → List ℕ) (shows : List ℕ → Option Shape) wh
       → Unread (pairs_in_turn digest shows depth (e ∷ []) s log) log (IsPairAt (depth e.0))
   one-calm depth e s log h = last (pairing digest shows (depth e.0) e s log) (pairing-calm (depth e.0) e s log h)
     where
-      last : (step : Option (LinkEdge × Log)) → Unread step log (IsPairAt (depth e.0))
+      last : (step : Step LinkEdge) → Unread step log (IsPairAt (depth e.0))
           → Unread (and_then step (pairs_in_turn digest shows depth [])) log (IsPairAt (depth e.0))
-      last None h = tt
-      last (Some x) h = h
+      last (Err stop) h = tt
+      last (Ok x) h = h
 
   -- ---- a subtree
 
   -- a step on the layer d layers below
-  abbrev pub placed : ℕ → LinkEdge → Option (LinkEdge × Log) → Option (LinkEdge × Log)
-  placed d s None = None
-  placed d s (Some x) = Some (place d x.0 s, x.1)
+  abbrev pub placed : ℕ → LinkEdge → Step LinkEdge → Step LinkEdge
+  placed d s (Err stop) = Err stop
+  placed d s (Ok x) = Ok (place d x.0 s, x.1)
 
-  placed-under : (rows : Rows) (d : ℕ) (s : LinkEdge) (step : Option (LinkEdge × Log))
+  placed-under : (rows : Rows) (d : ℕ) (s : LinkEdge) (step : Step LinkEdge)
       → and_then (placed d s step) (under_rows rows) ≡ placed (suc d) (LinkOpened rows s) step
-  placed-under rows d s None = refl
-  placed-under rows d s (Some x) = refl
+  placed-under rows d s (Err stop) = refl
+  placed-under rows d s (Ok x) = refl
 
-  placed-clear : (d : ℕ) (step : Option (LinkEdge × Log))
+  placed-clear : (d : ℕ) (step : Step LinkEdge)
       → and_then (placed d LinkClear step) (under_rows []) ≡ placed (suc d) LinkClear step
-  placed-clear d None = refl
-  placed-clear d (Some x) = refl
+  placed-clear d (Err stop) = refl
+  placed-clear d (Ok x) = refl
 
-  placed-zero : (s : LinkEdge) (step : Option (LinkEdge × Log)) → step ≡ placed zero s step
-  placed-zero s None = refl
-  placed-zero s (Some x) = refl
+  placed-zero : (s : LinkEdge) (step : Step LinkEdge) → step ≡ placed zero s step
+  placed-zero s (Err stop) = refl
+  placed-zero s (Ok x) = refl
 
   -- where nothing is
   pub subtree-first : (k d : ℕ) (c : List ℕ) (s : LinkEdge) (log : Log) → Quiet d s
-      → subtreeing digest shows (suc k) d c s log ≡ Some (place d (LinkWaiting c) s, log)
+      → subtreeing digest shows (suc k) d c s log ≡ Ok (place d (LinkWaiting c) s, log)
   subtree-first k zero c s log h = rw h refl
   subtree-first k (suc d) c LinkClear log h = rw (subtree-first k d c LinkClear log (quiet-clear d)) refl
   subtree-first k (suc d) c (LinkWaiting b) log h = absurd h
@@ -189,15 +189,15 @@ module _ (digest : List ℕ → List ℕ) (shows : List ℕ → Option Shape) wh
         rw (subtree-first k d c s log h) (refl, (calm-place d (LinkWaiting c) s h, has-place d (LinkWaiting c) s h))
 
     -- a step, and then another
-    pub unread-then : (step : Option (LinkEdge × Log)) (f : LinkEdge → Log → Option (LinkEdge × Log)) (log : Log)
+    pub unread-then : (step : Step LinkEdge) (f : LinkEdge → Log → Step LinkEdge) (log : Log)
         (P Q : LinkEdge → Type 0) → Unread step log P
         → ((t : LinkEdge) (later : Log) → P t → Unread (f t later) later Q) → Unread (and_then step f) log Q
-    unread-then None f log P Q h k = tt
-    unread-then (Some x) f log P Q h k = same (f x.0 x.1) (k x.0 x.1 h.1)
+    unread-then (Err stop) f log P Q h k = tt
+    unread-then (Ok x) f log P Q h k = same (f x.0 x.1) (k x.0 x.1 h.1)
       where
-        same : (o : Option (LinkEdge × Log)) → Unread o x.1 Q → Unread o log Q
-        same None j = tt
-        same (Some y) j = (j.0 ∙ h.0, j.1)
+        same : (o : Step LinkEdge) → Unread o x.1 Q → Unread o log Q
+        same (Err stop) j = tt
+        same (Ok y) j = (j.0 ∙ h.0, j.1)
 
     pub still-node : (k d : ℕ) (m : Shape) (s : LinkEdge) (log : Log) → Quiet (suc d) s
         → Unread (walking_node digest shows d (walking digest shows layer n k (suc d)) [] s m log) log (IsStill (suc d) s)
@@ -213,7 +213,7 @@ module _ (digest : List ℕ → List ℕ) (shows : List ℕ → Option Shape) wh
         (λ u log2 p. kept (walking_node digest shows d gap [] u r log2) log2 u p.1
         (still-node k d r u log2 p.0)))
       where
-        kept : (o : Option (LinkEdge × Log)) (log2 : Log) (u : LinkEdge) → HasPair u → Unread o log2 (IsStill (suc d) u)
+        kept : (o : Step LinkEdge) (log2 : Log) (u : LinkEdge) → HasPair u → Unread o log2 (IsStill (suc d) u)
             → Unread o log2 (IsStill (suc d) s)
-        kept None log2 u p j = tt
-        kept (Some y) log2 u p j = (j.0, (j.1.0, λ q. j.1.1 p))
+        kept (Err stop) log2 u p j = tt
+        kept (Ok y) log2 u p j = (j.0, (j.1.0, λ q. j.1.1 p))

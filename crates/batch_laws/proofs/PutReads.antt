@@ -1,5 +1,5 @@
 -- One put reads the path of its key, whatever the source shows.
-use Rattle.std.proofs.Common.{◌≡◌, ℕ, zero, suc, ◌-◌, ◌<◌, ◌≤◌, List, [], ◌∷◌, ◌++◌, refl, sym, ap, subst, ◌∙◌, arith, append_assoc, Option}
+use Rattle.std.proofs.Common.{◌≡◌, ℕ, zero, suc, ◌-◌, ◌<◌, ◌≤◌, List, [], ◌∷◌, ◌++◌, refl, sym, ap, subst, ◌∙◌, arith, append_assoc, Option, Ok, Err}
 use Rattle.std.proofs.lemmas.List.{append-nil}
 use Rattle.std.specs.declared.option.Option.TheVariants.{Some, None}
 use Rattle.std.specs.declared.cmp.Ordering.{Ordering}
@@ -12,41 +12,41 @@ use Rattle.edit_laws.specs.Sources.{gap, path_from, path_at}
 use Rattle.edit_laws.proofs.Orders.{order-equal, order-same, turned, turned_back}
 use Rattle.batch_laws.specs.Batch.{Change, puts}
 use Rattle.batch_laws.specs.Walking.{depth_of}
-use Rattle.batch_laws.specs.Links.{LinkEdge, LinkClear, LinkWaiting, LinkOpened, Log, with_read, and_then, log_shown, pairs_in_turn, walking_node, walking, Top, topping, walking_top}
+use Rattle.batch_laws.specs.Links.{LinkEdge, LinkClear, LinkWaiting, LinkOpened, Log, with_read, and_then, log_shown, pairs_in_turn, walking_node, walking, Top, topping, walking_top, Step}
 use Rattle.batch_laws.specs.Written.{OnAnswer}
 use Rattle.batch_laws.specs.Paths.{IsWhole, IsWholeAt, IsPathRead}
 use Rattle.batch_laws.specs.Laws.Reads.{OnePutReadsPath}
 use Rattle.batch_laws.proofs.LinkQuiet.{Calm, Quiet, HasPair, calm-quiet, calm-less, quiet-more, closing-reads, Unread, IsPairAt, one-calm, IsStill, still-part, still-node, unread-then}
 
 -- a step that reads just this
-abbrev pub Reads : Option (LinkEdge × Log) → Log → List Shape → (LinkEdge → Type 0) → Type 0
+abbrev pub Reads : Step LinkEdge → Log → List Shape → (LinkEdge → Type 0) → Type 0
 Reads step log xs P = OnAnswer step (λ t later. (later.read ≡ log.read ++ xs) × P t)
 
 -- with a step before it, or after it, that reads nothing
-pub after-unread : (step : Option (LinkEdge × Log)) (f : LinkEdge → Log → Option (LinkEdge × Log)) (log : Log)
+pub after-unread : (step : Step LinkEdge) (f : LinkEdge → Log → Step LinkEdge) (log : Log)
     (xs : List Shape) (P Q : LinkEdge → Type 0) → Unread step log P
     → ((t : LinkEdge) (later : Log) → P t → Reads (f t later) later xs Q) → Reads (and_then step f) log xs Q
-after-unread None f log xs P Q h k = tt
-after-unread (Some x) f log xs P Q h k = same (f x.0 x.1) (k x.0 x.1 h.1)
+after-unread (Err stop) f log xs P Q h k = tt
+after-unread (Ok x) f log xs P Q h k = same (f x.0 x.1) (k x.0 x.1 h.1)
   where
-    same : (o : Option (LinkEdge × Log)) → Reads o x.1 xs Q → Reads o log xs Q
-    same None j = tt
-    same (Some y) j = (j.0 ∙ ap (λ t. t ++ xs) h.0, j.1)
+    same : (o : Step LinkEdge) → Reads o x.1 xs Q → Reads o log xs Q
+    same (Err stop) j = tt
+    same (Ok y) j = (j.0 ∙ ap (λ t. t ++ xs) h.0, j.1)
 
-pub before-unread : (step : Option (LinkEdge × Log)) (f : LinkEdge → Log → Option (LinkEdge × Log)) (log : Log)
+pub before-unread : (step : Step LinkEdge) (f : LinkEdge → Log → Step LinkEdge) (log : Log)
     (xs : List Shape) (P Q : LinkEdge → Type 0) → Reads step log xs P
     → ((t : LinkEdge) (later : Log) → P t → Unread (f t later) later Q) → Reads (and_then step f) log xs Q
-before-unread None f log xs P Q h k = tt
-before-unread (Some x) f log xs P Q h k = same (f x.0 x.1) (k x.0 x.1 h.1)
+before-unread (Err stop) f log xs P Q h k = tt
+before-unread (Ok x) f log xs P Q h k = same (f x.0 x.1) (k x.0 x.1 h.1)
   where
-    same : (o : Option (LinkEdge × Log)) → Unread o x.1 Q → Reads o log xs Q
-    same None j = tt
-    same (Some y) j = (j.0 ∙ h.0, j.1)
+    same : (o : Step LinkEdge) → Unread o x.1 Q → Reads o log xs Q
+    same (Err stop) j = tt
+    same (Ok y) j = (j.0 ∙ h.0, j.1)
 
-pub reads-nothing : (step : Option (LinkEdge × Log)) (log : Log) (P Q : LinkEdge → Type 0)
+pub reads-nothing : (step : Step LinkEdge) (log : Log) (P Q : LinkEdge → Type 0)
     → ((t : LinkEdge) → P t → Q t) → Unread step log P → Reads step log [] Q
-reads-nothing None log P Q f h = tt
-reads-nothing (Some x) log P Q f h = (h.0 ∙ sym (append-nil log.read), f x.0 h.1)
+reads-nothing (Err stop) log P Q f h = tt
+reads-nothing (Ok x) log P Q f h = (h.0 ∙ sym (append-nil log.read), f x.0 h.1)
 
 pub path-none : (shows : List ℕ → Option Shape) (k : ℕ) (key : List ℕ) → path_from shows k key None ≡ []
 path-none shows zero key = refl
@@ -81,7 +81,7 @@ module _ (digest : List ℕ → List ℕ) (shows : List ℕ → Option Shape) (l
   abbrev one : List Change
   one = (key, Some value) ∷ []
 
-  abbrev walked : ℕ → ℕ → Option (List ℕ) → List Change → LinkEdge → Log → Option (LinkEdge × Log)
+  abbrev walked : ℕ → ℕ → Option (List ℕ) → List Change → LinkEdge → Log → Step LinkEdge
   walked k d = walking digest shows layer n k d
 
   -- the path is whole, nothing waits, and there is a pair
@@ -114,10 +114,10 @@ module _ (digest : List ℕ → List ℕ) (shows : List ℕ → Option Shape) (l
       (λ u log2 p. with_pair u log2 p.1 (walking_node digest shows d (walked k (suc d)) [] u r log2)
       (still-node digest shows layer n k d r u log2 p.0))
     where
-      with_pair : (u : LinkEdge) (log2 : Log) → HasPair u → (o : Option (LinkEdge × Log))
+      with_pair : (u : LinkEdge) (log2 : Log) → HasPair u → (o : Step LinkEdge)
           → Unread o log2 (IsStill digest shows layer n (suc d) u) → Unread o log2 (IsPut k (suc d) l)
-      with_pair u log2 p None j = tt
-      with_pair u log2 p (Some y) j = (j.0, (w, j.1.0, j.1.1 p))
+      with_pair u log2 p (Err stop) j = tt
+      with_pair u log2 p (Ok y) j = (j.0, (w, j.1.0, j.1.1 p))
 
   abbrev PutsNode : ℕ → ℕ → Shape → LinkEdge → Log → Type 0
   PutsNode k d m s log = Reads (walking_node digest shows d (walked k (suc d)) one s m log) log
@@ -162,21 +162,21 @@ module _ (digest : List ℕ → List ℕ) (shows : List ℕ → Option Shape) (l
       put-more k d l e r s log (order key e.0) refl ih (λ t later. put-node k d r t later ih) h
 
   -- a node that is read, of the path
-  put-shown : (k d : ℕ) (o : Option Shape) (s : LinkEdge) (log : Log) → PutsPart k → Quiet d s
-      → Reads (and_then (log_shown o log) (walking_node digest shows d (walked k (suc d)) one s)) log
+  put-shown : (k d : ℕ) (c : List ℕ) (o : Option Shape) (s : LinkEdge) (log : Log) → PutsPart k → Quiet d s
+      → Reads (and_then (log_shown c o log) (walking_node digest shows d (walked k (suc d)) one s)) log
       (path_at (path_from shows k key) key o)
       (λ t. IsWholeAt (IsWhole shows k key) key o × Calm d t × HasPair t)
-  put-shown k d None s log ih h = tt
-  put-shown k d (Some m) s log ih h =
+  put-shown k d c None s log ih h = tt
+  put-shown k d c (Some m) s log ih h =
       after (walking_node digest shows d (walked k (suc d)) one s m (with_read m log))
       (put-node k d m s (with_read m log) ih (quiet-more d s h))
     where
-      after : (o : Option (LinkEdge × Log))
+      after : (o : Step LinkEdge)
           → Reads o (with_read m log) (path_from shows k key (gap key m)) (IsPut k (suc d) (gap key m))
           → Reads o log (m ∷ path_from shows k key (gap key m))
           (λ t. IsWhole shows k key (gap key m) × Calm d t × HasPair t)
-      after None j = tt
-      after (Some y) j = (
+      after (Err stop) j = tt
+      after (Ok y) j = (
         j.0 ∙ append_assoc log.read (m ∷ []) (path_from shows k key (gap key m)),
         (j.1.0, calm-less d y.0 j.1.1, j.1.2),
       )
@@ -185,7 +185,7 @@ module _ (digest : List ℕ → List ℕ) (shows : List ℕ → Option Shape) (l
   put-part zero d None s log h = put-nothing zero d s log h
   put-part zero d (Some c) s log h = tt
   put-part (suc k) d None s log h = put-nothing (suc k) d s log h
-  put-part (suc k) d (Some c) s log h = put-shown k d (shows c) s log (put-part k) h
+  put-part (suc k) d (Some c) s log h = put-shown k d c (shows c) s log (put-part k) h
 
   -- ---- the whole tree
 
@@ -198,7 +198,7 @@ module _ (digest : List ℕ → List ℕ) (shows : List ℕ → Option Shape) (l
 
   put-top : (m : ℕ) (root : List ℕ) → ((k : List ℕ) → layer k < m) → (o : Option Shape) → shows root ≡ o
       → let log : Log = record { read = []; made = [] } in
-      OnAnswer (and_then (log_shown o log) (λ s log1. and_then (walking_top digest shows layer n one s log1)
+      OnAnswer (and_then (log_shown root o log) (λ s log1. and_then (walking_top digest shows layer n one s log1)
       (topping digest shows n))) (IsPathRead shows m key root)
   put-top m root f None q = tt
   put-top m root f (Some s) q =
@@ -226,18 +226,18 @@ module _ (digest : List ℕ → List ℕ) (shows : List ℕ → Option Shape) (l
           (ap (path_at (path_from shows t key) key) (sym q) ∙ i.0, i.1)
 
       ends : (u : LinkEdge) (later : Log) → later.read ≡ s ∷ path_from shows (layer_of_shape layer s) key (gap key s)
-          → IsWhole shows (layer_of_shape layer s) key (gap key s) → (x : Option (Top × Log))
+          → IsWhole shows (layer_of_shape layer s) key (gap key s) → (x : Step Top)
           → OnAnswer x (λ top last. (last.read ≡ later.read) × (top.1 ≡ [])) → OnAnswer x (IsPathRead shows m key root)
-      ends u later r w None j = tt
-      ends u later r w (Some x) j =
+      ends u later r w (Err stop) j = tt
+      ends u later r w (Ok x) j =
           let i = path w in record { whole = i.1; read_is = j.0 ∙ r ∙ i.0; none_left = j.1 }
 
-      after : (x : Option (LinkEdge × Log))
+      after : (x : Step LinkEdge)
           → Reads x log1 (path_from shows (layer_of_shape layer s) key (gap key s))
           (IsPut (layer_of_shape layer s) (suc (n - suc (layer_of_shape layer s))) (gap key s))
           → OnAnswer (and_then x (topping digest shows n)) (IsPathRead shows m key root)
-      after None j = tt
-      after (Some x) j = ends x.0 x.1 j.0 j.1.0 (topping digest shows n x.0 x.1) (top-unread n x.0 x.1 j.1.2)
+      after (Err stop) j = tt
+      after (Ok x) j = ends x.0 x.1 j.0 j.1.0 (topping digest shows n x.0 x.1) (top-unread n x.0 x.1 j.1.2)
 
 pub put-reads_path : OnePutReadsPath
 put-reads_path digest shows layer n key value m root f =

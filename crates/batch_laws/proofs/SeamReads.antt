@@ -1,5 +1,5 @@
 -- Where two subtrees come one after the other, what meets is read; and a chain is read down to its first node with a pair.
-use Rattle.std.proofs.Common.{◌≡◌, ℕ, zero, suc, ◌≤◌, List, [], ◌∷◌, ◌++◌, refl, sym, ap, ◌∙◌, arith, append_assoc, Option}
+use Rattle.std.proofs.Common.{◌≡◌, ℕ, zero, suc, ◌≤◌, List, [], ◌∷◌, ◌++◌, refl, sym, ap, ◌∙◌, arith, append_assoc, Option, Ok, Err}
 use Rattle.std.proofs.lemmas.List.{append-nil}
 use Rattle.std.specs.declared.option.Option.TheVariants.{Some, None}
 use Rattle.spec.specs.Tree.{Pair}
@@ -7,7 +7,7 @@ use Rattle.spec.specs.NodeFormat.{Shape, LastLink, MoreLinks, first_link}
 use Rattle.edit_laws.specs.PathEdit.{flat}
 use Rattle.edit_laws.specs.ShapeEdit.{last_link, one_link, trim_links}
 use Rattle.edit_laws.specs.Sources.{shown, seam_at, seam_from, pruned_at, pruned_from}
-use Rattle.batch_laws.specs.Links.{Rows, LinkEdge, LinkClear, LinkWaiting, LinkOpened, Log, with_read, and_then, log_shown, link_edge, rows_in_shape, closing, under_rows, joined_row, noding, parting, Top, pruning_at, pruning, topping}
+use Rattle.batch_laws.specs.Links.{Rows, LinkEdge, LinkClear, LinkWaiting, LinkOpened, Log, with_read, and_then, log_shown, link_edge, rows_in_shape, closing, under_rows, joined_row, noding, parting, Top, pruning_at, pruning, topping, Step}
 use Rattle.batch_laws.specs.Written.{OnAnswer}
 use Rattle.batch_laws.specs.Paths.{IsWholeSeam, IsWholeSeamAt, IsWholeChain, IsWholeChainAt}
 use Rattle.batch_laws.proofs.LinkQuiet.{HasPair, place, closing-reads}
@@ -150,12 +150,12 @@ module _ (digest : List ℕ → List ℕ) (shows : List ℕ → Option Shape) wh
       → Two k s t log
   seam-two k ih (LastLink p) (LastLink q) log = after (parting digest shows k q (link_edge p) _) (ih p q _)
     where
-      after : (o : Option (LinkEdge × Log))
+      after : (o : Step LinkEdge)
           → Reads o (with_read (LastLink q) (with_read (LastLink p) log)) (flat (seam_from shows k p q)) (IsSeam k p q)
           → Reads (and_then o (under_rows [])) log (LastLink p ∷ LastLink q ∷ flat (seam_from shows k p q))
           (λ u. IsWholeSeam shows k p q × (top_link u ≡ trim_links p q (seam_from shows k p q)))
-      after None j = tt
-      after (Some x) j = (
+      after (Err stop) j = tt
+      after (Ok x) j = (
         j.0 ∙ append_assoc (log.read ++ (LastLink p ∷ [])) (LastLink q ∷ []) (flat (seam_from shows k p q))
             ∙ two-more log (LastLink p) (LastLink q) (flat (seam_from shows k p q)),
         (j.1.0, j.1.1),
@@ -163,14 +163,14 @@ module _ (digest : List ℕ → List ℕ) (shows : List ℕ → Option Shape) wh
   seam-two k ih (MoreLinks p e r) (LastLink q) log =
       after (parting digest shows k q (link_edge (last_link r)) _) (ih (last_link r) q _)
     where
-      after : (o : Option (LinkEdge × Log))
+      after : (o : Step LinkEdge)
           → Reads o (with_read (LastLink q) (with_read (MoreLinks p e r) log)) (flat (seam_from shows k (last_link r) q))
           (IsSeam k (last_link r) q)
           → Reads (and_then o (under_rows ((p, e) ∷ rows_in_shape r))) log
           (MoreLinks p e r ∷ LastLink q ∷ flat (seam_from shows k (last_link r) q))
           (λ u. IsWholeSeam shows k (last_link r) q × (top_link u ≡ None))
-      after None j = tt
-      after (Some x) j = (
+      after (Err stop) j = tt
+      after (Ok x) j = (
         j.0 ∙ append_assoc (log.read ++ (MoreLinks p e r ∷ [])) (LastLink q ∷ []) (flat (seam_from shows k (last_link r) q))
             ∙ two-more log (MoreLinks p e r) (LastLink q) (flat (seam_from shows k (last_link r) q)),
         (j.1.0, refl),
@@ -182,15 +182,15 @@ module _ (digest : List ℕ → List ℕ) (shows : List ℕ → Option Shape) wh
       none (LastLink p) ss = refl
       none (MoreLinks p e r) ss = refl
 
-      after : (o : Option (LinkEdge × Log))
+      after : (o : Step LinkEdge)
           → Reads o (with_read (MoreLinks q f t) (with_read s log)) (flat (seam_from shows k (last_link s) q))
           (IsSeam k (last_link s) q)
           → Reads (and_then o (λ u log1. joined_row f (rows_in_shape s) t (closing digest u log1))) log
           (s ∷ MoreLinks q f t ∷ flat (seam_from shows k (last_link s) q))
           (λ u. IsWholeSeam shows k (last_link s) q
           × (top_link u ≡ trim_links None None ((s, MoreLinks q f t) ∷ seam_from shows k (last_link s) q)))
-      after None j = tt
-      after (Some x) j = (
+      after (Err stop) j = tt
+      after (Ok x) j = (
         closing-reads digest x.0 x.1 ∙ j.0
             ∙ append_assoc (log.read ++ (s ∷ [])) (MoreLinks q f t ∷ []) (flat (seam_from shows k (last_link s) q))
             ∙ two-more log s (MoreLinks q f t) (flat (seam_from shows k (last_link s) q)),
@@ -204,7 +204,7 @@ module _ (digest : List ℕ → List ℕ) (shows : List ℕ → Option Shape) wh
   -- both nodes are read
   seam-shown : (k : ℕ) (c d : List ℕ) (o p : Option Shape)
       → ((x y : Option (List ℕ)) (log : Log) → SeamReads k x y log) → (log : Log)
-      → Reads (and_then (log_shown o log) (λ t log1. and_then (log_shown p log1)
+      → Reads (and_then (log_shown c o log) (λ t log1. and_then (log_shown d p log1)
       (noding digest (parting digest shows k) (rows_in_shape t) (link_edge (last_link t))))) log
       (flat (seam_at (seam_from shows k) o p))
       (λ u. IsWholeSeamAt (IsWholeSeam shows k) o p
@@ -221,15 +221,15 @@ module _ (digest : List ℕ → List ℕ) (shows : List ℕ → Option Shape) wh
       same (LastLink p) (MoreLinks q e r) ss = refl
       same (MoreLinks p e r) t ss = refl
 
-      links : (s t : Shape) (x : Option (LinkEdge × Log))
+      links : (s t : Shape) (x : Step LinkEdge)
           → Reads x log (s ∷ t ∷ flat (seam_from shows k (last_link s) (first_link t)))
           (λ u. IsWholeSeam shows k (last_link s) (first_link t)
           × (top_link u ≡ trim_links None None ((s, t) ∷ seam_from shows k (last_link s) (first_link t))))
           → Reads x log (s ∷ t ∷ flat (seam_from shows k (last_link s) (first_link t)))
           (λ u. IsWholeSeam shows k (last_link s) (first_link t)
           × (top_link u ≡ trim_links (Some c) (Some d) ((s, t) ∷ seam_from shows k (last_link s) (first_link t))))
-      links s t None j = tt
-      links s t (Some y) j = (j.0, (j.1.0, j.1.1 ∙ same s t (seam_from shows k (last_link s) (first_link t))))
+      links s t (Err stop) j = tt
+      links s t (Ok y) j = (j.0, (j.1.0, j.1.1 ∙ same s t (seam_from shows k (last_link s) (first_link t))))
 
   pub seam-reads : (k : ℕ) (x y : Option (List ℕ)) (log : Log) → SeamReads k x y log
   seam-reads zero x None log = right-alone zero x log
@@ -240,7 +240,7 @@ module _ (digest : List ℕ → List ℕ) (shows : List ℕ → Option Shape) wh
 
   -- ---- the chain, and the top
 
-  abbrev pub ChainReads : Option (Top × Log) → Log → List Shape → Type 0 → Type 0
+  abbrev pub ChainReads : Step Top → Log → List Shape → Type 0 → Type 0
   ChainReads step log xs P = OnAnswer step (λ top later. (later.read ++ top.1 ≡ log.read ++ xs) × P)
 
   chain-at : (k : ℕ) (c : List ℕ) (o : Option Shape) (log : Log)
@@ -254,11 +254,11 @@ module _ (digest : List ℕ → List ℕ) (shows : List ℕ → Option Shape) wh
   chain-at k c (Some (LastLink (Some b))) log ih =
       after (pruning shows k b (with_read (LastLink (Some b)) log)) (ih b (with_read (LastLink (Some b)) log))
     where
-      after : (o : Option (Top × Log))
+      after : (o : Step Top)
           → ChainReads o (with_read (LastLink (Some b)) log) (pruned_from shows k (Some b)) (IsWholeChain shows k (Some b))
           → ChainReads o log (LastLink (Some b) ∷ pruned_from shows k (Some b)) (IsWholeChain shows k (Some b))
-      after None j = tt
-      after (Some x) j =
+      after (Err stop) j = tt
+      after (Ok x) j =
           (j.0 ∙ append_assoc log.read (LastLink (Some b) ∷ []) (pruned_from shows k (Some b)), j.1)
   chain-at k c (Some (MoreLinks l e r)) log ih = (refl, tt)
 

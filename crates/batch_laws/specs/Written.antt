@@ -1,9 +1,9 @@
 -- What a batch writes on its way. Nodes that are made stay made, and rows that are open stay the front of a node: so what
 -- holds of all nodes in the end, as that their keys ascend, never fails before.
-use Rattle.std.specs.Prelude.{◌≤◌, length, Option, Some, None}
+use Rattle.std.specs.Prelude.{◌≤◌, length, Ok, Err}
 use Rattle.std.specs.List.{AllByRecursion}
 use Rattle.spec.specs.NodeFormat.{Shape}
-use Rattle.batch_laws.specs.Links.{Rows, LinkEdge, LinkClear, LinkWaiting, LinkOpened, Log, onto_links}
+use Rattle.batch_laws.specs.Links.{Rows, LinkEdge, LinkClear, LinkWaiting, LinkOpened, Log, Step, onto_links}
 
 -- some node of which P holds begins with these rows
 abbrev pub GoesOn : (Shape → Type 0) → Rows → Type 0
@@ -25,10 +25,10 @@ pub record IsEarlier (P : Shape → Type 0) (s : LinkEdge) (log : Log) (t : Link
   pub reads : length log.read ≤ length later.read
 
 -- where a step has an answer
-abbrev pub OnAnswer : {A : Type 0} → Option (A × Log) → (A → Log → Type 0) → Type 0
-OnAnswer None P = Unit {0}
-OnAnswer (Some x) P = P x.0 x.1
+abbrev pub OnAnswer : {A : Type 0} → Step A → (A → Log → Type 0) → Type 0
+OnAnswer (Err stop) P = Unit {0}
+OnAnswer (Ok x) P = P x.0 x.1
 
 -- a step that answers an edge goes on from this one
-abbrev pub GoesFrom : (Shape → Type 0) → LinkEdge → Log → Option (LinkEdge × Log) → Type 0
+abbrev pub GoesFrom : (Shape → Type 0) → LinkEdge → Log → Step LinkEdge → Type 0
 GoesFrom P s log step = OnAnswer step (λ t later. IsEarlier P s log t later)

@@ -1,6 +1,6 @@
 -- Over a source that may lack nodes of a tree and shows no other node in the place of one: a batch has an answer just where
 -- each node that it reads is shown, and then links do what subtrees do.
-use Rattle.std.proofs.Common.{◌≡◌, ℕ, zero, suc, ◌-◌, List, [], ◌∷◌, ◌++◌, map, refl, sym, ap, subst, ◌∙◌, append_assoc, Option}
+use Rattle.std.proofs.Common.{◌≡◌, ℕ, zero, suc, ◌-◌, List, [], ◌∷◌, ◌++◌, map, refl, sym, ap, subst, ◌∙◌, append_assoc, Option, Ok, Err}
 use Rattle.std.proofs.lemmas.List.{append-nil, map-append}
 use Rattle.std.specs.declared.option.Option.TheVariants.{Some, None}
 use Rattle.spec.specs.Tree.{Pair, Node, Part, Last, More, Nothing, Sub, EachNode, EachUnder}
@@ -13,7 +13,7 @@ use Rattle.batch_laws.specs.Batch.{Change, before, at_key, after, puts, entry}
 use Rattle.batch_laws.specs.Edge.{Edge, Clear, Waiting, Opened, edge_of, closed, rows_in, rows_of, next_of, with_pair, with_part, with_node, with_subtree, pruned, topmost}
 use Rattle.batch_laws.specs.Walking.{depth_of, with_pairs, walk_part, walk_node, walk_top, batch_top}
 use Rattle.batch_laws.specs.Trace.{opened_gone, closed_made, pair_gone, pair_made, part_gone, node_gone, part_made, node_made, subtree_gone, subtree_made, pruned_gone, top_gone, top_made, top_left, pairs_gone, pairs_made, walk_gone, walk_under_gone, walk_made, walk_under_made, batch_gone, batch_made}
-use Rattle.batch_laws.specs.Links.{Rows, LinkEdge, LinkClear, LinkWaiting, LinkOpened, Log, and_then, ask, link_edge, rows_in_shape, onto_links, complete, closing, opened_rows, opening, add_row, under_rows, pairing, joined_row, noding, parting, subtreeing, pairs_in_turn, walking_node, walking, Top, log_shown, pruning_at, pruning, new_top, topping, walking_top, batch_from}
+use Rattle.batch_laws.specs.Links.{Rows, LinkEdge, LinkClear, LinkWaiting, LinkOpened, Log, and_then, ask, link_edge, rows_in_shape, onto_links, complete, closing, opened_rows, opening, add_row, under_rows, pairing, joined_row, noding, parting, subtreeing, pairs_in_turn, walking_node, walking, Top, log_shown, pruning_at, pruning, new_top, topping, walking_top, batch_from, Step}
 use Rattle.std.specs.List.{AllByRecursion}
 use Rattle.batch_laws.specs.Trace.{batch_read}
 
@@ -33,14 +33,14 @@ all-both P [] ys h k = k
 all-both P (x ∷ xs) ys h k = (h.0, all-both P xs ys h.1 k)
 
 -- a step that has an answer
-abbrev pub IsAnswered : {A : Type 0} → Option (A × Log) → Type 0
-IsAnswered None = ⊥
-IsAnswered (Some x) = Unit {0}
+abbrev pub IsAnswered : {A : Type 0} → Step A → Type 0
+IsAnswered (Err stop) = ⊥
+IsAnswered (Ok x) = Unit {0}
 
-pub first-answered : {A B : Type 0} (step : Option (A × Log)) (f : A → Log → Option (B × Log)) → IsAnswered (and_then step f)
+pub first-answered : {A B : Type 0} (step : Step A) (f : A → Log → Step B) → IsAnswered (and_then step f)
     → IsAnswered step
-first-answered None f h = h
-first-answered (Some x) f h = tt
+first-answered (Err stop) f h = h
+first-answered (Ok x) f h = tt
 
 module _ (digest : List ℕ → List ℕ) (shows : List ℕ → Option Shape) where
   abbrev pub Shown : Node → Type 0
@@ -131,40 +131,40 @@ module _ (digest : List ℕ → List ℕ) (shows : List ℕ → Option Shape) wh
   grow-none l = logs _ _ _ _ (sym (append-nil l.read)) (sym (append-nil l.made))
 
   -- a step gives this answer, reads this and makes that
-  abbrev pub Does : {A : Type 0} → Option (A × Log) → Log → A → List Node → List Node → Type 0
-  Does step l a gone made = step ≡ Some (a, grow l gone made)
+  abbrev pub Does : {A : Type 0} → Step A → Log → A → List Node → List Node → Type 0
+  Does step l a gone made = step ≡ Ok (a, grow l gone made)
 
-  does-then : {A B : Type 0} (step : Option (A × Log)) (f : A → Log → Option (B × Log)) (l : Log) (a : A) (b : B)
+  does-then : {A B : Type 0} (step : Step A) (f : A → Log → Step B) (l : Log) (a : A) (b : B)
       (g1 m1 g2 m2 : List Node) → Does step l a g1 m1 → Does (f a (grow l g1 m1)) (grow l g1 m1) b g2 m2
       → Does (and_then step f) l b (g1 ++ g2) (m1 ++ m2)
-  does-then step f l a b g1 m1 g2 m2 h k = rw (h, k) (ap (λ t. Some (b, t)) (grow-grow l g1 m1 g2 m2))
+  does-then step f l a b g1 m1 g2 m2 h k = rw (h, k) (ap (λ t. Ok (b, t)) (grow-grow l g1 m1 g2 m2))
 
-  does-lists : {A : Type 0} (step : Option (A × Log)) (l : Log) (a : A) (g m g2 m2 : List Node) → g ≡ g2 → m ≡ m2
+  does-lists : {A : Type 0} (step : Step A) (l : Log) (a : A) (g m g2 m2 : List Node) → g ≡ g2 → m ≡ m2
       → Does step l a g m → Does step l a g2 m2
   does-lists step l a g m g2 m2 q r h = h ∙ rw (q, r) refl
 
-  does-under : (step : Option (LinkEdge × Log)) (rows : List (Part × Pair)) (l : Log) (s : Edge) (g m : List Node)
+  does-under : (step : Step LinkEdge) (rows : List (Part × Pair)) (l : Log) (s : Edge) (g m : List Node)
       → Does step l (links_edge s) g m
       → Does (and_then step (under_rows (links_of rows))) l (links_edge (Opened rows s)) g m
   does-under step rows l s g m h = rw h refl
 
-  does-same : {A : Type 0} (a : A) (l : Log) → Does (Some (a, l)) l a [] []
-  does-same a l = ap (λ t. Some (a, t)) (grow-none l)
+  does-same : {A : Type 0} (a : A) (l : Log) → Does (Ok (a, l)) l a [] []
+  does-same a l = ap (λ t. Ok (a, t)) (grow-none l)
 
   ask-does : (m : Node) (l : Log) → Shown m → Does (ask shows (shape_cid digest (shape digest m)) l) l (shape digest m)
       (m ∷ []) []
-  ask-does m l h = rw h (ap (λ t. Some (shape digest m, t)) (logs _ _ _ _ refl (sym (append-nil l.made))))
+  ask-does m l h = rw h (ap (λ t. Ok (shape digest m, t)) (logs _ _ _ _ refl (sym (append-nil l.made))))
 
   -- ---- a step has this answer where some nodes are shown, and none where one of them isn't
 
-  abbrev pub Needs : {A : Type 0} → Option (A × Log) → Log → A → List Node → List Node → List Node → Type 0
+  abbrev pub Needs : {A : Type 0} → Step A → Log → A → List Node → List Node → List Node → Type 0
   Needs step l a need gone made = (AllShown need → Does step l a gone made) × (IsAnswered step → AllShown need)
 
   -- which are those that it reads
-  abbrev Reads : {A : Type 0} → Option (A × Log) → Log → A → List Node → List Node → Type 0
+  abbrev Reads : {A : Type 0} → Step A → Log → A → List Node → List Node → Type 0
   Reads step l a gone made = Needs step l a gone gone made
 
-  needs-then : {A B : Type 0} (step : Option (A × Log)) (f : A → Log → Option (B × Log)) (l : Log) (a : A) (b : B)
+  needs-then : {A B : Type 0} (step : Step A) (f : A → Log → Step B) (l : Log) (a : A) (b : B)
       (n1 g1 m1 n2 g2 m2 : List Node) → Needs step l a n1 g1 m1
       → Needs (f a (grow l g1 m1)) (grow l g1 m1) b n2 g2 m2
       → Needs (and_then step f) l b (n1 ++ n2) (g1 ++ g2) (m1 ++ m2)
@@ -176,24 +176,24 @@ module _ (digest : List ℕ → List ℕ) (shows : List ℕ → Option Shape) wh
         all-both Shown n1 n2 first (k.1 rest),
   )
 
-  reads-then : {A B : Type 0} (step : Option (A × Log)) (f : A → Log → Option (B × Log)) (l : Log) (a : A) (b : B)
+  reads-then : {A B : Type 0} (step : Step A) (f : A → Log → Step B) (l : Log) (a : A) (b : B)
       (g1 m1 g2 m2 : List Node) → Reads step l a g1 m1 → Reads (f a (grow l g1 m1)) (grow l g1 m1) b g2 m2
       → Reads (and_then step f) l b (g1 ++ g2) (m1 ++ m2)
   reads-then step f l a b g1 m1 g2 m2 h k = needs-then step f l a b g1 g1 m1 g2 g2 m2 h k
 
-  reads-lists : {A : Type 0} (step : Option (A × Log)) (l : Log) (a : A) (g m g2 m2 : List Node) → g ≡ g2 → m ≡ m2
+  reads-lists : {A : Type 0} (step : Step A) (l : Log) (a : A) (g m g2 m2 : List Node) → g ≡ g2 → m ≡ m2
       → Reads step l a g m → Reads step l a g2 m2
   reads-lists step l a g m g2 m2 q r h =
       subst (λ t. Reads step l a t m2) q (subst (λ t. Reads step l a g t) r h)
 
-  reads-none : {A : Type 0} (step : Option (A × Log)) (l : Log) (a : A) (m : List Node) → Does step l a [] m
+  reads-none : {A : Type 0} (step : Step A) (l : Log) (a : A) (m : List Node) → Does step l a [] m
       → Reads step l a [] m
   reads-none step l a m h = (λ all. h, λ answered. tt)
 
-  reads-same : {A : Type 0} (a : A) (l : Log) → Reads (Some (a, l)) l a [] []
-  reads-same a l = reads-none (Some (a, l)) l a [] (does-same a l)
+  reads-same : {A : Type 0} (a : A) (l : Log) → Reads (Ok (a, l)) l a [] []
+  reads-same a l = reads-none (Ok (a, l)) l a [] (does-same a l)
 
-  reads-under : (step : Option (LinkEdge × Log)) (rows : List (Part × Pair)) (l : Log) (s : Edge) (g m : List Node)
+  reads-under : (step : Step LinkEdge) (rows : List (Part × Pair)) (l : Log) (s : Edge) (g m : List Node)
       → Reads step l (links_edge s) g m
       → Reads (and_then step (under_rows (links_of rows))) l (links_edge (Opened rows s)) g m
   reads-under step rows l s g m h = (
@@ -202,7 +202,7 @@ module _ (digest : List ℕ → List ℕ) (shows : List ℕ → Option Shape) wh
   )
 
   pub logged-shown : (m : Node) (l : Log) → Known m → (o : Option Shape) → shows (shape_cid digest (shape digest m)) ≡ o
-      → IsAnswered (log_shown o l) → Shown m
+      → IsAnswered (log_shown (shape_cid digest (shape digest m)) o l) → Shown m
   logged-shown m l known None q h = absurd h
   logged-shown m l known (Some s) q h = q ∙ ap (λ t. Some t) (known s q)
 
@@ -250,7 +250,7 @@ module _ (digest : List ℕ → List ℕ) (shows : List ℕ → Option Shape) wh
       (links_edge (Opened (rows ++ ((closed s, e) ∷ [])) Clear)) [] (closed_made s)
   add-does e rows s l =
       ap (add_row e (links_of rows)) (closing-does s l)
-      ∙ ap (λ t. Some (LinkOpened t LinkClear, grow l [] (closed_made s)))
+      ∙ ap (λ t. Ok (LinkOpened t LinkClear, grow l [] (closed_made s)))
       (sym (links-append rows ((closed s, e) ∷ [])))
 
   -- ---- what waits is held
@@ -318,7 +318,7 @@ module _ (digest : List ℕ → List ℕ) (shows : List ℕ → Option Shape) wh
   joined-does e rows r s l =
       ap (joined_row e (links_of rows) (shape digest r)) (closing-does s l)
       ∙ rw (links-rows r, links-next r)
-      (ap (λ t. Some (LinkOpened t (links_edge (edge_of (last_part r))), grow l [] (closed_made s)))
+      (ap (λ t. Ok (LinkOpened t (links_edge (edge_of (last_part r))), grow l [] (closed_made s)))
       (sym (links-append rows ((closed s, e) ∷ rows_in r))))
 
   noding-reads : (k : ℕ) → PartingReads k → (m : Node) (rows : List (Part × Pair)) (s : Edge) (l : Log) → AllWithin k m
@@ -453,7 +453,7 @@ module _ (digest : List ℕ → List ℕ) (shows : List ℕ → Option Shape) wh
   abbrev pub top_of : Node → List Node → Top
   top_of m left = (shape_cid digest (shape digest m), map (shape digest) left)
 
-  pruned-shown : (further : List ℕ → Log → Option (Top × Log)) (m : Node) (l : Log) → Known m → (o : Option Shape)
+  pruned-shown : (further : List ℕ → Log → Step Top) (m : Node) (l : Log) → Known m → (o : Option Shape)
       → shows (shape_cid digest (shape digest m)) ≡ o
       → IsAnswered (pruning_at further (shape_cid digest (shape digest m)) l o) → Shown m
   pruned-shown further m l known None q h = absurd h
@@ -472,7 +472,7 @@ module _ (digest : List ℕ → List ℕ) (shows : List ℕ → Option Shape) wh
       let i = pruning-reads k m (grow l (own ∷ []) []) w v.1 in
       let more = ap (pruning shows k (shape_cid digest (shape digest m)))
       (logs (l.read ++ (shape digest own ∷ [])) l.made _ _ refl (sym (append-nil l.made))) in (
-        λ all. rw all.0 (more ∙ i.0 all.1 ∙ ap (λ t. Some (top_of (pruned m) (pruned m ∷ []), t))
+        λ all. rw all.0 (more ∙ i.0 all.1 ∙ ap (λ t. Ok (top_of (pruned m) (pruned m ∷ []), t))
             (grow-grow l (own ∷ []) [] (pruned_gone m) [])),
         λ answered.
             let first = pruned-shown (pruning shows k) own l v.0 _ refl answered in
@@ -489,7 +489,7 @@ module _ (digest : List ℕ → List ℕ) (shows : List ℕ → Option Shape) wh
       Does (new_top digest (links_of rows) (part_link digest p, l)) l (top_of m []) [] (m ∷ [])
   new_top-does rows p l =
       rw (links-onto rows p)
-      (ap (λ t. Some (top_of (onto rows (Last p)) [], t)) (logs _ _ _ _ (sym (append-nil l.read)) refl))
+      (ap (λ t. Ok (top_of (onto rows (Last p)) [], t)) (logs _ _ _ _ (sym (append-nil l.read)) refl))
 
   -- what waits has at most so many layers
   abbrev pub WithinEdge : ℕ → Edge → Type 0
@@ -506,7 +506,7 @@ module _ (digest : List ℕ → List ℕ) (shows : List ℕ → Option Shape) wh
   topping-reads n (Opened (x ∷ rows) s) l w h = (
     λ all. ap (new_top digest (links_of (x ∷ rows))) (closing-does s l)
         ∙ new_top-does (x ∷ rows) (closed s) (grow l [] (closed_made s))
-        ∙ ap (λ t. Some (top_of (onto (x ∷ rows) (Last (closed s))) [], t)) (grow-grow l [] (closed_made s) [] _),
+        ∙ ap (λ t. Ok (top_of (onto (x ∷ rows) (Last (closed s))) [], t)) (grow-grow l [] (closed_made s) [] _),
     λ answered. tt,
   )
 

@@ -1,5 +1,4 @@
 pub mod Lacking
-pub mod GivenSteps
 pub mod Pairs
 pub mod Values
 pub mod Undone

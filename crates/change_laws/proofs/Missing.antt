@@ -1,5 +1,5 @@
--- What is called missing isn't given.
-use Rattle.std.proofs.Common.{◌≡◌, ℕ, zero, suc, ◌-◌, Bool, true, false, List, [], ◌∷◌, refl, subst, Option, Result, Ok, Err}
+-- What is not shown isn't shown, and what is called missing isn't given.
+use Rattle.std.proofs.Common.{◌≡◌, ℕ, zero, suc, ◌-◌, Bool, true, false, List, [], ◌∷◌, refl, sym, subst, ◌∙◌, Option, Result, Ok, Err}
 use Rattle.std.specs.declared.option.Option.TheVariants.{Some, None}
 use Rattle.spec.specs.Reading.{◌>>=◌, ensure}
 use Rattle.spec.specs.Layer.{layer}
@@ -7,14 +7,144 @@ use Rattle.spec.specs.Tree.{Pair}
 use Rattle.spec.specs.NodeFormat.{Shape, LastLink, MoreLinks}
 use Rattle.std.specs.Str.{bytes_eq}
 use Rattle.edit_laws.specs.ShapeEdit.{last_link, layer_of_shape}
-use Rattle.edit_laws.specs.Sources.{shape_of_bytes, shown_by}
+use Rattle.edit_laws.specs.Sources.{shown_by}
 use Rattle.batch_laws.specs.Batch.{Change, before, at_key, after, puts, entry}
 use Rattle.batch_laws.specs.Walking.{depth_of}
-use Rattle.batch_laws.specs.Links.{Rows, LinkEdge, LinkClear, LinkWaiting, LinkOpened, Log, with_read, link_edge, rows_in_shape, closing, opened_rows, add_row, under_rows, joined_row}
+use Rattle.batch_laws.specs.Links.{Rows, LinkEdge, LinkClear, LinkWaiting, LinkOpened, Log, Stop, NotShown, LinkTooDeep, Step, Top, and_then, ask, log_shown, with_read, link_edge, rows_in_shape, opened_rows, under_rows, opening, pairing, noding, parting, subtreeing, pairs_in_turn, walking_node, walking, pruning_at, pruning, topping, walking_top, batch_from}
 use Rattle.change_laws.specs.Told.{KeyChange, undone}
-use Rattle.change_laws.specs.Given.{Step, ChangeFault, BlockMissing, BadNode, TooDeep, OtherValue, OtherRoot, then, of_step, given_at, node_or_fault, block_or_fault, read_at, open_at, rows_under, pair_at, node_at, part_at, subtree_at, pairs_at, walk_node_at, walk_at, look_at, prune_at, top_at, walk_top_at, batch_at, batch_given, layers_needed, put_layers}
+use Rattle.change_laws.specs.Given.{ChangeFault, BlockMissing, BadNode, TooDeep, OtherValue, OtherRoot, given_at, unshown, fault_of, or_fault, batch_over, batch_given, layers_needed, put_layers}
 use Rattle.change_laws.specs.Verdict.{are_told, values_given, is_same, change_verdict}
-use Rattle.change_laws.specs.Laws.{NothingGiven, MissingIsMissing}
+use Rattle.change_laws.specs.Laws.{NothingGiven, NotShownIsTrue, MissingIsMissing}
+
+module _ (shows : List ℕ → Option Shape) where
+  abbrev IsStop : Stop → Type 0
+  IsStop (NotShown c) = shows c ≡ None
+  IsStop LinkTooDeep = Unit {0}
+
+  -- a step that stops tells the truth
+  abbrev Stops : {A : Type 0} → Step A → Type 0
+  Stops (Ok x) = Unit {0}
+  Stops (Err stop) = IsStop stop
+
+  stops-then : {A B : Type 0} (step : Step A) (f : A → Log → Step B) → Stops step
+      → ((a : A) (log : Log) → Stops (f a log)) → Stops (and_then step f)
+  stops-then (Ok x) f h k = k x.0 x.1
+  stops-then (Err stop) f h k = h
+
+  stops-logged : (c : List ℕ) (o : Option Shape) (log : Log) → shows c ≡ o → Stops (log_shown c o log)
+  stops-logged c None log q = q
+  stops-logged c (Some s) log q = tt
+
+  stops-read : (c : List ℕ) (log : Log) → Stops (ask shows c log)
+  stops-read c log = stops-logged c (shows c) log refl
+
+  stops-open : (s : LinkEdge) (log : Log) → Stops (opening shows s log)
+  stops-open LinkClear log = tt
+  stops-open (LinkWaiting c) log = stops-then (ask shows c log) opened_rows (stops-read c log) (λ s log1. tt)
+  stops-open (LinkOpened rows s) log = tt
+
+  module _ (digest : List ℕ → List ℕ) where
+    stops-pair : (d : ℕ) (e : Pair) (s : LinkEdge) (log : Log) → Stops (pairing digest shows d e s log)
+    stops-pair zero e s log = stops-then (opening shows s log) _ (stops-open s log) (λ o log1. tt)
+    stops-pair (suc d) e s log =
+        stops-then (opening shows s log) _ (stops-open s log)
+        (λ o log1. stops-then (pairing digest shows d e o.1 log1) (under_rows o.0) (stops-pair d e o.1 log1)
+        (λ t log2. tt))
+
+    stops-noding : (further : Option (List ℕ) → LinkEdge → Log → Step LinkEdge)
+        → ((l : Option (List ℕ)) (s : LinkEdge) (log : Log) → Stops (further l s log))
+        → (rows : Rows) (s : LinkEdge) (m : Shape) (log : Log) → Stops (noding digest further rows s m log)
+    stops-noding further h rows s (LastLink l) log =
+        stops-then (further l s log) (under_rows rows) (h l s log) (λ t log1. tt)
+    stops-noding further h rows s (MoreLinks l e r) log =
+        stops-then (further l s log) _ (h l s log) (λ t log1. tt)
+
+    stops-part : (k : ℕ) (l : Option (List ℕ)) (s : LinkEdge) (log : Log) → Stops (parting digest shows k l s log)
+    stops-part zero None s log = tt
+    stops-part zero (Some c) s log = tt
+    stops-part (suc k) None s log = tt
+    stops-part (suc k) (Some c) LinkClear log = tt
+    stops-part (suc k) (Some c) (LinkWaiting b) log =
+        stops-then (ask shows b log) _ (stops-read b log)
+        (λ t log1. stops-then (ask shows c log1)
+        (noding digest (parting digest shows k) (rows_in_shape t) (link_edge (last_link t))) (stops-read c log1)
+        (λ m log2. stops-noding (parting digest shows k) (stops-part k) (rows_in_shape t) (link_edge (last_link t)) m
+        log2))
+    stops-part (suc k) (Some c) (LinkOpened rows s) log =
+        stops-then (ask shows c log) (noding digest (parting digest shows k) rows s) (stops-read c log)
+        (λ m log1. stops-noding (parting digest shows k) (stops-part k) rows s m log1)
+
+    stops-subtree : (k d : ℕ) (c : List ℕ) (s : LinkEdge) (log : Log) → Stops (subtreeing digest shows k d c s log)
+    stops-subtree k zero c s log = stops-part k (Some c) s log
+    stops-subtree k (suc d) c s log =
+        stops-then (opening shows s log) _ (stops-open s log)
+        (λ o log1. stops-then (subtreeing digest shows k d c o.1 log1) (under_rows o.0) (stops-subtree k d c o.1 log1)
+        (λ t log2. tt))
+
+    stops-pairs : (depth : List ℕ → ℕ) (es : List Pair) (s : LinkEdge) (log : Log)
+        → Stops (pairs_in_turn digest shows depth es s log)
+    stops-pairs depth [] s log = tt
+    stops-pairs depth (e ∷ es) s log =
+        stops-then (pairing digest shows (depth e.0) e s log) (pairs_in_turn digest shows depth es)
+        (stops-pair (depth e.0) e s log) (λ t log1. stops-pairs depth es t log1)
+
+    abbrev GapStops : (Option (List ℕ) → List Change → LinkEdge → Log → Step LinkEdge) → Type 0
+    GapStops gap = (l : Option (List ℕ)) (cs : List Change) (s : LinkEdge) (log : Log) → Stops (gap l cs s log)
+
+    stops-node : (d : ℕ) (gap : Option (List ℕ) → List Change → LinkEdge → Log → Step LinkEdge) → GapStops gap
+        → (cs : List Change) (s : LinkEdge) (m : Shape) (log : Log) → Stops (walking_node digest shows d gap cs s m log)
+    stops-node d gap h cs s (LastLink l) log = h l cs s log
+    stops-node d gap h cs s (MoreLinks l e r) log =
+        let ps = entry (at_key e.0 cs) e in
+        stops-then (gap l (before e.0 cs) s log) _ (h l (before e.0 cs) s log)
+        (λ t log1. stops-then (pairs_in_turn digest shows (λ key. d) ps t log1) _ (stops-pairs (λ key. d) ps t log1)
+        (λ u log2. stops-node d gap h (after e.0 cs) u r log2))
+
+    stops-walk : (lay : List ℕ → ℕ) (n k d : ℕ) → GapStops (walking digest shows lay n k d)
+    stops-walk lay n zero d None cs s log = stops-pairs (depth_of lay n) (puts cs) s log
+    stops-walk lay n zero d (Some c) cs s log = tt
+    stops-walk lay n (suc k) d None cs s log = stops-pairs (depth_of lay n) (puts cs) s log
+    stops-walk lay n (suc k) d (Some c) [] s log = stops-subtree (suc k) d c s log
+    stops-walk lay n (suc k) d (Some c) (x ∷ cs) s log =
+        stops-then (ask shows c log) _ (stops-read c log)
+        (λ m log1. stops-node d (walking digest shows lay n k (suc d)) (stops-walk lay n k (suc d)) (x ∷ cs) s m log1)
+
+    stops-look : (k : ℕ) → ((c : List ℕ) (log : Log) → Stops (pruning shows k c log)) → (c : List ℕ) (o : Option Shape)
+        (log : Log) → shows c ≡ o → Stops (pruning_at (pruning shows k) c log o)
+    stops-look k h c None log q = q
+    stops-look k h c (Some (LastLink None)) log q = tt
+    stops-look k h c (Some (LastLink (Some b))) log q = h b (with_read (LastLink (Some b)) log)
+    stops-look k h c (Some (MoreLinks l e r)) log q = tt
+
+    stops-prune : (k : ℕ) (c : List ℕ) (log : Log) → Stops (pruning shows k c log)
+    stops-prune zero c log = tt
+    stops-prune (suc k) c log = stops-look k (stops-prune k) c (shows c) log refl
+
+    stops-top : (k : ℕ) (s : LinkEdge) (log : Log) → Stops (topping digest shows k s log)
+    stops-top k LinkClear log = tt
+    stops-top k (LinkWaiting c) log = stops-prune k c log
+    stops-top k (LinkOpened [] s) log = stops-top k s log
+    stops-top k (LinkOpened (x ∷ rows) s) log = tt
+
+    stops-batch : (lay : List ℕ → ℕ) (n : ℕ) (cs : List Change) (root : List ℕ)
+        → Stops (batch_from digest shows lay n cs root)
+    stops-batch lay n cs root =
+        stops-then (ask shows root (record { read = []; made = [] })) _
+        (stops-read root (record { read = []; made = [] }))
+        (λ s log. stops-then (walking_top digest shows lay n cs s log) (topping digest shows n)
+        (let t = layer_of_shape lay s in
+        let d = n - suc t in
+        stops-node d (walking digest shows lay n t (suc d)) (stops-walk lay n t (suc d)) cs LinkClear s log)
+        (λ u log1. stops-top n u log1))
+
+pub not_shown-is_true : NotShownIsTrue
+not_shown-is_true digest bits gives cs root c e =
+    let shows = shown_by gives in
+    let lay = layer digest bits in
+    let n = layers_needed lay (put_layers lay cs) (shows root) in
+    subst (λ (o : Step Top). Stops shows o) e (stops-batch shows digest lay n cs root)
+
+-- ---- what is called missing
 
 module _ (gives : List ℕ → Option (List ℕ)) where
   abbrev IsTrue : ChangeFault → Type 0
@@ -24,135 +154,19 @@ module _ (gives : List ℕ → Option (List ℕ)) where
   IsTrue (OtherValue place) = Unit {0}
   IsTrue OtherRoot = Unit {0}
 
-  -- a step that fails tells the truth
+  -- what fails tells the truth
   abbrev Tells : {A : Type 0} → Result A ChangeFault → Type 0
   Tells (Ok x) = Unit {0}
   Tells (Err fault) = IsTrue fault
 
-  tells-then : {A B : Type 0} (step : Step A) (f : A → Log → Step B) → Tells step
-      → ((a : A) (log : Log) → Tells (f a log)) → Tells (then step f)
-  tells-then (Ok x) f h k = k x.0 x.1
-  tells-then (Err fault) f h k = h
+  tells-unshown : (c : List ℕ) (o : Option (List ℕ)) → gives c ≡ o → IsTrue (unshown c o)
+  tells-unshown c None q = q
+  tells-unshown c (Some b) q = tt
 
-  tells-step : {A : Type 0} (o : Option (A × Log)) → Tells (of_step o)
-  tells-step None = tt
-  tells-step (Some x) = tt
-
-  tells-node : (o : Option Shape) (log : Log) → Tells (node_or_fault o log)
-  tells-node None log = tt
-  tells-node (Some s) log = tt
-
-  tells-block : (c : List ℕ) (o : Option (List ℕ)) (log : Log) → gives c ≡ o → Tells (block_or_fault c o log)
-  tells-block c None log q = q
-  tells-block c (Some b) log q = tells-node (shape_of_bytes b) log
-
-  tells-read : (c : List ℕ) (log : Log) → Tells (read_at gives c log)
-  tells-read c log = tells-block c (gives c) log refl
-
-  tells-open : (s : LinkEdge) (log : Log) → Tells (open_at gives s log)
-  tells-open LinkClear log = tt
-  tells-open (LinkWaiting c) log =
-      tells-then (read_at gives c log) _ (tells-read c log) (λ s log1. tells-step (opened_rows s log1))
-  tells-open (LinkOpened rows s) log = tt
-
-  module _ (digest : List ℕ → List ℕ) where
-    tells-pair : (d : ℕ) (e : Pair) (s : LinkEdge) (log : Log) → Tells (pair_at digest gives d e s log)
-    tells-pair zero e s log =
-        tells-then (open_at gives s log) _ (tells-open s log)
-        (λ o log1. tells-step (add_row e o.0 (closing digest o.1 log1)))
-    tells-pair (suc d) e s log =
-        tells-then (open_at gives s log) _ (tells-open s log)
-        (λ o log1. tells-then (pair_at digest gives d e o.1 log1) (rows_under o.0) (tells-pair d e o.1 log1)
-        (λ t log2. tells-step (under_rows o.0 t log2)))
-
-    tells-noding : (further : Option (List ℕ) → LinkEdge → Log → Step LinkEdge)
-        → ((l : Option (List ℕ)) (s : LinkEdge) (log : Log) → Tells (further l s log))
-        → (rows : Rows) (s : LinkEdge) (m : Shape) (log : Log) → Tells (node_at digest further rows s m log)
-    tells-noding further h rows s (LastLink l) log =
-        tells-then (further l s log) (rows_under rows) (h l s log) (λ t log1. tells-step (under_rows rows t log1))
-    tells-noding further h rows s (MoreLinks l e r) log =
-        tells-then (further l s log) _ (h l s log)
-        (λ t log1. tells-step (joined_row e rows r (closing digest t log1)))
-
-    tells-part : (k : ℕ) (l : Option (List ℕ)) (s : LinkEdge) (log : Log) → Tells (part_at digest gives k l s log)
-    tells-part zero None s log = tt
-    tells-part zero (Some c) s log = tt
-    tells-part (suc k) None s log = tt
-    tells-part (suc k) (Some c) LinkClear log = tt
-    tells-part (suc k) (Some c) (LinkWaiting b) log =
-        tells-then (read_at gives b log) _ (tells-read b log)
-        (λ t log1. tells-then (read_at gives c log1)
-        (node_at digest (part_at digest gives k) (rows_in_shape t) (link_edge (last_link t))) (tells-read c log1)
-        (λ m log2. tells-noding (part_at digest gives k) (tells-part k) (rows_in_shape t) (link_edge (last_link t)) m
-        log2))
-    tells-part (suc k) (Some c) (LinkOpened rows s) log =
-        tells-then (read_at gives c log) (node_at digest (part_at digest gives k) rows s) (tells-read c log)
-        (λ m log1. tells-noding (part_at digest gives k) (tells-part k) rows s m log1)
-
-    tells-subtree : (k d : ℕ) (c : List ℕ) (s : LinkEdge) (log : Log) → Tells (subtree_at digest gives k d c s log)
-    tells-subtree k zero c s log = tells-part k (Some c) s log
-    tells-subtree k (suc d) c s log =
-        tells-then (open_at gives s log) _ (tells-open s log)
-        (λ o log1. tells-then (subtree_at digest gives k d c o.1 log1) (rows_under o.0) (tells-subtree k d c o.1 log1)
-        (λ t log2. tells-step (under_rows o.0 t log2)))
-
-    tells-pairs : (depth : List ℕ → ℕ) (es : List Pair) (s : LinkEdge) (log : Log)
-        → Tells (pairs_at digest gives depth es s log)
-    tells-pairs depth [] s log = tt
-    tells-pairs depth (e ∷ es) s log =
-        tells-then (pair_at digest gives (depth e.0) e s log) (pairs_at digest gives depth es)
-        (tells-pair (depth e.0) e s log) (λ t log1. tells-pairs depth es t log1)
-
-    abbrev GapTells : (Option (List ℕ) → List Change → LinkEdge → Log → Step LinkEdge) → Type 0
-    GapTells gap = (l : Option (List ℕ)) (cs : List Change) (s : LinkEdge) (log : Log) → Tells (gap l cs s log)
-
-    tells-walk_node : (d : ℕ) (gap : Option (List ℕ) → List Change → LinkEdge → Log → Step LinkEdge) → GapTells gap
-        → (cs : List Change) (s : LinkEdge) (m : Shape) (log : Log)
-        → Tells (walk_node_at digest gives d gap cs s m log)
-    tells-walk_node d gap h cs s (LastLink l) log = h l cs s log
-    tells-walk_node d gap h cs s (MoreLinks l e r) log =
-        let ps = entry (at_key e.0 cs) e in
-        tells-then (gap l (before e.0 cs) s log) _ (h l (before e.0 cs) s log)
-        (λ t log1. tells-then (pairs_at digest gives (λ key. d) ps t log1) _ (tells-pairs (λ key. d) ps t log1)
-        (λ u log2. tells-walk_node d gap h (after e.0 cs) u r log2))
-
-    tells-walk : (lay : List ℕ → ℕ) (n k d : ℕ) → GapTells (walk_at digest gives lay n k d)
-    tells-walk lay n zero d None cs s log = tells-pairs (depth_of lay n) (puts cs) s log
-    tells-walk lay n zero d (Some c) cs s log = tt
-    tells-walk lay n (suc k) d None cs s log = tells-pairs (depth_of lay n) (puts cs) s log
-    tells-walk lay n (suc k) d (Some c) [] s log = tells-subtree (suc k) d c s log
-    tells-walk lay n (suc k) d (Some c) (x ∷ cs) s log =
-        tells-then (read_at gives c log) _ (tells-read c log)
-        (λ m log1. tells-walk_node d (walk_at digest gives lay n k (suc d)) (tells-walk lay n k (suc d)) (x ∷ cs) s m log1)
-
-    tells-look : (k : ℕ) → ((c : List ℕ) (log : Log) → Tells (prune_at gives k c log)) → (c : List ℕ) (s : Shape)
-        (log : Log) → Tells (look_at (prune_at gives k) c s log)
-    tells-look k h c (LastLink None) log = tt
-    tells-look k h c (LastLink (Some b)) log = h b (with_read (LastLink (Some b)) log)
-    tells-look k h c (MoreLinks l e r) log = tt
-
-    tells-prune : (k : ℕ) (c : List ℕ) (log : Log) → Tells (prune_at gives k c log)
-    tells-prune zero c log = tt
-    tells-prune (suc k) c log =
-        tells-then (read_at gives c log) (λ s logged. look_at (prune_at gives k) c s log) (tells-read c log)
-        (λ s logged. tells-look k (tells-prune k) c s log)
-
-    tells-top : (k : ℕ) (s : LinkEdge) (log : Log) → Tells (top_at digest gives k s log)
-    tells-top k LinkClear log = tt
-    tells-top k (LinkWaiting c) log = tells-prune k c log
-    tells-top k (LinkOpened [] s) log = tells-top k s log
-    tells-top k (LinkOpened (x ∷ rows) s) log = tt
-
-    tells-batch : (lay : List ℕ → ℕ) (n : ℕ) (cs : List Change) (root : List ℕ)
-        → Tells (batch_at digest gives lay n cs root)
-    tells-batch lay n cs root =
-        tells-then (read_at gives root (record { read = []; made = [] })) _
-        (tells-read root (record { read = []; made = [] }))
-        (λ s log. tells-then (walk_top_at digest gives lay n cs s log) (top_at digest gives n)
-        (let t = layer_of_shape lay s in
-        let d = n - suc t in
-        tells-walk_node d (walk_at digest gives lay n t (suc d)) (tells-walk lay n t (suc d)) cs LinkClear s log)
-        (λ u log1. tells-top n u log1))
+  tells-step : (step : Step Top) → Tells (or_fault gives step)
+  tells-step (Ok x) = tt
+  tells-step (Err (NotShown c)) = tells-unshown c (gives c) refl
+  tells-step (Err LinkTooDeep) = tt
 
   -- ---- what follows the reading
 
@@ -186,11 +200,9 @@ unfolding change_verdict
 missing-is_missing digest bits before after given cs c e =
     let gives = given_at digest given in
     let us = undone cs in
-    let lay = layer digest bits in
-    let n = layers_needed lay (put_layers lay us) (shown_by gives after) in
     let vs = values_given digest bits given us after in
     told-missing gives _ c e
-    (tells-bind gives (batch_given digest bits given us after) _ (tells-batch gives digest lay n us after)
+    (tells-bind gives (batch_given digest bits given us after) _ (tells-step gives (batch_over digest bits gives us after))
     (λ old. tells-bind gives (are_told 0 vs cs) _ (tells-told gives 0 vs cs)
     (λ told. tells-root gives (bytes_eq old.0.0 before))))
 

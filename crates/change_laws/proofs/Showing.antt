@@ -1,5 +1,5 @@
 -- What a verdict says, and when it says so.
-use Rattle.std.proofs.Common.{◌≡◌, ℕ, zero, suc, ◌<◌, ◌≤◌, max, Bool, true, false, List, [], ◌∷◌, ◌++◌, length, map, refl, sym, ap, subst, ◌∙◌, arith, Option, Ok, Err}
+use Rattle.std.proofs.Common.{◌≡◌, ℕ, zero, suc, ◌<◌, ◌≤◌, max, Bool, true, false, List, [], ◌∷◌, ◌++◌, length, map, refl, sym, ap, subst, ◌∙◌, arith, Option, Result, Ok, Err}
 use Rattle.std.specs.Prelude.{Contains, option_and_then}
 use Rattle.std.specs.List.{AllByRecursion}
 use Rattle.std.specs.Str.{bytes_eq}
@@ -31,7 +31,7 @@ use Rattle.batch_laws.specs.Edge.{Edge, Clear, Waiting, Opened}
 use Rattle.batch_laws.specs.Walking.{walk_top}
 use Rattle.batch_laws.specs.Counts.{most_reads}
 use Rattle.batch_laws.specs.Trace.{batch_gone, batch_read, top_left}
-use Rattle.batch_laws.specs.Links.{Log, Top, ask, batch_from}
+use Rattle.batch_laws.specs.Links.{Log, Step, Stop, Top, ask, batch_from}
 use Rattle.batch_laws.specs.Previous.{values}
 use Rattle.batch_laws.proofs.Edges.{IsEdge}
 use Rattle.batch_laws.proofs.Walks.{walk-top, batch-is_top}
@@ -40,11 +40,10 @@ use Rattle.batch_laws.proofs.Lawful.{batch-has_keys}
 use Rattle.batch_laws.proofs.Old.{read-old}
 use Rattle.batch_laws.proofs.ReadsFew.{batch-reads_few}
 use Rattle.change_laws.specs.Told.{KeyChange, undone}
-use Rattle.change_laws.specs.Given.{Step, OtherValue, OtherRoot, given_at, put_layers, layers_needed, batch_given}
+use Rattle.change_laws.specs.Given.{ChangeFault, OtherValue, OtherRoot, given_at, put_layers, layers_needed, or_fault, batch_given}
 use Rattle.change_laws.specs.Verdict.{previous_of, values_given, is_same, are_told, change_verdict}
-use Rattle.change_laws.specs.Laws.{answer_of, VerdictIsSound, VerdictIsComplete}
+use Rattle.change_laws.specs.Laws.{VerdictIsSound, VerdictIsComplete}
 use Rattle.change_laws.proofs.Lacking.{Known, Shown, AllShown, IsAnswered, NeedsBatch, WithinEdge, all-front, first-answered, logged-shown, batch-needs}
-use Rattle.change_laws.proofs.GivenSteps.{given-is_batch}
 use Rattle.change_laws.proofs.Values.{previous-met}
 use Rattle.change_laws.proofs.Undone.{undone-differ, differ-undone}
 
@@ -152,11 +151,18 @@ within-edge digest shows lay n (suc k) (Opened rows s) es l h =
 
 -- ---- answers of steps
 
-answer-is : {A : Type 0} (step : Step A) (x : A × Log) → answer_of step ≡ Some x → step ≡ Ok x
-answer-is (Ok y) x e = ap (λ t. Ok t) (some-is y x e)
-answer-is (Err fault) x e = absurd cc
+ok-is : {A E : Type 0} (x y : A) → ◌≡◌ {A = Result A E} (Ok x) (Ok y) → x ≡ y
+ok-is x y q = cc
 
-is-answered : {A : Type 0} (o : Option (A × Log)) (x : A × Log) → o ≡ Some x → IsAnswered o
+answer-is : (gives : List ℕ → Option (List ℕ)) (step : Step Top) (x : Top × Log) → step ≡ Ok x → or_fault gives step ≡ Ok x
+answer-is given step x e = ap (or_fault given) e
+
+-- the fault of a step is no answer
+answer-was : (gives : List ℕ → Option (List ℕ)) (step : Step Top) (x : Top × Log) → or_fault gives step ≡ Ok x → step ≡ Ok x
+answer-was given (Ok y) x e = ap (λ z. Ok z) (ok-is y x e)
+answer-was given (Err stop) x e = absurd cc
+
+is-answered : {A : Type 0} (o : Step A) (x : A × Log) → o ≡ Ok x → IsAnswered o
 is-answered o x e = subst (λ t. IsAnswered t) (sym e) tt
 
 -- ---- the batch over the given blocks
@@ -175,10 +181,10 @@ module _ (digest : List ℕ → List ℕ) (bits : ℕ) (fits : IsDigest digest) 
   abbrev AllRead : Type 0
   AllRead = AllShown digest (shows digest given) (batch_read lay most cs own_top)
 
-  abbrev batch : ℕ → Option (Top × Log)
+  abbrev batch : ℕ → Step Top
   batch n = batch_from digest (shows digest given) lay n cs (root digest bits es)
 
-  abbrev step : Step Top
+  abbrev step : Result (Top × Log) ChangeFault
   step = batch_given digest bits given cs (root digest bits es)
 
   abbrev layers : ℕ
@@ -207,27 +213,24 @@ module _ (digest : List ℕ → List ℕ) (bits : ℕ) (fits : IsDigest digest) 
   layers-are h = ap (layers_needed lay (put_layers lay cs)) h
       ∙ ap (λ k. max (suc k) (put_layers lay cs)) (layer-same digest (shows digest given) lay own_top ∙ layer_of-top lay es)
 
-  step-batch : answer_of step ≡ batch layers
-  step-batch = given-is_batch digest (gives digest given) lay layers cs (root digest bits es)
-
   root-shown : IsAnswered (batch layers) → Shown digest (shows digest given) own_top
   root-shown answered =
       logged-shown digest (shows digest given) own_top (record { read = []; made = [] })
       (own-known digest given own_top each-own.0) (shows digest given (root digest bits es)) refl
       (first-answered (ask (shows digest given) (root digest bits es) (record { read = []; made = [] })) _ answered)
 
-  root-is : (x : Top × Log) → batch most ≡ Some x → AllRead → x.0.0 ≡ root digest bits (changed cs es)
+  root-is : (x : Top × Log) → batch most ≡ Ok x → AllRead → x.0.0 ≡ root digest bits (changed cs es)
   root-is x q all =
-      ap (λ (y : Top × Log). y.0.0) (some-is x _ (sym q ∙ needs.0 all))
+      ap (λ (y : Top × Log). y.0.0) (ok-is x _ (sym q ∙ needs.0 all))
       ∙ ap (λ k. shape_cid digest (shape digest k))
       (batch-is_top lay most cs es (ascending-sorted es are.sorted) tree-within puts-are-within)
 
   -- an answer has read all that the batch reads
   whole : (x : Top × Log) → step ≡ Ok x → AllRead × (x.0.0 ≡ root digest bits (changed cs es))
   whole x e =
-      let q : batch layers ≡ Some x = sym step-batch ∙ ap answer_of e in
+      let q : batch layers ≡ Ok x = answer-was (gives digest given) (batch layers) x e in
       let h = root-shown (is-answered (batch layers) x q) in
-      let r : batch most ≡ Some x = subst (λ k. batch k ≡ Some x) (layers-are h) q in
+      let r : batch most ≡ Ok x = subst (λ k. batch k ≡ Ok x) (layers-are h) q in
       let all = needs.1 (is-answered (batch most) x r) in
       (all, root-is x r all)
 
@@ -237,10 +240,10 @@ module _ (digest : List ℕ → List ℕ) (bits : ℕ) (fits : IsDigest digest) 
     is : step ≡ Ok x
     root_is : x.0.0 ≡ root digest bits (changed cs es)
 
-  answer-of : AllRead → (x : Top × Log) → batch most ≡ Some x → Answer
+  answer-of : AllRead → (x : Top × Log) → batch most ≡ Ok x → Answer
   answer-of all x d =
-      let q : batch layers ≡ Some x = subst (λ k. batch k ≡ Some x) (sym (layers-are all.0)) d in
-      record { x = x; is = answer-is step x (step-batch ∙ q); root_is = root-is x d all }
+      let q : batch layers ≡ Ok x = subst (λ k. batch k ≡ Ok x) (sym (layers-are all.0)) d in
+      record { x = x; is = answer-is (gives digest given) (batch layers) x q; root_is = root-is x d all }
 
   answered : AllRead → Answer
   answered all = answer-of all _ (needs.0 all)
@@ -289,7 +292,7 @@ module _ (digest : List ℕ → List ℕ) (bits : ℕ) (fits : IsDigest digest) 
   -- there is an answer, for which few nodes are read, and keys ascend in each node that is made
   pub record Reached : Type 0 where
     pub x : Top × Log
-    pub is : step ≡ Ok x
+    pub is : batch layers ≡ Ok x
     pub made : AllByRecursion HasKeys x.1.made
     pub few : length (x.1.read ++ x.0.1) ≤ suc (most_reads (top_layer lay es) cs)
     pub top_is : shows digest given (root digest bits es) ≡ Some (shape digest own_top)
@@ -300,7 +303,7 @@ module _ (digest : List ℕ → List ℕ) (bits : ℕ) (fits : IsDigest digest) 
       let left = top_left (walk_top lay most cs own_top) in
       record {
         x = _;
-        is = answer-is step _ (step-batch ∙ q ∙ needs.0 all);
+        is = q ∙ needs.0 all;
         made = batch-has_keys digest lay most cs es are keyed tree-within puts-are-within;
         few =
             let a = ap length (sym (map-append (shape digest) gone left)) in

@@ -1,5 +1,5 @@
 -- The laws of a proof of changes.
-use Rattle.std.specs.Prelude.{◌≡◌, Contains, ◌<◌, ◌^◌, ℕ, suc, max, List, [], length, map, Option, Some, None, Ok, Err}
+use Rattle.std.specs.Prelude.{◌≡◌, Contains, ◌<◌, ◌^◌, ℕ, suc, max, List, [], length, map, Option, None, Ok, Err}
 use Rattle.spec.specs.Cid.{IsDigest}
 use Rattle.spec.specs.Layer.{layer as layer_of_key}
 use Rattle.spec.specs.Tree.{Pair, top, top_layer}
@@ -8,23 +8,10 @@ use Rattle.spec.specs.Blocks.{ArePairs, ClashesWithNone, nodes, root}
 use Rattle.edit_laws.specs.Sources.{shown_by}
 use Rattle.batch_laws.specs.Batch.{Change, changed, AreKeyed, HaveOwnCids}
 use Rattle.batch_laws.specs.Trace.{batch_read}
-use Rattle.batch_laws.specs.Links.{Log, batch_from}
+use Rattle.batch_laws.specs.Links.{NotShown}
 use Rattle.change_laws.specs.Told.{KeyChange, undone, DifferBy}
-use Rattle.change_laws.specs.Given.{Step, BlockMissing, given_at, batch_at, put_layers}
+use Rattle.change_laws.specs.Given.{BlockMissing, given_at, batch_over, put_layers}
 use Rattle.change_laws.specs.Verdict.{change_verdict}
-
--- ---- what the walk over given blocks is
-
--- its answer, where it has one
-abbrev pub answer_of : {A : Type 0} → Step A → Option (A × Log)
-answer_of (Ok x) = Some x
-answer_of (Err fault) = None
-
--- it answers what the batch over the source does
-abbrev pub GivenIsBatch : Type 0
-GivenIsBatch = (digest : List ℕ → List ℕ) (gives : List ℕ → Option (List ℕ)) (layer : List ℕ → ℕ) (n : ℕ)
-    (cs : List Change) (root : List ℕ)
-    → answer_of (batch_at digest gives layer n cs root) ≡ batch_from digest (shown_by gives) layer n cs root
 
 -- ---- what a verdict says
 
@@ -72,6 +59,11 @@ VerdictIsComplete = (digest : List ℕ → List ℕ) (bits : ℕ) → IsDigest d
 abbrev pub NothingGiven : Type 0
 NothingGiven = (digest : List ℕ → List ℕ) (bits : ℕ) (before after : List ℕ) (cs : List KeyChange)
     → change_verdict digest bits before after [] cs ≡ Err (BlockMissing after)
+
+-- what a batch finds not shown isn't shown: so a bad node is a given block that is no node
+abbrev pub NotShownIsTrue : Type 0
+NotShownIsTrue = (digest : List ℕ → List ℕ) (bits : ℕ) (gives : List ℕ → Option (List ℕ)) (cs : List Change)
+    (root c : List ℕ) → batch_over digest bits gives cs root ≡ Err (NotShown c) → shown_by gives c ≡ None
 
 -- what is missing isn't given
 abbrev pub MissingIsMissing : Type 0

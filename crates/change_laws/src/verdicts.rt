@@ -1,12 +1,7 @@
 //! What a verdict means.
 
-ghost use Rattle.change_laws.specs.Laws.{GivenIsBatch, VerdictIsSound, OldIsUndone, VerdictIsComplete, NothingGiven, MissingIsMissing};
+ghost use Rattle.change_laws.specs.Laws.{VerdictIsSound, OldIsUndone, VerdictIsComplete, NothingGiven, NotShownIsTrue, MissingIsMissing};
 ghost use Rattle.change_laws.specs.Rows.{AreRows, by_last_digit};
-
-/// A batch over given blocks answers what the batch over the source does that they are.
-pub fn given_is_the_batch()
-    ensures { GivenIsBatch }
-{}
 
 /// Changes that are shown are true of the pairs after them, whatever pairs these are: each key has the value that is told, and
 /// the pairs with each change undone are those that the root before names.
@@ -27,6 +22,11 @@ pub fn verdict_is_complete()
 /// Where nothing is given, the root after is what is missing first.
 pub fn nothing_shows_nothing()
     ensures { NothingGiven }
+{}
+
+/// What a batch finds not shown isn't shown.
+pub fn not_shown_is_true()
+    ensures { NotShownIsTrue }
 {}
 
 /// What is called missing isn't given.

@@ -248,6 +248,23 @@ fn lacks_each(alloc: Global, told: &Told, proof: &[Arc<Block<Toy>>]) -> bool {
     true
 }
 
+/// Whether the next one is missing where only the first few are given.
+fn lacks_the_next(alloc: Global, told: &Told, proof: &[Arc<Block<Toy>>]) -> bool {
+    for count in 0..proof.len() {
+        let answer = verified(
+            alloc,
+            told.before,
+            told.after,
+            &proof[..count],
+            &told.changes,
+        );
+        if missing_in(&answer).is_none() || missing_in(&answer) != cid_at(proof, Some(count)) {
+            return false;
+        }
+    }
+    true
+}
+
 /// Whether a row is proved by its nodes, in their order, and by no fewer.
 fn is_proved(alloc: Global, nodes: &[Arc<Block<Toy>>], row: &Row) -> bool {
     let (Some(told), Ok(blocks)) = (
@@ -261,6 +278,7 @@ fn is_proved(alloc: Global, nodes: &[Arc<Block<Toy>>], row: &Row) -> bool {
             are_at(nodes, row.proof, &proof)
                 && show(alloc, &told, &proof)
                 && lacks_each(alloc, &told, &proof)
+                && lacks_the_next(alloc, &told, &proof)
         }
         Err(_) => false,
     }

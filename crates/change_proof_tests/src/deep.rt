@@ -46,7 +46,7 @@ fn chain_of(alloc: Global, more: usize) -> Result<Chain, AllocError> {
 }
 
 /// Whether an answer is that there is no tree.
-fn is_no_tree<T>(answer: &Result<T, ChangeFault<Toy>>) -> bool {
+fn is_no_tree<T>(answer: &Result<T, ChangeFault>) -> bool {
     match answer {
         Err(ChangeFault::NotTree) => true,
         _ => false,

@@ -107,7 +107,7 @@ pub(crate) fn verified(
     after: Cid,
     blocks: &[Arc<Block<Toy>>],
     changes: &[KeyChange<'_>],
-) -> Result<(), ChangeFault<Toy>> {
+) -> Result<(), ChangeFault> {
     if !are_key_changes(changes) {
         return Err(ChangeFault::NoMemory);
     }
@@ -121,7 +121,7 @@ pub(crate) fn proved(
     blocks: &[Arc<Block<Toy>>],
     after: Cid,
     changes: &[KeyChange<'_>],
-) -> Result<Blocks, ChangeFault<Toy>> {
+) -> Result<Blocks, ChangeFault> {
     if !are_key_changes(changes) {
         return Err(ChangeFault::NoMemory);
     }

@@ -7,7 +7,7 @@ use cid::digests::Toy;
 use std::alloc::{AllocError, Global};
 
 /// The block that is told as missing, if one is.
-pub(crate) fn missing_in(answer: &Result<(), ChangeFault<Toy>>) -> Option<Cid> {
+pub(crate) fn missing_in(answer: &Result<(), ChangeFault>) -> Option<Cid> {
     match answer {
         Err(ChangeFault::BlockMissing(cid)) => Some(*cid),
         _ => None,
@@ -15,7 +15,7 @@ pub(crate) fn missing_in(answer: &Result<(), ChangeFault<Toy>>) -> Option<Cid> {
 }
 
 /// The place whose value is told as another, if one is.
-pub(crate) fn other_value_in(answer: &Result<(), ChangeFault<Toy>>) -> Option<usize> {
+pub(crate) fn other_value_in(answer: &Result<(), ChangeFault>) -> Option<usize> {
     match answer {
         Err(ChangeFault::OtherValue(place)) => Some(*place),
         _ => None,
@@ -23,7 +23,7 @@ pub(crate) fn other_value_in(answer: &Result<(), ChangeFault<Toy>>) -> Option<us
 }
 
 /// Whether another root is told.
-pub(crate) fn is_other_root(answer: &Result<(), ChangeFault<Toy>>) -> bool {
+pub(crate) fn is_other_root(answer: &Result<(), ChangeFault>) -> bool {
     match answer {
         Err(ChangeFault::OtherRoot) => true,
         _ => false,
@@ -38,7 +38,7 @@ fn without(alloc: Global, both: &Both, cid: Cid) -> Result<Blocks, AllocError> {
 }
 
 /// What is told where this block is left out.
-fn told_without(alloc: Global, both: &Both, cid: Cid) -> Result<(), ChangeFault<Toy>> {
+fn told_without(alloc: Global, both: &Both, cid: Cid) -> Result<(), ChangeFault> {
     let blocks = without(alloc, both, cid)?;
     verified(
         alloc,
@@ -138,7 +138,7 @@ pub(crate) fn with_altered(
 }
 
 /// What is told of the changes where the one at a place is altered.
-fn told_of(alloc: Global, both: &Both, place: usize, part: Part) -> Result<(), ChangeFault<Toy>> {
+fn told_of(alloc: Global, both: &Both, place: usize, part: Part) -> Result<(), ChangeFault> {
     let changes = with_altered(alloc, &both.changes, place, part)?;
     verified(
         alloc,

@@ -1,6 +1,5 @@
 -- What the code answers over given blocks is the verdict.
-use Rattle.std.proofs.Common.{◌≡◌, ℕ, suc, ◌/◌, ◌≤◌, max, Bool, true, false, cond, List, [], ◌∷◌, map, refl, sym, ap, subst, ◌∙◌, arith, Option, option_map, Result, Ok, Err}
-use Rattle.std.specs.Prelude.{IsSome}
+use Rattle.std.proofs.Common.{◌≡◌, ℕ, suc, max, Bool, true, false, cond, List, [], ◌∷◌, map, refl, sym, ap, subst, ◌∙◌, Option, option_map, Result, Ok, Err}
 use Rattle.std.specs.Arc.{arc_value}
 use Rattle.std.proofs.Math.Path.{fun_ext}
 use Rattle.std.specs.Str.{bytes_eq}
@@ -9,29 +8,23 @@ use Rattle.std.specs.declared.sync.Arc.{Arc}
 use Rattle.spec.specs.Cid.{cid, IsDigest}
 use Rattle.spec.specs.Reading.{◌>>=◌, ensure}
 use Rattle.spec.specs.Layer.{layer}
-use Rattle.spec.specs.NodeFormat.{Shape, LastLink, MoreLinks}
-use Rattle.spec.proofs.PathNodes.{top_layer-le}
-use Rattle.edit_laws.specs.ShapeEdit.{layer_of_shape}
+use Rattle.spec.specs.NodeFormat.{Shape}
 use Rattle.edit_laws.specs.Sources.{shown_by}
 use Rattle.lookups.specs.Maps.{first_of}
-use Rattle.lookups.specs.Steps.{layers, nodes_given}
-use Rattle.batch_laws.specs.Batch.{Change, AreAscending, AreKeyed}
-use Rattle.batch_laws.specs.Links.{Log, Top, batch_from}
+use Rattle.lookups.specs.Steps.{nodes_given}
+use Rattle.batch_laws.specs.Batch.{Change, AreKeyed}
+use Rattle.batch_laws.specs.Links.{NotShown, LinkTooDeep, Step, Stop, Top, batch_from}
 use Rattle.edit.specs.Batches.{answer_of as answer_over, put_layers as edit_put_layers}
 use Rattle.edit.specs.Budgets.{most_from}
 use Rattle.edit.specs.Stops.{IsUnreached, at_top}
 use Rattle.edit.specs.Tops.{layers_needed as edit_layers_needed}
 use Rattle.change_laws.specs.Told.{KeyChange, undone}
-use Rattle.change_laws.specs.Given.{Step, ChangeFault as GivenFault, OtherRoot as HasOtherRoot, given_at, put_layers, layers_needed, batch_given}
-use Rattle.change_laws.specs.Verdict.{are_told, values_given, change_verdict}
-use Rattle.change_laws.specs.Laws.{answer_of}
-use Rattle.change_laws.proofs.GivenSteps.{given-is_batch}
-use Rattle.change_laws.proofs.Lacking.{IsAnswered}
+use Rattle.change_laws.specs.Given.{ChangeFault as GivenFault, OtherRoot as HasOtherRoot, given_at, put_layers, layers_needed, unshown, fault_of, or_fault, batch_over}
+use Rattle.change_laws.specs.Verdict.{previous_of, are_told, values_given, change_verdict}
 use Rattle.change_laws.proofs.Showing.{verdict-sound}
-use Rattle.change_proofs.specs.Verdicts.{SaysOf, IsSaidOver, IsVerdict, IsRight, values_from}
+use Rattle.change_proofs.specs.Verdicts.{SaysOf, IsSaidOver, IsVerdict, IsRight, values_met}
 use Rattle.change_proofs.specs.declared.change_fault.ChangeFault.{ChangeFault}
-use Rattle.change_proofs.specs.declared.change_fault.ChangeFault.TheVariants.{BlockMissing, NotTree, OtherValue, OtherRoot, Clash, NoMemory}
-use Rattle.change_proofs.proofs.Looked.{values-looked}
+use Rattle.change_proofs.specs.declared.change_fault.ChangeFault.TheVariants.{BlockMissing, NotTree, OtherValue, OtherRoot, NoMemory}
 
 -- ---- given blocks as a source
 
@@ -66,16 +59,11 @@ needed-same : (lay : List ℕ → ℕ) (w : ℕ) (o : Option Shape) → edit_lay
 needed-same lay w None = refl
 needed-same lay w (Some s) = refl
 
-layer-fits : (digest : List ℕ → List ℕ) (bits : ℕ) → IsDigest digest → (s : Shape)
-    → layer_of_shape (layer digest bits) s ≤ 256 / bits
-layer-fits digest bits fits (LastLink l) = omega arith
-layer-fits digest bits fits (MoreLinks l e r) = let a = top_layer-le digest bits fits (e ∷ []) in omega (arith, a)
-
 -- ---- the batch over given blocks
 
 answer-same : {A : Type 0} (digest : List ℕ → List ℕ) (bits : ℕ) (bs : List (Arc (List ℕ) A)) (cs : List Change)
     (root : List ℕ)
-    → answer_over digest bits (first_of digest bs) cs root ≡ answer_of (batch_given digest bits (map arc_value bs) cs root)
+    → answer_over digest bits (first_of digest bs) cs root ≡ batch_over digest bits (given_at digest (map arc_value bs)) cs root
 answer-same digest bits bs cs root =
     let lay = layer digest bits in
     let gives = given_at digest (map arc_value bs) in
@@ -84,71 +72,72 @@ answer-same digest bits bs cs root =
     batch_from digest s lay (edit_layers_needed lay (edit_put_layers lay cs) (s root)) cs root) (shows-same digest bs)
     ∙ ap (λ w. batch_from digest shows lay (edit_layers_needed lay w (shows root)) cs root) (puts-same lay cs)
     ∙ ap (λ n. batch_from digest shows lay n cs root) (needed-same lay (put_layers lay cs) (shows root))
-    ∙ sym (given-is_batch digest gives lay (layers_needed lay (put_layers lay cs) (shows root)) cs root)
+
+unshown-same : {X Y : Type 0} (f : X → Y) (c : List ℕ) (o : Option X) → unshown c o ≡ unshown c (option_map f o)
+unshown-same f c None = refl
+unshown-same f c (Some x) = refl
+
+-- where it stops is the same fault
+fault-same : {A : Type 0} (digest : List ℕ → List ℕ) (bs : List (Arc (List ℕ) A)) (stop : Stop)
+    → fault_of (first_of digest bs) stop ≡ fault_of (given_at digest (map arc_value bs)) stop
+fault-same digest bs (NotShown c) =
+    unshown-same arc_value c (first_of digest bs c) ∙ ap (unshown c) (first-is digest bs c)
+fault-same digest bs LinkTooDeep = refl
+
+says-same : {A : Type 0} (digest : List ℕ → List ℕ) (bs : List (Arc (List ℕ) A)) (answer : Step Top)
+    (vs : List (Option (List ℕ))) (cs : List KeyChange) (before : List ℕ) (r : Result (Unit {0}) GivenFault)
+    → SaysOf (first_of digest bs) answer vs cs before r → SaysOf (given_at digest (map arc_value bs)) answer vs cs before r
+says-same digest bs (Ok x) vs cs before r h = h
+says-same digest bs (Err stop) vs cs before r h = ap (λ f. Err f) (sym (fault-same digest bs stop)) ∙ h
 
 -- an answer says what the steps of a verdict come to
-steps-say : (step : Step Top) (vs ws : List (Option (List ℕ))) (cs : List KeyChange) (before : List ℕ)
-    (r : Result (Unit {0}) GivenFault) → (IsAnswered (answer_of step) → ws ≡ vs) → SaysOf (answer_of step) vs cs before r
-    → (step >>= (λ old. are_told 0 ws cs >>= (λ told. ensure (bytes_eq old.0.0 before) HasOtherRoot))) ≡ r
-steps-say (Ok x) vs ws cs before r q h =
-    ap (λ us. are_told 0 us cs >>= (λ told. ensure (bytes_eq x.0.0 before) HasOtherRoot)) (q tt) ∙ h
-steps-say (Err fault) vs ws cs before r q h = absurd h
+steps-say : (gives : List ℕ → Option (List ℕ)) (step : Step Top) (vs : List (Option (List ℕ))) (cs : List KeyChange)
+    (before : List ℕ) (r : Result (Unit {0}) GivenFault) → SaysOf gives step vs cs before r
+    → (or_fault gives step >>= (λ old. are_told 0 vs cs >>= (λ told. ensure (bytes_eq old.0.0 before) HasOtherRoot))) ≡ r
+steps-say gives (Ok x) vs cs before r h = h
+steps-say gives (Err stop) vs cs before r h = h
 
-module _ {A : Type 0} (digest : List ℕ → List ℕ) (bits : ℕ) (fits : IsDigest digest) (before after : List ℕ)
-    (bs : List (Arc (List ℕ) A)) (cs : List KeyChange) (keyed : AreAscending (undone cs)) where
+module _ {A : Type 0} (digest : List ℕ → List ℕ) (bits : ℕ) (before after : List ℕ) (bs : List (Arc (List ℕ) A))
+    (cs : List KeyChange) where
   abbrev given : List (List ℕ)
   given = map arc_value bs
 
   abbrev shows : List ℕ → Option Shape
   shows = shown_by (given_at digest given)
 
-  abbrev values : List (Option (List ℕ))
-  values = values_from shows (layers bits) after cs
-
-  values-same : IsAnswered (answer_of (batch_given digest bits given (undone cs) after))
-      → values_given digest bits given (undone cs) after ≡ values
-  values-same h =
-      let lay = layer digest bits in
-      let most : layers bits ≡ suc (256 / bits) = omega arith in
-      let n = layers_needed lay (put_layers lay (undone cs)) (shows after) in
-      let answered = subst (λ (a : Option (Top × Log)). IsAnswered a)
-      (given-is_batch digest (given_at digest given) lay n (undone cs) after) h in
-      values-looked digest shows lay n cs after (256 / bits) (layer-fits digest bits fits) keyed answered
-      ∙ sym (ap (λ m. values_from shows m after cs) most)
-
   says-is : (r : Result (Unit {0}) GivenFault)
-      → SaysOf (answer_over digest bits (first_of digest bs) (undone cs) after)
-      (values_from (nodes_given (first_of digest bs)) (layers bits) after cs) cs before r
+      → SaysOf (first_of digest bs) (answer_over digest bits (first_of digest bs) (undone cs) after)
+      (values_met digest bits (first_of digest bs) after cs) cs before r
       → change_verdict digest bits before after given cs ≡ r
   unfolding change_verdict
   says-is r h =
-      let step = batch_given digest bits given (undone cs) after in
+      let gives = given_at digest given in
+      let step = batch_over digest bits gives (undone cs) after in
+      let values = values_given digest bits given (undone cs) after in
       let a = subst (λ (s : List ℕ → Option Shape).
-      SaysOf (answer_over digest bits (first_of digest bs) (undone cs) after) (values_from s (layers bits) after cs) cs before r)
-      (shows-same digest bs) h in
-      let b = subst (λ (o : Option (Top × Log)). SaysOf o values cs before r)
+      SaysOf (first_of digest bs) (answer_over digest bits (first_of digest bs) (undone cs) after)
+      (previous_of s (layer digest bits) (undone cs) (s after)) cs before r) (shows-same digest bs) h in
+      let b = subst (λ (o : Step Top). SaysOf (first_of digest bs) o values cs before r)
       (answer-same digest bits bs (undone cs) after) a in
-      steps-say step values (values_given digest bits given (undone cs) after) cs before r values-same b
+      steps-say gives step values cs before r (says-same digest bs step values cs before r b)
 
-  fault-is : {D : Type 0} (fault : ChangeFault D A)
+  fault-is : (fault : ChangeFault)
       → IsSaidOver digest bits (first_of digest bs) before after cs (Err fault)
       → IsVerdict digest bits before after given cs (Err fault)
   fault-is (BlockMissing c) h = (
     sym (first-is digest bs c) ∙ ap (option_map arc_value) h.0,
-    sym (answer-same digest bits bs (undone cs) after) ∙ h.1,
+    says-is _ h.1,
   )
   fault-is NotTree h =
-      subst (λ (o : Option (Top × Log)). IsUnreached (most_from (layer digest bits) (undone cs) (shows after)) (at_top o))
+      subst (λ (o : Step Top). IsUnreached (most_from (layer digest bits) (undone cs) (shows after)) (at_top o))
       (answer-same digest bits bs (undone cs) after)
       (subst (λ (s : List ℕ → Option Shape). IsUnreached (most_from (layer digest bits) (undone cs) (s after))
       (at_top (answer_over digest bits (first_of digest bs) (undone cs) after))) (shows-same digest bs) h)
   fault-is (OtherValue place) h = says-is _ h
   fault-is OtherRoot h = says-is _ h
-  fault-is (Clash pair) h =
-      subst (λ (o : Option (Top × Log)). IsSome o) (answer-same digest bits bs (undone cs) after) h
   fault-is NoMemory h = tt
 
-  pub verdict-is : {D : Type 0} (result : Result (Unit {0}) (ChangeFault D A))
+  pub verdict-is : (result : Result (Unit {0}) ChangeFault)
       → IsSaidOver digest bits (first_of digest bs) before after cs result
       → IsVerdict digest bits before after given cs result
   verdict-is (Ok x) h = says-is _ h
@@ -156,9 +145,9 @@ module _ {A : Type 0} (digest : List ℕ → List ℕ) (bits : ℕ) (fits : IsDi
 
 -- ---- what the verdict means
 
-module _ {D A : Type 0} (digest : List ℕ → List ℕ) (bits : ℕ) (fits : IsDigest digest) (before after : List ℕ)
-    (given : List (List ℕ)) (cs : List KeyChange) (keyed : AreKeyed (undone cs)) where
-  pub verdict-right : (result : Result (Unit {0}) (ChangeFault D A)) → IsVerdict digest bits before after given cs result
+module _ (digest : List ℕ → List ℕ) (bits : ℕ) (fits : IsDigest digest) (before after : List ℕ) (given : List (List ℕ))
+    (cs : List KeyChange) (keyed : AreKeyed (undone cs)) where
+  pub verdict-right : (result : Result (Unit {0}) ChangeFault) → IsVerdict digest bits before after given cs result
       → IsRight digest bits before after given cs result
   verdict-right (Ok x) h new are is free =
       verdict-sound digest bits fits before new are given free cs keyed

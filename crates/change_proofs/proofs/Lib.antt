@@ -1,7 +1,6 @@
 pub mod Lists
 pub mod Testing
 pub mod Telling
-pub mod Looked
 pub mod Judged
 pub mod Saying
 pub mod Wholes

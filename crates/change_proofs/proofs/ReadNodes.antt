@@ -18,10 +18,10 @@ use Rattle.change_laws.specs.Told.{KeyChange, undone, DifferBy}
 use Rattle.change_laws.specs.Verdict.{are_told, change_verdict}
 use Rattle.change_laws.specs.Laws.{change_path}
 use Rattle.change_laws.proofs.Showing.{verdict-complete}
-use Rattle.change_proofs.specs.Verdicts.{of_edit}
+use Rattle.change_proofs.specs.Verdicts.{of_preview}
 use Rattle.change_proofs.specs.Provings.{AreNodes, AreNodesOver, IsFaultOf, IsLackOver, IsOtherValue, IsUntrue, fault_of}
 use Rattle.change_proofs.specs.declared.change_fault.ChangeFault.{ChangeFault}
-use Rattle.change_proofs.specs.declared.change_fault.ChangeFault.TheVariants.{BlockMissing, NotTree, OtherValue, OtherRoot, Clash, NoMemory}
+use Rattle.change_proofs.specs.declared.change_fault.ChangeFault.TheVariants.{BlockMissing, NotTree, OtherValue, OtherRoot, NoMemory}
 use Rattle.change_proofs.specs.declared.proving_fault.ProvingFault.{ProvingFault}
 use Rattle.change_proofs.proofs.Judged.{puts-same}
 
@@ -53,18 +53,17 @@ tree-nodes digest bits cs es new previous read p t = record {
   nodes_are = p.read_is ∙ path-same digest bits cs es;
 }
 
-pub tree-other : {D A : Type 0} (digest : List ℕ → List ℕ) (bits : ℕ) (cs : List KeyChange) (es : List Pair) (new : List ℕ)
+pub tree-other : (digest : List ℕ → List ℕ) (bits : ℕ) (cs : List KeyChange) (es : List Pair) (new : List ℕ)
     (previous : List (Option (List ℕ))) (read : List (List ℕ)) → IsPreviewOf digest bits (undone cs) es new previous read
-    → (fault : ChangeFault D A) → IsOtherValue previous cs fault → IsFaultOf es cs fault
+    → (fault : ChangeFault) → IsOtherValue previous cs fault → IsFaultOf es cs fault
 tree-other digest bits cs es new previous read p (BlockMissing c) h = h
 tree-other digest bits cs es new previous read p NotTree h = h
 tree-other digest bits cs es new previous read p (OtherValue place) h = ap (λ vs. are_told 0 vs cs) (sym p.previous_is) ∙ h
 tree-other digest bits cs es new previous read p OtherRoot h = h
-tree-other digest bits cs es new previous read p (Clash pair) h = h
 tree-other digest bits cs es new previous read p NoMemory h = tt
 
 pub tree-want : {D A : Type 0} (cs : List KeyChange) (es : List Pair) (fault : EditFault D A) → IsWant fault
-    → IsFaultOf {D = D} {A = A} es cs (of_edit fault)
+    → IsFaultOf es cs (of_preview fault)
 tree-want cs es (edits.Missing c) h = h
 tree-want cs es edits.NotTree h = h
 tree-want cs es edits.NoSuchKey h = h
@@ -87,24 +86,23 @@ module _ {A : Type 0} (digest : List ℕ → List ℕ) (bits : ℕ) (gives : Lis
     nodes_are = p.read_is;
   }
 
-  pub over-other : {D : Type 0} (new : List ℕ) (previous : List (Option (List ℕ))) (read : List (List ℕ))
-      → IsPreview digest bits gives (undone cs) root new previous read → (fault : ChangeFault D A)
+  pub over-other : (new : List ℕ) (previous : List (Option (List ℕ))) (read : List (List ℕ))
+      → IsPreview digest bits gives (undone cs) root new previous read → (fault : ChangeFault)
       → IsOtherValue previous cs fault → IsLackOver digest bits gives root cs fault
   over-other new previous read p (BlockMissing c) h = absurd h
   over-other new previous read p NotTree h = absurd h
   over-other new previous read p (OtherValue place) h =
       λ m shown. ap (λ vs. are_told 0 vs cs) (sym (p.previous_is m shown)) ∙ h
   over-other new previous read p OtherRoot h = h
-  over-other new previous read p (Clash pair) h = h
   over-other new previous read p NoMemory h = tt
 
   pub over-lack : {D : Type 0} (fault : EditFault D A)
       → IsPreviewReason gives (most_of digest bits gives (undone cs) root) (answer_over digest bits gives (undone cs) root) fault
-      → IsLackOver digest bits gives root cs {D = D} (of_edit fault)
+      → IsLackOver digest bits gives root cs (of_preview fault)
   over-lack (edits.Missing c) h = h
   over-lack edits.NotTree h = h
   over-lack edits.NoSuchKey h = absurd h
-  over-lack (edits.Clash pair) h = h
+  over-lack (edits.Clash pair) h = absurd h
   over-lack edits.NoMemory h = tt
 
 -- ---- what the nodes show
@@ -120,15 +118,14 @@ nodes-show digest bits fits cs es are keyed proof n old are_old differ given fre
 
 -- ---- of a repository
 
-fault-told : {D A : Type 0} (digest : List ℕ → List ℕ) (s : State) (cs : List KeyChange) (fault : ChangeFault D A)
+fault-told : (digest : List ℕ → List ℕ) (s : State) (cs : List KeyChange) (fault : ChangeFault)
     → IsFaultOf (pairs digest (records s)) cs fault → IsUntrue digest s cs (fault_of fault)
 fault-told digest s cs (BlockMissing c) h = tt
 fault-told digest s cs NotTree h = tt
 fault-told digest s cs (OtherValue place) h = h
 fault-told digest s cs OtherRoot h = tt
-fault-told digest s cs (Clash pair) h = tt
 fault-told digest s cs NoMemory h = tt
 
-pub told-fault : {D A : Type 0} (digest : List ℕ → List ℕ) (s : State) (cs : List KeyChange) (fault : ChangeFault D A)
+pub told-fault : (digest : List ℕ → List ℕ) (s : State) (cs : List KeyChange) (fault : ChangeFault)
     (told : ProvingFault) → told ≡ fault_of fault → IsFaultOf (pairs digest (records s)) cs fault → IsUntrue digest s cs told
 told-fault digest s cs fault told e h = subst (IsUntrue digest s cs) (sym e) (fault-told digest s cs fault h)

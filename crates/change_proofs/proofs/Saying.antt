@@ -1,55 +1,99 @@
 -- What the root that comes out and the values say of changes.
-use Rattle.std.proofs.Common.{◌≡◌, ℕ, List, sym, ap, subst, ◌∙◌, Option, Result, Ok, Err}
+use Rattle.std.proofs.Common.{◌≡◌, ℕ, List, [], refl, sym, ap, subst, ◌∙◌, Option, Result, Ok, Err}
+use Rattle.std.specs.declared.option.Option.TheVariants.{Some, None}
 use Rattle.std.specs.declared.sync.Arc.{Arc}
-use Rattle.batch_laws.specs.Links.{Log, Top}
-use Rattle.change_laws.specs.Told.{KeyChange}
-use Rattle.change_laws.specs.Given.{ChangeFault as GivenFault, OtherValue as HasOtherValue, OtherRoot as HasOtherRoot}
-use Rattle.change_laws.specs.Verdict.{are_told}
-use Rattle.edit.specs.Batches.{IsReason}
+use Rattle.spec.specs.Layer.{layer}
+use Rattle.spec.specs.NodeFormat.{Shape}
+use Rattle.lookups.specs.Steps.{nodes_given}
+use Rattle.batch_laws.specs.Links.{Log, NotShown, Step, Top, and_then, log_shown, walking_top, topping}
+use Rattle.batch_laws.specs.Previous.{previous_top}
+use Rattle.edit.specs.Batches.{answer_of, most_of, put_layers}
+use Rattle.edit.specs.Previews.{IsPreview, IsPreviewReason}
+use Rattle.edit.specs.Tops.{layers_needed}
 use Rattle.edit.specs.declared.outcome.EditFault.{EditFault}
 use Rattle.edit.specs.declared.outcome.EditFault.TheVariants as edits
-use Rattle.change_proofs.specs.Verdicts.{of_edit, judgement, IsJudged, IsFault, IsSaid, LeadsTo, SaysOf}
+use Rattle.change_laws.specs.Told.{KeyChange, undone}
+use Rattle.change_laws.specs.Given.{ChangeFault as GivenFault, BlockMissing as HasBlockMissing, OtherValue as HasOtherValue, OtherRoot as HasOtherRoot, unshown}
+use Rattle.change_laws.specs.Verdict.{previous_of, are_told}
+use Rattle.change_laws.proofs.Lacking.{IsAnswered}
+use Rattle.change_proofs.specs.Verdicts.{of_preview, judgement, IsJudged, IsFault, IsSaid, IsSaidOver, SaysOf, values_met}
 use Rattle.change_proofs.specs.declared.change_fault.ChangeFault.{ChangeFault}
-use Rattle.change_proofs.specs.declared.change_fault.ChangeFault.TheVariants.{BlockMissing, NotTree, OtherValue, OtherRoot, Clash, NoMemory}
+use Rattle.change_proofs.specs.declared.change_fault.ChangeFault.TheVariants.{BlockMissing, NotTree, OtherValue, OtherRoot, NoMemory}
 
--- why there is no new root is why there is no verdict
-pub fault-passed : {X D A : Type 0} (gives : List ℕ → Option X) (most : ℕ) (answer : Option (Top × Log))
-    (Says : Result (Unit {0}) GivenFault → Type 0) (fault : ChangeFault D A) → IsFault gives most answer (λ r. ⊥) fault
-    → IsFault gives most answer Says fault
-fault-passed gives most answer Says (BlockMissing c) h = h
-fault-passed gives most answer Says NotTree h = h
-fault-passed gives most answer Says (OtherValue place) h = absurd h
-fault-passed gives most answer Says OtherRoot h = absurd h
-fault-passed gives most answer Says (Clash pair) h = h
-fault-passed gives most answer Says NoMemory h = tt
+module _ {X : Type 0} (gives : List ℕ → Option X) (answer : Step Top) (vs : List (Option (List ℕ))) (cs : List KeyChange)
+    (before : List ℕ) where
+  -- a step that stops where a block isn't given says that it is missing
+  missing-said : (c : List ℕ) → gives c ≡ None → answer ≡ Err (NotShown c)
+      → SaysOf gives answer vs cs before (Err (HasBlockMissing c))
+  missing-said c lacks stops =
+      subst (λ (a : Step Top). SaysOf gives a vs cs before (Err (HasBlockMissing c))) (sym stops)
+      (ap (λ o. Err (unshown c o)) lacks)
 
-module _ (answer : Option (Top × Log)) (vs : List (Option (List ℕ))) (cs : List KeyChange) (before old : List ℕ)
-    (leads : LeadsTo answer old) where
-  says : (told r : Result (Unit {0}) GivenFault) → are_told 0 vs cs ≡ told
-      → judgement told old before ≡ r → SaysOf answer vs cs before r
-  says told r q h =
-      subst (λ (a : Option (Top × Log)). SaysOf a vs cs before r) (sym leads.is)
-      (ap (λ t. judgement t old before) q ∙ h)
+  module _ (new : List ℕ) (left : List Shape) (log : Log) (is : answer ≡ Ok ((new, left), log)) where
+    says : (told r : Result (Unit {0}) GivenFault) → are_told 0 vs cs ≡ told
+        → judgement told new before ≡ r → SaysOf gives answer vs cs before r
+    says told r q h =
+        subst (λ (a : Step Top). SaysOf gives a vs cs before r) (sym is) (ap (λ t. judgement t new before) q ∙ h)
 
-  -- what is judged is said
-  pub judged-said : {X D A : Type 0} (gives : List ℕ → Option X) (most : ℕ) (told : Result (Unit {0}) GivenFault)
-      → are_told 0 vs cs ≡ told → (result : Result (Unit {0}) (ChangeFault D A)) → IsJudged (judgement told old before) result
-      → IsSaid gives most answer (SaysOf answer vs cs before) result
-  judged-said gives most told q (Ok x) h = says told (Ok tt) q h
-  judged-said gives most told q (Err (BlockMissing c)) h = absurd h
-  judged-said gives most told q (Err NotTree) h = absurd h
-  judged-said gives most told q (Err (OtherValue place)) h = says told (Err (HasOtherValue place)) q h
-  judged-said gives most told q (Err OtherRoot) h = says told (Err HasOtherRoot) q h
-  judged-said gives most told q (Err (Clash pair)) h = absurd h
-  judged-said gives most told q (Err NoMemory) h = absurd h
+    -- what is judged is said
+    judged-said : (most : ℕ) (told : Result (Unit {0}) GivenFault) → are_told 0 vs cs ≡ told
+        → (result : Result (Unit {0}) ChangeFault) → IsJudged (judgement told new before) result
+        → IsSaid gives most answer (SaysOf gives answer vs cs before) result
+    judged-said most told q (Ok x) h = says told (Ok tt) q h
+    judged-said most told q (Err (BlockMissing c)) h = absurd h
+    judged-said most told q (Err NotTree) h = absurd h
+    judged-said most told q (Err (OtherValue place)) h = says told (Err (HasOtherValue place)) q h
+    judged-said most told q (Err OtherRoot) h = says told (Err HasOtherRoot) q h
+    judged-said most told q (Err NoMemory) h = absurd h
 
--- ---- why there is no edit
+module _ {A : Type 0} (digest : List ℕ → List ℕ) (bits : ℕ) (gives : List ℕ → Option (Arc (List ℕ) A)) (root : List ℕ)
+    (cs : List KeyChange) where
+  abbrev lay : List ℕ → ℕ
+  lay = layer digest bits
 
-pub reason-fault : {D A : Type 0} (gives : List ℕ → Option (Arc (List ℕ) A)) (most : ℕ) (answer : Option (Top × Log))
-    (fault : EditFault D A) → IsReason gives most answer ⊥ fault
-    → IsFault {D = D} {A = A} gives most answer (λ r. ⊥) (of_edit fault)
-reason-fault gives most answer (edits.Missing c) h = h
-reason-fault gives most answer edits.NotTree h = h
-reason-fault gives most answer edits.NoSuchKey h = absurd h
-reason-fault gives most answer (edits.Clash pair) h = h
-reason-fault gives most answer edits.NoMemory h = tt
+  abbrev shows : List ℕ → Option Shape
+  shows = nodes_given gives
+
+  abbrev answer : Step Top
+  answer = answer_of digest bits gives (undone cs) root
+
+  abbrev start : Log
+  start = record { read = []; made = [] }
+
+  abbrev from_top : ℕ → Shape → Log → Step Top
+  from_top n s log = and_then (walking_top digest shows lay n (undone cs) s log) (topping digest shows n)
+
+  -- where there is an answer, a node has the root
+  met : (n : ℕ) (previous : List (Option (List ℕ))) (o : Option Shape)
+      → IsAnswered (and_then (log_shown root o start) (from_top n))
+      → ((top : Shape) → o ≡ Some top → previous ≡ previous_top shows lay (undone cs) top)
+      → previous ≡ previous_of shows lay (undone cs) o
+  met n previous None a f = absurd a
+  met n previous (Some top) a f = f top refl
+
+  pub values-are : (new : List ℕ) (previous : List (Option (List ℕ))) (read : List (List ℕ))
+      → IsPreview digest bits gives (undone cs) root new previous read → previous ≡ values_met digest bits gives root cs
+  values-are new previous read p =
+      met (layers_needed lay (put_layers lay (undone cs)) (shows root)) previous (shows root)
+      (subst (λ (a : Step Top). IsAnswered a) (sym p.is) tt) p.previous_is
+
+  pub preview-said : (before new : List ℕ) (previous : List (Option (List ℕ))) (read : List (List ℕ))
+      → IsPreview digest bits gives (undone cs) root new previous read → (told : Result (Unit {0}) GivenFault)
+      → are_told 0 previous cs ≡ told → (result : Result (Unit {0}) ChangeFault)
+      → IsJudged (judgement told new before) result → IsSaidOver digest bits gives before root cs result
+  preview-said before new previous read p told q =
+      judged-said gives answer (values_met digest bits gives root cs) cs before new p.left p.log p.is
+      (most_of digest bits gives (undone cs) root) told
+      (subst (λ vs. are_told 0 vs cs ≡ told) (values-are new previous read p) q)
+
+  -- why there is no preview is why there is no verdict
+  pub reason-said : {D : Type 0} (before : List ℕ) (fault : EditFault D A)
+      → IsPreviewReason gives (most_of digest bits gives (undone cs) root) answer fault
+      → IsFault gives (most_of digest bits gives (undone cs) root) answer
+      (SaysOf gives answer (values_met digest bits gives root cs) cs before) (of_preview fault)
+  reason-said before (edits.Missing c) h =
+      (h.0, missing-said gives answer (values_met digest bits gives root cs) cs before c h.0 h.1)
+  reason-said before edits.NotTree h = h
+  reason-said before edits.NoSuchKey h = absurd h
+  reason-said before (edits.Clash pair) h = absurd h
+  reason-said before edits.NoMemory h = tt

@@ -1,43 +1,10 @@
 -- The first change whose key has another value than the one that is told.
-use Rattle.std.proofs.Common.{◌≡◌, ℕ, suc, ◌+◌, ◌-◌, ◌≤◌, Bool, true, false, List, [], ◌∷◌, length, get_or, take, drop, refl, ap, ◌∙◌, arith, Option, Result, Ok, Err}
-use Rattle.std.specs.declared.option.Option.TheVariants.{Some}
+use Rattle.std.proofs.Common.{◌≡◌, ℕ, suc, ◌+◌, ◌-◌, ◌≤◌, true, false, List, [], ◌∷◌, length, get_or, take, drop, refl, ap, ◌∙◌, arith, Option, Ok, Err}
 use Rattle.spec.specs.Reading.{◌>>=◌, ensure}
-use Rattle.spec.specs.NodeFormat.{Shape}
-use Rattle.edit_laws.specs.Sources.{value_from}
 use Rattle.change_proofs.proofs.Lists.{head-tail}
 use Rattle.change_laws.specs.Told.{KeyChange}
-use Rattle.change_laws.specs.Given.{ChangeFault, OtherValue}
+use Rattle.change_laws.specs.Given.{OtherValue}
 use Rattle.change_laws.specs.Verdict.{is_same, are_told}
-use Rattle.change_proofs.specs.Verdicts.{values_from}
-
-module _ (shows : List ℕ → Option Shape) (most : ℕ) (root : List ℕ) where
-  abbrev Told : ℕ → List KeyChange → Result (Unit {0}) ChangeFault
-  Told place cs = are_told place (values_from shows most root cs) cs
-
-  abbrev same_value : KeyChange → Bool
-  same_value x = is_same (value_from shows most x.key (Some root)) x.after
-
-  pub told-other : (place : ℕ) (left : List KeyChange) (x : KeyChange) → 1 ≤ length left → x ≡ get_or left 0 x
-      → same_value x ≡ false → Told place left ≡ Err (OtherValue place)
-  told-other place left x h is e =
-      let rest = take (length left - 1) (drop 1 left) in
-      ap (λ (t : List KeyChange). Told place t) (head-tail left x h is)
-      ∙ ap (λ b. ensure b (OtherValue place) >>= (λ same. Told (suc place) rest)) e
-
-  pub told-next : (place next : ℕ) (left : List KeyChange) (x : KeyChange) → 1 ≤ length left → x ≡ get_or left 0 x
-      → next ≡ place + 1 → same_value x ≡ true
-      → Told place left ≡ Told next (take (length left - 1) (drop 1 left))
-  told-next place next left x h is n e =
-      let rest = take (length left - 1) (drop 1 left) in
-      let more : suc place ≡ next = omega arith in
-      ap (λ (t : List KeyChange). Told place t) (head-tail left x h is)
-      ∙ ap (λ b. ensure b (OtherValue place) >>= (λ same. Told (suc place) rest)) e
-      ∙ ap (λ k. Told k rest) more
-
-  pub told-none : (place : ℕ) (left : List KeyChange) → left ≡ [] → Told place left ≡ Ok tt
-  told-none place left e = ap (λ (t : List KeyChange). Told place t) e
-
--- ---- over values that were met
 
 abbrev rest_of : {X : Type 0} → List X → List X
 rest_of xs = take (length xs - 1) (drop 1 xs)

@@ -1,7 +1,6 @@
 -- Changes that are true are shown where the nodes are given that undoing reads.
-use Rattle.std.proofs.Common.{◌≡◌, ℕ, suc, List, sym, ap, subst, ◌∙◌, arith, Option, Result, Ok, Err}
+use Rattle.std.proofs.Common.{◌≡◌, ℕ, suc, List, sym, subst, ◌∙◌, arith, Option, Result, Ok, Err}
 use Rattle.std.specs.Prelude.{Contains}
-use Rattle.std.specs.declared.option.Option.TheVariants.{Some, None}
 use Rattle.spec.specs.Cid.{IsDigest}
 use Rattle.spec.specs.Layer.{layer}
 use Rattle.spec.specs.Tree.{Pair, top, top_layer}
@@ -12,21 +11,18 @@ use Rattle.edit_laws.proofs.Tops.{layer_of-top}
 use Rattle.edit_laws.specs.Sources.{shown_by}
 use Rattle.batch_laws.specs.Batch.{AreKeyed}
 use Rattle.batch_laws.specs.Counts.{most_reads}
-use Rattle.batch_laws.specs.Links.{Log, Top}
+use Rattle.batch_laws.specs.Links.{Step, Top}
 use Rattle.edit.specs.Budgets.{most_from}
 use Rattle.edit.specs.Stops.{IsUnreached, at_top}
 use Rattle.edit.proofs.Bounds.{most-shown}
 use Rattle.change_laws.specs.Told.{KeyChange, undone, DifferBy}
-use Rattle.change_laws.specs.Given.{given_at, batch_given}
+use Rattle.change_laws.specs.Given.{given_at, batch_over}
 use Rattle.change_laws.specs.Verdict.{change_verdict}
-use Rattle.change_laws.specs.Laws.{answer_of, change_path}
+use Rattle.change_laws.specs.Laws.{change_path}
 use Rattle.change_laws.proofs.Showing.{Reached, reached, verdict-complete}
 use Rattle.change_proofs.specs.Verdicts.{IsVerdict, IsWhole, IsWant}
 use Rattle.change_proofs.specs.declared.change_fault.ChangeFault.{ChangeFault}
-use Rattle.change_proofs.specs.declared.change_fault.ChangeFault.TheVariants.{BlockMissing, NotTree, OtherValue, OtherRoot, Clash, NoMemory}
-
-some-none : {X : Type 0} (x : X) → Some x ≡ None → ⊥
-some-none x h = cc
+use Rattle.change_proofs.specs.declared.change_fault.ChangeFault.TheVariants.{BlockMissing, NotTree, OtherValue, OtherRoot, NoMemory}
 
 ok-err : {X Y : Type 0} (x : X) (y : Y) → ◌≡◌ {A = Result X Y} (Ok x) (Err y) → ⊥
 ok-err x y h = cc
@@ -48,8 +44,8 @@ module _ (digest : List ℕ → List ℕ) (bits : ℕ) (fits : IsDigest digest) 
     there : Reached digest bits fits given new are_new free (undone cs)
     there = reached digest bits fits given new are_new free (undone cs) keyed has
 
-    answer-is : answer_of (batch_given digest bits given (undone cs) root_after) ≡ Some there.x
-    answer-is = ap answer_of there.is
+    answer-is : batch_over digest bits (given_at digest given) (undone cs) root_after ≡ Ok there.x
+    answer-is = there.is
 
     enough : most_from (layer digest bits) (undone cs) (shows root_after)
         ≡ suc (most_reads (top_layer (layer digest bits) new) (undone cs))
@@ -58,20 +54,19 @@ module _ (digest : List ℕ → List ℕ) (bits : ℕ) (fits : IsDigest digest) 
         (top_layer (layer digest bits) new) there.top_is
         (sym (layer-shape digest (layer digest bits) (top (layer digest bits) new) ∙ layer_of-top (layer digest bits) new))
 
-    wants : {D A : Type 0} (fault : ChangeFault D A)
+    wants : (fault : ChangeFault)
         → IsVerdict digest bits (root_of digest bits old) root_after given cs (Err fault) → IsWant fault
-    wants (BlockMissing c) h = some-none there.x (sym answer-is ∙ h.1)
+    wants (BlockMissing c) h = ok-err tt _ (sym is-shown ∙ h.1)
     wants NotTree h =
         let few = there.few in
         let most = enough in
-        subst (λ (o : Option (Top × Log)). IsUnreached (most_from (layer digest bits) (undone cs) (shows root_after)) (at_top o))
+        subst (λ (o : Step Top). IsUnreached (most_from (layer digest bits) (undone cs) (shows root_after)) (at_top o))
         answer-is h (omega (arith, few, most)) (record { made = there.made; begun = tt })
     wants (OtherValue place) h = ok-err tt _ (sym is-shown ∙ h)
     wants OtherRoot h = ok-err tt _ (sym is-shown ∙ h)
-    wants (Clash pair) h = tt
     wants NoMemory h = tt
 
-  pub verdict-whole : {D A : Type 0} (before after : List ℕ) (result : Result (Unit {0}) (ChangeFault D A))
+  pub verdict-whole : (before after : List ℕ) (result : Result (Unit {0}) ChangeFault)
       → IsVerdict digest bits before after given cs result → IsWhole digest bits before after given cs result
   verdict-whole before after (Ok x) h old new are_old are_new before_is after_is free differ has = tt
   verdict-whole before after (Err fault) h old new are_old are_new before_is after_is free differ has =

@@ -9,7 +9,7 @@ use Rattle.spec.specs.Blocks.{ArePairs, ClashesWithNone, nodes, pairs, root as r
 use Rattle.spec.specs.States.{State, records, state_root}
 use Rattle.edit_laws.specs.Laws.Edits.{bytes_of}
 use Rattle.lookups.specs.Steps.{nodes_given}
-use Rattle.batch_laws.specs.Links.{Log}
+use Rattle.batch_laws.specs.Links.{Log, NotShown}
 use Rattle.batch_laws.specs.Previous.{previous_top, values}
 use Rattle.edit.specs.Batches.{answer_of as answer_over, most_of}
 use Rattle.edit.specs.Stops.{IsUnreached, at_top}
@@ -18,17 +18,16 @@ use Rattle.change_laws.specs.Given.{ChangeFault as GivenFault, OtherValue as Has
 use Rattle.change_laws.specs.Verdict.{are_told, change_verdict}
 use Rattle.change_laws.specs.Laws.{change_path}
 use Rattle.change_proofs.specs.declared.change_fault.ChangeFault.{ChangeFault}
-use Rattle.change_proofs.specs.declared.change_fault.ChangeFault.TheVariants.{BlockMissing, NotTree, OtherValue, OtherRoot, Clash, NoMemory}
+use Rattle.change_proofs.specs.declared.change_fault.ChangeFault.TheVariants.{BlockMissing, NotTree, OtherValue, OtherRoot, NoMemory}
 use Rattle.change_proofs.specs.declared.proving_fault.ProvingFault.{ProvingFault}
 use Rattle.change_proofs.specs.declared.proving_fault.ProvingFault.TheVariants as provings
 
 -- whether keys with these values have those that are told after the changes; a fault says no more than that
-abbrev pub IsOtherValue : {D A : Type 0} → List (Option (List ℕ)) → List KeyChange → ChangeFault D A → Type 0
+abbrev pub IsOtherValue : List (Option (List ℕ)) → List KeyChange → ChangeFault → Type 0
 IsOtherValue vs cs (BlockMissing c) = ⊥
 IsOtherValue vs cs NotTree = ⊥
 IsOtherValue vs cs (OtherValue place) = are_told 0 vs cs ≡ Err (HasOtherValue place)
 IsOtherValue vs cs OtherRoot = ⊥
-IsOtherValue vs cs (Clash pair) = ⊥
 IsOtherValue vs cs NoMemory = ⊥
 
 -- ---- of the pairs of a tree
@@ -44,12 +43,11 @@ pub record AreNodes (digest : List ℕ → List ℕ) (bits : ℕ) (cs : List Key
   pub nodes_are : proof ≡ change_path digest bits cs es
 
 -- a key has another value, or memory is wanted
-abbrev pub IsFaultOf : {D A : Type 0} → List Pair → List KeyChange → ChangeFault D A → Type 0
+abbrev pub IsFaultOf : List Pair → List KeyChange → ChangeFault → Type 0
 IsFaultOf es cs (BlockMissing c) = ⊥
 IsFaultOf es cs NotTree = ⊥
 IsFaultOf es cs (OtherValue place) = told_by es cs ≡ Err (HasOtherValue place)
 IsFaultOf es cs OtherRoot = ⊥
-IsFaultOf es cs (Clash pair) = ⊥
 IsFaultOf es cs NoMemory = ⊤
 
 -- ---- of a repository
@@ -71,12 +69,11 @@ IsUntrue digest s cs (provings.OtherValue place) = told_by (pairs digest (record
 IsUntrue digest s cs provings.NoMemory = ⊤
 
 -- what a fault over a source is to it; the others don't come
-abbrev pub fault_of : {D A : Type 0} → ChangeFault D A → ProvingFault
+abbrev pub fault_of : ChangeFault → ProvingFault
 fault_of (BlockMissing c) = provings.NoMemory
 fault_of NotTree = provings.NoMemory
 fault_of (OtherValue place) = provings.OtherValue place
 fault_of OtherRoot = provings.NoMemory
-fault_of (Clash pair) = provings.NoMemory
 fault_of NoMemory = provings.NoMemory
 
 -- ---- over a source
@@ -93,18 +90,17 @@ module _ {A : Type 0} (digest : List ℕ → List ℕ) (bits : ℕ) (gives : Lis
     pub new : List ℕ
     pub left : List Shape
     pub log : Log
-    pub is : answer_over digest bits gives (undone cs) root ≡ Some ((new, left), log)
+    pub is : answer_over digest bits gives (undone cs) root ≡ Ok ((new, left), log)
     pub told : Tells (Ok tt)
     pub nodes_are : proof ≡ bytes_of (log.read ++ left)
 
-  -- Why there are none: the source lacks the block with this CID, without which the batch has no answer; it has no answer for
-  -- which so few nodes are read, and in which keys ascend in each node that is made; a key has another value; or memory is
-  -- wanted.
-  abbrev pub IsLackOver : {D : Type 0} → ChangeFault D A → Type 0
-  IsLackOver (BlockMissing c) = (gives c ≡ None) × (answer_over digest bits gives (undone cs) root ≡ None)
+  -- Why there are none: the source lacks the block with this CID, and there the batch stops; it has no answer for which so few
+  -- nodes are read, and in which keys ascend in each node that is made; a key has another value; or memory is wanted.
+  abbrev pub IsLackOver : ChangeFault → Type 0
+  IsLackOver (BlockMissing c) =
+      (gives c ≡ None) × (answer_over digest bits gives (undone cs) root ≡ Err (NotShown c))
   IsLackOver NotTree =
       IsUnreached (most_of digest bits gives (undone cs) root) (at_top (answer_over digest bits gives (undone cs) root))
   IsLackOver (OtherValue place) = Tells (Err (HasOtherValue place))
   IsLackOver OtherRoot = ⊥
-  IsLackOver (Clash pair) = ⊥
   IsLackOver NoMemory = ⊤

@@ -3,17 +3,15 @@
 ghost use Rattle.std.specs.Prelude.{◌≡◌};
 ghost use Rattle.change_proofs.specs.declared.change_fault.ChangeFault.TheVariants.{NoMemory};
 
-use block::Collided;
 use cid::{Cid, Digest};
 use edit::EditFault;
-use std::alloc::{AllocError, AllocFailed, Allocator, Global};
+use std::alloc::{AllocError, AllocFailed, Allocator};
 use thiserror::Error;
 
 /// Why blocks don't show that a tree became another one by some changes.
-#[derive(Drop, Error)]
-#[derive_where(Debug)]
-pub enum ChangeFault<D: Digest, A: Allocator = Global> {
-    /// The block with this CID is needed, and not given.
+#[derive(Clone, Copy, PartialEq, Eq, Debug, Drop, Error)]
+pub enum ChangeFault {
+    /// The block with this CID is needed, and not given. It is the first of these that undoing asks for.
     #[error("a block that is needed is not given")]
     BlockMissing(Cid),
 
@@ -29,42 +27,36 @@ pub enum ChangeFault<D: Digest, A: Allocator = Global> {
     #[error("the changes undone lead to another root")]
     OtherRoot,
 
-    /// Two different blocks have one CID: the given ones, or those that undoing makes.
-    #[error("two different blocks have one CID")]
-    Clash(Collided<D, A>),
-
     /// Memory was refused.
     #[error("out of memory")]
     NoMemory,
 }
 
-impl<D: Digest, A: Allocator> From<AllocError> for ChangeFault<D, A> {
+impl From<AllocError> for ChangeFault {
     ghost from_gives = { λ _ fault. fault ≡ NoMemory };
 
-    fn from(_: AllocError) -> ChangeFault<D, A> {
+    fn from(_: AllocError) -> ChangeFault {
         ChangeFault::NoMemory
     }
 }
 
-impl<D: Digest, A: Allocator, T: Drop> From<AllocFailed<T>> for ChangeFault<D, A> {
+impl<T: Drop> From<AllocFailed<T>> for ChangeFault {
     ghost from_gives = { λ _ fault. fault ≡ NoMemory };
 
-    fn from(_: AllocFailed<T>) -> ChangeFault<D, A> {
+    fn from(_: AllocFailed<T>) -> ChangeFault {
         ChangeFault::NoMemory
     }
 }
 
-impl<D: Digest, A: Allocator> From<EditFault<D, A>> for ChangeFault<D, A> {
-    ghost use Rattle.change_proofs.specs.Verdicts.{of_edit};
+impl<D: Digest, A: Allocator> From<EditFault<D, A>> for ChangeFault {
+    ghost use Rattle.change_proofs.specs.Verdicts.{of_preview};
 
-    ghost from_gives = { λ given fault. fault ≡ of_edit given };
+    ghost from_gives = { λ given fault. fault ≡ of_preview given };
 
-    fn from(fault: EditFault<D, A>) -> ChangeFault<D, A> {
+    fn from(fault: EditFault<D, A>) -> ChangeFault {
         match fault {
             EditFault::Missing(cid) => ChangeFault::BlockMissing(cid),
-            EditFault::NotTree => ChangeFault::NotTree,
-            EditFault::NoSuchKey => ChangeFault::NotTree,
-            EditFault::Clash(pair) => ChangeFault::Clash(pair),
+            EditFault::NotTree | EditFault::NoSuchKey | EditFault::Clash(_) => ChangeFault::NotTree,
             EditFault::NoMemory => ChangeFault::NoMemory,
         }
     }

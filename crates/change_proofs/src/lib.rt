@@ -12,8 +12,8 @@
 //! }
 //! ```
 //!
-//! `told` is a change with what its key had before and has after it, `undoing` the root that comes out, `values` what the
-//! changed keys have in the tree after, `given` the blocks, and `verifying` puts these together. What a verdict is and what
+//! `told` is a change with what its key had before and has after it, `values` compares what the changed keys have in the tree
+//! after, `given` has the blocks, and `verifying` puts these together. What a verdict is and what
 //! it means is defined in the crate `change_laws`.
 #![tactic(auto)]
 
@@ -22,7 +22,6 @@ mod given;
 mod proving;
 mod proving_fault;
 mod told;
-mod undoing;
 mod values;
 mod verifying;
 

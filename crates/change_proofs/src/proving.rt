@@ -68,7 +68,7 @@ pub fn prove_change_over<
     src: &mut S,
     root: Cid,
     changes: &[KeyChange<'_>],
-) -> Result<Vec<Arc<Block<D, A>, A>, A>, ChangeFault<D, A>>
+) -> Result<Vec<Arc<Block<D, A>, A>, A>, ChangeFault>
     requires least { 1 ≤ B }
     requires changes { are_changes_of (undone_of changes.now) ≡ true }
     ensures proof { OfTree D.digest_of B (S.gives src.old) root (λ es. IfOk result
@@ -90,7 +90,7 @@ pub fn prove_change_over<
 fn told_nodes<D: Digest, A: Allocator>(
     found: BatchPreview<D, A>,
     changes: &[KeyChange<'_>],
-) -> Result<Vec<Arc<Block<D, A>, A>, A>, ChangeFault<D, A>>
+) -> Result<Vec<Arc<Block<D, A>, A>, A>, ChangeFault>
     ensures nodes { IfOk result (λ nodes. nodes.items ≡ found.read.items) }
     ensures told { OnOk result (are_told 0 found.previous.items changes.now ≡ Ok tt) }
     ensures other { IfErr result (IsOtherValue found.previous.items changes.now) }
@@ -102,7 +102,7 @@ fn told_nodes<D: Digest, A: Allocator>(
 }
 
 /// What a fault over a source is where the source has a tree.
-fn told<D: Digest, A: Allocator>(fault: ChangeFault<D, A>) -> ProvingFault
+fn told(fault: ChangeFault) -> ProvingFault
     ensures { result ≡ fault_of fault }
 {
     match fault {

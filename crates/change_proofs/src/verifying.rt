@@ -8,11 +8,11 @@ ghost use Rattle.change_proofs.specs.Verdicts.{IsJudged, judgement, told_of, IsS
 
 use crate::change_fault::ChangeFault;
 use crate::given::blocks_of;
-use crate::told::KeyChange;
-use crate::undoing::root_before;
-use crate::values::other_value;
+use crate::told::{KeyChange, undone};
+use crate::values::first_other;
 use block::Block;
 use cid::{Cid, Digest};
+use edit::preview;
 use lookups::{BlockMap, Source};
 use std::alloc::Allocator;
 use std::clone::Clone;
@@ -27,7 +27,7 @@ pub fn verify_change<D: Digest, const B: u8, A: Allocator + Clone, K: AsSlice<u8
     after: Cid,
     blocks: &[K],
     changes: &[KeyChange<'_>],
-) -> Result<(), ChangeFault<D, A>>
+) -> Result<(), ChangeFault>
     requires least { 1 ≤ B }
     requires changes { are_changes_of (undone_of changes.now) ≡ true }
     ensures verdict { IsVerdict D.digest_of B before after (map K.items blocks.now)
@@ -52,7 +52,7 @@ pub fn verify_blocks<D: Digest, const B: u8, A: Allocator + Clone>(
     after: Cid,
     blocks: &[Arc<Block<D, A>, A>],
     changes: &[KeyChange<'_>],
-) -> Result<(), ChangeFault<D, A>>
+) -> Result<(), ChangeFault>
     requires least { 1 ≤ B }
     requires changes { are_changes_of (undone_of changes.now) ≡ true }
     ensures verdict { IsVerdict D.digest_of B before after (map arc_value blocks.now)
@@ -79,23 +79,19 @@ fn verify_over<
     after: Cid,
     src: &mut S,
     changes: &[KeyChange<'_>],
-) -> Result<(), ChangeFault<D, A>>
+) -> Result<(), ChangeFault>
     requires least { 1 ≤ B }
     requires changes { are_changes_of (undone_of changes.now) ≡ true }
     ensures { IsSaidOver D.digest_of B (S.gives src.old) before after changes.now result }
 {
-    let old = root_before::<D, B, A, S>(alloc, src, after, changes)?;
-    let other = other_value::<D, B, A, S>(src, after, changes);
-    judged(other, &old, &before)
+    let undone = undone(alloc.clone()?, changes)?;
+    let found = preview::<D, B, A, S>(alloc, src, after, &undone)?;
+    judged(first_other(&found.previous, changes), &found.root, &before)
 }
 
 /// What is to be said where the key of the change at a place has another value, or each the one that is told, and the changes
 /// undone lead to this root.
-fn judged<D: Digest, A: Allocator>(
-    other: Option<usize>,
-    old: &Cid,
-    before: &Cid,
-) -> Result<(), ChangeFault<D, A>>
+fn judged(other: Option<usize>, old: &Cid, before: &Cid) -> Result<(), ChangeFault>
     ensures { IsJudged (judgement (told_of other) old.now before.now) result }
 {
     match other {
@@ -105,7 +101,7 @@ fn judged<D: Digest, A: Allocator>(
 }
 
 /// What is to be said where the changes undone lead to this root.
-fn compared<D: Digest, A: Allocator>(old: &Cid, before: &Cid) -> Result<(), ChangeFault<D, A>>
+fn compared(old: &Cid, before: &Cid) -> Result<(), ChangeFault>
     ensures { IsJudged (judgement (told_of None) old.now before.now) result }
 {
     if old == before {

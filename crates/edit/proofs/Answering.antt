@@ -8,12 +8,12 @@ use Rattle.spec.specs.NodeFormat.{shape_bytes}
 use Rattle.spec.specs.Blocks.{IsClashFree}
 use Rattle.edit_laws.specs.Changes.{add_of, drop_of}
 use Rattle.edit_laws.specs.Laws.Edits.{bytes_of}
-use Rattle.batch_laws.specs.Links.{Log, Top}
+use Rattle.batch_laws.specs.Links.{Log, Top, Step}
 use Rattle.edit.specs.Tops.{IsEnded}
 use Rattle.edit.specs.Batches.{IsAnswer}
 use Rattle.edit.specs.declared.outcome.BatchEdit.{BatchEdit}
 
-module _ (digest : List ℕ → List ℕ) (answer : Option (Top × Log)) (root : List ℕ) (gone : ℕ) (now : Log)
+module _ (digest : List ℕ → List ℕ) (answer : Step Top) (root : List ℕ) (gone : ℕ) (now : Log)
     (ended : IsEnded answer root gone now) where
   read-is : bytes_of now.read ≡ bytes_of (ended.next.read ++ ended.left)
   read-is = ap bytes_of ended.read

@@ -1,5 +1,5 @@
 -- A top that isn't reached.
-use Rattle.std.proofs.Common.{◌≡◌, ℕ, suc, ◌+◌, ◌<◌, ◌≤◌, List, [], ◌∷◌, ◌++◌, length, take, drop, length-append, refl, sym, ap, subst, ◌∙◌, arith, Option}
+use Rattle.std.proofs.Common.{◌≡◌, ℕ, suc, ◌+◌, ◌<◌, ◌≤◌, List, [], ◌∷◌, ◌++◌, length, take, drop, length-append, refl, sym, ap, subst, ◌∙◌, arith, Option, Ok, Err}
 use Rattle.std.specs.declared.option.Option.TheVariants.{Some, None}
 use Rattle.std.specs.List.{AllByRecursion}
 use Rattle.spec.specs.NodeFormat.{Shape, LastLink, MoreLinks}
@@ -7,7 +7,7 @@ use Rattle.edit_laws.specs.Lawful.{HasKeys}
 use Rattle.rows.specs.declared.draft.DraftFault.{DraftFault}
 use Rattle.rows.specs.declared.draft.DraftFault.TheVariants.{NotNode, NoMemory}
 use Rattle.rows.specs.Drafts.{IsFaultOf}
-use Rattle.batch_laws.specs.Links.{Rows, LinkEdge, LinkClear, LinkWaiting, Log, Top, with_read, onto_links, closing, link_edge, new_top, topping, pruning, pruning_at}
+use Rattle.batch_laws.specs.Links.{Rows, LinkEdge, LinkClear, LinkWaiting, Log, Top, with_read, onto_links, closing, link_edge, new_top, topping, pruning, pruning_at, Step, NotShown}
 use Rattle.batch_laws.specs.Written.{IsEarlier, OnAnswer}
 use Rattle.batch_laws.proofs.Earlier.{topping-earlier}
 use Rattle.edit.specs.Budgets.{Budget}
@@ -37,10 +37,10 @@ top-refused digest d ls mid above xs rows ys rest link log next NotNode m p c h 
     (subst (λ zs. IsUnwritten (at_top (new_top digest zs (link, next)))) s.1
     (λ w. h (last-keys next.made (onto_links ys (LastLink link)) w.made)))
 
-top-goes-at : (s : LinkEdge) (log : Log) (o : Option (Top × Log))
+top-goes-at : (s : LinkEdge) (log : Log) (o : Step Top)
     → OnAnswer o (λ top later. IsEarlier HasKeys s log LinkClear later) → Goes s log (at_top o)
-top-goes-at s log None h = tt
-top-goes-at s log (Some x) h =
+top-goes-at s log (Err stop) h = tt
+top-goes-at s log (Ok x) h =
     let r = h.reads in
     let n = length-append x.1.read x.0.1 in
     record { written = λ w. h.written (record { made = w.made; begun = tt }); reads = omega arith }
@@ -101,12 +101,12 @@ pruned-stopped gives digest shows b a k d ls rest c log f e h n s =
     subst (λ o. IsStopped gives b a log (at_top o) f)
     (sym (none-top digest shows k d ls rest log e h ∙ ap (λ l. topping digest shows k (link_edge l) log) n)) s
 
-pruning-none : (further : List ℕ → Log → Option (Top × Log)) (c : List ℕ) (log : Log) (o : Option Shape) → o ≡ None
-    → at_top (pruning_at further c log o) ≡ None
+pruning-none : (further : List ℕ → Log → Step Top) (c : List ℕ) (log : Log) (o : Option Shape) → o ≡ None
+    → at_top (pruning_at further c log o) ≡ Err (NotShown c)
 pruning-none further c log None e = refl
 pruning-none further c log (Some s) e = absurd cc
 
-abbrev MoreThan : Log → Option (LinkEdge × Log) → Type 0
+abbrev MoreThan : Log → Step LinkEdge → Type 0
 MoreThan log step = OnAnswer step (λ s later. suc (length log.read) ≤ length later.read)
 
 pruning-reads : (shows : List ℕ → Option Shape) (k : ℕ) (c : List ℕ) (log : Log) (o : Option Shape)
@@ -120,23 +120,23 @@ pruning-reads shows k c log (Some (LastLink (Some b))) =
     next : Log
     next = with_read (LastLink (Some b)) log
 
-    further : (o : Option (LinkEdge × Log)) → Goes (LinkWaiting b) next o → MoreThan log o
-    further None h = tt
-    further (Some x) h =
+    further : (o : Step LinkEdge) → Goes (LinkWaiting b) next o → MoreThan log o
+    further (Err stop) h = tt
+    further (Ok x) h =
         let r = h.reads in let n = length-append log.read (LastLink (Some b) ∷ []) in omega arith
 pruning-reads shows k c log (Some (MoreLinks l e r)) =
     let n = length-append log.read (MoreLinks l e r ∷ []) in omega arith
 
 pub look-stopped : {A : Type 0} (gives : List ℕ → Option A) (shows : List ℕ → Option Shape) (b : Budget) (a k m : ℕ)
-    (c : List ℕ) (log : Log) (f : Fault) → k ≡ suc m → IsUnread gives b a (shows c) f
+    (c : List ℕ) (log : Log) (f : Fault) → k ≡ suc m → IsUnread gives b a c (shows c) f
     → IsStopped gives b a log (at_top (pruning shows k c log)) f
 look-stopped gives shows b a k m c log f e u =
     subst (λ j. IsStopped gives b a log (at_top (pruning shows j c log)) f) (sym e)
-    (unread-stopped gives b a (shows c) log (at_top (pruning shows (suc m) c log)) f
+    (unread-stopped gives b a c (shows c) log (at_top (pruning shows (suc m) c log)) f
     (pruning-none (pruning shows m) c log (shows c)) (pruning-reads shows m c log (shows c)) u)
 
 -- what is pruned later is pruned from here
 pub prune-stopped : {A : Type 0} (gives : List ℕ → Option A) (b : Budget) (a : ℕ) (log : Log)
-    (all now : Option (Top × Log)) (f : Fault) → all ≡ now → IsStopped gives b a log (at_top now) f
+    (all now : Step Top) (f : Fault) → all ≡ now → IsStopped gives b a log (at_top now) f
     → IsStopped gives b a log (at_top all) f
 prune-stopped gives b a log all now f e s = subst (λ o. IsStopped gives b a log (at_top o) f) (sym e) s

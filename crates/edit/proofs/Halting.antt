@@ -1,12 +1,12 @@
 -- A walk that stops.
-use Rattle.std.proofs.Common.{◌≡◌, ℕ, suc, ◌<◌, List, [], ◌∷◌, ◌++◌, length, drop, sym, ap, subst, ◌∙◌, arith, Option}
+use Rattle.std.proofs.Common.{◌≡◌, ℕ, suc, ◌<◌, List, [], ◌∷◌, ◌++◌, length, drop, sym, ap, subst, ◌∙◌, arith, Option, Ok}
 use Rattle.std.specs.declared.option.Option.TheVariants.{Some, None}
 use Rattle.spec.specs.Tree.{Pair}
 use Rattle.spec.specs.NodeFormat.{Shape}
 use Rattle.edit_laws.specs.Lawful.{HasKeys}
 use Rattle.batch_laws.specs.Batch.{Change, puts, if_put, entry}
 use Rattle.batch_laws.specs.Walking.{depth_of}
-use Rattle.batch_laws.specs.Links.{LinkEdge, Log, and_then, ask, pairing, pairs_in_turn, subtreeing, walking_node, walking}
+use Rattle.batch_laws.specs.Links.{LinkEdge, Log, and_then, ask, pairing, pairs_in_turn, subtreeing, walking_node, walking, Step}
 use Rattle.batch_laws.proofs.Earlier.{steps-earlier, pairs-earlier, walking_node-earlier, walking-earlier}
 use Rattle.rows.specs.declared.draft.DraftFault.{DraftFault}
 use Rattle.edit.specs.Budgets.{Budget}
@@ -39,7 +39,7 @@ module _ {A : Type 0} (gives : List ℕ → Option A) (digest : List ℕ → Lis
       (λ t l. pairs-earlier HasKeys empty-keys digest shows depth rest t l))
 
   -- one of the changes, where those before it are done
-  pub puts-stopped : (b m : Budget) (a : ℕ) (depth : List ℕ → ℕ) (all : Option (LinkEdge × Log)) (cs : List Change) (i : ℕ)
+  pub puts-stopped : (b m : Budget) (a : ℕ) (depth : List ℕ → ℕ) (all : Step LinkEdge) (cs : List Change) (i : ℕ)
       (c : Change) (s : LinkEdge) (start log : Log) (f : Fault) → drop i cs ≡ c ∷ drop (suc i) cs
       → all ≡ pairs_in_turn digest shows depth (puts (drop i cs)) s log → IsCounted b m start log
       → IsStopped gives m a log (pairs_in_turn digest shows depth (if_put c.0 c.1 []) s log) f
@@ -52,7 +52,7 @@ module _ {A : Type 0} (gives : List ℕ → Option A) (digest : List ℕ → Lis
       (leads-stopped gives m a log (pairs_in_turn digest shows depth (if_put c.0 c.1 []) s log)
       (pairs_in_turn digest shows depth (if_put c.0 c.1 rest) s log) f (first-leads depth c.0 c.1 rest s log) t))
 
-  pub puts-memory : (b a : Budget) (depth : List ℕ → ℕ) (all : Option (LinkEdge × Log)) (ps : List Pair) (s : LinkEdge)
+  pub puts-memory : (b a : Budget) (depth : List ℕ → ℕ) (all : Step LinkEdge) (ps : List Pair) (s : LinkEdge)
       (start log : Log) → all ≡ pairs_in_turn digest shows depth ps s log → IsCounted b a start log
       → IsStopped gives b a.0 start all faults.NoMemory
   puts-memory b a depth all ps s start log e n =
@@ -90,7 +90,7 @@ module _ {A : Type 0} (gives : List ℕ → Option A) (digest : List ℕ → Lis
     task-goes (ToGap g) s log =
         walking-earlier HasKeys empty-keys digest shows layer n g.layer g.depth g.link g.changes s log
 
-    agenda-leads : (fs : List Task) (x : Option (LinkEdge × Log)) → Leads x (agenda_does digest shows layer n fs x)
+    agenda-leads : (fs : List Task) (x : Step LinkEdge) → Leads x (agenda_does digest shows layer n fs x)
     agenda-leads [] x = leads-same x
     agenda-leads (f ∷ fs) x =
         let y = agenda_does digest shows layer n fs x in
@@ -118,7 +118,7 @@ module _ {A : Type 0} (gives : List ℕ → Option A) (digest : List ℕ → Lis
         ∙ ap (λ j. subtreeing digest shows j g.depth c s log) (sym m))) t
 
     gap-reads : (b : Budget) (a k d : ℕ) (c : List ℕ) (cs : List Change) (s : LinkEdge) (log : Log) (f : Fault) → 0 < length cs
-        → IsUnread gives b a (shows c) f
+        → IsUnread gives b a c (shows c) f
         → IsStopped gives b a log (walking digest shows layer n (suc k) d (Some c) cs s log) f
     gap-reads b a k d c [] s log f z u = absurd (omega arith)
     gap-reads b a k d c (x ∷ cs) s log f z u =
@@ -127,7 +127,7 @@ module _ {A : Type 0} (gives : List ℕ → Option A) (digest : List ℕ → Lis
         (λ m l. node-goes k d (x ∷ cs) m s l) u
 
     pub gap-unread : (b : Budget) (a k : ℕ) (g : Gap) (c : List ℕ) (s : LinkEdge) (log : Log) (f : Fault) → g.link ≡ Some c
-        → g.layer ≡ suc k → 0 < length g.changes → IsUnread gives b a (shows c) f
+        → g.layer ≡ suc k → 0 < length g.changes → IsUnread gives b a c (shows c) f
         → IsStopped gives b a log (task_does digest shows layer n (ToGap g) s log) f
     gap-unread b a k g c s log f e m z u =
         subst (λ o. IsStopped gives b a log o f)
@@ -137,7 +137,7 @@ module _ {A : Type 0} (gives : List ℕ → Option A) (digest : List ℕ → Lis
 
     pub gap-refused : (b a : Budget) (k : ℕ) (g : Gap) (c : List ℕ) (node : Shape) (s : LinkEdge) (log now : Log)
         (f : DraftFault) → g.link ≡ Some c
-        → g.layer ≡ suc k → 0 < length g.changes → ask shows c log ≡ Some (node, now) → IsCounted b a log now
+        → g.layer ≡ suc k → 0 < length g.changes → ask shows c log ≡ Ok (node, now) → IsCounted b a log now
         → IsRefused (node_does digest shows layer n k g.depth g.changes node s now) f
         → IsStopped gives b a.0 log (task_does digest shows layer n (ToGap g) s log) (fault_of f)
     gap-refused b a k g c node s log now f e m z q i r =
@@ -158,7 +158,7 @@ module _ {A : Type 0} (gives : List ℕ → Option A) (digest : List ℕ → Lis
         (onward-leads x g (λ u l. node-goes p.layer p.depth p.changes p.rest u l)) t
 
     pub entry-refused : (b a : Budget) (p : Later) (s t : LinkEdge) (log later : Log) (f : DraftFault)
-        → pairs_in_turn digest shows (λ key. p.depth) (entry p.at p.pair) s log ≡ Some (t, later) → IsCounted b a log later
+        → pairs_in_turn digest shows (λ key. p.depth) (entry p.at p.pair) s log ≡ Ok (t, later) → IsCounted b a log later
         → IsRefused (node_does digest shows layer n p.layer p.depth p.changes p.rest t later) f
         → IsStopped gives b a.0 log (task_does digest shows layer n (ToPair p) s log) (fault_of f)
     entry-refused b a p s t log later f e i r =
@@ -171,19 +171,19 @@ module _ {A : Type 0} (gives : List ℕ → Option A) (digest : List ℕ → Lis
 
     pub walk-begun : (k d : ℕ) (cs : List Change) (r : Shape) (first start : List Task) (s t : LinkEdge) (log : Log)
         → IsGoneOn k d cs r first start s t → first ≡ []
-        → node_does digest shows layer n k d cs r s log ≡ agenda_does digest shows layer n start (Some (t, log))
+        → node_does digest shows layer n k d cs r s log ≡ agenda_does digest shows layer n start (Ok (t, log))
     walk-begun k d cs r first start s t log w e =
         sym (ap (λ ys. agenda_does digest shows layer n ys (node_does digest shows layer n k d cs r s log)) e)
         ∙ w.does digest shows layer n log
 
-    pub task-stopped : (b m : Budget) (a : ℕ) (whole all : Option (LinkEdge × Log)) (fs gs : List Task) (t : Task)
-        (s : LinkEdge) (start log : Log) (f : Fault) → whole ≡ all → all ≡ agenda_does digest shows layer n fs (Some (s, log))
+    pub task-stopped : (b m : Budget) (a : ℕ) (whole all : Step LinkEdge) (fs gs : List Task) (t : Task)
+        (s : LinkEdge) (start log : Log) (f : Fault) → whole ≡ all → all ≡ agenda_does digest shows layer n fs (Ok (s, log))
         → fs ≡ gs ++ (t ∷ []) → IsCounted b m start log
         → IsStopped gives m a log (task_does digest shows layer n t s log) f → IsStopped gives b a start whole f
     task-stopped b m a whole all fs gs t s start log f w e q i h =
         let x = task_does digest shows layer n t s log in
         subst (λ o. IsStopped gives b a start o f)
-        (sym (w ∙ e ∙ ap (λ ys. agenda_does digest shows layer n ys (Some (s, log))) q
-        ∙ does-more digest shows layer n gs t (Some (s, log))))
+        (sym (w ∙ e ∙ ap (λ ys. agenda_does digest shows layer n ys (Ok (s, log))) q
+        ∙ does-more digest shows layer n gs t (Ok (s, log))))
         (from-stopped gives b m a start log (agenda_does digest shows layer n gs x) f i
         (leads-stopped gives m a log x (agenda_does digest shows layer n gs x) f (agenda-leads gs x) h))

@@ -1,6 +1,6 @@
 -- A batch on the tree with a root, from what the walk and the difference of blocks answer.
-use Rattle.std.proofs.Common.{◌≡◌, ℕ, suc, max, ◌^◌, ◌+◌, ◌-◌, ◌*◌, ◌/◌, ◌<◌, ◌≤◌, true, List, [], ◌∷◌, ◌++◌, length, map, take, get_or, Option, refl, sym, ap, subst, ◌∙◌, ◌⊎◌, inl, inr, arith}
-use Rattle.std.specs.Prelude.{Contains, IsSome}
+use Rattle.std.proofs.Common.{◌≡◌, ℕ, suc, max, ◌^◌, ◌+◌, ◌-◌, ◌*◌, ◌/◌, ◌<◌, ◌≤◌, true, List, [], ◌∷◌, ◌++◌, length, map, take, get_or, Option, refl, sym, ap, subst, ◌∙◌, ◌⊎◌, inl, inr, arith, Err, Ok, Result}
+use Rattle.std.specs.Prelude.{Contains, IsSome, IsOk}
 use Rattle.std.specs.declared.option.Option.TheVariants.{Some, None}
 use Rattle.std.specs.List.{AllByRecursion}
 use Rattle.std.proofs.Math.Nat.{div-le_self}
@@ -20,7 +20,7 @@ use Rattle.edit_laws.proofs.OverSource.{holds-top, free-source}
 use Rattle.edit_laws.proofs.ShapeBridges.{layer-shape}
 use Rattle.lookups.specs.Trees.{HasTree}
 use Rattle.batch_laws.specs.Batch.{Change, puts, changed, AreAscending, AreKeyed}
-use Rattle.batch_laws.specs.Links.{Log, Top, batch_from}
+use Rattle.batch_laws.specs.Links.{Log, Top, batch_from, Step, NotShown, Stop}
 use Rattle.batch_laws.specs.Previous.{previous_top, values}
 use Rattle.batch_laws.specs.Trace.{batch_made, batch_read}
 use Rattle.batch_laws.specs.Laws.Sources.{IsBatchFrom}
@@ -99,11 +99,11 @@ zeros-fit digest bits fits key z is =
     let b = div-le_self z bits in
     omega (arith, a, b)
 
-some-is : {X : Type 0} (x y : X) → Some x ≡ Some y → x ≡ y
-some-is x y h = cc
+ok-is : {X : Type 0} (x y : X) → ◌≡◌ {A = Result X Stop} (Ok x) (Ok y) → x ≡ y
+ok-is x y h = cc
 
-some-none : {X : Type 0} (x : X) → Some x ≡ None → ⊥
-some-none x h = cc
+ok-err : {X : Type 0} (x : X) (stop : Stop) → ◌≡◌ {A = Result X Stop} (Ok x) (Err stop) → ⊥
+ok-err x stop h = cc
 
 map-map : {A B C : Type 0} (f : A → B) (g : B → C) (xs : List A) → map g (map f xs) ≡ map (λ x. g (f x)) xs
 map-map f g [] = refl
@@ -134,7 +134,7 @@ module _ (digest : List ℕ → List ℕ) (bits : ℕ) (fits : IsDigest digest) 
   -- there is an answer, and it is this
   pub answers : batch_from digest (shown_by gives) (layer digest bits)
       (layers_needed (layer digest bits) (put_layers (layer digest bits) cs) (shown_by gives root)) cs root
-      ≡ Some ((root_of digest bits (changed cs es), is-batch.left), is-batch.log)
+      ≡ Ok ((root_of digest bits (changed cs es), is-batch.left), is-batch.log)
   answers =
       ap (λ n. batch_from digest (shown_by gives) (layer digest bits) n cs root) needed
       ∙ ap (batch_from digest (shown_by gives) (layer digest bits) (layers_of digest bits cs es) cs) has.root_is
@@ -177,7 +177,7 @@ module _ (digest : List ℕ → List ℕ) (bits : ℕ) (fits : IsDigest digest) 
       → previous ≡ previous_top (shown_by gives) (layer digest bits) cs m)
       → IsBatchOf digest bits cs es root' add drop previous
   batch-edit root' add drop previous ascend a had =
-      let same = some-is ((root', a.left), a.log) ((root_of digest bits (changed cs es), is-batch.left), is-batch.log)
+      let same = ok-is ((root', a.left), a.log) ((root_of digest bits (changed cs es), is-batch.left), is-batch.log)
       (sym a.is ∙ answers) in
       let read : bytes_of (a.log.read ++ a.left) ≡ bytes_of (is-batch.log.read ++ is-batch.left) =
       ap (λ (x : Top × Log). bytes_of (x.1.read ++ x.0.1)) same in
@@ -248,7 +248,7 @@ module _ (digest : List ℕ → List ℕ) (bits : ℕ) (fits : IsDigest digest) 
       (layers_needed (layer digest bits) (put_layers (layer digest bits) cs) (shown_by gives root)) cs root)) fault
       → IsRefusal {D = D} {A = B} digest (nodes digest bits es ++ nodes digest bits (changed cs es)) P (of_walk fault)
   walk-refused D B P given (walks.Missing c) keys cause =
-      absurd (some-none _ (subst (λ a. at_top a ≡ None) answers cause.1))
+      absurd (ok-err _ _ (subst (λ a. at_top a ≡ Err (NotShown c)) answers cause.1))
   walk-refused D B P given walks.NotTree keys unreached =
       let few = reads-few in
       let most = enough-reads in
@@ -273,7 +273,7 @@ module _ (digest : List ℕ → List ℕ) (bits : ℕ) (fits : IsDigest digest) 
       (layers_needed (layer digest bits) (put_layers (layer digest bits) cs) (shown_by gives root)) cs root) root' gone now) where
     same : ◌≡◌ {A = Top × Log} ((root', ended.left), ended.next)
         ((root_of digest bits (changed cs es), is-batch.left), is-batch.log)
-    same = some-is _ _ (sym ended.is ∙ answers)
+    same = ok-is _ _ (sym ended.is ∙ answers)
 
     all-read : now.read ≡ is-batch.log.read ++ is-batch.left
     all-read = ended.read ∙ ap (λ (x : Top × Log). x.1.read ++ x.0.1) same
@@ -303,24 +303,27 @@ module _ (digest : List ℕ → List ℕ) (bits : ℕ) (fits : IsDigest digest) 
             (is-batch.edit.read_old b (subst (λ bs. Contains bs b) (ap bytes_of all-read) k))
 
 -- why there is none, over any source
-pub no-answer : (answer : Option (Top × Log)) → at_top answer ≡ None → answer ≡ None
-no-answer None h = refl
-no-answer (Some x) h = absurd (some-none _ h)
+stop-is : {X : Type 0} (first stop : Stop) → ◌≡◌ {A = Result X Stop} (Err first) (Err stop) → first ≡ stop
+stop-is first stop h = cc
+
+pub no-answer : (answer : Step Top) (stop : Stop) → at_top answer ≡ Err stop → answer ≡ Err stop
+no-answer (Err first) stop h = ap (λ x. Err x) (stop-is first stop h)
+no-answer (Ok x) stop h = absurd (ok-err _ stop h)
 
 pub walk-reason : {A : Type 0} (D P : Type 0) (given : List ℕ → Option (Arc (List ℕ) A)) (most : ℕ)
-    (answer : Option (Top × Log)) (fault : Fault) → IsCause given (most + 0) (at_top answer) fault
+    (answer : Step Top) (fault : Fault) → IsCause given (most + 0) (at_top answer) fault
     → IsReason {D = D} given most answer P (of_walk fault)
-walk-reason D P given most answer (walks.Missing c) cause = (cause.0, no-answer answer cause.1)
+walk-reason D P given most answer (walks.Missing c) cause = (cause.0, no-answer answer (NotShown c) cause.1)
 walk-reason D P given most answer walks.NotTree cause =
     let all : most + 0 ≡ most = omega arith in subst (λ m. IsUnreached m (at_top answer)) all cause
 walk-reason D P given most answer walks.NoMemory cause = tt
 
 -- there is an answer, and what it has clashes
 pub answer-reason : {D A : Type 0} (digest : List ℕ → List ℕ) (blocks : List (List ℕ)) (P : Type 0)
-    (given : List ℕ → Option (Arc (List ℕ) A)) (most : ℕ) (answer : Option (Top × Log)) (x : Top × Log)
-    (fault : EditFault D A) → answer ≡ Some x → IsRefusal digest blocks ⊥ fault → IsReason given most answer P fault
+    (given : List ℕ → Option (Arc (List ℕ) A)) (most : ℕ) (answer : Step Top) (x : Top × Log)
+    (fault : EditFault D A) → answer ≡ Ok x → IsRefusal digest blocks ⊥ fault → IsReason given most answer P fault
 answer-reason digest blocks P given most answer x (Missing c) is r = absurd r
 answer-reason digest blocks P given most answer x NotTree is r = absurd r
 answer-reason digest blocks P given most answer x NoSuchKey is r = absurd r
-answer-reason digest blocks P given most answer x (Clash pair) is r = subst IsSome (sym is) refl
+answer-reason digest blocks P given most answer x (Clash pair) is r = subst (λ (o : Step Top). IsOk o) (sym is) refl
 answer-reason digest blocks P given most answer x NoMemory is r = tt

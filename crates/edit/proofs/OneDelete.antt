@@ -1,5 +1,5 @@
 -- A delete as the case of one change.
-use Rattle.std.proofs.Common.{◌≡◌, ℕ, ◌+◌, ◌*◌, ◌≤◌, List, [], ◌∷◌, ◌++◌, length, map, Option, refl, sym, ap, subst, ◌∙◌, arith}
+use Rattle.std.proofs.Common.{◌≡◌, ℕ, ◌+◌, ◌*◌, ◌≤◌, List, [], ◌∷◌, ◌++◌, length, map, Option, refl, sym, ap, subst, ◌∙◌, arith, Ok}
 use Rattle.std.specs.Prelude.{Contains, IsSome}
 use Rattle.std.specs.declared.option.Option.TheVariants.{Some, None}
 use Rattle.spec.specs.Cid.{IsDigest}
@@ -17,7 +17,7 @@ use Rattle.edit_laws.proofs.PairsLeft.{pairs-without}
 use Rattle.edit_laws.proofs.LookupTheorems.{top-has_layer, map-two}
 use Rattle.edit_laws.proofs.Tops.{layer_of-top}
 use Rattle.batch_laws.specs.Batch.{Change, changed}
-use Rattle.batch_laws.specs.Links.{Log, Top, batch_from}
+use Rattle.batch_laws.specs.Links.{Log, Top, batch_from, Step}
 use Rattle.batch_laws.specs.Paths.{IsDeleteRead}
 use Rattle.batch_laws.specs.Previous.{previous_top}
 use Rattle.batch_laws.specs.Written.{OnAnswer}
@@ -52,13 +52,13 @@ needed-few digest bits fits key (Some (MoreLinks l e r)) = let a = low-key diges
 
 module _ (digest : List ℕ → List ℕ) (bits : ℕ) (fits : IsDigest digest) (shows : List ℕ → Option Shape)
     (key root : List ℕ) where
-  abbrev answer : Option (Top × Log)
+  abbrev answer : Step Top
   answer =
       let lay = layer digest bits in
       let cs = deleting key in
       batch_from digest shows lay (layers_needed lay (put_layers lay cs) (shows root)) cs root
 
-  module _ (x : Top × Log) (is : answer ≡ Some x) where
+  module _ (x : Top × Log) (is : answer ≡ Ok x) where
     pub all-read : IsDeleteRead shows (layer digest bits) (layers bits) key root x.0 x.1
     all-read =
         subst (λ a. OnAnswer a (IsDeleteRead shows (layer digest bits) (layers bits) key root)) is
@@ -91,7 +91,7 @@ module _ (digest : List ℕ → List ℕ) (bits : ℕ) (fits : IsDigest digest) 
 
 module _ (digest : List ℕ → List ℕ) (bits : ℕ) (fits : IsDigest digest) (gives : List ℕ → Option (List ℕ))
     (root key : List ℕ) (es : List Pair) (has : HasTree digest bits gives root es) where
-  abbrev tree_answer : Option (Top × Log)
+  abbrev tree_answer : Step Top
   tree_answer = answer digest bits fits (shown_by gives) key root
 
   leaves : changed (deleting key) es ≡ without_key es key

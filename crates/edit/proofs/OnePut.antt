@@ -1,5 +1,5 @@
 -- A put as the case of one change.
-use Rattle.std.proofs.Common.{◌≡◌, ℕ, suc, ◌+◌, ◌≤◌, true, List, [], ◌∷◌, ◌++◌, length, Option, refl, sym, ap, subst, ◌∙◌, arith}
+use Rattle.std.proofs.Common.{◌≡◌, ℕ, suc, ◌+◌, ◌≤◌, true, List, [], ◌∷◌, ◌++◌, length, Option, refl, sym, ap, subst, ◌∙◌, arith, Ok}
 use Rattle.std.specs.Prelude.{Contains}
 use Rattle.std.specs.declared.option.Option.TheVariants.{Some}
 use Rattle.std.proofs.lemmas.List.{append-nil}
@@ -14,7 +14,7 @@ use Rattle.edit_laws.specs.Laws.Edits.{bytes_of}
 use Rattle.edit_laws.specs.Sources.{shown_by, path_from}
 use Rattle.edit_laws.proofs.Tops.{layer_of-top}
 use Rattle.batch_laws.specs.Batch.{Change, changed}
-use Rattle.batch_laws.specs.Links.{Log, Top, batch_from}
+use Rattle.batch_laws.specs.Links.{Log, Top, batch_from, Step}
 use Rattle.batch_laws.specs.Paths.{IsPathRead}
 use Rattle.batch_laws.specs.Previous.{previous_top}
 use Rattle.batch_laws.specs.Written.{OnAnswer}
@@ -43,7 +43,7 @@ putting key value = (key, Some value) ∷ []
 
 pub path-read : (digest : List ℕ → List ℕ) (bits : ℕ) → IsDigest digest → (shows : List ℕ → Option Shape) (n : ℕ)
     (key value root : List ℕ) (x : Top × Log)
-    → batch_from digest shows (layer digest bits) n (putting key value) root ≡ Some x
+    → batch_from digest shows (layer digest bits) n (putting key value) root ≡ Ok x
     → IsPathRead shows (layers bits) key root x.0 x.1
 path-read digest bits fits shows n key value root x is =
     subst (λ a. OnAnswer a (IsPathRead shows (layers bits) key root)) is
@@ -51,7 +51,7 @@ path-read digest bits fits shows n key value root x is =
 
 pub put-whole : (digest : List ℕ → List ℕ) (bits : ℕ) → IsDigest digest → (shows : List ℕ → Option Shape) (n : ℕ)
     (key value root : List ℕ) (x : Top × Log)
-    → batch_from digest shows (layer digest bits) n (putting key value) root ≡ Some x
+    → batch_from digest shows (layer digest bits) n (putting key value) root ≡ Ok x
     → IsWholePath shows (layers bits) key (Some root)
 put-whole digest bits fits shows n key value root x is =
     whole-path shows (layers bits) key (Some root) (path-read digest bits fits shows n key value root x is).whole
@@ -60,7 +60,7 @@ put-whole digest bits fits shows n key value root x is =
 
 module _ (digest : List ℕ → List ℕ) (bits : ℕ) (fits : IsDigest digest) (gives : List ℕ → Option (List ℕ))
     (root key value : List ℕ) (es : List Pair) (has : HasTree digest bits gives root es) where
-  abbrev answer : Option (Top × Log)
+  abbrev answer : Step Top
   answer =
       let shows = shown_by gives in
       let lay = layer digest bits in

@@ -1,5 +1,5 @@
 -- What a batch comes to, from what the walk answers.
-use Rattle.std.proofs.Common.{◌≡◌, ℕ, ◌+◌, List, ◌++◌, Option, sym, ap, subst, ◌∙◌, arith}
+use Rattle.std.proofs.Common.{◌≡◌, ℕ, ◌+◌, List, ◌++◌, Option, sym, ap, subst, ◌∙◌, arith, Ok, Result}
 use Rattle.std.specs.declared.option.Option.TheVariants.{Some}
 use Rattle.std.specs.declared.sync.Arc.{Arc}
 use Rattle.spec.specs.Cid.{IsDigest}
@@ -12,7 +12,7 @@ use Rattle.edit_laws.specs.Sources.{shown_by}
 use Rattle.lookups.specs.Steps.{nodes_given}
 use Rattle.lookups.specs.Trees.{HasTree}
 use Rattle.batch_laws.specs.Batch.{Change, changed, AreAscending}
-use Rattle.batch_laws.specs.Links.{Log, Top, batch_from}
+use Rattle.batch_laws.specs.Links.{Log, Top, batch_from, Step, NotShown, Stop}
 use Rattle.batch_laws.specs.Previous.{previous_top}
 use Rattle.edit.specs.Batches.{put_layers, answer_of, of_walk}
 use Rattle.edit.specs.Previews.{IsPreview, IsPreviewOf, IsPreviewReason, IsWant}
@@ -37,7 +37,7 @@ preview-of digest bits gives cs root new gone now previous read ended had is = r
   read_is = is ∙ ap bytes_of ended.read;
 }
 
-same-some : {X : Type 0} (x y : X) → Some x ≡ Some y → x ≡ y
+same-some : {X : Type 0} (x y : X) → ◌≡◌ {A = Result X Stop} (Ok x) (Ok y) → x ≡ y
 same-some x y h = cc
 
 -- over a source that has a tree
@@ -45,7 +45,7 @@ pub preview-tree : (digest : List ℕ → List ℕ) (bits : ℕ) (fits : IsDiges
     (root : List ℕ) (cs : List Change) (es : List Pair) (has : HasTree digest bits gives root es) (new : List ℕ)
     (previous : List (Option (List ℕ))) (read : List (List ℕ)) (left : List Shape) (log : Log) → AreAscending cs
     → batch_from digest (shown_by gives) (layer digest bits)
-    (layers_needed (layer digest bits) (put_layers (layer digest bits) cs) (shown_by gives root)) cs root ≡ Some ((new, left), log)
+    (layers_needed (layer digest bits) (put_layers (layer digest bits) cs) (shown_by gives root)) cs root ≡ Ok ((new, left), log)
     → ((m : Shape) → shown_by gives root ≡ Some m → previous ≡ previous_top (shown_by gives) (layer digest bits) cs m)
     → read ≡ bytes_of (log.read ++ left) → IsPreviewOf digest bits cs es new previous read
 preview-tree digest bits fits gives root cs es has new previous read left log ascend is had read_is =
@@ -67,10 +67,10 @@ walk-want D A digest blocks walks.NotTree r = absurd r
 walk-want D A digest blocks walks.NoMemory r = tt
 
 -- and over any source
-pub preview-reason : {X : Type 0} (D A : Type 0) (given : List ℕ → Option X) (most : ℕ) (answer : Option (Top × Log))
+pub preview-reason : {X : Type 0} (D A : Type 0) (given : List ℕ → Option X) (most : ℕ) (answer : Step Top)
     (fault : Fault) → IsCause given (most + 0) (at_top answer) fault
     → IsPreviewReason {D = D} {A = A} given most answer (of_walk fault)
-preview-reason D A given most answer (walks.Missing c) cause = (cause.0, no-answer answer cause.1)
+preview-reason D A given most answer (walks.Missing c) cause = (cause.0, no-answer answer (NotShown c) cause.1)
 preview-reason D A given most answer walks.NotTree cause =
     let all : most + 0 ≡ most = omega arith in subst (λ m. IsUnreached m (at_top answer)) all cause
 preview-reason D A given most answer walks.NoMemory cause = tt

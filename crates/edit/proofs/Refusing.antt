@@ -1,5 +1,5 @@
 -- Nodes that are refused on the way.
-use Rattle.std.proofs.Common.{◌≡◌, ℕ, zero, ◌+◌, ◌<◌, ◌≤◌, List, [], ◌∷◌, ◌++◌, length, take, drop, refl, sym, ap, subst, ◌∙◌, Option}
+use Rattle.std.proofs.Common.{◌≡◌, ℕ, zero, ◌+◌, ◌<◌, ◌≤◌, List, [], ◌∷◌, ◌++◌, length, take, drop, refl, sym, ap, subst, ◌∙◌, Option, Ok}
 use Rattle.std.specs.declared.option.Option.TheVariants.{Some}
 use Rattle.std.specs.List.{AllByRecursion}
 use Rattle.spec.specs.Tree.{Pair}
@@ -9,7 +9,7 @@ use Rattle.edit_laws.specs.ShapeEdit.{close_shapes}
 use Rattle.rows.specs.declared.draft.DraftFault.{DraftFault}
 use Rattle.rows.specs.declared.draft.DraftFault.TheVariants.{NotNode, NoMemory}
 use Rattle.rows.specs.Drafts.{IsFaultOf, IsFaultOfAll}
-use Rattle.batch_laws.specs.Links.{Rows, LinkEdge, LinkClear, LinkWaiting, LinkOpened, Log, and_then, ask, onto_links, rows_in_shape, complete, closing, opening, opened_rows, link_edge, add_row, pairing}
+use Rattle.batch_laws.specs.Links.{Rows, LinkEdge, LinkClear, LinkWaiting, LinkOpened, Log, and_then, ask, onto_links, rows_in_shape, complete, closing, opening, opened_rows, link_edge, add_row, pairing, Step}
 use Rattle.batch_laws.proofs.Earlier.{closing-earlier, pairing-earlier, row-earlier}
 use Rattle.edit_laws.specs.ShapeEdit.{last_link}
 use Rattle.edit.specs.Budgets.{Budget}
@@ -36,7 +36,7 @@ closed-keys xs (MoreLinks l e r) h = last-keys xs (MoreLinks l e r) h
 
 closed-same : (digest : List ℕ → List ℕ) (s t : LinkEdge) (log next : Log) → closing digest s log ≡ closing digest t next
     → all_closed digest s log ≡ all_closed digest t next
-closed-same digest s t log next e = ap (λ p. Some (LinkClear, p.1)) e
+closed-same digest s t log next e = ap (λ p. Ok (LinkClear, p.1)) e
 
 pub close-refused : (digest : List ℕ → List ℕ) (d : ℕ) (old xs : List Rows) (rows : Rows) (rest : Option (List ℕ)) (log : Log)
     (f : DraftFault) → old ≡ xs ++ (rows ∷ []) → d < length old → IsFaultOf (onto_links rows (LastLink rest)) f
@@ -77,7 +77,7 @@ row-refused digest d e ls mid above xs rows ys rest link log next NotNode m p c 
 -- ---- one layer more
 
 waiting-rows : (digest : List ℕ → List ℕ) (shows : List ℕ → Option Shape) (c : List ℕ) (log now : Log) (node : Shape)
-    (f : DraftFault) → ask shows c log ≡ Some (node, now) → IsFaultOfAll ([] ++ rows_in_shape node) f
+    (f : DraftFault) → ask shows c log ≡ Ok (node, now) → IsFaultOfAll ([] ++ rows_in_shape node) f
     → IsRefused (open_edge (opening shows (LinkWaiting c) log)) f
 waiting-rows digest shows c log now node NoMemory a r = tt
 waiting-rows digest shows c log now node NotNode a r =
@@ -87,7 +87,7 @@ waiting-rows digest shows c log now node NotNode a r =
 -- its node is read, and memory is wanted or its rows are refused
 pub open-refused : {A : Type 0} (gives : List ℕ → Option A) (digest : List ℕ → List ℕ) (shows : List ℕ → Option Shape)
     (b a : Budget) (c : List ℕ) (rest : Option (List ℕ)) (log now : Log) (node : Shape) (f : DraftFault) → rest ≡ Some c
-    → ask shows c log ≡ Some (node, now) → IsCounted b a log now → IsFaultOfAll ([] ++ rows_in_shape node) f
+    → ask shows c log ≡ Ok (node, now) → IsCounted b a log now → IsFaultOfAll ([] ++ rows_in_shape node) f
     → IsStopped gives b a.0 log (open_edge (opening shows (link_edge rest) log)) (fault_of f)
 open-refused gives digest shows b a c rest log now node f e q n r =
     subst (λ l. IsStopped gives b a.0 log (open_edge (opening shows (link_edge l) log)) (fault_of f)) (sym e)
@@ -96,13 +96,13 @@ open-refused gives digest shows b a c rest log now node f e q n r =
     (open_edge (opening shows (LinkWaiting c) log)) f (waiting-rows digest shows c log now node f q r)
     (subst (λ o. Goes (LinkOpened (rows_in_shape node) (link_edge (last_link node))) now (open_edge (and_then o opened_rows)))
     (sym q) (leads-same
-    (Some (LinkOpened (rows_in_shape node) (link_edge (last_link node)), now))))))
+    (Ok (LinkOpened (rows_in_shape node) (link_edge (last_link node)), now))))))
 
 -- ---- a pair, so many layers below
 
 pair-under : (digest : List ℕ → List ℕ) (shows : List ℕ → Option Shape) (d : ℕ) (e : Pair) (all : LinkEdge) (start : Log)
     (ls : List Rows) (rest : Option (List ℕ)) (log : Log)
-    → ((f : LinkEdge → Log → Option (LinkEdge × Log))
+    → ((f : LinkEdge → Log → Step LinkEdge)
     → within shows d f all start ≡ within shows d f (edge_of ls rest) log)
     → d ≤ length ls
     → pairing digest shows d e all start ≡ under (take d ls) (pairing digest shows zero e (edge_of (drop d ls) rest) log)
@@ -112,7 +112,7 @@ pair-under digest shows d e all start ls rest log same h =
 
 pub pair-closed : {A : Type 0} (gives : List ℕ → Option A) (digest : List ℕ → List ℕ) (shows : List ℕ → Option Shape)
     (b : Budget) (a d : ℕ) (e : Pair) (all : LinkEdge) (start : Log) (f : Fault)
-    → ((g : LinkEdge → Log → Option (LinkEdge × Log)) → IsOnward g → IsStopped gives b a start (within shows d g all start) f)
+    → ((g : LinkEdge → Log → Step LinkEdge) → IsOnward g → IsStopped gives b a start (within shows d g all start) f)
     → IsStopped gives b a start (pairing digest shows d e all start) f
 pair-closed gives digest shows b a d e all start f h =
     subst (λ o. IsStopped gives b a start o f) (sym (pair-within digest shows d e all start))
@@ -121,7 +121,7 @@ pair-closed gives digest shows b a d e all start f h =
 pub pair-unopened : {A : Type 0} (gives : List ℕ → Option A) (digest : List ℕ → List ℕ) (shows : List ℕ → Option Shape)
     (b m : Budget) (a d : ℕ) (e : Pair) (all : LinkEdge) (start : Log) (ls : List Rows) (rest : Option (List ℕ)) (log : Log)
     (f : Fault)
-    → ((g : LinkEdge → Log → Option (LinkEdge × Log))
+    → ((g : LinkEdge → Log → Step LinkEdge)
     → within shows d g all start ≡ within shows d g (edge_of ls rest) log)
     → d ≤ length ls → IsCounted b m start log
     → IsStopped gives m a log (open_edge (opening shows (edge_of (drop d ls) rest) log)) f
@@ -140,7 +140,7 @@ pair-unopened gives digest shows b m a d e all start ls rest log f same h n s =
 pub pair-refused : {A : Type 0} (gives : List ℕ → Option A) (digest : List ℕ → List ℕ) (shows : List ℕ → Option Shape)
     (b m a : Budget) (d : ℕ) (e : Pair) (all : LinkEdge) (start : Log) (ls mid : List Rows) (rest link : Option (List ℕ))
     (log inner : Log) (f : DraftFault)
-    → ((g : LinkEdge → Log → Option (LinkEdge × Log))
+    → ((g : LinkEdge → Log → Step LinkEdge)
     → within shows d g all start ≡ within shows d g (edge_of ls rest) log)
     → d ≤ length ls → IsCounted b m start log → IsCounted m a log inner → IsOpenAt shows d ls rest log mid link inner
     → ((above : List Rows) (rows : Rows) → take (d + 1) mid ≡ above ++ (rows ∷ [])
@@ -161,7 +161,7 @@ pair-refused gives digest shows b m a d e all start ls mid rest link log inner f
 -- ---- so many layers are to be open
 
 pub within-stopped : {A : Type 0} (gives : List ℕ → Option A) (shows : List ℕ → Option Shape) (b m : Budget) (a d : ℕ)
-    (g : LinkEdge → Log → Option (LinkEdge × Log)) → IsOnward g → (all : LinkEdge) (start : Log) (ls : List Rows)
+    (g : LinkEdge → Log → Step LinkEdge) → IsOnward g → (all : LinkEdge) (start : Log) (ls : List Rows)
     (rest : Option (List ℕ)) (log : Log) (f : Fault) → length ls < d
     → within shows d g all start ≡ within shows d g (edge_of ls rest) log → IsCounted b m start log
     → IsStopped gives m a log (open_edge (opening shows (link_edge rest) log)) f

@@ -1,12 +1,12 @@
 -- A subtree that comes to the edge.
-use Rattle.std.proofs.Common.{◌≡◌, ℕ, zero, suc, ◌+◌, ◌<◌, ◌≤◌, true, false, List, [], ◌∷◌, ◌++◌, length, take, drop, refl, sym, ap, subst, ◌∙◌, arith, Option, length-append}
+use Rattle.std.proofs.Common.{◌≡◌, ℕ, zero, suc, ◌+◌, ◌<◌, ◌≤◌, true, false, List, [], ◌∷◌, ◌++◌, length, take, drop, refl, sym, ap, subst, ◌∙◌, arith, Option, length-append, Ok}
 use Rattle.std.specs.Prelude.{Bool, is_some, not}
 use Rattle.std.specs.declared.option.Option.TheVariants.{Some, None}
 use Rattle.std.proofs.lemmas.List.{append_assoc}
 use Rattle.spec.specs.Tree.{Pair}
 use Rattle.spec.specs.NodeFormat.{Shape, LastLink, MoreLinks, first_link}
 use Rattle.edit_laws.specs.ShapeEdit.{last_link}
-use Rattle.batch_laws.specs.Links.{Rows, LinkEdge, LinkOpened, Log, ask, closing, link_edge, parting, subtreeing, rows_in_shape}
+use Rattle.batch_laws.specs.Links.{Rows, LinkEdge, LinkOpened, Log, ask, closing, link_edge, parting, subtreeing, rows_in_shape, Step}
 use Rattle.edit.specs.Edges.{edge_of, within, under, joined, around, is_clear}
 use Rattle.rows.specs.Entries.{Reading}
 use Rattle.edit.specs.States.{shapes_coming, IsOpenAt, IsComing, IsWaiting, IsOnTheWay, IsArrived, IsJoined}
@@ -36,7 +36,7 @@ taken-some d ls (Some c) b e h = taken-waiting d ls c
 
 pub coming : (digest : List ℕ → List ℕ) (shows : List ℕ → Option Shape) (d : ℕ) (c : List ℕ) (ls new : List Rows)
     (rest link : Option (List ℕ)) (log mid next : Log) (node : Shape) → is_clear (edge_of (drop d ls) rest) ≡ false
-    → IsOpenAt shows d ls rest log new link mid → ask shows c mid ≡ Some (node, next)
+    → IsOpenAt shows d ls rest log new link mid → ask shows c mid ≡ Ok (node, next)
     → IsComing digest shows d c ls rest log node new link next
 coming digest shows d c ls new rest link log mid next node h o a = record {
   rows = o.rows;
@@ -50,7 +50,7 @@ coming digest shows d c ls new rest link log mid next node h o a = record {
 
 pub way-begins : (digest : List ℕ → List ℕ) (shows : List ℕ → Option Shape) (k d : ℕ) (c : List ℕ) (all : LinkEdge)
     (start : Log) (ls : List Rows) (rest : Option (List ℕ)) (log : Log)
-    → ((f : LinkEdge → Log → Option (LinkEdge × Log))
+    → ((f : LinkEdge → Log → Step LinkEdge)
     → within shows d f all start ≡ within shows d f (edge_of ls rest) log)
     → d ≤ length ls → IsOnTheWay digest shows (subtreeing digest shows k d c all start) d k (Some c) [] ls rest log
 way-begins digest shows k d c all start ls rest log same h =
@@ -63,7 +63,7 @@ way-begins digest shows k d c all start ls rest log same h =
       long = omega arith;
     }
 
-pub way-more : (digest : List ℕ → List ℕ) (shows : List ℕ → Option Shape) (all : Option (LinkEdge × Log)) (b k m at : ℕ)
+pub way-more : (digest : List ℕ → List ℕ) (shows : List ℕ → Option Shape) (all : Step LinkEdge) (b k m at : ℕ)
     (c : List ℕ) (fs : List Shape) (ls new : List Rows) (rest link : Option (List ℕ)) (log next : Log) (node : Shape)
     → k ≡ suc m → at ≡ b + length fs → IsOnTheWay digest shows all b k (Some c) fs ls rest log
     → IsComing digest shows at c ls rest log node new link next
@@ -87,11 +87,11 @@ way-more digest shows all b k m at c fs ls new rest link log next node e f w h =
     }
 
 part-none : (digest : List ℕ → List ℕ) (shows : List ℕ → Option Shape) (k : ℕ) (s : LinkEdge) (log : Log)
-    → parting digest shows k None s log ≡ Some (s, log)
+    → parting digest shows k None s log ≡ Ok (s, log)
 part-none digest shows zero s log = refl
 part-none digest shows (suc k) s log = refl
 
-pub way-none : (digest : List ℕ → List ℕ) (shows : List ℕ → Option Shape) (all : Option (LinkEdge × Log)) (b k : ℕ)
+pub way-none : (digest : List ℕ → List ℕ) (shows : List ℕ → Option Shape) (all : Step LinkEdge) (b k : ℕ)
     (fs : List Shape) (ls : List Rows) (rest : Option (List ℕ)) (log : Log)
     → IsOnTheWay digest shows all b k None fs ls rest log → IsArrived digest all b fs ls rest log
 way-none digest shows all b k fs ls rest log w = record {
@@ -99,7 +99,7 @@ way-none digest shows all b k fs ls rest log w = record {
   long = w.long;
 }
 
-pub way-waits : (digest : List ℕ → List ℕ) (shows : List ℕ → Option Shape) (all : Option (LinkEdge × Log)) (b k m at : ℕ)
+pub way-waits : (digest : List ℕ → List ℕ) (shows : List ℕ → Option Shape) (all : Step LinkEdge) (b k m at : ℕ)
     (c : List ℕ) (fs : List Shape) (ls new : List Rows) (rest link : Option (List ℕ)) (log next : Log)
     → k ≡ suc m → at ≡ b + length fs → IsOnTheWay digest shows all b k (Some c) fs ls rest log
     → IsWaiting digest shows at c ls rest log new link next → IsArrived digest all b fs new link next
@@ -108,8 +108,8 @@ way-waits digest shows all b k m at c fs ls new rest link log next e f w h = rec
       ∙ ap (λ j. around digest b (take (b + length fs) ls) fs (parting digest shows j (Some c) (edge_of (drop (b + length fs) ls) rest) log)) e
       ∙ ap (λ j. around digest b (take j ls) fs (parting digest shows (suc m) (Some c) (edge_of (drop j ls) rest) log)) (sym f)
       ∙ ap (around digest b (take at ls) fs) (h.is m)
-      ∙ ap (λ ys. around digest b (take at ys) fs (Some (edge_of (drop at new) link, next))) (sym h.levels)
-      ∙ ap (λ j. around digest b (take j new) fs (Some (edge_of (drop j new) link, next))) f;
+      ∙ ap (λ ys. around digest b (take at ys) fs (Ok (edge_of (drop at new) link, next))) (sym h.levels)
+      ∙ ap (λ j. around digest b (take j new) fs (Ok (edge_of (drop j new) link, next))) f;
   long = subst (λ ys. b + length fs ≤ length ys) (sym h.levels) w.long;
 }
 
@@ -124,9 +124,9 @@ joined-none digest d node l ls rest log e h =
     record {
       rows = c.rows;
       cut = ap (λ m. take m ls) one ∙ c.front;
-      is = ap (λ s. joined digest c.rows s (Some (edge_of (drop (d + 1) ls) rest, log))) e
-          ∙ ap (λ m. Some (LinkOpened c.rows (edge_of (drop m ls) rest), log)) one
-          ∙ ap (λ ys. Some (edge_of ys rest, log)) (sym c.back);
+      is = ap (λ s. joined digest c.rows s (Ok (edge_of (drop (d + 1) ls) rest, log))) e
+          ∙ ap (λ m. Ok (LinkOpened c.rows (edge_of (drop m ls) rest), log)) one
+          ∙ ap (λ ys. Ok (edge_of ys rest, log)) (sym c.back);
       same = refl;
       long = omega arith;
     }
@@ -149,17 +149,17 @@ joined-more digest d node r l e ls mid above new rows more full rest below link 
     record {
       rows = rows;
       cut = sym m ∙ p ∙ ap (λ ys. ys ++ (rows ∷ [])) s.0;
-      is = ap (λ x. joined digest rows x (Some (edge_of (drop (d + 1) ls) rest, log))) n
-          ∙ ap (λ x. Some (LinkOpened (rows ++ ((x.0, e) ∷ rows_in_shape r)) (link_edge (last_link r)), x.1)) c
-          ∙ ap (λ x. Some (LinkOpened x (link_edge (last_link r)), next)) (sym made)
-          ∙ ap (λ ys. Some (edge_of ys (last_link r), next)) (sym (drop-snoc d above full a))
-          ∙ ap (λ ys. Some (edge_of (drop d ys) (last_link r), next)) (sym w)
-          ∙ ap (λ x. Some (edge_of (drop d new) x, next)) (sym v);
+      is = ap (λ x. joined digest rows x (Ok (edge_of (drop (d + 1) ls) rest, log))) n
+          ∙ ap (λ x. Ok (LinkOpened (rows ++ ((x.0, e) ∷ rows_in_shape r)) (link_edge (last_link r)), x.1)) c
+          ∙ ap (λ x. Ok (LinkOpened x (link_edge (last_link r)), next)) (sym made)
+          ∙ ap (λ ys. Ok (edge_of ys (last_link r), next)) (sym (drop-snoc d above full a))
+          ∙ ap (λ ys. Ok (edge_of (drop d ys) (last_link r), next)) (sym w)
+          ∙ ap (λ x. Ok (edge_of (drop d new) x, next)) (sym v);
       same = ap (take d) w ∙ take-snoc d above full a ∙ s.0;
       long = omega arith;
     }
 
-pub arrived-less : (digest : List ℕ → List ℕ) (all : Option (LinkEdge × Log)) (b d : ℕ) (fs gs : List Shape) (node : Shape)
+pub arrived-less : (digest : List ℕ → List ℕ) (all : Step LinkEdge) (b d : ℕ) (fs gs : List Shape) (node : Shape)
     (ls new : List Rows) (rest link : Option (List ℕ)) (log next : Log) → fs ≡ gs ++ (node ∷ []) → d ≡ b + length gs
     → IsArrived digest all b fs ls rest log → IsJoined digest d node ls rest log new link next
     → IsArrived digest all b gs new link next
@@ -169,28 +169,28 @@ arrived-less digest all b d fs gs node ls new rest link log next e f w j =
     let a = length-append gs (node ∷ []) in
     let n : length fs ≡ length (gs ++ (node ∷ [])) = ap length e in
     let one : b + length fs ≡ d + 1 = omega arith in
-    let x : Option (LinkEdge × Log) = Some (edge_of (drop (d + 1) ls) rest, log) in
+    let x : Step LinkEdge = Ok (edge_of (drop (d + 1) ls) rest, log) in
     record {
       is = w.is
-          ∙ ap (λ m. around digest b (take m ls) fs (Some (edge_of (drop m ls) rest, log))) one
+          ∙ ap (λ m. around digest b (take m ls) fs (Ok (edge_of (drop m ls) rest, log))) one
           ∙ ap (λ hs. around digest b (take (d + 1) ls) hs x) e
           ∙ ap (λ ys. around digest b ys (gs ++ (node ∷ [])) x) j.cut
           ∙ around-more digest b (take d ls) j.rows gs node x (take-length d ls (omega arith) ∙ f)
           ∙ ap (around digest b (take d ls) gs) j.is
-          ∙ ap (λ ys. around digest b ys gs (Some (edge_of (drop d new) link, next))) (sym j.same)
-          ∙ ap (λ m. around digest b (take m new) gs (Some (edge_of (drop m new) link, next))) f;
+          ∙ ap (λ ys. around digest b ys gs (Ok (edge_of (drop d new) link, next))) (sym j.same)
+          ∙ ap (λ m. around digest b (take m new) gs (Ok (edge_of (drop m new) link, next))) f;
       long = omega arith;
     }
 
-pub arrived-end : (digest : List ℕ → List ℕ) (all : Option (LinkEdge × Log)) (b : ℕ) (fs : List Shape) (ls : List Rows)
+pub arrived-end : (digest : List ℕ → List ℕ) (all : Step LinkEdge) (b : ℕ) (fs : List Shape) (ls : List Rows)
     (rest : Option (List ℕ)) (log : Log) → fs ≡ [] → IsArrived digest all b fs ls rest log
-    → all ≡ Some (edge_of ls rest, log)
+    → all ≡ Ok (edge_of ls rest, log)
 arrived-end digest all b fs ls rest log e w =
     let n = b + length fs in
-    w.is ∙ ap (λ gs. around digest b (take n ls) gs (Some (edge_of (drop n ls) rest, log))) e
-    ∙ around-none digest b (take n ls) (Some (edge_of (drop n ls) rest, log))
+    w.is ∙ ap (λ gs. around digest b (take n ls) gs (Ok (edge_of (drop n ls) rest, log))) e
+    ∙ around-none digest b (take n ls) (Ok (edge_of (drop n ls) rest, log))
     ∙ under-some (take n ls) (drop n ls) rest log
-    ∙ ap (λ ys. Some (edge_of ys rest, log)) (cut-whole n ls)
+    ∙ ap (λ ys. Ok (edge_of ys rest, log)) (cut-whole n ls)
 
 -- ---- the nodes on the way, as the code has them
 

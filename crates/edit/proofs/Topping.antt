@@ -1,9 +1,9 @@
 -- The top of the tree that the edge has become.
-use Rattle.std.proofs.Common.{◌≡◌, ℕ, suc, ◌+◌, ◌-◌, length-append, ◌<◌, ◌≤◌, List, [], ◌∷◌, ◌++◌, length, take, drop, refl, sym, ap, ◌∙◌, arith, Option}
+use Rattle.std.proofs.Common.{◌≡◌, ℕ, suc, ◌+◌, ◌-◌, length-append, ◌<◌, ◌≤◌, List, [], ◌∷◌, ◌++◌, length, take, drop, refl, sym, ap, ◌∙◌, arith, Option, Ok, Err}
 use Rattle.std.proofs.lemmas.List.{append-nil}
 use Rattle.std.specs.declared.option.Option.TheVariants.{Some, None}
 use Rattle.spec.specs.NodeFormat.{Shape, LastLink, MoreLinks, shape_cid}
-use Rattle.batch_laws.specs.Links.{Rows, Log, Top, log_shown, with_read, closing, link_edge, onto_links, new_top, topping, pruning, pruning_at}
+use Rattle.batch_laws.specs.Links.{Rows, Log, Top, log_shown, with_read, closing, link_edge, onto_links, new_top, topping, pruning, pruning_at, Step}
 use Rattle.edit.specs.Edges.{edge_of, highest_of}
 use Rattle.edit.specs.Tops.{IsTopped, IsLooked, IsTop, IsEnded, further_of}
 use Rattle.edit.proofs.Cuts.{snoc-same, cut-at, drop-end}
@@ -66,8 +66,8 @@ empty-top digest shows k d ls rest log root made e h n r m = record {
   left = [];
   next = record { read = log.read; made = made };
   is = none-top digest shows k d ls rest log e h ∙ ap (λ l. topping digest shows k (link_edge l) log) n
-      ∙ ap (λ x. Some ((x, []), record { read = log.read; made = log.made ++ (LastLink None ∷ []) })) (sym r)
-      ∙ ap (λ ys. Some ((root, []), record { read = log.read; made = ys })) (sym m);
+      ∙ ap (λ x. Ok ((x, []), record { read = log.read; made = log.made ++ (LastLink None ∷ []) })) (sym r)
+      ∙ ap (λ ys. Ok ((root, []), record { read = log.read; made = ys })) (sym m);
   read = sym (append-nil log.read);
   made = refl;
   stay_is = refl;
@@ -92,19 +92,20 @@ pub record Shown (shown : Option Shape) (node : Shape) (log now : Log) : Type 0 
   pub is : shown ≡ Some node
   pub log_is : now ≡ with_read node log
 
-pub some-same : (x y : Shape × Log) → Some x ≡ Some y → x ≡ y
-some-same x y h = cc
+pub ok-same : (x y : Shape × Log) → ◌≡◌ {A = Step Shape} (Ok x) (Ok y) → x ≡ y
+ok-same x y h = cc
 
-pub was-shown : (o : Option Shape) (node : Shape) (log now : Log) → log_shown o log ≡ Some (node, now) → Shown o node log now
-was-shown None node log now h = absurd cc
-was-shown (Some m) node log now h =
-    let p = some-same (m, with_read m log) (node, now) h in
+pub was-shown : (c : List ℕ) (o : Option Shape) (node : Shape) (log now : Log) → log_shown c o log ≡ Ok (node, now)
+    → Shown o node log now
+was-shown c None node log now h = absurd cc
+was-shown c (Some m) node log now h =
+    let p = ok-same (m, with_read m log) (node, now) h in
     let a : m ≡ node = ap (λ x. x.0) p in
     let b : with_read m log ≡ now = ap (λ x. x.1) p in
     record { is = ap Some a; log_is = sym b ∙ ap (λ x. with_read x log) a }
 
 ends-at : (shows : List ℕ → Option Shape) (m : ℕ) (c : List ℕ) (log : Log) (node : Shape) → None ≡ further_of node
-    → pruning_at (pruning shows m) c log (Some node) ≡ Some ((c, node ∷ []), log)
+    → pruning_at (pruning shows m) c log (Some node) ≡ Ok ((c, node ∷ []), log)
 ends-at shows m c log (LastLink None) h = refl
 ends-at shows m c log (LastLink (Some b)) h = absurd cc
 ends-at shows m c log (MoreLinks l e r) h = refl
@@ -118,7 +119,7 @@ goes-on shows m c b log (MoreLinks l e r) h = absurd cc
 pub look-ends : (shows : List ℕ → Option Shape) (k m : ℕ) (c : List ℕ) (log now : Log) → k ≡ suc m
     → IsLooked shows c log None now → IsTop (pruning shows k c log) c 1 now
 look-ends shows k m c log now e p =
-    let s = was-shown (shows c) p.node log now p.shown in
+    let s = was-shown c (shows c) p.node log now p.shown in
     record {
       left = p.node ∷ [];
       next = log;
@@ -132,13 +133,13 @@ look-ends shows k m c log now e p =
 pub look-goes : (shows : List ℕ → Option Shape) (k m : ℕ) (c b : List ℕ) (log now : Log) → k ≡ suc m
     → IsLooked shows c log (Some b) now → pruning shows k c log ≡ pruning shows m b now
 look-goes shows k m c b log now e p =
-    let s = was-shown (shows c) p.node log now p.shown in
+    let s = was-shown c (shows c) p.node log now p.shown in
     ap (λ j. pruning shows j c log) e ∙ ap (pruning_at (pruning shows m) c log) s.is
     ∙ goes-on shows m c b log p.node p.further_is ∙ ap (pruning shows m b) (sym s.log_is)
 
 -- ---- what the code does for it
 
-pub top-of : (answer other : Option (Top × Log)) (root : List ℕ) (stay : ℕ) (now : Log) → answer ≡ other
+pub top-of : (answer other : Step Top) (root : List ℕ) (stay : ℕ) (now : Log) → answer ≡ other
     → IsTop other root stay now → IsTop answer root stay now
 top-of answer other root stay now e t = record {
   left = t.left;
@@ -149,7 +150,7 @@ top-of answer other root stay now e t = record {
   stay_is = t.stay_is;
 }
 
-pub ended : (answer : Option (Top × Log)) (root : List ℕ) (stay gone : ℕ) (now : Log) → IsTop answer root stay now
+pub ended : (answer : Step Top) (root : List ℕ) (stay gone : ℕ) (now : Log) → IsTop answer root stay now
     → gone ≡ length now.read - stay → IsEnded answer root gone now
 ended answer root stay gone now t g =
     let a = ap length t.read in

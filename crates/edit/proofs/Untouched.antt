@@ -1,5 +1,5 @@
 -- Pairs of a node that no change touches.
-use Rattle.std.proofs.Common.{◌≡◌, ℕ, zero, suc, ◌+◌, ◌<◌, ◌≤◌, true, false, List, [], ◌∷◌, ◌++◌, length, take, length-append, refl, sym, ap, subst, ◌∙◌, arith, Option, option_map}
+use Rattle.std.proofs.Common.{◌≡◌, ℕ, zero, suc, ◌+◌, ◌<◌, ◌≤◌, true, false, List, [], ◌∷◌, ◌++◌, length, take, length-append, refl, sym, ap, subst, ◌∙◌, arith, Option, option_map, Ok}
 use Rattle.std.proofs.lemmas.List.{append_assoc, append-nil}
 use Rattle.std.specs.List.{AllByRecursion}
 use Rattle.std.specs.declared.option.Option.TheVariants.{Some, None}
@@ -17,7 +17,7 @@ use Rattle.rows.specs.Drafts.{IsFaultOfAll}
 use Rattle.rows.specs.Entries.{part_of}
 use Rattle.batch_laws.specs.Batch.{Change, at_key, after, entry, IsLater}
 use Rattle.batch_laws.specs.Previous.{value_met, previous_node, previous_gap}
-use Rattle.batch_laws.specs.Links.{Rows, LinkEdge, Log, and_then, add_row, under_rows, onto_links, pairing, pairs_in_turn, subtreeing, walking}
+use Rattle.batch_laws.specs.Links.{Rows, LinkEdge, Log, and_then, add_row, under_rows, onto_links, pairing, pairs_in_turn, subtreeing, walking, Step}
 use Rattle.batch_laws.specs.Written.{AllGoOn, GoesOn}
 use Rattle.edit.specs.Agenda.{Task, node_does, agenda_does, agenda_meets, size_of_node, size_of_gap, IsPutOff, IsGoneOn}
 use Rattle.edit.specs.Edges.{edge_of, has_rows}
@@ -158,7 +158,7 @@ taken-run k cs begun read last now written new node rest from to from_is to_is n
 
 module _ (digest : List ℕ → List ℕ) (shows : List ℕ → Option Shape) where
   waits-below : (k d : ℕ) (c : List ℕ) (ls : List Rows) (log : Log) → length ls ≡ d
-      → subtreeing digest shows (suc k) d c (edge_of ls None) log ≡ Some (edge_of ls (Some c), log)
+      → subtreeing digest shows (suc k) d c (edge_of ls None) log ≡ Ok (edge_of ls (Some c), log)
   waits-below k zero c [] log h = refl
   waits-below k (suc d) c [] log h = absurd (omega arith)
   waits-below k zero c (x ∷ ls) log h = absurd (omega arith)
@@ -166,7 +166,7 @@ module _ (digest : List ℕ → List ℕ) (shows : List ℕ → Option Shape) wh
       ap (λ o. and_then o (under_rows x)) (waits-below k d c ls log (omega arith))
 
   waits-first : (k d : ℕ) (c : List ℕ) (ls : List Rows) (log : Log) → length ls ≡ d
-      → subtreeing digest shows (suc k) (suc d) c (edge_of ls None) log ≡ Some (edge_of (ls ++ ([] ∷ [])) (Some c), log)
+      → subtreeing digest shows (suc k) (suc d) c (edge_of ls None) log ≡ Ok (edge_of (ls ++ ([] ∷ [])) (Some c), log)
   waits-first k zero c [] log h = refl
   waits-first k (suc d) c [] log h = absurd (omega arith)
   waits-first k zero c (x ∷ ls) log h = absurd (omega arith)
@@ -175,7 +175,7 @@ module _ (digest : List ℕ → List ℕ) (shows : List ℕ → Option Shape) wh
 
   row-below : (d : ℕ) (e : Pair) (above : List Rows) (begun : Rows) (l : Option (List ℕ)) (log : Log) → length above ≡ d
       → pairing digest shows d e (edge_of (above ++ (begun ∷ [])) l) log
-      ≡ Some (edge_of (above ++ ((begun ++ ((l, e) ∷ [])) ∷ [])) None, log)
+      ≡ Ok (edge_of (above ++ ((begun ++ ((l, e) ∷ [])) ∷ [])) None, log)
   row-below zero e [] begun l log h = ap (add_row e begun) (closing-rest digest l log)
   row-below (suc d) e [] begun l log h = absurd (omega arith)
   row-below zero e (x ∷ above) begun l log h = absurd (omega arith)
@@ -183,7 +183,7 @@ module _ (digest : List ℕ → List ℕ) (shows : List ℕ → Option Shape) wh
       ap (λ o. and_then o (under_rows x)) (row-below d e above begun l log (omega arith))
 
   row-first : (d : ℕ) (e : Pair) (ls : List Rows) (log : Log) → length ls ≡ d
-      → pairing digest shows d e (edge_of ls None) log ≡ Some (edge_of (ls ++ (((None, e) ∷ []) ∷ [])) None, log)
+      → pairing digest shows d e (edge_of ls None) log ≡ Ok (edge_of (ls ++ (((None, e) ∷ []) ∷ [])) None, log)
   row-first zero e [] log h = refl
   row-first (suc d) e [] log h = absurd (omega arith)
   row-first zero e (x ∷ ls) log h = absurd (omega arith)
@@ -194,11 +194,11 @@ module _ (digest : List ℕ → List ℕ) (shows : List ℕ → Option Shape) wh
     -- a gap without changes and then a pair
     abbrev Comes : ℕ → ℕ → Option (List ℕ) → Pair → LinkEdge → LinkEdge → Log → Type 0
     Comes k d l e s t log =
-        (g : LinkEdge → Log → Option (LinkEdge × Log)) → and_then (walking digest shows layer n k (suc d) l [] s log)
+        (g : LinkEdge → Log → Step LinkEdge) → and_then (walking digest shows layer n k (suc d) l [] s log)
         (λ t1 log1. and_then (pairs_in_turn digest shows (λ key. d) (e ∷ []) t1 log1) g) ≡ g t log
 
-    then-pair : (d : ℕ) (e : Pair) (s t : LinkEdge) (log : Log) (o : Option (LinkEdge × Log)) → o ≡ Some (s, log)
-        → pairing digest shows d e s log ≡ Some (t, log) → (g : LinkEdge → Log → Option (LinkEdge × Log))
+    then-pair : (d : ℕ) (e : Pair) (s t : LinkEdge) (log : Log) (o : Step LinkEdge) → o ≡ Ok (s, log)
+        → pairing digest shows d e s log ≡ Ok (t, log) → (g : LinkEdge → Log → Step LinkEdge)
         → and_then o (λ t1 log1. and_then (pairs_in_turn digest shows (λ key. d) (e ∷ []) t1 log1) g) ≡ g t log
     then-pair d e s t log o a p g =
         ap (λ x. and_then x (λ t1 log1. and_then (pairs_in_turn digest shows (λ key. d) (e ∷ []) t1 log1) g)) a
@@ -383,10 +383,10 @@ rows-refused : (digest : List ℕ → List ℕ) (shows : List ℕ → Option Sha
     → IsRefused (node_does digest shows layer n k d cs rest (edge_of (above ++ (rows ∷ [])) None) log) f
 rows-refused digest shows layer n k d cs rest above rows log f r =
     let s = edge_of (above ++ (rows ∷ [])) None in
-    leads-refused (Some (s, log)) (node_does digest shows layer n k d cs rest s log) f
+    leads-refused (Ok (s, log)) (node_does digest shows layer n k d cs rest s log) f
     (node-goes (λ c. shows c) digest shows layer n k d cs rest s log) (here f r)
   where
-    here : (g : DraftFault) → IsFaultOfAll rows g → IsRefused (Some (edge_of (above ++ (rows ∷ [])) None, log)) g
+    here : (g : DraftFault) → IsFaultOfAll rows g → IsRefused (Ok (edge_of (above ++ (rows ∷ [])) None, log)) g
     here NotNode q = λ w.
         (let g = last-begun HasKeys above rows None w.begun in q g.0 (subst HasKeys (sym (onto-same rows g.0)) g.1))
     here NoMemory q = tt

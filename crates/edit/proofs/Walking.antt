@@ -1,5 +1,5 @@
 -- The agenda of the walk.
-use Rattle.std.proofs.Common.{◌≡◌, ℕ, zero, suc, ◌+◌, ◌<◌, List, [], ◌∷◌, ◌++◌, refl, sym, ap, ◌∙◌, arith, Option, ◌-◌, length}
+use Rattle.std.proofs.Common.{◌≡◌, ℕ, zero, suc, ◌+◌, ◌<◌, List, [], ◌∷◌, ◌++◌, refl, sym, ap, ◌∙◌, arith, Option, ◌-◌, length, Ok}
 use Rattle.std.proofs.lemmas.List.{append_assoc, append-nil}
 use Rattle.std.specs.declared.option.Option.TheVariants.{Some, None}
 use Rattle.spec.specs.Tree.{Pair}
@@ -7,14 +7,14 @@ use Rattle.spec.specs.NodeFormat.{Shape, LastLink, MoreLinks}
 use Rattle.batch_laws.specs.Batch.{Change, before, at_key, after, entry, puts}
 use Rattle.batch_laws.specs.Walking.{depth_of}
 use Rattle.batch_laws.specs.Previous.{value_met, previous_node, previous_gap, previous_shown, no_values}
-use Rattle.batch_laws.specs.Links.{LinkEdge, Log, and_then, ask, log_shown, with_read, pairs_in_turn, walking_node, walking, subtreeing}
-use Rattle.edit.proofs.Topping.{some-same}
+use Rattle.batch_laws.specs.Links.{LinkEdge, Log, and_then, ask, log_shown, with_read, pairs_in_turn, walking_node, walking, subtreeing, Step}
+use Rattle.edit.proofs.Topping.{ok-same}
 use Rattle.edit.specs.Agenda.{Later, Gap, Task, ToPair, ToGap, node_does, task_does, agenda_does, task_meets, agenda_meets, size_of_node, size_of_gap, size_shown, task_size, agenda_size, IsPutOff, IsGoneOn, IsDone}
 
 -- ---- one more on the agenda
 
 pub does-more : (digest : List ℕ → List ℕ) (shows : List ℕ → Option Shape) (layer : List ℕ → ℕ) (n : ℕ)
-    (fs : List Task) (f : Task) (x : Option (LinkEdge × Log))
+    (fs : List Task) (f : Task) (x : Step LinkEdge)
     → agenda_does digest shows layer n (fs ++ (f ∷ [])) x
     ≡ agenda_does digest shows layer n fs (and_then x (task_does digest shows layer n f))
 does-more digest shows layer n [] f x = refl
@@ -47,8 +47,8 @@ put-off-last k d cs r l fs new e w =
       does = λ digest shows layer n s log.
           ap (λ x. agenda_does digest shows layer n fs (node_does digest shows layer n k d cs x s log)) e
           ∙ ap (λ m. agenda_does digest shows layer n fs (walking digest shows layer n k m l cs s log)) (sym one)
-          ∙ sym (does-more digest shows layer n fs g (Some (s, log)))
-          ∙ ap (λ ys. agenda_does digest shows layer n ys (Some (s, log))) (sym w);
+          ∙ sym (does-more digest shows layer n fs g (Ok (s, log)))
+          ∙ ap (λ ys. agenda_does digest shows layer n ys (Ok (s, log))) (sym w);
       meets = λ shows. ap (agenda_meets shows) w ∙ meets-more shows fs g
           ∙ ap (λ x. previous_node (previous_gap shows k) cs x ++ agenda_meets shows fs) (sym e);
       smaller = λ shows. (let a = ap (agenda_size shows) w in
@@ -81,8 +81,8 @@ put-off-more k d cs r rest l e front back at fs mid new q x y z v w =
           ∙ sym (does-more digest shows layer n fs f (walking digest shows layer n k (suc d) l front s log))
           ∙ ap (λ ys. agenda_does digest shows layer n ys (walking digest shows layer n k (suc d) l front s log)) (sym v)
           ∙ ap (λ m. agenda_does digest shows layer n mid (walking digest shows layer n k m l front s log)) (sym one)
-          ∙ sym (does-more digest shows layer n mid g (Some (s, log)))
-          ∙ ap (λ ys. agenda_does digest shows layer n ys (Some (s, log))) (sym w);
+          ∙ sym (does-more digest shows layer n mid g (Ok (s, log)))
+          ∙ ap (λ ys. agenda_does digest shows layer n ys (Ok (s, log))) (sym w);
       meets = λ shows.
           ap (agenda_meets shows) w ∙ meets-more shows mid g
           ∙ ap (λ ys. previous_gap shows k l front ++ agenda_meets shows ys) v
@@ -119,7 +119,7 @@ meets-none shows (suc k) cs = refl
 
 pub done-none : (digest : List ℕ → List ℕ) (shows : List ℕ → Option Shape) (layer : List ℕ → ℕ) (n : ℕ)
     (fs : List Task) (gap : Gap) (s t : LinkEdge) (log later : Log) (old new : List (Option (List ℕ))) → gap.link ≡ None
-    → pairs_in_turn digest shows (depth_of layer n) (puts gap.changes) s log ≡ Some (t, later)
+    → pairs_in_turn digest shows (depth_of layer n) (puts gap.changes) s log ≡ Ok (t, later)
     → new ≡ old ++ no_values gap.changes
     → IsDone digest shows layer n (ToGap gap) fs s log old fs t later new
 done-none digest shows layer n fs gap s t log later old new e p v = record {
@@ -134,7 +134,7 @@ done-none digest shows layer n fs gap s t log later old new e p v = record {
 pub done-subtree : (digest : List ℕ → List ℕ) (shows : List ℕ → Option Shape) (layer : List ℕ → ℕ) (n : ℕ)
     (fs : List Task) (gap : Gap) (c : List ℕ) (s t : LinkEdge) (log later : Log) (old new : List (Option (List ℕ)))
     → gap.link ≡ Some c → gap.changes ≡ [] → 0 < gap.layer
-    → subtreeing digest shows gap.layer gap.depth c s log ≡ Some (t, later) → new ≡ old
+    → subtreeing digest shows gap.layer gap.depth c s log ≡ Ok (t, later) → new ≡ old
     → IsDone digest shows layer n (ToGap gap) fs s log old fs t later new
 done-subtree digest shows layer n fs gap c s t log later old new e q z p v =
     let k = gap.layer - 1 in
@@ -151,14 +151,15 @@ done-subtree digest shows layer n fs gap c s t log later old new e q z p v =
       smaller = (let a = ap (size_of_gap shows gap.layer) e ∙ ap (λ j. size_of_gap shows j (Some c)) m in omega arith);
     }
 
-shown-is : (o : Option Shape) (node : Shape) (log later : Log) → log_shown o log ≡ Some (node, later) → o ≡ Some node
-shown-is None node log later h = absurd cc
-shown-is (Some m) node log later h =
-    ap (λ x. Some x.0) (some-same (m, with_read m log) (node, later) h)
+shown-is : (c : List ℕ) (o : Option Shape) (node : Shape) (log later : Log) → log_shown c o log ≡ Ok (node, later)
+    → o ≡ Some node
+shown-is c None node log later h = absurd cc
+shown-is c (Some m) node log later h =
+    ap (λ x. Some x.0) (ok-same (m, with_read m log) (node, later) h)
 
 pub walks-down : (digest : List ℕ → List ℕ) (shows : List ℕ → Option Shape) (layer : List ℕ → ℕ) (n k d : ℕ) (c : List ℕ)
     (cs : List Change) (node : Shape) (s : LinkEdge) (log later : Log) → 0 < length cs
-    → ask shows c log ≡ Some (node, later)
+    → ask shows c log ≡ Ok (node, later)
     → walking digest shows layer n (suc k) d (Some c) cs s log ≡ node_does digest shows layer n k d cs node s later
 walks-down digest shows layer n k d c [] node s log later z a = absurd (omega arith)
 walks-down digest shows layer n k d c (x ∷ cs) node s log later z a =
@@ -172,10 +173,10 @@ meets-down shows k c (x ∷ cs) node z a = ap (previous_shown (previous_gap show
 pub done-node : (digest : List ℕ → List ℕ) (shows : List ℕ → Option Shape) (layer : List ℕ → ℕ) (n : ℕ)
     (fs new : List Task) (gap : Gap) (c : List ℕ) (k : ℕ) (node : Shape) (s t : LinkEdge) (log later : Log)
     (old values : List (Option (List ℕ))) → gap.link ≡ Some c → 0 < length gap.changes → gap.layer ≡ suc k
-    → ask shows c log ≡ Some (node, later) → IsGoneOn k gap.depth gap.changes node fs new s t → values ≡ old
+    → ask shows c log ≡ Ok (node, later) → IsGoneOn k gap.depth gap.changes node fs new s t → values ≡ old
     → IsDone digest shows layer n (ToGap gap) fs s log old new t later values
 done-node digest shows layer n fs new gap c k node s t log later old values e z m a w v =
-    let shown = shown-is (shows c) node log later a in
+    let shown = shown-is c (shows c) node log later a in
     let down = walks-down digest shows layer n k gap.depth c gap.changes node s log later z a in
     let meet = meets-down shows k c gap.changes node z shown in
     let p = w.smaller shows in
@@ -194,7 +195,7 @@ done-node digest shows layer n fs new gap c k node s t log later old values e z 
 -- a pair that was still to come
 pub done-pair : (digest : List ℕ → List ℕ) (shows : List ℕ → Option Shape) (layer : List ℕ → ℕ) (n : ℕ)
     (fs new : List Task) (f : Later) (s t u : LinkEdge) (log later : Log) (old values : List (Option (List ℕ)))
-    → pairs_in_turn digest shows (λ key. f.depth) (entry f.at f.pair) s log ≡ Some (t, later)
+    → pairs_in_turn digest shows (λ key. f.depth) (entry f.at f.pair) s log ≡ Ok (t, later)
     → values ≡ old ++ value_met f.at f.pair → IsGoneOn f.layer f.depth f.changes f.rest fs new t u
     → IsDone digest shows layer n (ToPair f) fs s log old new u later values
 done-pair digest shows layer n fs new f s t u log later old values p v w =
@@ -214,13 +215,13 @@ done-pair digest shows layer n fs new f s t u log later old values p v w =
 
 -- all that was to come from the start is what is still on the agenda
 pub walk-more : (digest : List ℕ → List ℕ) (shows : List ℕ → Option Shape) (layer : List ℕ → ℕ) (n : ℕ)
-    (all : Option (LinkEdge × Log)) (fs gs new : List Task) (f : Task) (s t : LinkEdge) (log later : Log)
-    (old values : List (Option (List ℕ))) → all ≡ agenda_does digest shows layer n fs (Some (s, log)) → fs ≡ gs ++ (f ∷ [])
+    (all : Step LinkEdge) (fs gs new : List Task) (f : Task) (s t : LinkEdge) (log later : Log)
+    (old values : List (Option (List ℕ))) → all ≡ agenda_does digest shows layer n fs (Ok (s, log)) → fs ≡ gs ++ (f ∷ [])
     → IsDone digest shows layer n f gs s log old new t later values
-    → all ≡ agenda_does digest shows layer n new (Some (t, later))
+    → all ≡ agenda_does digest shows layer n new (Ok (t, later))
 walk-more digest shows layer n all fs gs new f s t log later old values a e w =
-    a ∙ ap (λ ys. agenda_does digest shows layer n ys (Some (s, log))) e
-    ∙ does-more digest shows layer n gs f (Some (s, log)) ∙ w.does
+    a ∙ ap (λ ys. agenda_does digest shows layer n ys (Ok (s, log))) e
+    ∙ does-more digest shows layer n gs f (Ok (s, log)) ∙ w.does
 
 pub walk-meets : (digest : List ℕ → List ℕ) (shows : List ℕ → Option Shape) (layer : List ℕ → ℕ) (n : ℕ)
     (all : List (Option (List ℕ))) (fs gs new : List Task) (f : Task) (s t : LinkEdge) (log later : Log)
@@ -243,11 +244,11 @@ walk-smaller digest shows layer n fs gs new f s t log later old values e w =
 pub walked-all : (digest : List ℕ → List ℕ) (shows : List ℕ → Option Shape) (layer : List ℕ → ℕ) (n k d : ℕ)
     (cs : List Change) (r : Shape) (first start last : List Task) (s mid t : LinkEdge) (log later : Log)
     → IsGoneOn k d cs r first start s mid → first ≡ []
-    → agenda_does digest shows layer n start (Some (mid, log)) ≡ agenda_does digest shows layer n last (Some (t, later))
-    → last ≡ [] → node_does digest shows layer n k d cs r s log ≡ Some (t, later)
+    → agenda_does digest shows layer n start (Ok (mid, log)) ≡ agenda_does digest shows layer n last (Ok (t, later))
+    → last ≡ [] → node_does digest shows layer n k d cs r s log ≡ Ok (t, later)
 walked-all digest shows layer n k d cs r first start last s mid t log later w f e l =
     sym (ap (λ ys. agenda_does digest shows layer n ys (node_does digest shows layer n k d cs r s log)) f)
-    ∙ w.does digest shows layer n log ∙ e ∙ ap (λ ys. agenda_does digest shows layer n ys (Some (t, later))) l
+    ∙ w.does digest shows layer n log ∙ e ∙ ap (λ ys. agenda_does digest shows layer n ys (Ok (t, later))) l
 
 pub met-all : (shows : List ℕ → Option Shape) (k d : ℕ) (cs : List Change) (r : Shape) (first start last : List Task)
     (s t : LinkEdge) (old values : List (Option (List ℕ))) → IsGoneOn k d cs r first start s t → first ≡ [] → old ≡ []

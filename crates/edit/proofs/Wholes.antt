@@ -1,5 +1,5 @@
 -- A whole tree.
-use Rattle.std.proofs.Common.{◌≡◌, ℕ, suc, ◌+◌, ◌-◌, ◌≤◌, ◌<◌, max, List, [], ◌∷◌, length, length-append, refl, sym, ap, subst, ◌∙◌, arith, Option}
+use Rattle.std.proofs.Common.{◌≡◌, ℕ, suc, ◌+◌, ◌-◌, ◌≤◌, ◌<◌, max, List, [], ◌∷◌, length, length-append, refl, sym, ap, subst, ◌∙◌, arith, Option, Err, Ok}
 use Rattle.std.specs.declared.option.Option.TheVariants.{Some, None}
 use Rattle.std.proofs.Math.Nat.{div-le_self}
 use Rattle.spec.specs.Layer.{zero_bits, layer as layer_of}
@@ -9,7 +9,7 @@ use Rattle.edit_laws.specs.Lawful.{HasKeys}
 use Rattle.edit_laws.specs.ShapeEdit.{layer_of_shape}
 use Rattle.batch_laws.specs.Batch.{Change}
 use Rattle.batch_laws.specs.Counts.{most_reads}
-use Rattle.batch_laws.specs.Links.{LinkEdge, LinkClear, Log, Top, and_then, ask, walking, walking_top, topping, batch_from}
+use Rattle.batch_laws.specs.Links.{LinkEdge, LinkClear, Log, Top, and_then, ask, walking, walking_top, topping, batch_from, Step}
 use Rattle.batch_laws.proofs.Earlier.{steps-earlier, walking_node-earlier, walking-earlier}
 use Rattle.batch_laws.specs.Previous.{previous_node, previous_gap, previous_top}
 use Rattle.edit.specs.Agenda.{node_does}
@@ -26,9 +26,9 @@ use Rattle.edit.proofs.Ending.{top-goes}
 
 pub whole : (digest : List ℕ → List ℕ) (shows : List ℕ → Option Shape) (layer : List ℕ → ℕ) (n t d : ℕ) (cs : List Change)
     (root : List ℕ) (node : Shape) (start first : Log) (begun s : LinkEdge) (later : Log) (top : List ℕ) (gone : ℕ) (now : Log)
-    → start ≡ record { read = []; made = [] } → ask shows root start ≡ Some (node, first)
+    → start ≡ record { read = []; made = [] } → ask shows root start ≡ Ok (node, first)
     → t ≡ layer_of_shape layer node → d ≡ n - suc t → begun ≡ LinkClear
-    → node_does digest shows layer n t d cs node begun first ≡ Some (s, later)
+    → node_does digest shows layer n t d cs node begun first ≡ Ok (s, later)
     → IsEnded (topping digest shows n s later) top gone now
     → IsEnded (batch_from digest shows layer n cs root) top gone now
 whole digest shows layer n t d cs root node start first begun s later top gone now e a t_is d_is b w i = record {
@@ -46,11 +46,11 @@ whole digest shows layer n t d cs root node start first begun s later top gone n
 }
 
 pub met : (shows : List ℕ → Option Shape) (layer : List ℕ → ℕ) (t : ℕ) (cs : List Change) (root : List ℕ) (node top : Shape)
-    (start first : Log) (values : List (Option (List ℕ))) → ask shows root start ≡ Some (node, first)
+    (start first : Log) (values : List (Option (List ℕ))) → ask shows root start ≡ Ok (node, first)
     → t ≡ layer_of_shape layer node → values ≡ previous_node (previous_gap shows t) cs node → shows root ≡ Some top
     → values ≡ previous_top shows layer cs top
 met shows layer t cs root node top start first values a t_is v h =
-    let s = was-shown (shows root) node start first a in
+    let s = was-shown root (shows root) node start first a in
     let e : Some node ≡ Some top = sym s.is ∙ h in
     let same : node ≡ top = cc in
     v ∙ ap (λ m. previous_node (previous_gap shows m) cs node) t_is ∙ ap (previous_top shows layer cs) same
@@ -73,11 +73,11 @@ stopped-within b m a most start first f h l = omega arith
 
 -- the root is read, and then as many are left as a batch reads below it
 pub first-counted : (shows : List ℕ → Option Shape) (layer : List ℕ → ℕ) (t : ℕ) (cs : List Change) (root : List ℕ)
-    (node : Shape) (start first : Log) (b m : Budget) (more : ℕ) → ask shows root start ≡ Some (node, first)
+    (node : Shape) (start first : Log) (b m : Budget) (more : ℕ) → ask shows root start ≡ Ok (node, first)
     → t ≡ layer_of_shape layer node → b.1 ≡ 1 → more ≡ most_reads t cs → IsCounted b m start first
     → IsCounted (b.0, most_from layer cs (shows root)) (m.0, more) start first
 first-counted shows layer t cs root node start first b m more a t_is one h i =
-    let seen = was-shown (shows root) node start first a in
+    let seen = was-shown root (shows root) node start first a in
     let most = most-shown layer cs (shows root) node t seen.is t_is in
     let now = ap (λ (x : Log). length x.read) seen.log_is in
     let longer = length-append start.read (node ∷ []) in
@@ -102,14 +102,14 @@ low-layer digest bits fits (MoreLinks l p r) t e =
 
 -- ---- where it stops
 
-at-top-then : {B : Type 0} (x : Option (B × Log)) (f : B → Log → Option (Top × Log))
+at-top-then : {B : Type 0} (x : Step B) (f : B → Log → Step Top)
     → at_top (and_then x f) ≡ and_then x (λ b l. at_top (f b l))
-at-top-then None f = refl
-at-top-then (Some x) f = refl
+at-top-then (Err stop) f = refl
+at-top-then (Ok x) f = refl
 
 module _ {A : Type 0} (gives : List ℕ → Option A) (digest : List ℕ → List ℕ) (shows : List ℕ → Option Shape)
     (layer : List ℕ → ℕ) (n : ℕ) (cs : List Change) (root : List ℕ) where
-  abbrev batch : Option (LinkEdge × Log)
+  abbrev batch : Step LinkEdge
   batch = at_top (batch_from digest shows layer n cs root)
 
   abbrev none : Log
@@ -126,19 +126,19 @@ module _ {A : Type 0} (gives : List ℕ → Option A) (digest : List ℕ → Lis
       (λ t l. top-goes digest shows n t l))
 
   -- where one node might be read, more may be
-  unread-more : (b a left most : ℕ) (o : Option Shape) (f : Fault) → left ≡ 1 → 1 ≤ most → IsUnread gives (b, left) a o f
-      → IsUnread gives (b, most) a o f
-  unread-more b a left most o f e h u = record { cause = why f u.cause; reads = u.reads; few = within u.few }
+  unread-more : (b a left most : ℕ) (c : List ℕ) (o : Option Shape) (f : Fault) → left ≡ 1 → 1 ≤ most
+      → IsUnread gives (b, left) a c o f → IsUnread gives (b, most) a c o f
+  unread-more b a left most c o f e h u = record { cause = why f u.cause; reads = u.reads; few = within u.few }
     where
-      why : (g : Fault) → IsUnshown gives left o g → IsUnshown gives most o g
-      why (faults.Missing c) k = k
+      why : (g : Fault) → IsUnshown gives left c o g → IsUnshown gives most c o g
+      why (faults.Missing b) k = k
       why faults.NotTree k = λ n. k (omega arith)
       why faults.NoMemory k = tt
 
       within : a ≤ b + left → a ≤ b + most
       within n = omega arith
 
-  pub root-unread : (b a left : ℕ) (f : Fault) → left ≡ 1 → IsUnread gives (b, left) a (shows root) f
+  pub root-unread : (b a left : ℕ) (f : Fault) → left ≡ 1 → IsUnread gives (b, left) a root (shows root) f
       → IsStopped gives (b, most_from layer cs (shows root)) a none batch f
   root-unread b a left f e u =
       let all : Budget = (b, most_from layer cs (shows root)) in
@@ -148,10 +148,10 @@ module _ {A : Type 0} (gives : List ℕ → Option A) (digest : List ℕ → Lis
       (λ m l. and_then (walking_top digest shows layer n cs m l) (topping digest shows n))))
       (asked-unread gives shows all a root LinkClear none step f
       (λ m l. then-top-goes (layer_of_shape layer m) (n - suc (layer_of_shape layer m)) m LinkClear l)
-      (unread-more b a left all.1 (shows root) f e (most-one layer cs (shows root)) u))
+      (unread-more b a left all.1 root (shows root) f e (most-one layer cs (shows root)) u))
 
   batch-is : (t d : ℕ) (node : Shape) (start first : Log) (begun : LinkEdge) → start ≡ none
-      → ask shows root start ≡ Some (node, first) → t ≡ layer_of_shape layer node → d ≡ n - suc t → begun ≡ LinkClear
+      → ask shows root start ≡ Ok (node, first) → t ≡ layer_of_shape layer node → d ≡ n - suc t → begun ≡ LinkClear
       → batch ≡ at_top (and_then (node_does digest shows layer n t d cs node begun first) (topping digest shows n))
   batch-is t d node start first begun e a t_is d_is b =
       ap at_top
@@ -163,9 +163,9 @@ module _ {A : Type 0} (gives : List ℕ → Option A) (digest : List ℕ → Lis
 
   -- the old top is read, and what comes after that stops
   module _ (t d : ℕ) (node : Shape) (start first : Log) (begun : LinkEdge) (e : start ≡ none)
-      (shown : ask shows root start ≡ Some (node, first)) (t_is : t ≡ layer_of_shape layer node) (d_is : d ≡ n - suc t)
+      (shown : ask shows root start ≡ Ok (node, first)) (t_is : t ≡ layer_of_shape layer node) (d_is : d ≡ n - suc t)
       (clear : begun ≡ LinkClear) where
-    abbrev rest : Option (LinkEdge × Log)
+    abbrev rest : Step LinkEdge
     rest = at_top (and_then (node_does digest shows layer n t d cs node begun first) (topping digest shows n))
 
     from-first : (b m : Budget) (a : ℕ) (f : Fault) → IsCounted b m start first → IsStopped gives m a first rest f
@@ -191,7 +191,7 @@ module _ {A : Type 0} (gives : List ℕ → Option A) (digest : List ℕ → Lis
 
     pub finish-stopped : (b m k : Budget) (a : ℕ) (f : Fault) (u : LinkEdge) (later : Log) → IsCounted b m start first
         → IsCounted m k first later
-        → node_does digest shows layer n t d cs node begun first ≡ Some (u, later)
+        → node_does digest shows layer n t d cs node begun first ≡ Ok (u, later)
         → IsStopped gives k a later (at_top (topping digest shows n u later)) f → IsStopped gives b a none batch f
     finish-stopped b m k a f u later i j w s =
         from-first b m a f i

@@ -1,15 +1,15 @@
 -- Steps below layers that are open.
-use Rattle.std.proofs.Common.{◌≡◌, ℕ, zero, suc, ◌≤◌, ◌<◌, List, [], ◌∷◌, ◌++◌, length, take, drop, refl, ap, arith, Option}
+use Rattle.std.proofs.Common.{◌≡◌, ℕ, zero, suc, ◌≤◌, ◌<◌, List, [], ◌∷◌, ◌++◌, length, take, drop, refl, ap, arith, Option, Err, Ok}
 use Rattle.std.specs.declared.option.Option.TheVariants.{Some, None}
 use Rattle.spec.specs.Tree.{Pair}
 use Rattle.spec.specs.NodeFormat.{Shape}
-use Rattle.batch_laws.specs.Links.{Rows, LinkEdge, LinkOpened, Log, and_then, opening, link_edge, pairing, parting, subtreeing, under_rows}
+use Rattle.batch_laws.specs.Links.{Rows, LinkEdge, LinkOpened, Log, and_then, opening, link_edge, pairing, parting, subtreeing, under_rows, Step}
 use Rattle.edit.specs.Edges.{edge_of, within, under}
 
-pub then-same : {A B : Type 0} (x : Option (A × Log)) (f g : A → Log → Option (B × Log))
+pub then-same : {A B : Type 0} (x : Step A) (f g : A → Log → Step B)
     → ((a : A) (log : Log) → f a log ≡ g a log) → and_then x f ≡ and_then x g
-then-same None f g h = refl
-then-same (Some x) f g h = h x.0 x.1
+then-same (Err stop) f g h = refl
+then-same (Ok x) f g h = h x.0 x.1
 
 pub pair-within : (digest : List ℕ → List ℕ) (shows : List ℕ → Option Shape) (d : ℕ) (e : Pair) (s : LinkEdge) (log : Log)
     → pairing digest shows d e s log ≡ within shows d (pairing digest shows zero e) s log
@@ -28,7 +28,7 @@ subtree-within digest shows k (suc d) c s log =
     (λ o log1. ap (λ x. and_then x (under_rows o.0)) (subtree-within digest shows k d c o.1 log1))
 
 -- where the layers above are open
-pub within-under : (shows : List ℕ → Option Shape) (d : ℕ) (f : LinkEdge → Log → Option (LinkEdge × Log)) (ls : List Rows)
+pub within-under : (shows : List ℕ → Option Shape) (d : ℕ) (f : LinkEdge → Log → Step LinkEdge) (ls : List Rows)
     (rest : Option (List ℕ)) (log : Log) → d ≤ length ls
     → within shows d f (edge_of ls rest) log ≡ under (take d ls) (f (edge_of (drop d ls) rest) log)
 within-under shows zero f ls rest log h = refl
@@ -37,16 +37,16 @@ within-under shows (suc d) f (r ∷ ls) rest log h =
     ap (λ x. and_then x (under_rows r)) (within-under shows d f ls rest log (omega arith))
 
 -- one layer more is open
-first-opened : (shows : List ℕ → Option Shape) (d : ℕ) (f : LinkEdge → Log → Option (LinkEdge × Log))
+first-opened : (shows : List ℕ → Option Shape) (d : ℕ) (f : LinkEdge → Log → Step LinkEdge)
     (rest link : Option (List ℕ)) (log next : Log) (rows : Rows)
-    → opening shows (link_edge rest) log ≡ Some ((rows, link_edge link), next)
+    → opening shows (link_edge rest) log ≡ Ok ((rows, link_edge link), next)
     → within shows (suc d) f (link_edge rest) log ≡ within shows (suc d) f (LinkOpened rows (link_edge link)) next
 first-opened shows d f rest link log next rows h =
     ap (λ o. and_then o (λ o log1. and_then (within shows d f o.1 log1) (under_rows o.0))) h
 
-pub one-opened : (shows : List ℕ → Option Shape) (d : ℕ) (f : LinkEdge → Log → Option (LinkEdge × Log)) (ls : List Rows)
+pub one-opened : (shows : List ℕ → Option Shape) (d : ℕ) (f : LinkEdge → Log → Step LinkEdge) (ls : List Rows)
     (rest link : Option (List ℕ)) (log next : Log) (rows : Rows) → length ls < d
-    → opening shows (link_edge rest) log ≡ Some ((rows, link_edge link), next)
+    → opening shows (link_edge rest) log ≡ Ok ((rows, link_edge link), next)
     → within shows d f (edge_of ls rest) log ≡ within shows d f (edge_of (ls ++ (rows ∷ [])) link) next
 one-opened shows zero f ls rest link log next rows l h = absurd (omega arith)
 one-opened shows (suc d) f [] rest link log next rows l h = first-opened shows d f rest link log next rows h
@@ -54,6 +54,6 @@ one-opened shows (suc d) f (x ∷ ls) rest link log next rows l h =
     ap (λ o. and_then o (under_rows x)) (one-opened shows d f ls rest link log next rows (omega arith) h)
 
 pub under-some : (ls ms : List Rows) (rest : Option (List ℕ)) (log : Log)
-    → under ls (Some (edge_of ms rest, log)) ≡ Some (edge_of (ls ++ ms) rest, log)
+    → under ls (Ok (edge_of ms rest, log)) ≡ Ok (edge_of (ls ++ ms) rest, log)
 under-some [] ms rest log = refl
 under-some (l ∷ ls) ms rest log = ap (λ x. and_then x (under_rows l)) (under-some ls ms rest log)

@@ -1,10 +1,10 @@
 -- The walk with an agenda in the place of its recursion: what is still to come, and what it makes of an edge.
-use Rattle.std.specs.Prelude.{◌≡◌, ◌<◌, ◌≤◌, ℕ, zero, suc, ◌+◌, List, [], ◌∷◌, ◌++◌, Option, Some, None}
+use Rattle.std.specs.Prelude.{◌≡◌, ◌<◌, ◌≤◌, ℕ, zero, suc, ◌+◌, List, [], ◌∷◌, ◌++◌, Option, Some, None, Ok}
 use Rattle.spec.specs.Tree.{Pair}
 use Rattle.spec.specs.NodeFormat.{Shape, LastLink, MoreLinks}
 use Rattle.batch_laws.specs.Batch.{Change, entry}
 use Rattle.batch_laws.specs.Previous.{value_met, previous_node, previous_gap}
-use Rattle.batch_laws.specs.Links.{LinkEdge, Log, and_then, pairs_in_turn, walking_node, walking}
+use Rattle.batch_laws.specs.Links.{LinkEdge, Log, Step, and_then, pairs_in_turn, walking_node, walking}
 
 -- a pair of a node that is still to come, with the change at its key, what is left of the node after it, and the changes
 -- after its key; the node stands at this depth, and its gaps have so many layers
@@ -29,17 +29,17 @@ pub data Task : Type 0 where
 
 module _ (digest : List ℕ → List ℕ) (shows : List ℕ → Option Shape) (layer : List ℕ → ℕ) (n : ℕ) where
   -- what is left of a node
-  abbrev pub node_does : (k d : ℕ) → List Change → Shape → LinkEdge → Log → Option (LinkEdge × Log)
+  abbrev pub node_does : (k d : ℕ) → List Change → Shape → LinkEdge → Log → Step LinkEdge
   node_does k d cs r s log = walking_node digest shows d (walking digest shows layer n k (suc d)) cs s r log
 
-  abbrev pub task_does : Task → LinkEdge → Log → Option (LinkEdge × Log)
+  abbrev pub task_does : Task → LinkEdge → Log → Step LinkEdge
   task_does (ToPair f) s log =
       and_then (pairs_in_turn digest shows (λ key. f.depth) (entry f.at f.pair) s log)
       (node_does f.layer f.depth f.changes f.rest)
   task_does (ToGap g) s log = walking digest shows layer n g.layer g.depth g.link g.changes s log
 
   -- the last comes first
-  abbrev pub agenda_does : List Task → Option (LinkEdge × Log) → Option (LinkEdge × Log)
+  abbrev pub agenda_does : List Task → Step LinkEdge → Step LinkEdge
   agenda_does [] x = x
   agenda_does (f ∷ fs) x = and_then (agenda_does fs x) (task_does f)
 
@@ -82,7 +82,7 @@ agenda_size shows (f ∷ fs) = agenda_size shows fs + task_size shows f
 pub record IsPutOff (k d : ℕ) (cs : List Change) (r : Shape) (old new : List Task) : Type 0 where
   pub does : (digest : List ℕ → List ℕ) (shows : List ℕ → Option Shape) (layer : List ℕ → ℕ) (n : ℕ) (s : LinkEdge)
       (log : Log) → agenda_does digest shows layer n old (node_does digest shows layer n k d cs r s log)
-      ≡ agenda_does digest shows layer n new (Some (s, log))
+      ≡ agenda_does digest shows layer n new (Ok (s, log))
   pub meets : (shows : List ℕ → Option Shape)
       → agenda_meets shows new ≡ previous_node (previous_gap shows k) cs r ++ agenda_meets shows old
   pub smaller : (shows : List ℕ → Option Shape)
@@ -92,7 +92,7 @@ pub record IsPutOff (k d : ℕ) (cs : List Change) (r : Shape) (old new : List T
 pub record IsGoneOn (k d : ℕ) (cs : List Change) (r : Shape) (old new : List Task) (s t : LinkEdge) : Type 0 where
   pub does : (digest : List ℕ → List ℕ) (shows : List ℕ → Option Shape) (layer : List ℕ → ℕ) (n : ℕ) (log : Log)
       → agenda_does digest shows layer n old (node_does digest shows layer n k d cs r s log)
-      ≡ agenda_does digest shows layer n new (Some (t, log))
+      ≡ agenda_does digest shows layer n new (Ok (t, log))
   pub meets : (shows : List ℕ → Option Shape)
       → agenda_meets shows new ≡ previous_node (previous_gap shows k) cs r ++ agenda_meets shows old
   pub smaller : (shows : List ℕ → Option Shape)
@@ -103,6 +103,6 @@ pub record IsDone (digest : List ℕ → List ℕ) (shows : List ℕ → Option 
     (fs : List Task) (s : LinkEdge) (log : Log) (values : List (Option (List ℕ)))
     (new : List Task) (t : LinkEdge) (later : Log) (more : List (Option (List ℕ))) : Type 0 where
   pub does : agenda_does digest shows layer n fs (task_does digest shows layer n task s log)
-      ≡ agenda_does digest shows layer n new (Some (t, later))
+      ≡ agenda_does digest shows layer n new (Ok (t, later))
   pub meets : more ++ agenda_meets shows new ≡ values ++ (task_meets shows task ++ agenda_meets shows fs)
   pub smaller : agenda_size shows new < agenda_size shows fs + task_size shows task

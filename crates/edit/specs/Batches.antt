@@ -1,5 +1,5 @@
 -- What a batch answers, over the pairs of the tree and over any source.
-use Rattle.std.specs.Prelude.{◌≡◌, ◌≤◌, ◌+◌, ◌-◌, ◌*◌, ⊤, ℕ, suc, max, Bool, true, ◌&&◌, List, [], ◌∷◌, ◌++◌, map, length, Option, Some, None, IsSome, Result, IfOk, IfErr}
+use Rattle.std.specs.Prelude.{◌≡◌, ◌≤◌, ◌+◌, ◌-◌, ◌*◌, ⊤, ℕ, suc, max, Bool, true, ◌&&◌, List, [], ◌∷◌, ◌++◌, map, length, Option, Some, None, Ok, Err, IsOk, Result, IfOk, IfErr}
 use Rattle.std.specs.Arc.{arc_value}
 use Rattle.std.specs.declared.sync.Arc.{Arc}
 use Rattle.spec.specs.Tree.{Pair, top, top_layer}
@@ -11,7 +11,7 @@ use Rattle.edit_laws.specs.Laws.Edits.{bytes_of}
 use Rattle.lookups.specs.Steps.{nodes_given}
 use Rattle.lookups.specs.Trees.{OfTree}
 use Rattle.batch_laws.specs.Batch.{Change, changed}
-use Rattle.batch_laws.specs.Links.{Log, Top, batch_from}
+use Rattle.batch_laws.specs.Links.{Log, NotShown, Step, Top, batch_from}
 use Rattle.batch_laws.specs.Previous.{values}
 use Rattle.batch_laws.specs.Trace.{batch_read}
 use Rattle.edit.specs.Budgets.{most_from}
@@ -94,11 +94,11 @@ IsBatchRefusal digest bits gives root cs result = OfTree digest bits gives root 
 -- ---- over any source
 
 -- the edit is this answer's
-pub record IsAnswer (digest : List ℕ → List ℕ) (answer : Option (Top × Log)) (root : List ℕ) (add drop : List (List ℕ))
+pub record IsAnswer (digest : List ℕ → List ℕ) (answer : Step Top) (root : List ℕ) (add drop : List (List ℕ))
     : Type 0 where
   pub left : List Shape
   pub log : Log
-  pub is : answer ≡ Some ((root, left), log)
+  pub is : answer ≡ Ok ((root, left), log)
   pub added : add ≡ add_of digest (bytes_of (log.read ++ left)) (bytes_of log.made)
   pub dropped : drop ≡ drop_of digest (bytes_of log.made) (bytes_of log.read)
   pub free : IsClashFree digest (bytes_of (log.read ++ left)) → IsClashFree digest (add ++ bytes_of (log.read ++ left))
@@ -107,7 +107,7 @@ pub record IsAnswer (digest : List ℕ → List ℕ) (answer : Option (Top × Lo
 
 -- what a batch with these changes answers from a root, over a source of blocks
 abbrev pub answer_of : {A : Type 0} → (List ℕ → List ℕ) → ℕ → (List ℕ → Option (Arc (List ℕ) A)) → List Change
-    → List ℕ → Option (Top × Log)
+    → List ℕ → Step Top
 answer_of digest bits gives cs root =
     let layer = layer_of_key digest bits in
     let shows = nodes_given gives in
@@ -124,15 +124,15 @@ abbrev pub most_of : {A : Type 0} → (List ℕ → List ℕ) → ℕ → (List 
     → List ℕ → ℕ
 most_of digest bits gives cs root = most_from (layer_of_key digest bits) cs (nodes_given gives root)
 
--- why there is none: the source lacks the block with this CID, without which there is no answer; the batch has no answer for
--- which at most so many nodes are read, and in which keys ascend in each node that is made; there is no such key only where
--- P holds; or there is an answer, and two of its blocks clash
-abbrev pub IsReason : {D A : Type 0} → (List ℕ → Option (Arc (List ℕ) A)) → ℕ → Option (Top × Log) → Type 0
+-- why there is none: the source lacks the block with this CID, and there the batch stops; the batch has no answer for which at
+-- most so many nodes are read, and in which keys ascend in each node that is made; there is no such key only where P holds; or
+-- there is an answer, and two of its blocks clash
+abbrev pub IsReason : {D A : Type 0} → (List ℕ → Option (Arc (List ℕ) A)) → ℕ → Step Top → Type 0
     → EditFault D A → Type 0
-IsReason gives most answer P (Missing c) = (gives c ≡ None) × (answer ≡ None)
+IsReason gives most answer P (Missing c) = (gives c ≡ None) × (answer ≡ Err (NotShown c))
 IsReason gives most answer P NotTree = IsUnreached most (at_top answer)
 IsReason gives most answer P NoSuchKey = P
-IsReason gives most answer P (Clash pair) = IsSome answer
+IsReason gives most answer P (Clash pair) = IsOk answer
 IsReason gives most answer P NoMemory = ⊤
 
 abbrev pub IsLack : {D A : Type 0} → (List ℕ → List ℕ) → ℕ → (List ℕ → Option (Arc (List ℕ) A)) → List ℕ

@@ -1,5 +1,5 @@
 -- What a batch comes to, with the nodes that it reads.
-use Rattle.std.specs.Prelude.{◌≡◌, ⊤, ℕ, List, ◌++◌, map, Option, Some, None, Result, IfOk, IfErr}
+use Rattle.std.specs.Prelude.{◌≡◌, ⊤, ℕ, List, ◌++◌, map, Option, Some, None, Ok, Err, Result, IfOk, IfErr}
 use Rattle.std.specs.Arc.{arc_value}
 use Rattle.std.specs.declared.sync.Arc.{Arc}
 use Rattle.spec.specs.Tree.{Pair}
@@ -10,7 +10,7 @@ use Rattle.edit_laws.specs.Laws.Edits.{bytes_of}
 use Rattle.lookups.specs.Steps.{nodes_given}
 use Rattle.lookups.specs.Trees.{OfTree}
 use Rattle.batch_laws.specs.Batch.{Change, changed}
-use Rattle.batch_laws.specs.Links.{Log, Top}
+use Rattle.batch_laws.specs.Links.{Log, NotShown, Step, Top}
 use Rattle.batch_laws.specs.Previous.{previous_top, values}
 use Rattle.edit.specs.Batches.{answer_of, most_of, nodes_read}
 use Rattle.edit.specs.Stops.{IsUnreached, at_top}
@@ -25,7 +25,7 @@ pub record IsPreview {A : Type 0} (digest : List ℕ → List ℕ) (bits : ℕ) 
     (cs : List Change) (root new : List ℕ) (previous : List (Option (List ℕ))) (read : List (List ℕ)) : Type 0 where
   pub left : List Shape
   pub log : Log
-  pub is : answer_of digest bits gives cs root ≡ Some ((new, left), log)
+  pub is : answer_of digest bits gives cs root ≡ Ok ((new, left), log)
   pub previous_is : (top : Shape) → nodes_given gives root ≡ Some top
       → previous ≡ previous_top (nodes_given gives) (layer_of_key digest bits) cs top
   pub read_is : read ≡ bytes_of (log.read ++ left)
@@ -35,10 +35,9 @@ abbrev pub IsPreviewed : {D A : Type 0} → (List ℕ → List ℕ) → ℕ → 
 IsPreviewed digest bits gives root cs result = IfOk result (λ preview. IsPreview digest bits gives cs root
     preview.root preview.previous.items (map arc_value preview.read.items))
 
--- Why there is none: the source lacks the block with this CID, without which there is no answer; or the batch has no answer
--- for which at most so many nodes are read, and in which keys ascend in each node that is made. Nothing else comes.
-abbrev pub IsPreviewReason : {X D A : Type 0} → (List ℕ → Option X) → ℕ → Option (Top × Log) → EditFault D A → Type 0
-IsPreviewReason gives most answer (Missing c) = (gives c ≡ None) × (answer ≡ None)
+-- Why there is none: the source lacks the block with this CID, and there the batch stops; or the batch has no answer for which at most so many nodes are read, and in which keys ascend in each node that is made. Nothing else comes.
+abbrev pub IsPreviewReason : {X D A : Type 0} → (List ℕ → Option X) → ℕ → Step Top → EditFault D A → Type 0
+IsPreviewReason gives most answer (Missing c) = (gives c ≡ None) × (answer ≡ Err (NotShown c))
 IsPreviewReason gives most answer NotTree = IsUnreached most (at_top answer)
 IsPreviewReason gives most answer NoSuchKey = ⊥
 IsPreviewReason gives most answer (Clash pair) = ⊥

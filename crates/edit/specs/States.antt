@@ -1,11 +1,11 @@
 -- The edge of the code as the laws see it: an edge over links, and the log of what was read and made.
-use Rattle.std.specs.Prelude.{◌≡◌, ◌<◌, ◌≤◌, ◌+◌, ℕ, suc, List, [], ◌∷◌, ◌++◌, map, length, take, drop, Option, Some}
+use Rattle.std.specs.Prelude.{◌≡◌, ◌<◌, ◌≤◌, ◌+◌, ℕ, suc, List, [], ◌∷◌, ◌++◌, map, length, take, drop, Option, Some, Ok}
 use Rattle.std.specs.Arc.{arc_value}
 use Rattle.std.specs.declared.sync.Arc.{Arc}
 use Rattle.spec.specs.Tree.{Pair}
 use Rattle.spec.specs.NodeFormat.{Shape, first_link}
 use Rattle.rows.specs.Drafts.{shape_in}
-use Rattle.batch_laws.specs.Links.{Rows, LinkEdge, Log, opening, closing, link_edge, parting}
+use Rattle.batch_laws.specs.Links.{Rows, LinkEdge, Log, Step, opening, closing, link_edge, parting}
 use Rattle.edit.specs.Budgets.{Budget}
 use Rattle.edit.specs.Edges.{edge_of, within, joined, around}
 use Rattle.rows.specs.Entries.{Reading}
@@ -25,14 +25,14 @@ log_in e = record { read = shapes_in e.read.items; made = shapes_in e.made.items
 pub record IsOpened (shows : List ℕ → Option Shape) (ls : List Rows) (rest : Option (List ℕ)) (log : Log) (new : List Rows)
     (link : Option (List ℕ)) (next : Log) : Type 0 where
   pub rows : Rows
-  pub is : opening shows (link_edge rest) log ≡ Some ((rows, link_edge link), next)
+  pub is : opening shows (link_edge rest) log ≡ Ok ((rows, link_edge link), next)
   pub levels : new ≡ ls ++ (rows ∷ [])
 
 -- the layer of this depth is open
 pub record IsOpenAt (shows : List ℕ → Option Shape) (d : ℕ) (ls : List Rows) (rest : Option (List ℕ)) (log : Log)
     (new : List Rows) (link : Option (List ℕ)) (next : Log) : Type 0 where
   pub rows : Rows
-  pub is : opening shows (edge_of (drop d ls) rest) log ≡ Some ((rows, edge_of (drop (d + 1) new) link), next)
+  pub is : opening shows (edge_of (drop d ls) rest) log ≡ Ok ((rows, edge_of (drop (d + 1) new) link), next)
   pub levels : take (d + 1) new ≡ take d ls ++ (rows ∷ [])
   pub long : d < length new
 
@@ -59,20 +59,20 @@ pub record IsComing (digest : List ℕ → List ℕ) (shows : List ℕ → Optio
 pub record IsWaiting (digest : List ℕ → List ℕ) (shows : List ℕ → Option Shape) (d : ℕ) (c : List ℕ) (ls : List Rows)
     (rest : Option (List ℕ)) (log : Log) (new : List Rows) (link : Option (List ℕ)) (next : Log) : Type 0 where
   pub is : (k : ℕ) → parting digest shows (suc k) (Some c) (edge_of (drop d ls) rest) log
-      ≡ Some (edge_of (drop d new) link, next)
+      ≡ Ok (edge_of (drop d new) link, next)
   pub levels : new ≡ ls
 
 -- what a subtree makes is what is still to come of it, and then its nodes on the way to there
-pub record IsOnTheWay (digest : List ℕ → List ℕ) (shows : List ℕ → Option Shape) (all : Option (LinkEdge × Log)) (b k : ℕ)
+pub record IsOnTheWay (digest : List ℕ → List ℕ) (shows : List ℕ → Option Shape) (all : Step LinkEdge) (b k : ℕ)
     (l : Option (List ℕ)) (fs : List Shape) (ls : List Rows) (rest : Option (List ℕ)) (log : Log) : Type 0 where
   pub is : all ≡ around digest b (take (b + length fs) ls) fs
       (parting digest shows k l (edge_of (drop (b + length fs) ls) rest) log)
   pub long : b + length fs ≤ length ls
 
 -- all of it has come but for those nodes
-pub record IsArrived (digest : List ℕ → List ℕ) (all : Option (LinkEdge × Log)) (b : ℕ) (fs : List Shape)
+pub record IsArrived (digest : List ℕ → List ℕ) (all : Step LinkEdge) (b : ℕ) (fs : List Shape)
     (ls : List Rows) (rest : Option (List ℕ)) (log : Log) : Type 0 where
-  pub is : all ≡ around digest b (take (b + length fs) ls) fs (Some (edge_of (drop (b + length fs) ls) rest, log))
+  pub is : all ≡ around digest b (take (b + length fs) ls) fs (Ok (edge_of (drop (b + length fs) ls) rest, log))
   pub long : b + length fs ≤ length ls
 
 -- a node came to the layer of this depth, below which its first link's part had come
@@ -80,7 +80,7 @@ pub record IsJoined (digest : List ℕ → List ℕ) (d : ℕ) (node : Shape) (l
     (new : List Rows) (link : Option (List ℕ)) (next : Log) : Type 0 where
   pub rows : Rows
   pub cut : take (d + 1) ls ≡ take d ls ++ (rows ∷ [])
-  pub is : joined digest rows node (Some (edge_of (drop (d + 1) ls) rest, log)) ≡ Some (edge_of (drop d new) link, next)
+  pub is : joined digest rows node (Ok (edge_of (drop (d + 1) ls) rest, log)) ≡ Ok (edge_of (drop d new) link, next)
   pub same : take d new ≡ take d ls
   pub long : d ≤ length new
 
@@ -96,7 +96,7 @@ IsCountedOn before old after new = IsCounted (before, old.left) (after, new.left
 -- opening layers on the way changes nothing of what comes so far below
 abbrev pub KeepsWithin : (List ℕ → Option Shape) → ℕ → LinkEdge → Log → LinkEdge → Log → Type 0
 KeepsWithin shows d s log t next =
-    (f : LinkEdge → Log → Option (LinkEdge × Log)) → within shows d f s log ≡ within shows d f t next
+    (f : LinkEdge → Log → Step LinkEdge) → within shows d f s log ≡ within shows d f t next
 
 -- the nodes of which the first link's part came
 abbrev pub shapes_coming : List Reading → List Shape

@@ -1,9 +1,9 @@
 -- Where a step stops: what its fault means, and how much was read by then. A step is what the laws make of it, an edge with
--- its log, or nothing where it has no answer.
-use Rattle.std.specs.Prelude.{◌≡◌, ◌<◌, ◌≤◌, ◌+◌, ⊤, ℕ, suc, List, ◌++◌, length, Option, Some, None}
+-- its log, or why the laws stop.
+use Rattle.std.specs.Prelude.{◌≡◌, ◌<◌, ◌≤◌, ◌+◌, ⊤, ℕ, suc, List, ◌++◌, length, Option, None, Ok, Err}
 use Rattle.spec.specs.NodeFormat.{Shape}
 use Rattle.edit_laws.specs.Lawful.{HasKeys}
-use Rattle.batch_laws.specs.Links.{Rows, LinkEdge, LinkClear, LinkOpened, Log, Top, and_then, closing}
+use Rattle.batch_laws.specs.Links.{Rows, LinkEdge, LinkClear, LinkOpened, Log, NotShown, Step, Top, and_then, closing}
 use Rattle.batch_laws.specs.Written.{AreWritten, OnAnswer, GoesFrom}
 use Rattle.rows.specs.declared.draft.DraftFault.{DraftFault}
 use Rattle.rows.specs.declared.draft.DraftFault.TheVariants as drafts
@@ -12,15 +12,15 @@ use Rattle.edit.specs.declared.faults.Fault.{Fault}
 use Rattle.edit.specs.declared.faults.Fault.TheVariants.{Missing, NotTree, NoMemory}
 
 -- it has no answer in which each node that was made has keys of the grammar, and each that is open may still have them
-abbrev pub IsUnwritten : Option (LinkEdge × Log) → Type 0
+abbrev pub IsUnwritten : Step LinkEdge → Type 0
 IsUnwritten step = OnAnswer step (λ s log. ¬ AreWritten HasKeys s log)
 
 -- it has no such answer for which at most so many nodes are read
-abbrev pub IsUnreached : ℕ → Option (LinkEdge × Log) → Type 0
+abbrev pub IsUnreached : ℕ → Step LinkEdge → Type 0
 IsUnreached most step = OnAnswer step (λ s log. length log.read ≤ most → ¬ AreWritten HasKeys s log)
 
 -- a node was not written; of a want of memory nothing is said
-abbrev pub IsRefused : Option (LinkEdge × Log) → DraftFault → Type 0
+abbrev pub IsRefused : Step LinkEdge → DraftFault → Type 0
 IsRefused step drafts.NotNode = IsUnwritten step
 IsRefused step drafts.NoMemory = ⊤
 
@@ -29,50 +29,50 @@ abbrev pub fault_of : DraftFault → Fault
 fault_of drafts.NotNode = NotTree
 fault_of drafts.NoMemory = NoMemory
 
--- the source lacks a block without which there is no answer, or there is no answer with keys of the grammar for which so
--- few nodes are read
-abbrev pub IsCause : {A : Type 0} → (List ℕ → Option A) → ℕ → Option (LinkEdge × Log) → Fault → Type 0
-IsCause gives most step (Missing c) = (gives c ≡ None) × (step ≡ None)
+-- the source lacks just the block at which the laws stop, or there is no answer with keys of the grammar for which so few
+-- nodes are read
+abbrev pub IsCause : {A : Type 0} → (List ℕ → Option A) → ℕ → Step LinkEdge → Fault → Type 0
+IsCause gives most step (Missing c) = (gives c ≡ None) × (step ≡ Err (NotShown c))
 IsCause gives most step NotTree = IsUnreached most step
 IsCause gives most step NoMemory = ⊤
 
 -- a step that was begun with a log stopped, after no more reads than its answer would have, and no more than were left
 pub record IsStopped {A : Type 0} (gives : List ℕ → Option A) (before : Budget) (after : ℕ) (log : Log)
-    (step : Option (LinkEdge × Log)) (fault : Fault) : Type 0 where
+    (step : Step LinkEdge) (fault : Fault) : Type 0 where
   pub cause : IsCause gives (before.1 + length log.read) step fault
   pub reads : OnAnswer step (λ s later. after + length log.read ≤ before.0 + length later.read)
   pub few : after ≤ before.0 + before.1
 
 -- ---- one node that is read
 
--- the source lacks the block, or gives what is no node, unless no more may be read
-abbrev pub IsUnshown : {A : Type 0} → (List ℕ → Option A) → ℕ → Option Shape → Fault → Type 0
-IsUnshown gives left shown (Missing c) = (gives c ≡ None) × (shown ≡ None)
-IsUnshown gives left shown NotTree = 0 < left → shown ≡ None
-IsUnshown gives left shown NoMemory = ⊤
+-- the source lacks the block that is asked for, or gives what is no node, unless no more may be read
+abbrev pub IsUnshown : {A : Type 0} → (List ℕ → Option A) → ℕ → List ℕ → Option Shape → Fault → Type 0
+IsUnshown gives left asked shown (Missing c) = (c ≡ asked) × (gives c ≡ None) × (shown ≡ None)
+IsUnshown gives left asked shown NotTree = 0 < left → shown ≡ None
+IsUnshown gives left asked shown NoMemory = ⊤
 
--- a node was not read, after one read at most, and none where none was left
-pub record IsUnread {A : Type 0} (gives : List ℕ → Option A) (before : Budget) (after : ℕ) (shown : Option Shape)
-    (fault : Fault) : Type 0 where
-  pub cause : IsUnshown gives before.1 shown fault
+-- the node with a CID was not read, after one read at most, and none where none was left
+pub record IsUnread {A : Type 0} (gives : List ℕ → Option A) (before : Budget) (after : ℕ) (asked : List ℕ)
+    (shown : Option Shape) (fault : Fault) : Type 0 where
+  pub cause : IsUnshown gives before.1 asked shown fault
   pub reads : after ≤ suc before.0
   pub few : after ≤ before.0 + before.1
 
 -- ---- steps
 
 -- a step that goes on from each edge that it is given
-abbrev pub IsOnward : (LinkEdge → Log → Option (LinkEdge × Log)) → Type 0
+abbrev pub IsOnward : (LinkEdge → Log → Step LinkEdge) → Type 0
 IsOnward f = (s : LinkEdge) (log : Log) → GoesFrom HasKeys s log (f s log)
 
 -- all of an edge is complete
-abbrev pub all_closed : (List ℕ → List ℕ) → LinkEdge → Log → Option (LinkEdge × Log)
-all_closed digest s log = Some (LinkClear, (closing digest s log).1)
+abbrev pub all_closed : (List ℕ → List ℕ) → LinkEdge → Log → Step LinkEdge
+all_closed digest s log = Ok (LinkClear, (closing digest s log).1)
 
 -- rows and the edge after them, as an edge
-abbrev pub open_edge : Option ((Rows × LinkEdge) × Log) → Option (LinkEdge × Log)
-open_edge step = and_then step (λ o later. Some (LinkOpened o.0 o.1, later))
+abbrev pub open_edge : Step (Rows × LinkEdge) → Step LinkEdge
+open_edge step = and_then step (λ o later. Ok (LinkOpened o.0 o.1, later))
 
 -- a top with all that was read for it, also the node that stays
-abbrev pub at_top : Option (Top × Log) → Option (LinkEdge × Log)
+abbrev pub at_top : Step Top → Step LinkEdge
 at_top step =
-    and_then step (λ top later. Some (LinkClear, record { read = later.read ++ top.1; made = later.made }))
+    and_then step (λ top later. Ok (LinkClear, record { read = later.read ++ top.1; made = later.made }))

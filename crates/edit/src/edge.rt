@@ -1,10 +1,10 @@
 //! The right edge of the new tree, and a pair that comes to it.
 
-ghost use Rattle.std.specs.Prelude.{◌≡◌, ◌<◌, ◌≤◌, ◌+◌, ◌∷◌, ◌++◌, [], List, Option, None, Some, length, take, drop, IfOk, IfErr, OnOk};
+ghost use Rattle.std.specs.Prelude.{◌≡◌, ◌<◌, ◌≤◌, ◌+◌, ◌∷◌, ◌++◌, [], List, Option, None, Some, length, take, drop, IfOk, IfErr, OnOk, Ok};
 ghost use Rattle.lookups.specs.Steps.{nodes_given};
 ghost use Rattle.rows.specs.Drafts.{pair_of};
 ghost use Rattle.rows.specs.Entries.{shape_of};
-ghost use Rattle.batch_laws.specs.Links.{Rows, LinkEdge, LinkClear, Log, ask, add_row, opening, closing, link_edge, pairing};
+ghost use Rattle.batch_laws.specs.Links.{Rows, LinkEdge, LinkClear, Log, ask, add_row, opening, closing, link_edge, pairing, Step};
 ghost use Rattle.edit.specs.Edges.{edge_of, within};
 ghost use Rattle.edit.specs.Stops.{IsRefused, IsStopped, IsUnread, IsOnward, all_closed, open_edge};
 ghost use Rattle.edit.specs.States.{edge_in, log_in, IsOpened, IsOpenAt, IsAdded, IsCountedOn, KeepsWithin};
@@ -120,13 +120,13 @@ impl<'a, D: Digest + 'a, A: Allocator + Clone + 'a> Edge<'a, D, A> {
         cid: Cid,
     ) -> Result<NodeView<'a>, Fault>
         ensures shown { IfOk result (λ view. ask (nodes_given (S.gives src.old)) cid
-            (log_in self.old) ≡ Some (shape_of view, log_in self.new)) }
+            (log_in self.old) ≡ Ok (shape_of view, log_in self.new)) }
         ensures counted { OnOk result (IsCountedOn (S.reads src.old) self.old (S.reads src.new) self.new) }
         ensures levels { self.new.levels.items ≡ self.old.levels.items }
         ensures rest { self.new.rest ≡ self.old.rest }
         ensures same { S.gives src.new ≡ S.gives src.old }
         ensures unread { IfErr result (IsUnread (S.gives src.old) (S.reads src.old, self.old.left)
-            (S.reads src.new) (nodes_given (S.gives src.old) cid)) }
+            (S.reads src.new) cid (nodes_given (S.gives src.old) cid)) }
     {
         self.left = self.left.checked_sub(1).ok_or(Fault::NotTree)?;
         let Some(block) = src.get(&cid) else {
@@ -148,13 +148,13 @@ impl<'a, D: Digest + 'a, A: Allocator + Clone + 'a> Edge<'a, D, A> {
         cid: Cid,
     ) -> Result<KeyedEntries<'a, A>, Fault>
         ensures shown { IfOk result (λ rows. ask (nodes_given (S.gives src.old)) cid
-            (log_in self.old) ≡ Some (rows.rest, log_in self.new)) }
+            (log_in self.old) ≡ Ok (rows.rest, log_in self.new)) }
         ensures counted { OnOk result (IsCountedOn (S.reads src.old) self.old (S.reads src.new) self.new) }
         ensures levels { self.new.levels.items ≡ self.old.levels.items }
         ensures rest { self.new.rest ≡ self.old.rest }
         ensures same { S.gives src.new ≡ S.gives src.old }
         ensures unread { IfErr result (IsUnread (S.gives src.old) (S.reads src.old, self.old.left)
-            (S.reads src.new) (nodes_given (S.gives src.old) cid)) }
+            (S.reads src.new) cid (nodes_given (S.gives src.old) cid)) }
     {
         let view = self.view(src, depth, cid)?;
         Ok(KeyedEntries::of(&view, KeyBuf::new(self.alloc()?)?))
@@ -196,7 +196,7 @@ impl<'a, D: Digest + 'a, A: Allocator + Clone + 'a> Edge<'a, D, A> {
         ensures long { OnOk result (count ≤ length self.new.levels.items) }
         ensures counted { OnOk result (IsCountedOn (S.reads src.old) self.old (S.reads src.new) self.new) }
         ensures same { S.gives src.new ≡ S.gives src.old }
-        ensures stopped { (f : LinkEdge → Log → Option (LinkEdge × Log)) → IsOnward f
+        ensures stopped { (f : LinkEdge → Log → Step LinkEdge) → IsOnward f
             → IfErr result (IsStopped (S.gives src.old) (S.reads src.old, self.old.left)
             (S.reads src.new) (log_in self.old) (within (nodes_given (S.gives src.old)) count f
             (edge_in self.old) (log_in self.old))) }
@@ -239,7 +239,7 @@ impl<'a, D: Digest + 'a, A: Allocator + Clone + 'a> Edge<'a, D, A> {
     ) -> Result<(), Fault>
         ensures paired { OnOk result (pairing D.digest_of (nodes_given (S.gives src.old)) depth
             (pair_of key.now value.entry) (edge_in self.old) (log_in self.old)
-            ≡ Some (edge_in self.new, log_in self.new)) }
+            ≡ Ok (edge_in self.new, log_in self.new)) }
         ensures counted { OnOk result (IsCountedOn (S.reads src.old) self.old (S.reads src.new) self.new) }
         ensures same { S.gives src.new ≡ S.gives src.old }
         ensures stopped { IfErr result (IsStopped (S.gives src.old) (S.reads src.old, self.old.left)

@@ -1,8 +1,8 @@
 //! A subtree that comes to the edge.
 
-ghost use Rattle.std.specs.Prelude.{◌≡◌, [], ◌∷◌, ◌++◌, ◌<◌, ◌≤◌, ◌+◌, ℕ, suc, List, Option, Some, map, take, drop, length, IfOk, IfErr, IfSome, IfNone, OnOk};
+ghost use Rattle.std.specs.Prelude.{◌≡◌, [], ◌∷◌, ◌++◌, ◌<◌, ◌≤◌, ◌+◌, ℕ, suc, List, Option, Some, map, take, drop, length, IfOk, IfErr, IfSome, IfNone, OnOk, Ok};
 ghost use Rattle.lookups.specs.Steps.{nodes_given};
-ghost use Rattle.batch_laws.specs.Links.{Rows, LinkEdge, Log, parting, subtreeing};
+ghost use Rattle.batch_laws.specs.Links.{Rows, LinkEdge, Log, parting, subtreeing, Step};
 ghost use Rattle.edit.specs.Edges.{edge_of, joined};
 ghost use Rattle.edit.specs.Stops.{IsRefused, IsStopped};
 ghost use Rattle.edit.specs.States.{edge_in, log_in, shapes_coming, IsComing, IsWaiting, IsOnTheWay, IsArrived, IsJoined, IsCountedOn};
@@ -29,7 +29,7 @@ impl<'a, D: Digest, A: Allocator + Clone> Edge<'a, D, A> {
         ensures budget { self.new.left ≡ self.old.left }
         ensures fault { (above : List Rows) (begun : Rows)
             → take (depth + 1) self.old.levels.items ≡ above ++ (begun ∷ [])
-            → IfErr result (IsRefused (joined D.digest_of begun rows.entry.rest (Some
+            → IfErr result (IsRefused (joined D.digest_of begun rows.entry.rest (Ok
             (edge_of (drop (depth + 1) self.old.levels.items) self.old.rest, log_in self.old)))) }
     {
         let Some(value) = rows.next() else {
@@ -54,12 +54,12 @@ impl<'a, D: Digest, A: Allocator + Clone> Edge<'a, D, A> {
         mut coming: Vec<KeyedEntries<'a, A>, A>,
     ) -> Result<(), DraftFault>
         requires within { depth + length coming.items ≤ length self.old.levels.items }
-        ensures joined { (all : Option (LinkEdge × Log)) → IsArrived D.digest_of all depth
+        ensures joined { (all : Step LinkEdge) → IsArrived D.digest_of all depth
             (shapes_coming coming.entry.items) self.old.levels.items self.old.rest (log_in self.old)
-            → OnOk result (all ≡ Some (edge_in self.new, log_in self.new)) }
+            → OnOk result (all ≡ Ok (edge_in self.new, log_in self.new)) }
         ensures read { self.new.read.items ≡ self.old.read.items }
         ensures budget { self.new.left ≡ self.old.left }
-        ensures fault { (all : Option (LinkEdge × Log)) → IsArrived D.digest_of all depth
+        ensures fault { (all : Step LinkEdge) → IsArrived D.digest_of all depth
             (shapes_coming coming.entry.items) self.old.levels.items self.old.rest (log_in self.old)
             → IfErr result (IsRefused all) }
     {
@@ -114,7 +114,7 @@ impl<'a, D: Digest + 'a, A: Allocator + Clone + 'a> Edge<'a, D, A> {
         cid: Cid,
     ) -> Result<Vec<KeyedEntries<'a, A>, A>, Fault>
         requires above { depth ≤ length self.old.levels.items }
-        ensures arrived { (all : Option (LinkEdge × Log)) → IsOnTheWay D.digest_of
+        ensures arrived { (all : Step LinkEdge) → IsOnTheWay D.digest_of
             (nodes_given (S.gives src.old)) all depth layers (Some cid) []
             self.old.levels.items self.old.rest (log_in self.old)
             → IfOk result (λ coming. IsArrived D.digest_of all depth (shapes_coming coming.items)
@@ -123,7 +123,7 @@ impl<'a, D: Digest + 'a, A: Allocator + Clone + 'a> Edge<'a, D, A> {
             (λ coming. depth + length coming.items ≤ length self.new.levels.items) }
         ensures counted { OnOk result (IsCountedOn (S.reads src.old) self.old (S.reads src.new) self.new) }
         ensures same { S.gives src.new ≡ S.gives src.old }
-        ensures stopped { (all : Option (LinkEdge × Log)) → IsOnTheWay D.digest_of
+        ensures stopped { (all : Step LinkEdge) → IsOnTheWay D.digest_of
             (nodes_given (S.gives src.old)) all depth layers (Some cid) []
             self.old.levels.items self.old.rest (log_in self.old)
             → IfErr result (IsStopped (S.gives src.old) (S.reads src.old, self.old.left)
@@ -156,7 +156,7 @@ impl<'a, D: Digest + 'a, A: Allocator + Clone + 'a> Edge<'a, D, A> {
     ) -> Result<(), Fault>
         ensures grown { OnOk result (subtreeing D.digest_of (nodes_given (S.gives src.old))
             layers depth cid (edge_in self.old) (log_in self.old)
-            ≡ Some (edge_in self.new, log_in self.new)) }
+            ≡ Ok (edge_in self.new, log_in self.new)) }
         ensures counted { OnOk result (IsCountedOn (S.reads src.old) self.old (S.reads src.new) self.new) }
         ensures same { S.gives src.new ≡ S.gives src.old }
         ensures stopped { IfErr result (IsStopped (S.gives src.old) (S.reads src.old, self.old.left)

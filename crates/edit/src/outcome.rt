@@ -44,7 +44,8 @@ pub struct Edit<D: Digest, A: Allocator = Global> {
 #[derive(Drop, Error)]
 #[derive_where(Debug)]
 pub enum EditFault<D: Digest, A: Allocator = Global> {
-    /// The source lacks the block with this CID, which is needed. A source that has the tree never does.
+    /// The source lacks the block with this CID, which is needed: the first such block that is asked for. A source that has
+    /// the tree never does.
     #[error("the source lacks a block of the tree")]
     Missing(Cid),
 

@@ -1,6 +1,7 @@
 //! Where in a list the first block with each CID stands.
 
 ghost use Rattle.std.specs.Prelude.{◌≡◌, ℕ, List, [], ◌∷◌, ◌++◌, length, IfOk, OnOk};
+ghost use Rattle.std.specs.Str.{bytes_eq};
 ghost use Rattle.edit_laws.specs.Changes.{has_cid};
 ghost use Rattle.edit.specs.Firsts.{HasPlaces, HasFirsts, first_place, place_in};
 
@@ -62,7 +63,14 @@ impl<A: Allocator + Clone> Places<A> {
 fn place_among(cids: &[Cid], cid: &Cid) -> Option<usize>
     ensures { result ≡ first_place cid.now cids.now }
 {
-    cids.iter().position(|other| other == cid)
+    cids.iter().position(|other| is_same(other, cid))
+}
+
+/// Whether two CIDs are the same. Most that aren't differ in their last byte.
+fn is_same(one: &Cid, other: &Cid) -> bool
+    ensures { result ≡ bytes_eq one.now other.now }
+{
+    one.as_bytes()[35] == other.as_bytes()[35] && one == other
 }
 
 /// One more CID comes, after so many; where it is there, it keeps its place.

@@ -11,7 +11,7 @@ ghost use Rattle.edit.specs.Deletes.{CanReadDelete, nodes_read};
 ghost use Rattle.lookups.specs.Steps.{layers, IsWholePath, nodes_given};
 ghost use Rattle.lookups.specs.Trees.{OfTree, top_layer};
 ghost use Rattle.batch_laws.specs.Counts.{most_reads};
-ghost use Rattle.batch_laws.specs.Links.{Log, Top};
+ghost use Rattle.batch_laws.specs.Links.{Log, Top, Step};
 ghost use Rattle.batch_laws.specs.Previous.{previous_top};
 ghost use Rattle.edit.specs.Batches.{IsAnswer, answer_of, most_of};
 ghost use Rattle.edit.specs.Refusals.{IsRefusal, IsMissing};
@@ -153,7 +153,7 @@ fn edit_of<D: Digest, A: Allocator + Clone>(
     changed: Changed<'_, D, A>,
 ) -> Result<Edit<D, A>, EditFault<D, A>>
     requires { changed.gone ≤ length changed.edge.read.items }
-    ensures answer { (answer : Option (Top × Log))
+    ensures answer { (answer : Step Top)
         → IsEnded answer changed.entry.root changed.entry.gone (log_in changed.entry.edge)
         → IfOk result (λ edit. IsAnswer D.digest_of answer edit.root
         (map arc_value edit.add.items) edit.drop.items) }

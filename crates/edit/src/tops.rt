@@ -68,7 +68,7 @@ impl<'a, D: Digest + 'a, A: Allocator + Clone + 'a> Edge<'a, D, A> {
         ensures counted { OnOk result (IsCountedOn (S.reads src.old) self.old (S.reads src.new) self.new) }
         ensures same { S.gives src.new ≡ S.gives src.old }
         ensures unread { IfErr result (IsUnread (S.gives src.old) (S.reads src.old, self.old.left)
-            (S.reads src.new) (nodes_given (S.gives src.old) cid)) }
+            (S.reads src.new) cid (nodes_given (S.gives src.old) cid)) }
     {
         // no layer is closed after this, so nothing asks for its depth
         let mut rows = self.rows(src, 0, cid)?;

@@ -1,6 +1,6 @@
 //! The old tree in the order of keys, merged with the changes.
 
-ghost use Rattle.std.specs.Prelude.{◌≡◌, ◌<◌, ◌≤◌, ◌+◌, ◌++◌, [], Some, true, IfOk, IfErr, OnOk};
+ghost use Rattle.std.specs.Prelude.{◌≡◌, ◌<◌, ◌≤◌, ◌+◌, ◌++◌, [], Some, true, IfOk, IfErr, OnOk, Ok};
 ghost use Rattle.spec.specs.Layer.{layer as layer_of};
 ghost use Rattle.lookups.specs.Steps.{nodes_given};
 ghost use Rattle.rows.specs.Drafts.{pair_of};
@@ -111,7 +111,7 @@ impl<'a, D: Digest + 'a, A: Allocator + Clone + 'a> Edge<'a, D, A> {
         requires least { 1 ≤ B }
         ensures put { OnOk result (pairs_in_turn D.digest_of (nodes_given (S.gives src.old))
             (depth_of (layer_of D.digest_of B) layers) (puts changes.now)
-            (edge_in self.old) (log_in self.old) ≡ Some (edge_in self.new, log_in self.new)) }
+            (edge_in self.old) (log_in self.old) ≡ Ok (edge_in self.new, log_in self.new)) }
         ensures previous { OnOk result
             (previous.new.items ≡ previous.old.items ++ no_values changes.now) }
         ensures counted { OnOk result (IsCountedOn (S.reads src.old) self.old (S.reads src.new) self.new) }
@@ -138,7 +138,7 @@ impl<'a, D: Digest + 'a, A: Allocator + Clone + 'a> Edge<'a, D, A> {
         requires least { 1 ≤ B }
         ensures put { OnOk result (pairs_in_turn D.digest_of (nodes_given (S.gives src.old))
             (depth_of (layer_of D.digest_of B) layers) (if_put change.now.0 change.now.1 [])
-            (edge_in self.old) (log_in self.old) ≡ Some (edge_in self.new, log_in self.new)) }
+            (edge_in self.old) (log_in self.old) ≡ Ok (edge_in self.new, log_in self.new)) }
         ensures counted { OnOk result (IsCountedOn (S.reads src.old) self.old (S.reads src.new) self.new) }
         ensures same { S.gives src.new ≡ S.gives src.old }
         ensures stopped { IfErr result (IsStopped (S.gives src.old) (S.reads src.old, self.old.left)
@@ -203,7 +203,7 @@ impl<'a, D: Digest + 'a, A: Allocator + Clone + 'a> Edge<'a, D, A> {
     ) -> Result<(), Fault>
         ensures put { OnOk result (pairs_in_turn D.digest_of (nodes_given (S.gives src.old))
             (λ k. depth) (entry at (pair_of key.now value.entry))
-            (edge_in self.old) (log_in self.old) ≡ Some (edge_in self.new, log_in self.new)) }
+            (edge_in self.old) (log_in self.old) ≡ Ok (edge_in self.new, log_in self.new)) }
         ensures previous { OnOk result (previous.new.items ≡ previous.old.items
             ++ value_met at (pair_of key.now value.entry)) }
         ensures counted { OnOk result (IsCountedOn (S.reads src.old) self.old (S.reads src.new) self.new) }
@@ -275,7 +275,7 @@ impl<'a, D: Digest + 'a, A: Allocator + Clone + 'a> Edge<'a, D, A> {
         requires ascending { are_ascending changes.now ≡ true }
         ensures walked { OnOk result (node_does D.digest_of (nodes_given (S.gives src.old))
             (layer_of D.digest_of B) layers layer depth changes.now rows.entry.rest
-            (edge_in self.old) (log_in self.old) ≡ Some (edge_in self.new, log_in self.new)) }
+            (edge_in self.old) (log_in self.old) ≡ Ok (edge_in self.new, log_in self.new)) }
         ensures previous { IfOk result (λ previous. previous.items ≡ previous_node
             (previous_gap (nodes_given (S.gives src.old)) layer) changes.now rows.entry.rest) }
         ensures counted { OnOk result (IsCountedOn (S.reads src.old) self.old (S.reads src.new) self.new) }

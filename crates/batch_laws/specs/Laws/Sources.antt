@@ -1,5 +1,5 @@
 -- The laws of a batch over a source that has the nodes of a tree.
-use Rattle.std.specs.Prelude.{◌≡◌, ◌<◌, ℕ, List, ◌++◌, map, Option, Some}
+use Rattle.std.specs.Prelude.{◌≡◌, ◌<◌, ℕ, List, ◌++◌, map, Option, Ok}
 use Rattle.spec.specs.Cid.{IsDigest}
 use Rattle.spec.specs.Layer.{layer as layer_of_key}
 use Rattle.spec.specs.Tree.{Pair, top, top_layer}
@@ -18,7 +18,7 @@ pub record IsBatchFrom (digest : List ℕ → List ℕ) (bits : ℕ) (gives : Li
   pub left : List Shape
   pub log : Log
   pub answer : batch_from digest (shown_by gives) (layer_of_key digest bits) n cs (root digest bits es)
-      ≡ Some ((root digest bits (changed cs es), left), log)
+      ≡ Ok ((root digest bits (changed cs es), left), log)
   pub edit : IsEdit digest bits es (changed cs es) (shape digest (top (layer_of_key digest bits) (changed cs es)))
       (log.read ++ left) log.read log.made
   pub read_is : let layer = layer_of_key digest bits in

@@ -1,6 +1,7 @@
-use Rattle.std.proofs.Common.{◌≡◌, map, take}
+use Rattle.std.proofs.Common.{◌≡◌, ◌++◌, map}
 use Rattle.std.specs.Arc.{arc_value}
 use Rattle.change_proofs.proofs.given.blocks_of.Given as goal
 
-abbrev pub invariant-loop-bytes : goal.invariant-loop-bytes
-invariant-loop-bytes g l = map arc_value l.blocks.items ≡ map g.K.AsSlice.items (take l.bytes-index l.given)
+abbrev pub invariant-loop-block : goal.invariant-loop-block
+invariant-loop-block g l =
+    map arc_value l.blocks.items ++ l.block-iterator.rest.items ≡ map g.K.AsSlice.items l.given

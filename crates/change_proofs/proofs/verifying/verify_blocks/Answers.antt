@@ -17,8 +17,7 @@ returns-clause-verdict g c =
     let keyed = are-keyed (undone cs) c.requires.changes in
     let said = subst (λ (bs : List (Arc (List ℕ) g.row.A.Denot)). IsSaidOver digest g.row.B (first_of digest bs) c.args.before
     c.args.after cs result) (ap (λ m. m.blocks) c.in_ok-source.ensures) c.verify_over.ensures in
-    let verdict = verdict-is digest g.row.B g.met.D.Digest.digest_len c.args.before c.args.after c.args.blocks.now cs
-    keyed.ascending result said in
+    let verdict = verdict-is digest g.row.B c.args.before c.args.after c.args.blocks.now cs result said in
     verdict
 
 pub returns-clause-right : goal.returns-clause-right
@@ -29,8 +28,7 @@ returns-clause-right g c =
     let keyed = are-keyed (undone cs) c.requires.changes in
     let said = subst (λ (bs : List (Arc (List ℕ) g.row.A.Denot)). IsSaidOver digest g.row.B (first_of digest bs) c.args.before
     c.args.after cs result) (ap (λ m. m.blocks) c.in_ok-source.ensures) c.verify_over.ensures in
-    let verdict = verdict-is digest g.row.B g.met.D.Digest.digest_len c.args.before c.args.after c.args.blocks.now cs
-    keyed.ascending result said in
+    let verdict = verdict-is digest g.row.B c.args.before c.args.after c.args.blocks.now cs result said in
     verdict-right digest g.row.B g.met.D.Digest.digest_len c.args.before c.args.after (map arc_value c.args.blocks.now) cs keyed
     result verdict
 
@@ -42,7 +40,6 @@ returns-clause-comes g c =
     let keyed = are-keyed (undone cs) c.requires.changes in
     let said = subst (λ (bs : List (Arc (List ℕ) g.row.A.Denot)). IsSaidOver digest g.row.B (first_of digest bs) c.args.before
     c.args.after cs result) (ap (λ m. m.blocks) c.in_ok-source.ensures) c.verify_over.ensures in
-    let verdict = verdict-is digest g.row.B g.met.D.Digest.digest_len c.args.before c.args.after c.args.blocks.now cs
-    keyed.ascending result said in
+    let verdict = verdict-is digest g.row.B c.args.before c.args.after c.args.blocks.now cs result said in
     verdict-whole digest g.row.B g.met.D.Digest.digest_len (map arc_value c.args.blocks.now) cs keyed c.args.before c.args.after
     result verdict

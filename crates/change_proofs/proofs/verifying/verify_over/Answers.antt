@@ -1,20 +1,34 @@
-use Rattle.std.proofs.Common.{◌≡◌, subst}
-use Rattle.lookups.specs.Steps.{layers, nodes_given}
+use Rattle.std.proofs.Common.{map, sym, ap, subst, ◌∙◌, Err}
+use Rattle.std.specs.Arc.{arc_value}
+use Rattle.std.proofs.lemmas.Result.{err_from_is_err_and}
 use Rattle.edit.specs.Batches.{answer_of, most_of}
-use Rattle.change_laws.specs.Told.{undone}
+use Rattle.edit.specs.Previews.{IsPreview, IsPreviewReason}
 use Rattle.change_laws.specs.Verdict.{are_told}
-use Rattle.change_proofs.specs.Verdicts.{told_of, values_from}
-use Rattle.change_proofs.proofs.Saying.{judged-said}
+use Rattle.change_proofs.specs.Verdicts.{IsSaidOver, told_of}
+use Rattle.change_proofs.proofs.Saying.{preview-said, reason-said}
 use Rattle.change_proofs.proofs.verifying.verify_over.Goals as goal
+
+pub returns-in_err-found : goal.returns-in_err-found
+returns-in_err-found g c =
+    let digest = g.D.Digest.digest_of in
+    let gives = g.S.Source.gives c.args.src.now in
+    let cs = c.args.changes.now in
+    let p = err_from_is_err_and c.from_residual-in_err-found.result c.from_residual-in_err-found.ensures.1 in
+    rw p.1
+    (subst (λ fault. IsSaidOver digest g.row.B gives c.args.before c.args.after cs (Err fault)) (sym p.2)
+    (reason-said digest g.row.B gives c.args.after cs c.args.before c.in_err-found.field-0.0
+    (subst (λ us. IsPreviewReason gives (most_of digest g.row.B gives us c.args.after)
+    (answer_of digest g.row.B gives us c.args.after) c.in_err-found.field-0.0)
+    (c.deref.ensures.value ∙ c.in_ok-undone.ensures) c.in_err-found.ensures.lack)))
 
 pub returns : goal.returns
 returns g c =
     let digest = g.D.Digest.digest_of in
     let gives = g.S.Source.gives c.args.src.now in
     let cs = c.args.changes.now in
-    let told = subst (λ from. are_told 0 (values_from (nodes_given from) (layers g.row.B) c.args.after cs) cs
-    ≡ told_of c.other_value-other.result) c.in_ok-old.ensures.same c.other_value-other.ensures.told in
-    judged-said (answer_of digest g.row.B gives (undone cs) c.args.after)
-    (values_from (nodes_given gives) (layers g.row.B) c.args.after cs) cs c.args.before c.in_ok-old.old
-    c.in_ok-old.ensures.undone gives (most_of digest g.row.B gives (undone cs) c.args.after) (told_of c.other_value-other.result) told
+    let n = c.in_ok-found.found in
+    let p = subst (λ us. IsPreview digest g.row.B gives us c.args.after n.root n.previous.items (map arc_value n.read.items))
+    (c.deref.ensures.value ∙ c.in_ok-undone.ensures) c.in_ok-found.ensures.preview in
+    preview-said digest g.row.B gives c.args.after cs c.args.before n.root n.previous.items (map arc_value n.read.items) p
+    (told_of c.first_other.result) (ap (λ vs. are_told 0 vs cs) (sym c.deref-2.ensures.value) ∙ c.first_other.ensures)
     c.judged.result c.judged.ensures

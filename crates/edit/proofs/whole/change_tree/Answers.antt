@@ -1,4 +1,4 @@
-use Rattle.std.proofs.Common.{Some, ap, arith, length, max, subst, ◌-◌, ◌/◌, ◌∙◌, ◌≡◌, suc, []}
+use Rattle.std.proofs.Common.{Some, ap, arith, length, max, subst, ◌-◌, ◌/◌, ◌∙◌, ◌≡◌, suc, [], Ok}
 use Rattle.spec.specs.Layer.{layer as layer_of}
 use Rattle.rows.specs.Entries.{shape_of}
 use Rattle.lookups.specs.Steps.{nodes_given}
@@ -40,12 +40,12 @@ returns-clause-changed g c =
     ∙ ap (edge_of none.levels.items) c.view.ensures.rest in
     let later = c.view.ensures.same in
     let walked = subst (λ gv. node_does digest (nodes_given gv) layer n t d cs c.of-rows.result.rest (edge_in begun) (log_in begun)
-    ≡ Some (edge_in mid, log_in mid)) later c.in_ok-previous.ensures.walked in
+    ≡ Ok (edge_in mid, log_in mid)) later c.in_ok-previous.ensures.walked in
     let walked_node = subst (λ m. node_does digest shows layer n t d cs m (edge_in begun) (log_in begun)
-    ≡ Some (edge_in mid, log_in mid)) (ap (λ r. r.rest) c.of-rows.ensures) walked in
+    ≡ Ok (edge_in mid, log_in mid)) (ap (λ r. r.rest) c.of-rows.ensures) walked in
     let ended = subst (λ gv. IsEnded (topping digest (nodes_given gv) n (edge_in mid) (log_in mid)) c.in_ok-ended.ended.0
     c.in_ok-ended.ended.1 (log_in last)) (c.walk.ensures.same ∙ later) c.in_ok-ended.ensures.ended in
-    let seen = was-shown (shows c.args.root) node (log_in none) (log_in begun) c.in_ok-view.ensures.shown in
+    let seen = was-shown c.args.root (shows c.args.root) node (log_in none) (log_in begun) c.in_ok-view.ensures.shown in
     let n_is = needed layer (put_layers layer cs) t n (shows c.args.root) node seen.is c.top_layer-top.ensures
     (c.layers_for-layers.ensures ∙ ap (max (suc t)) c.layers_of_puts.ensures) in
     subst (λ m. IsEnded (batch_from digest shows layer m cs c.args.root) c.in_ok-ended.ended.0 c.in_ok-ended.ended.1
@@ -145,7 +145,7 @@ returns-in_err-new-clause-stopped g c =
     let d = n - 1 - t in
     let clear : edge_in begun ≡ LinkClear = ap (λ ls. edge_of ls begun.rest) c.view.ensures.levels
     ∙ ap (edge_of none.levels.items) c.view.ensures.rest ∙ c.in_ok-edge.ensures.edge in
-    let seen = was-shown (shows c.args.root) node (log_in none) (log_in begun) c.in_ok-view.ensures.shown in
+    let seen = was-shown c.args.root (shows c.args.root) node (log_in none) (log_in begun) c.in_ok-view.ensures.shown in
     let n_is = needed layer (put_layers layer cs) t n (shows c.args.root) node seen.is c.top_layer-top.ensures
     (c.layers_for-layers.ensures ∙ ap (max (suc t)) c.layers_of_puts.ensures) in
     let d_is : d ≡ n - suc t = omega arith in
@@ -177,7 +177,7 @@ returns-in_err-previous-clause-stopped g c =
     let d = n - 1 - t in
     let clear : edge_in begun ≡ LinkClear = ap (λ ls. edge_of ls begun.rest) c.view.ensures.levels
     ∙ ap (edge_of none.levels.items) c.view.ensures.rest ∙ c.in_ok-edge.ensures.edge in
-    let seen = was-shown (shows c.args.root) node (log_in none) (log_in begun) c.in_ok-view.ensures.shown in
+    let seen = was-shown c.args.root (shows c.args.root) node (log_in none) (log_in begun) c.in_ok-view.ensures.shown in
     let n_is = needed layer (put_layers layer cs) t n (shows c.args.root) node seen.is c.top_layer-top.ensures
     (c.layers_for-layers.ensures ∙ ap (max (suc t)) c.layers_of_puts.ensures) in
     let d_is : d ≡ n - suc t = omega arith in
@@ -215,7 +215,7 @@ returns-in_err-ended-clause-stopped g c =
     let d = n - 1 - t in
     let clear : edge_in begun ≡ LinkClear = ap (λ ls. edge_of ls begun.rest) c.view.ensures.levels
     ∙ ap (edge_of none.levels.items) c.view.ensures.rest ∙ c.in_ok-edge.ensures.edge in
-    let seen = was-shown (shows c.args.root) node (log_in none) (log_in begun) c.in_ok-view.ensures.shown in
+    let seen = was-shown c.args.root (shows c.args.root) node (log_in none) (log_in begun) c.in_ok-view.ensures.shown in
     let n_is = needed layer (put_layers layer cs) t n (shows c.args.root) node seen.is c.top_layer-top.ensures
     (c.layers_for-layers.ensures ∙ ap (max (suc t)) c.layers_of_puts.ensures) in
     let d_is : d ≡ n - suc t = omega arith in
@@ -224,9 +224,9 @@ returns-in_err-ended-clause-stopped g c =
     c.most_reads_below.ensures c.in_ok-view.ensures.counted in
     let mid = c.walk.new.self in
     let walked = subst (λ gv. node_does digest (nodes_given gv) layer n t d cs c.of-rows.result.rest (edge_in begun) (log_in begun)
-    ≡ Some (edge_in mid, log_in mid)) c.view.ensures.same c.in_ok-previous.ensures.walked in
+    ≡ Ok (edge_in mid, log_in mid)) c.view.ensures.same c.in_ok-previous.ensures.walked in
     let walked_node = subst (λ r. node_does digest shows layer n t d cs r (edge_in begun) (log_in begun)
-    ≡ Some (edge_in mid, log_in mid)) (ap (λ r. r.rest) c.of-rows.ensures) walked in
+    ≡ Ok (edge_in mid, log_in mid)) (ap (λ r. r.rest) c.of-rows.ensures) walked in
     let k : Budget = (g.S.Source.reads c.walk.new.src, mid.left) in
     let a = g.S.Source.reads c.finish.new.src in
     let f = c.in_err-ended.field-0.0 in

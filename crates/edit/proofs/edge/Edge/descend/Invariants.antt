@@ -1,13 +1,13 @@
 use Rattle.std.proofs.Common.{◌≡◌, ◌+◌, ◌≤◌, length, Option}
 use Rattle.lookups.specs.Steps.{nodes_given}
-use Rattle.batch_laws.specs.Links.{LinkEdge, Log}
+use Rattle.batch_laws.specs.Links.{LinkEdge, Log, Step}
 use Rattle.edit.specs.States.{log_in, shapes_coming, IsOnTheWay, IsCounted}
 use Rattle.edit.proofs.edge.Edge.descend.Given as goal
 
 abbrev pub invariant-loop-next : goal.invariant-loop-next
 invariant-loop-next g l = record {
   same : g.S.Source.gives l.src ≡ g.S.Source.gives l.initial.src;
-  way : (all : Option (LinkEdge × Log)) → IsOnTheWay g.D.Digest.digest_of (nodes_given (g.S.Source.gives l.initial.src)) all
+  way : (all : Step LinkEdge) → IsOnTheWay g.D.Digest.digest_of (nodes_given (g.S.Source.gives l.initial.src)) all
       l.depth l.initial.left l.initial.next (shapes_coming l.initial.coming.items) l.initial.self.levels.items
       l.initial.self.rest (log_in l.initial.self)
       → IsOnTheWay g.D.Digest.digest_of (nodes_given (g.S.Source.gives l.initial.src)) all l.depth l.left l.next

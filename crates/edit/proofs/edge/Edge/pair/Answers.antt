@@ -1,4 +1,4 @@
-use Rattle.std.proofs.Common.{sym, ap, ◌∙◌, subst, Some, drop}
+use Rattle.std.proofs.Common.{sym, ap, ◌∙◌, subst, Some, drop, Ok}
 use Rattle.lookups.specs.Steps.{nodes_given}
 use Rattle.rows.specs.Drafts.{pair_of}
 use Rattle.edit.specs.Edges.{edge_of}
@@ -23,7 +23,7 @@ returns-clause-paired g c =
     (subst (λ gives. IsOpenAt (nodes_given gives) c.args.depth above.levels.items above.rest (log_in above) mid.levels.items mid.rest
     (log_in mid)) c.open_to.ensures.same c.in_ok-open_at.ensures.opened)
     c.in_ok-add_pair.ensures.added
-    ∙ ap (λ r. Some (edge_of new.levels.items r, log_in new)) (sym c.in_ok-add_pair.ensures.rest)
+    ∙ ap (λ r. Ok (edge_of new.levels.items r, log_in new)) (sym c.in_ok-add_pair.ensures.rest)
 
 pub returns-in_err-open_to-clause-stopped : goal.returns-in_err-open_to-clause-stopped
 returns-in_err-open_to-clause-stopped g c =

@@ -1,5 +1,5 @@
 use Rattle.std.proofs.lemmas.Result.{err_from_is_err_and}
-use Rattle.std.proofs.Common.{◌≡◌, ◌++◌, Some, sym, ap, ◌∙◌, subst}
+use Rattle.std.proofs.Common.{◌≡◌, ◌++◌, Some, sym, ap, ◌∙◌, subst, Ok}
 use Rattle.cid.specs.CidRef.{bytes_of}
 use Rattle.spec.specs.Tree.{Pair}
 use Rattle.spec.specs.Layer.{layer as layer_of}
@@ -62,7 +62,7 @@ returns-in_err-go_on-in-Pair-clause-stopped g c =
     (fault_of fault)) (sym (ap task_of c.in-Pair.is))
     (entry-refused gives digest shows layer n b a f (edge_in old) (edge_in new) (log_in old) (log_in new) fault
     (subst (λ e. pairs_in_turn digest shows (λ key. f.depth) (entry f.at e) (edge_in old) (log_in old)
-    ≡ Some (edge_in new, log_in new)) same c.in_ok-entry-in-Pair.ensures.put)
+    ≡ Ok (edge_in new, log_in new)) same c.in_ok-entry-in-Pair.ensures.put)
     c.in_ok-entry-in-Pair.ensures.counted (c.in_err-go_on-in-Pair.ensures.fault digest shows layer n)))
 
 pub returns-in_ok-go_on-in-Pair-clause-done : goal.returns-in_ok-go_on-in-Pair-clause-done
@@ -89,6 +89,6 @@ returns-in_ok-go_on-in-Pair-clause-done g c =
     (sym (ap task_of c.in-Pair.is))
     (done-pair digest shows layer n fs gs f (edge_in old) (edge_in mid) (edge_in new) (log_in old) (log_in mid) values more
     (subst (λ e. pairs_in_turn digest shows (λ key. f.depth) (entry f.at e) (edge_in old) (log_in old)
-    ≡ Some (edge_in mid, log_in mid)) same c.in_ok-entry-in-Pair.ensures.put)
+    ≡ Ok (edge_in mid, log_in mid)) same c.in_ok-entry-in-Pair.ensures.put)
     (subst (λ e. more ≡ values ++ value_met f.at e) same c.in_ok-entry-in-Pair.ensures.previous)
     c.in_ok-go_on-in-Pair.ensures.gone))

@@ -1,4 +1,4 @@
-use Rattle.std.proofs.Common.{◌≡◌, sym, subst, arith, false, Some, drop}
+use Rattle.std.proofs.Common.{◌≡◌, sym, subst, arith, false, Some, drop, Ok}
 use Rattle.lookups.specs.Steps.{nodes_given}
 use Rattle.batch_laws.specs.Links.{ask}
 use Rattle.edit.specs.Edges.{edge_of, is_clear}
@@ -24,7 +24,7 @@ returns-clause-comes g c =
       | else-len-depth-via-else-len-depth w ↦
           taken-open c.args.depth old.levels.items old.rest (omega (arith, w.if-len-depth.false, c.len.ensures))
     ] in
-    let a = subst (λ gives. ask (nodes_given gives) c.args.cid (log_in mid) ≡ Some (node, log_in new)) c.open_at.ensures.same
+    let a = subst (λ gives. ask (nodes_given gives) c.args.cid (log_in mid) ≡ Ok (node, log_in new)) c.open_at.ensures.same
     c.in_ok-rows.ensures.shown in
     let k = coming digest shows c.args.depth c.args.cid old.levels.items mid.levels.items old.rest mid.rest (log_in old)
     (log_in mid) (log_in new) node taken c.in_ok-open_at.ensures.opened a in
@@ -69,4 +69,4 @@ returns-in_err-rows-clause-stopped g c k =
     mid.levels.items old.rest mid.rest (log_in old) (log_in mid) f taken c.in_ok-open_at.ensures.opened
     c.in_ok-open_at.ensures.counted
     (subst (λ gv. IsUnread gv (g.S.Source.reads c.open_at.new.src, c.open_at.new.self.left) (g.S.Source.reads c.rows.new.src)
-    (nodes_given gv c.args.cid) f) c.open_at.ensures.same c.in_err-rows.ensures.unread))
+    c.args.cid (nodes_given gv c.args.cid) f) c.open_at.ensures.same c.in_err-rows.ensures.unread))

@@ -59,4 +59,4 @@ returns-in_err-next-clause-stopped g c =
     (from-stopped gives b m a start (log_in at.self) (at_top (pruning shows at.left at.at (log_in at.self))) f
     at.invariant.counted
     (look-stopped gives shows m a at.left (at.left - 1) at.at (log_in at.self) f (omega (arith, c.loop-left-test.true))
-    (subst (λ gv. IsUnread gv m a (nodes_given gv at.at) f) at.invariant.same c.in_err-next.ensures.unread))))
+    (subst (λ gv. IsUnread gv m a at.at (nodes_given gv at.at) f) at.invariant.same c.in_err-next.ensures.unread))))

@@ -1,4 +1,4 @@
-use Rattle.std.proofs.Common.{◌≡◌, ◌+◌, ◌++◌, [], Some, sym, ap, ◌∙◌, subst, arith, drop}
+use Rattle.std.proofs.Common.{◌≡◌, ◌+◌, ◌++◌, [], Some, sym, ap, ◌∙◌, subst, arith, drop, Ok}
 use Rattle.std.proofs.lemmas.List.{append-nil}
 use Rattle.spec.specs.Layer.{layer as layer_of}
 use Rattle.lookups.specs.Steps.{nodes_given}
@@ -33,7 +33,7 @@ loop-change-preserved g c =
           (pairs_in_turn digest shows depth (puts cs) (edge_in c.args.self.now) (log_in c.args.self.now)) cs i (i + 1) x
           (edge_in at.self) (edge_in new) (log_in at.self) (log_in new) (omega arith) here at.invariant.put
           (subst (λ gives. pairs_in_turn digest (nodes_given gives) depth (if_put x.0 x.1 []) (edge_in at.self) (log_in at.self)
-          ≡ Some (edge_in new, log_in new)) at.invariant.same c.in_ok-put_one.ensures.put);
+          ≡ Ok (edge_in new, log_in new)) at.invariant.same c.in_ok-put_one.ensures.put);
       previous = none-step (c.args.previous.now.items ++ no_values cs) at.previous.items c.push.new.self.items cs i (i + 1) x
           (omega arith) here at.invariant.previous c.in_ok-push.ensures.items;
       counted = counted-then (g.S.Source.reads c.args.src.now, c.args.self.now.left) (g.S.Source.reads at.src, at.self.left)

@@ -1,4 +1,4 @@
-use Rattle.std.proofs.Common.{◌≡◌, ◌++◌, Some, refl, ap, ◌∙◌, subst, arith}
+use Rattle.std.proofs.Common.{◌≡◌, ◌++◌, Some, refl, ap, ◌∙◌, subst, arith, Ok}
 use Rattle.spec.specs.Layer.{layer as layer_of}
 use Rattle.lookups.specs.Steps.{nodes_given}
 use Rattle.edit.specs.Budgets.{Budget}
@@ -34,7 +34,7 @@ loop-task-preserved g c =
     next (edge_in new) (log_in new) values) at.invariant.same c.in_ok-perform.ensures.done in
     record {
       same = c.perform.ensures.same ∙ at.invariant.same;
-      does = walk-more digest shows layer n (agenda_does digest shows layer n start (Some (edge_in mid, log_in mid))) fs gs next f
+      does = walk-more digest shows layer n (agenda_does digest shows layer n start (Ok (edge_in mid, log_in mid))) fs gs next f
           (edge_in at.self) (edge_in new) (log_in at.self) (log_in new) at.previous.items values at.invariant.does e w;
       meets = walk-meets digest shows layer n (c.new-previous.result.items ++ agenda_meets shows start) fs gs next f
           (edge_in at.self) (edge_in new) (log_in at.self) (log_in new) at.previous.items values at.invariant.meets e w;
@@ -74,8 +74,8 @@ returns-clause-walked g c =
     walked-all digest shows layer c.args.layers c.args.layer c.args.depth c.args.changes.now c.args.rows.rest
     (agenda_of c.new-agenda.result.items) start last (edge_in old) (edge_in mid)
     (edge_in at.self) (log_in old) (log_in at.self) c.in_ok-go_on.ensures.gone (ap agenda_of c.new-agenda.ensures.items)
-    (subst (λ (l : Log). agenda_does digest shows layer c.args.layers start (Some (edge_in mid, l))
-    ≡ agenda_does digest shows layer c.args.layers last (Some (edge_in at.self, log_in at.self)))
+    (subst (λ (l : Log). agenda_does digest shows layer c.args.layers start (Ok (edge_in mid, l))
+    ≡ agenda_does digest shows layer c.args.layers last (Ok (edge_in at.self, log_in at.self)))
     c.go_on.ensures.log at.invariant.does) (agenda-none at.agenda.items (omega (arith, n.0)))
 
 pub returns-clause-previous : goal.returns-clause-previous
@@ -149,9 +149,9 @@ returns-in_err-perform-clause-stopped g c =
     let gs = agenda_of c.pop.new.self.items in
     let f = task_of c.in-Some.task in
     let fault = c.in_err-perform.field-0.0 in
-    let all = agenda_does digest shows layer n start (Some (edge_in mid, log_in old)) in
-    let does = subst (λ (l : Log). agenda_does digest shows layer n start (Some (edge_in mid, l))
-    ≡ agenda_does digest shows layer n (agenda_of at.agenda.items) (Some (edge_in at.self, log_in at.self)))
+    let all = agenda_does digest shows layer n start (Ok (edge_in mid, log_in old)) in
+    let does = subst (λ (l : Log). agenda_does digest shows layer n start (Ok (edge_in mid, l))
+    ≡ agenda_does digest shows layer n (agenda_of at.agenda.items) (Ok (edge_in at.self, log_in at.self)))
     c.go_on.ensures.log at.invariant.does in
     rw (p.1, p.2)
     (task-stopped gives digest shows layer n b m a

@@ -1,4 +1,4 @@
-use Rattle.std.proofs.Common.{◌≡◌, ◌++◌, Some}
+use Rattle.std.proofs.Common.{◌≡◌, ◌++◌, Some, Ok}
 use Rattle.spec.specs.Layer.{layer as layer_of}
 use Rattle.lookups.specs.Steps.{nodes_given}
 use Rattle.edit.specs.Agenda.{agenda_does, agenda_meets, agenda_size}
@@ -10,9 +10,9 @@ abbrev pub invariant-loop-task : goal.invariant-loop-task
 invariant-loop-task g l = record {
   same : g.S.Source.gives l.src ≡ g.S.Source.gives l.initial.src;
   does : agenda_does g.D.Digest.digest_of (nodes_given (g.S.Source.gives l.initial.src)) (layer_of g.D.Digest.digest_of g.row.B)
-      l.layers (agenda_of l.initial.agenda.items) (Some (edge_in l.initial.self, log_in l.initial.self))
+      l.layers (agenda_of l.initial.agenda.items) (Ok (edge_in l.initial.self, log_in l.initial.self))
       ≡ agenda_does g.D.Digest.digest_of (nodes_given (g.S.Source.gives l.initial.src)) (layer_of g.D.Digest.digest_of g.row.B)
-      l.layers (agenda_of l.agenda.items) (Some (edge_in l.self, log_in l.self));
+      l.layers (agenda_of l.agenda.items) (Ok (edge_in l.self, log_in l.self));
   meets : l.initial.previous.items ++ agenda_meets (nodes_given (g.S.Source.gives l.initial.src)) (agenda_of l.initial.agenda.items)
       ≡ l.previous.items ++ agenda_meets (nodes_given (g.S.Source.gives l.initial.src)) (agenda_of l.agenda.items);
   counted : IsCounted (g.S.Source.reads l.initial.src, l.initial.self.left) (g.S.Source.reads l.src, l.self.left)
