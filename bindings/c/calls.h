@@ -28,12 +28,24 @@ static void end(void) {
 }
 
 static int of_record(void) { return tizulgech_record_fault(TEXT("\xa1\x61k\x81\xa1\x61k\x01")); }
+static int of_write(void) { return tizulgech_write_fault(2, true, TEXT("a.b.c/d"), TEXT("\xa1\x61k\x81\xa1\x61k\x01")); }
+static int of_links(void) { return tizulgech_links(node, node_end, out, sizeof out, &size); }
 static int of_commit_bytes(void) { return tizulgech_commit_bytes(TEXT("did:web:a.b"), TEXT("3jzfcijpj2z2b"), root, 36, out, sizeof out, &size); }
 static int of_tree(void) {
     static const uint8_t values[72];
     return tizulgech_tree_apply(node, node_end, &node_end, 1, root, 36, TEXT("a.b.c/da.b.c/z"), key_ends, 2, values, 72, cid, 36, out, sizeof out, &size);
 }
 static int of_verify(void) { return tizulgech_verify(node, node_end, &node_end, 1, root, 36, TEXT("a.b.c/d"), cid, 36); }
+static int of_change(void) {
+    static const uint8_t before[36];
+    uint8_t after[36], old[36];
+    size_t end = 7;
+    tizulgech_cid(TEXT("\xa1\x61k\x01"), after, 36);
+    /* the tree without the key is another one than that with the root, so the verdict is told as far as it goes */
+    tizulgech_cid(TEXT(""), old, 36);
+    int number = tizulgech_verify_change(node, node_end, &node_end, 1, old, 36, root, 36, TEXT("a.b.c/d"), &end, 1, before, 36, after, 36, cid, 36, &place);
+    return number == TIZULGECH_OTHER_ROOT ? 0 : number;
+}
 static int of_root_of_tree(void) {
     uint8_t cids[72];
     memcpy(cids, root, 36), memcpy(cids + 36, root, 36);
@@ -54,16 +66,26 @@ static int of_stage(void) {
     return tizulgech_clear(&empty) ? 1 : number;
 }
 static int of_list(void) { return tizulgech_list(&repository, NULL, 0, 9, out, sizeof out, &size); }
+static int of_entries(void) { return tizulgech_entries(&repository, NULL, 0, 9, out, 60, &size); }
 static int of_car(void) { return tizulgech_car(&repository, out, sizeof out, &size); }
 static int of_length(void) { return tizulgech_car_length(&repository, &(uint64_t){0}); }
 static int of_part(void) { return tizulgech_car_part(&repository, 9, out, 99, &size); }
+static int of_head(void) { return tizulgech_car_head(&repository, out, sizeof out, &size); }
+static int of_section(void) { return tizulgech_car_section(&repository, root, 36, out, sizeof out, &size); }
+static int of_prove_change(void) {
+    static const uint8_t before[36];
+    uint8_t after[36];
+    size_t end = 7;
+    tizulgech_cid(TEXT("\xa1\x61k\x01"), after, 36);
+    return tizulgech_prove_change(&repository, TEXT("a.b.c/d"), &end, 1, before, 36, after, 36, &place, out, sizeof out, &size);
+}
 static int of_prove(void) { return tizulgech_prove(&repository, TEXT("a.b.c/d"), out, sizeof out, &size); }
 
 /* These take no memory. */
 static int of_values(void) {
     static uint8_t text[59];
     tizulgech_cid(node, node_end, cid, 36);
-    return memcmp(cid, root, 36) || !tizulgech_cid_text(root, 36, text, 59) || tizulgech_cid_from_text(text, 59, cid, 36)
+    return tizulgech_version() != TIZULGECH_VERSION || memcmp(cid, root, 36) || !tizulgech_cid_text(root, 36, text, 59) || tizulgech_cid_from_text(text, 59, cid, 36)
         || tizulgech_layer(TEXT("blue")) != 1 || !tizulgech_is_key(TEXT("blue")) || tizulgech_is_repository_key(TEXT("blue"))
         || !tizulgech_is_did(TEXT("did:web:a.b")) || tizulgech_is_tid(TEXT("1"))
         || tizulgech_step(node, node_end, TEXT("a.b.c/e"), cid, 36)
@@ -82,8 +104,9 @@ static const struct {
     int count, takes_memory;
 } calls[] = {
     {"record_fault", of_record, 1, 1}, {"commit_bytes", of_commit_bytes, 1, 1}, {"tree_apply", of_tree, 1, 1}, {"verify", of_verify, 1, 1},
-    {"tree_root", of_root_of_tree, 1, 1}, {"listing_car", of_listing, 1, 1}, {"open", of_open, 2, 1}, {"stage", of_stage, 2, 1},
+    {"write_fault", of_write, 1, 1}, {"links", of_links, 1, 1}, {"verify_change", of_change, 3, 1}, {"tree_root", of_root_of_tree, 1, 1}, {"listing_car", of_listing, 1, 1}, {"open", of_open, 2, 1}, {"stage", of_stage, 2, 1},
     {"list", of_list, 1, 1}, {"car", of_car, 1, 1}, {"car_length", of_length, 1, 1}, {"car_part", of_part, 1, 1}, {"prove", of_prove, 1, 1},
-    {"those of values", of_values, 10, 0}, {"those of reading", of_reading, 4, 0},
+    {"entries", of_entries, 1, 1}, {"car_head", of_head, 1, 1}, {"car_section", of_section, 1, 1}, {"prove_change", of_prove_change, 2, 1},
+    {"those of values", of_values, 11, 0}, {"those of reading", of_reading, 4, 0},
 };
 enum { CALLS = sizeof calls / sizeof *calls };

@@ -32,6 +32,14 @@ int main(void) {
     if (tizulgech_verify(proof + 8, end, &end, 1, root, 36, TEXT(key), value, 36) != TIZULGECH_DONE) return 8;
     tizulgech_cid(record, 12, before, 36);
     if (memcmp(value, before, 36) != 0) return 9;
+    /* and the proof of what the batch changed, for whoever knows both roots: the key had none, and has this record */
+    uint8_t none[36] = {0}, previous[36], missing[36];
+    size_t key_end = strlen(key);
+    tizulgech_cid((const uint8_t *)"\xa2\x61\x65\x80\x61\x6c\xf6", 7, previous, 36);
+    if (tizulgech_prove_change(&repo, TEXT(key), &key_end, 1, none, 36, value, 36, &place, proof, sizeof proof, &size) != TIZULGECH_DONE) return 11;
+    end = size - 8;
+    if (tizulgech_verify_change(proof + 8, end, &end, 1, previous, 36, root, 36, TEXT(key), &key_end, 1, none, 36, value, 36, missing, 36, &place))
+        return 12;
     tizulgech_close(&repo);
     tizulgech_close(&repo);
     return tizulgech_number(&repo, &(uint64_t){0}) == TIZULGECH_CLOSED ? 0 : 10;

@@ -17,6 +17,8 @@ static int of_values(void) {
         && !tizulgech_is_key(NULL, 0) && !tizulgech_is_repository_key(NULL, 0) && !tizulgech_is_did(NULL, 0) && !tizulgech_is_tid(NULL, 0)
         && tizulgech_cid_from_text(NULL, 0, cid, 36) == TIZULGECH_CID_LENGTH && tizulgech_step(NULL, 0, KEY, cid, 36) == TIZULGECH_BAD_NODE
         && tizulgech_step(NODE, NULL, 0, cid, 36) == TIZULGECH_NONE && tizulgech_stamp_fault(NULL, 0, DID, REV) == TIZULGECH_DONE
+        && tizulgech_write_fault(0, false, NULL, 0, NULL, 0) == TIZULGECH_BAD_KEY && tizulgech_write_fault(3, true, KEY, NULL, 0) == TIZULGECH_DONE
+        && tizulgech_write_fault(0, false, KEY, NULL, 0) == TIZULGECH_TRUNCATED && tizulgech_version() == TIZULGECH_VERSION
         && tizulgech_stamp_fault(NULL, 0, NULL, 0, REV) == TIZULGECH_BAD_DID && tizulgech_stamp_fault(NULL, 0, DID, NULL, 0) == TIZULGECH_BAD_REV;
 }
 
@@ -31,6 +33,10 @@ static int of_trees(void) {
         && tizulgech_tree_apply(NULL, 0, NULL, 0, NULL, 0, NULL, 0, NULL, 0, NULL, 0, cid, 36, NULL, 0, &size) == TIZULGECH_BAD
         && tizulgech_verify(NULL, 0, NULL, 0, root, 36, KEY, cid, 36) == TIZULGECH_MISSING
         && tizulgech_verify(NODE, &end, 1, root, 36, NULL, 0, cid, 36) == TIZULGECH_BAD_KEY
+        && tizulgech_links(NODE, NULL, 0, &size) == TIZULGECH_DONE && size == 0 && tizulgech_links(NULL, 0, NULL, 0, &size) == TIZULGECH_BAD_NODE
+        && tizulgech_verify_change(NODE, &end, 1, root, 36, root, 36, NULL, 0, NULL, 0, NULL, 0, NULL, 0, cid, 36, &size) == TIZULGECH_DONE
+        && tizulgech_verify_change(NULL, 0, NULL, 0, root, 36, root, 36, NULL, 0, NULL, 0, NULL, 0, NULL, 0, cid, 36, &size) == TIZULGECH_MISSING
+        && tizulgech_verify_change(NULL, 0, NULL, 0, NULL, 0, NULL, 0, NULL, 0, NULL, 0, NULL, 0, NULL, 0, cid, 36, &size) == TIZULGECH_BAD
         && tizulgech_tree_root(NULL, 0, NULL, 0, NULL, 0, cid, 36, &size) == TIZULGECH_DONE && memcmp(cid, root, 36) == 0
         && tizulgech_listing_car(NULL, 0, NULL, 0, NULL, 0, NULL, 0, NULL, 0, NULL, 0, NULL, 0, &size) == TIZULGECH_SMALL;
 }
@@ -47,6 +53,9 @@ static int of_repositories(void) {
         && tizulgech_get(&repository, KEY, NULL, 0, &size) == TIZULGECH_SMALL && tizulgech_get(&repository, NULL, 0, NULL, 0, &size) == TIZULGECH_NONE
         && tizulgech_list(&repository, NULL, 0, 9, NULL, 0, &size) == TIZULGECH_SMALL && tizulgech_list(&repository, NULL, 0, 0, NULL, 0, &size) == TIZULGECH_DONE
         && tizulgech_car(&repository, NULL, 0, &size) == TIZULGECH_SMALL && tizulgech_car_part(&repository, 0, NULL, 0, &size) == TIZULGECH_DONE && size == 0
+        && tizulgech_entries(&repository, NULL, 0, 9, NULL, 0, &size) == TIZULGECH_SMALL && tizulgech_car_head(&repository, NULL, 0, &size) == TIZULGECH_SMALL
+        && tizulgech_car_section(&repository, NULL, 0, NULL, 0, &size) == TIZULGECH_BAD && tizulgech_car_section(&repository, cid, 36, NULL, 0, &size) == TIZULGECH_SMALL
+        && tizulgech_prove_change(&repository, NULL, 0, NULL, 0, NULL, 0, NULL, 0, &place, NULL, 0, &size) == TIZULGECH_SMALL
         && tizulgech_prove(&repository, NULL, 0, NULL, 0, &size) == TIZULGECH_SMALL;
     tizulgech_close(&repository);
     return well;

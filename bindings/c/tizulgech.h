@@ -4,8 +4,9 @@
  *  - a pointer beside a length N is to N readable elements, or writable ones where it isn't const; it may be null where N is 0, if the
  *    call is written with this header. Any other pointer is to one object. What is written overlaps nothing else that is passed;
  *  - a CID that is written wants a room of 36 bytes, and the text of one a room of 59;
- *  - a tizulgech_repository is all zero bytes before tizulgech_open, is changed by these calls alone, isn't copied, is given to one
- *    call at a time, and stays on its thread. One that is closed may be given to any call, which says so;
+ *  - a tizulgech_repository is all zero bytes before tizulgech_open, is changed by these calls alone, isn't copied, and is given to
+ *    one call at a time; between two calls it may go to another thread, as by a lock. One that is closed may be given to any call,
+ *    which says so;
  *  - malloc, realloc and free are those of one allocator; no call from a signal handler, nor in the forked child of a process with
  *    threads.
  *
@@ -41,6 +42,8 @@ enum {
     TIZULGECH_WRITES_FULL = 25, TIZULGECH_EMPTY_BATCH = 26, TIZULGECH_BAD_DID = 27, TIZULGECH_BAD_REV = 28, TIZULGECH_REV_ORDER = 29,
     /* of nodes and listings */
     TIZULGECH_BAD_NODE = 30, TIZULGECH_TOO_MANY_NODES = 31, TIZULGECH_NOT_BUILT = 32,
+    /* of changes between two roots */
+    TIZULGECH_OTHER_VALUE = 33, TIZULGECH_OTHER_ROOT = 34,
     /* of any call */
     TIZULGECH_OPEN = 249, TIZULGECH_CLOSED = 250, TIZULGECH_SMALL = 251, TIZULGECH_BAD = 252, TIZULGECH_CLASH = 253,
     TIZULGECH_FULL = 254, TIZULGECH_NO_MEMORY = 255
@@ -48,8 +51,18 @@ enum {
 
 /* ---- no state: any number of threads */
 
+/* The number of the library's interface: one more whenever a call is changed or taken away. A library that is loaded while a program
+ * runs has this header's, TIZULGECH_VERSION, or isn't the one that the program was written for. */
+#define TIZULGECH_VERSION 1
+uint64_t tizulgech_version(void);
+
 /* Whether the bytes are one value in DAG-CBOR: DONE, TRUNCATED to TRAILING, NO_MEMORY. */
 uint8_t tizulgech_record_fault(const uint8_t *bytes, size_t len);
+
+/* Whether a write passes its test, by whether there is a record under its key. Its kind is 0 for a put, 1 for a create, 2 for an update, 3
+ * for a delete, whose record is passed over: DONE; BAD_KEY; RECORD_SIZE, TRUNCATED to TRAILING, NOT_A_MAP; KEY_EXISTS for a create, NONE for
+ * an update or a delete of a key that isn't there; BAD for the kind; NO_MEMORY. */
+uint8_t tizulgech_write_fault(uint8_t kind, bool there, const uint8_t *key, size_t key_len, const uint8_t *record, size_t record_len);
 
 /* The layer of a key in a tree. */
 uint16_t tizulgech_layer(const uint8_t *key, size_t len);
@@ -72,6 +85,10 @@ uint8_t tizulgech_cid_from_text(const uint8_t *text, size_t len, uint8_t *out, s
 /* Where a key stands in a node: DONE, and its value is written; BELOW, and the CID of the node below which it is; NONE, where there
  * is no such node; BAD_NODE, where the bytes are no node. A host goes from a root down by it. It takes no memory. */
 uint8_t tizulgech_step(const uint8_t *node, size_t len, const uint8_t *key, size_t key_len, uint8_t *out, size_t room);
+
+/* What stands below a node, in the order of a CAR file: of each a byte, 1 for a node and 0 for a record, and its CID (36). DONE, SMALL,
+ * BAD_NODE, NO_MEMORY. */
+uint8_t tizulgech_links(const uint8_t *node, size_t len, uint8_t *out, size_t room, size_t *size);
 
 /* Whether a stamp may have this DID, and this revision. */
 bool tizulgech_is_did(const uint8_t *did, size_t len);
@@ -102,6 +119,16 @@ uint8_t tizulgech_tree_apply(const uint8_t *nodes, size_t nodes_len, const size_
  * it; BAD for arguments that are none; NO_MEMORY. */
 uint8_t tizulgech_verify(const uint8_t *blocks, size_t blocks_len, const size_t *ends, size_t count, const uint8_t *root, size_t root_len,
                          const uint8_t *key, size_t key_len, uint8_t *value, size_t value_room);
+
+/* Whether the tree with the root `before` became that with the root `after` by these changes, as nodes of the tree after show. The keys
+ * ascend strictly; beside them are 36 bytes for each in `befores`, the value that it had, and in `afters`, the one that it has: zeros where
+ * there is none. DONE; MISSING, and `missing` is the CID of a node that isn't given but is needed; BAD_NODE, where one that is needed is
+ * none; OTHER_VALUE, and `place` is that of the first change whose key has another value in the tree after; OTHER_ROOT, where the changes
+ * undone lead to another root; BAD for arguments that are none; NO_MEMORY. */
+uint8_t tizulgech_verify_change(const uint8_t *nodes, size_t nodes_len, const size_t *node_ends, size_t node_count, const uint8_t *before,
+                                size_t before_len, const uint8_t *after, size_t after_len, const uint8_t *keys, size_t keys_len,
+                                const size_t *key_ends, size_t key_count, const uint8_t *befores, size_t befores_len,
+                                const uint8_t *afters, size_t afters_len, uint8_t *missing, size_t missing_room, size_t *place);
 
 /* The root, and the number of nodes, of the tree of these keys, which ascend strictly, and 36 bytes of a CID for each: DONE,
  * NOT_ASCENDING, BAD, CLASH, NO_MEMORY. */
@@ -151,6 +178,11 @@ uint8_t tizulgech_get(tizulgech_repository *repository, const uint8_t *key, size
 uint8_t tizulgech_list(tizulgech_repository *repository, const uint8_t *from, size_t from_len, size_t most, uint8_t *out, size_t room,
                        size_t *size);
 
+/* The same in pages: of those pairs as many as there is room for. DONE, and nothing is written where there are none; SMALL where the first of
+ * them alone has no room, and `size` is what it wants; NO_MEMORY. The next page begins at the last key with a zero byte behind it. */
+uint8_t tizulgech_entries(tizulgech_repository *repository, const uint8_t *from, size_t from_len, size_t most, uint8_t *out, size_t room,
+                          size_t *size);
+
 /* The root of the tree; the CID of the last commit, or NONE; the number of accepted writes. */
 uint8_t tizulgech_root(tizulgech_repository *repository, uint8_t *root, size_t room);
 uint8_t tizulgech_commit(tizulgech_repository *repository, uint8_t *commit, size_t room);
@@ -162,11 +194,27 @@ uint8_t tizulgech_car(tizulgech_repository *repository, uint8_t *out, size_t roo
 /* How many bytes that file has; none of them is made: DONE, NO_MEMORY. */
 uint8_t tizulgech_car_length(tizulgech_repository *repository, uint64_t *length);
 
-/* The bytes of that file from a place on, as many as there is room for, or as there are: DONE, NO_MEMORY. */
+/* The bytes of that file from a place on, as many as there is room for, or as there are: DONE, NO_MEMORY. It costs the way through all
+ * that is before them. */
 uint8_t tizulgech_car_part(tizulgech_repository *repository, uint64_t from, uint8_t *out, size_t room, size_t *size);
+
+/* That file in one go without ever being whole: its header, DONE, SMALL, NO_MEMORY; and the section of the block with a CID, the last commit,
+ * a node or a record, DONE, NONE where there is no such block, SMALL, BAD for a CID that is none, NO_MEMORY. A section is the length of
+ * what follows (seven bits a byte, the lowest first), the CID and the block's bytes. The file is the header, the section of the commit, and
+ * those of the root and of all that tizulgech_links gives below it, each below that before the next; of several with one CID the first. */
+uint8_t tizulgech_car_head(tizulgech_repository *repository, uint8_t *out, size_t room, size_t *size);
+uint8_t tizulgech_car_section(tizulgech_repository *repository, const uint8_t *cid, size_t cid_len, uint8_t *out, size_t room, size_t *size);
 
 /* The proof of a key: for each node of its path, from the top, its length (8) and its bytes. DONE, SMALL, NO_MEMORY. */
 uint8_t tizulgech_prove(tizulgech_repository *repository, const uint8_t *key, size_t key_len, uint8_t *out, size_t room, size_t *size);
+
+/* The proof of changes that led to the tree as it is, given as tizulgech_verify_change takes them: for each node that undoing them reads, each
+ * once, its length (8) and its bytes. Who has these and both roots gets DONE from that call, where each key had before the changes what is
+ * told; of that this tree knows nothing. DONE; OTHER_VALUE, and `place` is that of the first change whose key has another value now; SMALL;
+ * BAD for arguments that are none; NO_MEMORY. */
+uint8_t tizulgech_prove_change(tizulgech_repository *repository, const uint8_t *keys, size_t keys_len, const size_t *key_ends,
+                               size_t key_count, const uint8_t *befores, size_t befores_len, const uint8_t *afters, size_t afters_len,
+                               size_t *place, uint8_t *out, size_t room, size_t *size);
 
 #ifdef __cplusplus
 }
@@ -285,6 +333,38 @@ static inline uint8_t tizulgech_prove_of(tizulgech_repository *repository, const
         size_t room, size_t *size) {
     return tizulgech_prove(repository, tizulgech_some(key), key_len, tizulgech_room(out), room, size);
 }
+static inline uint8_t tizulgech_write_fault_of(uint8_t kind, bool there, const uint8_t *key, size_t key_len, const uint8_t *record,
+        size_t record_len) {
+    return tizulgech_write_fault(kind, there, tizulgech_some(key), key_len, tizulgech_some(record), record_len);
+}
+static inline uint8_t tizulgech_links_of(const uint8_t *node, size_t len, uint8_t *out, size_t room, size_t *size) {
+    return tizulgech_links(tizulgech_some(node), len, tizulgech_room(out), room, size);
+}
+static inline uint8_t tizulgech_verify_change_of(const uint8_t *nodes, size_t nodes_len, const size_t *node_ends, size_t node_count,
+        const uint8_t *before, size_t before_len, const uint8_t *after, size_t after_len, const uint8_t *keys, size_t keys_len,
+        const size_t *key_ends, size_t key_count, const uint8_t *befores, size_t befores_len, const uint8_t *afters,
+        size_t afters_len, uint8_t *missing, size_t missing_room, size_t *place) {
+    return tizulgech_verify_change(tizulgech_some(nodes), nodes_len, tizulgech_ends(node_ends), node_count, tizulgech_some(before),
+        before_len, tizulgech_some(after), after_len, tizulgech_some(keys), keys_len, tizulgech_ends(key_ends), key_count,
+        tizulgech_some(befores), befores_len, tizulgech_some(afters), afters_len, tizulgech_room(missing), missing_room, place);
+}
+static inline uint8_t tizulgech_entries_of(tizulgech_repository *repository, const uint8_t *from, size_t from_len, size_t most,
+        uint8_t *out, size_t room, size_t *size) {
+    return tizulgech_entries(repository, tizulgech_some(from), from_len, most, tizulgech_room(out), room, size);
+}
+static inline uint8_t tizulgech_car_head_of(tizulgech_repository *repository, uint8_t *out, size_t room, size_t *size) {
+    return tizulgech_car_head(repository, tizulgech_room(out), room, size);
+}
+static inline uint8_t tizulgech_car_section_of(tizulgech_repository *repository, const uint8_t *cid, size_t cid_len, uint8_t *out,
+        size_t room, size_t *size) {
+    return tizulgech_car_section(repository, tizulgech_some(cid), cid_len, tizulgech_room(out), room, size);
+}
+static inline uint8_t tizulgech_prove_change_of(tizulgech_repository *repository, const uint8_t *keys, size_t keys_len,
+        const size_t *key_ends, size_t key_count, const uint8_t *befores, size_t befores_len, const uint8_t *afters,
+        size_t afters_len, size_t *place, uint8_t *out, size_t room, size_t *size) {
+    return tizulgech_prove_change(repository, tizulgech_some(keys), keys_len, tizulgech_ends(key_ends), key_count,
+        tizulgech_some(befores), befores_len, tizulgech_some(afters), afters_len, place, tizulgech_room(out), room, size);
+}
 #define tizulgech_record_fault(...) tizulgech_record_fault_of(__VA_ARGS__)
 #define tizulgech_layer(...) tizulgech_layer_of(__VA_ARGS__)
 #define tizulgech_is_key(...) tizulgech_is_key_of(__VA_ARGS__)
@@ -310,4 +390,11 @@ static inline uint8_t tizulgech_prove_of(tizulgech_repository *repository, const
 #define tizulgech_car(...) tizulgech_car_of(__VA_ARGS__)
 #define tizulgech_car_part(...) tizulgech_car_part_of(__VA_ARGS__)
 #define tizulgech_prove(...) tizulgech_prove_of(__VA_ARGS__)
+#define tizulgech_write_fault(...) tizulgech_write_fault_of(__VA_ARGS__)
+#define tizulgech_links(...) tizulgech_links_of(__VA_ARGS__)
+#define tizulgech_verify_change(...) tizulgech_verify_change_of(__VA_ARGS__)
+#define tizulgech_entries(...) tizulgech_entries_of(__VA_ARGS__)
+#define tizulgech_car_head(...) tizulgech_car_head_of(__VA_ARGS__)
+#define tizulgech_car_section(...) tizulgech_car_section_of(__VA_ARGS__)
+#define tizulgech_prove_change(...) tizulgech_prove_change_of(__VA_ARGS__)
 #endif

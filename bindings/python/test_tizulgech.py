@@ -30,6 +30,14 @@ class Values(unittest.TestCase):
         self.assertRaises(ValueError, t.Cid.parse, "bafy")
         self.assertEqual(empty.bytes[4:], hashlib.sha256(t.EMPTY_NODE).digest())
 
+    def test_writes(self):
+        self.assertEqual(t.version(), t.VERSION)
+        t.check_write(t.Create("a.b.c/d", b"\xa0"), False)
+        for write, there, number in ((t.Create("a.b.c/d", b"\xa0"), True, 23), (t.Delete("a.b.c/d"), False, 24), (t.Put("a", b"\xa0"), True, 20), (t.Put("a.b.c/d", b""), True, 1)):
+            with self.assertRaises(t.Fault) as it:
+                t.check_write(write, there)
+            self.assertEqual(it.exception.number, number)
+
     def test_tests(self):
         self.assertEqual(t.layer("app.bsky.feed.post/9adeb165882c"), 8)
         self.assertTrue(t.is_key("a") and not t.is_key("") and t.is_repository_key("a.b.c/d") and not t.is_repository_key("a/b/c"))
@@ -78,9 +86,10 @@ class Repositories(unittest.TestCase):
         with t.Repository(10_000) as repository:
             for turn in range(60):
                 writes = [t.Put(key(draw.randrange(50)), record(draw.randrange(99))) for _ in range(1 + draw.randrange(9))]
-                before = repository.root
+                before, had = repository.root, dict(plain)
                 applied = repository.apply(DID, tid(turn + 1), writes)
                 plain.update({it.key: it.record for it in writes})
+                self.change_proofs(repository, applied, had, plain, sorted({it.key for it in writes}))
                 number += len(writes)
                 pairs = [(k, t.Cid.of(r)) for k, r in sorted(plain.items())]
                 self.assertEqual((applied.previous, applied.root), (before, t.tree_root(pairs)[0]))
@@ -94,10 +103,28 @@ class Repositories(unittest.TestCase):
             whole = repository.car()
             for length in (1, 77, 1000, len(whole), len(whole) + 1):
                 self.assertEqual(b"".join(repository.car_parts(length)), whole)
+            self.assertEqual(b"".join(repository.car_sections()), whole)
             with self.assertRaises(t.Fault) as it:
                 repository.apply(DID, tid(99), [t.Put("a.b.c/d", b"\xa0"), t.Create(key(0), b"\xa0"), t.Create(key(0), b"\xa0")])
             self.assertEqual((it.exception.number, it.exception.place), (23, 1 if key(0) in plain else 2))
         self.assertRaises(t.Fault, lambda: repository.root)
+
+    def change_proofs(self, repository, applied, had, has, keys):
+        """What a batch changed is proved, and with anything else told, or a node less, it isn't."""
+        cid = lambda records, key: t.Cid.of(records[key]) if key in records else None
+        told = [(key, cid(had, key), cid(has, key)) for key in keys]
+        proof, other = repository.prove_change(told), t.Cid.of(b"another")
+        t.verify_change(applied.previous, applied.root, proof, told)
+        last = told[:-1] + [(told[-1][0], told[-1][1], other)]
+        faults = (
+            (lambda: t.verify_change(other, applied.root, proof, told), 34, 0), (lambda: t.verify_change(applied.previous, applied.root, proof, last), 33, len(told) - 1),
+            (lambda: repository.prove_change(last), 33, len(told) - 1), (lambda: t.verify_change(applied.previous, applied.root, proof[1:], told), 2, 0),
+            (lambda: t.verify_change(applied.previous, applied.root, proof, told + told[:1]), 252, 0),
+        )
+        for call, number, place in faults:
+            with self.assertRaises(t.Fault) as it:
+                call()
+            self.assertEqual((it.exception.number, it.exception.place), (number, place))
 
     def test_limits(self):
         self.assertRaises(t.Fault, t.Repository, 0)

@@ -26,12 +26,15 @@ FAULTS = {
     22: "the record is too long", 23: "the key is there already", 24: "there is no such key", 25: "the repository takes no more writes",
     26: "the batch is empty", 27: "the DID is not one", 28: "the revision is not a timestamp identifier",
     29: "the revision is not after the last one", 30: "a block is no node", 31: "the path is longer than any tree is deep",
-    32: "a repository doesn't take these records", 249: "the repository is open already", 250: "the repository is closed",
+    32: "a repository doesn't take these records", 33: "a key has another value", 34: "the changes undone lead to another root", 249: "the repository is open already", 250: "the repository is closed",
     252: "an argument that is none", 253: "two blocks clash", 254: "the store is full", 255: "out of memory",
 }
 
 # The numbers that say something else of a tree and of its nodes.
 FAULTS_OF_TREES = {2: "a block of the path is missing", 3: "the keys don't ascend", 20: "a key has no bytes or more than 1,024"}
+
+# The number of the library's interface for which this module is written.
+VERSION = 1
 
 
 class Fault(Exception):
@@ -67,7 +70,7 @@ class _Raw(ctypes.Structure):
 
 
 _RESULTS = {
-    "cid": None, "close": None, "layer": ctypes.c_uint16, "is_key": ctypes.c_bool, "is_repository_key": ctypes.c_bool,
+    "version": ctypes.c_uint64, "cid": None, "close": None, "layer": ctypes.c_uint16, "is_key": ctypes.c_bool, "is_repository_key": ctypes.c_bool,
     "is_did": ctypes.c_bool, "is_tid": ctypes.c_bool, "cid_text": ctypes.c_bool,
 }
 
@@ -167,6 +170,18 @@ class Cid:
         return out.raw.decode()
 
 
+def version() -> int:
+    """The number of the interface of the library that was found: it has to be VERSION."""
+    return _call("version")
+
+
+def check_write(write: Write, there: bool) -> None:
+    """Raises the fault of a write, by whether there is a record under its key."""
+    number = _call("write_fault", ctypes.c_uint8(write.kind), ctypes.c_bool(there), _bytes(write.key), bytes(write.record))
+    if number:
+        raise Fault(number)
+
+
 def record_fault(block: bytes) -> int:
     """0 where the bytes are one value in DAG-CBOR, else the number of the first fault."""
     return _call("record_fault", bytes(block))
@@ -225,6 +240,27 @@ def verify(root: Cid, proof: Sequence[bytes], key: str | bytes) -> Cid | None:
     if number not in (0, 24):
         raise Fault(number, text=FAULTS_OF_TREES.get(number))
     return Cid(value.raw) if number == 0 else None
+
+
+Told = Sequence["tuple[str | bytes, Cid | None, Cid | None]"]
+
+
+def _told(changes: Told) -> tuple[bytes, list[int], bytes, bytes]:
+    """Changes as the library takes them: keys, and what each had and has."""
+    keys = _joined([_bytes(key) for key, _, _ in changes])
+    befores, afters = (b"".join(it[at].bytes if it[at] else bytes(36) for it in changes) for at in (1, 2))
+    return *keys, befores, afters
+
+
+def verify_change(before: Cid, after: Cid, proof: Sequence[bytes], changes: Told) -> None:
+    """Raises a fault unless the tree with one root became that with the other by these changes, as the nodes of a proof show. Each change is
+    a key, what it had and what it has; the keys ascend."""
+    missing, place = ctypes.create_string_buffer(36), ctypes.c_size_t()
+    number = _call("verify_change", *_joined(proof), before.bytes, after.bytes, *_told(changes), missing, ctypes.byref(place))
+    if number == 2:
+        raise Missing(Cid(missing.raw))
+    if number:
+        raise Fault(number, place.value if number == 33 else 0)
 
 
 # ---- trees whose nodes stand elsewhere
@@ -414,10 +450,13 @@ class Repository:
         return pairs
 
     def __iter__(self) -> Iterator[tuple[bytes, Cid]]:
-        page = self.list()
-        while page:
-            yield from page
-            page = self.list(page[-1][0] + b"\0")
+        start = b""
+        while answer := _filled("entries", ctypes.byref(self._raw), start, ctypes.c_size_t(512), first=24_576):
+            reader = _Reader(answer)
+            while reader:
+                key, cid = reader.part(), reader.cid()
+                yield key, cid
+            start = key + b"\0"
 
     @property
     def root(self) -> Cid:
@@ -456,6 +495,36 @@ class Repository:
         while part := _filled("car_part", ctypes.byref(self._raw), ctypes.c_uint64(start), first=length):
             yield part
             start += len(part)
+
+    def car_sections(self) -> Iterator[bytes]:
+        """The same in parts of which each is made once: the header, and a section for each block."""
+        raw, commit = ctypes.byref(self._raw), self.commit
+        yield _filled("car_head", raw)
+        seen, left = set(), [(1, self.root)] + ([(0, commit)] if commit else [])
+        while left:
+            is_node, cid = left.pop()
+            if not is_node and cid in seen:
+                continue
+            section = _filled("car_section", raw, cid.bytes)
+            if is_node:
+                # The block stands behind a length, of which each byte but the last is 128 or more, and the CID.
+                start = next(at for at, byte in enumerate(section) if byte < 128) + 1
+                links = _filled("links", section[start + 36 :])
+                left += [(links[at], Cid(links[at + 1 : at + 37])) for at in reversed(range(0, len(links), 37))]
+            if cid not in seen:
+                seen.add(cid)
+                yield section
+
+    def prove_change(self, changes: Told) -> Sequence[bytes]:
+        """The proof that changes led to the repository as it is: each a key, what it had and what it has; the keys ascend."""
+        place = ctypes.c_size_t()
+        try:
+            reader, nodes = _Reader(_filled("prove_change", ctypes.byref(self._raw), *_told(changes), ctypes.byref(place))), []
+        except Fault as fault:
+            raise Fault(fault.number, place.value) from None
+        while reader:
+            nodes.append(reader.part())
+        return nodes
 
     def prove(self, key: str | bytes) -> Sequence[bytes]:
         """The proof of a key: the nodes of its path, from the top."""

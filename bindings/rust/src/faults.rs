@@ -1,4 +1,5 @@
 //! The numbers that calls answer, as enums.
+use crate::values::Cid;
 use std::{error::Error, fmt};
 
 macro_rules! faults {
@@ -79,6 +80,61 @@ faults! {
         NoMemory = 255 "out of memory",
     }
 }
+/// Why blocks don't show some changes.
+#[derive(Clone, Copy, Debug, PartialEq, Eq)]
+#[non_exhaustive]
+pub enum ChangeFault {
+    /// The keys don't ascend strictly, or one has no bytes or more than 1,024.
+    BadKeys,
+    /// The node with this CID is needed, and not given.
+    Missing(Cid),
+    /// A node that is needed is none.
+    BadNode,
+    /// The key of the change at this place has another value in the tree after.
+    OtherValue(usize),
+    /// The changes undone lead to another root than the one before.
+    OtherRoot,
+    /// Memory was refused.
+    NoMemory,
+}
+
+impl fmt::Display for ChangeFault {
+    fn fmt(&self, f: &mut fmt::Formatter<'_>) -> fmt::Result {
+        use ChangeFault::*;
+        match self {
+            BadKeys => f.write_str("the keys don't ascend, or one is none"),
+            Missing(cid) => write!(f, "there is no node {cid}"),
+            BadNode => f.write_str("a node that is needed is none"),
+            OtherValue(place) => write!(f, "the key of change {place} has another value"),
+            OtherRoot => f.write_str("the changes undone lead to another root"),
+            NoMemory => f.write_str("out of memory"),
+        }
+    }
+}
+impl Error for ChangeFault {}
+
+/// Why a repository doesn't prove some changes.
+#[derive(Clone, Copy, Debug, PartialEq, Eq)]
+#[non_exhaustive]
+pub enum ProvingFault {
+    /// The keys don't ascend strictly, or one has no bytes or more than 1,024.
+    BadKeys,
+    /// The key of the change at this place has another value now than what is told after it.
+    OtherValue(usize),
+    /// Memory was refused.
+    NoMemory,
+}
+
+impl fmt::Display for ProvingFault {
+    fn fmt(&self, f: &mut fmt::Formatter<'_>) -> fmt::Result {
+        match self {
+            ProvingFault::BadKeys => f.write_str("the keys don't ascend, or one is none"),
+            ProvingFault::OtherValue(place) => write!(f, "the key of change {place} has another value"),
+            ProvingFault::NoMemory => f.write_str("out of memory"),
+        }
+    }
+}
+impl Error for ProvingFault {}
 
 /// Memory was refused.
 #[derive(Clone, Copy, Debug, PartialEq, Eq)]

@@ -2,7 +2,8 @@
 //!
 //! - [`Repository`] is a whole repository in memory: batches in, records, listings, roots, commits, CAR files and proofs out.
 //! - [`tree`] changes a tree whose nodes stand elsewhere, as in a database.
-//! - [`Cid`], [`check_record`], [`check_stamp`], [`commit_bytes`], [`tree_root`], [`listing_car`] and [`Proof`] need no state.
+//! - [`ChangeProof`] shows which keys changed between two roots to whoever knows both.
+//! - [`Cid`], [`check_record`], [`check_write`], [`check_stamp`], [`commit_bytes`], [`tree_root`], [`listing_car`] and [`Proof`] need no state.
 //!
 //! ```
 //! use tizulgech::{Cid, Repository, Stamp, Write};
@@ -22,12 +23,13 @@
 //! # What is proved, and what is trusted
 //!
 //! What is proved ends at the calls of the C interface: each has a contract, which is proved of its code together with its
-//! safety and its end. Of this crate nothing is proved: 1,100 lines of code, which tests try call by call.
+//! safety and its end. Of this crate nothing is proved: 1,400 lines of code, which tests try call by call.
 //! Trusted are:
 //!
 //! - that the declarations in `sys` are those of the library (a script of the repository compares them);
 //! - that `sys`, where all `unsafe` stands, passes slices as they are, and arrays where a call wants a fixed length;
-//! - that a repository is given to one call at a time, on its thread: it is neither `Send` nor `Sync`;
+//! - that a repository is given to one call at a time: it isn't `Sync`. That it may go to another thread between two calls, as
+//!   `Send` says, is proved of what stands behind its pointer;
 //! - that `framing` reads answers and writes lists as the library spells them;
 //! - that the numbers of `faults` are those of the library;
 //! - of [`tree`], that a host's nodes are asked for as the library wants them; the library hashes what it is given, so a wrong
@@ -36,6 +38,7 @@
 #![deny(missing_docs)]
 #![deny(unsafe_op_in_unsafe_fn)]
 
+mod changes;
 mod faults;
 mod framing;
 mod repository;
@@ -44,8 +47,13 @@ mod sys;
 pub mod tree;
 mod values;
 
-pub use faults::{BatchError, BatchFault, CidFault, NoMemory, OpenError, ProofFault, RecordFault, StampFault, TreeFault};
-pub use repository::{Applied, Pairs, Repository, Stamp, Write};
+pub use changes::{ChangeProof, KeyChange};
+pub use faults::{
+    BatchError, BatchFault, ChangeFault, CidFault, NoMemory, OpenError, ProofFault, ProvingFault, RecordFault, StampFault,
+    TreeFault,
+};
+pub use repository::{Applied, CarParts, Pairs, Repository, Stamp, Write};
 pub use values::{
-    Cid, Proof, check_record, check_stamp, commit_bytes, is_did, is_key, is_repository_key, is_tid, layer, listing_car, tree_root,
+    Cid, Proof, VERSION, check_record, check_stamp, check_write, commit_bytes, is_did, is_key, is_repository_key, is_tid, layer,
+    listing_car, tree_root, version,
 };

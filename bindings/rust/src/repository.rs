@@ -1,8 +1,10 @@
 //! A repository in memory.
-use crate::faults::{BatchError, BatchFault, NoMemory, OpenError};
+use crate::changes::{ChangeProof, KeyChange, Told};
+use crate::faults::{BatchError, BatchFault, NoMemory, OpenError, ProvingFault};
 use crate::framing::{Reader, filled};
 use crate::sys;
 use crate::values::{Cid, Proof};
+use std::collections::HashSet;
 use std::{fmt, io};
 
 /// What a batch is stamped with.
@@ -28,7 +30,7 @@ pub enum Write<'a> {
 }
 
 impl<'a> Write<'a> {
-    fn parts(self) -> (u8, &'a str, &'a [u8]) {
+    pub(crate) fn parts(self) -> (u8, &'a str, &'a [u8]) {
         match self {
             Write::Put(key, record) => (0, key, record),
             Write::Create(key, record) => (1, key, record),
@@ -54,14 +56,23 @@ pub struct Applied {
 ///
 /// It keeps all its writes, and takes 1,048,576 of them at most.
 ///
-/// It stays on its thread, since that what the library keeps behind its pointer may go to another one isn't proved:
+/// It may go to another thread, which is proved of what the library keeps behind its pointer:
+///
+/// ```
+/// let repository = tizulgech::Repository::open(10)?;
+/// let owner = std::thread::spawn(move || repository.number());
+/// assert_eq!(owner.join().unwrap(), 0);
+/// # Ok::<(), tizulgech::OpenError>(())
+/// ```
+///
+/// But one call at a time has it, so no two threads do, unless a lock stands round it:
 ///
 /// ```compile_fail
 /// let repository = tizulgech::Repository::open(10).unwrap();
-/// std::thread::spawn(move || repository.number()); // `*mut u8` cannot be sent between threads safely
+/// std::thread::scope(|scope| scope.spawn(|| repository.number()).join().unwrap()); // it isn't `Sync`
 /// ```
 ///
-/// Threads share one by way of the thread that has it:
+/// Or by way of the thread that has it:
 ///
 /// ```
 /// use std::{sync::mpsc, thread};
@@ -211,7 +222,7 @@ impl Repository {
         }
     }
 
-    /// That file into a writer, in parts of a million bytes.
+    /// That file into a writer, section by section: each is made once, and the whole is never in memory.
     ///
     /// ```
     /// # let repository = tizulgech::Repository::open(1000)?;
@@ -221,15 +232,27 @@ impl Repository {
     /// # Ok::<(), Box<dyn std::error::Error>>(())
     /// ```
     pub fn write_car(&self, out: &mut impl io::Write) -> io::Result<u64> {
-        let (mut part, mut done) = (vec![0; 1_000_000], 0);
-        loop {
-            let count = self.car_part(done, &mut part).map_err(|_| io::Error::from(io::ErrorKind::OutOfMemory))?;
-            if count == 0 {
-                return Ok(done);
-            }
-            out.write_all(&part[..count])?;
-            done += count as u64;
+        let mut done = 0;
+        for part in self.car_parts() {
+            let part = part.map_err(|_| io::Error::from(io::ErrorKind::OutOfMemory))?;
+            out.write_all(&part)?;
+            done += part.len() as u64;
         }
+        Ok(done)
+    }
+
+    /// That file in parts: its header, and a section for each block.
+    ///
+    /// ```
+    /// # let repository = tizulgech::Repository::open(1000)?;
+    /// let parts: Vec<Vec<u8>> = repository.car_parts().collect::<Result<_, _>>()?;
+    /// assert_eq!(parts.concat(), repository.car()?);
+    /// # Ok::<(), Box<dyn std::error::Error>>(())
+    /// ```
+    pub fn car_parts(&self) -> CarParts<'_> {
+        let mut left = vec![(true, self.root())];
+        left.extend(self.commit().map(|commit| (false, commit)));
+        CarParts { repository: self, is_begun: false, left, seen: HashSet::new() }
     }
 
     /// The proof of a key, there or not: the nodes of its path.
@@ -249,6 +272,82 @@ impl Repository {
         }
         Ok(Proof { nodes })
     }
+
+    /// The proof that some changes, whose keys ascend strictly, led to the repository as it is. Whoever has it and both roots can
+    /// see that they did; that each key had before what is told is for them to see, as this repository knows nothing of it.
+    pub fn prove_change(&self, changes: &[KeyChange<'_>]) -> Result<ChangeProof, ProvingFault> {
+        let (told, mut place) = (Told::of(changes), 0);
+        let bytes = match filled(8192, |out, size| self.handle.prove_change(told.lists(), &mut place, out, size)) {
+            Ok(bytes) => bytes,
+            Err(33) => return Err(ProvingFault::OtherValue(place)),
+            Err(252) => return Err(ProvingFault::BadKeys),
+            Err(_) => return Err(ProvingFault::NoMemory),
+        };
+        let mut reader = Reader(&bytes);
+        let mut nodes = Vec::new();
+        while !reader.is_empty() {
+            nodes.push(reader.part().to_vec());
+        }
+        Ok(ChangeProof { nodes })
+    }
+}
+
+/// The parts of a repository's file. It ends with the first fault.
+pub struct CarParts<'a> {
+    repository: &'a Repository,
+    is_begun: bool,
+    /// What is still to come, the last first: whether it is a node, and its CID.
+    left: Vec<(bool, Cid)>,
+    seen: HashSet<Cid>,
+}
+
+impl CarParts<'_> {
+    fn part(&mut self) -> Result<Option<Vec<u8>>, u8> {
+        let handle = &self.repository.handle;
+        if !self.is_begun {
+            self.is_begun = true;
+            return filled(64, |out, size| handle.car_head(out, size)).map(Some);
+        }
+        while let Some((is_node, cid)) = self.left.pop() {
+            if is_node {
+                // A node's block may come as a record too: what is below it comes where it stands as a node.
+                let section = filled(4096, |out, size| handle.car_section(&cid.0, out, size))?;
+                self.below(block_of(&section))?;
+                if self.seen.insert(cid) {
+                    return Ok(Some(section));
+                }
+            } else if self.seen.insert(cid) {
+                return filled(4096, |out, size| handle.car_section(&cid.0, out, size)).map(Some);
+            }
+        }
+        Ok(None)
+    }
+
+    /// What stands below a node comes next.
+    fn below(&mut self, node: &[u8]) -> Result<(), u8> {
+        let links = filled(37 * 64, |out, size| sys::links(node, out, size))?;
+        for link in links.chunks_exact(37).rev() {
+            self.left.push((link[0] == 1, Cid(link[1..].try_into().expect("36 bytes"))));
+        }
+        Ok(())
+    }
+}
+
+/// The block of a section: it stands behind a length, of which each byte but the last is 128 or more, and a CID.
+fn block_of(section: &[u8]) -> &[u8] {
+    let length = section.iter().take_while(|byte| **byte >= 128).count() + 1;
+    &section[length + 36..]
+}
+
+impl Iterator for CarParts<'_> {
+    type Item = Result<Vec<u8>, NoMemory>;
+    fn next(&mut self) -> Option<Result<Vec<u8>, NoMemory>> {
+        let part = self.part();
+        if part.is_err() {
+            self.left.clear();
+        }
+        part.map_err(|_| NoMemory).transpose()
+    }
 }
 
 impl fmt::Debug for Repository {
@@ -264,19 +363,30 @@ pub struct Pairs<'a> {
     page: std::vec::IntoIter<(Vec<u8>, Cid)>,
 }
 
+impl Pairs<'_> {
+    /// As many pairs from a key on as a room of so many bytes has.
+    fn page(&self, from: &[u8]) -> Option<Vec<(Vec<u8>, Cid)>> {
+        let handle = &self.repository.handle;
+        let bytes = filled(24_576, |out, size| handle.entries(from, 512, out, size)).ok()?;
+        let mut reader = Reader(&bytes);
+        let mut pairs = Vec::new();
+        while !reader.is_empty() {
+            pairs.push((reader.part().to_vec(), reader.cid()));
+        }
+        Some(pairs)
+    }
+}
+
 impl Iterator for Pairs<'_> {
     type Item = (Vec<u8>, Cid);
     fn next(&mut self) -> Option<(Vec<u8>, Cid)> {
         if let Some(pair) = self.page.next() {
             return Some(pair);
         }
-        let page = self.repository.list(self.next.take()?, 256).ok()?;
-        if page.len() == 256 {
-            // the least key after the last one
-            let mut next = page[255].0.clone();
-            next.push(0);
-            self.next = Some(next);
-        }
+        let from = self.next.take()?;
+        let page = self.page(&from)?;
+        // the least key after the last one
+        self.next = page.last().map(|(last, _)| [last, &[0][..]].concat());
         self.page = page.into_iter();
         self.page.next()
     }

@@ -19,7 +19,16 @@ pub struct Raw {
 const _: () = assert!(size_of::<Raw>() == 2 * size_of::<usize>());
 
 unsafe extern "C" {
+    pub fn tizulgech_version() -> u64;
     pub fn tizulgech_record_fault(bytes: *const u8, len: usize) -> u8;
+    pub fn tizulgech_write_fault(
+        kind: u8,
+        there: bool,
+        key: *const u8,
+        key_len: usize,
+        record: *const u8,
+        record_len: usize,
+    ) -> u8;
     pub fn tizulgech_layer(key: *const u8, len: usize) -> u16;
     pub fn tizulgech_is_key(key: *const u8, len: usize) -> bool;
     pub fn tizulgech_is_repository_key(key: *const u8, len: usize) -> bool;
@@ -27,6 +36,7 @@ unsafe extern "C" {
     pub fn tizulgech_cid_text(cid: *const u8, len: usize, out: *mut u8, room: usize) -> bool;
     pub fn tizulgech_cid_from_text(text: *const u8, len: usize, out: *mut u8, room: usize) -> u8;
     pub fn tizulgech_step(node: *const u8, len: usize, key: *const u8, key_len: usize, out: *mut u8, room: usize) -> u8;
+    pub fn tizulgech_links(node: *const u8, len: usize, out: *mut u8, room: usize, size: *mut usize) -> u8;
     pub fn tizulgech_is_did(did: *const u8, len: usize) -> bool;
     pub fn tizulgech_is_tid(rev: *const u8, len: usize) -> bool;
     pub fn tizulgech_stamp_fault(
@@ -78,6 +88,27 @@ unsafe extern "C" {
         key_len: usize,
         value: *mut u8,
         value_room: usize,
+    ) -> u8;
+    pub fn tizulgech_verify_change(
+        nodes: *const u8,
+        nodes_len: usize,
+        node_ends: *const usize,
+        node_count: usize,
+        before: *const u8,
+        before_len: usize,
+        after: *const u8,
+        after_len: usize,
+        keys: *const u8,
+        keys_len: usize,
+        key_ends: *const usize,
+        key_count: usize,
+        befores: *const u8,
+        befores_len: usize,
+        afters: *const u8,
+        afters_len: usize,
+        missing: *mut u8,
+        missing_room: usize,
+        place: *mut usize,
     ) -> u8;
     pub fn tizulgech_tree_root(
         keys: *const u8,
@@ -143,16 +174,49 @@ unsafe extern "C" {
         room: usize,
         size: *mut usize,
     ) -> u8;
+    pub fn tizulgech_entries(
+        repository: *mut Raw,
+        from: *const u8,
+        from_len: usize,
+        most: usize,
+        out: *mut u8,
+        room: usize,
+        size: *mut usize,
+    ) -> u8;
     pub fn tizulgech_root(repository: *mut Raw, root: *mut u8, room: usize) -> u8;
     pub fn tizulgech_commit(repository: *mut Raw, commit: *mut u8, room: usize) -> u8;
     pub fn tizulgech_number(repository: *mut Raw, number: *mut u64) -> u8;
     pub fn tizulgech_car(repository: *mut Raw, out: *mut u8, room: usize, size: *mut usize) -> u8;
     pub fn tizulgech_car_length(repository: *mut Raw, length: *mut u64) -> u8;
     pub fn tizulgech_car_part(repository: *mut Raw, from: u64, out: *mut u8, room: usize, size: *mut usize) -> u8;
+    pub fn tizulgech_car_head(repository: *mut Raw, out: *mut u8, room: usize, size: *mut usize) -> u8;
+    pub fn tizulgech_car_section(
+        repository: *mut Raw,
+        cid: *const u8,
+        cid_len: usize,
+        out: *mut u8,
+        room: usize,
+        size: *mut usize,
+    ) -> u8;
     pub fn tizulgech_prove(
         repository: *mut Raw,
         key: *const u8,
         key_len: usize,
+        out: *mut u8,
+        room: usize,
+        size: *mut usize,
+    ) -> u8;
+    pub fn tizulgech_prove_change(
+        repository: *mut Raw,
+        keys: *const u8,
+        keys_len: usize,
+        key_ends: *const usize,
+        key_count: usize,
+        befores: *const u8,
+        befores_len: usize,
+        afters: *const u8,
+        afters_len: usize,
+        place: *mut usize,
         out: *mut u8,
         room: usize,
         size: *mut usize,
@@ -168,9 +232,32 @@ pub struct Parts<'a> {
     pub ends: &'a [usize],
 }
 
+/// Changes of keys: these, with 36 bytes for each in both lists, what it had and what it has.
+#[derive(Clone, Copy)]
+pub struct Told<'a> {
+    pub keys: Parts<'a>,
+    pub befores: &'a [u8],
+    pub afters: &'a [u8],
+}
+
+pub fn version() -> u64 {
+    // SAFETY: a number.
+    unsafe { tizulgech_version() }
+}
+
 pub fn record_fault(bytes: &[u8]) -> u8 {
     // SAFETY: slices; see the head of this file, here and below.
     unsafe { tizulgech_record_fault(bytes.as_ptr(), bytes.len()) }
+}
+
+pub fn write_fault(kind: u8, there: bool, key: &[u8], record: &[u8]) -> u8 {
+    // SAFETY: as above.
+    unsafe { tizulgech_write_fault(kind, there, key.as_ptr(), key.len(), record.as_ptr(), record.len()) }
+}
+
+pub fn links(node: &[u8], out: &mut [u8], size: &mut usize) -> u8 {
+    // SAFETY: as above.
+    unsafe { tizulgech_links(node.as_ptr(), node.len(), out.as_mut_ptr(), out.len(), size) }
 }
 
 pub fn layer(key: &[u8]) -> u16 {
@@ -291,6 +378,33 @@ pub fn verify(blocks: Parts<'_>, root: &Cid, key: &[u8], value: &mut Cid) -> u8 
     }
 }
 
+pub fn verify_change(nodes: Parts<'_>, before: &Cid, after: &Cid, told: Told<'_>, missing: &mut Cid, place: &mut usize) -> u8 {
+    // SAFETY: as above, and room for 36 bytes.
+    unsafe {
+        tizulgech_verify_change(
+            nodes.bytes.as_ptr(),
+            nodes.bytes.len(),
+            nodes.ends.as_ptr(),
+            nodes.ends.len(),
+            before.as_ptr(),
+            36,
+            after.as_ptr(),
+            36,
+            told.keys.bytes.as_ptr(),
+            told.keys.bytes.len(),
+            told.keys.ends.as_ptr(),
+            told.keys.ends.len(),
+            told.befores.as_ptr(),
+            told.befores.len(),
+            told.afters.as_ptr(),
+            told.afters.len(),
+            missing.as_mut_ptr(),
+            36,
+            place,
+        )
+    }
+}
+
 pub fn tree_root(keys: Parts<'_>, cids: &[u8], out: &mut Cid, nodes: &mut usize) -> u8 {
     // SAFETY: as above, and room for 36 bytes.
     unsafe {
@@ -334,10 +448,14 @@ pub fn listing_car(did: &[u8], rev: &[u8], keys: Parts<'_>, records: Parts<'_>, 
 /// A repository that is open, until it is dropped.
 ///
 /// Calls that only read write to it too, while they run. So it isn't `Sync`; and since no call calls back, one call at a
-/// time has it. Nor is it `Send`: that what stands behind the pointer may go to another thread isn't proved.
+/// time has it.
 pub struct Handle {
     raw: UnsafeCell<Raw>,
 }
+
+// SAFETY: that what stands behind the pointer may go to another thread is proved in the library (`Send` of its `Handle`), and
+// its calls ask for no thread of their own.
+unsafe impl Send for Handle {}
 
 impl Handle {
     pub fn open(limit: usize) -> Result<Handle, u8> {
@@ -397,6 +515,11 @@ impl Handle {
         unsafe { tizulgech_list(self.raw.get(), from.as_ptr(), from.len(), most, out.as_mut_ptr(), out.len(), size) }
     }
 
+    pub fn entries(&self, from: &[u8], most: usize, out: &mut [u8], size: &mut usize) -> u8 {
+        // SAFETY: as above.
+        unsafe { tizulgech_entries(self.raw.get(), from.as_ptr(), from.len(), most, out.as_mut_ptr(), out.len(), size) }
+    }
+
     pub fn root(&self, root: &mut Cid) -> u8 {
         // SAFETY: as above, and room for 36 bytes.
         unsafe { tizulgech_root(self.raw.get(), root.as_mut_ptr(), 36) }
@@ -427,9 +550,40 @@ impl Handle {
         unsafe { tizulgech_car_part(self.raw.get(), from, out.as_mut_ptr(), out.len(), size) }
     }
 
+    pub fn car_head(&self, out: &mut [u8], size: &mut usize) -> u8 {
+        // SAFETY: as above.
+        unsafe { tizulgech_car_head(self.raw.get(), out.as_mut_ptr(), out.len(), size) }
+    }
+
+    pub fn car_section(&self, cid: &Cid, out: &mut [u8], size: &mut usize) -> u8 {
+        // SAFETY: as above.
+        unsafe { tizulgech_car_section(self.raw.get(), cid.as_ptr(), 36, out.as_mut_ptr(), out.len(), size) }
+    }
+
     pub fn prove(&self, key: &[u8], out: &mut [u8], size: &mut usize) -> u8 {
         // SAFETY: as above.
         unsafe { tizulgech_prove(self.raw.get(), key.as_ptr(), key.len(), out.as_mut_ptr(), out.len(), size) }
+    }
+
+    pub fn prove_change(&self, told: Told<'_>, place: &mut usize, out: &mut [u8], size: &mut usize) -> u8 {
+        // SAFETY: as above.
+        unsafe {
+            tizulgech_prove_change(
+                self.raw.get(),
+                told.keys.bytes.as_ptr(),
+                told.keys.bytes.len(),
+                told.keys.ends.as_ptr(),
+                told.keys.ends.len(),
+                told.befores.as_ptr(),
+                told.befores.len(),
+                told.afters.as_ptr(),
+                told.afters.len(),
+                place,
+                out.as_mut_ptr(),
+                out.len(),
+                size,
+            )
+        }
     }
 }
 

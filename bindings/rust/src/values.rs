@@ -1,7 +1,7 @@
 //! Calls without state. Any number of threads may make them.
-use crate::faults::{CidFault, ProofFault, RecordFault, StampFault, TreeFault};
+use crate::faults::{BatchFault, CidFault, ProofFault, RecordFault, StampFault, TreeFault};
 use crate::framing::{Joined, filled};
-use crate::repository::Stamp;
+use crate::repository::{Stamp, Write};
 use crate::sys;
 use std::fmt;
 use std::str::FromStr;
@@ -91,6 +91,34 @@ pub fn layer(key: impl AsRef<[u8]>) -> u16 {
 /// ```
 pub fn is_key(key: impl AsRef<[u8]>) -> bool {
     sys::is_key(key.as_ref())
+}
+
+/// The number of the library's interface for which this crate is written.
+pub const VERSION: u64 = 1;
+
+/// The number of the interface of the library that is linked: it has to be [`VERSION`].
+///
+/// ```
+/// assert_eq!(tizulgech::version(), tizulgech::VERSION);
+/// ```
+pub fn version() -> u64 {
+    sys::version()
+}
+
+/// Whether a repository takes a write, where it is known whether there is a record under its key.
+///
+/// ```
+/// use tizulgech::{BatchFault, Write, check_write};
+/// let key = "app.bsky.feed.post/3jzfcijpj2z2a";
+/// assert_eq!(check_write(false, Write::Create(key, b"\xa0")), Ok(()));
+/// assert_eq!(check_write(false, Write::Delete(key)), Err(BatchFault::NoSuchKey));
+/// ```
+pub fn check_write(there: bool, write: Write<'_>) -> Result<(), BatchFault> {
+    let (kind, key, record) = write.parts();
+    match sys::write_fault(kind, there, key.as_bytes(), record) {
+        0 => Ok(()),
+        number => Err(BatchFault::of(number)),
+    }
 }
 
 /// Whether a repository may have a record under the key: a collection, a slash and a record key.

@@ -8,7 +8,7 @@ mod sys;
 use common::{DID, Random, change, from, hex, key, no_pairs, record, tid};
 use std::collections::{BTreeMap, BTreeSet};
 use std::ptr::null_mut;
-use sys::{Handle, Parts, Raw};
+use sys::{Handle, Parts, Raw, Told};
 use tizulgech::{Cid, RecordFault, check_record, tree};
 
 /// What each call may answer, but for what a clash, a full store or refused memory alone bring.
@@ -17,12 +17,19 @@ const ANSWERS: &[(&str, &str)] = &[
         "record_fault",
         "DONE TRUNCATED LONG_HEAD INDEFINITE BAD_TAG BAD_LINK KEY_NOT_TEXT KEY_ORDER BAD_UTF8 FLOAT SIMPLE INTEGER_RANGE TOO_DEEP TRAILING",
     ),
+    (
+        "write_fault",
+        "DONE TRUNCATED LONG_HEAD INDEFINITE BAD_TAG BAD_LINK KEY_NOT_TEXT KEY_ORDER BAD_UTF8 FLOAT SIMPLE INTEGER_RANGE TOO_DEEP TRAILING \
+         BAD_KEY NOT_A_MAP RECORD_SIZE KEY_EXISTS NONE BAD",
+    ),
+    ("links", "DONE SMALL BAD_NODE"),
     ("cid_from_text", "DONE CID_LENGTH CID_PREFIX CID_LETTER CID_BITS CID_PROFILE"),
     ("step", "DONE BELOW NONE BAD_NODE"),
     ("stamp_fault", "DONE BAD_DID BAD_REV REV_ORDER"),
     ("commit_bytes", "DONE SMALL BAD"),
     ("tree_apply", "DONE MISSING BAD_NODE SMALL BAD"),
     ("verify", "DONE MISSING BAD_KEY NONE BAD_NODE TOO_MANY_NODES BAD"),
+    ("verify_change", "DONE MISSING BAD_NODE OTHER_VALUE OTHER_ROOT BAD"),
     ("tree_root", "DONE NOT_ASCENDING BAD"),
     ("listing_car", "DONE NOT_BUILT SMALL BAD"),
     ("open", "DONE OPEN BAD"),
@@ -35,13 +42,17 @@ const ANSWERS: &[(&str, &str)] = &[
     ),
     ("get", "DONE NONE SMALL CLOSED"),
     ("list", "DONE SMALL CLOSED"),
+    ("entries", "DONE SMALL CLOSED"),
     ("root", "DONE CLOSED"),
     ("commit", "DONE NONE CLOSED"),
     ("number", "DONE CLOSED"),
     ("car", "DONE SMALL CLOSED"),
     ("car_length", "DONE CLOSED"),
     ("car_part", "DONE CLOSED"),
+    ("car_head", "DONE SMALL CLOSED"),
+    ("car_section", "DONE NONE SMALL CLOSED BAD"),
     ("prove", "DONE SMALL CLOSED"),
+    ("prove_change", "DONE OTHER_VALUE SMALL CLOSED BAD"),
 ];
 
 /// Bytes that are no record, in the order of the numbers.
@@ -119,7 +130,22 @@ fn values(seen: &mut Seen) {
         let number = sys::record_fault(bytes);
         assert_eq!(number as usize, at + 1);
         seen.see("record_fault", number);
+        seen.see("write_fault", sys::write_fault(0, false, KEY, bytes));
     }
+    let long = vec![0; 1_048_577];
+    for (kind, there, key, bytes) in [
+        (0, true, KEY, &b"\xa0"[..]),
+        (0, true, b"a", b"\xa0"),
+        (0, true, KEY, b"\xf5"),
+        (0, true, KEY, &long),
+        (1, true, KEY, b"\xa0"),
+        (2, false, KEY, b"\xa0"),
+        (3, false, KEY, b""),
+        (4, true, KEY, b"\xa0"),
+    ] {
+        seen.see("write_fault", sys::write_fault(kind, there, key, bytes));
+    }
+    assert_eq!((sys::write_fault(2, true, KEY, b"\xa0"), sys::write_fault(3, true, KEY, b"\xf5")), (0, 0));
     let text = tree::EMPTY_ROOT;
     for text in [
         text.into(),
@@ -157,6 +183,24 @@ fn trees(seen: &mut Seen) {
     for (node, key) in [(&node[..], KEY), (&over, KEY), (&node, b"a"), (b"", KEY)] {
         seen.see("step", sys::step(node, key, &mut [0; 36]));
     }
+    for (node, room) in [(&node[..], 37), (&node, 36), (b"", 0)] {
+        seen.see("links", sys::links(node, &mut vec![0; room], &mut 0));
+    }
+
+    // the one key came with the one node
+    let mut verify_change = |nodes: &[u8], ends: &[usize], roots: [&Cid; 2], keys: &[usize], value: &Cid| {
+        let told = Told { keys: one(KEY, keys), befores: &[0; 36], afters: value.as_bytes() };
+        let [before, after] = roots.map(Cid::as_bytes);
+        seen.see("verify_change", sys::verify_change(one(nodes, ends), before, after, told, &mut [0; 36], &mut 0));
+    };
+    let (own, other) = (Cid::of(b""), Cid::of(b"other"));
+    verify_change(&node, &[node.len()], [&empty_root, &root], &[KEY.len()], &own);
+    verify_change(&node, &[node.len()], [&root, &root], &[KEY.len()], &own);
+    verify_change(&node, &[node.len()], [&empty_root, &root], &[KEY.len()], &other);
+    verify_change(&node, &[node.len()], [&empty_root, &other], &[KEY.len()], &own);
+    verify_change(b"x", &[1], [&empty_root, &Cid::of(b"x")], &[KEY.len()], &own);
+    verify_change(&node, &[node.len()], [&empty_root, &root], &[0], &own);
+    verify_change(&node, &[node.len() + 1], [&empty_root, &root], &[KEY.len()], &own);
 
     let mut tree_apply = |node: &[u8], ends: &[usize], root: Cid, keys: &[usize], room: usize| {
         seen.see(
@@ -258,9 +302,27 @@ fn repositories(seen: &mut Seen) {
     seen.see("get", handle.get(KEY, out, size));
     seen.see("get", handle.get(KEY, &mut [], size));
     seen.see("get", handle.get(b"a", out, size));
+    let record = *Cid::of(b"\xa0").as_bytes();
+    fn told<'a>(key: &'a [u8], befores: &'a [u8], afters: &'a [u8]) -> Told<'a> {
+        Told { keys: one(key, &[7]), befores, afters }
+    }
+    for (cid, number) in [(*Cid::of(b"").as_bytes(), 24), ([0; 36], 252)] {
+        assert_eq!(handle.car_section(&cid, out, size), number);
+        seen.see("car_section", number);
+    }
+    let mut place = 9;
+    seen.see("prove_change", handle.prove_change(told(KEY, &record, &[0; 36]), &mut place, out, size));
+    assert_eq!(place, 0);
+    for (key, befores) in [(&b""[..], &[0; 36][..]), (KEY, &[0; 35]), (KEY, &[1; 36])] {
+        seen.see("prove_change", handle.prove_change(told(key, befores, &record), &mut 0, out, size));
+    }
     for room in [1000, 0] {
         let out = &mut out[..room];
         seen.see("list", handle.list(b"", 9, out, size));
+        seen.see("entries", handle.entries(b"", 9, out, size));
+        seen.see("car_head", handle.car_head(out, size));
+        seen.see("car_section", handle.car_section(&record, out, size));
+        seen.see("prove_change", handle.prove_change(told(KEY, &[0; 36], &record), &mut 0, out, size));
         seen.see("car", handle.car(out, size));
         seen.see("car_part", handle.car_part(0, out, size));
         seen.see("prove", handle.prove(KEY, out, size));
@@ -275,7 +337,7 @@ type OfRepository = (&'static str, fn(*mut Raw) -> u8);
 
 /// Each call that takes a repository and answers a number, but `open`.
 // SAFETY: each is given a repository, slices, and room for CIDs.
-const OF_REPOSITORIES: [OfRepository; 12] = [
+const OF_REPOSITORIES: [OfRepository; 16] = [
     ("stage", |it| unsafe { sys::tizulgech_stage(it, 0, KEY.as_ptr(), KEY.len(), b"\xa0".as_ptr(), 1) }),
     ("clear", |it| unsafe { sys::tizulgech_clear(it) }),
     ("apply", |it| unsafe {
@@ -285,13 +347,20 @@ const OF_REPOSITORIES: [OfRepository; 12] = [
     }),
     ("get", |it| unsafe { sys::tizulgech_get(it, KEY.as_ptr(), KEY.len(), [0; 99].as_mut_ptr(), 99, &mut 0) }),
     ("list", |it| unsafe { sys::tizulgech_list(it, KEY.as_ptr(), 0, 9, [0; 99].as_mut_ptr(), 99, &mut 0) }),
+    ("entries", |it| unsafe { sys::tizulgech_entries(it, KEY.as_ptr(), 0, 9, [0; 99].as_mut_ptr(), 99, &mut 0) }),
     ("root", |it| unsafe { sys::tizulgech_root(it, [0; 36].as_mut_ptr(), 36) }),
     ("commit", |it| unsafe { sys::tizulgech_commit(it, [0; 36].as_mut_ptr(), 36) }),
     ("number", |it| unsafe { sys::tizulgech_number(it, &mut 0) }),
     ("car", |it| unsafe { sys::tizulgech_car(it, [0; 999].as_mut_ptr(), 999, &mut 0) }),
     ("car_length", |it| unsafe { sys::tizulgech_car_length(it, &mut 0) }),
     ("car_part", |it| unsafe { sys::tizulgech_car_part(it, 0, [0; 99].as_mut_ptr(), 99, &mut 0) }),
+    ("car_head", |it| unsafe { sys::tizulgech_car_head(it, [0; 99].as_mut_ptr(), 99, &mut 0) }),
+    ("car_section", |it| unsafe { sys::tizulgech_car_section(it, KEY.as_ptr(), KEY.len(), [0; 99].as_mut_ptr(), 99, &mut 0) }),
     ("prove", |it| unsafe { sys::tizulgech_prove(it, KEY.as_ptr(), KEY.len(), [0; 999].as_mut_ptr(), 999, &mut 0) }),
+    ("prove_change", |it| unsafe {
+        let (no, out, none) = (KEY.as_ptr(), [0; 99].as_mut_ptr(), [0; 1].as_ptr());
+        sys::tizulgech_prove_change(it, no, 0, none, 0, no, 0, no, 0, &mut 0, out, 99, &mut 0)
+    }),
 ];
 
 /// One that was never opened, and one that was closed: each call says so, and leaves it closed.
@@ -356,6 +425,15 @@ fn small_rooms() {
     each_room(|out, size| handle.list(b"", 9, out, size));
     each_room(|out, size| handle.car(out, size));
     each_room(|out, size| handle.prove(KEY, out, size));
+    each_room(|out, size| handle.entries(b"", 9, out, size));
+    each_room(|out, size| handle.car_head(out, size));
+    let record = *Cid::of(b"\xa0").as_bytes();
+    each_room(|out, size| handle.car_section(&record, out, size));
+    let told = Told { keys: one(KEY, &[7]), befores: &[0; 36], afters: &record };
+    each_room(|out, size| handle.prove_change(told, &mut 0, out, size));
+    let (mut proof, mut length) = ([0; 999], 0);
+    assert_eq!(handle.prove(KEY, &mut proof, &mut length), 0);
+    each_room(|out, size| sys::links(&proof[8..length], out, size));
     let mut number = 0;
     assert_eq!((handle.number(&mut number), number), (0, 1));
     assert_eq!(apply(&mut handle, DID, 2), 0);
@@ -364,6 +442,35 @@ fn small_rooms() {
 }
 
 /// The names of the Rust crate are those of the header.
+/// A page has as many pairs as there is room for, and the next one goes on behind it.
+#[test]
+fn pages() {
+    let mut handle = Handle::open(100).unwrap();
+    for i in 0..50 {
+        assert_eq!(handle.stage(0, key(i).as_bytes(), &record(i)), 0);
+    }
+    assert_eq!(apply(&mut handle, DID, 1), 0);
+    let (mut all, mut whole) = (vec![0; 9999], 0);
+    assert_eq!(handle.list(b"", 99, &mut all, &mut whole), 0);
+    for room in (76..400).chain([whole - 1, whole, whole + 1]) {
+        let (mut out, mut size, mut read, mut from) = (vec![0; room], 0, Vec::new(), Vec::new());
+        while {
+            assert_eq!(handle.entries(&from, 99, &mut out, &mut size), 0);
+            size > 0
+        } {
+            // all keys are of one length
+            assert_eq!(size, room.min(whole - read.len()) / 76 * 76);
+            read.extend_from_slice(&out[..size]);
+            from = [&out[size - 68..size - 36], &[0]].concat();
+        }
+        assert_eq!(read, all[..whole]);
+    }
+    let (mut out, mut size) = (vec![0; 75], 0);
+    assert_eq!((handle.entries(b"", 99, &mut out, &mut size), size), (251, 76));
+    assert_eq!((handle.entries(b"", 2, &mut all, &mut size), size), (0, 152));
+    assert_eq!((handle.entries(b"", 0, &mut out, &mut size), size), (0, 0));
+}
+
 #[test]
 fn names_of_record_faults() {
     let numbers = numbers();

@@ -201,6 +201,108 @@ fn files() {
     assert_eq!(Proof::default().verify(&root, ""), Err(ProofFault::KeyLength));
 }
 
+/// The parts of a file behind one another are the file, also where a block stands in it more than once.
+#[test]
+fn parts_of_files() {
+    let mut random = Random(5);
+    let mut repository = Repository::open(2000).unwrap();
+    for turn in 0..20 {
+        let whole = repository.car().unwrap();
+        let parts: Vec<Vec<u8>> = repository.car_parts().map(Result::unwrap).collect();
+        assert_eq!(parts.concat(), whole);
+        // a record that reads as a node is a record, also where it has the bytes of one of the tree's nodes
+        let node = repository.prove("").unwrap().nodes.pop().unwrap();
+        let made: Vec<(String, Vec<u8>)> = (0..40).map(|_| (key(random.below(300)), record(random.below(20)))).collect();
+        let mut writes: Vec<Write> = made.iter().map(|(k, r)| Write::Put(k, r)).collect();
+        writes.push(Write::Put("a.b.c/d", &node));
+        repository.apply(Stamp { did: DID, rev: &tid(turn + 1) }, &writes).unwrap();
+    }
+}
+
+/// Changes of random batches are proved, and with anything else told, or a node less, they aren't.
+#[test]
+fn proofs_of_changes() {
+    let mut random = Random(11);
+    let mut repository = Repository::open(5000).unwrap();
+    let mut plain: BTreeMap<String, Vec<u8>> = BTreeMap::new();
+    for turn in 0..60 {
+        let before = plain.clone();
+        let made: Vec<(String, Option<Vec<u8>>)> = (0..1 + random.below(9))
+            .map(|_| (key(random.below(200)), (random.below(3) > 0).then(|| record(random.below(500)))))
+            .filter(|(key, record)| record.is_some() || plain.contains_key(key))
+            .collect();
+        let mut writes = Vec::new();
+        for (key, record) in &made {
+            match record {
+                Some(record) => {
+                    plain.insert(key.clone(), record.clone());
+                    writes.push(Write::Put(key, record));
+                }
+                None if plain.remove(key).is_some() => writes.push(Write::Delete(key)),
+                None => {}
+            }
+        }
+        if writes.is_empty() {
+            continue;
+        }
+        let applied = repository.apply(Stamp { did: DID, rev: &tid(turn + 1) }, &writes).unwrap();
+        let keys: BTreeSet<&String> = made.iter().map(|(key, _)| key).collect();
+        let value = |records: &BTreeMap<String, Vec<u8>>, key: &String| records.get(key).map(|record| Cid::of(record));
+        let changes: Vec<KeyChange> = keys
+            .into_iter()
+            .map(|key| KeyChange { key: key.as_bytes(), before: value(&before, key), after: value(&plain, key) })
+            .collect();
+        let proof = repository.prove_change(&changes).unwrap();
+        let (old, new, other) = (applied.previous, applied.root, Cid::of(b"another"));
+        assert_eq!(proof.verify(&old, &new, &changes), Ok(()));
+        assert_eq!(proof.verify(&other, &new, &changes), Err(ChangeFault::OtherRoot));
+        assert_eq!(proof.verify(&old, &other, &changes), Err(ChangeFault::Missing(other)));
+        for place in 0..changes.len() {
+            let mut told = changes.clone();
+            told[place].after = Some(other);
+            assert_eq!(proof.verify(&old, &new, &told), Err(ChangeFault::OtherValue(place)));
+            assert_eq!(repository.prove_change(&told), Err(ProvingFault::OtherValue(place)));
+            let mut told = changes.clone();
+            told[place].before = Some(other);
+            assert!(proof.verify(&old, &new, &told).is_err());
+        }
+        for place in 0..proof.nodes.len() {
+            let mut fewer = proof.clone();
+            let gone = Cid::of(&fewer.nodes.remove(place));
+            assert_eq!(fewer.verify(&old, &new, &changes), Err(ChangeFault::Missing(gone)));
+        }
+        let twice = [changes[0], changes[0]];
+        assert_eq!(proof.verify(&old, &new, &twice), Err(ChangeFault::BadKeys));
+        assert_eq!(repository.prove_change(&twice), Err(ProvingFault::BadKeys));
+    }
+    let no_node = ChangeProof { nodes: vec![b"x".to_vec()] };
+    let change = [KeyChange { key: b"a", before: None, after: None }];
+    assert_eq!(no_node.verify(&Cid::of(b"x"), &Cid::of(b"x"), &change), Err(ChangeFault::BadNode));
+    assert_eq!(repository.prove_change(&[]).unwrap().verify(&repository.root(), &repository.root(), &[]), Ok(()));
+}
+
+/// A write's test by itself is that of a batch of it.
+#[test]
+fn writes() {
+    let mut random = Random(13);
+    let mut repository = Repository::open(5000).unwrap();
+    let records = [&b"\xa0"[..], b"\xf5", b"\xa1", b"", b"\xa1\x61k\x01"];
+    for turn in 0..400 {
+        let key = if random.below(9) == 0 { "none".to_string() } else { key(random.below(20)) };
+        let record = records[random.below(5) as usize];
+        let write = match random.below(4) {
+            0 => Write::Put(&key, record),
+            1 => Write::Create(&key, record),
+            2 => Write::Update(&key, record),
+            _ => Write::Delete(&key),
+        };
+        let there = repository.get(&key).unwrap().is_some();
+        let stamp = Stamp { did: DID, rev: &tid(turn + 1) };
+        let answer = repository.apply(stamp, &[write]).map(drop).map_err(|error| error.fault);
+        assert_eq!(check_write(there, write), answer);
+    }
+}
+
 /// Puts and deletes over nodes that the host keeps leave exactly the nodes of the tree from scratch.
 #[test]
 fn edits() {
@@ -320,6 +422,25 @@ fn stamps() {
     let commit = commit_bytes(stamp, &applied.root).unwrap();
     assert_eq!(Cid::of(&commit), applied.commit);
     assert!(check_record(&commit).is_ok() && is_did(DID) && is_tid(stamp.rev));
+}
+
+/// A repository that goes from thread to thread is the same one, and is closed by the last.
+#[test]
+fn passed_on() {
+    let mut repository = Repository::open(100).unwrap();
+    let mut plain = BTreeMap::new();
+    for turn in 0..8 {
+        let (key, record) = (key(turn), record(turn));
+        plain.insert(key.clone(), record.clone());
+        repository = std::thread::spawn(move || {
+            repository.apply(Stamp { did: DID, rev: &tid(turn + 1) }, &[Write::Create(&key, &record)]).unwrap();
+            repository
+        })
+        .join()
+        .unwrap();
+        assert_eq!(repository.root(), scratch(&plain));
+    }
+    std::thread::spawn(move || drop(repository)).join().unwrap();
 }
 
 /// One repository a thread, beside calls without state.

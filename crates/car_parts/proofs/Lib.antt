@@ -1,1 +1,2 @@
 mod Full
+mod Spelling

@@ -4,3 +4,6 @@ mod Shown
 mod Rows
 mod Staged
 mod Filed
+mod Telling
+mod Linking
+mod Handing

@@ -1,12 +1,12 @@
 -- What the code answers is what the definition answers, but for what no test gives.
-use Rattle.std.proofs.Common.{◌≡◌, ℕ, List, sym, ap, subst}
-use Rattle.std.specs.Prelude.{Option, Some, None, Result, Ok, Err, IfErr, OnOk}
+use Rattle.std.proofs.Common.{◌≡◌, ℕ, List, sym, ap, subst, false}
+use Rattle.std.specs.Prelude.{Option, Some, None, Result, Ok, Err, IfErr, OnOk, nat_eq}
 use Rattle.sha2.specs.Sha256.{sha256}
 use Rattle.spec.specs.Head.{CborFault}
 use Rattle.spec.specs.Reading.{Gives}
 use Rattle.spec.specs.States.{State, state_test}
 use Rattle.spec.specs.Stamps.{Stamp}
-use Rattle.spec.specs.Writes.{Write}
+use Rattle.spec.specs.Writes.{Write, WriteFault}
 use Rattle.dagcbor.specs.Fault.{fault_of}
 use Rattle.dagcbor.specs.declared.fault.CborFault.{CborFault as Told}
 use Rattle.dagcbor.specs.declared.fault.CborFault.TheVariants as errors
@@ -18,7 +18,8 @@ use Rattle.export.specs.Faults.{fault_of as proof_fault}
 use Rattle.node.specs.declared.fault.NodeFault.TheVariants as nodes
 use Rattle.export.specs.declared.proof_fault.ProofFault.{ProofFault as GivenProofFault}
 use Rattle.export.specs.declared.proof_fault.ProofFault.TheVariants as proofs
-use Rattle.tizulgech.specs.Numbers.{cbor_answer, record_code, IsRecordAnswer, batch_code, tested, IsTested, IsProof, IsProofTold, IsCidRead, IsCidTold}
+use Rattle.batches.specs.Tests.{write_fault, IsTestFault}
+use Rattle.tizulgech.specs.Numbers.{fault_number, test_answer, cbor_answer, record_code, IsRecordAnswer, batch_code, tested, IsTested, IsProof, IsProofTold, IsCidRead, IsCidTold}
 use Rattle.spec.specs.Cid.{CidFault}
 use Rattle.cid.specs.CidFault.{fault_of as cid_fault}
 use Rattle.cid.specs.declared.cid_fault.CidFault.{CidFault as GivenCidFault}
@@ -90,3 +91,34 @@ cid_told code out (Err cids.BadPrefix) answer t g = subst (IsCidRead code out) (
 cid_told code out (Err cids.BadLetter) answer t g = subst (IsCidRead code out) (sym g) t
 cid_told code out (Err cids.BadBits) answer t g = subst (IsCidRead code out) (sym g) t
 cid_told code out (Err cids.NotThisProfile) answer t g = subst (IsCidRead code out) (sym g) t
+
+-- the fault of a write's test
+pub write_told : {D A : Type 0} (fault : RepoFault D A) (test : Result (Unit {0}) WriteFault) → IsTestFault write_fault test fault
+    → nat_eq (fault_number fault) 255 ≡ false → fault_number fault ≡ test_answer test
+write_told faults.BadKey test h p = sym (ap test_answer h)
+write_told faults.NotAMap test h p = sym (ap test_answer h)
+write_told faults.RecordSize test h p = sym (ap test_answer h)
+write_told faults.KeyExists test h p = sym (ap test_answer h)
+write_told faults.NoSuchKey test h p = sym (ap test_answer h)
+write_told faults.WritesFull test h p = sym (ap test_answer h)
+write_told (faults.BadRecord errors.Truncated) test h p = sym (ap test_answer h)
+write_told (faults.BadRecord errors.LongHead) test h p = sym (ap test_answer h)
+write_told (faults.BadRecord errors.Indefinite) test h p = sym (ap test_answer h)
+write_told (faults.BadRecord errors.BadTag) test h p = sym (ap test_answer h)
+write_told (faults.BadRecord errors.BadLink) test h p = sym (ap test_answer h)
+write_told (faults.BadRecord errors.KeyNotText) test h p = sym (ap test_answer h)
+write_told (faults.BadRecord errors.KeyOrder) test h p = sym (ap test_answer h)
+write_told (faults.BadRecord errors.BadUtf8) test h p = sym (ap test_answer h)
+write_told (faults.BadRecord errors.Float) test h p = sym (ap test_answer h)
+write_told (faults.BadRecord errors.Simple) test h p = sym (ap test_answer h)
+write_told (faults.BadRecord errors.IntegerRange) test h p = sym (ap test_answer h)
+write_told (faults.BadRecord errors.TooDeep) test h p = sym (ap test_answer h)
+write_told (faults.BadRecord errors.Trailing) test h p = sym (ap test_answer h)
+write_told (faults.BadRecord errors.NoMemory) test h p = absurd h
+write_told (faults.Collision pair) test h p = absurd h
+write_told faults.StoreFull test h p = absurd h
+write_told faults.NoMemory test h p = absurd cc
+write_told faults.EmptyBatch test h p = absurd h
+write_told faults.BadDid test h p = absurd h
+write_told faults.BadRev test h p = absurd h
+write_told faults.RevOrder test h p = absurd h

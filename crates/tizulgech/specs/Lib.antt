@@ -1,6 +1,8 @@
 pub mod Held
 pub mod Numbers
 pub mod Trees
+pub mod Changing
+pub mod Parting
 pub use Rattle.spec.specs.Cid
 pub use Rattle.spec.specs.Layer
 pub use Rattle.spec.specs.States

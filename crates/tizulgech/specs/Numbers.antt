@@ -169,6 +169,16 @@ abbrev pub IsStaged : ℕ → Option writes.Write → Owned → Owned → Type 0
 IsStaged code None o n = code ≡ 252
 IsStaged code (Some w) o n = (code ≡ 0) × (n ≡ staged o w)
 
+-- the number of a write's test, by whether there is a record under its key
+abbrev pub test_answer : Result (Unit {0}) writes.WriteFault → ℕ
+test_answer (Ok ok) = 0
+test_answer (Err f) = write_number f
+
+-- 252 for a kind of which there is no write
+abbrev pub write_answer : Bool → Option writes.Write → ℕ
+write_answer there None = 252
+write_answer there (Some w) = test_answer (writes.test_when there w)
+
 -- ---- bytes in a caller's room
 
 -- bytes that there may be: 24 says that there are none

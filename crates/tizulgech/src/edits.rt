@@ -9,6 +9,7 @@ ghost use Rattle.buffers.specs.Framing.{cid_at, cid_or_none_at, cut, with_values
 ghost use Rattle.tizulgech.specs.Trees.{changes_in, edit_bytes, IsEdited, IsEditOver, IsEditTold};
 
 use crate::codes::{BAD, CLASH, MISSING, NO_MEMORY, NONE};
+use crate::nodes::blocks_of;
 use block::Block;
 use buffers::{
     cid_in, hand, next_value, push_block, push_cids, push_number, push_values, slices, value_in,
@@ -138,29 +139,9 @@ fn push_nodes(bytes: &mut Vec<u8>, nodes: &[Arc<Block<Sha256>>]) -> Result<(), A
     Ok(())
 }
 
-/// The blocks of these bytes.
-fn blocks_of(alloc: Global, parts: &[&[u8]]) -> Result<Vec<Arc<Block<Sha256>>>, AllocError>
-    ensures { IfOk result (λ blocks. map arc_value blocks.items ≡ map (λ part. part.now) parts.now) }
-{
-    let mut blocks = Vec::new(alloc);
-    for part in parts {
-        let block = block_of(alloc, part)?;
-        blocks.push(block)?;
-    }
-    Ok(blocks)
-}
-
-/// The block of these bytes.
-fn block_of(alloc: Global, bytes: &[u8]) -> Result<Arc<Block<Sha256>>, AllocError>
-    ensures { IfOk result (λ block. arc_value block ≡ bytes.now) }
-{
-    let bytes = Vec::from_slice(alloc, bytes)?;
-    Ok(Arc::new(alloc, Block::of(bytes))?)
-}
-
 /// The changes of these keys: each gets the value at its place, or goes where 36 zeros stand there; or `None` where there are
 /// more or fewer values, or one is neither.
-fn changes_of<'k>(
+pub(crate) fn changes_of<'k>(
     alloc: Global,
     keys: &[&'k [u8]],
     values: &[u8],

@@ -4,15 +4,20 @@
 //! contract of a call states the clauses of the library's call that it makes.
 //!
 //! - `values` and `stamps` have the calls on single values: records, keys, CIDs, nodes, stamps, commits.
-//! - `edits`, `given` and `listings` have those on trees that the caller keeps by itself.
-//! - `repository` has those on a repository in memory, behind a `handle`.
+//! - `edits`, `given` and `listings` have those on trees that the caller keeps by itself, over the `nodes` that it hands in.
+//! - `repository`, `pages` and `sections` have those on a repository in memory, behind a `handle`.
+//! - `changes` has those that prove which keys changed and how, and that check such a proof.
 #![tactic(auto)]
 
+mod changes;
 mod codes;
 mod edits;
 mod given;
 mod handle;
 mod listings;
+mod nodes;
+mod pages;
 mod repository;
+mod sections;
 mod stamps;
 mod values;

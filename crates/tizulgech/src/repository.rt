@@ -569,7 +569,10 @@ fn proof_bytes(alloc: Global, repo: &OwnedRepo, key: &[u8]) -> Result<Vec<u8>, A
 }
 
 /// The bytes of blocks, spelt.
-fn spell_blocks(alloc: Global, blocks: &[Arc<Block<Sha256>>]) -> Result<Vec<u8>, AllocError>
+pub(crate) fn spell_blocks(
+    alloc: Global,
+    blocks: &[Arc<Block<Sha256>>],
+) -> Result<Vec<u8>, AllocError>
     ensures { IfOk result (λ bytes. bytes.items ≡ parts_bytes (map arc_value blocks.now)) }
 {
     let mut bytes = Vec::new(alloc);

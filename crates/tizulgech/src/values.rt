@@ -1,18 +1,33 @@
 //! Records, keys, identifiers and single nodes, with no state.
 
-ghost use Rattle.std.specs.Prelude.{◌≡◌, length, true, false, Ok};
+ghost use Rattle.std.specs.Prelude.{◌≡◌, length, true, false, nat_eq, Ok};
 ghost use Rattle.sha2.specs.Sha256.{sha256};
 ghost use Rattle.spec.specs.Cid.{cid as cid_of, text as text_of, cid_of_text, is_own_cid};
 ghost use Rattle.spec.specs.Layer.{layer as layer_of};
 ghost use Rattle.spec.specs.DagCbor.{read as record_of};
 ghost use Rattle.spec.specs.Keys.{is_repository_key as is_repository_key_of};
 ghost use Rattle.spec.specs.NodeFormat.{is_key as is_key_of, read_node};
-ghost use Rattle.tizulgech.specs.Numbers.{IsCidRead, IsRecordAnswer, IsStepIn};
+ghost use Rattle.spec.specs.Writes.{test_when};
+ghost use Rattle.batches.specs.Values.{write_of};
+ghost use Rattle.tizulgech.specs.Numbers.{test_answer, write_answer, write_at, IsCidRead, IsRecordAnswer, IsStepIn};
 
-use crate::codes::{code_of_record, tell_cid};
+use crate::codes::{BAD, NO_MEMORY, code_of_fault, code_of_record, tell_cid, write_of_kind};
+use batches::{Write, test_write};
+use buffers::DONE;
 use cid::{Cid, Sha256};
 use node::{NodeView, Place};
 use std::alloc::Global;
+
+/// The number of this interface: one more whenever a call is changed or taken away.
+const VERSION: u64 = 1;
+
+/// The number of this interface.
+#[unsafe(no_mangle)]
+pub extern "C" fn tizulgech_version() -> u64
+    ensures { result ≡ 1 }
+{
+    VERSION
+}
 
 /// 0 where the bytes are one DAG-CBOR value, else the number of the first fault, or 255 for want of memory.
 #[unsafe(no_mangle)]
@@ -22,6 +37,39 @@ pub extern "C" fn tizulgech_record_fault(alloc: Global, bytes: &[u8]) -> u8
 {
     let read = dagcbor::read(alloc, bytes);
     code_of_record(&read)
+}
+
+/// 0 where a write passes its test, by whether there is a record under its key; else the number of the first fault: 20 for its
+/// key, 22 and 1 to 13 and 21 for its record, 23 for a create of a key that is there, 24 for an update or a delete of one that
+/// isn't. 252 for a kind that isn't 0 to 3, a put, a create, an update, a delete; 255 for want of memory.
+#[unsafe(no_mangle)]
+pub extern "C" fn tizulgech_write_fault(
+    alloc: Global,
+    kind: u8,
+    there: bool,
+    key: &[u8],
+    bytes: &[u8],
+) -> u8
+    ensures { nat_eq result 255 ≡ false
+        → result ≡ write_answer there (write_at kind key.now bytes.now) }
+{
+    match write_of_kind(alloc, kind, key, bytes) {
+        Ok(Some(write)) => write_tested(alloc, there, &write),
+        Ok(None) => BAD,
+        Err(_) => NO_MEMORY,
+    }
+}
+
+/// The same of a write.
+#[tactic(auto, using(crate::proofs::Told::write_told))]
+fn write_tested(alloc: Global, there: bool, write: &Write) -> u8
+    ensures { nat_eq result 255 ≡ false
+        → result ≡ test_answer (test_when there (write_of write.now)) }
+{
+    match test_write::<Sha256, _>(alloc, there, write) {
+        Ok(()) => DONE,
+        Err(fault) => code_of_fault(&fault),
+    }
 }
 
 /// The layer of a key.

@@ -1,0 +1,10 @@
+use Rattle.tizulgech.proofs.changes.verify_over.Goals as goal
+
+pub returns : goal.returns
+returns c _ = record {
+  result = c.verify_change-answer.result;
+  verdict = c.verify_change-answer.ensures.verdict;
+  right = c.verify_change-answer.ensures.right;
+  comes = c.verify_change-answer.ensures.comes;
+  told_is = c.tell_verdict.ensures;
+}

@@ -1,0 +1,99 @@
+-- What is told of changes between two roots.
+use Rattle.std.specs.Prelude.{◌≡◌, ℕ, Bool, true, false, List, [], ◌∷◌, Option, Some, None, Result, Ok, Err, nat_eq, length, if◌then◌else◌}
+use Rattle.sha2.specs.Sha256.{sha256}
+use Rattle.spec.specs.Tree.{Pair}
+use Rattle.spec.specs.Blocks.{pairs}
+use Rattle.spec.specs.States.{State, records}
+use Rattle.batch_laws.specs.Batch.{Change}
+use Rattle.edit.specs.Batches.{are_changes}
+use Rattle.change_laws.specs.Told.{KeyChange, undone}
+use Rattle.change_laws.specs.Given.{ChangeFault as GivenFault}
+use Rattle.change_laws.specs.Given as given
+use Rattle.change_laws.specs.Laws.{change_path}
+use Rattle.change_proofs.specs.Provings.{told_by}
+use Rattle.change_proofs.specs.Verdicts.{IsVerdict, IsRight, IsWhole}
+use Rattle.change_proofs.specs.declared.change_fault.ChangeFault.{ChangeFault}
+use Rattle.change_proofs.specs.declared.change_fault.ChangeFault.TheVariants.{BlockMissing, NotTree, OtherValue, OtherRoot, NoMemory}
+use Rattle.buffers.specs.Answers.{IsHanded, parts_bytes}
+use Rattle.buffers.specs.Framing.{cid_or_none_at, cut}
+use Rattle.tizulgech.specs.Trees.{beside_parts}
+
+-- ---- changes as they are given: keys, the value of each before the changes, and after them
+
+abbrev pub told : List Change → List Change → List KeyChange
+told [] afters = []
+told (b ∷ bs) [] = []
+told (b ∷ bs) (a ∷ rest) = record { key = b.0; before = b.1; after = a.1 } ∷ told bs rest
+
+abbrev pub told_of : Option (List Change) → Option (List Change) → Option (List KeyChange)
+told_of None afters = None
+told_of (Some bs) None = None
+told_of (Some bs) (Some rest) = if nat_eq (length bs) (length rest) then Some (told bs rest) else None
+
+abbrev pub both_told : Option (List (List ℕ)) → List ℕ → List ℕ → Option (List KeyChange)
+both_told keys befores afters = told_of (beside_parts cid_or_none_at keys befores) (beside_parts cid_or_none_at keys afters)
+
+-- where a verdict takes them
+abbrev pub allowed : Option (List KeyChange) → Option (List KeyChange)
+allowed None = None
+allowed (Some cs) = if are_changes (undone cs) then Some cs else None
+
+abbrev pub told_in : List ℕ → List ℕ → List ℕ → List ℕ → Option (List KeyChange)
+told_in keys ends befores afters = allowed (both_told (cut 0 ends keys) befores afters)
+
+-- ---- verdicts
+
+-- the number of a verdict: of a missing node its CID is told, and of a key with another value the place of its change
+abbrev pub IsVerdictTold : ℕ → List ℕ → ℕ → Result (Unit {0}) ChangeFault → Type 0
+IsVerdictTold code missing place (Ok x) = code ≡ 0
+IsVerdictTold code missing place (Err (BlockMissing c)) = (code ≡ 2) × (missing ≡ c)
+IsVerdictTold code missing place (Err NotTree) = code ≡ 30
+IsVerdictTold code missing place (Err (OtherValue at)) = (code ≡ 33) × (place ≡ at)
+IsVerdictTold code missing place (Err OtherRoot) = code ≡ 34
+IsVerdictTold code missing place (Err NoMemory) = code ≡ 255
+
+-- what is told is the verdict over these nodes; it is right of all pairs with the root after, and whole where the nodes are given
+-- that undoing reads
+pub record IsChangeOver (code : ℕ) (missing : List ℕ) (place : ℕ) (nodes : List (List ℕ)) (before after : List ℕ)
+    (cs : List KeyChange) : Type 0 where
+  pub result : Result (Unit {0}) ChangeFault
+  pub verdict : IsVerdict sha256 2 before after nodes cs result
+  pub right : IsRight sha256 2 before after nodes cs result
+  pub comes : IsWhole sha256 2 before after nodes cs result
+  pub told_is : IsVerdictTold code missing place result
+
+-- 252 for arguments that are none
+abbrev pub IsChangeVerified : ℕ → List ℕ → ℕ → Option (List (List ℕ)) → Option (List ℕ) → Option (List ℕ)
+    → Option (List KeyChange) → Type 0
+IsChangeVerified code missing place None before after cs = code ≡ 252
+IsChangeVerified code missing place (Some nodes) None after cs = code ≡ 252
+IsChangeVerified code missing place (Some nodes) (Some before) None cs = code ≡ 252
+IsChangeVerified code missing place (Some nodes) (Some before) (Some after) None = code ≡ 252
+IsChangeVerified code missing place (Some nodes) (Some before) (Some after) (Some cs) =
+    IsChangeOver code missing place nodes before after cs
+
+-- ---- proofs of a repository
+
+-- the bytes spell the nodes that undoing reads, and each key has what is told after its change
+pub record IsSpelt (s : State) (cs : List KeyChange) (bytes : List ℕ) : Type 0 where
+  pub told_is : told_by (pairs sha256 (records s)) cs ≡ Ok tt
+  pub bytes_are : bytes ≡ parts_bytes (change_path sha256 2 cs (pairs sha256 (records s)))
+
+-- the nodes, where each key has what is told after its change; else 33, and the place of the first that hasn't
+abbrev pub IsProvenBy : Result (Unit {0}) GivenFault → ℕ → ℕ → List ℕ → List ℕ → ℕ → List (List ℕ) → Type 0
+IsProvenBy (Ok ok) code place before room size path = IsHanded code (parts_bytes path) before room size
+IsProvenBy (Err (given.BlockMissing c)) code place before room size path = ⊥
+IsProvenBy (Err given.BadNode) code place before room size path = ⊥
+IsProvenBy (Err given.TooDeep) code place before room size path = ⊥
+IsProvenBy (Err (given.OtherValue at)) code place before room size path = (code ≡ 33) × (place ≡ at)
+IsProvenBy (Err given.OtherRoot) code place before room size path = ⊥
+
+abbrev pub IsProvenOf : ℕ → ℕ → List ℕ → List ℕ → ℕ → State → List KeyChange → Type 0
+IsProvenOf code place before room size s cs =
+    let es = pairs sha256 (records s) in
+    IsProvenBy (told_by es cs) code place before room size (change_path sha256 2 cs es)
+
+-- 252 for what are no changes
+abbrev pub IsProven : ℕ → ℕ → List ℕ → List ℕ → ℕ → State → Option (List KeyChange) → Type 0
+IsProven code place before room size s None = code ≡ 252
+IsProven code place before room size s (Some cs) = IsProvenOf code place before room size s cs
