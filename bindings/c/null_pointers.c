@@ -38,7 +38,7 @@ static int of_trees(void) {
         && tizulgech_verify_change(NULL, 0, NULL, 0, root, 36, root, 36, NULL, 0, NULL, 0, NULL, 0, NULL, 0, cid, 36, &size) == TIZULGECH_MISSING
         && tizulgech_verify_change(NULL, 0, NULL, 0, NULL, 0, NULL, 0, NULL, 0, NULL, 0, NULL, 0, NULL, 0, cid, 36, &size) == TIZULGECH_BAD
         && tizulgech_tree_root(NULL, 0, NULL, 0, NULL, 0, cid, 36, &size) == TIZULGECH_DONE && memcmp(cid, root, 36) == 0
-        && tizulgech_listing_car(NULL, 0, NULL, 0, NULL, 0, NULL, 0, NULL, 0, NULL, 0, NULL, 0, &size) == TIZULGECH_SMALL;
+        && tizulgech_listing_car(NULL, 0, NULL, 0, NULL, 0, NULL, 0, NULL, 0, NULL, 0, NULL, 0, &size) == TIZULGECH_NOT_BUILT;
 }
 
 static int of_repositories(void) {
