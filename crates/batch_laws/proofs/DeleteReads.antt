@@ -346,7 +346,7 @@ module _ (digest : List ℕ → List ℕ) (shows : List ℕ → Option Shape) (l
   -- a node that is read, of the path
   gone-shown : (k d : ℕ) (c : List ℕ) (o : Option Shape) (s : LinkEdge) (log : Log) → k ≤ most → DeletesPart k → Quiet d s
       → let path = path_at (path_from shows k key) key o in
-      Reads (and_then (log_shown c o log) (walking_node digest shows d (walked k (suc d)) one s)) log
+      Reads (and_then (log_shown c s o log) (walking_node digest shows d (walked k (suc d)) one s)) log
       (path ++ flat (seam (LastLink (Some c)) path))
       (λ t. IsWholeAt (IsWhole shows k key) key o × Whole (LastLink (Some c)) path × Calm d t × (HasPair s → HasPair t))
   gone-shown k d c None s log z ih h = tt
@@ -424,7 +424,7 @@ module _ (digest : List ℕ → List ℕ) (shows : List ℕ → Option Shape) (l
 
   gone-top : (root : List ℕ) → ((k : List ℕ) → layer k < most) → n ≤ most → (o : Option Shape) → shows root ≡ o
       → let log : Log = record { read = []; made = [] } in
-      OnAnswer (and_then (log_shown root o log) (λ s log1. and_then (walking_top digest shows layer n one s log1)
+      OnAnswer (and_then (log_shown root LinkClear o log) (λ s log1. and_then (walking_top digest shows layer n one s log1)
       (topping digest shows n))) (IsDeleteRead shows layer most key root)
   gone-top root f z None q = tt
   gone-top root f z (Some m) q =

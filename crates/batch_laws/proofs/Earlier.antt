@@ -8,7 +8,7 @@ use Rattle.edit_laws.specs.ShapeEdit.{close_shapes, last_link}
 use Rattle.batch_laws.specs.Batch.{Change, before, at_key, after, puts, entry}
 use Rattle.batch_laws.specs.Walking.{depth_of}
 use Rattle.batch_laws.specs.Links.{Rows, LinkEdge, LinkClear, LinkWaiting, LinkOpened, Log, with_read, and_then, ask, log_shown, link_edge, rows_in_shape, onto_links, complete, closing, opened_rows, opening, add_row, under_rows, pairing, joined_row, noding, parting, subtreeing, pairs_in_turn, walking_node, walking, Top, pruning_at, pruning, new_top, topping, Step}
-use Rattle.batch_laws.specs.Written.{GoesOn, IsEarlier, OnAnswer, GoesFrom}
+use Rattle.batch_laws.specs.Written.{GoesOn, IsEarlier, OnEnd, GoesFrom}
 
 all-front : (P : Shape → Type 0) (xs ys : List Shape) → AllByRecursion P (xs ++ ys) → AllByRecursion P xs
 all-front P [] ys h = tt
@@ -40,16 +40,15 @@ module _ (P : Shape → Type 0) (empty : P (LastLink None)) where
 
   -- a step, and then another with its answer, which stands for an edge
   onward-earlier : {B : Type 0} (s : LinkEdge) (log : Log) (t : LinkEdge) (mid : Log) (last : B → LinkEdge)
-      (o : Step B) → IsEarlier P s log t mid → OnAnswer o (λ b m. IsEarlier P t mid (last b) m)
-      → OnAnswer o (λ b m. IsEarlier P s log (last b) m)
-  onward-earlier s log t mid last (Err stop) h k = tt
+      (o : Step B) → IsEarlier P s log t mid → OnEnd last o (IsEarlier P t mid) → OnEnd last o (IsEarlier P s log)
+  onward-earlier s log t mid last (Err e) h k = then-earlier s log t mid e.edge e.log h k
   onward-earlier s log t mid last (Ok y) h k = then-earlier s log t mid (last y.0) y.1 h k
 
   pub steps-earlier : {A B : Type 0} (step : Step A) (f : A → Log → Step B) (s : LinkEdge) (log : Log)
-      (edge : A → LinkEdge) (last : B → LinkEdge) → OnAnswer step (λ a l. IsEarlier P s log (edge a) l)
-      → ((a : A) (l : Log) → OnAnswer (f a l) (λ b m. IsEarlier P (edge a) l (last b) m))
-      → OnAnswer (and_then step f) (λ b m. IsEarlier P s log (last b) m)
-  steps-earlier (Err stop) f s log edge last h k = tt
+      (edge : A → LinkEdge) (last : B → LinkEdge) → OnEnd edge step (IsEarlier P s log)
+      → ((a : A) (l : Log) → OnEnd last (f a l) (IsEarlier P (edge a) l))
+      → OnEnd last (and_then step f) (IsEarlier P s log)
+  steps-earlier (Err e) f s log edge last h k = h
   steps-earlier (Ok x) f s log edge last h k =
       onward-earlier s log (edge x.0) x.1 last (f x.0 x.1) h (k x.0 x.1)
 
@@ -62,14 +61,9 @@ module _ (P : Shape → Type 0) (empty : P (LastLink None)) where
     reads = h.reads;
   }
 
-  below-earlier : (rows : Rows) (s : LinkEdge) (log : Log) (step : Step LinkEdge) → GoesFrom P s log step
-      → OnAnswer step (λ t later. IsEarlier P (LinkOpened rows s) log (LinkOpened rows t) later)
-  below-earlier rows s log (Err stop) h = tt
-  below-earlier rows s log (Ok x) h = rows-earlier rows s log x.0 x.1 h
-
   pub under-earlier : (rows : Rows) (s : LinkEdge) (log : Log) (step : Step LinkEdge) → GoesFrom P s log step
-      → GoesFrom P (LinkOpened rows s) log (and_then step (under_rows rows))
-  under-earlier rows s log (Err stop) h = tt
+      → GoesFrom P (LinkOpened rows s) log (under_rows rows step)
+  under-earlier rows s log (Err e) h = rows-earlier rows s log e.edge e.log h
   under-earlier rows s log (Ok x) h = rows-earlier rows s log x.0 x.1 h
 
   -- ---- what is complete
@@ -115,13 +109,13 @@ module _ (P : Shape → Type 0) (empty : P (LastLink None)) where
       record { written = λ w. record { made = w.made; begun = tt }; reads = omega arith }
 
   opened-earlier : (c : List ℕ) (shown : Option Shape) (log : Log)
-      → OnAnswer (and_then (log_shown c shown log) opened_rows)
-      (λ o later. IsEarlier P (LinkWaiting c) log (LinkOpened o.0 o.1) later)
-  opened-earlier c None log = tt
+      → OnEnd (λ o. LinkOpened o.0 o.1) (and_then (log_shown c (LinkWaiting c) shown log) opened_rows)
+      (IsEarlier P (LinkWaiting c) log)
+  opened-earlier c None log = same-earlier (LinkWaiting c) log
   opened-earlier c (Some m) log = read-earlier c m log (LinkOpened (rows_in_shape m) (link_edge (last_link m)))
 
   pub opening-earlier : (shows : List ℕ → Option Shape) (s : LinkEdge) (log : Log)
-      → OnAnswer (opening shows s log) (λ o later. IsEarlier P s log (LinkOpened o.0 o.1) later)
+      → OnEnd (λ o. LinkOpened o.0 o.1) (opening shows s log) (IsEarlier P s log)
   opening-earlier shows LinkClear log =
       record { written = λ w. record { made = w.made; begun = tt }; reads = omega arith }
   opening-earlier shows (LinkWaiting c) log = opened-earlier c (shows c) log
@@ -129,12 +123,12 @@ module _ (P : Shape → Type 0) (empty : P (LastLink None)) where
 
   -- a node that is read at this place
   asked-earlier : {B : Type 0} (c : List ℕ) (shown : Option Shape) (s : LinkEdge) (log : Log) (f : Shape → Log → Step B)
-      (last : B → LinkEdge) → ((m : Shape) (l : Log) → OnAnswer (f m l) (λ b later. IsEarlier P s l (last b) later))
-      → OnAnswer (and_then (log_shown c shown log) f) (λ b later. IsEarlier P s log (last b) later)
-  asked-earlier c shown s log f last k = steps-earlier (log_shown c shown log) f s log (λ m. s) last (asked shown) k
+      (last : B → LinkEdge) → ((m : Shape) (l : Log) → OnEnd last (f m l) (IsEarlier P s l))
+      → OnEnd last (and_then (log_shown c s shown log) f) (IsEarlier P s log)
+  asked-earlier c shown s log f last k = steps-earlier (log_shown c s shown log) f s log (λ m. s) last (asked shown) k
     where
-      asked : (o : Option Shape) → OnAnswer (log_shown c o log) (λ m l. IsEarlier P s log s l)
-      asked None = tt
+      asked : (o : Option Shape) → OnEnd (λ m. s) (log_shown c s o log) (IsEarlier P s log)
+      asked None = same-earlier s log
       asked (Some m) =
           let a = length-append log.read (m ∷ []) in
           record { written = λ w. record { made = w.made; begun = w.begun }; reads = omega arith }
@@ -149,30 +143,37 @@ module _ (P : Shape → Type 0) (empty : P (LastLink None)) where
         (λ o. LinkOpened o.0 o.1) (λ t. t) (opening-earlier shows s log)
         (λ o l. row-earlier digest o.0 _ o.1 LinkClear l)
     pairing-earlier (suc d) e s log =
-        steps-earlier (opening shows s log) (λ o log1. and_then (pairing digest shows d e o.1 log1) (under_rows o.0)) s log
+        steps-earlier (opening shows s log) (λ o log1. under_rows o.0 (pairing digest shows d e o.1 log1)) s log
         (λ o. LinkOpened o.0 o.1) (λ t. t) (opening-earlier shows s log)
         (λ o l. under-earlier o.0 o.1 l (pairing digest shows d e o.1 l) (pairing-earlier d e o.1 l))
 
     abbrev pub Parts : (Option (List ℕ) → LinkEdge → Log → Step LinkEdge) → Type 0
     Parts further = (l : Option (List ℕ)) (s : LinkEdge) (log : Log) → GoesFrom P s log (further l s log)
 
+    -- a node comes after what comes below the rows before it
+    pub joined-earlier : (e : Pair) (rows : Rows) (r : Shape) (s : LinkEdge) (log : Log) (step : Step LinkEdge)
+        → GoesFrom P s log step → GoesFrom P (LinkOpened rows s) log (joined_row digest e rows r step)
+    joined-earlier e rows r s log (Err f) h = rows-earlier rows s log f.edge f.log h
+    joined-earlier e rows r s log (Ok x) h =
+        then-earlier (LinkOpened rows s) log (LinkOpened rows x.0) x.1 _ _ (rows-earlier rows s log x.0 x.1 h)
+        (row-earlier digest rows _ x.0 (link_edge (last_link r)) x.1)
+
     pub noding-earlier : (further : Option (List ℕ) → LinkEdge → Log → Step LinkEdge) → Parts further
         → (rows : Rows) (s : LinkEdge) (m : Shape) (log : Log)
         → GoesFrom P (LinkOpened rows s) log (noding digest further rows s m log)
     noding-earlier further h rows s (LastLink l) log = under-earlier rows s log (further l s log) (h l s log)
     noding-earlier further h rows s (MoreLinks l e r) log =
-        steps-earlier (further l s log) (λ t log1. joined_row e rows r (closing digest t log1)) (LinkOpened rows s) log
-        (λ t. LinkOpened rows t) (λ t. t) (below-earlier rows s log (further l s log) (h l s log))
-        (λ t l1. row-earlier digest rows _ t (link_edge (last_link r)) l1)
+        joined-earlier e rows r s log (further l s log) (h l s log)
 
     pub parting-earlier : (k : ℕ) → Parts (parting digest shows k)
     parting-earlier zero None s log = same-earlier s log
-    parting-earlier zero (Some c) s log = tt
+    parting-earlier zero (Some c) s log = same-earlier s log
     parting-earlier (suc k) None s log = same-earlier s log
     parting-earlier (suc k) (Some c) LinkClear log =
         record { written = λ w. record { made = w.made; begun = tt }; reads = omega arith }
     parting-earlier (suc k) (Some c) (LinkWaiting b) log =
-        steps-earlier (ask shows b log) (λ t log1. and_then (ask shows c log1)
+        steps-earlier (ask shows b (LinkWaiting b) log) (λ t log1.
+        and_then (ask shows c (LinkOpened (rows_in_shape t) (link_edge (last_link t))) log1)
         (noding digest (parting digest shows k) (rows_in_shape t) (link_edge (last_link t)))) (LinkWaiting b) log
         (λ t. LinkOpened (rows_in_shape t) (link_edge (last_link t))) (λ t. t) (shown (shows b))
         (λ t l. asked-earlier c (shows c) (LinkOpened (rows_in_shape t) (link_edge (last_link t))) l
@@ -180,9 +181,9 @@ module _ (P : Shape → Type 0) (empty : P (LastLink None)) where
         (λ m l1. noding-earlier (parting digest shows k) (parting-earlier k) (rows_in_shape t)
         (link_edge (last_link t)) m l1))
       where
-        shown : (o : Option Shape) → OnAnswer (log_shown b o log)
-            (λ t l. IsEarlier P (LinkWaiting b) log (LinkOpened (rows_in_shape t) (link_edge (last_link t))) l)
-        shown None = tt
+        shown : (o : Option Shape) → OnEnd (λ t. LinkOpened (rows_in_shape t) (link_edge (last_link t)))
+            (log_shown b (LinkWaiting b) o log) (IsEarlier P (LinkWaiting b) log)
+        shown None = same-earlier (LinkWaiting b) log
         shown (Some t) = read-earlier b t log (LinkOpened (rows_in_shape t) (link_edge (last_link t)))
     parting-earlier (suc k) (Some c) (LinkOpened rows s) log =
         asked-earlier c (shows c) (LinkOpened rows s) log (noding digest (parting digest shows k) rows s) (λ t. t)
@@ -193,7 +194,7 @@ module _ (P : Shape → Type 0) (empty : P (LastLink None)) where
     subtreeing-earlier k zero c s log = parting-earlier k (Some c) s log
     subtreeing-earlier k (suc d) c s log =
         steps-earlier (opening shows s log)
-        (λ o log1. and_then (subtreeing digest shows k d c o.1 log1) (under_rows o.0)) s log
+        (λ o log1. under_rows o.0 (subtreeing digest shows k d c o.1 log1)) s log
         (λ o. LinkOpened o.0 o.1) (λ t. t) (opening-earlier shows s log)
         (λ o l. under-earlier o.0 o.1 l (subtreeing digest shows k d c o.1 l) (subtreeing-earlier k d c o.1 l))
 
@@ -225,7 +226,7 @@ module _ (P : Shape → Type 0) (empty : P (LastLink None)) where
 
     pub walking-earlier : (layer : List ℕ → ℕ) (n k d : ℕ) → Gaps (walking digest shows layer n k d)
     walking-earlier layer n zero d None cs s log = pairs-earlier (depth_of layer n) (puts cs) s log
-    walking-earlier layer n zero d (Some c) cs s log = tt
+    walking-earlier layer n zero d (Some c) cs s log = same-earlier s log
     walking-earlier layer n (suc k) d None cs s log = pairs-earlier (depth_of layer n) (puts cs) s log
     walking-earlier layer n (suc k) d (Some c) [] s log = subtreeing-earlier (suc k) d c s log
     walking-earlier layer n (suc k) d (Some c) (x ∷ cs) s log =
@@ -237,12 +238,12 @@ module _ (P : Shape → Type 0) (empty : P (LastLink None)) where
     -- ---- the top
 
     abbrev Tops : LinkEdge → Log → Step Top → Type 0
-    Tops s log step = OnAnswer step (λ top later. IsEarlier P s log LinkClear later)
+    Tops s log step = OnEnd (λ top. LinkClear) step (IsEarlier P s log)
 
     looks-earlier : (c : List ℕ) (log : Log) (further : List ℕ → Log → Step Top)
         → ((b : List ℕ) (l : Log) → Tops (LinkWaiting b) l (further b l)) → (o : Option Shape)
         → Tops (LinkWaiting c) log (pruning_at further c log o)
-    looks-earlier c log further h None = tt
+    looks-earlier c log further h None = same-earlier (LinkWaiting c) log
     looks-earlier c log further h (Some (LastLink None)) =
         record { written = λ w. record { made = w.made; begun = tt }; reads = omega arith }
     looks-earlier c log further h (Some (LastLink (Some b))) =
@@ -252,8 +253,8 @@ module _ (P : Shape → Type 0) (empty : P (LastLink None)) where
     looks-earlier c log further h (Some (MoreLinks l e r)) =
         record { written = λ w. record { made = w.made; begun = tt }; reads = omega arith }
 
-    pruning-earlier : (k : ℕ) (c : List ℕ) (log : Log) → Tops (LinkWaiting c) log (pruning shows k c log)
-    pruning-earlier zero c log = tt
+    pub pruning-earlier : (k : ℕ) (c : List ℕ) (log : Log) → Tops (LinkWaiting c) log (pruning shows k c log)
+    pruning-earlier zero c log = same-earlier (LinkWaiting c) log
     pruning-earlier (suc k) c log = looks-earlier c log (pruning shows k) (pruning-earlier k) (shows c)
 
     new_top-earlier : (rows : Rows) (s : LinkEdge) (log : Log)
@@ -270,17 +271,20 @@ module _ (P : Shape → Type 0) (empty : P (LastLink None)) where
         }
 
     pub topping-earlier : (k : ℕ) (s : LinkEdge) (log : Log)
-        → OnAnswer (topping digest shows k s log) (λ top later. IsEarlier P s log LinkClear later)
+        → OnEnd (λ top. LinkClear) (topping digest shows k s log) (IsEarlier P s log)
     topping-earlier k LinkClear log =
         record { written = λ w. record { made = all-front P log.made _ w.made; begun = tt }; reads = omega arith }
     topping-earlier k (LinkWaiting c) log = pruning-earlier k c log
     topping-earlier k (LinkOpened [] s) log =
         bare (topping digest shows k s log) (topping-earlier k s log)
       where
-        bare : (o : Step Top) → Tops s log o → Tops (LinkOpened [] s) log o
-        bare (Err stop) h = tt
-        bare (Ok x) h = record {
+        under-empty : (t : LinkEdge) (later : Log) → IsEarlier P s log t later → IsEarlier P (LinkOpened [] s) log t later
+        under-empty t later h = record {
           written = λ w. (let i = h.written w in record { made = i.made; begun = ((LastLink None, empty), i.begun) });
           reads = h.reads;
         }
+
+        bare : (o : Step Top) → Tops s log o → Tops (LinkOpened [] s) log o
+        bare (Err e) h = under-empty e.edge e.log h
+        bare (Ok x) h = under-empty LinkClear x.1 h
     topping-earlier k (LinkOpened (x ∷ rows) s) log = new_top-earlier (x ∷ rows) s log

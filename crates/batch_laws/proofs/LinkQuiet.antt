@@ -111,7 +111,7 @@ module _ (digest : List ℕ → List ℕ) (shows : List ℕ → Option Shape) wh
       (closing-reads digest s log, (refl, has-more rows ((closing digest s log).0, e) [] LinkClear))
 
   under-calm : (d : ℕ) (rows : Rows) (step : Step LinkEdge) (log : Log) → Unread step log (IsPairAt d)
-      → Unread (and_then step (under_rows rows)) log (IsPairAt (suc d))
+      → Unread (under_rows rows step) log (IsPairAt (suc d))
   under-calm d rows (Err stop) log h = tt
   under-calm d rows (Ok x) log h = (h.0, (h.1.0, has-rows rows x.0 h.1.1))
 
@@ -139,16 +139,16 @@ module _ (digest : List ℕ → List ℕ) (shows : List ℕ → Option Shape) wh
 
   -- a step on the layer d layers below
   abbrev pub placed : ℕ → LinkEdge → Step LinkEdge → Step LinkEdge
-  placed d s (Err stop) = Err stop
+  placed d s (Err e) = Err (record { why = e.why; edge = place d e.edge s; log = e.log })
   placed d s (Ok x) = Ok (place d x.0 s, x.1)
 
   placed-under : (rows : Rows) (d : ℕ) (s : LinkEdge) (step : Step LinkEdge)
-      → and_then (placed d s step) (under_rows rows) ≡ placed (suc d) (LinkOpened rows s) step
+      → under_rows rows (placed d s step) ≡ placed (suc d) (LinkOpened rows s) step
   placed-under rows d s (Err stop) = refl
   placed-under rows d s (Ok x) = refl
 
   placed-clear : (d : ℕ) (step : Step LinkEdge)
-      → and_then (placed d LinkClear step) (under_rows []) ≡ placed (suc d) LinkClear step
+      → under_rows [] (placed d LinkClear step) ≡ placed (suc d) LinkClear step
   placed-clear d (Err stop) = refl
   placed-clear d (Ok x) = refl
 

@@ -163,7 +163,7 @@ module _ (digest : List ℕ → List ℕ) (shows : List ℕ → Option Shape) (l
 
   -- a node that is read, of the path
   put-shown : (k d : ℕ) (c : List ℕ) (o : Option Shape) (s : LinkEdge) (log : Log) → PutsPart k → Quiet d s
-      → Reads (and_then (log_shown c o log) (walking_node digest shows d (walked k (suc d)) one s)) log
+      → Reads (and_then (log_shown c s o log) (walking_node digest shows d (walked k (suc d)) one s)) log
       (path_at (path_from shows k key) key o)
       (λ t. IsWholeAt (IsWhole shows k key) key o × Calm d t × HasPair t)
   put-shown k d c None s log ih h = tt
@@ -198,7 +198,7 @@ module _ (digest : List ℕ → List ℕ) (shows : List ℕ → Option Shape) (l
 
   put-top : (m : ℕ) (root : List ℕ) → ((k : List ℕ) → layer k < m) → (o : Option Shape) → shows root ≡ o
       → let log : Log = record { read = []; made = [] } in
-      OnAnswer (and_then (log_shown root o log) (λ s log1. and_then (walking_top digest shows layer n one s log1)
+      OnAnswer (and_then (log_shown root LinkClear o log) (λ s log1. and_then (walking_top digest shows layer n one s log1)
       (topping digest shows n))) (IsPathRead shows m key root)
   put-top m root f None q = tt
   put-top m root f (Some s) q =

@@ -152,7 +152,7 @@ module _ (digest : List ℕ → List ℕ) (shows : List ℕ → Option Shape) wh
     where
       after : (o : Step LinkEdge)
           → Reads o (with_read (LastLink q) (with_read (LastLink p) log)) (flat (seam_from shows k p q)) (IsSeam k p q)
-          → Reads (and_then o (under_rows [])) log (LastLink p ∷ LastLink q ∷ flat (seam_from shows k p q))
+          → Reads (under_rows [] o) log (LastLink p ∷ LastLink q ∷ flat (seam_from shows k p q))
           (λ u. IsWholeSeam shows k p q × (top_link u ≡ trim_links p q (seam_from shows k p q)))
       after (Err stop) j = tt
       after (Ok x) j = (
@@ -166,7 +166,7 @@ module _ (digest : List ℕ → List ℕ) (shows : List ℕ → Option Shape) wh
       after : (o : Step LinkEdge)
           → Reads o (with_read (LastLink q) (with_read (MoreLinks p e r) log)) (flat (seam_from shows k (last_link r) q))
           (IsSeam k (last_link r) q)
-          → Reads (and_then o (under_rows ((p, e) ∷ rows_in_shape r))) log
+          → Reads (under_rows ((p, e) ∷ rows_in_shape r) o) log
           (MoreLinks p e r ∷ LastLink q ∷ flat (seam_from shows k (last_link r) q))
           (λ u. IsWholeSeam shows k (last_link r) q × (top_link u ≡ None))
       after (Err stop) j = tt
@@ -185,7 +185,7 @@ module _ (digest : List ℕ → List ℕ) (shows : List ℕ → Option Shape) wh
       after : (o : Step LinkEdge)
           → Reads o (with_read (MoreLinks q f t) (with_read s log)) (flat (seam_from shows k (last_link s) q))
           (IsSeam k (last_link s) q)
-          → Reads (and_then o (λ u log1. joined_row f (rows_in_shape s) t (closing digest u log1))) log
+          → Reads (joined_row digest f (rows_in_shape s) t o) log
           (s ∷ MoreLinks q f t ∷ flat (seam_from shows k (last_link s) q))
           (λ u. IsWholeSeam shows k (last_link s) q
           × (top_link u ≡ trim_links None None ((s, MoreLinks q f t) ∷ seam_from shows k (last_link s) q)))
@@ -204,7 +204,8 @@ module _ (digest : List ℕ → List ℕ) (shows : List ℕ → Option Shape) wh
   -- both nodes are read
   seam-shown : (k : ℕ) (c d : List ℕ) (o p : Option Shape)
       → ((x y : Option (List ℕ)) (log : Log) → SeamReads k x y log) → (log : Log)
-      → Reads (and_then (log_shown c o log) (λ t log1. and_then (log_shown d p log1)
+      → Reads (and_then (log_shown c (LinkWaiting c) o log) (λ t log1.
+      and_then (log_shown d (LinkOpened (rows_in_shape t) (link_edge (last_link t))) p log1)
       (noding digest (parting digest shows k) (rows_in_shape t) (link_edge (last_link t))))) log
       (flat (seam_at (seam_from shows k) o p))
       (λ u. IsWholeSeamAt (IsWholeSeam shows k) o p

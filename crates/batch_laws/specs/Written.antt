@@ -29,6 +29,11 @@ abbrev pub OnAnswer : {A : Type 0} → Step A → (A → Log → Type 0) → Typ
 OnAnswer (Err stop) P = Unit {0}
 OnAnswer (Ok x) P = P x.0 x.1
 
--- a step that answers an edge goes on from this one
+-- what a step comes to: the edge that its answer stands for, or that at which it stops
+abbrev pub OnEnd : {A : Type 0} → (A → LinkEdge) → Step A → (LinkEdge → Log → Type 0) → Type 0
+OnEnd edge (Ok x) P = P (edge x.0) x.1
+OnEnd edge (Err e) P = P e.edge e.log
+
+-- a step goes on from this edge
 abbrev pub GoesFrom : (Shape → Type 0) → LinkEdge → Log → Step LinkEdge → Type 0
-GoesFrom P s log step = OnAnswer step (λ t later. IsEarlier P s log t later)
+GoesFrom P s log step = OnEnd (λ t. t) step (IsEarlier P s log)

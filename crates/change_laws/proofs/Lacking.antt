@@ -145,15 +145,15 @@ module _ (digest : List ℕ → List ℕ) (shows : List ℕ → Option Shape) wh
 
   does-under : (step : Step LinkEdge) (rows : List (Part × Pair)) (l : Log) (s : Edge) (g m : List Node)
       → Does step l (links_edge s) g m
-      → Does (and_then step (under_rows (links_of rows))) l (links_edge (Opened rows s)) g m
+      → Does (under_rows (links_of rows) step) l (links_edge (Opened rows s)) g m
   does-under step rows l s g m h = rw h refl
 
   does-same : {A : Type 0} (a : A) (l : Log) → Does (Ok (a, l)) l a [] []
   does-same a l = ap (λ t. Ok (a, t)) (grow-none l)
 
-  ask-does : (m : Node) (l : Log) → Shown m → Does (ask shows (shape_cid digest (shape digest m)) l) l (shape digest m)
-      (m ∷ []) []
-  ask-does m l h = rw h (ap (λ t. Ok (shape digest m, t)) (logs _ _ _ _ refl (sym (append-nil l.made))))
+  ask-does : (m : Node) (s : LinkEdge) (l : Log) → Shown m → Does (ask shows (shape_cid digest (shape digest m)) s l) l
+      (shape digest m) (m ∷ []) []
+  ask-does m s l h = rw h (ap (λ t. Ok (shape digest m, t)) (logs _ _ _ _ refl (sym (append-nil l.made))))
 
   -- ---- a step has this answer where some nodes are shown, and none where one of them isn't
 
@@ -193,24 +193,28 @@ module _ (digest : List ℕ → List ℕ) (shows : List ℕ → Option Shape) wh
   reads-same : {A : Type 0} (a : A) (l : Log) → Reads (Ok (a, l)) l a [] []
   reads-same a l = reads-none (Ok (a, l)) l a [] (does-same a l)
 
+  under-answered : (rows : Rows) (step : Step LinkEdge) → IsAnswered (under_rows rows step) → IsAnswered step
+  under-answered rows (Ok x) h = tt
+  under-answered rows (Err f) h = h
+
   reads-under : (step : Step LinkEdge) (rows : List (Part × Pair)) (l : Log) (s : Edge) (g m : List Node)
       → Reads step l (links_edge s) g m
-      → Reads (and_then step (under_rows (links_of rows))) l (links_edge (Opened rows s)) g m
+      → Reads (under_rows (links_of rows) step) l (links_edge (Opened rows s)) g m
   reads-under step rows l s g m h = (
     λ all. does-under step rows l s g m (h.0 all),
-    λ answered. h.1 (first-answered step (under_rows (links_of rows)) answered),
+    λ answered. h.1 (under-answered (links_of rows) step answered),
   )
 
-  pub logged-shown : (m : Node) (l : Log) → Known m → (o : Option Shape) → shows (shape_cid digest (shape digest m)) ≡ o
-      → IsAnswered (log_shown (shape_cid digest (shape digest m)) o l) → Shown m
-  logged-shown m l known None q h = absurd h
-  logged-shown m l known (Some s) q h = q ∙ ap (λ t. Some t) (known s q)
+  pub logged-shown : (m : Node) (s : LinkEdge) (l : Log) → Known m → (o : Option Shape) → shows (shape_cid digest (shape digest m)) ≡ o
+      → IsAnswered (log_shown (shape_cid digest (shape digest m)) s o l) → Shown m
+  logged-shown m s l known None q h = absurd h
+  logged-shown m s l known (Some t) q h = q ∙ ap (λ x. Some x) (known t q)
 
-  ask-reads : (m : Node) (l : Log) → Known m → Reads (ask shows (shape_cid digest (shape digest m)) l) l (shape digest m)
-      (m ∷ []) []
-  ask-reads m l known = (
-    λ all. ask-does m l all.0,
-    λ answered. (logged-shown m l known (shows (shape_cid digest (shape digest m))) refl answered, tt),
+  ask-reads : (m : Node) (s : LinkEdge) (l : Log) → Known m → Reads (ask shows (shape_cid digest (shape digest m)) s l) l
+      (shape digest m) (m ∷ []) []
+  ask-reads m s l known = (
+    λ all. ask-does m s l all.0,
+    λ answered. (logged-shown m s l known (shows (shape_cid digest (shape digest m))) refl answered, tt),
   )
 
   -- ---- the edge
@@ -241,7 +245,7 @@ module _ (digest : List ℕ → List ℕ) (shows : List ℕ → Option Shape) wh
       → Reads (opening shows (links_edge s) l) l (links_of (rows_of s), links_edge (next_of s)) (opened_gone s) []
   opening-reads Clear l h = reads-same _ l
   opening-reads (Waiting m) l h =
-      reads-then _ opened_rows l (shape digest m) _ (m ∷ []) [] [] [] (ask-reads m l h.0)
+      reads-then _ opened_rows l (shape digest m) _ (m ∷ []) [] [] [] (ask-reads m _ l h.0)
       (reads-none _ (grow l (m ∷ []) []) _ [] (opened-rows-does m (grow l (m ∷ []) [])))
   opening-reads (Opened rows s) l h = reads-same _ l
 
@@ -303,7 +307,7 @@ module _ (digest : List ℕ → List ℕ) (shows : List ℕ → Option Shape) wh
   pairing-reads (suc d) e s l h =
       let l1 = grow l (opened_gone s) [] in
       let i = pairing-reads d e (next_of s) l1 (holds-next s h) in
-      reads-then _ (λ o log1. and_then (pairing digest shows d e o.1 log1) (under_rows o.0)) l _ _ (opened_gone s) []
+      reads-then _ (λ o log1. under_rows o.0 (pairing digest shows d e o.1 log1)) l _ _ (opened_gone s) []
       (pair_gone d (next_of s)) (pair_made d (next_of s)) (opening-reads s l h)
       (reads-under _ (rows_of s) l1 (with_pair d e (next_of s)) _ _ i)
 
@@ -312,14 +316,44 @@ module _ (digest : List ℕ → List ℕ) (shows : List ℕ → Option Shape) wh
       → Reads (parting digest shows k (part_link digest p) (links_edge s) l) l (links_edge (with_part p s)) (part_gone p s)
       (part_made p s)
 
-  joined-does : (e : Pair) (rows : List (Part × Pair)) (r : Node) (s : Edge) (l : Log)
-      → Does (joined_row e (links_of rows) (shape digest r) (closing digest (links_edge s) l)) l
+  -- a node after what comes below the rows before it
+  abbrev join_row : Pair → Rows → Shape → Option (List ℕ) × Log → Step LinkEdge
+  join_row e rows r below =
+      Ok (LinkOpened (rows ++ ((below.0, e) ∷ rows_in_shape r)) (link_edge (last_link r)), below.1)
+
+  joined-is : (e : Pair) (rows : List (Part × Pair)) (r : Node) (s : Edge) (l : Log)
+      → Does (join_row e (links_of rows) (shape digest r) (closing digest (links_edge s) l)) l
       (links_edge (Opened (rows ++ ((closed s, e) ∷ rows_in r)) (edge_of (last_part r)))) [] (closed_made s)
-  joined-does e rows r s l =
-      ap (joined_row e (links_of rows) (shape digest r)) (closing-does s l)
+  joined-is e rows r s l =
+      ap (join_row e (links_of rows) (shape digest r)) (closing-does s l)
       ∙ rw (links-rows r, links-next r)
       (ap (λ t. Ok (LinkOpened t (links_edge (edge_of (last_part r))), grow l [] (closed_made s)))
       (sym (links-append rows ((closed s, e) ∷ rows_in r))))
+
+  joined-does : (e : Pair) (rows : List (Part × Pair)) (r : Node) (s : Edge) (l : Log) (step : Step LinkEdge)
+      (g m : List Node) → Does step l (links_edge s) g m
+      → Does (joined_row digest e (links_of rows) (shape digest r) step) l
+      (links_edge (Opened (rows ++ ((closed s, e) ∷ rows_in r)) (edge_of (last_part r)))) (g ++ []) (m ++ closed_made s)
+  joined-does e rows r s l step g m h =
+      ap (joined_row digest e (links_of rows) (shape digest r)) h
+      ∙ joined-is e rows r s (grow l g m)
+      ∙ ap (λ t. Ok (links_edge (Opened (rows ++ ((closed s, e) ∷ rows_in r)) (edge_of (last_part r))), t))
+      (grow-grow l g m [] (closed_made s))
+
+  joined-answered : (e : Pair) (rows : Rows) (r : Shape) (step : Step LinkEdge)
+      → IsAnswered (joined_row digest e rows r step) → IsAnswered step
+  joined-answered e rows r (Ok x) h = tt
+  joined-answered e rows r (Err f) h = h
+
+  joined-reads : (e : Pair) (rows : List (Part × Pair)) (r : Node) (s : Edge) (l : Log) (step : Step LinkEdge)
+      (g m : List Node) → Reads step l (links_edge s) g m
+      → Reads (joined_row digest e (links_of rows) (shape digest r) step) l
+      (links_edge (Opened (rows ++ ((closed s, e) ∷ rows_in r)) (edge_of (last_part r)))) g (m ++ closed_made s)
+  joined-reads e rows r s l step g m h = (
+    λ all. does-lists _ l _ (g ++ []) (m ++ closed_made s) g (m ++ closed_made s) (append-nil g) refl
+        (joined-does e rows r s l step g m (h.0 all)),
+    λ answered. h.1 (joined-answered e (links_of rows) (shape digest r) step answered),
+  )
 
   noding-reads : (k : ℕ) → PartingReads k → (m : Node) (rows : List (Part × Pair)) (s : Edge) (l : Log) → AllWithin k m
       → EachUnder Known m → HoldsEdge s
@@ -327,21 +361,18 @@ module _ (digest : List ℕ → List ℕ) (shows : List ℕ → Option Shape) wh
       (links_edge (with_node m rows s)) (node_gone m s) (node_made m s)
   noding-reads k ih (Last p) rows s l w v h = reads-under _ rows l (with_part p s) _ _ (ih p s l w v h)
   noding-reads k ih (More p e r) rows s l w v h =
-      reads-lists _ l _ (part_gone p s ++ []) _ (part_gone p s) _ (append-nil (part_gone p s)) refl
-      (reads-then _ (λ t log1. joined_row e (links_of rows) (shape digest r) (closing digest t log1)) l _ _
-      (part_gone p s) (part_made p s) [] (closed_made (with_part p s)) (ih p s l w.0 v.0 h)
-      (reads-none _ (grow l (part_gone p s) (part_made p s)) _ (closed_made (with_part p s))
-      (joined-does e rows r (with_part p s) (grow l (part_gone p s) (part_made p s)))))
+      joined-reads e rows r (with_part p s) l _ (part_gone p s) (part_made p s) (ih p s l w.0 v.0 h)
 
   -- a node is read and comes where a node is open
-  asked-reads : (k : ℕ) → PartingReads k → (m : Node) (rows : List (Part × Pair)) (s : Edge) (l : Log) → AllWithin k m
+  asked-reads : (k : ℕ) → PartingReads k → (m : Node) (rows : List (Part × Pair)) (s : Edge) (at : LinkEdge) (l : Log)
+      → AllWithin k m
       → Known m → EachUnder Known m → HoldsEdge s
-      → Reads (and_then (ask shows (shape_cid digest (shape digest m)) l)
+      → Reads (and_then (ask shows (shape_cid digest (shape digest m)) at l)
       (noding digest (parting digest shows k) (links_of rows) (links_edge s))) l
       (links_edge (with_node m rows s)) (m ∷ node_gone m s) (node_made m s)
-  asked-reads k ih m rows s l w v u h =
+  asked-reads k ih m rows s at l w v u h =
       reads-then _ (noding digest (parting digest shows k) (links_of rows) (links_edge s)) l (shape digest m) _
-      (m ∷ []) [] (node_gone m s) (node_made m s) (ask-reads m l v)
+      (m ∷ []) [] (node_gone m s) (node_made m s) (ask-reads m at l v)
       (noding-reads k ih m rows s (grow l (m ∷ []) []) w u h)
 
   parting-reads : (k : ℕ) → PartingReads k
@@ -352,13 +383,13 @@ module _ (digest : List ℕ → List ℕ) (shows : List ℕ → Option Shape) wh
   parting-reads (suc k) (Sub m) (Waiting b) l w v h =
       let c = shape_cid digest (shape digest m) in
       let l1 = grow l (b ∷ []) [] in
-      reads-then _ (λ t log1. and_then (ask shows c log1)
+      reads-then _ (λ t log1. and_then (ask shows c (LinkOpened (rows_in_shape t) (link_edge (last_link t))) log1)
       (noding digest (parting digest shows k) (rows_in_shape t) (link_edge (last_link t)))) l (shape digest b) _
-      (b ∷ []) [] (m ∷ node_gone m (edge_of (last_part b))) (node_made m (edge_of (last_part b))) (ask-reads b l h.0)
+      (b ∷ []) [] (m ∷ node_gone m (edge_of (last_part b))) (node_made m (edge_of (last_part b))) (ask-reads b _ l h.0)
       (rw (links-rows b, links-next b)
-      (asked-reads k (parting-reads k) m (rows_in b) (edge_of (last_part b)) l1 w v.0 v.1 (holds-next (Waiting b) h)))
+      (asked-reads k (parting-reads k) m (rows_in b) (edge_of (last_part b)) _ l1 w v.0 v.1 (holds-next (Waiting b) h)))
   parting-reads (suc k) (Sub m) (Opened rows s) l w v h =
-      asked-reads k (parting-reads k) m rows s l w v.0 v.1 h
+      asked-reads k (parting-reads k) m rows s _ l w v.0 v.1 h
 
   subtreeing-reads : (k d : ℕ) (m : Node) (s : Edge) (l : Log) → IsWithin k (Sub m) → Held (Sub m) → HoldsEdge s
       → Reads (subtreeing digest shows k d (shape_cid digest (shape digest m)) (links_edge s) l) l
@@ -368,7 +399,7 @@ module _ (digest : List ℕ → List ℕ) (shows : List ℕ → Option Shape) wh
       let c = shape_cid digest (shape digest m) in
       let l1 = grow l (opened_gone s) [] in
       let i = subtreeing-reads k d m (next_of s) l1 w v (holds-next s h) in
-      reads-then _ (λ o log1. and_then (subtreeing digest shows k d c o.1 log1) (under_rows o.0)) l _ _ (opened_gone s)
+      reads-then _ (λ o log1. under_rows o.0 (subtreeing digest shows k d c o.1 log1)) l _ _ (opened_gone s)
       [] (subtree_gone d m (next_of s)) (subtree_made d m (next_of s)) (opening-reads s l h)
       (reads-under _ (rows_of s) l1 (with_subtree d m (next_of s)) _ _ i)
 
@@ -444,7 +475,7 @@ module _ (digest : List ℕ → List ℕ) (shows : List ℕ → Option Shape) wh
     walking-reads (suc k) d (Sub m) (c ∷ cs) s l w v h =
         reads-then _ (walking_node digest shows d (walking digest shows layer n k (suc d)) (c ∷ cs) (links_edge s)) l
         (shape digest m) _ (m ∷ []) [] (walk_under_gone layer n d m (c ∷ cs) s)
-        (walk_under_made layer n d m (c ∷ cs) s) (ask-reads m l v.0)
+        (walk_under_made layer n d m (c ∷ cs) s) (ask-reads m _ l v.0)
         (walking_node-reads k (walking-reads k) d m (c ∷ cs) s (grow l (m ∷ []) []) w v.1 h)
 
   -- ---- the top
@@ -541,7 +572,7 @@ module _ (digest : List ℕ → List ℕ) (shows : List ℕ → Option Shape) wh
       let top = top_of (batch_top layer n cs m) left in
       let all : Needs step l0 top (m ∷ (g ++ (gone ++ left))) (m ∷ (g ++ gone)) (k ++ top_made s) =
       needs-then _ (λ x log. and_then (walking_top digest shows layer n cs x log) (topping digest shows n)) l0
-      (shape digest m) _ (m ∷ []) (m ∷ []) [] (g ++ (gone ++ left)) (g ++ gone) (k ++ top_made s) (ask-reads m l0 v.0)
+      (shape digest m) _ (m ∷ []) (m ∷ []) [] (g ++ (gone ++ left)) (g ++ gone) (k ++ top_made s) (ask-reads m LinkClear l0 v.0)
       (needs-then _ (topping digest shows n) l1 (links_edge s) _ g g k (gone ++ left) gone (top_made s) walked
       (topping-reads n s (grow l1 g k) u h)) in
       subst (λ need. Needs step l0 top need (m ∷ (g ++ gone)) (k ++ top_made s))

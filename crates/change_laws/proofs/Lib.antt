@@ -4,4 +4,6 @@ pub mod Values
 pub mod Undone
 pub mod Showing
 pub mod Missing
+pub mod Following
+pub mod Partial
 pub mod Rows

@@ -1,5 +1,5 @@
 -- What is not shown isn't shown, and what is called missing isn't given.
-use Rattle.std.proofs.Common.{◌≡◌, ℕ, zero, suc, ◌-◌, Bool, true, false, List, [], ◌∷◌, refl, sym, subst, ◌∙◌, Option, Result, Ok, Err}
+use Rattle.std.proofs.Common.{◌≡◌, ℕ, zero, suc, ◌-◌, Bool, true, false, List, [], ◌∷◌, refl, subst, Option, Result, Ok, Err}
 use Rattle.std.specs.declared.option.Option.TheVariants.{Some, None}
 use Rattle.spec.specs.Reading.{◌>>=◌, ensure}
 use Rattle.spec.specs.Layer.{layer}
@@ -10,37 +10,42 @@ use Rattle.edit_laws.specs.ShapeEdit.{last_link, layer_of_shape}
 use Rattle.edit_laws.specs.Sources.{shown_by}
 use Rattle.batch_laws.specs.Batch.{Change, before, at_key, after, puts, entry}
 use Rattle.batch_laws.specs.Walking.{depth_of}
-use Rattle.batch_laws.specs.Links.{Rows, LinkEdge, LinkClear, LinkWaiting, LinkOpened, Log, Stop, NotShown, LinkTooDeep, Step, Top, and_then, ask, log_shown, with_read, link_edge, rows_in_shape, opened_rows, under_rows, opening, pairing, noding, parting, subtreeing, pairs_in_turn, walking_node, walking, pruning_at, pruning, topping, walking_top, batch_from}
+use Rattle.batch_laws.specs.Links.{Rows, LinkEdge, LinkClear, LinkWaiting, LinkOpened, Log, Stop, NotShown, LinkTooDeep, Step, Top, and_then, ask, log_shown, with_read, link_edge, rows_in_shape, opened_rows, under_rows, joined_row, opening, pairing, noding, parting, subtreeing, pairs_in_turn, walking_node, walking, pruning_at, pruning, topping, walking_top, batch_from, StopsAt}
 use Rattle.change_laws.specs.Told.{KeyChange, undone}
 use Rattle.change_laws.specs.Given.{ChangeFault, BlockMissing, BadNode, TooDeep, OtherValue, OtherRoot, given_at, unshown, fault_of, or_fault, batch_over, batch_given, layers_needed, put_layers}
 use Rattle.change_laws.specs.Verdict.{are_told, values_given, is_same, change_verdict}
 use Rattle.change_laws.specs.Laws.{NothingGiven, NotShownIsTrue, MissingIsMissing}
 
 module _ (shows : List ℕ → Option Shape) where
-  abbrev IsStop : Stop → Type 0
-  IsStop (NotShown c) = shows c ≡ None
-  IsStop LinkTooDeep = Unit {0}
+  abbrev pub IsTold : Stop → Type 0
+  IsTold (NotShown c) = shows c ≡ None
+  IsTold LinkTooDeep = Unit {0}
 
   -- a step that stops tells the truth
-  abbrev Stops : {A : Type 0} → Step A → Type 0
+  abbrev pub Stops : {A : Type 0} → Step A → Type 0
   Stops (Ok x) = Unit {0}
-  Stops (Err stop) = IsStop stop
+  Stops (Err e) = IsTold e.why
 
   stops-then : {A B : Type 0} (step : Step A) (f : A → Log → Step B) → Stops step
       → ((a : A) (log : Log) → Stops (f a log)) → Stops (and_then step f)
   stops-then (Ok x) f h k = k x.0 x.1
-  stops-then (Err stop) f h k = h
+  stops-then (Err e) f h k = h
 
-  stops-logged : (c : List ℕ) (o : Option Shape) (log : Log) → shows c ≡ o → Stops (log_shown c o log)
-  stops-logged c None log q = q
-  stops-logged c (Some s) log q = tt
+  stops-under : (rows : Rows) (step : Step LinkEdge) → Stops step → Stops (under_rows rows step)
+  stops-under rows (Ok x) h = tt
+  stops-under rows (Err e) h = h
 
-  stops-read : (c : List ℕ) (log : Log) → Stops (ask shows c log)
-  stops-read c log = stops-logged c (shows c) log refl
+  stops-logged : (c : List ℕ) (s : LinkEdge) (o : Option Shape) (log : Log) → shows c ≡ o → Stops (log_shown c s o log)
+  stops-logged c s None log q = q
+  stops-logged c s (Some m) log q = tt
+
+  stops-read : (c : List ℕ) (s : LinkEdge) (log : Log) → Stops (ask shows c s log)
+  stops-read c s log = stops-logged c s (shows c) log refl
 
   stops-open : (s : LinkEdge) (log : Log) → Stops (opening shows s log)
   stops-open LinkClear log = tt
-  stops-open (LinkWaiting c) log = stops-then (ask shows c log) opened_rows (stops-read c log) (λ s log1. tt)
+  stops-open (LinkWaiting c) log =
+      stops-then (ask shows c (LinkWaiting c) log) opened_rows (stops-read c (LinkWaiting c) log) (λ s log1. tt)
   stops-open (LinkOpened rows s) log = tt
 
   module _ (digest : List ℕ → List ℕ) where
@@ -48,16 +53,17 @@ module _ (shows : List ℕ → Option Shape) where
     stops-pair zero e s log = stops-then (opening shows s log) _ (stops-open s log) (λ o log1. tt)
     stops-pair (suc d) e s log =
         stops-then (opening shows s log) _ (stops-open s log)
-        (λ o log1. stops-then (pairing digest shows d e o.1 log1) (under_rows o.0) (stops-pair d e o.1 log1)
-        (λ t log2. tt))
+        (λ o log1. stops-under o.0 (pairing digest shows d e o.1 log1) (stops-pair d e o.1 log1))
 
     stops-noding : (further : Option (List ℕ) → LinkEdge → Log → Step LinkEdge)
         → ((l : Option (List ℕ)) (s : LinkEdge) (log : Log) → Stops (further l s log))
         → (rows : Rows) (s : LinkEdge) (m : Shape) (log : Log) → Stops (noding digest further rows s m log)
-    stops-noding further h rows s (LastLink l) log =
-        stops-then (further l s log) (under_rows rows) (h l s log) (λ t log1. tt)
-    stops-noding further h rows s (MoreLinks l e r) log =
-        stops-then (further l s log) _ (h l s log) (λ t log1. tt)
+    stops-noding further h rows s (LastLink l) log = stops-under rows (further l s log) (h l s log)
+    stops-noding further h rows s (MoreLinks l e r) log = joins (further l s log) (h l s log)
+      where
+        joins : (step : Step LinkEdge) → Stops step → Stops (joined_row digest e rows r step)
+        joins (Ok x) k = tt
+        joins (Err f) k = k
 
     stops-part : (k : ℕ) (l : Option (List ℕ)) (s : LinkEdge) (log : Log) → Stops (parting digest shows k l s log)
     stops-part zero None s log = tt
@@ -65,21 +71,22 @@ module _ (shows : List ℕ → Option Shape) where
     stops-part (suc k) None s log = tt
     stops-part (suc k) (Some c) LinkClear log = tt
     stops-part (suc k) (Some c) (LinkWaiting b) log =
-        stops-then (ask shows b log) _ (stops-read b log)
-        (λ t log1. stops-then (ask shows c log1)
-        (noding digest (parting digest shows k) (rows_in_shape t) (link_edge (last_link t))) (stops-read c log1)
+        stops-then (ask shows b (LinkWaiting b) log) _ (stops-read b (LinkWaiting b) log)
+        (λ t log1. stops-then (ask shows c (LinkOpened (rows_in_shape t) (link_edge (last_link t))) log1)
+        (noding digest (parting digest shows k) (rows_in_shape t) (link_edge (last_link t)))
+        (stops-read c (LinkOpened (rows_in_shape t) (link_edge (last_link t))) log1)
         (λ m log2. stops-noding (parting digest shows k) (stops-part k) (rows_in_shape t) (link_edge (last_link t)) m
         log2))
     stops-part (suc k) (Some c) (LinkOpened rows s) log =
-        stops-then (ask shows c log) (noding digest (parting digest shows k) rows s) (stops-read c log)
+        stops-then (ask shows c (LinkOpened rows s) log) (noding digest (parting digest shows k) rows s)
+        (stops-read c (LinkOpened rows s) log)
         (λ m log1. stops-noding (parting digest shows k) (stops-part k) rows s m log1)
 
     stops-subtree : (k d : ℕ) (c : List ℕ) (s : LinkEdge) (log : Log) → Stops (subtreeing digest shows k d c s log)
     stops-subtree k zero c s log = stops-part k (Some c) s log
     stops-subtree k (suc d) c s log =
         stops-then (opening shows s log) _ (stops-open s log)
-        (λ o log1. stops-then (subtreeing digest shows k d c o.1 log1) (under_rows o.0) (stops-subtree k d c o.1 log1)
-        (λ t log2. tt))
+        (λ o log1. stops-under o.0 (subtreeing digest shows k d c o.1 log1) (stops-subtree k d c o.1 log1))
 
     stops-pairs : (depth : List ℕ → ℕ) (es : List Pair) (s : LinkEdge) (log : Log)
         → Stops (pairs_in_turn digest shows depth es s log)
@@ -106,7 +113,7 @@ module _ (shows : List ℕ → Option Shape) where
     stops-walk lay n (suc k) d None cs s log = stops-pairs (depth_of lay n) (puts cs) s log
     stops-walk lay n (suc k) d (Some c) [] s log = stops-subtree (suc k) d c s log
     stops-walk lay n (suc k) d (Some c) (x ∷ cs) s log =
-        stops-then (ask shows c log) _ (stops-read c log)
+        stops-then (ask shows c s log) _ (stops-read c s log)
         (λ m log1. stops-node d (walking digest shows lay n k (suc d)) (stops-walk lay n k (suc d)) (x ∷ cs) s m log1)
 
     stops-look : (k : ℕ) → ((c : List ℕ) (log : Log) → Stops (pruning shows k c log)) → (c : List ℕ) (o : Option Shape)
@@ -126,11 +133,11 @@ module _ (shows : List ℕ → Option Shape) where
     stops-top k (LinkOpened [] s) log = stops-top k s log
     stops-top k (LinkOpened (x ∷ rows) s) log = tt
 
-    stops-batch : (lay : List ℕ → ℕ) (n : ℕ) (cs : List Change) (root : List ℕ)
+    pub stops-batch : (lay : List ℕ → ℕ) (n : ℕ) (cs : List Change) (root : List ℕ)
         → Stops (batch_from digest shows lay n cs root)
     stops-batch lay n cs root =
-        stops-then (ask shows root (record { read = []; made = [] })) _
-        (stops-read root (record { read = []; made = [] }))
+        stops-then (ask shows root LinkClear (record { read = []; made = [] })) _
+        (stops-read root LinkClear (record { read = []; made = [] }))
         (λ s log. stops-then (walking_top digest shows lay n cs s log) (topping digest shows n)
         (let t = layer_of_shape lay s in
         let d = n - suc t in
@@ -142,7 +149,11 @@ not_shown-is_true digest bits gives cs root c e =
     let shows = shown_by gives in
     let lay = layer digest bits in
     let n = layers_needed lay (put_layers lay cs) (shows root) in
-    subst (λ (o : Step Top). Stops shows o) e (stops-batch shows digest lay n cs root)
+    told (batch_over digest bits gives cs root) (stops-batch shows digest lay n cs root) e
+  where
+    told : (o : Step Top) → Stops (shown_by gives) o → StopsAt (NotShown c) o → shown_by gives c ≡ None
+    told (Ok x) h k = absurd k
+    told (Err f) h k = subst (λ w. IsTold (shown_by gives) w) k h
 
 -- ---- what is called missing
 
@@ -163,10 +174,13 @@ module _ (gives : List ℕ → Option (List ℕ)) where
   tells-unshown c None q = q
   tells-unshown c (Some b) q = tt
 
+  tells-why : (why : Stop) → IsTrue (fault_of gives why)
+  tells-why (NotShown c) = tells-unshown c (gives c) refl
+  tells-why LinkTooDeep = tt
+
   tells-step : (step : Step Top) → Tells (or_fault gives step)
   tells-step (Ok x) = tt
-  tells-step (Err (NotShown c)) = tells-unshown c (gives c) refl
-  tells-step (Err LinkTooDeep) = tt
+  tells-step (Err e) = tells-why e.why
 
   -- ---- what follows the reading
 

@@ -31,7 +31,7 @@ use Rattle.batch_laws.specs.Edge.{Edge, Clear, Waiting, Opened}
 use Rattle.batch_laws.specs.Walking.{walk_top}
 use Rattle.batch_laws.specs.Counts.{most_reads}
 use Rattle.batch_laws.specs.Trace.{batch_gone, batch_read, top_left}
-use Rattle.batch_laws.specs.Links.{Log, Step, Stop, Top, ask, batch_from}
+use Rattle.batch_laws.specs.Links.{LinkClear, Log, Step, Top, ask, batch_from}
 use Rattle.batch_laws.specs.Previous.{values}
 use Rattle.batch_laws.proofs.Edges.{IsEdge}
 use Rattle.batch_laws.proofs.Walks.{walk-top, batch-is_top}
@@ -49,10 +49,10 @@ use Rattle.change_laws.proofs.Undone.{undone-differ, differ-undone}
 
 -- ---- the given blocks as a source
 
-some-is : {A : Type 0} (x y : A) → ◌≡◌ {A = Option A} (Some x) (Some y) → x ≡ y
+pub some-is : {A : Type 0} (x y : A) → ◌≡◌ {A = Option A} (Some x) (Some y) → x ≡ y
 some-is x y q = cc
 
-found-is : (o : Option (List ℕ)) (b : List ℕ) → or_missing o ≡ Ok b → o ≡ Some b
+pub found-is : (o : Option (List ℕ)) (b : List ℕ) → or_missing o ≡ Ok b → o ≡ Some b
 found-is None b e = absurd cc
 found-is (Some x) b e = cc
 
@@ -151,7 +151,7 @@ within-edge digest shows lay n (suc k) (Opened rows s) es l h =
 
 -- ---- answers of steps
 
-ok-is : {A E : Type 0} (x y : A) → ◌≡◌ {A = Result A E} (Ok x) (Ok y) → x ≡ y
+pub ok-is : {A E : Type 0} (x y : A) → ◌≡◌ {A = Result A E} (Ok x) (Ok y) → x ≡ y
 ok-is x y q = cc
 
 answer-is : (gives : List ℕ → Option (List ℕ)) (step : Step Top) (x : Top × Log) → step ≡ Ok x → or_fault gives step ≡ Ok x
@@ -190,10 +190,10 @@ module _ (digest : List ℕ → List ℕ) (bits : ℕ) (fits : IsDigest digest) 
   abbrev layers : ℕ
   layers = layers_needed lay (put_layers lay cs) (shows digest given (root digest bits es))
 
-  tree-within : top_layer lay es < most
+  pub tree-within : top_layer lay es < most
   tree-within = omega arith
 
-  puts-are-within : top_layer lay (puts cs) < most
+  pub puts-are-within : top_layer lay (puts cs) < most
   puts-are-within = puts-within lay cs most (omega arith) (omega arith)
 
   each-own : EachNode (IsOwn digest given) (Sub own_top)
@@ -209,15 +209,15 @@ module _ (digest : List ℕ → List ℕ) (bits : ℕ) (fits : IsDigest digest) 
       (within-edge digest (shows digest given) lay most most (walk_top lay most cs own_top) (changed cs es) (omega arith)
       stands.edge)
 
-  layers-are : Shown digest (shows digest given) own_top → layers ≡ most
+  pub layers-are : Shown digest (shows digest given) own_top → layers ≡ most
   layers-are h = ap (layers_needed lay (put_layers lay cs)) h
       ∙ ap (λ k. max (suc k) (put_layers lay cs)) (layer-same digest (shows digest given) lay own_top ∙ layer_of-top lay es)
 
   root-shown : IsAnswered (batch layers) → Shown digest (shows digest given) own_top
   root-shown answered =
-      logged-shown digest (shows digest given) own_top (record { read = []; made = [] })
+      logged-shown digest (shows digest given) own_top LinkClear (record { read = []; made = [] })
       (own-known digest given own_top each-own.0) (shows digest given (root digest bits es)) refl
-      (first-answered (ask (shows digest given) (root digest bits es) (record { read = []; made = [] })) _ answered)
+      (first-answered (ask (shows digest given) (root digest bits es) LinkClear (record { read = []; made = [] })) _ answered)
 
   root-is : (x : Top × Log) → batch most ≡ Ok x → AllRead → x.0.0 ≡ root digest bits (changed cs es)
   root-is x q all =

@@ -52,7 +52,7 @@ fault_of gives LinkTooDeep = TooDeep
 
 abbrev pub or_fault : {A : Type 0} → (List ℕ → Option A) → Step Top → Result (Top × Log) ChangeFault
 or_fault gives (Ok x) = Ok x
-or_fault gives (Err stop) = Err (fault_of gives stop)
+or_fault gives (Err e) = Err (fault_of gives e.why)
 
 -- what these changes make of the tree with a root, as a source shows it, or where they stop
 abbrev pub batch_over : (List ℕ → List ℕ) → ℕ → (List ℕ → Option (List ℕ)) → List Change → List ℕ → Step Top

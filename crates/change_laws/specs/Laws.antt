@@ -1,14 +1,18 @@
 -- The laws of a proof of changes.
-use Rattle.std.specs.Prelude.{◌≡◌, Contains, ◌<◌, ◌^◌, ℕ, suc, max, List, [], length, map, Option, None, Ok, Err}
+use Rattle.std.specs.Prelude.{◌≡◌, Contains, ◌<◌, ◌≤◌, ◌^◌, ℕ, suc, max, List, [], ◌++◌, length, map, Option, None, Ok, Err}
+use Rattle.std.specs.List.{AllByRecursion}
 use Rattle.spec.specs.Cid.{IsDigest}
 use Rattle.spec.specs.Layer.{layer as layer_of_key}
 use Rattle.spec.specs.Tree.{Pair, top, top_layer}
 use Rattle.spec.specs.NodeFormat.{node_bytes}
-use Rattle.spec.specs.Blocks.{ArePairs, ClashesWithNone, nodes, root}
+use Rattle.spec.specs.Blocks.{ArePairs, ClashesWithNone, IsClashFree, nodes, root}
+use Rattle.edit_laws.specs.Lawful.{HasKeys}
 use Rattle.edit_laws.specs.Sources.{shown_by}
 use Rattle.batch_laws.specs.Batch.{Change, changed, AreKeyed, HaveOwnCids}
 use Rattle.batch_laws.specs.Trace.{batch_read}
-use Rattle.batch_laws.specs.Links.{NotShown}
+use Rattle.batch_laws.specs.Counts.{most_from}
+use Rattle.batch_laws.specs.Links.{NotShown, Step, Stopped, StopsAt, Top}
+use Rattle.batch_laws.specs.Written.{AreWritten}
 use Rattle.change_laws.specs.Told.{KeyChange, undone, DifferBy}
 use Rattle.change_laws.specs.Given.{BlockMissing, given_at, batch_over, put_layers}
 use Rattle.change_laws.specs.Verdict.{change_verdict}
@@ -53,6 +57,31 @@ VerdictIsComplete = (digest : List ℕ → List ℕ) (bits : ℕ) → IsDigest d
     → ((b : List ℕ) → Contains (change_path digest bits cs new) b → Contains given b)
     → change_verdict digest bits (root digest bits old) (root digest bits new) given cs ≡ Ok tt
 
+-- ---- where some of a tree's blocks are given
+
+-- a batch stops as this block isn't given; fewer nodes were read by then, and each node that was made has keys of the grammar, with
+-- each that is open one that may still have them
+pub record IsLack (gives : List ℕ → Option (List ℕ)) (most : ℕ) (e : Stopped) : Type 0 where
+  pub missing : List ℕ
+  pub why_is : e.why ≡ NotShown missing
+  pub lacks : gives missing ≡ None
+  pub few : length e.log.read < most
+  pub written : AreWritten HasKeys e.edge e.log
+
+-- or it has an answer, for which no more are read, and each node that was made has keys of the grammar
+abbrev pub OnlyLacks : (List ℕ → Option (List ℕ)) → ℕ → Step Top → Type 0
+OnlyLacks gives most (Ok x) = (length (x.1.read ++ x.0.1) ≤ most) × AllByRecursion HasKeys x.1.made
+OnlyLacks gives most (Err e) = IsLack gives most e
+
+-- nothing else stops a batch where no two nodes of the tree clash, and none with a given block
+abbrev pub TreeOnlyLacks : Type 0
+TreeOnlyLacks = (digest : List ℕ → List ℕ) (bits : ℕ) → IsDigest digest → (es : List Pair) → ArePairs es
+    → IsClashFree digest (nodes digest bits es) → (given : List (List ℕ)) → ClashesWithNone digest (nodes digest bits es) given
+    → (cs : List Change) → AreKeyed cs
+    → let gives = given_at digest given in
+    OnlyLacks gives (most_from (layer_of_key digest bits) cs (shown_by gives (root digest bits es)))
+    (batch_over digest bits gives cs (root digest bits es))
+
 -- ---- faults
 
 -- where nothing is given, the root after is what is missing first
@@ -63,7 +92,7 @@ NothingGiven = (digest : List ℕ → List ℕ) (bits : ℕ) (before after : Lis
 -- what a batch finds not shown isn't shown: so a bad node is a given block that is no node
 abbrev pub NotShownIsTrue : Type 0
 NotShownIsTrue = (digest : List ℕ → List ℕ) (bits : ℕ) (gives : List ℕ → Option (List ℕ)) (cs : List Change)
-    (root c : List ℕ) → batch_over digest bits gives cs root ≡ Err (NotShown c) → shown_by gives c ≡ None
+    (root c : List ℕ) → StopsAt (NotShown c) (batch_over digest bits gives cs root) → shown_by gives c ≡ None
 
 -- what is missing isn't given
 abbrev pub MissingIsMissing : Type 0

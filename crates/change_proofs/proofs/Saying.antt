@@ -5,7 +5,7 @@ use Rattle.std.specs.declared.sync.Arc.{Arc}
 use Rattle.spec.specs.Layer.{layer}
 use Rattle.spec.specs.NodeFormat.{Shape}
 use Rattle.lookups.specs.Steps.{nodes_given}
-use Rattle.batch_laws.specs.Links.{Log, NotShown, Step, Top, and_then, log_shown, walking_top, topping}
+use Rattle.batch_laws.specs.Links.{LinkClear, Log, NotShown, Step, StopsAt, Top, and_then, log_shown, walking_top, topping}
 use Rattle.batch_laws.specs.Previous.{previous_top}
 use Rattle.edit.specs.Batches.{answer_of, most_of, put_layers}
 use Rattle.edit.specs.Previews.{IsPreview, IsPreviewReason}
@@ -13,22 +13,23 @@ use Rattle.edit.specs.Tops.{layers_needed}
 use Rattle.edit.specs.declared.outcome.EditFault.{EditFault}
 use Rattle.edit.specs.declared.outcome.EditFault.TheVariants as edits
 use Rattle.change_laws.specs.Told.{KeyChange, undone}
-use Rattle.change_laws.specs.Given.{ChangeFault as GivenFault, BlockMissing as HasBlockMissing, OtherValue as HasOtherValue, OtherRoot as HasOtherRoot, unshown}
+use Rattle.change_laws.specs.Given.{ChangeFault as GivenFault, BlockMissing as HasBlockMissing, OtherValue as HasOtherValue, OtherRoot as HasOtherRoot, unshown, fault_of}
 use Rattle.change_laws.specs.Verdict.{previous_of, are_told}
 use Rattle.change_laws.proofs.Lacking.{IsAnswered}
 use Rattle.change_proofs.specs.Verdicts.{of_preview, judgement, IsJudged, IsFault, IsSaid, IsSaidOver, SaysOf, values_met}
 use Rattle.change_proofs.specs.declared.change_fault.ChangeFault.{ChangeFault}
 use Rattle.change_proofs.specs.declared.change_fault.ChangeFault.TheVariants.{BlockMissing, NotTree, OtherValue, OtherRoot, NoMemory}
 
+-- a step that stops where a block isn't given says that it is missing
+missing-said : {X : Type 0} (gives : List ℕ → Option X) (answer : Step Top) (vs : List (Option (List ℕ)))
+    (cs : List KeyChange) (before c : List ℕ) → gives c ≡ None → StopsAt (NotShown c) answer
+    → SaysOf gives answer vs cs before (Err (HasBlockMissing c))
+missing-said gives (Ok x) vs cs before c lacks stops = absurd stops
+missing-said gives (Err e) vs cs before c lacks stops =
+    ap (λ w. Err (fault_of gives w)) stops ∙ ap (λ o. Err (unshown c o)) lacks
+
 module _ {X : Type 0} (gives : List ℕ → Option X) (answer : Step Top) (vs : List (Option (List ℕ))) (cs : List KeyChange)
     (before : List ℕ) where
-  -- a step that stops where a block isn't given says that it is missing
-  missing-said : (c : List ℕ) → gives c ≡ None → answer ≡ Err (NotShown c)
-      → SaysOf gives answer vs cs before (Err (HasBlockMissing c))
-  missing-said c lacks stops =
-      subst (λ (a : Step Top). SaysOf gives a vs cs before (Err (HasBlockMissing c))) (sym stops)
-      (ap (λ o. Err (unshown c o)) lacks)
-
   module _ (new : List ℕ) (left : List Shape) (log : Log) (is : answer ≡ Ok ((new, left), log)) where
     says : (told r : Result (Unit {0}) GivenFault) → are_told 0 vs cs ≡ told
         → judgement told new before ≡ r → SaysOf gives answer vs cs before r
@@ -65,7 +66,7 @@ module _ {A : Type 0} (digest : List ℕ → List ℕ) (bits : ℕ) (gives : Lis
 
   -- where there is an answer, a node has the root
   met : (n : ℕ) (previous : List (Option (List ℕ))) (o : Option Shape)
-      → IsAnswered (and_then (log_shown root o start) (from_top n))
+      → IsAnswered (and_then (log_shown root LinkClear o start) (from_top n))
       → ((top : Shape) → o ≡ Some top → previous ≡ previous_top shows lay (undone cs) top)
       → previous ≡ previous_of shows lay (undone cs) o
   met n previous None a f = absurd a

@@ -5,22 +5,22 @@ use Rattle.spec.specs.Cid.{IsDigest}
 use Rattle.spec.specs.Layer.{layer}
 use Rattle.spec.specs.Tree.{Pair, top, top_layer}
 use Rattle.spec.specs.NodeFormat.{Shape, shape}
-use Rattle.spec.specs.Blocks.{ArePairs, ClashesWithNone, nodes, root as root_of}
+use Rattle.spec.specs.Blocks.{ArePairs, ClashesWithNone, IsClashFree, nodes, root as root_of}
 use Rattle.edit_laws.proofs.ShapeBridges.{layer-shape}
 use Rattle.edit_laws.proofs.Tops.{layer_of-top}
 use Rattle.edit_laws.specs.Sources.{shown_by}
 use Rattle.batch_laws.specs.Batch.{AreKeyed}
-use Rattle.batch_laws.specs.Counts.{most_reads}
+use Rattle.batch_laws.specs.Counts.{most_reads, most_from}
 use Rattle.batch_laws.specs.Links.{Step, Top}
-use Rattle.edit.specs.Budgets.{most_from}
-use Rattle.edit.specs.Stops.{IsUnreached, at_top}
+use Rattle.edit.specs.Stops.{IsUnreachedAt, IsUnreached, at_top}
 use Rattle.edit.proofs.Bounds.{most-shown}
 use Rattle.change_laws.specs.Told.{KeyChange, undone, DifferBy}
 use Rattle.change_laws.specs.Given.{given_at, batch_over}
 use Rattle.change_laws.specs.Verdict.{change_verdict}
-use Rattle.change_laws.specs.Laws.{change_path}
+use Rattle.change_laws.specs.Laws.{OnlyLacks, change_path}
+use Rattle.change_laws.proofs.Partial.{tree-only_lacks}
 use Rattle.change_laws.proofs.Showing.{Reached, reached, verdict-complete}
-use Rattle.change_proofs.specs.Verdicts.{IsVerdict, IsWhole, IsWant}
+use Rattle.change_proofs.specs.Verdicts.{IsVerdict, IsWhole, IsWant, IsOfTree, IsOfATree}
 use Rattle.change_proofs.specs.declared.change_fault.ChangeFault.{ChangeFault}
 use Rattle.change_proofs.specs.declared.change_fault.ChangeFault.TheVariants.{BlockMissing, NotTree, OtherValue, OtherRoot, NoMemory}
 
@@ -60,7 +60,8 @@ module _ (digest : List ℕ → List ℕ) (bits : ℕ) (fits : IsDigest digest) 
     wants NotTree h =
         let few = there.few in
         let most = enough in
-        subst (λ (o : Step Top). IsUnreached (most_from (layer digest bits) (undone cs) (shows root_after)) (at_top o))
+        subst (λ (o : Step Top). IsUnreached (given_at digest given)
+        (most_from (layer digest bits) (undone cs) (shows root_after)) (at_top o))
         answer-is h (omega (arith, few, most)) (record { made = there.made; begun = tt })
     wants (OtherValue place) h = ok-err tt _ (sym is-shown ∙ h)
     wants OtherRoot h = ok-err tt _ (sym is-shown ∙ h)
@@ -73,3 +74,32 @@ module _ (digest : List ℕ → List ℕ) (bits : ℕ) (fits : IsDigest digest) 
       wants old new are_old are_new free differ has fault
       (subst (λ a. IsVerdict digest bits (root_of digest bits old) a given cs (Err fault)) after_is
       (subst (λ b. IsVerdict digest bits b after given cs (Err fault)) before_is h))
+
+-- ---- of a tree
+
+module _ (digest : List ℕ → List ℕ) (bits : ℕ) (fits : IsDigest digest) (given : List (List ℕ)) (cs : List KeyChange)
+    (keyed : AreKeyed (undone cs)) where
+  nothing-wrong : (most : ℕ) (step : Step Top) → OnlyLacks (given_at digest given) most step
+      → IsUnreached (given_at digest given) most (at_top step) → ⊥
+  nothing-wrong most (Ok x) h u = u h.0 (record { made = h.1; begun = tt })
+  nothing-wrong most (Err e) h u =
+      subst (λ why. IsUnreachedAt (given_at digest given) most why e.edge e.log) h.why_is u h.lacks h.few h.written
+
+  of-tree : (before : List ℕ) (new : List Pair) → ArePairs new → IsClashFree digest (nodes digest bits new)
+      → ClashesWithNone digest (nodes digest bits new) given → (fault : ChangeFault)
+      → IsVerdict digest bits before (root_of digest bits new) given cs (Err fault) → IsOfATree fault
+  of-tree before new are own_free free (BlockMissing c) h = tt
+  of-tree before new are own_free free NotTree h =
+      nothing-wrong (most_from (layer digest bits) (undone cs) (shown_by (given_at digest given) (root_of digest bits new)))
+      (batch_over digest bits (given_at digest given) (undone cs) (root_of digest bits new))
+      (tree-only_lacks digest bits fits new are own_free given free (undone cs) keyed) h
+  of-tree before new are own_free free (OtherValue place) h = tt
+  of-tree before new are own_free free OtherRoot h = tt
+  of-tree before new are own_free free NoMemory h = tt
+
+  pub verdict-tree : (before after : List ℕ) (result : Result (Unit {0}) ChangeFault)
+      → IsVerdict digest bits before after given cs result → IsOfTree digest bits before after given cs result
+  verdict-tree before after (Ok x) h new are after_is own_free free = tt
+  verdict-tree before after (Err fault) h new are after_is own_free free =
+      of-tree before new are own_free free fault
+      (subst (λ a. IsVerdict digest bits before a given cs (Err fault)) after_is h)

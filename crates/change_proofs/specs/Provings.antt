@@ -9,7 +9,7 @@ use Rattle.spec.specs.Blocks.{ArePairs, ClashesWithNone, nodes, pairs, root as r
 use Rattle.spec.specs.States.{State, records, state_root}
 use Rattle.edit_laws.specs.Laws.Edits.{bytes_of}
 use Rattle.lookups.specs.Steps.{nodes_given}
-use Rattle.batch_laws.specs.Links.{Log, NotShown}
+use Rattle.batch_laws.specs.Links.{Log, NotShown, StopsAt}
 use Rattle.batch_laws.specs.Previous.{previous_top, values}
 use Rattle.edit.specs.Batches.{answer_of as answer_over, most_of}
 use Rattle.edit.specs.Stops.{IsUnreached, at_top}
@@ -94,13 +94,14 @@ module _ {A : Type 0} (digest : List ℕ → List ℕ) (bits : ℕ) (gives : Lis
     pub told : Tells (Ok tt)
     pub nodes_are : proof ≡ bytes_of (log.read ++ left)
 
-  -- Why there are none: the source lacks the block with this CID, and there the batch stops; it has no answer for which so few
-  -- nodes are read, and in which keys ascend in each node that is made; a key has another value; or memory is wanted.
+  -- Why there are none: the source lacks the block with this CID, and there the batch stops; it stops as the source gives what
+  -- is no tree, or, as far as it comes, it reads more nodes than these, or keys don't ascend in a node that it makes; a key has
+  -- another value; or memory is wanted.
   abbrev pub IsLackOver : ChangeFault → Type 0
   IsLackOver (BlockMissing c) =
-      (gives c ≡ None) × (answer_over digest bits gives (undone cs) root ≡ Err (NotShown c))
+      (gives c ≡ None) × StopsAt (NotShown c) (answer_over digest bits gives (undone cs) root)
   IsLackOver NotTree =
-      IsUnreached (most_of digest bits gives (undone cs) root) (at_top (answer_over digest bits gives (undone cs) root))
+      IsUnreached gives (most_of digest bits gives (undone cs) root) (at_top (answer_over digest bits gives (undone cs) root))
   IsLackOver (OtherValue place) = Tells (Err (HasOtherValue place))
   IsLackOver OtherRoot = ⊥
   IsLackOver NoMemory = ⊤

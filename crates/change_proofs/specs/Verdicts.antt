@@ -5,12 +5,12 @@ use Rattle.std.specs.declared.sync.Arc.{Arc}
 use Rattle.spec.specs.Reading.{◌>>=◌, ensure}
 use Rattle.spec.specs.Layer.{layer}
 use Rattle.spec.specs.Tree.{Pair}
-use Rattle.spec.specs.Blocks.{ArePairs, ClashesWithNone, nodes, root as root_of}
+use Rattle.spec.specs.Blocks.{ArePairs, ClashesWithNone, IsClashFree, nodes, root as root_of}
 use Rattle.edit_laws.specs.Sources.{shown_by}
 use Rattle.lookups.specs.Steps.{nodes_given}
+use Rattle.batch_laws.specs.Counts.{most_from}
 use Rattle.batch_laws.specs.Links.{Step, Top}
 use Rattle.edit.specs.Batches.{most_of, answer_of as answer_over}
-use Rattle.edit.specs.Budgets.{most_from}
 use Rattle.edit.specs.Stops.{IsUnreached, at_top}
 use Rattle.edit.specs.declared.outcome.EditFault.{EditFault}
 use Rattle.edit.specs.declared.outcome.EditFault.TheVariants as edits
@@ -58,12 +58,12 @@ IsJudged verdict (Err NoMemory) = ⊥
 -- ---- over any source
 
 -- Why there is no verdict, or which: the source lacks the block with this CID, a key has another value, or another root comes
--- out, and the verdict says so; or the batch has no answer for which so few nodes are read, and in which keys ascend in each node
--- that is made.
+-- out, and the verdict says so; or the batch stops as the source gives what is no tree, or, as far as it comes, it reads more
+-- nodes than these, or keys don't ascend in a node that it makes.
 abbrev pub IsFault : {X : Type 0} → (List ℕ → Option X) → ℕ → Step Top
     → (Result (Unit {0}) GivenFault → Type 0) → ChangeFault → Type 0
 IsFault gives most answer Says (BlockMissing c) = (gives c ≡ None) × Says (Err (HasBlockMissing c))
-IsFault gives most answer Says NotTree = IsUnreached most (at_top answer)
+IsFault gives most answer Says NotTree = IsUnreached gives most (at_top answer)
 IsFault gives most answer Says (OtherValue place) = Says (Err (HasOtherValue place))
 IsFault gives most answer Says OtherRoot = Says (Err HasOtherRoot)
 IsFault gives most answer Says NoMemory = ⊤
@@ -77,7 +77,7 @@ IsSaid gives most answer Says (Err fault) = IsFault gives most answer Says fault
 -- what an answer says of changes whose keys have these values, or where it stops
 abbrev pub SaysOf : {X : Type 0} → (List ℕ → Option X) → Step Top → List (Option (List ℕ)) → List KeyChange → List ℕ
     → Result (Unit {0}) GivenFault → Type 0
-SaysOf gives (Err stop) vs cs before r = Err (fault_of gives stop) ≡ r
+SaysOf gives (Err e) vs cs before r = Err (fault_of gives e.why) ≡ r
 SaysOf gives (Ok x) vs cs before r = judgement (are_told 0 vs cs) x.0.0 before ≡ r
 
 abbrev pub IsSaidOver : {A : Type 0} → (List ℕ → List ℕ) → ℕ → (List ℕ → Option (Arc (List ℕ) A)) → List ℕ → List ℕ
@@ -94,6 +94,14 @@ IsWant NotTree = ⊥
 IsWant (OtherValue place) = ⊥
 IsWant OtherRoot = ⊥
 IsWant NoMemory = ⊤
+
+-- it is not that there is no tree
+abbrev pub IsOfATree : ChangeFault → Type 0
+IsOfATree (BlockMissing c) = ⊤
+IsOfATree NotTree = ⊥
+IsOfATree (OtherValue place) = ⊤
+IsOfATree OtherRoot = ⊤
+IsOfATree NoMemory = ⊤
 
 -- ---- over given blocks
 
@@ -112,6 +120,11 @@ module _ (digest : List ℕ → List ℕ) (bits : ℕ) (before after : List ℕ)
   abbrev pub IsRight : Type 0
   IsRight = (new : List Pair) → ArePairs new → after ≡ root_of digest bits new
       → ClashesWithNone digest (nodes digest bits new) given → OnOk result (IsShown digest bits before cs new)
+
+  -- where all or some blocks of a tree are given, that there is no tree is never said
+  abbrev pub IsOfTree : Type 0
+  IsOfTree = (new : List Pair) → ArePairs new → after ≡ root_of digest bits new → IsClashFree digest (nodes digest bits new)
+      → ClashesWithNone digest (nodes digest bits new) given → IfErr result IsOfATree
 
   -- and true ones are shown where the nodes are given that undoing reads
   abbrev pub IsWhole : Type 0

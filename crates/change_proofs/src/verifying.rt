@@ -4,7 +4,7 @@ ghost use Rattle.std.specs.Prelude.{◌≡◌, ◌≤◌, true, map, None};
 ghost use Rattle.std.specs.Arc.{arc_value};
 ghost use Rattle.edit.specs.Batches.{are_changes as are_changes_of};
 ghost use Rattle.change_laws.specs.Told.{undone as undone_of};
-ghost use Rattle.change_proofs.specs.Verdicts.{IsJudged, judgement, told_of, IsSaidOver, IsVerdict, IsRight, IsWhole};
+ghost use Rattle.change_proofs.specs.Verdicts.{IsJudged, judgement, told_of, IsSaidOver, IsVerdict, IsRight, IsWhole, IsOfTree};
 
 use crate::change_fault::ChangeFault;
 use crate::given::blocks_of;
@@ -40,6 +40,10 @@ pub fn verify_change<D: Digest, const B: u8, A: Allocator + Clone, K: AsSlice<u8
     // Changes that are true are shown where the nodes are given that undoing reads.
     ensures comes { IsWhole D.digest_of B before after (map K.items blocks.now)
         changes.now result }
+
+    // Where all or some blocks of a tree are given, that there is no tree is never said.
+    ensures tree { IsOfTree D.digest_of B before after (map K.items blocks.now)
+        changes.now result }
 {
     let own = blocks_of::<D, A, K>(alloc.clone()?, blocks)?;
     verify_blocks::<D, B, A>(alloc, before, after, &own, changes)
@@ -60,6 +64,8 @@ pub fn verify_blocks<D: Digest, const B: u8, A: Allocator + Clone>(
     ensures right { IsRight D.digest_of B before after (map arc_value blocks.now)
         changes.now result }
     ensures comes { IsWhole D.digest_of B before after (map arc_value blocks.now)
+        changes.now result }
+    ensures tree { IsOfTree D.digest_of B before after (map arc_value blocks.now)
         changes.now result }
 {
     let mut source = BlockMap::new(alloc.clone()?, blocks)?;

@@ -8,7 +8,8 @@ use Rattle.rows.specs.declared.draft.DraftFault.{DraftFault}
 use Rattle.rows.specs.declared.draft.DraftFault.TheVariants.{NotNode, NoMemory}
 use Rattle.rows.specs.Drafts.{IsFaultOfAll}
 use Rattle.rows.proofs.Drafting.{fault-on}
-use Rattle.batch_laws.specs.Links.{Rows, LinkEdge, LinkOpened, Log, and_then, ask, opening, closing, joined_row, noding, parting, subtreeing, rows_in_shape, Step}
+use Rattle.edit_laws.specs.ShapeEdit.{last_link}
+use Rattle.batch_laws.specs.Links.{Rows, LinkEdge, LinkOpened, Log, and_then, ask, opening, closing, noding, parting, subtreeing, rows_in_shape, Step, link_edge}
 use Rattle.batch_laws.proofs.Earlier.{parting-earlier, noding-earlier}
 use Rattle.edit.specs.Budgets.{Budget}
 use Rattle.edit.specs.declared.faults.Fault.{Fault}
@@ -24,6 +25,10 @@ use Rattle.edit.proofs.Stopping.{empty-keys, Goes, leads-refused, leads-stopped,
 
 -- ---- a node comes to some rows
 
+abbrev join_row : Pair → Rows → Shape → Option (List ℕ) × Log → Step LinkEdge
+join_row e rows r below =
+    Ok (LinkOpened (rows ++ ((below.0, e) ∷ rows_in_shape r)) (link_edge (last_link r)), below.1)
+
 pub joined-refused : (digest : List ℕ → List ℕ) (d : ℕ) (node r : Shape) (l : Option (List ℕ)) (e : Pair)
     (ls mid above xs : List Rows) (rows ys : Rows) (rest link : Option (List ℕ)) (log next : Log) (f : DraftFault)
     → node ≡ MoreLinks l e r → mid ≡ take (d + 1) ls → mid ≡ xs ++ (ys ∷ [])
@@ -34,8 +39,8 @@ joined-refused digest d node r l e ls mid above xs rows ys rest link log next No
 joined-refused digest d node r l e ls mid above xs rows ys rest link log next NotNode n m p c h t =
     let s = snoc-same xs above ys rows (sym p ∙ m ∙ t) in
     subst (λ x. IsUnwritten (joined digest rows x (Ok (edge_of (drop (d + 1) ls) rest, log)))) (sym n)
-    (subst (λ b. IsUnwritten (joined_row e rows r b)) (sym c)
-    (subst (λ zs. IsUnwritten (joined_row e zs r (link, next))) s.1
+    (subst (λ b. IsUnwritten (join_row e rows r b)) (sym c)
+    (subst (λ zs. IsUnwritten (join_row e zs r (link, next))) s.1
     (λ w. (let g = w.begun.0 in
     h g.0 (subst HasKeys (sym (onto-same (ys ++ ((link, e) ∷ rows_in_shape r)) g.0)) g.1)))))
 
@@ -97,7 +102,8 @@ arrived-stopped gives digest all a b fs ls rest log f w r =
 -- ---- a subtree's node
 
 part-goes : (digest : List ℕ → List ℕ) (shows : List ℕ → Option Shape) (k : ℕ) (c : List ℕ) (rows : Rows) (s : LinkEdge)
-    (log : Log) → Goes (LinkOpened rows s) log (and_then (ask shows c log) (noding digest (parting digest shows k) rows s))
+    (log : Log) → Goes (LinkOpened rows s) log
+    (and_then (ask shows c (LinkOpened rows s) log) (noding digest (parting digest shows k) rows s))
 part-goes digest shows k c rows s log =
     asked-goes shows c (LinkOpened rows s) log (noding digest (parting digest shows k) rows s)
     (λ m l. noding-earlier HasKeys empty-keys digest shows (parting digest shows k)
@@ -110,7 +116,8 @@ pub part-unopened : {A : Type 0} (gives : List ℕ → Option A) (digest : List 
 part-unopened gives digest shows b a k c s log f h t =
     subst (λ o. IsStopped gives b a log o f) (sym (part-through digest shows k c s log h))
     (leads-stopped gives b a log (open_edge (opening shows s log)) _ f
-    (opened-leads (opening shows s log) (λ o l. and_then (ask shows c l) (noding digest (parting digest shows k) o.0 o.1))
+    (opened-leads (opening shows s log) (λ o l. and_then (ask shows c (LinkOpened o.0 o.1) l)
+    (noding digest (parting digest shows k) o.0 o.1))
     (λ o l. part-goes digest shows k c o.0 o.1 l)) t)
 
 pub part-unread : {A : Type 0} (gives : List ℕ → Option A) (digest : List ℕ → List ℕ) (shows : List ℕ → Option Shape)
@@ -123,8 +130,9 @@ part-unread gives digest shows b m a k d c ls mid rest link log inner f h o n u 
     let step = noding digest (parting digest shows k) o.rows t in
     subst (λ w. IsStopped gives b a log w f)
     (sym (part-through digest shows k c (edge_of (drop d ls) rest) log h
-    ∙ ap (λ x. and_then x (λ p l. and_then (ask shows c l) (noding digest (parting digest shows k) p.0 p.1))) o.is))
-    (from-stopped gives b m a log inner (and_then (ask shows c inner) step) f n
+    ∙ ap (λ x. and_then x (λ p l. and_then (ask shows c (LinkOpened p.0 p.1) l)
+    (noding digest (parting digest shows k) p.0 p.1))) o.is))
+    (from-stopped gives b m a log inner (and_then (ask shows c (LinkOpened o.rows t) inner) step) f n
     (asked-unread gives shows m a c (LinkOpened o.rows t) inner step f
     (λ x l. noding-earlier HasKeys empty-keys digest shows (parting digest shows k)
     (parting-earlier HasKeys empty-keys digest shows k) o.rows t x l) u))
@@ -161,7 +169,7 @@ pub way-ended : {A : Type 0} (gives : List ℕ → Option A) (digest : List ℕ 
 way-ended gives digest shows all a b k c fs ls rest log e w =
     way-stopped gives digest shows all a a.0 b k (b + length fs) (Some c) fs ls rest log faults.NotTree refl w
     (subst (λ j. IsStopped gives a a.0 log (parting digest shows j (Some c) (edge_of (drop (b + length fs) ls) rest) log)
-    faults.NotTree) (sym e) (none-stopped gives a log))
+    faults.NotTree) (sym e) (none-stopped gives a (edge_of (drop (b + length fs) ls) rest) log))
 
 -- ---- the whole subtree
 

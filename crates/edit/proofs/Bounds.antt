@@ -6,9 +6,8 @@ use Rattle.spec.specs.NodeFormat.{Shape, LastLink, MoreLinks}
 use Rattle.spec.proofs.PathNodes.{top_layer-le}
 use Rattle.edit_laws.specs.ShapeEdit.{layer_of_shape}
 use Rattle.batch_laws.specs.Batch.{Change}
-use Rattle.batch_laws.specs.Counts.{most_reads, reads_of}
+use Rattle.batch_laws.specs.Counts.{most_reads, reads_of, most_from}
 use Rattle.batch_laws.proofs.Sums.{sum-all}
-use Rattle.edit.specs.Budgets.{most_from}
 
 -- ---- the sum over the changes
 

@@ -7,8 +7,8 @@ use Rattle.edit_laws.specs.Lawful.{HasKeys}
 use Rattle.rows.specs.declared.draft.DraftFault.{DraftFault}
 use Rattle.rows.specs.declared.draft.DraftFault.TheVariants.{NotNode, NoMemory}
 use Rattle.rows.specs.Drafts.{IsFaultOf}
-use Rattle.batch_laws.specs.Links.{Rows, LinkEdge, LinkClear, LinkWaiting, Log, Top, with_read, onto_links, closing, link_edge, new_top, topping, pruning, pruning_at, Step, NotShown}
-use Rattle.batch_laws.specs.Written.{IsEarlier, OnAnswer}
+use Rattle.batch_laws.specs.Links.{Rows, LinkEdge, LinkClear, LinkWaiting, Log, Top, with_read, onto_links, closing, link_edge, new_top, topping, pruning, pruning_at, Step, NotShown, StopsAt}
+use Rattle.batch_laws.specs.Written.{IsEarlier, OnEnd}
 use Rattle.batch_laws.proofs.Earlier.{topping-earlier}
 use Rattle.edit.specs.Budgets.{Budget}
 use Rattle.edit.specs.declared.faults.Fault.{Fault}
@@ -17,7 +17,7 @@ use Rattle.edit.specs.Edges.{edge_of, highest_of}
 use Rattle.edit.specs.Stops.{IsUnwritten, IsRefused, fault_of, IsStopped, IsUnread, at_top}
 use Rattle.edit.proofs.Cuts.{snoc-same, cut-at}
 use Rattle.edit.proofs.Topping.{top-down, none-top, has-top}
-use Rattle.edit.proofs.Stopping.{empty-keys, Goes, refused-stopped, memory-stopped, unread-stopped}
+use Rattle.edit.proofs.Stopping.{empty-keys, Goes, refused-stopped, memory-stopped, ReadsMore, unread-stopped}
 
 last-keys : (xs : List Shape) (s : Shape) → AllByRecursion HasKeys (xs ++ (s ∷ [])) → HasKeys s
 last-keys [] s h = h.0
@@ -38,8 +38,8 @@ top-refused digest d ls mid above xs rows ys rest link log next NotNode m p c h 
     (λ w. h (last-keys next.made (onto_links ys (LastLink link)) w.made)))
 
 top-goes-at : (s : LinkEdge) (log : Log) (o : Step Top)
-    → OnAnswer o (λ top later. IsEarlier HasKeys s log LinkClear later) → Goes s log (at_top o)
-top-goes-at s log (Err stop) h = tt
+    → OnEnd (λ top. LinkClear) o (IsEarlier HasKeys s log) → Goes s log (at_top o)
+top-goes-at s log (Err e) h = h
 top-goes-at s log (Ok x) h =
     let r = h.reads in
     let n = length-append x.1.read x.0.1 in
@@ -102,16 +102,13 @@ pruned-stopped gives digest shows b a k d ls rest c log f e h n s =
     (sym (none-top digest shows k d ls rest log e h ∙ ap (λ l. topping digest shows k (link_edge l) log) n)) s
 
 pruning-none : (further : List ℕ → Log → Step Top) (c : List ℕ) (log : Log) (o : Option Shape) → o ≡ None
-    → at_top (pruning_at further c log o) ≡ Err (NotShown c)
+    → StopsAt (NotShown c) (at_top (pruning_at further c log o))
 pruning-none further c log None e = refl
 pruning-none further c log (Some s) e = absurd cc
 
-abbrev MoreThan : Log → Step LinkEdge → Type 0
-MoreThan log step = OnAnswer step (λ s later. suc (length log.read) ≤ length later.read)
-
 pruning-reads : (shows : List ℕ → Option Shape) (k : ℕ) (c : List ℕ) (log : Log) (o : Option Shape)
-    → MoreThan log (at_top (pruning_at (pruning shows k) c log o))
-pruning-reads shows k c log None = tt
+    → ReadsMore log (at_top (pruning_at (pruning shows k) c log o))
+pruning-reads shows k c log None = omega arith
 pruning-reads shows k c log (Some (LastLink None)) =
     let n = length-append log.read (LastLink None ∷ []) in omega arith
 pruning-reads shows k c log (Some (LastLink (Some b))) =
@@ -120,8 +117,9 @@ pruning-reads shows k c log (Some (LastLink (Some b))) =
     next : Log
     next = with_read (LastLink (Some b)) log
 
-    further : (o : Step LinkEdge) → Goes (LinkWaiting b) next o → MoreThan log o
-    further (Err stop) h = tt
+    further : (o : Step LinkEdge) → Goes (LinkWaiting b) next o → ReadsMore log o
+    further (Err e) h =
+        let r = h.reads in let n = length-append log.read (LastLink (Some b) ∷ []) in omega arith
     further (Ok x) h =
         let r = h.reads in let n = length-append log.read (LastLink (Some b) ∷ []) in omega arith
 pruning-reads shows k c log (Some (MoreLinks l e r)) =

@@ -1,12 +1,13 @@
 -- A walk that stops.
-use Rattle.std.proofs.Common.{◌≡◌, ℕ, suc, ◌<◌, List, [], ◌∷◌, ◌++◌, length, drop, sym, ap, subst, ◌∙◌, arith, Option, Ok}
+use Rattle.std.proofs.Common.{◌≡◌, ℕ, suc, ◌<◌, List, [], ◌∷◌, ◌++◌, length, drop, sym, ap, subst, ◌∙◌, arith, Option, Ok, Result}
+use Rattle.std.specs.Prelude.{IfErr}
 use Rattle.std.specs.declared.option.Option.TheVariants.{Some, None}
 use Rattle.spec.specs.Tree.{Pair}
 use Rattle.spec.specs.NodeFormat.{Shape}
 use Rattle.edit_laws.specs.Lawful.{HasKeys}
 use Rattle.batch_laws.specs.Batch.{Change, puts, if_put, entry}
 use Rattle.batch_laws.specs.Walking.{depth_of}
-use Rattle.batch_laws.specs.Links.{LinkEdge, Log, and_then, ask, pairing, pairs_in_turn, subtreeing, walking_node, walking, Step}
+use Rattle.batch_laws.specs.Links.{LinkEdge, Log, and_then, ask, pairing, pairs_in_turn, subtreeing, walking_node, walking, Step, LinkClear}
 use Rattle.batch_laws.proofs.Earlier.{steps-earlier, pairs-earlier, walking_node-earlier, walking-earlier}
 use Rattle.rows.specs.declared.draft.DraftFault.{DraftFault}
 use Rattle.edit.specs.Budgets.{Budget}
@@ -37,6 +38,18 @@ module _ {A : Type 0} (gives : List ℕ → Option A) (digest : List ℕ → Lis
       subst (λ o. Leads o (and_then x (pairs_in_turn digest shows depth rest))) (sym (alone digest shows depth x))
       (onward-leads x (pairs_in_turn digest shows depth rest)
       (λ t l. pairs-earlier HasKeys empty-keys digest shows depth rest t l))
+
+  -- the pair of one change
+  pub one-stopped : {X : Type 0} (depth : List ℕ → ℕ) (b : Budget) (a d : ℕ) (e : Pair) (key : List ℕ)
+      (o : Option (List ℕ)) (s : LinkEdge) (log : Log) (r : Result X Fault) → e.0 ≡ key → o ≡ Some e.1 → d ≡ depth key
+      → IfErr r (IsStopped gives b a log (pairing digest shows d e s log))
+      → IfErr r (IsStopped gives b a log (pairs_in_turn digest shows depth (if_put key o []) s log))
+  one-stopped depth b a d e key o s log r k v h t =
+      subst (λ (x : Step LinkEdge). IfErr r (IsStopped gives b a log x))
+      (ap (λ m. pairing digest shows m e s log) h
+      ∙ ap (λ x. pairing digest shows (depth key) (x, e.1) s log) k
+      ∙ sym (alone digest shows depth (pairing digest shows (depth key) (key, e.1) s log))
+      ∙ ap (λ x. pairs_in_turn digest shows depth (if_put key x []) s log) (sym v)) t
 
   -- one of the changes, where those before it are done
   pub puts-stopped : (b m : Budget) (a : ℕ) (depth : List ℕ → ℕ) (all : Step LinkEdge) (cs : List Change) (i : ℕ)
@@ -137,7 +150,7 @@ module _ {A : Type 0} (gives : List ℕ → Option A) (digest : List ℕ → Lis
 
     pub gap-refused : (b a : Budget) (k : ℕ) (g : Gap) (c : List ℕ) (node : Shape) (s : LinkEdge) (log now : Log)
         (f : DraftFault) → g.link ≡ Some c
-        → g.layer ≡ suc k → 0 < length g.changes → ask shows c log ≡ Ok (node, now) → IsCounted b a log now
+        → g.layer ≡ suc k → 0 < length g.changes → ask shows c LinkClear log ≡ Ok (node, now) → IsCounted b a log now
         → IsRefused (node_does digest shows layer n k g.depth g.changes node s now) f
         → IsStopped gives b a.0 log (task_does digest shows layer n (ToGap g) s log) (fault_of f)
     gap-refused b a k g c node s log now f e m z q i r =

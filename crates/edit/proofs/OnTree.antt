@@ -1,6 +1,6 @@
 -- A batch on the tree with a root, from what the walk and the difference of blocks answer.
 use Rattle.std.proofs.Common.{◌≡◌, ℕ, suc, max, ◌^◌, ◌+◌, ◌-◌, ◌*◌, ◌/◌, ◌<◌, ◌≤◌, true, List, [], ◌∷◌, ◌++◌, length, map, take, get_or, Option, refl, sym, ap, subst, ◌∙◌, ◌⊎◌, inl, inr, arith, Err, Ok, Result}
-use Rattle.std.specs.Prelude.{Contains, IsSome, IsOk}
+use Rattle.std.specs.Prelude.{Contains, IsOk}
 use Rattle.std.specs.declared.option.Option.TheVariants.{Some, None}
 use Rattle.std.specs.List.{AllByRecursion}
 use Rattle.std.proofs.Math.Nat.{div-le_self}
@@ -20,14 +20,14 @@ use Rattle.edit_laws.proofs.OverSource.{holds-top, free-source}
 use Rattle.edit_laws.proofs.ShapeBridges.{layer-shape}
 use Rattle.lookups.specs.Trees.{HasTree}
 use Rattle.batch_laws.specs.Batch.{Change, puts, changed, AreAscending, AreKeyed}
-use Rattle.batch_laws.specs.Links.{Log, Top, batch_from, Step, NotShown, Stop}
+use Rattle.batch_laws.specs.Links.{Log, Top, batch_from, Step, NotShown, Stop, StopsAt, Stopped}
 use Rattle.batch_laws.specs.Previous.{previous_top, values}
 use Rattle.batch_laws.specs.Trace.{batch_made, batch_read}
 use Rattle.batch_laws.specs.Laws.Sources.{IsBatchFrom}
 use Rattle.batch_laws.specs.Written.{OnAnswer}
 use Rattle.edit_laws.specs.Lawful.{HasKeys}
 use Rattle.batch_laws.proofs.Lawful.{batch-has_keys}
-use Rattle.batch_laws.specs.Counts.{most_reads}
+use Rattle.batch_laws.specs.Counts.{most_reads, most_from}
 use Rattle.batch_laws.proofs.ReadsFew.{batch-reads_few}
 use Rattle.std.specs.declared.sync.Arc.{Arc}
 use Rattle.edit.specs.declared.faults.Fault.{Fault}
@@ -40,7 +40,6 @@ use Rattle.batch_laws.proofs.OverSource.{batch-over_source}
 use Rattle.batch_laws.proofs.Previous.{previous-is_values}
 use Rattle.batch_laws.proofs.MakesFew.{batch-makes_few}
 use Rattle.edit.specs.Batches.{have_keys, are_changes, put_layers, layers_for, layers_of, nodes_read, IsBatchOf, IsAnswer, IsReason, of_walk}
-use Rattle.edit.specs.Budgets.{most_from}
 use Rattle.edit.specs.Places.{are_ascending}
 use Rattle.edit.specs.Refusals.{IsRefusal}
 use Rattle.edit.specs.Tops.{IsEnded, layers_needed}
@@ -99,11 +98,8 @@ zeros-fit digest bits fits key z is =
     let b = div-le_self z bits in
     omega (arith, a, b)
 
-ok-is : {X : Type 0} (x y : X) → ◌≡◌ {A = Result X Stop} (Ok x) (Ok y) → x ≡ y
+ok-is : {X : Type 0} (x y : X) → ◌≡◌ {A = Result X Stopped} (Ok x) (Ok y) → x ≡ y
 ok-is x y h = cc
-
-ok-err : {X : Type 0} (x : X) (stop : Stop) → ◌≡◌ {A = Result X Stop} (Ok x) (Err stop) → ⊥
-ok-err x stop h = cc
 
 map-map : {A B C : Type 0} (f : A → B) (g : B → C) (xs : List A) → map g (map f xs) ≡ map (λ x. g (f x)) xs
 map-map f g [] = refl
@@ -248,11 +244,11 @@ module _ (digest : List ℕ → List ℕ) (bits : ℕ) (fits : IsDigest digest) 
       (layers_needed (layer digest bits) (put_layers (layer digest bits) cs) (shown_by gives root)) cs root)) fault
       → IsRefusal {D = D} {A = B} digest (nodes digest bits es ++ nodes digest bits (changed cs es)) P (of_walk fault)
   walk-refused D B P given (walks.Missing c) keys cause =
-      absurd (ok-err _ _ (subst (λ a. at_top a ≡ Err (NotShown c)) answers cause.1))
+      absurd (subst (λ a. StopsAt (NotShown c) (at_top a)) answers cause.1)
   walk-refused D B P given walks.NotTree keys unreached =
       let few = reads-few in
       let most = enough-reads in
-      subst (λ a. IsUnreached (most_from (layer digest bits) cs (shown_by gives root) + 0) (at_top a)) answers unreached
+      subst (λ a. IsUnreached given (most_from (layer digest bits) cs (shown_by gives root) + 0) (at_top a)) answers unreached
       (omega (arith, few, most))
       (record { made = subst (AllByRecursion HasKeys) (sym is-batch.made_is) keys; begun = tt })
   walk-refused D B P given walks.NoMemory keys cause = tt
@@ -303,19 +299,16 @@ module _ (digest : List ℕ → List ℕ) (bits : ℕ) (fits : IsDigest digest) 
             (is-batch.edit.read_old b (subst (λ bs. Contains bs b) (ap bytes_of all-read) k))
 
 -- why there is none, over any source
-stop-is : {X : Type 0} (first stop : Stop) → ◌≡◌ {A = Result X Stop} (Err first) (Err stop) → first ≡ stop
-stop-is first stop h = cc
-
-pub no-answer : (answer : Step Top) (stop : Stop) → at_top answer ≡ Err stop → answer ≡ Err stop
-no-answer (Err first) stop h = ap (λ x. Err x) (stop-is first stop h)
-no-answer (Ok x) stop h = absurd (ok-err _ stop h)
+pub top-stops : (answer : Step Top) (why : Stop) → StopsAt why (at_top answer) → StopsAt why answer
+top-stops (Err e) why h = h
+top-stops (Ok x) why h = absurd h
 
 pub walk-reason : {A : Type 0} (D P : Type 0) (given : List ℕ → Option (Arc (List ℕ) A)) (most : ℕ)
     (answer : Step Top) (fault : Fault) → IsCause given (most + 0) (at_top answer) fault
     → IsReason {D = D} given most answer P (of_walk fault)
-walk-reason D P given most answer (walks.Missing c) cause = (cause.0, no-answer answer (NotShown c) cause.1)
+walk-reason D P given most answer (walks.Missing c) cause = (cause.0, top-stops answer (NotShown c) cause.1)
 walk-reason D P given most answer walks.NotTree cause =
-    let all : most + 0 ≡ most = omega arith in subst (λ m. IsUnreached m (at_top answer)) all cause
+    let all : most + 0 ≡ most = omega arith in subst (λ m. IsUnreached given m (at_top answer)) all cause
 walk-reason D P given most answer walks.NoMemory cause = tt
 
 -- there is an answer, and what it has clashes

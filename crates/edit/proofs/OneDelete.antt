@@ -27,7 +27,7 @@ use Rattle.lookups.specs.Steps.{layers}
 use Rattle.lookups.specs.Trees.{HasTree, top_layer}
 use Rattle.edit.specs.declared.faults.Fault.{Fault}
 use Rattle.edit.specs.Batches.{put_layers, nodes_read, IsAnswer, of_walk}
-use Rattle.edit.specs.Budgets.{most_from}
+use Rattle.batch_laws.specs.Counts.{most_from}
 use Rattle.edit.specs.Deletes.{CanReadDelete, IsDeleteOf, nodes_read as delete_nodes}
 use Rattle.edit.specs.Refusals.{IsRefusal}
 use Rattle.edit.specs.Singles.{first_value, IsAbsent}

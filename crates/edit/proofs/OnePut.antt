@@ -25,7 +25,7 @@ use Rattle.lookups.specs.Trees.{HasTree, top_layer}
 use Rattle.lookups.proofs.Stepping.{is-lookup}
 use Rattle.edit.specs.declared.faults.Fault.{Fault}
 use Rattle.edit.specs.Batches.{put_layers, nodes_read, IsAnswer, of_walk}
-use Rattle.edit.specs.Budgets.{most_from}
+use Rattle.batch_laws.specs.Counts.{most_from}
 use Rattle.edit.specs.Edits.{IsEditOf}
 use Rattle.edit.specs.Refusals.{IsRefusal}
 use Rattle.edit.specs.Singles.{first_value}

@@ -12,7 +12,7 @@ use Rattle.edit_laws.specs.Sources.{shown_by}
 use Rattle.lookups.specs.Steps.{nodes_given}
 use Rattle.lookups.specs.Trees.{HasTree}
 use Rattle.batch_laws.specs.Batch.{Change, changed, AreAscending}
-use Rattle.batch_laws.specs.Links.{Log, Top, batch_from, Step, NotShown, Stop}
+use Rattle.batch_laws.specs.Links.{Log, Top, batch_from, Step, NotShown, Stopped}
 use Rattle.batch_laws.specs.Previous.{previous_top}
 use Rattle.edit.specs.Batches.{put_layers, answer_of, of_walk}
 use Rattle.edit.specs.Previews.{IsPreview, IsPreviewOf, IsPreviewReason, IsWant}
@@ -21,7 +21,7 @@ use Rattle.edit.specs.Stops.{IsCause, IsUnreached, at_top}
 use Rattle.edit.specs.Tops.{IsEnded, layers_needed}
 use Rattle.edit.specs.declared.faults.Fault.{Fault}
 use Rattle.edit.specs.declared.faults.Fault.TheVariants as walks
-use Rattle.edit.proofs.OnTree.{is-batch, answers, read-bytes, met-values, no-answer}
+use Rattle.edit.proofs.OnTree.{is-batch, answers, read-bytes, met-values, top-stops}
 
 -- what was read and met is that of the answer
 pub preview-of : {A : Type 0} (digest : List ℕ → List ℕ) (bits : ℕ) (gives : List ℕ → Option (Arc (List ℕ) A)) (cs : List Change)
@@ -37,7 +37,7 @@ preview-of digest bits gives cs root new gone now previous read ended had is = r
   read_is = is ∙ ap bytes_of ended.read;
 }
 
-same-some : {X : Type 0} (x y : X) → ◌≡◌ {A = Result X Stop} (Ok x) (Ok y) → x ≡ y
+same-some : {X : Type 0} (x y : X) → ◌≡◌ {A = Result X Stopped} (Ok x) (Ok y) → x ≡ y
 same-some x y h = cc
 
 -- over a source that has a tree
@@ -70,7 +70,7 @@ walk-want D A digest blocks walks.NoMemory r = tt
 pub preview-reason : {X : Type 0} (D A : Type 0) (given : List ℕ → Option X) (most : ℕ) (answer : Step Top)
     (fault : Fault) → IsCause given (most + 0) (at_top answer) fault
     → IsPreviewReason {D = D} {A = A} given most answer (of_walk fault)
-preview-reason D A given most answer (walks.Missing c) cause = (cause.0, no-answer answer (NotShown c) cause.1)
+preview-reason D A given most answer (walks.Missing c) cause = (cause.0, top-stops answer (NotShown c) cause.1)
 preview-reason D A given most answer walks.NotTree cause =
-    let all : most + 0 ≡ most = omega arith in subst (λ m. IsUnreached m (at_top answer)) all cause
+    let all : most + 0 ≡ most = omega arith in subst (λ m. IsUnreached given m (at_top answer)) all cause
 preview-reason D A given most answer walks.NoMemory cause = tt

@@ -5,13 +5,12 @@ use Rattle.std.specs.List.{AllByRecursion}
 use Rattle.spec.specs.Tree.{Pair}
 use Rattle.spec.specs.NodeFormat.{Shape, LastLink, MoreLinks}
 use Rattle.edit_laws.specs.Lawful.{HasKeys}
-use Rattle.edit_laws.specs.ShapeEdit.{close_shapes}
+use Rattle.edit_laws.specs.ShapeEdit.{close_shapes, last_link}
 use Rattle.rows.specs.declared.draft.DraftFault.{DraftFault}
 use Rattle.rows.specs.declared.draft.DraftFault.TheVariants.{NotNode, NoMemory}
 use Rattle.rows.specs.Drafts.{IsFaultOf, IsFaultOfAll}
 use Rattle.batch_laws.specs.Links.{Rows, LinkEdge, LinkClear, LinkWaiting, LinkOpened, Log, and_then, ask, onto_links, rows_in_shape, complete, closing, opening, opened_rows, link_edge, add_row, pairing, Step}
 use Rattle.batch_laws.proofs.Earlier.{closing-earlier, pairing-earlier, row-earlier}
-use Rattle.edit_laws.specs.ShapeEdit.{last_link}
 use Rattle.edit.specs.Budgets.{Budget}
 use Rattle.edit.specs.declared.faults.Fault.{Fault}
 use Rattle.edit.specs.Edges.{edge_of, within, under}
@@ -21,6 +20,7 @@ use Rattle.edit.proofs.Closing.{closing-from}
 use Rattle.edit.proofs.Cuts.{snoc-same}
 use Rattle.edit.proofs.Making.{onto-same}
 use Rattle.edit.proofs.Pairing.{counted-then}
+use Rattle.edit.proofs.Topping.{read-at}
 use Rattle.edit.proofs.Within.{pair-within, within-under}
 use Rattle.edit.proofs.Stopping.{empty-keys, Goes, leads-stopped, leads-same, leads-then, opened-leads, under-leads, from-stopped, refused-stopped, within-leads}
 
@@ -77,17 +77,18 @@ row-refused digest d e ls mid above xs rows ys rest link log next NotNode m p c 
 -- ---- one layer more
 
 waiting-rows : (digest : List ℕ → List ℕ) (shows : List ℕ → Option Shape) (c : List ℕ) (log now : Log) (node : Shape)
-    (f : DraftFault) → ask shows c log ≡ Ok (node, now) → IsFaultOfAll ([] ++ rows_in_shape node) f
+    (f : DraftFault) → ask shows c LinkClear log ≡ Ok (node, now) → IsFaultOfAll ([] ++ rows_in_shape node) f
     → IsRefused (open_edge (opening shows (LinkWaiting c) log)) f
 waiting-rows digest shows c log now node NoMemory a r = tt
 waiting-rows digest shows c log now node NotNode a r =
-    subst (λ o. IsUnwritten (open_edge (and_then o opened_rows))) (sym a)
+    subst (λ o. IsUnwritten (open_edge (and_then o opened_rows)))
+    (sym (read-at shows c (LinkWaiting c) log (node, now) a))
     (λ w. (let g = w.begun.0 in r g.0 (subst HasKeys (sym (onto-same (rows_in_shape node) g.0)) g.1)))
 
 -- its node is read, and memory is wanted or its rows are refused
 pub open-refused : {A : Type 0} (gives : List ℕ → Option A) (digest : List ℕ → List ℕ) (shows : List ℕ → Option Shape)
     (b a : Budget) (c : List ℕ) (rest : Option (List ℕ)) (log now : Log) (node : Shape) (f : DraftFault) → rest ≡ Some c
-    → ask shows c log ≡ Ok (node, now) → IsCounted b a log now → IsFaultOfAll ([] ++ rows_in_shape node) f
+    → ask shows c LinkClear log ≡ Ok (node, now) → IsCounted b a log now → IsFaultOfAll ([] ++ rows_in_shape node) f
     → IsStopped gives b a.0 log (open_edge (opening shows (link_edge rest) log)) (fault_of f)
 open-refused gives digest shows b a c rest log now node f e q n r =
     subst (λ l. IsStopped gives b a.0 log (open_edge (opening shows (link_edge l) log)) (fault_of f)) (sym e)
@@ -95,7 +96,7 @@ open-refused gives digest shows b a c rest log now node f e q n r =
     (refused-stopped gives a (LinkOpened (rows_in_shape node) (link_edge (last_link node))) now
     (open_edge (opening shows (LinkWaiting c) log)) f (waiting-rows digest shows c log now node f q r)
     (subst (λ o. Goes (LinkOpened (rows_in_shape node) (link_edge (last_link node))) now (open_edge (and_then o opened_rows)))
-    (sym q) (leads-same
+    (sym (read-at shows c (LinkWaiting c) log (node, now) q)) (leads-same
     (Ok (LinkOpened (rows_in_shape node) (link_edge (last_link node)), now))))))
 
 -- ---- a pair, so many layers below

@@ -4,8 +4,8 @@ use Rattle.std.specs.declared.option.Option.TheVariants.{Some, None}
 use Rattle.spec.specs.NodeFormat.{Shape, LastLink, MoreLinks}
 use Rattle.edit_laws.specs.Lawful.{HasKeys}
 use Rattle.edit_laws.specs.ShapeEdit.{last_link}
-use Rattle.batch_laws.specs.Links.{Rows, LinkEdge, LinkOpened, Log, and_then, ask, log_shown, with_read, opening, closing, under_rows, joined_row, link_edge, Step, Stop, NotShown, LinkTooDeep}
-use Rattle.batch_laws.specs.Written.{IsEarlier, OnAnswer, GoesFrom}
+use Rattle.batch_laws.specs.Links.{Rows, LinkEdge, LinkOpened, Log, and_then, ask, log_shown, with_read, opening, under_rows, link_edge, Step, Stop, Stopped, StopsAt, stopped, NotShown, LinkTooDeep}
+use Rattle.batch_laws.specs.Written.{AreWritten, IsEarlier, OnAnswer, OnEnd, GoesFrom}
 use Rattle.batch_laws.proofs.Earlier.{same-earlier, then-earlier, steps-earlier, under-earlier, row-earlier, opening-earlier}
 use Rattle.rows.specs.declared.draft.DraftFault.{DraftFault}
 use Rattle.rows.specs.declared.draft.DraftFault.TheVariants as drafts
@@ -14,7 +14,7 @@ use Rattle.edit.specs.declared.faults.Fault.{Fault}
 use Rattle.edit.specs.declared.faults.Fault.TheVariants.{Missing, NotTree, NoMemory}
 use Rattle.edit.specs.Edges.{edge_of, within, under, joined, around}
 use Rattle.edit.specs.States.{IsCounted}
-use Rattle.edit.specs.Stops.{IsUnwritten, IsUnreached, IsRefused, fault_of, IsCause, IsStopped, IsUnshown, IsUnread, IsOnward, open_edge}
+use Rattle.edit.specs.Stops.{IsUnwritten, IsUnreachedAt, IsUnreached, IsRefused, fault_of, IsCause, IsStopped, IsUnshown, IsUnread, IsOnward, open_edge}
 
 pub empty-keys : HasKeys (LastLink None)
 empty-keys = refl
@@ -24,25 +24,49 @@ Goes s log step = GoesFrom HasKeys s log step
 
 -- ---- the whole goes on from a step
 
+-- it stops for the same
+abbrev pub StopsAs : Stopped → Step LinkEdge → Type 0
+StopsAs e (Ok x) = ⊥
+StopsAs e (Err f) = (f.why ≡ e.why) × IsEarlier HasKeys e.edge e.log f.edge f.log
+
 -- it stops where the step does, and else goes on from the step's
 abbrev pub Leads : Step LinkEdge → Step LinkEdge → Type 0
-Leads (Err stop) whole = whole ≡ Err stop
+Leads (Err e) whole = StopsAs e whole
 Leads (Ok x) whole = Goes x.0 x.1 whole
 
-leads-none : (step whole : Step LinkEdge) (stop : Stop) → Leads step whole → step ≡ Err stop → whole ≡ Err stop
-leads-none (Err first) whole stop h e = h ∙ e
-leads-none (Ok x) whole stop h e = absurd cc
+leads-stop : (why : Stop) (step whole : Step LinkEdge) → Leads step whole → StopsAt why step → StopsAt why whole
+leads-stop why (Ok x) whole h q = absurd q
+leads-stop why (Err e) (Ok y) h q = absurd h
+leads-stop why (Err e) (Err f) h q = h.0 ∙ q
 
 leads-unwritten : (step whole : Step LinkEdge) → Leads step whole → IsUnwritten step → IsUnwritten whole
-leads-unwritten (Err stop) whole h u = subst IsUnwritten (sym h) tt
-leads-unwritten (Ok x) (Err stop) h u = tt
+leads-unwritten (Err e) (Ok y) h u = absurd h
+leads-unwritten (Err e) (Err f) h u = λ w. u (h.1.written w)
+leads-unwritten (Ok x) (Err f) h u = λ w. u (h.written w)
 leads-unwritten (Ok x) (Ok y) h u = λ w. u (h.written w)
 
-leads-unreached : (most : ℕ) (step whole : Step LinkEdge) → Leads step whole → IsUnreached most step
-    → IsUnreached most whole
-leads-unreached most (Err stop) whole h u = subst (IsUnreached most) (sym h) tt
-leads-unreached most (Ok x) (Err stop) h u = tt
-leads-unreached most (Ok x) (Ok y) h u = λ n w. (let i = h.reads in u (omega arith) (h.written w))
+-- as far as it comes, from where something else is that is not reached
+stop-unreached : {A : Type 0} (gives : List ℕ → Option A) (most : ℕ) (why : Stop) (s t : LinkEdge) (log later : Log)
+    → IsEarlier HasKeys s log t later → IsUnreachedAt gives most why s log → IsUnreachedAt gives most why t later
+stop-unreached gives most (NotShown c) s t log later h u =
+    λ lacks n w. (let i = h.reads in u lacks (omega arith) (h.written w))
+stop-unreached gives most LinkTooDeep s t log later h u = tt
+
+answer-unreached : {A : Type 0} (gives : List ℕ → Option A) (most : ℕ) (why : Stop) (s t : LinkEdge) (log later : Log)
+    → IsEarlier HasKeys s log t later → (length log.read ≤ most → ¬ AreWritten HasKeys s log)
+    → IsUnreachedAt gives most why t later
+answer-unreached gives most (NotShown c) s t log later h u =
+    λ lacks n w. (let i = h.reads in u (omega arith) (h.written w))
+answer-unreached gives most LinkTooDeep s t log later h u = tt
+
+leads-unreached : {A : Type 0} (gives : List ℕ → Option A) (most : ℕ) (step whole : Step LinkEdge) → Leads step whole
+    → IsUnreached gives most step → IsUnreached gives most whole
+leads-unreached gives most (Err e) (Ok y) h u = absurd h
+leads-unreached gives most (Err e) (Err f) h u =
+    stop-unreached gives most f.why e.edge f.edge e.log f.log h.1
+    (subst (λ why. IsUnreachedAt gives most why e.edge e.log) (sym h.0) u)
+leads-unreached gives most (Ok x) (Err f) h u = answer-unreached gives most f.why x.0 f.edge x.1 f.log h u
+leads-unreached gives most (Ok x) (Ok y) h u = λ n w. (let i = h.reads in u (omega arith) (h.written w))
 
 pub leads-refused : (step whole : Step LinkEdge) (f : DraftFault) → Leads step whole → IsRefused step f
     → IsRefused whole f
@@ -51,8 +75,8 @@ leads-refused step whole drafts.NoMemory h r = tt
 
 leads-cause : {A : Type 0} (gives : List ℕ → Option A) (most : ℕ) (step whole : Step LinkEdge) (f : Fault)
     → Leads step whole → IsCause gives most step f → IsCause gives most whole f
-leads-cause gives most step whole (Missing c) h k = (k.0, leads-none step whole (NotShown c) h k.1)
-leads-cause gives most step whole NotTree h k = leads-unreached most step whole h k
+leads-cause gives most step whole (Missing c) h k = (k.0, leads-stop (NotShown c) step whole h k.1)
+leads-cause gives most step whole NotTree h k = leads-unreached gives most step whole h k
 leads-cause gives most step whole NoMemory h k = tt
 
 abbrev AreReads : ℕ → ℕ → Log → Step LinkEdge → Type 0
@@ -60,8 +84,9 @@ AreReads before after log step = OnAnswer step (λ s later. after + length log.r
 
 leads-reads : (b a : ℕ) (log : Log) (step whole : Step LinkEdge) → Leads step whole → AreReads b a log step
     → AreReads b a log whole
-leads-reads b a log (Err stop) whole h r = subst (AreReads b a log) (sym h) tt
-leads-reads b a log (Ok x) (Err stop) h r = tt
+leads-reads b a log (Err e) (Ok y) h r = absurd h
+leads-reads b a log (Err e) (Err f) h r = tt
+leads-reads b a log (Ok x) (Err f) h r = tt
 leads-reads b a log (Ok x) (Ok y) h r = let i = h.reads in omega arith
 
 pub leads-stopped : {A : Type 0} (gives : List ℕ → Option A) (b : Budget) (a : ℕ) (log : Log)
@@ -96,16 +121,22 @@ goes-reads : (a : ℕ) (s : LinkEdge) (now : Log) (step : Step LinkEdge) → Goe
 goes-reads a s now (Err stop) h = tt
 goes-reads a s now (Ok x) h = let i = h.reads in omega arith
 
--- where there is no answer at all, there is none for few reads
-unwritten-unreached : (most : ℕ) (step : Step LinkEdge) → IsUnwritten step → IsUnreached most step
-unwritten-unreached most (Err stop) u = tt
-unwritten-unreached most (Ok x) u = λ n. u
+-- what is not written is not for few reads
+unwritten-at : {A : Type 0} (gives : List ℕ → Option A) (most : ℕ) (why : Stop) (s : LinkEdge) (log : Log)
+    → ¬ AreWritten HasKeys s log → IsUnreachedAt gives most why s log
+unwritten-at gives most (NotShown c) s log u = λ lacks n. u
+unwritten-at gives most LinkTooDeep s log u = tt
+
+unwritten-unreached : {A : Type 0} (gives : List ℕ → Option A) (most : ℕ) (step : Step LinkEdge) → IsUnwritten step
+    → IsUnreached gives most step
+unwritten-unreached gives most (Err e) u = unwritten-at gives most e.why e.edge e.log u
+unwritten-unreached gives most (Ok x) u = λ n. u
 
 pub refused-stopped : {A : Type 0} (gives : List ℕ → Option A) (a : Budget) (s : LinkEdge) (now : Log)
     (step : Step LinkEdge) (f : DraftFault) → IsRefused step f → Goes s now step
     → IsStopped gives a a.0 now step (fault_of f)
 refused-stopped gives a s now step drafts.NotNode r h = record {
-  cause = unwritten-unreached (a.1 + length now.read) step r;
+  cause = unwritten-unreached gives (a.1 + length now.read) step r;
   reads = goes-reads a.0 s now step h;
   few = omega arith;
 }
@@ -117,64 +148,93 @@ pub memory-stopped : {A : Type 0} (gives : List ℕ → Option A) (a : Budget) (
 memory-stopped gives a s now step h = record { cause = tt; reads = goes-reads a.0 s now step h; few = omega arith }
 
 -- a link below layer 0
-pub none-stopped : {A : Type 0} (gives : List ℕ → Option A) (a : Budget) (now : Log)
-    → IsStopped gives a a.0 now (Err LinkTooDeep) NotTree
-none-stopped gives a now = record { cause = tt; reads = tt; few = omega arith }
+pub none-stopped : {A : Type 0} (gives : List ℕ → Option A) (a : Budget) (s : LinkEdge) (now : Log)
+    → IsStopped gives a a.0 now (stopped LinkTooDeep s now) NotTree
+none-stopped gives a s now = record { cause = tt; reads = tt; few = omega arith }
+
+same-asked : (c d : List ℕ) → NotShown c ≡ NotShown d → c ≡ d
+same-asked c d h = cc
+
+-- it reads more than a log has, or asks for more
+abbrev pub ReadsMore : Log → Step LinkEdge → Type 0
+ReadsMore log (Ok x) = suc (length log.read) ≤ length x.1.read
+ReadsMore log (Err e) = length log.read ≤ length e.log.read
 
 -- where a node was to be read, without which there is no answer
 pub unread-stopped : {A : Type 0} (gives : List ℕ → Option A) (b : Budget) (a : ℕ) (asked : List ℕ) (shown : Option Shape)
-    (log : Log) (whole : Step LinkEdge) (f : Fault) → (shown ≡ None → whole ≡ Err (NotShown asked))
-    → OnAnswer whole (λ s later. suc (length log.read) ≤ length later.read) → IsUnread gives b a asked shown f
-    → IsStopped gives b a log whole f
+    (log : Log) (whole : Step LinkEdge) (f : Fault) → (shown ≡ None → StopsAt (NotShown asked) whole)
+    → ReadsMore log whole → IsUnread gives b a asked shown f → IsStopped gives b a log whole f
 unread-stopped gives b a asked shown log whole f n m u =
     record { cause = why b.1 f u.cause; reads = counted whole m; few = u.few }
   where
-    past : (o : Step LinkEdge) → OnAnswer o (λ s later. suc (length log.read) ≤ length later.read)
-        → IsUnreached (0 + length log.read) o
-    past (Err stop) r = tt
+    past-at : (w : Stop) (s : LinkEdge) (later : Log) → length log.read ≤ length later.read
+        → IsUnreachedAt gives (0 + length log.read) w s later
+    past-at (NotShown c) s later r = λ lacks k w. absurd (omega arith)
+    past-at LinkTooDeep s later r = tt
+
+    past : (o : Step LinkEdge) → ReadsMore log o → IsUnreached gives (0 + length log.read) o
+    past (Err e) r = past-at e.why e.edge e.log r
     past (Ok x) r = λ k w. absurd (omega arith)
 
+    -- what is given is no node
+    bad-at : (w : Stop) (s : LinkEdge) (later : Log) (most : ℕ) → w ≡ NotShown asked → (gives asked ≡ None → ⊥)
+        → IsUnreachedAt gives most w s later
+    bad-at (NotShown c) s later most q z =
+        λ lacks. absurd (z (subst (λ x. gives x ≡ None) (same-asked c asked q) lacks))
+    bad-at LinkTooDeep s later most q z = tt
+
+    bad : (o : Step LinkEdge) (most : ℕ) → StopsAt (NotShown asked) o → (gives asked ≡ None → ⊥)
+        → IsUnreached gives most o
+    bad (Ok x) most q z = absurd q
+    bad (Err e) most q z = bad-at e.why e.edge e.log most q z
+
     why : (left : ℕ) (g : Fault) → IsUnshown gives left asked shown g → IsCause gives (left + length log.read) whole g
-    why left (Missing c) k = (k.1, subst (λ x. whole ≡ Err (NotShown x)) (sym k.0) (n k.2))
+    why left (Missing c) k = (k.1, subst (λ x. StopsAt (NotShown x) whole) (sym k.0) (n k.2))
     why zero NotTree k = past whole m
-    why (suc left) NotTree k = subst (IsUnreached (suc left + length log.read)) (sym (n (k (omega arith)))) tt
+    why (suc left) NotTree k =
+        let i = k (omega arith) in bad whole (suc left + length log.read) (n i.0) i.1
     why left NoMemory k = tt
 
-    counted : (o : Step LinkEdge) → OnAnswer o (λ s later. suc (length log.read) ≤ length later.read)
-        → AreReads b.0 a log o
+    counted : (o : Step LinkEdge) → ReadsMore log o → AreReads b.0 a log o
     counted (Err stop) r = tt
     counted (Ok x) r = let i = u.reads in omega arith
 
 -- ---- what goes on from what
 
 pub leads-same : (x : Step LinkEdge) → Leads x x
-leads-same (Err stop) = refl
+leads-same (Err e) = (refl, same-earlier HasKeys empty-keys e.edge e.log)
 leads-same (Ok x) = same-earlier HasKeys empty-keys x.0 x.1
 
 pub leads-then : (x y z : Step LinkEdge) → Leads x y → Leads y z → Leads x z
-leads-then (Err stop) y z h k = leads-none y z stop k h
-leads-then (Ok x) (Err stop) z h k = subst (Goes x.0 x.1) (sym k) tt
-leads-then (Ok x) (Ok y) (Err stop) h k = tt
+leads-then (Err e) (Ok y) z h k = absurd h
+leads-then (Err e) (Err f) (Ok z) h k = absurd k
+leads-then (Err e) (Err f) (Err g) h k =
+    (k.0 ∙ h.0, then-earlier HasKeys empty-keys e.edge e.log f.edge f.log g.edge g.log h.1 k.1)
+leads-then (Ok x) (Err f) (Ok z) h k = absurd k
+leads-then (Ok x) (Err f) (Err g) h k =
+    then-earlier HasKeys empty-keys x.0 x.1 f.edge f.log g.edge g.log h k.1
+leads-then (Ok x) (Ok y) (Err g) h k = then-earlier HasKeys empty-keys x.0 x.1 y.0 y.1 g.edge g.log h k
 leads-then (Ok x) (Ok y) (Ok z) h k = then-earlier HasKeys empty-keys x.0 x.1 y.0 y.1 z.0 z.1 h k
 
 pub onward-leads : (x : Step LinkEdge) (f : LinkEdge → Log → Step LinkEdge) → IsOnward f
     → Leads x (and_then x f)
-onward-leads (Err stop) f h = refl
+onward-leads (Err e) f h = (refl, same-earlier HasKeys empty-keys e.edge e.log)
 onward-leads (Ok x) f h = h x.0 x.1
 
 pub opened-leads : (step : Step (Rows × LinkEdge)) (f : Rows × LinkEdge → Log → Step LinkEdge)
     → ((o : Rows × LinkEdge) (log : Log) → Goes (LinkOpened o.0 o.1) log (f o log))
     → Leads (open_edge step) (and_then step f)
-opened-leads (Err stop) f h = refl
+opened-leads (Err e) f h = (refl, same-earlier HasKeys empty-keys e.edge e.log)
 opened-leads (Ok x) f h = h x.0 x.1
 
 -- below some rows
-under-goes : (rows : Rows) (s : LinkEdge) (log : Log) → Goes s log (under_rows rows s log)
+under-goes : (rows : Rows) (s : LinkEdge) (log : Log) → IsEarlier HasKeys s log (LinkOpened rows s) log
 under-goes rows s log =
     record { written = λ w. record { made = w.made; begun = w.begun.1 }; reads = omega arith }
 
-pub row-leads : (rows : Rows) (x : Step LinkEdge) → Leads x (and_then x (under_rows rows))
-row-leads rows x = onward-leads x (under_rows rows) (under-goes rows)
+pub row-leads : (rows : Rows) (x : Step LinkEdge) → Leads x (under_rows rows x)
+row-leads rows (Ok x) = under-goes rows x.0 x.1
+row-leads rows (Err e) = (refl, under-goes rows e.edge e.log)
 
 pub under-leads : (ls : List Rows) (x : Step LinkEdge) → Leads x (under ls x)
 under-leads [] x = leads-same x
@@ -183,10 +243,10 @@ under-leads (r ∷ ls) x = leads-then x (under ls x) (under (r ∷ ls) x) (under
 pub joined-leads : (digest : List ℕ → List ℕ) (rows : Rows) (node : Shape) (x : Step LinkEdge)
     → Leads x (joined digest rows node x)
 joined-leads digest rows (LastLink l) x = row-leads rows x
-joined-leads digest rows (MoreLinks l e r) x =
-    onward-leads x (λ s log. joined_row e rows r (closing digest s log))
-    (λ s log. then-earlier HasKeys empty-keys s log (LinkOpened rows s) log _ _ (under-goes rows s log)
-    (row-earlier HasKeys empty-keys digest rows _ s (link_edge (last_link r)) log))
+joined-leads digest rows (MoreLinks l e r) (Ok x) =
+    then-earlier HasKeys empty-keys x.0 x.1 (LinkOpened rows x.0) x.1 _ _ (under-goes rows x.0 x.1)
+    (row-earlier HasKeys empty-keys digest rows _ x.0 (link_edge (last_link r)) x.1)
+joined-leads digest rows (MoreLinks l e r) (Err f) = (refl, under-goes rows f.edge f.log)
 
 pub around-leads : (digest : List ℕ → List ℕ) (b : ℕ) (ls : List Rows) (fs : List Shape) (x : Step LinkEdge)
     → Leads x (around digest b ls fs x)
@@ -194,13 +254,13 @@ around-leads digest zero [] fs x = leads-same x
 around-leads digest (suc b) [] fs x = leads-same x
 around-leads digest zero (r ∷ ls) [] x =
     let y = around digest zero ls [] x in
-    leads-then x y (and_then y (under_rows r)) (around-leads digest zero ls [] x) (row-leads r y)
+    leads-then x y (under_rows r y) (around-leads digest zero ls [] x) (row-leads r y)
 around-leads digest zero (r ∷ ls) (f ∷ fs) x =
     let y = around digest zero ls fs x in
     leads-then x y (joined digest r f y) (around-leads digest zero ls fs x) (joined-leads digest r f y)
 around-leads digest (suc b) (r ∷ ls) fs x =
     let y = around digest b ls fs x in
-    leads-then x y (and_then y (under_rows r)) (around-leads digest b ls fs x) (row-leads r y)
+    leads-then x y (under_rows r y) (around-leads digest b ls fs x) (row-leads r y)
 
 -- ---- so many layers below
 
@@ -209,7 +269,7 @@ pub within-onward : (shows : List ℕ → Option Shape) (d : ℕ) (f : LinkEdge 
 within-onward shows zero f h s log = h s log
 within-onward shows (suc d) f h s log =
     steps-earlier HasKeys empty-keys (opening shows s log)
-    (λ o log1. and_then (within shows d f o.1 log1) (under_rows o.0)) s log (λ o. LinkOpened o.0 o.1) (λ t. t)
+    (λ o log1. under_rows o.0 (within shows d f o.1 log1)) s log (λ o. LinkOpened o.0 o.1) (λ t. t)
     (opening-earlier HasKeys empty-keys shows s log)
     (λ o l. under-earlier HasKeys empty-keys o.0 o.1 l (within shows d f o.1 l) (within-onward shows d f h o.1 l))
 
@@ -220,49 +280,48 @@ pub within-leads : (shows : List ℕ → Option Shape) (d : ℕ) (f : LinkEdge �
 within-leads shows zero f h ls rest log n = absurd (omega arith)
 within-leads shows (suc d) f h [] rest log n =
     opened-leads (opening shows (link_edge rest) log)
-    (λ o log1. and_then (within shows d f o.1 log1) (under_rows o.0))
+    (λ o log1. under_rows o.0 (within shows d f o.1 log1))
     (λ o l. under-earlier HasKeys empty-keys o.0 o.1 l (within shows d f o.1 l) (within-onward shows d f h o.1 l))
 within-leads shows (suc d) f h (x ∷ ls) rest log n =
     let y = within shows d f (edge_of ls rest) log in
-    leads-then (open_edge (opening shows (link_edge rest) log)) y (and_then y (under_rows x))
+    leads-then (open_edge (opening shows (link_edge rest) log)) y (under_rows x y)
     (within-leads shows d f h ls rest log (omega arith)) (row-leads x y)
 
 -- ---- a node that is read at this place
 
 asked-earlier : (c : List ℕ) (o : Option Shape) (s : LinkEdge) (log : Log)
-    → OnAnswer (log_shown c o log) (λ m later. IsEarlier HasKeys s log s later)
-asked-earlier c None s log = tt
+    → OnEnd (λ m. s) (log_shown c s o log) (IsEarlier HasKeys s log)
+asked-earlier c None s log = same-earlier HasKeys empty-keys s log
 asked-earlier c (Some m) s log =
     let a = length-append log.read (m ∷ []) in
     record { written = λ w. record { made = w.made; begun = w.begun }; reads = omega arith }
 
 pub asked-goes : (shows : List ℕ → Option Shape) (c : List ℕ) (s : LinkEdge) (log : Log)
     (f : Shape → Log → Step LinkEdge) → ((m : Shape) (l : Log) → Goes s l (f m l))
-    → Goes s log (and_then (ask shows c log) f)
+    → Goes s log (and_then (ask shows c s log) f)
 asked-goes shows c s log f h =
-    steps-earlier HasKeys empty-keys (ask shows c log) f s log (λ m. s) (λ t. t) (asked-earlier c (shows c) s log) h
+    steps-earlier HasKeys empty-keys (ask shows c s log) f s log (λ m. s) (λ t. t) (asked-earlier c (shows c) s log) h
 
 asked-reads : (c : List ℕ) (o : Option Shape) (s : LinkEdge) (log : Log) (f : Shape → Log → Step LinkEdge)
     → ((m : Shape) (l : Log) → Goes s l (f m l))
-    → OnAnswer (and_then (log_shown c o log) f) (λ t later. suc (length log.read) ≤ length later.read)
-asked-reads c None s log f h = tt
+    → ReadsMore log (and_then (log_shown c s o log) f)
+asked-reads c None s log f h = omega arith
 asked-reads c (Some m) s log f h = found (f m (with_read m log)) (h m (with_read m log))
   where
-    found : (x : Step LinkEdge) → Goes s (with_read m log) x
-        → OnAnswer x (λ t later. suc (length log.read) ≤ length later.read)
-    found (Err stop) g = tt
+    found : (x : Step LinkEdge) → Goes s (with_read m log) x → ReadsMore log x
+    found (Err e) g = let i = g.reads in let a = length-append log.read (m ∷ []) in omega arith
     found (Ok y) g = let i = g.reads in let a = length-append log.read (m ∷ []) in omega arith
 
-asked-none : (c : List ℕ) (o : Option Shape) (log : Log) (f : Shape → Log → Step LinkEdge) → o ≡ None
-    → and_then (log_shown c o log) f ≡ Err (NotShown c)
-asked-none c None log f e = refl
-asked-none c (Some m) log f e = absurd cc
+asked-none : (c : List ℕ) (o : Option Shape) (s : LinkEdge) (log : Log) (f : Shape → Log → Step LinkEdge) → o ≡ None
+    → StopsAt (NotShown c) (and_then (log_shown c s o log) f)
+asked-none c None s log f e = refl
+asked-none c (Some m) s log f e = absurd cc
 
 -- it isn't read
 pub asked-unread : {A : Type 0} (gives : List ℕ → Option A) (shows : List ℕ → Option Shape) (b : Budget) (a : ℕ)
     (c : List ℕ) (s : LinkEdge) (log : Log) (g : Shape → Log → Step LinkEdge) (f : Fault)
     → ((m : Shape) (l : Log) → Goes s l (g m l)) → IsUnread gives b a c (shows c) f
-    → IsStopped gives b a log (and_then (ask shows c log) g) f
+    → IsStopped gives b a log (and_then (ask shows c s log) g) f
 asked-unread gives shows b a c s log g f h u =
-    unread-stopped gives b a c (shows c) log (and_then (ask shows c log) g) f (asked-none c (shows c) log g)
+    unread-stopped gives b a c (shows c) log (and_then (ask shows c s log) g) f (asked-none c (shows c) s log g)
     (asked-reads c (shows c) s log g h) u

@@ -6,7 +6,7 @@ use Rattle.std.proofs.lemmas.List.{append_assoc}
 use Rattle.spec.specs.Tree.{Pair}
 use Rattle.spec.specs.NodeFormat.{Shape, LastLink, MoreLinks, first_link}
 use Rattle.edit_laws.specs.ShapeEdit.{last_link}
-use Rattle.batch_laws.specs.Links.{Rows, LinkEdge, LinkOpened, Log, ask, closing, link_edge, parting, subtreeing, rows_in_shape, Step}
+use Rattle.batch_laws.specs.Links.{Rows, LinkEdge, LinkOpened, Log, ask, closing, link_edge, parting, subtreeing, rows_in_shape, Step, LinkClear}
 use Rattle.edit.specs.Edges.{edge_of, within, under, joined, around, is_clear}
 use Rattle.rows.specs.Entries.{Reading}
 use Rattle.edit.specs.States.{shapes_coming, IsOpenAt, IsComing, IsWaiting, IsOnTheWay, IsArrived, IsJoined}
@@ -36,7 +36,7 @@ taken-some d ls (Some c) b e h = taken-waiting d ls c
 
 pub coming : (digest : List ℕ → List ℕ) (shows : List ℕ → Option Shape) (d : ℕ) (c : List ℕ) (ls new : List Rows)
     (rest link : Option (List ℕ)) (log mid next : Log) (node : Shape) → is_clear (edge_of (drop d ls) rest) ≡ false
-    → IsOpenAt shows d ls rest log new link mid → ask shows c mid ≡ Ok (node, next)
+    → IsOpenAt shows d ls rest log new link mid → ask shows c LinkClear mid ≡ Ok (node, next)
     → IsComing digest shows d c ls rest log node new link next
 coming digest shows d c ls new rest link log mid next node h o a = record {
   rows = o.rows;

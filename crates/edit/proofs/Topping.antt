@@ -1,9 +1,9 @@
 -- The top of the tree that the edge has become.
-use Rattle.std.proofs.Common.{◌≡◌, ℕ, suc, ◌+◌, ◌-◌, length-append, ◌<◌, ◌≤◌, List, [], ◌∷◌, ◌++◌, length, take, drop, refl, sym, ap, ◌∙◌, arith, Option, Ok, Err}
+use Rattle.std.proofs.Common.{◌≡◌, ℕ, suc, ◌+◌, ◌-◌, length-append, ◌<◌, ◌≤◌, List, [], ◌∷◌, ◌++◌, length, take, drop, refl, sym, ap, ◌∙◌, arith, Option, Ok}
 use Rattle.std.proofs.lemmas.List.{append-nil}
 use Rattle.std.specs.declared.option.Option.TheVariants.{Some, None}
 use Rattle.spec.specs.NodeFormat.{Shape, LastLink, MoreLinks, shape_cid}
-use Rattle.batch_laws.specs.Links.{Rows, Log, Top, log_shown, with_read, closing, link_edge, onto_links, new_top, topping, pruning, pruning_at, Step}
+use Rattle.batch_laws.specs.Links.{Rows, LinkEdge, LinkClear, Log, Top, ask, log_shown, with_read, closing, link_edge, onto_links, new_top, topping, pruning, pruning_at, Step}
 use Rattle.edit.specs.Edges.{edge_of, highest_of}
 use Rattle.edit.specs.Tops.{IsTopped, IsLooked, IsTop, IsEnded, further_of}
 use Rattle.edit.proofs.Cuts.{snoc-same, cut-at, drop-end}
@@ -95,7 +95,8 @@ pub record Shown (shown : Option Shape) (node : Shape) (log now : Log) : Type 0 
 pub ok-same : (x y : Shape × Log) → ◌≡◌ {A = Step Shape} (Ok x) (Ok y) → x ≡ y
 ok-same x y h = cc
 
-pub was-shown : (c : List ℕ) (o : Option Shape) (node : Shape) (log now : Log) → log_shown c o log ≡ Ok (node, now)
+pub was-shown : (c : List ℕ) (o : Option Shape) (node : Shape) (log now : Log)
+    → log_shown c LinkClear o log ≡ Ok (node, now)
     → Shown o node log now
 was-shown c None node log now h = absurd cc
 was-shown c (Some m) node log now h =
@@ -103,6 +104,16 @@ was-shown c (Some m) node log now h =
     let a : m ≡ node = ap (λ x. x.0) p in
     let b : with_read m log ≡ now = ap (λ x. x.1) p in
     record { is = ap Some a; log_is = sym b ∙ ap (λ x. with_read x log) a }
+
+-- what is read is the same at each edge
+read-case : (c : List ℕ) (s : LinkEdge) (o : Option Shape) (log : Log) (x : Shape × Log)
+    → log_shown c LinkClear o log ≡ Ok x → log_shown c s o log ≡ Ok x
+read-case c s None log x h = absurd cc
+read-case c s (Some m) log x h = h
+
+pub read-at : (shows : List ℕ → Option Shape) (c : List ℕ) (s : LinkEdge) (log : Log) (x : Shape × Log)
+    → ask shows c LinkClear log ≡ Ok x → ask shows c s log ≡ Ok x
+read-at shows c s log x h = read-case c s (shows c) log x h
 
 ends-at : (shows : List ℕ → Option Shape) (m : ℕ) (c : List ℕ) (log : Log) (node : Shape) → None ≡ further_of node
     → pruning_at (pruning shows m) c log (Some node) ≡ Ok ((c, node ∷ []), log)

@@ -1,5 +1,5 @@
 -- Pairs of a node that no change touches.
-use Rattle.std.proofs.Common.{◌≡◌, ℕ, zero, suc, ◌+◌, ◌<◌, ◌≤◌, true, false, List, [], ◌∷◌, ◌++◌, length, take, length-append, refl, sym, ap, subst, ◌∙◌, arith, Option, option_map, Ok}
+use Rattle.std.proofs.Common.{◌≡◌, ℕ, zero, suc, ◌+◌, ◌<◌, ◌≤◌, true, false, List, [], ◌∷◌, ◌++◌, length, length-append, refl, sym, ap, subst, ◌∙◌, arith, Option, option_map, Ok}
 use Rattle.std.proofs.lemmas.List.{append_assoc, append-nil}
 use Rattle.std.specs.List.{AllByRecursion}
 use Rattle.std.specs.declared.option.Option.TheVariants.{Some, None}
@@ -163,7 +163,7 @@ module _ (digest : List ℕ → List ℕ) (shows : List ℕ → Option Shape) wh
   waits-below k (suc d) c [] log h = absurd (omega arith)
   waits-below k zero c (x ∷ ls) log h = absurd (omega arith)
   waits-below k (suc d) c (x ∷ ls) log h =
-      ap (λ o. and_then o (under_rows x)) (waits-below k d c ls log (omega arith))
+      ap (λ o. under_rows x o) (waits-below k d c ls log (omega arith))
 
   waits-first : (k d : ℕ) (c : List ℕ) (ls : List Rows) (log : Log) → length ls ≡ d
       → subtreeing digest shows (suc k) (suc d) c (edge_of ls None) log ≡ Ok (edge_of (ls ++ ([] ∷ [])) (Some c), log)
@@ -171,7 +171,7 @@ module _ (digest : List ℕ → List ℕ) (shows : List ℕ → Option Shape) wh
   waits-first k (suc d) c [] log h = absurd (omega arith)
   waits-first k zero c (x ∷ ls) log h = absurd (omega arith)
   waits-first k (suc d) c (x ∷ ls) log h =
-      ap (λ o. and_then o (under_rows x)) (waits-first k d c ls log (omega arith))
+      ap (λ o. under_rows x o) (waits-first k d c ls log (omega arith))
 
   row-below : (d : ℕ) (e : Pair) (above : List Rows) (begun : Rows) (l : Option (List ℕ)) (log : Log) → length above ≡ d
       → pairing digest shows d e (edge_of (above ++ (begun ∷ [])) l) log
@@ -180,7 +180,7 @@ module _ (digest : List ℕ → List ℕ) (shows : List ℕ → Option Shape) wh
   row-below (suc d) e [] begun l log h = absurd (omega arith)
   row-below zero e (x ∷ above) begun l log h = absurd (omega arith)
   row-below (suc d) e (x ∷ above) begun l log h =
-      ap (λ o. and_then o (under_rows x)) (row-below d e above begun l log (omega arith))
+      ap (λ o. under_rows x o) (row-below d e above begun l log (omega arith))
 
   row-first : (d : ℕ) (e : Pair) (ls : List Rows) (log : Log) → length ls ≡ d
       → pairing digest shows d e (edge_of ls None) log ≡ Ok (edge_of (ls ++ (((None, e) ∷ []) ∷ [])) None, log)
@@ -188,7 +188,7 @@ module _ (digest : List ℕ → List ℕ) (shows : List ℕ → Option Shape) wh
   row-first (suc d) e [] log h = absurd (omega arith)
   row-first zero e (x ∷ ls) log h = absurd (omega arith)
   row-first (suc d) e (x ∷ ls) log h =
-      ap (λ o. and_then o (under_rows x)) (row-first d e ls log (omega arith))
+      ap (λ o. under_rows x o) (row-first d e ls log (omega arith))
 
   module _ (layer : List ℕ → ℕ) (n : ℕ) where
     -- a gap without changes and then a pair

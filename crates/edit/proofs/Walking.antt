@@ -7,8 +7,8 @@ use Rattle.spec.specs.NodeFormat.{Shape, LastLink, MoreLinks}
 use Rattle.batch_laws.specs.Batch.{Change, before, at_key, after, entry, puts}
 use Rattle.batch_laws.specs.Walking.{depth_of}
 use Rattle.batch_laws.specs.Previous.{value_met, previous_node, previous_gap, previous_shown, no_values}
-use Rattle.batch_laws.specs.Links.{LinkEdge, Log, and_then, ask, log_shown, with_read, pairs_in_turn, walking_node, walking, subtreeing, Step}
-use Rattle.edit.proofs.Topping.{ok-same}
+use Rattle.batch_laws.specs.Links.{LinkEdge, Log, and_then, ask, log_shown, with_read, pairs_in_turn, walking_node, walking, subtreeing, Step, LinkClear}
+use Rattle.edit.proofs.Topping.{ok-same, read-at}
 use Rattle.edit.specs.Agenda.{Later, Gap, Task, ToPair, ToGap, node_does, task_does, agenda_does, task_meets, agenda_meets, size_of_node, size_of_gap, size_shown, task_size, agenda_size, IsPutOff, IsGoneOn, IsDone}
 
 -- ---- one more on the agenda
@@ -151,7 +151,7 @@ done-subtree digest shows layer n fs gap c s t log later old new e q z p v =
       smaller = (let a = ap (size_of_gap shows gap.layer) e ∙ ap (λ j. size_of_gap shows j (Some c)) m in omega arith);
     }
 
-shown-is : (c : List ℕ) (o : Option Shape) (node : Shape) (log later : Log) → log_shown c o log ≡ Ok (node, later)
+shown-is : (c : List ℕ) (o : Option Shape) (node : Shape) (log later : Log) → log_shown c LinkClear o log ≡ Ok (node, later)
     → o ≡ Some node
 shown-is c None node log later h = absurd cc
 shown-is c (Some m) node log later h =
@@ -159,11 +159,12 @@ shown-is c (Some m) node log later h =
 
 pub walks-down : (digest : List ℕ → List ℕ) (shows : List ℕ → Option Shape) (layer : List ℕ → ℕ) (n k d : ℕ) (c : List ℕ)
     (cs : List Change) (node : Shape) (s : LinkEdge) (log later : Log) → 0 < length cs
-    → ask shows c log ≡ Ok (node, later)
+    → ask shows c LinkClear log ≡ Ok (node, later)
     → walking digest shows layer n (suc k) d (Some c) cs s log ≡ node_does digest shows layer n k d cs node s later
 walks-down digest shows layer n k d c [] node s log later z a = absurd (omega arith)
 walks-down digest shows layer n k d c (x ∷ cs) node s log later z a =
-    ap (λ o. and_then o (walking_node digest shows d (walking digest shows layer n k (suc d)) (x ∷ cs) s)) a
+    ap (λ o. and_then o (walking_node digest shows d (walking digest shows layer n k (suc d)) (x ∷ cs) s))
+    (read-at shows c s log (node, later) a)
 
 meets-down : (shows : List ℕ → Option Shape) (k : ℕ) (c : List ℕ) (cs : List Change) (node : Shape) → 0 < length cs
     → shows c ≡ Some node → previous_gap shows (suc k) (Some c) cs ≡ previous_node (previous_gap shows k) cs node
@@ -173,7 +174,7 @@ meets-down shows k c (x ∷ cs) node z a = ap (previous_shown (previous_gap show
 pub done-node : (digest : List ℕ → List ℕ) (shows : List ℕ → Option Shape) (layer : List ℕ → ℕ) (n : ℕ)
     (fs new : List Task) (gap : Gap) (c : List ℕ) (k : ℕ) (node : Shape) (s t : LinkEdge) (log later : Log)
     (old values : List (Option (List ℕ))) → gap.link ≡ Some c → 0 < length gap.changes → gap.layer ≡ suc k
-    → ask shows c log ≡ Ok (node, later) → IsGoneOn k gap.depth gap.changes node fs new s t → values ≡ old
+    → ask shows c LinkClear log ≡ Ok (node, later) → IsGoneOn k gap.depth gap.changes node fs new s t → values ≡ old
     → IsDone digest shows layer n (ToGap gap) fs s log old new t later values
 done-node digest shows layer n fs new gap c k node s t log later old values e z m a w v =
     let shown = shown-is c (shows c) node log later a in

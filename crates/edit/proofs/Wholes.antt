@@ -1,6 +1,6 @@
 -- A whole tree.
 use Rattle.std.proofs.Common.{◌≡◌, ℕ, suc, ◌+◌, ◌-◌, ◌≤◌, ◌<◌, max, List, [], ◌∷◌, length, length-append, refl, sym, ap, subst, ◌∙◌, arith, Option, Err, Ok}
-use Rattle.std.specs.declared.option.Option.TheVariants.{Some, None}
+use Rattle.std.specs.declared.option.Option.TheVariants.{Some}
 use Rattle.std.proofs.Math.Nat.{div-le_self}
 use Rattle.spec.specs.Layer.{zero_bits, layer as layer_of}
 use Rattle.spec.specs.NodeFormat.{Shape, LastLink, MoreLinks}
@@ -8,12 +8,12 @@ use Rattle.spec.proofs.LayerLaws.{zero_bits-le}
 use Rattle.edit_laws.specs.Lawful.{HasKeys}
 use Rattle.edit_laws.specs.ShapeEdit.{layer_of_shape}
 use Rattle.batch_laws.specs.Batch.{Change}
-use Rattle.batch_laws.specs.Counts.{most_reads}
+use Rattle.batch_laws.specs.Counts.{most_reads, most_from}
 use Rattle.batch_laws.specs.Links.{LinkEdge, LinkClear, Log, Top, and_then, ask, walking, walking_top, topping, batch_from, Step}
 use Rattle.batch_laws.proofs.Earlier.{steps-earlier, walking_node-earlier, walking-earlier}
 use Rattle.batch_laws.specs.Previous.{previous_node, previous_gap, previous_top}
 use Rattle.edit.specs.Agenda.{node_does}
-use Rattle.edit.specs.Budgets.{Budget, most_from}
+use Rattle.edit.specs.Budgets.{Budget}
 use Rattle.edit.specs.States.{IsCounted}
 use Rattle.edit.proofs.Bounds.{most-one, most-shown}
 use Rattle.edit.proofs.Topping.{was-shown}
@@ -26,7 +26,7 @@ use Rattle.edit.proofs.Ending.{top-goes}
 
 pub whole : (digest : List ℕ → List ℕ) (shows : List ℕ → Option Shape) (layer : List ℕ → ℕ) (n t d : ℕ) (cs : List Change)
     (root : List ℕ) (node : Shape) (start first : Log) (begun s : LinkEdge) (later : Log) (top : List ℕ) (gone : ℕ) (now : Log)
-    → start ≡ record { read = []; made = [] } → ask shows root start ≡ Ok (node, first)
+    → start ≡ record { read = []; made = [] } → ask shows root LinkClear start ≡ Ok (node, first)
     → t ≡ layer_of_shape layer node → d ≡ n - suc t → begun ≡ LinkClear
     → node_does digest shows layer n t d cs node begun first ≡ Ok (s, later)
     → IsEnded (topping digest shows n s later) top gone now
@@ -34,7 +34,7 @@ pub whole : (digest : List ℕ → List ℕ) (shows : List ℕ → Option Shape)
 whole digest shows layer n t d cs root node start first begun s later top gone now e a t_is d_is b w i = record {
   left = i.left;
   next = i.next;
-  is = ap (λ x. and_then (ask shows root x) (λ m log. and_then (walking_top digest shows layer n cs m log) (topping digest shows n))) (sym e)
+  is = ap (λ x. and_then (ask shows root LinkClear x) (λ m log. and_then (walking_top digest shows layer n cs m log) (topping digest shows n))) (sym e)
       ∙ ap (λ x. and_then x (λ m log. and_then (walking_top digest shows layer n cs m log) (topping digest shows n))) a
       ∙ ap (λ m. and_then (node_does digest shows layer n m (n - suc m) cs node LinkClear first) (topping digest shows n)) (sym t_is)
       ∙ ap (λ m. and_then (node_does digest shows layer n t m cs node LinkClear first) (topping digest shows n)) (sym d_is)
@@ -46,7 +46,7 @@ whole digest shows layer n t d cs root node start first begun s later top gone n
 }
 
 pub met : (shows : List ℕ → Option Shape) (layer : List ℕ → ℕ) (t : ℕ) (cs : List Change) (root : List ℕ) (node top : Shape)
-    (start first : Log) (values : List (Option (List ℕ))) → ask shows root start ≡ Ok (node, first)
+    (start first : Log) (values : List (Option (List ℕ))) → ask shows root LinkClear start ≡ Ok (node, first)
     → t ≡ layer_of_shape layer node → values ≡ previous_node (previous_gap shows t) cs node → shows root ≡ Some top
     → values ≡ previous_top shows layer cs top
 met shows layer t cs root node top start first values a t_is v h =
@@ -73,7 +73,7 @@ stopped-within b m a most start first f h l = omega arith
 
 -- the root is read, and then as many are left as a batch reads below it
 pub first-counted : (shows : List ℕ → Option Shape) (layer : List ℕ → ℕ) (t : ℕ) (cs : List Change) (root : List ℕ)
-    (node : Shape) (start first : Log) (b m : Budget) (more : ℕ) → ask shows root start ≡ Ok (node, first)
+    (node : Shape) (start first : Log) (b m : Budget) (more : ℕ) → ask shows root LinkClear start ≡ Ok (node, first)
     → t ≡ layer_of_shape layer node → b.1 ≡ 1 → more ≡ most_reads t cs → IsCounted b m start first
     → IsCounted (b.0, most_from layer cs (shows root)) (m.0, more) start first
 first-counted shows layer t cs root node start first b m more a t_is one h i =
@@ -144,18 +144,18 @@ module _ {A : Type 0} (gives : List ℕ → Option A) (digest : List ℕ → Lis
       let all : Budget = (b, most_from layer cs (shows root)) in
       let step = λ (m : Shape) (l : Log). at_top (and_then (walking_top digest shows layer n cs m l) (topping digest shows n)) in
       subst (λ o. IsStopped gives all a none o f)
-      (sym (at-top-then (ask shows root none)
+      (sym (at-top-then (ask shows root LinkClear none)
       (λ m l. and_then (walking_top digest shows layer n cs m l) (topping digest shows n))))
       (asked-unread gives shows all a root LinkClear none step f
       (λ m l. then-top-goes (layer_of_shape layer m) (n - suc (layer_of_shape layer m)) m LinkClear l)
       (unread-more b a left all.1 root (shows root) f e (most-one layer cs (shows root)) u))
 
   batch-is : (t d : ℕ) (node : Shape) (start first : Log) (begun : LinkEdge) → start ≡ none
-      → ask shows root start ≡ Ok (node, first) → t ≡ layer_of_shape layer node → d ≡ n - suc t → begun ≡ LinkClear
+      → ask shows root LinkClear start ≡ Ok (node, first) → t ≡ layer_of_shape layer node → d ≡ n - suc t → begun ≡ LinkClear
       → batch ≡ at_top (and_then (node_does digest shows layer n t d cs node begun first) (topping digest shows n))
   batch-is t d node start first begun e a t_is d_is b =
       ap at_top
-      (ap (λ x. and_then (ask shows root x) (λ m log. and_then (walking_top digest shows layer n cs m log) (topping digest shows n))) (sym e)
+      (ap (λ x. and_then (ask shows root LinkClear x) (λ m log. and_then (walking_top digest shows layer n cs m log) (topping digest shows n))) (sym e)
       ∙ ap (λ x. and_then x (λ m log. and_then (walking_top digest shows layer n cs m log) (topping digest shows n))) a
       ∙ ap (λ m. and_then (node_does digest shows layer n m (n - suc m) cs node LinkClear first) (topping digest shows n)) (sym t_is)
       ∙ ap (λ m. and_then (node_does digest shows layer n t m cs node LinkClear first) (topping digest shows n)) (sym d_is)
@@ -163,7 +163,7 @@ module _ {A : Type 0} (gives : List ℕ → Option A) (digest : List ℕ → Lis
 
   -- the old top is read, and what comes after that stops
   module _ (t d : ℕ) (node : Shape) (start first : Log) (begun : LinkEdge) (e : start ≡ none)
-      (shown : ask shows root start ≡ Ok (node, first)) (t_is : t ≡ layer_of_shape layer node) (d_is : d ≡ n - suc t)
+      (shown : ask shows root LinkClear start ≡ Ok (node, first)) (t_is : t ≡ layer_of_shape layer node) (d_is : d ≡ n - suc t)
       (clear : begun ≡ LinkClear) where
     abbrev rest : Step LinkEdge
     rest = at_top (and_then (node_does digest shows layer n t d cs node begun first) (topping digest shows n))

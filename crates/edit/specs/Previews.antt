@@ -1,5 +1,5 @@
 -- What a batch comes to, with the nodes that it reads.
-use Rattle.std.specs.Prelude.{◌≡◌, ⊤, ℕ, List, ◌++◌, map, Option, Some, None, Ok, Err, Result, IfOk, IfErr}
+use Rattle.std.specs.Prelude.{◌≡◌, ⊤, ℕ, List, ◌++◌, map, Option, Some, None, Ok, Result, IfOk, IfErr}
 use Rattle.std.specs.Arc.{arc_value}
 use Rattle.std.specs.declared.sync.Arc.{Arc}
 use Rattle.spec.specs.Tree.{Pair}
@@ -10,7 +10,7 @@ use Rattle.edit_laws.specs.Laws.Edits.{bytes_of}
 use Rattle.lookups.specs.Steps.{nodes_given}
 use Rattle.lookups.specs.Trees.{OfTree}
 use Rattle.batch_laws.specs.Batch.{Change, changed}
-use Rattle.batch_laws.specs.Links.{Log, NotShown, Step, Top}
+use Rattle.batch_laws.specs.Links.{Log, NotShown, Step, StopsAt, Top}
 use Rattle.batch_laws.specs.Previous.{previous_top, values}
 use Rattle.edit.specs.Batches.{answer_of, most_of, nodes_read}
 use Rattle.edit.specs.Stops.{IsUnreached, at_top}
@@ -35,10 +35,12 @@ abbrev pub IsPreviewed : {D A : Type 0} → (List ℕ → List ℕ) → ℕ → 
 IsPreviewed digest bits gives root cs result = IfOk result (λ preview. IsPreview digest bits gives cs root
     preview.root preview.previous.items (map arc_value preview.read.items))
 
--- Why there is none: the source lacks the block with this CID, and there the batch stops; or the batch has no answer for which at most so many nodes are read, and in which keys ascend in each node that is made. Nothing else comes.
+-- Why there is none: the source lacks the block with this CID, and there the batch stops; or the batch stops as the source gives
+-- what is no tree, or, as far as it comes, it reads more nodes than these, or keys don't ascend in a node that it makes. Nothing
+-- else comes.
 abbrev pub IsPreviewReason : {X D A : Type 0} → (List ℕ → Option X) → ℕ → Step Top → EditFault D A → Type 0
-IsPreviewReason gives most answer (Missing c) = (gives c ≡ None) × (answer ≡ Err (NotShown c))
-IsPreviewReason gives most answer NotTree = IsUnreached most (at_top answer)
+IsPreviewReason gives most answer (Missing c) = (gives c ≡ None) × StopsAt (NotShown c) answer
+IsPreviewReason gives most answer NotTree = IsUnreached gives most (at_top answer)
 IsPreviewReason gives most answer NoSuchKey = ⊥
 IsPreviewReason gives most answer (Clash pair) = ⊥
 IsPreviewReason gives most answer NoMemory = ⊤

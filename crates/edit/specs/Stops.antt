@@ -3,21 +3,26 @@
 use Rattle.std.specs.Prelude.{◌≡◌, ◌<◌, ◌≤◌, ◌+◌, ⊤, ℕ, suc, List, ◌++◌, length, Option, None, Ok, Err}
 use Rattle.spec.specs.NodeFormat.{Shape}
 use Rattle.edit_laws.specs.Lawful.{HasKeys}
-use Rattle.batch_laws.specs.Links.{Rows, LinkEdge, LinkClear, LinkOpened, Log, NotShown, Step, Top, and_then, closing}
-use Rattle.batch_laws.specs.Written.{AreWritten, OnAnswer, GoesFrom}
+use Rattle.batch_laws.specs.Links.{Rows, LinkEdge, LinkClear, LinkOpened, Log, LinkTooDeep, NotShown, Step, Stop, StopsAt, Top, and_then, closing}
+use Rattle.batch_laws.specs.Written.{AreWritten, OnAnswer, OnEnd, GoesFrom}
 use Rattle.rows.specs.declared.draft.DraftFault.{DraftFault}
 use Rattle.rows.specs.declared.draft.DraftFault.TheVariants as drafts
 use Rattle.edit.specs.Budgets.{Budget}
 use Rattle.edit.specs.declared.faults.Fault.{Fault}
 use Rattle.edit.specs.declared.faults.Fault.TheVariants.{Missing, NotTree, NoMemory}
 
--- it has no answer in which each node that was made has keys of the grammar, and each that is open may still have them
+-- as far as it comes, not each node that was made has keys of the grammar, with each that is open one that may still have them
 abbrev pub IsUnwritten : Step LinkEdge → Type 0
-IsUnwritten step = OnAnswer step (λ s log. ¬ AreWritten HasKeys s log)
+IsUnwritten step = OnEnd (λ s. s) step (λ s log. ¬ AreWritten HasKeys s log)
 
--- it has no such answer for which at most so many nodes are read
-abbrev pub IsUnreached : ℕ → Step LinkEdge → Type 0
-IsUnreached most step = OnAnswer step (λ s log. length log.read ≤ most → ¬ AreWritten HasKeys s log)
+-- nor is it so, with no more than so many nodes that are read for it, where only a block that the source lacks stops it
+abbrev pub IsUnreachedAt : {A : Type 0} → (List ℕ → Option A) → ℕ → Stop → LinkEdge → Log → Type 0
+IsUnreachedAt gives most (NotShown c) s log = gives c ≡ None → length log.read < most → ¬ AreWritten HasKeys s log
+IsUnreachedAt gives most LinkTooDeep s log = ⊤
+
+abbrev pub IsUnreached : {A : Type 0} → (List ℕ → Option A) → ℕ → Step LinkEdge → Type 0
+IsUnreached gives most (Ok x) = length x.1.read ≤ most → ¬ AreWritten HasKeys x.0 x.1
+IsUnreached gives most (Err e) = IsUnreachedAt gives most e.why e.edge e.log
 
 -- a node was not written; of a want of memory nothing is said
 abbrev pub IsRefused : Step LinkEdge → DraftFault → Type 0
@@ -29,11 +34,11 @@ abbrev pub fault_of : DraftFault → Fault
 fault_of drafts.NotNode = NotTree
 fault_of drafts.NoMemory = NoMemory
 
--- the source lacks just the block at which the laws stop, or there is no answer with keys of the grammar for which so few
--- nodes are read
+-- the source lacks just the block at which the laws stop; or they stop as it gives what is no tree; or, as far as they come,
+-- they read more nodes, or write keys that are not of the grammar
 abbrev pub IsCause : {A : Type 0} → (List ℕ → Option A) → ℕ → Step LinkEdge → Fault → Type 0
-IsCause gives most step (Missing c) = (gives c ≡ None) × (step ≡ Err (NotShown c))
-IsCause gives most step NotTree = IsUnreached most step
+IsCause gives most step (Missing c) = (gives c ≡ None) × StopsAt (NotShown c) step
+IsCause gives most step NotTree = IsUnreached gives most step
 IsCause gives most step NoMemory = ⊤
 
 -- a step that was begun with a log stopped, after no more reads than its answer would have, and no more than were left
@@ -48,7 +53,7 @@ pub record IsStopped {A : Type 0} (gives : List ℕ → Option A) (before : Budg
 -- the source lacks the block that is asked for, or gives what is no node, unless no more may be read
 abbrev pub IsUnshown : {A : Type 0} → (List ℕ → Option A) → ℕ → List ℕ → Option Shape → Fault → Type 0
 IsUnshown gives left asked shown (Missing c) = (c ≡ asked) × (gives c ≡ None) × (shown ≡ None)
-IsUnshown gives left asked shown NotTree = 0 < left → shown ≡ None
+IsUnshown gives left asked shown NotTree = 0 < left → (shown ≡ None) × (gives asked ≡ None → ⊥)
 IsUnshown gives left asked shown NoMemory = ⊤
 
 -- the node with a CID was not read, after one read at most, and none where none was left

@@ -2,7 +2,7 @@
 use Rattle.std.specs.Prelude.{◌≡◌, ℕ, suc, max, ◌+◌, List, [], ◌∷◌, ◌++◌, length, take, drop, Option, Some, None, Ok}
 use Rattle.spec.specs.NodeFormat.{Shape, LastLink, MoreLinks}
 use Rattle.edit_laws.specs.ShapeEdit.{layer_of_shape}
-use Rattle.batch_laws.specs.Links.{Rows, Log, Step, Top, ask, closing, new_top}
+use Rattle.batch_laws.specs.Links.{Rows, LinkClear, Log, Step, Top, ask, closing, new_top}
 use Rattle.edit.specs.Edges.{edge_of}
 
 -- the node at this depth is the top
@@ -22,7 +22,7 @@ further_of (MoreLinks l e r) = None
 pub record IsLooked (shows : List ℕ → Option Shape) (c : List ℕ) (log : Log) (further : Option (List ℕ)) (now : Log)
     : Type 0 where
   pub node : Shape
-  pub shown : ask shows c log ≡ Ok (node, now)
+  pub shown : ask shows c LinkClear log ≡ Ok (node, now)
   pub further_is : further ≡ further_of node
 
 -- the root, where the nodes that were read last stay

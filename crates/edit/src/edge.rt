@@ -120,7 +120,7 @@ impl<'a, D: Digest + 'a, A: Allocator + Clone + 'a> Edge<'a, D, A> {
         cid: Cid,
     ) -> Result<NodeView<'a>, Fault>
         ensures shown { IfOk result (λ view. ask (nodes_given (S.gives src.old)) cid
-            (log_in self.old) ≡ Ok (shape_of view, log_in self.new)) }
+            LinkClear (log_in self.old) ≡ Ok (shape_of view, log_in self.new)) }
         ensures counted { OnOk result (IsCountedOn (S.reads src.old) self.old (S.reads src.new) self.new) }
         ensures levels { self.new.levels.items ≡ self.old.levels.items }
         ensures rest { self.new.rest ≡ self.old.rest }
@@ -148,7 +148,7 @@ impl<'a, D: Digest + 'a, A: Allocator + Clone + 'a> Edge<'a, D, A> {
         cid: Cid,
     ) -> Result<KeyedEntries<'a, A>, Fault>
         ensures shown { IfOk result (λ rows. ask (nodes_given (S.gives src.old)) cid
-            (log_in self.old) ≡ Ok (rows.rest, log_in self.new)) }
+            LinkClear (log_in self.old) ≡ Ok (rows.rest, log_in self.new)) }
         ensures counted { OnOk result (IsCountedOn (S.reads src.old) self.old (S.reads src.new) self.new) }
         ensures levels { self.new.levels.items ≡ self.old.levels.items }
         ensures rest { self.new.rest ≡ self.old.rest }

@@ -10,7 +10,7 @@ use Rattle.batch_laws.specs.Batch.{Change, puts, changed, AreKeyed, HaveOwnCids}
 use Rattle.batch_laws.specs.Trace.{batch_made}
 use Rattle.batch_laws.specs.Links.{LinkEdge, LinkClear, Log, closing, pairing, parting, subtreeing, pairs_in_turn, walking, topping}
 use Rattle.edit_laws.specs.Lawful.{HasKeys}
-use Rattle.batch_laws.specs.Written.{IsEarlier, OnAnswer, GoesFrom}
+use Rattle.batch_laws.specs.Written.{IsEarlier, OnEnd, GoesFrom}
 
 -- keys of 1 to 1,024 bytes ascend in each node that is made: that is all that a writer of nodes asks
 abbrev pub BatchHasKeys : Type 0
@@ -39,7 +39,7 @@ pub record StepsGoOn (P : Shape → Type 0) (digest : List ℕ → List ℕ) (sh
   pub walking_does : (layer : List ℕ → ℕ) (n k d : ℕ) (l : Option (List ℕ)) (cs : List Change) (s : LinkEdge) (log : Log)
       → GoesFrom P s log (walking digest shows layer n k d l cs s log)
   pub topping_does : (k : ℕ) (s : LinkEdge) (log : Log)
-      → OnAnswer (topping digest shows k s log) (λ top later. IsEarlier P s log LinkClear later)
+      → OnEnd (λ top. LinkClear) (topping digest shows k s log) (IsEarlier P s log)
 
 abbrev pub BatchGoesOn : Type 0
 BatchGoesOn = (test : Shape → Bool) (digest : List ℕ → List ℕ) (shows : List ℕ → Option Shape)

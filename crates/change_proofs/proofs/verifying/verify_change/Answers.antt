@@ -1,6 +1,6 @@
 use Rattle.std.proofs.Common.{map, subst, ap, ◌∙◌}
 use Rattle.std.specs.Arc.{arc_value}
-use Rattle.change_proofs.specs.Verdicts.{IsVerdict, IsRight, IsWhole}
+use Rattle.change_proofs.specs.Verdicts.{IsVerdict, IsRight, IsWhole, IsOfTree}
 use Rattle.change_proofs.proofs.verifying.verify_change.Goals as goal
 
 pub returns-clause-verdict : goal.returns-clause-verdict
@@ -17,3 +17,8 @@ pub returns-clause-comes : goal.returns-clause-comes
 returns-clause-comes g c =
     subst (λ given. IsWhole g.D.Digest.digest_of g.row.B c.args.before c.args.after given c.args.changes.now
     c.verify_blocks.result) (ap (map arc_value) c.deref.ensures.value ∙ c.in_ok-own.ensures) c.verify_blocks.ensures.comes
+
+pub returns-clause-tree : goal.returns-clause-tree
+returns-clause-tree g c =
+    subst (λ given. IsOfTree g.D.Digest.digest_of g.row.B c.args.before c.args.after given c.args.changes.now
+    c.verify_blocks.result) (ap (map arc_value) c.deref.ensures.value ∙ c.in_ok-own.ensures) c.verify_blocks.ensures.tree

@@ -1,5 +1,5 @@
 use Rattle.std.specs.Prelude.{IfOk, IfErr, OnOk}
-use Rattle.std.proofs.Common.{◌≡◌, ◌++◌, sym, ap, subst, ◌∙◌}
+use Rattle.std.proofs.Common.{◌≡◌, sym, ap, subst, ◌∙◌}
 use Rattle.std.proofs.lemmas.Result.{err_from_is_err_and}
 use Rattle.cid.specs.CidRef.{bytes_of}
 use Rattle.spec.specs.NodeFormat.{first_link}

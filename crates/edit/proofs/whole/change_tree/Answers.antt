@@ -1,4 +1,4 @@
-use Rattle.std.proofs.Common.{Some, ap, arith, length, max, subst, ◌-◌, ◌/◌, ◌∙◌, ◌≡◌, suc, [], Ok}
+use Rattle.std.proofs.Common.{ap, arith, length, max, subst, ◌-◌, ◌/◌, ◌∙◌, ◌≡◌, suc, [], Ok}
 use Rattle.spec.specs.Layer.{layer as layer_of}
 use Rattle.rows.specs.Entries.{shape_of}
 use Rattle.lookups.specs.Steps.{nodes_given}
@@ -6,10 +6,10 @@ use Rattle.batch_laws.specs.Links.{topping, batch_from, LinkClear}
 use Rattle.edit.specs.Edges.{edge_of}
 use Rattle.edit.specs.Agenda.{node_does}
 use Rattle.edit.specs.Batches.{put_layers}
-use Rattle.edit.specs.Budgets.{Budget, most_from}
+use Rattle.edit.specs.Budgets.{Budget}
 use Rattle.edit.specs.States.{edge_in, log_in}
 use Rattle.edit.specs.Tops.{IsEnded, layers_needed}
-use Rattle.batch_laws.specs.Counts.{most_reads}
+use Rattle.batch_laws.specs.Counts.{most_reads, most_from}
 use Rattle.batch_laws.specs.Previous.{previous_node, previous_gap}
 use Rattle.edit.proofs.Bounds.{most-within}
 use Rattle.edit.proofs.Making.{shapes-count}

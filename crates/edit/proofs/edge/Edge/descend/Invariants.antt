@@ -1,6 +1,6 @@
-use Rattle.std.proofs.Common.{◌≡◌, ◌+◌, ◌≤◌, length, Option}
+use Rattle.std.proofs.Common.{◌≡◌, ◌+◌, ◌≤◌, length}
 use Rattle.lookups.specs.Steps.{nodes_given}
-use Rattle.batch_laws.specs.Links.{LinkEdge, Log, Step}
+use Rattle.batch_laws.specs.Links.{LinkEdge, Step}
 use Rattle.edit.specs.States.{log_in, shapes_coming, IsOnTheWay, IsCounted}
 use Rattle.edit.proofs.edge.Edge.descend.Given as goal
 

@@ -1,4 +1,4 @@
-use Rattle.std.proofs.Common.{sym, ap, ◌∙◌, subst, Some, drop, Ok}
+use Rattle.std.proofs.Common.{sym, ap, ◌∙◌, subst, drop, Ok}
 use Rattle.lookups.specs.Steps.{nodes_given}
 use Rattle.rows.specs.Drafts.{pair_of}
 use Rattle.edit.specs.Edges.{edge_of}

@@ -1,5 +1,5 @@
 use Rattle.std.proofs.lemmas.Result.{err_from_is_err_and}
-use Rattle.std.proofs.Common.{◌≡◌, ◌++◌, Some, sym, ap, ◌∙◌, subst, Ok}
+use Rattle.std.proofs.Common.{◌≡◌, ◌++◌, sym, ap, ◌∙◌, subst, Ok}
 use Rattle.cid.specs.CidRef.{bytes_of}
 use Rattle.spec.specs.Tree.{Pair}
 use Rattle.spec.specs.Layer.{layer as layer_of}

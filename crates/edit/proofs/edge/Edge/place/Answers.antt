@@ -1,6 +1,6 @@
-use Rattle.std.proofs.Common.{◌≡◌, sym, subst, arith, false, Some, drop, Ok}
+use Rattle.std.proofs.Common.{◌≡◌, sym, subst, arith, false, drop, Ok}
 use Rattle.lookups.specs.Steps.{nodes_given}
-use Rattle.batch_laws.specs.Links.{ask}
+use Rattle.batch_laws.specs.Links.{ask, LinkClear}
 use Rattle.edit.specs.Edges.{edge_of, is_clear}
 use Rattle.edit.specs.States.{log_in, IsComing}
 use Rattle.edit.proofs.Subtrees.{taken-open, taken-some, coming}
@@ -24,7 +24,7 @@ returns-clause-comes g c =
       | else-len-depth-via-else-len-depth w ↦
           taken-open c.args.depth old.levels.items old.rest (omega (arith, w.if-len-depth.false, c.len.ensures))
     ] in
-    let a = subst (λ gives. ask (nodes_given gives) c.args.cid (log_in mid) ≡ Ok (node, log_in new)) c.open_at.ensures.same
+    let a = subst (λ gives. ask (nodes_given gives) c.args.cid LinkClear (log_in mid) ≡ Ok (node, log_in new)) c.open_at.ensures.same
     c.in_ok-rows.ensures.shown in
     let k = coming digest shows c.args.depth c.args.cid old.levels.items mid.levels.items old.rest mid.rest (log_in old)
     (log_in mid) (log_in new) node taken c.in_ok-open_at.ensures.opened a in

@@ -1,4 +1,4 @@
-use Rattle.std.proofs.Common.{◌≡◌, ◌+◌, ◌++◌, [], Some, sym, ap, ◌∙◌, subst, arith, drop, Ok}
+use Rattle.std.proofs.Common.{◌≡◌, ◌+◌, ◌++◌, [], sym, ap, ◌∙◌, subst, arith, drop, Ok}
 use Rattle.std.proofs.lemmas.List.{append-nil}
 use Rattle.spec.specs.Layer.{layer as layer_of}
 use Rattle.lookups.specs.Steps.{nodes_given}
