@@ -10,7 +10,7 @@ help:
 	@echo 'make install PREFIX=.. puts target/msthost, its manual page and what shells complete of it below PREFIX'
 	@echo 'make library           proves the library for programs in C, Rust and Python, and builds it into target/library'
 	@echo 'make install-library PREFIX=..  puts it, its header and its pkg-config file below PREFIX'
-	@echo 'make test              the gate: every proof, must-fail edit, test and program, from nothing'
+	@echo 'make test              the gate: every proof, must-fail edit, test and program, from nothing, and make test-library'
 	@echo 'make test-library      proves and builds the library, and tries it from Rust, C, C++, Python and Go'
 	@echo 'make check             every crate, quickly, over what earlier checks kept'
 	@echo 'make edits             the wrong bodies that the gate does not try, before a release; CRATE=name: of one crate'
@@ -44,6 +44,7 @@ test:
 	@tools/crate-tables --compare
 	@tools/library-declarations
 	@rt ci
+	@tools/test-library
 
 test-library:
 	@tools/test-library

@@ -35,11 +35,18 @@ int main(void) {
     /* and the proof of what the batch changed, for whoever knows both roots: the key had none, and has this record */
     uint8_t none[36] = {0}, previous[36], missing[36];
     size_t key_end = strlen(key);
-    tizulgech_cid((const uint8_t *)"\xa2\x61\x65\x80\x61\x6c\xf6", 7, previous, 36);
+    const uint8_t *empty = (const uint8_t *)"\xa2\x61\x65\x80\x61\x6c\xf6";
+    size_t empty_end = 7;
+    if (tizulgech_cids(empty, 7, &empty_end, 1, previous, 36, &size) != TIZULGECH_DONE) return 13;
     if (tizulgech_prove_change(&repo, TEXT(key), &key_end, 1, none, 36, value, 36, &place, proof, sizeof proof, &size) != TIZULGECH_DONE) return 11;
     end = size - 8;
     if (tizulgech_verify_change(proof + 8, end, &end, 1, previous, 36, root, 36, TEXT(key), &key_end, 1, none, 36, value, 36, missing, 36, &place))
         return 12;
+    /* the same tree over a host's own nodes: the empty one, whose CID is known, so that it isn't hashed again */
+    uint8_t edit[4096];
+    if (tizulgech_tree_apply(empty, 7, &empty_end, 1, previous, 36, previous, 36, TEXT(key), &key_end, 1, value, 36, missing, 36, edit, sizeof edit, &size))
+        return 14;
+    if (memcmp(edit, root, 36) != 0) return 15;
     tizulgech_close(&repo);
     tizulgech_close(&repo);
     return tizulgech_number(&repo, &(uint64_t){0}) == TIZULGECH_CLOSED ? 0 : 10;

@@ -28,9 +28,16 @@ static int of_trees(void) {
     tizulgech_cid(NODE, root, 36);
     return tizulgech_commit_bytes(NULL, 0, NULL, 0, root, 36, NULL, 0, &size) == TIZULGECH_SMALL
         && tizulgech_commit_bytes(DID, REV, NULL, 0, NULL, 0, &size) == TIZULGECH_BAD
-        && tizulgech_tree_apply(NODE, &end, 1, root, 36, NULL, 0, NULL, 0, NULL, 0, cid, 36, NULL, 0, &size) == TIZULGECH_SMALL
-        && tizulgech_tree_apply(NULL, 0, NULL, 0, root, 36, NULL, 0, NULL, 0, NULL, 0, cid, 36, NULL, 0, &size) == TIZULGECH_MISSING
-        && tizulgech_tree_apply(NULL, 0, NULL, 0, NULL, 0, NULL, 0, NULL, 0, NULL, 0, cid, 36, NULL, 0, &size) == TIZULGECH_BAD
+        && tizulgech_tree_apply(NODE, &end, 1, NULL, 0, root, 36, NULL, 0, NULL, 0, NULL, 0, cid, 36, NULL, 0, &size) == TIZULGECH_SMALL
+        && tizulgech_tree_apply(NULL, 0, NULL, 0, NULL, 0, root, 36, NULL, 0, NULL, 0, NULL, 0, cid, 36, NULL, 0, &size) == TIZULGECH_MISSING
+        && tizulgech_tree_apply(NULL, 0, NULL, 0, NULL, 0, NULL, 0, NULL, 0, NULL, 0, NULL, 0, cid, 36, NULL, 0, &size) == TIZULGECH_BAD
+        && tizulgech_tree_apply(NODE, &end, 1, root, 36, root, 36, NULL, 0, NULL, 0, NULL, 0, cid, 36, NULL, 0, &size) == TIZULGECH_SMALL
+        && tizulgech_tree_apply(NODE, &end, 1, root, 35, root, 36, NULL, 0, NULL, 0, NULL, 0, cid, 36, NULL, 0, &size) == TIZULGECH_BAD
+        && tizulgech_tree_apply(NULL, 0, NULL, 0, root, 36, root, 36, NULL, 0, NULL, 0, NULL, 0, cid, 36, NULL, 0, &size) == TIZULGECH_BAD
+        && tizulgech_cids(NULL, 0, NULL, 0, NULL, 0, &size) == TIZULGECH_DONE && size == 0
+        && tizulgech_cids(NODE, &end, 1, NULL, 0, &size) == TIZULGECH_SMALL && size == 36
+        && tizulgech_cids(NODE, &end, 1, cid, 36, &size) == TIZULGECH_DONE && memcmp(cid, root, 36) == 0
+        && tizulgech_cids(NULL, 0, &end, 1, cid, 36, &size) == TIZULGECH_BAD
         && tizulgech_verify(NULL, 0, NULL, 0, root, 36, KEY, cid, 36) == TIZULGECH_MISSING
         && tizulgech_verify(NODE, &end, 1, root, 36, NULL, 0, cid, 36) == TIZULGECH_BAD_KEY
         && tizulgech_links(NODE, NULL, 0, &size) == TIZULGECH_DONE && size == 0 && tizulgech_links(NULL, 0, NULL, 0, &size) == TIZULGECH_BAD_NODE

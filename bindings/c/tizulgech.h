@@ -7,6 +7,7 @@
  *  - a tizulgech_repository is all zero bytes before tizulgech_open, is changed by these calls alone, isn't copied, and is given to
  *    one call at a time; between two calls it may go to another thread, as by a lock. One that is closed may be given to any call,
  *    which says so;
+ *  - CIDs that are given beside nodes are those of the nodes' bytes;
  *  - malloc, realloc and free are those of one allocator; no call from a signal handler, nor in the forked child of a process with
  *    threads.
  *
@@ -53,7 +54,7 @@ enum {
 
 /* The number of the library's interface: one more whenever a call is changed or taken away. A library that is loaded while a program
  * runs has this header's, TIZULGECH_VERSION, or isn't the one that the program was written for. */
-#define TIZULGECH_VERSION 1
+#define TIZULGECH_VERSION 2
 uint64_t tizulgech_version(void);
 
 /* Whether the bytes are one value in DAG-CBOR: DONE, TRUNCATED to TRAILING, NO_MEMORY. */
@@ -75,6 +76,10 @@ bool tizulgech_is_repository_key(const uint8_t *key, size_t len);
 
 /* The CID of a block, 36 bytes. */
 void tizulgech_cid(const uint8_t *block, size_t len, uint8_t *out, size_t room);
+
+/* The CIDs of many blocks, 36 bytes each, in their order: DONE, SMALL, BAD, NO_MEMORY. Several are hashed side by side, so it takes about
+ * half the time of a call for each; where the room is too small nothing is hashed. */
+uint8_t tizulgech_cids(const uint8_t *blocks, size_t blocks_len, const size_t *ends, size_t count, uint8_t *out, size_t room, size_t *size);
 
 /* The text of a CID of 36 bytes, 59 letters; false where the bytes are no CID of this profile, and then nothing is written. */
 bool tizulgech_cid_text(const uint8_t *cid, size_t len, uint8_t *out, size_t room);
@@ -103,16 +108,18 @@ uint8_t tizulgech_stamp_fault(const uint8_t *before, size_t before_len, const ui
 uint8_t tizulgech_commit_bytes(const uint8_t *did, size_t did_len, const uint8_t *rev, size_t rev_len, const uint8_t *root, size_t root_len,
                                uint8_t *out, size_t room, size_t *size);
 
-/* Changes keys of the tree with this root at once, over those of its nodes that are given. The keys ascend strictly; beside them are
+/* Changes keys of the tree with this root at once, over those of its nodes that are given. Beside the first nodes, or all, or none, stand
+ * their CIDs, 36 bytes each: such a node isn't hashed, and that a CID is its node's is owed, as said above. Who has its nodes from where a
+ * wrong one may stand has their CIDs by tizulgech_cids, once, and compares them with those that it asked for. The keys ascend strictly; beside them are
  * 36 bytes for each: its new value, or zeros where the key goes. DONE, and the answer is the root after the changes (36), the value
  * that each key had (36; zeros where it had none), the number of nodes that go (8) and their CIDs (36 each), and then each new node:
  * its CID (36), its length (8) and its bytes. MISSING, and `missing` is the CID of a node that isn't given but is needed: who has it
  * gives it too, and calls again. BAD_NODE where a node that is needed is none; SMALL; BAD for arguments that are none; CLASH where two
  * nodes have one CID; NO_MEMORY. */
-uint8_t tizulgech_tree_apply(const uint8_t *nodes, size_t nodes_len, const size_t *node_ends, size_t node_count, const uint8_t *root,
-                             size_t root_len, const uint8_t *keys, size_t keys_len, const size_t *key_ends, size_t key_count,
-                             const uint8_t *values, size_t values_len, uint8_t *missing, size_t missing_room, uint8_t *out, size_t room,
-                             size_t *size);
+uint8_t tizulgech_tree_apply(const uint8_t *nodes, size_t nodes_len, const size_t *node_ends, size_t node_count, const uint8_t *cids,
+                             size_t cids_len, const uint8_t *root, size_t root_len, const uint8_t *keys, size_t keys_len,
+                             const size_t *key_ends, size_t key_count, const uint8_t *values, size_t values_len, uint8_t *missing,
+                             size_t missing_room, uint8_t *out, size_t room, size_t *size);
 
 /* What blocks prove of a key in the tree with this root: DONE, and its value is written; NONE, the tree doesn't have it; MISSING, a
  * block of the path isn't there; BAD_NODE, one is no node; TOO_MANY_NODES, the path is longer than any tree is deep; BAD_KEY, no tree has
@@ -275,12 +282,16 @@ static inline uint8_t tizulgech_commit_bytes_of(const uint8_t *did, size_t did_l
         tizulgech_room(out), room, size);
 }
 static inline uint8_t tizulgech_tree_apply_of(const uint8_t *nodes, size_t nodes_len, const size_t *node_ends, size_t node_count,
-        const uint8_t *root, size_t root_len, const uint8_t *keys, size_t keys_len, const size_t *key_ends, size_t key_count,
-        const uint8_t *values, size_t values_len, uint8_t *missing, size_t missing_room, uint8_t *out, size_t room,
-        size_t *size) {
-    return tizulgech_tree_apply(tizulgech_some(nodes), nodes_len, tizulgech_ends(node_ends), node_count, tizulgech_some(root),
-        root_len, tizulgech_some(keys), keys_len, tizulgech_ends(key_ends), key_count, tizulgech_some(values), values_len,
-        tizulgech_room(missing), missing_room, tizulgech_room(out), room, size);
+        const uint8_t *cids, size_t cids_len, const uint8_t *root, size_t root_len, const uint8_t *keys, size_t keys_len,
+        const size_t *key_ends, size_t key_count, const uint8_t *values, size_t values_len, uint8_t *missing,
+        size_t missing_room, uint8_t *out, size_t room, size_t *size) {
+    return tizulgech_tree_apply(tizulgech_some(nodes), nodes_len, tizulgech_ends(node_ends), node_count, tizulgech_some(cids),
+        cids_len, tizulgech_some(root), root_len, tizulgech_some(keys), keys_len, tizulgech_ends(key_ends), key_count,
+        tizulgech_some(values), values_len, tizulgech_room(missing), missing_room, tizulgech_room(out), room, size);
+}
+static inline uint8_t tizulgech_cids_of(const uint8_t *blocks, size_t blocks_len, const size_t *ends, size_t count, uint8_t *out,
+        size_t room, size_t *size) {
+    return tizulgech_cids(tizulgech_some(blocks), blocks_len, tizulgech_ends(ends), count, tizulgech_room(out), room, size);
 }
 static inline uint8_t tizulgech_verify_of(const uint8_t *blocks, size_t blocks_len, const size_t *ends, size_t count,
         const uint8_t *root, size_t root_len, const uint8_t *key, size_t key_len, uint8_t *value, size_t value_room) {
@@ -370,6 +381,7 @@ static inline uint8_t tizulgech_prove_change_of(tizulgech_repository *repository
 #define tizulgech_is_key(...) tizulgech_is_key_of(__VA_ARGS__)
 #define tizulgech_is_repository_key(...) tizulgech_is_repository_key_of(__VA_ARGS__)
 #define tizulgech_cid(...) tizulgech_cid_of(__VA_ARGS__)
+#define tizulgech_cids(...) tizulgech_cids_of(__VA_ARGS__)
 #define tizulgech_cid_text(...) tizulgech_cid_text_of(__VA_ARGS__)
 #define tizulgech_cid_from_text(...) tizulgech_cid_from_text_of(__VA_ARGS__)
 #define tizulgech_step(...) tizulgech_step_of(__VA_ARGS__)

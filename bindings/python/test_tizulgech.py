@@ -29,6 +29,9 @@ class Values(unittest.TestCase):
         self.assertEqual(t.Cid.parse(str(empty)), empty)
         self.assertRaises(ValueError, t.Cid.parse, "bafy")
         self.assertEqual(empty.bytes[4:], hashlib.sha256(t.EMPTY_NODE).digest())
+        blocks = [b"%d" % n * (n % 200) for n in range(1000)]
+        self.assertEqual(t.Cid.of_each(blocks), [t.Cid.of(it) for it in blocks])
+        self.assertEqual(t.Cid.of_each([]), [])
 
     def test_writes(self):
         self.assertEqual(t.version(), t.VERSION)
@@ -57,6 +60,7 @@ class Trees(unittest.TestCase):
         for turn in range(100):
             changes = {key(draw.randrange(100)): t.Cid.of(b"%d" % turn) if draw.random() < 0.6 else None for _ in range(draw.randrange(9))}
             edit = t.tree_apply(nodes.get, root, changes)
+            self.assertEqual(t.tree_apply(nodes.get, root, changes, known=True), edit)
             self.assertEqual(edit.previous, [plain.get(k) for k in sorted(changes)])
             for cid in edit.drop:
                 del nodes[cid]
@@ -78,6 +82,12 @@ class Trees(unittest.TestCase):
         with self.assertRaises(t.Missing) as it:
             t.tree_apply({}.get, root, {"a": root})
         self.assertEqual(it.exception.cid, root)
+        # another node under the CID of any that is asked for is refused, wherever it leads
+        asked = []
+        t.tree_apply(lambda cid: asked.append(cid) or nodes[cid], root, {some: None})
+        for gone in asked:
+            with self.assertRaisesRegex(t.Fault, "is no node"):
+                t.tree_apply(lambda cid: t.EMPTY_NODE if cid == gone else nodes[cid], root, {some: None})
 
 
 class Repositories(unittest.TestCase):

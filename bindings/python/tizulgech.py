@@ -34,7 +34,7 @@ FAULTS = {
 FAULTS_OF_TREES = {2: "a block of the path is missing", 3: "the keys don't ascend", 20: "a key has no bytes or more than 1,024"}
 
 # The number of the library's interface for which this module is written.
-VERSION = 1
+VERSION = 2
 
 
 class Fault(Exception):
@@ -153,6 +153,12 @@ class Cid:
         out = ctypes.create_string_buffer(36)
         _call("cid", block, out)
         return Cid(out.raw)
+
+    @staticmethod
+    def of_each(blocks: Sequence[bytes]) -> list[Cid]:
+        """Those of many blocks, in their order: several are hashed side by side."""
+        found = _filled("cids", *_joined(blocks), first=36 * len(blocks))
+        return [Cid(found[at : at + 36]) for at in range(0, len(found), 36)]
 
     @staticmethod
     def parse(text: str) -> Cid:
@@ -304,8 +310,12 @@ def tree_get(nodes: Nodes, root: Cid, key: str | bytes) -> Cid | None:
     return tree_path(nodes, root, key)[1]
 
 
-def tree_apply(nodes: Nodes, root: Cid, changes: dict[str | bytes, Cid | None]) -> Edit:
-    """Changes keys of a tree at once: each gets a value, or goes where that is None."""
+def tree_apply(nodes: Nodes, root: Cid, changes: dict[str | bytes, Cid | None], known: bool = False) -> Edit:
+    """Changes keys of a tree at once: each gets a value, or goes where that is None.
+
+    Each node is hashed once, and one that isn't of the CID that was asked for is a fault; none is hashed where they are `known`: then the
+    host owes that each is of its CID, and where one isn't, nothing that is said of an edit holds.
+    """
     ordered = sorted((_bytes(key), value) for key, value in changes.items())
     values = b"".join(value.bytes if value else bytes(36) for _, value in ordered)
     given: dict[Cid, bytes] = {}
@@ -316,22 +326,39 @@ def tree_apply(nodes: Nodes, root: Cid, changes: dict[str | bytes, Cid | None]) 
             given[cid] = _node(nodes, cid)
         return given[cid]
 
-    node(root)
-    for key, _ in ordered:
-        tree_path(node, root, key)
+    def check(cids: Sequence[Cid]) -> None:
+        """That these nodes are of the CIDs that were asked for."""
+        if not known and Cid.of_each([given[cid] for cid in cids]) != cids:
+            raise Fault(30)
+
+    try:
+        node(root)
+        for key, _ in ordered:
+            tree_path(node, root, key)
+    except Fault:
+        # A node that isn't of its CID may have led anywhere.
+        check(list(given))
+        raise
+    check(list(given))
     missing = ctypes.create_string_buffer(36)
+    keys = _joined([key for key, _ in ordered])
     while True:
         try:
-            keys = _joined([key for key, _ in ordered])
-            reader = _Reader(_filled("tree_apply", *_joined(list(given.values())), root.bytes, *keys, values, missing, first=1 << 16))
+            cids = b"".join(cid.bytes for cid in given)
+            bytes_given, ends = _joined(list(given.values()))
+            # Room for the answer of nearly any edit: where it is too small all is made once more.
+            first = len(bytes_given) + 128 * len(given) + len(keys[0]) + 256 * len(ordered) + 1024
+            reader = _Reader(_filled("tree_apply", bytes_given, ends, cids, root.bytes, *keys, values, missing, first=first))
             break
         except Fault as fault:
             if fault.number != 2:
                 raise
-            # A block that isn't of its CID would be asked for again.
-            if Cid(missing.raw) in given:
+            # A node beside the paths.
+            cid = Cid(missing.raw)
+            if cid in given:
                 raise Fault(30) from None
-            node(Cid(missing.raw))
+            node(cid)
+            check([cid])
     root = reader.cid()
     previous = [reader.value() for _ in ordered]
     drop = [reader.cid() for _ in range(reader.number())]
@@ -519,7 +546,9 @@ class Repository:
         """The proof that changes led to the repository as it is: each a key, what it had and what it has; the keys ascend."""
         place = ctypes.c_size_t()
         try:
-            reader, nodes = _Reader(_filled("prove_change", ctypes.byref(self._raw), *_told(changes), ctypes.byref(place))), []
+            # Room for most proofs: where it is too small all is made once more.
+            first = 8192 + 4096 * min(len(changes), 4096)
+            reader, nodes = _Reader(_filled("prove_change", ctypes.byref(self._raw), *_told(changes), ctypes.byref(place), first=first)), []
         except Fault as fault:
             raise Fault(fault.number, place.value) from None
         while reader:

@@ -1,7 +1,13 @@
 //! What the calls cost: cargo run --release --example measure
 //!
 //! It prints the least of five turns of each job. With the name of one and a number of rounds, 1 or 2, it does that alone, so that
-//! valgrind can count its instructions: those of two rounds without those of one are a round's.
+//! valgrind can count its instructions: those of two rounds without those of one are a round's. `tree` changes a host's own nodes,
+//! which are hashed once to check them, and `known` nodes that the host knows; `writes` does the puts and deletes of
+//! `make bench ARGS="apply 10000 SIZE ROUNDS"`, and prints the last commit, as that does.
+#[path = "measured/plan.rs"]
+mod plan;
+
+use plan::Plan;
 use std::collections::HashMap;
 use std::convert::Infallible;
 use std::hint::black_box;
@@ -84,10 +90,11 @@ pub fn apply(repository: &mut Repository, rounds: usize, size: usize, writes: &[
 
 pub type Nodes = (Cid, HashMap<Cid, Vec<u8>>);
 
-fn change(nodes: &mut Nodes, writes: &[(String, Cid)]) {
+fn change<N: tree::Node>(nodes: &mut Nodes, given: impl Fn(Vec<u8>) -> N, writes: &[(String, Cid)]) {
     let mut changes: Vec<_> = writes.iter().map(|(key, cid)| tree::Change { key: key.as_bytes(), value: Some(*cid) }).collect();
     changes.sort_unstable_by_key(|change| change.key);
-    let edit = tree::apply(|cid| Ok::<_, Infallible>(nodes.1.get(cid).cloned()), &nodes.0, &changes).unwrap();
+    let node = |cid: &Cid| Ok::<_, Infallible>(nodes.1.get(cid).cloned().map(&given));
+    let edit = tree::apply(node, &nodes.0, &changes).unwrap();
     for cid in &edit.drop {
         nodes.1.remove(cid);
     }
@@ -95,29 +102,47 @@ fn change(nodes: &mut Nodes, writes: &[(String, Cid)]) {
     nodes.0 = edit.root;
 }
 
+/// A node of which its map says that it is the one of its CID.
+fn known(node: Vec<u8>) -> tree::Known {
+    // SAFETY: it stands under the CID that the library told with it.
+    unsafe { tree::Known::of(node) }
+}
+
 /// A host's own nodes of the tree of the first keys.
 pub fn nodes(writes: &[(String, Cid)]) -> Nodes {
     let root = Cid::of(tree::EMPTY_NODE);
     let mut nodes = (root, HashMap::from([(root, tree::EMPTY_NODE.to_vec())]));
-    writes[..FILLED].chunks(1000).for_each(|batch| change(&mut nodes, batch));
+    writes[..FILLED].chunks(1000).for_each(|batch| change(&mut nodes, known, batch));
     nodes
 }
 
-/// Puts the other keys by batches of a size.
-pub fn changes(nodes: &mut Nodes, rounds: usize, size: usize, writes: &[(String, Cid)]) -> usize {
-    writes[FILLED..FILLED + rounds * PUTS].chunks(size).for_each(|batch| change(nodes, batch));
+/// Puts the other keys by batches of a size, over nodes that are handed in in this form.
+pub fn changes<N: tree::Node>(
+    nodes: &mut Nodes,
+    given: impl Fn(Vec<u8>) -> N,
+    rounds: usize,
+    size: usize,
+    writes: &[(String, Cid)],
+) -> usize {
+    writes[FILLED..FILLED + rounds * PUTS].chunks(size).for_each(|batch| change(nodes, &given, batch));
     rounds * PUTS
 }
 
 /// A job, and the seconds that so many rounds of it take, without what comes before them, for each of what it does.
 pub fn seconds(job: &str, rounds: usize) -> f64 {
+    measured(job, rounds).0
+}
+
+/// The same, and the last commit of `writes`.
+pub fn measured(job: &str, rounds: usize) -> (f64, Option<Cid>) {
     let writes = writes(ALL);
     let cids: Vec<(String, Cid)> = writes.iter().map(|(key, record)| (key.clone(), Cid::of(record))).collect();
     let (what, size) = job.split_once('-').map_or((job, 1), |(what, size)| (what, size.parse().expect("a size")));
-    let (mut repository, mut nodes) = (Repository::open(1).unwrap(), (cids[0].1, HashMap::new()));
+    let (mut repository, mut nodes, mut plan) = (Repository::open(1).unwrap(), (cids[0].1, HashMap::new()), None);
     match what {
         "apply" => repository = filled(&writes),
-        "tree" => nodes = self::nodes(&cids),
+        "tree" | "known" => nodes = self::nodes(&cids),
+        "writes" => plan = Some(Plan::filled(FILLED)),
         _ => {}
     }
     let begun = Instant::now();
@@ -126,19 +151,26 @@ pub fn seconds(job: &str, rounds: usize) -> f64 {
         "number" => numbers(rounds),
         "records" => records(rounds, &writes),
         "apply" => apply(&mut repository, rounds, size, &writes),
-        "tree" => changes(&mut nodes, rounds, size, &cids),
+        "tree" => changes(&mut nodes, |node| node, rounds, size, &cids),
+        "known" => changes(&mut nodes, known, rounds, size, &cids),
+        "writes" => plan.as_mut().expect("a plan").turn(rounds, size),
         _ => panic!("no job: {job}"),
     };
-    begun.elapsed().as_secs_f64() / count as f64
+    (begun.elapsed().as_secs_f64() / count as f64, plan.and_then(|plan| plan.commit()))
 }
 
-pub const JOBS: [&str; 7] = ["call", "number", "records", "apply-1", "apply-100", "tree-1", "tree-100"];
+pub const JOBS: [&str; 11] =
+    ["call", "number", "records", "apply-1", "apply-100", "tree-1", "tree-100", "known-1", "known-100", "writes-1", "writes-100"];
 
 #[allow(dead_code)]
 fn main() {
     let mut words = std::env::args().skip(1);
     if let (Some(job), Some(rounds)) = (words.next(), words.next()) {
-        println!("{job}: {:.1} ns", 1e9 * seconds(&job, rounds.parse().expect("a number of rounds")));
+        let (seconds, commit) = measured(&job, rounds.parse().expect("a number of rounds"));
+        println!("{job}: {:.1} ns", 1e9 * seconds);
+        if let Some(commit) = commit {
+            println!("the last commit is {commit}");
+        }
         return;
     }
     for job in JOBS {

@@ -120,6 +120,7 @@ impl Host {
         Some(())
     }
 
+    /// A node.
     fn node(&self, cid: &Cid) -> std::result::Result<Option<Vec<u8>>, Infallible> {
         Ok(self.nodes.get(cid).cloned())
     }

@@ -32,8 +32,9 @@
 //!   `Send` says, is proved of what stands behind its pointer;
 //! - that `framing` reads answers and writes lists as the library spells them;
 //! - that the numbers of `faults` are those of the library;
-//! - of [`tree`], that a host's nodes are asked for as the library wants them; the library hashes what it is given, so a wrong
-//!   node is refused by `apply`, `put` and `delete`, and believed by `get`, which hashes nothing;
+//! - of [`tree`], that a host's nodes are asked for as the library wants them, and compared with the CIDs that were asked for: so a
+//!   wrong node is refused by `apply`, `put` and `delete`. A host that hands in [`tree::Known`] nodes says by
+//!   `unsafe` that they are of their CIDs; `get` hashes nothing, and believes any;
 //! - the program's `malloc`, `realloc` and `free`, the compilers and the linker.
 #![deny(missing_docs)]
 #![deny(unsafe_op_in_unsafe_fn)]

@@ -277,7 +277,9 @@ impl Repository {
     /// see that they did; that each key had before what is told is for them to see, as this repository knows nothing of it.
     pub fn prove_change(&self, changes: &[KeyChange<'_>]) -> Result<ChangeProof, ProvingFault> {
         let (told, mut place) = (Told::of(changes), 0);
-        let bytes = match filled(8192, |out, size| self.handle.prove_change(told.lists(), &mut place, out, size)) {
+        // Room for most proofs: where it is too small all is made once more.
+        let first = 8192 + 4096 * changes.len().min(4096);
+        let bytes = match filled(first, |out, size| self.handle.prove_change(told.lists(), &mut place, out, size)) {
             Ok(bytes) => bytes,
             Err(33) => return Err(ProvingFault::OtherValue(place)),
             Err(252) => return Err(ProvingFault::BadKeys),

@@ -18,6 +18,29 @@ pub struct Raw {
 // It has to lie as the header says.
 const _: () = assert!(size_of::<Raw>() == 2 * size_of::<usize>());
 
+/// The bytes of a node that a host knows to be those of the CID that it was asked for, as they stand under it in its own database.
+/// They aren't hashed.
+#[derive(Clone, Debug, PartialEq, Eq)]
+pub struct Known(Vec<u8>);
+
+impl Known {
+    /// These bytes, as those of the CID that is asked for.
+    ///
+    /// # Safety
+    ///
+    /// They are those of this CID. What is proved of the library is proved for callers that see to it: with other bytes nothing is
+    /// known of what a call does.
+    pub unsafe fn of(node: Vec<u8>) -> Known {
+        Known(node)
+    }
+}
+
+impl AsRef<[u8]> for Known {
+    fn as_ref(&self) -> &[u8] {
+        &self.0
+    }
+}
+
 unsafe extern "C" {
     pub fn tizulgech_version() -> u64;
     pub fn tizulgech_record_fault(bytes: *const u8, len: usize) -> u8;
@@ -33,6 +56,15 @@ unsafe extern "C" {
     pub fn tizulgech_is_key(key: *const u8, len: usize) -> bool;
     pub fn tizulgech_is_repository_key(key: *const u8, len: usize) -> bool;
     pub fn tizulgech_cid(block: *const u8, len: usize, out: *mut u8, room: usize);
+    pub fn tizulgech_cids(
+        blocks: *const u8,
+        blocks_len: usize,
+        ends: *const usize,
+        count: usize,
+        out: *mut u8,
+        room: usize,
+        size: *mut usize,
+    ) -> u8;
     pub fn tizulgech_cid_text(cid: *const u8, len: usize, out: *mut u8, room: usize) -> bool;
     pub fn tizulgech_cid_from_text(text: *const u8, len: usize, out: *mut u8, room: usize) -> u8;
     pub fn tizulgech_step(node: *const u8, len: usize, key: *const u8, key_len: usize, out: *mut u8, room: usize) -> u8;
@@ -63,6 +95,8 @@ unsafe extern "C" {
         nodes_len: usize,
         node_ends: *const usize,
         node_count: usize,
+        cids: *const u8,
+        cids_len: usize,
         root: *const u8,
         root_len: usize,
         keys: *const u8,
@@ -280,6 +314,21 @@ pub fn cid(block: &[u8], out: &mut Cid) {
     unsafe { tizulgech_cid(block.as_ptr(), block.len(), out.as_mut_ptr(), 36) }
 }
 
+pub fn cids(blocks: Parts<'_>, out: &mut [u8], size: &mut usize) -> u8 {
+    // SAFETY: as above.
+    unsafe {
+        tizulgech_cids(
+            blocks.bytes.as_ptr(),
+            blocks.bytes.len(),
+            blocks.ends.as_ptr(),
+            blocks.ends.len(),
+            out.as_mut_ptr(),
+            out.len(),
+            size,
+        )
+    }
+}
+
 pub fn cid_text(cid: &Cid, out: &mut [u8; 59]) -> bool {
     // SAFETY: as above, with 36 bytes and room for 59.
     unsafe { tizulgech_cid_text(cid.as_ptr(), 36, out.as_mut_ptr(), 59) }
@@ -327,8 +376,10 @@ pub fn commit_bytes(did: &[u8], rev: &[u8], root: &Cid, out: &mut [u8], size: &m
     }
 }
 
+/// The CIDs are those of the first nodes, 36 bytes each; whoever calls owes that.
 pub fn tree_apply(
     nodes: Parts<'_>,
+    cids: &[u8],
     root: &Cid,
     keys: Parts<'_>,
     values: &[u8],
@@ -343,6 +394,8 @@ pub fn tree_apply(
             nodes.bytes.len(),
             nodes.ends.as_ptr(),
             nodes.ends.len(),
+            cids.as_ptr(),
+            cids.len(),
             root.as_ptr(),
             36,
             keys.bytes.as_ptr(),

@@ -20,6 +20,21 @@
 //! # Ok::<(), Box<dyn std::error::Error>>(())
 //! ```
 //!
+//! Each node that is handed in is hashed once, so that one that isn't of the CID that was asked for is refused. A host whose
+//! database has each node under its CID, and which trusts that, hands them in as [`Known`]: then nothing is hashed but what is new.
+//!
+//! ```
+//! # use std::{collections::HashMap, convert::Infallible};
+//! # use tizulgech::{Cid, tree};
+//! # let root: Cid = tree::EMPTY_ROOT.parse()?;
+//! # let nodes = HashMap::from([(root, tree::EMPTY_NODE.to_vec())]);
+//! // SAFETY: each node stands under its own CID.
+//! let known = |cid: &Cid| Ok::<_, Infallible>(nodes.get(cid).cloned().map(|node| unsafe { tree::Known::of(node) }));
+//! let edit = tree::put(known, &root, "a/b", &Cid::of(b"record"))?;
+//! assert_eq!(edit.drop, [root]);
+//! # Ok::<(), Box<dyn std::error::Error>>(())
+//! ```
+//!
 //! A mirror that knows the root before a batch, and is told the root after it and what each key had and has, undoes the batch
 //! over some nodes of the tree after: what is true gives the root before, and as values before those that the keys have.
 //!
@@ -37,7 +52,8 @@
 //! ```
 use crate::framing::{Joined, Reader, filled};
 use crate::sys;
-use crate::values::Cid;
+pub use crate::sys::Known;
+use crate::values::{Cid, cids};
 use std::collections::HashMap;
 use std::error::Error;
 use std::fmt;
@@ -109,37 +125,57 @@ impl<E: Error + 'static> Error for EditError<E> {
     }
 }
 
-/// The nodes that a host was asked for, each once.
+/// A node as a host hands it in for the CID that it is asked for: its bytes as a `Vec<u8>`, which are hashed to see whether they are of
+/// that CID, or as [`Known`].
+pub trait Node: AsRef<[u8]> + sealed::Sealed {
+    /// Whether the host owes that the bytes are those of the CID.
+    const IS_KNOWN: bool;
+}
+
+impl Node for Vec<u8> {
+    const IS_KNOWN: bool = false;
+}
+
+impl Node for Known {
+    const IS_KNOWN: bool = true;
+}
+
+mod sealed {
+    pub trait Sealed {}
+    impl Sealed for Vec<u8> {}
+    impl Sealed for super::Known {}
+}
+
+/// The nodes that a host was asked for, each once, and their CIDs, 36 bytes each, in the same order.
 struct Asked<F> {
     nodes: F,
     given: Joined,
+    cids: Vec<u8>,
     places: HashMap<Cid, usize>,
 }
 
 impl<F> Asked<F> {
-    fn new<E>(nodes: F) -> Asked<F>
-    where
-        F: FnMut(&Cid) -> Result<Option<Vec<u8>>, E>,
-    {
-        Asked { nodes, given: Joined::default(), places: HashMap::new() }
+    fn new(nodes: F) -> Asked<F> {
+        Asked { nodes, given: Joined::default(), cids: Vec::new(), places: HashMap::new() }
     }
 
-    fn node<E>(&mut self, cid: &Cid) -> Result<&[u8], EditError<E>>
+    fn node<N: Node, E>(&mut self, cid: &Cid) -> Result<&[u8], EditError<E>>
     where
-        F: FnMut(&Cid) -> Result<Option<Vec<u8>>, E>,
+        F: FnMut(&Cid) -> Result<Option<N>, E>,
     {
         let next = self.places.len();
         let place = *self.places.entry(*cid).or_insert(next);
         if place == next {
-            self.given.push(&(self.nodes)(cid).map_err(EditError::Source)?.ok_or(EditError::Missing(*cid))?);
+            self.given.push((self.nodes)(cid).map_err(EditError::Source)?.ok_or(EditError::Missing(*cid))?.as_ref());
+            self.cids.extend(cid.0);
         }
         Ok(self.given.part(place))
     }
 
     /// Goes from a root down to a key, and answers its value.
-    fn walk<E>(&mut self, root: &Cid, key: &[u8]) -> Result<Option<Cid>, EditError<E>>
+    fn walk<N: Node, E>(&mut self, root: &Cid, key: &[u8]) -> Result<Option<Cid>, EditError<E>>
     where
-        F: FnMut(&Cid) -> Result<Option<Vec<u8>>, E>,
+        F: FnMut(&Cid) -> Result<Option<N>, E>,
     {
         let mut cid = *root;
         // No tree has more layers.
@@ -154,11 +190,32 @@ impl<F> Asked<F> {
         }
         Err(EditError::BadNode)
     }
+
+    /// Goes from a root down to the key of each change.
+    fn walk_all<N: Node, E>(&mut self, root: &Cid, changes: &[Change<'_>]) -> Result<(), EditError<E>>
+    where
+        F: FnMut(&Cid) -> Result<Option<N>, E>,
+    {
+        self.node(root)?;
+        for change in changes {
+            self.walk(root, change.key)?;
+        }
+        Ok(())
+    }
+
+    /// Whether all nodes so far are those of the CIDs that were asked for.
+    fn check<E>(&self) -> Result<(), EditError<E>> {
+        match cids(&self.given) {
+            Ok(found) if found == self.cids => Ok(()),
+            Ok(_) => Err(EditError::BadNode),
+            Err(_) => Err(EditError::NoMemory),
+        }
+    }
 }
 
-/// The value of a key. The nodes are taken to have the CIDs that they stand under.
-pub fn get<E>(
-    nodes: impl FnMut(&Cid) -> Result<Option<Vec<u8>>, E>,
+/// The value of a key. The nodes are taken to have the CIDs that they stand under, whatever they are handed in as: nothing is hashed.
+pub fn get<N: Node, E>(
+    nodes: impl FnMut(&Cid) -> Result<Option<N>, E>,
     root: &Cid,
     key: impl AsRef<[u8]>,
 ) -> Result<Option<Cid>, EditError<E>> {
@@ -166,8 +223,8 @@ pub fn get<E>(
 }
 
 /// Puts a key with a value into a tree: a batch of one change.
-pub fn put<E>(
-    nodes: impl FnMut(&Cid) -> Result<Option<Vec<u8>>, E>,
+pub fn put<N: Node, E>(
+    nodes: impl FnMut(&Cid) -> Result<Option<N>, E>,
     root: &Cid,
     key: impl AsRef<[u8]>,
     value: &Cid,
@@ -176,8 +233,8 @@ pub fn put<E>(
 }
 
 /// Takes a key out of a tree: a batch of one change. Where the tree doesn't have it, nothing changes, and `previous` says so.
-pub fn delete<E>(
-    nodes: impl FnMut(&Cid) -> Result<Option<Vec<u8>>, E>,
+pub fn delete<N: Node, E>(
+    nodes: impl FnMut(&Cid) -> Result<Option<N>, E>,
     root: &Cid,
     key: impl AsRef<[u8]>,
 ) -> Result<Edit, EditError<E>> {
@@ -186,10 +243,10 @@ pub fn delete<E>(
 
 /// Changes keys of a tree at once. The keys ascend.
 ///
-/// The nodes of each key's path are read first, each once; few changes need others, and those are asked for as the library
-/// names them.
-pub fn apply<E>(
-    nodes: impl FnMut(&Cid) -> Result<Option<Vec<u8>>, E>,
+/// The nodes of each key's path are read first, each once, and then hashed several side by side, unless they are [`Known`]; few
+/// changes need others, and those are asked for as the library names them. [`EditError::BadNode`] comes where one isn't of its CID.
+pub fn apply<N: Node, E>(
+    nodes: impl FnMut(&Cid) -> Result<Option<N>, E>,
     root: &Cid,
     changes: &[Change<'_>],
 ) -> Result<Edit, EditError<E>> {
@@ -199,25 +256,31 @@ pub fn apply<E>(
         return Err(EditError::BadKeys);
     }
     let mut asked = Asked::new(nodes);
-    asked.node(root)?;
-    for change in changes {
-        asked.walk(root, change.key)?;
+    let walked = asked.walk_all(root, changes);
+    // A node that isn't of its CID may have led anywhere.
+    if !N::IS_KNOWN {
+        asked.check()?;
     }
+    walked?;
     loop {
         let mut missing = [0; 36];
-        let first = asked.given.len() + 256 * changes.len() + 1024;
+        // Room for the answer of nearly any edit: where it is too small all is made once more.
+        let first = asked.given.len() + 128 * asked.places.len() + keys.len() + 256 * changes.len() + 1024;
         let answer = filled(first, |out, size| {
-            sys::tree_apply(asked.given.parts(), &root.0, keys.parts(), &values, &mut missing, out, size)
+            sys::tree_apply(asked.given.parts(), &asked.cids, &root.0, keys.parts(), &values, &mut missing, out, size)
         });
         match answer {
             Ok(bytes) => return Ok(read(&bytes, changes.len())),
-            // A node beside the paths. A block that isn't of its CID would be asked for again.
+            // A node beside the paths.
             Err(2) => {
                 let cid = Cid(missing);
                 if asked.places.contains_key(&cid) {
                     return Err(EditError::BadNode);
                 }
-                asked.node(&cid)?;
+                let node = asked.node(&cid)?;
+                if !N::IS_KNOWN && Cid::of(node) != cid {
+                    return Err(EditError::BadNode);
+                }
             }
             Err(30) => return Err(EditError::BadNode),
             Err(252) => return Err(EditError::BadKeys),

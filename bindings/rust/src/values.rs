@@ -1,5 +1,5 @@
 //! Calls without state. Any number of threads may make them.
-use crate::faults::{BatchFault, CidFault, ProofFault, RecordFault, StampFault, TreeFault};
+use crate::faults::{BatchFault, CidFault, NoMemory, ProofFault, RecordFault, StampFault, TreeFault};
 use crate::framing::{Joined, filled};
 use crate::repository::{Stamp, Write};
 use crate::sys;
@@ -23,6 +23,19 @@ impl Cid {
         Cid(out)
     }
 
+    /// The CIDs of many blocks, in their order. Several are hashed side by side, which takes about half the time of [`Cid::of`] for
+    /// each.
+    ///
+    /// ```
+    /// # use tizulgech::Cid;
+    /// assert_eq!(Cid::of_each(&["one", "two"])?, [Cid::of(b"one"), Cid::of(b"two")]);
+    /// # Ok::<(), tizulgech::NoMemory>(())
+    /// ```
+    pub fn of_each(blocks: &[impl AsRef<[u8]>]) -> Result<Vec<Cid>, NoMemory> {
+        let bytes = cids(&Joined::of(blocks))?;
+        Ok(bytes.chunks_exact(36).map(|cid| Cid(cid.try_into().expect("36 bytes"))).collect())
+    }
+
     /// The CID of these 36 bytes, if it is one of this profile.
     pub fn from_bytes(bytes: [u8; 36]) -> Option<Cid> {
         sys::cid_text(&bytes, &mut [0; 59]).then_some(Cid(bytes))
@@ -32,6 +45,11 @@ impl Cid {
     pub fn as_bytes(&self) -> &[u8; 36] {
         &self.0
     }
+}
+
+/// The CIDs of blocks, one after another.
+pub(crate) fn cids(blocks: &Joined) -> Result<Vec<u8>, NoMemory> {
+    filled(36 * blocks.parts().ends.len(), |out, size| sys::cids(blocks.parts(), out, size)).map_err(|_| NoMemory)
 }
 
 impl FromStr for Cid {
@@ -94,7 +112,7 @@ pub fn is_key(key: impl AsRef<[u8]>) -> bool {
 }
 
 /// The number of the library's interface for which this crate is written.
-pub const VERSION: u64 = 1;
+pub const VERSION: u64 = 2;
 
 /// The number of the interface of the library that is linked: it has to be [`VERSION`].
 ///

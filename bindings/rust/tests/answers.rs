@@ -23,6 +23,7 @@ const ANSWERS: &[(&str, &str)] = &[
          BAD_KEY NOT_A_MAP RECORD_SIZE KEY_EXISTS NONE BAD",
     ),
     ("links", "DONE SMALL BAD_NODE"),
+    ("cids", "DONE SMALL BAD"),
     ("cid_from_text", "DONE CID_LENGTH CID_PREFIX CID_LETTER CID_BITS CID_PROFILE"),
     ("step", "DONE BELOW NONE BAD_NODE"),
     ("stamp_fault", "DONE BAD_DID BAD_REV REV_ORDER"),
@@ -91,8 +92,9 @@ fn numbers() -> BTreeMap<&'static str, u8> {
 struct Seen(BTreeMap<&'static str, BTreeSet<u8>>);
 
 impl Seen {
-    fn see(&mut self, call: &'static str, number: u8) {
+    fn see(&mut self, call: &'static str, number: u8) -> u8 {
         self.0.entry(call).or_default().insert(number);
+        number
     }
 }
 
@@ -202,11 +204,16 @@ fn trees(seen: &mut Seen) {
     verify_change(&node, &[node.len()], [&empty_root, &root], &[0], &own);
     verify_change(&node, &[node.len() + 1], [&empty_root, &root], &[KEY.len()], &own);
 
-    let mut tree_apply = |node: &[u8], ends: &[usize], root: Cid, keys: &[usize], room: usize| {
+    for (blocks, end, room) in [(&node[..], node.len(), 36), (&node, node.len(), 35), (&node, node.len() + 1, 36)] {
+        seen.see("cids", sys::cids(one(blocks, &[end]), &mut vec![0; room], &mut 0));
+    }
+
+    let mut apply_known = |node: &[u8], ends: &[usize], cids: &[u8], root: Cid, keys: &[usize], room: usize| {
         seen.see(
             "tree_apply",
             sys::tree_apply(
                 one(node, ends),
+                cids,
                 root.as_bytes(),
                 one(b"ab", keys),
                 &[value; 2].concat(),
@@ -214,7 +221,16 @@ fn trees(seen: &mut Seen) {
                 &mut vec![0; room],
                 &mut 0,
             ),
-        );
+        )
+    };
+    // what is no CID, more of them than nodes, a part of one
+    for (cids, number) in
+        [(root.as_bytes().to_vec(), 0), (vec![0; 36], 252), (root.as_bytes().repeat(2), 252), (vec![1; 35], 252)]
+    {
+        assert_eq!(apply_known(&node, &[node.len()], &cids, root, &[1, 2], 1000), number);
+    }
+    let mut tree_apply = |node: &[u8], ends: &[usize], root: Cid, keys: &[usize], room: usize| {
+        apply_known(node, ends, &[], root, keys, room);
     };
     tree_apply(&node, &[node.len()], root, &[1, 2], 1000);
     tree_apply(&node, &[node.len()], root, &[1, 2], 10);
@@ -412,8 +428,9 @@ fn small_rooms() {
     let (node, rev, value) = (&nodes[&root], tid(1), *Cid::of(b"").as_bytes());
     each_room(|out, size| sys::commit_bytes(DID.as_bytes(), rev.as_bytes(), root.as_bytes(), out, size));
     each_room(|out, size| {
-        sys::tree_apply(one(node, &[node.len()]), root.as_bytes(), one(KEY, &[KEY.len()]), &value, &mut [0; 36], out, size)
+        sys::tree_apply(one(node, &[node.len()]), &[], root.as_bytes(), one(KEY, &[KEY.len()]), &value, &mut [0; 36], out, size)
     });
+    each_room(|out, size| sys::cids(one(b"abc", &[1, 2, 3]), out, size));
     each_room(|out, size| {
         sys::listing_car(DID.as_bytes(), rev.as_bytes(), one(KEY, &[KEY.len()]), one(b"\xa0", &[1]), out, size)
     });
@@ -529,8 +546,22 @@ fn spoilt_bytes() {
         assert!(is_one("cid_from_text", sys::cid_from_text(&text, &mut [0; 36])));
         assert!(is_one("step", sys::step(&node, &key, &mut [0; 36])));
         assert!(is_one("verify", sys::verify(one(&joined, &ends), &root, &key, &mut [0; 36])));
-        let number = sys::tree_apply(one(&joined, &ends), &root, one(&key, &[key.len()]), &value, &mut [0; 36], out, &mut 0);
-        assert!(is_one("tree_apply", number));
+        let mut apply = |cids: &[u8]| {
+            let (mut missing, mut size) = ([0; 36], 0);
+            let key_ends = [key.len()];
+            let keys = one(&key, &key_ends);
+            let number = sys::tree_apply(one(&joined, &ends), cids, &root, keys, &value, &mut missing, out, &mut size);
+            (number, missing, out[..if number == 0 { size } else { 0 }].to_vec())
+        };
+        let told = apply(&[]);
+        assert!(is_one("tree_apply", told.0));
+        // the same where the CIDs of some nodes are known
+        let mut cids = vec![0; 36 * ends.len()];
+        let number = sys::cids(one(&joined, &ends), &mut cids, &mut 0);
+        assert!(is_one("cids", number));
+        if number == 0 {
+            assert_eq!(apply(&cids[..36 * random.below(ends.len() as u64 + 1) as usize]), told);
+        }
         let number = sys::tree_root(one(&joined, &ends), &value, &mut [0; 36], &mut 0);
         assert!(is_one("tree_root", number));
         let number = sys::listing_car(&key, &text, one(&key, &[key.len()]), one(&record, &[record.len()]), out, &mut 0);

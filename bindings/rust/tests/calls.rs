@@ -303,6 +303,12 @@ fn writes() {
     }
 }
 
+/// The one edit that is made of known nodes and of nodes that are hashed.
+fn same(known: Result<tree::Edit, tree::EditError<()>>, hashed: Result<tree::Edit, tree::EditError<()>>) -> tree::Edit {
+    assert_eq!(known, hashed);
+    hashed.unwrap()
+}
+
 /// Puts and deletes over nodes that the host keeps leave exactly the nodes of the tree from scratch.
 #[test]
 fn edits() {
@@ -315,21 +321,24 @@ fn edits() {
         let edited = if random.below(5) < 3 {
             let value = Cid::of(&i.to_le_bytes());
             plain.insert(key.clone(), value);
-            change(&mut nodes, |n| tree::put(from(n), &root, &key, &value).unwrap())
+            let put = tree::put(known(&nodes), &root, &key, &value);
+            change(&mut nodes, |n| same(put, tree::put(from(n), &root, &key, &value)))
         } else {
             plain.remove(&key);
-            change(&mut nodes, |n| tree::delete(from(n), &root, &key).unwrap())
+            let delete = tree::delete(known(&nodes), &root, &key);
+            change(&mut nodes, |n| same(delete, tree::delete(from(n), &root, &key)))
         };
         assert_eq!(edited.1, [before]);
         root = edited.0;
         assert_eq!((root, nodes.len()), of_scratch(&plain));
         assert_eq!(tree::get(from(&nodes), &root, &key).unwrap(), plain.get(&key).copied());
     }
-    let none = |_: &Cid| Ok::<_, ()>(None);
+    let none = |_: &Cid| Ok::<Option<Vec<u8>>, ()>(None);
     assert_eq!(tree::put(none, &root, "a", &root), Err(tree::EditError::Missing(root)));
     assert_eq!(tree::put(none, &root, "", &root), Err(tree::EditError::BadKeys));
     assert_eq!(tree::put(|_: &Cid| Ok::<_, ()>(Some(vec![1])), &root, "a", &root), Err(tree::EditError::BadNode));
-    assert_eq!(tree::put(|_: &Cid| Err("no database"), &root, "a", &root), Err(tree::EditError::Source("no database")));
+    let no_database = |_: &Cid| Err::<Option<tree::Known>, _>("no database");
+    assert_eq!(tree::put(no_database, &root, "a", &root), Err(tree::EditError::Source("no database")));
 }
 
 /// Batches over nodes that the host keeps.
@@ -344,7 +353,8 @@ fn batches_of_changes() {
             .collect();
         let changes: Vec<tree::Change> = drawn.iter().map(|(k, v)| tree::Change { key: k.as_bytes(), value: *v }).collect();
         let before: Vec<Option<Cid>> = drawn.keys().map(|k| plain.get(k).copied()).collect();
-        let edited = change(&mut nodes, |n| tree::apply(from(n), &root, &changes).unwrap());
+        let apply = tree::apply(known(&nodes), &root, &changes);
+        let edited = change(&mut nodes, |n| same(apply, tree::apply(from(n), &root, &changes)));
         assert_eq!(edited.1, before);
         root = edited.0;
         for (key, value) in drawn {
@@ -400,11 +410,14 @@ fn each_missing(nodes: &Nodes, root: &Cid, changes: &[tree::Change]) {
     for gone in &asked {
         let some = |cid: &Cid| Ok::<_, ()>(nodes.get(cid).filter(|_| cid != gone).cloned());
         assert_eq!(tree::apply(some, root, changes), Err(tree::EditError::Missing(*gone)));
+        // SAFETY: each stands under the CID that the library told with it.
+        let some = |cid: &Cid| some(cid).map(|node| node.map(|node| unsafe { tree::Known::of(node) }));
+        assert_eq!(tree::apply(some, root, changes), Err(tree::EditError::Missing(*gone)));
         let faulty = |cid: &Cid| if cid == gone { Err(*cid) } else { Ok(nodes.get(cid).cloned()) };
         assert_eq!(tree::apply(faulty, root, changes), Err(tree::EditError::Source(*gone)));
-        // Another node under its CID is noticed.
+        // Another node under its CID is refused, wherever it leads.
         let wrong = |cid: &Cid| Ok::<_, ()>(if cid == gone { Some(tree::EMPTY_NODE.to_vec()) } else { nodes.get(cid).cloned() });
-        assert!(tree::apply(wrong, root, changes).is_err());
+        assert_eq!(tree::apply(wrong, root, changes), Err(tree::EditError::BadNode));
     }
 }
 

@@ -60,18 +60,27 @@ impl<D: Digest, A: Allocator> Block<D, A> {
         }
     }
 
+    /// The block of these bytes, whose CID is known: whoever calls owes that it is theirs. They are tested once, here, for
+    /// whether they are a node's, and neither hashed nor copied.
+    pub fn of_known(bytes: Vec<u8, A>, cid: Cid) -> Block<D, A>
+        requires { cid ≡ cid_of D.digest_of bytes.items }
+        ensures { result ≡ bytes.items }
+    {
+        Block {
+            is_node: is_node(&bytes),
+            cid,
+            bytes,
+            digest: PhantomData,
+        }
+    }
+
     /// The block of these bytes, whose digest is at hand.
     #[tactic(auto, unfolding(spec::specs::Cid::cid))]
     fn with_digest(bytes: Vec<u8, A>, digest: &[u8; 32]) -> Block<D, A>
         requires { digest.now ≡ D.digest_of bytes.items }
         ensures { result ≡ bytes.items }
     {
-        Block {
-            is_node: is_node(&bytes),
-            cid: Cid::of_digest(digest),
-            bytes,
-            digest: PhantomData,
-        }
+        Block::of_known(bytes, Cid::of_digest(digest))
     }
 
     /// The bytes.

@@ -2,7 +2,8 @@
 //!
 //! - [`Block`] is bytes together with their CID, hashed once, when the block is made. It also knows whether the bytes are a
 //!   node's, which is tested once, then, so that nobody tests it again: `node` lends the node of one that is, for as long as
-//!   the block is lent. `Block::of_node` takes bytes that were written as a node's, and tests nothing.
+//!   the block is lent. `Block::of_node` takes bytes that were written as a node's, and tests nothing; `Block::of_known`
+//!   takes bytes whose CID is known, and hashes nothing.
 //! - A block shared by `Arc` is what the crates above pass round, as it is.
 //! - `Block::of_each` makes many blocks at once, whose digests are made side by side.
 //! - [`Collided`] shows two blocks with one CID and other bytes. It can't be made without two such blocks, so an error

@@ -7,3 +7,4 @@ mod Filed
 mod Telling
 mod Linking
 mod Handing
+mod Knowing

@@ -1,6 +1,6 @@
 -- How lists are read one element after another, and what is told of them.
 use Rattle.std.proofs.Common.{◌≡◌, ◌<◌, ◌≤◌, ◌+◌, ℕ, List, [], ◌∷◌, ◌++◌, drop, length, map, slice_index_or, refl, ap, sym, subst, ◌∙◌, true, false}
-use Rattle.std.specs.Prelude.{Option, Some}
+use Rattle.std.specs.Prelude.{Option, Some, None, option_map}
 use Rattle.std.proofs.lemmas.List.{append_assoc, append-nil, drop_more, map-append, map-id}
 use Rattle.std.proofs.Math.ListN.{drop_of_length-le}
 use Rattle.spec.specs.Tree.{Pair}
@@ -9,7 +9,8 @@ use Rattle.spec.specs.Stamps.{Stamp}
 use Rattle.spec.specs.Writes.{Write, Put}
 use Rattle.batch_laws.specs.Batch.{Change}
 use Rattle.buffers.specs.Framing.{onto, with_values}
-use Rattle.tizulgech.specs.Trees.{puts, IsListed, IsTreeWhen, IsTreeOf, IsEdited, IsEditOver, IsFileOf, IsFiled}
+use Rattle.tizulgech.specs.Known.{known_of}
+use Rattle.tizulgech.specs.Trees.{puts, IsListed, IsTreeWhen, IsTreeOf, IsEdited, IsEditKnown, IsEditOver, IsEditWhen, IsFileOf, IsFiled}
 
 -- one more put behind the others
 pub puts_next : {K R W : Type 0} (key : K → List ℕ) (bytes : R → List ℕ) (view : W → Write) (whole : List Write) (old new : List W) (w : W)
@@ -63,14 +64,35 @@ values_done {K} {V} value key all old ks i rest inv past none =
     ∙ at_end value old rest none)
 
 -- where the arguments of an edit are there
-pub edited : (code : ℕ) (missing before room : List ℕ) (size : ℕ) (given : List (List ℕ)) (root : List ℕ) (cs : List Change)
+pub edited : (code : ℕ) (missing before room : List ℕ) (size : ℕ) (given : List (List ℕ)) (cids root : List ℕ) (cs : List Change)
     (g : Option (List (List ℕ))) (r : Option (List ℕ)) (c : Option (List Change))
-    → Some given ≡ g → Some root ≡ r → Some cs ≡ c → IsEditOver code missing before room size given root cs
-    → IsEdited code missing before room size g r c
-edited code missing before room size given root cs g r c is_given is_root is_cs h =
-    subst (λ x. IsEdited code missing before room size x r c) is_given
-    (subst (λ x. IsEdited code missing before room size (Some given) x c) is_root
-    (subst (λ x. IsEdited code missing before room size (Some given) (Some root) x) is_cs h))
+    → Some given ≡ g → Some root ≡ r → Some cs ≡ c → IsEditKnown code missing before room size given cids root cs
+    → IsEdited code missing before room size g cids r c
+edited code missing before room size given cids root cs g r c is_given is_root is_cs h =
+    subst (λ x. IsEdited code missing before room size x cids r c) is_given
+    (subst (λ x. IsEdited code missing before room size (Some given) cids x c) is_root
+    (subst (λ x. IsEdited code missing before room size (Some given) cids (Some root) x) is_cs h))
+
+-- where the first of its nodes have their CIDs, and where these are none
+pub edit_known : (code : ℕ) (missing before room : List ℕ) (size : ℕ) (given blocks : List (List ℕ)) (cids root : List ℕ) (cs : List Change)
+    → Some blocks ≡ option_map (λ known. given) (known_of given cids) → IsEditOver code missing before room size blocks root cs
+    → IsEditKnown code missing before room size given cids root cs
+edit_known code missing before room size given blocks cids root cs are h =
+    when (known_of given cids) are where
+      when : (known : Option (List (List ℕ × List ℕ))) → Some blocks ≡ option_map (λ known. given) known
+          → IsEditWhen known code missing before room size given root cs
+      when None e = absurd cc
+      when (Some known) e = let is : blocks ≡ given = cc in subst (λ (ns : List (List ℕ)). IsEditOver code missing before room size ns root cs) is h
+
+pub edit_unknown : (code : ℕ) (missing before room : List ℕ) (size : ℕ) (given : List (List ℕ)) (cids root : List ℕ) (cs : List Change)
+    → None ≡ option_map (λ known. given) (known_of given cids) → code ≡ 252
+    → IsEditKnown code missing before room size given cids root cs
+edit_unknown code missing before room size given cids root cs none is =
+    when (known_of given cids) none where
+      when : (known : Option (List (List ℕ × List ℕ))) → None ≡ option_map (λ known. given) known
+          → IsEditWhen known code missing before room size given root cs
+      when None e = is
+      when (Some known) e = absurd cc
 
 -- where those of a file are
 pub filed : (code : ℕ) (before room : List ℕ) (size : ℕ) (stamp : Stamp) (ws : List Write) (w : Option (List Write))

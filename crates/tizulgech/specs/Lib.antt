@@ -1,6 +1,7 @@
 pub mod Held
 pub mod Numbers
 pub mod Trees
+pub mod Known
 pub mod Changing
 pub mod Parting
 pub use Rattle.spec.specs.Cid

@@ -21,6 +21,7 @@ use Rattle.batches.specs.declared.fault.RepoFault.{RepoFault}
 use Rattle.batches.specs.declared.fault.RepoFault.TheVariants as faults
 use Rattle.buffers.specs.Answers.{IsHanded, blocks_bytes, cids_bytes, number_bytes, values_bytes}
 use Rattle.buffers.specs.Framing.{cid_at, cid_or_none_at, cut, with_values}
+use Rattle.tizulgech.specs.Known.{known_of}
 use Rattle.tizulgech.specs.Numbers.{IsHandedOr255, is_other}
 
 -- ---- listings
@@ -91,14 +92,23 @@ pub record IsEditOver (code : ℕ) (missing before room : List ℕ) (size : ℕ)
   pub lack : IsLack sha256 2 (first_of sha256 nodes) root cs result
   pub told : IsEditTold code missing before room size result
 
+-- the same of nodes of which the first are given with their CIDs; 252 where these are none, or more than the nodes
+abbrev pub IsEditWhen : Option (List (List ℕ × List ℕ)) → ℕ → List ℕ → List ℕ → List ℕ → ℕ → List (List ℕ) → List ℕ → List Change → Type 0
+IsEditWhen None code missing before room size given root cs = code ≡ 252
+IsEditWhen (Some known) code missing before room size given root cs = IsEditOver code missing before room size given root cs
+
+abbrev pub IsEditKnown : ℕ → List ℕ → List ℕ → List ℕ → ℕ → List (List ℕ) → List ℕ → List ℕ → List Change → Type 0
+IsEditKnown code missing before room size given cids root cs =
+    IsEditWhen (known_of given cids) code missing before room size given root cs
+
 -- 252 for arguments that are none
-abbrev pub IsEdited : ℕ → List ℕ → List ℕ → List ℕ → ℕ → Option (List (List ℕ)) → Option (List ℕ)
+abbrev pub IsEdited : ℕ → List ℕ → List ℕ → List ℕ → ℕ → Option (List (List ℕ)) → List ℕ → Option (List ℕ)
     → Option (List Change) → Type 0
-IsEdited code missing before room size None root cs = code ≡ 252
-IsEdited code missing before room size (Some given) None cs = code ≡ 252
-IsEdited code missing before room size (Some given) (Some root) None = code ≡ 252
-IsEdited code missing before room size (Some given) (Some root) (Some cs) =
-    IsEditOver code missing before room size given root cs
+IsEdited code missing before room size None cids root cs = code ≡ 252
+IsEdited code missing before room size (Some given) cids None cs = code ≡ 252
+IsEdited code missing before room size (Some given) cids (Some root) None = code ≡ 252
+IsEdited code missing before room size (Some given) cids (Some root) (Some cs) =
+    IsEditKnown code missing before room size given cids root cs
 
 -- ---- files
 

@@ -6,7 +6,8 @@ ghost use Rattle.sha2.specs.Sha256.{sha256};
 ghost use Rattle.edit.specs.Batches.{are_changes as are_changes_of};
 ghost use Rattle.buffers.specs.Answers.{blocks_bytes};
 ghost use Rattle.buffers.specs.Framing.{cid_at, cid_or_none_at, cut, with_values};
-ghost use Rattle.tizulgech.specs.Trees.{changes_in, edit_bytes, IsEdited, IsEditOver, IsEditTold};
+ghost use Rattle.tizulgech.specs.Known.{AreKnown};
+ghost use Rattle.tizulgech.specs.Trees.{changes_in, edit_bytes, IsEdited, IsEditKnown, IsEditOver, IsEditTold};
 
 use crate::codes::{BAD, CLASH, MISSING, NO_MEMORY, NONE};
 use crate::nodes::blocks_of;
@@ -22,6 +23,9 @@ use std::sync::Arc;
 
 /// Changes keys of the tree with this root at once, over those of its nodes that are given.
 ///
+/// Of the first nodes the CIDs are given, 36 bytes each: whoever calls owes that these are theirs. Such a node isn't hashed; the
+/// others are, several side by side.
+///
 /// A key gets the value of 36 bytes at its place among `values`, or goes where these are zeros; the keys have 1 to 1,024
 /// bytes and ascend strictly. 0, and in `out` what `size` bytes of it say, as `edit_bytes` has it: the root, the values that
 /// the keys had, the CIDs that go, and the blocks that come. 2 where a node is missing, whose CID is then in `missing`: who
@@ -32,6 +36,7 @@ pub extern "C" fn tizulgech_tree_apply(
     alloc: Global,
     nodes: &[u8],
     node_ends: &[usize],
+    cids: &[u8],
     root: &[u8],
     keys: &[u8],
     key_ends: &[usize],
@@ -40,9 +45,10 @@ pub extern "C" fn tizulgech_tree_apply(
     out: &mut [u8],
     size: &mut usize,
 ) -> u8
-    requires { length missing.old ≡ 36 }
+    requires known { IfSome (cut 0 node_ends.now nodes.now) (AreKnown cids.now) }
+    requires missing { length missing.old ≡ 36 }
     ensures { nat_eq result 255 ≡ false → IsEdited result missing.new out.old out.new size.new
-        (cut 0 node_ends.now nodes.now) (cid_at root.now)
+        (cut 0 node_ends.now nodes.now) cids.now (cid_at root.now)
         (changes_in keys.now key_ends.now values.now) }
 {
     let Ok(nodes) = slices(alloc, nodes, node_ends) else {
@@ -60,13 +66,39 @@ pub extern "C" fn tizulgech_tree_apply(
     let Some(changes) = changes else {
         return BAD;
     };
-    edit_over(alloc, &nodes, root, &changes, missing, out, size)
+    edit_over(alloc, &nodes, cids, root, &changes, missing, out, size)
 }
 
 /// The same of changes that a batch takes.
 fn edit_over(
     alloc: Global,
     nodes: &[&[u8]],
+    cids: &[u8],
+    root: Cid,
+    changes: &[Change<'_>],
+    missing: &mut [u8],
+    out: &mut [u8],
+    size: &mut usize,
+) -> u8
+    requires changes { are_changes_of changes.now ≡ true }
+    requires known { AreKnown cids.now (map (λ node. node.now) nodes.now) }
+    requires missing { length missing.old ≡ 36 }
+    ensures { nat_eq result 255 ≡ false → IsEditKnown result missing.new out.old out.new size.new
+        (map (λ node. node.now) nodes.now) cids.now root changes.now }
+{
+    let Ok(blocks) = blocks_of(alloc, nodes, cids) else {
+        return NO_MEMORY;
+    };
+    let Some(blocks) = blocks else {
+        return BAD;
+    };
+    edit_of_blocks(alloc, &blocks, root, changes, missing, out, size)
+}
+
+/// The same over the blocks of nodes.
+fn edit_of_blocks(
+    alloc: Global,
+    blocks: &[Arc<Block<Sha256>>],
     root: Cid,
     changes: &[Change<'_>],
     missing: &mut [u8],
@@ -76,12 +108,9 @@ fn edit_over(
     requires changes { are_changes_of changes.now ≡ true }
     requires missing { length missing.old ≡ 36 }
     ensures { nat_eq result 255 ≡ false → IsEditOver result missing.new out.old out.new size.new
-        (map (λ node. node.now) nodes.now) root changes.now }
+        (map arc_value blocks.now) root changes.now }
 {
-    let Ok(blocks) = blocks_of(alloc, nodes) else {
-        return NO_MEMORY;
-    };
-    let Ok(mut source) = BlockMap::new(alloc, &blocks) else {
+    let Ok(mut source) = BlockMap::new(alloc, blocks) else {
         return NO_MEMORY;
     };
     let answer = apply::<Sha256, 2, _, _>(alloc, &mut source, root, changes);

@@ -61,6 +61,12 @@ pub fn from(nodes: &Nodes) -> impl FnMut(&Cid) -> Result<Option<Vec<u8>>, ()> + 
     |cid| Ok(nodes.get(cid).cloned())
 }
 
+/// The same of nodes that are known to be those of their CIDs.
+pub fn known(nodes: &Nodes) -> impl FnMut(&Cid) -> Result<Option<tree::Known>, ()> + '_ {
+    // SAFETY: they stand under the CIDs that the library told with them.
+    |cid| Ok(nodes.get(cid).cloned().map(|node| unsafe { tree::Known::of(node) }))
+}
+
 /// Does an edit to a host's map of nodes, and answers the root and the values before it.
 pub fn change(nodes: &mut Nodes, edit: impl FnOnce(&Nodes) -> tree::Edit) -> (Cid, Vec<Option<Cid>>) {
     let edit = edit(nodes);

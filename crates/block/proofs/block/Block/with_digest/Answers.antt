@@ -2,6 +2,6 @@ use Rattle.std.proofs.Common.{rules}
 use Rattle.spec.specs.Cid.{cid}
 use Rattle.block.proofs.block.Block.with_digest.Goals as goal
 
-pub invariant_of-result : goal.invariant_of-result
+pub of_known-requires : goal.of_known-requires
 unfolding cid
-invariant_of-result g c = search rules
+of_known-requires g c = search rules

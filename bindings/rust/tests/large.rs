@@ -1,0 +1,186 @@
+//! Large inputs, against what is made of them block by block or from scratch.
+mod common;
+#[allow(dead_code)]
+#[path = "../src/sys.rs"]
+mod sys;
+
+use common::*;
+use std::collections::BTreeMap;
+use sys::Parts;
+use tizulgech::*;
+
+const KEYS: u64 = 10_000;
+
+fn changes<'a>(drawn: &'a [(String, Option<Cid>)]) -> Vec<tree::Change<'a>> {
+    drawn.iter().map(|(key, value)| tree::Change { key: key.as_bytes(), value: *value }).collect()
+}
+
+/// A host's nodes of the tree of these pairs, which are put by batches of a thousand.
+fn nodes_of(pairs: &BTreeMap<String, Cid>) -> (Cid, Nodes) {
+    let (mut root, mut nodes) = no_pairs();
+    let drawn: Vec<(String, Option<Cid>)> = pairs.iter().map(|(key, value)| (key.clone(), Some(*value))).collect();
+    for batch in drawn.chunks(1000) {
+        root = change(&mut nodes, |n| tree::apply(known(n), &root, &changes(batch)).unwrap()).0;
+    }
+    (root, nodes)
+}
+
+/// A repository of the first records, by batches of a thousand.
+fn filled(count: u64) -> (Repository, BTreeMap<String, Vec<u8>>) {
+    let mut repository = Repository::open(100_000).unwrap();
+    let records: Vec<(String, Vec<u8>)> = (0..count).map(|number| (key(number), record(number))).collect();
+    for (turn, batch) in records.chunks(1000).enumerate() {
+        let writes: Vec<Write> = batch.iter().map(|(key, record)| Write::Put(key, record)).collect();
+        repository.apply(Stamp { did: DID, rev: &tid(turn as u64 + 1) }, &writes).unwrap();
+    }
+    (repository, records.into_iter().collect())
+}
+
+#[test]
+fn cids() {
+    // 100,000 records, some of them of many bytes, and none where there are none
+    let records: Vec<Vec<u8>> =
+        (0..100_000).map(|number| record(number).repeat(1 + number as usize % 1000 / 990 * 300)).collect();
+    let cids = Cid::of_each(&records).unwrap();
+    assert_eq!(cids.len(), records.len());
+    assert!(cids.iter().zip(&records).all(|(cid, record)| *cid == Cid::of(record)));
+    assert_eq!(Cid::of_each(&[b""; 0]), Ok(vec![]));
+}
+
+/// A batch of 1,000 over the nodes of 100,000 keys leaves the nodes of the tree from scratch.
+#[test]
+fn a_batch() {
+    let mut pairs: BTreeMap<String, Cid> =
+        (0..100_000).map(|number: u64| (key(number), Cid::of(&number.to_le_bytes()))).collect();
+    let (root, mut nodes) = nodes_of(&pairs);
+    assert_eq!((root, nodes.len()), of_scratch(&pairs));
+
+    // new keys, other values, and keys that go
+    let value = |number: u64| (number % 3 > 0).then(|| Cid::of(&[number as u8]));
+    let drawn: BTreeMap<String, Option<Cid>> = (0..1000).map(|number| (key(number * 150), value(number))).collect();
+    let drawn: Vec<(String, Option<Cid>)> = drawn.into_iter().collect();
+    let hashed = tree::apply(from(&nodes), &root, &changes(&drawn)).unwrap();
+    let (root, previous) = change(&mut nodes, |n| {
+        let edit = tree::apply(known(n), &root, &changes(&drawn)).unwrap();
+        assert_eq!(edit, hashed);
+        edit
+    });
+    for ((key, value), before) in drawn.into_iter().zip(previous) {
+        assert_eq!(pairs.get(&key).copied(), before);
+        match value {
+            Some(value) => pairs.insert(key, value),
+            None => pairs.remove(&key),
+        };
+    }
+    assert_eq!((root, nodes.len()), of_scratch(&pairs));
+}
+
+/// The links of a node of 10,000 entries, all of them of one layer.
+#[test]
+fn links() {
+    let numbers = (0..).filter(|number| layer(key(*number)) == 0).take(KEYS as usize);
+    let pairs: BTreeMap<String, Cid> = numbers.map(|number: u64| (key(number), Cid::of(&number.to_le_bytes()))).collect();
+    let (root, nodes) = nodes_of(&pairs);
+    assert_eq!(nodes.len(), 1);
+    let node = &nodes[&root];
+    let (mut out, mut size) = (vec![0; 37 * pairs.len()], 0);
+    assert_eq!((sys::links(node, &mut out[1..], &mut size), size), (251, out.len()));
+    assert_eq!((sys::links(node, &mut out, &mut size), size), (0, out.len()));
+    let wanted: Vec<u8> = pairs.values().flat_map(|cid| [&[0], &cid.as_bytes()[..]].concat()).collect();
+    assert_eq!(out, wanted);
+    assert_eq!(sys::links(&node[..node.len() - 1], &mut out, &mut size), 30);
+}
+
+/// All keys in pages, and the file in sections, of a repository of 10,000 records.
+#[test]
+fn pages_and_sections() {
+    let (repository, records) = filled(KEYS);
+    let pairs: Vec<(Vec<u8>, Cid)> = repository.pairs("").collect();
+    assert!(
+        pairs.iter().map(|(key, cid)| (&key[..], *cid)).eq(records.iter().map(|(key, record)| (key.as_bytes(), Cid::of(record))))
+    );
+    let parts: Vec<Vec<u8>> = repository.car_parts().map(Result::unwrap).collect();
+    assert!(parts.len() > KEYS as usize);
+    assert_eq!(parts.concat(), repository.car().unwrap());
+}
+
+/// The proof of 10,000 changes in a repository of 20,000 records, and with anything else told it is none.
+#[test]
+fn a_change_proof() {
+    let (mut repository, records) = filled(2 * KEYS);
+    // every second key gets another record or goes, and others come
+    let made: BTreeMap<String, Option<Vec<u8>>> = (0..KEYS)
+        .map(|number| match number % 4 {
+            0 => (key(2 * number), None),
+            3 => (key(2 * KEYS + number), Some(record(number))),
+            _ => (key(2 * number), Some(record(3 * KEYS + number))),
+        })
+        .collect();
+    let made: Vec<(String, Option<Vec<u8>>)> = made.into_iter().collect();
+    let writes = made.iter().map(|(key, record)| record.as_ref().map_or(Write::Delete(key), |record| Write::Put(key, record)));
+    let applied = repository.apply(Stamp { did: DID, rev: &tid(1000) }, &writes.collect::<Vec<_>>()).unwrap();
+
+    let value = |record: Option<&Vec<u8>>| record.map(|record| Cid::of(record));
+    let told = made.iter().map(|(key, after)| KeyChange {
+        key: key.as_bytes(),
+        before: value(records.get(key)),
+        after: value(after.as_ref()),
+    });
+    let mut told: Vec<KeyChange> = told.collect();
+    assert_eq!(told.len() as u64, KEYS);
+    let proof = repository.prove_change(&told).unwrap();
+    let (before, after) = (applied.previous, applied.root);
+    assert_eq!(proof.verify(&before, &after, &told), Ok(()));
+    let mut fewer = proof.clone();
+    let gone = Cid::of(&fewer.nodes.pop().unwrap());
+    assert_eq!(fewer.verify(&before, &after, &told), Err(ChangeFault::Missing(gone)));
+    let last = told.len() - 1;
+    let own = told[last].after;
+    told[last].after = Some(Cid::of(b"another"));
+    assert_eq!(proof.verify(&before, &after, &told), Err(ChangeFault::OtherValue(last)));
+    assert_eq!(repository.prove_change(&told), Err(ProvingFault::OtherValue(last)));
+    told[last].after = own;
+    told[last].before = Some(Cid::of(b"another"));
+    assert_eq!(proof.verify(&before, &after, &told), Err(ChangeFault::OtherRoot));
+}
+
+/// Many nodes with the CIDs of some: an answer is the same whichever are known.
+#[test]
+fn some_known() {
+    let pairs: BTreeMap<String, Cid> = (0..KEYS).map(|number| (key(number), Cid::of(&number.to_le_bytes()))).collect();
+    let (root, nodes) = nodes_of(&pairs);
+    let nodes: Vec<(Cid, Vec<u8>)> = nodes.into_iter().collect();
+    let ends: Vec<usize> = nodes
+        .iter()
+        .scan(0, |end, (_, node)| {
+            Some({
+                *end += node.len();
+                *end
+            })
+        })
+        .collect();
+    let bytes: Vec<u8> = nodes.iter().flat_map(|(_, node)| node.clone()).collect();
+    let cids: Vec<u8> = nodes.iter().flat_map(|(cid, _)| *cid.as_bytes()).collect();
+    let (key, value) = (key(KEYS), *Cid::of(b"").as_bytes());
+    let apply = |count: usize| {
+        let (mut out, mut size) = (vec![0; 1 << 16], 0);
+        let number = sys::tree_apply(
+            Parts { bytes: &bytes, ends: &ends },
+            &cids[..36 * count],
+            root.as_bytes(),
+            Parts { bytes: key.as_bytes(), ends: &[key.len()] },
+            &value,
+            &mut [0; 36],
+            &mut out,
+            &mut size,
+        );
+        assert_eq!(number, 0);
+        out.truncate(size);
+        out
+    };
+    let told = apply(0);
+    for count in [1, 2, 3, 4, 5, nodes.len() / 2, nodes.len() - 1, nodes.len()] {
+        assert_eq!(apply(count), told);
+    }
+    assert_eq!(of_scratch(&pairs), (root, nodes.len()));
+}
