@@ -8,7 +8,7 @@ use refusing::Refusing;
 use std::alloc::{Allocator, Global};
 use std::process::Abort;
 use std::sync::Arc;
-use store::{Cores, Hold, Shard, StoreFault};
+use store::{Cores, Hold, Shard, StoreFault, TableKey};
 
 /// The fault of an acquire that is to be refused.
 fn fault_of<D: Digest>(shard: &mut Shard<D>, block: Arc<Block<D>>) -> Option<StoreFault<D>> {
@@ -54,6 +54,13 @@ fn counts_at_limit_one(rt: HostRuntime) {
     let hold = acquired(&rt, &mut shard, 0, block(&rt, rt.alloc(), &ONE));
     assert!(rt; shard.count(&other) == 1 && is_hold_of(&hold, 0, other, &ONE));
     shard.release(hold);
+}
+
+#[test]
+fn counts_under_a_key(rt: HostRuntime) {
+    let key = TableKey::of(0x0706_0504_0302_0100, u64::MAX);
+    let mut shard: Shard<Toy> = Shard::keyed(rt.alloc(), 1, key);
+    assert!(rt; counts_two_cores(&rt, rt.alloc(), &mut shard));
 }
 
 /// Whether the fault is the collision of a block of these bytes with a held block of those.
@@ -136,14 +143,14 @@ fn is_entry_of(cid: Cid, cores: &Cores, first: Cid, second: Cid) -> bool {
         && !cores.has(u32::MAX)
 }
 
-/// Whether the table lists two entries in the order of their CIDs, each with its core.
+/// Whether the table lists these two entries, each once and with its core.
 fn lists_both(shard: &Shard<Toy>, first: Cid, second: Cid) -> bool {
     let mut entries = shard.entries();
     match (entries.next(), entries.next()) {
-        (Some((lower, of_lower)), Some((upper, of_upper))) => {
-            lower < upper
-                && is_entry_of(lower, of_lower, first, second)
-                && is_entry_of(upper, of_upper, first, second)
+        (Some((one, of_one)), Some((other, of_other))) => {
+            one != other
+                && is_entry_of(one, of_one, first, second)
+                && is_entry_of(other, of_other, first, second)
                 && entry_count(shard) == 2
         }
         _ => false,
@@ -151,7 +158,7 @@ fn lists_both(shard: &Shard<Toy>, first: Cid, second: Cid) -> bool {
 }
 
 #[test]
-fn lists_entries_in_order(rt: HostRuntime) {
+fn lists_each_entry_once(rt: HostRuntime) {
     let mut shard: Shard<Toy> = Shard::new(rt.alloc(), 2);
     let first = acquired(&rt, &mut shard, 1023, block(&rt, rt.alloc(), &EMPTY));
     let second = acquired(&rt, &mut shard, 64, block(&rt, rt.alloc(), &ONE));

@@ -53,7 +53,11 @@ pub(crate) fn keep<R: Abort, D: Digest, A: Allocator>(
 
 /// How many entries the table has.
 pub(crate) fn entry_count<D: Digest, A: Allocator>(shard: &Shard<D, A>) -> usize {
-    shard.entries().count()
+    let mut count = 0usize;
+    for _ in shard.entries() {
+        count = count.saturating_add(1);
+    }
+    count
 }
 
 /// Releases this many holds, which must be all.

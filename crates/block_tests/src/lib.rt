@@ -16,6 +16,10 @@ mod identifiers;
 #[cfg(test)]
 mod many_lists;
 #[cfg(test)]
+mod one_hash;
+#[cfg(test)]
+mod random_cores;
+#[cfg(test)]
 mod shards;
 #[cfg(test)]
 mod side_by_side;

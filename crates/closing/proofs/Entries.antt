@@ -1,23 +1,24 @@
 -- The steps of the comparison of cores with tables.
 use mathlib.Core.Bool.{true≢false}
 use Rattle.std.proofs.Common.{zero, suc, ◌≡◌, ◌≢◌, ℕ, ◌<◌, ◌≤◌, ◌+◌, ◌∷◌, [], ◌++◌, List, length, take, drop, get_or, refl, ap, sym, ◌∙◌, subst, cond, nat_eq, Bool, true, false, arith, Option, Some, None, ◌⊎◌, inl, inr, ⊎_elim, bytes_eq, All, ◌%◌}
-use Rattle.std.specs.Prelude.{◌&&◌, ◌||◌, T}
-use Rattle.std.specs.List.{AllByRecursion}
+use Rattle.std.specs.Prelude.{◌&&◌, ◌||◌, option_map}
+use Rattle.std.specs.List.{AllByRecursion, IsDistinct}
+use Rattle.std.specs.Map.{keys_of}
 use Rattle.std.proofs.lemmas.List.Elements.{recursion_from_All}
 use Rattle.std.proofs.lemmas.Bool.Decides.{nat_tests}
 use Rattle.std.proofs.lemmas.List.{take_more, length-take, get_or_read}
 use Rattle.std.proofs.lemmas.Slice.Eq.{bytes_eq-Decides}
-use Rattle.std.specs.Ordering.{nat_cmp, is_eq, is_lt}
+use Rattle.std.proofs.lemmas.Map.Keys.{IsDistinct-head, IsDistinct-tail}
+use Rattle.std.specs.Ordering.{nat_cmp, is_eq}
 use Rattle.std.specs.declared.cmp.Ordering.{Ordering}
 use Rattle.std.specs.declared.cmp.Ordering.TheVariants.{Less, Equal, Greater}
 use Rattle.std.specs.Cmp.{tied_itself}
-use Rattle.std.specs.Cmp.Lexicographic.{slice_cmp, nat_list_cmp_total}
+use Rattle.std.specs.Cmp.Lexicographic.{slice_cmp, nat_list_cmp_total, pointwise, texts_ties}
 use Rattle.std.specs.FinMap as map
-use Rattle.std.specs.FinMap.{is_sorted, slice_cmp-IsAntisymmetric, nat_cmp-IsAntisymmetric}
-use Rattle.std.specs.FinMap.Entries.{below_all}
+use Rattle.std.specs.FinMap.{slice_cmp-IsAntisymmetric, nat_cmp-IsAntisymmetric}
 use Rattle.std.specs.FinSet as set
 use Rattle.spec.specs.Cid.{cid as cid_of}
-use Rattle.store.specs.Table.{Table, Held, cores_at, cores_of, shard_of, listed, with_cores, entry_at, IsLawful}
+use Rattle.store.specs.Table.{Table, Held, cores_at, cores_of, shard_of, entry_at, IsListing, IsLawful}
 use Rattle.spec.specs.States.{State}
 use Rattle.store.specs.Shards.{no_table}
 use Rattle.closing.specs.Tally.{has, has_in, entered, have, NumberedFrom, IsEven, IsMiscounted, IsMisnumbered, IsEntered, IsMissed, AllHave, IsWithout, AreHad, AreWithout}
@@ -158,63 +159,45 @@ look [] q = set.empty
 look (e ∷ es) q = cond (is_eq (slice_cmp nat_cmp q e.0)) e.1 (look es q)
 
 pub record Going (digest : List ℕ → List ℕ) (bits : ℕ) (cores : List State) (shard : ℕ) (table : Table) (left : List (List ℕ × set.FinSet nat_cmp)) : Type 0 where
-  pub sorted : T (is_sorted (slice_cmp nat_cmp) left)
+  pub once : IsDistinct (pointwise nat_eq) (keys_of left)
   pub done : (cid : List ℕ) (number : ℕ) → shard_of cid ≡ shard → set.contains (cores_at table cid) number ≡ true
       → (have digest bits cores cid number ≡ true) ⊎ (set.contains (look left cid) number ≡ true)
   pub rest : (cid : List ℕ) (number : ℕ) → set.contains (look left cid) number ≡ true → set.contains (cores_at table cid) number ≡ true
 
-both-0 : (a b : Bool) → T (a && b) → T a
-both-0 true b h = tt
-both-0 false b h = h
+abbrev or_nobody : Option (set.FinSet nat_cmp) → set.FinSet nat_cmp
+or_nobody None = set.empty
+or_nobody (Some s) = s
 
-both-1 : (a b : Bool) → T (a && b) → T b
-both-1 true b h = h
-both-1 false b h = absurd h
-
-pair : (a b : Bool) → T a → T b → T (a && b)
-pair true b x y = y
-pair false b x y = x
-
-abbrev find_key : List ℕ → List (List ℕ × Held) → Option Held
-find_key q es = map.find (slice_cmp nat_cmp) q es
-
-below_with : (k : List ℕ) (es : List (List ℕ × Held)) → T (below_all (slice_cmp nat_cmp) k es) → T (below_all (slice_cmp nat_cmp) k (with_cores es))
-below_with k [] h = tt
-below_with k (e ∷ es) h = pair _ _ (both-0 _ _ h) (below_with k es (both-1 _ _ h))
-
-sorted_with : (es : List (List ℕ × Held)) → T (is_sorted (slice_cmp nat_cmp) es) → T (is_sorted (slice_cmp nat_cmp) (with_cores es))
-sorted_with [] h = tt
-sorted_with (e ∷ es) h = pair _ _ (below_with e.0 es (both-0 _ _ h)) (sorted_with es (both-1 _ _ h))
-
-look_with : (es : List (List ℕ × Held)) (q : List ℕ) → look (with_cores es) q ≡ cores_of (find_key q es)
-look_with [] q = refl
-look_with (e ∷ es) q = at_head (is_eq (slice_cmp nat_cmp q e.0)) (look_with es q)
+look_found : (es : List (List ℕ × set.FinSet nat_cmp)) (q : List ℕ) → look es q ≡ or_nobody (map.find (slice_cmp nat_cmp) q es)
+look_found [] q = refl
+look_found (e ∷ es) q = at_head (is_eq (slice_cmp nat_cmp q e.0)) (look_found es q)
   where
-    at_head : (b : Bool) → look (with_cores es) q ≡ cores_of (find_key q es) → cond b e.1.1 (look (with_cores es) q) ≡ cores_of (cond b (Some e.1) (find_key q es))
+    at_head : (b : Bool) → look es q ≡ or_nobody (map.find (slice_cmp nat_cmp) q es)
+        → cond b e.1 (look es q) ≡ or_nobody (cond b (Some e.1) (map.find (slice_cmp nat_cmp) q es))
     at_head true h = refl
     at_head false h = h
 
-pub look_listed : (t : Table) (q : List ℕ) → look (listed t) q ≡ cores_at t q
-look_listed t q = look_with (map.entries t.entries) q ∙ ap cores_of (sym (map.get-entries t.entries q))
+cores_found : (o : Option Held) → or_nobody (option_map (λ e. e.1) o) ≡ cores_of o
+cores_found None = refl
+cores_found (Some e) = refl
 
-look_above : (k : List ℕ) (es : List (List ℕ × set.FinSet nat_cmp)) → T (below_all (slice_cmp nat_cmp) k es) → look es k ≡ set.empty
-look_above k [] h = refl
-look_above k (e ∷ es) h = ap (λ b. cond b e.1 (look es k)) (not_tied (slice_cmp nat_cmp k e.0) (both-0 _ _ h)) ∙ look_above k es (both-1 _ _ h)
-  where
-    not_tied : (o : Ordering) → T (is_lt o) → is_eq o ≡ false
-    not_tied Less p = refl
-    not_tied Equal p = absurd p
-    not_tied Greater p = refl
+-- what a listing has under a CID is what its table has
+pub look_listed : (t : Table) (items : List (List ℕ × set.FinSet nat_cmp)) → IsListing t items → (q : List ℕ) → look items q ≡ cores_at t q
+look_listed t items is q = look_found items q ∙ ap or_nobody (is.all q) ∙ cores_found (entry_at t q)
+
+look_apart : (k : List ℕ) (es : List (List ℕ × set.FinSet nat_cmp)) → AllByRecursion (λ y. pointwise nat_eq k y ≡ false) (keys_of es) → look es k ≡ set.empty
+look_apart k [] h = refl
+look_apart k (e ∷ es) h = ap (λ b. cond b e.1 (look es k)) (sym (texts_ties k e.0) ∙ h.0) ∙ look_apart k es h.1
 
 same : map.IsAntisymmetric (slice_cmp nat_cmp)
 same = slice_cmp-IsAntisymmetric nat_cmp-IsAntisymmetric
 
 module _ (digest : List ℕ → List ℕ) (bits : ℕ) (cores : List State) (shard : ℕ) (table : Table) where
-  pub going_start : Going digest bits cores shard table (listed table)
-  going_start = record {
-    sorted = sorted_with (map.entries table.entries) (map.entries_sorted table.entries);
-    done = λ cid number in_shard h. inr (ap (λ (s : set.FinSet nat_cmp). set.contains s number) (look_listed table cid) ∙ h);
-    rest = λ cid number h. ap (λ (s : set.FinSet nat_cmp). set.contains s number) (sym (look_listed table cid)) ∙ h;
+  pub going_start : (items : List (List ℕ × set.FinSet nat_cmp)) → IsListing table items → Going digest bits cores shard table items
+  going_start items is = record {
+    once = is.once;
+    done = λ cid number in_shard h. inr (ap (λ (s : set.FinSet nat_cmp). set.contains s number) (look_listed table items is cid) ∙ h);
+    rest = λ cid number h. ap (λ (s : set.FinSet nat_cmp). set.contains s number) (sym (look_listed table items is cid)) ∙ h;
   }
 
   done_case : (k : List ℕ) (s : set.FinSet nat_cmp) (left : List (List ℕ × set.FinSet nat_cmp)) → (shard_of k ≡ shard → AllHave digest bits cores k s)
@@ -226,23 +209,23 @@ module _ (digest : List ℕ → List ℕ) (bits : ℕ) (cores : List State) (sha
       let is : cid ≡ k = same cid k e in
       inl (ap (λ (c : List ℕ). have digest bits cores c number) is ∙ all (ap shard_of (sym is) ∙ in_shard) number h)
 
-  rest_case : (k : List ℕ) (s : set.FinSet nat_cmp) (left : List (List ℕ × set.FinSet nat_cmp)) → T (below_all (slice_cmp nat_cmp) k left)
+  rest_case : (k : List ℕ) (s : set.FinSet nat_cmp) (left : List (List ℕ × set.FinSet nat_cmp)) → AllByRecursion (λ y. pointwise nat_eq k y ≡ false) (keys_of left)
       → (cid : List ℕ) (number : ℕ) (o : Ordering) → slice_cmp nat_cmp cid k ≡ o
       → set.contains (look left cid) number ≡ true → set.contains (cond (is_eq o) s (look left cid)) number ≡ true
-  rest_case k s left below cid number Less e h = h
-  rest_case k s left below cid number Greater e h = h
-  rest_case k s left below cid number Equal e h =
+  rest_case k s left apart cid number Less e h = h
+  rest_case k s left apart cid number Greater e h = h
+  rest_case k s left apart cid number Equal e h =
       let is : cid ≡ k = same cid k e in
       absurd (true≢false (sym h ∙ ap (λ (c : List ℕ). set.contains (look left c) number) is
-      ∙ ap (λ (x : set.FinSet nat_cmp). set.contains x number) (look_above k left below) ∙ set.contains-empty nat_cmp number))
+      ∙ ap (λ (x : set.FinSet nat_cmp). set.contains x number) (look_apart k left apart) ∙ set.contains-empty nat_cmp number))
 
   pub going_step : (k : List ℕ) (s : set.FinSet nat_cmp) (left whole : List (List ℕ × set.FinSet nat_cmp)) → whole ≡ (k, s) ∷ left
       → (shard_of k ≡ shard → AllHave digest bits cores k s) → Going digest bits cores shard table whole → Going digest bits cores shard table left
   going_step k s left whole e all h =
       let g : Going digest bits cores shard table ((k, s) ∷ left) = subst (Going digest bits cores shard table) e h in record {
-        sorted = both-1 _ _ g.sorted;
+        once = IsDistinct-tail (pointwise nat_eq) k (keys_of left) g.once;
         done = λ cid number in_shard x. ⊎_elim (λ y. inl y) (λ y. done_case k s left all cid number in_shard (slice_cmp nat_cmp cid k) refl y) (g.done cid number in_shard x);
-        rest = λ cid number x. g.rest cid number (rest_case k s left (both-0 _ _ g.sorted) cid number (slice_cmp nat_cmp cid k) refl x);
+        rest = λ cid number x. g.rest cid number (rest_case k s left (IsDistinct-head (pointwise nat_eq) k (keys_of left) g.once) cid number (slice_cmp nat_cmp cid k) refl x);
       }
 
   -- what an item has, the table has under its CID
@@ -337,6 +320,3 @@ without_is digest bits cores tables shard t size less e a = (
   λ same. true≢false (sym a.2.1 ∙ ap (λ (x : Table). set.contains (cores_at x a.0) a.2.0)
       (get_or_read tables shard t (omega (arith, size)) e no_table ∙ ap (λ n. get_or tables n no_table) (sym a.1)) ∙ same ∙ a.2.2),
 )
-
-pub sorted_listed : (t : Table) → T (is_sorted (slice_cmp nat_cmp) (listed t))
-sorted_listed t = sorted_with (map.entries t.entries) (map.entries_sorted t.entries)

@@ -5,3 +5,4 @@ pub mod Adding
 pub mod Closings
 pub mod FromScratch
 pub mod Numbers
+pub mod Sizes

@@ -18,7 +18,7 @@ use repo::{Core, Repository};
 use std::alloc::{AllocError, Allocator};
 use std::collections::VecDeque;
 use std::sync::{RwLock, Wait};
-use store::{LockedShards, Shards};
+use store::{LockedShards, Shards, TableKey};
 
 /// Whether each limit is in its range.
 fn tested(limits: &Limits) -> Result<(), OpenFault>
@@ -138,11 +138,12 @@ fn queue_of<A: Allocator + Copy>(
 }
 
 impl<D: Digest, const B: u8, A: Allocator + Copy> Host<D, B, A> {
-    /// A host with these limits. There is no memory for one whose parts don't fit in it.
+    /// A host with these limits and this key. There is no memory for one whose parts don't fit in it.
     fn with_limits<R: Wait>(
         rt: &R,
         alloc: A,
         limits: &Limits,
+        key: TableKey,
     ) -> Result<Opened<D, B, A>, AllocError>
         requires least_bits { 1 ≤ B }
         requires most_bits { B ≤ 8 }
@@ -164,7 +165,7 @@ impl<D: Digest, const B: u8, A: Allocator + Copy> Host<D, B, A> {
         let opened = queue_of(alloc, limits)?;
         let (queue, seats, feed) = opened;
         let shelf = Shelf::open(alloc)?;
-        let shards = Shards::open(alloc, limits.shard_blocks);
+        let shards = Shards::open_keyed(alloc, limits.shard_blocks, key);
         let (repositories, room) = open_all(rt, alloc, &shards, limits.repos, limits.repo_writes)?;
         let host = Host {
             queue,
@@ -178,6 +179,9 @@ impl<D: Digest, const B: u8, A: Allocator + Copy> Host<D, B, A> {
     }
 
     /// A host of repositories without writes, with the seat of each writer in the order of their numbers, and the feed.
+    ///
+    /// Its shards hash CIDs under a key that everybody knows. Where strangers choose records, `open_keyed` takes a key that
+    /// they don't know.
     ///
     /// All limits are tested first, in their order, and the fault names the first one that is out of its range. After that
     /// only memory can be refused, `OpenFault::NoMemory`, also where shards, cores or repositories over this allocator would be
@@ -195,8 +199,30 @@ impl<D: Digest, const B: u8, A: Allocator + Copy> Host<D, B, A> {
         ensures seats { IfOk result (λ o. o.seats.items
             ≡ fresh_seats o.host.queue.queue_id limits.writers limits.repos) }
     {
+        Host::open_keyed(rt, alloc, limits, TableKey::known())
+    }
+
+    /// `open` with the key of the shards: two numbers that the caller has drawn at random.
+    pub fn open_keyed<R: Wait>(
+        rt: &R,
+        alloc: A,
+        limits: Limits,
+        key: TableKey,
+    ) -> Result<Opened<D, B, A>, OpenFault>
+        requires least_bits { 1 ≤ B }
+        requires most_bits { B ≤ 8 }
+        ensures lawful { OnOk result (AreLawful limits) }
+        ensures fault { IfErr result (IsOutOfRange limits) }
+        ensures repos { IfOk result (λ o. o.host.repos ≡ limits.repos) }
+        ensures limit { IfOk result (λ o. o.host.limit ≡ limits.repo_writes) }
+        ensures room { IfOk result (λ o. o.host.queue.room ≡ limits.queue) }
+        ensures feed { IfOk result (λ o.
+            o.feed ≡ fresh_feed o.host.queue.queue_id limits.writers) }
+        ensures seats { IfOk result (λ o. o.seats.items
+            ≡ fresh_seats o.host.queue.queue_id limits.writers limits.repos) }
+    {
         tested(&limits)?;
-        match Host::with_limits(rt, alloc, &limits) {
+        match Host::with_limits(rt, alloc, &limits, key) {
             Ok(opened) => Ok(opened),
             Err(_) => Err(OpenFault::NoMemory),
         }

@@ -6,6 +6,7 @@ use std::alloc::Global;
 use std::env;
 use std::io::{self, BufReader, BufWriter, Read, Write};
 use std::process::ExitCode;
+use std::random::RandomSource;
 use std::sync::Wait;
 use std::thread::Threads;
 
@@ -28,14 +29,12 @@ fn words_of(rt: &HostRuntime, alloc: Global) -> io::Result<Vec<String>> {
 }
 
 /// The status of these words over these streams, or why room for buffers can't be had.
-fn run_on_streams<T: Threads + Wait + Sync, R: Read + Drop, W: Write + Drop, X: Write>(
-    rt: &T,
-    alloc: Global,
-    words: &[String],
-    input: R,
-    out: W,
-    err: &mut X,
-) -> io::Result<u8> {
+fn run_on_streams<
+    T: Threads + Wait + RandomSource + Sync,
+    R: Read + Drop,
+    W: Write + Drop,
+    X: Write,
+>(rt: &T, alloc: Global, words: &[String], input: R, out: W, err: &mut X) -> io::Result<u8> {
     let mut lent = Vec::with_capacity(alloc, words.len())?;
     for word in words {
         lent.push(word.as_str())?;

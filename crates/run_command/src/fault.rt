@@ -24,7 +24,7 @@ pub enum RunFault {
     /// An allocation was refused. A beginning of the report may have been written.
     #[error("no memory")]
     NoMemory,
-    /// The input can't be read. Nothing was written.
+    /// The input can't be read, or no random numbers can be had. Nothing was written.
     #[error("read failed")]
     ReadFailed,
     /// The report can't be written. A beginning of it may have been written.

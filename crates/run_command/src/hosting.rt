@@ -12,12 +12,14 @@ use scripts::{Line, OpenGate, Report, run_script};
 use std::alloc::Global;
 use std::sync::Wait;
 use std::thread::Threads;
+use store::TableKey;
 
-/// The report of a run of these lines: a host is opened, its workers do the lines, each its own in a thread of its own, and
-/// the host closes.
+/// The report of a run of these lines: a host is opened under this key, its workers do the lines, each its own in a thread
+/// of its own, and the host closes.
 pub(crate) fn report_of_lines<D: Digest + Send + Sync, T: Threads + Wait + Sync>(
     rt: &T,
     alloc: Global,
+    key: TableKey,
     settings: &Settings,
     lines: &[Line],
 ) -> Result<Vec<u8>, RunFault>
@@ -28,7 +30,7 @@ pub(crate) fn report_of_lines<D: Digest + Send + Sync, T: Threads + Wait + Sync>
         → IsUnclosed D D.digest_of settings.now lines.now }
     ensures kind { IfErr result IsOfHost }
 {
-    let Ok(opened) = Host::<D, 2>::open(rt, alloc, settings.limits()) else {
+    let Ok(opened) = Host::<D, 2>::open_keyed(rt, alloc, settings.limits(), key) else {
         // all limits are in their ranges, so memory was refused
         return Err(RunFault::NoMemory);
     };

@@ -10,21 +10,21 @@ use cid::Digest;
 use console::{done, tell};
 use std::alloc::Global;
 use std::io::{Read, Write};
+use std::random::RandomSource;
 use std::sync::Wait;
 use std::thread::Threads;
 
 /// Does the command, or says on standard error why not, and answers the exit status.
 ///
 /// At 0 the report was written. At 1 the DID or a line is faulty, or the host didn't close, and nothing was written. At 3
-/// memory was refused, and at 4 reading or writing failed.
-pub fn run<D: Digest + Send + Sync, T: Threads + Wait + Sync, R: Read, W: Write, X: Write>(
-    command: RunCommand<'_>,
-    rt: &T,
-    alloc: Global,
-    input: &mut R,
-    out: &mut W,
-    err: &mut X,
-) -> u8
+/// memory was refused, and at 4 reading or writing failed, or no random numbers could be had.
+pub fn run<
+    D: Digest + Send + Sync,
+    T: Threads + Wait + RandomSource + Sync,
+    R: Read,
+    W: Write,
+    X: Write,
+>(command: RunCommand<'_>, rt: &T, alloc: Global, input: &mut R, out: &mut W, err: &mut X) -> u8
     ensures status { IsStatusOf D D.digest_of command.entry.settings command.entry.did.now
         (R.remaining input.old) (W.contents out.old) (W.contents out.new) result }
 

@@ -17,8 +17,10 @@ use script_text::script_of;
 use scripts::Line;
 use std::alloc::Global;
 use std::io::{Read, Write};
+use std::random::RandomSource;
 use std::sync::Wait;
 use std::thread::Threads;
+use store::TableKey;
 
 /// Reads a script, lets a host's workers do its lines, each worker its own in a thread of its own, and writes what came of
 /// it: what each line was answered, each repository, each block, and what each writer told.
@@ -27,13 +29,21 @@ use std::thread::Threads;
 /// others, are those from scratch by its accepted writes, and the count of each block is the number of repositories that
 /// have it.
 ///
+/// The host's tables hash CIDs under a key that is drawn at random. Where there is none to be had, `RunFault::ReadFailed` says
+/// so.
+///
 /// The DID is that of all batches, and is tested before the input is read. All of the script is read and judged before a
 /// line of it is done, and the host has closed before a byte is written: only at `RunFault::NoMemory` and
 /// `RunFault::WriteFailed` a beginning of the report was written.
 ///
 /// `RunFault::BadDid` comes before the input is read, `RunFault::BadScript` names the first faulty line, and
 /// `RunFault::Uneven` says that the host didn't close; at these and at `RunFault::ReadFailed` nothing was written.
-pub fn run_text<D: Digest + Send + Sync, T: Threads + Wait + Sync, R: Read, W: Write>(
+pub fn run_text<
+    D: Digest + Send + Sync,
+    T: Threads + Wait + RandomSource + Sync,
+    R: Read,
+    W: Write,
+>(
     rt: &T,
     alloc: Global,
     settings: &Settings,
@@ -49,9 +59,26 @@ pub fn run_text<D: Digest + Send + Sync, T: Threads + Wait + Sync, R: Read, W: W
 {
     check_did(did)?;
     let lines = read_script(alloc, settings, did, input)?;
-    let text = report_of_lines::<D, T>(rt, alloc, settings, &lines)?;
+    let key = drawn_key(rt)?;
+    let text = report_of_lines::<D, T>(rt, alloc, key, settings, &lines)?;
     write_whole(out, &text)?;
     Ok(())
+}
+
+/// The key of the host's tables, drawn at random.
+fn drawn_key<T: RandomSource>(rt: &T) -> Result<TableKey, RunFault>
+    ensures kind { IfErr result (λ e. e ≡ RunFault.ReadFailed) }
+{
+    let mut bytes = [0; 16];
+    match rt.fill_bytes(&mut bytes) {
+        Ok(()) => {
+            let [a, b, c, d, e, f, g, h, i, j, k, l, m, n, o, p] = bytes;
+            let first = u64::from_le_bytes([a, b, c, d, e, f, g, h]);
+            let second = u64::from_le_bytes([i, j, k, l, m, n, o, p]);
+            Ok(TableKey::of(first, second))
+        }
+        Err(_) => Err(RunFault::ReadFailed),
+    }
 }
 
 /// Tests the DID.

@@ -9,9 +9,12 @@ use Rattle.std.specs.declared.cmp.Ordering.TheVariants.{Less, Equal, Greater}
 use Rattle.std.specs.Cmp.Lexicographic.{slice_cmp, nat_list_cmp_total}
 use Rattle.std.specs.FinMap as map
 use Rattle.std.specs.FinSet as set
+use Rattle.std.specs.declared.sync.Arc.{Arc}
+use Rattle.spec.specs.Cid.{cid as cid_of}
 use Rattle.store.specs.Faults.{IsRefusal, IsRefusalBeside}
 use Rattle.store.specs.Table.{Table, Held, entered, entry_at, left, left_entry, shard_of, IsLawful}
-use Rattle.store.specs.Shards.{AreEmpty, AreShardsOf, HasFullShard, HasOwnBlocks, empty_shard, no_table, table_at}
+use Rattle.store.specs.Shards.{AreEmpty, AreShardsOf, HasFullShard, HasOwnBlocks, IsMadeIn, empty_shard, no_table, own_shard, table_at}
+use Rattle.store.specs.Stores.{IsAnswer}
 use Rattle.store.specs.declared.fault.StoreFault.{StoreFault}
 use Rattle.store.specs.declared.fault.StoreFault.TheVariants.{Full}
 use Rattle.store.proofs.Tables.{same}
@@ -158,3 +161,42 @@ full_asked {T} {D} {A} digest limit ts s bytes old new d r sixteen is small here
     was_full D A digest limit ts s bytes old is small here
     (subst (IsLawful digest) (get_or-set_same ts s new d (within ts s sixteen small) ∙ subst (λ q. OnErr q (new ≡ old)) full kept) lawful)
     (subst (λ q. IfErr q (IsRefusal digest old bytes)) full fault)
+
+-- ---- what becomes of the shards, where one of them has changed
+
+set_same : (ts : List Table) (s : ℕ) → s < length ts → slice_set ts s (table_at ts s) ≡ ts
+set_same [] s h = absurd (omega arith)
+set_same (t ∷ ts) zero h = refl
+set_same (t ∷ ts) (suc s) h = ap (λ us. t ∷ us) (set_same ts s (omega arith))
+
+-- a core has left in a block's own shard
+pub left_here : (ts : List Table) (s : ℕ) (k : List ℕ) (core : ℕ) (old new : Table) → s ≡ shard_of k → old ≡ table_at ts s → new ≡ left old k core
+    → slice_set ts s new ≡ slice_set ts (shard_of k) (left (table_at ts (shard_of k)) k core)
+left_here ts s k core old new of_k here made =
+    ap (λ t. slice_set ts s t) (made ∙ ap (λ o. left o k core) here) ∙ ap (λ n. slice_set ts n (left (table_at ts n) k core)) of_k
+
+module _ {D A : Type 0} (digest : List ℕ → List ℕ) (bytes : List ℕ) (core : ℕ) where
+  -- a block's own shard was asked
+  pub made_here : (ts : List Table) (s : ℕ) (old new : Table) (r : Result (Arc (List ℕ) A × ℕ) (StoreFault D A)) → length ts ≡ 16 → s < 16
+      → s ≡ shard_of (cid_of digest bytes) → old ≡ table_at ts s
+      → OnOk r (new ≡ entered old (cid_of digest bytes) bytes core) → OnErr r (new ≡ old)
+      → IsMadeIn digest bytes core ts r (slice_set ts s new)
+  made_here ts s old new (Ok x) sixteen small of_k here made kept = record {
+    entered = ap (λ t. slice_set ts s t) (made ∙ ap (λ o. entered o (cid_of digest bytes) bytes core) here)
+        ∙ ap (λ n. slice_set ts n (entered (table_at ts n) (cid_of digest bytes) bytes core)) of_k;
+    unchanged = tt;
+  }
+  made_here ts s old new (Err f) sixteen small of_k here made kept = record {
+    entered = tt;
+    unchanged = ap (λ t. slice_set ts s t) (kept ∙ here) ∙ set_same ts s (within ts s sixteen small);
+  }
+
+  pub refused_here : (ts : List Table) (s : ℕ) (old : Table) (r : Result (Arc (List ℕ) A × ℕ) (StoreFault D A))
+      → s ≡ shard_of (cid_of digest bytes) → old ≡ table_at ts s
+      → IfErr r (IsRefusal digest old bytes) → IfErr r (IsRefusal digest (own_shard digest ts bytes) bytes)
+  refused_here ts s old r of_k here fault = subst (λ t. IfErr r (IsRefusal digest t bytes)) (here ∙ ap (table_at ts) of_k) fault
+
+  pub answered_full : (before after : ℕ) (r : Result (Arc (List ℕ) A × ℕ) (StoreFault D A)) → r ≡ Err Full → after ≡ suc before
+      → IsAnswer digest bytes core before r after
+  answered_full before after r full counted =
+      subst (λ q. IsAnswer digest bytes core before q after) (sym full) (record { hold = tt; fault = tt; counted = counted })

@@ -3,7 +3,7 @@ use Rattle.std.proofs.Common.{◌≡◌, ℕ, zero, suc, ◌<◌, List, length, 
 use Rattle.std.specs.Prelude.{Option, None, Some, not, ◌&&◌, ◌||◌, ◌==◌, ◌≢◌, if◌then◌else◌, slice_set}
 use Rattle.std.specs.Arc.{arc_value}
 use Rattle.std.specs.BTreeMap.{is_at}
-use Rattle.std.specs.Cmp.{nat_cmp_total, unsigned_tied}
+use Rattle.std.specs.Cmp.{eq_by_cmp_equiv, nat_cmp_total, unsigned_tied}
 use Rattle.std.specs.Cmp.Lexicographic.{slice_cmp, nat_list_cmp_total}
 use Rattle.std.specs.FinMap as map
 use Rattle.std.specs.FinSet as set
@@ -19,7 +19,10 @@ use Rattle.store.specs.Stores.{Entered, IsMade, IsReading, with_core}
 use Rattle.store.specs.Table.{Table, Held, cores_at, cores_of, entered, entry_at, left, left_entry, shard_of}
 use Rattle.store.specs.declared.lent_shard.LentShard.{LentShard}
 use Rattle.store.specs.declared.lent_shards.LentShards.{LentShards}
-use Rattle.store.proofs.Tables.{same, turn}
+use Rattle.store.proofs.Tables.{same}
+
+turn : (k q : List ℕ) → is_at (slice_cmp nat_cmp k) q ≡ is_eq (slice_cmp nat_cmp q k)
+turn k q = (eq_by_cmp_equiv nat_list_cmp_total).symm k q
 
 is_same : (k q : List ℕ) (r : Ordering) → slice_cmp nat_cmp k q ≡ r → is_eq r ≡ true → k ≡ q
 is_same k q Less tied h = absurd cc

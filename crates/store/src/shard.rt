@@ -3,15 +3,16 @@ ghost use Rattle.std.specs.Arc.{arc_value};
 ghost use Rattle.std.specs.FinMap as map;
 ghost use Rattle.std.specs.FinSet as set;
 ghost use Rattle.spec.specs.Cid.{cid as cid_of};
-ghost use Rattle.store.specs.Table.{entered, left, HasNoOther, cores_at, listed, IsLawful};
+ghost use Rattle.store.specs.Table.{entered, left, HasNoOther, cores_at, IsListing, IsLawful};
 ghost use Rattle.store.specs.Holds.{IsHoldOf};
 ghost use Rattle.store.specs.Faults.{IsRefusal};
 
 use crate::fault::StoreFault;
+use crate::table_key::TableKey;
 use block::Block;
 use cid::{Cid, Digest};
 use std::alloc::{Allocator, Global};
-use std::collections::BTreeMap;
+use std::collections::HashMap;
 use std::marker::Model;
 use std::sync::Arc;
 
@@ -29,7 +30,7 @@ pub use hold::Hold;
 /// CID of its bytes and has at least one core: this is a rule of this repository, no standard has it.
 #[derive(Drop)]
 pub struct Shard<D: Digest, A: Allocator = Global> {
-    table: BTreeMap<Cid, Entry<D, A>, A>,
+    table: HashMap<Cid, Entry<D, A>, TableKey, A>,
     limit: usize,
 }
 
@@ -46,16 +47,23 @@ impl<D: Digest, A: Allocator> Model for Shard<D, A> {
 }
 
 impl<D: Digest, A: Allocator> Shard<D, A> {
-    /// An empty shard that may have `limit` blocks, 1 to 1,048,576. It takes no memory yet.
+    /// An empty shard that may have `limit` blocks, 1 to 1,048,576, under a key that everybody knows. It takes no memory yet.
     pub fn new(alloc: A, limit: usize) -> Shard<D, A>
         requires least { 1 ≤ limit }
         requires most { limit ≤ 1048576 }
         ensures { result ≡ record { entries = map.empty; limit = limit } }
     {
-        Shard {
-            table: BTreeMap::new(alloc),
-            limit,
-        }
+        Shard::keyed(alloc, limit, TableKey::known())
+    }
+
+    /// An empty shard that may have `limit` blocks, 1 to 1,048,576, under this key. It takes no memory yet.
+    pub fn keyed(alloc: A, limit: usize, key: TableKey) -> Shard<D, A>
+        requires least { 1 ≤ limit }
+        requires most { limit ≤ 1048576 }
+        ensures { result ≡ record { entries = map.empty; limit = limit } }
+    {
+        let table = HashMap::with_hasher(alloc, key);
+        Shard { table, limit }
     }
 
     /// Takes the hold's core out of the entry under the hold's CID, and the entry out with its last core.
@@ -73,9 +81,9 @@ impl<D: Digest, A: Allocator> Shard<D, A> {
         }
     }
 
-    /// Each entry's CID with the cores that hold its block, in the order of the CIDs.
+    /// Each entry's CID with the cores that hold its block, once, in no order that is known. It takes no memory.
     pub fn entries(&self) -> Entries<'_, D, A>
-        ensures entries { result ≡ listed self.now }
+        ensures entries { IsListing self.now result }
         ensures lawful { IsLawful D.digest_of self.now }
     {
         Entries {

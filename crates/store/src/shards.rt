@@ -3,9 +3,9 @@ ghost use Rattle.store.specs.Shards.{AreEmpty, empty_shard};
 ghost use Rattle.store.specs.Table.{shard_of};
 
 use crate::shard::Shard;
+use crate::table_key::TableKey;
 use cid::{Cid, Digest};
 use std::alloc::{Allocator, Global};
-use std::array;
 use std::sync::Mutex;
 
 /// How many shards there are.
@@ -26,7 +26,32 @@ pub fn empty_shards<D: Digest, A: Allocator + Copy>(alloc: A, limit: usize) -> [
     requires most { limit ≤ 1048576 }
     ensures { AreEmpty limit result }
 {
-    array::from_fn(|_| Shard::new(alloc, limit))
+    [
+        Shard::new(alloc, limit),
+        Shard::new(alloc, limit),
+        Shard::new(alloc, limit),
+        Shard::new(alloc, limit),
+        Shard::new(alloc, limit),
+        Shard::new(alloc, limit),
+        Shard::new(alloc, limit),
+        Shard::new(alloc, limit),
+        Shard::new(alloc, limit),
+        Shard::new(alloc, limit),
+        Shard::new(alloc, limit),
+        Shard::new(alloc, limit),
+        Shard::new(alloc, limit),
+        Shard::new(alloc, limit),
+        Shard::new(alloc, limit),
+        Shard::new(alloc, limit),
+    ]
+}
+
+/// An empty shard in its lock.
+fn locked<D: Digest, A: Allocator>(alloc: A, limit: usize, key: TableKey) -> Mutex<Shard<D, A>>
+    requires least { 1 ≤ limit }
+    requires most { limit ≤ 1048576 }
+{
+    Mutex::new(Shard::keyed(alloc, limit, key))
 }
 
 /// Sixteen locked shards, which threads share. A block stands in the shard of its CID.
@@ -72,13 +97,39 @@ impl<D: Digest, A: Allocator> Shards<D, A> {
 }
 
 impl<D: Digest, A: Allocator + Copy> Shards<D, A> {
-    /// Sixteen empty shards, each of at most `limit` blocks, 1 to 1,048,576. It takes no memory yet.
+    /// Sixteen empty shards, each of at most `limit` blocks, 1 to 1,048,576, under a key that everybody knows. It takes no
+    /// memory yet.
     pub fn open(alloc: A, limit: usize) -> Shards<D, A>
         requires least { 1 ≤ limit }
         requires most { limit ≤ 1048576 }
     {
+        Shards::open_keyed(alloc, limit, TableKey::known())
+    }
+
+    /// Sixteen empty shards, each of at most `limit` blocks, 1 to 1,048,576, under this key. It takes no memory yet.
+    pub fn open_keyed(alloc: A, limit: usize, key: TableKey) -> Shards<D, A>
+        requires least { 1 ≤ limit }
+        requires most { limit ≤ 1048576 }
+    {
         Shards {
-            shards: array::from_fn(|_| Mutex::new(Shard::new(alloc, limit))),
+            shards: [
+                locked(alloc, limit, key),
+                locked(alloc, limit, key),
+                locked(alloc, limit, key),
+                locked(alloc, limit, key),
+                locked(alloc, limit, key),
+                locked(alloc, limit, key),
+                locked(alloc, limit, key),
+                locked(alloc, limit, key),
+                locked(alloc, limit, key),
+                locked(alloc, limit, key),
+                locked(alloc, limit, key),
+                locked(alloc, limit, key),
+                locked(alloc, limit, key),
+                locked(alloc, limit, key),
+                locked(alloc, limit, key),
+                locked(alloc, limit, key),
+            ],
         }
     }
 }

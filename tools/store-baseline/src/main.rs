@@ -1,12 +1,12 @@
-//! What `bench store COUNT ROUNDS` does, over the plain map of Rust's library.
+//! What `bench store COUNT ROUNDS` does, over the hash map of Rust's library.
 
-use std::collections::BTreeMap;
-use std::collections::btree_map::Entry;
+use std::collections::HashMap;
+use std::collections::hash_map::Entry;
 use std::env;
 use std::sync::Arc;
 
 type Cid = [u8; 36];
-type Shard = BTreeMap<Cid, (Arc<[u8]>, [u64; 16])>;
+type Shard = HashMap<Cid, (Arc<[u8]>, [u64; 16])>;
 
 struct Hold {
     cid: Cid,

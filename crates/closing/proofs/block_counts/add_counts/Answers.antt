@@ -7,8 +7,8 @@ loop-cid-init g c = (
   tt,
   tt,
   subst (Adding c.args.all.now.entries c.args.all.now.entries c.args.shard c.args.table.now)
-      (sym (c.into_iter-cid-iterator.ensures.into_iter_gives ∙ c.entries-cid-items.ensures.entries))
-      (adding_start g.D.Digest.digest_of c.args.all.now.entries c.args.shard c.args.table.now c.entries-cid-items.ensures.lawful),
+      (sym c.into_iter-cid-iterator.ensures.into_iter_gives)
+      (adding_start g.D.Digest.digest_of c.args.all.now.entries c.args.shard c.args.table.now _ c.entries-cid-items.ensures.entries c.entries-cid-items.ensures.lawful),
 )
 
 pub loop-cid-preserved-then-shard_number-shard : goal.loop-cid-preserved-then-shard_number-shard

@@ -8,8 +8,8 @@ loop-cid-init g c = (
   tt,
   tt,
   subst (Going g.D.Digest.digest_of g.row.B c.args.cores.now c.args.shard c.args.table.now)
-      (sym (c.into_iter-cid-iterator.ensures.into_iter_gives ∙ c.entries-cid-items.ensures.entries))
-      (going_start g.D.Digest.digest_of g.row.B c.args.cores.now c.args.shard c.args.table.now),
+      (sym c.into_iter-cid-iterator.ensures.into_iter_gives)
+      (going_start g.D.Digest.digest_of g.row.B c.args.cores.now c.args.shard c.args.table.now _ c.entries-cid-items.ensures.entries),
 )
 
 pub all_have-requires : goal.all_have-requires

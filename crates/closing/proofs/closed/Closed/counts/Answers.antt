@@ -16,7 +16,7 @@ returns-clause-counts g c =
     ∙ ap (λ (v : ClosedView). tally g.D.Digest.digest_of g.row.B v.cores cid) c.self.view_is))
 
 pub returns-in_err-clone-clause-ascending : goal.returns-in_err-clone-clause-ascending
-returns-in_err-clone-clause-ascending g c = grind (arith, common_steps)
+returns-in_err-clone-clause-ascending g c = grind (arith, common_steps) steps 30000000
 
 pub returns-in_err-clone-clause-counts : goal.returns-in_err-clone-clause-counts
-returns-in_err-clone-clause-counts g c = grind (arith, common_steps)
+returns-in_err-clone-clause-counts g c = grind (arith, common_steps) steps 30000000

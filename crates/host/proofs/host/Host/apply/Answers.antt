@@ -1,7 +1,9 @@
-use Rattle.std.proofs.Common.{rules, subst}
+use Rattle.std.proofs.Common.{rules, arith, subst, ◌<◌, ◌^◌}
+use prog.Memory.{size}
 use denote.Param.{layout, param, number}
 use Rattle.repo.specs.contracts.repository.Repository as repository
-use Rattle.host.proofs.Sizes.{core_fits}
+use Rattle.host.specs.contracts.host.Host as host
+use Rattle.host.proofs.Sizes.{core_fits, field_fits}
 use Rattle.host.specs.Seeing.{IsSeen}
 use Rattle.host.proofs.Accepting.{taken, refused}
 use Rattle.host.proofs.host.Host.apply.Goals as goal
@@ -29,3 +31,9 @@ drop-core-requires-room-T-Destruct g c κs within =
 pub drop-core-requires-in-loop-room-T-Destruct : goal.drop-core-requires-in-loop-room-T-Destruct
 drop-core-requires-in-loop-room-T-Destruct g c κs within =
     core_fits (layout (repository.the_row (param 0 g.row.D) (number g.row.B) (param 2 g.row.A) g.D.Digest g.A.Allocator)) c.element-repository.ensures.fits
+
+pub new-store-requires : goal.new-store-requires
+new-store-requires g c =
+    let whole = layout (host.the_row (param 0 g.row.D) (number g.row.B) (param 2 g.row.A) g.D.Digest g.A.Allocator g.A.Clone) in
+    let fits : size (layout (host.the_row (param 0 g.row.D) (number g.row.B) (param 2 g.row.A) g.D.Digest g.A.Allocator g.A.Clone)) < 2 ^ 63 = search (c.requires-raw.1, rules) in
+    (field_fits whole 3 fits, omega arith)
