@@ -5,6 +5,7 @@ use cid::digests::Size;
 use cid::{Cid, Sha256};
 use std::alloc::{AllocError, Global};
 use std::process::Abort;
+use std::random::RandomSource;
 use std::sync::Wait;
 use std::thread::Threads;
 
@@ -41,7 +42,7 @@ fn with_record(alloc: Global, text: &str, record: &[&str]) -> Result<Vec<u8>, Al
 }
 
 /// Whether each command on one repository refuses a record on line 2 by this name.
-fn is_refused_on_its_line<T: Threads + Wait + Abort + Sync>(
+fn is_refused_on_its_line<T: Threads + Wait + RandomSource + Abort + Sync>(
     rt: &T,
     alloc: Global,
     record: &[&str],
@@ -53,13 +54,18 @@ fn is_refused_on_its_line<T: Threads + Wait + Abort + Sync>(
 }
 
 /// Whether each command on one repository refuses this input, and tells no more than this.
-fn are_refused<T: Threads + Wait + Sync>(rt: &T, alloc: Global, input: &[u8], told: &str) -> bool {
+fn are_refused<T: Threads + Wait + RandomSource + Sync>(
+    rt: &T,
+    alloc: Global,
+    input: &[u8],
+    told: &str,
+) -> bool {
     run(rt, alloc, ON_ONE[0], input).is(1, b"", told)
         && run(rt, alloc, ON_ONE[1], input).is(1, b"", told)
 }
 
 /// Whether a script refuses a record on line 2 by this name.
-fn is_refused_in_a_script<T: Threads + Wait + Abort + Sync>(
+fn is_refused_in_a_script<T: Threads + Wait + RandomSource + Abort + Sync>(
     rt: &T,
     alloc: Global,
     record: &[&str],
@@ -71,7 +77,7 @@ fn is_refused_in_a_script<T: Threads + Wait + Abort + Sync>(
 }
 
 /// Whether each command refuses a record on line 2 by this name.
-fn is_refused<T: Threads + Wait + Abort + Sync>(
+fn is_refused<T: Threads + Wait + RandomSource + Abort + Sync>(
     rt: &T,
     alloc: Global,
     record: &[&str],
@@ -89,7 +95,11 @@ fn records(rt: HostRuntime) {
 }
 
 /// Whether a record with these digits behind it is too long.
-fn is_too_long<T: Threads + Wait + Abort + Sync>(rt: &T, alloc: Global, digits: &[u8]) -> bool {
+fn is_too_long<T: Threads + Wait + RandomSource + Abort + Sync>(
+    rt: &T,
+    alloc: Global,
+    digits: &[u8],
+) -> bool {
     match str::from_utf8(digits) {
         Ok(digits) => is_refused(rt, alloc, &["a161615a00100000", digits], "RecordSize"),
         Err(_) => false,
@@ -103,13 +113,17 @@ fn a_record_that_is_too_long(rt: HostRuntime) {
 }
 
 /// Whether a command on one repository tells that the records of two lines clash.
-fn clash_in<T: Threads + Wait + Sync>(rt: &T, alloc: Global, words: &[&str]) -> bool {
+fn clash_in<T: Threads + Wait + RandomSource + Sync>(
+    rt: &T,
+    alloc: Global,
+    words: &[&str],
+) -> bool {
     let ended = run_with::<Size, _>(rt, alloc, words, b"a/b a1616100\n\na/c a1616101");
     ended.is(1, b"", "msthost: line 3: Collision\n")
 }
 
 /// Whether each command tells it.
-fn clash<T: Threads + Wait + Sync>(rt: &T, alloc: Global) -> bool {
+fn clash<T: Threads + Wait + RandomSource + Sync>(rt: &T, alloc: Global) -> bool {
     let script = b"0 0 2222222222222 put a/b a1616100 ; put a/c a1616101";
     clash_in(rt, alloc, ON_ONE[0])
         && clash_in(rt, alloc, ON_ONE[1])
@@ -164,7 +178,7 @@ fn node_above(link: &Cid) -> [u8; 47] {
 type Wanted = (u8, &'static [u8], &'static str);
 
 /// Whether the nodes on these lines show this of the key `a` under a root.
-fn shows<T: Threads + Wait + Sync>(
+fn shows<T: Threads + Wait + RandomSource + Sync>(
     rt: &T,
     alloc: Global,
     root: &[u8],
@@ -181,7 +195,7 @@ fn shows<T: Threads + Wait + Sync>(
 }
 
 /// Whether the nodes of a chain of so many and one more, from a place of its lines on, show this under its top.
-fn chain_shows<T: Threads + Wait + Sync>(
+fn chain_shows<T: Threads + Wait + RandomSource + Sync>(
     rt: &T,
     alloc: Global,
     more: u8,

@@ -2,11 +2,12 @@
 use crate::running::{EMPTY, THREE_KEYS, TREE, ends, joined, lists, run_with};
 use cid::digests::Size;
 use std::alloc::Global;
+use std::random::RandomSource;
 use std::sync::Wait;
 use std::thread::Threads;
 
 /// Whether the command is refused with just this on standard error, and nothing is written.
-fn are_refused<T: Threads + Wait + Sync>(
+fn are_refused<T: Threads + Wait + RandomSource + Sync>(
     rt: &T,
     alloc: Global,
     words: &[&str],
@@ -76,7 +77,12 @@ fn faults(rt: HostRuntime) {
 static NO_DIDS: [&str; 4] = ["", "did:web:", "did:Web:a", "localhost"];
 
 /// Whether a command refuses a DID.
-fn is_no_did<T: Threads + Wait + Sync>(rt: &T, alloc: Global, command: &str, did: &str) -> bool {
+fn is_no_did<T: Threads + Wait + RandomSource + Sync>(
+    rt: &T,
+    alloc: Global,
+    command: &str,
+    did: &str,
+) -> bool {
     let words = ["msthost", command, "--did", did];
     are_refused(rt, alloc, &words, &["x"], "msthost: BadDid\n")
 }
@@ -116,7 +122,7 @@ static NO_ROOTS: [(&str, &str); 7] = [
 ];
 
 /// Whether blocks prove nothing of a key under this root, and this is told.
-fn shows_nothing<T: Threads + Wait + Sync>(
+fn shows_nothing<T: Threads + Wait + RandomSource + Sync>(
     rt: &T,
     alloc: Global,
     root: &str,
@@ -269,7 +275,7 @@ static THOUSANDTH: [(&[&str], &str); 5] = [
 ];
 
 /// Whether a command tells this of a faulty line after these empty ones.
-fn tells_after<T: Threads + Wait + Sync>(
+fn tells_after<T: Threads + Wait + RandomSource + Sync>(
     rt: &T,
     alloc: Global,
     words: &[&str],
@@ -309,7 +315,7 @@ static NO_CIDS: [&str; 11] = [
 ];
 
 /// Whether such a text is refused on the first line, which has an end, and on the second, which has none.
-fn is_no_cid<T: Threads + Wait + Sync>(rt: &T, alloc: Global, text: &str) -> bool {
+fn is_no_cid<T: Threads + Wait + RandomSource + Sync>(rt: &T, alloc: Global, text: &str) -> bool {
     let first = ["a/b ", text, "\n"];
     let second = ["\r\n", "a/b ", text];
     are_refused(rt, alloc, &TREE, &first, "msthost: line 1: BadCid\n")
@@ -324,7 +330,7 @@ fn faulty_cids(rt: HostRuntime) {
 }
 
 /// Whether this key has the greatest length there is: a tree of it has this root.
-fn is_longest<T: Threads + Wait + Sync>(rt: &T, alloc: Global, key: &[u8]) -> bool {
+fn is_longest<T: Threads + Wait + RandomSource + Sync>(rt: &T, alloc: Global, key: &[u8]) -> bool {
     let root = "bafyreig37hu6jop2zw2hyng2t7crys3wo7c2cro6hmyvtygf5foi2v3xni";
     match str::from_utf8(key) {
         Ok(key) => lists(rt, alloc, &TREE, &[key, " ", "E"], root),
@@ -333,7 +339,7 @@ fn is_longest<T: Threads + Wait + Sync>(rt: &T, alloc: Global, key: &[u8]) -> bo
 }
 
 /// Whether this key is too long, be the rest of its line right or not.
-fn is_too_long<T: Threads + Wait + Sync>(rt: &T, alloc: Global, key: &[u8]) -> bool {
+fn is_too_long<T: Threads + Wait + RandomSource + Sync>(rt: &T, alloc: Global, key: &[u8]) -> bool {
     let told = "msthost: line 1: BadKey\n";
     match str::from_utf8(key) {
         Ok(key) => {

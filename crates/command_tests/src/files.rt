@@ -1,6 +1,7 @@
 //! The files that `car` writes, by their values. The bytes come from a program in another language.
 use crate::running::{joined, run};
 use std::alloc::Global;
+use std::random::RandomSource;
 use std::sync::Wait;
 use std::thread::Threads;
 
@@ -62,7 +63,7 @@ fn are_digits_of(alloc: Global, digits: &[u8], bytes: &[u8]) -> bool {
 }
 
 /// Whether a command on this input writes this file, and is done.
-fn has_file<T: Threads + Wait + Sync>(
+fn has_file<T: Threads + Wait + RandomSource + Sync>(
     rt: &T,
     alloc: Global,
     words: &[&str],

@@ -2,6 +2,7 @@
 use crate::running::{EMPTY, TREE, run};
 use cid::{Cid, Sha256};
 use std::alloc::{AllocError, Global};
+use std::random::RandomSource;
 use std::sync::Wait;
 use std::thread::Threads;
 
@@ -38,7 +39,7 @@ const REPORT: &str =
     "1 ok 300\nrepo 0 bafyreihpt5pre3msfy2xfk4rujkwkclyyxvzyl76imz6phaghvfmdyphmm 300 bafyreidy63he7hwxskf3jpeqfm5oebpjhqz4nitfc4hu4x45miyj4wfgwe\n";
 
 /// Whether a command is done on this input of more than 64 kilobytes, and what it writes has this CID.
-fn writes<T: Threads + Wait + Sync>(
+fn writes<T: Threads + Wait + RandomSource + Sync>(
     rt: &T,
     alloc: Global,
     words: &[&str],

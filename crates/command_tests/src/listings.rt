@@ -2,6 +2,7 @@
 use crate::running::{Ended, THREE_KEYS, TREE, joined, lists, run, run_with};
 use cid::digests::Toy;
 use std::alloc::Global;
+use std::random::RandomSource;
 use std::sync::Wait;
 use std::thread::Threads;
 
@@ -80,7 +81,11 @@ const TWICE: [&str; 11] = [
 ];
 
 /// What `tree` on these texts comes to.
-fn tree_of<T: Threads + Wait + Sync>(rt: &T, alloc: Global, parts: &[&str]) -> Option<Ended> {
+fn tree_of<T: Threads + Wait + RandomSource + Sync>(
+    rt: &T,
+    alloc: Global,
+    parts: &[&str],
+) -> Option<Ended> {
     match joined(alloc, parts) {
         Ok(input) => Some(run(rt, alloc, &TREE, &input)),
         Err(_) => None,
@@ -164,7 +169,7 @@ static SIZES: [(&str, usize, usize); 4] = [
 ];
 
 /// Whether the tree of the three keys has so many lines and bytes.
-fn has_size<T: Threads + Wait + Sync>(
+fn has_size<T: Threads + Wait + RandomSource + Sync>(
     rt: &T,
     alloc: Global,
     bits: &str,

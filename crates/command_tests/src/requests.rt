@@ -3,6 +3,7 @@ use crate::running::EMPTY;
 use commands::{Request, run_words};
 use repository_commands::RepositoryCommand;
 use std::alloc::Global;
+use std::random::RandomSource;
 use std::sync::Wait;
 use std::thread::Threads;
 
@@ -14,11 +15,17 @@ enum Asked {
     Car,
     Prove,
     Verify,
+    ProveChange,
+    VerifyChange,
     Run,
 }
 
 /// What the words ask for, over an input without lines.
-fn request_of<T: Threads + Wait + Sync>(rt: &T, alloc: Global, words: &[&str]) -> Asked {
+fn request_of<T: Threads + Wait + RandomSource + Sync>(
+    rt: &T,
+    alloc: Global,
+    words: &[&str],
+) -> Asked {
     let mut input: &[u8] = b"";
     let mut out = Vec::new(alloc);
     let mut err = Vec::new(alloc);
@@ -28,15 +35,19 @@ fn request_of<T: Threads + Wait + Sync>(rt: &T, alloc: Global, words: &[&str]) -
         Some(Request::OnRepository(RepositoryCommand::Car { .. })) => Asked::Car,
         Some(Request::OnRepository(RepositoryCommand::Prove { .. })) => Asked::Prove,
         Some(Request::OnRepository(RepositoryCommand::Verify { .. })) => Asked::Verify,
+        Some(Request::OnRepository(RepositoryCommand::ProveChange)) => Asked::ProveChange,
+        Some(Request::OnRepository(RepositoryCommand::VerifyChange)) => Asked::VerifyChange,
         Some(Request::Run(_)) => Asked::Run,
     }
 }
 
-static ROWS: [(&[&str], Asked); 8] = [
+static ROWS: [(&[&str], Asked); 10] = [
     (&["msthost", "tree"], Asked::Tree),
     (&["msthost", "car"], Asked::Car),
     (&["msthost", "prove", "a/b"], Asked::Prove),
     (&["msthost", "verify", EMPTY, "a/b"], Asked::Verify),
+    (&["msthost", "prove-change"], Asked::ProveChange),
+    (&["msthost", "verify-change"], Asked::VerifyChange),
     (&["msthost", "run"], Asked::Run),
     (&["msthost", "--help"], Asked::Nothing),
     (&["msthost", "--version"], Asked::Nothing),

@@ -3,6 +3,7 @@ use cid::Digest;
 use commands::{run_words, run_words_with};
 use std::alloc::{AllocError, Global};
 use std::io::Read;
+use std::random::RandomSource;
 use std::sync::Wait;
 use std::thread::Threads;
 
@@ -41,7 +42,7 @@ impl Ended {
 }
 
 /// Runs a command over an input in memory.
-pub(crate) fn run<T: Threads + Wait + Sync>(
+pub(crate) fn run<T: Threads + Wait + RandomSource + Sync>(
     rt: &T,
     alloc: Global,
     words: &[&str],
@@ -52,7 +53,7 @@ pub(crate) fn run<T: Threads + Wait + Sync>(
 }
 
 /// Runs a command over any reader.
-pub(crate) fn run_over<T: Threads + Wait + Sync, R: Read>(
+pub(crate) fn run_over<T: Threads + Wait + RandomSource + Sync, R: Read>(
     rt: &T,
     alloc: Global,
     words: &[&str],
@@ -65,7 +66,7 @@ pub(crate) fn run_over<T: Threads + Wait + Sync, R: Read>(
 }
 
 /// Runs a command over an input in memory, under the digest `D`.
-pub(crate) fn run_with<D: Digest + Send + Sync, T: Threads + Wait + Sync>(
+pub(crate) fn run_with<D: Digest + Send + Sync, T: Threads + Wait + RandomSource + Sync>(
     rt: &T,
     alloc: Global,
     words: &[&str],
@@ -83,7 +84,7 @@ pub(crate) fn run_with<D: Digest + Send + Sync, T: Threads + Wait + Sync>(
 }
 
 /// Whether a command on these texts, one after another, ends with this status, and writes this and nothing else.
-pub(crate) fn ends<T: Threads + Wait + Sync>(
+pub(crate) fn ends<T: Threads + Wait + RandomSource + Sync>(
     rt: &T,
     alloc: Global,
     words: &[&str],
@@ -99,7 +100,7 @@ pub(crate) fn ends<T: Threads + Wait + Sync>(
 }
 
 /// Whether a command on these texts lists a tree with this root, and tells no fault.
-pub(crate) fn lists<T: Threads + Wait + Sync>(
+pub(crate) fn lists<T: Threads + Wait + RandomSource + Sync>(
     rt: &T,
     alloc: Global,
     words: &[&str],

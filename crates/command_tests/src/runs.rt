@@ -1,6 +1,7 @@
 //! How reports of `run` begin.
 use crate::running::run;
 use std::alloc::Global;
+use std::random::RandomSource;
 use std::sync::Wait;
 use std::thread::Threads;
 
@@ -43,7 +44,7 @@ static ORDERS: [&str; 5] = [
 ];
 
 /// Whether such a report comes of the lines.
-fn are_in_some_order<T: Threads + Wait + Sync>(rt: &T, alloc: Global) -> bool {
+fn are_in_some_order<T: Threads + Wait + RandomSource + Sync>(rt: &T, alloc: Global) -> bool {
     let ended = run(rt, alloc, TWO_WORKERS, ONE_REPOSITORY.as_bytes());
     for front in &ORDERS {
         if ended.begins(front) {

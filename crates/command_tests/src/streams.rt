@@ -5,6 +5,7 @@ use crate::running::{EMPTY, Ended, TREE, joined, run, run_over};
 use commands::run_words;
 use std::alloc::Global;
 use std::io::{self, ErrorKind, Read, Write};
+use std::random::RandomSource;
 use std::sync::Wait;
 use std::thread::Threads;
 
@@ -45,7 +46,7 @@ static COMMANDS: [(&[&str], &[u8]); 6] = [
 ];
 
 /// Whether a command over a reader that gives these bytes and then fails ends with this, and writes nothing.
-fn fails_after<T: Threads + Wait + Sync>(
+fn fails_after<T: Threads + Wait + RandomSource + Sync>(
     rt: &T,
     alloc: Global,
     words: &[&str],
@@ -60,7 +61,7 @@ fn fails_after<T: Threads + Wait + Sync>(
 }
 
 /// Whether it does so for each kind of failure.
-fn fails_each_way<T: Threads + Wait + Sync>(
+fn fails_each_way<T: Threads + Wait + RandomSource + Sync>(
     rt: &T,
     alloc: Global,
     words: &[&str],
@@ -101,7 +102,7 @@ impl Read for InterruptedReader<'_> {
 }
 
 /// Whether a tree of these lines has this root, and the same comes of them where each read is interrupted first.
-fn lists_all_the_same<T: Threads + Wait + Sync>(
+fn lists_all_the_same<T: Threads + Wait + RandomSource + Sync>(
     rt: &T,
     alloc: Global,
     lines: &[u8],
@@ -183,7 +184,7 @@ fn narrow(alloc: Global, room: usize, end: End) -> NarrowWriter {
 }
 
 /// Runs a command on an input in memory, over such a writer.
-fn run_into<T: Threads + Wait + Sync>(
+fn run_into<T: Threads + Wait + RandomSource + Sync>(
     rt: &T,
     alloc: Global,
     words: &[&str],
@@ -202,7 +203,7 @@ fn run_into<T: Threads + Wait + Sync>(
 }
 
 /// Whether a command that writes so many bytes writes all of them, or just what the writer has room for.
-fn writes_what_fits<T: Threads + Wait + Sync>(
+fn writes_what_fits<T: Threads + Wait + RandomSource + Sync>(
     rt: &T,
     alloc: Global,
     words: &[&str],
@@ -244,7 +245,7 @@ fn a_writer_that_takes_little_or_fails(rt: HostRuntime) {
 }
 
 /// Whether a command fails that can't flush what it has written, all of its output.
-fn fails_at_its_flush<T: Threads + Wait + Sync>(
+fn fails_at_its_flush<T: Threads + Wait + RandomSource + Sync>(
     rt: &T,
     alloc: Global,
     words: &[&str],
@@ -282,7 +283,7 @@ fn a_flush_that_fails(rt: HostRuntime) {
 }
 
 /// Whether a command ends where nothing is taken: at the first byte, at the seventh, and at the last one.
-fn ends_where_nothing_is_taken<T: Threads + Wait + Sync>(
+fn ends_where_nothing_is_taken<T: Threads + Wait + RandomSource + Sync>(
     rt: &T,
     alloc: Global,
     words: &[&str],

@@ -1,6 +1,7 @@
 //! What commands write, by its values. Roots, nodes and CIDs come from a program in another language.
 use crate::running::{EMPTY, TREE, ends, joined};
 use std::alloc::Global;
+use std::random::RandomSource;
 use std::sync::Wait;
 use std::thread::Threads;
 
@@ -233,7 +234,7 @@ static TEXTS: [(&[&str], &[&str], &[&str]); 35] = [
 ];
 
 /// Whether a command on this input writes this, and is done.
-fn writes<T: Threads + Wait + Sync>(
+fn writes<T: Threads + Wait + RandomSource + Sync>(
     rt: &T,
     alloc: Global,
     words: &[&str],

@@ -4,6 +4,7 @@ use bstr::ByteSlice;
 use commands::not_started;
 use std::alloc::Global;
 use std::io::{self, ErrorKind};
+use std::random::RandomSource;
 use std::sync::Wait;
 use std::thread::Threads;
 
@@ -38,7 +39,11 @@ static WRONG: [&[&str]; 26] = [
 ];
 
 /// Whether a command line is refused with an error, and nothing is written.
-fn is_wrong<T: Threads + Wait + Sync>(rt: &T, alloc: Global, words: &[&str]) -> bool {
+fn is_wrong<T: Threads + Wait + RandomSource + Sync>(
+    rt: &T,
+    alloc: Global,
+    words: &[&str],
+) -> bool {
     let ended = run(rt, alloc, words, b"a/b");
     ended.status == 2 && ended.err.starts_with(b"error: ") && ended.out.is_empty()
 }
@@ -111,7 +116,12 @@ static HELP: [(&[&str], &str); 15] = [
 ];
 
 /// Whether a command line shows this, tells no fault, and is done.
-fn shows<T: Threads + Wait + Sync>(rt: &T, alloc: Global, words: &[&str], shown: &str) -> bool {
+fn shows<T: Threads + Wait + RandomSource + Sync>(
+    rt: &T,
+    alloc: Global,
+    words: &[&str],
+    shown: &str,
+) -> bool {
     let ended = run(rt, alloc, words, b"a/b");
     ended.status == 0 && ended.out.as_slice().contains_str(shown.as_bytes()) && ended.err.is_empty()
 }

@@ -66,8 +66,10 @@ named_sub test =
     let car : IsCommandName (codes "car") = (1, codes "car", omega arith, refl, refl) in
     let prove : IsCommandName (codes "prove") = (2, codes "prove", omega arith, refl, refl) in
     let verify : IsCommandName (codes "verify") = (3, codes "verify", omega arith, refl, refl) in
-    let run : IsCommandName (codes "run") = (4, codes "run", omega arith, refl, refl) in
-    found_in HasName test (built msthost).subs (tree, (car, (prove, (verify, (run, tt)))))
+    let prove_change : IsCommandName (codes "prove-change") = (4, codes "prove-change", omega arith, refl, refl) in
+    let verify_change : IsCommandName (codes "verify-change") = (5, codes "verify-change", omega arith, refl, refl) in
+    let run : IsCommandName (codes "run") = (6, codes "run", omega arith, refl, refl) in
+    found_in HasName test (built msthost).subs (tree, (car, (prove, (verify, (prove_change, (verify_change, (run, tt)))))))
 
 entered_name : (words : List Text) (o : Option Shape) → IfSome o HasName → IfSome (option_map (λ s. rows_at s words) o) (λ c. IsCommandName c.0)
 unfolding HasName

@@ -13,6 +13,7 @@ use Rattle.commands.specs.declared.command_line.Request.{Request}
 use Rattle.commands.specs.declared.command_line.Request.TheVariants as requests
 use Rattle.tree_command.specs.Words.{HasNumberOf, tree_shape}
 use Rattle.repository_commands.specs.Words.{IsOfWords, car_shape, prove_shape, verify_shape}
+use Rattle.repository_commands.specs.Words.{prove_change_shape, verify_change_shape}
 use Rattle.run_command.specs.Words.{HasNumbersOf, did_of_words, run_shape}
 
 -- What clap reads of the program, beside its commands: it has a version and wants a command, and
@@ -25,11 +26,12 @@ program_shape = record (new_shape (codes "msthost")) {
   disable_help_subcommand = true;
 }
 
--- the program with its five commands
+-- the program with its seven commands
 unfoldable pub msthost : App
 msthost = record {
   top = program_shape;
-  subs = tree_shape ∷ car_shape ∷ prove_shape ∷ verify_shape ∷ run_shape ∷ [];
+  subs = tree_shape ∷ car_shape ∷ prove_shape ∷ verify_shape ∷ prove_change_shape ∷ verify_change_shape
+      ∷ run_shape ∷ [];
 }
 
 -- the request is the one of this name, with what the command's own words say
@@ -48,7 +50,7 @@ pub record IsAskedBy (words : List Text) (request : Request) : Type 0 where
 -- one of the commands has this name
 abbrev pub IsCommandName : Text → Type 0
 IsCommandName name = Any (λ x. x ≡ name) (codes "tree" ∷ codes "car" ∷ codes "prove" ∷ codes "verify"
-    ∷ codes "run" ∷ [])
+    ∷ codes "prove-change" ∷ codes "verify-change" ∷ codes "run" ∷ [])
 
 -- an answer of this kind is help or the version
 abbrev pub is_shown : ErrorKind → Bool

@@ -14,6 +14,7 @@ use clap::error::ErrorKind;
 use console::{USAGE, done, no_memory, write_failed};
 use std::alloc::Global;
 use std::io::{Read, Write};
+use std::random::RandomSource;
 use std::sync::Wait;
 use std::thread::Threads;
 
@@ -32,7 +33,7 @@ pub struct Outcome<'a> {
 /// Status 0 says that it was done; 1 that a line, what comes of the lines, or a word that the command takes, as a DID,
 /// is refused; 2 that the command line isn't one of the program's; 3 that memory was refused; 4 that a read or a write
 /// failed. What is wrong stands on `err`.
-pub fn run_words<'a, T: Threads + Wait + Sync, R: Read, W: Write, X: Write>(
+pub fn run_words<'a, T: Threads + Wait + RandomSource + Sync, R: Read, W: Write, X: Write>(
     rt: &T,
     alloc: Global,
     words: &'a [&'a str],
@@ -85,7 +86,7 @@ pub fn run_words<'a, T: Threads + Wait + Sync, R: Read, W: Write, X: Write>(
 pub fn run_words_with<
     'a,
     D: Digest + Send + Sync,
-    T: Threads + Wait + Sync,
+    T: Threads + Wait + RandomSource + Sync,
     R: Read,
     W: Write,
     X: Write,
@@ -148,14 +149,13 @@ pub fn run_words_with<
 }
 
 /// Does what is asked for, and answers the status.
-fn do_request<D: Digest + Send + Sync, T: Threads + Wait + Sync, R: Read, W: Write, X: Write>(
-    request: Request<'_>,
-    rt: &T,
-    alloc: Global,
-    input: &mut R,
-    out: &mut W,
-    err: &mut X,
-) -> u8
+fn do_request<
+    D: Digest + Send + Sync,
+    T: Threads + Wait + RandomSource + Sync,
+    R: Read,
+    W: Write,
+    X: Write,
+>(request: Request<'_>, rt: &T, alloc: Global, input: &mut R, out: &mut W, err: &mut X) -> u8
     ensures status { result ≤ 4 }
     ensures done { result ≡ 0 → IsDone D D.digest_of request.entry (R.remaining input.old)
         (W.contents out.old) (W.contents out.new) }

@@ -60,6 +60,7 @@ of_words errors.BadDid is = refl
 of_words errors.BadRev is = refl
 of_words (errors.Root f) is = refl
 of_words (errors.Proof f) is = refl
+of_words (errors.Change f) is = refl
 of_words (errors.Line n f) is = refl
 of_words errors.NoMemory is = absurd cc
 of_words errors.ReadFailed is = absurd cc

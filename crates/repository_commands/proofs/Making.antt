@@ -23,7 +23,7 @@ gives_then r x next e = ap (λ q. q >>= next) e
 
 -- ---- a fault that is passed on
 
-passed : {X E : Type 0} (P : Result X E → Type 0) (r : Result X E) (f : E) → IsErrAnd r (λ e. e ≡ f) → P (Err f) → P r
+pub passed : {X E : Type 0} (P : Result X E → Type 0) (r : Result X E) (f : E) → IsErrAnd r (λ e. e ≡ f) → P (Err f) → P r
 passed P (Ok x) f e p = absurd e
 passed P (Err g) f e p = subst (λ h. P (Err h)) (sym e) p
 

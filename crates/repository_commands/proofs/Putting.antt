@@ -3,8 +3,7 @@ use Rattle.std.proofs.Common.{◌≡◌, ℕ, ◌+◌, ◌≤◌, List, [], ◌�
 use Rattle.std.specs.Prelude.{Option, Some, None}
 use Rattle.std.proofs.lemmas.List.{append-nil}
 use Rattle.spec.specs.Writes.{Write}
-use Rattle.repository_commands.specs.Puts.{Given, put_of_line, with_put, given_from}
-use Rattle.repository_commands.specs.Views.{added}
+use Rattle.repository_commands.specs.Puts.{Given, added, put_of_line, with_put, given_from}
 
 -- these puts, and then those of further lines
 abbrev pub onto : Given → Given → Given

@@ -4,6 +4,9 @@ use Rattle.std.specs.Prelude.{Result, IsErrAnd}
 use Rattle.spec.specs.Cid as cids
 use Rattle.spec.specs.Proof as proofs
 use Rattle.spec.specs.Writes.{WriteFault}
+use Rattle.change_laws.specs.Given as changes
+use Rattle.change_proofs.specs.declared.change_fault.ChangeFault.{ChangeFault}
+use Rattle.change_proofs.specs.declared.change_fault.ChangeFault.TheVariants as change_faults
 use Rattle.cid.specs.CidFault as of_cid
 use Rattle.batches.specs.Tests.{write_fault}
 use Rattle.export.specs.Faults as of_proof
@@ -17,18 +20,21 @@ use Rattle.repository_commands.specs.declared.fault.LineFault.TheVariants as lin
 use Rattle.repository_commands.specs.declared.fault.CommandFault.{CommandFault}
 use Rattle.repository_commands.specs.declared.fault.CommandFault.TheVariants as errors
 
--- what is wrong with a line: it hasn't the words that it should have; or its write isn't taken
+-- what is wrong with a line: it hasn't the words that it should have; its write isn't taken; or the key of
+-- its change has another value in the tree after it
 pub data LineFault : Type 0 where
   BadLine : LineFault
   OfWrite : WriteFault → LineFault
+  OtherValue : LineFault
 
--- whose repository it is, and the revision; the text of a root; a key or the blocks of a proof; a line
--- by its number, from 1
+-- whose repository it is, and the revision; the text of a root; a key or the blocks of a proof; the blocks
+-- of a change; a line by its number, from 1
 pub data Fault : Type 0 where
   BadDid : Fault
   BadRev : Fault
   OfRoot : cids.CidFault → Fault
   OfProof : proofs.ProofFault → Fault
+  OfChange : changes.ChangeFault → Fault
   Line : ℕ → LineFault → Fault
 
 -- ---- what a fault of the program is to these definitions, which know nothing of clashes of records, of
@@ -37,12 +43,21 @@ pub data Fault : Type 0 where
 abbrev pub line_fault_of : {D A : Type 0} → GivenLineFault D A → Option LineFault
 line_fault_of lines.BadLine = Some BadLine
 line_fault_of (lines.Refused f) = option_map OfWrite (write_fault f)
+line_fault_of lines.OtherValue = Some OtherValue
+
+-- where the blocks are no tree, they have a fault, but which one isn't said
+abbrev pub change_fault_of : ChangeFault → Option changes.ChangeFault
+change_fault_of (change_faults.BlockMissing c) = Some (changes.BlockMissing c)
+change_fault_of (change_faults.OtherValue place) = Some (changes.OtherValue place)
+change_fault_of change_faults.OtherRoot = Some changes.OtherRoot
+change_fault_of fault = None
 
 abbrev pub fault_of : {D A : Type 0} → CommandFault D A → Option Fault
 fault_of errors.BadDid = Some BadDid
 fault_of errors.BadRev = Some BadRev
 fault_of (errors.Root f) = option_map OfRoot (of_cid.fault_of f)
 fault_of (errors.Proof f) = option_map OfProof (of_proof.fault_of f)
+fault_of (errors.Change f) = option_map OfChange (change_fault_of f)
 fault_of (errors.Line n f) = option_map (Line n) (line_fault_of f)
 fault_of errors.NoMemory = None
 fault_of errors.ReadFailed = None
@@ -54,6 +69,7 @@ may_have_written errors.BadDid = false
 may_have_written errors.BadRev = false
 may_have_written (errors.Root f) = false
 may_have_written (errors.Proof f) = false
+may_have_written (errors.Change f) = false
 may_have_written (errors.Line n f) = false
 may_have_written errors.NoMemory = true
 may_have_written errors.ReadFailed = false

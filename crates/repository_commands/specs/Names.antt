@@ -3,6 +3,8 @@
 use Rattle.std.specs.Prelude.{ℕ, List, ◌++◌, codes, decimal}
 use Rattle.batches.specs.declared.fault.RepoFault.{RepoFault}
 use Rattle.batches.specs.declared.fault.RepoFault.TheVariants as faults
+use Rattle.change_proofs.specs.declared.change_fault.ChangeFault.{ChangeFault}
+use Rattle.change_proofs.specs.declared.change_fault.ChangeFault.TheVariants as of_change
 use Rattle.cid.specs.declared.cid_fault.CidFault.{CidFault}
 use Rattle.cid.specs.declared.cid_fault.CidFault.TheVariants as of_cid
 use Rattle.dagcbor.specs.declared.fault.CborFault.{CborFault}
@@ -78,6 +80,14 @@ proof_fault_name of_proof.KeyLength = codes "KeyLength"
 abbrev pub line_fault_name : {D A : Type 0} → LineFault D A → List ℕ
 line_fault_name of_line.BadLine = codes "BadLine"
 line_fault_name (of_line.Refused fault) = refusal_name fault
+line_fault_name of_line.OtherValue = codes "OtherValue"
+
+abbrev pub change_fault_name : ChangeFault → List ℕ
+change_fault_name (of_change.BlockMissing c) = codes "BlockMissing"
+change_fault_name of_change.NotTree = codes "NotTree"
+change_fault_name (of_change.OtherValue place) = codes "OtherValue"
+change_fault_name of_change.OtherRoot = codes "OtherRoot"
+change_fault_name of_change.NoMemory = codes "NoMemory"
 
 -- what is wrong with the line of this number
 abbrev pub of_line_number : ℕ → List ℕ → List ℕ
@@ -88,6 +98,7 @@ fault_text errors.BadDid = codes "BadDid"
 fault_text errors.BadRev = codes "BadRev"
 fault_text (errors.Root fault) = root_fault_name fault
 fault_text (errors.Proof fault) = proof_fault_name fault
+fault_text (errors.Change fault) = change_fault_name fault
 fault_text (errors.Line n fault) = of_line_number n (line_fault_name fault)
 fault_text errors.NoMemory = codes "no memory"
 fault_text errors.ReadFailed = codes "read failed"

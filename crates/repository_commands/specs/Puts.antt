@@ -1,5 +1,5 @@
 -- Lines `KEY HEX`, each of which puts a record under a key (a choice of this project).
-use Rattle.std.specs.Prelude.{ℕ, ◌+◌, List, [], ◌∷◌, Option, Some, None}
+use Rattle.std.specs.Prelude.{ℕ, ◌+◌, List, [], ◌∷◌, ◌++◌, Option, Some, None}
 use Rattle.std.specs.List.{before_first, after_first}
 use Rattle.spec.specs.Writes.{Write, Put}
 use Rattle.console.specs.Lines.{lines, is_space, bytes_of_hex}
@@ -25,6 +25,15 @@ pub record Given : Type 0 where
 -- of no line
 abbrev pub nothing_given : Given
 nothing_given = record { numbers = []; writes = []; stop = None }
+
+-- with one more, of this line
+abbrev pub added : Given → ℕ → Write → Given
+added g n w = record { numbers = g.numbers ++ n ∷ []; writes = g.writes ++ w ∷ []; stop = g.stop }
+
+-- with what a line gives
+abbrev pub taken : Given → ℕ → Option Write → Given
+taken g n None = record { numbers = g.numbers; writes = g.writes; stop = Some n }
+taken g n (Some w) = added g n w
 
 -- of a line with this number, and of those after it
 abbrev pub with_put : ℕ → Option Write → Given → Given

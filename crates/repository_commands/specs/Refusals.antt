@@ -1,6 +1,7 @@
--- At which line the puts of an input are refused.
+-- At which line the writes of an input are refused.
 use Rattle.std.specs.Prelude.{◌≡◌, ◌<◌, ⊤, ℕ, List, slice_index, Bool, true, false}
 use Rattle.spec.specs.Stamps.{Stamp}
+use Rattle.spec.specs.States.{State}
 use Rattle.batches.specs.declared.fault.RepoFault.{RepoFault}
 use Rattle.batches.specs.declared.fault.RepoFault.TheVariants as faults
 use Rattle.repo.specs.Refusals.{IsRefusal}
@@ -17,51 +18,55 @@ abbrev pub is_want_of_memory : {D A : Type 0} → RepoFault D A → Bool
 is_want_of_memory faults.NoMemory = true
 is_want_of_memory fault = false
 
--- The batch of the puts is refused at the write of this line: by its test; by a clash of two blocks, of
--- which one is of the repository after the writes up to that line; or by a store that has answered that
--- it's full (`fulls` times so far). What follows from such an answer is `when_full`.
-pub record IsRefusedAt {D A : Type 0} (digest : List ℕ → List ℕ) (stamp : Stamp) (given : Given)
-    (when_full : Type 0) (n : ℕ) (fault : RepoFault D A) : Type 0 where
+-- The batch of the writes on a repository is refused at the write of this line: by its test; by a clash of
+-- two blocks, of which one is of the repository after the writes up to that line; or by a store that has
+-- answered that it's full (`fulls` times so far). What follows from such an answer is `when_full`.
+pub record IsRefusedAt {D A : Type 0} (digest : List ℕ → List ℕ) (s : State) (stamp : Stamp)
+    (given : Given) (when_full : Type 0) (n : ℕ) (fault : RepoFault D A) : Type 0 where
   pub place : ℕ
   pub fulls : ℕ
   pub number : n ≡ slice_index given.numbers place
-  pub refusal : IsRefusal digest 2 no_writes stamp given.writes 0 fulls (place, fault)
+  pub refusal : IsRefusal digest 2 s stamp given.writes 0 fulls (place, fault)
   pub shown : 0 < fulls → when_full
   pub named : is_want_of_memory fault ≡ false
 
-abbrev pub IsLineFault : {D A : Type 0} → (List ℕ → List ℕ) → Stamp → Given → Type 0 → ℕ
+abbrev pub IsLineFault : {D A : Type 0} → (List ℕ → List ℕ) → State → Stamp → Given → Type 0 → ℕ
     → LineFault D A → Type 0
-IsLineFault digest stamp given when_full n lines.BadLine = ⊤
-IsLineFault digest stamp given when_full n (lines.Refused fault) =
-    IsRefusedAt digest stamp given when_full n fault
+IsLineFault digest s stamp given when_full n lines.BadLine = ⊤
+IsLineFault digest s stamp given when_full n lines.OtherValue = ⊤
+IsLineFault digest s stamp given when_full n (lines.Refused fault) =
+    IsRefusedAt digest s stamp given when_full n fault
 
 -- where a command answers that a line is refused, it is
-abbrev pub IsRefusedLine : {D A : Type 0} → (List ℕ → List ℕ) → Stamp → Given → Type 0
+abbrev pub IsRefusedLine : {D A : Type 0} → (List ℕ → List ℕ) → State → Stamp → Given → Type 0
     → CommandFault D A → Type 0
-IsRefusedLine digest stamp given when_full (errors.Line n fault) =
-    IsLineFault digest stamp given when_full n fault
-IsRefusedLine digest stamp given when_full errors.BadDid = ⊤
-IsRefusedLine digest stamp given when_full errors.BadRev = ⊤
-IsRefusedLine digest stamp given when_full (errors.Root f) = ⊤
-IsRefusedLine digest stamp given when_full (errors.Proof f) = ⊤
-IsRefusedLine digest stamp given when_full errors.NoMemory = ⊤
-IsRefusedLine digest stamp given when_full errors.ReadFailed = ⊤
-IsRefusedLine digest stamp given when_full errors.WriteFailed = ⊤
+IsRefusedLine digest s stamp given when_full (errors.Line n fault) =
+    IsLineFault digest s stamp given when_full n fault
+IsRefusedLine digest s stamp given when_full errors.BadDid = ⊤
+IsRefusedLine digest s stamp given when_full errors.BadRev = ⊤
+IsRefusedLine digest s stamp given when_full (errors.Root f) = ⊤
+IsRefusedLine digest s stamp given when_full (errors.Proof f) = ⊤
+IsRefusedLine digest s stamp given when_full (errors.Change f) = ⊥
+IsRefusedLine digest s stamp given when_full errors.NoMemory = ⊤
+IsRefusedLine digest s stamp given when_full errors.ReadFailed = ⊤
+IsRefusedLine digest s stamp given when_full errors.WriteFailed = ⊤
 
 -- of the lines of an input, by a store that the command has for itself: it has answered that it's
 -- full only where a shard was
 abbrev pub IsRefusedIn : {D A : Type 0} → (List ℕ → List ℕ) → Stamp → List ℕ → CommandFault D A
     → Type 0
-IsRefusedIn digest stamp input e = IsRefusedLine digest stamp (given_in input) (WasFull digest) e
+IsRefusedIn digest stamp input e =
+    IsRefusedLine digest no_writes stamp (given_in input) (WasFull digest) e
 
 -- the fault of a line that is refused
 abbrev pub refused : {D A : Type 0} → ℕ → RepoFault D A → CommandFault D A
 refused n faults.NoMemory = errors.NoMemory
 refused n fault = errors.Line n (lines.Refused fault)
 
--- a line that a repository refuses
+-- what no reader of blocks has: a line that a repository refuses, and changes that aren't shown
 abbrev pub is_refusal : {D A : Type 0} → CommandFault D A → Bool
 is_refusal (errors.Line n (lines.Refused f)) = true
+is_refusal (errors.Change f) = true
 is_refusal fault = false
 
 -- a line that is none of the command's

@@ -25,32 +25,32 @@ most_writes = 1048576
 abbrev pub no_writes : State
 no_writes = fresh 0 most_writes
 
--- all puts as one batch under a stamp, and none where there are no puts
-abbrev pub state_of : Stamp → List Write → State
-state_of stamp [] = no_writes
-state_of stamp (w ∷ ws) = after_batch no_writes stamp (w ∷ ws)
+-- all writes as one batch under a stamp, and none where there are no writes
+abbrev pub state_of : State → Stamp → List Write → State
+state_of s stamp [] = s
+state_of s stamp (w ∷ ws) = after_batch s stamp (w ∷ ws)
 
 -- a write that isn't taken is told by the number of its line
 abbrev pub at_its_line : List ℕ → Result (Unit {0}) (ℕ × WriteFault) → Result (Unit {0}) Fault
 at_its_line numbers (Ok ok) = Ok ok
 at_its_line numbers (Err f) = Err (Line (slice_index numbers f.0) (OfWrite f.1))
 
--- and a line that is no put by its own
+-- and a line that is no write by its own
 abbrev pub unless_stopped : Option ℕ → Result (Unit {0}) Fault
 unless_stopped None = Ok tt
 unless_stopped (Some n) = Err (Line n BadLine)
 
--- the writes are tested in their order, on a repository without writes
-abbrev pub writes_check : Given → Result (Unit {0}) Fault
-writes_check given = at_its_line given.numbers (batch_test most_writes [] given.writes)
+-- the writes are tested in their order, on a repository
+abbrev pub writes_check : State → Given → Result (Unit {0}) Fault
+writes_check s given = at_its_line given.numbers (batch_test s.limit s.accepted given.writes)
 
--- The repository of these puts, or the first line at fault. The puts before a line that is none are
+-- The repository after these writes, or the first line at fault. The writes before a line that is none are
 -- tried first.
-unfoldable pub state_of_given : Stamp → Given → Result State Fault
-state_of_given stamp given = do
-  writes_ok ← writes_check given
-  all_puts ← unless_stopped given.stop
-  Ok (state_of stamp given.writes)
+unfoldable pub state_of_given : State → Stamp → Given → Result State Fault
+state_of_given s stamp given = do
+  writes_ok ← writes_check s given
+  all_writes ← unless_stopped given.stop
+  Ok (state_of s stamp given.writes)
 
 -- ---- `car`
 
@@ -63,7 +63,7 @@ stamp_check stamp = do
 -- the export of the repository
 abbrev pub car_of_given : (List ℕ → List ℕ) → Stamp → Given → Result (List ℕ) Fault
 car_of_given digest stamp given = do
-  s ← state_of_given stamp given
+  s ← state_of_given no_writes stamp given
   Ok (state_car digest 2 s)
 
 unfoldable pub car_text : (List ℕ → List ℕ) → Stamp → List ℕ → Result (List ℕ) Fault
@@ -83,7 +83,7 @@ path_of digest key s = (state_root digest 2 s, path digest 2 (pairs digest (reco
 
 abbrev pub path_of_given : (List ℕ → List ℕ) → Stamp → List ℕ → Given → Result Path Fault
 path_of_given digest stamp key given = do
-  s ← state_of_given stamp given
+  s ← state_of_given no_writes stamp given
   Ok (path_of digest key s)
 
 -- the line of a block

@@ -7,7 +7,7 @@ ghost use Rattle.repository_commands.specs.Faults.{fault_of, is_of_words, is_wri
 ghost use Rattle.repository_commands.specs.Outcomes.{IsMade, IsOutcome};
 ghost use Rattle.repository_commands.specs.Refusals.{IsRefusedIn, IsRefusedLine};
 ghost use Rattle.repository_commands.specs.Shards.{WasFull};
-ghost use Rattle.repository_commands.specs.Texts.{car_of_given, car_text as car_text_of, stamp_check};
+ghost use Rattle.repository_commands.specs.Texts.{car_of_given, car_text as car_text_of, no_writes, stamp_check};
 ghost use Rattle.repository_commands.specs.Views.{given_of};
 
 use crate::ending::write_made;
@@ -96,8 +96,8 @@ fn car_of_puts<D: Digest>(
 ) -> Result<Vec<u8>, CommandFault<D>>
     ensures file { Gives (λ bytes. bytes.items) fault_of result
         (car_of_given D.digest_of (stamp_of stamp.now) (given_of puts)) }
-    ensures refused { IfErr result
-        (IsRefusedLine D.digest_of (stamp_of stamp.now) (given_of puts) (WasFull D.digest_of)) }
+    ensures refused { IfErr result (IsRefusedLine D.digest_of no_writes (stamp_of stamp.now)
+        (given_of puts) (WasFull D.digest_of)) }
     ensures kind { IfErr result (λ e. is_write_failure e ≡ false) }
 {
     let mut shards = empty_shards(alloc, MOST_BLOCKS);

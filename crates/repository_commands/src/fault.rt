@@ -4,9 +4,10 @@ ghost use Rattle.repository_commands.specs.declared.fault.CommandFault.TheVarian
 ghost use Rattle.repository_commands.specs.Faults.{of_read, of_write, status_of};
 ghost use Rattle.repository_commands.specs.Names.{fault_text, line_fault_name};
 
-use crate::names::{proof_fault_name, root_fault_name};
+use crate::names::{change_fault_name, proof_fault_name, root_fault_name};
 use crate::refusal_name::RefusalName;
 use batches::RepoFault;
+use change_proofs::ChangeFault;
 use cid::{CidFault, Digest};
 use console::{Decimal, FAULTY, IO_FAILED, NO_MEMORY, ReadFault, WriteFault};
 use export::ProofFault;
@@ -20,8 +21,10 @@ use std::fmt;
 pub enum LineFault<D: Digest, A: Allocator = Global> {
     /// It hasn't the words that a line of this command has.
     BadLine,
-    /// The repository doesn't take its put.
+    /// The repository doesn't take its write.
     Refused(RepoFault<D, A>),
+    /// The key of its change has another record in the tree after it, or none.
+    OtherValue,
 }
 
 /// Why there is no text, or not all of it. Standard error shows these names, which are this repository's own.
@@ -36,6 +39,8 @@ pub enum CommandFault<D: Digest, A: Allocator = Global> {
     Root(CidFault),
     /// The key has no bytes or more than 1,024, and nothing was read; or the blocks show nothing of the key.
     Proof(ProofFault),
+    /// The nodes don't show a change.
+    Change(ChangeFault),
     /// This line of the input is at fault. Nothing was written.
     Line {
         /// The line's number, from 1. Empty lines count.
@@ -73,6 +78,7 @@ impl<D: Digest, A: Allocator> fmt::Display for LineFault<D, A> {
         match self {
             LineFault::BadLine => f.write_str("BadLine"),
             LineFault::Refused(fault) => RefusalName(fault).fmt(f),
+            LineFault::OtherValue => f.write_str("OtherValue"),
         }
     }
 }
@@ -89,6 +95,7 @@ impl<D: Digest, A: Allocator> fmt::Display for CommandFault<D, A> {
             CommandFault::BadRev => f.write_str("BadRev"),
             CommandFault::Root(fault) => f.write_str(root_fault_name(fault)),
             CommandFault::Proof(fault) => f.write_str(proof_fault_name(fault)),
+            CommandFault::Change(fault) => f.write_str(change_fault_name(fault)),
             CommandFault::Line { number, fault } => {
                 let number = Decimal(*number);
                 write!(f, "line {number}: {fault}")

@@ -35,9 +35,9 @@ pub(crate) fn filled<D: Digest, S: BlockStore<Arc<Block<D>>, Hold<D>, StoreFault
 ) -> Result<Core<D, 2>, CommandFault<D>>
     requires store { IsStore D.digest_of S.BlockStore }
     ensures state { Gives (λ core. core) fault_of result
-        (state_of_given (stamp_of stamp.now) (given_of puts)) }
-    ensures refused { IfErr result
-        (IsRefusedLine D.digest_of (stamp_of stamp.now) (given_of puts) (0 < S.fulls store.new)) }
+        (state_of_given no_writes (stamp_of stamp.now) (given_of puts)) }
+    ensures refused { IfErr result (IsRefusedLine D.digest_of no_writes (stamp_of stamp.now)
+        (given_of puts) (0 < S.fulls store.new)) }
     ensures kind { IfErr result (λ e. is_write_failure e ≡ false) }
 {
     let mut core = empty::<D, S>(alloc, store)?;
@@ -67,9 +67,10 @@ fn empty<D: Digest, S: BlockStore<Arc<Block<D>>, Hold<D>, StoreFault<D>>>(
     }
 }
 
-/// Applies the puts to a repository without writes, or names the first line at fault.
+/// Applies the writes of some lines to a repository as one batch, and none where there are no writes; or names the first line
+/// at fault.
 #[tactic(auto, unfolding(crate::specs::Texts::state_of_given))]
-fn apply_puts<D: Digest, S: BlockStore<Arc<Block<D>>, Hold<D>, StoreFault<D>>>(
+pub(crate) fn apply_puts<D: Digest, S: BlockStore<Arc<Block<D>>, Hold<D>, StoreFault<D>>>(
     alloc: Global,
     store: &mut S,
     core: &mut Core<D, 2>,
@@ -77,19 +78,17 @@ fn apply_puts<D: Digest, S: BlockStore<Arc<Block<D>>, Hold<D>, StoreFault<D>>>(
     puts: &Puts<Global>,
 ) -> Result<(), CommandFault<D>>
     requires store { IsStore D.digest_of S.BlockStore }
-    requires empty { core.old ≡ no_writes }
     ensures state { Gives (λ _. core.new) fault_of result
-        (state_of_given (stamp_of stamp.now) (given_of puts.now)) }
-    ensures refused { IfErr result
-        (IsRefusedLine D.digest_of (stamp_of stamp.now) (given_of puts.now)
-        (0 < S.fulls store.new)) }
+        (state_of_given core.old (stamp_of stamp.now) (given_of puts.now)) }
+    ensures refused { IfErr result (IsRefusedLine D.digest_of core.old (stamp_of stamp.now)
+        (given_of puts.now) (0 < S.fulls store.new)) }
     ensures kind { IfErr result (λ e. is_write_failure e ≡ false) }
 {
     apply_writes::<D, S>(alloc, store, core, stamp, puts)?;
     check_end::<D>(puts.stop)
 }
 
-/// Applies the puts before the line that is none, if there is one, or names the line of the first that is refused.
+/// Applies the writes before the line that is none, if there is one, or names the line of the first that is refused.
 fn apply_writes<D: Digest, S: BlockStore<Arc<Block<D>>, Hold<D>, StoreFault<D>>>(
     alloc: Global,
     store: &mut S,
@@ -98,14 +97,12 @@ fn apply_writes<D: Digest, S: BlockStore<Arc<Block<D>>, Hold<D>, StoreFault<D>>>
     puts: &Puts<Global>,
 ) -> Result<(), CommandFault<D>>
     requires store { IsStore D.digest_of S.BlockStore }
-    requires empty { core.old ≡ no_writes }
     ensures passes { Gives (λ ok. ok) fault_of result
-        (writes_check (given_of puts.now)) }
-    ensures state { OnOk result
-        (core.new ≡ state_of (stamp_of stamp.now) (writes_of puts.now.writes.items)) }
-    ensures refused { IfErr result
-        (IsRefusedLine D.digest_of (stamp_of stamp.now) (given_of puts.now)
-        (0 < S.fulls store.new)) }
+        (writes_check core.old (given_of puts.now)) }
+    ensures state { OnOk result (core.new
+        ≡ state_of core.old (stamp_of stamp.now) (writes_of puts.now.writes.items)) }
+    ensures refused { IfErr result (IsRefusedLine D.digest_of core.old (stamp_of stamp.now)
+        (given_of puts.now) (0 < S.fulls store.new)) }
     ensures kind { IfErr result (λ e. is_write_failure e ≡ false) }
 {
     if puts.writes.is_empty() {
@@ -117,14 +114,14 @@ fn apply_writes<D: Digest, S: BlockStore<Arc<Block<D>>, Hold<D>, StoreFault<D>>>
     }
 }
 
-/// The number of the line of the put at a place.
-fn number_at(numbers: &[u64], place: usize) -> u64
+/// The number of the line at a place.
+pub(crate) fn number_at(numbers: &[u64], place: usize) -> u64
     ensures { result ≡ slice_index numbers.now place }
 {
     numbers.get(place).copied().unwrap_or(0)
 }
 
-/// Whether each line was a put.
+/// Whether each line was a write.
 fn check_end<D: Digest>(stop: Option<u64>) -> Result<(), CommandFault<D>>
     ensures check { Gives (λ ok. ok) fault_of result (unless_stopped stop) }
     ensures line { IfErr result (λ e. is_bad_line e ≡ true) }

@@ -1,7 +1,8 @@
 //! The names of the faults of a root and of a proof.
 ghost use Rattle.std.specs.Prelude.{◌≡◌};
-ghost use Rattle.repository_commands.specs.Names.{bad_node_name as bad_node_name_of, proof_fault_name as proof_fault_name_of, root_fault_name as root_fault_name_of};
+ghost use Rattle.repository_commands.specs.Names.{bad_node_name as bad_node_name_of, change_fault_name as change_fault_name_of, proof_fault_name as proof_fault_name_of, root_fault_name as root_fault_name_of};
 
+use change_proofs::ChangeFault;
 use cid::CidFault;
 use export::ProofFault;
 use node::NodeFault;
@@ -40,5 +41,18 @@ fn bad_node_name(fault: &NodeFault) -> &'static str
         NodeFault::BadPrefix => "BadNode(BadPrefix)",
         NodeFault::KeyOrder => "BadNode(KeyOrder)",
         NodeFault::KeyLength => "BadNode(KeyLength)",
+    }
+}
+
+/// The name of a fault of a change.
+pub(crate) fn change_fault_name(fault: &ChangeFault) -> &'static str
+    ensures { result.now ≡ change_fault_name_of fault.now }
+{
+    match fault {
+        ChangeFault::BlockMissing(_) => "BlockMissing",
+        ChangeFault::NotTree => "NotTree",
+        ChangeFault::OtherValue(_) => "OtherValue",
+        ChangeFault::OtherRoot => "OtherRoot",
+        ChangeFault::NoMemory => "NoMemory",
     }
 }

@@ -8,7 +8,7 @@ ghost use Rattle.repository_commands.specs.Faults.{fault_of, is_of_words, is_wri
 ghost use Rattle.repository_commands.specs.Outcomes.{IsMade, IsOutcome};
 ghost use Rattle.repository_commands.specs.Refusals.{IsRefusedIn, IsRefusedLine, is_refusal};
 ghost use Rattle.repository_commands.specs.Shards.{WasFull};
-ghost use Rattle.repository_commands.specs.Texts.{hex_line, key_check, path_of_given, proof_of_given, prove_text as prove_text_of, text_of_path};
+ghost use Rattle.repository_commands.specs.Texts.{hex_line, key_check, no_writes, path_of_given, proof_of_given, prove_text as prove_text_of, text_of_path};
 ghost use Rattle.repository_commands.specs.Views.{given_of, nodes_of};
 
 use crate::ending::write_made;
@@ -91,8 +91,8 @@ fn proof_of_puts<D: Digest>(
 ) -> Result<Vec<u8>, CommandFault<D>>
     ensures text { Gives (λ bytes. bytes.items) fault_of result
         (proof_of_given D.digest_of (stamp_of stamp.now) key.now (given_of puts)) }
-    ensures refused { IfErr result
-        (IsRefusedLine D.digest_of (stamp_of stamp.now) (given_of puts) (WasFull D.digest_of)) }
+    ensures refused { IfErr result (IsRefusedLine D.digest_of no_writes (stamp_of stamp.now)
+        (given_of puts) (WasFull D.digest_of)) }
     ensures kind { IfErr result (λ e. is_write_failure e ≡ false) }
 {
     let path = path_of_puts::<D>(alloc, stamp, key, puts)?;
@@ -115,8 +115,8 @@ fn path_of_puts<D: Digest>(
 ) -> Result<PathNodes<D>, CommandFault<D>>
     ensures path { Gives nodes_of fault_of result
         (path_of_given D.digest_of (stamp_of stamp.now) key.now (given_of puts)) }
-    ensures refused { IfErr result
-        (IsRefusedLine D.digest_of (stamp_of stamp.now) (given_of puts) (WasFull D.digest_of)) }
+    ensures refused { IfErr result (IsRefusedLine D.digest_of no_writes (stamp_of stamp.now)
+        (given_of puts) (WasFull D.digest_of)) }
     ensures kind { IfErr result (λ e. is_write_failure e ≡ false) }
 {
     let mut shards = empty_shards(alloc, MOST_BLOCKS);
@@ -143,7 +143,7 @@ fn text_of<D: Digest>(alloc: Global, path: &PathNodes<D>) -> Result<Vec<u8>, All
 }
 
 /// Puts a line for each block at the end.
-fn push_lines<D: Digest>(
+pub(crate) fn push_lines<D: Digest>(
     alloc: Global,
     text: &mut Vec<u8>,
     blocks: &[Arc<Block<D>>],

@@ -1,10 +1,10 @@
 //! The puts that the lines of an input give.
-ghost use Rattle.std.specs.Prelude.{◌≡◌, ◌≤◌, length, option_map, IfOk, IfSome, OnOk};
+ghost use Rattle.std.specs.Prelude.{◌≡◌, ◌≤◌, is_some, length, option_map, IfOk, IfSome, OnOk};
 ghost use Rattle.std.specs.List.{position_or_len};
 ghost use Rattle.batches.specs.Values.{write_of};
 ghost use Rattle.console.specs.Lines.{bytes_of_hex as bytes_of, is_space};
-ghost use Rattle.repository_commands.specs.Puts.{given_in, nothing_given, put_of, put_of_line as put_of_line_of};
-ghost use Rattle.repository_commands.specs.Views.{added, given_of};
+ghost use Rattle.repository_commands.specs.Puts.{added, given_in, nothing_given, put_of, put_of_line as put_of_line_of, taken};
+ghost use Rattle.repository_commands.specs.Views.{given_of};
 
 use batches::Write;
 use bstr::ByteSlice;
@@ -12,12 +12,12 @@ use console::{ReadFault, bytes_of_hex, read_all};
 use std::alloc::{AllocError, Allocator};
 use std::io::Read;
 
-/// The puts of the lines of an input, up to the first line that is none.
+/// The writes of some lines, up to the first line that is none.
 #[derive(Drop)]
 pub(crate) struct Puts<A: Allocator> {
-    /// The number of each put's line.
+    /// The number of each write's line.
     pub(crate) numbers: Vec<u64, A>,
-    /// The puts.
+    /// The writes.
     pub(crate) writes: Vec<Write<A>, A>,
     /// The number of the line that is none, if there is one.
     pub(crate) stop: Option<u64>,
@@ -25,7 +25,7 @@ pub(crate) struct Puts<A: Allocator> {
 
 impl<A: Allocator + Copy> Puts<A> {
     /// None so far.
-    fn none(alloc: A) -> Puts<A>
+    pub(crate) fn none(alloc: A) -> Puts<A>
         ensures { given_of result ≡ nothing_given }
     {
         Puts {
@@ -35,14 +35,32 @@ impl<A: Allocator + Copy> Puts<A> {
         }
     }
 
-    /// With the put of this line after the others.
-    fn add(&mut self, number: u64, put: Write<A>) -> Result<(), AllocError>
+    /// With the write of this line after the others.
+    fn add(&mut self, number: u64, write: Write<A>) -> Result<(), AllocError>
         ensures { OnOk result (given_of self.new
-            ≡ added (given_of self.old) number (write_of put)) }
+            ≡ added (given_of self.old) number (write_of write)) }
     {
         self.numbers.push(number)?;
-        self.writes.push(put)?;
+        self.writes.push(write)?;
         Ok(())
+    }
+
+    /// With the write of this line after the others, or with the number of a line that is none. Whether it was one.
+    pub(crate) fn take(&mut self, number: u64, write: Option<Write<A>>) -> Result<bool, AllocError>
+        ensures taken { OnOk result (given_of self.new
+            ≡ taken (given_of self.old) number (option_map write_of write)) }
+        ensures going_on { IfOk result (λ more. more ≡ is_some write) }
+    {
+        match write {
+            Some(write) => {
+                self.add(number, write)?;
+                Ok(true)
+            }
+            None => {
+                self.stop = Some(number);
+                Ok(false)
+            }
+        }
     }
 }
 
@@ -84,7 +102,10 @@ fn puts_of_input<A: Allocator + Copy>(alloc: A, input: &[u8]) -> Result<Puts<A>,
 }
 
 /// The put of a line `KEY HEX`, or `None` where it is none.
-fn put_of_line<A: Allocator + Copy>(alloc: A, line: &[u8]) -> Result<Option<Write<A>>, AllocError>
+pub(crate) fn put_of_line<A: Allocator + Copy>(
+    alloc: A,
+    line: &[u8],
+) -> Result<Option<Write<A>>, AllocError>
     ensures { IfOk result (λ put. option_map write_of put ≡ put_of_line_of line.now) }
 {
     let space = space_in(line);
@@ -95,7 +116,7 @@ fn put_of_line<A: Allocator + Copy>(alloc: A, line: &[u8]) -> Result<Option<Writ
 }
 
 /// The place of the first space, or the length where there is none.
-fn space_in(line: &[u8]) -> usize
+pub(crate) fn space_in(line: &[u8]) -> usize
     ensures place { result ≡ position_or_len is_space line.now }
     ensures within { result ≤ length line.now }
 {

@@ -8,6 +8,8 @@ ghost use Rattle.repository_commands.specs.Refusals.{IsRefusedIn};
 ghost use Rattle.repository_commands.specs.Texts.{car_text as car_text_of, key_check, prove_text as prove_text_of, stamp_check};
 
 use crate::car::car_text;
+use crate::change_proving::prove_change_text;
+use crate::change_verifying::verify_change_text;
 use crate::ending::status_of;
 use crate::fault::CommandFault;
 use crate::proving::prove_text;
@@ -65,6 +67,8 @@ fn write_text<D: Digest, R: Read, W: Write>(
         RepositoryCommand::Verify { root, key } => {
             verify_text(alloc, root.as_bytes(), key.as_bytes(), input, out)
         }
+        RepositoryCommand::ProveChange => prove_change_text(alloc, input, out),
+        RepositoryCommand::VerifyChange => verify_change_text(alloc, input, out),
     }
 }
 
@@ -106,7 +110,7 @@ fn write_proof<D: Digest, R: Read, W: Write>(
 }
 
 /// The stamp of these words.
-fn stamp_of_words(did: &str, rev: &str, alloc: Global) -> Result<Stamp, AllocError>
+pub(crate) fn stamp_of_words(did: &str, rev: &str, alloc: Global) -> Result<Stamp, AllocError>
     ensures { IfOk result (λ stamp. stamp_of stamp ≡ stamp_of_words did.now rev.now) }
 {
     Ok(Stamp {

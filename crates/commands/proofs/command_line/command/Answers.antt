@@ -2,7 +2,7 @@ use Rattle.std.proofs.Common.{◌∙◌, ◌≡◌, [], ap, rules, true}
 use Rattle.std.proofs.lemmas.Result.{IfOk-weaker}
 use Rattle.clap.specs.Words.{App, app_of, with_subcommand}
 use Rattle.tree_command.specs.Words.{tree_shape}
-use Rattle.repository_commands.specs.Words.{car_shape, prove_shape, verify_shape}
+use Rattle.repository_commands.specs.Words.{with_commands}
 use Rattle.run_command.specs.Words.{run_shape}
 use Rattle.commands.specs.CommandLine.{msthost, program_shape}
 use Rattle.commands.proofs.command_line.command.Goals as goal
@@ -14,5 +14,5 @@ returns c =
     let start : app_of c.disable_help_subcommand-program.result ≡ alone = search rules in
     let one = c.in_ok-program.ensures ∙ ap (λ a. with_subcommand a tree_shape) start in
     let two = c.in_ok-program-2.ensures
-    ∙ ap (λ a. with_subcommand (with_subcommand (with_subcommand a car_shape) prove_shape) verify_shape) one in
+    ∙ ap with_commands one in
     IfOk-weaker c.with_words-3.result _ _ (λ r is. is ∙ ap (λ a. with_subcommand a run_shape) two) c.with_words-3.ensures

@@ -19,6 +19,8 @@ only (requests.Tree bits) is = (bits, refl, is.1 3 (search rules) (omega arith, 
 only (requests.OnRepository (commands.Car did rev)) is = absurd (cc)
 only (requests.OnRepository (commands.Prove key)) is = absurd (cc)
 only (requests.OnRepository (commands.Verify root key)) is = absurd (cc)
+only (requests.OnRepository commands.ProveChange) is = absurd (cc)
+only (requests.OnRepository commands.VerifyChange) is = absurd (cc)
 only (requests.Run command) is = absurd (cc)
 
 pub returns-clause-asked : goal.returns-clause-asked

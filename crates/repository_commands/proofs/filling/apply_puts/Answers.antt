@@ -5,4 +5,4 @@ use Rattle.repository_commands.proofs.filling.apply_puts.Goals as goal
 
 pub returns-clause-refused : goal.returns-clause-refused
 returns-clause-refused g c =
-    bad_line_refused g.D.Digest.digest_of (stamp_of c.args.stamp.now) (given_of c.args.puts.now) _ c.check_end.result c.check_end.ensures.line
+    bad_line_refused g.D.Digest.digest_of c.args.core.now (stamp_of c.args.stamp.now) (given_of c.args.puts.now) _ c.check_end.result c.check_end.ensures.line

@@ -1,0 +1,81 @@
+//! The lines of a batch: `put KEY HEX` and `delete KEY`.
+ghost use Rattle.std.specs.Prelude.{◌≡◌, ◌≤◌, ◌+◌, drop, length, option_map, IfOk};
+ghost use Rattle.std.specs.List.{list_any, before_first, after_first};
+ghost use Rattle.batches.specs.Values.{write_of};
+ghost use Rattle.console.specs.Lines.{is_space};
+ghost use Rattle.repository_commands.specs.Stories.{delete_of as delete_of_key, write_of_line as write_of_line_of, write_of_words as write_of_words_of};
+
+use crate::puts::{put_of_line, space_in};
+use batches::Write;
+use std::alloc::{AllocError, Global};
+
+/// A line, cut at its first space.
+#[derive(Clone, Copy)]
+pub(crate) struct Cut<'t> {
+    /// What stands before the space.
+    pub(crate) word: &'t [u8],
+    /// What stands behind it.
+    pub(crate) rest: &'t [u8],
+}
+
+/// All of a line before its first space, and all behind it.
+pub(crate) fn cut_at_space(line: &[u8]) -> Cut<'_>
+    ensures word { result.word.now ≡ before_first is_space line.now }
+    ensures rest { result.rest.now ≡ after_first is_space line.now }
+{
+    let space = space_in(line);
+    Cut {
+        word: &line[..space],
+        rest: behind(line, space),
+    }
+}
+
+/// What stands behind a place.
+fn behind(line: &[u8], place: usize) -> &[u8]
+    requires { place ≤ length line.now }
+    ensures { result.now ≡ drop (place + 1) line.now }
+{
+    if place == line.len() {
+        return &line[place..];
+    }
+    &line[place + 1..]
+}
+
+/// The write of a line, or `None` where it is none.
+pub(crate) fn write_of_line(alloc: Global, line: &[u8]) -> Result<Option<Write>, AllocError>
+    ensures { IfOk result (λ write. option_map write_of write ≡ write_of_line_of line.now) }
+{
+    let Cut { word, rest } = cut_at_space(line);
+    write_of_words(alloc, word, rest)
+}
+
+/// The write of a word and of what stands behind its space, or `None` where there is none.
+fn write_of_words(alloc: Global, word: &[u8], rest: &[u8]) -> Result<Option<Write>, AllocError>
+    ensures { IfOk result (λ write. option_map write_of write
+        ≡ write_of_words_of word.now rest.now) }
+{
+    if word == b"put".as_slice() {
+        return put_of_line(alloc, rest);
+    }
+    if word == b"delete".as_slice() {
+        return delete_of(alloc, rest);
+    }
+    Ok(None)
+}
+
+/// The delete of a key without spaces, or `None` where it is none.
+fn delete_of(alloc: Global, key: &[u8]) -> Result<Option<Write>, AllocError>
+    ensures { IfOk result (λ write. option_map write_of write ≡ delete_of_key key.now) }
+{
+    if key.is_empty() || has_space(key) {
+        return Ok(None);
+    }
+    Ok(Some(Write::Delete(Vec::from_slice(alloc, key)?)))
+}
+
+/// Whether there is a space in a key.
+fn has_space(key: &[u8]) -> bool
+    ensures { result ≡ list_any is_space key.now }
+{
+    key.iter().any(|c| *c == b' ')
+}
