@@ -120,7 +120,6 @@ impl Host {
         Some(())
     }
 
-    /// A node.
     fn node(&self, cid: &Cid) -> std::result::Result<Option<Vec<u8>>, Infallible> {
         Ok(self.nodes.get(cid).cloned())
     }
