@@ -26,7 +26,8 @@ FAULTS = {
     22: "the record is too long", 23: "the key is there already", 24: "there is no such key", 25: "the repository takes no more writes",
     26: "the batch is empty", 27: "the DID is not one", 28: "the revision is not a timestamp identifier",
     29: "the revision is not after the last one", 30: "a block is no node", 31: "the path is longer than any tree is deep",
-    32: "a repository doesn't take these records", 33: "a key has another value", 34: "the changes undone lead to another root", 249: "the repository is open already", 250: "the repository is closed",
+    32: "a repository doesn't take these records", 33: "a key has another value", 34: "the changes undone lead to another root",
+    35: "the nodes aren't a tree's", 249: "the repository is open already", 250: "the repository is closed",
     252: "an argument that is none", 253: "two blocks clash", 254: "the store is full", 255: "out of memory",
 }
 
@@ -34,7 +35,7 @@ FAULTS = {
 FAULTS_OF_TREES = {2: "a block of the path is missing", 3: "the keys don't ascend", 20: "a key has no bytes or more than 1,024"}
 
 # The number of the library's interface for which this module is written.
-VERSION = 2
+VERSION = 3
 
 
 class Fault(Exception):

@@ -88,8 +88,12 @@ pub enum ChangeFault {
     BadKeys,
     /// The node with this CID is needed, and not given.
     Missing(Cid),
-    /// A node that is needed is none.
-    BadNode,
+    /// What is given for this CID is no node.
+    BadNode(Cid),
+    /// A link stands below layer 0.
+    TooDeep,
+    /// The nodes aren't a tree's: keys would not ascend in a node, or more nodes are needed than a tree has for it.
+    NotTree,
     /// The key of the change at this place has another value in the tree after.
     OtherValue(usize),
     /// The changes undone lead to another root than the one before.
@@ -104,7 +108,9 @@ impl fmt::Display for ChangeFault {
         match self {
             BadKeys => f.write_str("the keys don't ascend, or one is none"),
             Missing(cid) => write!(f, "there is no node {cid}"),
-            BadNode => f.write_str("a node that is needed is none"),
+            BadNode(cid) => write!(f, "there is a block and no node {cid}"),
+            TooDeep => f.write_str("a link stands below layer 0"),
+            NotTree => f.write_str("the nodes aren't a tree's"),
             OtherValue(place) => write!(f, "the key of change {place} has another value"),
             OtherRoot => f.write_str("the changes undone lead to another root"),
             NoMemory => f.write_str("out of memory"),

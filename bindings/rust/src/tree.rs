@@ -93,8 +93,12 @@ pub enum EditError<E> {
     BadKeys,
     /// There is no node with this CID.
     Missing(Cid),
-    /// A block is no node of a tree, or not the one of its CID.
-    BadNode,
+    /// What is given for this CID is no node, or not the one of this CID.
+    BadNode(Cid),
+    /// A link stands below layer 0.
+    TooDeep,
+    /// The nodes aren't a tree's: keys would not ascend in a node, or more nodes are needed than a tree has for it.
+    NotTree,
     /// Two nodes have one CID.
     Clash,
     /// Memory was refused.
@@ -108,7 +112,9 @@ impl<E: fmt::Display> fmt::Display for EditError<E> {
         match self {
             EditError::BadKeys => f.write_str("keys have 1 to 1,024 bytes and ascend"),
             EditError::Missing(cid) => write!(f, "there is no node {cid}"),
-            EditError::BadNode => f.write_str("a block is no node of the tree"),
+            EditError::BadNode(cid) => write!(f, "what is given for {cid} is not its node"),
+            EditError::TooDeep => f.write_str("a link stands below layer 0"),
+            EditError::NotTree => f.write_str("the nodes aren't a tree's"),
             EditError::Clash => f.write_str("two different nodes have one CID"),
             EditError::NoMemory => f.write_str("out of memory"),
             EditError::Source(fault) => fault.fmt(f),
@@ -185,10 +191,10 @@ impl<F> Asked<F> {
                 0 => return Ok(Some(Cid(out))),
                 1 => cid = Cid(out),
                 24 => return Ok(None),
-                _ => return Err(EditError::BadNode),
+                _ => return Err(EditError::BadNode(cid)),
             }
         }
-        Err(EditError::BadNode)
+        Err(EditError::TooDeep)
     }
 
     /// Goes from a root down to the key of each change.
@@ -205,10 +211,10 @@ impl<F> Asked<F> {
 
     /// Whether all nodes so far are those of the CIDs that were asked for.
     fn check<E>(&self) -> Result<(), EditError<E>> {
-        match cids(&self.given) {
-            Ok(found) if found == self.cids => Ok(()),
-            Ok(_) => Err(EditError::BadNode),
-            Err(_) => Err(EditError::NoMemory),
+        let found = cids(&self.given).map_err(|_| EditError::NoMemory)?;
+        match self.cids.chunks(36).zip(found.chunks(36)).find(|(asked, found)| asked != found) {
+            Some((asked, _)) => Err(EditError::BadNode(Cid(asked.try_into().expect("36 bytes")))),
+            None => Ok(()),
         }
     }
 }
@@ -275,14 +281,16 @@ pub fn apply<N: Node, E>(
             Err(2) => {
                 let cid = Cid(missing);
                 if asked.places.contains_key(&cid) {
-                    return Err(EditError::BadNode);
+                    return Err(EditError::BadNode(cid));
                 }
                 let node = asked.node(&cid)?;
                 if !N::IS_KNOWN && Cid::of(node) != cid {
-                    return Err(EditError::BadNode);
+                    return Err(EditError::BadNode(cid));
                 }
             }
-            Err(30) => return Err(EditError::BadNode),
+            Err(30) => return Err(EditError::BadNode(Cid(missing))),
+            Err(31) => return Err(EditError::TooDeep),
+            Err(35) => return Err(EditError::NotTree),
             Err(252) => return Err(EditError::BadKeys),
             Err(253) => return Err(EditError::Clash),
             Err(_) => return Err(EditError::NoMemory),

@@ -277,7 +277,7 @@ fn proofs_of_changes() {
     }
     let no_node = ChangeProof { nodes: vec![b"x".to_vec()] };
     let change = [KeyChange { key: b"a", before: None, after: None }];
-    assert_eq!(no_node.verify(&Cid::of(b"x"), &Cid::of(b"x"), &change), Err(ChangeFault::BadNode));
+    assert_eq!(no_node.verify(&Cid::of(b"x"), &Cid::of(b"x"), &change), Err(ChangeFault::BadNode(Cid::of(b"x"))));
     assert_eq!(repository.prove_change(&[]).unwrap().verify(&repository.root(), &repository.root(), &[]), Ok(()));
 }
 
@@ -336,7 +336,7 @@ fn edits() {
     let none = |_: &Cid| Ok::<Option<Vec<u8>>, ()>(None);
     assert_eq!(tree::put(none, &root, "a", &root), Err(tree::EditError::Missing(root)));
     assert_eq!(tree::put(none, &root, "", &root), Err(tree::EditError::BadKeys));
-    assert_eq!(tree::put(|_: &Cid| Ok::<_, ()>(Some(vec![1])), &root, "a", &root), Err(tree::EditError::BadNode));
+    assert_eq!(tree::put(|_: &Cid| Ok::<_, ()>(Some(vec![1])), &root, "a", &root), Err(tree::EditError::BadNode(root)));
     let no_database = |_: &Cid| Err::<Option<tree::Known>, _>("no database");
     assert_eq!(tree::put(no_database, &root, "a", &root), Err(tree::EditError::Source("no database")));
 }
@@ -417,7 +417,7 @@ fn each_missing(nodes: &Nodes, root: &Cid, changes: &[tree::Change]) {
         assert_eq!(tree::apply(faulty, root, changes), Err(tree::EditError::Source(*gone)));
         // Another node under its CID is refused, wherever it leads.
         let wrong = |cid: &Cid| Ok::<_, ()>(if cid == gone { Some(tree::EMPTY_NODE.to_vec()) } else { nodes.get(cid).cloned() });
-        assert_eq!(tree::apply(wrong, root, changes), Err(tree::EditError::BadNode));
+        assert_eq!(tree::apply(wrong, root, changes), Err(tree::EditError::BadNode(*gone)));
     }
 }
 

@@ -7,3 +7,4 @@ pub mod Missing
 pub mod Following
 pub mod Partial
 pub mod Rows
+pub mod Unblamed

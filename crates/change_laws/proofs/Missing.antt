@@ -155,20 +155,59 @@ not_shown-is_true digest bits gives cs root c e =
     told (Ok x) h k = absurd k
     told (Err f) h k = subst (λ w. IsTold (shown_by gives) w) k h
 
+-- ---- what a verdict says
+
+module _ (P : ChangeFault → Type 0) (of_value : (place : ℕ) → P (OtherValue place)) (of_root : P OtherRoot) where
+  -- what fails says what P holds of
+  abbrev pub Tells : {A : Type 0} → Result A ChangeFault → Type 0
+  Tells (Ok x) = Unit {0}
+  Tells (Err fault) = P fault
+
+  tells-bind : {A B : Type 0} (r : Result A ChangeFault) (f : A → Result B ChangeFault) → Tells r
+      → ((a : A) → Tells (f a)) → Tells (r >>= f)
+  tells-bind (Ok x) f h k = k x
+  tells-bind (Err fault) f h k = h
+
+  tells-value : (b : Bool) (place : ℕ) → Tells (ensure b (OtherValue place))
+  tells-value true place = tt
+  tells-value false place = of_value place
+
+  tells-root : (b : Bool) → Tells (ensure b OtherRoot)
+  tells-root true = tt
+  tells-root false = of_root
+
+  tells-told : (place : ℕ) (vs : List (Option (List ℕ))) (cs : List KeyChange) → Tells (are_told place vs cs)
+  tells-told place [] [] = tt
+  tells-told place [] (c ∷ cs) = of_value place
+  tells-told place (v ∷ vs) [] = tt
+  tells-told place (v ∷ vs) (c ∷ cs) =
+      tells-bind (ensure (is_same v c.after) (OtherValue place)) (λ same. are_told (suc place) vs cs)
+      (tells-value (is_same v c.after) place) (λ same. tells-told (suc place) vs cs)
+
+  tells-fault : {A : Type 0} (r : Result A ChangeFault) (fault : ChangeFault) → r ≡ Err fault → Tells r → P fault
+  tells-fault r fault q h = subst (λ t. Tells t) q h
+
+  -- where the faults of reading say so, all do
+  pub says : (digest : List ℕ → List ℕ) (bits : ℕ) (before after : List ℕ) (given : List (List ℕ)) (cs : List KeyChange)
+      → Tells (batch_given digest bits given (undone cs) after) → (fault : ChangeFault)
+      → change_verdict digest bits before after given cs ≡ Err fault → P fault
+  unfolding change_verdict
+  says digest bits before after given cs h fault e =
+      let us = undone cs in
+      let vs = values_given digest bits given us after in
+      tells-fault _ fault e
+      (tells-bind (batch_given digest bits given us after) _ h
+      (λ old. tells-bind (are_told 0 vs cs) _ (tells-told 0 vs cs) (λ told. tells-root (bytes_eq old.0.0 before))))
+
 -- ---- what is called missing
 
 module _ (gives : List ℕ → Option (List ℕ)) where
   abbrev IsTrue : ChangeFault → Type 0
   IsTrue (BlockMissing c) = gives c ≡ None
-  IsTrue BadNode = Unit {0}
+  IsTrue (BadNode c) = Unit {0}
   IsTrue TooDeep = Unit {0}
   IsTrue (OtherValue place) = Unit {0}
   IsTrue OtherRoot = Unit {0}
-
-  -- what fails tells the truth
-  abbrev Tells : {A : Type 0} → Result A ChangeFault → Type 0
-  Tells (Ok x) = Unit {0}
-  Tells (Err fault) = IsTrue fault
 
   tells-unshown : (c : List ℕ) (o : Option (List ℕ)) → gives c ≡ o → IsTrue (unshown c o)
   tells-unshown c None q = q
@@ -178,47 +217,15 @@ module _ (gives : List ℕ → Option (List ℕ)) where
   tells-why (NotShown c) = tells-unshown c (gives c) refl
   tells-why LinkTooDeep = tt
 
-  tells-step : (step : Step Top) → Tells (or_fault gives step)
+  tells-step : (step : Step Top) → Tells IsTrue (λ place. tt) tt (or_fault gives step)
   tells-step (Ok x) = tt
   tells-step (Err e) = tells-why e.why
 
-  -- ---- what follows the reading
-
-  tells-bind : {A B : Type 0} (r : Result A ChangeFault) (f : A → Result B ChangeFault) → Tells r
-      → ((a : A) → Tells (f a)) → Tells (r >>= f)
-  tells-bind (Ok x) f h k = k x
-  tells-bind (Err fault) f h k = h
-
-  tells-value : (b : Bool) (place : ℕ) → Tells (ensure b (OtherValue place))
-  tells-value true place = tt
-  tells-value false place = tt
-
-  tells-root : (b : Bool) → Tells (ensure b OtherRoot)
-  tells-root true = tt
-  tells-root false = tt
-
-  tells-told : (place : ℕ) (vs : List (Option (List ℕ))) (cs : List KeyChange) → Tells (are_told place vs cs)
-  tells-told place [] [] = tt
-  tells-told place [] (c ∷ cs) = tt
-  tells-told place (v ∷ vs) [] = tt
-  tells-told place (v ∷ vs) (c ∷ cs) =
-      tells-bind (ensure (is_same v c.after) (OtherValue place)) (λ same. are_told (suc place) vs cs)
-      (tells-value (is_same v c.after) place) (λ same. tells-told (suc place) vs cs)
-
-  told-missing : {A : Type 0} (r : Result A ChangeFault) (c : List ℕ) → r ≡ Err (BlockMissing c) → Tells r
-      → gives c ≡ None
-  told-missing r c q h = subst (λ t. Tells t) q h
-
 pub missing-is_missing : MissingIsMissing
-unfolding change_verdict
 missing-is_missing digest bits before after given cs c e =
     let gives = given_at digest given in
-    let us = undone cs in
-    let vs = values_given digest bits given us after in
-    told-missing gives _ c e
-    (tells-bind gives (batch_given digest bits given us after) _ (tells-step gives (batch_over digest bits gives us after))
-    (λ old. tells-bind gives (are_told 0 vs cs) _ (tells-told gives 0 vs cs)
-    (λ told. tells-root gives (bytes_eq old.0.0 before))))
+    says (IsTrue gives) (λ place. tt) tt digest bits before after given cs
+    (tells-step gives (batch_over digest bits gives (undone cs) after)) (BlockMissing c) e
 
 pub nothing-given : NothingGiven
 unfolding change_verdict

@@ -12,7 +12,7 @@ use Rattle.batch_laws.specs.Links.{Log, NotShown, LinkTooDeep, Step, Stop, Top, 
 -- of the change at a place has another value; the changes undone lead to another root
 pub data ChangeFault : Type 0 where
   BlockMissing : List ℕ → ChangeFault
-  BadNode : ChangeFault
+  BadNode : List ℕ → ChangeFault
   TooDeep : ChangeFault
   OtherValue : ℕ → ChangeFault
   OtherRoot : ChangeFault
@@ -44,7 +44,7 @@ layers_needed layer wanted (Some s) = max (suc (layer_of_shape layer s)) wanted
 -- no node with this CID is shown: no block with it is there, or that block is no node
 abbrev pub unshown : {A : Type 0} → List ℕ → Option A → ChangeFault
 unshown c None = BlockMissing c
-unshown c (Some b) = BadNode
+unshown c (Some b) = BadNode c
 
 abbrev pub fault_of : {A : Type 0} → (List ℕ → Option A) → Stop → ChangeFault
 fault_of gives (NotShown c) = unshown c (gives c)

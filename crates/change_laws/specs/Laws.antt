@@ -1,5 +1,5 @@
 -- The laws of a proof of changes.
-use Rattle.std.specs.Prelude.{◌≡◌, Contains, ◌<◌, ◌≤◌, ◌^◌, ℕ, suc, max, List, [], ◌++◌, length, map, Option, None, Ok, Err}
+use Rattle.std.specs.Prelude.{◌≡◌, ⊤, Contains, ◌<◌, ◌≤◌, ◌^◌, ℕ, suc, max, List, [], ◌++◌, length, map, Option, None, Ok, Err}
 use Rattle.std.specs.List.{AllByRecursion}
 use Rattle.spec.specs.Cid.{IsDigest}
 use Rattle.spec.specs.Layer.{layer as layer_of_key}
@@ -14,7 +14,7 @@ use Rattle.batch_laws.specs.Counts.{most_from}
 use Rattle.batch_laws.specs.Links.{NotShown, Step, Stopped, StopsAt, Top}
 use Rattle.batch_laws.specs.Written.{AreWritten}
 use Rattle.change_laws.specs.Told.{KeyChange, undone, DifferBy}
-use Rattle.change_laws.specs.Given.{BlockMissing, given_at, batch_over, put_layers}
+use Rattle.change_laws.specs.Given.{ChangeFault, BlockMissing, BadNode, TooDeep, OtherValue, OtherRoot, given_at, batch_over, put_layers}
 use Rattle.change_laws.specs.Verdict.{change_verdict}
 
 -- ---- what a verdict says
@@ -81,6 +81,21 @@ TreeOnlyLacks = (digest : List ℕ → List ℕ) (bits : ℕ) → IsDigest diges
     → let gives = given_at digest given in
     OnlyLacks gives (most_from (layer_of_key digest bits) cs (shown_by gives (root digest bits es)))
     (batch_over digest bits gives cs (root digest bits es))
+
+-- what is said there of blocks: one is missing; or it is another value or another root
+abbrev pub IsOfTree : ChangeFault → Type 0
+IsOfTree (BlockMissing c) = ⊤
+IsOfTree (BadNode c) = ⊥
+IsOfTree TooDeep = ⊥
+IsOfTree (OtherValue place) = ⊤
+IsOfTree OtherRoot = ⊤
+
+-- so no block is called bad there, and no link too deep
+abbrev pub TreeOnlyMissing : Type 0
+TreeOnlyMissing = (digest : List ℕ → List ℕ) (bits : ℕ) → IsDigest digest → (es : List Pair) → ArePairs es
+    → IsClashFree digest (nodes digest bits es) → (given : List (List ℕ)) → ClashesWithNone digest (nodes digest bits es) given
+    → (before : List ℕ) (cs : List KeyChange) → AreKeyed (undone cs) → (fault : ChangeFault)
+    → change_verdict digest bits before (root digest bits es) given cs ≡ Err fault → IsOfTree fault
 
 -- ---- faults
 

@@ -1,6 +1,6 @@
 //! What a verdict means.
 
-ghost use Rattle.change_laws.specs.Laws.{VerdictIsSound, OldIsUndone, VerdictIsComplete, NothingGiven, TreeOnlyLacks, NotShownIsTrue, MissingIsMissing};
+ghost use Rattle.change_laws.specs.Laws.{VerdictIsSound, OldIsUndone, VerdictIsComplete, NothingGiven, TreeOnlyLacks, NotShownIsTrue, MissingIsMissing, TreeOnlyMissing};
 ghost use Rattle.change_laws.specs.Rows.{AreRows, by_last_digit};
 
 /// Changes that are shown are true of the pairs after them, whatever pairs these are: each key has the value that is told, and
@@ -22,6 +22,11 @@ pub fn verdict_is_complete()
 /// Where some blocks of a tree are given, a batch stops only as one isn't, and by then nothing else is wrong.
 pub fn tree_only_lacks()
     ensures { TreeOnlyLacks }
+{}
+
+/// So nothing is called bad there: the verdict is that a block is missing, or one on values and roots.
+pub fn tree_is_not_called_bad()
+    ensures { TreeOnlyMissing }
 {}
 
 /// Where nothing is given, the root after is what is missing first.

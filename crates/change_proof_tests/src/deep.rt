@@ -45,10 +45,10 @@ fn chain_of(alloc: Global, more: usize) -> Result<Chain, AllocError> {
     Ok(Chain { nodes, top })
 }
 
-/// Whether an answer is that there is no tree.
-fn is_no_tree<T>(answer: &Result<T, ChangeFault>) -> bool {
+/// Whether an answer is that a link stands below layer 0.
+fn is_too_deep<T>(answer: &Result<T, ChangeFault>) -> bool {
     match answer {
-        Err(ChangeFault::NotTree) => true,
+        Err(ChangeFault::TooDeep) => true,
         _ => false,
     }
 }
@@ -65,7 +65,7 @@ fn is_refused(alloc: Global, more: usize) -> bool {
     }];
     let shown = verified(alloc, value(2), chain.top, &chain.nodes, &changes);
     let proof = proved(alloc, &chain.nodes, chain.top, &changes);
-    is_no_tree(&shown) && is_no_tree(&proof)
+    is_too_deep(&shown) && is_too_deep(&proof)
 }
 
 #[test]

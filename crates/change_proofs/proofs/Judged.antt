@@ -2,6 +2,7 @@
 use Rattle.std.proofs.Common.{◌≡◌, ℕ, suc, max, Bool, true, false, cond, List, [], ◌∷◌, map, refl, sym, ap, subst, ◌∙◌, Option, option_map, Result, Ok, Err}
 use Rattle.std.specs.Arc.{arc_value}
 use Rattle.std.proofs.Math.Path.{fun_ext}
+use Rattle.std.specs.Prelude.{IsSome}
 use Rattle.std.specs.Str.{bytes_eq}
 use Rattle.std.specs.declared.option.Option.TheVariants.{Some, None}
 use Rattle.std.specs.declared.sync.Arc.{Arc}
@@ -13,10 +14,10 @@ use Rattle.edit_laws.specs.Sources.{shown_by}
 use Rattle.lookups.specs.Maps.{first_of}
 use Rattle.lookups.specs.Steps.{nodes_given}
 use Rattle.batch_laws.specs.Batch.{Change, AreKeyed}
-use Rattle.batch_laws.specs.Links.{LinkEdge, Log, NotShown, LinkTooDeep, Step, Stop, Top, batch_from}
+use Rattle.batch_laws.specs.Links.{NotShown, LinkTooDeep, Step, Stop, Top, batch_from}
 use Rattle.edit.specs.Batches.{answer_of as answer_over, put_layers as edit_put_layers}
 use Rattle.batch_laws.specs.Counts.{most_from}
-use Rattle.edit.specs.Stops.{IsUnreachedAt, IsUnreached, at_top}
+use Rattle.edit.specs.Stops.{IsUnreached, at_top}
 use Rattle.edit.specs.Tops.{layers_needed as edit_layers_needed}
 use Rattle.change_laws.specs.Told.{KeyChange, undone}
 use Rattle.change_laws.specs.Given.{ChangeFault as GivenFault, OtherRoot as HasOtherRoot, given_at, put_layers, layers_needed, unshown, fault_of, or_fault, batch_over}
@@ -24,7 +25,7 @@ use Rattle.change_laws.specs.Verdict.{previous_of, are_told, values_given, chang
 use Rattle.change_laws.proofs.Showing.{verdict-sound}
 use Rattle.change_proofs.specs.Verdicts.{SaysOf, IsSaidOver, IsVerdict, IsRight, values_met}
 use Rattle.change_proofs.specs.declared.change_fault.ChangeFault.{ChangeFault}
-use Rattle.change_proofs.specs.declared.change_fault.ChangeFault.TheVariants.{BlockMissing, NotTree, OtherValue, OtherRoot, NoMemory}
+use Rattle.change_proofs.specs.declared.change_fault.ChangeFault.TheVariants.{BlockMissing, BadNode, TooDeep, NotTree, OtherValue, OtherRoot, NoMemory}
 
 -- ---- given blocks as a source
 
@@ -90,24 +91,13 @@ says-same : {A : Type 0} (digest : List ℕ → List ℕ) (bs : List (Arc (List 
 says-same digest bs (Ok x) vs cs before r h = h
 says-same digest bs (Err e) vs cs before r h = ap (λ f. Err f) (sym (fault-same digest bs e.why)) ∙ h
 
-map-none : {X Y : Type 0} (f : X → Y) (o : Option X) → option_map f o ≡ None → o ≡ None
-map-none f None h = refl
-map-none f (Some x) h = absurd cc
+map-some : {X Y : Type 0} (f : X → Y) (o : Option X) → IsSome o → IsSome (option_map f o)
+map-some f None h = absurd h
+map-some f (Some x) h = h
 
-first-lacks : {A : Type 0} (digest : List ℕ → List ℕ) (bs : List (Arc (List ℕ) A)) (c : List ℕ)
-    → given_at digest (map arc_value bs) c ≡ None → first_of digest bs c ≡ None
-first-lacks digest bs c h = map-none arc_value (first_of digest bs c) (first-is digest bs c ∙ h)
-
-stop-same : {A : Type 0} (digest : List ℕ → List ℕ) (bs : List (Arc (List ℕ) A)) (most : ℕ) (why : Stop) (s : LinkEdge)
-    (log : Log) → IsUnreachedAt (first_of digest bs) most why s log
-    → IsUnreachedAt (given_at digest (map arc_value bs)) most why s log
-stop-same digest bs most (NotShown c) s log h = λ lacks. h (first-lacks digest bs c lacks)
-stop-same digest bs most LinkTooDeep s log h = tt
-
-unreached-same : {A : Type 0} (digest : List ℕ → List ℕ) (bs : List (Arc (List ℕ) A)) (most : ℕ) (step : Step LinkEdge)
-    → IsUnreached (first_of digest bs) most step → IsUnreached (given_at digest (map arc_value bs)) most step
-unreached-same digest bs most (Ok x) h = h
-unreached-same digest bs most (Err e) h = stop-same digest bs most e.why e.edge e.log h
+first-given : {A : Type 0} (digest : List ℕ → List ℕ) (bs : List (Arc (List ℕ) A)) (c : List ℕ)
+    → IsSome (first_of digest bs c) → IsSome (given_at digest (map arc_value bs) c)
+first-given digest bs c h = subst (λ o. IsSome o) (first-is digest bs c) (map-some arc_value (first_of digest bs c) h)
 
 -- an answer says what the steps of a verdict come to
 steps-say : (gives : List ℕ → Option (List ℕ)) (step : Step Top) (vs : List (Option (List ℕ))) (cs : List KeyChange)
@@ -147,14 +137,13 @@ module _ {A : Type 0} (digest : List ℕ → List ℕ) (bits : ℕ) (before afte
     sym (first-is digest bs c) ∙ ap (option_map arc_value) h.0,
     says-is _ h.1,
   )
+  fault-is (BadNode c) h = (first-given digest bs c h.0, says-is _ h.1)
+  fault-is TooDeep h = says-is _ h
   fault-is NotTree h =
-      let most = most_from (layer digest bits) (undone cs) (shows after) in
-      unreached-same digest bs most (at_top (batch_over digest bits (given_at digest given) (undone cs) after))
-      (subst (λ (o : Step Top). IsUnreached (first_of digest bs) most (at_top o))
+      subst (λ (o : Step Top). IsUnreached (most_from (layer digest bits) (undone cs) (shows after)) (at_top o))
       (answer-same digest bits bs (undone cs) after)
-      (subst (λ (s : List ℕ → Option Shape). IsUnreached (first_of digest bs)
-      (most_from (layer digest bits) (undone cs) (s after))
-      (at_top (answer_over digest bits (first_of digest bs) (undone cs) after))) (shows-same digest bs) h))
+      (subst (λ (s : List ℕ → Option Shape). IsUnreached (most_from (layer digest bits) (undone cs) (s after))
+      (at_top (answer_over digest bits (first_of digest bs) (undone cs) after))) (shows-same digest bs) h)
   fault-is (OtherValue place) h = says-is _ h
   fault-is OtherRoot h = says-is _ h
   fault-is NoMemory h = tt

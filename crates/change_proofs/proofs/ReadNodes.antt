@@ -21,7 +21,7 @@ use Rattle.change_laws.proofs.Showing.{verdict-complete}
 use Rattle.change_proofs.specs.Verdicts.{of_preview}
 use Rattle.change_proofs.specs.Provings.{AreNodes, AreNodesOver, IsFaultOf, IsLackOver, IsOtherValue, IsUntrue, fault_of}
 use Rattle.change_proofs.specs.declared.change_fault.ChangeFault.{ChangeFault}
-use Rattle.change_proofs.specs.declared.change_fault.ChangeFault.TheVariants.{BlockMissing, NotTree, OtherValue, OtherRoot, NoMemory}
+use Rattle.change_proofs.specs.declared.change_fault.ChangeFault.TheVariants.{BlockMissing, BadNode, TooDeep, NotTree, OtherValue, OtherRoot, NoMemory}
 use Rattle.change_proofs.specs.declared.proving_fault.ProvingFault.{ProvingFault}
 use Rattle.change_proofs.proofs.Judged.{puts-same}
 
@@ -57,6 +57,8 @@ pub tree-other : (digest : List ℕ → List ℕ) (bits : ℕ) (cs : List KeyCha
     (previous : List (Option (List ℕ))) (read : List (List ℕ)) → IsPreviewOf digest bits (undone cs) es new previous read
     → (fault : ChangeFault) → IsOtherValue previous cs fault → IsFaultOf es cs fault
 tree-other digest bits cs es new previous read p (BlockMissing c) h = h
+tree-other digest bits cs es new previous read p (BadNode c) h = h
+tree-other digest bits cs es new previous read p TooDeep h = h
 tree-other digest bits cs es new previous read p NotTree h = h
 tree-other digest bits cs es new previous read p (OtherValue place) h = ap (λ vs. are_told 0 vs cs) (sym p.previous_is) ∙ h
 tree-other digest bits cs es new previous read p OtherRoot h = h
@@ -65,6 +67,8 @@ tree-other digest bits cs es new previous read p NoMemory h = tt
 pub tree-want : {D A : Type 0} (cs : List KeyChange) (es : List Pair) (fault : EditFault D A) → IsWant fault
     → IsFaultOf es cs (of_preview fault)
 tree-want cs es (edits.Missing c) h = h
+tree-want cs es (edits.BadNode c) h = h
+tree-want cs es edits.TooDeep h = h
 tree-want cs es edits.NotTree h = h
 tree-want cs es edits.NoSuchKey h = h
 tree-want cs es (edits.Clash pair) h = h
@@ -90,6 +94,8 @@ module _ {A : Type 0} (digest : List ℕ → List ℕ) (bits : ℕ) (gives : Lis
       → IsPreview digest bits gives (undone cs) root new previous read → (fault : ChangeFault)
       → IsOtherValue previous cs fault → IsLackOver digest bits gives root cs fault
   over-other new previous read p (BlockMissing c) h = absurd h
+  over-other new previous read p (BadNode c) h = absurd h
+  over-other new previous read p TooDeep h = absurd h
   over-other new previous read p NotTree h = absurd h
   over-other new previous read p (OtherValue place) h =
       λ m shown. ap (λ vs. are_told 0 vs cs) (sym (p.previous_is m shown)) ∙ h
@@ -100,6 +106,8 @@ module _ {A : Type 0} (digest : List ℕ → List ℕ) (bits : ℕ) (gives : Lis
       → IsPreviewReason gives (most_of digest bits gives (undone cs) root) (answer_over digest bits gives (undone cs) root) fault
       → IsLackOver digest bits gives root cs (of_preview fault)
   over-lack (edits.Missing c) h = h
+  over-lack (edits.BadNode c) h = h
+  over-lack edits.TooDeep h = h
   over-lack edits.NotTree h = h
   over-lack edits.NoSuchKey h = absurd h
   over-lack (edits.Clash pair) h = absurd h
@@ -121,6 +129,8 @@ nodes-show digest bits fits cs es are keyed proof n old are_old differ given fre
 fault-told : (digest : List ℕ → List ℕ) (s : State) (cs : List KeyChange) (fault : ChangeFault)
     → IsFaultOf (pairs digest (records s)) cs fault → IsUntrue digest s cs (fault_of fault)
 fault-told digest s cs (BlockMissing c) h = tt
+fault-told digest s cs (BadNode c) h = tt
+fault-told digest s cs TooDeep h = tt
 fault-told digest s cs NotTree h = tt
 fault-told digest s cs (OtherValue place) h = h
 fault-told digest s cs OtherRoot h = tt

@@ -1,11 +1,12 @@
 -- What the root that comes out and the values say of changes.
 use Rattle.std.proofs.Common.{◌≡◌, ℕ, List, [], refl, sym, ap, subst, ◌∙◌, Option, Result, Ok, Err}
+use Rattle.std.specs.Prelude.{IsSome}
 use Rattle.std.specs.declared.option.Option.TheVariants.{Some, None}
 use Rattle.std.specs.declared.sync.Arc.{Arc}
 use Rattle.spec.specs.Layer.{layer}
 use Rattle.spec.specs.NodeFormat.{Shape}
 use Rattle.lookups.specs.Steps.{nodes_given}
-use Rattle.batch_laws.specs.Links.{LinkClear, Log, NotShown, Step, StopsAt, Top, and_then, log_shown, walking_top, topping}
+use Rattle.batch_laws.specs.Links.{LinkClear, LinkTooDeep, Log, NotShown, Step, StopsAt, Top, and_then, log_shown, walking_top, topping}
 use Rattle.batch_laws.specs.Previous.{previous_top}
 use Rattle.edit.specs.Batches.{answer_of, most_of, put_layers}
 use Rattle.edit.specs.Previews.{IsPreview, IsPreviewReason}
@@ -13,12 +14,12 @@ use Rattle.edit.specs.Tops.{layers_needed}
 use Rattle.edit.specs.declared.outcome.EditFault.{EditFault}
 use Rattle.edit.specs.declared.outcome.EditFault.TheVariants as edits
 use Rattle.change_laws.specs.Told.{KeyChange, undone}
-use Rattle.change_laws.specs.Given.{ChangeFault as GivenFault, BlockMissing as HasBlockMissing, OtherValue as HasOtherValue, OtherRoot as HasOtherRoot, unshown, fault_of}
+use Rattle.change_laws.specs.Given.{ChangeFault as GivenFault, BlockMissing as HasBlockMissing, BadNode as HasBadNode, TooDeep as HasTooDeep, OtherValue as HasOtherValue, OtherRoot as HasOtherRoot, unshown, fault_of}
 use Rattle.change_laws.specs.Verdict.{previous_of, are_told}
 use Rattle.change_laws.proofs.Lacking.{IsAnswered}
 use Rattle.change_proofs.specs.Verdicts.{of_preview, judgement, IsJudged, IsFault, IsSaid, IsSaidOver, SaysOf, values_met}
 use Rattle.change_proofs.specs.declared.change_fault.ChangeFault.{ChangeFault}
-use Rattle.change_proofs.specs.declared.change_fault.ChangeFault.TheVariants.{BlockMissing, NotTree, OtherValue, OtherRoot, NoMemory}
+use Rattle.change_proofs.specs.declared.change_fault.ChangeFault.TheVariants.{BlockMissing, BadNode, TooDeep, NotTree, OtherValue, OtherRoot, NoMemory}
 
 -- a step that stops where a block isn't given says that it is missing
 missing-said : {X : Type 0} (gives : List ℕ → Option X) (answer : Step Top) (vs : List (Option (List ℕ)))
@@ -27,6 +28,23 @@ missing-said : {X : Type 0} (gives : List ℕ → Option X) (answer : Step Top) 
 missing-said gives (Ok x) vs cs before c lacks stops = absurd stops
 missing-said gives (Err e) vs cs before c lacks stops =
     ap (λ w. Err (fault_of gives w)) stops ∙ ap (λ o. Err (unshown c o)) lacks
+
+-- one that stops where a block is given says that it is no node
+bad-said : {X : Type 0} (gives : List ℕ → Option X) (answer : Step Top) (vs : List (Option (List ℕ)))
+    (cs : List KeyChange) (before c : List ℕ) → IsSome (gives c) → StopsAt (NotShown c) answer
+    → SaysOf gives answer vs cs before (Err (HasBadNode c))
+bad-said gives (Ok x) vs cs before c there stops = absurd stops
+bad-said gives (Err e) vs cs before c there stops =
+    ap (λ w. Err (fault_of gives w)) stops ∙ by (gives c) there
+  where
+    by : (o : Option X) → IsSome o → ◌≡◌ {A = Result (Unit {0}) GivenFault} (Err (unshown c o)) (Err (HasBadNode c))
+    by None h = absurd h
+    by (Some b) h = refl
+
+deep-said : {X : Type 0} (gives : List ℕ → Option X) (answer : Step Top) (vs : List (Option (List ℕ)))
+    (cs : List KeyChange) (before : List ℕ) → StopsAt LinkTooDeep answer → SaysOf gives answer vs cs before (Err HasTooDeep)
+deep-said gives (Ok x) vs cs before stops = absurd stops
+deep-said gives (Err e) vs cs before stops = ap (λ w. Err (fault_of gives w)) stops
 
 module _ {X : Type 0} (gives : List ℕ → Option X) (answer : Step Top) (vs : List (Option (List ℕ))) (cs : List KeyChange)
     (before : List ℕ) where
@@ -42,6 +60,8 @@ module _ {X : Type 0} (gives : List ℕ → Option X) (answer : Step Top) (vs : 
         → IsSaid gives most answer (SaysOf gives answer vs cs before) result
     judged-said most told q (Ok x) h = says told (Ok tt) q h
     judged-said most told q (Err (BlockMissing c)) h = absurd h
+    judged-said most told q (Err (BadNode c)) h = absurd h
+    judged-said most told q (Err TooDeep) h = absurd h
     judged-said most told q (Err NotTree) h = absurd h
     judged-said most told q (Err (OtherValue place)) h = says told (Err (HasOtherValue place)) q h
     judged-said most told q (Err OtherRoot) h = says told (Err HasOtherRoot) q h
@@ -94,6 +114,9 @@ module _ {A : Type 0} (digest : List ℕ → List ℕ) (bits : ℕ) (gives : Lis
       (SaysOf gives answer (values_met digest bits gives root cs) cs before) (of_preview fault)
   reason-said before (edits.Missing c) h =
       (h.0, missing-said gives answer (values_met digest bits gives root cs) cs before c h.0 h.1)
+  reason-said before (edits.BadNode c) h =
+      (h.0, bad-said gives answer (values_met digest bits gives root cs) cs before c h.0 h.1)
+  reason-said before edits.TooDeep h = deep-said gives answer (values_met digest bits gives root cs) cs before h
   reason-said before edits.NotTree h = h
   reason-said before edits.NoSuchKey h = absurd h
   reason-said before (edits.Clash pair) h = absurd h

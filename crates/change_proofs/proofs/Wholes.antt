@@ -15,14 +15,15 @@ use Rattle.batch_laws.specs.Links.{Step, Top}
 use Rattle.edit.specs.Stops.{IsUnreachedAt, IsUnreached, at_top}
 use Rattle.edit.proofs.Bounds.{most-shown}
 use Rattle.change_laws.specs.Told.{KeyChange, undone, DifferBy}
-use Rattle.change_laws.specs.Given.{given_at, batch_over}
+use Rattle.change_laws.specs.Given.{BadNode as HasBadNode, TooDeep as HasTooDeep, given_at, batch_over}
 use Rattle.change_laws.specs.Verdict.{change_verdict}
 use Rattle.change_laws.specs.Laws.{OnlyLacks, change_path}
+use Rattle.change_laws.proofs.Unblamed.{tree-only_missing}
 use Rattle.change_laws.proofs.Partial.{tree-only_lacks}
 use Rattle.change_laws.proofs.Showing.{Reached, reached, verdict-complete}
 use Rattle.change_proofs.specs.Verdicts.{IsVerdict, IsWhole, IsWant, IsOfTree, IsOfATree}
 use Rattle.change_proofs.specs.declared.change_fault.ChangeFault.{ChangeFault}
-use Rattle.change_proofs.specs.declared.change_fault.ChangeFault.TheVariants.{BlockMissing, NotTree, OtherValue, OtherRoot, NoMemory}
+use Rattle.change_proofs.specs.declared.change_fault.ChangeFault.TheVariants.{BlockMissing, BadNode, TooDeep, NotTree, OtherValue, OtherRoot, NoMemory}
 
 ok-err : {X Y : Type 0} (x : X) (y : Y) → ◌≡◌ {A = Result X Y} (Ok x) (Err y) → ⊥
 ok-err x y h = cc
@@ -57,11 +58,12 @@ module _ (digest : List ℕ → List ℕ) (bits : ℕ) (fits : IsDigest digest) 
     wants : (fault : ChangeFault)
         → IsVerdict digest bits (root_of digest bits old) root_after given cs (Err fault) → IsWant fault
     wants (BlockMissing c) h = ok-err tt _ (sym is-shown ∙ h.1)
+    wants (BadNode c) h = ok-err tt _ (sym is-shown ∙ h.1)
+    wants TooDeep h = ok-err tt _ (sym is-shown ∙ h)
     wants NotTree h =
         let few = there.few in
         let most = enough in
-        subst (λ (o : Step Top). IsUnreached (given_at digest given)
-        (most_from (layer digest bits) (undone cs) (shows root_after)) (at_top o))
+        subst (λ (o : Step Top). IsUnreached (most_from (layer digest bits) (undone cs) (shows root_after)) (at_top o))
         answer-is h (omega (arith, few, most)) (record { made = there.made; begun = tt })
     wants (OtherValue place) h = ok-err tt _ (sym is-shown ∙ h)
     wants OtherRoot h = ok-err tt _ (sym is-shown ∙ h)
@@ -80,15 +82,19 @@ module _ (digest : List ℕ → List ℕ) (bits : ℕ) (fits : IsDigest digest) 
 module _ (digest : List ℕ → List ℕ) (bits : ℕ) (fits : IsDigest digest) (given : List (List ℕ)) (cs : List KeyChange)
     (keyed : AreKeyed (undone cs)) where
   nothing-wrong : (most : ℕ) (step : Step Top) → OnlyLacks (given_at digest given) most step
-      → IsUnreached (given_at digest given) most (at_top step) → ⊥
+      → IsUnreached most (at_top step) → ⊥
   nothing-wrong most (Ok x) h u = u h.0 (record { made = h.1; begun = tt })
   nothing-wrong most (Err e) h u =
-      subst (λ why. IsUnreachedAt (given_at digest given) most why e.edge e.log) h.why_is u h.lacks h.few h.written
+      subst (λ why. IsUnreachedAt most why e.edge e.log) h.why_is u h.few h.written
 
   of-tree : (before : List ℕ) (new : List Pair) → ArePairs new → IsClashFree digest (nodes digest bits new)
       → ClashesWithNone digest (nodes digest bits new) given → (fault : ChangeFault)
       → IsVerdict digest bits before (root_of digest bits new) given cs (Err fault) → IsOfATree fault
   of-tree before new are own_free free (BlockMissing c) h = tt
+  of-tree before new are own_free free (BadNode c) h =
+      tree-only_missing digest bits fits new are own_free given free before cs keyed (HasBadNode c) h.1
+  of-tree before new are own_free free TooDeep h =
+      tree-only_missing digest bits fits new are own_free given free before cs keyed HasTooDeep h
   of-tree before new are own_free free NotTree h =
       nothing-wrong (most_from (layer digest bits) (undone cs) (shown_by (given_at digest given) (root_of digest bits new)))
       (batch_over digest bits (given_at digest given) (undone cs) (root_of digest bits new))

@@ -1,5 +1,5 @@
 -- What is answered where changes are to be proved: of the pairs of a tree, of a repository, and over any source.
-use Rattle.std.specs.Prelude.{◌≡◌, ⊤, Contains, ℕ, List, map, ◌++◌, Option, Some, None, Result, Ok, Err}
+use Rattle.std.specs.Prelude.{◌≡◌, ⊤, Contains, ℕ, List, map, ◌++◌, Option, Some, None, Result, Ok, Err, IsSome}
 use Rattle.std.specs.Arc.{arc_value}
 use Rattle.std.specs.declared.sync.Arc.{Arc}
 use Rattle.spec.specs.Layer.{layer}
@@ -9,7 +9,7 @@ use Rattle.spec.specs.Blocks.{ArePairs, ClashesWithNone, nodes, pairs, root as r
 use Rattle.spec.specs.States.{State, records, state_root}
 use Rattle.edit_laws.specs.Laws.Edits.{bytes_of}
 use Rattle.lookups.specs.Steps.{nodes_given}
-use Rattle.batch_laws.specs.Links.{Log, NotShown, StopsAt}
+use Rattle.batch_laws.specs.Links.{LinkTooDeep, Log, NotShown, StopsAt}
 use Rattle.batch_laws.specs.Previous.{previous_top, values}
 use Rattle.edit.specs.Batches.{answer_of as answer_over, most_of}
 use Rattle.edit.specs.Stops.{IsUnreached, at_top}
@@ -18,13 +18,15 @@ use Rattle.change_laws.specs.Given.{ChangeFault as GivenFault, OtherValue as Has
 use Rattle.change_laws.specs.Verdict.{are_told, change_verdict}
 use Rattle.change_laws.specs.Laws.{change_path}
 use Rattle.change_proofs.specs.declared.change_fault.ChangeFault.{ChangeFault}
-use Rattle.change_proofs.specs.declared.change_fault.ChangeFault.TheVariants.{BlockMissing, NotTree, OtherValue, OtherRoot, NoMemory}
+use Rattle.change_proofs.specs.declared.change_fault.ChangeFault.TheVariants.{BlockMissing, BadNode, TooDeep, NotTree, OtherValue, OtherRoot, NoMemory}
 use Rattle.change_proofs.specs.declared.proving_fault.ProvingFault.{ProvingFault}
 use Rattle.change_proofs.specs.declared.proving_fault.ProvingFault.TheVariants as provings
 
 -- whether keys with these values have those that are told after the changes; a fault says no more than that
 abbrev pub IsOtherValue : List (Option (List ℕ)) → List KeyChange → ChangeFault → Type 0
 IsOtherValue vs cs (BlockMissing c) = ⊥
+IsOtherValue vs cs (BadNode c) = ⊥
+IsOtherValue vs cs TooDeep = ⊥
 IsOtherValue vs cs NotTree = ⊥
 IsOtherValue vs cs (OtherValue place) = are_told 0 vs cs ≡ Err (HasOtherValue place)
 IsOtherValue vs cs OtherRoot = ⊥
@@ -45,6 +47,8 @@ pub record AreNodes (digest : List ℕ → List ℕ) (bits : ℕ) (cs : List Key
 -- a key has another value, or memory is wanted
 abbrev pub IsFaultOf : List Pair → List KeyChange → ChangeFault → Type 0
 IsFaultOf es cs (BlockMissing c) = ⊥
+IsFaultOf es cs (BadNode c) = ⊥
+IsFaultOf es cs TooDeep = ⊥
 IsFaultOf es cs NotTree = ⊥
 IsFaultOf es cs (OtherValue place) = told_by es cs ≡ Err (HasOtherValue place)
 IsFaultOf es cs OtherRoot = ⊥
@@ -71,6 +75,8 @@ IsUntrue digest s cs provings.NoMemory = ⊤
 -- what a fault over a source is to it; the others don't come
 abbrev pub fault_of : ChangeFault → ProvingFault
 fault_of (BlockMissing c) = provings.NoMemory
+fault_of (BadNode c) = provings.NoMemory
+fault_of TooDeep = provings.NoMemory
 fault_of NotTree = provings.NoMemory
 fault_of (OtherValue place) = provings.OtherValue place
 fault_of OtherRoot = provings.NoMemory
@@ -94,14 +100,16 @@ module _ {A : Type 0} (digest : List ℕ → List ℕ) (bits : ℕ) (gives : Lis
     pub told : Tells (Ok tt)
     pub nodes_are : proof ≡ bytes_of (log.read ++ left)
 
-  -- Why there are none: the source lacks the block with this CID, and there the batch stops; it stops as the source gives what
-  -- is no tree, or, as far as it comes, it reads more nodes than these, or keys don't ascend in a node that it makes; a key has
-  -- another value; or memory is wanted.
+  -- Why there are none: the source lacks the block with this CID, or gives one that is no node, and there the batch stops; it
+  -- stops at a link below layer 0; as far as it comes, it reads more nodes than these, or keys don't ascend in a node that it
+  -- makes; a key has another value; or memory is wanted.
   abbrev pub IsLackOver : ChangeFault → Type 0
   IsLackOver (BlockMissing c) =
       (gives c ≡ None) × StopsAt (NotShown c) (answer_over digest bits gives (undone cs) root)
+  IsLackOver (BadNode c) = IsSome (gives c) × StopsAt (NotShown c) (answer_over digest bits gives (undone cs) root)
+  IsLackOver TooDeep = StopsAt LinkTooDeep (answer_over digest bits gives (undone cs) root)
   IsLackOver NotTree =
-      IsUnreached gives (most_of digest bits gives (undone cs) root) (at_top (answer_over digest bits gives (undone cs) root))
+      IsUnreached (most_of digest bits gives (undone cs) root) (at_top (answer_over digest bits gives (undone cs) root))
   IsLackOver (OtherValue place) = Tells (Err (HasOtherValue place))
   IsLackOver OtherRoot = ⊥
   IsLackOver NoMemory = ⊤

@@ -1,5 +1,5 @@
 -- What is answered of changes, over any source and over given blocks.
-use Rattle.std.specs.Prelude.{◌≡◌, ⊤, Contains, ℕ, List, Option, Some, None, Result, Ok, Err, IfErr, OnOk}
+use Rattle.std.specs.Prelude.{◌≡◌, ⊤, Contains, ℕ, List, Option, Some, None, Result, Ok, Err, IfErr, IsSome, OnOk}
 use Rattle.std.specs.Str.{bytes_eq}
 use Rattle.std.specs.declared.sync.Arc.{Arc}
 use Rattle.spec.specs.Reading.{◌>>=◌, ensure}
@@ -15,15 +15,17 @@ use Rattle.edit.specs.Stops.{IsUnreached, at_top}
 use Rattle.edit.specs.declared.outcome.EditFault.{EditFault}
 use Rattle.edit.specs.declared.outcome.EditFault.TheVariants as edits
 use Rattle.change_laws.specs.Told.{KeyChange, undone, DifferBy}
-use Rattle.change_laws.specs.Given.{ChangeFault as GivenFault, BlockMissing as HasBlockMissing, OtherValue as HasOtherValue, OtherRoot as HasOtherRoot, given_at, fault_of, batch_over}
+use Rattle.change_laws.specs.Given.{ChangeFault as GivenFault, BlockMissing as HasBlockMissing, BadNode as HasBadNode, TooDeep as HasTooDeep, OtherValue as HasOtherValue, OtherRoot as HasOtherRoot, given_at, fault_of, batch_over}
 use Rattle.change_laws.specs.Verdict.{previous_of, are_told, change_verdict}
 use Rattle.change_laws.specs.Laws.{change_path, IsShown}
 use Rattle.change_proofs.specs.declared.change_fault.ChangeFault.{ChangeFault}
-use Rattle.change_proofs.specs.declared.change_fault.ChangeFault.TheVariants.{BlockMissing, NotTree, OtherValue, OtherRoot, NoMemory}
+use Rattle.change_proofs.specs.declared.change_fault.ChangeFault.TheVariants.{BlockMissing, BadNode, TooDeep, NotTree, OtherValue, OtherRoot, NoMemory}
 
 -- what a fault of a preview is to who verifies; it never says that there is no such key, or that two blocks clash
 abbrev pub of_preview : {D A : Type 0} → EditFault D A → ChangeFault
 of_preview (edits.Missing c) = BlockMissing c
+of_preview (edits.BadNode c) = BadNode c
+of_preview edits.TooDeep = TooDeep
 of_preview edits.NotTree = NotTree
 of_preview edits.NoSuchKey = NotTree
 of_preview (edits.Clash pair) = NotTree
@@ -50,6 +52,8 @@ judgement told old before = told >>= (λ x. ensure (bytes_eq old before) HasOthe
 abbrev pub IsJudged : Result (Unit {0}) GivenFault → Result (Unit {0}) ChangeFault → Type 0
 IsJudged verdict (Ok x) = verdict ≡ Ok tt
 IsJudged verdict (Err (BlockMissing c)) = ⊥
+IsJudged verdict (Err (BadNode c)) = ⊥
+IsJudged verdict (Err TooDeep) = ⊥
 IsJudged verdict (Err NotTree) = ⊥
 IsJudged verdict (Err (OtherValue place)) = verdict ≡ Err (HasOtherValue place)
 IsJudged verdict (Err OtherRoot) = verdict ≡ Err HasOtherRoot
@@ -57,13 +61,15 @@ IsJudged verdict (Err NoMemory) = ⊥
 
 -- ---- over any source
 
--- Why there is no verdict, or which: the source lacks the block with this CID, a key has another value, or another root comes
--- out, and the verdict says so; or the batch stops as the source gives what is no tree, or, as far as it comes, it reads more
--- nodes than these, or keys don't ascend in a node that it makes.
+-- Which verdict there is: the source lacks the block with this CID, or gives one that is no node, a link stands below layer 0, a
+-- key has another value, or another root comes out, and the verdict says so. Or why there is none: as far as the batch comes, it
+-- reads more nodes than these, or keys don't ascend in a node that it makes.
 abbrev pub IsFault : {X : Type 0} → (List ℕ → Option X) → ℕ → Step Top
     → (Result (Unit {0}) GivenFault → Type 0) → ChangeFault → Type 0
 IsFault gives most answer Says (BlockMissing c) = (gives c ≡ None) × Says (Err (HasBlockMissing c))
-IsFault gives most answer Says NotTree = IsUnreached gives most (at_top answer)
+IsFault gives most answer Says (BadNode c) = IsSome (gives c) × Says (Err (HasBadNode c))
+IsFault gives most answer Says TooDeep = Says (Err HasTooDeep)
+IsFault gives most answer Says NotTree = IsUnreached most (at_top answer)
 IsFault gives most answer Says (OtherValue place) = Says (Err (HasOtherValue place))
 IsFault gives most answer Says OtherRoot = Says (Err HasOtherRoot)
 IsFault gives most answer Says NoMemory = ⊤
@@ -90,14 +96,18 @@ IsSaidOver digest bits gives before after cs result =
 -- memory is wanted
 abbrev pub IsWant : ChangeFault → Type 0
 IsWant (BlockMissing c) = ⊥
+IsWant (BadNode c) = ⊥
+IsWant TooDeep = ⊥
 IsWant NotTree = ⊥
 IsWant (OtherValue place) = ⊥
 IsWant OtherRoot = ⊥
 IsWant NoMemory = ⊤
 
--- it is not that there is no tree
+-- it is not that a block is no node, a link too deep, or that there is no tree
 abbrev pub IsOfATree : ChangeFault → Type 0
 IsOfATree (BlockMissing c) = ⊤
+IsOfATree (BadNode c) = ⊥
+IsOfATree TooDeep = ⊥
 IsOfATree NotTree = ⊥
 IsOfATree (OtherValue place) = ⊤
 IsOfATree OtherRoot = ⊤
@@ -107,8 +117,8 @@ IsOfATree NoMemory = ⊤
 
 module _ (digest : List ℕ → List ℕ) (bits : ℕ) (before after : List ℕ) (given : List (List ℕ)) (cs : List KeyChange)
     (result : Result (Unit {0}) ChangeFault) where
-  -- What is answered is the verdict, but for what is no tree and for want of memory. A block that is named
-  -- as missing is just the one that the verdict names.
+  -- What is answered is the verdict, but for want of memory and for nodes that no tree has: then it is told why there is none. A
+  -- block that is named is just the one that the verdict names.
   abbrev pub IsVerdict : Type 0
   IsVerdict =
       let gives = given_at digest given in
@@ -121,7 +131,7 @@ module _ (digest : List ℕ → List ℕ) (bits : ℕ) (before after : List ℕ)
   IsRight = (new : List Pair) → ArePairs new → after ≡ root_of digest bits new
       → ClashesWithNone digest (nodes digest bits new) given → OnOk result (IsShown digest bits before cs new)
 
-  -- where all or some blocks of a tree are given, that there is no tree is never said
+  -- where all or some blocks of a tree are given, nothing is said against a block: the answer is the verdict, or memory is wanted
   abbrev pub IsOfTree : Type 0
   IsOfTree = (new : List Pair) → ArePairs new → after ≡ root_of digest bits new → IsClashFree digest (nodes digest bits new)
       → ClashesWithNone digest (nodes digest bits new) given → IfErr result IsOfATree

@@ -15,7 +15,16 @@ pub enum ChangeFault {
     #[error("a block that is needed is not given")]
     BlockMissing(Cid),
 
-    /// What is given under the root after is no tree.
+    /// The block that is given for this CID is no node.
+    #[error("a block that is needed is no node")]
+    BadNode(Cid),
+
+    /// The nodes that are given have a link below layer 0.
+    #[error("a link stands below layer 0")]
+    TooDeep,
+
+    /// The nodes that are given aren't a tree's: undoing reads more of them than a tree has for it, or would make a node whose
+    /// keys don't ascend.
     #[error("the blocks are no tree with the root after")]
     NotTree,
 
@@ -56,6 +65,8 @@ impl<D: Digest, A: Allocator> From<EditFault<D, A>> for ChangeFault {
     fn from(fault: EditFault<D, A>) -> ChangeFault {
         match fault {
             EditFault::Missing(cid) => ChangeFault::BlockMissing(cid),
+            EditFault::BadNode(cid) => ChangeFault::BadNode(cid),
+            EditFault::TooDeep => ChangeFault::TooDeep,
             EditFault::NotTree | EditFault::NoSuchKey | EditFault::Clash(_) => ChangeFault::NotTree,
             EditFault::NoMemory => ChangeFault::NoMemory,
         }

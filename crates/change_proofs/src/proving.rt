@@ -56,7 +56,8 @@ pub fn prove_change<D: Digest, const B: u8, A: Allocator + Clone>(
 ///
 /// Where the source has all nodes of the tree only `ChangeFault::OtherValue` and `ChangeFault::NoMemory` come. Else
 /// `ChangeFault::BlockMissing` has the CID of a node that is needed and not there, so that who has it elsewhere can add it
-/// and call again, and `ChangeFault::NotTree` comes where the source gives what is no tree. The source stays as it is.
+/// and call again; `ChangeFault::BadNode`, with a CID, `ChangeFault::TooDeep` and `ChangeFault::NotTree` come where the source
+/// gives what is no tree. The source stays as it is.
 pub fn prove_change_over<
     'a,
     D: Digest + 'a,

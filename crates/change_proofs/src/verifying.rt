@@ -41,7 +41,7 @@ pub fn verify_change<D: Digest, const B: u8, A: Allocator + Clone, K: AsSlice<u8
     ensures comes { IsWhole D.digest_of B before after (map K.items blocks.now)
         changes.now result }
 
-    // Where all or some blocks of a tree are given, that there is no tree is never said.
+    // Where all or some blocks of a tree are given, nothing is said against a block.
     ensures tree { IsOfTree D.digest_of B before after (map K.items blocks.now)
         changes.now result }
 {

@@ -39,6 +39,8 @@ fn add<D: Digest>(
 #[derive(Clone, Copy, PartialEq, Eq)]
 enum Ended {
     Done,
+    BadNode(Cid),
+    TooDeep,
     NotTree,
     Clash,
     Otherwise,
@@ -48,6 +50,8 @@ enum Ended {
 fn ended_of<D: Digest>(answer: Result<BatchEdit<D>, EditFault<D>>) -> Ended {
     match answer {
         Ok(_) => Ended::Done,
+        Err(EditFault::BadNode(cid)) => Ended::BadNode(cid),
+        Err(EditFault::TooDeep) => Ended::TooDeep,
         Err(EditFault::NotTree) => Ended::NotTree,
         Err(EditFault::Clash(_)) => Ended::Clash,
         Err(_) => Ended::Otherwise,
@@ -77,12 +81,13 @@ fn add_no_node(alloc: Global, blocks: &mut Blocks<Toy>) -> Result<(Cid, Cid), Al
     Ok((other, root))
 }
 
-/// Whether batches find that there is no tree where they need the block that is no node: a put behind the key, the key's
-/// delete, and any over that block alone.
+/// Whether batches name the block that is no node where they need it: a put behind the key, the key's delete, and any over
+/// that block alone.
 fn find_no_node(alloc: Global, blocks: &[Arc<Block<Toy>>], other: Cid, root: Cid) -> bool {
-    end(alloc, blocks, root, b"a/r0", Some(1)) == (Ended::NotTree, 2)
-        && end(alloc, blocks, root, b"a/q2", None) == (Ended::NotTree, 2)
-        && end(alloc, blocks, other, b"a/q2", None) == (Ended::NotTree, 1)
+    let bad = Ended::BadNode(other);
+    end(alloc, blocks, root, b"a/r0", Some(1)) == (bad, 2)
+        && end(alloc, blocks, root, b"a/q2", None) == (bad, 2)
+        && end(alloc, blocks, other, b"a/q2", None) == (bad, 1)
 }
 
 /// Whether a batch that doesn't need it is done: an update of the key.
@@ -119,7 +124,7 @@ fn nodes_that_meet_in_no_order(rt: HostRuntime) {
     assert!(rt; end(rt.alloc(), &blocks, root, b"a/q2", None) == (Ended::NotTree, 5));
 }
 
-/// Whether a batch of one change ends without an answer after this many reads at most.
+/// Whether a batch of one change finds a link too deep after this many reads at most.
 fn is_refused<D: Digest>(
     alloc: Global,
     blocks: &[Arc<Block<D>>],
@@ -129,7 +134,7 @@ fn is_refused<D: Digest>(
     most: u64,
 ) -> bool {
     let (ended, reads) = end(alloc, blocks, root, key, number);
-    ended == Ended::NotTree && reads <= most
+    ended == Ended::TooDeep && reads <= most
 }
 
 /// Whether a put and a delete over a node without keys that links to itself end so.
@@ -188,7 +193,7 @@ fn add_endless(alloc: Global, blocks: &mut Blocks<Size>) -> Result<Cid, AllocErr
 fn nodes_that_go_on_without_an_end(rt: HostRuntime) {
     let mut blocks = Vec::new(rt.alloc());
     let root = add_endless(rt.alloc(), &mut blocks).expect(&rt, "three blocks");
-    assert!(rt; is_refused(rt.alloc(), &blocks, root, b"a/q1", None, 3));
+    assert!(rt; end(rt.alloc(), &blocks, root, b"a/q1", None) == (Ended::NotTree, 3));
 }
 
 /// A node of two keys. Under this digest the nodes of each of them alone, which have one length, have one CID.

@@ -121,7 +121,7 @@ static FAULTS: [(&[&str], &[&str], &str); 23] = [
         &["E", "\n", ROOT, "\nchange a/b - ", "E", "\n", NODE],
         "msthost: line 3: OtherValue\n",
     ),
-    (VERIFY, &["E", "\n", RECORD, "\na0"], "msthost: NotTree\n"),
+    (VERIFY, &["E", "\n", RECORD, "\na0"], "msthost: BadNode\n"),
 ];
 
 /// Whether a command on these texts writes this.

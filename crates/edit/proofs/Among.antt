@@ -14,7 +14,7 @@ use Rattle.edit_laws.specs.Changes.{has_cid, add_of}
 use Rattle.edit.specs.Among.{IsAmong}
 use Rattle.edit.specs.Refusals.{IsRefusal}
 use Rattle.edit.specs.declared.outcome.EditFault.{EditFault}
-use Rattle.edit.specs.declared.outcome.EditFault.TheVariants.{Missing, NotTree, NoSuchKey, Clash, NoMemory}
+use Rattle.edit.specs.declared.outcome.EditFault.TheVariants.{Missing, BadNode, TooDeep, NotTree, NoSuchKey, Clash, NoMemory}
 
 any-map : {A B : Type 0} (p : B → Bool) (f : A → B) (xs : List A) → list_any p (map f xs) ≡ list_any (λ x. p (f x)) xs
 any-map p f [] = refl
@@ -69,6 +69,8 @@ clash-two digest a b pair h e =
 pub refusal-within : {D A : Type 0} (digest : List ℕ → List ℕ) (P : Type 0) (xs ys : List (List ℕ)) (fault : EditFault D A)
     → ((b : List ℕ) → Contains xs b → Contains ys b) → IsRefusal digest xs ⊥ fault → IsRefusal digest ys P fault
 refusal-within digest P xs ys (Missing c) within r = r
+refusal-within digest P xs ys (BadNode c) within r = r
+refusal-within digest P xs ys TooDeep within r = r
 refusal-within digest P xs ys NotTree within r = r
 refusal-within digest P xs ys NoSuchKey within r = absurd r
 refusal-within digest P xs ys (Clash pair) within r = (within pair.0 r.0, within pair.1 r.1, r.2)

@@ -165,11 +165,11 @@ way-memory gives digest shows all a b k l fs ls rest log w =
 pub way-ended : {A : Type 0} (gives : List ℕ → Option A) (digest : List ℕ → List ℕ) (shows : List ℕ → Option Shape)
     (all : Step LinkEdge) (a : Budget) (b k : ℕ) (c : List ℕ) (fs : List Shape) (ls : List Rows)
     (rest : Option (List ℕ)) (log : Log) → k ≡ 0 → IsOnTheWay digest shows all b k (Some c) fs ls rest log
-    → IsStopped gives a a.0 log all faults.NotTree
+    → IsStopped gives a a.0 log all faults.TooDeep
 way-ended gives digest shows all a b k c fs ls rest log e w =
-    way-stopped gives digest shows all a a.0 b k (b + length fs) (Some c) fs ls rest log faults.NotTree refl w
+    way-stopped gives digest shows all a a.0 b k (b + length fs) (Some c) fs ls rest log faults.TooDeep refl w
     (subst (λ j. IsStopped gives a a.0 log (parting digest shows j (Some c) (edge_of (drop (b + length fs) ls) rest) log)
-    faults.NotTree) (sym e) (none-stopped gives a (edge_of (drop (b + length fs) ls) rest) log))
+    faults.TooDeep) (sym e) (none-stopped gives a (edge_of (drop (b + length fs) ls) rest) log))
 
 -- ---- the whole subtree
 

@@ -17,7 +17,7 @@ use Rattle.edit.specs.Edges.{edge_of, highest_of}
 use Rattle.edit.specs.Stops.{IsUnwritten, IsRefused, fault_of, IsStopped, IsUnread, at_top}
 use Rattle.edit.proofs.Cuts.{snoc-same, cut-at}
 use Rattle.edit.proofs.Topping.{top-down, none-top, has-top}
-use Rattle.edit.proofs.Stopping.{empty-keys, Goes, refused-stopped, memory-stopped, ReadsMore, unread-stopped}
+use Rattle.edit.proofs.Stopping.{empty-keys, Goes, refused-stopped, memory-stopped, ReadsMore, asks-more, unread-stopped}
 
 last-keys : (xs : List Shape) (s : Shape) → AllByRecursion HasKeys (xs ++ (s ∷ [])) → HasKeys s
 last-keys [] s h = h.0
@@ -119,7 +119,8 @@ pruning-reads shows k c log (Some (LastLink (Some b))) =
 
     further : (o : Step LinkEdge) → Goes (LinkWaiting b) next o → ReadsMore log o
     further (Err e) h =
-        let r = h.reads in let n = length-append log.read (LastLink (Some b) ∷ []) in omega arith
+        let r = h.reads in
+        let n = length-append log.read (LastLink (Some b) ∷ []) in asks-more log e.why e.log (omega arith)
     further (Ok x) h =
         let r = h.reads in let n = length-append log.read (LastLink (Some b) ∷ []) in omega arith
 pruning-reads shows k c log (Some (MoreLinks l e r)) =

@@ -20,7 +20,7 @@ use Rattle.edit_laws.proofs.OverSource.{holds-top, free-source}
 use Rattle.edit_laws.proofs.ShapeBridges.{layer-shape}
 use Rattle.lookups.specs.Trees.{HasTree}
 use Rattle.batch_laws.specs.Batch.{Change, puts, changed, AreAscending, AreKeyed}
-use Rattle.batch_laws.specs.Links.{Log, Top, batch_from, Step, NotShown, Stop, StopsAt, Stopped}
+use Rattle.batch_laws.specs.Links.{LinkTooDeep, Log, Top, batch_from, Step, NotShown, Stop, StopsAt, Stopped}
 use Rattle.batch_laws.specs.Previous.{previous_top, values}
 use Rattle.batch_laws.specs.Trace.{batch_made, batch_read}
 use Rattle.batch_laws.specs.Laws.Sources.{IsBatchFrom}
@@ -33,7 +33,7 @@ use Rattle.std.specs.declared.sync.Arc.{Arc}
 use Rattle.edit.specs.declared.faults.Fault.{Fault}
 use Rattle.edit.specs.declared.faults.Fault.TheVariants as walks
 use Rattle.edit.specs.declared.outcome.EditFault.{EditFault}
-use Rattle.edit.specs.declared.outcome.EditFault.TheVariants.{Missing, NotTree, NoSuchKey, Clash, NoMemory}
+use Rattle.edit.specs.declared.outcome.EditFault.TheVariants.{Missing, BadNode, TooDeep, NotTree, NoSuchKey, Clash, NoMemory}
 use Rattle.edit.specs.Stops.{IsUnreached, IsCause, at_top}
 use Rattle.edit_laws.proofs.Tops.{layer_of-top}
 use Rattle.batch_laws.proofs.OverSource.{batch-over_source}
@@ -245,10 +245,13 @@ module _ (digest : List ℕ → List ℕ) (bits : ℕ) (fits : IsDigest digest) 
       → IsRefusal {D = D} {A = B} digest (nodes digest bits es ++ nodes digest bits (changed cs es)) P (of_walk fault)
   walk-refused D B P given (walks.Missing c) keys cause =
       absurd (subst (λ a. StopsAt (NotShown c) (at_top a)) answers cause.1)
+  walk-refused D B P given (walks.BadNode c) keys cause =
+      absurd (subst (λ a. StopsAt (NotShown c) (at_top a)) answers cause.1)
+  walk-refused D B P given walks.TooDeep keys cause = absurd (subst (λ a. StopsAt LinkTooDeep (at_top a)) answers cause)
   walk-refused D B P given walks.NotTree keys unreached =
       let few = reads-few in
       let most = enough-reads in
-      subst (λ a. IsUnreached given (most_from (layer digest bits) cs (shown_by gives root) + 0) (at_top a)) answers unreached
+      subst (λ a. IsUnreached (most_from (layer digest bits) cs (shown_by gives root) + 0) (at_top a)) answers unreached
       (omega (arith, few, most))
       (record { made = subst (AllByRecursion HasKeys) (sym is-batch.made_is) keys; begun = tt })
   walk-refused D B P given walks.NoMemory keys cause = tt
@@ -307,8 +310,10 @@ pub walk-reason : {A : Type 0} (D P : Type 0) (given : List ℕ → Option (Arc 
     (answer : Step Top) (fault : Fault) → IsCause given (most + 0) (at_top answer) fault
     → IsReason {D = D} given most answer P (of_walk fault)
 walk-reason D P given most answer (walks.Missing c) cause = (cause.0, top-stops answer (NotShown c) cause.1)
+walk-reason D P given most answer (walks.BadNode c) cause = (cause.0, top-stops answer (NotShown c) cause.1)
+walk-reason D P given most answer walks.TooDeep cause = top-stops answer LinkTooDeep cause
 walk-reason D P given most answer walks.NotTree cause =
-    let all : most + 0 ≡ most = omega arith in subst (λ m. IsUnreached given m (at_top answer)) all cause
+    let all : most + 0 ≡ most = omega arith in subst (λ m. IsUnreached m (at_top answer)) all cause
 walk-reason D P given most answer walks.NoMemory cause = tt
 
 -- there is an answer, and what it has clashes
@@ -316,6 +321,8 @@ pub answer-reason : {D A : Type 0} (digest : List ℕ → List ℕ) (blocks : Li
     (given : List ℕ → Option (Arc (List ℕ) A)) (most : ℕ) (answer : Step Top) (x : Top × Log)
     (fault : EditFault D A) → answer ≡ Ok x → IsRefusal digest blocks ⊥ fault → IsReason given most answer P fault
 answer-reason digest blocks P given most answer x (Missing c) is r = absurd r
+answer-reason digest blocks P given most answer x (BadNode c) is r = absurd r
+answer-reason digest blocks P given most answer x TooDeep is r = absurd r
 answer-reason digest blocks P given most answer x NotTree is r = absurd r
 answer-reason digest blocks P given most answer x NoSuchKey is r = absurd r
 answer-reason digest blocks P given most answer x (Clash pair) is r = subst (λ (o : Step Top). IsOk o) (sym is) refl

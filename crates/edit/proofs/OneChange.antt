@@ -56,5 +56,7 @@ edit-of_batch digest bits key v es fs read root add drop had previous leaves rea
 -- the walk stops for no clash
 pub walk-absence : (D A : Type 0) (fault : Fault) → IsAbsence {D = D} {A = A} (of_walk fault)
 walk-absence D A (walks.Missing c) = tt
+walk-absence D A (walks.BadNode c) = tt
+walk-absence D A walks.TooDeep = tt
 walk-absence D A walks.NotTree = tt
 walk-absence D A walks.NoMemory = tt

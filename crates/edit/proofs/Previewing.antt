@@ -12,7 +12,7 @@ use Rattle.edit_laws.specs.Sources.{shown_by}
 use Rattle.lookups.specs.Steps.{nodes_given}
 use Rattle.lookups.specs.Trees.{HasTree}
 use Rattle.batch_laws.specs.Batch.{Change, changed, AreAscending}
-use Rattle.batch_laws.specs.Links.{Log, Top, batch_from, Step, NotShown, Stopped}
+use Rattle.batch_laws.specs.Links.{Log, Top, batch_from, Step, NotShown, LinkTooDeep, Stopped}
 use Rattle.batch_laws.specs.Previous.{previous_top}
 use Rattle.edit.specs.Batches.{put_layers, answer_of, of_walk}
 use Rattle.edit.specs.Previews.{IsPreview, IsPreviewOf, IsPreviewReason, IsWant}
@@ -63,6 +63,8 @@ preview-tree digest bits fits gives root cs es has new previous read left log as
 pub walk-want : (D A : Type 0) (digest : List ℕ → List ℕ) (blocks : List (List ℕ)) (fault : Fault)
     → IsRefusal {D = D} {A = A} digest blocks ⊥ (of_walk fault) → IsWant {D = D} {A = A} (of_walk fault)
 walk-want D A digest blocks (walks.Missing c) r = absurd r
+walk-want D A digest blocks (walks.BadNode c) r = absurd r
+walk-want D A digest blocks walks.TooDeep r = absurd r
 walk-want D A digest blocks walks.NotTree r = absurd r
 walk-want D A digest blocks walks.NoMemory r = tt
 
@@ -71,6 +73,8 @@ pub preview-reason : {X : Type 0} (D A : Type 0) (given : List ℕ → Option X)
     (fault : Fault) → IsCause given (most + 0) (at_top answer) fault
     → IsPreviewReason {D = D} {A = A} given most answer (of_walk fault)
 preview-reason D A given most answer (walks.Missing c) cause = (cause.0, top-stops answer (NotShown c) cause.1)
+preview-reason D A given most answer (walks.BadNode c) cause = (cause.0, top-stops answer (NotShown c) cause.1)
+preview-reason D A given most answer walks.TooDeep cause = top-stops answer LinkTooDeep cause
 preview-reason D A given most answer walks.NotTree cause =
-    let all : most + 0 ≡ most = omega arith in subst (λ m. IsUnreached given m (at_top answer)) all cause
+    let all : most + 0 ≡ most = omega arith in subst (λ m. IsUnreached m (at_top answer)) all cause
 preview-reason D A given most answer walks.NoMemory cause = tt

@@ -11,7 +11,7 @@ use Rattle.rows.specs.declared.draft.DraftFault.{DraftFault}
 use Rattle.rows.specs.declared.draft.DraftFault.TheVariants as drafts
 use Rattle.edit.specs.Budgets.{Budget}
 use Rattle.edit.specs.declared.faults.Fault.{Fault}
-use Rattle.edit.specs.declared.faults.Fault.TheVariants.{Missing, NotTree, NoMemory}
+use Rattle.edit.specs.declared.faults.Fault.TheVariants.{Missing, BadNode, TooDeep, NotTree, NoMemory}
 use Rattle.edit.specs.Edges.{edge_of, within, under, joined, around}
 use Rattle.edit.specs.States.{IsCounted}
 use Rattle.edit.specs.Stops.{IsUnwritten, IsUnreachedAt, IsUnreached, IsRefused, fault_of, IsCause, IsStopped, IsUnshown, IsUnread, IsOnward, open_edge}
@@ -46,27 +46,25 @@ leads-unwritten (Ok x) (Err f) h u = λ w. u (h.written w)
 leads-unwritten (Ok x) (Ok y) h u = λ w. u (h.written w)
 
 -- as far as it comes, from where something else is that is not reached
-stop-unreached : {A : Type 0} (gives : List ℕ → Option A) (most : ℕ) (why : Stop) (s t : LinkEdge) (log later : Log)
-    → IsEarlier HasKeys s log t later → IsUnreachedAt gives most why s log → IsUnreachedAt gives most why t later
-stop-unreached gives most (NotShown c) s t log later h u =
-    λ lacks n w. (let i = h.reads in u lacks (omega arith) (h.written w))
-stop-unreached gives most LinkTooDeep s t log later h u = tt
+stop-unreached : (most : ℕ) (why : Stop) (s t : LinkEdge) (log later : Log)
+    → IsEarlier HasKeys s log t later → IsUnreachedAt most why s log → IsUnreachedAt most why t later
+stop-unreached most (NotShown c) s t log later h u = λ n w. (let i = h.reads in u (omega arith) (h.written w))
+stop-unreached most LinkTooDeep s t log later h u = λ n w. (let i = h.reads in u (omega arith) (h.written w))
 
-answer-unreached : {A : Type 0} (gives : List ℕ → Option A) (most : ℕ) (why : Stop) (s t : LinkEdge) (log later : Log)
+answer-unreached : (most : ℕ) (why : Stop) (s t : LinkEdge) (log later : Log)
     → IsEarlier HasKeys s log t later → (length log.read ≤ most → ¬ AreWritten HasKeys s log)
-    → IsUnreachedAt gives most why t later
-answer-unreached gives most (NotShown c) s t log later h u =
-    λ lacks n w. (let i = h.reads in u (omega arith) (h.written w))
-answer-unreached gives most LinkTooDeep s t log later h u = tt
+    → IsUnreachedAt most why t later
+answer-unreached most (NotShown c) s t log later h u = λ n w. (let i = h.reads in u (omega arith) (h.written w))
+answer-unreached most LinkTooDeep s t log later h u = λ n w. (let i = h.reads in u (omega arith) (h.written w))
 
-leads-unreached : {A : Type 0} (gives : List ℕ → Option A) (most : ℕ) (step whole : Step LinkEdge) → Leads step whole
-    → IsUnreached gives most step → IsUnreached gives most whole
-leads-unreached gives most (Err e) (Ok y) h u = absurd h
-leads-unreached gives most (Err e) (Err f) h u =
-    stop-unreached gives most f.why e.edge f.edge e.log f.log h.1
-    (subst (λ why. IsUnreachedAt gives most why e.edge e.log) (sym h.0) u)
-leads-unreached gives most (Ok x) (Err f) h u = answer-unreached gives most f.why x.0 f.edge x.1 f.log h u
-leads-unreached gives most (Ok x) (Ok y) h u = λ n w. (let i = h.reads in u (omega arith) (h.written w))
+leads-unreached : (most : ℕ) (step whole : Step LinkEdge) → Leads step whole
+    → IsUnreached most step → IsUnreached most whole
+leads-unreached most (Err e) (Ok y) h u = absurd h
+leads-unreached most (Err e) (Err f) h u =
+    stop-unreached most f.why e.edge f.edge e.log f.log h.1
+    (subst (λ why. IsUnreachedAt most why e.edge e.log) (sym h.0) u)
+leads-unreached most (Ok x) (Err f) h u = answer-unreached most f.why x.0 f.edge x.1 f.log h u
+leads-unreached most (Ok x) (Ok y) h u = λ n w. (let i = h.reads in u (omega arith) (h.written w))
 
 pub leads-refused : (step whole : Step LinkEdge) (f : DraftFault) → Leads step whole → IsRefused step f
     → IsRefused whole f
@@ -76,7 +74,9 @@ leads-refused step whole drafts.NoMemory h r = tt
 leads-cause : {A : Type 0} (gives : List ℕ → Option A) (most : ℕ) (step whole : Step LinkEdge) (f : Fault)
     → Leads step whole → IsCause gives most step f → IsCause gives most whole f
 leads-cause gives most step whole (Missing c) h k = (k.0, leads-stop (NotShown c) step whole h k.1)
-leads-cause gives most step whole NotTree h k = leads-unreached gives most step whole h k
+leads-cause gives most step whole (BadNode c) h k = (k.0, leads-stop (NotShown c) step whole h k.1)
+leads-cause gives most step whole TooDeep h k = leads-stop LinkTooDeep step whole h k
+leads-cause gives most step whole NotTree h k = leads-unreached most step whole h k
 leads-cause gives most step whole NoMemory h k = tt
 
 abbrev AreReads : ℕ → ℕ → Log → Step LinkEdge → Type 0
@@ -122,21 +122,20 @@ goes-reads a s now (Err stop) h = tt
 goes-reads a s now (Ok x) h = let i = h.reads in omega arith
 
 -- what is not written is not for few reads
-unwritten-at : {A : Type 0} (gives : List ℕ → Option A) (most : ℕ) (why : Stop) (s : LinkEdge) (log : Log)
-    → ¬ AreWritten HasKeys s log → IsUnreachedAt gives most why s log
-unwritten-at gives most (NotShown c) s log u = λ lacks n. u
-unwritten-at gives most LinkTooDeep s log u = tt
+unwritten-at : (most : ℕ) (why : Stop) (s : LinkEdge) (log : Log)
+    → ¬ AreWritten HasKeys s log → IsUnreachedAt most why s log
+unwritten-at most (NotShown c) s log u = λ n. u
+unwritten-at most LinkTooDeep s log u = λ n. u
 
-unwritten-unreached : {A : Type 0} (gives : List ℕ → Option A) (most : ℕ) (step : Step LinkEdge) → IsUnwritten step
-    → IsUnreached gives most step
-unwritten-unreached gives most (Err e) u = unwritten-at gives most e.why e.edge e.log u
-unwritten-unreached gives most (Ok x) u = λ n. u
+unwritten-unreached : (most : ℕ) (step : Step LinkEdge) → IsUnwritten step → IsUnreached most step
+unwritten-unreached most (Err e) u = unwritten-at most e.why e.edge e.log u
+unwritten-unreached most (Ok x) u = λ n. u
 
 pub refused-stopped : {A : Type 0} (gives : List ℕ → Option A) (a : Budget) (s : LinkEdge) (now : Log)
     (step : Step LinkEdge) (f : DraftFault) → IsRefused step f → Goes s now step
     → IsStopped gives a a.0 now step (fault_of f)
 refused-stopped gives a s now step drafts.NotNode r h = record {
-  cause = unwritten-unreached gives (a.1 + length now.read) step r;
+  cause = unwritten-unreached (a.1 + length now.read) step r;
   reads = goes-reads a.0 s now step h;
   few = omega arith;
 }
@@ -149,16 +148,21 @@ memory-stopped gives a s now step h = record { cause = tt; reads = goes-reads a.
 
 -- a link below layer 0
 pub none-stopped : {A : Type 0} (gives : List ℕ → Option A) (a : Budget) (s : LinkEdge) (now : Log)
-    → IsStopped gives a a.0 now (stopped LinkTooDeep s now) NotTree
-none-stopped gives a s now = record { cause = tt; reads = tt; few = omega arith }
-
-same-asked : (c d : List ℕ) → NotShown c ≡ NotShown d → c ≡ d
-same-asked c d h = cc
+    → IsStopped gives a a.0 now (stopped LinkTooDeep s now) TooDeep
+none-stopped gives a s now = record { cause = refl; reads = tt; few = omega arith }
 
 -- it reads more than a log has, or asks for more
+abbrev pub AsksMore : Log → Stop → Log → Type 0
+AsksMore log (NotShown c) later = length log.read ≤ length later.read
+AsksMore log LinkTooDeep later = suc (length log.read) ≤ length later.read
+
 abbrev pub ReadsMore : Log → Step LinkEdge → Type 0
 ReadsMore log (Ok x) = suc (length log.read) ≤ length x.1.read
-ReadsMore log (Err e) = length log.read ≤ length e.log.read
+ReadsMore log (Err e) = AsksMore log e.why e.log
+
+pub asks-more : (log : Log) (why : Stop) (later : Log) → suc (length log.read) ≤ length later.read → AsksMore log why later
+asks-more log (NotShown c) later n = omega arith
+asks-more log LinkTooDeep later n = n
 
 -- where a node was to be read, without which there is no answer
 pub unread-stopped : {A : Type 0} (gives : List ℕ → Option A) (b : Budget) (a : ℕ) (asked : List ℕ) (shown : Option Shape)
@@ -167,32 +171,20 @@ pub unread-stopped : {A : Type 0} (gives : List ℕ → Option A) (b : Budget) (
 unread-stopped gives b a asked shown log whole f n m u =
     record { cause = why b.1 f u.cause; reads = counted whole m; few = u.few }
   where
-    past-at : (w : Stop) (s : LinkEdge) (later : Log) → length log.read ≤ length later.read
-        → IsUnreachedAt gives (0 + length log.read) w s later
-    past-at (NotShown c) s later r = λ lacks k w. absurd (omega arith)
-    past-at LinkTooDeep s later r = tt
+    past-at : (w : Stop) (s : LinkEdge) (later : Log) (most : ℕ) → most ≡ length log.read → AsksMore log w later
+        → IsUnreachedAt most w s later
+    past-at (NotShown c) s later most z r = λ k w. absurd (omega arith)
+    past-at LinkTooDeep s later most z r = λ k w. absurd (omega arith)
 
-    past : (o : Step LinkEdge) → ReadsMore log o → IsUnreached gives (0 + length log.read) o
-    past (Err e) r = past-at e.why e.edge e.log r
-    past (Ok x) r = λ k w. absurd (omega arith)
-
-    -- what is given is no node
-    bad-at : (w : Stop) (s : LinkEdge) (later : Log) (most : ℕ) → w ≡ NotShown asked → (gives asked ≡ None → ⊥)
-        → IsUnreachedAt gives most w s later
-    bad-at (NotShown c) s later most q z =
-        λ lacks. absurd (z (subst (λ x. gives x ≡ None) (same-asked c asked q) lacks))
-    bad-at LinkTooDeep s later most q z = tt
-
-    bad : (o : Step LinkEdge) (most : ℕ) → StopsAt (NotShown asked) o → (gives asked ≡ None → ⊥)
-        → IsUnreached gives most o
-    bad (Ok x) most q z = absurd q
-    bad (Err e) most q z = bad-at e.why e.edge e.log most q z
+    past : (o : Step LinkEdge) (most : ℕ) → most ≡ length log.read → ReadsMore log o → IsUnreached most o
+    past (Err e) most z r = past-at e.why e.edge e.log most z r
+    past (Ok x) most z r = λ k w. absurd (omega arith)
 
     why : (left : ℕ) (g : Fault) → IsUnshown gives left asked shown g → IsCause gives (left + length log.read) whole g
     why left (Missing c) k = (k.1, subst (λ x. StopsAt (NotShown x) whole) (sym k.0) (n k.2))
-    why zero NotTree k = past whole m
-    why (suc left) NotTree k =
-        let i = k (omega arith) in bad whole (suc left + length log.read) (n i.0) i.1
+    why left (BadNode c) k = (k.1, subst (λ x. StopsAt (NotShown x) whole) (sym k.0) (n k.2))
+    why left TooDeep k = absurd k
+    why left NotTree k = past whole (left + length log.read) (omega arith) m
     why left NoMemory k = tt
 
     counted : (o : Step LinkEdge) → ReadsMore log o → AreReads b.0 a log o
@@ -309,7 +301,7 @@ asked-reads c None s log f h = omega arith
 asked-reads c (Some m) s log f h = found (f m (with_read m log)) (h m (with_read m log))
   where
     found : (x : Step LinkEdge) → Goes s (with_read m log) x → ReadsMore log x
-    found (Err e) g = let i = g.reads in let a = length-append log.read (m ∷ []) in omega arith
+    found (Err e) g = let i = g.reads in let a = length-append log.read (m ∷ []) in asks-more log e.why e.log (omega arith)
     found (Ok y) g = let i = g.reads in let a = length-append log.read (m ∷ []) in omega arith
 
 asked-none : (c : List ℕ) (o : Option Shape) (s : LinkEdge) (log : Log) (f : Shape → Log → Step LinkEdge) → o ≡ None

@@ -132,7 +132,9 @@ module _ {A : Type 0} (gives : List ℕ → Option A) (digest : List ℕ → Lis
     where
       why : (g : Fault) → IsUnshown gives left c o g → IsUnshown gives most c o g
       why (faults.Missing b) k = k
-      why faults.NotTree k = λ n. k (omega arith)
+      why (faults.BadNode b) k = k
+      why faults.TooDeep k = absurd k
+      why faults.NotTree k = absurd (omega arith)
       why faults.NoMemory k = tt
 
       within : a ≤ b + left → a ≤ b + most

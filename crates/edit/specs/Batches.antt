@@ -1,5 +1,5 @@
 -- What a batch answers, over the pairs of the tree and over any source.
-use Rattle.std.specs.Prelude.{◌≡◌, ◌≤◌, ◌+◌, ◌-◌, ◌*◌, ⊤, ℕ, suc, max, Bool, true, ◌&&◌, List, [], ◌∷◌, ◌++◌, map, length, Option, Some, None, Ok, IsOk, Result, IfOk, IfErr}
+use Rattle.std.specs.Prelude.{◌≡◌, ◌≤◌, ◌+◌, ◌-◌, ◌*◌, ⊤, ℕ, suc, max, Bool, true, ◌&&◌, List, [], ◌∷◌, ◌++◌, map, length, Option, Some, None, Ok, IsOk, Result, IfOk, IfErr, IsSome}
 use Rattle.std.specs.Arc.{arc_value}
 use Rattle.std.specs.declared.sync.Arc.{Arc}
 use Rattle.spec.specs.Tree.{Pair, top, top_layer}
@@ -11,7 +11,7 @@ use Rattle.edit_laws.specs.Laws.Edits.{bytes_of}
 use Rattle.lookups.specs.Steps.{nodes_given}
 use Rattle.lookups.specs.Trees.{OfTree}
 use Rattle.batch_laws.specs.Batch.{Change, changed}
-use Rattle.batch_laws.specs.Links.{Log, NotShown, Step, StopsAt, Top, batch_from}
+use Rattle.batch_laws.specs.Links.{LinkTooDeep, Log, NotShown, Step, StopsAt, Top, batch_from}
 use Rattle.batch_laws.specs.Previous.{values}
 use Rattle.batch_laws.specs.Trace.{batch_read}
 use Rattle.batch_laws.specs.Counts.{most_from}
@@ -23,7 +23,7 @@ use Rattle.edit.specs.declared.faults.Fault.{Fault}
 use Rattle.edit.specs.declared.faults.Fault.TheVariants as walks
 use Rattle.edit.specs.declared.outcome.BatchEdit.{BatchEdit}
 use Rattle.edit.specs.declared.outcome.EditFault.{EditFault}
-use Rattle.edit.specs.declared.outcome.EditFault.TheVariants.{Missing, NotTree, NoSuchKey, Clash, NoMemory}
+use Rattle.edit.specs.declared.outcome.EditFault.TheVariants.{Missing, BadNode, TooDeep, NotTree, NoSuchKey, Clash, NoMemory}
 
 -- ---- what a batch takes
 
@@ -75,8 +75,10 @@ pub record IsBatchOf (digest : List ℕ → List ℕ) (bits : ℕ) (cs : List Ch
 
 -- what a fault of the walk is to the caller
 abbrev pub of_walk : {D A : Type 0} → Fault → EditFault D A
-of_walk walks.NotTree = NotTree
 of_walk (walks.Missing c) = Missing c
+of_walk (walks.BadNode c) = BadNode c
+of_walk walks.TooDeep = TooDeep
+of_walk walks.NotTree = NotTree
 of_walk walks.NoMemory = NoMemory
 
 -- the edit is that of the tree with this root, for whatever pairs it has in a source
@@ -124,13 +126,15 @@ abbrev pub most_of : {A : Type 0} → (List ℕ → List ℕ) → ℕ → (List 
     → List ℕ → ℕ
 most_of digest bits gives cs root = most_from (layer_of_key digest bits) cs (nodes_given gives root)
 
--- why there is none: the source lacks the block with this CID, and there the batch stops; the batch stops as the source gives
--- what is no tree, or, as far as it comes, it reads more nodes than these, or keys don't ascend in a node that it makes; there is
--- no such key only where P holds; or there is an answer, and two of its blocks clash
+-- why there is none: the source lacks the block with this CID, or gives one that is no node, and there the batch stops; it stops
+-- at a link below layer 0; as far as it comes, it reads more nodes than these, or keys don't ascend in a node that it makes; there
+-- is no such key only where P holds; or there is an answer, and two of its blocks clash
 abbrev pub IsReason : {D A : Type 0} → (List ℕ → Option (Arc (List ℕ) A)) → ℕ → Step Top → Type 0
     → EditFault D A → Type 0
 IsReason gives most answer P (Missing c) = (gives c ≡ None) × StopsAt (NotShown c) answer
-IsReason gives most answer P NotTree = IsUnreached gives most (at_top answer)
+IsReason gives most answer P (BadNode c) = IsSome (gives c) × StopsAt (NotShown c) answer
+IsReason gives most answer P TooDeep = StopsAt LinkTooDeep answer
+IsReason gives most answer P NotTree = IsUnreached most (at_top answer)
 IsReason gives most answer P NoSuchKey = P
 IsReason gives most answer P (Clash pair) = IsOk answer
 IsReason gives most answer P NoMemory = ⊤

@@ -1,5 +1,5 @@
 -- What a batch comes to, with the nodes that it reads.
-use Rattle.std.specs.Prelude.{◌≡◌, ⊤, ℕ, List, ◌++◌, map, Option, Some, None, Ok, Result, IfOk, IfErr}
+use Rattle.std.specs.Prelude.{◌≡◌, ⊤, ℕ, List, ◌++◌, map, Option, Some, None, Ok, Result, IfOk, IfErr, IsSome}
 use Rattle.std.specs.Arc.{arc_value}
 use Rattle.std.specs.declared.sync.Arc.{Arc}
 use Rattle.spec.specs.Tree.{Pair}
@@ -10,13 +10,13 @@ use Rattle.edit_laws.specs.Laws.Edits.{bytes_of}
 use Rattle.lookups.specs.Steps.{nodes_given}
 use Rattle.lookups.specs.Trees.{OfTree}
 use Rattle.batch_laws.specs.Batch.{Change, changed}
-use Rattle.batch_laws.specs.Links.{Log, NotShown, Step, StopsAt, Top}
+use Rattle.batch_laws.specs.Links.{LinkTooDeep, Log, NotShown, Step, StopsAt, Top}
 use Rattle.batch_laws.specs.Previous.{previous_top, values}
 use Rattle.edit.specs.Batches.{answer_of, most_of, nodes_read}
 use Rattle.edit.specs.Stops.{IsUnreached, at_top}
 use Rattle.edit.specs.declared.previews.BatchPreview.{BatchPreview}
 use Rattle.edit.specs.declared.outcome.EditFault.{EditFault}
-use Rattle.edit.specs.declared.outcome.EditFault.TheVariants.{Missing, NotTree, NoSuchKey, Clash, NoMemory}
+use Rattle.edit.specs.declared.outcome.EditFault.TheVariants.{Missing, BadNode, TooDeep, NotTree, NoSuchKey, Clash, NoMemory}
 
 -- ---- over any source
 
@@ -35,12 +35,14 @@ abbrev pub IsPreviewed : {D A : Type 0} → (List ℕ → List ℕ) → ℕ → 
 IsPreviewed digest bits gives root cs result = IfOk result (λ preview. IsPreview digest bits gives cs root
     preview.root preview.previous.items (map arc_value preview.read.items))
 
--- Why there is none: the source lacks the block with this CID, and there the batch stops; or the batch stops as the source gives
--- what is no tree, or, as far as it comes, it reads more nodes than these, or keys don't ascend in a node that it makes. Nothing
--- else comes.
+-- Why there is none: the source lacks the block with this CID, or gives one that is no node, and there the batch stops; it stops
+-- at a link below layer 0; or, as far as it comes, it reads more nodes than these, or keys don't ascend in a node that it makes.
+-- Nothing else comes.
 abbrev pub IsPreviewReason : {X D A : Type 0} → (List ℕ → Option X) → ℕ → Step Top → EditFault D A → Type 0
 IsPreviewReason gives most answer (Missing c) = (gives c ≡ None) × StopsAt (NotShown c) answer
-IsPreviewReason gives most answer NotTree = IsUnreached gives most (at_top answer)
+IsPreviewReason gives most answer (BadNode c) = IsSome (gives c) × StopsAt (NotShown c) answer
+IsPreviewReason gives most answer TooDeep = StopsAt LinkTooDeep answer
+IsPreviewReason gives most answer NotTree = IsUnreached most (at_top answer)
 IsPreviewReason gives most answer NoSuchKey = ⊥
 IsPreviewReason gives most answer (Clash pair) = ⊥
 IsPreviewReason gives most answer NoMemory = ⊤
@@ -67,6 +69,8 @@ IsPreviewedTree digest bits gives root cs result = OfTree digest bits gives root
 -- memory is wanted, and nothing else
 abbrev pub IsWant : {D A : Type 0} → EditFault D A → Type 0
 IsWant (Missing c) = ⊥
+IsWant (BadNode c) = ⊥
+IsWant TooDeep = ⊥
 IsWant NotTree = ⊥
 IsWant NoSuchKey = ⊥
 IsWant (Clash pair) = ⊥

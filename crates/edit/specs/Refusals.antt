@@ -2,11 +2,13 @@
 use Rattle.std.specs.Prelude.{⊤, ℕ, List, Result, Ok, Err}
 use Rattle.spec.specs.Blocks.{IsClashIn}
 use Rattle.edit.specs.declared.outcome.EditFault.{EditFault}
-use Rattle.edit.specs.declared.outcome.EditFault.TheVariants.{Missing, NotTree, NoSuchKey, Clash, NoMemory}
+use Rattle.edit.specs.declared.outcome.EditFault.TheVariants.{Missing, BadNode, TooDeep, NotTree, NoSuchKey, Clash, NoMemory}
 
 -- a refusal: there is no such key only where P holds, and two of these blocks clash; of a want of memory nothing is said
 abbrev pub IsRefusal : {D A : Type 0} → (List ℕ → List ℕ) → List (List ℕ) → Type 0 → EditFault D A → Type 0
 IsRefusal digest blocks P (Missing c) = ⊥
+IsRefusal digest blocks P (BadNode c) = ⊥
+IsRefusal digest blocks P TooDeep = ⊥
 IsRefusal digest blocks P NotTree = ⊥
 IsRefusal digest blocks P NoSuchKey = P
 IsRefusal digest blocks P (Clash pair) = IsClashIn digest blocks pair
@@ -15,6 +17,8 @@ IsRefusal digest blocks P NoMemory = ⊤
 -- a key, a block or memory is missing
 abbrev pub IsAbsence : {D A : Type 0} → EditFault D A → Type 0
 IsAbsence (Missing c) = ⊤
+IsAbsence (BadNode c) = ⊤
+IsAbsence TooDeep = ⊤
 IsAbsence NotTree = ⊤
 IsAbsence NoSuchKey = ⊤
 IsAbsence (Clash pair) = ⊥

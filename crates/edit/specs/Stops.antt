@@ -1,6 +1,6 @@
 -- Where a step stops: what its fault means, and how much was read by then. A step is what the laws make of it, an edge with
 -- its log, or why the laws stop.
-use Rattle.std.specs.Prelude.{◌≡◌, ◌<◌, ◌≤◌, ◌+◌, ⊤, ℕ, suc, List, ◌++◌, length, Option, None, Ok, Err}
+use Rattle.std.specs.Prelude.{◌≡◌, ◌<◌, ◌≤◌, ◌+◌, ⊤, ℕ, suc, List, ◌++◌, length, Option, None, Ok, Err, IsSome}
 use Rattle.spec.specs.NodeFormat.{Shape}
 use Rattle.edit_laws.specs.Lawful.{HasKeys}
 use Rattle.batch_laws.specs.Links.{Rows, LinkEdge, LinkClear, LinkOpened, Log, LinkTooDeep, NotShown, Step, Stop, StopsAt, Top, and_then, closing}
@@ -9,20 +9,20 @@ use Rattle.rows.specs.declared.draft.DraftFault.{DraftFault}
 use Rattle.rows.specs.declared.draft.DraftFault.TheVariants as drafts
 use Rattle.edit.specs.Budgets.{Budget}
 use Rattle.edit.specs.declared.faults.Fault.{Fault}
-use Rattle.edit.specs.declared.faults.Fault.TheVariants.{Missing, NotTree, NoMemory}
+use Rattle.edit.specs.declared.faults.Fault.TheVariants.{Missing, BadNode, TooDeep, NotTree, NoMemory}
 
 -- as far as it comes, not each node that was made has keys of the grammar, with each that is open one that may still have them
 abbrev pub IsUnwritten : Step LinkEdge → Type 0
 IsUnwritten step = OnEnd (λ s. s) step (λ s log. ¬ AreWritten HasKeys s log)
 
--- nor is it so, with no more than so many nodes that are read for it, where only a block that the source lacks stops it
-abbrev pub IsUnreachedAt : {A : Type 0} → (List ℕ → Option A) → ℕ → Stop → LinkEdge → Log → Type 0
-IsUnreachedAt gives most (NotShown c) s log = gives c ≡ None → length log.read < most → ¬ AreWritten HasKeys s log
-IsUnreachedAt gives most LinkTooDeep s log = ⊤
+-- nor is it so, with no more than so many nodes that are read for it, or asked for
+abbrev pub IsUnreachedAt : ℕ → Stop → LinkEdge → Log → Type 0
+IsUnreachedAt most (NotShown c) s log = length log.read < most → ¬ AreWritten HasKeys s log
+IsUnreachedAt most LinkTooDeep s log = length log.read ≤ most → ¬ AreWritten HasKeys s log
 
-abbrev pub IsUnreached : {A : Type 0} → (List ℕ → Option A) → ℕ → Step LinkEdge → Type 0
-IsUnreached gives most (Ok x) = length x.1.read ≤ most → ¬ AreWritten HasKeys x.0 x.1
-IsUnreached gives most (Err e) = IsUnreachedAt gives most e.why e.edge e.log
+abbrev pub IsUnreached : ℕ → Step LinkEdge → Type 0
+IsUnreached most (Ok x) = length x.1.read ≤ most → ¬ AreWritten HasKeys x.0 x.1
+IsUnreached most (Err e) = IsUnreachedAt most e.why e.edge e.log
 
 -- a node was not written; of a want of memory nothing is said
 abbrev pub IsRefused : Step LinkEdge → DraftFault → Type 0
@@ -34,11 +34,13 @@ abbrev pub fault_of : DraftFault → Fault
 fault_of drafts.NotNode = NotTree
 fault_of drafts.NoMemory = NoMemory
 
--- the source lacks just the block at which the laws stop; or they stop as it gives what is no tree; or, as far as they come,
--- they read more nodes, or write keys that are not of the grammar
+-- the source lacks just the block at which the laws stop, or gives one that is no node; or they stop at a link below layer 0; or,
+-- as far as they come, they read more nodes, or write keys that are not of the grammar
 abbrev pub IsCause : {A : Type 0} → (List ℕ → Option A) → ℕ → Step LinkEdge → Fault → Type 0
 IsCause gives most step (Missing c) = (gives c ≡ None) × StopsAt (NotShown c) step
-IsCause gives most step NotTree = IsUnreached gives most step
+IsCause gives most step (BadNode c) = IsSome (gives c) × StopsAt (NotShown c) step
+IsCause gives most step TooDeep = StopsAt LinkTooDeep step
+IsCause gives most step NotTree = IsUnreached most step
 IsCause gives most step NoMemory = ⊤
 
 -- a step that was begun with a log stopped, after no more reads than its answer would have, and no more than were left
@@ -50,10 +52,12 @@ pub record IsStopped {A : Type 0} (gives : List ℕ → Option A) (before : Budg
 
 -- ---- one node that is read
 
--- the source lacks the block that is asked for, or gives what is no node, unless no more may be read
+-- the source lacks the block that is asked for, or gives what is no node; or no more may be read
 abbrev pub IsUnshown : {A : Type 0} → (List ℕ → Option A) → ℕ → List ℕ → Option Shape → Fault → Type 0
 IsUnshown gives left asked shown (Missing c) = (c ≡ asked) × (gives c ≡ None) × (shown ≡ None)
-IsUnshown gives left asked shown NotTree = 0 < left → (shown ≡ None) × (gives asked ≡ None → ⊥)
+IsUnshown gives left asked shown (BadNode c) = (c ≡ asked) × IsSome (gives c) × (shown ≡ None)
+IsUnshown gives left asked shown TooDeep = ⊥
+IsUnshown gives left asked shown NotTree = left ≡ 0
 IsUnshown gives left asked shown NoMemory = ⊤
 
 -- the node with a CID was not read, after one read at most, and none where none was left

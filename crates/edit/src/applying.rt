@@ -65,8 +65,9 @@ fn comes_first(change: &Change<'_>, others: &[Change<'_>]) -> bool
 /// The source has all nodes of the tree. Then `EditFault::Clash` shows two blocks with one CID and different bytes, each a
 /// node of the tree before or of the tree after, and `EditFault::NoMemory` comes where memory was refused. Where the source
 /// lacks a node that is needed, `EditFault::Missing` has its CID, so that who has it elsewhere can add it and call again.
-/// `EditFault::NotTree` comes only where the source gives what is no tree; not all of that is noticed, as only what the
-/// changes need is read. After a refusal nothing has changed: the blocks are for the caller to keep.
+/// Where it gives what is no tree, `EditFault::BadNode` has the CID of a block that is no node, `EditFault::TooDeep` comes at a
+/// link below layer 0, and `EditFault::NotTree` where keys don't ascend in a node that would be made; not all of that is
+/// noticed, as only what the changes need is read. After a refusal nothing has changed: the blocks are for the caller to keep.
 ///
 /// Whatever the source gives, also where its nodes go on without an end, no more blocks are read than over a tree with a
 /// root of the same layer: the root, and for each layer below it one for a put and two for a delete. A batch that would need

@@ -133,7 +133,7 @@ impl<'a, D: Digest + 'a, A: Allocator + Clone + 'a> Edge<'a, D, A> {
             return Err(Fault::Missing(cid));
         };
         let Some(view) = view_of(block) else {
-            return Err(Fault::NotTree);
+            return Err(Fault::BadNode(cid));
         };
         let above = count_to(&self.read, depth.saturating_sub(1));
         self.read.push(ReadNode::of(block, depth, above))?;

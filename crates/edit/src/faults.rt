@@ -14,7 +14,13 @@ pub(crate) enum Fault {
     /// The source lacks the node with this CID, which was to be read.
     Missing(Cid),
 
-    /// The source gives what is no node of a tree.
+    /// What the source gives for this CID is no node.
+    BadNode(Cid),
+
+    /// A link stands below layer 0.
+    TooDeep,
+
+    /// More nodes are read than a tree needs, or keys don't ascend in a node that is made.
     NotTree,
 
     /// Memory was refused.

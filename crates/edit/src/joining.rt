@@ -134,7 +134,7 @@ impl<'a, D: Digest + 'a, A: Allocator + Clone + 'a> Edge<'a, D, A> {
         let mut left = layers;
         while let Some(cid) = next {
             if left == 0 {
-                return Err(Fault::NotTree);
+                return Err(Fault::TooDeep);
             }
             left -= 1;
             let Some(rows) = self.place(src, depth + coming.len(), cid)? else {

@@ -49,7 +49,16 @@ pub enum EditFault<D: Digest, A: Allocator = Global> {
     #[error("the source lacks a block of the tree")]
     Missing(Cid),
 
-    /// The source gives a block that is no node, or nodes that aren't a tree's. A source that has the tree never does.
+    /// The block that the source gives for this CID is no node. A source that has the tree never does it.
+    #[error("a block of the source is no node")]
+    BadNode(Cid),
+
+    /// The nodes that the source gives have a link below layer 0. A source that has the tree never does it.
+    #[error("the source has a link below layer 0")]
+    TooDeep,
+
+    /// The nodes that the source gives aren't a tree's: more are read than a tree needs, or keys don't ascend in a node that
+    /// would be made. A source that has the tree never does it.
     #[error("the source has no tree with this root")]
     NotTree,
 
@@ -90,6 +99,8 @@ impl<D: Digest, A: Allocator> From<Fault> for EditFault<D, A> {
     fn from(fault: Fault) -> EditFault<D, A> {
         match fault {
             Fault::Missing(cid) => EditFault::Missing(cid),
+            Fault::BadNode(cid) => EditFault::BadNode(cid),
+            Fault::TooDeep => EditFault::TooDeep,
             Fault::NotTree => EditFault::NotTree,
             Fault::NoMemory => EditFault::NoMemory,
         }

@@ -37,8 +37,9 @@ pub struct BatchPreview<D: Digest, A: Allocator = Global> {
 /// memory for one beyond that of the nodes in the making.
 ///
 /// It takes what [`apply`](crate::apply) takes, asks the source for the same nodes, and refuses for the same reasons but
-/// that it never looks for blocks with one CID: `EditFault::Missing` has the CID of a node that the source lacks,
-/// `EditFault::NotTree` comes only where the source gives what is no tree, and `EditFault::NoMemory` where memory was refused.
+/// that it never looks for blocks with one CID: `EditFault::Missing` has the CID of a node that the source lacks;
+/// `EditFault::BadNode`, with a CID, `EditFault::TooDeep` and `EditFault::NotTree` come only where the source gives what is no
+/// tree; and `EditFault::NoMemory` comes where memory was refused.
 pub fn preview<
     'a,
     D: Digest + 'a,

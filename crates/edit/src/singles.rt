@@ -42,8 +42,9 @@ use std::sync::Arc;
 ///
 /// The source has all nodes of the tree. Then `EditFault::Clash` shows two blocks with one CID and different bytes,
 /// each a node of the tree before or of the tree after, and `EditFault::NoMemory` comes where memory was refused. Where
-/// the source lacks a node of the path, `EditFault::Missing` has its CID; where it gives what is no node of a tree, and
-/// that is noticed, the fault is `EditFault::NotTree`. Whatever it gives, no more blocks are read than a tree has layers.
+/// the source lacks a node of the path, `EditFault::Missing` has its CID; where it gives what is no tree, and that is
+/// noticed, the fault is `EditFault::BadNode`, `EditFault::TooDeep` or `EditFault::NotTree`, as in [`apply`](crate::apply).
+/// Whatever it gives, no more blocks are read than a tree has layers.
 pub fn put<
     'a,
     D: Digest + 'a,
@@ -79,8 +80,9 @@ pub fn put<
 /// The source has all nodes of the tree. Then `EditFault::NoSuchKey` says that the tree doesn't have the key,
 /// `EditFault::Clash` shows two blocks with one CID and different bytes, each a node of the tree before or of the tree
 /// after, and `EditFault::NoMemory` comes where memory was refused. Where the source lacks one of the nodes that are read,
-/// `EditFault::Missing` has its CID; where it gives what is no node of a tree, and that is noticed, the fault is
-/// `EditFault::NotTree`. Whatever it gives, no more blocks are read than four for each layer that a tree may have.
+/// `EditFault::Missing` has its CID; where it gives what is no tree, and that is noticed, the fault is
+/// `EditFault::BadNode`, `EditFault::TooDeep` or `EditFault::NotTree`, as in [`apply`](crate::apply). Whatever it gives, no
+/// more blocks are read than four for each layer that a tree may have.
 pub fn delete<
     'a,
     D: Digest + 'a,

@@ -103,7 +103,7 @@ impl<'a, D: Digest + 'a, A: Allocator + Clone + 'a> Edge<'a, D, A> {
             };
             at = next;
         }
-        Err(Fault::NotTree)
+        Err(Fault::TooDeep)
     }
 
     /// No more comes: the root, and how many of the nodes that were read go. That is all of them, or all but the last.

@@ -180,7 +180,7 @@ impl<'a, D: Digest + 'a, A: Allocator + Clone + 'a> Edge<'a, D, A> {
             return Ok(());
         };
         if gap.layer == 0 {
-            return Err(Fault::NotTree);
+            return Err(Fault::TooDeep);
         }
         let count = gap.changes.len();
         if count == 0 {

@@ -90,7 +90,13 @@ fn edit_for<D: Digest, const B: u8, A: Allocator + Copy>(
         Err(EditFault::Clash(pair)) => Err(RepoFault::Collision(pair)),
         Err(EditFault::NoMemory) => Err(RepoFault::NoMemory),
         // each node of the tree is kept, and a batch lacks no key
-        Err(EditFault::Missing(_) | EditFault::NotTree | EditFault::NoSuchKey) => unreachable!(),
+        Err(
+            EditFault::Missing(_)
+            | EditFault::BadNode(_)
+            | EditFault::TooDeep
+            | EditFault::NotTree
+            | EditFault::NoSuchKey,
+        ) => unreachable!(),
     }
 }
 

@@ -19,6 +19,8 @@ module _ (digest : List ℕ → List ℕ) (t : Told) where
 
   pub unshown-is : (D A : Type 0) (f : ChangeFault) → Verdict f → Whole f → OfTree f → IsUnshownBy digest (Ok t) (unshown_as {D = D} {A = A} t.numbers f)
   unshown-is D A (faults.BlockMissing c) v w o = (v, w, o)
+  unshown-is D A (faults.BadNode c) v w o = (v, w, o)
+  unshown-is D A faults.TooDeep v w o = (v, w, o)
   unshown-is D A faults.NotTree v w o = (v, w, o)
   unshown-is D A (faults.OtherValue place) v w o = refl
   unshown-is D A faults.OtherRoot v w o = (v, w, o)

@@ -84,6 +84,8 @@ line_fault_name of_line.OtherValue = codes "OtherValue"
 
 abbrev pub change_fault_name : ChangeFault → List ℕ
 change_fault_name (of_change.BlockMissing c) = codes "BlockMissing"
+change_fault_name (of_change.BadNode c) = codes "BadNode"
+change_fault_name of_change.TooDeep = codes "TooDeep"
 change_fault_name of_change.NotTree = codes "NotTree"
 change_fault_name (of_change.OtherValue place) = codes "OtherValue"
 change_fault_name of_change.OtherRoot = codes "OtherRoot"

@@ -50,6 +50,8 @@ pub(crate) fn change_fault_name(fault: &ChangeFault) -> &'static str
 {
     match fault {
         ChangeFault::BlockMissing(_) => "BlockMissing",
+        ChangeFault::BadNode(_) => "BadNode",
+        ChangeFault::TooDeep => "TooDeep",
         ChangeFault::NotTree => "NotTree",
         ChangeFault::OtherValue(_) => "OtherValue",
         ChangeFault::OtherRoot => "OtherRoot",

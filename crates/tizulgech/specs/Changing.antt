@@ -13,7 +13,7 @@ use Rattle.change_laws.specs.Laws.{change_path}
 use Rattle.change_proofs.specs.Provings.{told_by}
 use Rattle.change_proofs.specs.Verdicts.{IsVerdict, IsRight, IsWhole}
 use Rattle.change_proofs.specs.declared.change_fault.ChangeFault.{ChangeFault}
-use Rattle.change_proofs.specs.declared.change_fault.ChangeFault.TheVariants.{BlockMissing, NotTree, OtherValue, OtherRoot, NoMemory}
+use Rattle.change_proofs.specs.declared.change_fault.ChangeFault.TheVariants.{BlockMissing, BadNode, TooDeep, NotTree, OtherValue, OtherRoot, NoMemory}
 use Rattle.buffers.specs.Answers.{IsHanded, parts_bytes}
 use Rattle.buffers.specs.Framing.{cid_or_none_at, cut}
 use Rattle.tizulgech.specs.Trees.{beside_parts}
@@ -43,11 +43,13 @@ told_in keys ends befores afters = allowed (both_told (cut 0 ends keys) befores 
 
 -- ---- verdicts
 
--- the number of a verdict: of a missing node its CID is told, and of a key with another value the place of its change
+-- the number of a verdict: of a node that is missing or none its CID is told, and of a key with another value the place of its change
 abbrev pub IsVerdictTold : ℕ → List ℕ → ℕ → Result (Unit {0}) ChangeFault → Type 0
 IsVerdictTold code missing place (Ok x) = code ≡ 0
 IsVerdictTold code missing place (Err (BlockMissing c)) = (code ≡ 2) × (missing ≡ c)
-IsVerdictTold code missing place (Err NotTree) = code ≡ 30
+IsVerdictTold code missing place (Err (BadNode c)) = (code ≡ 30) × (missing ≡ c)
+IsVerdictTold code missing place (Err TooDeep) = code ≡ 31
+IsVerdictTold code missing place (Err NotTree) = code ≡ 35
 IsVerdictTold code missing place (Err (OtherValue at)) = (code ≡ 33) × (place ≡ at)
 IsVerdictTold code missing place (Err OtherRoot) = code ≡ 34
 IsVerdictTold code missing place (Err NoMemory) = code ≡ 255

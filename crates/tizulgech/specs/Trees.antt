@@ -15,7 +15,7 @@ use Rattle.batch_laws.specs.Batch.{Change}
 use Rattle.edit.specs.Batches.{are_changes, IsBatch, IsBatchRefusal, IsAnswered, IsLack}
 use Rattle.edit.specs.declared.outcome.BatchEdit.{BatchEdit}
 use Rattle.edit.specs.declared.outcome.EditFault.{EditFault}
-use Rattle.edit.specs.declared.outcome.EditFault.TheVariants.{Missing, NotTree, NoSuchKey, Clash, NoMemory}
+use Rattle.edit.specs.declared.outcome.EditFault.TheVariants.{Missing, BadNode, TooDeep, NotTree, NoSuchKey, Clash, NoMemory}
 use Rattle.lookups.specs.Maps.{first_of}
 use Rattle.batches.specs.declared.fault.RepoFault.{RepoFault}
 use Rattle.batches.specs.declared.fault.RepoFault.TheVariants as faults
@@ -75,7 +75,9 @@ abbrev pub IsEditTold : {D A : Type 0} → ℕ → List ℕ → List ℕ → Lis
 IsEditTold code missing before room size (Ok edit) =
     IsHandedOr255 code (edit_bytes edit.root edit.previous.items edit.drop.items (map arc_value edit.add.items)) before room size
 IsEditTold code missing before room size (Err (Missing c)) = (code ≡ 2) × (missing ≡ c)
-IsEditTold code missing before room size (Err NotTree) = code ≡ 30
+IsEditTold code missing before room size (Err (BadNode c)) = (code ≡ 30) × (missing ≡ c)
+IsEditTold code missing before room size (Err TooDeep) = code ≡ 31
+IsEditTold code missing before room size (Err NotTree) = code ≡ 35
 IsEditTold code missing before room size (Err NoSuchKey) = code ≡ 24
 IsEditTold code missing before room size (Err (Clash pair)) = code ≡ 253
 IsEditTold code missing before room size (Err NoMemory) = code ≡ 255

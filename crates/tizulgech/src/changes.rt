@@ -8,7 +8,7 @@ ghost use Rattle.change_proofs.specs.Provings.{IsUntrue};
 ghost use Rattle.buffers.specs.Framing.{cid_at, cut};
 ghost use Rattle.tizulgech.specs.Changing.{both_told, told, told_in, IsSpelt, IsChangeOver, IsChangeVerified, IsProvenOf, IsProven, IsVerdictTold};
 
-use crate::codes::{BAD, CLOSED, MISSING, NO_MEMORY};
+use crate::codes::{BAD, BAD_NODE, CLOSED, MISSING, NO_MEMORY, NOT_TREE, TOO_DEEP};
 use crate::edits::changes_of;
 use crate::handle::Repository;
 use crate::repository::spell_blocks;
@@ -30,8 +30,10 @@ const OTHER_ROOT: u8 = 34;
 ///
 /// A key had the value of 36 bytes at its place among `befores`, and has that among `afters`; 36 zeros stand for none. The keys
 /// have 1 to 1,024 bytes and ascend strictly. 0 where the changes are shown; 2 where a node is missing, whose CID is then in
-/// `missing`; 30 where a node that is needed is none; 33 where a key has another value in the tree after, and `place` is that
-/// of its change; 34 where the changes undone lead to another root; 252 for arguments that are none; 255 for want of memory.
+/// `missing`; 30 where a node that is needed is none, whose CID is in `missing` too; 31 where a link stands below layer 0; 33
+/// where a key has another value in the tree after, and `place` is that of its change; 34 where the changes undone lead to
+/// another root; 35 where keys don't ascend in a node that would be made, or more nodes are read than of a tree; 252 for
+/// arguments that are none; 255 for want of memory.
 #[unsafe(no_mangle)]
 pub extern "C" fn tizulgech_verify_change(
     alloc: Global,
@@ -102,7 +104,12 @@ fn tell_verdict(answer: &Result<(), ChangeFault>, missing: &mut [u8], place: &mu
             missing.copy_from_slice(cid.as_bytes());
             MISSING
         }
-        Err(ChangeFault::NotTree) => 30,
+        Err(ChangeFault::BadNode(cid)) => {
+            missing.copy_from_slice(cid.as_bytes());
+            BAD_NODE
+        }
+        Err(ChangeFault::TooDeep) => TOO_DEEP,
+        Err(ChangeFault::NotTree) => NOT_TREE,
         Err(ChangeFault::OtherValue(at)) => {
             *place = *at;
             OTHER_VALUE

@@ -14,6 +14,12 @@ use std::alloc::{AllocError, Global};
 pub(crate) const MISSING: u8 = 2;
 /// There is no such key, or no commit.
 pub(crate) const NONE: u8 = 24;
+/// A block is no node.
+pub(crate) const BAD_NODE: u8 = 30;
+/// A path is longer than any tree is deep.
+pub(crate) const TOO_DEEP: u8 = 31;
+/// Nodes aren't a tree's.
+pub(crate) const NOT_TREE: u8 = 35;
 /// There is a repository already.
 pub(crate) const OPEN: u8 = 249;
 /// There is no repository.

@@ -9,7 +9,7 @@ ghost use Rattle.buffers.specs.Framing.{cid_at, cid_or_none_at, cut, with_values
 ghost use Rattle.tizulgech.specs.Known.{AreKnown};
 ghost use Rattle.tizulgech.specs.Trees.{changes_in, edit_bytes, IsEdited, IsEditKnown, IsEditOver, IsEditTold};
 
-use crate::codes::{BAD, CLASH, MISSING, NO_MEMORY, NONE};
+use crate::codes::{BAD, BAD_NODE, CLASH, MISSING, NO_MEMORY, NONE, NOT_TREE, TOO_DEEP};
 use crate::nodes::blocks_of;
 use block::Block;
 use buffers::{
@@ -29,8 +29,9 @@ use std::sync::Arc;
 /// A key gets the value of 36 bytes at its place among `values`, or goes where these are zeros; the keys have 1 to 1,024
 /// bytes and ascend strictly. 0, and in `out` what `size` bytes of it say, as `edit_bytes` has it: the root, the values that
 /// the keys had, the CIDs that go, and the blocks that come. 2 where a node is missing, whose CID is then in `missing`: who
-/// has it gives it too, and calls again. 30 where a node that is needed is none; 251 where `out` has not the room; 252 for
-/// arguments that are none; 253 for a clash; 255 for want of memory.
+/// has it gives it too, and calls again. 30 where a node that is needed is none, whose CID is in `missing` too; 31 where a
+/// link stands below layer 0; 35 where keys don't ascend in a node that would be made, or more nodes are read than of a tree;
+/// 251 where `out` has not the room; 252 for arguments that are none; 253 for a clash; 255 for want of memory.
 #[unsafe(no_mangle)]
 pub extern "C" fn tizulgech_tree_apply(
     alloc: Global,
@@ -137,7 +138,12 @@ fn tell(
             missing.copy_from_slice(cid.as_bytes());
             MISSING
         }
-        Err(EditFault::NotTree) => 30,
+        Err(EditFault::BadNode(cid)) => {
+            missing.copy_from_slice(cid.as_bytes());
+            BAD_NODE
+        }
+        Err(EditFault::TooDeep) => TOO_DEEP,
+        Err(EditFault::NotTree) => NOT_TREE,
         Err(EditFault::NoSuchKey) => NONE,
         Err(EditFault::Clash(_)) => CLASH,
         Err(EditFault::NoMemory) => NO_MEMORY,

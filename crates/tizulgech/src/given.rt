@@ -6,7 +6,7 @@ ghost use Rattle.spec.specs.Proof.{verified};
 ghost use Rattle.buffers.specs.Framing.{cid_at, cut};
 ghost use Rattle.tizulgech.specs.Numbers.{IsProof, IsProofTold, IsVerified};
 
-use crate::codes::{BAD, MISSING, NO_MEMORY, NONE};
+use crate::codes::{BAD, BAD_NODE, MISSING, NO_MEMORY, NONE, TOO_DEEP};
 use buffers::{DONE, cid_in, slices};
 use cid::{Cid, Sha256};
 use export::{ProofFault, verify};
@@ -61,8 +61,8 @@ fn told_proof(answer: &Result<Option<Cid>, ProofFault>, value: &mut [u8]) -> u8
         }
         Ok(None) => NONE,
         Err(ProofFault::BlockMissing) => MISSING,
-        Err(ProofFault::BadNode(_)) => 30,
-        Err(ProofFault::TooDeep) => 31,
+        Err(ProofFault::BadNode(_)) => BAD_NODE,
+        Err(ProofFault::TooDeep) => TOO_DEEP,
         Err(ProofFault::KeyLength) => 20,
     }
 }

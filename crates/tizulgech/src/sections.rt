@@ -12,7 +12,7 @@ ghost use Rattle.buffers.specs.Framing.{cid_at};
 ghost use Rattle.tizulgech.specs.Numbers.{IsHandedOr255};
 ghost use Rattle.tizulgech.specs.Parting.{AreLinks, IsHandedIfThere, IsSectionOf, links_bytes, node_link, record_link};
 
-use crate::codes::{BAD, CLOSED, NO_MEMORY, NONE};
+use crate::codes::{BAD, BAD_NODE, CLOSED, NO_MEMORY, NONE};
 use crate::handle::Repository;
 use buffers::{cid_in, hand};
 use car_parts::{car_head, car_section};
@@ -133,7 +133,7 @@ pub extern "C" fn tizulgech_links(
     ensures { AreLinks result (read_node node.now) out.old out.new size.new }
 {
     let Ok(view) = NodeView::parse(node) else {
-        return 30;
+        return BAD_NODE;
     };
     links_told(alloc, &view, out, size)
 }

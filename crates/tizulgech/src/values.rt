@@ -11,7 +11,9 @@ ghost use Rattle.spec.specs.Writes.{test_when};
 ghost use Rattle.batches.specs.Values.{write_of};
 ghost use Rattle.tizulgech.specs.Numbers.{test_answer, write_answer, write_at, IsCidRead, IsRecordAnswer, IsStepIn};
 
-use crate::codes::{BAD, NO_MEMORY, code_of_fault, code_of_record, tell_cid, write_of_kind};
+use crate::codes::{
+    BAD, BAD_NODE, NO_MEMORY, code_of_fault, code_of_record, tell_cid, write_of_kind,
+};
 use batches::{Write, test_write};
 use buffers::DONE;
 use cid::{Cid, Sha256};
@@ -19,12 +21,12 @@ use node::{NodeView, Place};
 use std::alloc::Global;
 
 /// The number of this interface: one more whenever a call is changed or taken away.
-const VERSION: u64 = 2;
+const VERSION: u64 = 3;
 
 /// The number of this interface.
 #[unsafe(no_mangle)]
 pub extern "C" fn tizulgech_version() -> u64
-    ensures { result ≡ 2 }
+    ensures { result ≡ 3 }
 {
     VERSION
 }
@@ -143,7 +145,7 @@ pub extern "C" fn tizulgech_step(node: &[u8], key: &[u8], out: &mut [u8]) -> u8
     ensures { IsStepIn result out.new key.now (read_node node.now) }
 {
     let Ok(view) = NodeView::parse(node) else {
-        return 30;
+        return BAD_NODE;
     };
     match view.find(key) {
         Place::Here(entry) => {

@@ -141,6 +141,8 @@ fn walks_where_a_block_is_missing(rt: HostRuntime) {
 enum Ended {
     Done,
     Missing,
+    BadNode,
+    TooDeep,
     NotTree,
     NoSuchKey,
     Clash,
@@ -152,6 +154,8 @@ fn end_of<D: Digest, A: Allocator>(edited: Result<Edit<D, A>, EditFault<D, A>>) 
     match edited {
         Ok(_) => Ended::Done,
         Err(EditFault::Missing(_)) => Ended::Missing,
+        Err(EditFault::BadNode(_)) => Ended::BadNode,
+        Err(EditFault::TooDeep) => Ended::TooDeep,
         Err(EditFault::NotTree) => Ended::NotTree,
         Err(EditFault::NoSuchKey) => Ended::NoSuchKey,
         Err(EditFault::Clash(_)) => Ended::Clash,
@@ -207,8 +211,8 @@ fn edits_find_no_node(alloc: Global, blocks: &[Arc<Block<Toy>>], root: Cid) -> b
     let Ok(mut map) = BlockMap::new(alloc, blocks) else {
         return false;
     };
-    put_end(alloc, &mut map, root, b"a/r0") == Some(Ended::NotTree)
-        && delete_end(alloc, &mut map, root, b"a/q2") == Ended::NotTree
+    put_end(alloc, &mut map, root, b"a/r0") == Some(Ended::BadNode)
+        && delete_end(alloc, &mut map, root, b"a/q2") == Ended::BadNode
 }
 
 /// Whether look-ups, a walk and edits with this root take the block that is no node for none.
@@ -235,12 +239,12 @@ fn readers_end_after_all_layers(alloc: Global, map: &mut BlockMap<'_, Clash>, ro
         && map.reads() == 258
 }
 
-/// Whether a put and a delete, which come then, find that it is no tree by that node alone: of a top without keys a node below
-/// is none of a tree.
+/// Whether a put and a delete, which come then, find the link too deep by that node alone: below a top without keys there is
+/// no layer.
 fn edits_end_at_once(alloc: Global, map: &mut BlockMap<'_, Clash>, root: Cid) -> bool {
-    put_end(alloc, map, root, b"a/q2") == Some(Ended::NotTree)
+    put_end(alloc, map, root, b"a/q2") == Some(Ended::TooDeep)
         && map.reads() == 259
-        && delete_end(alloc, map, root, b"a/q2") == Ended::NotTree
+        && delete_end(alloc, map, root, b"a/q2") == Ended::TooDeep
         && map.reads() == 260
 }
 

@@ -9,7 +9,7 @@ use Rattle.spec.specs.NodeFormat.{first_link}
 use Rattle.batch_laws.specs.Links.{parting}
 use Rattle.edit.specs.Edges.{edge_of}
 use Rattle.edit.specs.Stops.{IsStopped}
-use Rattle.edit.specs.declared.faults.Fault.TheVariants.{NotTree, NoMemory}
+use Rattle.edit.specs.declared.faults.Fault.TheVariants.{TooDeep, NoMemory}
 use Rattle.edit.proofs.Stopping.{from-stopped}
 use Rattle.edit.proofs.Arriving.{way-memory, way-ended, way-stopped}
 use Rattle.edit.proofs.edge.Edge.descend.Goals as goal
@@ -107,7 +107,7 @@ returns-then-left-eq0-clause-stopped g c all w =
     c.in-Some.is (at.invariant.way all begun) in
     from-stopped gives (g.S.Source.reads c.args.src.now, c.args.self.now.left) (g.S.Source.reads at.src, at.self.left)
     (g.S.Source.reads at.src) (log_in old)
-    (log_in at.self) all NotTree at.invariant.counted
+    (log_in at.self) all TooDeep at.invariant.counted
     (way-ended gives digest shows all (g.S.Source.reads at.src, at.self.left) c.args.depth at.left c.in-Some.cid fs
     at.self.levels.items
     at.self.rest (log_in at.self) (omega (arith, c.if-left-eq0.true)) way)
