@@ -11,7 +11,7 @@ use Rattle.change_laws.specs.Given.{ChangeFault as GivenFault}
 use Rattle.change_laws.specs.Given as given
 use Rattle.change_laws.specs.Laws.{change_path}
 use Rattle.change_proofs.specs.Provings.{told_by}
-use Rattle.change_proofs.specs.Verdicts.{IsVerdict, IsRight, IsWhole}
+use Rattle.change_proofs.specs.Verdicts.{IsVerdict, IsRight, IsWhole, IsOfTree}
 use Rattle.change_proofs.specs.declared.change_fault.ChangeFault.{ChangeFault}
 use Rattle.change_proofs.specs.declared.change_fault.ChangeFault.TheVariants.{BlockMissing, BadNode, TooDeep, NotTree, OtherValue, OtherRoot, NoMemory}
 use Rattle.buffers.specs.Answers.{IsHanded, parts_bytes}
@@ -54,14 +54,15 @@ IsVerdictTold code missing place (Err (OtherValue at)) = (code ≡ 33) × (place
 IsVerdictTold code missing place (Err OtherRoot) = code ≡ 34
 IsVerdictTold code missing place (Err NoMemory) = code ≡ 255
 
--- what is told is the verdict over these nodes; it is right of all pairs with the root after, and whole where the nodes are given
--- that undoing reads
+-- what is told is the verdict over these nodes; it is right of all pairs with the root after, whole where the nodes are given that
+-- undoing reads, and says nothing against a node of a tree
 pub record IsChangeOver (code : ℕ) (missing : List ℕ) (place : ℕ) (nodes : List (List ℕ)) (before after : List ℕ)
     (cs : List KeyChange) : Type 0 where
   pub result : Result (Unit {0}) ChangeFault
   pub verdict : IsVerdict sha256 2 before after nodes cs result
   pub right : IsRight sha256 2 before after nodes cs result
   pub comes : IsWhole sha256 2 before after nodes cs result
+  pub tree : IsOfTree sha256 2 before after nodes cs result
   pub told_is : IsVerdictTold code missing place result
 
 -- 252 for arguments that are none
@@ -85,7 +86,7 @@ pub record IsSpelt (s : State) (cs : List KeyChange) (bytes : List ℕ) : Type 0
 abbrev pub IsProvenBy : Result (Unit {0}) GivenFault → ℕ → ℕ → List ℕ → List ℕ → ℕ → List (List ℕ) → Type 0
 IsProvenBy (Ok ok) code place before room size path = IsHanded code (parts_bytes path) before room size
 IsProvenBy (Err (given.BlockMissing c)) code place before room size path = ⊥
-IsProvenBy (Err given.BadNode) code place before room size path = ⊥
+IsProvenBy (Err (given.BadNode c)) code place before room size path = ⊥
 IsProvenBy (Err given.TooDeep) code place before room size path = ⊥
 IsProvenBy (Err (given.OtherValue at)) code place before room size path = (code ≡ 33) × (place ≡ at)
 IsProvenBy (Err given.OtherRoot) code place before room size path = ⊥

@@ -6,5 +6,6 @@ returns c _ = record {
   verdict = c.verify_change-answer.ensures.verdict;
   right = c.verify_change-answer.ensures.right;
   comes = c.verify_change-answer.ensures.comes;
+  tree = c.verify_change-answer.ensures.tree;
   told_is = c.tell_verdict.ensures;
 }
