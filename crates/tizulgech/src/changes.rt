@@ -8,7 +8,7 @@ ghost use Rattle.change_proofs.specs.Provings.{IsUntrue};
 ghost use Rattle.buffers.specs.Framing.{cid_at, cut};
 ghost use Rattle.tizulgech.specs.Changing.{both_told, told, told_in, IsSpelt, IsChangeOver, IsChangeVerified, IsProvenOf, IsProven, IsVerdictTold};
 
-use crate::codes::{BAD, BAD_NODE, CLOSED, MISSING, NO_MEMORY, NOT_TREE, TOO_DEEP};
+use crate::codes::{BAD, BAD_NODE, CLOSED, MISSING, NO_MEMORY, NOT_TREE, TOO_DEEP, tell_node};
 use crate::edits::changes_of;
 use crate::handle::Repository;
 use crate::repository::spell_blocks;
@@ -100,14 +100,8 @@ fn tell_verdict(answer: &Result<(), ChangeFault>, missing: &mut [u8], place: &mu
 {
     match answer {
         Ok(()) => DONE,
-        Err(ChangeFault::BlockMissing(cid)) => {
-            missing.copy_from_slice(cid.as_bytes());
-            MISSING
-        }
-        Err(ChangeFault::BadNode(cid)) => {
-            missing.copy_from_slice(cid.as_bytes());
-            BAD_NODE
-        }
+        Err(ChangeFault::BlockMissing(cid)) => tell_node(MISSING, cid, missing),
+        Err(ChangeFault::BadNode(cid)) => tell_node(BAD_NODE, cid, missing),
         Err(ChangeFault::TooDeep) => TOO_DEEP,
         Err(ChangeFault::NotTree) => NOT_TREE,
         Err(ChangeFault::OtherValue(at)) => {

@@ -130,3 +130,13 @@ pub(crate) fn tell_cid(read: &Result<Cid, CidFault>, out: &mut [u8]) -> u8
         Err(CidFault::NotThisProfile) => 5,
     }
 }
+
+/// The number of a fault of one node, whose CID is told.
+pub(crate) fn tell_node(number: u8, cid: &Cid, missing: &mut [u8]) -> u8
+    requires { length missing.old ≡ 36 }
+    ensures number { result ≡ number }
+    ensures cid { missing.new ≡ cid.now }
+{
+    missing.copy_from_slice(cid.as_bytes());
+    number
+}

@@ -9,7 +9,7 @@ ghost use Rattle.buffers.specs.Framing.{cid_at, cid_or_none_at, cut, with_values
 ghost use Rattle.tizulgech.specs.Known.{AreKnown};
 ghost use Rattle.tizulgech.specs.Trees.{changes_in, edit_bytes, IsEdited, IsEditKnown, IsEditOver, IsEditTold};
 
-use crate::codes::{BAD, BAD_NODE, CLASH, MISSING, NO_MEMORY, NONE, NOT_TREE, TOO_DEEP};
+use crate::codes::{BAD, BAD_NODE, CLASH, MISSING, NO_MEMORY, NONE, NOT_TREE, TOO_DEEP, tell_node};
 use crate::nodes::blocks_of;
 use block::Block;
 use buffers::{
@@ -134,14 +134,8 @@ fn tell(
             Ok(bytes) => hand(&bytes, out, size),
             Err(_) => NO_MEMORY,
         },
-        Err(EditFault::Missing(cid)) => {
-            missing.copy_from_slice(cid.as_bytes());
-            MISSING
-        }
-        Err(EditFault::BadNode(cid)) => {
-            missing.copy_from_slice(cid.as_bytes());
-            BAD_NODE
-        }
+        Err(EditFault::Missing(cid)) => tell_node(MISSING, cid, missing),
+        Err(EditFault::BadNode(cid)) => tell_node(BAD_NODE, cid, missing),
         Err(EditFault::TooDeep) => TOO_DEEP,
         Err(EditFault::NotTree) => NOT_TREE,
         Err(EditFault::NoSuchKey) => NONE,
