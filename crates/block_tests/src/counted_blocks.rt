@@ -149,8 +149,8 @@ fn lists_both(shard: &Shard<Toy>, first: Cid, second: Cid) -> bool {
     match (entries.next(), entries.next()) {
         (Some((one, of_one)), Some((other, of_other))) => {
             one != other
-                && is_entry_of(one, of_one, first, second)
-                && is_entry_of(other, of_other, first, second)
+                && is_entry_of(one, &of_one, first, second)
+                && is_entry_of(other, &of_other, first, second)
                 && entry_count(shard) == 2
         }
         _ => false,
@@ -176,7 +176,7 @@ fn steps_to_each(cores: &Cores) -> bool {
 /// Whether core 63 holds the empty map and no other block, core 62 doesn't hold it, and the steps in each entry are right.
 fn has_the_cores(shard: &Shard<Toy>) -> bool {
     for (_, cores) in shard.entries() {
-        if !steps_to_each(cores) {
+        if !steps_to_each(&cores) {
             return false;
         }
     }
@@ -236,7 +236,7 @@ fn is_of_core_one<A: Allocator>(shard: &Shard<Toy, A>, cid: Cid, cores: &Cores) 
 /// Whether each entry of the table is held by core 1 and not by core 2.
 fn are_of_core_one<A: Allocator>(shard: &Shard<Toy, A>) -> bool {
     for (held, cores) in shard.entries() {
-        if !is_of_core_one(shard, held, cores) {
+        if !is_of_core_one(shard, held, &cores) {
             return false;
         }
     }

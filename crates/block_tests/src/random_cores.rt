@@ -67,7 +67,7 @@ impl Plain {
     /// Whether the table has one entry, and that these cores.
     fn is_alone_in(&self, shard: &Shard<Toy>) -> bool {
         for (_, cores) in shard.entries() {
-            if !self.is(cores) {
+            if !self.is(&cores) {
                 return false;
             }
         }

@@ -138,7 +138,7 @@ fn are_had<D: Digest, const B: u8, A: Allocator>(
         (AreWithout D.digest_of B cores.now shard table.now) }
 {
     for (cid, entered) in table.entries() {
-        if shard_number(&cid) == shard && !all_have(cores, &cid, entered) {
+        if shard_number(&cid) == shard && !all_have(cores, &cid, &entered) {
             return false;
         }
     }

@@ -1,16 +1,18 @@
-ghost use Rattle.std.specs.Prelude.{◌≡◌, ◌<◌, ◌≤◌, IfOk, IfErr, OnOk, OnErr};
+ghost use Rattle.std.specs.Prelude.{◌≡◌, ◌<◌, ◌≤◌, None, IfOk, IfErr, OnOk, OnErr};
 ghost use Rattle.std.specs.Arc.{arc_value};
 ghost use Rattle.std.specs.FinMap as map;
 ghost use Rattle.std.specs.FinSet as set;
 ghost use Rattle.spec.specs.Cid.{cid as cid_of};
-ghost use Rattle.store.specs.Table.{entered, left, HasNoOther, cores_at, IsListing, IsLawful};
+ghost use Rattle.store.specs.Table.{entered, entry_at, left, HasNoOther, cores_at, IsListing, IsLawful};
 ghost use Rattle.store.specs.Holds.{IsHoldOf};
-ghost use Rattle.store.specs.Faults.{IsRefusal};
+ghost use Rattle.store.specs.Faults.{IsRefusal, IsRefusalOfNew};
 
+use crate::cores::Cores;
 use crate::fault::StoreFault;
 use crate::table_key::TableKey;
 use block::Block;
 use cid::{Cid, Digest};
+use slab::Slab;
 use std::alloc::{Allocator, Global};
 use std::collections::HashMap;
 use std::marker::Model;
@@ -19,6 +21,7 @@ use std::sync::Arc;
 mod entries;
 mod entry;
 mod hold;
+mod holders;
 
 pub use entries::Entries;
 use entry::Entry;
@@ -26,27 +29,32 @@ pub use hold::Hold;
 
 /// Blocks by their CIDs, each with the cores that hold it, at most `limit` of them.
 ///
+/// An entry has the number of its one core, as nearly each, or the key of the set of its cores in the slab. Room for a set is
+/// reserved with each entry that comes, so a core that comes to a held block wants no memory. A set of one ends.
+///
 /// A contract sees it as a finite map from CIDs to bytes and sets of cores, beside its limit. Each entry stands under the
 /// CID of its bytes and has at least one core: this is a rule of this repository, no standard has it.
 #[derive(Drop)]
 pub struct Shard<D: Digest, A: Allocator = Global> {
+    sets: Slab<Cores, A>,
     table: HashMap<Cid, Entry<D, A>, TableKey, A>,
     limit: usize,
 }
 
 impl<D: Digest, A: Allocator> Model for Shard<D, A> {
-    ghost use Rattle.store.specs.Table.{Table, table_code, table_view, IsLawful};
+    ghost use Rattle.store.specs.Table.{Table, table_code, table_view};
+    ghost use Rattle.store.specs.Places.{held_in, IsSound};
 
     ghost Value = { Table };
 
     ghost coded = { table_code };
 
-    ghost view = { λ s. table_view s.table.entries s.limit };
+    ghost view = { λ s. table_view (held_in s.sets.slots s.table.entries) s.limit };
 
-    ghost invariant = { λ s. IsLawful D.digest_of (table_view s.table.entries s.limit) };
+    ghost invariant = { λ s. IsSound D.digest_of s.table.entries s.sets s.limit };
 }
 
-impl<D: Digest, A: Allocator> Shard<D, A> {
+impl<D: Digest, A: Allocator + Copy> Shard<D, A> {
     /// An empty shard that may have `limit` blocks, 1 to 1,048,576, under a key that everybody knows. It takes no memory yet.
     pub fn new(alloc: A, limit: usize) -> Shard<D, A>
         requires least { 1 ≤ limit }
@@ -62,10 +70,13 @@ impl<D: Digest, A: Allocator> Shard<D, A> {
         requires most { limit ≤ 1048576 }
         ensures { result ≡ record { entries = map.empty; limit = limit } }
     {
+        let sets = Slab::new(alloc);
         let table = HashMap::with_hasher(alloc, key);
-        Shard { table, limit }
+        Shard { sets, table, limit }
     }
+}
 
+impl<D: Digest, A: Allocator> Shard<D, A> {
     /// Takes the hold's core out of the entry under the hold's CID, and the entry out with its last core.
     ///
     /// A core that isn't there changes nothing. It takes no memory and can't fail.
@@ -75,7 +86,7 @@ impl<D: Digest, A: Allocator> Shard<D, A> {
         let Hold { block, core } = hold;
         let cid = block.cid();
         if let Some(entry) = self.table.get_mut(&cid) {
-            if entry.leave(core) {
+            if entry.leave(&mut self.sets, core) {
                 self.table.remove(&cid);
             }
         }
@@ -88,6 +99,7 @@ impl<D: Digest, A: Allocator> Shard<D, A> {
     {
         Entries {
             entries: self.table.iter(),
+            sets: &self.sets,
         }
     }
 
@@ -98,7 +110,7 @@ impl<D: Digest, A: Allocator> Shard<D, A> {
         let Some(entry) = self.table.get(cid) else {
             return false;
         };
-        entry.cores().has(core)
+        entry.cores(&self.sets).has(core)
     }
 
     /// How many cores hold the block of this CID: 0 where there is none.
@@ -107,7 +119,7 @@ impl<D: Digest, A: Allocator> Shard<D, A> {
         ensures lawful { IsLawful D.digest_of self.now }
     {
         match self.table.get(cid) {
-            Some(entry) => entry.cores().len(),
+            Some(entry) => entry.cores(&self.sets).len(),
             None => 0,
         }
     }
@@ -136,19 +148,32 @@ impl<D: Digest, A: Allocator + Clone> Shard<D, A> {
     {
         let cid = block.cid();
         match self.table.get_mut(&cid) {
-            Some(entry) => entry.enter(core, block),
-            None => {
-                if self.table.len() >= self.limit {
-                    return Err(StoreFault::Full);
-                }
-                let Ok(held) = Arc::try_clone(&block) else {
-                    return Err(StoreFault::NoMemory);
-                };
-                let Ok(_) = self.table.insert(cid, Entry::new(core, held)) else {
-                    return Err(StoreFault::NoMemory);
-                };
-                Ok(Hold { block, core })
-            }
+            Some(entry) => entry.enter(&mut self.sets, core, block),
+            None => self.add(cid, core, block),
         }
+    }
+
+    // Enters a block that isn't there yet, with its first core.
+    fn add(
+        &mut self,
+        cid: Cid,
+        core: u32,
+        block: Arc<Block<D, A>, A>,
+    ) -> Result<Hold<D, A>, StoreFault<D, A>>
+        requires small { core < 1024 }
+        requires cid { cid ≡ cid_of D.digest_of (arc_value block) }
+        requires new { entry_at self.old cid ≡ None }
+        ensures hold { IfOk result (IsHoldOf (arc_value block) core) }
+        ensures entered { OnOk result (self.new ≡ entered self.old cid (arc_value block) core) }
+        ensures unchanged { OnErr result (self.new ≡ self.old) }
+        ensures fault { IfErr result (IsRefusalOfNew self.old) }
+    {
+        if self.table.len() >= self.limit {
+            return Err(StoreFault::Full);
+        }
+        let held = Arc::try_clone(&block)?;
+        self.sets.reserve(self.table.len() + 1 - self.sets.len())?;
+        self.table.insert(cid, Entry::new(core, held))?;
+        Ok(Hold { block, core })
     }
 }

@@ -47,7 +47,11 @@ pub fn empty_shards<D: Digest, A: Allocator + Copy>(alloc: A, limit: usize) -> [
 }
 
 /// An empty shard in its lock.
-fn locked<D: Digest, A: Allocator>(alloc: A, limit: usize, key: TableKey) -> Mutex<Shard<D, A>>
+fn locked<D: Digest, A: Allocator + Copy>(
+    alloc: A,
+    limit: usize,
+    key: TableKey,
+) -> Mutex<Shard<D, A>>
     requires least { 1 ≤ limit }
     requires most { limit ≤ 1048576 }
 {
