@@ -39,7 +39,7 @@ fn add<D: Digest>(
 #[derive(Clone, Copy, PartialEq, Eq)]
 enum Ended {
     Done,
-    BadNode(Cid),
+    BadNode,
     TooDeep,
     NotTree,
     Clash,
@@ -50,7 +50,7 @@ enum Ended {
 fn ended_of<D: Digest>(answer: Result<BatchEdit<D>, EditFault<D>>) -> Ended {
     match answer {
         Ok(_) => Ended::Done,
-        Err(EditFault::BadNode(cid)) => Ended::BadNode(cid),
+        Err(EditFault::BadNode(_)) => Ended::BadNode,
         Err(EditFault::TooDeep) => Ended::TooDeep,
         Err(EditFault::NotTree) => Ended::NotTree,
         Err(EditFault::Clash(_)) => Ended::Clash,
@@ -81,13 +81,25 @@ fn add_no_node(alloc: Global, blocks: &mut Blocks<Toy>) -> Result<(Cid, Cid), Al
     Ok((other, root))
 }
 
-/// Whether batches name the block that is no node where they need it: a put behind the key, the key's delete, and any over
+/// Whether batches find the block that is no node where they need it: a put behind the key, the key's delete, and any over
 /// that block alone.
 fn find_no_node(alloc: Global, blocks: &[Arc<Block<Toy>>], other: Cid, root: Cid) -> bool {
-    let bad = Ended::BadNode(other);
-    end(alloc, blocks, root, b"a/r0", Some(1)) == (bad, 2)
-        && end(alloc, blocks, root, b"a/q2", None) == (bad, 2)
-        && end(alloc, blocks, other, b"a/q2", None) == (bad, 1)
+    end(alloc, blocks, root, b"a/r0", Some(1)) == (Ended::BadNode, 2)
+        && end(alloc, blocks, root, b"a/q2", None) == (Ended::BadNode, 2)
+        && end(alloc, blocks, other, b"a/q2", None) == (Ended::BadNode, 1)
+}
+
+/// Whether a delete of the key names the block that is no node.
+fn names_no_node(alloc: Global, blocks: &[Arc<Block<Toy>>], other: &Cid, root: Cid) -> bool {
+    let change = Change {
+        key: b"a/q2".as_slice(),
+        value: None,
+    };
+    let (answer, _) = applied::<Toy, 2>(alloc, blocks, root, &[change]);
+    match &answer {
+        Err(EditFault::BadNode(cid)) => cid == other,
+        _ => false,
+    }
 }
 
 /// Whether a batch that doesn't need it is done: an update of the key.
@@ -101,6 +113,7 @@ fn a_block_that_is_no_node(rt: HostRuntime) {
     let cids = add_no_node(rt.alloc(), &mut blocks).expect(&rt, "two blocks");
     let (other, root) = cids;
     assert!(rt; find_no_node(rt.alloc(), &blocks, other, root));
+    assert!(rt; names_no_node(rt.alloc(), &blocks, &other, root));
     assert!(rt; does_without(rt.alloc(), &blocks, root));
 }
 
