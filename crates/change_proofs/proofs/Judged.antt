@@ -92,7 +92,7 @@ says-same digest bs (Ok x) vs cs before r h = h
 says-same digest bs (Err e) vs cs before r h = ap (λ f. Err f) (sym (fault-same digest bs e.why)) ∙ h
 
 map-some : {X Y : Type 0} (f : X → Y) (o : Option X) → IsSome o → IsSome (option_map f o)
-map-some f None h = absurd h
+map-some f None h = absurd cc
 map-some f (Some x) h = h
 
 first-given : {A : Type 0} (digest : List ℕ → List ℕ) (bs : List (Arc (List ℕ) A)) (c : List ℕ)

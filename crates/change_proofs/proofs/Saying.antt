@@ -30,16 +30,16 @@ missing-said gives (Err e) vs cs before c lacks stops =
     ap (λ w. Err (fault_of gives w)) stops ∙ ap (λ o. Err (unshown c o)) lacks
 
 -- one that stops where a block is given says that it is no node
+unshown-given : {X : Type 0} (c : List ℕ) (o : Option X) → IsSome o → unshown c o ≡ HasBadNode c
+unshown-given c None h = absurd cc
+unshown-given c (Some b) h = refl
+
 bad-said : {X : Type 0} (gives : List ℕ → Option X) (answer : Step Top) (vs : List (Option (List ℕ)))
     (cs : List KeyChange) (before c : List ℕ) → IsSome (gives c) → StopsAt (NotShown c) answer
     → SaysOf gives answer vs cs before (Err (HasBadNode c))
 bad-said gives (Ok x) vs cs before c there stops = absurd stops
 bad-said gives (Err e) vs cs before c there stops =
-    ap (λ w. Err (fault_of gives w)) stops ∙ by (gives c) there
-  where
-    by : (o : Option X) → IsSome o → ◌≡◌ {A = Result (Unit {0}) GivenFault} (Err (unshown c o)) (Err (HasBadNode c))
-    by None h = absurd h
-    by (Some b) h = refl
+    ap (λ w. Err (fault_of gives w)) stops ∙ ap (λ f. Err f) (unshown-given c (gives c) there)
 
 deep-said : {X : Type 0} (gives : List ℕ → Option X) (answer : Step Top) (vs : List (Option (List ℕ)))
     (cs : List KeyChange) (before : List ℕ) → StopsAt LinkTooDeep answer → SaysOf gives answer vs cs before (Err HasTooDeep)
