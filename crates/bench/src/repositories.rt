@@ -78,10 +78,17 @@ impl<'a, 's, R: Wait> Desk<'a, 's, R> {
 
     /// Makes a change at each of these places, a hundred a batch, and says whether all batches were accepted.
     fn change_all(&mut self, alloc: Global, plan: &Plan, change: Change, places: &[usize]) -> bool {
-        match self.batches(alloc, plan, change, places, 100) {
-            Ok(batches) => self.apply_all(alloc, &batches),
-            Err(_) => false,
+        for some in places.chunks(100) {
+            match self.batches(alloc, plan, change, some, 100) {
+                Ok(batches) => {
+                    if !self.apply_all(alloc, &batches) {
+                        return false;
+                    }
+                }
+                Err(_) => return false,
+            }
         }
+        true
     }
 
     /// Makes the repository of a plan by one batch, in the order of the keys, and says whether it was accepted. So its blocks lie

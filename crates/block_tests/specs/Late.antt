@@ -1,5 +1,5 @@
 -- A digest for tests whose first 24 bytes are zeros: tables hash all its identifiers alike.
-use Rattle.std.specs.Prelude.{◌≡◌, ℕ, zero, suc, ◌<◌, List, ◌++◌, length, replicate}
+use Rattle.std.specs.Prelude.{◌≡◌, ℕ, zero, suc, List, ◌++◌, length, replicate}
 use Rattle.std.specs.Int.{w64, to_be_bytes}
 use Rattle.std.proofs.Common.{refl, arith}
 use Rattle.spec.specs.Reading.{IsBytes}
