@@ -15,7 +15,7 @@ pub loop-cid-preserved-then-shard_number-shard : goal.loop-cid-preserved-then-sh
 loop-cid-preserved-then-shard_number-shard g c = (
   tt,
   tt,
-  adding_keep c.args.all.now.entries c.args.shard c.args.table.now c.in-Some.cid c.in-Some.field-0-1.now c.next.new.self c.loop-cid.cid-iterator c.in-Some.ensures.steps
+  adding_keep c.args.all.now.entries c.args.shard c.args.table.now c.in-Some.cid c.in-Some.field-0-1 c.next.new.self c.loop-cid.cid-iterator c.in-Some.ensures.steps
       c.loop-cid.all.entries
       (other_counted c.args.all.now.entries c.args.shard c.args.table.now c.in-Some.cid (λ e. c.if-shard_number-shard.true (c.shard_number.ensures.value ∙ e)))
       c.loop-cid.invariant.2,
@@ -25,10 +25,10 @@ pub loop-cid-preserved : goal.loop-cid-preserved
 loop-cid-preserved g c = (
   tt,
   tt,
-  adding_put c.args.all.now.entries c.args.shard c.args.table.now c.in-Some.cid c.in-Some.field-0-1.now c.next.new.self c.loop-cid.cid-iterator c.in-Some.ensures.steps
+  adding_put c.args.all.now.entries c.args.shard c.args.table.now c.in-Some.cid c.in-Some.field-0-1 c.next.new.self c.loop-cid.cid-iterator c.in-Some.ensures.steps
       c.loop-cid.all.entries c.insert.new.self.entries c.count-count.result
       (put_counted c.args.all.now.entries c.args.shard c.args.table.now c.in-Some.cid c.count-count.result (sym c.count-count.ensures.count)
-      (adding_some c.args.all.now.entries c.args.shard c.args.table.now c.in-Some.cid c.in-Some.field-0-1.now c.next.new.self c.loop-cid.cid-iterator c.in-Some.ensures.steps
+      (adding_some c.args.all.now.entries c.args.shard c.args.table.now c.in-Some.cid c.in-Some.field-0-1 c.next.new.self c.loop-cid.cid-iterator c.in-Some.ensures.steps
       c.loop-cid.all.entries c.loop-cid.invariant.2)
       (sym c.shard_number.ensures.value ∙ c.if-shard_number-shard.false))
       c.in-Ok.ensures.updates.0

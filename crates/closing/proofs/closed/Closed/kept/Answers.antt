@@ -1,5 +1,5 @@
-use Rattle.std.proofs.lemmas.Grind.{common_steps}
-use Rattle.std.proofs.Common.{ap, ◌∙◌, arith}
+use Rattle.std.proofs.Common.{◌≤◌, length, sym, ap, ◌∙◌, arith}
+use Rattle.std.proofs.lemmas.List.{drop_all}
 use Rattle.closing.specs.Ending.{kept_by}
 use Rattle.closing.specs.Settling.{ClosedView}
 use Rattle.closing.proofs.Closings.{kept_found, kept_further}
@@ -19,4 +19,9 @@ loop-settled-preserved g c =
     ∙ c.loop-settled.invariant
 
 pub returns : goal.returns
-returns g c = grind (arith, common_steps)
+returns g c =
+    let past : length c.deref-settled-items.result.now ≤ c.loop-settled.settled-index = let test = c.loop-settled-test.false in omega arith in
+    sym (ap (λ es. kept_by es c.args.writer) (drop_all c.loop-settled.settled-index c.deref-settled-items.result.now past))
+    ∙ c.loop-settled.invariant
+    ∙ ap (λ es. kept_by es c.args.writer) c.deref-settled-items.ensures.value
+    ∙ ap (λ (v : ClosedView). kept_by v.ended c.args.writer) c.self.view_is
