@@ -28,9 +28,9 @@ const ANSWERS: &[(&str, &str)] = &[
     ("step", "DONE BELOW NONE BAD_NODE"),
     ("stamp_fault", "DONE BAD_DID BAD_REV REV_ORDER"),
     ("commit_bytes", "DONE SMALL BAD"),
-    ("tree_apply", "DONE MISSING BAD_NODE SMALL BAD"),
+    ("tree_apply", "DONE MISSING BAD_NODE TOO_MANY_NODES NOT_TREE SMALL BAD"),
     ("verify", "DONE MISSING BAD_KEY NONE BAD_NODE TOO_MANY_NODES BAD"),
-    ("verify_change", "DONE MISSING BAD_NODE OTHER_VALUE OTHER_ROOT BAD"),
+    ("verify_change", "DONE MISSING BAD_NODE TOO_MANY_NODES NOT_TREE OTHER_VALUE OTHER_ROOT BAD"),
     ("tree_root", "DONE NOT_ASCENDING BAD"),
     ("listing_car", "DONE NOT_BUILT SMALL BAD"),
     ("open", "DONE OPEN BAD"),
@@ -177,6 +177,15 @@ fn node_over(root: &Cid) -> Vec<u8> {
     [b"\xa2\x61e\x80\x61l\xd8\x2a\x58\x25\0", &root.as_bytes()[..]].concat()
 }
 
+/// A node of one pair, with a link before it and one behind it.
+fn node_of(left: Option<&Cid>, key: &[u8], right: Option<&Cid>) -> Vec<u8> {
+    let link = |cid: Option<&Cid>| cid.map_or(vec![0xf6], |cid| [&b"\xd8\x2a\x58\x25\0"[..], cid.as_bytes()].concat());
+    let mut bytes = b"\xa2\x61e\x81\xa4\x61k".to_vec();
+    bytes.push(0x40 + key.len() as u8);
+    bytes.extend([key, b"\x61p\0\x61t", &link(right), b"\x61v", &link(Some(&Cid::of(b""))), b"\x61l", &link(left)].concat());
+    bytes
+}
+
 fn trees(seen: &mut Seen) {
     let value = *Cid::of(b"").as_bytes();
     let (empty, empty_root) = (tree::EMPTY_NODE, Cid::of(tree::EMPTY_NODE));
@@ -201,6 +210,7 @@ fn trees(seen: &mut Seen) {
     verify_change(&node, &[node.len()], [&empty_root, &root], &[KEY.len()], &other);
     verify_change(&node, &[node.len()], [&empty_root, &other], &[KEY.len()], &own);
     verify_change(b"x", &[1], [&empty_root, &Cid::of(b"x")], &[KEY.len()], &own);
+    verify_change(&over, &[over.len()], [&empty_root, &Cid::of(&over)], &[KEY.len()], &own);
     verify_change(&node, &[node.len()], [&empty_root, &root], &[0], &own);
     verify_change(&node, &[node.len() + 1], [&empty_root, &root], &[KEY.len()], &own);
 
@@ -236,10 +246,24 @@ fn trees(seen: &mut Seen) {
     tree_apply(&node, &[node.len()], root, &[1, 2], 10);
     tree_apply(&node, &[node.len()], empty_root, &[1, 2], 1000);
     tree_apply(b"x", &[1], Cid::of(b"x"), &[1, 2], 1000);
+    tree_apply(&over, &[over.len()], Cid::of(&over), &[1, 2], 1000);
     // ends out of their bytes, keys that don't ascend or have no bytes, one value too many, a root that is none
     tree_apply(&node, &[node.len() + 1], root, &[1, 2], 1000);
     tree_apply(&node, &[node.len()], root, &[0, 1], 1000);
     tree_apply(&node, &[node.len()], root, &[2], 1000);
+
+    // two nodes that meet where the key between them goes, with their own keys in no order
+    let high = (0..).map(|number| format!("b{number}")).find(|key| sys::layer(key.as_bytes()) == 1).unwrap();
+    let (before, behind) = (node_of(None, b"z", None), node_of(None, b"a", None));
+    let top = node_of(Some(&Cid::of(&before)), high.as_bytes(), Some(&Cid::of(&behind)));
+    let ends = [top.len(), top.len() + before.len(), top.len() + before.len() + behind.len()];
+    let (nodes, top) = ([&top[..], &before, &behind].concat(), Cid::of(&top));
+    let (keys, zeros) = (&[high.len()], &[0; 36]);
+    let told = Told { keys: one(high.as_bytes(), keys), befores: zeros, afters: own.as_bytes() };
+    let [old, new] = [&empty_root, &top].map(Cid::as_bytes);
+    seen.see("verify_change", sys::verify_change(one(&nodes, &ends), old, new, told, &mut [0; 36], &mut 0));
+    let delete = one(high.as_bytes(), keys);
+    seen.see("tree_apply", sys::tree_apply(one(&nodes, &ends), &[], new, delete, zeros, &mut [0; 36], &mut [0; 1000], &mut 0));
 
     // a chain of nodes that is longer than any tree is deep
     let (mut chain, mut ends, mut top) = (empty.to_vec(), vec![empty.len()], empty_root);
