@@ -1,2 +1,3 @@
 pub mod Values
 pub mod Tests
+pub use Rattle.record_writes.specs.declared.write.Write

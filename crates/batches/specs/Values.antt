@@ -1,25 +1,8 @@
--- Writes and stamps as the definitions see them.
+-- Stamps as the definitions see them, and writes.
 use Rattle.std.specs.Prelude.{ℕ, List, map}
-use Rattle.std.specs.Arc.{arc_value}
-use Rattle.std.specs.declared.sync.Arc.{Arc}
-use Rattle.spec.specs.Writes as writes
 use Rattle.spec.specs.Stamps as stamps
-use Rattle.batches.specs.declared.write.Write.{Write}
-use Rattle.batches.specs.declared.write.Write.TheVariants.{Put, Create, Update, Delete}
 use Rattle.batches.specs.declared.stamp.Stamp.{Stamp}
-
-abbrev pub write_of : {A : Type 0} → Write A → writes.Write
-write_of (Put k r) = writes.Put k.items r.items
-write_of (Create k r) = writes.Create k.items r.items
-write_of (Update k r) = writes.Update k.items r.items
-write_of (Delete k) = writes.Delete k.items
-
-abbrev pub writes_of : {A : Type 0} → List (Write A) → List writes.Write
-writes_of ws = map write_of ws
-
--- writes that are shared
-abbrev pub shared_writes : {A : Type 0} → List (Arc (Write A) A) → List writes.Write
-shared_writes ws = map (λ w. write_of (arc_value w)) ws
+pub use Rattle.record_writes.specs.Values.{write_of, writes_of, shared_writes}
 
 abbrev pub stamp_of : {A : Type 0} → Stamp A → stamps.Stamp
 stamp_of s = record { did = s.did.items; rev = s.rev.items }

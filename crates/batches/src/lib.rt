@@ -16,12 +16,11 @@ mod fault;
 mod letters;
 mod stamp;
 mod stamp_test;
-mod write;
 mod write_test;
 
 pub use commit::commit_bytes;
 pub use fault::RepoFault;
+pub use record_writes::Write;
 pub use stamp::Stamp;
 pub use stamp_test::{is_did, is_tid, test_stamp};
-pub use write::Write;
 pub use write_test::{is_repository_key, test_write};

@@ -1,7 +1,6 @@
 ghost use Rattle.std.specs.Prelude.{◌≡◌, IfOk};
 ghost use Rattle.batches.specs.Values.{stamp_of};
 
-use crate::write::copied;
 use std::alloc::{AllocError, Allocator, Global};
 
 /// What a batch is stamped with, for its commit (AT Protocol repository v3, commit objects: the fields did and rev).
@@ -20,8 +19,8 @@ impl<A: Allocator + Copy> Stamp<A> {
         ensures { IfOk result (λ stamp. stamp_of stamp ≡ stamp_of self.now) }
     {
         Ok(Stamp {
-            did: copied(alloc, &self.did)?,
-            rev: copied(alloc, &self.rev)?,
+            did: Vec::from_slice(alloc, &self.did)?,
+            rev: Vec::from_slice(alloc, &self.rev)?,
         })
     }
 }

@@ -10,9 +10,9 @@ ghost use Rattle.batches.specs.Tests.{write_fault, IsTestFault};
 
 use crate::fault::RepoFault;
 use crate::letters::is_one_of;
-use crate::write::Write;
 use cid::Digest;
 use dagcbor::{CborFault, Value};
+use record_writes::Write;
 use std::alloc::Allocator;
 
 /// Tests a write, where it is known whether its key is there: its key (`RepoFault::BadKey`), its record

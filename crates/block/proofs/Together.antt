@@ -1,6 +1,13 @@
 -- Lists of bytes and their digests, taken from the front one by one.
-use Rattle.std.proofs.Common.{◌≡◌, ℕ, List, [], ◌∷◌, ◌++◌, map, sym, ap, ◌∙◌, append_assoc, length, ◌⊎◌, inl, inr}
-use Rattle.std.proofs.lemmas.List.{append-nil, length-map, nil_from_length}
+use Rattle.std.proofs.Common.{◌≡◌, ℕ, true, List, [], ◌∷◌, ◌++◌, map, refl, sym, ap, subst, ◌∙◌, append_assoc, length, ◌⊎◌, inl, inr, Option, None}
+use Rattle.std.proofs.lemmas.List.{append-nil, length-map, map-append, nil_from_length}
+use Rattle.std.specs.declared.option.Option.TheVariants.{Some}
+use Rattle.std.specs.declared.sync.Arc.{Arc}
+use Rattle.std.specs.List.{AllByRecursion}
+use Rattle.std.specs.Option.{unwrap_or}
+use Rattle.std.specs.Prelude.{is_some}
+use Rattle.record_writes.specs.declared.write.Write.{Write}
+use Rattle.block.specs.Bytes.{has_record, record_in, shared_record}
 
 same_heads : {X : Type 0} (a b : X) (xs ys : List X) → (a ∷ xs) ≡ (b ∷ ys) → (a ≡ b) × (xs ≡ ys)
 same_heads a b xs ys e = (cc, cc)
@@ -21,3 +28,27 @@ pub ended : {X Y S T : Type 0} {P : S → Type 0} {Q : T → Type 0} (f : X → 
     → ((s : S) × ((n ≡ 0) × P s)) ⊎ ((t : T) × ((length ys ≡ 0) × Q t)) → xs ≡ []
 ended f xs ys n count are (inl a) = nil_from_length xs (sym count ∙ a.1.0)
 ended f xs ys n count are (inr b) = nil_from_length xs (sym (length-map xs f) ∙ sym (ap length are) ∙ b.1.0)
+
+-- ---- the blocks of writes
+
+pub map-twice : {X Y Z : Type 0} (f : Y → Z) (g : X → Y) (xs : List X) → map f (map g xs) ≡ map (λ x. f (g x)) xs
+map-twice f g [] = refl
+map-twice f g (x ∷ xs) = ap (λ zs. f (g x) ∷ zs) (map-twice f g xs)
+
+some-is : (o : Option (List ℕ)) → is_some o ≡ true → Some (unwrap_or o []) ≡ o
+some-is None h = absurd cc
+some-is (Some x) h = refl
+
+module _ {A : Type 0} (ws rest : List (Arc (Write A) A)) (w : Arc (Write A) A) (taken : ws ≡ w ∷ rest) (have : AllByRecursion (λ v. has_record v ≡ true) ws) where
+  both-have : AllByRecursion (λ v. has_record v ≡ true) (w ∷ rest)
+  both-have = subst (AllByRecursion (λ v. has_record v ≡ true)) taken have
+
+  pub others-have : AllByRecursion (λ v. has_record v ≡ true) rest
+  others-have = both-have.1
+
+  -- the block of the record of the first
+  pub first-record : (block : List ℕ) → block ≡ record_in w → Some block ≡ shared_record w
+  first-record block e = ap (λ (b : List ℕ). Some b) e ∙ some-is (shared_record w) both-have.0
+
+pub one-some : {X : Type 0} (after done : List X) (x : X) → after ≡ done ++ x ∷ [] → map Some after ≡ map Some done ++ Some x ∷ []
+one-some after done x e = ap (map Some) e ∙ map-append Some done (x ∷ [])

@@ -5,12 +5,14 @@
 //!   the block is lent. `Block::of_node` takes bytes that were written as a node's, and tests nothing; `Block::of_known`
 //!   takes bytes whose CID is known, and hashes nothing.
 //! - A block shared by `Arc` is what the crates above pass round, as it is.
-//! - `Block::of_each` makes many blocks at once, whose digests are made side by side.
+//! - `Block::of_each` makes many blocks at once, whose digests are made side by side. `Block::of_writes` makes those of the
+//!   records of writes: each keeps its write and lends the record from it, so that the record's bytes are there once.
 //! - [`Collided`] shows two blocks with one CID and other bytes. It can't be made without two such blocks, so an error
 //!   that carries one is always a real clash.
 #![tactic(auto)]
 
 mod block;
+mod bytes;
 mod collided;
 
 pub use block::Block;

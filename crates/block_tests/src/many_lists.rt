@@ -4,6 +4,9 @@ use crate::fixtures::EMPTY_NODE;
 use block::Block;
 use cid::digests::Toy;
 use cid::{Cid, Digest, Sha256};
+use record_writes::Write;
+use std::alloc::{AllocError, Global};
+use std::sync::Arc;
 use std::test::Fail;
 
 const LISTS: [&[u8]; 5] = [b"", b"a", &EMPTY_NODE, b"a", b"blue"];
@@ -34,6 +37,30 @@ fn blocks_of_many_lists(rt: HostRuntime) -> Result<(), Fail> {
     let mut right = blocks.len() == LISTS.len();
     for (block, list) in blocks.iter().zip(LISTS) {
         right &= block.bytes() == list && block.cid() == Cid::of::<Sha256>(list);
+    }
+    assert!(rt; right);
+    Ok(())
+}
+
+fn bytes(alloc: Global, list: &[u8]) -> Result<Vec<u8>, AllocError> {
+    Vec::from_slice(alloc, list)
+}
+
+/// A put, a create and an update: each block has the record and not the key, also where the record is a node.
+#[test]
+fn blocks_of_the_records_of_writes(rt: HostRuntime) -> Result<(), Fail> {
+    let alloc = rt.alloc();
+    let put = Write::Put(bytes(alloc, b"a/b")?, bytes(alloc, LISTS[2])?);
+    let create = Write::Create(bytes(alloc, b"a/c")?, bytes(alloc, LISTS[3])?);
+    let update = Write::Update(bytes(alloc, b"a/d")?, bytes(alloc, LISTS[4])?);
+    let put = Arc::new(alloc, put)?;
+    let create = Arc::new(alloc, create)?;
+    let update = Arc::new(alloc, update)?;
+    let blocks = Block::<Sha256>::of_writes(vec![in alloc; put, create, update]?)?;
+    let mut right = blocks.len() == 3;
+    for (block, list) in blocks.iter().zip(&LISTS[2..]) {
+        right &= block.bytes() == *list && block.cid() == Cid::of::<Sha256>(list);
+        right &= block.is_node() == (*list == EMPTY_NODE.as_slice());
     }
     assert!(rt; right);
     Ok(())

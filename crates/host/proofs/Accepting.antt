@@ -6,7 +6,7 @@ use Rattle.spec.specs.Blocks.{repository_root}
 use Rattle.spec.specs.States.{State, IsLawful, state_root}
 use Rattle.batches.specs.Values.{stamp_of, writes_of}
 use Rattle.batches.specs.declared.stamp.Stamp.{Stamp}
-use Rattle.batches.specs.declared.write.Write.{Write}
+use Rattle.batches.specs.Write.{Write}
 use Rattle.batches.specs.declared.fault.RepoFault.{RepoFault}
 use Rattle.repo.specs.Refusals.{IsRefusal}
 use Rattle.repo.specs.declared.applied.Applied.{Applied}

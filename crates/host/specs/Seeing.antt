@@ -6,7 +6,7 @@ use Rattle.spec.specs.Tree.{Pair}
 use Rattle.spec.specs.States.{State, IsLawful, after_batch, state_test, state_root}
 use Rattle.batches.specs.Values.{stamp_of, writes_of}
 use Rattle.batches.specs.declared.stamp.Stamp.{Stamp}
-use Rattle.batches.specs.declared.write.Write.{Write}
+use Rattle.batches.specs.Write.{Write}
 use Rattle.batches.specs.declared.fault.RepoFault.{RepoFault}
 use Rattle.repo.specs.Readings.{record_at, pairs_from}
 use Rattle.repo.specs.Refusals.{IsRefusal, IsApplied}

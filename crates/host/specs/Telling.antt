@@ -3,7 +3,7 @@ use Rattle.std.specs.Prelude.{◌≡◌, ◌≤◌, ◌<◌, ◌-◌, ◌^◌, �
 use Rattle.spec.specs.Tree.{Pair}
 use Rattle.batches.specs.Values.{stamp_of, writes_of}
 use Rattle.batches.specs.declared.stamp.Stamp.{Stamp}
-use Rattle.batches.specs.declared.write.Write.{Write}
+use Rattle.batches.specs.Write.{Write}
 use Rattle.notices.specs.Views.{WasFull}
 use Rattle.notices.specs.declared.notice.Notice.{Notice}
 use Rattle.closing.specs.Ending.{told}

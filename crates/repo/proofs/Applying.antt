@@ -16,7 +16,7 @@ use Rattle.kept.specs.Counts.{Keeping, HaveNoOther, exchanged}
 use Rattle.kept.specs.Faults.{IsRefusalOfOne}
 use Rattle.batches.specs.Tests.{of_store}
 use Rattle.batches.specs.Values.{stamp_of, write_of, writes_of, shared_writes}
-use Rattle.batches.specs.declared.write.Write as Code
+use Rattle.batches.specs.Write as Code
 use Rattle.batches.specs.declared.fault.RepoFault.{RepoFault}
 use Rattle.batches.specs.declared.fault.RepoFault.TheVariants as faults
 use Rattle.batches.specs.declared.stamp.Stamp.{Stamp}

@@ -27,7 +27,7 @@ use Rattle.store.specs.declared.fault.StoreFault.{StoreFault}
 use Rattle.store.specs.declared.fault.StoreFault.TheVariants as stores
 use Rattle.kept.specs.Faults.{IsRefusalOfOne}
 use Rattle.batches.specs.declared.stamp.Stamp.{Stamp}
-use Rattle.batches.specs.declared.write.Write.{Write}
+use Rattle.batches.specs.Write.{Write}
 
 none-is : (u : List ℕ × ℕ) → ◌≡◌ {A = Option (List ℕ × ℕ)} None (Some u) → 0 < u.1
 none-is u h = absurd cc

@@ -15,7 +15,7 @@ use Rattle.batches.specs.Values.{write_of, shared_writes, stamp_of, stamps_of}
 use Rattle.repo.specs.Views.{state_view}
 use Rattle.batches.specs.declared.fault.RepoFault.{RepoFault}
 use Rattle.batches.specs.declared.stamp.Stamp.{Stamp}
-use Rattle.batches.specs.declared.write.Write.{Write}
+use Rattle.batches.specs.Write.{Write}
 
 -- ---- the last of the stamps
 

@@ -8,6 +8,7 @@ pub mod FailedWrites
 pub mod Changing
 pub mod Keeping
 pub mod Edits
+mod SharedRecords
 pub mod Growing
 pub mod Applying
 pub mod Fresh

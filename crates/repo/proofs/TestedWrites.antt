@@ -1,5 +1,5 @@
 -- A write tested by the changes of those before it.
-use Rattle.std.proofs.Common.{◌≡◌, ℕ, ◌+◌, ◌<◌, Bool, true, false, ltb, List, [], ◌∷◌, ◌++◌, length, take, get_or, refl, sym, ap, subst, ◌∙◌, arith, Result, Ok, Option, None, cond}
+use Rattle.std.proofs.Common.{◌≡◌, ℕ, ◌+◌, ◌<◌, Bool, true, false, ltb, List, [], ◌∷◌, ◌++◌, length, map, take, get_or, refl, sym, ap, subst, ◌∙◌, arith, Result, Ok, Option, None, cond}
 use Rattle.std.proofs.lemmas.List.{map-append}
 use Rattle.std.specs.declared.option.Option.TheVariants.{Some}
 use Rattle.std.specs.declared.cmp.Ordering.{Ordering}
@@ -31,7 +31,7 @@ use Rattle.kept.specs.Counts.{Counts}
 use Rattle.batches.specs.Tests.{write_fault, IsTestFault}
 use Rattle.batches.specs.Values.{write_of, writes_of}
 use Rattle.batches.specs.declared.fault.RepoFault.{RepoFault}
-use Rattle.batches.specs.declared.write.Write as Code
+use Rattle.batches.specs.Write as Code
 use Rattle.repo.specs.Refusals.{next_test}
 use Rattle.repo.specs.Tested.{lent, changes_of, is_there, test_after, HaveSameTest, IsTestStart, IsFailedWrite}
 use Rattle.repo.proofs.Testing.{cut-at, length-of, one-more-write, room-at}
@@ -44,23 +44,28 @@ Entry = Bor (List ℕ) × Option (Bor (List ℕ))
 abbrev pub by_bytes : Bor (List ℕ) → Bor (List ℕ) → Ordering
 by_bytes a b = slice_cmp nat_cmp a.now b.now
 
--- an entry that is inserted is one more change
-insert-put : (es : List Entry) (k : Bor (List ℕ)) (v : Option (Bor (List ℕ)))
-    → changes_of (insert_entry by_bytes es k v) ≡ put (slice_cmp nat_cmp) k.now (lent v) (changes_of es)
-insert-put [] k v = refl
-insert-put (e ∷ es) k v = by (slice_cmp nat_cmp k.now e.0.now) (insert-put es k v)
-  where
-    by : (o : Ordering) → changes_of (insert_entry by_bytes es k v) ≡ put (slice_cmp nat_cmp) k.now (lent v) (changes_of es)
-        → changes_of (match_ordering o ((k, v) ∷ e ∷ es) ((e.0, v) ∷ es) (e ∷ insert_entry by_bytes es k v))
-        ≡ by_order o ((k.now, lent v) ∷ changes_of (e ∷ es)) ((e.0.now, lent v) ∷ changes_of es)
-        ((e.0.now, lent e.1) ∷ put (slice_cmp nat_cmp) k.now (lent v) (changes_of es))
-    by Less h = refl
-    by Equal h = refl
-    by Greater h = ap (λ (cs : List Change). (e.0.now, lent e.1) ∷ cs) h
+-- entries as changes, whatever shows the record that the last write of a key leaves
+abbrev changes_by : {V : Type 0} → (V → Option (List ℕ)) → List (Bor (List ℕ) × V) → List Change
+changes_by left es = map (λ e. (e.0.now, left e.1)) es
 
-pub changes-insert : (es : List Entry) (k : Bor (List ℕ)) (v : Option (Bor (List ℕ)))
-    → changes_of (insert_entry by_bytes es k v) ≡ with_change (k.now, lent v) (changes_of es)
-changes-insert es k v = insert-put es k v ∙ sym (changes-are_entries (k.now, lent v) (changes_of es) []).2
+-- an entry that is inserted is one more change
+module _ {V : Type 0} (left : V → Option (List ℕ)) where
+  insert-put : (es : List (Bor (List ℕ) × V)) (k : Bor (List ℕ)) (v : V)
+      → changes_by left (insert_entry by_bytes es k v) ≡ put (slice_cmp nat_cmp) k.now (left v) (changes_by left es)
+  insert-put [] k v = refl
+  insert-put (e ∷ es) k v = by (slice_cmp nat_cmp k.now e.0.now) (insert-put es k v)
+    where
+      by : (o : Ordering) → changes_by left (insert_entry by_bytes es k v) ≡ put (slice_cmp nat_cmp) k.now (left v) (changes_by left es)
+          → changes_by left (match_ordering o ((k, v) ∷ e ∷ es) ((e.0, v) ∷ es) (e ∷ insert_entry by_bytes es k v))
+          ≡ by_order o ((k.now, left v) ∷ changes_by left (e ∷ es)) ((e.0.now, left v) ∷ changes_by left es)
+          ((e.0.now, left e.1) ∷ put (slice_cmp nat_cmp) k.now (left v) (changes_by left es))
+      by Less h = refl
+      by Equal h = refl
+      by Greater h = ap (λ (cs : List Change). (e.0.now, left e.1) ∷ cs) h
+
+  pub changes-insert : (es : List (Bor (List ℕ) × V)) (k : Bor (List ℕ)) (v : V)
+      → map (λ e. (e.0.now, left e.1)) (insert_entry by_bytes es k v) ≡ with_change (k.now, left v) (map (λ e. (e.0.now, left e.1)) es)
+  changes-insert es k v = insert-put es k v ∙ sym (changes-are_entries (k.now, left v) (changes_by left es) []).2
 
 -- what is found under a key is its change
 found-case : (t : Bool) (v : Option (Bor (List ℕ))) (o : Option (Option (Bor (List ℕ)))) (p : Option (Option (List ℕ)))
@@ -128,13 +133,13 @@ tested-by room changes es w there r same =
 
 -- ---- the writes of a batch up to a place, and the one there
 
-pub one-more-change : {A : Type 0} (ws : List (Code.Write A)) (i : ℕ) (x : Code.Write A) (old new : List Change)
-    → i < length ws → x ≡ get_or ws i x → old ≡ collected (writes_of (take i ws))
-    → new ≡ with_change (change_of (write_of x)) old → new ≡ collected (writes_of (take (i + 1) ws))
-one-more-change ws i x old new l e o n =
-    n ∙ ap (with_change (change_of (write_of x))) o
-    ∙ sym (one_more-collected (λ bytes. bytes) (writes_of (take i ws)) (write_of x)).0
-    ∙ ap collected (sym (one-more-write ws i x l e))
+pub one-more-change : {X : Type 0} (seen : X → Write) (ws : List X) (i : ℕ) (x : X) (old new : List Change)
+    → i < length ws → x ≡ get_or ws i x → old ≡ collected (map seen (take i ws))
+    → new ≡ with_change (change_of (seen x)) old → new ≡ collected (map seen (take (i + 1) ws))
+one-more-change seen ws i x old new l e o n =
+    n ∙ ap (with_change (change_of (seen x))) o
+    ∙ sym (one_more-collected (λ bytes. bytes) (map seen (take i ws)) (seen x)).0
+    ∙ ap collected (sym (one-more-write seen ws i x l e))
 
 module _ (digest : List ℕ → List ℕ) (bits : ℕ) (s : State) (room : ℕ) (root : List ℕ) (m : Counts)
     (start : IsTestStart digest bits s room root m) where
@@ -151,7 +156,7 @@ module _ (digest : List ℕ → List ℕ) (bits : ℕ) (s : State) (room : ℕ) 
       → test_after (ltb i room) changes (old_pairs digest s) (write_of x) ≡ Ok tt
       → batch_test s.limit s.accepted (writes_of (take (i + 1) ws)) ≡ Ok tt
   passes-on ws i x changes l e c passed passes =
-      ap (batch_test s.limit s.accepted) (one-more-write ws i x l e)
+      ap (batch_test s.limit s.accepted) (one-more-write write_of ws i x l e)
       ∙ batch-goes_on s.limit s.accepted (writes_of (take i ws)) (write_of x) passed (this-is ws i x changes l c ∙ passes)
 
   pub fails-at : {D A : Type 0} (ws : List (Code.Write A)) (i : ℕ) (x : Code.Write A) (changes : List Change) (fault : RepoFault D A)

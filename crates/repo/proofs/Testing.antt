@@ -1,9 +1,9 @@
 -- The place of a write in its batch.
-use Rattle.std.proofs.Common.{◌≡◌, ℕ, Bool, true, false, zero, suc, ◌+◌, ◌<◌, ◌≤◌, ltb, List, [], ◌∷◌, ◌++◌, length, take, get_or, arith, refl, sym, ap, ◌∙◌}
+use Rattle.std.proofs.Common.{◌≡◌, ℕ, Bool, true, false, zero, suc, ◌+◌, ◌<◌, ◌≤◌, ltb, List, [], ◌∷◌, ◌++◌, length, map, take, get_or, arith, refl, sym, ap, ◌∙◌}
 use Rattle.std.proofs.lemmas.Bool.{ltb-true, ltb-false, lt-ltb, le-ltb}
 use Rattle.std.proofs.lemmas.List.{map-append, length-append, length-map, length-take-le}
 use Rattle.spec.specs.Writes.{Write}
-use Rattle.batches.specs.declared.write.Write as Code
+use Rattle.batches.specs.Write as Code
 use Rattle.batches.specs.Values.{write_of, writes_of}
 use Rattle.kept.proofs.Exchanging.{one_further}
 
@@ -27,8 +27,8 @@ cut-at [] i x l e = absurd (omega arith)
 cut-at (y ∷ ys) zero x l e = record { rest = ys; whole = ap (λ z. z ∷ ys) (sym e) }
 cut-at (y ∷ ys) (suc i) x l e = let r = cut-at ys i x (omega arith) e in record { rest = r.rest; whole = ap (λ zs. y ∷ zs) r.whole }
 
-pub one-more-write : {A : Type 0} (ws : List (Code.Write A)) (i : ℕ) (x : Code.Write A) → i < length ws → x ≡ get_or ws i x → writes_of (take (i + 1) ws) ≡ writes_of (take i ws) ++ write_of x ∷ []
-one-more-write ws i x l e = ap writes_of (one_further ws i x l e) ∙ map-append write_of (take i ws) (x ∷ [])
+pub one-more-write : {X : Type 0} (seen : X → Write) (ws : List X) (i : ℕ) (x : X) → i < length ws → x ≡ get_or ws i x → map seen (take (i + 1) ws) ≡ map seen (take i ws) ++ seen x ∷ []
+one-more-write seen ws i x l e = ap (map seen) (one_further ws i x l e) ∙ map-append seen (take i ws) (x ∷ [])
 
 pub take-whole : {X : Type 0} (xs : List X) (n : ℕ) → length xs ≤ n → take n xs ≡ xs
 take-whole [] zero l = refl

@@ -2,7 +2,7 @@
 use Rattle.std.specs.Prelude.{◌≡◌, ◌+◌, ◌++◌, ℕ, Bool, true, List, ◌∷◌, length, map as each}
 use Rattle.std.specs.Prelude.{Option, option_map, is_some, Result, Ok}
 use Rattle.std.specs.Borrow.{Bor}
-use Rattle.std.specs.declared.vec.Vec.{Vec}
+use Rattle.std.specs.declared.sync.Arc.{Arc}
 use Rattle.spec.specs.Reading.{◌>>=◌, ensure}
 use Rattle.spec.specs.Tree.{Pair}
 use Rattle.spec.specs.Blocks.{value_of}
@@ -15,8 +15,10 @@ use Rattle.batch_laws.specs.Collecting.{there_after}
 use Rattle.batch_laws.specs.Staged.{old_pairs}
 use Rattle.lookups.specs.Trees.{HasTree}
 use Rattle.counts.specs.declared.count.Count.{Count}
+use Rattle.block.specs.Bytes.{shared_record}
 use Rattle.kept.specs.Counts.{Counts, bytes_at}
 use Rattle.batches.specs.Tests.{write_fault, IsTestFault}
+use Rattle.batches.specs.Write as Code
 use Rattle.batches.specs.declared.fault.RepoFault.{RepoFault}
 use Rattle.repo.specs.Refusals.{next_test}
 use Rattle.repo.specs.declared.changes.Collected.{Collected}
@@ -33,9 +35,10 @@ changes_of es = each (λ e. (e.0.now, lent e.1)) es
 abbrev pub changes_in : {A : Type 0} → Collected A → List Change
 changes_in c = changes_of c.changes.entries
 
--- lists of bytes in memory of their own
-abbrev pub bytes_of : {A : Type 0} → List (Vec ℕ A) → List (List ℕ)
-bytes_of xs = each (λ x. x.items) xs
+-- shared writes by their keys as changes: each key, with the record that its write leaves or none
+abbrev pub shared_changes : {A : Type 0} → List (Bor (List ℕ) × Bor (Arc (Code.Write A) A))
+    → List Change
+shared_changes es = each (λ e. (e.0.now, shared_record e.1.now)) es
 
 -- ---- the test of a write
 

@@ -3,7 +3,7 @@ use Rattle.std.specs.Prelude.{ℕ, List}
 use Rattle.std.specs.declared.sync.Arc.{Arc}
 use Rattle.spec.specs.States.{State}
 use Rattle.batches.specs.Values.{shared_writes, stamps_of}
-use Rattle.batches.specs.declared.write.Write.{Write}
+use Rattle.batches.specs.Write.{Write}
 use Rattle.batches.specs.declared.stamp.Stamp.{Stamp}
 
 -- a core's state, by its fields

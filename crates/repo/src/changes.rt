@@ -1,6 +1,6 @@
 //! What the writes of a batch change, by key.
 
-ghost use Rattle.std.specs.Prelude.{◌≡◌, ◌++◌, ℕ, List, [], map as each, option_map, is_some, IfOk, OnOk};
+ghost use Rattle.std.specs.Prelude.{◌≡◌, ℕ, List, [], map as each, option_map, is_some, IfOk, OnOk};
 ghost use Rattle.std.specs.Arc.{arc_value};
 ghost use Rattle.std.specs.List.{cons_option};
 ghost use Rattle.std.specs.Slice.Iter.{iter_rest};
@@ -9,7 +9,7 @@ ghost use Rattle.batch_laws.specs.Batch.{at_key, with_change};
 ghost use Rattle.batch_laws.specs.Collecting.{change_of, with_cids};
 ghost use Rattle.batch_laws.specs.Uses.{records_come};
 ghost use Rattle.batches.specs.Values.{write_of};
-ghost use Rattle.repo.specs.Tested.{bytes_of, changes_in, lent};
+ghost use Rattle.repo.specs.Tested.{changes_in, lent};
 
 use batches::Write;
 use block::Block;
@@ -58,20 +58,6 @@ impl<'w, A: Allocator + Copy> Collected<'w, A> {
         Ok(())
     }
 
-    /// The blocks of the records that the changes bring, in the order of their keys. They are hashed several side by side
-    /// where the digest can do that.
-    pub(crate) fn blocks<D: Digest>(
-        &self,
-        alloc: A,
-    ) -> Result<Vec<Arc<Block<D, A>, A>, A>, AllocError>
-        ensures { IfOk result (λ blocks.
-            each arc_value blocks.items ≡ records_come (changes_in self.now)) }
-    {
-        let records = self.records(alloc)?;
-        let blocks = Block::<D, A>::of_each(records)?;
-        shared(alloc, blocks)
-    }
-
     /// The changes as an edit takes them, with the CIDs of the blocks of their records.
     pub(crate) fn for_edit<D: Digest>(
         &self,
@@ -90,50 +76,6 @@ impl<'w, A: Allocator + Copy> Collected<'w, A> {
         }
         Ok(changes)
     }
-
-    /// Copies of the records that the changes bring, in the order of their keys.
-    fn records(&self, alloc: A) -> Result<Vec<Vec<u8, A>, A>, AllocError>
-        ensures { IfOk result (λ records.
-            bytes_of records.items ≡ records_come (changes_in self.now)) }
-    {
-        let mut records = Vec::new(alloc);
-        for (_, record) in &self.changes {
-            push_copy(alloc, &mut records, record)?;
-        }
-        Ok(records)
-    }
-}
-
-/// A copy of a record, where there is one, comes behind others.
-fn push_copy<A: Allocator + Copy>(
-    alloc: A,
-    records: &mut Vec<Vec<u8, A>, A>,
-    value: &Option<&[u8]>,
-) -> Result<(), AllocError>
-    ensures { OnOk result (bytes_of records.new.items
-        ≡ bytes_of records.old.items ++ cons_option (lent value.now) []) }
-{
-    let Some(bytes) = *value else {
-        return Ok(());
-    };
-    let copy = Vec::from_slice(alloc, bytes)?;
-    records.push(copy)?;
-    Ok(())
-}
-
-/// Blocks to share.
-fn shared<D: Digest, A: Allocator + Copy>(
-    alloc: A,
-    blocks: Vec<Block<D, A>, A>,
-) -> Result<Vec<Arc<Block<D, A>, A>, A>, AllocError>
-    ensures { IfOk result (λ shared. each arc_value shared.items ≡ blocks.items) }
-{
-    let mut shared = Vec::with_capacity(alloc, blocks.len())?;
-    for block in blocks {
-        let one = Arc::new(alloc, block)?;
-        shared.push(one)?;
-    }
-    Ok(shared)
 }
 
 /// The CID of the next block, where a change has a record.

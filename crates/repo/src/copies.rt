@@ -11,7 +11,7 @@ use std::sync::Arc;
 /// Copies of a batch's writes and of its stamp.
 #[derive(Drop)]
 pub(crate) struct Copies<A: Allocator> {
-    writes: Vec<Arc<Write<A>, A>, A>,
+    pub(crate) writes: Vec<Arc<Write<A>, A>, A>,
     stamp: Stamp<A>,
 }
 

@@ -295,13 +295,15 @@ impl<D: Digest, const B: u8, A: Allocator + Copy> Core<D, B, A> {
         let changes = test_batch::<D, B, A>(&self.kept, alloc, room, root, rev, stamp, writes)?;
         let last = writes.len() - 1;
 
-        let made = exchange_of::<D, B, A>(&self.kept, alloc, root, self.commit, stamp, &changes);
+        let Ok(copies) = copies_of(alloc, stamp, writes) else {
+            return Err((0, RepoFault::NoMemory));
+        };
+        let shared = copies.writes.as_slice();
+        let before = self.commit;
+        let made = exchange_of::<D, B, A>(&self.kept, alloc, root, before, stamp, &changes, shared);
         let exchange = match made {
             Ok(exchange) => exchange,
             Err(fault) => return Err((last, fault)),
-        };
-        let Ok(copies) = copies_of(alloc, stamp, writes) else {
-            return Err((0, RepoFault::NoMemory));
         };
         let Ok(()) = make_room(&mut self.accepted, &mut self.stamps, writes.len()) else {
             return Err((0, RepoFault::NoMemory));

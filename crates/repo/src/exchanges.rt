@@ -4,16 +4,17 @@ ghost use Rattle.std.specs.Prelude.{◌≡◌, ◌≤◌, ◌++◌, ◌∷◌, [
 ghost use Rattle.std.specs.List.{cons_option};
 ghost use Rattle.std.specs.Arc.{arc_value};
 ghost use Rattle.spec.specs.Commits.{commit_bytes};
-ghost use Rattle.batch_laws.specs.Collecting.{with_cids};
+ghost use Rattle.batch_laws.specs.Collecting.{collected, with_cids};
 ghost use Rattle.batch_laws.specs.Uses.{given, records_come};
 ghost use Rattle.edit.specs.Batches.{are_changes};
 ghost use Rattle.kept.specs.Trees.{OfTree};
-ghost use Rattle.batches.specs.Values.{stamp_of};
+ghost use Rattle.batches.specs.Values.{shared_writes, stamp_of};
 ghost use Rattle.repo.specs.Edits.{HasSomeTree, IsEditMade, IsEditRefusal, IsExchangeMade, OnTested};
 ghost use Rattle.repo.specs.Tested.{changes_in};
 
 use crate::changes::Collected;
-use batches::{RepoFault, Stamp, commit_bytes};
+use crate::records::blocks_of_records;
+use batches::{RepoFault, Stamp, Write, commit_bytes};
 use block::Block;
 use cid::{Cid, Digest};
 use edit::{BatchEdit, EditFault};
@@ -31,6 +32,7 @@ pub(crate) struct Exchange<D: Digest, A: Allocator> {
 }
 
 /// What a batch that passed its tests exchanges over the tree with this root and the last commit, by what its writes change.
+/// The blocks of its records keep the writes that are shared.
 pub(crate) fn exchange_of<D: Digest, const B: u8, A: Allocator + Copy>(
     kept: &Kept<D, A>,
     alloc: A,
@@ -38,16 +40,18 @@ pub(crate) fn exchange_of<D: Digest, const B: u8, A: Allocator + Copy>(
     last: Option<Cid>,
     stamp: &Stamp<A>,
     changes: &Collected<'_, A>,
+    writes: &[Arc<Write<A>, A>],
 ) -> Result<Exchange<D, A>, RepoFault<D, A>>
     requires least { 1 ≤ B }
     requires tree { HasSomeTree D.digest_of B kept.now.uses root }
     requires changes { are_changes (with_cids D.digest_of (changes_in changes.now)) ≡ true }
+    requires writes { changes_in changes.now ≡ collected (shared_writes writes.now) }
     ensures exchange { OnTested D.digest_of B root last stamp.now changes.now kept.now.uses
         (λ s batch. IfOk result (IsExchangeMade D.digest_of B s (stamp_of stamp.now) batch)) }
     ensures fault { OfTree D.digest_of B kept.now.uses root (λ es. IfErr result
         (IsEditRefusal D.digest_of B (with_cids D.digest_of (changes_in changes.now)) es)) }
 {
-    let records = changes.blocks::<D>(alloc)?;
+    let records = blocks_of_records::<D, A>(alloc, writes)?;
     let edit = edit_for::<D, B, A>(kept, alloc, root, changes, &records)?;
     let block = commit_block(alloc, stamp, edit.root)?;
     let commit = block.cid();

@@ -69,6 +69,7 @@ mod copies;
 mod cores;
 mod exchanges;
 mod opening;
+mod records;
 mod repository;
 mod write_tests;
 

@@ -89,14 +89,14 @@ fn told<R: Abort>(
 /// Whether the core has a commit already, the batch, and where its requests are told.
 const ROWS: [(bool, &[Step<'static>], &[(usize, u64)]); 4] = [
     (false, &REFUSED, &[(0, 1), (1, 1)]),
-    (false, &WRITES, &[(0, 1), (1, 1), (2, 29), (0, 13)]),
+    (false, &WRITES, &[(0, 1), (1, 1), (0, 11), (2, 30), (0, 2)]),
     (true, &REFUSED, &[(0, 1), (1, 1)]),
-    (true, &WRITES, &[(0, 1), (1, 1), (2, 28), (0, 12)]),
+    (true, &WRITES, &[(0, 1), (1, 1), (0, 11), (2, 29), (0, 1)]),
 ];
 
 /// What the test of a write takes is told at that write, in their order, and what the edit takes at the last one. Copies of
-/// the writes and of the stamp and room for them in the core's lists serve the whole batch; room for the blocks that come is
-/// told at the last write again. Over the tree that these very writes left its node stays, and so no block is made of it.
+/// the writes and of the stamp, before the edit, and room for them in the core's lists, after it, serve the whole batch; room
+/// for the blocks that come is told at the last write again. Over the tree that these very writes left its node stays, and so no block is made of it.
 #[test]
 fn want_of_memory_is_told_at_its_write(rt: HostRuntime) {
     for (has_commit, steps, wanted) in &ROWS {

@@ -8,3 +8,4 @@ pub mod Cuts
 pub mod Kept
 pub mod Moved
 pub mod Raising
+pub mod FirstNode

@@ -1,7 +1,7 @@
 -- A batch that was accepted answers its line.
 use Rattle.std.proofs.Common.{◌≡◌, ◌<◌, ◌≤◌, ◌++◌, ℕ, List, [], ◌∷◌, subst, sym, Vec, Global}
 use Rattle.batches.specs.declared.stamp.Stamp.{Stamp}
-use Rattle.batches.specs.declared.write.Write.{Write}
+use Rattle.batches.specs.Write.{Write}
 use Rattle.notices.specs.declared.notice.Notice.{Notice}
 use Rattle.host.specs.Telling.{IsPushed, HasNoneBack, HasNoNumber, IsSame, IsTold, IsOfBatch, told_by_writer}
 use Rattle.host.specs.Views.{WriterView, with_seen}

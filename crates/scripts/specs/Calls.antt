@@ -5,7 +5,7 @@ use Rattle.host.specs.Telling.{HasNoneBack, HasNoNumber, told_by_writer}
 use Rattle.host.specs.Views.{WriterView, with_seen}
 use Rattle.host.specs.declared.fault.HostFault.TheVariants as faults
 use Rattle.batches.specs.declared.stamp.Stamp.{Stamp}
-use Rattle.batches.specs.declared.write.Write.{Write}
+use Rattle.batches.specs.Write.{Write}
 use Rattle.notices.specs.declared.notice.Notice.{Notice}
 use Rattle.scripts.specs.declared.script.Call.{Call}
 use Rattle.scripts.specs.declared.script.Call.TheVariants as calls

@@ -3,7 +3,7 @@ use Rattle.std.proofs.lemmas.List.{take_more, map-append}
 use Rattle.std.specs.Arc.{arc_value}
 use Rattle.std.specs.declared.sync.Arc.{Arc}
 use Rattle.spec.specs.Writes as writes
-use Rattle.batches.specs.declared.write.Write.{Write}
+use Rattle.batches.specs.Write.{Write}
 use Rattle.batches.specs.Values.{write_of}
 use Rattle.host.proofs.version.shared.Goals as goal
 

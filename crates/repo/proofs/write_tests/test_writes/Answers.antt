@@ -2,8 +2,8 @@ use Rattle.std.proofs.Common.{List, ap, ◌∙◌, sym, arith}
 use Rattle.spec.specs.Writes.{batch_test}
 use Rattle.batch_laws.specs.Staged.{old_pairs}
 use Rattle.batch_laws.specs.Collecting.{collected}
-use Rattle.batches.specs.Values.{writes_of}
-use Rattle.batches.specs.declared.write.Write.{Write}
+use Rattle.batches.specs.Values.{write_of, writes_of}
+use Rattle.batches.specs.Write.{Write}
 use Rattle.repo.specs.Tested.{changes_in}
 use Rattle.repo.proofs.Testing.{take-whole}
 use Rattle.repo.proofs.TestedWrites.{one-more-change, passes-on, fails-at}
@@ -25,7 +25,7 @@ loop-place-preserved g c =
       passed = λ s start.
           passes-on dig g.row.B s c.args.room c.args.root c.args.kept.now.uses start c.args.writes.now at.place x (changes_in at.changes)
           (omega arith) c.index-writes-place.is at.invariant.changes (at.invariant.passed s start) (c.in-Ok.ensures.passed (old_pairs dig s) start.tree);
-      changes = one-more-change c.args.writes.now at.place x (changes_in at.changes) _ (omega arith) c.index-writes-place.is at.invariant.changes c.in-Ok.ensures.changed;
+      changes = one-more-change write_of c.args.writes.now at.place x (changes_in at.changes) _ (omega arith) c.index-writes-place.is at.invariant.changes c.in-Ok.ensures.changed;
     }
 
 pub returns-clause-passed : goal.returns-clause-passed

@@ -9,6 +9,6 @@ use Rattle.repo.proofs.changes.Collected.collect.Goals as goal
 pub returns : goal.returns
 returns g c =
     ap changes_of c.in_ok-insert.ensures.entries
-    ∙ changes-insert c.args.self.now.changes.entries c.key-key.result c.record-record.result
+    ∙ changes-insert lent c.args.self.now.changes.entries c.key-key.result c.record-record.result
     ∙ ap (λ (k : List ℕ). with_change (k, lent c.record-record.result) (changes_in c.args.self.now)) c.key-key.ensures
     ∙ ap (λ (r : Option (List ℕ)). with_change (key_of (write_of c.args.write.now), r) (changes_in c.args.self.now)) c.record-record.ensures

@@ -4,8 +4,9 @@ use Rattle.std.proofs.lemmas.List.{length-map}
 use Rattle.std.proofs.lemmas.Result.{err_from_is_err_and}
 use Rattle.spec.specs.Stamps.{last, rev_of}
 use Rattle.spec.specs.States.{State, after_batch, state_test}
+use Rattle.spec.specs.Writes.{Write}
 use Rattle.batch_laws.specs.Batch.{Change}
-use Rattle.batch_laws.specs.Collecting.{with_cids}
+use Rattle.batch_laws.specs.Collecting.{collected, with_cids}
 use Rattle.batch_laws.specs.Staged.{old_pairs}
 use Rattle.edit.specs.Batches.{are_changes}
 use Rattle.kept.specs.Counts.{Keeping, exchanged}
@@ -125,9 +126,9 @@ returns-in-Err-exchange-clause-fault g c =
     (ap (λ xs. length (shared_writes xs) + c.room_for-room.result) (sym c.deref.ensures.value) ∙ c.room_for-room.ensures) in
     let rev = c.last_rev-rev.ensures ∙ ap (λ xs. rev_of (last (stamps_of xs))) c.deref-2.ensures.value in
     let passes = c.in_ok-changes.ensures.passed s start rev in
-    let x = c.in-Ok.ensures.exchange s batch (core-on dig g.row.B s old.root old.commit old.kept c.self.invariant c.args.stamp.now batch c.in_ok-changes.changes passes c.in_ok-changes.ensures.changes) in
-    let come = map arc_value c.in-Ok.exchange.come.items in
-    store-refused dig g.row.B s c.args.self.now stamp batch c.in-Ok.exchange.root c.in-Ok.exchange.commit come c.in-Ok.exchange.go.items (g.S.BlockStore.fulls c.args.store.now) (g.S.BlockStore.fulls c.exchange.new.store)
+    let x = c.in-Ok-made.ensures.exchange s batch (core-on dig g.row.B s old.root old.commit old.kept c.self.invariant c.args.stamp.now batch c.in_ok-changes.changes passes c.in_ok-changes.ensures.changes) in
+    let come = map arc_value c.in-Ok-made.exchange.come.items in
+    store-refused dig g.row.B s c.args.self.now stamp batch c.in-Ok-made.exchange.root c.in-Ok-made.exchange.commit come c.in-Ok-made.exchange.go.items (g.S.BlockStore.fulls c.args.store.now) (g.S.BlockStore.fulls c.exchange.new.store)
     (length c.args.writes.now) c.in-Err-exchange.fault c.from.result c.self.view_is (length-map c.args.writes.now write_of) x c.in-Err-exchange.ensures.fault c.from.ensures c.in-Err-exchange.ensures.fulls
 
 pub returns-in-Err-exchange-clause-counted : goal.returns-in-Err-exchange-clause-counted
@@ -149,7 +150,7 @@ returns-in-Err-exchange-clause-entered g c =
 
 pub grow-number-requires-clause-writes : goal.grow-number-requires-clause-writes
 grow-number-requires-clause-writes g c =
-    let n = as-many c.in-Ok-copies_of.copies.writes.items c.args.writes.now c.in-Ok-copies_of.ensures.writes in
+    let n = as-many c.in-Ok.copies.writes.items c.args.writes.now c.in-Ok.ensures.writes in
     let l = c.in-Ok-make_room.ensures.writes in
     omega (arith, n, l)
 
@@ -164,19 +165,19 @@ invariant_of-self-2 g c =
     (ap (λ xs. length (shared_writes xs) + c.room_for-room.result) (sym c.deref.ensures.value) ∙ c.room_for-room.ensures) in
     let rev = c.last_rev-rev.ensures ∙ ap (λ xs. rev_of (last (stamps_of xs))) c.deref-2.ensures.value in
     let passes = c.in_ok-changes.ensures.passed s start rev in
-    let x = c.in-Ok.ensures.exchange s batch (core-on dig g.row.B s old.root old.commit old.kept c.self.invariant c.args.stamp.now batch c.in_ok-changes.changes passes c.in_ok-changes.ensures.changes) in
-    let come = map arc_value c.in-Ok.exchange.come.items in
-    let staged = core-exchanged dig g.row.B s old.root old.commit old.kept c.self.invariant g.met.D.Digest.digest_len c.exchange.new.self stamp batch c.in-Ok.exchange.root c.in-Ok.exchange.commit come c.in-Ok.exchange.go.items x
+    let x = c.in-Ok-made.ensures.exchange s batch (core-on dig g.row.B s old.root old.commit old.kept c.self.invariant c.args.stamp.now batch c.in_ok-changes.changes passes c.in_ok-changes.ensures.changes) in
+    let come = map arc_value c.in-Ok-made.exchange.come.items in
+    let staged = core-exchanged dig g.row.B s old.root old.commit old.kept c.self.invariant g.met.D.Digest.digest_len c.exchange.new.self stamp batch c.in-Ok-made.exchange.root c.in-Ok-made.exchange.commit come c.in-Ok-made.exchange.go.items x
     (c.in-Ok-exchange.ensures.exchanged ∙ ap (λ (cs : List (List ℕ)). exchanged dig old.kept come cs) c.deref-3.ensures.value) c.in-Ok-exchange.ensures.no_other c.in-Ok-exchange.ensures.clash_free in
     let room = c.make_room.ensures in
     let grown = c.grow-number.ensures in
     let now = c.grow-number.new in
-    let copies = c.in-Ok-copies_of.copies in
+    let copies = c.in-Ok.copies in
     let e = state-after old.kept.me c.exchange.new.self.me old.limit old.accepted.items now.accepted.items old.stamps.items now.stamps.items (shared_writes copies.writes.items) batch (stamp_of copies.stamp) stamp
     (ap (λ (k : Keeping). k.me) c.in-Ok-exchange.ensures.exchanged)
-    (grown.writes ∙ ap (λ xs. shared_writes xs ++ shared_writes copies.writes.items) room.same_writes) c.in-Ok-copies_of.ensures.writes
-    (grown.stamps ∙ ap (λ xs. stamps_of xs ++ (stamp_of copies.stamp, length now.accepted.items) ∷ []) room.same_stamps) c.in-Ok-copies_of.ensures.stamp in
-    core-after dig g.row.B s _ stamp batch c.in-Ok.exchange.root old.commit old.root c.in-Ok.exchange.commit old.kept c.exchange.new.self c.self.invariant e staged
+    (grown.writes ∙ ap (λ xs. shared_writes xs ++ shared_writes copies.writes.items) room.same_writes) c.in-Ok.ensures.writes
+    (grown.stamps ∙ ap (λ xs. stamps_of xs ++ (stamp_of copies.stamp, length now.accepted.items) ∷ []) room.same_stamps) c.in-Ok.ensures.stamp in
+    core-after dig g.row.B s _ stamp batch c.in-Ok-made.exchange.root old.commit old.root c.in-Ok-made.exchange.commit old.kept c.exchange.new.self c.self.invariant e staged
 
 pub returns-clause-still_lawful : goal.returns-clause-still_lawful
 returns-clause-still_lawful g c =
@@ -189,19 +190,19 @@ returns-clause-still_lawful g c =
     (ap (λ xs. length (shared_writes xs) + c.room_for-room.result) (sym c.deref.ensures.value) ∙ c.room_for-room.ensures) in
     let rev = c.last_rev-rev.ensures ∙ ap (λ xs. rev_of (last (stamps_of xs))) c.deref-2.ensures.value in
     let passes = c.in_ok-changes.ensures.passed s start rev in
-    let x = c.in-Ok.ensures.exchange s batch (core-on dig g.row.B s old.root old.commit old.kept c.self.invariant c.args.stamp.now batch c.in_ok-changes.changes passes c.in_ok-changes.ensures.changes) in
-    let come = map arc_value c.in-Ok.exchange.come.items in
-    let staged = core-exchanged dig g.row.B s old.root old.commit old.kept c.self.invariant g.met.D.Digest.digest_len c.exchange.new.self stamp batch c.in-Ok.exchange.root c.in-Ok.exchange.commit come c.in-Ok.exchange.go.items x
+    let x = c.in-Ok-made.ensures.exchange s batch (core-on dig g.row.B s old.root old.commit old.kept c.self.invariant c.args.stamp.now batch c.in_ok-changes.changes passes c.in_ok-changes.ensures.changes) in
+    let come = map arc_value c.in-Ok-made.exchange.come.items in
+    let staged = core-exchanged dig g.row.B s old.root old.commit old.kept c.self.invariant g.met.D.Digest.digest_len c.exchange.new.self stamp batch c.in-Ok-made.exchange.root c.in-Ok-made.exchange.commit come c.in-Ok-made.exchange.go.items x
     (c.in-Ok-exchange.ensures.exchanged ∙ ap (λ (cs : List (List ℕ)). exchanged dig old.kept come cs) c.deref-3.ensures.value) c.in-Ok-exchange.ensures.no_other c.in-Ok-exchange.ensures.clash_free in
     let room = c.make_room.ensures in
     let grown = c.grow-number.ensures in
     let now = c.grow-number.new in
-    let copies = c.in-Ok-copies_of.copies in
+    let copies = c.in-Ok.copies in
     let e = state-after old.kept.me c.exchange.new.self.me old.limit old.accepted.items now.accepted.items old.stamps.items now.stamps.items (shared_writes copies.writes.items) batch (stamp_of copies.stamp) stamp
     (ap (λ (k : Keeping). k.me) c.in-Ok-exchange.ensures.exchanged)
-    (grown.writes ∙ ap (λ xs. shared_writes xs ++ shared_writes copies.writes.items) room.same_writes) c.in-Ok-copies_of.ensures.writes
-    (grown.stamps ∙ ap (λ xs. stamps_of xs ++ (stamp_of copies.stamp, length now.accepted.items) ∷ []) room.same_stamps) c.in-Ok-copies_of.ensures.stamp in
-    (core-after dig g.row.B s _ stamp batch c.in-Ok.exchange.root old.commit old.root c.in-Ok.exchange.commit old.kept c.exchange.new.self c.self.invariant e staged).lawful
+    (grown.writes ∙ ap (λ xs. shared_writes xs ++ shared_writes copies.writes.items) room.same_writes) c.in-Ok.ensures.writes
+    (grown.stamps ∙ ap (λ xs. stamps_of xs ++ (stamp_of copies.stamp, length now.accepted.items) ∷ []) room.same_stamps) c.in-Ok.ensures.stamp in
+    (core-after dig g.row.B s _ stamp batch c.in-Ok-made.exchange.root old.commit old.root c.in-Ok-made.exchange.commit old.kept c.exchange.new.self c.self.invariant e staged).lawful
 
 pub returns-clause-accepted : goal.returns-clause-accepted
 returns-clause-accepted g c =
@@ -213,11 +214,11 @@ returns-clause-accepted g c =
     let room = c.make_room.ensures in
     let grown = c.grow-number.ensures in
     let now = c.grow-number.new in
-    let copies = c.in-Ok-copies_of.copies in
+    let copies = c.in-Ok.copies in
     let e = state-after old.kept.me c.exchange.new.self.me old.limit old.accepted.items now.accepted.items old.stamps.items now.stamps.items (shared_writes copies.writes.items) batch (stamp_of copies.stamp) stamp
     (ap (λ (k : Keeping). k.me) c.in-Ok-exchange.ensures.exchanged)
-    (grown.writes ∙ ap (λ xs. shared_writes xs ++ shared_writes copies.writes.items) room.same_writes) c.in-Ok-copies_of.ensures.writes
-    (grown.stamps ∙ ap (λ xs. stamps_of xs ++ (stamp_of copies.stamp, length now.accepted.items) ∷ []) room.same_stamps) c.in-Ok-copies_of.ensures.stamp in
+    (grown.writes ∙ ap (λ xs. shared_writes xs ++ shared_writes copies.writes.items) room.same_writes) c.in-Ok.ensures.writes
+    (grown.stamps ∙ ap (λ xs. stamps_of xs ++ (stamp_of copies.stamp, length now.accepted.items) ∷ []) room.same_stamps) c.in-Ok.ensures.stamp in
     e ∙ ap (λ (t : State). after_batch t stamp batch) c.self.view_is
 
 pub returns-clause-passes : goal.returns-clause-passes
@@ -244,19 +245,19 @@ returns-clause-applied g c =
     (ap (λ xs. length (shared_writes xs) + c.room_for-room.result) (sym c.deref.ensures.value) ∙ c.room_for-room.ensures) in
     let rev = c.last_rev-rev.ensures ∙ ap (λ xs. rev_of (last (stamps_of xs))) c.deref-2.ensures.value in
     let passes = c.in_ok-changes.ensures.passed s start rev in
-    let x = c.in-Ok.ensures.exchange s batch (core-on dig g.row.B s old.root old.commit old.kept c.self.invariant c.args.stamp.now batch c.in_ok-changes.changes passes c.in_ok-changes.ensures.changes) in
-    let come = map arc_value c.in-Ok.exchange.come.items in
-    let staged = core-exchanged dig g.row.B s old.root old.commit old.kept c.self.invariant g.met.D.Digest.digest_len c.exchange.new.self stamp batch c.in-Ok.exchange.root c.in-Ok.exchange.commit come c.in-Ok.exchange.go.items x
+    let x = c.in-Ok-made.ensures.exchange s batch (core-on dig g.row.B s old.root old.commit old.kept c.self.invariant c.args.stamp.now batch c.in_ok-changes.changes passes c.in_ok-changes.ensures.changes) in
+    let come = map arc_value c.in-Ok-made.exchange.come.items in
+    let staged = core-exchanged dig g.row.B s old.root old.commit old.kept c.self.invariant g.met.D.Digest.digest_len c.exchange.new.self stamp batch c.in-Ok-made.exchange.root c.in-Ok-made.exchange.commit come c.in-Ok-made.exchange.go.items x
     (c.in-Ok-exchange.ensures.exchanged ∙ ap (λ (cs : List (List ℕ)). exchanged dig old.kept come cs) c.deref-3.ensures.value) c.in-Ok-exchange.ensures.no_other c.in-Ok-exchange.ensures.clash_free in
     let room = c.make_room.ensures in
     let grown = c.grow-number.ensures in
     let now = c.grow-number.new in
-    let copies = c.in-Ok-copies_of.copies in
+    let copies = c.in-Ok.copies in
     let e = state-after old.kept.me c.exchange.new.self.me old.limit old.accepted.items now.accepted.items old.stamps.items now.stamps.items (shared_writes copies.writes.items) batch (stamp_of copies.stamp) stamp
     (ap (λ (k : Keeping). k.me) c.in-Ok-exchange.ensures.exchanged)
-    (grown.writes ∙ ap (λ xs. shared_writes xs ++ shared_writes copies.writes.items) room.same_writes) c.in-Ok-copies_of.ensures.writes
-    (grown.stamps ∙ ap (λ xs. stamps_of xs ++ (stamp_of copies.stamp, length now.accepted.items) ∷ []) room.same_stamps) c.in-Ok-copies_of.ensures.stamp in
-    applied-after dig g.row.B s c.args.self.now _ stamp batch c.grow-number.result c.in-Ok.exchange.root old.root c.in-Ok.exchange.commit c.exchange.new.self.uses c.self.view_is e staged c.self.invariant.root_is
+    (grown.writes ∙ ap (λ xs. shared_writes xs ++ shared_writes copies.writes.items) room.same_writes) c.in-Ok.ensures.writes
+    (grown.stamps ∙ ap (λ xs. stamps_of xs ++ (stamp_of copies.stamp, length now.accepted.items) ∷ []) room.same_stamps) c.in-Ok.ensures.stamp in
+    applied-after dig g.row.B s c.args.self.now _ stamp batch c.grow-number.result c.in-Ok-made.exchange.root old.root c.in-Ok-made.exchange.commit c.exchange.new.self.uses c.self.view_is e staged c.self.invariant.root_is
     (grown.number ∙ sym (length-map now.accepted.items (λ w. write_of (arc_value w))))
 
 pub returns-clause-entered : goal.returns-clause-entered
@@ -270,17 +271,22 @@ returns-clause-entered g c =
     (ap (λ xs. length (shared_writes xs) + c.room_for-room.result) (sym c.deref.ensures.value) ∙ c.room_for-room.ensures) in
     let rev = c.last_rev-rev.ensures ∙ ap (λ xs. rev_of (last (stamps_of xs))) c.deref-2.ensures.value in
     let passes = c.in_ok-changes.ensures.passed s start rev in
-    let x = c.in-Ok.ensures.exchange s batch (core-on dig g.row.B s old.root old.commit old.kept c.self.invariant c.args.stamp.now batch c.in_ok-changes.changes passes c.in_ok-changes.ensures.changes) in
-    let come = map arc_value c.in-Ok.exchange.come.items in
-    let staged = core-exchanged dig g.row.B s old.root old.commit old.kept c.self.invariant g.met.D.Digest.digest_len c.exchange.new.self stamp batch c.in-Ok.exchange.root c.in-Ok.exchange.commit come c.in-Ok.exchange.go.items x
+    let x = c.in-Ok-made.ensures.exchange s batch (core-on dig g.row.B s old.root old.commit old.kept c.self.invariant c.args.stamp.now batch c.in_ok-changes.changes passes c.in_ok-changes.ensures.changes) in
+    let come = map arc_value c.in-Ok-made.exchange.come.items in
+    let staged = core-exchanged dig g.row.B s old.root old.commit old.kept c.self.invariant g.met.D.Digest.digest_len c.exchange.new.self stamp batch c.in-Ok-made.exchange.root c.in-Ok-made.exchange.commit come c.in-Ok-made.exchange.go.items x
     (c.in-Ok-exchange.ensures.exchanged ∙ ap (λ (cs : List (List ℕ)). exchanged dig old.kept come cs) c.deref-3.ensures.value) c.in-Ok-exchange.ensures.no_other c.in-Ok-exchange.ensures.clash_free in
     let room = c.make_room.ensures in
     let grown = c.grow-number.ensures in
     let now = c.grow-number.new in
-    let copies = c.in-Ok-copies_of.copies in
+    let copies = c.in-Ok.copies in
     let e = state-after old.kept.me c.exchange.new.self.me old.limit old.accepted.items now.accepted.items old.stamps.items now.stamps.items (shared_writes copies.writes.items) batch (stamp_of copies.stamp) stamp
     (ap (λ (k : Keeping). k.me) c.in-Ok-exchange.ensures.exchanged)
-    (grown.writes ∙ ap (λ xs. shared_writes xs ++ shared_writes copies.writes.items) room.same_writes) c.in-Ok-copies_of.ensures.writes
-    (grown.stamps ∙ ap (λ xs. stamps_of xs ++ (stamp_of copies.stamp, length now.accepted.items) ∷ []) room.same_stamps) c.in-Ok-copies_of.ensures.stamp in
-    core_entered dig g.row.B g.S.BlockStore c.args.self.now s _ old.root c.in-Ok.exchange.root old.commit _ old.kept c.exchange.new.self
-    c.args.store.now c.exchange.new.store c.self.view_is refl c.self.invariant refl (core-after dig g.row.B s _ stamp batch c.in-Ok.exchange.root old.commit old.root c.in-Ok.exchange.commit old.kept c.exchange.new.self c.self.invariant e staged) c.in-Ok-exchange.ensures.entered
+    (grown.writes ∙ ap (λ xs. shared_writes xs ++ shared_writes copies.writes.items) room.same_writes) c.in-Ok.ensures.writes
+    (grown.stamps ∙ ap (λ xs. stamps_of xs ++ (stamp_of copies.stamp, length now.accepted.items) ∷ []) room.same_stamps) c.in-Ok.ensures.stamp in
+    core_entered dig g.row.B g.S.BlockStore c.args.self.now s _ old.root c.in-Ok-made.exchange.root old.commit _ old.kept c.exchange.new.self
+    c.args.store.now c.exchange.new.store c.self.view_is refl c.self.invariant refl (core-after dig g.row.B s _ stamp batch c.in-Ok-made.exchange.root old.commit old.root c.in-Ok-made.exchange.commit old.kept c.exchange.new.self c.self.invariant e staged) c.in-Ok-exchange.ensures.entered
+
+pub exchange_of-made-requires-clause-writes : goal.exchange_of-made-requires-clause-writes
+exchange_of-made-requires-clause-writes g c =
+    c.in_ok-changes.ensures.changes ∙ ap (λ (ws : List Write). collected ws) (sym c.in-Ok.ensures.writes)
+    ∙ ap (λ xs. collected (shared_writes xs)) (sym c.as_slice-shared.ensures.value)

@@ -1,5 +1,5 @@
 use Rattle.std.proofs.Common.{rules}
-use Rattle.batches.proofs.write.Write.share.Goals as goal
+use Rattle.record_writes.proofs.write.Write.key.Goals as goal
 
 pub returns : goal.returns
 returns g c = search rules

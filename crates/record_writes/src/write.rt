@@ -1,16 +1,17 @@
 ghost use Rattle.std.specs.Prelude.{◌≡◌, option_map, IfOk};
 ghost use Rattle.std.specs.Arc.{arc_value};
 ghost use Rattle.spec.specs.Writes.{key_of, record_of};
-ghost use Rattle.batches.specs.Values.{write_of};
+ghost use Rattle.record_writes.specs.Values.{write_of};
 
 use std::alloc::{AllocError, Allocator, Global};
 use std::sync::Arc;
 
 /// A write to a repository: a key, and then the record's bytes.
 ///
-/// A key is a collection, a slash and a record key (AT Protocol repository v3, paths); `is_repository_key` is the test. A
-/// record is one map in DAG-CBOR, of at most 1,048,576 bytes.
+/// A key is a collection, a slash and a record key (AT Protocol repository v3, paths), and a record is one map in DAG-CBOR,
+/// of at most 1,048,576 bytes. `batches::test_write` tests both.
 #[derive(Drop)]
+#[derive_where(Debug)]
 pub enum Write<A: Allocator = Global> {
     /// The record stands under the key, whatever stood there.
     Put(Vec<u8, A>, Vec<u8, A>),
@@ -63,7 +64,7 @@ impl<A: Allocator + Copy> Write<A> {
 }
 
 /// The same bytes in memory of their own.
-pub(crate) fn copied<A: Allocator>(alloc: A, bytes: &[u8]) -> Result<Vec<u8, A>, AllocError>
+fn copied<A: Allocator>(alloc: A, bytes: &[u8]) -> Result<Vec<u8, A>, AllocError>
     ensures { IfOk result (λ copy. copy.items ≡ bytes.now) }
 {
     Vec::from_slice(alloc, bytes)
