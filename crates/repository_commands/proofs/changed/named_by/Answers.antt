@@ -15,10 +15,10 @@ loop-write-preserved c =
     let ws = c.args.writes.now in
     let w = c.write-item.result in
     let es = so_far.named.entries in
-    let more = ap collected (one-more-write ws so_far.write-index w (omega arith) c.write-item.is)
+    let more = ap collected (one-more-write write_of ws so_far.write-index w (omega arith) c.write-item.is)
     ∙ (one_more-collected (λ bytes. bytes) (writes_of (take so_far.write-index ws)) (write_of w)).0 in
     ap changes_of c.in_ok-insert.ensures.entries
-    ∙ changes-insert es c.key-key.result c.record-record.result
+    ∙ changes-insert lent es c.key-key.result c.record-record.result
     ∙ ap (λ (k : List ℕ). with_change (k, lent c.record-record.result) (changes_of es)) c.key-key.ensures
     ∙ ap (λ (r : Option (List ℕ)). with_change (key_of (write_of w), r) (changes_of es)) c.record-record.ensures
     ∙ ap (with_change (change_of (write_of w))) so_far.invariant
