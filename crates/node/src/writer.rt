@@ -20,8 +20,17 @@ use std::marker::Model;
 /// How many bytes of entries there is room for from the beginning: most nodes have no more.
 const FIRST_ROOM: usize = 512;
 
-/// How many bytes a node has at most beside its entries.
-const ENDS: usize = 55;
+/// How many bytes a node has beside its entries, with so many entries and this left link.
+fn ends(count: u64, left: Option<CidRef<'_>>) -> usize {
+    let head = if count < 24 {
+        1usize
+    } else if count < 256 {
+        2
+    } else {
+        9
+    };
+    field_len(left).saturating_add(3).saturating_add(head)
+}
 
 /// A node that is being written, its entries in ascending order of their keys.
 ///
@@ -187,7 +196,11 @@ impl<A: Allocator + Clone> NodeWriter<A> {
         ensures grammar { OnOk result (is_node self.now.left self.now.entries ≡ true) }
     {
         let alloc = self.entries.allocator().clone()?;
-        let mut bytes = Vec::with_capacity(alloc, self.entries.len().saturating_add(ENDS))?;
+        let room = self
+            .entries
+            .len()
+            .saturating_add(ends(self.count, lend(&self.left)));
+        let mut bytes = Vec::with_capacity(alloc, room)?;
         bytes.extend_from_slice(&[0xa2, b'a', b'e'])?;
         push_head(&mut bytes, Major::Array as u8, self.count)?;
         bytes.extend_from_slice(&self.entries)?;
