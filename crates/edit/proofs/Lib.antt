@@ -20,6 +20,7 @@ mod Placed
 pub mod OnTree
 mod Answering
 pub mod Stopping
+pub mod Halts
 pub mod Refusing
 pub mod Arriving
 pub mod Ending

@@ -101,7 +101,7 @@ open-refused gives digest shows b a c rest log now node f e q n r =
 
 -- ---- a pair, so many layers below
 
-pair-under : (digest : List ℕ → List ℕ) (shows : List ℕ → Option Shape) (d : ℕ) (e : Pair) (all : LinkEdge) (start : Log)
+pub pair-under : (digest : List ℕ → List ℕ) (shows : List ℕ → Option Shape) (d : ℕ) (e : Pair) (all : LinkEdge) (start : Log)
     (ls : List Rows) (rest : Option (List ℕ)) (log : Log)
     → ((f : LinkEdge → Log → Step LinkEdge)
     → within shows d f all start ≡ within shows d f (edge_of ls rest) log)

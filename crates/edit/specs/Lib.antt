@@ -10,6 +10,7 @@ pub mod Firsts
 pub mod Among
 pub mod Batches
 pub mod Stops
+pub mod Halts
 pub mod Refusals
 pub mod Edits
 pub mod Deletes

@@ -7,6 +7,7 @@ ghost use Rattle.rows.specs.Entries.{shape_of};
 ghost use Rattle.batch_laws.specs.Links.{Rows, LinkEdge, LinkClear, Log, ask, add_row, opening, closing, link_edge, pairing, Step};
 ghost use Rattle.edit.specs.Edges.{edge_of, within};
 ghost use Rattle.edit.specs.Stops.{IsRefused, IsStopped, IsUnread, IsOnward, all_closed, open_edge};
+ghost use Rattle.edit.specs.Halts.{most_in, IsHalted, IsHaltedFrom, IsStill};
 ghost use Rattle.edit.specs.States.{edge_in, log_in, IsOpened, IsOpenAt, IsAdded, IsCountedOn, KeepsWithin};
 
 use crate::faults::Fault;
@@ -127,6 +128,7 @@ impl<'a, D: Digest + 'a, A: Allocator + Clone + 'a> Edge<'a, D, A> {
         ensures same { S.gives src.new ≡ S.gives src.old }
         ensures unread { IfErr result (IsUnread (S.gives src.old) (S.reads src.old, self.old.left)
             (S.reads src.new) cid (nodes_given (S.gives src.old) cid)) }
+        ensures still { IfErr result (IsStill self.old self.new) }
     {
         self.left = self.left.checked_sub(1).ok_or(Fault::NotTree)?;
         let Some(block) = src.get(&cid) else {
@@ -155,6 +157,7 @@ impl<'a, D: Digest + 'a, A: Allocator + Clone + 'a> Edge<'a, D, A> {
         ensures same { S.gives src.new ≡ S.gives src.old }
         ensures unread { IfErr result (IsUnread (S.gives src.old) (S.reads src.old, self.old.left)
             (S.reads src.new) cid (nodes_given (S.gives src.old) cid)) }
+        ensures still { IfErr result (IsStill self.old self.new) }
     {
         let view = self.view(src, depth, cid)?;
         Ok(KeyedEntries::of(&view, KeyBuf::new(self.alloc()?)?))
@@ -169,6 +172,10 @@ impl<'a, D: Digest + 'a, A: Allocator + Clone + 'a> Edge<'a, D, A> {
         ensures same { S.gives src.new ≡ S.gives src.old }
         ensures stopped { IfErr result (IsStopped (S.gives src.old) (S.reads src.old, self.old.left)
             (S.reads src.new) (log_in self.old) (open_edge (opening (nodes_given (S.gives src.old))
+            (link_edge self.old.rest) (log_in self.old)))) }
+        ensures still { IfErr result (IsStill self.old self.new) }
+        ensures halted { IfErr result (IsHalted (most_in self.old) (link_edge self.old.rest)
+            (log_in self.old) (open_edge (opening (nodes_given (S.gives src.old))
             (link_edge self.old.rest) (log_in self.old)))) }
     {
         let Some(cid) = self.rest else {
@@ -200,6 +207,9 @@ impl<'a, D: Digest + 'a, A: Allocator + Clone + 'a> Edge<'a, D, A> {
             → IfErr result (IsStopped (S.gives src.old) (S.reads src.old, self.old.left)
             (S.reads src.new) (log_in self.old) (within (nodes_given (S.gives src.old)) count f
             (edge_in self.old) (log_in self.old))) }
+        ensures halted { (f : LinkEdge → Log → Step LinkEdge)
+            → IfErr result (IsHaltedFrom self.old self.new (within (nodes_given (S.gives src.old))
+            count f (edge_in self.old) (log_in self.old))) }
     {
         while self.levels.len() < count {
             self.open_level(src)?;
@@ -221,6 +231,11 @@ impl<'a, D: Digest + 'a, A: Allocator + Clone + 'a> Edge<'a, D, A> {
         ensures same { S.gives src.new ≡ S.gives src.old }
         ensures stopped { IfErr result (IsStopped (S.gives src.old) (S.reads src.old, self.old.left)
             (S.reads src.new) (log_in self.old) (open_edge (opening (nodes_given (S.gives src.old))
+            (edge_of (drop depth self.old.levels.items) self.old.rest) (log_in self.old)))) }
+        ensures still { IfErr result (IsStill self.old self.new) }
+        ensures halted { IfErr result (IsHalted (most_in self.old)
+            (edge_of (drop depth self.old.levels.items) self.old.rest) (log_in self.old)
+            (open_edge (opening (nodes_given (S.gives src.old))
             (edge_of (drop depth self.old.levels.items) self.old.rest) (log_in self.old)))) }
     {
         if depth < self.levels.len() {
@@ -245,6 +260,9 @@ impl<'a, D: Digest + 'a, A: Allocator + Clone + 'a> Edge<'a, D, A> {
         ensures stopped { IfErr result (IsStopped (S.gives src.old) (S.reads src.old, self.old.left)
             (S.reads src.new) (log_in self.old) (pairing D.digest_of (nodes_given (S.gives src.old))
             depth (pair_of key.now value.entry) (edge_in self.old) (log_in self.old))) }
+        ensures halted { IfErr result (IsHaltedFrom self.old self.new (pairing D.digest_of
+            (nodes_given (S.gives src.old)) depth (pair_of key.now value.entry) (edge_in self.old)
+            (log_in self.old))) }
     {
         self.open_to(src, depth)?;
         self.open_at(src, depth)?;

@@ -3,7 +3,9 @@
 ghost use Rattle.std.specs.Prelude.{◌≡◌, [], ◌∷◌, ◌++◌, ◌<◌, ◌≤◌, ◌+◌, ℕ, suc, List, Option, Some, map, take, drop, length, IfOk, IfErr, IfSome, IfNone, OnOk, Ok};
 ghost use Rattle.lookups.specs.Steps.{nodes_given};
 ghost use Rattle.batch_laws.specs.Links.{Rows, LinkEdge, Log, parting, subtreeing, Step};
-ghost use Rattle.edit.specs.Edges.{edge_of, joined};
+ghost use Rattle.spec.specs.NodeFormat.{Shape};
+ghost use Rattle.edit.specs.Edges.{edge_of, joined, around};
+ghost use Rattle.edit.specs.Halts.{IsHaltedFrom};
 ghost use Rattle.edit.specs.Stops.{IsRefused, IsStopped};
 ghost use Rattle.edit.specs.States.{edge_in, log_in, shapes_coming, IsComing, IsWaiting, IsOnTheWay, IsArrived, IsJoined, IsCountedOn};
 
@@ -95,6 +97,11 @@ impl<'a, D: Digest + 'a, A: Allocator + Clone + 'a> Edge<'a, D, A> {
             (S.reads src.old, self.old.left) (S.reads src.new) (log_in self.old)
             (parting D.digest_of (nodes_given (S.gives src.old)) (suc k) (Some cid)
             (edge_of (drop depth self.old.levels.items) self.old.rest) (log_in self.old))) }
+        ensures halted { (k above : ℕ) (fs : List Shape)
+            → IfErr result (IsHaltedFrom self.old self.new (around D.digest_of above
+            (take depth self.old.levels.items) fs (parting D.digest_of
+            (nodes_given (S.gives src.old)) (suc k) (Some cid)
+            (edge_of (drop depth self.old.levels.items) self.old.rest) (log_in self.old)))) }
     {
         if self.levels.len() <= depth && self.rest.is_none() {
             self.rest = Some(cid);
@@ -128,6 +135,10 @@ impl<'a, D: Digest + 'a, A: Allocator + Clone + 'a> Edge<'a, D, A> {
             self.old.levels.items self.old.rest (log_in self.old)
             → IfErr result (IsStopped (S.gives src.old) (S.reads src.old, self.old.left)
             (S.reads src.new) (log_in self.old) all) }
+        ensures halted { (all : Step LinkEdge) → IsOnTheWay D.digest_of
+            (nodes_given (S.gives src.old)) all depth layers (Some cid) []
+            self.old.levels.items self.old.rest (log_in self.old)
+            → IfErr result (IsHaltedFrom self.old self.new all) }
     {
         let mut coming = Vec::new(self.alloc()?);
         let mut next = Some(cid);
@@ -161,6 +172,9 @@ impl<'a, D: Digest + 'a, A: Allocator + Clone + 'a> Edge<'a, D, A> {
         ensures same { S.gives src.new ≡ S.gives src.old }
         ensures stopped { IfErr result (IsStopped (S.gives src.old) (S.reads src.old, self.old.left)
             (S.reads src.new) (log_in self.old) (subtreeing D.digest_of
+            (nodes_given (S.gives src.old)) layers depth cid (edge_in self.old)
+            (log_in self.old))) }
+        ensures halted { IfErr result (IsHaltedFrom self.old self.new (subtreeing D.digest_of
             (nodes_given (S.gives src.old)) layers depth cid (edge_in self.old)
             (log_in self.old))) }
     {

@@ -4,6 +4,7 @@ ghost use Rattle.std.specs.Prelude.{◌≡◌, ◌<◌, ◌≤◌, ◌+◌, ◌�
 ghost use Rattle.lookups.specs.Steps.{nodes_given};
 ghost use Rattle.batch_laws.specs.Links.{Rows, closing, new_top, pruning, topping};
 ghost use Rattle.edit.specs.Edges.{edge_of, highest_of};
+ghost use Rattle.edit.specs.Halts.{IsHaltedFrom, IsStill};
 ghost use Rattle.edit.specs.Stops.{IsRefused, IsStopped, IsUnread, at_top};
 ghost use Rattle.edit.specs.States.{edge_in, log_in, IsCountedOn};
 ghost use Rattle.edit.specs.Tops.{IsTopped, IsLooked, IsTop, IsEnded};
@@ -69,6 +70,7 @@ impl<'a, D: Digest + 'a, A: Allocator + Clone + 'a> Edge<'a, D, A> {
         ensures same { S.gives src.new ≡ S.gives src.old }
         ensures unread { IfErr result (IsUnread (S.gives src.old) (S.reads src.old, self.old.left)
             (S.reads src.new) cid (nodes_given (S.gives src.old) cid)) }
+        ensures still { IfErr result (IsStill self.old self.new) }
     {
         // no layer is closed after this, so nothing asks for its depth
         let mut rows = self.rows(src, 0, cid)?;
@@ -92,6 +94,8 @@ impl<'a, D: Digest + 'a, A: Allocator + Clone + 'a> Edge<'a, D, A> {
         ensures same { S.gives src.new ≡ S.gives src.old }
         ensures stopped { IfErr result (IsStopped (S.gives src.old) (S.reads src.old, self.old.left)
             (S.reads src.new) (log_in self.old) (at_top (pruning (nodes_given (S.gives src.old))
+            layers cid (log_in self.old)))) }
+        ensures halted { IfErr result (IsHaltedFrom self.old self.new (at_top (pruning (nodes_given (S.gives src.old))
             layers cid (log_in self.old)))) }
     {
         let mut at = cid;
@@ -119,6 +123,8 @@ impl<'a, D: Digest + 'a, A: Allocator + Clone + 'a> Edge<'a, D, A> {
         ensures same { S.gives src.new ≡ S.gives src.old }
         ensures stopped { IfErr result (IsStopped (S.gives src.old) (S.reads src.old, self.old.left)
             (S.reads src.new) (log_in self.old) (at_top (topping D.digest_of
+            (nodes_given (S.gives src.old)) layers (edge_in self.old) (log_in self.old)))) }
+        ensures halted { IfErr result (IsHaltedFrom self.old self.new (at_top (topping D.digest_of
             (nodes_given (S.gives src.old)) layers (edge_in self.old) (log_in self.old)))) }
     {
         let depth = highest(&self.levels);

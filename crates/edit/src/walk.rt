@@ -10,6 +10,7 @@ ghost use Rattle.batch_laws.specs.Previous.{no_values, value_met, previous_node,
 ghost use Rattle.batch_laws.specs.Walking.{depth_of};
 ghost use Rattle.batch_laws.specs.Links.{pairs_in_turn};
 ghost use Rattle.edit.specs.Agenda.{ToGap, IsPutOff, IsGoneOn, IsDone, node_does, task_does};
+ghost use Rattle.edit.specs.Halts.{IsHaltedFrom};
 ghost use Rattle.edit.specs.Stops.{IsStopped};
 ghost use Rattle.edit.specs.States.{edge_in, log_in, IsCountedOn};
 ghost use Rattle.edit.specs.Places.{are_ascending};
@@ -120,6 +121,9 @@ impl<'a, D: Digest + 'a, A: Allocator + Clone + 'a> Edge<'a, D, A> {
             (S.reads src.new) (log_in self.old) (pairs_in_turn D.digest_of
             (nodes_given (S.gives src.old)) (depth_of (layer_of D.digest_of B) layers)
             (puts changes.now) (edge_in self.old) (log_in self.old))) }
+        ensures halted { IfErr result (IsHaltedFrom self.old self.new (pairs_in_turn D.digest_of
+            (nodes_given (S.gives src.old)) (depth_of (layer_of D.digest_of B) layers)
+            (puts changes.now) (edge_in self.old) (log_in self.old))) }
     {
         for change in changes {
             previous.push(None)?;
@@ -143,6 +147,9 @@ impl<'a, D: Digest + 'a, A: Allocator + Clone + 'a> Edge<'a, D, A> {
         ensures same { S.gives src.new ≡ S.gives src.old }
         ensures stopped { IfErr result (IsStopped (S.gives src.old) (S.reads src.old, self.old.left)
             (S.reads src.new) (log_in self.old) (pairs_in_turn D.digest_of
+            (nodes_given (S.gives src.old)) (depth_of (layer_of D.digest_of B) layers)
+            (if_put change.now.0 change.now.1 []) (edge_in self.old) (log_in self.old))) }
+        ensures halted { IfErr result (IsHaltedFrom self.old self.new (pairs_in_turn D.digest_of
             (nodes_given (S.gives src.old)) (depth_of (layer_of D.digest_of B) layers)
             (if_put change.now.0 change.now.1 []) (edge_in self.old) (log_in self.old))) }
     {
@@ -172,6 +179,9 @@ impl<'a, D: Digest + 'a, A: Allocator + Clone + 'a> Edge<'a, D, A> {
         ensures same { S.gives src.new ≡ S.gives src.old }
         ensures stopped { IfErr result (IsStopped (S.gives src.old) (S.reads src.old, self.old.left)
             (S.reads src.new) (log_in self.old) (task_does D.digest_of
+            (nodes_given (S.gives src.old)) (layer_of D.digest_of B) layers
+            (ToGap (gap_of gap.entry)) (edge_in self.old) (log_in self.old))) }
+        ensures halted { IfErr result (IsHaltedFrom self.old self.new (task_does D.digest_of
             (nodes_given (S.gives src.old)) (layer_of D.digest_of B) layers
             (ToGap (gap_of gap.entry)) (edge_in self.old) (log_in self.old))) }
     {
@@ -212,6 +222,9 @@ impl<'a, D: Digest + 'a, A: Allocator + Clone + 'a> Edge<'a, D, A> {
             (S.reads src.new) (log_in self.old) (pairs_in_turn D.digest_of
             (nodes_given (S.gives src.old)) (λ k. depth) (entry at (pair_of key.now value.entry))
             (edge_in self.old) (log_in self.old))) }
+        ensures halted { IfErr result (IsHaltedFrom self.old self.new (pairs_in_turn D.digest_of
+            (nodes_given (S.gives src.old)) (λ k. depth) (entry at (pair_of key.now value.entry))
+            (edge_in self.old) (log_in self.old))) }
     {
         let Some(change) = at else {
             return self.pair(src, usize::from(depth), key, value);
@@ -241,6 +254,9 @@ impl<'a, D: Digest + 'a, A: Allocator + Clone + 'a> Edge<'a, D, A> {
         ensures same { S.gives src.new ≡ S.gives src.old }
         ensures stopped { IfErr result (IsStopped (S.gives src.old) (S.reads src.old, self.old.left)
             (S.reads src.new) (log_in self.old) (task_does D.digest_of
+            (nodes_given (S.gives src.old)) (layer_of D.digest_of B) layers (task_of task.entry)
+            (edge_in self.old) (log_in self.old))) }
+        ensures halted { IfErr result (IsHaltedFrom self.old self.new (task_does D.digest_of
             (nodes_given (S.gives src.old)) (layer_of D.digest_of B) layers (task_of task.entry)
             (edge_in self.old) (log_in self.old))) }
     {
@@ -282,6 +298,9 @@ impl<'a, D: Digest + 'a, A: Allocator + Clone + 'a> Edge<'a, D, A> {
         ensures same { S.gives src.new ≡ S.gives src.old }
         ensures stopped { IfErr result (IsStopped (S.gives src.old) (S.reads src.old, self.old.left)
             (S.reads src.new) (log_in self.old) (node_does D.digest_of
+            (nodes_given (S.gives src.old)) (layer_of D.digest_of B) layers layer depth changes.now
+            rows.entry.rest (edge_in self.old) (log_in self.old))) }
+        ensures halted { IfErr result (IsHaltedFrom self.old self.new (node_does D.digest_of
             (nodes_given (S.gives src.old)) (layer_of D.digest_of B) layers layer depth changes.now
             rows.entry.rest (edge_in self.old) (log_in self.old))) }
     {

@@ -1,4 +1,4 @@
-use Rattle.std.proofs.Common.{◌+◌, ◌-◌, [], ◌∷◌, ◌++◌, Some, sym, ap, ◌∙◌, subst, arith, length, length-append, suc, drop, ◌≡◌}
+use Rattle.std.proofs.Common.{◌+◌, ◌-◌, [], ◌∷◌, ◌++◌, Some, sym, ap, ◌∙◌, subst, arith, length, length-append, suc, drop, take, ◌≡◌}
 use Rattle.lookups.specs.Steps.{nodes_given}
 use Rattle.edit.specs.Budgets.{Budget}
 use Rattle.edit.specs.States.{log_in, shapes_coming, IsOnTheWay, IsWaiting, IsComing}
@@ -12,6 +12,9 @@ use Rattle.edit.specs.Stops.{IsStopped}
 use Rattle.edit.specs.declared.faults.Fault.TheVariants.{TooDeep, NoMemory}
 use Rattle.edit.proofs.Stopping.{from-stopped}
 use Rattle.edit.proofs.Arriving.{way-memory, way-ended, way-stopped}
+use Rattle.edit.specs.Edges.{around}
+use Rattle.edit.specs.Halts.{IsHaltedFrom}
+use Rattle.edit.proofs.Halts.{way-halted, way-deep}
 use Rattle.edit.proofs.edge.Edge.descend.Goals as goal
 
 pub returns-in_default-2-clause-arrived : goal.returns-in_default-2-clause-arrived
@@ -176,3 +179,44 @@ returns-in_err-push-clause-stopped g c all w =
     c.in_ok-rows.ensures.counted)
     (way-memory gives digest shows all a c.args.depth (at.left - 1) (first_link node) (fs ++ (node ∷ [])) new.levels.items
     new.rest (log_in new) next))
+
+pub returns-then-left-eq0-clause-halted : goal.returns-then-left-eq0-clause-halted
+returns-then-left-eq0-clause-halted g c all w =
+    let digest = g.D.Digest.digest_of in
+    let gives = g.S.Source.gives c.args.src.now in
+    let shows = nodes_given gives in
+    let at = c.loop-next in
+    let old = c.args.self.now in
+    let fs = shapes_coming at.coming.items in
+    let begun = subst (λ ss. IsOnTheWay digest shows all c.args.depth c.args.layers (Some c.args.cid) ss old.levels.items old.rest
+    (log_in old)) (sym (ap shapes_coming c.new-coming.ensures.items)) w in
+    let way = subst (λ l. IsOnTheWay digest shows all c.args.depth at.left l fs at.self.levels.items at.self.rest (log_in at.self))
+    c.in-Some.is (at.invariant.way all begun) in
+    way-deep old at.self digest shows all c.args.depth at.left c.in-Some.cid fs (omega (arith, c.if-left-eq0.true)) way
+    at.invariant.counted.left
+
+pub returns-in_err-rows-clause-halted : goal.returns-in_err-rows-clause-halted
+returns-in_err-rows-clause-halted g c all w =
+    let p = err_from_is_err_and c.from_residual-in_err-rows.result c.from_residual-in_err-rows.ensures.1 in
+    let digest = g.D.Digest.digest_of in
+    let gives = g.S.Source.gives c.args.src.now in
+    let shows = nodes_given gives in
+    let at = c.loop-next in
+    let old = c.args.self.now in
+    let fs = shapes_coming at.coming.items in
+    let begun = subst (λ ss. IsOnTheWay digest shows all c.args.depth c.args.layers (Some c.args.cid) ss old.levels.items old.rest
+    (log_in old)) (sym (ap shapes_coming c.new-coming.ensures.items)) w in
+    let way = subst (λ l. IsOnTheWay digest shows all c.args.depth at.left l fs at.self.levels.items at.self.rest (log_in at.self))
+    c.in-Some.is (at.invariant.way all begun) in
+    let new = c.place.new.self in
+    let d = c.args.depth + c.len.result in
+    let n = coming-count at.coming.items in
+    let m = at.left - 1 in
+    let f = c.in_err-rows.field-0.0 in
+    let below = edge_of (drop d at.self.levels.items) at.self.rest in
+    let placed = subst (λ gv. IsHaltedFrom at.self new (around digest c.args.depth (take d at.self.levels.items) fs
+    (parting digest (nodes_given gv) (suc m) (Some c.in-Some.cid) below (log_in at.self))) f) at.invariant.same
+    (c.in_err-rows.ensures.halted m c.args.depth fs) in
+    rw (p.1, p.2)
+    (way-halted old at.self new digest shows all c.args.depth at.left m d c.in-Some.cid fs f
+    (omega (arith, c.if-left-eq0.false)) (omega (arith, n, c.len.ensures)) way at.invariant.counted.left placed)

@@ -12,6 +12,8 @@ use Rattle.edit.proofs.Placing.{none-left}
 use Rattle.std.proofs.lemmas.Result.{err_from_is_err_and}
 use Rattle.edit.specs.Stops.{IsStopped, IsRefused}
 use Rattle.edit.proofs.Halting.{gap-none, gap-subtree, gap-unread, gap-refused}
+use Rattle.edit.specs.Halts.{IsHaltedFrom}
+use Rattle.edit.proofs.Halts.{gap-none-halted, gap-subtree-halted, gap-unread-halted, gap-deep}
 use Rattle.edit.proofs.edge.Edge.fill.Goals as goal
 
 pub returns-in_default-clause-done : goal.returns-in_default-clause-done
@@ -132,3 +134,40 @@ returns-in_err-go_on-clause-stopped g c =
     c.in_ok-rows.ensures.counted
     (subst (λ t. IsRefused (node_does digest shows layer n k d cs node t (log_in mid)) fault) same
     (c.in_err-go_on.ensures.fault digest shows layer n)))
+
+pub returns-in_err-puts-clause-halted : goal.returns-in_err-puts-clause-halted
+returns-in_err-puts-clause-halted g c =
+    let p = err_from_is_err_and c.from_residual.result c.from_residual.ensures.1 in
+    let digest = g.D.Digest.digest_of in
+    rw (p.1, p.2)
+    (gap-none-halted digest (nodes_given (g.S.Source.gives c.args.src.now)) c.args.self.now c.puts.new.self
+    (layer_of digest g.row.B) c.args.layers (gap_of c.args.gap) c.in_err-puts.field-0.0 c.in_default.is
+    c.in_err-puts.ensures.halted)
+
+pub returns-in_err-subtree-clause-halted : goal.returns-in_err-subtree-clause-halted
+returns-in_err-subtree-clause-halted g c =
+    let p = err_from_is_err_and c.from_residual-in_err-subtree.result c.from_residual-in_err-subtree.ensures.1 in
+    let digest = g.D.Digest.digest_of in
+    let shows = nodes_given (g.S.Source.gives c.args.src.now) in
+    let old = c.args.self.now in
+    let new = c.subtree.new.self in
+    let f = c.in_err-subtree.field-0.0 in
+    let none : length c.args.gap.changes.now ≡ 0 = omega (arith, c.if-count-eq0.true) in
+    let one : c.args.gap.layer ≡ suc (c.args.gap.layer - 1) = omega (arith, c.if-gap-eq0.false) in
+    rw (p.1, p.2)
+    (gap-subtree-halted digest shows old new (layer_of digest g.row.B) c.args.layers (c.args.gap.layer - 1) (gap_of c.args.gap)
+    c.in-Some.cid f c.in-Some.is one (none-left c.args.gap.changes.now none)
+    (subst (λ d. IsHaltedFrom old new (subtreeing digest shows c.args.gap.layer d c.in-Some.cid (edge_in old) (log_in old)) f)
+    c.from.ensures c.in_err-subtree.ensures.halted))
+
+pub returns-in_err-rows-clause-halted : goal.returns-in_err-rows-clause-halted
+returns-in_err-rows-clause-halted g c =
+    let p = err_from_is_err_and c.from_residual-in_err-rows.result c.from_residual-in_err-rows.ensures.1 in
+    let digest = g.D.Digest.digest_of in
+    let gives = g.S.Source.gives c.args.src.now in
+    let some : 0 < length c.args.gap.changes.now = omega (arith, c.if-count-eq0.false) in
+    let one : c.args.gap.layer ≡ suc (c.args.gap.layer - 1) = omega (arith, c.if-gap-eq0.false) in
+    rw (p.1, p.2)
+    (gap-unread-halted digest (nodes_given gives) c.args.self.now c.rows.new.self (layer_of digest g.row.B) c.args.layers gives
+    (c.args.gap.layer - 1) (gap_of c.args.gap) c.in-Some.cid c.in_err-rows.field-0.0 c.in-Some.is one some
+    c.in_err-rows.ensures.still c.in_err-rows.ensures.unread.cause)

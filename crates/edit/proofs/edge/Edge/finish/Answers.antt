@@ -8,6 +8,7 @@ use Rattle.edit.proofs.Making.{shapes-count}
 use Rattle.edit.proofs.Topping.{topped-all, empty-top, pruned-top, ended}
 use Rattle.std.proofs.lemmas.Result.{err_from_is_err_and}
 use Rattle.edit.proofs.Ending.{top-stopped, top-memory, empty-stopped, pruned-stopped}
+use Rattle.edit.proofs.Halts.{top-halted}
 use Rattle.edit.proofs.edge.Edge.finish.Goals as goal
 
 pub returns-then-depth-len-clause-ended : goal.returns-then-depth-len-clause-ended
@@ -96,3 +97,13 @@ returns-in_err-root-3-clause-stopped g c =
     (g.S.Source.reads c.prune.new.src) c.args.layers c.highest-depth.result old.levels.items old.rest c.in-Some.cid (log_in old)
     c.in_err-root-3.field-0.0 depth (omega (arith, c.if-depth-len.false, c.len.ensures)) c.in-Some.is
     c.in_err-root-3.ensures.stopped)
+
+pub returns-in_err-root-3-clause-halted : goal.returns-in_err-root-3-clause-halted
+returns-in_err-root-3-clause-halted g c =
+    let p = err_from_is_err_and c.from_residual-in_err-root-3.result c.from_residual-in_err-root-3.ensures.1 in
+    let old = c.args.self.now in
+    let depth : c.highest-depth.result ≡ highest_of old.levels.items = c.highest-depth.ensures.depth ∙ ap highest_of c.deref.ensures.value in
+    rw (p.1, p.2)
+    (top-halted g.D.Digest.digest_of (nodes_given (g.S.Source.gives c.args.src.now)) old c.prune.new.self c.args.layers
+    c.highest-depth.result c.in-Some.cid c.in_err-root-3.field-0.0 depth (omega (arith, c.if-depth-len.false, c.len.ensures))
+    c.in-Some.is c.in_err-root-3.ensures.halted)

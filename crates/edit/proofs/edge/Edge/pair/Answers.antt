@@ -1,13 +1,16 @@
-use Rattle.std.proofs.Common.{sym, ap, ◌∙◌, subst, drop, Ok}
+use Rattle.std.proofs.Common.{sym, ap, ◌∙◌, subst, drop, zero, Ok}
 use Rattle.lookups.specs.Steps.{nodes_given}
 use Rattle.rows.specs.Drafts.{pair_of}
 use Rattle.edit.specs.Edges.{edge_of}
 use Rattle.edit.specs.States.{edge_in, log_in, IsOpenAt}
 use Rattle.edit.proofs.Pairing.{paired}
 use Rattle.std.proofs.lemmas.Result.{err_from_is_err_and}
-use Rattle.batch_laws.specs.Links.{opening}
+use Rattle.batch_laws.specs.Links.{opening, pairing}
 use Rattle.edit.specs.Stops.{IsStopped, open_edge}
 use Rattle.edit.proofs.Refusing.{pair-closed, pair-unopened, pair-refused}
+use Rattle.edit.specs.Halts.{most_in, IsHalted}
+use Rattle.edit.proofs.Within.{pair-within}
+use Rattle.edit.proofs.Halts.{pair-halted, more-halted}
 use Rattle.edit.proofs.edge.Edge.pair.Goals as goal
 
 pub returns-clause-paired : goal.returns-clause-paired
@@ -67,3 +70,36 @@ returns-in_err-add_pair-clause-stopped g c =
     c.in_ok-open_to.ensures.counted c.in_ok-open_at.ensures.counted
     (subst (λ gv. IsOpenAt (nodes_given gv) c.args.depth above.levels.items above.rest (log_in above) mid.levels.items mid.rest
     (log_in mid)) c.open_to.ensures.same c.in_ok-open_at.ensures.opened) c.in_err-add_pair.ensures.fault)
+
+pub returns-in_err-open_to-clause-halted : goal.returns-in_err-open_to-clause-halted
+returns-in_err-open_to-clause-halted g c =
+    let p = err_from_is_err_and c.from_residual.result c.from_residual.ensures.1 in
+    let digest = g.D.Digest.digest_of in
+    let shows = nodes_given (g.S.Source.gives c.args.src.now) in
+    let old = c.args.self.now in
+    let new = c.open_to.new.self in
+    let e = pair_of c.args.key.now c.args.value in
+    rw (p.1, p.2)
+    (subst (λ o. IsHalted (most_in old) (edge_in new) (log_in new) o c.in_err-open_to.field-0.0)
+    (sym (pair-within digest shows c.args.depth e (edge_in old) (log_in old)))
+    (c.in_err-open_to.ensures.halted (pairing digest shows zero e)))
+
+pub returns-in_err-open_at-clause-halted : goal.returns-in_err-open_at-clause-halted
+returns-in_err-open_at-clause-halted g c =
+    let p = err_from_is_err_and c.from_residual-in_err-open_at.result c.from_residual-in_err-open_at.ensures.1 in
+    let digest = g.D.Digest.digest_of in
+    let shows = nodes_given (g.S.Source.gives c.args.src.now) in
+    let old = c.args.self.now in
+    let above = c.open_to.new.self in
+    let new = c.open_at.new.self in
+    let e = pair_of c.args.key.now c.args.value in
+    let fault = c.in_err-open_at.field-0.0 in
+    let below = edge_of (drop c.args.depth above.levels.items) above.rest in
+    rw (p.1, p.2)
+    (more-halted (g.S.Source.reads c.args.src.now, old.left) (g.S.Source.reads c.open_to.new.src, above.left) (log_in old)
+    (log_in above) (edge_in new) (log_in new) (pairing digest shows c.args.depth e (edge_in old) (log_in old)) fault
+    c.in_ok-open_to.ensures.counted
+    (pair-halted above new digest shows c.args.depth e (edge_in old) (log_in old) fault
+    c.in_ok-open_to.ensures.keeps c.in_ok-open_to.ensures.long c.in_err-open_at.ensures.still
+    (subst (λ gv. IsHalted (most_in above) below (log_in above) (open_edge (opening (nodes_given gv) below (log_in above))) fault)
+    c.open_to.ensures.same c.in_err-open_at.ensures.halted)))

@@ -14,6 +14,8 @@ use Rattle.edit.specs.States.{edge_in, log_in}
 use Rattle.edit.specs.Stops.{IsStopped, fault_of}
 use Rattle.edit.proofs.Walking.{done-pair}
 use Rattle.edit.proofs.Halting.{entry-stopped, entry-refused}
+use Rattle.edit.specs.Halts.{IsHaltedFrom}
+use Rattle.edit.proofs.Halts.{entry-halted}
 use Rattle.edit.proofs.edge.Edge.perform.Goals as goal
 
 pub returns-in_err-entry-in-Pair-clause-stopped : goal.returns-in_err-entry-in-Pair-clause-stopped
@@ -92,3 +94,25 @@ returns-in_ok-go_on-in-Pair-clause-done g c =
     ≡ Ok (edge_in mid, log_in mid)) same c.in_ok-entry-in-Pair.ensures.put)
     (subst (λ e. more ≡ values ++ value_met f.at e) same c.in_ok-entry-in-Pair.ensures.previous)
     c.in_ok-go_on-in-Pair.ensures.gone))
+
+pub returns-in_err-entry-in-Pair-clause-halted : goal.returns-in_err-entry-in-Pair-clause-halted
+returns-in_err-entry-in-Pair-clause-halted g c =
+    let p = err_from_is_err_and c.from_residual-in_err-entry-in-Pair.result c.from_residual-in_err-entry-in-Pair.ensures.1 in
+    let digest = g.D.Digest.digest_of in
+    let shows = nodes_given (g.S.Source.gives c.args.src.now) in
+    let layer = layer_of digest g.row.B in
+    let n = c.args.layers in
+    let old = c.args.self.now in
+    let new = c.entry.new.self in
+    let f = later_of c.in-Pair.next in
+    let given : Pair = (c.key.result.now, bytes_of c.from.result) in
+    let same : given ≡ f.pair = ap (λ k. (k, bytes_of c.from.result)) c.key.ensures
+    ∙ ap (λ v. (c.in-Pair.next.rest.before, v)) c.from.ensures in
+    let fault = c.in_err-entry-in-Pair.field-0.0 in
+    rw (p.1, p.2)
+    (subst (λ t. IsHaltedFrom old new (task_does digest shows layer n t (edge_in old) (log_in old)) fault)
+    (sym (ap task_of c.in-Pair.is))
+    (entry-halted digest shows old new layer n f fault
+    (subst (λ e. IsHaltedFrom old new
+    (pairs_in_turn digest shows (λ key. f.depth) (entry f.at e) (edge_in old) (log_in old)) fault) same
+    c.in_err-entry-in-Pair.ensures.halted)))

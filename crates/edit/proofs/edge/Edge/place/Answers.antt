@@ -7,6 +7,10 @@ use Rattle.edit.proofs.Subtrees.{taken-open, taken-some, coming}
 use Rattle.std.proofs.lemmas.Result.{err_from_is_err_and}
 use Rattle.edit.specs.Stops.{IsUnread}
 use Rattle.edit.proofs.Arriving.{part-unopened, part-unread}
+use Rattle.batch_laws.specs.Links.{opening}
+use Rattle.edit.specs.Stops.{IsUnshown, open_edge}
+use Rattle.edit.specs.Halts.{most_in, IsHalted}
+use Rattle.edit.proofs.Halts.{place-unopened, place-unread}
 use Rattle.edit.proofs.edge.Edge.place.Goals as goal
 use Rattle.edit.proofs.edge.Edge.place.Goals.{else-len-depth-via-then-len-depth+else-is_none, else-len-depth-via-else-len-depth}
 
@@ -70,3 +74,36 @@ returns-in_err-rows-clause-stopped g c k =
     c.in_ok-open_at.ensures.counted
     (subst (λ gv. IsUnread gv (g.S.Source.reads c.open_at.new.src, c.open_at.new.self.left) (g.S.Source.reads c.rows.new.src)
     c.args.cid (nodes_given gv c.args.cid) f) c.open_at.ensures.same c.in_err-rows.ensures.unread))
+
+pub returns-in_err-open_at-clause-halted : goal.returns-in_err-open_at-clause-halted
+returns-in_err-open_at-clause-halted g c k above fs =
+    let p = err_from_is_err_and c.from_residual.result c.from_residual.ensures.1 in
+    let old = c.args.self.now in
+    let taken : is_clear (edge_of (drop c.args.depth old.levels.items) old.rest) ≡ false = elim c.else-len-depth.branch [
+      | else-len-depth-via-then-len-depth+else-is_none w ↦
+          taken-some c.args.depth old.levels.items old.rest w.is_none.result w.is_none.ensures w.if-is_none.false
+      | else-len-depth-via-else-len-depth w ↦
+          taken-open c.args.depth old.levels.items old.rest (omega (arith, w.if-len-depth.false, c.len.ensures))
+    ] in
+    rw (p.1, p.2)
+    (place-unopened old c.open_at.new.self g.D.Digest.digest_of (nodes_given (g.S.Source.gives c.args.src.now)) above k
+    c.args.depth fs c.args.cid c.in_err-open_at.field-0.0 taken c.in_err-open_at.ensures.still c.in_err-open_at.ensures.halted)
+
+pub returns-in_err-rows-clause-halted : goal.returns-in_err-rows-clause-halted
+returns-in_err-rows-clause-halted g c k above fs =
+    let p = err_from_is_err_and c.from_residual-in_err-rows.result c.from_residual-in_err-rows.ensures.1 in
+    let gives = g.S.Source.gives c.args.src.now in
+    let old = c.args.self.now in
+    let mid = c.open_at.new.self in
+    let f = c.in_err-rows.field-0.0 in
+    let taken : is_clear (edge_of (drop c.args.depth old.levels.items) old.rest) ≡ false = elim c.else-len-depth.branch [
+      | else-len-depth-via-then-len-depth+else-is_none w ↦
+          taken-some c.args.depth old.levels.items old.rest w.is_none.result w.is_none.ensures w.if-is_none.false
+      | else-len-depth-via-else-len-depth w ↦
+          taken-open c.args.depth old.levels.items old.rest (omega (arith, w.if-len-depth.false, c.len.ensures))
+    ] in
+    rw (p.1, p.2)
+    (place-unread gives old mid c.rows.new.self g.D.Digest.digest_of (nodes_given gives) above k c.args.depth fs c.args.cid f
+    taken c.in_ok-open_at.ensures.opened c.in_ok-open_at.ensures.counted.left c.in_err-rows.ensures.still
+    (subst (λ gv. IsUnshown gv mid.left c.args.cid (nodes_given gv c.args.cid) f) c.open_at.ensures.same
+    c.in_err-rows.ensures.unread.cause))

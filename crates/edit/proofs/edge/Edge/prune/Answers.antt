@@ -10,6 +10,8 @@ use Rattle.std.proofs.lemmas.Result.{err_from_is_err_and}
 use Rattle.edit.specs.Stops.{IsUnread, at_top}
 use Rattle.edit.proofs.Stopping.{from-stopped}
 use Rattle.edit.proofs.Ending.{prune-stopped, look-stopped}
+use Rattle.edit.specs.Stops.{IsUnshown}
+use Rattle.edit.proofs.Halts.{look-halted, prune-deep}
 use Rattle.edit.proofs.edge.Edge.prune.Goals as goal
 
 pub returns-in_default-clause-top : goal.returns-in_default-clause-top
@@ -60,3 +62,18 @@ returns-in_err-next-clause-stopped g c =
     at.invariant.counted
     (look-stopped gives shows m a at.left (at.left - 1) at.at (log_in at.self) f (omega (arith, c.loop-left-test.true))
     (subst (λ gv. IsUnread gv m a at.at (nodes_given gv at.at) f) at.invariant.same c.in_err-next.ensures.unread))))
+
+pub returns-in_err-next-clause-halted : goal.returns-in_err-next-clause-halted
+returns-in_err-next-clause-halted g c =
+    let p = err_from_is_err_and c.from_residual.result c.from_residual.ensures.1 in
+    let gives = g.S.Source.gives c.args.src.now in
+    let shows = nodes_given gives in
+    let at = c.loop-left in
+    let old = c.args.self.now in
+    let f = c.in_err-next.field-0.0 in
+    rw (p.1, p.2)
+    (look-halted g.D.Digest.digest_of shows gives old at.self c.look.new.self at.left (at.left - 1) at.at
+    (pruning shows c.args.layers c.args.cid (log_in old)) f (omega (arith, c.loop-left-test.true)) at.invariant.is
+    at.invariant.counted.left c.in_err-next.ensures.still
+    (subst (λ gv. IsUnshown gv at.self.left at.at (nodes_given gv at.at) f) at.invariant.same
+    c.in_err-next.ensures.unread.cause))

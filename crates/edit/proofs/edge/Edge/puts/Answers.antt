@@ -14,6 +14,8 @@ use Rattle.edit.proofs.Putting.{put-step, none-step}
 use Rattle.std.proofs.lemmas.Result.{err_from_is_err_and}
 use Rattle.edit.specs.Stops.{IsStopped}
 use Rattle.edit.proofs.Halting.{puts-memory, puts-stopped}
+use Rattle.edit.specs.Halts.{IsHaltedFrom}
+use Rattle.edit.proofs.Halts.{puts-halted}
 use Rattle.edit.proofs.edge.Edge.puts.Goals as goal
 
 pub loop-change-preserved : goal.loop-change-preserved
@@ -95,3 +97,23 @@ returns-in_err-put_one-clause-stopped g c =
     (subst (λ gv. IsStopped gv m a (log_in at.self)
     (pairs_in_turn digest (nodes_given gv) depth (if_put x.0 x.1 []) (edge_in at.self) (log_in at.self)) f) at.invariant.same
     c.in_err-put_one.ensures.stopped))
+
+pub returns-in_err-put_one-clause-halted : goal.returns-in_err-put_one-clause-halted
+returns-in_err-put_one-clause-halted g c =
+    let p = err_from_is_err_and c.from_residual-in_err-put_one.result c.from_residual-in_err-put_one.ensures.1 in
+    let digest = g.D.Digest.digest_of in
+    let shows = nodes_given (g.S.Source.gives c.args.src.now) in
+    let depth = depth_of (layer_of digest g.row.B) c.args.layers in
+    let at = c.loop-change in
+    let old = c.args.self.now in
+    let new = c.put_one.new.self in
+    let cs = c.args.changes.now in
+    let i = at.change-index in
+    let x = c.change-item.result in
+    let f = c.in_err-put_one.field-0.0 in
+    rw (p.1, p.2)
+    (puts-halted digest shows old at.self new depth (pairs_in_turn digest shows depth (puts cs) (edge_in old) (log_in old)) cs i x
+    f (cut-here cs i x (omega arith) c.change-item.is) at.invariant.put at.invariant.counted.left
+    (subst (λ gv. IsHaltedFrom at.self new
+    (pairs_in_turn digest (nodes_given gv) depth (if_put x.0 x.1 []) (edge_in at.self) (log_in at.self)) f) at.invariant.same
+    c.in_err-put_one.ensures.halted))

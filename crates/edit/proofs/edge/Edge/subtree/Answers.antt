@@ -1,6 +1,6 @@
 use Rattle.std.proofs.Common.{sym, subst, Some, []}
 use Rattle.lookups.specs.Steps.{nodes_given}
-use Rattle.batch_laws.specs.Links.{subtreeing}
+use Rattle.batch_laws.specs.Links.{parting, subtreeing}
 use Rattle.edit.specs.Budgets.{Budget}
 use Rattle.edit.specs.States.{edge_in, log_in, IsOnTheWay, shapes_coming}
 use Rattle.edit.proofs.Subtrees.{way-begins}
@@ -9,6 +9,8 @@ use Rattle.edit.specs.Stops.{IsStopped, fault_of}
 use Rattle.edit.proofs.Pairing.{counted-then}
 use Rattle.edit.proofs.Stopping.{from-stopped}
 use Rattle.edit.proofs.Arriving.{subtree-unopened, arrived-stopped}
+use Rattle.edit.specs.Halts.{most_in, IsHalted, IsHaltedFrom}
+use Rattle.edit.proofs.Within.{subtree-within}
 use Rattle.edit.proofs.edge.Edge.subtree.Goals as goal
 
 pub returns-clause-grown : goal.returns-clause-grown
@@ -78,3 +80,32 @@ returns-in_err-join-clause-stopped g c =
     (counted-then b m a (log_in old) (log_in mid) (log_in now) c.in_ok-open_to.ensures.counted c.in_ok-coming.ensures.counted)
     (arrived-stopped gives digest all a c.args.depth (shapes_coming c.in_ok-coming.coming.items) now.levels.items now.rest
     (log_in now) f arrived (c.in_err-join.ensures.fault all arrived)))
+
+pub returns-in_err-open_to-clause-halted : goal.returns-in_err-open_to-clause-halted
+returns-in_err-open_to-clause-halted g c =
+    let p = err_from_is_err_and c.from_residual.result c.from_residual.ensures.1 in
+    let digest = g.D.Digest.digest_of in
+    let shows = nodes_given (g.S.Source.gives c.args.src.now) in
+    let old = c.args.self.now in
+    rw (p.1, p.2)
+    (subst (λ o. IsHaltedFrom old c.open_to.new.self o c.in_err-open_to.field-0.0)
+    (sym (subtree-within digest shows c.args.layers c.args.depth c.args.cid (edge_in old) (log_in old)))
+    (c.in_err-open_to.ensures.halted (parting digest shows c.args.layers (Some c.args.cid))))
+
+pub returns-in_err-coming-clause-halted : goal.returns-in_err-coming-clause-halted
+returns-in_err-coming-clause-halted g c =
+    let p = err_from_is_err_and c.from_residual-in_err-coming.result c.from_residual-in_err-coming.ensures.1 in
+    let digest = g.D.Digest.digest_of in
+    let shows = nodes_given (g.S.Source.gives c.args.src.now) in
+    let old = c.args.self.now in
+    let mid = c.open_to.new.self in
+    let new = c.descend.new.self in
+    let f = c.in_err-coming.field-0.0 in
+    let all = subtreeing digest shows c.args.layers c.args.depth c.args.cid (edge_in old) (log_in old) in
+    let way = way-begins digest shows c.args.layers c.args.depth c.args.cid (edge_in old) (log_in old) mid.levels.items mid.rest
+    (log_in mid) c.in_ok-open_to.ensures.keeps c.in_ok-open_to.ensures.long in
+    rw (p.1, p.2)
+    (subst (λ most. IsHalted most (edge_in new) (log_in new) all f) c.in_ok-open_to.ensures.counted.left
+    (c.in_err-coming.ensures.halted all
+    (subst (λ gv. IsOnTheWay digest (nodes_given gv) all c.args.depth c.args.layers (Some c.args.cid) [] mid.levels.items
+    mid.rest (log_in mid)) (sym c.open_to.ensures.same) way)))

@@ -12,6 +12,8 @@ use Rattle.edit.proofs.Walking.{walk-more, walk-meets, walk-smaller, walked-all,
 use Rattle.std.proofs.lemmas.Result.{err_from_is_err_and}
 use Rattle.edit.specs.Stops.{IsStopped}
 use Rattle.edit.proofs.Halting.{node-memory, node-refused, walk-begun, task-stopped}
+use Rattle.edit.specs.Halts.{IsHaltedFrom}
+use Rattle.edit.proofs.Halts.{task-halted}
 use Rattle.edit.proofs.edge.Edge.walk.Goals as goal
 
 pub loop-task-preserved : goal.loop-task-preserved
@@ -166,3 +168,38 @@ returns-in_err-perform-clause-stopped g c =
     (subst (λ gv. IsStopped gv m a (log_in at.self)
     (task_does digest (nodes_given gv) layer n f (edge_in at.self) (log_in at.self)) fault) at.invariant.same
     c.in_err-perform.ensures.stopped))
+
+pub returns-in_err-perform-clause-halted : goal.returns-in_err-perform-clause-halted
+returns-in_err-perform-clause-halted g c =
+    let p = err_from_is_err_and c.from_residual-in_err-perform.result c.from_residual-in_err-perform.ensures.1 in
+    let digest = g.D.Digest.digest_of in
+    let gives = g.S.Source.gives c.args.src.now in
+    let shows = nodes_given gives in
+    let layer = layer_of digest g.row.B in
+    let n = c.args.layers in
+    let old = c.args.self.now in
+    let mid = c.go_on.new.self in
+    let at = c.loop-task in
+    let new = c.perform.new.self in
+    let start = agenda_of c.go_on.new.agenda.items in
+    let gs = agenda_of c.pop.new.self.items in
+    let f = task_of c.in-Some.task in
+    let fault = c.in_err-perform.field-0.0 in
+    let all = agenda_does digest shows layer n start (Ok (edge_in mid, log_in old)) in
+    let does = subst (λ (l : Log). agenda_does digest shows layer n start (Ok (edge_in mid, l))
+    ≡ agenda_does digest shows layer n (agenda_of at.agenda.items) (Ok (edge_in at.self, log_in at.self)))
+    c.go_on.ensures.log at.invariant.does in
+    let b : Budget = (g.S.Source.reads c.args.src.now, old.left) in
+    let m : Budget = (g.S.Source.reads at.src, at.self.left) in
+    let counted = counted-from b (g.S.Source.reads c.args.src.now, mid.left) m (log_in old) (log_in mid) (log_in at.self)
+    c.go_on.ensures.log c.go_on.ensures.budget refl at.invariant.counted in
+    rw (p.1, p.2)
+    (task-halted digest shows old at.self new layer n
+    (node_does digest shows layer n c.args.layer c.args.depth c.args.changes.now c.args.rows.rest (edge_in old) (log_in old))
+    all (agenda_of at.agenda.items) gs f fault
+    (walk-begun gives digest shows layer n c.args.layer c.args.depth c.args.changes.now c.args.rows.rest
+    (agenda_of c.new-agenda.result.items) start (edge_in old) (edge_in mid) (log_in old) c.in_ok-go_on.ensures.gone
+    (ap agenda_of c.new-agenda.ensures.items)) does
+    (agenda-more at.agenda.items c.pop.new.self.items c.in-Some.task c.in-Some.ensures.items) counted.left
+    (subst (λ gv. IsHaltedFrom at.self new (task_does digest (nodes_given gv) layer n f (edge_in at.self) (log_in at.self)) fault)
+    at.invariant.same c.in_err-perform.ensures.halted))
