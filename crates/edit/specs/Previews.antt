@@ -1,5 +1,5 @@
 -- What a batch comes to, with the nodes that it reads.
-use Rattle.std.specs.Prelude.{◌≡◌, ⊤, ℕ, List, ◌++◌, map, Option, Some, None, Ok, Result, IfOk, IfErr, IsSome}
+use Rattle.std.specs.Prelude.{◌≡◌, ⊤, ℕ, List, ◌++◌, map, Option, Some, None, Ok, Err, Result, IfOk, IfErr, IsSome}
 use Rattle.std.specs.Arc.{arc_value}
 use Rattle.std.specs.declared.sync.Arc.{Arc}
 use Rattle.spec.specs.Tree.{Pair}
@@ -13,6 +13,7 @@ use Rattle.batch_laws.specs.Batch.{Change, changed}
 use Rattle.batch_laws.specs.Links.{LinkTooDeep, Log, NotShown, Step, StopsAt, Top}
 use Rattle.batch_laws.specs.Previous.{previous_top, values}
 use Rattle.edit.specs.Batches.{answer_of, most_of, nodes_read}
+use Rattle.edit.specs.Halts.{IsReached}
 use Rattle.edit.specs.Stops.{IsUnreached, at_top}
 use Rattle.edit.specs.declared.previews.BatchPreview.{BatchPreview}
 use Rattle.edit.specs.declared.outcome.EditFault.{EditFault}
@@ -51,6 +52,23 @@ abbrev pub IsPreviewLack : {D A : Type 0} → (List ℕ → List ℕ) → ℕ �
     → List Change → Result (BatchPreview D A) (EditFault D A) → Type 0
 IsPreviewLack digest bits gives root cs result =
     IfErr result (IsPreviewReason gives (most_of digest bits gives cs root) (answer_of digest bits gives cs root))
+
+-- As far as the batch comes, it reads no more nodes, and what it writes has keys of the grammar: where there is an answer, and where
+-- the source is at fault.
+abbrev pub IsReachedHere : {X D A : Type 0} → ℕ → Step Top → Result X (EditFault D A) → Type 0
+IsReachedHere most answer (Ok x) = IsReached most answer
+IsReachedHere most answer (Err (Missing c)) = IsReached most answer
+IsReachedHere most answer (Err (BadNode c)) = IsReached most answer
+IsReachedHere most answer (Err TooDeep) = IsReached most answer
+IsReachedHere most answer (Err NotTree) = ⊤
+IsReachedHere most answer (Err NoSuchKey) = ⊤
+IsReachedHere most answer (Err (Clash pair)) = ⊤
+IsReachedHere most answer (Err NoMemory) = ⊤
+
+abbrev pub IsPreviewReached : {D A : Type 0} → (List ℕ → List ℕ) → ℕ → (List ℕ → Option (Arc (List ℕ) A)) → List ℕ
+    → List Change → Result (BatchPreview D A) (EditFault D A) → Type 0
+IsPreviewReached digest bits gives root cs result =
+    IsReachedHere (most_of digest bits gives cs root) (answer_of digest bits gives cs root) result
 
 -- ---- over a source that has a tree
 

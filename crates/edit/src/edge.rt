@@ -5,6 +5,8 @@ ghost use Rattle.lookups.specs.Steps.{nodes_given};
 ghost use Rattle.rows.specs.Drafts.{pair_of};
 ghost use Rattle.rows.specs.Entries.{shape_of};
 ghost use Rattle.batch_laws.specs.Links.{Rows, LinkEdge, LinkClear, Log, ask, add_row, opening, closing, link_edge, pairing, Step};
+ghost use Rattle.edit_laws.specs.Lawful.{HasKeys};
+ghost use Rattle.batch_laws.specs.Written.{AllGoOn, AreWritten};
 ghost use Rattle.edit.specs.Edges.{edge_of, within};
 ghost use Rattle.edit.specs.Stops.{IsRefused, IsStopped, IsUnread, IsOnward, all_closed, open_edge};
 ghost use Rattle.edit.specs.Halts.{most_in, IsHalted, IsHaltedFrom, IsStill};
@@ -35,7 +37,27 @@ pub(crate) struct Edge<'a, D: Digest, A: Allocator> {
     pub(crate) left: u128,
 }
 
+/// Keys of the grammar may go on in each of these layers. This is a statement for proofs alone.
+fn go_on<A: Allocator + Clone>(levels: &[Level<'_, A>])
+    ensures { (rest : Option (List ℕ)) → AllGoOn HasKeys (edge_of levels.now rest) }
+{
+    let [first, others @ ..] = levels else {
+        return;
+    };
+    first.goes_on();
+    go_on(others);
+}
+
 impl<'a, D: Digest, A: Allocator + Clone> Edge<'a, D, A> {
+    /// Each node that was made has keys of the grammar, and each that is open may still have them. This is a statement for
+    /// proofs alone: it looks at each layer and does nothing.
+    pub(crate) fn is_written(&self)
+        ensures { AreWritten HasKeys (edge_in self.now) (log_in self.now) }
+    {
+        self.made.have_keys();
+        go_on(&self.levels);
+    }
+
     /// The edge of a tree of which nothing came so far, and for which one node may be read.
     pub(crate) fn new(alloc: A) -> Result<Edge<'a, D, A>, AllocError>
         ensures edge { IfOk result (λ edge. edge_in edge ≡ LinkClear) }

@@ -5,7 +5,9 @@ ghost use Rattle.spec.specs.NodeFormat.{Shape, LastLink, shape_cid};
 ghost use Rattle.edit_laws.specs.ShapeEdit.{last_link};
 ghost use Rattle.rows.specs.Drafts.{onto, pair_of, IsFaultOf, IsFaultOfAll};
 ghost use Rattle.rows.specs.Entries.{shape_at, key_behind};
+ghost use Rattle.edit_laws.specs.Lawful.{HasKeys};
 ghost use Rattle.batch_laws.specs.Links.{onto_links, complete, rows_in_shape};
+ghost use Rattle.batch_laws.specs.Written.{GoesOn};
 ghost use Rattle.edit.specs.Edges.{has_rows};
 ghost use Rattle.edit.specs.Passing.{IsTaken, IsUntaken, IsNextTouched, IsNextUntouched};
 ghost use Rattle.edit.specs.Places.{are_ascending};
@@ -56,6 +58,13 @@ impl<'a, A: Allocator + Clone> Level<'a, A> {
         ensures { result ≡ has_rows self.now }
     {
         self.has_pairs
+    }
+
+    /// Keys of the grammar may go on so. This is a statement for proofs alone: it does nothing.
+    pub(crate) fn goes_on(&self)
+        ensures { GoesOn HasKeys self.now }
+    {
+        self.rows.has_keys();
     }
 
     /// With a link more and the pair after it.

@@ -6,7 +6,7 @@ ghost use Rattle.edit_laws.specs.Laws.Edits.{bytes_of};
 ghost use Rattle.batch_laws.specs.Counts.{most_reads};
 ghost use Rattle.edit.specs.Batches.{are_changes as are_changes_of};
 ghost use Rattle.edit.specs.States.{shapes_in};
-ghost use Rattle.edit.specs.Previews.{IsPreviewed, IsPreviewedTree, IsPreviewLack, IsPreviewWant};
+ghost use Rattle.edit.specs.Previews.{IsPreviewed, IsPreviewedTree, IsPreviewLack, IsPreviewReached, IsPreviewWant};
 
 use crate::changes::Change;
 use crate::edge::Edge;
@@ -58,6 +58,7 @@ pub fn preview<
     ensures tree { IsPreviewedTree D.digest_of B (S.gives src.old) root changes.now result }
     ensures want { IsPreviewWant D.digest_of B (S.gives src.old) root changes.now result }
     ensures lack { IsPreviewLack D.digest_of B (S.gives src.old) root changes.now result }
+    ensures reached { IsPreviewReached D.digest_of B (S.gives src.old) root changes.now result }
     ensures most { S.reads src.new ≤ S.reads src.old + suc (most_reads (256 / B) changes.now) }
     ensures same { S.gives src.new ≡ S.gives src.old }
 {

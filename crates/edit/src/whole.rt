@@ -7,6 +7,7 @@ ghost use Rattle.spec.specs.NodeFormat.{Shape};
 ghost use Rattle.batch_laws.specs.Counts.{most_reads};
 ghost use Rattle.batch_laws.specs.Previous.{previous_top};
 ghost use Rattle.edit.specs.Batches.{answer_of, most_of};
+ghost use Rattle.edit.specs.Halts.{IsReachedOn};
 ghost use Rattle.edit.specs.Changing.{HasPrevious, IsChanged, IsReadFor, IsUnchanged};
 ghost use Rattle.edit.specs.Places.{are_ascending};
 ghost use Rattle.edit.specs.States.{log_in};
@@ -64,6 +65,8 @@ pub(crate) fn change_tree<
     ensures same { S.gives src.new ≡ S.gives src.old }
     ensures stopped { IsUnchanged D.digest_of B (S.gives src.old) changes.now root
         (S.reads src.old) (S.reads src.new) result }
+    ensures reached { IsReachedOn (most_of D.digest_of B (S.gives src.old) changes.now root)
+        (answer_of D.digest_of B (S.gives src.old) changes.now root) result }
     ensures most { S.reads src.new ≤ S.reads src.old + suc (most_reads (256 / B) changes.now) }
 {
     let mut edge: Edge<'a, D, A> = Edge::new(alloc.clone()?)?;
@@ -73,9 +76,12 @@ pub(crate) fn change_tree<
     edge.left = most_reads_below(top, changes);
     let layers = layers_for(top, layers_of_puts::<D, B>(changes));
     let rows = KeyedEntries::of(&view, KeyBuf::new(alloc)?);
-    let previous = edge.walk::<B, S>(src, layers, top, layers - 1 - top, rows, changes)?;
-    let ended = edge.finish(src, layers)?;
-    let (root, gone) = ended;
+    let walked = edge.walk::<B, S>(src, layers, top, layers - 1 - top, rows, changes);
+    edge.is_written();
+    let previous = walked?;
+    let ended = edge.finish(src, layers);
+    edge.is_written();
+    let (root, gone) = ended?;
     Ok(Changed {
         root,
         gone,
