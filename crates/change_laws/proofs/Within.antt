@@ -1,18 +1,25 @@
 -- What it means that a batch keeps within what a tree has for it.
-use Rattle.std.proofs.Common.{◌≡◌, ℕ, ◌<◌, ◌≤◌, Bool, true, false, ◌&&◌, List, [], ◌∷◌, ◌++◌, length, refl, sym, ap, subst, ◌∙◌, arith, Result, Ok, Err}
+use Rattle.std.proofs.Common.{◌≡◌, ℕ, ◌<◌, ◌≤◌, Bool, true, false, cond, ◌&&◌, List, [], ◌∷◌, ◌++◌, length, refl, sym, ap, subst, ◌∙◌, arith, Option, Result, Ok, Err}
 use Rattle.std.specs.Prelude.{nat_le}
+use Rattle.std.specs.Str.{bytes_eq}
 use Rattle.std.specs.List.{AllByRecursion}
 use Rattle.std.specs.declared.option.Option.TheVariants.{None}
 use Rattle.std.proofs.lemmas.Bool.{le-leb, leb-true}
 use Rattle.std.specs.Cmp.Lexicographic.{slice_cmp}
 use Rattle.std.specs.Ordering.{nat_cmp, is_lt}
-use Rattle.spec.specs.Tree.{Pair}
+use Rattle.spec.specs.Reading.{◌>>=◌, ensure}
+use Rattle.spec.specs.Layer.{layer}
 use Rattle.spec.specs.NodeFormat.{Shape, LastLink, MoreLinks, entries_of, is_key, are_keys_after}
 use Rattle.spec.proofs.Bools.{both, and}
 use Rattle.edit_laws.specs.Lawful.{HasKeys}
+use Rattle.edit_laws.specs.Sources.{shown_by}
+use Rattle.batch_laws.specs.Counts.{most_from}
 use Rattle.batch_laws.specs.Links.{Rows, LinkEdge, LinkClear, LinkWaiting, LinkOpened, Log, Stopped, Step, Top, onto_links}
 use Rattle.batch_laws.specs.Written.{GoesOn, AllGoOn, AreWritten}
 use Rattle.change_laws.specs.Within.{has_keys, have_keys, go_on, asked, is_within}
+use Rattle.change_laws.specs.Told.{KeyChange, undone}
+use Rattle.change_laws.specs.Given.{ChangeFault, NotTree, OtherRoot, given_at, or_stop, or_fault, batch_over}
+use Rattle.change_laws.specs.Verdict.{are_told, values_given, change_verdict}
 use Rattle.change_laws.specs.Laws.{IsBeyond}
 
 -- ---- keys
@@ -103,3 +110,45 @@ no-both false h k = absurd cc
 pub beyond-is : (most : ℕ) (step : Step Top) → is_within most step ≡ false → IsBeyond most step
 beyond-is most (Ok x) h = λ few made. no-both (is_within most (Ok x)) h (within-ok most x few made)
 beyond-is most (Err e) h = λ few written. no-both (is_within most (Err e)) h (within-stop most e few written)
+
+-- ---- what a verdict makes of it
+
+pub within-is_stop : {A : Type 0} (gives : List ℕ → Option A) (most : ℕ) (step : Step Top) → is_within most step ≡ true
+    → or_fault gives most step ≡ or_stop gives step
+within-is_stop gives most step h = ap (λ b. cond b (or_stop gives step) (Err NotTree)) h
+
+pub beyond-is_fault : {A : Type 0} (gives : List ℕ → Option A) (most : ℕ) (step : Step Top) → is_within most step ≡ false
+    → or_fault gives most step ≡ Err NotTree
+beyond-is_fault gives most step h = ap (λ b. cond b (or_stop gives step) (Err NotTree)) h
+
+-- so the verdict is that there is no tree
+pub beyond-is_verdict : (digest : List ℕ → List ℕ) (bits : ℕ) (before after : List ℕ) (given : List (List ℕ))
+    (cs : List KeyChange) → let gives = given_at digest given in
+    is_within (most_from (layer digest bits) (undone cs) (shown_by gives after))
+    (batch_over digest bits gives (undone cs) after) ≡ false
+    → change_verdict digest bits before after given cs ≡ Err NotTree
+unfolding change_verdict
+beyond-is_verdict digest bits before after given cs h =
+    let gives = given_at digest given in
+    let most = most_from (layer digest bits) (undone cs) (shown_by gives after) in
+    let values = values_given digest bits given (undone cs) after in
+    ap (λ (o : Result (Top × Log) ChangeFault).
+    o >>= (λ old. are_told 0 values cs >>= (λ told. ensure (bytes_eq old.0.0 before) OtherRoot)))
+    (beyond-is_fault gives most (batch_over digest bits gives (undone cs) after) h)
+
+-- and else it is what it would be with no limit
+pub within-is_verdict : (digest : List ℕ → List ℕ) (bits : ℕ) (before after : List ℕ) (given : List (List ℕ))
+    (cs : List KeyChange) → let gives = given_at digest given in
+    let step = batch_over digest bits gives (undone cs) after in
+    is_within (most_from (layer digest bits) (undone cs) (shown_by gives after)) step ≡ true
+    → change_verdict digest bits before after given cs
+    ≡ (or_stop gives step >>= (λ old. are_told 0 (values_given digest bits given (undone cs) after) cs
+    >>= (λ told. ensure (bytes_eq old.0.0 before) OtherRoot)))
+unfolding change_verdict
+within-is_verdict digest bits before after given cs h =
+    let gives = given_at digest given in
+    let most = most_from (layer digest bits) (undone cs) (shown_by gives after) in
+    let values = values_given digest bits given (undone cs) after in
+    ap (λ (o : Result (Top × Log) ChangeFault).
+    o >>= (λ old. are_told 0 values cs >>= (λ told. ensure (bytes_eq old.0.0 before) OtherRoot)))
+    (within-is_stop gives most (batch_over digest bits gives (undone cs) after) h)
