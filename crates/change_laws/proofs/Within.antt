@@ -1,25 +1,24 @@
 -- What it means that a batch keeps within what a tree has for it.
-use Rattle.std.proofs.Common.{◌≡◌, ℕ, ◌<◌, ◌≤◌, Bool, true, false, cond, ◌&&◌, List, [], ◌∷◌, ◌++◌, length, refl, sym, ap, subst, ◌∙◌, arith, Option, Result, Ok, Err}
+use Rattle.std.proofs.Common.{◌≡◌, ℕ, ◌≤◌, Bool, true, false, cond, ◌&&◌, List, [], ◌∷◌, ◌++◌, length, refl, ap, Option, Result, Ok, Err}
 use Rattle.std.specs.Prelude.{nat_le}
-use Rattle.std.specs.Str.{bytes_eq}
 use Rattle.std.specs.List.{AllByRecursion}
 use Rattle.std.specs.declared.option.Option.TheVariants.{None}
 use Rattle.std.proofs.lemmas.Bool.{le-leb, leb-true}
 use Rattle.std.specs.Cmp.Lexicographic.{slice_cmp}
 use Rattle.std.specs.Ordering.{nat_cmp, is_lt}
-use Rattle.spec.specs.Reading.{◌>>=◌, ensure}
+use Rattle.spec.specs.Reading.{◌>>=◌}
 use Rattle.spec.specs.Layer.{layer}
-use Rattle.spec.specs.NodeFormat.{Shape, LastLink, MoreLinks, entries_of, is_key, are_keys_after}
+use Rattle.spec.specs.NodeFormat.{Shape, LastLink, entries_of, is_key, are_keys_after}
 use Rattle.spec.proofs.Bools.{both, and}
 use Rattle.edit_laws.specs.Lawful.{HasKeys}
 use Rattle.edit_laws.specs.Sources.{shown_by}
 use Rattle.batch_laws.specs.Counts.{most_from}
 use Rattle.batch_laws.specs.Links.{Rows, LinkEdge, LinkClear, LinkWaiting, LinkOpened, Log, Stopped, Step, Top, onto_links}
-use Rattle.batch_laws.specs.Written.{GoesOn, AllGoOn, AreWritten}
+use Rattle.batch_laws.specs.Written.{AllGoOn, AreWritten}
 use Rattle.change_laws.specs.Within.{has_keys, have_keys, go_on, asked, is_within}
 use Rattle.change_laws.specs.Told.{KeyChange, undone}
-use Rattle.change_laws.specs.Given.{ChangeFault, NotTree, OtherRoot, given_at, or_stop, or_fault, batch_over}
-use Rattle.change_laws.specs.Verdict.{are_told, values_given, change_verdict}
+use Rattle.change_laws.specs.Given.{NotTree, given_at, or_stop, or_fault, batch_over, batch_given}
+use Rattle.change_laws.specs.Verdict.{change_verdict}
 use Rattle.change_laws.specs.Laws.{IsBeyond}
 
 -- ---- keys
@@ -122,6 +121,9 @@ pub beyond-is_fault : {A : Type 0} (gives : List ℕ → Option A) (most : ℕ) 
 beyond-is_fault gives most step h = ap (λ b. cond b (or_stop gives step) (Err NotTree)) h
 
 -- so the verdict is that there is no tree
+err-first : {A B E : Type 0} (r : Result A E) (f : A → Result B E) (fault : E) → r ≡ Err fault → (r >>= f) ≡ Err fault
+err-first r f fault h = ap (λ t. t >>= f) h
+
 pub beyond-is_verdict : (digest : List ℕ → List ℕ) (bits : ℕ) (before after : List ℕ) (given : List (List ℕ))
     (cs : List KeyChange) → let gives = given_at digest given in
     is_within (most_from (layer digest bits) (undone cs) (shown_by gives after))
@@ -131,24 +133,5 @@ unfolding change_verdict
 beyond-is_verdict digest bits before after given cs h =
     let gives = given_at digest given in
     let most = most_from (layer digest bits) (undone cs) (shown_by gives after) in
-    let values = values_given digest bits given (undone cs) after in
-    ap (λ (o : Result (Top × Log) ChangeFault).
-    o >>= (λ old. are_told 0 values cs >>= (λ told. ensure (bytes_eq old.0.0 before) OtherRoot)))
+    err-first (batch_given digest bits given (undone cs) after) _ NotTree
     (beyond-is_fault gives most (batch_over digest bits gives (undone cs) after) h)
-
--- and else it is what it would be with no limit
-pub within-is_verdict : (digest : List ℕ → List ℕ) (bits : ℕ) (before after : List ℕ) (given : List (List ℕ))
-    (cs : List KeyChange) → let gives = given_at digest given in
-    let step = batch_over digest bits gives (undone cs) after in
-    is_within (most_from (layer digest bits) (undone cs) (shown_by gives after)) step ≡ true
-    → change_verdict digest bits before after given cs
-    ≡ (or_stop gives step >>= (λ old. are_told 0 (values_given digest bits given (undone cs) after) cs
-    >>= (λ told. ensure (bytes_eq old.0.0 before) OtherRoot)))
-unfolding change_verdict
-within-is_verdict digest bits before after given cs h =
-    let gives = given_at digest given in
-    let most = most_from (layer digest bits) (undone cs) (shown_by gives after) in
-    let values = values_given digest bits given (undone cs) after in
-    ap (λ (o : Result (Top × Log) ChangeFault).
-    o >>= (λ old. are_told 0 values cs >>= (λ told. ensure (bytes_eq old.0.0 before) OtherRoot)))
-    (within-is_stop gives most (batch_over digest bits gives (undone cs) after) h)
