@@ -1,3 +1,4 @@
+pub mod Within
 pub mod Lacking
 pub mod Pairs
 pub mod Values

@@ -1,5 +1,5 @@
 -- What is not shown isn't shown, and what is called missing isn't given.
-use Rattle.std.proofs.Common.{◌≡◌, ℕ, zero, suc, ◌-◌, Bool, true, false, List, [], ◌∷◌, refl, subst, Option, Result, Ok, Err}
+use Rattle.std.proofs.Common.{◌≡◌, ℕ, zero, suc, ◌-◌, Bool, true, false, cond, List, [], ◌∷◌, refl, subst, Option, Result, Ok, Err}
 use Rattle.std.specs.declared.option.Option.TheVariants.{Some, None}
 use Rattle.spec.specs.Reading.{◌>>=◌, ensure}
 use Rattle.spec.specs.Layer.{layer}
@@ -9,12 +9,15 @@ use Rattle.std.specs.Str.{bytes_eq}
 use Rattle.edit_laws.specs.ShapeEdit.{last_link, layer_of_shape}
 use Rattle.edit_laws.specs.Sources.{shown_by}
 use Rattle.batch_laws.specs.Batch.{Change, before, at_key, after, puts, entry}
+use Rattle.batch_laws.specs.Counts.{most_from}
 use Rattle.batch_laws.specs.Walking.{depth_of}
 use Rattle.batch_laws.specs.Links.{Rows, LinkEdge, LinkClear, LinkWaiting, LinkOpened, Log, Stop, NotShown, LinkTooDeep, Step, Top, and_then, ask, log_shown, with_read, link_edge, rows_in_shape, opened_rows, under_rows, joined_row, opening, pairing, noding, parting, subtreeing, pairs_in_turn, walking_node, walking, pruning_at, pruning, topping, walking_top, batch_from, StopsAt}
 use Rattle.change_laws.specs.Told.{KeyChange, undone}
-use Rattle.change_laws.specs.Given.{ChangeFault, BlockMissing, BadNode, TooDeep, OtherValue, OtherRoot, given_at, unshown, fault_of, or_fault, batch_over, batch_given, layers_needed, put_layers}
+use Rattle.change_laws.specs.Within.{is_within}
+use Rattle.change_laws.specs.Given.{ChangeFault, BlockMissing, BadNode, TooDeep, NotTree, OtherValue, OtherRoot, given_at, unshown, fault_of, or_stop, or_fault, batch_over, batch_given, layers_needed, put_layers}
 use Rattle.change_laws.specs.Verdict.{are_told, values_given, is_same, change_verdict}
-use Rattle.change_laws.specs.Laws.{NothingGiven, NotShownIsTrue, MissingIsMissing}
+use Rattle.change_laws.specs.Laws.{NothingGiven, NotShownIsTrue, MissingIsMissing, IsBeyond, NotTreeIsBeyond}
+use Rattle.change_laws.proofs.Within.{not-within, beyond-is, beyond-is_verdict}
 
 module _ (shows : List ℕ → Option Shape) where
   abbrev pub IsTold : Stop → Type 0
@@ -206,6 +209,7 @@ module _ (gives : List ℕ → Option (List ℕ)) where
   IsTrue (BlockMissing c) = gives c ≡ None
   IsTrue (BadNode c) = Unit {0}
   IsTrue TooDeep = Unit {0}
+  IsTrue NotTree = Unit {0}
   IsTrue (OtherValue place) = Unit {0}
   IsTrue OtherRoot = Unit {0}
 
@@ -217,16 +221,63 @@ module _ (gives : List ℕ → Option (List ℕ)) where
   tells-why (NotShown c) = tells-unshown c (gives c) refl
   tells-why LinkTooDeep = tt
 
-  tells-step : (step : Step Top) → Tells IsTrue (λ place. tt) tt (or_fault gives step)
-  tells-step (Ok x) = tt
-  tells-step (Err e) = tells-why e.why
+  tells-stop : (step : Step Top) → Tells IsTrue (λ place. tt) tt (or_stop gives step)
+  tells-stop (Ok x) = tt
+  tells-stop (Err e) = tells-why e.why
+
+  tells-step : (most : ℕ) (step : Step Top) → Tells IsTrue (λ place. tt) tt (or_fault gives most step)
+  tells-step most step = by (is_within most step)
+    where
+      by : (b : Bool) → Tells IsTrue (λ place. tt) tt (cond b (or_stop gives step) (Err NotTree))
+      by true = tells-stop step
+      by false = tt
 
 pub missing-is_missing : MissingIsMissing
 missing-is_missing digest bits before after given cs c e =
     let gives = given_at digest given in
     says (IsTrue gives) (λ place. tt) tt digest bits before after given cs
-    (tells-step gives (batch_over digest bits gives (undone cs) after)) (BlockMissing c) e
+    (tells-step gives (most_from (layer digest bits) (undone cs) (shown_by gives after))
+    (batch_over digest bits gives (undone cs) after)) (BlockMissing c) e
 
 pub nothing-given : NothingGiven
 unfolding change_verdict
 nothing-given digest bits before after cs = refl
+
+-- ---- what is called no tree
+
+module _ (beyond : Type 0) where
+  abbrev SaysBeyond : ChangeFault → Type 0
+  SaysBeyond (BlockMissing c) = Unit {0}
+  SaysBeyond (BadNode c) = Unit {0}
+  SaysBeyond TooDeep = Unit {0}
+  SaysBeyond NotTree = beyond
+  SaysBeyond (OtherValue place) = Unit {0}
+  SaysBeyond OtherRoot = Unit {0}
+
+  module _ (gives : List ℕ → Option (List ℕ)) where
+    beyond-unshown : (c : List ℕ) (o : Option (List ℕ)) → SaysBeyond (unshown c o)
+    beyond-unshown c None = tt
+    beyond-unshown c (Some b) = tt
+
+    beyond-why : (why : Stop) → SaysBeyond (fault_of gives why)
+    beyond-why (NotShown c) = beyond-unshown c (gives c)
+    beyond-why LinkTooDeep = tt
+
+    beyond-stop : (step : Step Top) → Tells SaysBeyond (λ place. tt) tt (or_stop gives step)
+    beyond-stop (Ok x) = tt
+    beyond-stop (Err e) = beyond-why e.why
+
+    beyond-case : (step : Step Top) (b : Bool) → (b ≡ false → beyond)
+        → Tells SaysBeyond (λ place. tt) tt (cond b (or_stop gives step) (Err NotTree))
+    beyond-case step true h = beyond-stop step
+    beyond-case step false h = h refl
+
+pub not_tree-is_beyond : NotTreeIsBeyond
+not_tree-is_beyond digest bits before after given cs =
+    let gives = given_at digest given in
+    let most = most_from (layer digest bits) (undone cs) (shown_by gives after) in
+    let step = batch_over digest bits gives (undone cs) after in (
+      λ e. says (SaysBeyond (IsBeyond most step)) (λ place. tt) tt digest bits before after given cs
+          (beyond-case (IsBeyond most step) gives step (is_within most step) (beyond-is most step)) NotTree e,
+      λ h. beyond-is_verdict digest bits before after given cs (not-within most step h),
+    )

@@ -1,5 +1,5 @@
 -- What a verdict says, and when it says so.
-use Rattle.std.proofs.Common.{◌≡◌, ℕ, zero, suc, ◌<◌, ◌≤◌, max, Bool, true, false, List, [], ◌∷◌, ◌++◌, length, map, refl, sym, ap, subst, ◌∙◌, arith, Option, Result, Ok, Err}
+use Rattle.std.proofs.Common.{◌≡◌, ℕ, zero, suc, ◌<◌, ◌≤◌, max, Bool, true, false, cond, List, [], ◌∷◌, ◌++◌, length, map, refl, sym, ap, subst, ◌∙◌, arith, Option, Result, Ok, Err}
 use Rattle.std.specs.Prelude.{Contains, option_and_then}
 use Rattle.std.specs.List.{AllByRecursion}
 use Rattle.std.specs.Str.{bytes_eq}
@@ -29,7 +29,7 @@ use Rattle.edit_laws.proofs.Within.{IsWithin, within-top, within-up, within-belo
 use Rattle.batch_laws.specs.Batch.{Change, puts, changed, AreAscending, AreKeyed}
 use Rattle.batch_laws.specs.Edge.{Edge, Clear, Waiting, Opened}
 use Rattle.batch_laws.specs.Walking.{walk_top}
-use Rattle.batch_laws.specs.Counts.{most_reads}
+use Rattle.batch_laws.specs.Counts.{most_reads, most_from}
 use Rattle.batch_laws.specs.Trace.{batch_gone, batch_read, top_left}
 use Rattle.batch_laws.specs.Links.{LinkClear, Log, Step, Top, ask, batch_from}
 use Rattle.batch_laws.specs.Previous.{values}
@@ -40,9 +40,11 @@ use Rattle.batch_laws.proofs.Lawful.{batch-has_keys}
 use Rattle.batch_laws.proofs.Old.{read-old}
 use Rattle.batch_laws.proofs.ReadsFew.{batch-reads_few}
 use Rattle.change_laws.specs.Told.{KeyChange, undone}
-use Rattle.change_laws.specs.Given.{ChangeFault, OtherValue, OtherRoot, given_at, put_layers, layers_needed, or_fault, batch_given}
+use Rattle.change_laws.specs.Within.{is_within}
+use Rattle.change_laws.specs.Given.{ChangeFault, NotTree, OtherValue, OtherRoot, given_at, put_layers, layers_needed, or_stop, or_fault, batch_given}
 use Rattle.change_laws.specs.Verdict.{previous_of, values_given, is_same, are_told, change_verdict}
 use Rattle.change_laws.specs.Laws.{VerdictIsSound, VerdictIsComplete}
+use Rattle.change_laws.proofs.Within.{within-ok, within-is_stop}
 use Rattle.change_laws.proofs.Lacking.{Known, Shown, AllShown, IsAnswered, NeedsBatch, WithinEdge, all-front, first-answered, logged-shown, batch-needs}
 use Rattle.change_laws.proofs.Values.{previous-met}
 use Rattle.change_laws.proofs.Undone.{undone-differ, differ-undone}
@@ -154,13 +156,23 @@ within-edge digest shows lay n (suc k) (Opened rows s) es l h =
 pub ok-is : {A E : Type 0} (x y : A) → ◌≡◌ {A = Result A E} (Ok x) (Ok y) → x ≡ y
 ok-is x y q = cc
 
-answer-is : (gives : List ℕ → Option (List ℕ)) (step : Step Top) (x : Top × Log) → step ≡ Ok x → or_fault gives step ≡ Ok x
-answer-is given step x e = ap (or_fault given) e
+answer-is : (gives : List ℕ → Option (List ℕ)) (most : ℕ) (step : Step Top) (x : Top × Log)
+    → length (x.1.read ++ x.0.1) ≤ most → AllByRecursion HasKeys x.1.made → step ≡ Ok x → or_fault gives most step ≡ Ok x
+answer-is gives most step x few made e =
+    ap (or_fault gives most) e ∙ within-is_stop gives most (Ok x) (within-ok most x few made)
 
 -- the fault of a step is no answer
-answer-was : (gives : List ℕ → Option (List ℕ)) (step : Step Top) (x : Top × Log) → or_fault gives step ≡ Ok x → step ≡ Ok x
-answer-was given (Ok y) x e = ap (λ z. Ok z) (ok-is y x e)
-answer-was given (Err stop) x e = absurd cc
+stop-was : (gives : List ℕ → Option (List ℕ)) (step : Step Top) (x : Top × Log) → or_stop gives step ≡ Ok x → step ≡ Ok x
+stop-was gives (Ok y) x e = ap (λ z. Ok z) (ok-is y x e)
+stop-was gives (Err stop) x e = absurd cc
+
+answer-was : (gives : List ℕ → Option (List ℕ)) (most : ℕ) (step : Step Top) (x : Top × Log)
+    → or_fault gives most step ≡ Ok x → step ≡ Ok x
+answer-was gives most step x = by (is_within most step)
+  where
+    by : (b : Bool) → cond b (or_stop gives step) (Err NotTree) ≡ Ok x → step ≡ Ok x
+    by true e = stop-was gives step x e
+    by false e = absurd cc
 
 is-answered : {A : Type 0} (o : Step A) (x : A × Log) → o ≡ Ok x → IsAnswered o
 is-answered o x e = subst (λ t. IsAnswered t) (sym e) tt
@@ -189,6 +201,10 @@ module _ (digest : List ℕ → List ℕ) (bits : ℕ) (fits : IsDigest digest) 
 
   abbrev layers : ℕ
   layers = layers_needed lay (put_layers lay cs) (shows digest given (root digest bits es))
+
+  -- how many nodes are read at most
+  abbrev limit : ℕ
+  limit = most_from lay cs (shows digest given (root digest bits es))
 
   pub tree-within : top_layer lay es < most
   tree-within = omega arith
@@ -228,25 +244,11 @@ module _ (digest : List ℕ → List ℕ) (bits : ℕ) (fits : IsDigest digest) 
   -- an answer has read all that the batch reads
   whole : (x : Top × Log) → step ≡ Ok x → AllRead × (x.0.0 ≡ root digest bits (changed cs es))
   whole x e =
-      let q : batch layers ≡ Ok x = answer-was (gives digest given) (batch layers) x e in
+      let q : batch layers ≡ Ok x = answer-was (gives digest given) limit (batch layers) x e in
       let h = root-shown (is-answered (batch layers) x q) in
       let r : batch most ≡ Ok x = subst (λ k. batch k ≡ Ok x) (layers-are h) q in
       let all = needs.1 (is-answered (batch most) x r) in
       (all, root-is x r all)
-
-  -- and where all of it is there is an answer
-  record Answer : Type 0 where
-    x : Top × Log
-    is : step ≡ Ok x
-    root_is : x.0.0 ≡ root digest bits (changed cs es)
-
-  answer-of : AllRead → (x : Top × Log) → batch most ≡ Ok x → Answer
-  answer-of all x d =
-      let q : batch layers ≡ Ok x = subst (λ k. batch k ≡ Ok x) (sym (layers-are all.0)) d in
-      record { x = x; is = answer-is (gives digest given) (batch layers) x q; root_is = root-is x d all }
-
-  answered : AllRead → Answer
-  answered all = answer-of all _ (needs.0 all)
 
   met : AreAscending cs → AllRead → values_given digest bits given cs (root digest bits es) ≡ values cs es
   met a all =
@@ -313,10 +315,36 @@ module _ (digest : List ℕ → List ℕ) (bits : ℕ) (fits : IsDigest digest) 
         top_is = all.0;
       }
 
+  reached-all : AreKeyed cs → AllRead → Reached
+  reached-all keyed all = reached-of keyed all (ap batch (layers-are all.0))
+
   pub reached : AreKeyed cs
       → ((b : List ℕ) → Contains (map (node_bytes digest) (batch_read lay most cs own_top)) b → Contains given b)
       → Reached
-  reached keyed has = let all = read-shown has in reached-of keyed all (ap batch (layers-are all.0))
+  reached keyed has = reached-all keyed (read-shown has)
+
+  -- so the answer is within what the tree has
+  record Answer : Type 0 where
+    x : Top × Log
+    is : step ≡ Ok x
+    root_is : x.0.0 ≡ root digest bits (changed cs es)
+
+  limit-is : Shown digest (shows digest given) own_top → limit ≡ suc (most_reads (top_layer lay es) cs)
+  limit-is h = ap (most_from lay cs) h
+      ∙ ap (λ k. suc (most_reads k cs)) (layer-same digest (shows digest given) lay own_top ∙ layer_of-top lay es)
+
+  answer-of : AllRead → Reached → Answer
+  answer-of all r =
+      let few = r.few in
+      let n = limit-is r.top_is in
+      record {
+        x = r.x;
+        is = answer-is (gives digest given) limit (batch layers) r.x (omega (arith, few, n)) r.made r.is;
+        root_is = root-is r.x (subst (λ k. batch k ≡ Ok r.x) (layers-are all.0) r.is) all;
+      }
+
+  answered : AreKeyed cs → AllRead → Answer
+  answered keyed all = answer-of all (reached-all keyed all)
 
 -- ---- the values that are told
 
@@ -372,7 +400,7 @@ unfolding change_verdict
 verdict-complete digest bits fits old new are_old are_new given free cs keyed differ has =
     let us = undone cs in
     let all = read-shown digest bits fits given new are_new free us has in
-    let answer = answered digest bits fits given new are_new free us all in
+    let answer = answered digest bits fits given new are_new free us keyed all in
     let back = differ-undone cs old new keyed.ascending are_old are_new differ in
     let is : bytes_eq answer.x.0.0 (root digest bits old) ≡ true =
     (bytes_eq-Decides answer.x.0.0 (root digest bits old)).1 (answer.root_is ∙ ap (root digest bits) (sym back)) in

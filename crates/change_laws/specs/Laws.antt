@@ -1,5 +1,5 @@
 -- The laws of a proof of changes.
-use Rattle.std.specs.Prelude.{◌≡◌, ⊤, Contains, ◌<◌, ◌≤◌, ◌^◌, ℕ, suc, max, List, [], ◌++◌, length, map, Option, None, Ok, Err}
+use Rattle.std.specs.Prelude.{◌≡◌, ◌↔◌, ⊤, Contains, ◌<◌, ◌≤◌, ◌^◌, ℕ, suc, max, List, [], ◌++◌, length, map, Option, None, Ok, Err}
 use Rattle.std.specs.List.{AllByRecursion}
 use Rattle.spec.specs.Cid.{IsDigest}
 use Rattle.spec.specs.Layer.{layer as layer_of_key}
@@ -14,7 +14,8 @@ use Rattle.batch_laws.specs.Counts.{most_from}
 use Rattle.batch_laws.specs.Links.{NotShown, Step, Stopped, StopsAt, Top}
 use Rattle.batch_laws.specs.Written.{AreWritten}
 use Rattle.change_laws.specs.Told.{KeyChange, undone, DifferBy}
-use Rattle.change_laws.specs.Given.{ChangeFault, BlockMissing, BadNode, TooDeep, OtherValue, OtherRoot, given_at, batch_over, put_layers}
+use Rattle.change_laws.specs.Within.{asked}
+use Rattle.change_laws.specs.Given.{ChangeFault, BlockMissing, BadNode, TooDeep, NotTree, OtherValue, OtherRoot, given_at, batch_over, put_layers}
 use Rattle.change_laws.specs.Verdict.{change_verdict}
 
 -- ---- what a verdict says
@@ -87,10 +88,11 @@ abbrev pub IsOfTree : ChangeFault → Type 0
 IsOfTree (BlockMissing c) = ⊤
 IsOfTree (BadNode c) = ⊥
 IsOfTree TooDeep = ⊥
+IsOfTree NotTree = ⊥
 IsOfTree (OtherValue place) = ⊤
 IsOfTree OtherRoot = ⊤
 
--- so no block is called bad there, and no link too deep
+-- so no block is called bad there, no link too deep, and the blocks are not called no tree
 abbrev pub TreeOnlyMissing : Type 0
 TreeOnlyMissing = (digest : List ℕ → List ℕ) (bits : ℕ) → IsDigest digest → (es : List Pair) → ArePairs es
     → IsClashFree digest (nodes digest bits es) → (given : List (List ℕ)) → ClashesWithNone digest (nodes digest bits es) given
@@ -114,3 +116,17 @@ abbrev pub MissingIsMissing : Type 0
 MissingIsMissing = (digest : List ℕ → List ℕ) (bits : ℕ) (before after : List ℕ) (given : List (List ℕ))
     (cs : List KeyChange) (c : List ℕ)
     → change_verdict digest bits before after given cs ≡ Err (BlockMissing c) → given_at digest given c ≡ None
+
+-- a batch is not within what a tree has for it: it reads or asks for more nodes, or not each node that was made has keys of the
+-- grammar, with each that is open one that may still have them
+abbrev pub IsBeyond : ℕ → Step Top → Type 0
+IsBeyond most (Ok x) = length (x.1.read ++ x.0.1) ≤ most → ¬ AllByRecursion HasKeys x.1.made
+IsBeyond most (Err e) = asked e.why e.log ≤ most → ¬ AreWritten HasKeys e.edge e.log
+
+-- given blocks are called no tree just where it is so
+abbrev pub NotTreeIsBeyond : Type 0
+NotTreeIsBeyond = (digest : List ℕ → List ℕ) (bits : ℕ) (before after : List ℕ) (given : List (List ℕ))
+    (cs : List KeyChange) → let gives = given_at digest given in
+    let most = most_from (layer_of_key digest bits) (undone cs) (shown_by gives after) in
+    (change_verdict digest bits before after given cs ≡ Err NotTree)
+    ↔ IsBeyond most (batch_over digest bits gives (undone cs) after)

@@ -1,6 +1,6 @@
 //! What a verdict means.
 
-ghost use Rattle.change_laws.specs.Laws.{VerdictIsSound, OldIsUndone, VerdictIsComplete, NothingGiven, TreeOnlyLacks, NotShownIsTrue, MissingIsMissing, TreeOnlyMissing};
+ghost use Rattle.change_laws.specs.Laws.{VerdictIsSound, OldIsUndone, VerdictIsComplete, NothingGiven, TreeOnlyLacks, NotShownIsTrue, MissingIsMissing, NotTreeIsBeyond, TreeOnlyMissing};
 ghost use Rattle.change_laws.specs.Rows.{AreRows, by_last_digit};
 
 /// Changes that are shown are true of the pairs after them, whatever pairs these are: each key has the value that is told, and
@@ -24,7 +24,8 @@ pub fn tree_only_lacks()
     ensures { TreeOnlyLacks }
 {}
 
-/// So nothing is called bad there: the verdict is that a block is missing, or one on values and roots.
+/// So nothing is called bad there, and the blocks not no tree: the verdict is that a block is missing, or one on values and
+/// roots.
 pub fn tree_is_not_called_bad()
     ensures { TreeOnlyMissing }
 {}
@@ -42,6 +43,12 @@ pub fn not_shown_is_true()
 /// What is called missing isn't given.
 pub fn missing_is_not_given()
     ensures { MissingIsMissing }
+{}
+
+/// Blocks are called no tree just where the batch, as far as it comes, reads more nodes than a tree has for it, or makes a
+/// node whose keys don't ascend.
+pub fn no_tree_is_no_tree()
+    ensures { NotTreeIsBeyond }
 {}
 
 /// The rows worked by hand come out as they should.

@@ -113,6 +113,7 @@ reader-first node gap last start key gap_is last_is start_is none ascending =
     (subst (λ (g : GapIn). IsReader (first_of node) g start key) (sym last_is)
     (subst (λ (g : GapIn). IsReader (first_of node) (first_of node) g key) (sym start_is) (record {
       reading = nothing-read node node node.left key (rows_behind 0 node) refl none refl (behind-none node.left node.entries) ascending;
+      ascending = ascending;
       last_node = refl;
       last_passed = omega arith;
       start_node = refl;
@@ -154,6 +155,7 @@ reader-on gap last start key r is rows_is =
     record {
       reader = record {
         reading = subst (λ (l : Option (List ℕ)). IsReading gap.node (gap.passed + 1) new_key l rs) tree on.reading;
+        ascending = is.ascending;
         last_node = refl;
         last_passed = omega arith;
         start_node = is.start_node;
@@ -256,6 +258,7 @@ reader-run gap last start end key now pairs is now_is same count within = record
     within = within;
   };
   same = same ∙ sym is.start_node;
+  ascending = ap (λ (m : Contents). are_keys_after [] m.entries) is.start_node ∙ is.ascending;
 }
 
 -- the gap before the last pair
@@ -279,6 +282,7 @@ reader-key gap last start key now is now_is =
 pub starts-here : (gap last start copy : GapIn) (key : List ℕ) → IsReader gap last start key → copy ≡ gap → IsReader gap last copy key
 starts-here gap last start copy key is same = subst (λ (g : GapIn). IsReader gap last g key) (sym same) (record {
   reading = is.reading;
+  ascending = is.ascending;
   last_node = is.last_node;
   last_passed = is.last_passed;
   start_node = refl;

@@ -2,7 +2,7 @@
 use Rattle.std.proofs.Common.{◌≡◌, ℕ, zero, suc, ◌<◌, ◌≤◌, ◌-◌, true, false, List, [], ◌∷◌, ◌++◌, length, take, drop, length-append, Option, None, refl, sym, ap, subst, ◌∙◌, arith}
 use Rattle.std.proofs.lemmas.List.{length-take, length-drop}
 use Rattle.spec.specs.Tree.{Pair}
-use Rattle.spec.specs.NodeFormat.{Entry, Shape, LastLink, MoreLinks, is_node, node_spelling}
+use Rattle.spec.specs.NodeFormat.{Entry, Shape, LastLink, MoreLinks, are_keys_after, is_node, node_spelling}
 use Rattle.node.specs.Contents.{Contents, last_key, is_next_key}
 use Rattle.node.specs.Search.{gap_at, relink_at}
 use Rattle.edit_laws.specs.Lawful.{HasKeys}
@@ -12,6 +12,7 @@ use Rattle.rows.specs.Entries.{key_behind, part_of, rows_between}
 use Rattle.rows.specs.OldNodes.{linked, first_rows}
 use Rattle.rows.specs.Begun.{IsBegun}
 use Rattle.rows.proofs.Drafting.{Links, turned, unlawful, entry_with, written}
+use Rattle.rows.proofs.Keys.{keys-next, keys-run, keys-relinked}
 
 abbrev row_of : Option (List ℕ) → Entry → Option (List ℕ) × Pair
 row_of l e = (l, (e.key, e.value))
@@ -144,6 +145,13 @@ relinked-all was now new rows is rows_is some =
       omega (arith, size, some),
     )
 
+pub relinked-keys : (was now : Contents) (new : Option (List ℕ))
+    → now ≡ relink_at (length was.entries) was.left was.entries new → are_keys_after [] was.entries ≡ true
+    → are_keys_after [] now.entries ≡ true
+relinked-keys was now new is keys =
+    ap (λ (w : Contents). are_keys_after [] w.entries) is
+    ∙ keys-relinked (length was.entries) [] was.left new was.entries ∙ keys
+
 -- ---- an entry more
 
 turned-linked : (l : Option (List ℕ)) (es : List Entry) (p : Pair)
@@ -164,14 +172,19 @@ pub record Opened (node : Contents) (behind : Option (List ℕ)) (rows : Links) 
 abbrev with_entry : Contents → Pair → Contents
 with_entry was p = record { left = was.left; entries = was.entries ++ entry_with p None ∷ [] }
 
-pub opened-pair : (was now : Contents) (p : Pair) → now ≡ with_entry was p
+pub opened-pair : (was now : Contents) (p : Pair) → now ≡ with_entry was p → are_keys_after [] was.entries ≡ true
+    → is_next_key was.entries p.0 ≡ true
     → Opened now None (linked was.left was.entries ++ (gap_at (length was.entries) was.left was.entries, p) ∷ [])
-opened-pair was now p is =
+opened-pair was now p is keys next =
     let e = entry_with p None in
     let long = length-append was.entries (e ∷ []) in
     subst (λ (n : Contents). Opened n None (linked was.left was.entries ++ (gap_at (length was.entries) was.left was.entries, p) ∷ []))
     (sym is) (record {
-      begun = record { some = omega (arith, long); behind_is = sym (gap-append was.left was.entries (e ∷ [])) };
+      begun = record {
+        some = omega (arith, long);
+        keys = keys-next was.entries e keys next;
+        behind_is = sym (gap-append was.left was.entries (e ∷ []));
+      };
       rows_is = linked-append was.left was.entries (e ∷ []);
     })
 
@@ -183,8 +196,10 @@ with_run was from to node = record {
 
 pub opened-run : (was now node : Contents) (from to : ℕ) → from < to → to ≤ length node.entries
     → gap_at (length was.entries) was.left was.entries ≡ gap_at from node.left node.entries → now ≡ with_run was from to node
+    → are_keys_after [] was.entries ≡ true → are_keys_after [] node.entries ≡ true
+    → last_key [] was.entries ≡ last_key [] (take from node.entries)
     → Opened now (gap_at to node.left node.entries) (linked was.left was.entries ++ rows_between from to node)
-opened-run was now node from to more within link is =
+opened-run was now node from to more within link is keys others follows =
     let run = take (to - from) (drop from node.entries) in
     let long = length-append was.entries run in
     let size = length-take (to - from) (drop from node.entries) in
@@ -193,6 +208,7 @@ opened-run was now node from to more within link is =
     (sym is) (record {
       begun = record {
         some = omega (arith, long, size, left, more, within);
+        keys = keys-run was.entries node.entries from (to - from) keys others follows;
         behind_is = sym (gap-append was.left was.entries run ∙ ap (λ (l : Option (List ℕ)). gap_at (length run) l run) link
             ∙ gap-run from to node.left node.entries (omega (arith, more)) within);
       };

@@ -1,6 +1,7 @@
 -- Nodes that are written anew, and when one can't be written.
 use Rattle.std.specs.Prelude.{◌≡◌, ⊤, ℕ, Bool, true, false, List, [], ◌∷◌, ◌++◌, map, Option, Some, None}
 use Rattle.std.specs.Arc.{arc_value}
+use Rattle.std.specs.List.{AllByRecursion}
 use Rattle.std.specs.declared.sync.Arc.{Arc}
 use Rattle.std.specs.declared.vec.Vec.{Vec}
 use Rattle.cid.specs.CidRef.{bytes_of}
@@ -60,6 +61,15 @@ IsSpelled bytes = bytes ≡ shape_bytes (shape_in bytes)
 -- each of these blocks is one
 abbrev pub AreSpelled : {A : Type 0} → List (Arc (List ℕ) A) → Type 0
 AreSpelled blocks = map arc_value blocks ≡ map shape_bytes (map (λ b. shape_in (arc_value b)) blocks)
+
+-- each of them has keys of the grammar
+abbrev pub HaveKeys : {A : Type 0} → List (Arc (List ℕ) A) → Type 0
+HaveKeys blocks = AllByRecursion HasKeys (map (λ b. shape_in (arc_value b)) blocks)
+
+-- each of these blocks is a node's, with keys of the grammar
+pub record AreNodes {A : Type 0} (blocks : List (Arc (List ℕ) A)) : Type 0 where
+  pub spelled : AreSpelled blocks
+  pub keys : HaveKeys blocks
 
 -- a lent key and a lent value
 abbrev pub pair_of : List ℕ → CidRef → Pair

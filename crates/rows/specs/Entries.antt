@@ -1,7 +1,7 @@
 -- What is left of a node that is read pair by pair.
-use Rattle.std.specs.Prelude.{◌≡◌, ◌≤◌, ◌+◌, ◌-◌, ⊤, ℕ, suc, List, [], ◌∷◌, ◌++◌, length, take, drop, Option, Some, None}
+use Rattle.std.specs.Prelude.{◌≡◌, ◌≤◌, ◌+◌, ◌-◌, ⊤, ℕ, suc, true, List, [], ◌∷◌, ◌++◌, length, take, drop, Option, Some, None}
 use Rattle.spec.specs.Tree.{Pair}
-use Rattle.spec.specs.NodeFormat.{Shape, LastLink, MoreLinks, first_link}
+use Rattle.spec.specs.NodeFormat.{Shape, LastLink, MoreLinks, first_link, are_keys_after}
 use Rattle.node.specs.Contents.{Contents, last_key}
 use Rattle.node.specs.Gaps.{GapIn, rows_behind}
 use Rattle.node.specs.Rows.{Row}
@@ -73,10 +73,12 @@ reading_at gap start key = record {
   rest = shape_of_rows key (gap_at gap.passed gap.node.left gap.node.entries) (rows_behind gap.passed gap.node);
 }
 
--- a reader stands in this gap, behind the last pair, and that pair stands behind the other gap; a run starts in or before it
+-- a reader stands in this gap of a node of the grammar, behind the last pair, and that pair stands behind the other gap; a run
+-- starts in or before it
 pub record IsReader (gap last start : GapIn) (key : List ℕ) : Type 0 where
   pub reading : IsReading gap.node gap.passed key (gap_at gap.passed gap.node.left gap.node.entries)
       (rows_behind gap.passed gap.node)
+  pub ascending : are_keys_after [] gap.node.entries ≡ true
   pub last_node : last.node ≡ gap.node
   pub last_passed : last.passed ≡ gap.passed - 1
   pub start_node : start.node ≡ gap.node
@@ -88,11 +90,12 @@ pub record IsGapOf (gap : GapIn) (pairs : ℕ) (r : Reading) : Type 0 where
   pub pairs_are : gap.passed ≡ pairs
   pub within : pairs ≤ length r.passed
 
--- two gaps of the node that is read
+-- two gaps of the node that is read, whose keys are of the grammar
 pub record AreGapsOf (start end : GapIn) (pairs : ℕ) (r : Reading) : Type 0 where
   pub first : IsGapOf start r.start r
   pub then : IsGapOf end pairs r
   pub same : end.node ≡ start.node
+  pub ascending : are_keys_after [] start.node.entries ≡ true
 
 -- the pairs from this one on, up to that one
 abbrev pub part_of : ℕ → ℕ → List (Option (List ℕ) × Pair) → List (Option (List ℕ) × Pair)

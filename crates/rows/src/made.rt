@@ -2,7 +2,8 @@
 
 ghost use Rattle.std.specs.Prelude.{◌≡◌, ◌∷◌, ◌++◌, [], OnOk};
 ghost use Rattle.std.specs.Arc.{arc_value};
-ghost use Rattle.rows.specs.Drafts.{AreSpelled, IsSpelled};
+ghost use Rattle.edit_laws.specs.Lawful.{HasKeys};
+ghost use Rattle.rows.specs.Drafts.{AreSpelled, HaveKeys, IsSpelled, shape_in};
 
 use block::Block;
 use cid::Digest;
@@ -11,8 +12,8 @@ use std::clone::Clone;
 use std::marker::Model;
 use std::sync::Arc;
 
-/// The blocks that an edit makes, in the order in which they are made. Each is a node: only a [`Draft`](crate::Draft) comes
-/// to them.
+/// The blocks that an edit makes, in the order in which they are made. Each is a node, with keys of 1 to 1,024 bytes that
+/// ascend: only a [`Draft`](crate::Draft) comes to them.
 ///
 /// A contract sees it as the list of the blocks.
 #[derive(Drop)]
@@ -24,13 +25,13 @@ impl<D: Digest, A: Allocator> Model for Made<D, A> {
     ghost use Rattle.std.specs.Prelude.{ℕ, List};
     ghost use Rattle.std.specs.declared.sync.Arc.{Arc};
     ghost use Rattle.std.specs.declared.vec.Vec.{Vec};
-    ghost use Rattle.rows.specs.Drafts.{AreSpelled};
+    ghost use Rattle.rows.specs.Drafts.{AreNodes};
 
     ghost Value = { Vec (Arc (List ℕ) A) A };
 
     ghost view = { λ m. m.blocks };
 
-    ghost invariant = { λ m. AreSpelled m.blocks.items };
+    ghost invariant = { λ m. AreNodes m.blocks.items };
 }
 
 impl<D: Digest, A: Allocator> Made<D, A> {
@@ -45,10 +46,18 @@ impl<D: Digest, A: Allocator> Made<D, A> {
 
     /// Adds the block of a node as the last.
     pub(crate) fn push(&mut self, node: Arc<Block<D, A>, A>) -> Result<(), AllocError>
-        requires { IsSpelled (arc_value node) }
+        requires spelled { IsSpelled (arc_value node) }
+        requires keys { HasKeys (shape_in (arc_value node)) }
         ensures { OnOk result (self.new.items ≡ self.old.items ++ node ∷ []) }
     {
         Ok(self.blocks.push(node)?)
+    }
+
+    /// Each node has keys of 1 to 1,024 bytes that ascend. This is a statement for proofs alone: it does nothing.
+    pub fn have_keys(&self)
+        ensures { HaveKeys self.now.items }
+    {
+        let _ = &self.blocks;
     }
 
     /// The blocks alone.

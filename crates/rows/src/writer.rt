@@ -1,10 +1,11 @@
 //! Nodes written link by link and pair by pair, or in runs of an old node's.
 
-ghost use Rattle.std.specs.Prelude.{◌≡◌, ◌≤◌, ◌+◌, ◌<◌, ◌∷◌, ◌++◌, [], true, length, take, option_map, IfOk, IfErr, OnOk};
-ghost use Rattle.spec.specs.NodeFormat.{LastLink};
+ghost use Rattle.std.specs.Prelude.{◌≡◌, ◌≤◌, ◌+◌, ◌<◌, ◌∷◌, ◌++◌, [], true, None, length, take, option_map, IfOk, IfErr, OnOk};
+ghost use Rattle.spec.specs.NodeFormat.{LastLink, are_keys_after};
 ghost use Rattle.node.specs.Contents.{last_key};
 ghost use Rattle.node.specs.Search.{gap_at};
 ghost use Rattle.cid.specs.CidRef.{bytes_of};
+ghost use Rattle.edit_laws.specs.Lawful.{HasKeys};
 ghost use Rattle.rows.specs.Drafts.{onto, IsFaultOf, IsFaultOfAll, pair_of, IsNode};
 ghost use Rattle.rows.specs.Entries.{part_of, key_behind, rows_between};
 ghost use Rattle.rows.specs.OldNodes.{linked};
@@ -106,6 +107,16 @@ impl<'a, A: Allocator + Clone> Writer<'a, A> {
         Ok(())
     }
 
+    /// The keys so far have 1 to 1,024 bytes and ascend. This is a statement for proofs alone: it does nothing.
+    pub fn has_keys(&self)
+        ensures { HasKeys (onto self.now (LastLink None)) }
+    {
+        match &self.rows {
+            Rows::Nothing => (),
+            Rows::Open(node) => node.has_keys(),
+        }
+    }
+
     /// Adds the last link.
     pub fn finish(self, last: Option<Cid>) -> Result<Draft<A>, DraftFault>
         ensures ok { IfOk result (IsNode (onto self.entry (LastLink last))) }
@@ -148,6 +159,7 @@ impl<'a, A: Allocator + Clone> Rows<'a, A> {
         requires order { start.now.passed < end.now.passed }
         requires follows { key_behind [] (rows_in self)
             ≡ last_key [] (take start.now.passed start.now.node.entries) }
+        requires ascending { are_keys_after [] start.now.node.entries ≡ true }
         ensures { IfOk result (λ rows. rows_in rows ≡ rows_in self.entry
             ++ rows_between start.now.passed end.now.passed start.now.node) }
     {
@@ -202,6 +214,7 @@ impl<'a, A: Allocator + Clone> OpenNode<'a, A> {
         requires same { end.now.node ≡ start.now.node }
         requires order { start.now.passed < end.now.passed }
         requires first { last_key [] (take start.now.passed start.now.node.entries) ≡ [] }
+        requires ascending { are_keys_after [] start.now.node.entries ≡ true }
         ensures { IfOk result (λ node. node
             ≡ rows_between start.now.passed end.now.passed start.now.node) }
     {
@@ -214,6 +227,7 @@ impl<'a, A: Allocator + Clone> OpenNode<'a, A> {
         key: &[u8],
         value: CidRef<'_>,
     ) -> Result<OpenNode<'a, A>, DraftFault>
+        requires keys { are_keys_after [] closed.entries ≡ true }
         ensures ok { IfOk result (λ node. node ≡ linked closed.left closed.entries
             ++ (
               gap_at (length closed.entries) closed.left closed.entries,
@@ -248,6 +262,8 @@ impl<'a, A: Allocator + Clone> OpenNode<'a, A> {
             ≡ last_key [] (take start.now.passed start.now.node.entries) }
         requires link { gap_at (length closed.entries) closed.left closed.entries
             ≡ gap_at start.now.passed start.now.node.left start.now.node.entries }
+        requires keys { are_keys_after [] closed.entries ≡ true }
+        requires ascending { are_keys_after [] start.now.node.entries ≡ true }
         ensures { IfOk result (λ node. node ≡ linked closed.left closed.entries
             ++ rows_between start.now.passed end.now.passed start.now.node) }
     {
@@ -257,6 +273,13 @@ impl<'a, A: Allocator + Clone> OpenNode<'a, A> {
             written,
             behind: end.link(),
         })
+    }
+
+    /// Its keys have 1 to 1,024 bytes and ascend. This is a statement for proofs alone: it does nothing.
+    fn has_keys(&self)
+        ensures { HasKeys (onto self.now (LastLink None)) }
+    {
+        let _ = &self.written;
     }
 
     /// Whether the last pair has this key.
@@ -287,6 +310,7 @@ impl<'a, A: Allocator + Clone> OpenNode<'a, A> {
         requires order { start.now.passed < end.now.passed }
         requires follows { key_behind [] self
             ≡ last_key [] (take start.now.passed start.now.node.entries) }
+        requires ascending { are_keys_after [] start.now.node.entries ≡ true }
         ensures { IfOk result (λ node. node
             ≡ self.entry ++ rows_between start.now.passed end.now.passed start.now.node) }
     {
@@ -299,6 +323,7 @@ impl<'a, A: Allocator + Clone> OpenNode<'a, A> {
         ensures link { IfOk result
             (λ closed. gap_at (length closed.entries) closed.left closed.entries ≡ link) }
         ensures some { IfOk result (λ closed. 0 < length closed.entries) }
+        ensures keys { IfOk result (λ closed. are_keys_after [] closed.entries ≡ true) }
     {
         let OpenNode { written, behind } = self;
         if is_same(&link, behind) {

@@ -10,8 +10,10 @@ returns-then-not-is_next-clause-fault g c s has =
 
 pub invariant_of-result : goal.invariant_of-result
 invariant_of-result g c =
-    (opened-pair c.args.closed c.entry.new.self (pair_of c.args.key.now c.args.value) c.in_ok-entry.ensures.ok).begun
+    (opened-pair c.args.closed c.entry.new.self (pair_of c.args.key.now c.args.value) c.in_ok-entry.ensures.ok
+    c.requires.keys (sym c.is_next.ensures ∙ c.if-not-is_next.false)).begun
 
 pub returns-clause-ok : goal.returns-clause-ok
 returns-clause-ok g c =
-    (opened-pair c.args.closed c.entry.new.self (pair_of c.args.key.now c.args.value) c.in_ok-entry.ensures.ok).rows_is
+    (opened-pair c.args.closed c.entry.new.self (pair_of c.args.key.now c.args.value) c.in_ok-entry.ensures.ok
+    c.requires.keys (sym c.is_next.ensures ∙ c.if-not-is_next.false)).rows_is

@@ -1,9 +1,10 @@
-use Rattle.std.proofs.Common.{◌≡◌, ◌<◌, length}
+use Rattle.std.proofs.Common.{◌≡◌, ◌<◌, true, [], length}
 use Rattle.std.proofs.lemmas.Result.{IfOk-weaker}
+use Rattle.spec.specs.NodeFormat.{are_keys_after}
 use Rattle.node.specs.Contents.{Contents}
 use Rattle.node.specs.Search.{gap_at, relink_at}
 use Rattle.rows.specs.OldNodes.{linked}
-use Rattle.rows.proofs.Runs.{relinked-all}
+use Rattle.rows.proofs.Runs.{relinked-all, relinked-keys}
 use Rattle.rows.proofs.writer.OpenNode.closed.Goals as goal
 
 pub returns-clause-rows : goal.returns-clause-rows
@@ -26,3 +27,10 @@ returns-clause-some g c =
     IfOk-weaker c.relinked.result (λ (w : Contents). w ≡ relink_at (length was.entries) was.left was.entries c.args.link)
     (λ (w : Contents). 0 < length w.entries)
     (λ w is. (relinked-all was w c.args.link c.args.self is c.self.view_is c.self.invariant.some).2) c.relinked.ensures
+
+pub returns-clause-keys : goal.returns-clause-keys
+returns-clause-keys g c =
+    let was = c.self.inside.written in
+    IfOk-weaker c.relinked.result (λ (w : Contents). w ≡ relink_at (length was.entries) was.left was.entries c.args.link)
+    (λ (w : Contents). are_keys_after [] w.entries ≡ true)
+    (λ w is. relinked-keys was w c.args.link is c.self.invariant.keys) c.relinked.ensures

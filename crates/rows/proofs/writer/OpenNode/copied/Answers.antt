@@ -24,7 +24,7 @@ invariant_of-result g c =
     ∙ ap (λ (n : ℕ). gap_at n start.node.left start.node.entries) (sym c.passed.ensures.passed) in
     subst (λ l. IsBegun c.copy.new.self l) (sym behind)
     (opened-run c.args.closed c.copy.new.self start.node start.passed c.passed.result more within c.requires.link
-    c.in_ok-copy.ensures.ok).begun
+    c.in_ok-copy.ensures.ok c.requires.keys c.requires.ascending c.requires.follows).begun
 
 pub returns : goal.returns
 returns g c =
@@ -32,5 +32,5 @@ returns g c =
     let more : start.passed < c.passed.result = omega (arith, c.requires.order, c.passed.ensures.passed) in
     let within = subst (λ (m : Contents). c.passed.result ≤ length m.entries) c.requires.same c.passed.ensures.within in
     (opened-run c.args.closed c.copy.new.self start.node start.passed c.passed.result more within c.requires.link
-    c.in_ok-copy.ensures.ok).rows_is
+    c.in_ok-copy.ensures.ok c.requires.keys c.requires.ascending c.requires.follows).rows_is
     ∙ ap (λ (n : ℕ). linked c.args.closed.left c.args.closed.entries ++ rows_between start.passed n start.node) c.passed.ensures.passed
