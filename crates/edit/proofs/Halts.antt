@@ -479,9 +479,10 @@ none-goes_on (x ∷ ls) n rest = absurd (omega arith)
 
 at-reached : (most : ℕ) (why : Stop) (s : LinkEdge) (now : Log) (e : Stopped) → IsAt most why s now e
     → AreWritten HasKeys s now → IsReached most (Err e)
-at-reached most why s now e h w =
-    (subst (λ x. AreFew most x e.log) (sym h.why_is) (subst (λ l. AreFew most why l) (sym h.log_is) h.few),
-      record { made = subst (λ (l : Log). AllByRecursion HasKeys l.made) (sym h.log_is) w.made; begun = h.begun w.begun })
+at-reached most why s now e h w = (
+  subst (λ x. AreFew most x e.log) (sym h.why_is) (subst (λ l. AreFew most why l) (sym h.log_is) h.few),
+  record { made = subst (λ (l : Log). AllByRecursion HasKeys l.made) (sym h.log_is) w.made; begun = h.begun w.begun },
+)
 
 halts-reached : (most : ℕ) (why : Stop) (s : LinkEdge) (now : Log) (x : Step Top) → Halts most why s now (at_top x)
     → AreWritten HasKeys s now → IsReached most x
