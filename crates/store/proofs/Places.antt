@@ -17,7 +17,7 @@ use Rattle.std.proofs.lemmas.Option.{none-some, same_Some}
 use Rattle.std.specs.Ordering.{nat_cmp}
 use Rattle.std.specs.FinSet as set
 use Rattle.spec.specs.Cid.{cid as cid_of}
-use Rattle.slab.specs.Slab.{ContainsKey, HasRoomFor, Updates, get, slab_len, with_value}
+use Rattle.slab.specs.Slab.{ContainsKey, HasRoomFor, Updates, SameValues, get, slab_len, with_value}
 use Rattle.slab.proofs.SlabLemmas.{Updates-with_value}
 use Rattle.store.specs.Cores.{IsSetOfMore}
 use Rattle.store.specs.Places.{Sets, Slots, Stored, cores_in, held_in, held_of, key_at, key_of, key_of_entry, set_or_none, HasMore, HaveTheirSets, IsMoved, IsSound, StaysAt}
@@ -130,6 +130,15 @@ none_held slots es q h = none (at es q) (sym (held_at slots es q) ∙ h)
     none : (o : Option Stored) → option_map (held_of slots) o ≡ None → o ≡ None
     none None e = refl
     none (Some x) e = absurd (none-some (held_of slots x) (sym e))
+
+-- where each key has the same set, each entry has the same cores
+pub held_same : (s t : Sets) → SameValues s t → (es : List (List ℕ × Stored)) → held_in t.slots es ≡ held_in s.slots es
+held_same s t keep [] = refl
+held_same s t keep (e ∷ es) = λ i. (e.0, (e.1.0, of_holders e.1.1 i)) ∷ held_same s t keep es i
+  where
+    of_holders : (h : Holders) → cores_in t.slots h ≡ cores_in s.slots h
+    of_holders (One core) = refl
+    of_holders (Several key) = ap set_or_none (keep key)
 
 pub keys_held : (slots : Slots) (es : List (List ℕ × Stored)) → keys_of es ≡ keys_of (held_in slots es)
 keys_held slots [] = refl
@@ -293,16 +302,13 @@ module _ (es : List (List ℕ × Stored)) (s : Sets) (own : HaveTheirSets es s) 
       omega (arith, one, fewer, room)
 
   -- the sets that are there stay, and more may come
-  pub sets_grown : (t : Sets) → t.slots ≡ s.slots → s.capacity ≤ t.capacity → HaveTheirSets es t
-  sets_grown t slots more = record {
-    there = λ q key e. subst (λ x. IsSomeAnd x IsSetOfMore) (sym (at_key key)) (own.there q key e);
+  pub sets_grown : (t : Sets) → SameValues s t → s.capacity ≤ t.capacity → HaveTheirSets es t
+  sets_grown t keep more = record {
+    there = λ q key e. subst (λ x. IsSomeAnd x IsSetOfMore) (sym (keep key)) (own.there q key e);
     apart = own.apart;
-    used = λ key some. own.used key (ap is_some (sym (at_key key)) ∙ some);
+    used = λ key some. own.used key (ap is_some (sym (keep key)) ∙ some);
     room = let room = own.room in omega (arith, room, more);
   }
-    where
-      at_key : (key : ℕ) → get t key ≡ get s key
-      at_key key = ap (λ (xs : Slots). slice_index_or xs key None) slots
 
 -- ---- the whole, after a change
 
@@ -339,14 +345,14 @@ module _ (digest : List ℕ → List ℕ) (es fs : List (List ℕ × Stored)) (s
   -- an entry of one core has come, and there is room for a set of its cores
   pub sound_added : (w : Stored) → IsSound digest es s limit → at es c ≡ None → key_of w.1 ≡ None
       → map.len (map.from_entries {R = slice_cmp nat_cmp} (held_in s.slots es)) < limit
-      → map.len (map.from_entries {R = slice_cmp nat_cmp} es) + 1 ≤ t.capacity → t.slots ≡ s.slots → s.capacity ≤ t.capacity
+      → map.len (map.from_entries {R = slice_cmp nat_cmp} es) < t.capacity → SameValues s t → s.capacity ≤ t.capacity
       → Updated es fs c (Some w) → IsEntry digest c (held_of t.slots w) → IsSound digest fs t limit
-  sound_added w sound here none free room slots more u is =
-      let own = sets_grown es s sound.placed t slots more in
+  sound_added w sound here none free room keep more u is =
+      let own = sets_grown es s sound.placed t keep more in
       let moved : IsMoved t t None (key_of w.1) = subst (λ (o : Option ℕ). IsMoved t t None o) (sym none)
       (moved_not t None (λ key x. absurd (none-some key x))) in record {
         lawful = lawful_added digest (held_in s.slots es) (held_in t.slots fs) limit c (held_of t.slots w) sound.lawful free is
-            (subst (λ (xs : Slots). Updated (held_in xs es) (held_in t.slots fs) c (Some (held_of t.slots w))) slots
+            (subst (λ (xs : List (List ℕ × Held)). Updated xs (held_in t.slots fs) c (Some (held_of t.slots w))) (held_same s t keep es)
             (held_moved es fs t t c None (Some w) own here moved u));
         placed = sets_moved es fs t t c None (Some w) own here moved u
             (let size = ap (λ (m : map.FinMap (slice_cmp nat_cmp) Stored). map.len m) (put_view es fs c w u) ∙ map.len-insert nat_list_cmp_total (map.from_entries es) c w
@@ -356,11 +362,17 @@ module _ (digest : List ℕ → List ℕ) (es fs : List (List ℕ × Stored)) (s
 
 -- only room for more sets has come
 pub sound_grown : (digest : List ℕ → List ℕ) (es fs : List (List ℕ × Stored)) (s t : Sets) (limit : ℕ) → IsSound digest es s limit
-    → fs ≡ es → t.slots ≡ s.slots → s.capacity ≤ t.capacity → IsSound digest fs t limit
-sound_grown digest es fs s t limit sound kept slots more = subst (λ (xs : List (List ℕ × Stored)). IsSound digest xs t limit) (sym kept) (record {
-  lawful = subst (λ (xs : Slots). IsLawful digest (table_view (held_in xs es) limit)) (sym slots) sound.lawful;
-  placed = sets_grown es s sound.placed t slots more;
+    → fs ≡ es → SameValues s t → s.capacity ≤ t.capacity → IsSound digest fs t limit
+sound_grown digest es fs s t limit sound kept keep more = subst (λ (xs : List (List ℕ × Stored)). IsSound digest xs t limit) (sym kept) (record {
+  lawful = subst (λ (xs : List (List ℕ × Held)). IsLawful digest (table_view xs limit)) (sym (held_same s t keep es)) sound.lawful;
+  placed = sets_grown es s sound.placed t keep more;
 })
+
+-- and is not seen
+pub view_grown : (es fs : List (List ℕ × Stored)) (s t : Sets) (limit : ℕ) → fs ≡ es → SameValues s t
+    → table_view (held_in t.slots fs) limit ≡ table_view (held_in s.slots es) limit
+view_grown es fs s t limit kept keep = ap (λ (xs : List (List ℕ × Stored)). table_view (held_in t.slots xs) limit) kept
+    ∙ ap (λ (xs : List (List ℕ × Held)). table_view xs limit) (held_same s t keep es)
 
 -- there are no entries and no sets
 pub sound_empty : (digest : List ℕ → List ℕ) (es : List (List ℕ × Stored)) (s : Sets) (limit : ℕ) → es ≡ [] → s.slots ≡ [] → IsSound digest es s limit
@@ -430,13 +442,13 @@ module _ (es fs : List (List ℕ × Stored)) (s t : Sets) (limit : ℕ) (k : Lis
 
 -- a block has come with its first core
 pub view_added : (es fs : List (List ℕ × Stored)) (s t : Sets) (limit : ℕ) (k : List ℕ) (w : Stored) (bytes : List ℕ) (core : ℕ)
-    → HaveTheirSets es s → at es k ≡ None → t.slots ≡ s.slots → s.capacity ≤ t.capacity → key_of w.1 ≡ None → Updated es fs k (Some w)
+    → HaveTheirSets es s → at es k ≡ None → SameValues s t → s.capacity ≤ t.capacity → key_of w.1 ≡ None → Updated es fs k (Some w)
     → w.0 ≡ bytes → cores_in t.slots w.1 ≡ set.insert set.empty core
     → table_view (held_in t.slots fs) limit ≡ entered (table_view (held_in s.slots es) limit) k bytes core
-view_added es fs s t limit k w bytes core own here slots more none u of_bytes first =
+view_added es fs s t limit k w bytes core own here keep more none u of_bytes first =
     let held : held_of t.slots w ≡ (bytes, set.insert set.empty core) = λ i. (of_bytes i, first i) in
     let moved : IsMoved t t None (key_of w.1) = subst (λ (o : Option ℕ). IsMoved t t None o) (sym none) (moved_not t None (λ key x. absurd (none-some key x))) in
     entered_view (held_in s.slots es) (held_in t.slots fs) limit k bytes core None (held_found s.slots es k None here)
     (subst (λ (z : Held). Updated (held_in s.slots es) (held_in t.slots fs) k (Some z)) held
-    (subst (λ (xs : Slots). Updated (held_in xs es) (held_in t.slots fs) k (Some (held_of t.slots w))) slots
-    (held_moved es fs t t k None (Some w) (sets_grown es s own t slots more) here moved u)))
+    (subst (λ (xs : List (List ℕ × Held)). Updated xs (held_in t.slots fs) k (Some (held_of t.slots w))) (held_same s t keep es)
+    (held_moved es fs t t k None (Some w) (sets_grown es s own t keep more) here moved u)))

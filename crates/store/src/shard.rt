@@ -22,10 +22,12 @@ mod entries;
 mod entry;
 mod hold;
 mod holders;
+mod room;
 
 pub use entries::Entries;
 use entry::Entry;
 pub use hold::Hold;
+use room::make_room;
 
 /// Blocks by their CIDs, each with the cores that hold it, at most `limit` of them.
 ///
@@ -168,11 +170,12 @@ impl<D: Digest, A: Allocator + Clone> Shard<D, A> {
         ensures unchanged { OnErr result (self.new ≡ self.old) }
         ensures fault { IfErr result (IsRefusalOfNew self.old) }
     {
-        if self.table.len() >= self.limit {
+        let entries = self.table.len();
+        if entries >= self.limit {
             return Err(StoreFault::Full);
         }
         let held = Arc::try_clone(&block)?;
-        self.sets.reserve(self.table.len() + 1 - self.sets.len())?;
+        make_room(&mut self.sets, entries)?;
         self.table.insert(cid, Entry::new(core, held))?;
         Ok(Hold { block, core })
     }
