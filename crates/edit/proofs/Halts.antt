@@ -6,14 +6,15 @@ use Rattle.spec.specs.Tree.{Pair}
 use Rattle.spec.specs.NodeFormat.{Shape, LastLink, MoreLinks}
 use Rattle.edit_laws.specs.Lawful.{HasKeys}
 use Rattle.batch_laws.specs.Links.{Rows, LinkEdge, LinkClear, LinkWaiting, LinkOpened, LinkTooDeep, Log, NotShown, Step, Stop, Stopped, add_row, and_then, ask, closing, log_shown, opening, Top, link_edge, noding, pairing, pairs_in_turn, parting, pruning, pruning_at, subtreeing, topping, under_rows, walking, walking_node}
-use Rattle.batch_laws.specs.Written.{AllGoOn}
+use Rattle.batch_laws.specs.Written.{AllGoOn, AreWritten}
+use Rattle.std.specs.List.{AllByRecursion}
 use Rattle.edit.specs.declared.faults.Fault.{Fault}
 use Rattle.edit.specs.declared.faults.Fault.TheVariants as faults
 use Rattle.edit.specs.Edges.{edge_of, within, under, joined, around, is_clear, highest_of}
 use Rattle.edit.specs.Stops.{at_top, open_edge, IsUnshown}
 use Rattle.edit.specs.Budgets.{Budget}
 use Rattle.edit.specs.States.{edge_in, log_in, IsCounted, IsOpenAt, IsOnTheWay}
-use Rattle.edit.specs.Halts.{AreFew, IsAt, Halts, IsHalted, IsHaltedFrom, most_in, Stays, IsStill}
+use Rattle.edit.specs.Halts.{AreFew, IsAt, Halts, IsHalted, IsHaltedFrom, IsReached, IsReachedFor, most_in, Stays, IsStill}
 use Rattle.edit.specs.declared.edge.Edge.{Edge}
 use Rattle.batch_laws.specs.Batch.{Change, entry, if_put, puts}
 use Rattle.batch_laws.specs.Walking.{depth_of}
@@ -468,3 +469,30 @@ module _ (digest : List ℕ → List ℕ) (shows : List ℕ → Option Shape) wh
       subst (λ o. IsHaltedFrom old new (at_top o) f)
       (sym (none-top digest shows k d old.levels.items old.rest (log_in old) e h
       ∙ ap (λ l. topping digest shows k (link_edge l) (log_in old)) n)) s
+
+-- ---- what a batch reaches
+
+pub none-goes_on : (ls : List Rows) → length ls < 1 → (rest : Option (List ℕ)) → AllGoOn HasKeys (edge_of ls rest)
+none-goes_on [] n None = tt
+none-goes_on [] n (Some c) = tt
+none-goes_on (x ∷ ls) n rest = absurd (omega arith)
+
+at-reached : (most : ℕ) (why : Stop) (s : LinkEdge) (now : Log) (e : Stopped) → IsAt most why s now e
+    → AreWritten HasKeys s now → IsReached most (Err e)
+at-reached most why s now e h w =
+    (subst (λ x. AreFew most x e.log) (sym h.why_is) (subst (λ l. AreFew most why l) (sym h.log_is) h.few),
+      record { made = subst (λ (l : Log). AllByRecursion HasKeys l.made) (sym h.log_is) w.made; begun = h.begun w.begun })
+
+halts-reached : (most : ℕ) (why : Stop) (s : LinkEdge) (now : Log) (x : Step Top) → Halts most why s now (at_top x)
+    → AreWritten HasKeys s now → IsReached most x
+halts-reached most why s now (Ok x) h w = absurd h
+halts-reached most why s now (Err e) h w = at-reached most why s now e h w
+
+-- where it stops for its source
+pub halted-reached : (most : ℕ) (s : LinkEdge) (now : Log) (x : Step Top) (f : Fault) → IsHalted most s now (at_top x) f
+    → AreWritten HasKeys s now → IsReachedFor most x f
+halted-reached most s now x (faults.Missing c) h w = halts-reached most (NotShown c) s now x h w
+halted-reached most s now x (faults.BadNode c) h w = halts-reached most (NotShown c) s now x h w
+halted-reached most s now x faults.TooDeep h w = halts-reached most LinkTooDeep s now x h w
+halted-reached most s now x faults.NotTree h w = tt
+halted-reached most s now x faults.NoMemory h w = tt

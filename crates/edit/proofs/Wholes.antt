@@ -23,6 +23,10 @@ use Rattle.edit.specs.declared.faults.Fault.{Fault}
 use Rattle.edit.specs.declared.faults.Fault.TheVariants as faults
 use Rattle.edit.proofs.Stopping.{empty-keys, Goes, leads-stopped, onward-leads, from-stopped, memory-stopped, asked-unread}
 use Rattle.edit.proofs.Ending.{top-goes}
+use Rattle.std.specs.List.{AllByRecursion}
+use Rattle.batch_laws.specs.Written.{AreWritten}
+use Rattle.edit.specs.Halts.{IsHalted, IsReached, IsReachedFor}
+use Rattle.edit.proofs.Halts.{halted-by, halted-reached, then-follows}
 
 pub whole : (digest : List ℕ → List ℕ) (shows : List ℕ → Option Shape) (layer : List ℕ → ℕ) (n t d : ℕ) (cs : List Change)
     (root : List ℕ) (node : Shape) (start first : Log) (begun s : LinkEdge) (later : Log) (top : List ℕ) (gone : ℕ) (now : Log)
@@ -152,16 +156,21 @@ module _ {A : Type 0} (gives : List ℕ → Option A) (digest : List ℕ → Lis
       (λ m l. then-top-goes (layer_of_shape layer m) (n - suc (layer_of_shape layer m)) m LinkClear l)
       (unread-more b a left all.1 root (shows root) f e (most-one layer cs (shows root)) u))
 
-  batch-is : (t d : ℕ) (node : Shape) (start first : Log) (begun : LinkEdge) → start ≡ none
+  from-is : (t d : ℕ) (node : Shape) (start first : Log) (begun : LinkEdge) → start ≡ none
       → ask shows root LinkClear start ≡ Ok (node, first) → t ≡ layer_of_shape layer node → d ≡ n - suc t → begun ≡ LinkClear
-      → batch ≡ at_top (and_then (node_does digest shows layer n t d cs node begun first) (topping digest shows n))
-  batch-is t d node start first begun e a t_is d_is b =
-      ap at_top
-      (ap (λ x. and_then (ask shows root LinkClear x) (λ m log. and_then (walking_top digest shows layer n cs m log) (topping digest shows n))) (sym e)
+      → batch_from digest shows layer n cs root
+      ≡ and_then (node_does digest shows layer n t d cs node begun first) (topping digest shows n)
+  from-is t d node start first begun e a t_is d_is b =
+      ap (λ x. and_then (ask shows root LinkClear x) (λ m log. and_then (walking_top digest shows layer n cs m log) (topping digest shows n))) (sym e)
       ∙ ap (λ x. and_then x (λ m log. and_then (walking_top digest shows layer n cs m log) (topping digest shows n))) a
       ∙ ap (λ m. and_then (node_does digest shows layer n m (n - suc m) cs node LinkClear first) (topping digest shows n)) (sym t_is)
       ∙ ap (λ m. and_then (node_does digest shows layer n t m cs node LinkClear first) (topping digest shows n)) (sym d_is)
-      ∙ ap (λ m. and_then (node_does digest shows layer n t d cs node m first) (topping digest shows n)) (sym b))
+      ∙ ap (λ m. and_then (node_does digest shows layer n t d cs node m first) (topping digest shows n)) (sym b)
+
+  batch-is : (t d : ℕ) (node : Shape) (start first : Log) (begun : LinkEdge) → start ≡ none
+      → ask shows root LinkClear start ≡ Ok (node, first) → t ≡ layer_of_shape layer node → d ≡ n - suc t → begun ≡ LinkClear
+      → batch ≡ at_top (and_then (node_does digest shows layer n t d cs node begun first) (topping digest shows n))
+  batch-is t d node start first begun e a t_is d_is b = ap at_top (from-is t d node start first begun e a t_is d_is b)
 
   -- the old top is read, and what comes after that stops
   module _ (t d : ℕ) (node : Shape) (start first : Log) (begun : LinkEdge) (e : start ≡ none)
@@ -199,3 +208,35 @@ module _ {A : Type 0} (gives : List ℕ → Option A) (digest : List ℕ → Lis
         from-first b m a f i
         (subst (λ o. IsStopped gives m a first (at_top (and_then o (topping digest shows n))) f) (sym w)
         (from-stopped gives m k a first later (at_top (topping digest shows n u later)) f j s))
+
+    -- and what it reaches
+
+    abbrev result : Step Top
+    result = batch_from digest shows layer n cs root
+
+    pub walk-reached : (most : ℕ) (s : LinkEdge) (now : Log) (f : Fault)
+        → IsHalted most s now (node_does digest shows layer n t d cs node begun first) f → AreWritten HasKeys s now
+        → IsReachedFor most result f
+    walk-reached most s now f h w =
+        let x = node_does digest shows layer n t d cs node begun first in
+        let y = and_then x (topping digest shows n) in
+        subst (λ o. IsReachedFor most o f) (sym (from-is t d node start first begun e shown t_is d_is clear))
+        (halted-reached most s now y f
+        (subst (λ o. IsHalted most s now o f) (sym (at-top-then x (topping digest shows n)))
+        (halted-by s s x (and_then x (λ u l. at_top (topping digest shows n u l))) most now f
+        (then-follows s x (λ u l. at_top (topping digest shows n u l))) h)) w)
+
+    pub finish-reached : (most : ℕ) (s : LinkEdge) (now : Log) (f : Fault) (u : LinkEdge) (later : Log)
+        → node_does digest shows layer n t d cs node begun first ≡ Ok (u, later)
+        → IsHalted most s now (at_top (topping digest shows n u later)) f → AreWritten HasKeys s now → IsReachedFor most result f
+    finish-reached most s now f u later k h w =
+        subst (λ o. IsReachedFor most o f)
+        (sym (from-is t d node start first begun e shown t_is d_is clear ∙ ap (λ o. and_then o (topping digest shows n)) k))
+        (halted-reached most s now (topping digest shows n u later) f h w)
+
+-- where there is an answer
+pub ended-reached : (most : ℕ) (answer : Step Top) (root : List ℕ) (gone : ℕ) (now : Log) → IsEnded answer root gone now
+    → length now.read ≤ most → AllByRecursion HasKeys now.made → IsReached most answer
+ended-reached most answer root gone now w n h =
+    subst (IsReached most) (sym w.is)
+    (subst (λ (xs : List Shape). length xs ≤ most) w.read n, subst (λ (xs : List Shape). AllByRecursion HasKeys xs) w.made h)

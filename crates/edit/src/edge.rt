@@ -1,6 +1,6 @@
 //! The right edge of the new tree, and a pair that comes to it.
 
-ghost use Rattle.std.specs.Prelude.{◌≡◌, ◌<◌, ◌≤◌, ◌+◌, ◌∷◌, ◌++◌, [], List, Option, None, Some, length, take, drop, IfOk, IfErr, OnOk, Ok};
+ghost use Rattle.std.specs.Prelude.{◌≡◌, ◌<◌, ◌≤◌, ◌+◌, ◌∷◌, ◌++◌, [], List, Option, None, Some, length, take, drop, IfOk, IfErr, OnOk, Ok, ℕ};
 ghost use Rattle.lookups.specs.Steps.{nodes_given};
 ghost use Rattle.rows.specs.Drafts.{pair_of};
 ghost use Rattle.rows.specs.Entries.{shape_of};

@@ -81,7 +81,8 @@ pub(crate) fn change_tree<
     let previous = walked?;
     let ended = edge.finish(src, layers);
     edge.is_written();
-    let (root, gone) = ended?;
+    let ended = ended?;
+    let (root, gone) = ended;
     Ok(Changed {
         root,
         gone,
