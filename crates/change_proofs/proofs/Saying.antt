@@ -85,16 +85,16 @@ module _ {X : Type 0} (gives : List ℕ → Option X) (most : ℕ) (answer : Ste
   halt-said h why stops = within-said h ∙ stop-said gives answer vs cs before why stops
 
   -- why there is no preview is why nothing is shown
-  pub fault-said : (Y : Type 0) {D A : Type 0} (fault : EditFault D A) → IsPreviewReason gives most answer fault
-      → IsReachedHere {X = Y} most answer (Err fault) → IsFault gives verdict (of_preview fault)
-  fault-said Y (edits.Missing c) h r = (h.0, halt-said r (NotShown c) h.1 ∙ ap (λ o. Err (unshown c o)) h.0)
-  fault-said Y (edits.BadNode c) h r =
+  pub fault-said : {D A : Type 0} (fault : EditFault D A) → IsPreviewReason gives most answer fault
+      → IsReachedHere {X = Unit {0}} most answer (Err fault) → IsFault gives verdict (of_preview fault)
+  fault-said (edits.Missing c) h r = (h.0, halt-said r (NotShown c) h.1 ∙ ap (λ o. Err (unshown c o)) h.0)
+  fault-said (edits.BadNode c) h r =
       (h.0, halt-said r (NotShown c) h.1 ∙ ap (λ f. Err f) (unshown-given c (gives c) h.0))
-  fault-said Y edits.TooDeep h r = halt-said r LinkTooDeep h
-  fault-said Y edits.NotTree h r = beyond-said h
-  fault-said Y edits.NoSuchKey h r = absurd h
-  fault-said Y (edits.Clash pair) h r = absurd h
-  fault-said Y edits.NoMemory h r = tt
+  fault-said edits.TooDeep h r = halt-said r LinkTooDeep h
+  fault-said edits.NotTree h r = beyond-said h
+  fault-said edits.NoSuchKey h r = absurd h
+  fault-said (edits.Clash pair) h r = absurd h
+  fault-said edits.NoMemory h r = tt
 
   module _ (new : List ℕ) (left : List Shape) (log : Log) (is : answer ≡ Ok ((new, left), log)) (few : IsReached most answer)
       (told : Result (Unit {0}) GivenFault) (is_told : are_told 0 vs cs ≡ told) where
@@ -156,10 +156,10 @@ module _ {A : Type 0} (digest : List ℕ → List ℕ) (bits : ℕ) (gives : Lis
       new p.left p.log p.is few told (subst (λ vs. are_told 0 vs cs ≡ told) (values-are new previous read p) q)
 
   -- why there is no preview is the verdict
-  pub reason-said : (Y : Type 0) {D : Type 0} (before : List ℕ) (fault : EditFault D A)
+  pub reason-said : {D : Type 0} (before : List ℕ) (fault : EditFault D A)
       → IsPreviewReason gives (most_of digest bits gives (undone cs) root) answer fault
-      → IsReachedHere {X = Y} (most_of digest bits gives (undone cs) root) answer (Err fault)
+      → IsReachedHere {X = Unit {0}} (most_of digest bits gives (undone cs) root) answer (Err fault)
       → IsSaidOver digest bits gives before root cs (Err (of_preview fault))
-  reason-said Y before fault h few =
+  reason-said before fault h few =
       fault-said gives (most_of digest bits gives (undone cs) root) answer (values_met digest bits gives root cs) cs before
-      Y fault h few
+      fault h few

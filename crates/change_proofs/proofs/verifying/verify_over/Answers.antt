@@ -17,7 +17,7 @@ returns-in_err-found g c =
     let p = err_from_is_err_and c.from_residual-in_err-found.result c.from_residual-in_err-found.ensures.1 in
     rw p.1
     (subst (λ fault. IsSaidOver digest g.row.B gives c.args.before c.args.after cs (Err fault)) (sym p.2)
-    (reason-said digest g.row.B gives c.args.after cs _ c.args.before c.in_err-found.field-0.0
+    (reason-said digest g.row.B gives c.args.after cs c.args.before c.in_err-found.field-0.0
     (subst (λ us. IsPreviewReason gives (most_of digest g.row.B gives us c.args.after)
     (answer_of digest g.row.B gives us c.args.after) c.in_err-found.field-0.0)
     (c.deref.ensures.value ∙ c.in_ok-undone.ensures) c.in_err-found.ensures.lack)
