@@ -1,5 +1,5 @@
 -- Changes that are true are shown where the nodes are given that undoing reads.
-use Rattle.std.proofs.Common.{◌≡◌, ℕ, List, sym, subst, ◌∙◌, Option, Result, Ok, Err}
+use Rattle.std.proofs.Common.{◌≡◌, ℕ, List, sym, subst, ◌∙◌, Result, Ok, Err}
 use Rattle.std.specs.Prelude.{Contains}
 use Rattle.spec.specs.Cid.{IsDigest}
 use Rattle.spec.specs.Tree.{Pair}
