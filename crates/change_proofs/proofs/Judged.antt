@@ -2,28 +2,28 @@
 use Rattle.std.proofs.Common.{◌≡◌, ℕ, suc, max, Bool, true, false, cond, List, [], ◌∷◌, map, refl, sym, ap, subst, ◌∙◌, Option, option_map, Result, Ok, Err}
 use Rattle.std.specs.Arc.{arc_value}
 use Rattle.std.proofs.Math.Path.{fun_ext}
-use Rattle.std.specs.Prelude.{IsSome}
+use Rattle.std.specs.Prelude.{IsSome, if◌then◌else◌}
 use Rattle.std.specs.Str.{bytes_eq}
 use Rattle.std.specs.declared.option.Option.TheVariants.{Some, None}
 use Rattle.std.specs.declared.sync.Arc.{Arc}
 use Rattle.spec.specs.Cid.{cid, IsDigest}
-use Rattle.spec.specs.Reading.{◌>>=◌, ensure}
+use Rattle.spec.specs.Reading.{◌>>=◌}
 use Rattle.spec.specs.Layer.{layer}
 use Rattle.spec.specs.NodeFormat.{Shape}
 use Rattle.edit_laws.specs.Sources.{shown_by}
 use Rattle.lookups.specs.Maps.{first_of}
 use Rattle.lookups.specs.Steps.{nodes_given}
 use Rattle.batch_laws.specs.Batch.{Change, AreKeyed}
-use Rattle.batch_laws.specs.Links.{NotShown, LinkTooDeep, Step, Stop, Top, batch_from}
+use Rattle.batch_laws.specs.Links.{Log, NotShown, LinkTooDeep, Step, Stop, Top, batch_from}
 use Rattle.edit.specs.Batches.{answer_of as answer_over, put_layers as edit_put_layers}
 use Rattle.batch_laws.specs.Counts.{most_from}
-use Rattle.edit.specs.Stops.{IsUnreached, at_top}
 use Rattle.edit.specs.Tops.{layers_needed as edit_layers_needed}
 use Rattle.change_laws.specs.Told.{KeyChange, undone}
-use Rattle.change_laws.specs.Given.{ChangeFault as GivenFault, OtherRoot as HasOtherRoot, given_at, put_layers, layers_needed, unshown, fault_of, or_fault, batch_over}
-use Rattle.change_laws.specs.Verdict.{previous_of, are_told, values_given, change_verdict}
+use Rattle.change_laws.specs.Within.{is_within}
+use Rattle.change_laws.specs.Given.{ChangeFault as GivenFault, NotTree as HasNotTree, given_at, put_layers, layers_needed, unshown, fault_of, or_stop, batch_over}
+use Rattle.change_laws.specs.Verdict.{previous_of, are_told, change_verdict}
 use Rattle.change_laws.proofs.Showing.{verdict-sound}
-use Rattle.change_proofs.specs.Verdicts.{SaysOf, IsSaidOver, IsVerdict, IsRight, values_met}
+use Rattle.change_proofs.specs.Verdicts.{IsFault, IsSaid, IsSaidOver, IsVerdict, IsRight, judgement, verdict_of, verdict_over}
 use Rattle.change_proofs.specs.declared.change_fault.ChangeFault.{ChangeFault}
 use Rattle.change_proofs.specs.declared.change_fault.ChangeFault.TheVariants.{BlockMissing, BadNode, TooDeep, NotTree, OtherValue, OtherRoot, NoMemory}
 
@@ -85,11 +85,10 @@ fault-same digest bs (NotShown c) =
     unshown-same arc_value c (first_of digest bs c) ∙ ap (unshown c) (first-is digest bs c)
 fault-same digest bs LinkTooDeep = refl
 
-says-same : {A : Type 0} (digest : List ℕ → List ℕ) (bs : List (Arc (List ℕ) A)) (answer : Step Top)
-    (vs : List (Option (List ℕ))) (cs : List KeyChange) (before : List ℕ) (r : Result (Unit {0}) GivenFault)
-    → SaysOf (first_of digest bs) answer vs cs before r → SaysOf (given_at digest (map arc_value bs)) answer vs cs before r
-says-same digest bs (Ok x) vs cs before r h = h
-says-same digest bs (Err e) vs cs before r h = ap (λ f. Err f) (sym (fault-same digest bs e.why)) ∙ h
+stop-same : {A : Type 0} (digest : List ℕ → List ℕ) (bs : List (Arc (List ℕ) A)) (step : Step Top)
+    → or_stop (first_of digest bs) step ≡ or_stop (given_at digest (map arc_value bs)) step
+stop-same digest bs (Ok x) = refl
+stop-same digest bs (Err e) = ap (λ f. Err f) (fault-same digest bs e.why)
 
 map-some : {X Y : Type 0} (f : X → Y) (o : Option X) → IsSome o → IsSome (option_map f o)
 map-some f None h = absurd cc
@@ -99,60 +98,52 @@ first-given : {A : Type 0} (digest : List ℕ → List ℕ) (bs : List (Arc (Lis
     → IsSome (first_of digest bs c) → IsSome (given_at digest (map arc_value bs) c)
 first-given digest bs c h = subst (λ o. IsSome o) (first-is digest bs c) (map-some arc_value (first_of digest bs c) h)
 
--- an answer says what the steps of a verdict come to
-steps-say : (gives : List ℕ → Option (List ℕ)) (step : Step Top) (vs : List (Option (List ℕ))) (cs : List KeyChange)
-    (before : List ℕ) (r : Result (Unit {0}) GivenFault) → SaysOf gives step vs cs before r
-    → (or_fault gives step >>= (λ old. are_told 0 vs cs >>= (λ told. ensure (bytes_eq old.0.0 before) HasOtherRoot))) ≡ r
-steps-say gives (Ok x) vs cs before r h = h
-steps-say gives (Err e) vs cs before r h = h
-
 module _ {A : Type 0} (digest : List ℕ → List ℕ) (bits : ℕ) (before after : List ℕ) (bs : List (Arc (List ℕ) A))
     (cs : List KeyChange) where
   abbrev given : List (List ℕ)
   given = map arc_value bs
 
-  abbrev shows : List ℕ → Option Shape
-  shows = shown_by (given_at digest given)
+  abbrev verdict_by : {X : Type 0} → (List ℕ → Option X) → (List ℕ → Option Shape) → Step Top → Result (Unit {0}) GivenFault
+  verdict_by gives shows step =
+      verdict_of gives (most_from (layer digest bits) (undone cs) (shows after)) step
+      (previous_of shows (layer digest bits) (undone cs) (shows after)) cs before
 
-  says-is : (r : Result (Unit {0}) GivenFault)
-      → SaysOf (first_of digest bs) (answer_over digest bits (first_of digest bs) (undone cs) after)
-      (values_met digest bits (first_of digest bs) after cs) cs before r
-      → change_verdict digest bits before after given cs ≡ r
+  -- the verdict over these blocks as a source
+  verdict-same : verdict_over digest bits (first_of digest bs) before after cs ≡ change_verdict digest bits before after given cs
   unfolding change_verdict
-  says-is r h =
+  verdict-same =
       let gives = given_at digest given in
-      let step = batch_over digest bits gives (undone cs) after in
-      let values = values_given digest bits given (undone cs) after in
-      let a = subst (λ (s : List ℕ → Option Shape).
-      SaysOf (first_of digest bs) (answer_over digest bits (first_of digest bs) (undone cs) after)
-      (previous_of s (layer digest bits) (undone cs) (s after)) cs before r) (shows-same digest bs) h in
-      let b = subst (λ (o : Step Top). SaysOf (first_of digest bs) o values cs before r)
-      (answer-same digest bits bs (undone cs) after) a in
-      steps-say gives step values cs before r (says-same digest bs step values cs before r b)
+      let shows = nodes_given (first_of digest bs) in
+      let step = answer_over digest bits (first_of digest bs) (undone cs) after in
+      let most = most_from (layer digest bits) (undone cs) (shows after) in
+      ap (λ (t : Result (Top × Log) GivenFault). (if is_within most step then t else Err HasNotTree)
+      >>= (λ old. judgement (are_told 0 (previous_of shows (layer digest bits) (undone cs) (shows after)) cs) old.0.0 before))
+      (stop-same digest bs step)
+      ∙ ap (verdict_by gives shows) (answer-same digest bits bs (undone cs) after)
+      ∙ ap (λ (s : List ℕ → Option Shape). verdict_by gives s (batch_over digest bits gives (undone cs) after))
+      (shows-same digest bs)
 
-  fault-is : (fault : ChangeFault)
-      → IsSaidOver digest bits (first_of digest bs) before after cs (Err fault)
-      → IsVerdict digest bits before after given cs (Err fault)
-  fault-is (BlockMissing c) h = (
-    sym (first-is digest bs c) ∙ ap (option_map arc_value) h.0,
-    says-is _ h.1,
-  )
-  fault-is (BadNode c) h = (first-given digest bs c h.0, says-is _ h.1)
-  fault-is TooDeep h = says-is _ h
-  fault-is NotTree h =
-      subst (λ (o : Step Top). IsUnreached (most_from (layer digest bits) (undone cs) (shows after)) (at_top o))
-      (answer-same digest bits bs (undone cs) after)
-      (subst (λ (s : List ℕ → Option Shape). IsUnreached (most_from (layer digest bits) (undone cs) (s after))
-      (at_top (answer_over digest bits (first_of digest bs) (undone cs) after))) (shows-same digest bs) h)
-  fault-is (OtherValue place) h = says-is _ h
-  fault-is OtherRoot h = says-is _ h
-  fault-is NoMemory h = tt
+  fault-is : (verdict : Result (Unit {0}) GivenFault) (fault : ChangeFault) → IsFault (first_of digest bs) verdict fault
+      → IsFault (given_at digest given) verdict fault
+  fault-is verdict (BlockMissing c) h = (sym (first-is digest bs c) ∙ ap (option_map arc_value) h.0, h.1)
+  fault-is verdict (BadNode c) h = (first-given digest bs c h.0, h.1)
+  fault-is verdict TooDeep h = h
+  fault-is verdict NotTree h = h
+  fault-is verdict (OtherValue place) h = h
+  fault-is verdict OtherRoot h = h
+  fault-is verdict NoMemory h = tt
+
+  said-is : (verdict : Result (Unit {0}) GivenFault) (result : Result (Unit {0}) ChangeFault)
+      → IsSaid (first_of digest bs) verdict result → IsSaid (given_at digest given) verdict result
+  said-is verdict (Ok x) h = h
+  said-is verdict (Err fault) h = fault-is verdict fault h
 
   pub verdict-is : (result : Result (Unit {0}) ChangeFault)
       → IsSaidOver digest bits (first_of digest bs) before after cs result
       → IsVerdict digest bits before after given cs result
-  verdict-is (Ok x) h = says-is _ h
-  verdict-is (Err fault) h = fault-is fault h
+  verdict-is result h =
+      said-is (change_verdict digest bits before after given cs) result
+      (subst (λ (v : Result (Unit {0}) GivenFault). IsSaid (first_of digest bs) v result) verdict-same h)
 
 -- ---- what the verdict means
 

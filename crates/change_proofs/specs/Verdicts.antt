@@ -6,16 +6,13 @@ use Rattle.spec.specs.Reading.{◌>>=◌, ensure}
 use Rattle.spec.specs.Layer.{layer}
 use Rattle.spec.specs.Tree.{Pair}
 use Rattle.spec.specs.Blocks.{ArePairs, ClashesWithNone, IsClashFree, nodes, root as root_of}
-use Rattle.edit_laws.specs.Sources.{shown_by}
 use Rattle.lookups.specs.Steps.{nodes_given}
-use Rattle.batch_laws.specs.Counts.{most_from}
 use Rattle.batch_laws.specs.Links.{Step, Top}
 use Rattle.edit.specs.Batches.{most_of, answer_of as answer_over}
-use Rattle.edit.specs.Stops.{IsUnreached, at_top}
 use Rattle.edit.specs.declared.outcome.EditFault.{EditFault}
 use Rattle.edit.specs.declared.outcome.EditFault.TheVariants as edits
 use Rattle.change_laws.specs.Told.{KeyChange, undone, DifferBy}
-use Rattle.change_laws.specs.Given.{ChangeFault as GivenFault, BlockMissing as HasBlockMissing, BadNode as HasBadNode, TooDeep as HasTooDeep, OtherValue as HasOtherValue, OtherRoot as HasOtherRoot, given_at, fault_of, batch_over}
+use Rattle.change_laws.specs.Given.{ChangeFault as GivenFault, BlockMissing as HasBlockMissing, BadNode as HasBadNode, TooDeep as HasTooDeep, NotTree as HasNotTree, OtherValue as HasOtherValue, OtherRoot as HasOtherRoot, given_at, or_fault}
 use Rattle.change_laws.specs.Verdict.{previous_of, are_told, change_verdict}
 use Rattle.change_laws.specs.Laws.{change_path, IsShown}
 use Rattle.change_proofs.specs.declared.change_fault.ChangeFault.{ChangeFault}
@@ -61,37 +58,38 @@ IsJudged verdict (Err NoMemory) = ⊥
 
 -- ---- over any source
 
--- Which verdict there is: the source lacks the block with this CID, or gives one that is no node, a link stands below layer 0, a
--- key has another value, or another root comes out, and the verdict says so. Or why there is none: as far as the batch comes, it
--- reads more nodes than these, or keys don't ascend in a node that it makes.
-abbrev pub IsFault : {X : Type 0} → (List ℕ → Option X) → ℕ → Step Top
-    → (Result (Unit {0}) GivenFault → Type 0) → ChangeFault → Type 0
-IsFault gives most answer Says (BlockMissing c) = (gives c ≡ None) × Says (Err (HasBlockMissing c))
-IsFault gives most answer Says (BadNode c) = IsSome (gives c) × Says (Err (HasBadNode c))
-IsFault gives most answer Says TooDeep = Says (Err HasTooDeep)
-IsFault gives most answer Says NotTree = IsUnreached most (at_top answer)
-IsFault gives most answer Says (OtherValue place) = Says (Err (HasOtherValue place))
-IsFault gives most answer Says OtherRoot = Says (Err HasOtherRoot)
-IsFault gives most answer Says NoMemory = ⊤
+-- what a batch comes to, within this many reads and where the changed keys have these values
+abbrev pub verdict_of : {X : Type 0} → (List ℕ → Option X) → ℕ → Step Top → List (Option (List ℕ)) → List KeyChange → List ℕ
+    → Result (Unit {0}) GivenFault
+verdict_of gives most answer vs cs before =
+    or_fault gives most answer >>= (λ old. judgement (are_told 0 vs cs) old.0.0 before)
 
--- changes that are shown are so by the verdict
-abbrev pub IsSaid : {X : Type 0} → (List ℕ → Option X) → ℕ → Step Top
-    → (Result (Unit {0}) GivenFault → Type 0) → Result (Unit {0}) ChangeFault → Type 0
-IsSaid gives most answer Says (Ok x) = Says (Ok tt)
-IsSaid gives most answer Says (Err fault) = IsFault gives most answer Says fault
+-- the verdict of changes over a source
+abbrev pub verdict_over : {A : Type 0} → (List ℕ → List ℕ) → ℕ → (List ℕ → Option (Arc (List ℕ) A)) → List ℕ → List ℕ
+    → List KeyChange → Result (Unit {0}) GivenFault
+verdict_over digest bits gives before after cs =
+    verdict_of gives (most_of digest bits gives (undone cs) after) (answer_over digest bits gives (undone cs) after)
+    (values_met digest bits gives after cs) cs before
 
--- what an answer says of changes whose keys have these values, or where it stops
-abbrev pub SaysOf : {X : Type 0} → (List ℕ → Option X) → Step Top → List (Option (List ℕ)) → List KeyChange → List ℕ
-    → Result (Unit {0}) GivenFault → Type 0
-SaysOf gives (Err e) vs cs before r = Err (fault_of gives e.why) ≡ r
-SaysOf gives (Ok x) vs cs before r = judgement (are_told 0 vs cs) x.0.0 before ≡ r
+-- ---- what is answered
+
+-- A fault is the verdict's, but for want of memory; and a block that it names is not given, or given and no node.
+abbrev pub IsFault : {X : Type 0} → (List ℕ → Option X) → Result (Unit {0}) GivenFault → ChangeFault → Type 0
+IsFault gives verdict (BlockMissing c) = (gives c ≡ None) × (verdict ≡ Err (HasBlockMissing c))
+IsFault gives verdict (BadNode c) = IsSome (gives c) × (verdict ≡ Err (HasBadNode c))
+IsFault gives verdict TooDeep = verdict ≡ Err HasTooDeep
+IsFault gives verdict NotTree = verdict ≡ Err HasNotTree
+IsFault gives verdict (OtherValue place) = verdict ≡ Err (HasOtherValue place)
+IsFault gives verdict OtherRoot = verdict ≡ Err HasOtherRoot
+IsFault gives verdict NoMemory = ⊤
+
+abbrev pub IsSaid : {X : Type 0} → (List ℕ → Option X) → Result (Unit {0}) GivenFault → Result (Unit {0}) ChangeFault → Type 0
+IsSaid gives verdict (Ok x) = verdict ≡ Ok tt
+IsSaid gives verdict (Err fault) = IsFault gives verdict fault
 
 abbrev pub IsSaidOver : {A : Type 0} → (List ℕ → List ℕ) → ℕ → (List ℕ → Option (Arc (List ℕ) A)) → List ℕ → List ℕ
     → List KeyChange → Result (Unit {0}) ChangeFault → Type 0
-IsSaidOver digest bits gives before after cs result =
-    let answer = answer_over digest bits gives (undone cs) after in
-    IsSaid gives (most_of digest bits gives (undone cs) after) answer
-    (SaysOf gives answer (values_met digest bits gives after cs) cs before) result
+IsSaidOver digest bits gives before after cs result = IsSaid gives (verdict_over digest bits gives before after cs) result
 
 -- memory is wanted
 abbrev pub IsWant : ChangeFault → Type 0
@@ -117,14 +115,9 @@ IsOfATree NoMemory = ⊤
 
 module _ (digest : List ℕ → List ℕ) (bits : ℕ) (before after : List ℕ) (given : List (List ℕ)) (cs : List KeyChange)
     (result : Result (Unit {0}) ChangeFault) where
-  -- What is answered is the verdict, but for want of memory and for nodes that no tree has: then it is told why there is none. A
-  -- block that is named is just the one that the verdict names.
+  -- what is answered is the verdict, but for want of memory
   abbrev pub IsVerdict : Type 0
-  IsVerdict =
-      let gives = given_at digest given in
-      IsSaid gives (most_from (layer digest bits) (undone cs) (shown_by gives after))
-      (batch_over digest bits gives (undone cs) after) (λ r. change_verdict digest bits before after given cs ≡ r)
-      result
+  IsVerdict = IsSaid (given_at digest given) (change_verdict digest bits before after given cs) result
 
   -- changes that are shown are true of whatever pairs have the root after
   abbrev pub IsRight : Type 0

@@ -23,8 +23,8 @@ pub enum ChangeFault {
     #[error("a link stands below layer 0")]
     TooDeep,
 
-    /// The nodes that are given aren't a tree's: undoing reads more of them than a tree has for it, or would make a node whose
-    /// keys don't ascend.
+    /// The nodes that are given are of no tree with the root after: as far as undoing comes, it reads more of them than such a
+    /// tree has for it, or keys don't ascend in a node that it makes.
     #[error("the blocks are no tree with the root after")]
     NotTree,
 

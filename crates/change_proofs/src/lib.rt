@@ -13,8 +13,8 @@
 //! ```
 //!
 //! `told` is a change with what its key had before and has after it, `values` compares what the changed keys have in the tree
-//! after, `given` has the blocks, and `verifying` puts these together. What a verdict is and what
-//! it means is defined in the crate `change_laws`.
+//! after, `given` has the blocks, and `verifying` puts these together. What a verdict is and what it means is defined in the
+//! crate `change_laws`; each answer but want of memory is this verdict.
 #![tactic(auto)]
 
 mod change_fault;

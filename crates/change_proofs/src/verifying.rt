@@ -21,6 +21,12 @@ use std::sync::Arc;
 
 /// Whether the tree with the root `before` became that with the root `after` by these changes, as some nodes of the tree
 /// after show.
+///
+/// The answer is the verdict of `change_laws`, whatever blocks are given; `ChangeFault::NoMemory` alone, where memory was
+/// refused, says nothing of them. Where they are all or some of a tree's, with the CID of none of its nodes on other bytes,
+/// `ChangeFault::BadNode`, `ChangeFault::TooDeep` and `ChangeFault::NotTree` don't come.
+///
+/// [`are_key_changes`](crate::are_key_changes) is the test of what it takes.
 pub fn verify_change<D: Digest, const B: u8, A: Allocator + Clone, K: AsSlice<u8>>(
     alloc: A,
     before: Cid,
@@ -30,6 +36,8 @@ pub fn verify_change<D: Digest, const B: u8, A: Allocator + Clone, K: AsSlice<u8
 ) -> Result<(), ChangeFault>
     requires least { 1 ≤ B }
     requires changes { are_changes_of (undone_of changes.now) ≡ true }
+
+    // The answer is the verdict, but for want of memory.
     ensures verdict { IsVerdict D.digest_of B before after (map K.items blocks.now)
         changes.now result }
 

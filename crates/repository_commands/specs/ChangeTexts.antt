@@ -133,8 +133,8 @@ verify_change_text digest input = do
   t ← told_in (lines input)
   answer_of_told digest t
 
--- what a fault of the verifier says of what is told: the verdict, where the definition has it; that true
--- changes are shown where the nodes are given; and that nothing is said against a tree's nodes
+-- what a fault of the verifier says of what is told: the verdict; that true changes are shown where the
+-- nodes are given; and that nothing is said against a tree's nodes
 abbrev pub IsChangeFault : (List ℕ → List ℕ) → Told → ChangeFault → Type 0
 IsChangeFault digest t change_faults.NoMemory = ⊥
 IsChangeFault digest t f = IsVerdict digest 2 t.before t.after t.blocks t.changes (Err f)

@@ -45,14 +45,14 @@ line_fault_of lines.BadLine = Some BadLine
 line_fault_of (lines.Refused f) = option_map OfWrite (write_fault f)
 line_fault_of lines.OtherValue = Some OtherValue
 
--- where the blocks are told to be no tree, what their verdict is isn't said
 abbrev pub change_fault_of : ChangeFault → Option changes.ChangeFault
 change_fault_of (change_faults.BlockMissing c) = Some (changes.BlockMissing c)
 change_fault_of (change_faults.BadNode c) = Some (changes.BadNode c)
 change_fault_of change_faults.TooDeep = Some changes.TooDeep
+change_fault_of change_faults.NotTree = Some changes.NotTree
 change_fault_of (change_faults.OtherValue place) = Some (changes.OtherValue place)
 change_fault_of change_faults.OtherRoot = Some changes.OtherRoot
-change_fault_of fault = None
+change_fault_of change_faults.NoMemory = None
 
 abbrev pub fault_of : {D A : Type 0} → CommandFault D A → Option Fault
 fault_of errors.BadDid = Some BadDid

@@ -88,6 +88,7 @@ IsProvenBy (Ok ok) code place before room size path = IsHanded code (parts_bytes
 IsProvenBy (Err (given.BlockMissing c)) code place before room size path = ⊥
 IsProvenBy (Err (given.BadNode c)) code place before room size path = ⊥
 IsProvenBy (Err given.TooDeep) code place before room size path = ⊥
+IsProvenBy (Err given.NotTree) code place before room size path = ⊥
 IsProvenBy (Err (given.OtherValue at)) code place before room size path = (code ≡ 33) × (place ≡ at)
 IsProvenBy (Err given.OtherRoot) code place before room size path = ⊥
 

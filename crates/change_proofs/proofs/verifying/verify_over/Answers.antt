@@ -2,7 +2,8 @@ use Rattle.std.proofs.Common.{map, sym, ap, subst, ◌∙◌, Err}
 use Rattle.std.specs.Arc.{arc_value}
 use Rattle.std.proofs.lemmas.Result.{err_from_is_err_and}
 use Rattle.edit.specs.Batches.{answer_of, most_of}
-use Rattle.edit.specs.Previews.{IsPreview, IsPreviewReason}
+use Rattle.edit.specs.Halts.{IsReached}
+use Rattle.edit.specs.Previews.{IsPreview, IsPreviewReason, IsPreviewReached}
 use Rattle.change_laws.specs.Verdict.{are_told}
 use Rattle.change_proofs.specs.Verdicts.{IsSaidOver, told_of}
 use Rattle.change_proofs.proofs.Saying.{preview-said, reason-said}
@@ -19,7 +20,9 @@ returns-in_err-found g c =
     (reason-said digest g.row.B gives c.args.after cs c.args.before c.in_err-found.field-0.0
     (subst (λ us. IsPreviewReason gives (most_of digest g.row.B gives us c.args.after)
     (answer_of digest g.row.B gives us c.args.after) c.in_err-found.field-0.0)
-    (c.deref.ensures.value ∙ c.in_ok-undone.ensures) c.in_err-found.ensures.lack)))
+    (c.deref.ensures.value ∙ c.in_ok-undone.ensures) c.in_err-found.ensures.lack)
+    (subst (λ us. IsPreviewReached digest g.row.B gives c.args.after us (Err c.in_err-found.field-0.0))
+    (c.deref.ensures.value ∙ c.in_ok-undone.ensures) c.in_err-found.ensures.reached)))
 
 pub returns : goal.returns
 returns g c =
@@ -29,6 +32,8 @@ returns g c =
     let n = c.in_ok-found.found in
     let p = subst (λ us. IsPreview digest g.row.B gives us c.args.after n.root n.previous.items (map arc_value n.read.items))
     (c.deref.ensures.value ∙ c.in_ok-undone.ensures) c.in_ok-found.ensures.preview in
-    preview-said digest g.row.B gives c.args.after cs c.args.before n.root n.previous.items (map arc_value n.read.items) p
+    let few = subst (λ us. IsReached (most_of digest g.row.B gives us c.args.after) (answer_of digest g.row.B gives us c.args.after))
+    (c.deref.ensures.value ∙ c.in_ok-undone.ensures) c.in_ok-found.ensures.reached in
+    preview-said digest g.row.B gives c.args.after cs c.args.before n.root n.previous.items (map arc_value n.read.items) p few
     (told_of c.first_other.result) (ap (λ vs. are_told 0 vs cs) (sym c.deref-2.ensures.value) ∙ c.first_other.ensures)
     c.judged.result c.judged.ensures
