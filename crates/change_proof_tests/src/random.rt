@@ -189,36 +189,35 @@ fn told(
     verified(alloc, both.before.root, both.after.root, blocks, changes)
 }
 
-/// A proof without the block of this CID, with the blocks of the tree before around it where there is none such.
-fn without(
-    alloc: Global,
-    both: &Both,
-    proof: &Blocks,
-    cid: Option<Cid>,
-) -> Result<Blocks, AllocError> {
+/// The blocks of a proof between those of the tree before.
+fn among_others(alloc: Global, both: &Both, proof: &Blocks) -> Result<Blocks, AllocError> {
     let mut blocks = Vec::new(alloc);
-    if cid.is_none() {
-        add_others(&mut blocks, &both.before.blocks, None)?;
-    }
-    add_others(&mut blocks, proof, cid)?;
+    add_others(&mut blocks, &both.before.blocks, None)?;
+    add_others(&mut blocks, proof, None)?;
+    add_others(&mut blocks, &both.before.blocks, None)?;
     Ok(blocks)
 }
 
-/// Whether the proof shows the changes, among blocks of strangers too.
+/// Whether a proof shows the changes, among blocks of strangers too.
 fn shows(alloc: Global, both: &Both, proof: &Blocks) -> bool {
-    match without(alloc, both, proof, None) {
-        Ok(more) => {
-            told(alloc, both, proof, &both.changes).is_ok()
-                && told(alloc, both, &more, &both.changes).is_ok()
-        }
-        Err(_) => false,
-    }
+    let Ok(more) = among_others(alloc, both, proof) else {
+        return false;
+    };
+    told(alloc, both, proof, &both.changes).is_ok()
+        && told(alloc, both, &more, &both.changes).is_ok()
+}
+
+/// A proof without the block of this CID.
+fn without(alloc: Global, proof: &Blocks, cid: Cid) -> Result<Blocks, AllocError> {
+    let mut blocks = Vec::new(alloc);
+    add_others(&mut blocks, proof, Some(cid))?;
+    Ok(blocks)
 }
 
 /// Whether each block of a proof is missing where it is left out.
 fn needs_each(alloc: Global, both: &Both, proof: &Blocks) -> bool {
     for block in proof {
-        let Ok(fewer) = without(alloc, both, proof, Some(block.cid())) else {
+        let Ok(fewer) = without(alloc, proof, block.cid()) else {
             return false;
         };
         if missing_in(&told(alloc, both, &fewer, &both.changes)) != Some(block.cid()) {
@@ -250,7 +249,7 @@ fn is_not_shown(told: &Result<(), ChangeFault>) -> bool {
     is_other_root(told) || missing_in(told).is_some()
 }
 
-/// Whether each of them is.
+/// Whether the change at each place is.
 fn refuses_each(alloc: Global, both: &Both, proof: &Blocks) -> bool {
     for place in 0..both.changes.len() {
         if !refuses(alloc, both, proof, place) {
