@@ -46,7 +46,7 @@ fn chain_of(alloc: Global, more: usize) -> Result<Chain, AllocError> {
 }
 
 /// Whether an answer is that a link stands below layer 0.
-fn is_too_deep<T>(answer: &Result<T, ChangeFault>) -> bool {
+pub(crate) fn is_too_deep<T>(answer: &Result<T, ChangeFault>) -> bool {
     match answer {
         Err(ChangeFault::TooDeep) => true,
         _ => false,

@@ -12,6 +12,12 @@ mod fixtures;
 #[cfg(test)]
 mod memory;
 #[cfg(test)]
+mod random;
+#[cfg(test)]
 mod refusals;
 #[cfg(test)]
+mod repositories;
+#[cfg(test)]
 mod shown;
+#[cfg(test)]
+mod strangers;

@@ -6,6 +6,8 @@ mod asked_again;
 #[cfg(test)]
 mod atproto;
 #[cfg(test)]
+mod changes;
+#[cfg(test)]
 mod example;
 #[cfg(test)]
 mod exports;
