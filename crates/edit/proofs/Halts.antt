@@ -1,11 +1,10 @@
 -- Where a step stops for its source, the whole that goes on from it stops at the same place.
-use Rattle.std.proofs.Common.{◌≡◌, ℕ, zero, suc, ◌+◌, ◌<◌, ◌≤◌, false, List, [], ◌∷◌, ◌++◌, length, take, drop, refl, sym, ap, subst, ◌∙◌, arith, Option, Ok, Err, Result}
-use Rattle.std.specs.Prelude.{IfErr}
+use Rattle.std.proofs.Common.{◌≡◌, ℕ, zero, suc, ◌+◌, ◌<◌, ◌≤◌, false, List, [], ◌∷◌, ◌++◌, length, take, drop, refl, sym, ap, subst, ◌∙◌, arith, Option, Ok, Err}
 use Rattle.std.specs.declared.option.Option.TheVariants.{Some, None}
 use Rattle.spec.specs.Tree.{Pair}
 use Rattle.spec.specs.NodeFormat.{Shape, LastLink, MoreLinks}
 use Rattle.edit_laws.specs.Lawful.{HasKeys}
-use Rattle.batch_laws.specs.Links.{Rows, LinkEdge, LinkClear, LinkWaiting, LinkOpened, LinkTooDeep, Log, NotShown, Step, Stop, Stopped, add_row, and_then, ask, closing, log_shown, opening, Top, link_edge, noding, pairing, pairs_in_turn, parting, pruning, pruning_at, subtreeing, topping, under_rows, walking, walking_node}
+use Rattle.batch_laws.specs.Links.{Rows, LinkEdge, LinkOpened, LinkTooDeep, Log, NotShown, Step, Stop, Stopped, add_row, and_then, ask, closing, log_shown, opening, Top, link_edge, noding, pairing, pairs_in_turn, parting, pruning, pruning_at, subtreeing, topping, under_rows, walking, walking_node}
 use Rattle.batch_laws.specs.Written.{AllGoOn, AreWritten}
 use Rattle.std.specs.List.{AllByRecursion}
 use Rattle.edit.specs.declared.faults.Fault.{Fault}
@@ -28,7 +27,7 @@ use Rattle.edit.proofs.Refusing.{pair-under}
 -- ---- what goes on from a step stops with it
 
 -- from each place of the one follows the place of the other
-abbrev pub Follows : LinkEdge → Step LinkEdge → LinkEdge → Step LinkEdge → Type 0
+abbrev Follows : LinkEdge → Step LinkEdge → LinkEdge → Step LinkEdge → Type 0
 Follows s x t y = (most : ℕ) (why : Stop) (now : Log) → Halts most why s now x → Halts most why t now y
 
 pub halted-by : (s t : LinkEdge) (x y : Step LinkEdge) (most : ℕ) (now : Log) (f : Fault) → Follows s x t y
@@ -132,7 +131,7 @@ asked-halted gives shows left c s log g faults.NoMemory n k = tt
 
 module _ {D A : Type 0} (old new : Edge D A) where
   -- nothing is to be shown of other faults
-  pub still-then : (P : Fault → Type 0) (f : Fault) → IsStill old new f → P faults.NotTree → P faults.NoMemory
+  still-then : (P : Fault → Type 0) (f : Fault) → IsStill old new f → P faults.NotTree → P faults.NoMemory
       → (Stays old new → P f) → P f
   still-then P (faults.Missing c) s n m h = h s
   still-then P (faults.BadNode c) s n m h = h s
@@ -140,7 +139,7 @@ module _ {D A : Type 0} (old new : Edge D A) where
   still-then P faults.NotTree s n m h = n
   still-then P faults.NoMemory s n m h = m
 
-  pub still-halted : (most : ℕ) (step : Step LinkEdge) (f : Fault) → IsStill old new f
+  still-halted : (most : ℕ) (step : Step LinkEdge) (f : Fault) → IsStill old new f
       → IsHalted most (edge_in old) (log_in old) step f → IsHalted most (edge_in new) (log_in new) step f
   still-halted most step f s h =
       still-then (λ g. IsHalted most (edge_in old) (log_in old) step g → IsHalted most (edge_in new) (log_in new) step g) f s
@@ -302,18 +301,6 @@ way-deep start at digest shows all b k c fs e w z =
 -- ---- pairs
 
 module _ (digest : List ℕ → List ℕ) (shows : List ℕ → Option Shape) where
-  -- the pair of one change
-  pub one-halted : {X D A : Type 0} (old new : Edge D A) (depth : List ℕ → ℕ) (d : ℕ) (e : Pair) (key : List ℕ)
-      (o : Option (List ℕ)) (s : LinkEdge) (log : Log) (r : Result X Fault) → e.0 ≡ key → o ≡ Some e.1 → d ≡ depth key
-      → IfErr r (IsHaltedFrom old new (pairing digest shows d e s log))
-      → IfErr r (IsHaltedFrom old new (pairs_in_turn digest shows depth (if_put key o []) s log))
-  one-halted old new depth d e key o s log r k v h t =
-      subst (λ (x : Step LinkEdge). IfErr r (IsHaltedFrom old new x))
-      (ap (λ m. pairing digest shows m e s log) h
-      ∙ ap (λ x. pairing digest shows (depth key) (x, e.1) s log) k
-      ∙ sym (alone digest shows depth (pairing digest shows (depth key) (key, e.1) s log))
-      ∙ ap (λ x. pairs_in_turn digest shows depth (if_put key x []) s log) (sym v)) t
-
   first-follows : (depth : List ℕ → ℕ) (key : List ℕ) (v : Option (List ℕ)) (rest : List Pair) (s : LinkEdge) (log : Log)
       (t : LinkEdge) → Follows t (pairs_in_turn digest shows depth (if_put key v []) s log)
       t (pairs_in_turn digest shows depth (if_put key v rest) s log)
@@ -389,16 +376,6 @@ module _ (digest : List ℕ → List ℕ) (shows : List ℕ → Option Shape) wh
         let g = node_does digest shows layer n p.layer p.depth p.changes p.rest in
         halted-by (edge_in new) (edge_in new) x (and_then x g) (most_in old) (log_in new) f (then-follows (edge_in new) x g) t
 
-  -- below layer 0
-  pub gap-deep : {D A : Type 0} (old : Edge D A) (layer : List ℕ → ℕ) (n : ℕ) (g : Gap) (c : List ℕ) → g.link ≡ Some c
-      → g.layer ≡ 0 → IsHaltedFrom old old (task_does digest shows layer n (ToGap g) (edge_in old) (log_in old)) faults.TooDeep
-  gap-deep old layer n g c e m =
-      let few : length (log_in old).read ≤ most_in old = omega arith in
-      subst (λ o. IsHaltedFrom old old o faults.TooDeep)
-      (sym (ap (λ l. walking digest shows layer n g.layer g.depth l g.changes (edge_in old) (log_in old)) e
-      ∙ ap (λ j. walking digest shows layer n j g.depth (Some c) g.changes (edge_in old) (log_in old)) m))
-      (record { why_is = refl; log_is = refl; begun = λ g. g; few = few })
-
   -- ---- the whole walk
 
   agenda-follows : (layer : List ℕ → ℕ) (n : ℕ) (fs : List Task) (s : LinkEdge) (x : Step LinkEdge)
@@ -453,14 +430,6 @@ module _ (digest : List ℕ → List ℕ) (shows : List ℕ → Option Shape) wh
       (still-then at new (λ h. IsUnshown gives at.left c (shows c) h → IsHalted (most_in at) (edge_in at) (log_in at) step h) f s
       (λ k. tt) (λ k. tt) (λ u k. unseen-halted gives at.left m c (edge_in at) (log_in at) f u.some k) t)))
 
-  pub prune-deep : {D A : Type 0} (start at : Edge D A) (k : ℕ) (c : List ℕ) (all : Step Top) → k ≡ 0
-      → all ≡ pruning shows k c (log_in at) → most_in at ≡ most_in start → IsHaltedFrom start at (at_top all) faults.TooDeep
-  prune-deep start at k c all e is z =
-      let few : length (log_in at).read ≤ most_in at = omega arith in
-      subst (λ o. IsHaltedFrom start at (at_top o) faults.TooDeep) (sym (is ∙ ap (λ j. pruning shows j c (log_in at)) e))
-      (subst (λ most. Halts most LinkTooDeep (edge_in at) (log_in at) (at_top (pruning shows zero c (log_in at)))) z
-      (record { why_is = refl; log_is = refl; begun = λ g. tt; few = few }))
-
   pub top-halted : {D A : Type 0} (old new : Edge D A) (k d : ℕ) (c : List ℕ) (f : Fault) → d ≡ highest_of old.levels.items
       → length old.levels.items ≤ d → old.rest ≡ Some c
       → IsHaltedFrom old new (at_top (pruning shows k c (log_in old))) f
@@ -479,9 +448,10 @@ none-goes_on (x ∷ ls) n rest = absurd (omega arith)
 
 at-reached : (most : ℕ) (why : Stop) (s : LinkEdge) (now : Log) (e : Stopped) → IsAt most why s now e
     → AreWritten HasKeys s now → IsReached most (Err e)
-at-reached most why s now e h w =
-    (subst (λ x. AreFew most x e.log) (sym h.why_is) (subst (λ l. AreFew most why l) (sym h.log_is) h.few),
-      record { made = subst (λ (l : Log). AllByRecursion HasKeys l.made) (sym h.log_is) w.made; begun = h.begun w.begun })
+at-reached most why s now e h w = (
+  subst (λ x. AreFew most x e.log) (sym h.why_is) (subst (λ l. AreFew most why l) (sym h.log_is) h.few),
+  record { made = subst (λ (l : Log). AllByRecursion HasKeys l.made) (sym h.log_is) w.made; begun = h.begun w.begun },
+)
 
 halts-reached : (most : ℕ) (why : Stop) (s : LinkEdge) (now : Log) (x : Step Top) → Halts most why s now (at_top x)
     → AreWritten HasKeys s now → IsReached most x

@@ -1,6 +1,6 @@
 -- Where a step stops for its source: at the edge and the log that there are then, within the reads that were left. A step that
 -- stops as a node can't be written, or as memory is wanted, has no such place.
-use Rattle.std.specs.Prelude.{◌≡◌, ◌<◌, ◌≤◌, ◌+◌, ◌++◌, ⊤, ℕ, List, length, Ok, Err, Result}
+use Rattle.std.specs.Prelude.{◌≡◌, ◌<◌, ◌≤◌, ◌+◌, ◌++◌, ⊤, ℕ, length, Ok, Err, Result}
 use Rattle.std.specs.List.{AllByRecursion}
 use Rattle.edit_laws.specs.Lawful.{HasKeys}
 use Rattle.batch_laws.specs.Links.{LinkEdge, LinkTooDeep, Log, NotShown, Step, Stop, Stopped, Top}

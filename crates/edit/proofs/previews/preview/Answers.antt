@@ -10,11 +10,12 @@ use Rattle.batch_laws.specs.Batch.{changed}
 use Rattle.batch_laws.specs.Previous.{previous_top}
 use Rattle.edit.specs.Batches.{answer_of, most_of}
 use Rattle.edit.specs.Previews.{IsPreviewReason, IsWant}
+use Rattle.edit.specs.Halts.{IsReached, IsReachedFor}
 use Rattle.edit.specs.States.{log_in, shapes_in}
 use Rattle.edit.specs.Stops.{IsCause, at_top}
 use Rattle.edit.specs.Tops.{IsEnded}
 use Rattle.edit.proofs.OnTree.{are-keyed, keyed-changes, walk-refused}
-use Rattle.edit.proofs.Previewing.{preview-of, preview-tree, preview-reason, walk-want}
+use Rattle.edit.proofs.Previewing.{preview-of, preview-tree, preview-reason, reached-for, walk-want}
 use Rattle.edit.proofs.previews.preview.Goals as goal
 
 pub returns-in_err-changed-clause-want : goal.returns-in_err-changed-clause-want
@@ -79,3 +80,22 @@ pub returns-in_err-read-clause-want : goal.returns-in_err-read-clause-want
 returns-in_err-read-clause-want g c es h =
     let p = err_from_is_err_and c.from_residual-in_err-read.result c.from_residual-in_err-read.ensures.1 in
     rw p.1 (subst IsWant (sym p.2) tt)
+
+pub returns-in_err-changed-clause-reached : goal.returns-in_err-changed-clause-reached
+returns-in_err-changed-clause-reached g c =
+    let digest = g.D.Digest.digest_of in
+    let gives = g.S.Source.gives c.args.src.now in
+    let p = err_from_is_err_and c.from_residual-in_err-changed.result c.from_residual-in_err-changed.ensures.1 in
+    let most = most_of digest g.row.B gives c.args.changes.now c.args.root in
+    let answer = answer_of digest g.row.B gives c.args.changes.now c.args.root in
+    let fault = c.in_err-changed.field-0.0 in
+    reached-for most answer c.from_residual-in_err-changed.result p.0 fault p.1 p.2
+    (subst (λ cs. IsReachedFor (most_of digest g.row.B gives cs c.args.root) (answer_of digest g.row.B gives cs c.args.root) fault)
+    (c.deref.ensures.value ∙ c.in_ok-hashed.ensures) c.in_err-changed.ensures.reached)
+
+pub returns-clause-reached : goal.returns-clause-reached
+returns-clause-reached g c =
+    let digest = g.D.Digest.digest_of in
+    let gives = g.S.Source.gives c.args.src.now in
+    subst (λ cs. IsReached (most_of digest g.row.B gives cs c.args.root) (answer_of digest g.row.B gives cs c.args.root))
+    (c.deref.ensures.value ∙ c.in_ok-hashed.ensures) c.in_ok-changed.ensures.reached

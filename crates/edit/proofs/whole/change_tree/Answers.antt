@@ -19,7 +19,7 @@ use Rattle.edit.proofs.Topping.{was-shown}
 use Rattle.std.proofs.lemmas.Result.{err_from_is_err_and}
 use Rattle.edit.specs.Stops.{IsStopped, at_top}
 use Rattle.edit.specs.declared.faults.Fault.TheVariants.{NoMemory}
-use Rattle.edit.specs.Halts.{IsHalted, IsReached, IsReachedFor}
+use Rattle.edit.specs.Halts.{IsHalted, IsReachedFor}
 use Rattle.edit.proofs.whole.change_tree.Goals as goal
 
 pub returns-clause-changed : goal.returns-clause-changed

@@ -7,12 +7,11 @@ use Rattle.edit.proofs.Subtrees.{way-more, way-none, way-waits, coming-count, co
 use Rattle.std.proofs.lemmas.Result.{err_from_is_err_and}
 use Rattle.spec.specs.NodeFormat.{first_link}
 use Rattle.batch_laws.specs.Links.{parting}
-use Rattle.edit.specs.Edges.{edge_of}
+use Rattle.edit.specs.Edges.{edge_of, around}
 use Rattle.edit.specs.Stops.{IsStopped}
 use Rattle.edit.specs.declared.faults.Fault.TheVariants.{TooDeep, NoMemory}
 use Rattle.edit.proofs.Stopping.{from-stopped}
 use Rattle.edit.proofs.Arriving.{way-memory, way-ended, way-stopped}
-use Rattle.edit.specs.Edges.{around}
 use Rattle.edit.specs.Halts.{IsHaltedFrom}
 use Rattle.edit.proofs.Halts.{way-halted, way-deep}
 use Rattle.edit.proofs.edge.Edge.descend.Goals as goal

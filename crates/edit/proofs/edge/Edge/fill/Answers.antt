@@ -13,7 +13,7 @@ use Rattle.std.proofs.lemmas.Result.{err_from_is_err_and}
 use Rattle.edit.specs.Stops.{IsStopped, IsRefused}
 use Rattle.edit.proofs.Halting.{gap-none, gap-subtree, gap-unread, gap-refused}
 use Rattle.edit.specs.Halts.{IsHaltedFrom}
-use Rattle.edit.proofs.Halts.{gap-none-halted, gap-subtree-halted, gap-unread-halted, gap-deep}
+use Rattle.edit.proofs.Halts.{gap-none-halted, gap-subtree-halted, gap-unread-halted}
 use Rattle.edit.proofs.edge.Edge.fill.Goals as goal
 
 pub returns-in_default-clause-done : goal.returns-in_default-clause-done

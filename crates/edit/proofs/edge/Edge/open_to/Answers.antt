@@ -7,7 +7,7 @@ use Rattle.batch_laws.specs.Links.{opening, link_edge}
 use Rattle.edit.specs.Stops.{IsStopped, open_edge}
 use Rattle.edit.proofs.Refusing.{within-stopped}
 use Rattle.edit.specs.Edges.{within}
-use Rattle.edit.specs.Halts.{most_in, IsHalted, IsHaltedFrom}
+use Rattle.edit.specs.Halts.{most_in, IsHalted}
 use Rattle.edit.proofs.Halts.{level-halted, more-halted}
 use Rattle.edit.proofs.edge.Edge.open_to.Goals as goal
 

@@ -5,11 +5,8 @@ use Rattle.edit.specs.Edges.{edge_of, is_clear}
 use Rattle.edit.specs.States.{log_in, IsComing}
 use Rattle.edit.proofs.Subtrees.{taken-open, taken-some, coming}
 use Rattle.std.proofs.lemmas.Result.{err_from_is_err_and}
-use Rattle.edit.specs.Stops.{IsUnread}
+use Rattle.edit.specs.Stops.{IsUnread, IsUnshown}
 use Rattle.edit.proofs.Arriving.{part-unopened, part-unread}
-use Rattle.batch_laws.specs.Links.{opening}
-use Rattle.edit.specs.Stops.{IsUnshown, open_edge}
-use Rattle.edit.specs.Halts.{most_in, IsHalted}
 use Rattle.edit.proofs.Halts.{place-unopened, place-unread}
 use Rattle.edit.proofs.edge.Edge.place.Goals as goal
 use Rattle.edit.proofs.edge.Edge.place.Goals.{else-len-depth-via-then-len-depth+else-is_none, else-len-depth-via-else-len-depth}

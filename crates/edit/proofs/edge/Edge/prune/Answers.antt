@@ -7,11 +7,10 @@ use Rattle.edit.specs.Tops.{IsLooked}
 use Rattle.edit.proofs.Pairing.{counted-then}
 use Rattle.edit.proofs.Topping.{look-ends, look-goes, top-of}
 use Rattle.std.proofs.lemmas.Result.{err_from_is_err_and}
-use Rattle.edit.specs.Stops.{IsUnread, at_top}
+use Rattle.edit.specs.Stops.{IsUnread, at_top, IsUnshown}
 use Rattle.edit.proofs.Stopping.{from-stopped}
 use Rattle.edit.proofs.Ending.{prune-stopped, look-stopped}
-use Rattle.edit.specs.Stops.{IsUnshown}
-use Rattle.edit.proofs.Halts.{look-halted, prune-deep}
+use Rattle.edit.proofs.Halts.{look-halted}
 use Rattle.edit.proofs.edge.Edge.prune.Goals as goal
 
 pub returns-in_default-clause-top : goal.returns-in_default-clause-top

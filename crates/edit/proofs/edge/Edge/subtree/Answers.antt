@@ -9,7 +9,7 @@ use Rattle.edit.specs.Stops.{IsStopped, fault_of}
 use Rattle.edit.proofs.Pairing.{counted-then}
 use Rattle.edit.proofs.Stopping.{from-stopped}
 use Rattle.edit.proofs.Arriving.{subtree-unopened, arrived-stopped}
-use Rattle.edit.specs.Halts.{most_in, IsHalted, IsHaltedFrom}
+use Rattle.edit.specs.Halts.{IsHalted, IsHaltedFrom}
 use Rattle.edit.proofs.Within.{subtree-within}
 use Rattle.edit.proofs.edge.Edge.subtree.Goals as goal
 
