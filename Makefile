@@ -1,6 +1,6 @@
 # The two commands: `make demo` shows the program at work, `make test` is the gate.
 
-.PHONY: demo build install library install-library test test-library check edits answers plant bench gate-times pictures clean help
+.PHONY: demo build install library install-library test test-tools test-library check edits answers plant bench gate-times pictures clean help
 
 PREFIX ?= /usr/local
 
@@ -11,6 +11,7 @@ help:
 	@echo 'make library           proves the library for programs in C, Rust and Python, and builds it into target/library'
 	@echo 'make install-library PREFIX=..  puts it, its header and its pkg-config file below PREFIX'
 	@echo 'make test              the gate: every proof, must-fail edit, test and program, from nothing, and make test-library'
+	@echo 'make test-tools        the tests of tools/, in some seconds'
 	@echo 'make test-library      proves and builds the library, and tries it from Rust, C, C++, Python and Go'
 	@echo 'make check             every crate, quickly, over what earlier checks kept'
 	@echo 'make edits             the wrong bodies that the gate does not try, before a release; CRATE=name: of one crate'
@@ -22,7 +23,7 @@ help:
 	@echo 'make clean             takes away what was built'
 
 demo:
-	@tools/demo
+	@tools/demo $(ARGS)
 
 build:
 	@tools/build
@@ -36,15 +37,23 @@ library:
 install-library: library
 	@tools/library --install $(PREFIX)
 
-test:
+test: test-tools
+	@tools/version
 	@tools/layout
 	@tools/edits --apply
 	@tools/readme-example
 	@tools/must-not-compile
 	@tools/crate-tables --compare
+	@tools/fault-table --compare
 	@tools/library-declarations
+	@tools/test-tools --whole
 	@rt ci
+	@tools/test-program
 	@tools/test-library
+	@tools/test-installed
+
+test-tools:
+	@tools/test-tools
 
 test-library:
 	@tools/test-library
@@ -64,7 +73,7 @@ plant:
 	@cd crates/$(CRATE) && rt plant
 
 bench:
-	@bash tools/bench $(ARGS)
+	@tools/bench $(ARGS)
 
 gate-times:
 	@tools/gate-times
@@ -74,4 +83,4 @@ pictures:
 	@tools/draw-pictures
 
 clean:
-	@rm -rf crates/*/out target tools/*/target
+	@rm -rf crates/*/out target

@@ -29,6 +29,10 @@ static void end(void) {
 
 static int of_record(void) { return tizulgech_record_fault(TEXT("\xa1\x61k\x81\xa1\x61k\x01")); }
 static int of_write(void) { return tizulgech_write_fault(2, true, TEXT("a.b.c/d"), TEXT("\xa1\x61k\x81\xa1\x61k\x01")); }
+static int of_below(void) {
+    static const uint8_t values[72];
+    return tizulgech_below(node, node_end, TEXT("a.b.c/da.b.c/z"), key_ends, 2, values, 72, out, sizeof out, &size);
+}
 static int of_links(void) { return tizulgech_links(node, node_end, out, sizeof out, &size); }
 static int of_commit_bytes(void) { return tizulgech_commit_bytes(TEXT("did:web:a.b"), TEXT("3jzfcijpj2z2b"), root, 36, out, sizeof out, &size); }
 static int of_tree(void) {
@@ -112,7 +116,7 @@ static const struct {
     int count, takes_memory;
 } calls[] = {
     {"record_fault", of_record, 1, 1}, {"commit_bytes", of_commit_bytes, 1, 1}, {"tree_apply", of_tree, 1, 1}, {"tree_apply of known nodes", of_known, 1, 1}, {"cids", of_cids, 1, 1}, {"verify", of_verify, 1, 1},
-    {"write_fault", of_write, 1, 1}, {"links", of_links, 1, 1}, {"verify_change", of_change, 3, 1}, {"tree_root", of_root_of_tree, 1, 1}, {"listing_car", of_listing, 1, 1}, {"open", of_open, 2, 1}, {"stage", of_stage, 2, 1},
+    {"write_fault", of_write, 1, 1}, {"below", of_below, 1, 1}, {"links", of_links, 1, 1}, {"verify_change", of_change, 3, 1}, {"tree_root", of_root_of_tree, 1, 1}, {"listing_car", of_listing, 1, 1}, {"open", of_open, 2, 1}, {"stage", of_stage, 2, 1},
     {"list", of_list, 1, 1}, {"car", of_car, 1, 1}, {"car_length", of_length, 1, 1}, {"car_part", of_part, 1, 1}, {"prove", of_prove, 1, 1},
     {"entries", of_entries, 1, 1}, {"car_head", of_head, 1, 1}, {"car_section", of_section, 1, 1}, {"prove_change", of_prove_change, 2, 1},
     {"those of values", of_values, 11, 0}, {"those of reading", of_reading, 4, 0},

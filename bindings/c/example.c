@@ -20,6 +20,14 @@ int main(void) {
         return 3;
     }
     tizulgech_cid_text(root, 36, text, 59);
+    /* the root, the one before, which is that of no records, and the commit, whose bytes are what the owner signs */
+    uint8_t now[36], last[36], signing[256];
+    const uint8_t *empty = (const uint8_t *)"\xa2\x61\x65\x80\x61\x6c\xf6";
+    if (tizulgech_root(&repo, now, 36) || memcmp(now, root, 36) || tizulgech_commit(&repo, last, 36) || memcmp(last, commit, 36)) return 16;
+    tizulgech_cid(empty, 7, now, 36);
+    if (memcmp(now, before, 36) || tizulgech_commit_bytes(TEXT("did:web:example.com"), TEXT("3jzfcijpj2z2a"), root, 36, signing, sizeof signing, &size)) return 17;
+    tizulgech_cid(signing, size, last, 36);
+    if (memcmp(last, commit, 36)) return 18;
     if (tizulgech_get(&repo, TEXT(key), record, sizeof record, &size) != TIZULGECH_DONE) return 4;
     printf("%s, a record of %zu bytes\n", text, size);
     /* no room: the size that is wanted; a null pointer beside 0 is an empty room, or an empty key */
@@ -35,7 +43,6 @@ int main(void) {
     /* and the proof of what the batch changed, for whoever knows both roots: the key had none, and has this record */
     uint8_t none[36] = {0}, previous[36], missing[36];
     size_t key_end = strlen(key);
-    const uint8_t *empty = (const uint8_t *)"\xa2\x61\x65\x80\x61\x6c\xf6";
     size_t empty_end = 7;
     if (tizulgech_cids(empty, 7, &empty_end, 1, previous, 36, &size) != TIZULGECH_DONE) return 13;
     if (tizulgech_prove_change(&repo, TEXT(key), &key_end, 1, none, 36, value, 36, &place, proof, sizeof proof, &size) != TIZULGECH_DONE) return 11;

@@ -1,4 +1,4 @@
-/* A null pointer beside the length 0 is no bytes, in C and in C++.
+/* A null pointer beside the length 0 is no bytes, in C and in C++; beside any other length it stays what it is.
  * cc -Itarget/library bindings/c/null_pointers.c target/library/libtizulgech.a, or c++ -x c++ of the same */
 #include "tizulgech.h"
 #include <string.h>
@@ -8,6 +8,14 @@
 #define REV (const uint8_t *)"3jzfcijpj2z2a", 13
 #define RECORD (const uint8_t *)"\xa0", 1
 #define NODE (const uint8_t *)"\xa2\x61\x65\x80\x61\x6c\xf6", 7
+
+static int of_pointers(void) {
+    const uint8_t byte = 0;
+    const size_t end = 0;
+    uint8_t room = 0;
+    return tizulgech_some(NULL, 0) && tizulgech_ends(NULL, 0) && tizulgech_room(NULL, 0) && !tizulgech_some(NULL, 1) && !tizulgech_ends(NULL, 1) && !tizulgech_room(NULL, 36)
+        && tizulgech_some(&byte, 0) == &byte && tizulgech_some(&byte, 1) == &byte && tizulgech_ends(&end, 1) == &end && tizulgech_room(&room, 1) == &room;
+}
 
 static int of_values(void) {
     uint8_t none[36], cid[36];
@@ -41,6 +49,8 @@ static int of_trees(void) {
         && tizulgech_verify(NULL, 0, NULL, 0, root, 36, KEY, cid, 36) == TIZULGECH_MISSING
         && tizulgech_verify(NODE, &end, 1, root, 36, NULL, 0, cid, 36) == TIZULGECH_BAD_KEY
         && tizulgech_links(NODE, NULL, 0, &size) == TIZULGECH_DONE && size == 0 && tizulgech_links(NULL, 0, NULL, 0, &size) == TIZULGECH_BAD_NODE
+        && tizulgech_below(NODE, NULL, 0, NULL, 0, NULL, 0, NULL, 0, &size) == TIZULGECH_DONE && size == 0
+        && tizulgech_below(NULL, 0, NULL, 0, NULL, 0, NULL, 0, NULL, 0, &size) == TIZULGECH_BAD_NODE
         && tizulgech_verify_change(NODE, &end, 1, root, 36, root, 36, NULL, 0, NULL, 0, NULL, 0, NULL, 0, cid, 36, &size) == TIZULGECH_DONE
         && tizulgech_verify_change(NULL, 0, NULL, 0, root, 36, root, 36, NULL, 0, NULL, 0, NULL, 0, NULL, 0, cid, 36, &size) == TIZULGECH_MISSING
         && tizulgech_verify_change(NULL, 0, NULL, 0, NULL, 0, NULL, 0, NULL, 0, NULL, 0, NULL, 0, NULL, 0, cid, 36, &size) == TIZULGECH_BAD
@@ -71,5 +81,6 @@ static int of_repositories(void) {
 int main(void) {
     if (!of_values()) return 1;
     if (!of_trees()) return 2;
+    if (!of_pointers()) return 4;
     return of_repositories() ? 0 : 3;
 }

@@ -90,10 +90,10 @@ pub fn apply(repository: &mut Repository, rounds: usize, size: usize, writes: &[
 
 pub type Nodes = (Cid, HashMap<Cid, Vec<u8>>);
 
-fn change<N: tree::Node>(nodes: &mut Nodes, given: impl Fn(Vec<u8>) -> N, writes: &[(String, Cid)]) {
+fn change<N: tree::Node>(nodes: &mut Nodes, given: impl Fn(Cid, Vec<u8>) -> N, writes: &[(String, Cid)]) {
     let mut changes: Vec<_> = writes.iter().map(|(key, cid)| tree::Change { key: key.as_bytes(), value: Some(*cid) }).collect();
     changes.sort_unstable_by_key(|change| change.key);
-    let node = |cid: &Cid| Ok::<_, Infallible>(nodes.1.get(cid).cloned().map(&given));
+    let node = |cid: &Cid| Ok::<_, Infallible>(nodes.1.get(cid).cloned().map(|node| given(*cid, node)));
     let edit = tree::apply(node, &nodes.0, &changes).unwrap();
     for cid in &edit.drop {
         nodes.1.remove(cid);
@@ -103,9 +103,9 @@ fn change<N: tree::Node>(nodes: &mut Nodes, given: impl Fn(Vec<u8>) -> N, writes
 }
 
 /// A node of which its map says that it is the one of its CID.
-fn known(node: Vec<u8>) -> tree::Known {
+fn known(cid: Cid, node: Vec<u8>) -> tree::Known {
     // SAFETY: it stands under the CID that the library told with it.
-    unsafe { tree::Known::of(node) }
+    unsafe { tree::Known::of(cid, node) }
 }
 
 /// A host's own nodes of the tree of the first keys.
@@ -119,7 +119,7 @@ pub fn nodes(writes: &[(String, Cid)]) -> Nodes {
 /// Puts the other keys by batches of a size, over nodes that are handed in in this form.
 pub fn changes<N: tree::Node>(
     nodes: &mut Nodes,
-    given: impl Fn(Vec<u8>) -> N,
+    given: impl Fn(Cid, Vec<u8>) -> N,
     rounds: usize,
     size: usize,
     writes: &[(String, Cid)],
@@ -151,7 +151,7 @@ pub fn measured(job: &str, rounds: usize) -> (f64, Option<Cid>) {
         "number" => numbers(rounds),
         "records" => records(rounds, &writes),
         "apply" => apply(&mut repository, rounds, size, &writes),
-        "tree" => changes(&mut nodes, |node| node, rounds, size, &cids),
+        "tree" => changes(&mut nodes, |_, node| node, rounds, size, &cids),
         "known" => changes(&mut nodes, known, rounds, size, &cids),
         "writes" => plan.as_mut().expect("a plan").turn(rounds, size),
         _ => panic!("no job: {job}"),

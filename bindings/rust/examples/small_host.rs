@@ -120,8 +120,8 @@ impl Host {
         Some(())
     }
 
-    fn node(&self, cid: &Cid) -> std::result::Result<Option<Vec<u8>>, Infallible> {
-        Ok(self.nodes.get(cid).cloned())
+    fn node(&self, cid: &Cid) -> std::result::Result<Option<&Vec<u8>>, Infallible> {
+        Ok(self.nodes.get(cid))
     }
 
     /// Whether the root and the nodes are those of the tree of the records from scratch.
@@ -132,10 +132,7 @@ impl Host {
 
     /// The nodes on the way to a key: whoever knows the root can verify by them what it has under the key.
     pub fn prove(&self, key: &str) -> Result<Proof> {
-        let mut proof = Proof::default();
-        let shown = |cid: &Cid| self.node(cid).inspect(|node| proof.nodes.extend(node.clone()));
-        tree::get(shown, &self.root, key)?;
-        Ok(proof)
+        Ok(tree::path(|cid| self.node(cid), &self.root, key)?.0)
     }
 
     /// The commit of the last batch, which its owner signs.

@@ -65,14 +65,7 @@ impl ChangeProof {
         let (mut missing, mut place) = ([0; 36], 0);
         match sys::verify_change(nodes.parts(), &before.0, &after.0, told.lists(), &mut missing, &mut place) {
             0 => Ok(()),
-            2 => Err(ChangeFault::Missing(Cid(missing))),
-            30 => Err(ChangeFault::BadNode(Cid(missing))),
-            31 => Err(ChangeFault::TooDeep),
-            33 => Err(ChangeFault::OtherValue(place)),
-            34 => Err(ChangeFault::OtherRoot),
-            35 => Err(ChangeFault::NotTree),
-            252 => Err(ChangeFault::BadKeys),
-            _ => Err(ChangeFault::NoMemory),
+            number => Err(ChangeFault::of(number, Cid(missing), place)),
         }
     }
 }

@@ -80,6 +80,13 @@ faults! {
         NoMemory = 255 "out of memory",
     }
 }
+faults! {
+    /// Why nothing stands below some bytes.
+    NodeFault {
+        BadNode = 30 "a block is no node",
+        NoMemory = 255 "out of memory",
+    }
+}
 /// Why blocks don't show some changes.
 #[derive(Clone, Copy, Debug, PartialEq, Eq)]
 #[non_exhaustive]
@@ -100,6 +107,22 @@ pub enum ChangeFault {
     OtherRoot,
     /// Memory was refused.
     NoMemory,
+}
+
+impl ChangeFault {
+    pub(crate) fn of(number: u8, cid: Cid, place: usize) -> ChangeFault {
+        use ChangeFault::*;
+        match number {
+            2 => Missing(cid),
+            30 => BadNode(cid),
+            31 => TooDeep,
+            33 => OtherValue(place),
+            34 => OtherRoot,
+            35 => NotTree,
+            252 => BadKeys,
+            _ => NoMemory,
+        }
+    }
 }
 
 impl fmt::Display for ChangeFault {
@@ -131,6 +154,17 @@ pub enum ProvingFault {
     NoMemory,
 }
 
+impl ProvingFault {
+    pub(crate) fn of(number: u8, place: usize) -> ProvingFault {
+        use ProvingFault::*;
+        match number {
+            33 => OtherValue(place),
+            252 => BadKeys,
+            _ => NoMemory,
+        }
+    }
+}
+
 impl fmt::Display for ProvingFault {
     fn fmt(&self, f: &mut fmt::Formatter<'_>) -> fmt::Result {
         match self {
@@ -141,6 +175,67 @@ impl fmt::Display for ProvingFault {
     }
 }
 impl Error for ProvingFault {}
+
+/// Why there is no edit or no value. `E` is the fault of whoever gives the nodes.
+#[derive(Clone, Debug, PartialEq, Eq)]
+#[non_exhaustive]
+pub enum EditError<E> {
+    /// A key has 1 to 1,024 bytes, and the keys of a batch ascend.
+    BadKeys,
+    /// There is no node with this CID.
+    Missing(Cid),
+    /// What is given for this CID is no node, or not the one of this CID.
+    BadNode(Cid),
+    /// A link stands below layer 0.
+    TooDeep,
+    /// The nodes aren't a tree's: keys would not ascend in a node, or more nodes are needed than a tree has for it.
+    NotTree,
+    /// Two nodes have one CID.
+    Clash,
+    /// Memory was refused.
+    NoMemory,
+    /// The fault of whoever gives the nodes.
+    Source(E),
+}
+
+impl<E> EditError<E> {
+    pub(crate) fn of(number: u8, cid: Cid) -> EditError<E> {
+        use EditError::*;
+        match number {
+            2 => Missing(cid),
+            30 => BadNode(cid),
+            31 => TooDeep,
+            35 => NotTree,
+            252 => BadKeys,
+            253 => Clash,
+            _ => NoMemory,
+        }
+    }
+}
+
+impl<E: fmt::Display> fmt::Display for EditError<E> {
+    fn fmt(&self, f: &mut fmt::Formatter<'_>) -> fmt::Result {
+        match self {
+            EditError::BadKeys => f.write_str("keys have 1 to 1,024 bytes and ascend"),
+            EditError::Missing(cid) => write!(f, "there is no node {cid}"),
+            EditError::BadNode(cid) => write!(f, "what is given for {cid} is not its node"),
+            EditError::TooDeep => f.write_str("a link stands below layer 0"),
+            EditError::NotTree => f.write_str("the nodes aren't a tree's"),
+            EditError::Clash => f.write_str("two different nodes have one CID"),
+            EditError::NoMemory => f.write_str("out of memory"),
+            EditError::Source(fault) => fault.fmt(f),
+        }
+    }
+}
+
+impl<E: Error + 'static> Error for EditError<E> {
+    fn source(&self) -> Option<&(dyn Error + 'static)> {
+        match self {
+            EditError::Source(fault) => Some(fault),
+            _ => None,
+        }
+    }
+}
 
 /// Memory was refused.
 #[derive(Clone, Copy, Debug, PartialEq, Eq)]

@@ -1,6 +1,8 @@
 //! Rooms that calls fill, and lists as calls take and give them.
 use crate::sys::Parts;
 use crate::values::Cid;
+use std::borrow::Cow;
+use std::ops::Range;
 
 /// Calls with a room until it is large enough; any other number than 0 is given back.
 pub(crate) fn filled(first: usize, mut call: impl FnMut(&mut [u8], &mut usize) -> u8) -> Result<Vec<u8>, u8> {
@@ -43,10 +45,27 @@ impl Joined {
         Parts { bytes: &self.bytes, ends: &self.ends }
     }
 
+    /// Where a part starts.
+    fn start(&self, place: usize) -> usize {
+        place.checked_sub(1).map_or(0, |before| self.ends[before])
+    }
+
     /// The part at a place.
     pub fn part(&self, place: usize) -> &[u8] {
-        let start = place.checked_sub(1).map_or(0, |before| self.ends[before]);
-        &self.bytes[start..self.ends[place]]
+        &self.bytes[self.start(place)..self.ends[place]]
+    }
+
+    /// Some parts by themselves: one after another, and where each ends.
+    pub fn range(&self, places: Range<usize>) -> (&[u8], Cow<'_, [usize]>) {
+        let (start, ends) = (self.start(places.start), &self.ends[places]);
+        let bytes = &self.bytes[start..ends.last().copied().unwrap_or(start)];
+        let own = if start == 0 { ends.into() } else { ends.iter().map(|end| end - start).collect() };
+        (bytes, own)
+    }
+
+    /// The parts.
+    pub fn each(&self) -> impl Iterator<Item = &[u8]> {
+        (0..self.ends.len()).map(|place| self.part(place))
     }
 
     /// How many bytes all parts have.
@@ -76,6 +95,16 @@ impl<'a> Reader<'a> {
     pub fn part(&mut self) -> &'a [u8] {
         let length = self.number();
         self.take(length)
+    }
+
+    /// All parts that are left.
+    pub fn parts(mut self) -> Vec<Vec<u8>> {
+        std::iter::from_fn(|| (!self.is_empty()).then(|| self.part().to_vec())).collect()
+    }
+
+    /// All that is left: keys with their CIDs.
+    pub fn pairs(mut self) -> Vec<(Vec<u8>, Cid)> {
+        std::iter::from_fn(|| (!self.is_empty()).then(|| (self.part().to_vec(), self.cid()))).collect()
     }
 
     pub fn cid(&mut self) -> Cid {

@@ -23,18 +23,19 @@
 //! # What is proved, and what is trusted
 //!
 //! What is proved ends at the calls of the C interface: each has a contract, which is proved of its code together with its
-//! safety and its end. Of this crate nothing is proved: 1,400 lines of code, which tests try call by call.
+//! safety and its end. Of this crate nothing is proved: 1,600 lines of code, which tests try call by call.
 //! Trusted are:
 //!
-//! - that the declarations in `sys` are those of the library (a script of the repository compares them);
-//! - that `sys`, where all `unsafe` stands, passes slices as they are, and arrays where a call wants a fixed length;
+//! - that the declarations in `sys` are those of the library, and pass on what they are given in its order (a script of the
+//!   repository compares both);
+//! - that `sys`, where all `unsafe` calls stand, passes slices as they are, and arrays where a call wants a fixed length;
 //! - that a repository is given to one call at a time: it isn't `Sync`. That it may go to another thread between two calls, as
 //!   `Send` says, is proved of what stands behind its pointer;
 //! - that `framing` reads answers and writes lists as the library spells them;
-//! - that the numbers of `faults` are those of the library;
+//! - that the numbers of `faults` are those of the library (the same script compares them);
 //! - of [`tree`], that a host's nodes are asked for as the library wants them, and compared with the CIDs that were asked for: so a
 //!   wrong node is refused by `apply`, `put` and `delete`. A host that hands in [`tree::Known`] nodes says by
-//!   `unsafe` that they are of their CIDs; `get` hashes nothing, and believes any;
+//!   `unsafe` that they are of the CIDs beside them; `get` and `path` hash nothing, and believe any;
 //! - the program's `malloc`, `realloc` and `free`, the compilers and the linker.
 #![deny(missing_docs)]
 #![deny(unsafe_op_in_unsafe_fn)]
@@ -50,8 +51,8 @@ mod values;
 
 pub use changes::{ChangeProof, KeyChange};
 pub use faults::{
-    BatchError, BatchFault, ChangeFault, CidFault, NoMemory, OpenError, ProofFault, ProvingFault, RecordFault, StampFault,
-    TreeFault,
+    BatchError, BatchFault, ChangeFault, CidFault, NoMemory, NodeFault, OpenError, ProofFault, ProvingFault, RecordFault,
+    StampFault, TreeFault,
 };
 pub use repository::{Applied, CarParts, Pairs, Repository, Stamp, Write};
 pub use values::{

@@ -3,6 +3,7 @@ use crate::changes::{ChangeProof, KeyChange, Told};
 use crate::faults::{BatchError, BatchFault, NoMemory, OpenError, ProvingFault};
 use crate::framing::{Reader, filled};
 use crate::sys;
+use crate::tree::{Link, links_of};
 use crate::values::{Cid, Proof};
 use std::collections::HashSet;
 use std::{fmt, io};
@@ -152,12 +153,7 @@ impl Repository {
     pub fn list(&self, from: impl AsRef<[u8]>, most: usize) -> Result<Vec<(Vec<u8>, Cid)>, NoMemory> {
         let bytes =
             filled(96 * most.min(1024), |out, size| self.handle.list(from.as_ref(), most, out, size)).map_err(|_| NoMemory)?;
-        let mut reader = Reader(&bytes);
-        let mut pairs = Vec::new();
-        while !reader.is_empty() {
-            pairs.push((reader.part().to_vec(), reader.cid()));
-        }
-        Ok(pairs)
+        Ok(Reader(&bytes).pairs())
     }
 
     /// All pairs from a key on, in the order of the keys, read page by page.
@@ -250,8 +246,8 @@ impl Repository {
     /// # Ok::<(), Box<dyn std::error::Error>>(())
     /// ```
     pub fn car_parts(&self) -> CarParts<'_> {
-        let mut left = vec![(true, self.root())];
-        left.extend(self.commit().map(|commit| (false, commit)));
+        let mut left = vec![Link::Node(self.root())];
+        left.extend(self.commit().map(Link::Record));
         CarParts { repository: self, is_begun: false, left, seen: HashSet::new() }
     }
 
@@ -265,12 +261,7 @@ impl Repository {
     /// ```
     pub fn prove(&self, key: impl AsRef<[u8]>) -> Result<Proof, NoMemory> {
         let bytes = filled(8192, |out, size| self.handle.prove(key.as_ref(), out, size)).map_err(|_| NoMemory)?;
-        let mut reader = Reader(&bytes);
-        let mut nodes = Vec::new();
-        while !reader.is_empty() {
-            nodes.push(reader.part().to_vec());
-        }
-        Ok(Proof { nodes })
+        Ok(Proof { nodes: Reader(&bytes).parts() })
     }
 
     /// The proof that some changes, whose keys ascend strictly, led to the repository as it is. Whoever has it and both roots can
@@ -279,18 +270,9 @@ impl Repository {
         let (told, mut place) = (Told::of(changes), 0);
         // Room for most proofs: where it is too small all is made once more.
         let first = 8192 + 4096 * changes.len().min(4096);
-        let bytes = match filled(first, |out, size| self.handle.prove_change(told.lists(), &mut place, out, size)) {
-            Ok(bytes) => bytes,
-            Err(33) => return Err(ProvingFault::OtherValue(place)),
-            Err(252) => return Err(ProvingFault::BadKeys),
-            Err(_) => return Err(ProvingFault::NoMemory),
-        };
-        let mut reader = Reader(&bytes);
-        let mut nodes = Vec::new();
-        while !reader.is_empty() {
-            nodes.push(reader.part().to_vec());
-        }
-        Ok(ChangeProof { nodes })
+        let bytes = filled(first, |out, size| self.handle.prove_change(told.lists(), &mut place, out, size));
+        let bytes = bytes.map_err(|number| ProvingFault::of(number, place))?;
+        Ok(ChangeProof { nodes: Reader(&bytes).parts() })
     }
 }
 
@@ -298,8 +280,8 @@ impl Repository {
 pub struct CarParts<'a> {
     repository: &'a Repository,
     is_begun: bool,
-    /// What is still to come, the last first: whether it is a node, and its CID.
-    left: Vec<(bool, Cid)>,
+    /// What is still to come, the last first.
+    left: Vec<Link>,
     seen: HashSet<Cid>,
 }
 
@@ -310,28 +292,22 @@ impl CarParts<'_> {
             self.is_begun = true;
             return filled(64, |out, size| handle.car_head(out, size)).map(Some);
         }
-        while let Some((is_node, cid)) = self.left.pop() {
-            if is_node {
+        let section = |cid: &Cid| filled(4096, |out, size| handle.car_section(&cid.0, out, size));
+        while let Some(link) = self.left.pop() {
+            match link {
                 // A node's block may come as a record too: what is below it comes where it stands as a node.
-                let section = filled(4096, |out, size| handle.car_section(&cid.0, out, size))?;
-                self.below(block_of(&section))?;
-                if self.seen.insert(cid) {
-                    return Ok(Some(section));
+                Link::Node(cid) => {
+                    let section = section(&cid)?;
+                    self.left.extend(links_of(block_of(&section))?.into_iter().rev());
+                    if self.seen.insert(cid) {
+                        return Ok(Some(section));
+                    }
                 }
-            } else if self.seen.insert(cid) {
-                return filled(4096, |out, size| handle.car_section(&cid.0, out, size)).map(Some);
+                Link::Record(cid) if self.seen.insert(cid) => return section(&cid).map(Some),
+                Link::Record(_) => {}
             }
         }
         Ok(None)
-    }
-
-    /// What stands below a node comes next.
-    fn below(&mut self, node: &[u8]) -> Result<(), u8> {
-        let links = filled(37 * 64, |out, size| sys::links(node, out, size))?;
-        for link in links.chunks_exact(37).rev() {
-            self.left.push((link[0] == 1, Cid(link[1..].try_into().expect("36 bytes"))));
-        }
-        Ok(())
     }
 }
 
@@ -370,12 +346,7 @@ impl Pairs<'_> {
     fn page(&self, from: &[u8]) -> Option<Vec<(Vec<u8>, Cid)>> {
         let handle = &self.repository.handle;
         let bytes = filled(24_576, |out, size| handle.entries(from, 512, out, size)).ok()?;
-        let mut reader = Reader(&bytes);
-        let mut pairs = Vec::new();
-        while !reader.is_empty() {
-            pairs.push((reader.part().to_vec(), reader.cid()));
-        }
-        Some(pairs)
+        Some(Reader(&bytes).pairs())
     }
 }
 

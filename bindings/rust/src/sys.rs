@@ -1,4 +1,4 @@
-//! The calls of the library, over slices. All that is unsafe in this crate is here.
+//! The calls of the library, over slices. All that is unsafe in this crate is here, but for what `tree::Known` asks of a host.
 //!
 //! The declarations are those of `tizulgech.h`. What makes each call sound is the same everywhere: a slice is passed as its
 //! pointer, which is never null, and its length; what is written is lent for the time of the call; rooms that a call wants
@@ -17,29 +17,6 @@ pub struct Raw {
 
 // It has to lie as the header says.
 const _: () = assert!(size_of::<Raw>() == 2 * size_of::<usize>());
-
-/// The bytes of a node that a host knows to be those of the CID that it was asked for, as they stand under it in its own database.
-/// They aren't hashed.
-#[derive(Clone, Debug, PartialEq, Eq)]
-pub struct Known(Vec<u8>);
-
-impl Known {
-    /// These bytes, as those of the CID that is asked for.
-    ///
-    /// # Safety
-    ///
-    /// They are those of this CID. What is proved of the library is proved for callers that see to it: with other bytes nothing is
-    /// known of what a call does.
-    pub unsafe fn of(node: Vec<u8>) -> Known {
-        Known(node)
-    }
-}
-
-impl AsRef<[u8]> for Known {
-    fn as_ref(&self) -> &[u8] {
-        &self.0
-    }
-}
 
 unsafe extern "C" {
     pub fn tizulgech_version() -> u64;
@@ -68,6 +45,19 @@ unsafe extern "C" {
     pub fn tizulgech_cid_text(cid: *const u8, len: usize, out: *mut u8, room: usize) -> bool;
     pub fn tizulgech_cid_from_text(text: *const u8, len: usize, out: *mut u8, room: usize) -> u8;
     pub fn tizulgech_step(node: *const u8, len: usize, key: *const u8, key_len: usize, out: *mut u8, room: usize) -> u8;
+    pub fn tizulgech_below(
+        node: *const u8,
+        len: usize,
+        keys: *const u8,
+        keys_len: usize,
+        key_ends: *const usize,
+        key_count: usize,
+        values: *const u8,
+        values_len: usize,
+        out: *mut u8,
+        room: usize,
+        size: *mut usize,
+    ) -> u8;
     pub fn tizulgech_links(node: *const u8, len: usize, out: *mut u8, room: usize, size: *mut usize) -> u8;
     pub fn tizulgech_is_did(did: *const u8, len: usize) -> bool;
     pub fn tizulgech_is_tid(rev: *const u8, len: usize) -> bool;
@@ -287,6 +277,25 @@ pub fn record_fault(bytes: &[u8]) -> u8 {
 pub fn write_fault(kind: u8, there: bool, key: &[u8], record: &[u8]) -> u8 {
     // SAFETY: as above.
     unsafe { tizulgech_write_fault(kind, there, key.as_ptr(), key.len(), record.as_ptr(), record.len()) }
+}
+
+pub fn below(node: &[u8], keys: Parts<'_>, values: &[u8], out: &mut [u8], size: &mut usize) -> u8 {
+    // SAFETY: as above.
+    unsafe {
+        tizulgech_below(
+            node.as_ptr(),
+            node.len(),
+            keys.bytes.as_ptr(),
+            keys.bytes.len(),
+            keys.ends.as_ptr(),
+            keys.ends.len(),
+            values.as_ptr(),
+            values.len(),
+            out.as_mut_ptr(),
+            out.len(),
+            size,
+        )
+    }
 }
 
 pub fn links(node: &[u8], out: &mut [u8], size: &mut usize) -> u8 {

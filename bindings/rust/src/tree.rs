@@ -5,23 +5,24 @@
 //! transaction. Nothing is kept between calls.
 //!
 //! ```
-//! use std::collections::HashMap;
+//! use std::{collections::HashMap, convert::Infallible};
 //! use tizulgech::{Cid, tree};
 //!
 //! let mut root: Cid = tree::EMPTY_ROOT.parse()?;
 //! let mut nodes = HashMap::from([(root, tree::EMPTY_NODE.to_vec())]);
-//! let edit = tree::put(|cid| Ok::<_, std::io::Error>(nodes.get(cid).cloned()), &root, "a/b", &Cid::of(b"record"))?;
+//! let edit = tree::put(|cid| Ok::<_, Infallible>(nodes.get(cid)), &root, "a/b", &Cid::of(b"record"))?;
 //! for cid in &edit.drop {
 //!     nodes.remove(cid);
 //! }
 //! nodes.extend(edit.add);
 //! root = edit.root;
-//! assert_eq!(tree::get(|cid| Ok::<_, std::io::Error>(nodes.get(cid).cloned()), &root, "a/b")?, Some(Cid::of(b"record")));
+//! assert_eq!(tree::get(|cid| Ok::<_, Infallible>(nodes.get(cid)), &root, "a/b")?, Some(Cid::of(b"record")));
 //! # Ok::<(), Box<dyn std::error::Error>>(())
 //! ```
 //!
-//! Each node that is handed in is hashed once, so that one that isn't of the CID that was asked for is refused. A host whose
-//! database has each node under its CID, and which trusts that, hands them in as [`Known`]: then nothing is hashed but what is new.
+//! Nodes are handed in as they stand, owned or lent. Each is hashed once, so that one that isn't of the CID that was asked for is refused.
+//! A host whose database has each node under its CID, and which trusts that, hands them in as [`Known`]: then nothing is hashed but
+//! what is new.
 //!
 //! ```
 //! # use std::{collections::HashMap, convert::Infallible};
@@ -29,7 +30,7 @@
 //! # let root: Cid = tree::EMPTY_ROOT.parse()?;
 //! # let nodes = HashMap::from([(root, tree::EMPTY_NODE.to_vec())]);
 //! // SAFETY: each node stands under its own CID.
-//! let known = |cid: &Cid| Ok::<_, Infallible>(nodes.get(cid).cloned().map(|node| unsafe { tree::Known::of(node) }));
+//! let known = |cid: &Cid| Ok::<_, Infallible>(nodes.get(cid).map(|node| unsafe { tree::Known::of(*cid, node) }));
 //! let edit = tree::put(known, &root, "a/b", &Cid::of(b"record"))?;
 //! assert_eq!(edit.drop, [root]);
 //! # Ok::<(), Box<dyn std::error::Error>>(())
@@ -46,17 +47,17 @@
 //! # let (after, nodes): (Cid, HashMap<Cid, Vec<u8>>) = (edit.root, edit.add.into_iter().collect());
 //! let told = [("a/b", None, Some(Cid::of(b"record")))];
 //! let undone = told.map(|(key, was, _)| tree::Change { key: key.as_bytes(), value: was });
-//! let found = tree::apply(|cid| Ok::<_, Infallible>(nodes.get(cid).cloned()), &after, &undone)?;
+//! let found = tree::apply(|cid| Ok::<_, Infallible>(nodes.get(cid)), &after, &undone)?;
 //! assert!(found.root == before && found.previous == told.map(|(_, _, is)| is));
 //! # Ok::<(), Box<dyn std::error::Error>>(())
 //! ```
+pub use crate::faults::EditError;
+use crate::faults::NodeFault;
 use crate::framing::{Joined, Reader, filled};
 use crate::sys;
-pub use crate::sys::Known;
-use crate::values::{Cid, cids};
+use crate::values::{Cid, Proof, cids};
 use std::collections::HashMap;
-use std::error::Error;
-use std::fmt;
+use std::ops::Range;
 
 /// The node without entries, which is the tree of no pairs.
 pub const EMPTY_NODE: &[u8] = b"\xa2\x61e\x80\x61l\xf6";
@@ -85,71 +86,107 @@ pub struct Edit {
     pub previous: Vec<Option<Cid>>,
 }
 
-/// Why there is no edit or no value. `E` is the fault of whoever gives the nodes.
-#[derive(Clone, Debug, PartialEq, Eq)]
-#[non_exhaustive]
-pub enum EditError<E> {
-    /// A key has 1 to 1,024 bytes, and the keys of a batch ascend.
-    BadKeys,
-    /// There is no node with this CID.
-    Missing(Cid),
-    /// What is given for this CID is no node, or not the one of this CID.
-    BadNode(Cid),
-    /// A link stands below layer 0.
-    TooDeep,
-    /// The nodes aren't a tree's: keys would not ascend in a node, or more nodes are needed than a tree has for it.
-    NotTree,
-    /// Two nodes have one CID.
-    Clash,
-    /// Memory was refused.
-    NoMemory,
-    /// The fault of whoever gives the nodes.
-    Source(E),
-}
-
-impl<E: fmt::Display> fmt::Display for EditError<E> {
-    fn fmt(&self, f: &mut fmt::Formatter<'_>) -> fmt::Result {
-        match self {
-            EditError::BadKeys => f.write_str("keys have 1 to 1,024 bytes and ascend"),
-            EditError::Missing(cid) => write!(f, "there is no node {cid}"),
-            EditError::BadNode(cid) => write!(f, "what is given for {cid} is not its node"),
-            EditError::TooDeep => f.write_str("a link stands below layer 0"),
-            EditError::NotTree => f.write_str("the nodes aren't a tree's"),
-            EditError::Clash => f.write_str("two different nodes have one CID"),
-            EditError::NoMemory => f.write_str("out of memory"),
-            EditError::Source(fault) => fault.fmt(f),
-        }
-    }
-}
-
-impl<E: Error + 'static> Error for EditError<E> {
-    fn source(&self) -> Option<&(dyn Error + 'static)> {
-        match self {
-            EditError::Source(fault) => Some(fault),
-            _ => None,
-        }
-    }
-}
-
-/// A node as a host hands it in for the CID that it is asked for: its bytes as a `Vec<u8>`, which are hashed to see whether they are of
-/// that CID, or as [`Known`].
-pub trait Node: AsRef<[u8]> + sealed::Sealed {
+/// A node as a host hands it in for the CID that it is asked for: its bytes, owned or lent, which are hashed to see whether they are of
+/// that CID, or [`Known`].
+///
+/// Lent they are as of a map, whose nodes needn't be copied:
+///
+/// ```
+/// # use std::{collections::HashMap, convert::Infallible};
+/// # use tizulgech::{Cid, tree};
+/// # let root: Cid = tree::EMPTY_ROOT.parse()?;
+/// let nodes: HashMap<Cid, Vec<u8>> = HashMap::from([(root, tree::EMPTY_NODE.to_vec())]);
+/// assert_eq!(tree::get(|cid| Ok::<_, Infallible>(nodes.get(cid)), &root, "a/b")?, None);
+/// # Ok::<(), Box<dyn std::error::Error>>(())
+/// ```
+pub trait Node: sealed::Sealed {
     /// Whether the host owes that the bytes are those of the CID.
+    #[doc(hidden)]
     const IS_KNOWN: bool;
+
+    /// The bytes.
+    #[doc(hidden)]
+    fn bytes(&self) -> &[u8];
+
+    /// Whether they may be those of a CID, as far as is said without hashing them.
+    #[doc(hidden)]
+    fn may_be_of(&self, cid: &Cid) -> bool;
 }
 
-impl Node for Vec<u8> {
+impl<B: AsRef<[u8]>> Node for B {
     const IS_KNOWN: bool = false;
+
+    fn bytes(&self) -> &[u8] {
+        self.as_ref()
+    }
+
+    fn may_be_of(&self, _: &Cid) -> bool {
+        true
+    }
 }
 
-impl Node for Known {
+/// The bytes of a node, owned or lent, that a host knows to be those of a CID, as they stand under it in its own database. They aren't
+/// hashed; where another CID was asked for, they are refused as [`EditError::BadNode`].
+#[derive(Clone, Debug, PartialEq, Eq)]
+pub struct Known<B = Vec<u8>> {
+    cid: Cid,
+    node: B,
+}
+
+impl<B: AsRef<[u8]>> Known<B> {
+    /// These bytes, as those of this CID.
+    ///
+    /// # Safety
+    ///
+    /// They are those of this CID. What is proved of the library is proved for callers that see to it: with other bytes nothing is
+    /// known of what a call does.
+    pub unsafe fn of(cid: Cid, node: B) -> Known<B> {
+        Known { cid, node }
+    }
+}
+
+impl<B: AsRef<[u8]>> Node for Known<B> {
     const IS_KNOWN: bool = true;
+
+    fn bytes(&self) -> &[u8] {
+        self.node.as_ref()
+    }
+
+    fn may_be_of(&self, cid: &Cid) -> bool {
+        self.cid == *cid
+    }
 }
 
 mod sealed {
     pub trait Sealed {}
-    impl Sealed for Vec<u8> {}
-    impl Sealed for super::Known {}
+    impl<B: AsRef<[u8]>> Sealed for B {}
+    impl<B: AsRef<[u8]>> Sealed for super::Known<B> {}
+}
+
+/// What stands below a node.
+#[derive(Clone, Copy, Debug, PartialEq, Eq, Hash)]
+pub enum Link {
+    /// Another node.
+    Node(Cid),
+    /// A record.
+    Record(Cid),
+}
+
+/// What stands below a node, in the order of a CAR file.
+///
+/// ```
+/// use tizulgech::{NodeFault, tree};
+/// assert_eq!(tree::links(tree::EMPTY_NODE), Ok(vec![]));
+/// assert_eq!(tree::links(b"another block"), Err(NodeFault::BadNode));
+/// ```
+pub fn links(node: impl AsRef<[u8]>) -> Result<Vec<Link>, NodeFault> {
+    links_of(node.as_ref()).map_err(NodeFault::of)
+}
+
+pub(crate) fn links_of(node: &[u8]) -> Result<Vec<Link>, u8> {
+    let links = filled(37 * 64, |out, size| sys::links(node, out, size))?;
+    let cids = links.chunks_exact(37).map(|link| (link[0], Cid(link[1..].try_into().expect("36 bytes"))));
+    Ok(cids.map(|(kind, cid)| if kind == 1 { Link::Node(cid) } else { Link::Record(cid) }).collect())
 }
 
 /// The nodes that a host was asked for, each once, and their CIDs, 36 bytes each, in the same order.
@@ -172,7 +209,11 @@ impl<F> Asked<F> {
         let next = self.places.len();
         let place = *self.places.entry(*cid).or_insert(next);
         if place == next {
-            self.given.push((self.nodes)(cid).map_err(EditError::Source)?.ok_or(EditError::Missing(*cid))?.as_ref());
+            let node = (self.nodes)(cid).map_err(EditError::Source)?.ok_or(EditError::Missing(*cid))?;
+            if !node.may_be_of(cid) {
+                return Err(EditError::BadNode(*cid));
+            }
+            self.given.push(node.bytes());
             self.cids.extend(cid.0);
         }
         Ok(self.given.part(place))
@@ -197,16 +238,26 @@ impl<F> Asked<F> {
         Err(EditError::TooDeep)
     }
 
-    /// Goes from a root down to the key of each change.
-    fn walk_all<N: Node, E>(&mut self, root: &Cid, changes: &[Change<'_>]) -> Result<(), EditError<E>>
+    /// Goes from a root down to all nodes that changes need, layer by layer. Each is asked for once, whatever leads to it.
+    fn walk_all<N: Node, E>(&mut self, root: &Cid, wanted: &Wanted) -> Result<(), EditError<E>>
     where
         F: FnMut(&Cid) -> Result<Option<N>, E>,
     {
-        self.node(root)?;
-        for change in changes {
-            self.walk(root, change.key)?;
+        let mut left = vec![(*root, 0..wanted.keys.parts().ends.len())];
+        // No tree has more layers.
+        for _ in 0..=128 {
+            let mut next = Vec::new();
+            for (cid, changes) in left {
+                if !self.places.contains_key(&cid) {
+                    wanted.below(self.node(&cid)?, changes, &mut next).map_err(|number| EditError::of(number, cid))?;
+                }
+            }
+            if next.is_empty() {
+                return Ok(());
+            }
+            left = next;
         }
-        Ok(())
+        Err(EditError::TooDeep)
     }
 
     /// Whether all nodes so far are those of the CIDs that were asked for.
@@ -219,13 +270,62 @@ impl<F> Asked<F> {
     }
 }
 
-/// The value of a key. The nodes are taken to have the CIDs that they stand under, whatever they are handed in as: nothing is hashed.
+/// Changes as the library takes them: keys, and 36 bytes for each.
+struct Wanted {
+    keys: Joined,
+    values: Vec<u8>,
+}
+
+impl Wanted {
+    fn of(changes: &[Change<'_>]) -> Wanted {
+        let values = changes.iter().flat_map(|change| change.value.map_or([0; 36], |cid| cid.0)).collect();
+        Wanted { keys: Joined::of(changes.iter().map(|change| change.key)), values }
+    }
+
+    /// Puts the links of a node below which some of these changes go at the end of a list, each with its changes.
+    fn below(&self, node: &[u8], changes: Range<usize>, links: &mut Vec<(Cid, Range<usize>)>) -> Result<(), u8> {
+        let (bytes, ends) = self.keys.range(changes.clone());
+        let values = &self.values[36 * changes.start..36 * changes.end];
+        let keys = sys::Parts { bytes, ends: &ends };
+        // A change goes below two links at most.
+        let answer = filled(2 * 52 * changes.len(), |out, size| sys::below(node, keys, values, out, size))?;
+        let mut reader = Reader(&answer);
+        while !reader.is_empty() {
+            let (cid, first, count) = (reader.cid(), changes.start + reader.number(), reader.number());
+            links.push((cid, first..first + count));
+        }
+        Ok(())
+    }
+}
+
+/// The value of a key. The nodes are taken to have the CIDs that they stand under: nothing is hashed.
 pub fn get<N: Node, E>(
     nodes: impl FnMut(&Cid) -> Result<Option<N>, E>,
     root: &Cid,
     key: impl AsRef<[u8]>,
 ) -> Result<Option<Cid>, EditError<E>> {
-    Asked::new(nodes).walk(root, key.as_ref())
+    path(nodes, root, key).map(|(_, value)| value)
+}
+
+/// The nodes from a root down to a key, which prove what the tree has under it, and the value of the key. Nothing is hashed.
+///
+/// ```
+/// # use std::{collections::HashMap, convert::Infallible};
+/// # use tizulgech::{Cid, tree};
+/// # let root: Cid = tree::EMPTY_ROOT.parse()?;
+/// # let nodes: HashMap<Cid, Vec<u8>> = HashMap::from([(root, tree::EMPTY_NODE.to_vec())]);
+/// let (proof, value) = tree::path(|cid| Ok::<_, Infallible>(nodes.get(cid)), &root, "a/b")?;
+/// assert_eq!(proof.verify(&root, "a/b")?, value);
+/// # Ok::<(), Box<dyn std::error::Error>>(())
+/// ```
+pub fn path<N: Node, E>(
+    nodes: impl FnMut(&Cid) -> Result<Option<N>, E>,
+    root: &Cid,
+    key: impl AsRef<[u8]>,
+) -> Result<(Proof, Option<Cid>), EditError<E>> {
+    let mut asked = Asked::new(nodes);
+    let value = asked.walk(root, key.as_ref())?;
+    Ok((Proof { nodes: asked.given.each().map(<[u8]>::to_vec).collect() }, value))
 }
 
 /// Puts a key with a value into a tree: a batch of one change.
@@ -249,20 +349,19 @@ pub fn delete<N: Node, E>(
 
 /// Changes keys of a tree at once. The keys ascend.
 ///
-/// The nodes of each key's path are read first, each once, and then hashed several side by side, unless they are [`Known`]; few
-/// changes need others, and those are asked for as the library names them. [`EditError::BadNode`] comes where one isn't of its CID.
+/// The nodes that the changes need are asked for layer by layer, each once, and then hashed several side by side, unless they are
+/// [`Known`]. [`EditError::BadNode`] comes where one isn't of its CID.
 pub fn apply<N: Node, E>(
     nodes: impl FnMut(&Cid) -> Result<Option<N>, E>,
     root: &Cid,
     changes: &[Change<'_>],
 ) -> Result<Edit, EditError<E>> {
-    let keys = Joined::of(changes.iter().map(|change| change.key));
-    let values: Vec<u8> = changes.iter().flat_map(|change| change.value.map_or([0; 36], |cid| cid.0)).collect();
+    let wanted = Wanted::of(changes);
     if !changes.iter().all(|change| sys::is_key(change.key)) || !changes.is_sorted_by(|one, other| one.key < other.key) {
         return Err(EditError::BadKeys);
     }
     let mut asked = Asked::new(nodes);
-    let walked = asked.walk_all(root, changes);
+    let walked = asked.walk_all(root, &wanted);
     // A node that isn't of its CID may have led anywhere.
     if !N::IS_KNOWN {
         asked.check()?;
@@ -271,13 +370,14 @@ pub fn apply<N: Node, E>(
     loop {
         let mut missing = [0; 36];
         // Room for the answer of nearly any edit: where it is too small all is made once more.
-        let first = asked.given.len() + 128 * asked.places.len() + keys.len() + 256 * changes.len() + 1024;
+        let first = asked.given.len() + 128 * asked.places.len() + wanted.keys.len() + 256 * changes.len() + 1024;
         let answer = filled(first, |out, size| {
-            sys::tree_apply(asked.given.parts(), &asked.cids, &root.0, keys.parts(), &values, &mut missing, out, size)
+            let (nodes, keys) = (asked.given.parts(), wanted.keys.parts());
+            sys::tree_apply(nodes, &asked.cids, &root.0, keys, &wanted.values, &mut missing, out, size)
         });
         match answer {
             Ok(bytes) => return Ok(read(&bytes, changes.len())),
-            // A node beside the paths.
+            // Nodes that are no tree's may need another one.
             Err(2) => {
                 let cid = Cid(missing);
                 if asked.places.contains_key(&cid) {
@@ -288,12 +388,7 @@ pub fn apply<N: Node, E>(
                     return Err(EditError::BadNode(cid));
                 }
             }
-            Err(30) => return Err(EditError::BadNode(Cid(missing))),
-            Err(31) => return Err(EditError::TooDeep),
-            Err(35) => return Err(EditError::NotTree),
-            Err(252) => return Err(EditError::BadKeys),
-            Err(253) => return Err(EditError::Clash),
-            Err(_) => return Err(EditError::NoMemory),
+            Err(number) => return Err(EditError::of(number, Cid(missing))),
         }
     }
 }

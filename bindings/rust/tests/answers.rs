@@ -5,7 +5,7 @@ mod common;
 #[path = "../src/sys.rs"]
 mod sys;
 
-use common::{DID, Random, change, from, hex, key, no_pairs, record, tid};
+use common::{DID, Random, change, from, hex, key, no_pairs, node_over, nodes_of_no_tree, record, tid};
 use std::collections::{BTreeMap, BTreeSet};
 use std::ptr::null_mut;
 use sys::{Handle, Parts, Raw, Told};
@@ -22,6 +22,7 @@ const ANSWERS: &[(&str, &str)] = &[
         "DONE TRUNCATED LONG_HEAD INDEFINITE BAD_TAG BAD_LINK KEY_NOT_TEXT KEY_ORDER BAD_UTF8 FLOAT SIMPLE INTEGER_RANGE TOO_DEEP TRAILING \
          BAD_KEY NOT_A_MAP RECORD_SIZE KEY_EXISTS NONE BAD",
     ),
+    ("below", "DONE SMALL BAD_NODE BAD"),
     ("links", "DONE SMALL BAD_NODE"),
     ("cids", "DONE SMALL BAD"),
     ("cid_from_text", "DONE CID_LENGTH CID_PREFIX CID_LETTER CID_BITS CID_PROFILE"),
@@ -172,20 +173,6 @@ fn one<'a>(bytes: &'a [u8], ends: &'a [usize]) -> Parts<'a> {
     Parts { bytes, ends }
 }
 
-/// A node without entries, over another one.
-fn node_over(root: &Cid) -> Vec<u8> {
-    [b"\xa2\x61e\x80\x61l\xd8\x2a\x58\x25\0", &root.as_bytes()[..]].concat()
-}
-
-/// A node of one pair, with a link before it and one behind it.
-fn node_of(left: Option<&Cid>, key: &[u8], right: Option<&Cid>) -> Vec<u8> {
-    let link = |cid: Option<&Cid>| cid.map_or(vec![0xf6], |cid| [&b"\xd8\x2a\x58\x25\0"[..], cid.as_bytes()].concat());
-    let mut bytes = b"\xa2\x61e\x81\xa4\x61k".to_vec();
-    bytes.push(0x40 + key.len() as u8);
-    bytes.extend([key, b"\x61p\0\x61t", &link(right), b"\x61v", &link(Some(&Cid::of(b""))), b"\x61l", &link(left)].concat());
-    bytes
-}
-
 fn trees(seen: &mut Seen) {
     let value = *Cid::of(b"").as_bytes();
     let (empty, empty_root) = (tree::EMPTY_NODE, Cid::of(tree::EMPTY_NODE));
@@ -196,6 +183,11 @@ fn trees(seen: &mut Seen) {
     }
     for (node, room) in [(&node[..], 37), (&node, 36), (b"", 0)] {
         seen.see("links", sys::links(node, &mut vec![0; room], &mut 0));
+    }
+
+    for (node, keys, room) in [(&over[..], &[1, 2][..], 52), (&over, &[1, 2], 51), (b"", &[1, 2], 52), (&over, &[2, 1], 52)] {
+        let number = sys::below(node, one(b"ab", keys), &[value; 2].concat(), &mut vec![0; room], &mut 0);
+        seen.see("below", number);
     }
 
     // the one key came with the one node
@@ -252,12 +244,10 @@ fn trees(seen: &mut Seen) {
     tree_apply(&node, &[node.len()], root, &[0, 1], 1000);
     tree_apply(&node, &[node.len()], root, &[2], 1000);
 
-    // two nodes that meet where the key between them goes, with their own keys in no order
-    let high = (0..).map(|number| format!("b{number}")).find(|key| sys::layer(key.as_bytes()) == 1).unwrap();
-    let (before, behind) = (node_of(None, b"z", None), node_of(None, b"a", None));
-    let top = node_of(Some(&Cid::of(&before)), high.as_bytes(), Some(&Cid::of(&behind)));
+    let (high, nodes) = nodes_of_no_tree();
+    let [top, before, behind] = &nodes;
     let ends = [top.len(), top.len() + before.len(), top.len() + before.len() + behind.len()];
-    let (nodes, top) = ([&top[..], &before, &behind].concat(), Cid::of(&top));
+    let (nodes, top) = (nodes.concat(), Cid::of(top));
     let (keys, zeros) = (&[high.len()], &[0; 36]);
     let told = Told { keys: one(high.as_bytes(), keys), befores: zeros, afters: own.as_bytes() };
     let [old, new] = [&empty_root, &top].map(Cid::as_bytes);
@@ -455,6 +445,7 @@ fn small_rooms() {
         sys::tree_apply(one(node, &[node.len()]), &[], root.as_bytes(), one(KEY, &[KEY.len()]), &value, &mut [0; 36], out, size)
     });
     each_room(|out, size| sys::cids(one(b"abc", &[1, 2, 3]), out, size));
+    each_room(|out, size| sys::below(&node_over(&root), one(KEY, &[KEY.len()]), &value, out, size));
     each_room(|out, size| {
         sys::listing_car(DID.as_bytes(), rev.as_bytes(), one(KEY, &[KEY.len()]), one(b"\xa0", &[1]), out, size)
     });
@@ -482,7 +473,6 @@ fn small_rooms() {
     assert_eq!(apply(&mut handle, DID, 3), 26);
 }
 
-/// The names of the Rust crate are those of the header.
 /// A page has as many pairs as there is room for, and the next one goes on behind it.
 #[test]
 fn pages() {
@@ -512,6 +502,21 @@ fn pages() {
     assert_eq!((handle.entries(b"", 0, &mut out, &mut size), size), (0, 0));
 }
 
+/// The text of a CID has 36 bytes of this profile alone, and nothing else is written.
+#[test]
+fn texts() {
+    let (own, mut out) = (Cid::of(b""), [0xaa; 59]);
+    let bytes = [&own.as_bytes()[..], &[0; 200]].concat();
+    for length in 0..bytes.len() {
+        // SAFETY: so many bytes, and room for a text.
+        let is_one = unsafe { sys::tizulgech_cid_text(bytes.as_ptr(), length, out.as_mut_ptr(), 59) };
+        assert_eq!(is_one, length == 36);
+        assert_eq!(out.to_vec(), if is_one { own.to_string().into_bytes() } else { vec![0xaa; 59] });
+        out = [0xaa; 59];
+    }
+}
+
+/// The names of the Rust crate are those of the header.
 #[test]
 fn names_of_record_faults() {
     let numbers = numbers();
@@ -577,6 +582,7 @@ fn spoilt_bytes() {
             let number = sys::tree_apply(one(&joined, &ends), cids, &root, keys, &value, &mut missing, out, &mut size);
             (number, missing, out[..if number == 0 { size } else { 0 }].to_vec())
         };
+        assert!(is_one("below", sys::below(&node, one(&key, &[key.len()]), &value, &mut [0; 200], &mut 0)));
         let told = apply(&[]);
         assert!(is_one("tree_apply", told.0));
         // the same where the CIDs of some nodes are known

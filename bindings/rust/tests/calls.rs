@@ -14,6 +14,9 @@ fn published() {
     assert_eq!(tree::EMPTY_ROOT.parse(), Ok(e));
     assert_eq!("".parse::<Cid>(), Err(CidFault::BadLength));
     assert_eq!(tree::EMPTY_ROOT.replacen('b', "B", 1).parse::<Cid>(), Err(CidFault::BadPrefix));
+    assert_eq!(tree::EMPTY_ROOT.replacen('a', "1", 1).parse::<Cid>(), Err(CidFault::BadLetter));
+    assert_eq!(format!("{}n", &tree::EMPTY_ROOT[..58]).parse::<Cid>(), Err(CidFault::BadBits));
+    assert_eq!(tree::EMPTY_ROOT.replacen("bafyrei", "bafkrei", 1).parse::<Cid>(), Err(CidFault::NotThisProfile));
     assert_eq!(Cid::from_bytes([0; 36]), None);
     assert_eq!(Cid::from_bytes(*e.as_bytes()), Some(e));
     for (key, want) in [
@@ -201,6 +204,67 @@ fn files() {
     assert_eq!(Proof::default().verify(&root, ""), Err(ProofFault::KeyLength));
 }
 
+/// The faults of nodes that are no tree's, each by its own name: in a proof of a key, in one of changes, and in an edit.
+#[test]
+fn no_trees() {
+    let no_node = b"no node".to_vec();
+    let proof = |nodes: &[Vec<u8>], key: &str| Proof { nodes: nodes.to_vec() }.verify(&Cid::of(&nodes[0]), key);
+    assert_eq!(proof(std::slice::from_ref(&no_node), "a"), Err(ProofFault::BadNode));
+    assert_eq!(proof(&[node_over(&Cid::of(b""))], "a"), Err(ProofFault::BlockMissing));
+    let mut chain = vec![tree::EMPTY_NODE.to_vec()];
+    for _ in 0..300 {
+        chain.insert(0, node_over(&Cid::of(&chain[0])));
+    }
+    assert_eq!(proof(&chain, "a"), Err(ProofFault::TooDeep));
+
+    // a link below layer 0, and nodes that can't meet where a key goes
+    let below = [node_over(&Cid::of(tree::EMPTY_NODE)), tree::EMPTY_NODE.to_vec()];
+    let (high, crossed) = nodes_of_no_tree();
+    let value = Cid::of(b"");
+    let cases: [(&[Vec<u8>], &str, _, _); 3] = [
+        (&below, "a", ChangeFault::TooDeep, tree::EditError::TooDeep),
+        (&crossed, &high, ChangeFault::NotTree, tree::EditError::NotTree),
+        (
+            std::slice::from_ref(&no_node),
+            "a",
+            ChangeFault::BadNode(Cid::of(&no_node)),
+            tree::EditError::BadNode(Cid::of(&no_node)),
+        ),
+    ];
+    for (blocks, key, fault, error) in cases {
+        let (root, nodes): (Cid, Nodes) =
+            (Cid::of(&blocks[0]), blocks.iter().map(|node| (Cid::of(node), node.clone())).collect());
+        let after = (*key == *high).then_some(value);
+        let change = KeyChange { key: key.as_bytes(), before: None, after };
+        let proof = ChangeProof { nodes: blocks.to_vec() };
+        assert_eq!(proof.verify(&root, &root, &[change]), Err(fault));
+        assert_eq!(tree::delete(from(&nodes), &root, key), Err(error.clone()));
+        assert_eq!(tree::delete(known(&nodes), &root, key), Err(error));
+    }
+    assert_eq!(tree::links(&no_node), Err(NodeFault::BadNode));
+}
+
+/// Down all links there are each node and each record of the tree, in the order of the keys.
+#[test]
+fn links() {
+    let (mut root, mut nodes) = no_pairs();
+    let pairs: BTreeMap<String, Cid> = (0..500).map(|i| (key(i), Cid::of(&i.to_be_bytes()))).collect();
+    for (key, value) in &pairs {
+        root = change(&mut nodes, |n| tree::put(from(n), &root, key, value).unwrap()).0;
+    }
+    let (mut left, mut seen, mut records) = (vec![tree::Link::Node(root)], 0, Vec::new());
+    while let Some(link) = left.pop() {
+        match link {
+            tree::Link::Node(cid) => {
+                seen += 1;
+                left.extend(tree::links(&nodes[&cid]).unwrap().into_iter().rev());
+            }
+            tree::Link::Record(cid) => records.push(cid),
+        }
+    }
+    assert_eq!((seen, records), (nodes.len(), pairs.into_values().collect()));
+}
+
 /// The parts of a file behind one another are the file, also where a block stands in it more than once.
 #[test]
 fn parts_of_files() {
@@ -332,6 +396,8 @@ fn edits() {
         root = edited.0;
         assert_eq!((root, nodes.len()), of_scratch(&plain));
         assert_eq!(tree::get(from(&nodes), &root, &key).unwrap(), plain.get(&key).copied());
+        let (proof, value) = tree::path(from(&nodes), &root, &key).unwrap();
+        assert_eq!((proof.verify(&root, &key), value), (Ok(plain.get(&key).copied()), plain.get(&key).copied()));
     }
     let none = |_: &Cid| Ok::<Option<Vec<u8>>, ()>(None);
     assert_eq!(tree::put(none, &root, "a", &root), Err(tree::EditError::Missing(root)));
@@ -339,6 +405,26 @@ fn edits() {
     assert_eq!(tree::put(|_: &Cid| Ok::<_, ()>(Some(vec![1])), &root, "a", &root), Err(tree::EditError::BadNode(root)));
     let no_database = |_: &Cid| Err::<Option<tree::Known>, _>("no database");
     assert_eq!(tree::put(no_database, &root, "a", &root), Err(tree::EditError::Source("no database")));
+}
+
+/// Nodes are taken as a host has them, owned or lent.
+#[test]
+fn forms_of_nodes() {
+    fn check<N: tree::Node>(node: impl Fn() -> N) {
+        let edit = tree::put(|_| Ok::<_, ()>(Some(node())), &Cid::of(tree::EMPTY_NODE), "a/b", &Cid::of(b"")).unwrap();
+        assert_eq!((edit.root, edit.drop), (tree_root(&[("a/b", Cid::of(b""))]).unwrap().0, vec![Cid::of(tree::EMPTY_NODE)]));
+    }
+    let node = tree::EMPTY_NODE.to_vec();
+    let shared: std::sync::Arc<[u8]> = node.clone().into();
+    check(|| node.clone());
+    check(|| &node);
+    check(|| &node[..]);
+    check(|| shared.clone());
+    check(|| std::borrow::Cow::Borrowed(&node[..]));
+    // SAFETY: it is the node of its CID.
+    check(|| unsafe { tree::Known::of(Cid::of(&node), &node[..]) });
+    // SAFETY: as above.
+    check(|| unsafe { tree::Known::of(Cid::of(&node), shared.clone()) });
 }
 
 /// Batches over nodes that the host keeps.
@@ -398,7 +484,7 @@ fn each_missing(nodes: &Nodes, root: &Cid, changes: &[tree::Change]) {
     let mut asked = Vec::new();
     let all = |cid: &Cid| {
         asked.push(*cid);
-        Ok::<_, ()>(nodes.get(cid).cloned())
+        Ok::<_, ()>(nodes.get(cid))
     };
     let edit = tree::apply(all, root, changes).unwrap();
     assert_eq!(asked.iter().collect::<BTreeSet<_>>().len(), asked.len(), "a node is asked for twice");
@@ -408,15 +494,21 @@ fn each_missing(nodes: &Nodes, root: &Cid, changes: &[tree::Change]) {
     }
     assert!(edit.drop.iter().all(|cid| asked.contains(cid)));
     for gone in &asked {
-        let some = |cid: &Cid| Ok::<_, ()>(nodes.get(cid).filter(|_| cid != gone).cloned());
+        let some = |cid: &Cid| Ok::<_, ()>(nodes.get(cid).filter(|_| cid != gone));
         assert_eq!(tree::apply(some, root, changes), Err(tree::EditError::Missing(*gone)));
         // SAFETY: each stands under the CID that the library told with it.
-        let some = |cid: &Cid| some(cid).map(|node| node.map(|node| unsafe { tree::Known::of(node) }));
+        let some = |cid: &Cid| some(cid).map(|node| node.map(|node| unsafe { tree::Known::of(*cid, node) }));
         assert_eq!(tree::apply(some, root, changes), Err(tree::EditError::Missing(*gone)));
-        let faulty = |cid: &Cid| if cid == gone { Err(*cid) } else { Ok(nodes.get(cid).cloned()) };
+        // One that is known to be of another CID than the one that was asked for is refused, though it isn't hashed.
+        let other = |cid: &Cid| if cid == gone { Cid::of(b"") } else { *cid };
+        // SAFETY: as above; the one whose CID isn't its own is never read.
+        let other = |cid: &Cid| Ok::<_, ()>(nodes.get(cid).map(|node| unsafe { tree::Known::of(other(cid), node) }));
+        assert_eq!(tree::apply(other, root, changes), Err(tree::EditError::BadNode(*gone)));
+        let faulty = |cid: &Cid| if cid == gone { Err(*cid) } else { Ok(nodes.get(cid)) };
         assert_eq!(tree::apply(faulty, root, changes), Err(tree::EditError::Source(*gone)));
         // Another node under its CID is refused, wherever it leads.
-        let wrong = |cid: &Cid| Ok::<_, ()>(if cid == gone { Some(tree::EMPTY_NODE.to_vec()) } else { nodes.get(cid).cloned() });
+        let empty = tree::EMPTY_NODE.to_vec();
+        let wrong = |cid: &Cid| Ok::<_, ()>(if cid == gone { Some(&empty) } else { nodes.get(cid) });
         assert_eq!(tree::apply(wrong, root, changes), Err(tree::EditError::BadNode(*gone)));
     }
 }

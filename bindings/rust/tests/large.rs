@@ -5,7 +5,7 @@ mod common;
 mod sys;
 
 use common::*;
-use std::collections::BTreeMap;
+use std::collections::{BTreeMap, BTreeSet};
 use sys::Parts;
 use tizulgech::*;
 
@@ -73,6 +73,98 @@ fn a_batch() {
         };
     }
     assert_eq!((root, nodes.len()), of_scratch(&pairs));
+}
+
+/// The nodes that changes need as `below` tells them, layer by layer.
+fn gathered(nodes: &Nodes, root: &Cid, drawn: &[(String, Option<Cid>)]) -> Vec<Vec<Cid>> {
+    let (mut left, mut layers) = (vec![(*root, 0..drawn.len())], Vec::new());
+    while !left.is_empty() {
+        let mut next = Vec::new();
+        for (cid, range) in &left {
+            let own = &drawn[range.clone()];
+            let (keys, ends, values) = joined(own);
+            let (mut out, mut size) = (vec![0; 2 * 52 * own.len()], 0);
+            assert_eq!(sys::below(&nodes[cid], Parts { bytes: &keys, ends: &ends }, &values, &mut out, &mut size), 0);
+            for link in out[..size].chunks(52) {
+                let number = |at: usize| u64::from_le_bytes(link[at..at + 8].try_into().unwrap()) as usize;
+                let first = range.start + number(36);
+                next.push((Cid::from_bytes(link[..36].try_into().unwrap()).unwrap(), first..first + number(44)));
+            }
+        }
+        layers.push(left.into_iter().map(|(cid, _)| cid).collect());
+        left = next;
+    }
+    layers
+}
+
+/// Keys one after another, where each ends, and 36 bytes for each.
+fn joined(drawn: &[(String, Option<Cid>)]) -> (Vec<u8>, Vec<usize>, Vec<u8>) {
+    let (mut keys, mut ends, mut values) = (Vec::new(), Vec::new(), Vec::new());
+    for (key, value) in drawn {
+        keys.extend(key.as_bytes());
+        ends.push(keys.len());
+        values.extend(value.map_or([0; 36], |cid| *cid.as_bytes()));
+    }
+    (keys, ends, values)
+}
+
+/// What one call says to changes over these nodes alone, all of them known.
+fn applied(nodes: &Nodes, given: &[Cid], root: &Cid, drawn: &[(String, Option<Cid>)]) -> u8 {
+    let (keys, ends, values) = joined(drawn);
+    let (mut bytes, mut node_ends, mut cids) = (Vec::new(), Vec::new(), Vec::new());
+    for cid in given {
+        bytes.extend(&nodes[cid]);
+        node_ends.push(bytes.len());
+        cids.extend(cid.as_bytes());
+    }
+    let (nodes, keys) = (Parts { bytes: &bytes, ends: &node_ends }, Parts { bytes: &keys, ends: &ends });
+    sys::tree_apply(nodes, &cids, root.as_bytes(), keys, &values, &mut [0; 36], &mut vec![0; 1 << 22], &mut 0)
+}
+
+/// What `below` tells is each node once, and with these nodes one call is enough: thousands of deletes take no more calls than puts.
+#[test]
+fn deletes() {
+    let pairs: BTreeMap<String, Cid> = (0..KEYS).map(|number| (key(number), Cid::of(&number.to_le_bytes()))).collect();
+    let (root, nodes) = nodes_of(&pairs);
+    let mut random = Random(17);
+    for count in [1, 2, 10, 100, 1000, 5000, KEYS] {
+        for puts in [0, 1, 3] {
+            let drawn: BTreeMap<String, Option<Cid>> = (0..count)
+                .map(|number| {
+                    (
+                        key(if count == KEYS { number } else { random.below(2 * KEYS) }),
+                        (random.below(4) < puts).then(|| Cid::of(b"new")),
+                    )
+                })
+                .collect();
+            let drawn: Vec<(String, Option<Cid>)> = drawn.into_iter().collect();
+            let asked = gathered(&nodes, &root, &drawn).concat();
+            assert_eq!(applied(&nodes, &asked, &root, &drawn), 0);
+            assert_eq!(asked.iter().collect::<BTreeSet<_>>().len(), asked.len(), "a node is told twice");
+            // An edit asks for them in this order, and for no other one.
+            let mut order = Vec::new();
+            let node = |cid: &Cid| {
+                order.push(*cid);
+                Ok::<_, ()>(nodes.get(cid))
+            };
+            tree::apply(node, &root, &changes(&drawn)).unwrap();
+            assert_eq!(order, asked);
+        }
+    }
+    // all keys go at once, and in three batches
+    let gone: Vec<(String, Option<Cid>)> = pairs.keys().map(|key| (key.clone(), None)).collect();
+    let edit = tree::apply(known(&nodes), &root, &changes(&gone)).unwrap();
+    assert_eq!((edit.root, edit.drop.len(), edit.add.len()), (Cid::of(tree::EMPTY_NODE), nodes.len(), 1));
+    let (mut root, mut left, mut pairs) = (root, nodes, pairs);
+    for part in 0..3 {
+        let batch: Vec<(String, Option<Cid>)> = gone.iter().skip(part).step_by(3).cloned().collect();
+        let (next, previous) = change(&mut left, |n| tree::apply(from(n), &root, &changes(&batch)).unwrap());
+        for ((key, _), before) in batch.iter().zip(previous) {
+            assert_eq!(pairs.remove(key), before);
+        }
+        root = next;
+        assert_eq!((root, left.len()), of_scratch(&pairs));
+    }
 }
 
 /// The links of a node of 10,000 entries, all of them of one layer.

@@ -18,7 +18,7 @@ use Rattle.spec.proofs.Once.{head_or_tail}
 use Rattle.edit_laws.specs.Order.{order, if_equal}
 use Rattle.edit_laws.specs.Pairs.{Ascending}
 use Rattle.edit_laws.specs.Changes.{count}
-use Rattle.edit_laws.specs.Sources.{HasBlocks}
+use Rattle.spec.specs.Sources.{HasBlocks}
 use Rattle.edit_laws.specs.Uses.{uses}
 use Rattle.edit_laws.proofs.BlockSources.{source-free}
 use Rattle.edit_laws.proofs.Lists.{contains-counted, counted-contains}

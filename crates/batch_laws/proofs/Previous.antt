@@ -22,10 +22,10 @@ use Rattle.batch_laws.specs.Laws.Sources.{PreviousIsValues}
 use Rattle.batch_laws.proofs.Bridges.{layer-same}
 use Rattle.batch_laws.proofs.OneByOne.{AllLater, later-before, later-at, later-after, later-same, later-trans}
 
-abbrev Value : Type 0
+abbrev pub Value : Type 0
 Value = Option (List ℕ)
 
-abbrev values_in : List Change → List Pair → List Value
+abbrev pub values_in : List Change → List Pair → List Value
 values_in cs es = map (λ c. value_in c.0 es) cs
 
 -- ---- changes before and after a key
@@ -41,7 +41,7 @@ each-before k key (c ∷ cs) h = each-less k key c cs (order c.0 key) h (each-be
     each-less k key c cs Greater h i = i
 
 -- those before a key still ascend, and those after it
-ascending-before : (key : List ℕ) (cs : List Change) → AreAscending cs → AreAscending (before key cs)
+pub ascending-before : (key : List ℕ) (cs : List Change) → AreAscending cs → AreAscending (before key cs)
 ascending-before key [] h = tt
 ascending-before key (c ∷ cs) h =
     ascending-less key c cs (order c.0 key) (each-before c.0 key cs h.0) (ascending-before key cs h.1)
@@ -53,7 +53,7 @@ ascending-before key (c ∷ cs) h =
     ascending-less key c cs Greater h i = i
 
 -- the first change after a key comes with all later ones
-ascending-after : (key : List ℕ) (cs : List Change) → AreAscending cs → AreAscending (after key cs)
+pub ascending-after : (key : List ℕ) (cs : List Change) → AreAscending cs → AreAscending (after key cs)
 ascending-after key [] h = tt
 ascending-after key (c ∷ cs) h = ascending-greater key c cs (order c.0 key) refl h (ascending-after key cs h.1)
   where
@@ -112,7 +112,7 @@ values-case c cs xs e ys Greater q a h i =
     rw (q, later-before e.0 cs l, later-at e.0 cs l, later-after e.0 cs l)
     (values-after (c ∷ cs) xs e ys (q, l) h)
 
-values-at : (cs : List Change) (xs : List Pair) (e : Pair) (ys : List Pair) → AreAscending cs → Each (IsBefore e.0) xs
+pub values-at : (cs : List Change) (xs : List Pair) (e : Pair) (ys : List Pair) → AreAscending cs → Each (IsBefore e.0) xs
     → ValuesAt cs xs e ys
 values-at [] xs e ys a h = refl
 values-at (c ∷ cs) xs e ys a h = values-case c cs xs e ys (order c.0 e.0) refl a.0 h (values-at cs xs e ys a.1 h)
@@ -146,7 +146,7 @@ module _ (digest : List ℕ → List ℕ) (shows : List ℕ → Option Shape) wh
   meets (suc k) (Sub m) [] w v a h = refl
   meets (suc k) (Sub m) (c ∷ cs) w v a h = rw v.0 (meets-node k (meets k) m (c ∷ cs) w v.1 a h)
 
-values-same : (cs : List Change) (es : List Pair) → Ascending es → values_in cs es ≡ values cs es
+pub values-same : (cs : List Change) (es : List Pair) → Ascending es → values_in cs es ≡ values cs es
 values-same [] es a = refl
 values-same (c ∷ cs) es a = both-same _ _ _ _ (sym (find-is c.0 es a)) (values-same cs es a)
 

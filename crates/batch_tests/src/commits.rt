@@ -8,7 +8,7 @@ use repo_fixtures::batch::Step::{Delete, Put};
 use repo_fixtures::batch::{Batch, EMPTY, EMPTY_NODE, batch_at, stamp_of, stamped};
 use repo_fixtures::cores::{counts, end, held};
 use std::alloc::{AllocError, Global};
-use store::{LentShard, Shard};
+use store::{LentShard, Shard, TableKey};
 
 /// The commit of the tree without entries under the DID and the revision below, 96 bytes. The digest is SHA-256 of the node,
 /// by another program.
@@ -156,7 +156,7 @@ fn are_commits(
 
 #[test]
 fn commits_of_two_repositories(rt: HostRuntime) {
-    let mut shard = Shard::new(rt.alloc(), 9);
+    let mut shard = Shard::new(rt.alloc(), 9, TableKey::known());
     let mut first = opened(&rt, rt.alloc(), &mut shard, 0, 2000);
     let mut second = opened(&rt, rt.alloc(), &mut shard, 1, 2000);
     let is_right = are_commits(rt.alloc(), &mut shard, &mut first, &mut second);

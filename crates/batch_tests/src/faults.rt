@@ -14,7 +14,7 @@ use repo_fixtures::ends::Ended::{Accepted, Refused};
 use repo_fixtures::ends::{Ended, Why};
 use std::alloc::Global;
 use std::process::Abort;
-use store::Shard;
+use store::{Shard, TableKey};
 
 /// A stamp's DID and revision, writes, and how their batch ends.
 type Row = (
@@ -206,7 +206,7 @@ fn ended<R: Abort>(
     requires least { 1 ≤ limit }
     requires most { limit ≤ 2000 }
 {
-    let mut shard: Shard<Toy> = Shard::new(alloc, 9);
+    let mut shard: Shard<Toy> = Shard::new(alloc, 9, TableKey::known());
     let mut core = opened(rt, alloc, &mut shard, 0, limit);
     let is_right = are_refused(alloc, &mut shard, &mut core)
         && end_so(alloc, &mut shard, &mut core, rows);

@@ -11,7 +11,7 @@ use repo_fixtures::batch::{EMPTY, ONE, TWO};
 use repo_fixtures::cores::counts;
 use std::alloc::{AllocError, Global};
 use std::sync::Arc;
-use store::{LentShard, Shard, StoreFault};
+use store::{LentShard, Shard, StoreFault, TableKey};
 
 /// A block of these bytes.
 fn block_of<D: Digest>(alloc: Global, bytes: &[u8]) -> Result<Arc<Block<D>>, AllocError> {
@@ -326,7 +326,7 @@ fn are_acts<D: Digest>(alloc: Global, room: usize, blocks: [&[u8]; 2], rows: &[R
     requires least { 1 ≤ room }
     requires most { room ≤ 3 }
 {
-    let mut shard: Shard<D> = Shard::new(alloc, room);
+    let mut shard: Shard<D> = Shard::new(alloc, room, TableKey::known());
     let mut kept = Kept::open(alloc, 5);
     let is_right = end_so(alloc, &mut shard, &mut kept, blocks, rows);
     kept.end(&mut LentShard::new(&mut shard));

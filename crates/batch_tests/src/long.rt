@@ -9,7 +9,7 @@ use repo_fixtures::cores::{apply_made, apply_steps, end};
 use repo_fixtures::ends::Ended::{Accepted, Refused};
 use repo_fixtures::ends::{Ended, Why};
 use std::alloc::{AllocError, Global};
-use store::Shard;
+use store::{Shard, TableKey};
 
 /// Parts of some bytes, each with the number of times that it stands.
 pub(crate) type Parts = &'static [(&'static [u8], u32)];
@@ -104,7 +104,7 @@ fn are_so(alloc: Global, shard: &mut Shard<Toy>, core: &mut Core<Toy, 2>) -> boo
 
 #[test]
 fn longest_dids_and_records(rt: HostRuntime) {
-    let mut shard = Shard::new(rt.alloc(), 9);
+    let mut shard = Shard::new(rt.alloc(), 9, TableKey::known());
     let mut core = opened(&rt, rt.alloc(), &mut shard, 0, 2000);
     let are_so = are_so(rt.alloc(), &mut shard, &mut core);
     end(&mut shard, core);
@@ -143,7 +143,7 @@ fn are_taken(alloc: Global, shard: &mut Shard<Toy>, core: &mut Core<Toy, 2>) -> 
 
 #[test]
 fn longest_keys(rt: HostRuntime) {
-    let mut shard = Shard::new(rt.alloc(), 9);
+    let mut shard = Shard::new(rt.alloc(), 9, TableKey::known());
     let mut core = opened(&rt, rt.alloc(), &mut shard, 0, 2000);
     let are_taken = are_taken(rt.alloc(), &mut shard, &mut core);
     end(&mut shard, core);

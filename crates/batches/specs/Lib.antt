@@ -1,3 +1,4 @@
 pub mod Values
 pub mod Tests
-pub use Rattle.record_writes.specs.declared.write.Write
+pub use Rattle.block.specs.declared.write.Write
+pub mod Names

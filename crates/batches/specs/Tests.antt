@@ -3,7 +3,7 @@ use Rattle.std.specs.Prelude.{◌≡◌, ⊤, Option, Some, None, option_map, Re
 use Rattle.spec.specs.Stamps as stamps
 use Rattle.spec.specs.Writes as writes
 use Rattle.spec.specs.States.{BatchFault, EmptyBatch, OfStamp, OfWrite}
-use Rattle.dagcbor.specs.Fault.{fault_of}
+use Rattle.dagcbor.specs.Fault.{cbor_fault_of}
 use Rattle.store.specs.declared.fault.StoreFault.{StoreFault}
 use Rattle.store.specs.declared.fault.StoreFault.TheVariants as stores
 use Rattle.batches.specs.declared.fault.RepoFault.{RepoFault}
@@ -12,7 +12,7 @@ use Rattle.batches.specs.declared.fault.RepoFault.TheVariants as faults
 -- the fault of a batch's test; what comes of blocks and of memory is none
 abbrev pub test_fault : {D A : Type 0} → RepoFault D A → Option BatchFault
 test_fault faults.BadKey = Some (OfWrite writes.BadKey)
-test_fault (faults.BadRecord f) = option_map (λ g. OfWrite (writes.BadRecord g)) (fault_of f)
+test_fault (faults.BadRecord f) = option_map (λ g. OfWrite (writes.BadRecord g)) (cbor_fault_of f)
 test_fault faults.NotAMap = Some (OfWrite writes.NotAMap)
 test_fault faults.RecordSize = Some (OfWrite writes.RecordSize)
 test_fault faults.KeyExists = Some (OfWrite writes.KeyExists)
@@ -36,7 +36,7 @@ stamp_fault fault = None
 -- the fault of a write's test
 abbrev pub write_fault : {D A : Type 0} → RepoFault D A → Option writes.WriteFault
 write_fault faults.BadKey = Some writes.BadKey
-write_fault (faults.BadRecord f) = option_map writes.BadRecord (fault_of f)
+write_fault (faults.BadRecord f) = option_map writes.BadRecord (cbor_fault_of f)
 write_fault faults.NotAMap = Some writes.NotAMap
 write_fault faults.RecordSize = Some writes.RecordSize
 write_fault faults.KeyExists = Some writes.KeyExists

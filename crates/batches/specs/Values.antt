@@ -2,7 +2,7 @@
 use Rattle.std.specs.Prelude.{ℕ, List, map}
 use Rattle.spec.specs.Stamps as stamps
 use Rattle.batches.specs.declared.stamp.Stamp.{Stamp}
-pub use Rattle.record_writes.specs.Values.{write_of, writes_of, shared_writes}
+pub use Rattle.block.specs.Writes.{write_of, writes_of, shared_writes}
 
 abbrev pub stamp_of : {A : Type 0} → Stamp A → stamps.Stamp
 stamp_of s = record { did = s.did.items; rev = s.rev.items }

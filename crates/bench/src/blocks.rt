@@ -2,12 +2,12 @@ use block::Block;
 use cid::Sha256;
 use std::alloc::{AllocError, Global};
 use std::sync::Arc;
-use store::{Hold, Shard, StoreFault};
+use store::{Hold, Shard, StoreFault, TableKey};
 
 /// Acquires and releases this many blocks, so many times, and counts the holds.
 pub fn measure(alloc: Global, count: u32, rounds: u32) -> Result<u64, StoreFault<Sha256>> {
     let blocks = blocks(alloc, count)?;
-    let mut shard = Shard::new(alloc, 1_048_576);
+    let mut shard = Shard::new(alloc, 1_048_576, TableKey::known());
     let mut acquired = 0u64;
     for _ in 0..rounds {
         acquired = acquired.saturating_add(round(alloc, &mut shard, &blocks)?);

@@ -2,12 +2,13 @@
 
 ghost use Rattle.std.specs.Prelude.{◌≡◌, [], length, All};
 ghost use Rattle.host.specs.Views.{IsSeatOf};
-ghost use Rattle.closing.specs.Ending.{IsEndedAt};
+ghost use Rattle.ended.specs.Ending.{IsEndedAt};
 
 use crate::watch::Watch;
 use crate::writers::{Load, Task, open, shares, write_all};
 use cid::Sha256;
-use closing::{Closed, Ended, Feed};
+use closing::Closed;
+use ended::{Ended, Feed};
 use host::{Host, Opened, Seat};
 use std::alloc::Global;
 use std::sync::Wait;
@@ -89,7 +90,7 @@ fn close<R: Clock>(
     requires all { length ended.items ≡ feed.made }
 {
     let watch = Watch::start(rt);
-    let closed = host.close(ended, feed);
+    let closed = host_close::close(host, ended, feed);
     let close = watch.nanos(rt);
     match closed {
         Ok(closed) => Some(end(rt, alloc, closed, close)),

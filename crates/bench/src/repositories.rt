@@ -12,7 +12,7 @@ use std::fs;
 use std::rt::Files;
 use std::sync::Wait;
 use std::time::Clock;
-use store::{LockedShards, Shards};
+use store::{LockedShards, Shards, TableKey};
 
 /// A batch with its stamp.
 #[derive(Drop)]
@@ -155,7 +155,7 @@ pub fn measure<R: Wait + Clock + Files>(
     rounds: u32,
 ) -> Option<Measured> {
     let mut tree = plan.tree(alloc)?;
-    let shards = Shards::open(alloc, 1_048_576);
+    let shards = Shards::open(alloc, 1_048_576, TableKey::known());
     let mut store = LockedShards::new(rt, &shards);
     match Core::open(alloc, &mut store, 0, 1_048_576) {
         Ok(mut core) => {
@@ -180,7 +180,7 @@ pub fn export<R: Wait + Clock>(
     plan: &Plan,
     rounds: u32,
 ) -> Option<Exported> {
-    let shards = Shards::open(alloc, 1_048_576);
+    let shards = Shards::open(alloc, 1_048_576, TableKey::known());
     let mut store = LockedShards::new(rt, &shards);
     match Core::open(alloc, &mut store, 0, 1_048_576) {
         Ok(mut core) => {

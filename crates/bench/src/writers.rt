@@ -1,20 +1,21 @@
 //! A host whose writers put what a plan has, each in a thread of its own.
 
 ghost use Rattle.std.specs.Prelude.{◌≡◌, [], length, All, IfOk, IfSome};
-ghost use Rattle.closing.specs.Ending.{IsEndedAt};
+ghost use Rattle.ended.specs.Ending.{IsEndedAt};
 ghost use Rattle.host.specs.Views.{IsSeatOf};
 
 use crate::edits::Change;
 use crate::plans::{Plan, stamp};
 use batches::{RepoFault, Write};
 use cid::Sha256;
-use closing::Ended;
+use ended::Ended;
 use host::{Host, HostFault, Limits, Opened, Seat, Writer};
 use std::alloc::{AllocError, Global};
 use std::sync::Wait;
 use std::sync::atomic::{AtomicU64, Ordering};
 use std::thread;
 use std::thread::Threads;
+use store::TableKey;
 
 /// How many repositories and writers a host has, how many batches it gets, and how many puts each of these has.
 #[derive(Clone, Copy, Drop)]
@@ -80,7 +81,7 @@ pub fn open<R: Wait>(rt: &R, alloc: Global, load: Load) -> Option<Opened<Sha256,
         shard_blocks: 1_048_576,
         repo_writes: 1_048_576,
     };
-    match Host::<Sha256, 2>::open(rt, alloc, limits) {
+    match Host::<Sha256, 2>::open(rt, alloc, limits, TableKey::known()) {
         Ok(opened) => Some(opened),
         Err(_) => None,
     }

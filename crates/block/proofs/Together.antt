@@ -6,7 +6,7 @@ use Rattle.std.specs.declared.sync.Arc.{Arc}
 use Rattle.std.specs.List.{AllByRecursion}
 use Rattle.std.specs.Option.{unwrap_or}
 use Rattle.std.specs.Prelude.{is_some}
-use Rattle.record_writes.specs.declared.write.Write.{Write}
+use Rattle.block.specs.declared.write.Write.{Write}
 use Rattle.block.specs.Bytes.{has_record, record_in, shared_record}
 
 same_heads : {X : Type 0} (a b : X) (xs ys : List X) → (a ∷ xs) ≡ (b ∷ ys) → (a ≡ b) × (xs ≡ ys)

@@ -4,8 +4,8 @@ use Rattle.std.specs.Option.{unwrap_or}
 use Rattle.std.specs.Arc.{arc_value}
 use Rattle.std.specs.declared.sync.Arc.{Arc}
 use Rattle.spec.specs.Writes.{record_of}
-use Rattle.record_writes.specs.Values.{write_of}
-use Rattle.record_writes.specs.declared.write.Write.{Write}
+use Rattle.block.specs.Writes.{write_of}
+use Rattle.block.specs.declared.write.Write.{Write}
 use Rattle.block.specs.declared.bytes.Bytes.{Bytes}
 use Rattle.block.specs.declared.bytes.Bytes.TheVariants.{Own, OfWrite}
 

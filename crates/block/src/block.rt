@@ -6,9 +6,9 @@ ghost use Rattle.block.specs.Bytes.{has_record, record_in, shared_record};
 ghost use Rattle.block.specs.Nodes.{contents_of, reads_as_node};
 
 use crate::bytes::{Bytes, record_in};
+use crate::write::Write;
 use cid::{Cid, Digest};
 use node::NodeView;
-use record_writes::Write;
 use std::alloc::{AllocError, Allocator, Global};
 use std::marker::{Model, PhantomData};
 use std::sync::Arc;

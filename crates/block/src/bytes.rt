@@ -3,7 +3,7 @@
 ghost use Rattle.std.specs.Prelude.{◌≡◌};
 ghost use Rattle.block.specs.Bytes.{bytes_in, record_in};
 
-use record_writes::Write;
+use crate::write::Write;
 use std::alloc::Allocator;
 use std::sync::Arc;
 

@@ -48,7 +48,7 @@ fn counts_two_cores<R: Abort>(rt: &R, alloc: Global, shard: &mut Shard<Toy>) -> 
 
 #[test]
 fn counts_at_limit_one(rt: HostRuntime) {
-    let mut shard: Shard<Toy> = Shard::new(rt.alloc(), 1);
+    let mut shard: Shard<Toy> = Shard::new(rt.alloc(), 1, TableKey::known());
     assert!(rt; counts_two_cores(&rt, rt.alloc(), &mut shard));
     let other = Cid::of::<Toy>(&ONE);
     let hold = acquired(&rt, &mut shard, 0, block(&rt, rt.alloc(), &ONE));
@@ -59,7 +59,7 @@ fn counts_at_limit_one(rt: HostRuntime) {
 #[test]
 fn counts_under_a_key(rt: HostRuntime) {
     let key = TableKey::of(0x0706_0504_0302_0100, u64::MAX);
-    let mut shard: Shard<Toy> = Shard::keyed(rt.alloc(), 1, key);
+    let mut shard: Shard<Toy> = Shard::new(rt.alloc(), 1, key);
     assert!(rt; counts_two_cores(&rt, rt.alloc(), &mut shard));
 }
 
@@ -75,7 +75,7 @@ fn is_collision(fault: &Option<StoreFault<Clash>>, given: &[u8], held: &[u8]) ->
 
 #[test]
 fn collision_shows_both(rt: HostRuntime) {
-    let mut shard: Shard<Clash> = Shard::new(rt.alloc(), 2);
+    let mut shard: Shard<Clash> = Shard::new(rt.alloc(), 2, TableKey::known());
     let hold = acquired(&rt, &mut shard, 0, block(&rt, rt.alloc(), &EMPTY));
     let fault = fault_of(&mut shard, block(&rt, rt.alloc(), &ONE));
     assert!(rt; is_collision(&fault, &ONE, &EMPTY) && shard.count(&Cid::of::<Clash>(&EMPTY)) == 1);
@@ -122,7 +122,7 @@ fn leave_one_by_one<R: Abort>(rt: &R, shard: &mut Shard<Toy>, cid: Cid, mut hold
 
 #[test]
 fn holds_all_cores(rt: HostRuntime) {
-    let mut shard: Shard<Toy> = Shard::new(rt.alloc(), 1);
+    let mut shard: Shard<Toy> = Shard::new(rt.alloc(), 1, TableKey::known());
     let cid = Cid::of::<Toy>(&EMPTY);
     let mut holds = Vec::new(rt.alloc());
     for others in 0..1024u16 {
@@ -159,7 +159,7 @@ fn lists_both(shard: &Shard<Toy>, first: Cid, second: Cid) -> bool {
 
 #[test]
 fn lists_each_entry_once(rt: HostRuntime) {
-    let mut shard: Shard<Toy> = Shard::new(rt.alloc(), 2);
+    let mut shard: Shard<Toy> = Shard::new(rt.alloc(), 2, TableKey::known());
     let first = acquired(&rt, &mut shard, 1023, block(&rt, rt.alloc(), &EMPTY));
     let second = acquired(&rt, &mut shard, 64, block(&rt, rt.alloc(), &ONE));
     assert!(rt; lists_both(&shard, Cid::of::<Toy>(&EMPTY), Cid::of::<Toy>(&ONE)));
@@ -186,7 +186,7 @@ fn has_the_cores(shard: &Shard<Toy>) -> bool {
 
 #[test]
 fn steps_from_core_to_core(rt: HostRuntime) {
-    let mut shard: Shard<Toy> = Shard::new(rt.alloc(), 1);
+    let mut shard: Shard<Toy> = Shard::new(rt.alloc(), 1, TableKey::known());
     let mut holds = Vec::new(rt.alloc());
     for core in [1023, 0, 64, 63] {
         let hold = acquired(&rt, &mut shard, core, block(&rt, rt.alloc(), &EMPTY));
@@ -208,7 +208,7 @@ fn shares_equal_blocks<R: Abort, A: Allocator + Copy>(
     heap: &Refusing<Global>,
     alloc: A,
 ) -> bool {
-    let mut shard: Shard<Toy, A> = Shard::new(alloc, 1);
+    let mut shard: Shard<Toy, A> = Shard::new(alloc, 1, TableKey::known());
     let first = acquired(rt, &mut shard, 0, block(rt, alloc, &EMPTY));
     let live = heap.live();
     let equal = block(rt, alloc, &EMPTY);
@@ -329,7 +329,7 @@ fn fill_and_empty<R: Abort, A: Allocator + Copy>(
     alloc: A,
     mut holds: Vec<Hold<Toy, A>>,
 ) -> bool {
-    let mut shard: Shard<Toy, A> = Shard::new(alloc, 64);
+    let mut shard: Shard<Toy, A> = Shard::new(alloc, 64, TableKey::known());
     for others in 0..40u8 {
         let hold = acquired_without_memory(rt, heap, alloc, &mut shard, others);
         keep(rt, &mut holds, hold);

@@ -12,6 +12,8 @@ mod example;
 #[cfg(test)]
 mod fixtures;
 #[cfg(test)]
+mod great_tables;
+#[cfg(test)]
 mod identifiers;
 #[cfg(test)]
 mod many_lists;

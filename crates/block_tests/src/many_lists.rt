@@ -1,10 +1,9 @@
 //! Digests and blocks of many lists of bytes at once.
 
 use crate::fixtures::EMPTY_NODE;
-use block::Block;
+use block::{Block, Write};
 use cid::digests::Toy;
 use cid::{Cid, Digest, Sha256};
-use record_writes::Write;
 use std::alloc::{AllocError, Global};
 use std::sync::Arc;
 use std::test::Fail;

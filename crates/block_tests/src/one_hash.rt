@@ -3,14 +3,14 @@
 //! A run without proofs compares byte by byte and tests each access, so that it takes some 15 microseconds a comparison, and
 //! a million are needed to acquire the blocks. So few look-ups are made beside: of each seventh block, and releases begin
 //! where a look-up does.
-ghost use Rattle.std.specs.Prelude.{◌≡◌, ◌≤◌, ◌<◌};
+ghost use Rattle.std.specs.Prelude.{◌≤◌, ◌<◌};
 ghost use Rattle.block_tests.specs.Late.{late, length-late, IsBytes-late};
 
 use crate::fixtures::{acquired, block, entry_count, keep};
 use cid::{Cid, Digest};
 use std::alloc::Global;
 use std::process::Abort;
-use store::{Hold, Shard};
+use store::{Hold, Shard, TableKey};
 
 /// A digest of 24 zeros and then how many bytes there are. Blocks of different lengths have different identifiers, and a
 /// table sees of these the first eight bytes of the digest alone.
@@ -90,7 +90,7 @@ fn release_third(shard: &mut Shard<Late>, mut holds: Vec<Hold<Late>>) -> bool {
 
 #[test]
 fn a_thousand_of_one_hash(rt: HostRuntime) {
-    let mut shard: Shard<Late> = Shard::new(rt.alloc(), BLOCKS as usize);
+    let mut shard: Shard<Late> = Shard::new(rt.alloc(), BLOCKS as usize, TableKey::known());
     let first = acquire_third(&rt, rt.alloc(), &mut shard, 0);
     let second = acquire_third(&rt, rt.alloc(), &mut shard, 1);
     let third = acquire_third(&rt, rt.alloc(), &mut shard, 2);

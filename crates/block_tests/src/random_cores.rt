@@ -7,7 +7,7 @@ use cid::Cid;
 use cid::digests::Toy;
 use std::alloc::Global;
 use std::process::Abort;
-use store::{Hold, Shard};
+use store::{Hold, Shard, TableKey};
 
 /// Numbers that look random, the same in each run.
 #[derive(Drop)]
@@ -157,7 +157,7 @@ fn every_number_of_cores(rt: HostRuntime) {
     for place in 0..1024u32 {
         cores[place as usize] = place;
     }
-    let mut shard: Shard<Toy> = Shard::new(rt.alloc(), 1);
+    let mut shard: Shard<Toy> = Shard::new(rt.alloc(), 1, TableKey::known());
     for _ in 0..2u8 {
         let mut plain = Plain::empty();
         numbers.shuffle(&mut cores);
@@ -191,7 +191,7 @@ fn step<R: Abort>(
 #[test]
 fn few_cores_come_and_go(rt: HostRuntime) {
     let mut numbers = Numbers::new();
-    let mut shard: Shard<Toy> = Shard::new(rt.alloc(), 1);
+    let mut shard: Shard<Toy> = Shard::new(rt.alloc(), 1, TableKey::known());
     let mut plain = Plain::empty();
     let mut holds = Vec::new(rt.alloc());
     for turn in 0..500u16 {

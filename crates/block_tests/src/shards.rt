@@ -8,7 +8,9 @@ use cid::{Cid, Digest, Sha256};
 use std::alloc::Global;
 use std::process::Abort;
 use std::sync::{Arc, Wait};
-use store::{BlockStore, Hold, LockedShards, SHARDS, Shard, Shards, StoreFault, shard_number};
+use store::{
+    BlockStore, Hold, LockedShards, SHARDS, Shard, Shards, StoreFault, TableKey, shard_number,
+};
 
 /// The hold of core 0 by an acquire that must succeed.
 fn acquired<R: Wait + Abort, D: Digest>(
@@ -95,7 +97,7 @@ fn loses_the_record(mut tables: [Shard<Toy>; SHARDS], hold: Hold<Toy>, other: Ci
 #[test]
 fn stands_in_its_shard(rt: HostRuntime) {
     let (alloc, empty_cid) = (rt.alloc(), Cid::of::<Toy>(&EMPTY));
-    let shards: Shards<Toy> = Shards::open(alloc, 1);
+    let shards: Shards<Toy> = Shards::open(alloc, 1, TableKey::known());
     let first = acquired(&rt, &shards, record_block(&rt, alloc, b'a'));
     let second = acquired(&rt, &shards, block(&rt, alloc, &EMPTY));
     let other_record = record_block(&rt, alloc, b'b');
@@ -126,7 +128,7 @@ fn is_full_of_two<R: Wait>(rt: &R, shards: &Shards<Toy>, third: Arc<Block<Toy>>)
 #[test]
 fn each_shard_has_the_limit(rt: HostRuntime) {
     let alloc = rt.alloc();
-    let shards: Shards<Toy> = Shards::open(alloc, 2);
+    let shards: Shards<Toy> = Shards::open(alloc, 2, TableKey::known());
     let first = acquired(&rt, &shards, record_block(&rt, alloc, b'a'));
     let second = acquired(&rt, &shards, record_block(&rt, alloc, b'b'));
     assert!(rt; is_full_of_two(&rt, &shards, record_block(&rt, alloc, b'c')));
@@ -190,7 +192,7 @@ fn is_emptied(table: &mut Shard<Sha256>, number: usize, hold: Hold<Sha256>) -> b
 
 #[test]
 fn each_shard_has_its_own_block(rt: HostRuntime) {
-    let shards: Shards<Sha256> = Shards::open(rt.alloc(), 1);
+    let shards: Shards<Sha256> = Shards::open(rt.alloc(), 1, TableKey::known());
     let mut holds = one_in_each(&rt, rt.alloc(), &shards);
     assert!(rt; are_held(&rt, &shards));
     let mut tables = shards.tables();

@@ -10,7 +10,7 @@ use std::process::Abort;
 use std::sync::{Arc, Wait};
 use store::{
     BlockStore, Hold, LentShard, LentShards, LockedShards, SHARDS, Shard, Shards, StoreFault,
-    empty_shards,
+    TableKey, empty_shards,
 };
 
 /// Whether the store is full for this block.
@@ -55,7 +55,7 @@ fn lends_one<R: Abort>(rt: &R, alloc: Global, shard: &mut Shard<Toy>) -> bool {
 
 #[test]
 fn one_shard_is_lent(rt: HostRuntime) {
-    let mut shard: Shard<Toy> = Shard::new(rt.alloc(), 1);
+    let mut shard: Shard<Toy> = Shard::new(rt.alloc(), 1, TableKey::known());
     assert!(rt; lends_one(&rt, rt.alloc(), &mut shard));
     assert!(rt; shard.count(&Cid::of::<Toy>(&EMPTY)) == 0 && entry_count(&shard) == 0);
 }
@@ -75,7 +75,7 @@ fn are_empty<D: Digest>(tables: &[Shard<D>; SHARDS]) -> bool {
 
 #[test]
 fn locked_shards_are_a_store(rt: HostRuntime) {
-    let shards: Shards<Toy> = Shards::open(rt.alloc(), 1);
+    let shards: Shards<Toy> = Shards::open(rt.alloc(), 1, TableKey::known());
     let mut locked = LockedShards::new(&rt, &shards);
     assert!(rt; holds_one(&rt, rt.alloc(), &mut locked, &EMPTY, &EMPTY_LIST));
     assert!(rt; are_empty(&shards.tables()));
@@ -83,7 +83,7 @@ fn locked_shards_are_a_store(rt: HostRuntime) {
 
 #[test]
 fn sixteen_shards_are_lent(rt: HostRuntime) {
-    let mut shards: [Shard<Toy>; SHARDS] = empty_shards(rt.alloc(), 1);
+    let mut shards: [Shard<Toy>; SHARDS] = empty_shards(rt.alloc(), 1, TableKey::known());
     let mut lent = LentShards::<Toy, 1>::new(&mut shards);
     assert!(rt; holds_one(&rt, rt.alloc(), &mut lent, &EMPTY, &EMPTY_LIST));
     assert!(rt; are_empty(&shards));
@@ -115,13 +115,16 @@ fn shows_both<D: Digest, S: BlockStore<Arc<Block<D>>, Hold<D>, StoreFault<D>>, R
     are_shown
 }
 
-/// Whether both stores show two records that clash under this digest, and are empty in the end.
+/// Whether each store shows two records that clash under this digest, and is empty in the end.
 fn show_both<D: Digest, R: Wait + Abort>(rt: &R, alloc: Global) -> bool {
-    let mut shard: Shard<D> = Shard::new(alloc, 2);
-    let shards: Shards<D> = Shards::open(alloc, 2);
+    let mut shard: Shard<D> = Shard::new(alloc, 2, TableKey::known());
+    let mut sixteen: [Shard<D>; SHARDS] = empty_shards(alloc, 2, TableKey::known());
+    let shards: Shards<D> = Shards::open(alloc, 2, TableKey::known());
     shows_both(rt, alloc, &mut LentShard::new(&mut shard))
+        && shows_both(rt, alloc, &mut LentShards::<D, 1>::new(&mut sixteen))
         && shows_both(rt, alloc, &mut LockedShards::new(rt, &shards))
         && entry_count(&shard) == 0
+        && are_empty(&sixteen)
         && are_empty(&shards.tables())
 }
 
@@ -162,8 +165,8 @@ fn wants_memory<
 #[test]
 fn memory_refused(rt: HostRuntime) {
     let heap = Refusing::new(rt.alloc());
-    let mut shard: Shard<Toy, &Refusing<Global>> = Shard::new(&heap, 2);
-    let shards: Shards<Toy, &Refusing<Global>> = Shards::open(&heap, 2);
+    let mut shard: Shard<Toy, &Refusing<Global>> = Shard::new(&heap, 2, TableKey::known());
+    let shards: Shards<Toy, &Refusing<Global>> = Shards::open(&heap, 2, TableKey::known());
     let lent = wants_memory(&rt, &heap, &mut LentShard::new(&mut shard));
     let locked = wants_memory(&rt, &heap, &mut LockedShards::new(&rt, &shards));
     drop(shard);

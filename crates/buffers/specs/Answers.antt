@@ -1,5 +1,5 @@
 -- Answers as a caller is handed them.
-use Rattle.std.specs.Prelude.{◌≡◌, ◌≤◌, ◌<◌, ℕ, List, ◌++◌, take, length, Option, Some, None}
+use Rattle.std.specs.Prelude.{◌≡◌, ◌≤◌, ◌<◌, ℕ, List, ◌++◌, take, drop, length, Option, Some, None}
 use Rattle.std.specs.List.{flat_map}
 use Rattle.std.specs.Int.{w64, to_le_bytes}
 use Rattle.spec.specs.Cid.{cid as cid_of}
@@ -46,10 +46,16 @@ blocks_bytes digest blocks = flat_map (block_bytes digest) blocks
 
 -- ---- bytes in a caller's room
 
--- The size is told. Where the room has it, the bytes stand at its front, and the number is 0; where it hasn't, the room is as
--- it was, and the number is 251.
+-- The size is told. Where the room has it, the bytes stand at its front, what is behind them is as it was, and the number is 0;
+-- where it hasn't, the room is as it was, and the number is 251.
 pub record IsHanded (code : ℕ) (bytes before room : List ℕ) (size : ℕ) : Type 0 where
   pub size_is : size ≡ length bytes
   pub whole : code ≡ 0 → take size room ≡ bytes
+  pub behind : code ≡ 0 → drop size room ≡ drop size before
   pub room_is : code ≡ 0 → length bytes ≤ length before
   pub small : ¬ (code ≡ 0) → (code ≡ 251) × (length before < length bytes) × (room ≡ before)
+
+-- whatever is answered, the room is written on 0 alone, and the size is told on 0 and 251 alone
+pub record IsKept (code : ℕ) (before room : List ℕ) (was size : ℕ) : Type 0 where
+  pub room_is : ¬ (code ≡ 0) → room ≡ before
+  pub size_is : ¬ (code ≡ 0) → ¬ (code ≡ 251) → size ≡ was

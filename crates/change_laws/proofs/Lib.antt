@@ -9,3 +9,4 @@ pub mod Following
 pub mod Partial
 pub mod Rows
 pub mod Unblamed
+pub mod Faults

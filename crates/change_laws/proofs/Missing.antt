@@ -9,14 +9,15 @@ use Rattle.std.specs.Str.{bytes_eq}
 use Rattle.edit_laws.specs.ShapeEdit.{last_link, layer_of_shape}
 use Rattle.edit_laws.specs.Sources.{shown_by}
 use Rattle.batch_laws.specs.Batch.{Change, before, at_key, after, puts, entry}
-use Rattle.batch_laws.specs.Counts.{most_from}
+use Rattle.batch_laws.specs.Counts.{most_from, layers_needed, put_layers}
 use Rattle.batch_laws.specs.Walking.{depth_of}
 use Rattle.batch_laws.specs.Links.{Rows, LinkEdge, LinkClear, LinkWaiting, LinkOpened, Log, Stop, NotShown, LinkTooDeep, Step, Top, and_then, ask, log_shown, with_read, link_edge, rows_in_shape, opened_rows, under_rows, joined_row, opening, pairing, noding, parting, subtreeing, pairs_in_turn, walking_node, walking, pruning_at, pruning, topping, walking_top, batch_from, StopsAt}
 use Rattle.change_laws.specs.Told.{KeyChange, undone}
+use Rattle.batch_laws.specs.Within.{IsWithin, at_top}
 use Rattle.change_laws.specs.Within.{is_within}
-use Rattle.change_laws.specs.Given.{ChangeFault, BlockMissing, BadNode, TooDeep, NotTree, OtherValue, OtherRoot, given_at, unshown, fault_of, or_stop, or_fault, batch_over, batch_given, layers_needed, put_layers}
+use Rattle.change_laws.specs.Given.{ChangeFault, BlockMissing, BadNode, TooDeep, NotTree, OtherValue, OtherRoot, given_at, unshown, stop_fault_of, or_stop, or_fault, batch_over, batch_given}
 use Rattle.change_laws.specs.Verdict.{are_told, values_given, is_same, change_verdict}
-use Rattle.change_laws.specs.Laws.{NothingGiven, NotShownIsTrue, MissingIsMissing, IsBeyond, NotTreeIsBeyond}
+use Rattle.change_laws.specs.Laws.{NothingGiven, NotShownIsTrue, MissingIsMissing, NotTreeIsBeyond}
 use Rattle.change_laws.proofs.Within.{not-within, beyond-is, beyond-is_verdict}
 
 module _ (shows : List ℕ → Option Shape) where
@@ -217,7 +218,7 @@ module _ (gives : List ℕ → Option (List ℕ)) where
   tells-unshown c None q = q
   tells-unshown c (Some b) q = tt
 
-  tells-why : (why : Stop) → IsTrue (fault_of gives why)
+  tells-why : (why : Stop) → IsTrue (stop_fault_of gives why)
   tells-why (NotShown c) = tells-unshown c (gives c) refl
   tells-why LinkTooDeep = tt
 
@@ -259,7 +260,7 @@ module _ (beyond : Type 0) where
     beyond-unshown c None = tt
     beyond-unshown c (Some b) = tt
 
-    beyond-why : (why : Stop) → SaysBeyond (fault_of gives why)
+    beyond-why : (why : Stop) → SaysBeyond (stop_fault_of gives why)
     beyond-why (NotShown c) = beyond-unshown c (gives c)
     beyond-why LinkTooDeep = tt
 
@@ -276,8 +277,9 @@ pub not_tree-is_beyond : NotTreeIsBeyond
 not_tree-is_beyond digest bits before after given cs =
     let gives = given_at digest given in
     let most = most_from (layer digest bits) (undone cs) (shown_by gives after) in
-    let step = batch_over digest bits gives (undone cs) after in (
-      λ e. says (SaysBeyond (IsBeyond most step)) (λ place. tt) tt digest bits before after given cs
-          (beyond-case (IsBeyond most step) gives step (is_within most step) (beyond-is most step)) NotTree e,
+    let step = batch_over digest bits gives (undone cs) after in
+    let beyond = ¬ IsWithin most (at_top step) in (
+      λ e. says (SaysBeyond beyond) (λ place. tt) tt digest bits before after given cs
+          (beyond-case beyond gives step (is_within most step) (beyond-is most step)) NotTree e,
       λ h. beyond-is_verdict digest bits before after given cs (not-within most step h),
     )

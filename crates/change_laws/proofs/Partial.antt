@@ -14,20 +14,22 @@ use Rattle.spec.specs.Blocks.{ArePairs, ClashesWithNone, IsClashFree, nodes, roo
 use Rattle.spec.proofs.RootLaws.{in_head, in_tail}
 use Rattle.spec.proofs.VerifyLaws.{block_of-given}
 use Rattle.edit_laws.specs.Lawful.{HasKeys}
-use Rattle.edit_laws.specs.Sources.{HasNodes, shape_of_bytes, shown_by}
+use Rattle.spec.specs.Sources.{HasNodes}
+use Rattle.edit_laws.specs.Sources.{shape_of_bytes, shown_by}
 use Rattle.edit_laws.proofs.OverSource.{holds-top}
 use Rattle.edit_laws.proofs.Tops.{layer_of-top}
 use Rattle.batch_laws.specs.Batch.{Change, AreKeyed}
-use Rattle.batch_laws.specs.Counts.{most_reads, most_from}
+use Rattle.batch_laws.specs.Counts.{most_reads, most_from, layers_needed, put_layers}
 use Rattle.batch_laws.specs.Trace.{batch_read}
 use Rattle.batch_laws.specs.Links.{Log, LinkClear, LinkEdge, NotShown, LinkTooDeep, Step, Stop, Top, and_then, log_shown, walking_top, topping, batch_from}
 use Rattle.batch_laws.specs.Written.{IsEarlier, OnEnd, AreWritten}
+use Rattle.batch_laws.specs.Within.{IsWithin, at_top}
 use Rattle.batch_laws.proofs.Bridges.{layer-same}
 use Rattle.batch_laws.proofs.Lawful.{batch-has_keys}
 use Rattle.batch_laws.proofs.OverSource.{batch-over_source}
 use Rattle.batch_laws.proofs.ReadsFew.{batch-reads_few}
-use Rattle.change_laws.specs.Given.{given_at, put_layers, layers_needed}
-use Rattle.change_laws.specs.Laws.{IsLack, OnlyLacks, TreeOnlyLacks}
+use Rattle.change_laws.specs.Given.{given_at}
+use Rattle.change_laws.specs.Laws.{OnlyLacks, TreeOnlyLacks}
 use Rattle.change_laws.proofs.Following.{Follows, IsThere, IsFewer, follows-batch}
 use Rattle.change_laws.proofs.Missing.{Stops, stops-batch}
 use Rattle.change_laws.proofs.Showing.{found-is, some-is, ok-is, layers-are, tree-within, puts-are-within}
@@ -171,23 +173,21 @@ module _ (digest : List ℕ → List ℕ) (bits : ℕ) (fits : IsDigest digest) 
   abbrev most : ℕ
   most = most_from lay cs (shows (root digest bits es))
 
-  abbrev IsStop : Stop → LinkEdge → Log → Type 0
-  IsStop why s log = IsLack gives most (record { why = why; edge = s; log = log })
-
   stopped-at : (why : Stop) (s : LinkEdge) (log : Log) → IsThere HasKeys refl shows full more why
       → Stops shows {A = Top} (Err (record { why = why; edge = s; log = log })) → length log.read < most
-      → AreWritten HasKeys s log → IsStop why s log
-  stopped-at (NotShown c) s log there told n w =
-      record { missing = c; why_is = refl; lacks = lacks c there told; few = n; written = w }
+      → AreWritten HasKeys s log → OnlyLacks gives most (Err (record { why = why; edge = s; log = log }))
+  stopped-at (NotShown c) s log there told n w = ((n, w), lacks c there told)
   stopped-at LinkTooDeep s log there told n w = absurd there
 
   follows : (step other : Step Top) → Follows HasKeys refl shows full more (λ t. LinkClear) (λ t. length t.1) step other
       → Stops shows step → IsWhole other → most ≡ suc reads → OnlyLacks gives most step
   follows (Ok x) other h told w z =
       let f = w.few in
-      let same = ok-is x w.x (sym h ∙ w.is) in
-      subst (λ (y : Top × Log). (length (y.1.read ++ y.0.1) ≤ most) × AllByRecursion HasKeys y.1.made) (sym same)
-      (omega (arith, f, z), w.made)
+      let same = ok-is x w.x (sym h ∙ w.is) in (
+        subst (λ (y : Top × Log). IsWithin most (at_top (Ok y))) (sym same)
+            (omega (arith, f, z), record { made = w.made; begun = tt }),
+        tt,
+      )
   follows (Err e) other h told w z =
       let f = w.few in
       let i = subst (λ o. OnEnd (λ t. LinkClear) o (IsEarlier HasKeys e.edge e.log)) w.is h.0 in
@@ -213,13 +213,10 @@ module _ (digest : List ℕ → List ℕ) (bits : ℕ) (fits : IsDigest digest) 
   rootless : (n : ℕ) (o : Option Shape) → shows (root digest bits es) ≡ o → o ≡ None
       → OnlyLacks gives most (and_then (log_shown (root digest bits es) LinkClear o start)
       (λ s log. and_then (walking_top digest shows lay n cs s log) (topping digest shows n)))
-  rootless n None q z = record {
-    missing = root digest bits es;
-    why_is = refl;
-    lacks = lacks (root digest bits es) top-there q;
-    few = most-one lay cs (shows (root digest bits es));
-    written = record { made = tt; begun = tt };
-  }
+  rootless n None q z = (
+    (most-one lay cs (shows (root digest bits es)), record { made = tt; begun = tt }),
+    lacks (root digest bits es) top-there q,
+  )
   rootless n (Some s) q z = absurd cc
 
   with-root : (s : Shape) → shows (root digest bits es) ≡ Some s

@@ -10,4 +10,4 @@ use Rattle.change_laws.specs.Rows.{by_last_digit, AreRows}
 
 pub rows : AreRows by_last_digit
 unfolding change_verdict read_node entries_at entry_at head_at cid count_leading_zeros order
-rows = record { shown = refl; other_value = refl; other_root = refl; out_of_order = refl; more_reads = refl }
+rows = record { shown = refl; other_value = refl; second_value = refl; other_root = refl; out_of_order = refl; more_reads = refl }

@@ -29,7 +29,7 @@ use Rattle.edit_laws.proofs.Within.{IsWithin, within-top, within-up, within-belo
 use Rattle.batch_laws.specs.Batch.{Change, puts, changed, AreAscending, AreKeyed}
 use Rattle.batch_laws.specs.Edge.{Edge, Clear, Waiting, Opened}
 use Rattle.batch_laws.specs.Walking.{walk_top}
-use Rattle.batch_laws.specs.Counts.{most_reads, most_from}
+use Rattle.batch_laws.specs.Counts.{most_reads, most_from, layers_needed, put_layers}
 use Rattle.batch_laws.specs.Trace.{batch_gone, batch_read, top_left}
 use Rattle.batch_laws.specs.Links.{LinkClear, Log, Step, Top, ask, batch_from}
 use Rattle.batch_laws.specs.Previous.{values}
@@ -41,10 +41,10 @@ use Rattle.batch_laws.proofs.Old.{read-old}
 use Rattle.batch_laws.proofs.ReadsFew.{batch-reads_few}
 use Rattle.change_laws.specs.Told.{KeyChange, undone}
 use Rattle.change_laws.specs.Within.{is_within}
-use Rattle.change_laws.specs.Given.{ChangeFault, NotTree, OtherValue, OtherRoot, given_at, put_layers, layers_needed, or_stop, or_fault, batch_given}
+use Rattle.change_laws.specs.Given.{ChangeFault, NotTree, OtherValue, OtherRoot, given_at, or_stop, or_fault, batch_given}
 use Rattle.change_laws.specs.Verdict.{previous_of, values_given, is_same, are_told, change_verdict}
 use Rattle.change_laws.specs.Laws.{VerdictIsSound, VerdictIsComplete}
-use Rattle.change_laws.proofs.Within.{within-ok, within-is_stop}
+use Rattle.change_laws.proofs.Within.{within-is, within-is_stop}
 use Rattle.change_laws.proofs.Lacking.{Known, Shown, AllShown, IsAnswered, NeedsBatch, WithinEdge, all-front, first-answered, logged-shown, batch-needs}
 use Rattle.change_laws.proofs.Values.{previous-met}
 use Rattle.change_laws.proofs.Undone.{undone-differ, differ-undone}
@@ -159,7 +159,7 @@ ok-is x y q = cc
 answer-is : (gives : List ℕ → Option (List ℕ)) (most : ℕ) (step : Step Top) (x : Top × Log)
     → length (x.1.read ++ x.0.1) ≤ most → AllByRecursion HasKeys x.1.made → step ≡ Ok x → or_fault gives most step ≡ Ok x
 answer-is gives most step x few made e =
-    ap (or_fault gives most) e ∙ within-is_stop gives most (Ok x) (within-ok most x few made)
+    ap (or_fault gives most) e ∙ within-is_stop gives most (Ok x) (within-is most (Ok x) (few, record { made = made; begun = tt }))
 
 -- the fault of a step is no answer
 stop-was : (gives : List ℕ → Option (List ℕ)) (step : Step Top) (x : Top × Log) → or_stop gives step ≡ Ok x → step ≡ Ok x
@@ -242,7 +242,7 @@ module _ (digest : List ℕ → List ℕ) (bits : ℕ) (fits : IsDigest digest) 
       (batch-is_top lay most cs es (ascending-sorted es are.sorted) tree-within puts-are-within)
 
   -- an answer has read all that the batch reads
-  whole : (x : Top × Log) → step ≡ Ok x → AllRead × (x.0.0 ≡ root digest bits (changed cs es))
+  pub whole : (x : Top × Log) → step ≡ Ok x → AllRead × (x.0.0 ≡ root digest bits (changed cs es))
   whole x e =
       let q : batch layers ≡ Ok x = answer-was (gives digest given) limit (batch layers) x e in
       let h = root-shown (is-answered (batch layers) x q) in
@@ -250,7 +250,7 @@ module _ (digest : List ℕ → List ℕ) (bits : ℕ) (fits : IsDigest digest) 
       let all = needs.1 (is-answered (batch most) x r) in
       (all, root-is x r all)
 
-  met : AreAscending cs → AllRead → values_given digest bits given cs (root digest bits es) ≡ values cs es
+  pub met : AreAscending cs → AllRead → values_given digest bits given cs (root digest bits es) ≡ values cs es
   met a all =
       ap (previous_of (shows digest given) lay cs) all.0
       ∙ previous-met digest (shows digest given) lay most cs es (ascending-sorted es are.sorted) a

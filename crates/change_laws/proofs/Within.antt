@@ -1,5 +1,5 @@
 -- What it means that a batch keeps within what a tree has for it.
-use Rattle.std.proofs.Common.{◌≡◌, ℕ, ◌≤◌, Bool, true, false, cond, ◌&&◌, List, [], ◌∷◌, ◌++◌, length, refl, ap, Option, Result, Ok, Err}
+use Rattle.std.proofs.Common.{◌≡◌, ℕ, Bool, true, false, cond, ◌&&◌, List, [], ◌∷◌, ◌++◌, length, refl, ap, Option, Result, Ok, Err}
 use Rattle.std.specs.Prelude.{nat_le}
 use Rattle.std.specs.List.{AllByRecursion}
 use Rattle.std.specs.declared.option.Option.TheVariants.{None}
@@ -13,13 +13,13 @@ use Rattle.spec.proofs.Bools.{both, and}
 use Rattle.edit_laws.specs.Lawful.{HasKeys}
 use Rattle.edit_laws.specs.Sources.{shown_by}
 use Rattle.batch_laws.specs.Counts.{most_from}
-use Rattle.batch_laws.specs.Links.{Rows, LinkEdge, LinkClear, LinkWaiting, LinkOpened, Log, Stopped, Step, Top, onto_links}
-use Rattle.batch_laws.specs.Written.{AllGoOn, AreWritten}
-use Rattle.change_laws.specs.Within.{has_keys, have_keys, go_on, asked, is_within}
+use Rattle.batch_laws.specs.Links.{Rows, LinkEdge, LinkClear, LinkWaiting, LinkOpened, Step, Top, onto_links}
+use Rattle.batch_laws.specs.Written.{AllGoOn}
+use Rattle.batch_laws.specs.Within.{IsWithin, asked, at_top}
+use Rattle.change_laws.specs.Within.{has_keys, have_keys, go_on, is_within}
 use Rattle.change_laws.specs.Told.{KeyChange, undone}
 use Rattle.change_laws.specs.Given.{NotTree, given_at, or_stop, or_fault, batch_over, batch_given}
 use Rattle.change_laws.specs.Verdict.{change_verdict}
-use Rattle.change_laws.specs.Laws.{IsBeyond}
 
 -- ---- keys
 
@@ -56,59 +56,42 @@ go_on-all (LinkOpened rows s) h =
 
 -- ---- within
 
-pub within-ok : (most : ℕ) (x : Top × Log) → length (x.1.read ++ x.0.1) ≤ most → AllByRecursion HasKeys x.1.made
-    → is_within most (Ok x) ≡ true
-within-ok most x few made =
-    let n = length (x.1.read ++ x.0.1) in
-    and (nat_le n most) (have_keys x.1.made) (le-leb n most few) (all-keys x.1.made made)
-
-pub within-stop : (most : ℕ) (e : Stopped) → asked e.why e.log ≤ most → AreWritten HasKeys e.edge e.log
-    → is_within most (Err e) ≡ true
-within-stop most e few written =
-    let n = asked e.why e.log in
-    and (nat_le n most) (have_keys e.log.made && go_on e.edge) (le-leb n most few)
-    (and (have_keys e.log.made) (go_on e.edge) (all-keys e.log.made written.made) (all-go_on e.edge written.begun))
-
--- and what it says
-abbrev pub IsWithin : ℕ → Step Top → Type 0
-IsWithin most (Ok x) = (length (x.1.read ++ x.0.1) ≤ most) × AllByRecursion HasKeys x.1.made
-IsWithin most (Err e) = (asked e.why e.log ≤ most) × AreWritten HasKeys e.edge e.log
-
-pub within-says : (most : ℕ) (step : Step Top) → is_within most step ≡ true → IsWithin most step
+-- what the test says
+pub within-says : (most : ℕ) (step : Step Top) → is_within most step ≡ true → IsWithin most (at_top step)
 within-says most (Ok x) h =
     let n = length (x.1.read ++ x.0.1) in
     let k = both (nat_le n most) (have_keys x.1.made) h in
-    (leb-true n most k.0, keys-all x.1.made k.1)
+    (leb-true n most k.0, record { made = keys-all x.1.made k.1; begun = tt })
 within-says most (Err e) h =
     let n = asked e.why e.log in
     let k = both (nat_le n most) (have_keys e.log.made && go_on e.edge) h in
     let w = both (have_keys e.log.made) (go_on e.edge) k.1 in
     (leb-true n most k.0, record { made = keys-all e.log.made w.0; begun = go_on-all e.edge w.1 })
 
-pub within-is : (most : ℕ) (step : Step Top) → IsWithin most step → is_within most step ≡ true
-within-is most (Ok x) h = within-ok most x h.0 h.1
-within-is most (Err e) h = within-stop most e h.0 h.1
+pub within-is : (most : ℕ) (step : Step Top) → IsWithin most (at_top step) → is_within most step ≡ true
+within-is most (Ok x) h =
+    let n = length (x.1.read ++ x.0.1) in
+    and (nat_le n most) (have_keys x.1.made) (le-leb n most h.0) (all-keys x.1.made h.1.made)
+within-is most (Err e) h =
+    let n = asked e.why e.log in
+    and (nat_le n most) (have_keys e.log.made && go_on e.edge) (le-leb n most h.0)
+    (and (have_keys e.log.made) (go_on e.edge) (all-keys e.log.made h.1.made) (all-go_on e.edge h.1.begun))
 
 -- ---- not within
 
-beyond-no : (most : ℕ) (step : Step Top) → IsBeyond most step → IsWithin most step → ⊥
-beyond-no most (Ok x) h w = h w.0 w.1
-beyond-no most (Err e) h w = h w.0 w.1
-
-pub not-within : (most : ℕ) (step : Step Top) → IsBeyond most step → is_within most step ≡ false
+pub not-within : (most : ℕ) (step : Step Top) → (¬ IsWithin most (at_top step)) → is_within most step ≡ false
 not-within most step h = by (is_within most step) refl
   where
     by : (b : Bool) → is_within most step ≡ b → is_within most step ≡ false
-    by true q = absurd (beyond-no most step h (within-says most step q))
+    by true q = absurd (h (within-says most step q))
     by false q = q
 
 no-both : (b : Bool) → b ≡ false → b ≡ true → ⊥
 no-both true h k = absurd cc
 no-both false h k = absurd cc
 
-pub beyond-is : (most : ℕ) (step : Step Top) → is_within most step ≡ false → IsBeyond most step
-beyond-is most (Ok x) h = λ few made. no-both (is_within most (Ok x)) h (within-ok most x few made)
-beyond-is most (Err e) h = λ few written. no-both (is_within most (Err e)) h (within-stop most e few written)
+pub beyond-is : (most : ℕ) (step : Step Top) → is_within most step ≡ false → ¬ IsWithin most (at_top step)
+beyond-is most step h = λ w. no-both (is_within most step) h (within-is most step w)
 
 -- ---- what a verdict makes of it
 

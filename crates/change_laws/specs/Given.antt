@@ -1,12 +1,10 @@
 -- A batch over given blocks: the batch over the source that they are, which says where it stops.
-use Rattle.std.specs.Prelude.{ℕ, suc, max, if◌then◌else◌, List, [], ◌∷◌, Option, Some, None, Result, Ok, Err}
+use Rattle.std.specs.Prelude.{ℕ, if◌then◌else◌, List, Option, Some, None, Result, Ok, Err}
 use Rattle.spec.specs.Layer.{layer as layer_of_key}
-use Rattle.spec.specs.NodeFormat.{Shape}
 use Rattle.spec.specs.Blocks.{block_at}
-use Rattle.edit_laws.specs.ShapeEdit.{layer_of_shape}
 use Rattle.edit_laws.specs.Sources.{shown_by}
 use Rattle.batch_laws.specs.Batch.{Change}
-use Rattle.batch_laws.specs.Counts.{most_from}
+use Rattle.batch_laws.specs.Counts.{most_from, put_layers, layers_needed}
 use Rattle.batch_laws.specs.Links.{Log, NotShown, LinkTooDeep, Step, Stop, Top, batch_from}
 use Rattle.change_laws.specs.Within.{is_within}
 
@@ -27,22 +25,6 @@ pub data ChangeFault : Type 0 where
 abbrev pub given_at : (List ℕ → List ℕ) → List (List ℕ) → List ℕ → Option (List ℕ)
 given_at digest given c = block_at digest c given
 
--- ---- how many layers the edge has
-
-abbrev pub layers_for : (List ℕ → ℕ) → List ℕ → Option (List ℕ) → ℕ
-layers_for layer key None = 0
-layers_for layer key (Some v) = suc (layer key)
-
--- as many as the keys want that get a value
-abbrev pub put_layers : (List ℕ → ℕ) → List Change → ℕ
-put_layers layer [] = 0
-put_layers layer (c ∷ cs) = max (layers_for layer c.0 c.1) (put_layers layer cs)
-
--- and those up to the old top
-abbrev pub layers_needed : (List ℕ → ℕ) → ℕ → Option Shape → ℕ
-layers_needed layer wanted None = 0
-layers_needed layer wanted (Some s) = max (suc (layer_of_shape layer s)) wanted
-
 -- ---- where it stops
 
 -- no node with this CID is shown: no block with it is there, or that block is no node
@@ -50,13 +32,13 @@ abbrev pub unshown : {A : Type 0} → List ℕ → Option A → ChangeFault
 unshown c None = BlockMissing c
 unshown c (Some b) = BadNode c
 
-abbrev pub fault_of : {A : Type 0} → (List ℕ → Option A) → Stop → ChangeFault
-fault_of gives (NotShown c) = unshown c (gives c)
-fault_of gives LinkTooDeep = TooDeep
+abbrev pub stop_fault_of : {A : Type 0} → (List ℕ → Option A) → Stop → ChangeFault
+stop_fault_of gives (NotShown c) = unshown c (gives c)
+stop_fault_of gives LinkTooDeep = TooDeep
 
 abbrev pub or_stop : {A : Type 0} → (List ℕ → Option A) → Step Top → Result (Top × Log) ChangeFault
 or_stop gives (Ok x) = Ok x
-or_stop gives (Err e) = Err (fault_of gives e.why)
+or_stop gives (Err e) = Err (stop_fault_of gives e.why)
 
 -- but where it is not within what a tree has, with so many nodes to read at most, the blocks are of no tree
 abbrev pub or_fault : {A : Type 0} → (List ℕ → Option A) → ℕ → Step Top → Result (Top × Log) ChangeFault

@@ -1,22 +1,20 @@
 -- The laws of a proof of changes.
-use Rattle.std.specs.Prelude.{◌≡◌, ◌↔◌, ⊤, Contains, ◌<◌, ◌≤◌, ◌^◌, ℕ, suc, max, List, [], ◌++◌, length, map, Option, None, Ok, Err}
-use Rattle.std.specs.List.{AllByRecursion}
+use Rattle.std.specs.Prelude.{◌≡◌, ◌↔◌, ⊤, Contains, ◌<◌, ◌^◌, ℕ, suc, max, List, [], length, map, Option, None, Ok, Err, IfErr}
 use Rattle.spec.specs.Cid.{IsDigest}
 use Rattle.spec.specs.Layer.{layer as layer_of_key}
 use Rattle.spec.specs.Tree.{Pair, top, top_layer}
 use Rattle.spec.specs.NodeFormat.{node_bytes}
 use Rattle.spec.specs.Blocks.{ArePairs, ClashesWithNone, IsClashFree, nodes, root}
-use Rattle.edit_laws.specs.Lawful.{HasKeys}
 use Rattle.edit_laws.specs.Sources.{shown_by}
 use Rattle.batch_laws.specs.Batch.{Change, changed, AreKeyed, HaveOwnCids}
 use Rattle.batch_laws.specs.Trace.{batch_read}
-use Rattle.batch_laws.specs.Counts.{most_from}
-use Rattle.batch_laws.specs.Links.{NotShown, Step, Stopped, StopsAt, Top}
-use Rattle.batch_laws.specs.Written.{AreWritten}
+use Rattle.batch_laws.specs.Previous.{values}
+use Rattle.batch_laws.specs.Counts.{most_from, put_layers}
+use Rattle.batch_laws.specs.Links.{LinkTooDeep, NotShown, Step, Stop, StopsAt, Top}
+use Rattle.batch_laws.specs.Within.{IsWithin, at_top}
 use Rattle.change_laws.specs.Told.{KeyChange, undone, DifferBy}
-use Rattle.change_laws.specs.Within.{asked}
-use Rattle.change_laws.specs.Given.{ChangeFault, BlockMissing, BadNode, TooDeep, NotTree, OtherValue, OtherRoot, given_at, batch_over, put_layers}
-use Rattle.change_laws.specs.Verdict.{change_verdict}
+use Rattle.change_laws.specs.Given.{ChangeFault, BlockMissing, BadNode, TooDeep, NotTree, OtherValue, OtherRoot, given_at, batch_over}
+use Rattle.change_laws.specs.Verdict.{are_told, change_verdict}
 
 -- ---- what a verdict says
 
@@ -60,19 +58,14 @@ VerdictIsComplete = (digest : List ℕ → List ℕ) (bits : ℕ) → IsDigest d
 
 -- ---- where some of a tree's blocks are given
 
--- a batch stops as this block isn't given; fewer nodes were read by then, and each node that was made has keys of the grammar, with
--- each that is open one that may still have them
-pub record IsLack (gives : List ℕ → Option (List ℕ)) (most : ℕ) (e : Stopped) : Type 0 where
-  pub missing : List ℕ
-  pub why_is : e.why ≡ NotShown missing
-  pub lacks : gives missing ≡ None
-  pub few : length e.log.read < most
-  pub written : AreWritten HasKeys e.edge e.log
+-- it stops as a block isn't given
+abbrev pub IsLack : (List ℕ → Option (List ℕ)) → Stop → Type 0
+IsLack gives (NotShown c) = gives c ≡ None
+IsLack gives LinkTooDeep = ⊥
 
--- or it has an answer, for which no more are read, and each node that was made has keys of the grammar
+-- a batch keeps within what a tree has for it, and stops only for that
 abbrev pub OnlyLacks : (List ℕ → Option (List ℕ)) → ℕ → Step Top → Type 0
-OnlyLacks gives most (Ok x) = (length (x.1.read ++ x.0.1) ≤ most) × AllByRecursion HasKeys x.1.made
-OnlyLacks gives most (Err e) = IsLack gives most e
+OnlyLacks gives most step = IsWithin most (at_top step) × IfErr step (λ e. IsLack gives e.why)
 
 -- nothing else stops a batch where no two nodes of the tree clash, and none with a given block
 abbrev pub TreeOnlyLacks : Type 0
@@ -101,6 +94,23 @@ TreeOnlyMissing = (digest : List ℕ → List ℕ) (bits : ℕ) → IsDigest dig
 
 -- ---- faults
 
+-- What is said of values and of the root is so of whatever pairs have the root after: this is the first key with another value, or
+-- each has its own, and the root before is another one than that of the pairs with each change undone.
+abbrev pub IsSo : (List ℕ → List ℕ) → ℕ → List ℕ → List KeyChange → List Pair → ChangeFault → Type 0
+IsSo digest bits before cs new (BlockMissing c) = Unit {0}
+IsSo digest bits before cs new (BadNode c) = Unit {0}
+IsSo digest bits before cs new TooDeep = Unit {0}
+IsSo digest bits before cs new NotTree = Unit {0}
+IsSo digest bits before cs new (OtherValue place) = are_told 0 (values (undone cs) new) cs ≡ Err (OtherValue place)
+IsSo digest bits before cs new OtherRoot = (are_told 0 (values (undone cs) new) cs ≡ Ok tt)
+    × (before ≡ root digest bits (changed (undone cs) new) → ⊥)
+
+abbrev pub FaultsAreSo : Type 0
+FaultsAreSo = (digest : List ℕ → List ℕ) (bits : ℕ) → IsDigest digest → (before : List ℕ) (new : List Pair)
+    → ArePairs new → (given : List (List ℕ)) → ClashesWithNone digest (nodes digest bits new) given
+    → (cs : List KeyChange) → AreKeyed (undone cs) → (fault : ChangeFault)
+    → change_verdict digest bits before (root digest bits new) given cs ≡ Err fault → IsSo digest bits before cs new fault
+
 -- where nothing is given, the root after is what is missing first
 abbrev pub NothingGiven : Type 0
 NothingGiven = (digest : List ℕ → List ℕ) (bits : ℕ) (before after : List ℕ) (cs : List KeyChange)
@@ -117,16 +127,10 @@ MissingIsMissing = (digest : List ℕ → List ℕ) (bits : ℕ) (before after :
     (cs : List KeyChange) (c : List ℕ)
     → change_verdict digest bits before after given cs ≡ Err (BlockMissing c) → given_at digest given c ≡ None
 
--- a batch is not within what a tree has for it: it reads or asks for more nodes, or not each node that was made has keys of the
--- grammar, with each that is open one that may still have them
-abbrev pub IsBeyond : ℕ → Step Top → Type 0
-IsBeyond most (Ok x) = length (x.1.read ++ x.0.1) ≤ most → ¬ AllByRecursion HasKeys x.1.made
-IsBeyond most (Err e) = asked e.why e.log ≤ most → ¬ AreWritten HasKeys e.edge e.log
-
--- given blocks are called no tree just where it is so
+-- given blocks are called no tree just where the batch is not within what a tree has for it
 abbrev pub NotTreeIsBeyond : Type 0
 NotTreeIsBeyond = (digest : List ℕ → List ℕ) (bits : ℕ) (before after : List ℕ) (given : List (List ℕ))
     (cs : List KeyChange) → let gives = given_at digest given in
     let most = most_from (layer_of_key digest bits) (undone cs) (shown_by gives after) in
     (change_verdict digest bits before after given cs ≡ Err NotTree)
-    ↔ IsBeyond most (batch_over digest bits gives (undone cs) after)
+    ↔ (¬ IsWithin most (at_top (batch_over digest bits gives (undone cs) after)))

@@ -27,6 +27,10 @@ record_cid digest n = cid digest (n ∷ [])
 abbrev pub put_b : (List ℕ → List ℕ) → ℕ → KeyChange
 put_b digest n = record { key = codes "a/b0"; before = None; after = Some (record_cid digest n) }
 
+-- another value than the key has
+abbrev pub put_c : (List ℕ → List ℕ) → KeyChange
+put_c digest = record { key = codes "a/c1"; before = None; after = Some (record_cid digest 1) }
+
 abbrev pub old_pairs : (List ℕ → List ℕ) → List Pair
 old_pairs digest = (codes "a/c1", record_cid digest 2) ∷ []
 
@@ -61,12 +65,14 @@ over_hollow digest =
 abbrev pub put_between : (List ℕ → List ℕ) → KeyChange
 put_between digest = record { key = codes "a/c1"; before = None; after = Some (record_cid digest 3) }
 
--- the put is shown by both nodes; another value and another root are told, and that the blocks are of no tree
+-- the put is shown by both nodes; another value of the first or of the second change and another root are told, and that the blocks are of no tree
 pub record AreRows (digest : List ℕ → List ℕ) : Type 0 where
   pub shown : change_verdict digest 2 (root digest 2 (old_pairs digest)) (root digest 2 (new_pairs digest))
       (nodes digest 2 (new_pairs digest)) (put_b digest 1 ∷ []) ≡ Ok tt
   pub other_value : change_verdict digest 2 (root digest 2 (old_pairs digest)) (root digest 2 (new_pairs digest))
       (nodes digest 2 (new_pairs digest)) (put_b digest 2 ∷ []) ≡ Err (OtherValue 0)
+  pub second_value : change_verdict digest 2 (root digest 2 (old_pairs digest)) (root digest 2 (new_pairs digest))
+      (nodes digest 2 (new_pairs digest)) (put_b digest 1 ∷ put_c digest ∷ []) ≡ Err (OtherValue 1)
   pub other_root : change_verdict digest 2 (root digest 2 []) (root digest 2 (new_pairs digest))
       (nodes digest 2 (new_pairs digest)) (put_b digest 1 ∷ []) ≡ Err OtherRoot
   pub out_of_order : change_verdict digest 2 (root digest 2 []) (shape_cid digest (twisted digest))

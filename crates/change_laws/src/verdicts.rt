@@ -1,6 +1,6 @@
 //! What a verdict means.
 
-ghost use Rattle.change_laws.specs.Laws.{VerdictIsSound, OldIsUndone, VerdictIsComplete, NothingGiven, TreeOnlyLacks, NotShownIsTrue, MissingIsMissing, NotTreeIsBeyond, TreeOnlyMissing};
+ghost use Rattle.change_laws.specs.Laws.{VerdictIsSound, OldIsUndone, VerdictIsComplete, FaultsAreSo, NothingGiven, TreeOnlyLacks, NotShownIsTrue, MissingIsMissing, NotTreeIsBeyond, TreeOnlyMissing};
 ghost use Rattle.change_laws.specs.Rows.{AreRows, by_last_digit};
 
 /// Changes that are shown are true of the pairs after them, whatever pairs these are: each key has the value that is told, and
@@ -17,6 +17,11 @@ pub fn old_pairs_are_the_undone()
 /// Changes that are true are shown where the nodes are given that undoing reads.
 pub fn verdict_is_complete()
     ensures { VerdictIsComplete }
+{}
+
+/// What is said of values and of the root is so of the pairs after.
+pub fn faults_are_so()
+    ensures { FaultsAreSo }
 {}
 
 /// Where some blocks of a tree are given, a batch stops only as one isn't, and by then nothing else is wrong.

@@ -6,14 +6,14 @@ use repo::Core;
 use repo_fixtures::batch::{ONE, Step};
 use repo_fixtures::cores::{apply_steps, end};
 use std::test::Fail;
-use store::{LentShard, Shard};
+use store::{LentShard, Shard, TableKey};
 
 #[test]
 fn a_mirror_checks_a_change(rt: HostRuntime) -> Result<(), Fail> {
     let alloc = rt.alloc();
 
     // A host's repository has two records. Then it takes a batch: one record comes, and one goes.
-    let mut shard = Shard::new(alloc, 1000);
+    let mut shard = Shard::new(alloc, 1000, TableKey::known());
     let opened = Core::<Sha256, 2, _>::open(alloc, &mut LentShard::new(&mut shard), 0, 1000);
     let mut core = opened.expect(&rt, "a core");
     let first = [Step::Put(b"posts/1", ONE), Step::Put(b"posts/3", ONE)];

@@ -10,6 +10,10 @@ mod example;
 #[cfg(test)]
 mod fixtures;
 #[cfg(test)]
+mod great;
+#[cfg(test)]
+mod many_layers;
+#[cfg(test)]
 mod memory;
 #[cfg(test)]
 mod random;
@@ -17,6 +21,8 @@ mod random;
 mod refusals;
 #[cfg(test)]
 mod repositories;
+#[cfg(test)]
+mod sentences;
 #[cfg(test)]
 mod shown;
 #[cfg(test)]

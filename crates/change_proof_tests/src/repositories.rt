@@ -15,7 +15,7 @@ use repo_fixtures::ends::Ended;
 use std::alloc::Global;
 use std::process::Abort;
 use std::sync::Arc;
-use store::{LentShard, Shard};
+use store::{LentShard, Shard, TableKey};
 
 /// The batch before the changes.
 const FIRST: [Step<'static>; 3] = [
@@ -136,7 +136,7 @@ fn tells_the_later_one<'h>(
 #[test]
 fn a_repository_proves_its_last_batch(rt: HostRuntime) {
     let heap = Refusing::new(rt.alloc());
-    let mut shard = Shard::new(&heap, 20);
+    let mut shard = Shard::new(&heap, 20, TableKey::known());
     let mut core = opened(&rt, &heap, &mut shard);
     let right = match filled(&heap, &mut shard, &mut core) {
         Some(before) => proves(&heap, &core, before),
@@ -185,7 +185,7 @@ fn is_proved_at_last<'h>(heap: Heap<'h>, core: &Core<Toy, 2, Heap<'h>>, before: 
 #[test]
 fn a_repository_proves_without_memory(rt: HostRuntime) {
     let heap = Refusing::new(rt.alloc());
-    let mut shard = Shard::new(&heap, 20);
+    let mut shard = Shard::new(&heap, 20, TableKey::known());
     let mut core = opened(&rt, &heap, &mut shard);
     let right = match filled(&heap, &mut shard, &mut core) {
         Some(before) => is_proved_at_last(&heap, &core, before),
@@ -250,7 +250,7 @@ fn are_proved<R: Abort>(rt: &R, alloc: Global, seed: u64) -> bool {
     let (Some(both), Ok(sides)) = (both_of(alloc, seed), sides_of(alloc, seed)) else {
         return false;
     };
-    let mut shard = Shard::new(alloc, 200);
+    let mut shard = Shard::new(alloc, 200, TableKey::known());
     let opened = Core::<Toy, 2>::open(alloc, &mut LentShard::new(&mut shard), 0, 100);
     let mut core = opened.expect(rt, "a core");
     let right = takes(alloc, &mut shard, &mut core, &both, &sides)

@@ -1,5 +1,5 @@
 -- What the code answers over given blocks is the verdict.
-use Rattle.std.proofs.Common.{◌≡◌, ℕ, suc, max, Bool, true, false, cond, List, [], ◌∷◌, map, refl, sym, ap, subst, ◌∙◌, Option, option_map, Result, Ok, Err}
+use Rattle.std.proofs.Common.{◌≡◌, ℕ, Bool, true, false, cond, List, [], ◌∷◌, map, refl, sym, ap, subst, ◌∙◌, Option, option_map, Result, Ok, Err}
 use Rattle.std.specs.Arc.{arc_value}
 use Rattle.std.proofs.Math.Path.{fun_ext}
 use Rattle.std.specs.Prelude.{IsSome, if◌then◌else◌}
@@ -15,12 +15,11 @@ use Rattle.lookups.specs.Maps.{first_of}
 use Rattle.lookups.specs.Steps.{nodes_given}
 use Rattle.batch_laws.specs.Batch.{Change, AreKeyed}
 use Rattle.batch_laws.specs.Links.{Log, NotShown, LinkTooDeep, Step, Stop, Top, batch_from}
-use Rattle.edit.specs.Batches.{answer_of as answer_over, put_layers as edit_put_layers}
-use Rattle.batch_laws.specs.Counts.{most_from}
-use Rattle.edit.specs.Tops.{layers_needed as edit_layers_needed}
+use Rattle.edit.specs.Batches.{answer_of as answer_over}
+use Rattle.batch_laws.specs.Counts.{most_from, layers_needed, put_layers}
 use Rattle.change_laws.specs.Told.{KeyChange, undone}
 use Rattle.change_laws.specs.Within.{is_within}
-use Rattle.change_laws.specs.Given.{ChangeFault as GivenFault, NotTree as HasNotTree, given_at, put_layers, layers_needed, unshown, fault_of, or_stop, batch_over}
+use Rattle.change_laws.specs.Given.{ChangeFault as GivenFault, NotTree as HasNotTree, given_at, unshown, stop_fault_of, or_stop, batch_over}
 use Rattle.change_laws.specs.Verdict.{previous_of, are_told, change_verdict}
 use Rattle.change_laws.proofs.Showing.{verdict-sound}
 use Rattle.change_proofs.specs.Verdicts.{IsFault, IsSaid, IsSaidOver, IsVerdict, IsRight, judgement, verdict_of, verdict_over}
@@ -49,17 +48,6 @@ shows-same : {A : Type 0} (digest : List ℕ → List ℕ) (bs : List (Arc (List
     → nodes_given (first_of digest bs) ≡ shown_by (given_at digest (map arc_value bs))
 shows-same digest bs = ap shown_by (gives-same digest bs)
 
--- ---- layers
-
-pub puts-same : (lay : List ℕ → ℕ) (cs : List Change) → edit_put_layers lay cs ≡ put_layers lay cs
-puts-same lay [] = refl
-puts-same lay ((key, None) ∷ cs) = ap (max 0) (puts-same lay cs)
-puts-same lay ((key, Some v) ∷ cs) = ap (max (suc (lay key))) (puts-same lay cs)
-
-needed-same : (lay : List ℕ → ℕ) (w : ℕ) (o : Option Shape) → edit_layers_needed lay w o ≡ layers_needed lay w o
-needed-same lay w None = refl
-needed-same lay w (Some s) = refl
-
 -- ---- the batch over given blocks
 
 answer-same : {A : Type 0} (digest : List ℕ → List ℕ) (bits : ℕ) (bs : List (Arc (List ℕ) A)) (cs : List Change)
@@ -67,12 +55,8 @@ answer-same : {A : Type 0} (digest : List ℕ → List ℕ) (bits : ℕ) (bs : L
     → answer_over digest bits (first_of digest bs) cs root ≡ batch_over digest bits (given_at digest (map arc_value bs)) cs root
 answer-same digest bits bs cs root =
     let lay = layer digest bits in
-    let gives = given_at digest (map arc_value bs) in
-    let shows = shown_by gives in
-    ap (λ (s : List ℕ → Option Shape).
-    batch_from digest s lay (edit_layers_needed lay (edit_put_layers lay cs) (s root)) cs root) (shows-same digest bs)
-    ∙ ap (λ w. batch_from digest shows lay (edit_layers_needed lay w (shows root)) cs root) (puts-same lay cs)
-    ∙ ap (λ n. batch_from digest shows lay n cs root) (needed-same lay (put_layers lay cs) (shows root))
+    ap (λ (s : List ℕ → Option Shape). batch_from digest s lay (layers_needed lay (put_layers lay cs) (s root)) cs root)
+    (shows-same digest bs)
 
 unshown-same : {X Y : Type 0} (f : X → Y) (c : List ℕ) (o : Option X) → unshown c o ≡ unshown c (option_map f o)
 unshown-same f c None = refl
@@ -80,7 +64,7 @@ unshown-same f c (Some x) = refl
 
 -- where it stops is the same fault
 fault-same : {A : Type 0} (digest : List ℕ → List ℕ) (bs : List (Arc (List ℕ) A)) (stop : Stop)
-    → fault_of (first_of digest bs) stop ≡ fault_of (given_at digest (map arc_value bs)) stop
+    → stop_fault_of (first_of digest bs) stop ≡ stop_fault_of (given_at digest (map arc_value bs)) stop
 fault-same digest bs (NotShown c) =
     unshown-same arc_value c (first_of digest bs c) ∙ ap (unshown c) (first-is digest bs c)
 fault-same digest bs LinkTooDeep = refl

@@ -1,5 +1,3 @@
-pub mod Lists
-pub mod Testing
 pub mod Telling
 pub mod Judged
 pub mod Saying

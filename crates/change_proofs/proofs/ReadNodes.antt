@@ -1,29 +1,24 @@
 -- The nodes that show changes, from what the batch that undoes them reads.
-use Rattle.std.proofs.Common.{◌≡◌, ℕ, suc, max, List, map, sym, ap, subst, ◌∙◌, Option, Result, Ok, Err}
+use Rattle.std.proofs.Common.{◌≡◌, ℕ, List, sym, ap, subst, ◌∙◌, Option, Result, Ok, Err}
 use Rattle.std.specs.Prelude.{Contains, IfOk, IfErr, OnOk}
 use Rattle.std.specs.declared.sync.Arc.{Arc}
 use Rattle.spec.specs.Cid.{IsDigest}
-use Rattle.spec.specs.Layer.{layer}
-use Rattle.spec.specs.Tree.{Pair, top, top_layer}
-use Rattle.spec.specs.NodeFormat.{node_bytes}
+use Rattle.spec.specs.Tree.{Pair}
 use Rattle.spec.specs.Blocks.{ArePairs, ClashesWithNone, nodes, pairs, root as root_of}
 use Rattle.spec.specs.States.{State, records}
 use Rattle.batch_laws.specs.Batch.{AreKeyed}
-use Rattle.batch_laws.specs.Trace.{batch_read}
-use Rattle.edit.specs.Batches.{answer_of as answer_over, most_of, nodes_read}
+use Rattle.edit.specs.Batches.{answer_of as answer_over, most_of}
 use Rattle.edit.specs.Previews.{IsPreview, IsPreviewOf, IsPreviewReason, IsWant}
 use Rattle.edit.specs.declared.outcome.EditFault.{EditFault}
 use Rattle.edit.specs.declared.outcome.EditFault.TheVariants as edits
 use Rattle.change_laws.specs.Told.{KeyChange, undone, DifferBy}
 use Rattle.change_laws.specs.Verdict.{are_told, change_verdict}
-use Rattle.change_laws.specs.Laws.{change_path}
 use Rattle.change_laws.proofs.Showing.{verdict-complete}
 use Rattle.change_proofs.specs.Verdicts.{of_preview}
-use Rattle.change_proofs.specs.Provings.{AreNodes, AreNodesOver, IsFaultOf, IsLackOver, IsOtherValue, IsUntrue, fault_of}
+use Rattle.change_proofs.specs.Provings.{AreNodes, AreNodesOver, IsFaultOf, IsLackOver, IsOtherValue, IsUntrue, proving_fault_of}
 use Rattle.change_proofs.specs.declared.change_fault.ChangeFault.{ChangeFault}
 use Rattle.change_proofs.specs.declared.change_fault.ChangeFault.TheVariants.{BlockMissing, BadNode, TooDeep, NotTree, OtherValue, OtherRoot, NoMemory}
 use Rattle.change_proofs.specs.declared.proving_fault.ProvingFault.{ProvingFault}
-use Rattle.change_proofs.proofs.Judged.{puts-same}
 
 -- what holds of an answer and beside it
 pub ok-with : {T E : Type 0} {P Q : T → Type 0} {R : Type 0} (r : Result T E) → ((x : T) → P x → R → Q x) → IfOk r P → OnOk r R
@@ -37,20 +32,12 @@ err-with (Err e) f p = f e p
 
 -- ---- over a source that has a tree
 
--- the nodes that a batch reads are those of the laws
-path-same : (digest : List ℕ → List ℕ) (bits : ℕ) (cs : List KeyChange) (es : List Pair)
-    → nodes_read digest bits (undone cs) es ≡ change_path digest bits cs es
-path-same digest bits cs es =
-    let lay = layer digest bits in
-    ap (λ w. map (node_bytes digest) (batch_read lay (max (suc (top_layer lay es)) w) (undone cs) (top lay es)))
-    (puts-same lay (undone cs))
-
 pub tree-nodes : (digest : List ℕ → List ℕ) (bits : ℕ) (cs : List KeyChange) (es : List Pair) (new : List ℕ)
     (previous : List (Option (List ℕ))) (read : List (List ℕ)) → IsPreviewOf digest bits (undone cs) es new previous read
     → are_told 0 previous cs ≡ Ok tt → AreNodes digest bits cs es read
 tree-nodes digest bits cs es new previous read p t = record {
   told = ap (λ vs. are_told 0 vs cs) (sym p.previous_is) ∙ t;
-  nodes_are = p.read_is ∙ path-same digest bits cs es;
+  nodes_are = p.read_is;
 }
 
 pub tree-other : (digest : List ℕ → List ℕ) (bits : ℕ) (cs : List KeyChange) (es : List Pair) (new : List ℕ)
@@ -127,7 +114,7 @@ nodes-show digest bits fits cs es are keyed proof n old are_old differ given fre
 -- ---- of a repository
 
 fault-told : (digest : List ℕ → List ℕ) (s : State) (cs : List KeyChange) (fault : ChangeFault)
-    → IsFaultOf (pairs digest (records s)) cs fault → IsUntrue digest s cs (fault_of fault)
+    → IsFaultOf (pairs digest (records s)) cs fault → IsUntrue digest s cs (proving_fault_of fault)
 fault-told digest s cs (BlockMissing c) h = tt
 fault-told digest s cs (BadNode c) h = tt
 fault-told digest s cs TooDeep h = tt
@@ -137,5 +124,5 @@ fault-told digest s cs OtherRoot h = tt
 fault-told digest s cs NoMemory h = tt
 
 pub told-fault : (digest : List ℕ → List ℕ) (s : State) (cs : List KeyChange) (fault : ChangeFault)
-    (told : ProvingFault) → told ≡ fault_of fault → IsFaultOf (pairs digest (records s)) cs fault → IsUntrue digest s cs told
+    (told : ProvingFault) → told ≡ proving_fault_of fault → IsFaultOf (pairs digest (records s)) cs fault → IsUntrue digest s cs told
 told-fault digest s cs fault told e h = subst (IsUntrue digest s cs) (sym e) (fault-told digest s cs fault h)

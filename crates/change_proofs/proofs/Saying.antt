@@ -1,52 +1,28 @@
 -- What the root that comes out and the values say of changes.
-use Rattle.std.proofs.Common.{◌≡◌, ◌≤◌, ℕ, List, [], refl, sym, ap, subst, ◌∙◌, Option, Result, Ok, Err}
+use Rattle.std.proofs.Common.{◌≡◌, ℕ, List, [], refl, sym, ap, subst, ◌∙◌, Option, Result, Ok, Err}
 use Rattle.std.specs.Prelude.{IsSome}
 use Rattle.std.specs.declared.option.Option.TheVariants.{Some, None}
 use Rattle.std.specs.declared.sync.Arc.{Arc}
 use Rattle.spec.specs.Reading.{◌>>=◌}
 use Rattle.spec.specs.Layer.{layer}
 use Rattle.spec.specs.NodeFormat.{Shape}
-use Rattle.edit_laws.specs.Lawful.{HasKeys}
 use Rattle.lookups.specs.Steps.{nodes_given}
-use Rattle.batch_laws.specs.Links.{LinkClear, LinkEdge, LinkTooDeep, Log, NotShown, Step, Stop, StopsAt, Top, and_then, log_shown, walking_top, topping}
+use Rattle.batch_laws.specs.Links.{LinkClear, LinkTooDeep, Log, NotShown, Step, Stop, StopsAt, Top, and_then, log_shown, walking_top, topping}
 use Rattle.batch_laws.specs.Previous.{previous_top}
-use Rattle.batch_laws.specs.Written.{AreWritten}
-use Rattle.edit.specs.Batches.{answer_of, most_of, put_layers}
-use Rattle.edit.specs.Halts.{AreFew, IsReached}
+use Rattle.batch_laws.specs.Counts.{layers_needed, put_layers}
+use Rattle.edit.specs.Batches.{answer_of, most_of}
 use Rattle.edit.specs.Previews.{IsPreview, IsPreviewReason, IsReachedHere}
-use Rattle.edit.specs.Stops.{IsUnreachedAt, IsUnreached, at_top}
-use Rattle.edit.specs.Tops.{layers_needed}
+use Rattle.batch_laws.specs.Within.{IsWithin, at_top}
 use Rattle.edit.specs.declared.outcome.EditFault.{EditFault}
 use Rattle.edit.specs.declared.outcome.EditFault.TheVariants as edits
 use Rattle.change_laws.specs.Told.{KeyChange, undone}
-use Rattle.change_laws.specs.Within.{asked}
-use Rattle.change_laws.specs.Given.{ChangeFault as GivenFault, BadNode as HasBadNode, NotTree as HasNotTree, unshown, fault_of, or_stop}
+use Rattle.change_laws.specs.Given.{ChangeFault as GivenFault, BadNode as HasBadNode, NotTree as HasNotTree, unshown, stop_fault_of, or_stop}
 use Rattle.change_laws.specs.Verdict.{previous_of, are_told}
-use Rattle.change_laws.specs.Laws.{IsBeyond}
 use Rattle.change_laws.proofs.Lacking.{IsAnswered}
-use Rattle.change_laws.proofs.Within.{IsWithin, within-is, not-within, within-is_stop, beyond-is_fault}
+use Rattle.change_laws.proofs.Within.{within-is, not-within, within-is_stop, beyond-is_fault}
 use Rattle.change_proofs.specs.Verdicts.{of_preview, judgement, verdict_of, IsJudged, IsFault, IsSaid, IsSaidOver, values_met}
 use Rattle.change_proofs.specs.declared.change_fault.ChangeFault.{ChangeFault}
 use Rattle.change_proofs.specs.declared.change_fault.ChangeFault.TheVariants.{BlockMissing, BadNode, TooDeep, NotTree, OtherValue, OtherRoot, NoMemory}
-
--- ---- within what a tree has, or not
-
-few-asked : (most : ℕ) (why : Stop) (log : Log) → AreFew most why log → asked why log ≤ most
-few-asked most (NotShown c) log h = h
-few-asked most LinkTooDeep log h = h
-
-reached-within : (most : ℕ) (answer : Step Top) → IsReached most answer → IsWithin most answer
-reached-within most (Ok x) h = h
-reached-within most (Err e) h = (few-asked most e.why e.log h.0, h.1)
-
-at-beyond : (most : ℕ) (why : Stop) (s : LinkEdge) (log : Log) → IsUnreachedAt most why s log → asked why log ≤ most
-    → ¬ AreWritten HasKeys s log
-at-beyond most (NotShown c) s log h = h
-at-beyond most LinkTooDeep s log h = h
-
-unreached-beyond : (most : ℕ) (answer : Step Top) → IsUnreached most (at_top answer) → IsBeyond most answer
-unreached-beyond most (Ok x) h = λ few made. h few (record { made = made; begun = tt })
-unreached-beyond most (Err e) h = at-beyond most e.why e.edge e.log h
 
 -- ---- what a batch comes to
 
@@ -62,31 +38,31 @@ stop_verdict gives answer vs cs before = or_stop gives answer >>= (λ old. judge
 
 -- it stops, and why
 stop-said : {X : Type 0} (gives : List ℕ → Option X) (answer : Step Top) (vs : List (Option (List ℕ))) (cs : List KeyChange)
-    (before : List ℕ) (why : Stop) → StopsAt why answer → stop_verdict gives answer vs cs before ≡ Err (fault_of gives why)
+    (before : List ℕ) (why : Stop) → StopsAt why answer → stop_verdict gives answer vs cs before ≡ Err (stop_fault_of gives why)
 stop-said gives (Ok x) vs cs before why stops = absurd stops
-stop-said gives (Err e) vs cs before why stops = ap (λ w. Err (fault_of gives w)) stops
+stop-said gives (Err e) vs cs before why stops = ap (λ w. Err (stop_fault_of gives w)) stops
 
 module _ {X : Type 0} (gives : List ℕ → Option X) (most : ℕ) (answer : Step Top) (vs : List (Option (List ℕ)))
     (cs : List KeyChange) (before : List ℕ) where
   abbrev verdict : Result (Unit {0}) GivenFault
   verdict = verdict_of gives most answer vs cs before
 
-  within-said : IsReached most answer → verdict ≡ stop_verdict gives answer vs cs before
+  within-said : IsWithin most (at_top answer) → verdict ≡ stop_verdict gives answer vs cs before
   within-said h =
       ap (λ (t : Result (Top × Log) GivenFault). t >>= (λ old. judgement (are_told 0 vs cs) old.0.0 before))
-      (within-is_stop gives most answer (within-is most answer (reached-within most answer h)))
+      (within-is_stop gives most answer (within-is most answer h))
 
-  beyond-said : IsUnreached most (at_top answer) → verdict ≡ Err HasNotTree
+  beyond-said : (¬ IsWithin most (at_top answer)) → verdict ≡ Err HasNotTree
   beyond-said h =
       ap (λ (t : Result (Top × Log) GivenFault). t >>= (λ old. judgement (are_told 0 vs cs) old.0.0 before))
-      (beyond-is_fault gives most answer (not-within most answer (unreached-beyond most answer h)))
+      (beyond-is_fault gives most answer (not-within most answer h))
 
-  halt-said : IsReached most answer → (why : Stop) → StopsAt why answer → verdict ≡ Err (fault_of gives why)
+  halt-said : IsWithin most (at_top answer) → (why : Stop) → StopsAt why answer → verdict ≡ Err (stop_fault_of gives why)
   halt-said h why stops = within-said h ∙ stop-said gives answer vs cs before why stops
 
   -- why there is no preview is why nothing is shown
   pub fault-said : {D A : Type 0} (fault : EditFault D A) → IsPreviewReason gives most answer fault
-      → IsReachedHere {X = Unit {0}} most answer (Err fault) → IsFault gives verdict (of_preview fault)
+      → IsReachedHere most answer fault → IsFault gives verdict (of_preview fault)
   fault-said (edits.Missing c) h r = (h.0, halt-said r (NotShown c) h.1 ∙ ap (λ o. Err (unshown c o)) h.0)
   fault-said (edits.BadNode c) h r =
       (h.0, halt-said r (NotShown c) h.1 ∙ ap (λ f. Err f) (unshown-given c (gives c) h.0))
@@ -96,7 +72,7 @@ module _ {X : Type 0} (gives : List ℕ → Option X) (most : ℕ) (answer : Ste
   fault-said (edits.Clash pair) h r = absurd h
   fault-said edits.NoMemory h r = tt
 
-  module _ (new : List ℕ) (left : List Shape) (log : Log) (is : answer ≡ Ok ((new, left), log)) (few : IsReached most answer)
+  module _ (new : List ℕ) (left : List Shape) (log : Log) (is : answer ≡ Ok ((new, left), log)) (few : IsWithin most (at_top answer))
       (told : Result (Unit {0}) GivenFault) (is_told : are_told 0 vs cs ≡ told) where
     answer-said : verdict ≡ judgement told new before
     answer-said =
@@ -148,7 +124,7 @@ module _ {A : Type 0} (digest : List ℕ → List ℕ) (bits : ℕ) (gives : Lis
 
   pub preview-said : (before new : List ℕ) (previous : List (Option (List ℕ))) (read : List (List ℕ))
       → IsPreview digest bits gives (undone cs) root new previous read
-      → IsReached (most_of digest bits gives (undone cs) root) answer → (told : Result (Unit {0}) GivenFault)
+      → IsWithin (most_of digest bits gives (undone cs) root) (at_top answer) → (told : Result (Unit {0}) GivenFault)
       → are_told 0 previous cs ≡ told → (result : Result (Unit {0}) ChangeFault)
       → IsJudged (judgement told new before) result → IsSaidOver digest bits gives before root cs result
   preview-said before new previous read p few told q =
@@ -158,7 +134,7 @@ module _ {A : Type 0} (digest : List ℕ → List ℕ) (bits : ℕ) (gives : Lis
   -- why there is no preview is the verdict
   pub reason-said : {D : Type 0} (before : List ℕ) (fault : EditFault D A)
       → IsPreviewReason gives (most_of digest bits gives (undone cs) root) answer fault
-      → IsReachedHere {X = Unit {0}} (most_of digest bits gives (undone cs) root) answer (Err fault)
+      → IsReachedHere (most_of digest bits gives (undone cs) root) answer fault
       → IsSaidOver digest bits gives before root cs (Err (of_preview fault))
   reason-said before fault h few =
       fault-said gives (most_of digest bits gives (undone cs) root) answer (values_met digest bits gives root cs) cs before

@@ -1,10 +1,15 @@
 -- The first change whose key has another value than the one that is told.
-use Rattle.std.proofs.Common.{◌≡◌, ℕ, suc, ◌+◌, ◌-◌, ◌≤◌, true, false, List, [], ◌∷◌, length, get_or, take, drop, refl, ap, ◌∙◌, arith, Option, Ok, Err}
+use Rattle.std.proofs.Common.{◌≡◌, ℕ, suc, ◌+◌, ◌-◌, ◌≤◌, ◌<◌, true, false, List, [], ◌∷◌, length, get_or, take, drop, refl, ap, ◌∙◌, arith, Option, Ok, Err}
 use Rattle.spec.specs.Reading.{◌>>=◌, ensure}
-use Rattle.change_proofs.proofs.Lists.{head-tail}
+use Rattle.edit.proofs.Lists.{head-tail}
 use Rattle.change_laws.specs.Told.{KeyChange}
 use Rattle.change_laws.specs.Given.{OtherValue}
 use Rattle.change_laws.specs.Verdict.{is_same, are_told}
+
+-- a list without a first element
+pub none-below : {X : Type 0} (xs : List X) → length xs < 1 → xs ≡ []
+none-below [] h = refl
+none-below (x ∷ xs) h = absurd (omega arith)
 
 abbrev rest_of : {X : Type 0} → List X → List X
 rest_of xs = take (length xs - 1) (drop 1 xs)

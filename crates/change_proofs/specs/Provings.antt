@@ -12,7 +12,7 @@ use Rattle.lookups.specs.Steps.{nodes_given}
 use Rattle.batch_laws.specs.Links.{LinkTooDeep, Log, NotShown, StopsAt}
 use Rattle.batch_laws.specs.Previous.{previous_top, values}
 use Rattle.edit.specs.Batches.{answer_of as answer_over, most_of}
-use Rattle.edit.specs.Stops.{IsUnreached, at_top}
+use Rattle.batch_laws.specs.Within.{IsWithin, at_top}
 use Rattle.change_laws.specs.Told.{KeyChange, undone, DifferBy}
 use Rattle.change_laws.specs.Given.{ChangeFault as GivenFault, OtherValue as HasOtherValue}
 use Rattle.change_laws.specs.Verdict.{are_told, change_verdict}
@@ -73,14 +73,14 @@ IsUntrue digest s cs (provings.OtherValue place) = told_by (pairs digest (record
 IsUntrue digest s cs provings.NoMemory = ⊤
 
 -- what a fault over a source is to it; the others don't come
-abbrev pub fault_of : ChangeFault → ProvingFault
-fault_of (BlockMissing c) = provings.NoMemory
-fault_of (BadNode c) = provings.NoMemory
-fault_of TooDeep = provings.NoMemory
-fault_of NotTree = provings.NoMemory
-fault_of (OtherValue place) = provings.OtherValue place
-fault_of OtherRoot = provings.NoMemory
-fault_of NoMemory = provings.NoMemory
+abbrev pub proving_fault_of : ChangeFault → ProvingFault
+proving_fault_of (BlockMissing c) = provings.NoMemory
+proving_fault_of (BadNode c) = provings.NoMemory
+proving_fault_of TooDeep = provings.NoMemory
+proving_fault_of NotTree = provings.NoMemory
+proving_fault_of (OtherValue place) = provings.OtherValue place
+proving_fault_of OtherRoot = provings.NoMemory
+proving_fault_of NoMemory = provings.NoMemory
 
 -- ---- over a source
 
@@ -109,7 +109,7 @@ module _ {A : Type 0} (digest : List ℕ → List ℕ) (bits : ℕ) (gives : Lis
   IsLackOver (BadNode c) = IsSome (gives c) × StopsAt (NotShown c) (answer_over digest bits gives (undone cs) root)
   IsLackOver TooDeep = StopsAt LinkTooDeep (answer_over digest bits gives (undone cs) root)
   IsLackOver NotTree =
-      IsUnreached (most_of digest bits gives (undone cs) root) (at_top (answer_over digest bits gives (undone cs) root))
+      ¬ IsWithin (most_of digest bits gives (undone cs) root) (at_top (answer_over digest bits gives (undone cs) root))
   IsLackOver (OtherValue place) = Tells (Err (HasOtherValue place))
   IsLackOver OtherRoot = ⊥
   IsLackOver NoMemory = ⊤

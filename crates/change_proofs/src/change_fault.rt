@@ -12,11 +12,11 @@ use thiserror::Error;
 #[derive(Clone, Copy, PartialEq, Eq, Debug, Drop, Error)]
 pub enum ChangeFault {
     /// The block with this CID is needed, and not given. It is the first of these that undoing asks for.
-    #[error("a block that is needed is not given")]
+    #[error("a block that is needed is not given: {0}")]
     BlockMissing(Cid),
 
     /// The block that is given for this CID is no node.
-    #[error("a block that is needed is no node")]
+    #[error("a block that is needed is no node: {0}")]
     BadNode(Cid),
 
     /// The nodes that are given have a link below layer 0.

@@ -12,21 +12,21 @@
 //! }
 //! ```
 //!
-//! `told` is a change with what its key had before and has after it, `values` compares what the changed keys have in the tree
-//! after, `given` has the blocks, and `verifying` puts these together. What a verdict is and what it means is defined in the
-//! crate `change_laws`; each answer but want of memory is this verdict.
+//! `key_changes` has a change with what its key had before and has after it, `values` compares what the changed keys have in
+//! the tree after, `given_blocks` has the blocks, and `verifying` puts these together. What a verdict is and what it means is
+//! defined in the crate `change_laws`; each answer but want of memory is this verdict.
 #![tactic(auto)]
 
 mod change_fault;
-mod given;
+mod given_blocks;
+mod key_changes;
 mod proving;
 mod proving_fault;
-mod told;
 mod values;
 mod verifying;
 
 pub use change_fault::ChangeFault;
+pub use key_changes::{KeyChange, are_key_changes};
 pub use proving::{prove_change, prove_change_over};
 pub use proving_fault::ProvingFault;
-pub use told::{KeyChange, are_key_changes};
 pub use verifying::{verify_blocks, verify_change};

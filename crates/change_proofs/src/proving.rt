@@ -6,11 +6,11 @@ ghost use Rattle.lookups.specs.Trees.{OfTree};
 ghost use Rattle.edit.specs.Batches.{are_changes as are_changes_of};
 ghost use Rattle.change_laws.specs.Told.{undone as undone_of};
 ghost use Rattle.change_laws.specs.Verdict.{are_told};
-ghost use Rattle.change_proofs.specs.Provings.{AreNodes, AreNodesOver, IsFaultOf, IsLackOver, IsOtherValue, IsProofOf, IsUntrue, ShowsChanges, fault_of};
+ghost use Rattle.change_proofs.specs.Provings.{AreNodes, AreNodesOver, IsFaultOf, IsLackOver, IsOtherValue, IsProofOf, IsUntrue, ShowsChanges, proving_fault_of};
 
 use crate::change_fault::ChangeFault;
+use crate::key_changes::{KeyChange, undone};
 use crate::proving_fault::ProvingFault;
-use crate::told::{KeyChange, undone};
 use crate::values::first_other;
 use block::Block;
 use cid::{Cid, Digest};
@@ -104,7 +104,7 @@ fn told_nodes<D: Digest, A: Allocator>(
 
 /// What a fault over a source is where the source has a tree.
 fn told(fault: ChangeFault) -> ProvingFault
-    ensures { result ≡ fault_of fault }
+    ensures { result ≡ proving_fault_of fault }
 {
     match fault {
         ChangeFault::OtherValue(place) => ProvingFault::OtherValue(place),

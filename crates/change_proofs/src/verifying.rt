@@ -7,8 +7,8 @@ ghost use Rattle.change_laws.specs.Told.{undone as undone_of};
 ghost use Rattle.change_proofs.specs.Verdicts.{IsJudged, judgement, told_of, IsSaidOver, IsVerdict, IsRight, IsWhole, IsOfTree};
 
 use crate::change_fault::ChangeFault;
-use crate::given::blocks_of;
-use crate::told::{KeyChange, undone};
+use crate::given_blocks::blocks_of;
+use crate::key_changes::{KeyChange, undone};
 use crate::values::first_other;
 use block::Block;
 use cid::{Cid, Digest};

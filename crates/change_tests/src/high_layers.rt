@@ -8,11 +8,11 @@ use cid::{Cid, Sha256};
 use edit::Change;
 use std::alloc::{AllocError, Global};
 
-/// Keys whose digests begin with 0, 9, 17 and 3 zero bits, as they ascend.
+/// Keys whose digests begin with 0, 21, 9 and 3 zero bits, as they ascend: with one bit a layer, a tree of 22 layers.
 const KEYS: [&[u8]; 4] = [
     b"2653ae71",
+    b"app.bsky.feed.post/3e85fb",
     b"app.bsky.feed.post/454397e440ec",
-    b"app.bsky.feed.post/9adeb165882c",
     b"blue",
 ];
 

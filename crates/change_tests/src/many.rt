@@ -1,4 +1,4 @@
-//! Some thousand keys changed by one batch.
+//! Some twenty thousand keys changed by one batch.
 
 use crate::fixtures::{Pairs, value};
 use crate::history::begin;
@@ -7,12 +7,12 @@ use edit::Change;
 use std::alloc::{AllocError, Global};
 
 /// How many keys there are.
-const KEYS: usize = 3_000;
+const KEYS: usize = 21_000;
 
-/// The key of a number below 10,000. Keys ascend as their numbers do.
+/// The key of a number below 100,000. Keys ascend as their numbers do.
 fn key_of(alloc: Global, number: usize) -> Result<Vec<u8>, AllocError> {
     let mut key = Vec::from_slice(alloc, b"app.bsky.feed.post/")?;
-    for unit in [1_000usize, 100, 10, 1] {
+    for unit in [10_000usize, 1_000, 100, 10, 1] {
         key.push(b'0' + (number / unit % 10) as u8)?;
     }
     Ok(key)
@@ -82,7 +82,7 @@ fn agrees(alloc: Global, keys: &[Vec<u8>]) -> bool {
 }
 
 #[test]
-fn three_thousand_changes_at_once(rt: HostRuntime) {
+fn all_keys_changed_at_once(rt: HostRuntime) {
     let keys = all_keys(rt.alloc()).expect(&rt, "keys");
     assert!(rt; agrees(rt.alloc(), &keys));
 }

@@ -7,7 +7,7 @@ use Rattle.std.specs.List.{list_all}
 use Rattle.std.specs.Str.{bytes_eq}
 use Rattle.spec.specs.Reading.{◌>>=◌, ensure, Gives}
 use Rattle.spec.proofs.CidTexts.{cid_of_text_takes}
-use Rattle.cid.specs.CidFault.{fault_of}
+use Rattle.cid.specs.CidFault.{cid_fault_of}
 use Rattle.cid.specs.declared.cid_fault.CidFault.{CidFault as Fault}
 use Rattle.cid.specs.declared.cid_fault.CidFault.TheVariants.{NotThisProfile as OtherProfile}
 use Rattle.spec.specs.Cid.{prefix, is_own_cid, letter_value, BadLetter, BadBits, NotThisProfile, letter_values, bytes_of_text, cid_of_text, text, CidFault}
@@ -34,7 +34,7 @@ text_profile s size begins passes bits =
 
 -- what a conversion of the bytes gives
 pub profile_gives : (test : Bool) (c : List ℕ) (read : Result (List ℕ) CidFault) → read ≡ cond test (Ok c) (Err NotThisProfile)
-    → Gives (λ cid. cid) fault_of (cond test (Ok c) (Err OtherProfile)) read
+    → Gives (λ cid. cid) cid_fault_of (cond test (Ok c) (Err OtherProfile)) read
 profile_gives true c read e = e
 profile_gives false c read e = e
 
@@ -45,15 +45,15 @@ tail_is s size = take_all _ _ (omega (arith, length-drop 1 s))
 -- a text that passes the first tests: its bytes decide
 pub text_read : (s c : List ℕ) (r : Result (List ℕ) Fault) → length s ≡ 59 → get_or s 0 0 ≡ 98 → list_all (λ v. nat_lt v 32) (letter_values s) ≡ true
     → eqb (get_or (letter_values s) 57 0 % 4) 0 ≡ true → c ≡ bytes_of_text s → r ≡ cond (is_own_cid c) (Ok c) (Err OtherProfile)
-    → Gives (λ cid. cid) fault_of r (cid_of_text s)
+    → Gives (λ cid. cid) cid_fault_of r (cid_of_text s)
 text_read s c r size begins passes bits is gave =
     let Given : List ℕ → Type 0 = λ x. r ≡ cond (is_own_cid x) (Ok x) (Err OtherProfile) in
-    let Read : Result (List ℕ) Fault → Type 0 = λ x. Gives (λ cid. cid) fault_of x (cid_of_text s) in
+    let Read : Result (List ℕ) Fault → Type 0 = λ x. Gives (λ cid. cid) cid_fault_of x (cid_of_text s) in
     let given : r ≡ cond (bytes_eq (take 4 (bytes_of_text s)) prefix) (Ok (bytes_of_text s)) (Err OtherProfile) = subst Given is gave in
     subst Read (sym given) (profile_gives (bytes_eq (take 4 (bytes_of_text s)) prefix) (bytes_of_text s) (cid_of_text s) (text_profile s size begins passes bits))
 
 -- what is read is the text of what it was read as
-pub read_text : (s : List ℕ) (r : Result (List ℕ) Fault) → Gives (λ cid. cid) fault_of r (cid_of_text s) → IfOk r (λ cid. s ≡ text cid)
+pub read_text : (s : List ℕ) (r : Result (List ℕ) Fault) → Gives (λ cid. cid) cid_fault_of r (cid_of_text s) → IfOk r (λ cid. s ≡ text cid)
 read_text s (Ok c) read = (cid_of_text_takes s c read).0
 read_text s (Err f) read = tt
 

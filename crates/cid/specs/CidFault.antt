@@ -4,9 +4,9 @@ use Rattle.spec.specs.Cid.{CidFault as Fault, BadLength as TheLength, BadPrefix 
 use Rattle.cid.specs.declared.cid_fault.CidFault.{CidFault}
 use Rattle.cid.specs.declared.cid_fault.CidFault.TheVariants.{BadLength, BadPrefix, BadLetter, BadBits, NotThisProfile}
 
-abbrev pub fault_of : CidFault → Option Fault
-fault_of BadLength = Some TheLength
-fault_of BadPrefix = Some ThePrefix
-fault_of BadLetter = Some TheLetter
-fault_of BadBits = Some TheBits
-fault_of NotThisProfile = Some TheProfile
+abbrev pub cid_fault_of : CidFault → Option Fault
+cid_fault_of BadLength = Some TheLength
+cid_fault_of BadPrefix = Some ThePrefix
+cid_fault_of BadLetter = Some TheLetter
+cid_fault_of BadBits = Some TheBits
+cid_fault_of NotThisProfile = Some TheProfile

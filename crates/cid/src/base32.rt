@@ -132,7 +132,8 @@ fn joined(values: &[u8; 8]) -> [u8; 5]
 
 /// The byte of the last two letters with these values, or `None` where one is no value. The lowest two bits are left out.
 fn one_byte(values: [u8; 2]) -> Option<u8>
-    ensures { result ≡ (if list_all (λ v. nat_lt v 32) values then Some (eight_bits_of values 0) else None) }
+    ensures { result ≡ (if list_all (λ v. nat_lt v 32) values
+        then Some (eight_bits_of values 0) else None) }
 {
     let [a, b] = values;
     if a < 32 && b < 32 {

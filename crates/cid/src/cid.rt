@@ -1,5 +1,6 @@
-ghost use Rattle.std.specs.Prelude.{◌≡◌, refl, ◌↔◌, ◌++◌, ℕ, List, length, take, drop, true, IsTrue, IfOk, Some, None, Ok, Err, if◌then◌else◌};
+ghost use Rattle.std.specs.Prelude.{◌≡◌, refl, ◌++◌, ℕ, List, take, drop, true, IfOk, Some, None, Ok, Err, if◌then◌else◌};
 ghost use Rattle.std.specs.Int.{w64, from_be_bytes, from_le_bytes};
+ghost use Rattle.std.specs.Str.{bytes_eq};
 ghost use Rattle.std.specs.Hash as fed;
 ghost use Rattle.std.specs.Cmp.Lexicographic.{slice_cmp, nat_list_cmp_total, texts_po, texts_ties};
 ghost use Rattle.std.specs.Ordering.{nat_cmp};
@@ -7,11 +8,12 @@ ghost use Rattle.std.specs.Cmp.Rules.{comparing, hashing};
 ghost use Rattle.std.proofs.Common.{rules};
 ghost use Rattle.spec.specs.Cid.{cid as cid_of, prefix, is_own_cid, text as text_of, cid_of_text};
 ghost use Rattle.spec.specs.Reading.{Gives, IsBytes};
-ghost use Rattle.cid.specs.CidFault.{fault_of};
+ghost use Rattle.cid.specs.CidFault.{cid_fault_of};
 ghost use Rattle.cid.specs.declared.cid_fault.CidFault.TheVariants.{NotThisProfile};
 
 use crate::base32;
 use crate::cid_fault::CidFault;
+use crate::cid_ref::CidRef;
 use crate::digest::Digest;
 use std::cmp::Ordering;
 use std::convert::TryFrom;
@@ -79,6 +81,13 @@ impl Cid {
         &self.bytes
     }
 
+    /// Whether two identifiers are the same, by their last bytes first, in which most that aren't differ.
+    pub fn is_same(&self, other: &Cid) -> bool
+        ensures { result ≡ bytes_eq self.now other.now }
+    {
+        CidRef::from(self).is_same(CidRef::from(other))
+    }
+
     /// The text: the multibase prefix `b` and 58 letters of base32 in lower case (CIDv1; RFC 4648, section 6).
     pub fn text(&self) -> [u8; 59]
         ensures value { result ≡ text_of self.now }
@@ -92,7 +101,7 @@ impl Cid {
     /// The identifier with this text, or the first of the five faults, in the order in which `CidFault` lists them.
     #[tactic(auto, unfolding(spec::specs::Cid::cid_of_text))]
     pub fn from_text(text: &[u8]) -> Result<Cid, CidFault>
-        ensures read { Gives (λ cid. cid) fault_of result (cid_of_text text.now) }
+        ensures read { Gives (λ cid. cid) cid_fault_of result (cid_of_text text.now) }
         ensures text { IfOk result (λ cid. text.now ≡ text_of cid) }
     {
         if text.len() != 59 {
@@ -190,7 +199,7 @@ impl fmt::Display for Cid {
 impl FromStr for Cid {
     type Err = CidFault;
 
-    ghost from_str_gives = { λ text r. Gives (λ cid. cid) fault_of r (cid_of_text text) };
+    ghost from_str_gives = { λ text r. Gives (λ cid. cid) cid_fault_of r (cid_of_text text) };
 
     fn from_str(text: &str) -> Result<Cid, CidFault> {
         Cid::from_text(text.as_bytes())

@@ -1,8 +1,14 @@
-ghost use Rattle.std.specs.Prelude.{◌≡◌, true, Some, None, option_map, if◌then◌else◌};
+ghost use Rattle.std.specs.Prelude.{◌≡◌, true, take, drop, Some, None, option_map, if◌then◌else◌};
+ghost use Rattle.std.specs.Int.{w64, from_le_bytes};
+ghost use Rattle.std.specs.Str.{bytes_eq};
+ghost use Rattle.std.specs.Hash as fed;
+ghost use Rattle.std.specs.Cmp.Rules.{hashing};
+ghost use Rattle.std.proofs.Common.{rules};
 ghost use Rattle.spec.specs.Cid.{is_own_cid, text as text_of};
 
 use crate::cid::{Cid, has_own_prefix};
 use std::fmt;
+use std::hash::{Hash, Hasher};
 
 /// The identifier of a block of this host in 36 bytes that are lent, ordered and compared bytewise.
 ///
@@ -41,6 +47,27 @@ impl<'a> CidRef<'a> {
         ensures { result ≡ bytes_of self.entry }
     {
         Cid { bytes: *self.bytes }
+    }
+
+    /// Whether two identifiers are the same, by their last bytes first, in which most that aren't differ.
+    pub fn is_same(self, other: CidRef<'_>) -> bool
+        ensures { result ≡ bytes_eq (bytes_of self.entry) (bytes_of other.entry) }
+    {
+        other.bytes[35] == self.bytes[35] && self == other
+    }
+}
+
+impl Hash for CidRef<'_> {
+    ghost use Rattle.cid.specs.CidRef.{bytes_of};
+
+    ghost hash_input = { λ c. fed.u64 (from_le_bytes w64 (take 8 (drop 4 (bytes_of c)))) };
+
+    ghost respects_eq = { Prim.search (hashing, rules) };
+
+    /// The first eight bytes of the digest as one number, as for `Cid`.
+    fn hash<H: Hasher>(&self, state: &mut H) {
+        let b = self.bytes;
+        state.write_u64(u64::from_le_bytes([b[4], b[5], b[6], b[7], b[8], b[9], b[10], b[11]]));
     }
 }
 

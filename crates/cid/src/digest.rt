@@ -21,7 +21,8 @@ pub trait Digest: Drop {
     /// The digests of four lists of bytes, in their order. A digest that can work on several lists side by side has its
     /// own body for it.
     fn digest_four(a: &[u8], b: &[u8], c: &[u8], d: &[u8]) -> [[u8; 32]; 4]
-        ensures { result ≡ digest_of a.now ∷ digest_of b.now ∷ digest_of c.now ∷ digest_of d.now ∷ [] }
+        ensures { result ≡ digest_of a.now ∷ digest_of b.now
+            ∷ digest_of c.now ∷ digest_of d.now ∷ [] }
     {
         [
             Self::digest(a),

@@ -12,7 +12,7 @@ use Rattle.notices.specs.Numbering.{of}
 use Rattle.notices.specs.Rule.{account}
 use Rattle.notices.specs.Views.{QueueId, FeedView, first_sent, received_one, HaveAllJoined, IsAllReceived}
 use Rattle.closing.specs.Counts.{count_in}
-use Rattle.closing.specs.Ending.{EndedView, account_of, joined_all, kept_by, told, told_by}
+use Rattle.ended.specs.Ending.{EndedView, account_of, joined_all, kept_by, told, told_by}
 use Rattle.closing.specs.Settling.{IsSettled, IsUneven, IsClosed, ClosedView, IsAllTold}
 use Rattle.closing.specs.declared.mismatch.Mismatch.{Mismatch}
 
@@ -27,13 +27,13 @@ module _ (digest : List ℕ → List ℕ) (bits : ℕ) (tables : List Table) whe
       subst (λ x. IsUneven digest bits ts tables x mismatch) e (subst (λ x. IsUneven digest bits x tables es mismatch) s h)
 
   -- the feed took in the passes of writers that are settled
-  pub is_closed : (queue_id : QueueId) (cores : List State) (given inside new : FeedView) (ended settled : List EndedView) → inside ≡ given → given.queue_id ≡ queue_id → given.joined ≡ []
-      → length ended ≡ given.made → new ≡ joined_all inside ended → settled ≡ ended → IsSettled digest bits cores tables ended
+  pub is_closed : (queue_id : QueueId) (cores : List State) (given new : FeedView) (ended settled : List EndedView) → given.queue_id ≡ queue_id → given.joined ≡ []
+      → length ended ≡ given.made → new ≡ joined_all given ended → settled ≡ ended → IsSettled digest bits cores tables ended
       → IsClosed digest bits queue_id cores tables new settled
-  is_closed queue_id cores given inside new ended settled view id fresh all feed same h = record {
-    queue = ap (λ (f : FeedView). f.queue_id) feed ∙ ap (λ (f : FeedView). f.queue_id) view ∙ id;
-    joined = ap (λ (f : FeedView). f.joined) feed ∙ ap (λ (f : FeedView). f.joined ++ map account_of ended) view ∙ ap (λ l. l ++ map account_of ended) fresh ∙ ap (map account_of) (sym same);
-    all = ap length same ∙ all ∙ sym (ap (λ (f : FeedView). f.made) feed ∙ ap (λ (f : FeedView). f.made) view);
+  is_closed queue_id cores given new ended settled id fresh all feed same h = record {
+    queue = ap (λ (f : FeedView). f.queue_id) feed ∙ id;
+    joined = ap (λ (f : FeedView). f.joined) feed ∙ ap (λ l. l ++ map account_of ended) fresh ∙ ap (map account_of) (sym same);
+    all = ap length same ∙ all ∙ sym (ap (λ (f : FeedView). f.made) feed);
     settled = subst (λ x. IsSettled digest bits cores tables x) (sym same) h;
   }
 

@@ -5,4 +5,3 @@ pub mod Adding
 pub mod Closings
 pub mod FromScratch
 pub mod Numbers
-pub mod Sizes

@@ -6,7 +6,7 @@ use Rattle.store.specs.Table.{Table}
 use Rattle.notices.specs.Numbering.{of}
 use Rattle.notices.specs.Views.{QueueId, FeedView}
 use Rattle.closing.specs.Tally.{IsEven, IsMisnumbered, IsMiscounted}
-use Rattle.closing.specs.Ending.{EndedView, account_of, kept_by, told_by}
+use Rattle.ended.specs.Ending.{EndedView, account_of, kept_by, told_by}
 use Rattle.closing.specs.declared.mismatch.Mismatch.{Mismatch}
 use Rattle.closing.specs.declared.mismatch.Mismatch.TheVariants.{Numbers, Counts, Lists}
 

@@ -12,19 +12,17 @@ ghost use Rattle.kept.specs.Uses.{used_blocks};
 ghost use Rattle.closing.specs.Headline.{IsFromScratch, AreTallies};
 ghost use Rattle.closing.specs.Tally.{tally, count};
 ghost use Rattle.closing.specs.Counts.{count_in, positive};
-ghost use Rattle.closing.specs.Ending.{IsEndedAt, joined_all, kept_by};
+ghost use Rattle.ended.specs.Ending.{IsEndedAt, joined_all, kept_by};
 ghost use Rattle.closing.specs.Settling.{IsSettled, IsUneven, IsAllTold};
 
 use crate::block_counts::{all_counts, count_in_shard, listed};
 use crate::comparing::compare;
-use crate::ended::Ended;
-use crate::feed::Feed;
-use crate::fitting::element;
 use crate::mismatch::Mismatch;
 use crate::repositories::Repositories;
-use crate::settled::{Settled, settle_all};
 use crate::shown::{Shown, show};
 use cid::{Cid, Digest};
+use ended::{Ended, Feed, Settled};
+use fitting::element;
 use notices::{Notice, Queue};
 use repo::Core;
 use std::alloc::{AllocError, Allocator, Global};
@@ -235,8 +233,7 @@ pub fn close<D: Digest, const B: u8, A: Allocator + Clone>(
 {
     match compare::<D, B, A>(&cores, &tables, &ended) {
         Ok(()) => {
-            let Feed { mut feed, room } = feed;
-            let settled = settle_all(&queue, &mut feed, ended, room);
+            let (feed, settled) = feed.settle(&queue, ended);
             Ok(Closed {
                 queue,
                 feed,

@@ -6,10 +6,10 @@ ghost use Rattle.closing.specs.Tally.{has, have, NumberedFrom, IsMisnumbered, Is
 ghost use Rattle.closing.specs.Tally.{IsEntered, IsMissed, AreEntered, AreHad, AreWithout, AreAllHad, AllHave, IsWithout};
 ghost use Rattle.closing.specs.Settling.{IsSettled, IsUneven};
 
-use crate::ended::Ended;
 use crate::mismatch::Mismatch;
 use crate::seeing::all_long;
 use cid::{Cid, Digest};
+use ended::Ended;
 use repo::Core;
 use std::alloc::Allocator;
 use store::{Cores, SHARDS, Shard, shard_number};

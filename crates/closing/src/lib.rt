@@ -12,28 +12,22 @@
 //! - [`Uneven`] holds what isn't so: a core's number isn't its place, cores and tables don't agree, or a core has fewer
 //!   writes than a writer has seen there; and it tells which.
 //!
-//! Both give all blocks back when they go. A writer that ends leaves an [`Ended`]. The [`Feed`] has room for all of them, so
-//! that the close takes no memory.
+//! Both give all blocks back when they go. What writers leave when they end, and the feed that has room for all of them, stand
+//! in the crate `ended`; so the close takes no memory.
 //!
 //! Not said: that cores and tables are those that stood behind some locks, which is their caller's to see to.
 #![tactic(auto)]
 
+mod atproto;
 mod block_counts;
 mod closed;
 mod comparing;
-mod ended;
-mod feed;
-mod fitting;
 mod mismatch;
 mod repositories;
 mod seeing;
-mod settled;
 mod shown;
 
+pub use atproto::{AtprotoClosed, AtprotoUneven};
 pub use closed::{Closed, Uneven, close};
-pub use ended::Ended;
-pub use feed::{Feed, Taker};
-pub use fitting::element;
 pub use mismatch::Mismatch;
-pub use repositories::end_all;
 pub use shown::Shown;

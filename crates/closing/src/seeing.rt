@@ -3,8 +3,8 @@
 ghost use Rattle.std.specs.Prelude.{◌≡◌, MatchBool, length, All};
 ghost use Rattle.closing.specs.Settling.{IsShort, NoneShort, AreLong, IsTooShort};
 
-use crate::ended::Ended;
 use cid::Digest;
+use ended::Ended;
 use repo::Core;
 use std::alloc::Allocator;
 

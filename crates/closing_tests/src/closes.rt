@@ -1,16 +1,17 @@
 //! Closes by two writers.
 
 ghost use Rattle.std.specs.Prelude.{◌≡◌, ◌≤◌, ◌<◌, All, length};
-ghost use Rattle.closing.specs.Ending.{IsEndedAt};
+ghost use Rattle.ended.specs.Ending.{IsEndedAt};
 
 use crate::repositories::{Batch, Heap, two_cores};
 use cid::Digest;
-use closing::{Closed, Ended, Feed, Uneven, close};
+use closing::{Closed, Uneven, close};
+use ended::{Ended, Feed};
 use notices::{Notice, Queue, SendPass};
 use repo::Core;
 use std::process::Abort;
 use std::sync::Wait;
-use store::{SHARDS, Shard, Shards};
+use store::{SHARDS, Shard, Shards, TableKey};
 
 /// What a close answers.
 pub(crate) type Answer<'h, D, const B: u8> = Result<Closed<D, B, Heap<'h>>, Uneven<D, B, Heap<'h>>>;
@@ -87,7 +88,7 @@ pub(crate) fn closed_after<'h, D: Digest, R: Wait + Abort, const B: u8>(
     requires first { numbers.0 < 1024 }
     requires second { numbers.1 < 1024 }
 {
-    let shards = Shards::open(heap, 9);
+    let shards = Shards::open(heap, 9, TableKey::known());
     let cores = two_cores(rt, heap, &shards, numbers, batches);
     closed(rt, heap, cores, shards.tables(), seen)
 }

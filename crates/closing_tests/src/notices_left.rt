@@ -6,13 +6,14 @@ use crate::closes::two_ended;
 use crate::repositories::{Heap, two_cores};
 use crate::writer::{Writer, notice};
 use cid::digests::Toy;
-use closing::{Closed, Ended, Feed, Taker, close};
+use closing::{Closed, close};
+use ended::{Ended, Feed, Taker};
 use notices::{Notice, Queue, SendPass};
 use refusing::Refusing;
 use repo::Core;
 use std::process::Abort;
 use std::sync::Wait;
-use store::{SHARDS, Shard, Shards};
+use store::{SHARDS, Shard, Shards, TableKey};
 
 /// Two writers that left a queue of two, and its feed.
 #[derive(Drop)]
@@ -124,7 +125,7 @@ fn close_after_notices<'h, R: Wait + Abort>(
 #[test]
 fn a_kept_notice_at_the_close(rt: HostRuntime) {
     let heap = Refusing::new(rt.alloc());
-    let shards = Shards::open(&heap, 9);
+    let shards = Shards::open(&heap, 9, TableKey::known());
     let cores = two_cores(&rt, &heap, &shards, (0, 1), &[]);
     assert!(rt; close_after_notices(&rt, &heap, cores, shards.tables()) && heap.refused() == 0);
     assert!(rt; heap.live() == 0);

@@ -8,12 +8,12 @@ use crate::repositories::{Batch, EMPTY, Heap, is_taken, opened, two_cores};
 use block::Block;
 use cid::Cid;
 use cid::digests::Toy;
-use closing::{Mismatch, end_all};
+use closing::Mismatch;
 use refusing::Refusing;
-use repo::Core;
+use repo::{Core, end_all};
 use std::process::Abort;
 use std::sync::{Arc, Wait};
-use store::{LentShards, SHARDS, Shard, Shards, empty_shards, shard_number};
+use store::{LentShards, SHARDS, Shard, Shards, TableKey, empty_shards, shard_number};
 
 /// How many cores there are after a close, and in what they don't agree with the rest.
 fn compared<'h>(answer: Answer<'h, Toy, 2>) -> (usize, Result<(), Mismatch>) {
@@ -52,9 +52,9 @@ fn closed_with_other_tables<'h, R: Wait + Abort>(
     rt: &R,
     heap: Heap<'h>,
 ) -> (usize, Result<(), Mismatch>) {
-    let shards = Shards::open(heap, 9);
+    let shards = Shards::open(heap, 9, TableKey::known());
     let cores = two_cores(rt, heap, &shards, (0, 1), &[]);
-    let others = Shards::open(heap, 9);
+    let others = Shards::open(heap, 9, TableKey::known());
     compared(closed(rt, heap, cores, others.tables(), 0))
 }
 
@@ -67,12 +67,12 @@ fn closed_without_the_third<'h, R: Wait + Abort>(
 ) -> (usize, Result<(), Mismatch>)
     requires { number < 1024 }
 {
-    let shards = Shards::open(heap, 9);
+    let shards = Shards::open(heap, 9, TableKey::known());
     let mut third: Core<Toy, 2, Heap<'h>> = opened(rt, heap, &shards, number);
     let is_right = !is_put || is_taken(rt, heap, &shards, &mut third, b'2', Some(EMPTY));
     let cores = two_cores(rt, heap, &shards, (0, 1), &[]);
     let found = compared(closed(rt, heap, cores, shards.tables(), 0));
-    let mut others = empty_shards(heap, 9);
+    let mut others = empty_shards(heap, 9, TableKey::known());
     third.end(&mut LentShards::<Toy, 0, Heap<'h>>::new(&mut others));
     assert!(rt; is_right);
     found
@@ -92,7 +92,7 @@ fn counts(rt: HostRuntime) {
 
 /// Closes two cores without writes, where a block is entered for the first of them in the table of another shard.
 fn closes_with_an_entry_elsewhere<'h, R: Wait + Abort>(rt: &R, heap: Heap<'h>) -> bool {
-    let shards = Shards::open(heap, 9);
+    let shards = Shards::open(heap, 9, TableKey::known());
     let cores = two_cores(rt, heap, &shards, (0, 1), &[]);
     let mut tables = shards.tables();
     let bytes = Vec::from_slice(heap, EMPTY).expect(rt, "room");
@@ -102,7 +102,7 @@ fn closes_with_an_entry_elsewhere<'h, R: Wait + Abort>(rt: &R, heap: Heap<'h>) -
     match tables[elsewhere].acquire(0, block) {
         Ok(hold) => {
             let is_right = closes_without(rt, heap, cores, tables, &cid);
-            Shard::new(heap, 1).release(hold);
+            Shard::new(heap, 1, TableKey::known()).release(hold);
             is_right
         }
         Err(_) => {

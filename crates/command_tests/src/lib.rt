@@ -5,6 +5,8 @@
 #[cfg(test)]
 mod changes;
 #[cfg(test)]
+mod explanations;
+#[cfg(test)]
 mod fault_names;
 #[cfg(test)]
 mod faults;
@@ -17,11 +19,15 @@ mod listings;
 #[cfg(test)]
 mod memory;
 #[cfg(test)]
+mod paths;
+#[cfg(test)]
 mod requests;
 #[cfg(test)]
 mod running;
 #[cfg(test)]
 mod runs;
+#[cfg(test)]
+mod sentences;
 #[cfg(test)]
 mod streams;
 #[cfg(test)]

@@ -1,10 +1,11 @@
 //! Memory that is refused.
 use crate::running::{EMPTY, joined};
 use cid::Sha256;
+use console::CommandFault;
 use refusing::Refusing;
-use repository_commands::{CommandFault, verify_text};
+use repository_commands::{TextFault, verify_text};
 use std::alloc::Global;
-use tree_command::{TreeFault, tree_text};
+use tree_command::{Keys, TreeFault, tree_text};
 
 /// How a command ended for which a request for memory may have been refused.
 #[derive(Clone, Copy, PartialEq, Eq)]
@@ -28,9 +29,9 @@ enum Work<'a> {
 /// How the tree of a listing ends in this memory, which is to write this.
 fn tree_end(alloc: Global, heap: &Refusing<Global>, input: &[u8], wanted: &[u8]) -> Ended {
     let mut out = Vec::new(alloc);
-    match tree_text::<Sha256, 2, _, _, _>(heap, &mut &input[..], &mut out) {
+    match tree_text::<Sha256, 2, _, _, _>(Keys::Any, heap, &mut &input[..], &mut out) {
         Ok(()) if out.as_slice() == wanted => Ended::Done,
-        Err(TreeFault::NoMemory) if out.is_empty() => Ended::NoMemory,
+        Err(CommandFault::NoText(TreeFault::NoMemory)) if out.is_empty() => Ended::NoMemory,
         _ => Ended::Wrong,
     }
 }
@@ -41,7 +42,7 @@ fn verify_end(alloc: Global, heap: &Refusing<Global>) -> Ended {
     let mut out = Vec::new(alloc);
     match verify_text::<Sha256, _, _, _>(heap, EMPTY.as_bytes(), b"a/b", &mut nodes, &mut out) {
         Ok(()) => Ended::Done,
-        Err(CommandFault::NoMemory) if out.is_empty() => Ended::NoMemory,
+        Err(CommandFault::NoText(TextFault::NoMemory)) if out.is_empty() => Ended::NoMemory,
         Err(_) => Ended::Wrong,
     }
 }
@@ -74,7 +75,7 @@ fn refusals(alloc: Global, work: Work<'_>) -> Result<u64, u64> {
 /// What the tree of this listing writes where no memory is refused.
 fn tree_out(alloc: Global, input: &[u8]) -> Option<Vec<u8>> {
     let mut out = Vec::new(alloc);
-    match tree_text::<Sha256, 2, _, _, _>(alloc, &mut &input[..], &mut out) {
+    match tree_text::<Sha256, 2, _, _, _>(Keys::Any, alloc, &mut &input[..], &mut out) {
         Ok(()) => Some(out),
         Err(_) => None,
     }

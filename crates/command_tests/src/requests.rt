@@ -1,5 +1,7 @@
 //! Which command `run_words` says that the words ask for.
 use crate::running::EMPTY;
+use change_commands::ChangeCommand;
+use cid::Sha256;
 use commands::{Request, run_words};
 use repository_commands::RepositoryCommand;
 use std::alloc::Global;
@@ -18,6 +20,8 @@ enum Asked {
     ProveChange,
     VerifyChange,
     Run,
+    Explain,
+    Help,
 }
 
 /// What the words ask for, over an input without lines.
@@ -29,26 +33,37 @@ fn request_of<T: Threads + Wait + RandomSource + Sync>(
     let mut input: &[u8] = b"";
     let mut out = Vec::new(alloc);
     let mut err = Vec::new(alloc);
-    match run_words(rt, alloc, words, &mut input, &mut out, &mut err).request {
+    match run_words::<Sha256, _, _, _, _>(
+        rt, alloc, words, &mut input, &mut out, &mut err,
+    ).request
+    {
         None => Asked::Nothing,
         Some(Request::Tree(_)) => Asked::Tree,
         Some(Request::OnRepository(RepositoryCommand::Car { .. })) => Asked::Car,
         Some(Request::OnRepository(RepositoryCommand::Prove { .. })) => Asked::Prove,
         Some(Request::OnRepository(RepositoryCommand::Verify { .. })) => Asked::Verify,
-        Some(Request::OnRepository(RepositoryCommand::ProveChange)) => Asked::ProveChange,
-        Some(Request::OnRepository(RepositoryCommand::VerifyChange)) => Asked::VerifyChange,
+        Some(Request::OnChange(ChangeCommand::Prove)) => Asked::ProveChange,
+        Some(Request::OnChange(ChangeCommand::Verify { .. })) => Asked::VerifyChange,
         Some(Request::Run(_)) => Asked::Run,
+        Some(Request::Explain(_)) => Asked::Explain,
+        Some(Request::Help) => Asked::Help,
     }
 }
 
-static ROWS: [(&[&str], Asked); 10] = [
+static ROWS: [(&[&str], Asked); 13] = [
     (&["msthost", "tree"], Asked::Tree),
     (&["msthost", "car"], Asked::Car),
     (&["msthost", "prove", "a/b"], Asked::Prove),
     (&["msthost", "verify", EMPTY, "a/b"], Asked::Verify),
     (&["msthost", "prove-change"], Asked::ProveChange),
-    (&["msthost", "verify-change"], Asked::VerifyChange),
+    (
+        &["msthost", "verify-change", EMPTY, EMPTY],
+        Asked::VerifyChange,
+    ),
     (&["msthost", "run"], Asked::Run),
+    (&["msthost", "explain"], Asked::Explain),
+    (&["msthost", "explain", "BadLine"], Asked::Explain),
+    (&["msthost", "help"], Asked::Help),
     (&["msthost", "--help"], Asked::Nothing),
     (&["msthost", "--version"], Asked::Nothing),
     (&["msthost", "trees"], Asked::Nothing),

@@ -1,6 +1,6 @@
 //! Running a command over memory, and what came of it.
-use cid::Digest;
-use commands::{run_words, run_words_with};
+use cid::{Digest, Sha256};
+use commands::run_words;
 use std::alloc::{AllocError, Global};
 use std::io::Read;
 use std::random::RandomSource;
@@ -61,7 +61,9 @@ pub(crate) fn run_over<T: Threads + Wait + RandomSource + Sync, R: Read>(
 ) -> Ended {
     let mut out = Vec::new(alloc);
     let mut err = Vec::new(alloc);
-    let status = run_words(rt, alloc, words, input, &mut out, &mut err).status;
+    let status = run_words::<Sha256, _, _, _, _>(
+        rt, alloc, words, input, &mut out, &mut err,
+    ).status;
     Ended { status, out, err }
 }
 
@@ -75,7 +77,7 @@ pub(crate) fn run_with<D: Digest + Send + Sync, T: Threads + Wait + RandomSource
     let mut input = input;
     let mut out = Vec::new(alloc);
     let mut err = Vec::new(alloc);
-    let outcome = run_words_with::<D, _, _, _, _>(rt, alloc, words, &mut input, &mut out, &mut err);
+    let outcome = run_words::<D, _, _, _, _>(rt, alloc, words, &mut input, &mut out, &mut err);
     Ended {
         status: outcome.status,
         out,

@@ -2,6 +2,7 @@
 ghost use Rattle.std.specs.Prelude.{Some};
 
 use crate::running::{EMPTY, Ended, TREE, joined, run, run_over};
+use cid::Sha256;
 use commands::run_words;
 use std::alloc::Global;
 use std::io::{self, ErrorKind, Read, Write};
@@ -194,7 +195,9 @@ fn run_into<T: Threads + Wait + RandomSource + Sync>(
     let mut input = input;
     let mut out = out;
     let mut err = Vec::new(alloc);
-    let status = run_words(rt, alloc, words, &mut input, &mut out, &mut err).status;
+    let status = run_words::<Sha256, _, _, _, _>(
+        rt, alloc, words, &mut input, &mut out, &mut err,
+    ).status;
     Ended {
         status,
         out: out.written,
@@ -321,6 +324,13 @@ fn standard_error_that_fails(rt: HostRuntime) {
     let mut input: &[u8] = b"a/b";
     let mut out = Vec::new(rt.alloc());
     let mut err = narrow(rt.alloc(), 0, End::Fails);
-    let status = run_words(&rt, rt.alloc(), &TREE, &mut input, &mut out, &mut err).status;
+    let status = run_words::<Sha256, _, _, _, _>(
+        &rt,
+        rt.alloc(),
+        &TREE,
+        &mut input,
+        &mut out,
+        &mut err,
+    ).status;
     assert!(rt; status == 1 && out.is_empty());
 }

@@ -9,10 +9,11 @@ use std::sync::Wait;
 use std::thread::Threads;
 
 /// Wrong command lines.
-static WRONG: [&[&str]; 26] = [
+static WRONG: [&[&str]; 27] = [
     &[],
     &["msthost"],
-    &["msthost", "help"],
+    &["msthost", "help", "tree"],
+    &["msthost", "explain", "BadLine", "BadKey"],
     &["msthost", "trees"],
     &["msthost", "tree", "file"],
     &["msthost", "tree", "--bits"],
@@ -64,7 +65,24 @@ fn bits_out_of_range_are_named(rt: HostRuntime) {
 }
 
 /// Command lines that ask for help, and what it shows.
-static HELP: [(&[&str], &str); 15] = [
+static HELP: [(&[&str], &str); 20] = [
+    (&["msthost", "help"], "$ printf '' | msthost tree"),
+    (
+        &["msthost", "tree", "--help"],
+        "Usage: msthost tree [OPTIONS] < FILE\n",
+    ),
+    (
+        &["msthost", "verify", "--help"],
+        "Usage: msthost verify <ROOT> <KEY> < FILE\n",
+    ),
+    (
+        &["msthost", "run", "--help"],
+        "Usage: msthost run [OPTIONS] < FILE\n",
+    ),
+    (
+        &["msthost", "explain", "--help"],
+        "$ msthost explain NotAMap\n  NotAMap\n    the record is not a map\n",
+    ),
     (&["msthost", "--help"], "$ printf '' | msthost tree"),
     (&["msthost", "-h"], "$ printf '' | msthost tree"),
     (&["msthost", "tree", "--help"], "--bits <B>"),
@@ -139,7 +157,7 @@ fn help(rt: HostRuntime) {
 #[test]
 fn version(rt: HostRuntime) {
     let ended = run(&rt, rt.alloc(), &["msthost", "--version"], b"a/b");
-    assert!(rt; ended.is(0, b"msthost 0.1.0\n", ""));
+    assert!(rt; ended.is(0, b"msthost 0.3.0\n", ""));
 }
 
 /// Whether a program that isn't started for an error of this kind ends with this status, and tells this.

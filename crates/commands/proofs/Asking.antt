@@ -1,6 +1,7 @@
 -- What clap's contract says of the program's command lines.
-use Rattle.std.proofs.Common.{◌∙◌, ◌≡◌, ◌≢◌, ℕ, inl, inr, ap, subst, sym, cond, false, refl, true, Bool, List, [], ◌∷◌, arith}
+use Rattle.std.proofs.Common.{◌∙◌, ◌≡◌, ◌≢◌, ℕ, inl, inr, ap, subst, sym, cond, false, refl, true, Bool, List, [], ◌∷◌, arith, rules, ◌⊎◌}
 use Rattle.std.specs.Prelude.{⊤, codes, Option, Some, None, Result, Ok, Err, IfErr, IsErrAnd, IfSome, IsSomeAnd, is_some, option_map, find}
+use Rattle.clap.proofs.OnLiterals.{clap_on_literals}
 use Rattle.clap.specs.Words.{App, HasMatchesOf, Row, Shape, Text, built, fault_of, is_simple}
 use Rattle.clap.specs.Words.{is_simple_and_free, kind_of, subcommand_of, subcommand_rows_of}
 use Rattle.clap.specs.Kinds.{HasKind, IsAmong, Kinds, or_else}
@@ -9,7 +10,7 @@ use Rattle.clap.specs.Simple.{argument_words, entered, label_of, names_of, rows_
 use Rattle.clap.specs.Walk.{Held, Names, answers_to, finished, nothing_held, settled, stop_after, walk, walk_from}
 use Rattle.clap.specs.declared.error.Error.{Error}
 use Rattle.clap.specs.declared.error.kind.ErrorKind.{ErrorKind}
-use Rattle.clap.specs.declared.error.kind.ErrorKind.TheVariants.{OutOfMemory}
+use Rattle.clap.specs.declared.error.kind.ErrorKind.TheVariants.{DisplayHelp, OutOfMemory}
 use Rattle.clap.specs.declared.parser.matches.ArgMatches.{ArgMatches}
 use Rattle.commands.specs.CommandLine.{EndsWithout, IsCommandName, IsEndOf, is_shown, msthost}
 
@@ -69,7 +70,9 @@ named_sub test =
     let prove_change : IsCommandName (codes "prove-change") = (4, codes "prove-change", omega arith, refl, refl) in
     let verify_change : IsCommandName (codes "verify-change") = (5, codes "verify-change", omega arith, refl, refl) in
     let run : IsCommandName (codes "run") = (6, codes "run", omega arith, refl, refl) in
-    found_in HasName test (built msthost).subs (tree, (car, (prove, (verify, (prove_change, (verify_change, (run, tt)))))))
+    let explain : IsCommandName (codes "explain") = (7, codes "explain", omega arith, refl, refl) in
+    let help : IsCommandName (codes "help") = (8, codes "help", omega arith, refl, refl) in
+    found_in HasName test (built msthost).subs (tree, (car, (prove, (verify, (prove_change, (verify_change, (run, (explain, (help, tt)))))))))
 
 entered_name : (words : List Text) (o : Option Shape) → IfSome o HasName → IfSome (option_map (λ s. rows_at s words) o) (λ c. IsCommandName c.0)
 unfolding HasName
@@ -119,3 +122,25 @@ ended kinds e status has memory other = elim has [
   | inl is ↦ inl (memory is)
   | inr among ↦ by_kind kinds (kind_of e) status among memory other
 ]
+
+-- ---- help
+
+help_kind : (kinds : Kinds) (e : Error) (n : ℕ) → kinds ≡ DisplayHelp ∷ [] → HasKind kinds e → (kind_of e ≡ OutOfMemory → n ≡ 3)
+    → ((kind_of e ≢ OutOfMemory) → IsEndOf (is_shown (kind_of e)) n) → (n ≡ 0) ⊎ ((n ≡ 3) ⊎ (n ≡ 4))
+help_kind kinds e n is has memory other = by (ended kinds e n has memory other)
+  where
+    shown : (kind : ErrorKind) → IsAmong kind (DisplayHelp ∷ []) → is_shown kind ≡ true
+    shown kind (inl is) = ap is_shown is
+    shown kind (inr none) = absurd none
+
+    by : EndsWithout kinds n → (n ≡ 0) ⊎ ((n ≡ 3) ⊎ (n ≡ 4))
+    by (inl three) = inr (inl three)
+    by (inr ends) = elim (rw (shown ends.0 (subst (IsAmong ends.0) is ends.1)) at ends.2) [ inl zero ↦ inl zero | inr four ↦ inr (inr four) ]
+
+asks_for_help : fault_of msthost (codes "msthost" ∷ codes "--help" ∷ []) ≡ DisplayHelp ∷ []
+unfolding msthost clap_on_literals
+asks_for_help = refl
+
+pub help_ended : (e : Error) (n : ℕ) → HasKind (fault_of msthost (codes "msthost" ∷ codes "--help" ∷ [])) e → (kind_of e ≡ OutOfMemory → n ≡ 3)
+    → ((kind_of e ≢ OutOfMemory) → IsEndOf (is_shown (kind_of e)) n) → (n ≡ 0) ⊎ ((n ≡ 3) ⊎ (n ≡ 4))
+help_ended e n has memory other = help_kind _ e n asks_for_help has memory other

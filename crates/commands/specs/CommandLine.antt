@@ -11,13 +11,14 @@ use Rattle.clap.specs.declared.error.kind.ErrorKind.{ErrorKind}
 use Rattle.clap.specs.declared.error.kind.ErrorKind.TheVariants.{DisplayHelp, DisplayVersion}
 use Rattle.commands.specs.declared.command_line.Request.{Request}
 use Rattle.commands.specs.declared.command_line.Request.TheVariants as requests
-use Rattle.tree_command.specs.Words.{HasNumberOf, tree_shape}
+use Rattle.explain_command.specs.Words.{HasNameOf, explain_shape}
+use Rattle.tree_command.specs.Words.{AreKeysOf, HasNumberOf, tree_shape}
 use Rattle.repository_commands.specs.Words.{IsOfWords, car_shape, prove_shape, verify_shape}
-use Rattle.repository_commands.specs.Words.{prove_change_shape, verify_change_shape}
+use Rattle.change_commands.specs.Words.{prove_change_shape, verify_change_shape, IsOfWords as IsChangeOfWords}
 use Rattle.run_command.specs.Words.{HasNumbersOf, did_of_words, run_shape}
 
 -- What clap reads of the program, beside its commands: it has a version and wants a command, and
--- `help` is none.
+-- its `help` is one of its own.
 abbrev pub program_shape : Shape
 program_shape = record (new_shape (codes "msthost")) {
   is_leaf = false;
@@ -26,20 +27,28 @@ program_shape = record (new_shape (codes "msthost")) {
   disable_help_subcommand = true;
 }
 
--- the program with its seven commands
+-- the command `help`, which takes no words
+abbrev pub help_shape : Shape
+help_shape = new_shape (codes "help")
+
+-- the program with its nine commands
 unfoldable pub msthost : App
 msthost = record {
   top = program_shape;
   subs = tree_shape ∷ car_shape ∷ prove_shape ∷ verify_shape ∷ prove_change_shape ∷ verify_change_shape
-      ∷ run_shape ∷ [];
+      ∷ run_shape ∷ explain_shape ∷ help_shape ∷ [];
 }
 
 -- the request is the one of this name, with what the command's own words say
 abbrev pub IsNamed : Text → List Row → Request → Type 0
-IsNamed name rows (requests.Tree bits) = (name ≡ codes "tree") × HasNumberOf rows bits
+IsNamed name rows (requests.Tree options) = (name ≡ codes "tree") × HasNumberOf rows options.bits
+    × AreKeysOf rows options.keys
 IsNamed name rows (requests.OnRepository command) = IsOfWords name rows command
+IsNamed name rows (requests.OnChange command) = IsChangeOfWords name rows command
 IsNamed name rows (requests.Run command) = (name ≡ codes "run")
     × HasNumbersOf rows command.settings × (command.did.now ≡ did_of_words rows)
+IsNamed name rows (requests.Explain command) = (name ≡ codes "explain") × HasNameOf rows command
+IsNamed name rows requests.Help = name ≡ codes "help"
 
 -- The words, of which the first is the program's name, are a command line of the program, and ask for
 -- this: clap finds no fault in them, and finds a command, by its name and with what is said of it.
@@ -50,7 +59,8 @@ pub record IsAskedBy (words : List Text) (request : Request) : Type 0 where
 -- one of the commands has this name
 abbrev pub IsCommandName : Text → Type 0
 IsCommandName name = Any (λ x. x ≡ name) (codes "tree" ∷ codes "car" ∷ codes "prove" ∷ codes "verify"
-    ∷ codes "prove-change" ∷ codes "verify-change" ∷ codes "run" ∷ [])
+    ∷ codes "prove-change" ∷ codes "verify-change" ∷ codes "run"
+    ∷ codes "explain" ∷ codes "help" ∷ [])
 
 -- an answer of this kind is help or the version
 abbrev pub is_shown : ErrorKind → Bool

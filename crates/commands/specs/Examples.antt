@@ -4,7 +4,8 @@ use Rattle.clap.specs.Kinds.{Kinds}
 use Rattle.clap.specs.Walk.{Text}
 use Rattle.clap.specs.Faults.{fault_of}
 use Rattle.clap.specs.declared.error.kind.ErrorKind.TheVariants as kinds
-use Rattle.tree_command.specs.declared.bits.Bits.{Bits}
+use Rattle.tree_command.specs.declared.keys.Keys.TheVariants as keys
+use Rattle.tree_command.specs.declared.options.TreeOptions.{TreeOptions}
 use Rattle.commands.specs.CommandLine.{IsAskedBy, msthost}
 use Rattle.commands.specs.declared.command_line.Request.{Request}
 use Rattle.commands.specs.declared.command_line.Request.TheVariants as requests
@@ -16,12 +17,21 @@ line words = codes "msthost" ∷ words
 abbrev pub faults : List Text → Kinds
 faults words = fault_of msthost (line words)
 
--- `tree --bits 3` has no fault, and asks for the tree with 3 bits and for nothing else
+-- `tree --bits 3` has no fault, and asks for the tree of any keys with 3 bits, and for nothing else
 abbrev pub AsksForThreeBits : Type 0
 AsksForThreeBits =
     let words = codes "tree" ∷ codes "--bits" ∷ codes "3" ∷ [] in
     (faults words ≡ []) × ((request : Request) → IsAskedBy (line words) request
-    → (bits : Bits) × (request ≡ requests.Tree bits) × (bits.number ≡ 3))
+    → (options : TreeOptions) × (request ≡ requests.Tree options) × (options.bits.number ≡ 3)
+    × (options.keys ≡ keys.Any))
+
+-- `tree --paths` asks for the tree of a repository's keys alone, with 2 bits
+abbrev pub AsksForPaths : Type 0
+AsksForPaths =
+    let words = codes "tree" ∷ codes "--paths" ∷ [] in
+    (faults words ≡ []) × ((request : Request) → IsAskedBy (line words) request
+    → (options : TreeOptions) × (request ≡ requests.Tree options) × (options.bits.number ≡ 2)
+    × (options.keys ≡ keys.Paths))
 
 -- help and the version are asked for
 abbrev pub AsksToBeShown : Type 0

@@ -1,51 +1,71 @@
 -- What a request writes.
-use Rattle.std.specs.Prelude.{◌≡◌, ◌⊎◌, ℕ, false, List, Option, IfSome, is_ok}
-use Rattle.std.specs.Io.KnownBytes.{Keeps}
+use Rattle.std.specs.Prelude.{⊤, [], ◌≡◌, ◌⊎◌, ℕ, false, List, Option, IfSome, is_ok}
+use Rattle.std.specs.Io.KnownBytes.{Appends, Keeps}
 use Rattle.spec.specs.Stamps.{is_did}
 use Rattle.console.specs.Written.{AppendsBeginning, AppendsText}
-use Rattle.tree_command.specs.TreeText.{text_or_nothing, tree_text}
+use Rattle.tree_command.specs.TreeText.{listing, text_or_nothing}
+use Rattle.explain_command.specs.Explained.{explanation, word_of}
 use Rattle.commands.specs.declared.command_line.Request.{Request}
 use Rattle.commands.specs.declared.command_line.Request.TheVariants as requests
 use Rattle.repository_commands.specs.Commands.{HasFaultyWord as IsFaultyCommand, reasons_of, texts_of}
 use Rattle.repository_commands.specs.Outcomes.{IsFaulty as IsFaultyOn}
 use Rattle.repository_commands.specs.Texts.{text_or_nothing as repository_text_or_nothing}
+use Rattle.change_commands.specs.Commands.{HasFaultyWord as IsFaultyChange, reasons_of as change_reasons_of, texts_of as change_texts_of}
 use Rattle.run_command.specs.Outcomes.{IsFaulty, Reports, ReportsBeginning}
 
 -- What was asked for is done, on an input that is known or not, and with a writer's known contents before
--- and after: the listing of the tree, the text of a command on one repository, or the report of a run
--- of the script that the input is.
+-- and after: the listing of the tree, the text of a command on one repository or on a change of one, or
+-- the report of a run of the script that the input is; or what there is to say of a fault. What help
+-- shows is said nowhere.
 abbrev pub IsDone : (D : Type 0) → (List ℕ → List ℕ) → Request → Option (List ℕ) → Option (List ℕ)
     → Option (List ℕ) → Type 0
-IsDone D digest (requests.Tree bits) input old new =
-    IfSome input (λ xs. AppendsText old new (tree_text digest bits.number xs))
+IsDone D digest (requests.Tree options) input old new =
+    IfSome input (λ xs. AppendsText old new (listing digest options xs))
 IsDone D digest (requests.OnRepository command) input old new =
     IfSome input (λ xs. AppendsText old new (texts_of digest command xs))
+IsDone D digest (requests.OnChange command) input old new =
+    IfSome input (λ xs. AppendsText old new (change_texts_of digest command xs))
 IsDone D digest (requests.Run command) input old new =
     IfSome input (Reports D digest command.settings command.did.now old new)
+IsDone D digest (requests.Explain command) input old new =
+    Appends old new (explanation (word_of command.name))
+IsDone D digest requests.Help input old new = ⊤
 
 -- The input has no such text: of the tree; of the command, for a reason that it may have; or of a run,
--- as the DID or the script is faulty, or the host didn't close.
+-- as the DID or the script is faulty, or the host didn't close; or no fault has the name.
 abbrev pub IsRefused : (D A : Type 0) → (List ℕ → List ℕ) → Request → Option (List ℕ) → Type 0
-IsRefused D A digest (requests.Tree bits) input =
-    IfSome input (λ xs. is_ok (tree_text digest bits.number xs) ≡ false)
+IsRefused D A digest (requests.Tree options) input =
+    IfSome input (λ xs. is_ok (listing digest options xs) ≡ false)
 IsRefused D A digest (requests.OnRepository command) input =
     IsFaultyOn {D = D} {A = A} (texts_of digest command) (reasons_of digest command) input
+IsRefused D A digest (requests.OnChange command) input =
+    IsFaultyOn {D = D} {A = A} (change_texts_of digest command) (change_reasons_of digest command) input
 IsRefused D A digest (requests.Run command) input =
     IfSome input (IsFaulty D digest command.settings command.did.now)
+IsRefused D A digest (requests.Explain command) input = explanation (word_of command.name) ≡ []
+IsRefused D A digest requests.Help input = ⊥
 
 -- A beginning of the text was written, and nothing where there is none.
 abbrev pub IsBegun : (D : Type 0) → (List ℕ → List ℕ) → Request → Option (List ℕ) → Option (List ℕ)
     → Option (List ℕ) → Type 0
-IsBegun D digest (requests.Tree bits) input old new = IfSome input (λ xs.
-    AppendsBeginning old new (text_or_nothing (tree_text digest bits.number xs)))
+IsBegun D digest (requests.Tree options) input old new = IfSome input (λ xs.
+    AppendsBeginning old new (text_or_nothing (listing digest options xs)))
 IsBegun D digest (requests.OnRepository command) input old new = IfSome input (λ xs.
     AppendsBeginning old new (repository_text_or_nothing (texts_of digest command xs)))
+IsBegun D digest (requests.OnChange command) input old new = IfSome input (λ xs.
+    AppendsBeginning old new (repository_text_or_nothing (change_texts_of digest command xs)))
 IsBegun D digest (requests.Run command) input old new = IfSome input (λ xs.
     Keeps old new ⊎ ReportsBeginning D digest command.settings command.did.now old new xs)
+IsBegun D digest (requests.Explain command) input old new =
+    AppendsBeginning old new (explanation (word_of command.name))
+IsBegun D digest requests.Help input old new = ⊤
 
 -- A word of the request is faulty by the test that comes before its input is read: a DID, a revision,
 -- the text of a root or a key.
 abbrev pub HasFaultyWord : Request → Type 0
-HasFaultyWord (requests.Tree bits) = ⊥
+HasFaultyWord (requests.Tree options) = ⊥
 HasFaultyWord (requests.OnRepository command) = IsFaultyCommand command
+HasFaultyWord (requests.OnChange command) = IsFaultyChange command
 HasFaultyWord (requests.Run command) = is_did command.did.now ≡ false
+HasFaultyWord (requests.Explain command) = ⊥
+HasFaultyWord requests.Help = ⊥

@@ -1,25 +1,34 @@
 //! What the words of a command line ask for.
-ghost use Rattle.std.specs.Prelude.{◌≡◌, IfErr, IfOk, IsSomeAnd};
+ghost use Rattle.std.specs.Prelude.{◌≡◌, ◌∷◌, [], codes, false, IfErr, IfOk, IsSomeAnd};
 ghost use Rattle.clap.specs.Kinds.{HasKind};
 ghost use Rattle.clap.specs.Walk.{texts};
-ghost use Rattle.clap.specs.Words.{app_of, fault_of, found_of, rows_of, subcommand_rows_of};
-ghost use Rattle.commands.specs.CommandLine.{IsAskedBy, IsCommandName, IsNamed, msthost};
+ghost use Rattle.clap.specs.Words.{app_of, fault_of, found_of, rows_of, shape_of, subcommand_rows_of};
+ghost use Rattle.clap.specs.declared.builder.command.Command.TheViews.{out-Command as fields_of};
+ghost use Rattle.commands.specs.CommandLine.{IsAskedBy, IsCommandName, IsNamed, help_shape, msthost};
 
+use change_commands::ChangeCommand;
 use clap::{ArgMatches, Command, Error};
+use explain_command::ExplainCommand;
 use repository_commands::RepositoryCommand;
 use run_command::RunCommand;
 use std::alloc::{AllocError, Global};
-use tree_command::Bits;
+use tree_command::TreeOptions;
 
 /// A command that the words of a command line ask for, with what they say of it.
 #[derive(Clone, Copy)]
 pub enum Request<'a> {
-    /// List the tree of the lines of the input, with so many zero bits a layer.
-    Tree(Bits),
+    /// List the tree of the lines of the input.
+    Tree(TreeOptions),
     /// Do a command on one repository.
     OnRepository(RepositoryCommand<'a>),
+    /// Do a command on a change of one repository.
+    OnChange(ChangeCommand<'a>),
     /// Let a host's workers do the script of the input.
     Run(RunCommand<'a>),
+    /// Say what a fault means.
+    Explain(ExplainCommand<'a>),
+    /// Show the program's help.
+    Help,
 }
 
 const ABOUT: &str = "Merkle search trees of AT Protocol repositories";
@@ -41,7 +50,7 @@ fn request_in<'a>(matches: &ArgMatches<'a>) -> Request<'a>
     match matches.subcommand() {
         Some((name, words)) => request_by(name, words),
         // Never so: words without a command are refused before.
-        None => Request::Tree(Bits::default()),
+        None => Request::Help,
     }
 }
 
@@ -53,10 +62,19 @@ fn request_by<'a>(name: &str, words: &ArgMatches<'a>) -> Request<'a>
     if let Some(command) = repository_commands::command_of(name, words) {
         return Request::OnRepository(command);
     }
-    match run_command::command_of(name, words) {
-        Some(command) => Request::Run(command),
-        None => Request::Tree(tree_command::bits_of(words)),
+    if let Some(command) = change_commands::command_of(name, words) {
+        return Request::OnChange(command);
     }
+    if let Some(command) = run_command::command_of(name, words) {
+        return Request::Run(command);
+    }
+    if let Some(command) = explain_command::command_of(name, words) {
+        return Request::Explain(command);
+    }
+    if name == "help" {
+        return Request::Help;
+    }
+    Request::Tree(tree_command::options_of(words))
 }
 
 /// The commands, with what help shows of them.
@@ -64,12 +82,33 @@ fn command<'a>(alloc: Global) -> Result<Command<'a>, AllocError>
     ensures { IfOk result (λ c. app_of c ≡ msthost) }
 {
     let program = Command::new(alloc, "msthost")
-        .version("0.1.0")
+        .version("0.3.0")
         .about(ABOUT)
         .after_help(tree_command::EXAMPLE)
         .subcommand_required(true)
         .disable_help_subcommand(true);
     let program = tree_command::with_words(alloc, program)?;
     let program = repository_commands::with_words(alloc, program)?;
-    run_command::with_words(alloc, program)
+    let program = change_commands::with_words(alloc, program)?;
+    let program = run_command::with_words(alloc, program)?;
+    let program = explain_command::with_words(alloc, program)?;
+    program.subcommand(help(alloc))
+}
+
+/// The command `help`, which takes no words.
+fn help<'a>(alloc: Global) -> Command<'a>
+    ensures shape { shape_of result ≡ help_shape }
+    ensures local { (fields_of result).has_globals ≡ false }
+{
+    Command::new(alloc, "help").about("Shows this help, as --help does")
+}
+
+/// The program's help, as an error that shows it.
+pub(crate) fn help_of(alloc: Global) -> Error
+    ensures { HasKind (fault_of msthost (codes "msthost" ∷ codes "--help" ∷ [])) result }
+{
+    match request_of(alloc, &["msthost", "--help"]) {
+        Ok(_) => Error::from(AllocError),
+        Err(error) => error,
+    }
 }

@@ -1,9 +1,10 @@
 //! What the definitions make of some command lines: a law, which does nothing when it is called.
-ghost use Rattle.commands.specs.Examples.{AreWrong, AsksForThreeBits, AsksToBeShown};
+ghost use Rattle.commands.specs.Examples.{AreWrong, AsksForPaths, AsksForThreeBits, AsksToBeShown};
 
-/// `tree --bits 3`, help and the version, and two command lines that are wrong.
+/// `tree --bits 3`, `tree --paths`, help and the version, and two command lines that are wrong.
 pub fn some_command_lines()
     ensures asked { AsksForThreeBits }
+    ensures paths { AsksForPaths }
     ensures shown { AsksToBeShown }
     ensures wrong { AreWrong }
 {}

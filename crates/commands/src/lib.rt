@@ -4,12 +4,13 @@
 //!
 //! - `run_words` does what a command line says: it takes the words, the standard streams, or stand-ins for them, and
 //!   answers an `Outcome`: the `Request` that the words make, and the exit status. It writes help, faults and the version
-//!   too. A program gives it its own words. `run_words_with` is `run_words` under another digest than SHA-256.
+//!   too. A program gives it its own words.
 //! - `laws` shows what the definitions make of some command lines.
 //! - `not_started` says what a program does that doesn't get as far.
 //!
 //! Each command has a crate of its own, for callers that have no command line: `tree_command` lists trees,
-//! `repository_commands` has `car`, `prove`, `verify`, `prove-change` and `verify-change`, and `run_command` does scripts.
+//! `repository_commands` has `car`, `prove` and `verify`, `change_commands` has `prove-change` and `verify-change`, and
+//! `run_command` does scripts.
 //! `command_line` knows them all, and `run` does the one that is asked for.
 #![tactic(auto)]
 
@@ -19,5 +20,5 @@ mod run;
 mod starting;
 
 pub use command_line::Request;
-pub use run::{Outcome, run_words, run_words_with};
+pub use run::{Outcome, run_words};
 pub use starting::not_started;

@@ -1,14 +1,13 @@
 //! The commands, over any reader and writers.
 ghost use Rattle.std.specs.Prelude.{◌≡◌, ◌≢◌, ◌≤◌, ◌⊎◌, IfNone, IfSome, IsNone};
 ghost use Rattle.std.specs.Io.KnownBytes.{Keeps};
-ghost use Rattle.cid.specs.declared.digest.Sha256.{Sha256};
 ghost use Rattle.clap.specs.Walk.{texts};
 ghost use Rattle.clap.specs.Words.{fault_of, kind_of};
 ghost use Rattle.commands.specs.CommandLine.{EndsWithout, IsAskedBy, IsEndOf, is_shown, msthost};
 ghost use Rattle.commands.specs.Requests.{HasFaultyWord, IsBegun, IsDone, IsRefused};
 
-use crate::command_line::{Request, request_of};
-use cid::{Digest, Sha256};
+use crate::command_line::{Request, help_of, request_of};
+use cid::Digest;
 use clap::Error;
 use clap::error::ErrorKind;
 use console::{USAGE, done, no_memory, write_failed};
@@ -28,62 +27,13 @@ pub struct Outcome<'a> {
     pub status: u8,
 }
 
-/// Does what the words ask for, of which the first is the program's name, under SHA-256.
+/// Does what the words ask for, of which the first is the program's name, under the digest `D`; the AT Protocol's is
+/// SHA-256.
 ///
 /// Status 0 says that it was done; 1 that a line, what comes of the lines, or a word that the command takes, as a DID,
 /// is refused; 2 that the command line isn't one of the program's; 3 that memory was refused; 4 that a read or a write
 /// failed. What is wrong stands on `err`.
-pub fn run_words<'a, T: Threads + Wait + RandomSource + Sync, R: Read, W: Write, X: Write>(
-    rt: &T,
-    alloc: Global,
-    words: &'a [&'a str],
-    input: &mut R,
-    out: &mut W,
-    err: &mut X,
-) -> Outcome<'a>
-    ensures status { result.status ≤ 4 }
-
-    // A request is the one that the words ask for.
-    ensures asked { IfSome result.request (IsAskedBy (texts words.entry.now)) }
-
-    // Where there is none, help or the version was asked for, the words are wrong, or memory was refused.
-    ensures unasked { IfNone result.request
-        (EndsWithout (fault_of msthost (texts words.entry.now)) result.status) }
-    ensures unshown { IfNone result.request (result.status ≡ 3
-        → Keeps (W.contents out.old) (W.contents out.new)) }
-
-    // At status 0 what was written is the text of the command that the words ask for.
-    ensures done { result.status ≡ 0 → IfSome result.request (λ request.
-        IsDone Sha256 ⟦<Sha256 as Digest>⟧.digest_of request (R.remaining input.old)
-        (W.contents out.old) (W.contents out.new)) }
-
-    // At status 1 it has none.
-    ensures faulty { result.status ≡ 1 → IfSome result.request (λ request.
-        IsRefused Sha256 Global ⟦<Sha256 as Digest>⟧.digest_of request (R.remaining input.old)) }
-    ensures usage { result.status ≡ 2 → IsNone result.request }
-
-    // A faulty line or word, what comes of them, and a wrong command line write nothing, and at each
-    // status no more than a beginning of the command's text was written.
-    ensures nothing { (result.status ≡ 1) ⊎ (result.status ≡ 2)
-        → Keeps (W.contents out.old) (W.contents out.new) }
-    ensures beginning { IfSome result.request (λ request.
-        IsBegun Sha256 ⟦<Sha256 as Digest>⟧.digest_of request (R.remaining input.old)
-        (W.contents out.old) (W.contents out.new)) }
-
-    // Without a request the input isn't read, nor where a word of it is faulty, which is told, and where all
-    // went well nothing is told.
-    ensures unread { IfNone result.request (input.new ≡ input.old) }
-    ensures faulty_word { IfSome result.request (λ request.
-        HasFaultyWord request → input.new ≡ input.old) }
-    ensures told { IfSome result.request (λ request.
-        HasFaultyWord request → (result.status ≡ 1) ⊎ (result.status ≡ 3)) }
-    ensures quiet { result.status ≡ 0 → err.new ≡ err.old }
-{
-    run_words_with::<Sha256, T, R, W, X>(rt, alloc, words, input, out, err)
-}
-
-/// `run_words` under the digest `D`.
-pub fn run_words_with<
+pub fn run_words<
     'a,
     D: Digest + Send + Sync,
     T: Threads + Wait + RandomSource + Sync,
@@ -171,14 +121,30 @@ fn do_request<
     ensures quiet { result ≡ 0 → err.new ≡ err.old }
 {
     match request {
-        Request::Tree(bits) => tree_command::run::<D, R, W, X>(bits, alloc, input, out, err),
+        Request::Tree(options) => {
+            tree_command::run::<D, R, W, X>(options, alloc, input, out, err)
+        }
         Request::OnRepository(command) => {
             repository_commands::run::<D, R, W, X>(command, alloc, input, out, err)
+        }
+        Request::OnChange(command) => {
+            change_commands::run::<D, R, W, X>(command, alloc, input, out, err)
         }
         Request::Run(command) => {
             run_command::run::<D, T, R, W, X>(command, rt, alloc, input, out, err)
         }
+        Request::Explain(command) => explain_command::run(command, alloc, out, err),
+        Request::Help => show_help(alloc, out, err),
     }
+}
+
+/// Shows the program's help, and answers the status.
+fn show_help<W: Write, X: Write>(alloc: Global, out: &mut W, err: &mut X) -> u8
+    ensures status { (result ≡ 0) ⊎ ((result ≡ 3) ⊎ (result ≡ 4)) }
+    ensures quiet { result ≡ 0 → err.new ≡ err.old }
+{
+    let help = help_of(alloc);
+    show(&help, out, err)
 }
 
 /// Shows help and the version on standard output, and what is wrong with a command line on standard error.

@@ -9,14 +9,18 @@
 #![tactic(auto)]
 
 mod decimal;
+mod fault;
 mod hexadecimal;
+mod numbered;
 mod reading;
 mod status;
 mod telling;
 mod writing;
 
 pub use decimal::Decimal;
+pub use fault::{CommandFault, write_made};
 pub use hexadecimal::bytes_of_hex;
+pub use numbered::{NumberedLines, numbered_lines};
 pub use reading::{ReadFault, read_all};
 pub use status::{DONE, FAULTY, IO_FAILED, NO_MEMORY, USAGE};
 pub use telling::{done, no_memory, tell, write_failed};

@@ -1,9 +1,9 @@
 //! Heads and bytes read one after the other from the front of some bytes.
 
-ghost use Rattle.std.specs.Prelude.{◌≡◌, ◌≢◌, ◌+◌, [], length, Err, OnErr};
+ghost use Rattle.std.specs.Prelude.{◌≡◌, ◌≢◌, ◌+◌, length, Err, OnErr};
 ghost use Rattle.spec.specs.Reading.{Gives, front};
 ghost use Rattle.spec.specs.Head.{head_at, Truncated};
-ghost use Rattle.dagcbor.specs.Fault.{fault_of};
+ghost use Rattle.dagcbor.specs.Fault.{cbor_fault_of};
 ghost use Rattle.dagcbor.specs.Source.{Source};
 
 use crate::fault::CborFault;
@@ -56,7 +56,7 @@ impl<'a> Cursor<'a> {
     /// `Truncated`, `LongHead`, `Indefinite`, `Float` and `Simple` say what is wrong with the head, and then nothing was read.
     #[inline(always)]
     pub fn head(&mut self) -> Result<(u8, u64), CborFault>
-        ensures read { Gives (λ h. (h, self.new.left)) fault_of result (head_at self.old.left) }
+        ensures read { Gives (λ h. (h, self.new.left)) cbor_fault_of result (head_at self.old.left) }
         ensures place { self.new.place + length self.new.left
             ≡ self.old.place + length self.old.left }
         ensures unchanged { OnErr result (self.new ≡ self.old) }
@@ -77,7 +77,7 @@ impl<'a> Cursor<'a> {
 
     /// The next `n` bytes. `Truncated` where fewer are left, and then nothing was read.
     pub fn take(&mut self, n: u64) -> Result<&'a [u8], CborFault>
-        ensures read { Gives (λ taken. (taken.now, self.new.left)) fault_of result
+        ensures read { Gives (λ taken. (taken.now, self.new.left)) cbor_fault_of result
             (front Truncated n self.old.left) }
         ensures place { self.new.place + length self.new.left
             ≡ self.old.place + length self.old.left }

@@ -5,7 +5,7 @@ ghost use Rattle.spec.specs.Reading.{Gives, front};
 ghost use Rattle.spec.specs.Head.{head_at, argument_at, long_argument, simple_at, Truncated};
 ghost use Rattle.spec.specs.Head as heads;
 ghost use Rattle.spec.specs.DagCbor.{head_of};
-ghost use Rattle.dagcbor.specs.Fault.{fault_of};
+ghost use Rattle.dagcbor.specs.Fault.{cbor_fault_of};
 
 use crate::fault::CborFault;
 
@@ -13,7 +13,7 @@ use crate::fault::CborFault;
 fn long_argument(low: u8, bytes: &[u8]) -> Result<(u64, &[u8]), CborFault>
     requires lower { 24 ≤ low }
     requires upper { low ≤ 27 }
-    ensures read { Gives (λ x. (x.0, x.1.now)) fault_of result (long_argument low bytes.now) }
+    ensures read { Gives (λ x. (x.0, x.1.now)) cbor_fault_of result (long_argument low bytes.now) }
     ensures no_longer { IfOk result (λ x. length x.1.now ≤ length bytes.now) }
     ensures takes_no_memory { result ≢ Err CborFault.NoMemory }
 {
@@ -66,7 +66,7 @@ fn long_argument(low: u8, bytes: &[u8]) -> Result<(u64, &[u8]), CborFault>
 #[inline(never)]
 fn announced_argument(low: u8, bytes: &[u8]) -> Result<(u64, &[u8]), CborFault>
     requires { 24 ≤ low }
-    ensures read { Gives (λ x. (x.0, x.1.now)) fault_of result (argument_at low bytes.now) }
+    ensures read { Gives (λ x. (x.0, x.1.now)) cbor_fault_of result (argument_at low bytes.now) }
     ensures no_longer { IfOk result (λ x. length x.1.now ≤ length bytes.now) }
     ensures takes_no_memory { result ≢ Err CborFault.NoMemory }
 {
@@ -83,7 +83,7 @@ fn announced_argument(low: u8, bytes: &[u8]) -> Result<(u64, &[u8]), CborFault>
 #[inline(always)]
 fn announced(low: u8, bytes: &[u8]) -> Result<(u64, &[u8]), CborFault>
     requires { 24 ≤ low }
-    ensures read { Gives (λ x. (x.0, x.1.now)) fault_of result (argument_at low bytes.now) }
+    ensures read { Gives (λ x. (x.0, x.1.now)) cbor_fault_of result (argument_at low bytes.now) }
     ensures no_longer { IfOk result (λ x. length x.1.now ≤ length bytes.now) }
     ensures takes_no_memory { result ≢ Err CborFault.NoMemory }
 {
@@ -95,7 +95,7 @@ fn announced(low: u8, bytes: &[u8]) -> Result<(u64, &[u8]), CborFault>
 /// two, and these are read in place; the others by a call.
 #[inline(always)]
 fn argument(low: u8, bytes: &[u8]) -> Result<(u64, &[u8]), CborFault>
-    ensures read { Gives (λ x. (x.0, x.1.now)) fault_of result (argument_at low bytes.now) }
+    ensures read { Gives (λ x. (x.0, x.1.now)) cbor_fault_of result (argument_at low bytes.now) }
     ensures no_longer { IfOk result (λ x. length x.1.now ≤ length bytes.now) }
     ensures takes_no_memory { result ≢ Err CborFault.NoMemory }
 {
@@ -109,7 +109,7 @@ fn argument(low: u8, bytes: &[u8]) -> Result<(u64, &[u8]), CborFault>
 /// A simple value's number, which is false's, true's or null's, and the bytes after it.
 #[inline]
 fn simple(low: u8, bytes: &[u8]) -> Result<(u64, &[u8]), CborFault>
-    ensures read { Gives (λ x. (x.0, x.1.now)) fault_of result (simple_at low bytes.now) }
+    ensures read { Gives (λ x. (x.0, x.1.now)) cbor_fault_of result (simple_at low bytes.now) }
     ensures no_longer { IfOk result (λ x. length x.1.now ≤ length bytes.now) }
     ensures takes_no_memory { result ≢ Err CborFault.NoMemory }
 {
@@ -125,7 +125,7 @@ fn simple(low: u8, bytes: &[u8]) -> Result<(u64, &[u8]), CborFault>
 #[tactic(auto, unfolding(spec::specs::Head::head_at))]
 #[inline(always)]
 pub(crate) fn head(bytes: &[u8]) -> Result<((u8, u64), &[u8]), CborFault>
-    ensures read { Gives (λ x. (x.0, x.1.now)) fault_of result (head_at bytes.now) }
+    ensures read { Gives (λ x. (x.0, x.1.now)) cbor_fault_of result (head_at bytes.now) }
     ensures no_longer { IfOk result (λ x. length x.1.now ≤ length bytes.now) }
     ensures takes_no_memory { result ≢ Err CborFault.NoMemory }
 {
@@ -145,7 +145,7 @@ pub(crate) fn head(bytes: &[u8]) -> Result<((u8, u64), &[u8]), CborFault>
 /// The first `n` bytes and the others, or `Truncated` where there are fewer.
 #[inline]
 pub(crate) fn front(n: u64, bytes: &[u8]) -> Result<(&[u8], &[u8]), CborFault>
-    ensures read { Gives (λ x. (x.0.now, x.1.now)) fault_of result (front Truncated n bytes.now) }
+    ensures read { Gives (λ x. (x.0.now, x.1.now)) cbor_fault_of result (front Truncated n bytes.now) }
     ensures takes_no_memory { result ≢ Err CborFault.NoMemory }
 {
     if (bytes.len() as u64) < n {
@@ -156,8 +156,8 @@ pub(crate) fn front(n: u64, bytes: &[u8]) -> Result<(&[u8], &[u8]), CborFault>
 
 /// The argument of a head that has to have this major type, or else there is this fault.
 pub(crate) fn head_of(major: u8, fault: CborFault, bytes: &[u8]) -> Result<(u64, &[u8]), CborFault>
-    ensures { (f : heads.CborFault) → fault_of fault ≡ Some f
-        → Gives (λ x. (x.0, x.1.now)) fault_of result (head_of major f bytes.now) }
+    ensures { (f : heads.CborFault) → cbor_fault_of fault ≡ Some f
+        → Gives (λ x. (x.0, x.1.now)) cbor_fault_of result (head_of major f bytes.now) }
 {
     match bytes {
         [] => Err(CborFault::Truncated),

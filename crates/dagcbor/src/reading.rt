@@ -4,7 +4,7 @@ ghost use Rattle.std.specs.Prelude.{◌≡◌, pos, negsuc, option_map, IfOk, If
 ghost use Rattle.spec.specs.Reading.{Gives};
 ghost use Rattle.spec.specs.Head.{Array, Map};
 ghost use Rattle.spec.specs.DagCbor.{integer_of, key_of, link_of, simple_value, items_at, fields_at, content_of, value_at, read, spelling, is_lawful};
-ghost use Rattle.dagcbor.specs.Fault.{fault_of};
+ghost use Rattle.dagcbor.specs.Fault.{cbor_fault_of};
 ghost use Rattle.dagcbor.specs.View.{view, view_items, view_fields};
 ghost use Rattle.dagcbor.specs.Majors.{major_view};
 ghost use Rattle.dagcbor.specs.Levels.{within};
@@ -23,7 +23,7 @@ use std::alloc::Allocator;
 /// A key that may follow the one before it, where there is one, and the bytes after it.
 #[inline(always)]
 fn key<'a>(before: Option<&str>, bytes: &'a [u8]) -> Result<(&'a str, &'a [u8]), CborFault>
-    ensures { Gives (λ x. (x.0.now, x.1.now)) fault_of result
+    ensures { Gives (λ x. (x.0.now, x.1.now)) cbor_fault_of result
         (key_of (option_map (λ s. s.now) before.entry) bytes.now) }
 {
     let (n, rest) = head_of(Major::TextString as u8, CborFault::KeyNotText, bytes)?;
@@ -38,7 +38,7 @@ fn key<'a>(before: Option<&str>, bytes: &'a [u8]) -> Result<(&'a str, &'a [u8]),
 /// A map's first key, and the bytes after it.
 #[inline(always)]
 fn first_key(bytes: &[u8]) -> Result<(&str, &[u8]), CborFault>
-    ensures { Gives (λ x. (x.0.now, x.1.now)) fault_of result (key_of None bytes.now) }
+    ensures { Gives (λ x. (x.0.now, x.1.now)) cbor_fault_of result (key_of None bytes.now) }
 {
     let (n, rest) = head_of(Major::TextString as u8, CborFault::KeyNotText, bytes)?;
     text(n, rest)
@@ -50,7 +50,7 @@ fn unsigned<'a, A: Allocator>(
     n: u64,
     bytes: &'a [u8],
 ) -> Result<(Value<'a, A>, &'a [u8]), CborFault>
-    ensures { Gives (λ x. (view x.0, x.1.now)) fault_of result (integer_of pos n bytes.now) }
+    ensures { Gives (λ x. (view x.0, x.1.now)) cbor_fault_of result (integer_of pos n bytes.now) }
 {
     match i64::try_from(n) {
         Ok(z) => Ok((Value::Int(z), bytes)),
@@ -64,7 +64,7 @@ fn negative<'a, A: Allocator>(
     n: u64,
     bytes: &'a [u8],
 ) -> Result<(Value<'a, A>, &'a [u8]), CborFault>
-    ensures { Gives (λ x. (view x.0, x.1.now)) fault_of result (integer_of negsuc n bytes.now) }
+    ensures { Gives (λ x. (view x.0, x.1.now)) cbor_fault_of result (integer_of negsuc n bytes.now) }
 {
     match i64::try_from(n) {
         Ok(z) => Ok((Value::Int(-1 - z), bytes)),
@@ -91,7 +91,7 @@ fn value<'a, A: Allocator + Copy>(
     levels: u8,
     bytes: &'a [u8],
 ) -> Result<(Value<'a, A>, &'a [u8]), CborFault>
-    ensures { Gives (λ x. (view x.0, x.1.now)) fault_of result (value_at levels bytes.now) }
+    ensures { Gives (λ x. (view x.0, x.1.now)) cbor_fault_of result (value_at levels bytes.now) }
 {
     let ((major, n), rest) = head(bytes)?;
     content(alloc, levels, major_of(major), n, rest)
@@ -107,7 +107,7 @@ fn content<'a, A: Allocator + Copy>(
     n: u64,
     bytes: &'a [u8],
 ) -> Result<(Value<'a, A>, &'a [u8]), CborFault>
-    ensures { Gives (λ x. (view x.0, x.1.now)) fault_of result
+    ensures { Gives (λ x. (view x.0, x.1.now)) cbor_fault_of result
         (content_of (within levels) (major_view major) n bytes.now) }
 {
     match major {
@@ -134,7 +134,7 @@ fn tagged<'a, A: Allocator>(
     tag: u64,
     bytes: &'a [u8],
 ) -> Result<(Value<'a, A>, &'a [u8]), CborFault>
-    ensures { Gives (λ x. (view x.0, x.1.now)) fault_of result (link_of tag bytes.now) }
+    ensures { Gives (λ x. (view x.0, x.1.now)) cbor_fault_of result (link_of tag bytes.now) }
 {
     let (cid, rest) = link(tag, bytes)?;
     Ok((Value::Link(cid), rest))
@@ -149,7 +149,7 @@ fn list<'a, A: Allocator + Copy>(
     n: u64,
     bytes: &'a [u8],
 ) -> Result<(Value<'a, A>, &'a [u8]), CborFault>
-    ensures { Gives (λ x. (view x.0, x.1.now)) fault_of result
+    ensures { Gives (λ x. (view x.0, x.1.now)) cbor_fault_of result
         (content_of (within levels) Array n bytes.now) }
 {
     if levels == 0 {
@@ -168,7 +168,7 @@ fn map<'a, A: Allocator + Copy>(
     n: u64,
     bytes: &'a [u8],
 ) -> Result<(Value<'a, A>, &'a [u8]), CborFault>
-    ensures { Gives (λ x. (view x.0, x.1.now)) fault_of result
+    ensures { Gives (λ x. (view x.0, x.1.now)) cbor_fault_of result
         (content_of (within levels) Map n bytes.now) }
 {
     if levels == 0 {
@@ -186,7 +186,7 @@ fn map_of_one<'a, A: Allocator + Copy>(
     levels: u8,
     bytes: &'a [u8],
 ) -> Result<(Value<'a, A>, &'a [u8]), CborFault>
-    ensures { Gives (λ x. (view x.0, x.1.now)) fault_of result
+    ensures { Gives (λ x. (view x.0, x.1.now)) cbor_fault_of result
         (content_of (within levels) Map 1 bytes.now) }
 {
     if levels == 0 {
@@ -205,7 +205,7 @@ fn item<'a, A: Allocator + Copy>(
     levels: u8,
     bytes: &'a [u8],
 ) -> Result<(Value<'a, A>, &'a [u8]), CborFault>
-    ensures { Gives (λ x. (view x.0, x.1.now)) fault_of result (value_at levels bytes.now) }
+    ensures { Gives (λ x. (view x.0, x.1.now)) cbor_fault_of result (value_at levels bytes.now) }
 {
     let ((major, n), rest) = head(bytes)?;
     if major == Major::Map as u8 && n == 1 {
@@ -224,7 +224,7 @@ fn items<'a, A: Allocator + Copy>(
     n: u64,
     bytes: &'a [u8],
 ) -> Result<(Vec<Value<'a, A>, A>, &'a [u8]), CborFault>
-    ensures { Gives (λ x. (view_items x.0.items, x.1.now)) fault_of result
+    ensures { Gives (λ x. (view_items x.0.items, x.1.now)) cbor_fault_of result
         (items_at (value_at levels) n bytes.now) }
 {
     let mut items = Vec::new(alloc);
@@ -247,7 +247,7 @@ fn fields<'a, A: Allocator + Copy>(
     n: u64,
     bytes: &'a [u8],
 ) -> Result<(Vec<(&'a str, Value<'a, A>), A>, &'a [u8]), CborFault>
-    ensures { Gives (λ x. (view_fields x.0.items, x.1.now)) fault_of result
+    ensures { Gives (λ x. (view_fields x.0.items, x.1.now)) cbor_fault_of result
         (fields_at (value_at levels) None n bytes.now) }
 {
     let mut fields = Vec::new(alloc);
@@ -272,7 +272,7 @@ fn one_field<'a, A: Allocator + Copy>(
     levels: u8,
     bytes: &'a [u8],
 ) -> Result<(Vec<(&'a str, Value<'a, A>), A>, &'a [u8]), CborFault>
-    ensures { Gives (λ x. (view_fields x.0.items, x.1.now)) fault_of result
+    ensures { Gives (λ x. (view_fields x.0.items, x.1.now)) cbor_fault_of result
         (fields_at (value_at levels) None 1 bytes.now) }
 {
     let (key, after) = first_key(bytes)?;
@@ -289,10 +289,10 @@ fn one_field<'a, A: Allocator + Copy>(
 /// the bytes state: a list or map takes room when its first item has been read, and then for 128 items at once at most.
 #[tactic(auto, unfolding(spec::specs::DagCbor::read))]
 pub fn read<'a, A: Allocator + Copy>(alloc: A, bytes: &'a [u8]) -> Result<Value<'a, A>, CborFault>
-    ensures read { Gives view fault_of result (read bytes.now) }
+    ensures read { Gives view cbor_fault_of result (read bytes.now) }
     ensures spelled { IfOk result (λ v. bytes.now ≡ spelling (view v)) }
     ensures lawful { IfOk result (λ v. IsTrue (is_lawful (view v))) }
-    ensures refused { IfErr result (λ e. IsSome (fault_of e) → HasNoValue bytes.now) }
+    ensures refused { IfErr result (λ e. IsSome (cbor_fault_of e) → HasNoValue bytes.now) }
 {
     let (value, rest) = value(alloc, MAX_DEPTH, bytes)?;
     if !rest.is_empty() {

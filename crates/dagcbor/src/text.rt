@@ -1,9 +1,8 @@
 //! Texts.
 
-ghost use Rattle.std.specs.Prelude.{◌≡◌};
 ghost use Rattle.spec.specs.Reading.{Gives};
 ghost use Rattle.spec.specs.DagCbor.{text_of};
-ghost use Rattle.dagcbor.specs.Fault.{fault_of};
+ghost use Rattle.dagcbor.specs.Fault.{cbor_fault_of};
 
 use crate::fault::CborFault;
 use crate::head::front;
@@ -11,7 +10,7 @@ use crate::head::front;
 /// A text of `n` bytes of UTF-8, and the bytes after it. Most texts are ASCII, which takes a few words of eight bytes to see.
 #[inline(always)]
 pub(crate) fn text(n: u64, bytes: &[u8]) -> Result<(&str, &[u8]), CborFault>
-    ensures { Gives (λ x. (x.0.now, x.1.now)) fault_of result (text_of n bytes.now) }
+    ensures { Gives (λ x. (x.0.now, x.1.now)) cbor_fault_of result (text_of n bytes.now) }
 {
     let (content, rest) = front(n, bytes)?;
     if content.is_ascii() {

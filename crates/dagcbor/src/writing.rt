@@ -2,7 +2,7 @@
 
 ghost use Rattle.std.specs.Prelude.{◌≡◌, ◌<◌, ◌++◌, Ok, OnOk, OnErr, IfOk, IsTrue, ◌∷◌};
 ghost use Rattle.spec.specs.Head.{head};
-ghost use Rattle.spec.specs.DagCbor.{string, spelling, spelling_of_integer, spelling_of_boolean, spelling_of_values, spelling_of_entries, is_lawful, read};
+ghost use Rattle.spec.specs.DagCbor.{string, spelling, spelling_of_integer, spelling_of_values, spelling_of_entries, is_lawful, read};
 ghost use Rattle.dagcbor.specs.View.{view, view_items, view_fields};
 
 use crate::link::{BEFORE_CID, LINK_HEAD};

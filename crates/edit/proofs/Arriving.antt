@@ -12,11 +12,11 @@ use Rattle.edit_laws.specs.ShapeEdit.{last_link}
 use Rattle.batch_laws.specs.Links.{Rows, LinkEdge, LinkOpened, Log, and_then, ask, opening, closing, noding, parting, subtreeing, rows_in_shape, Step, link_edge}
 use Rattle.batch_laws.proofs.Earlier.{parting-earlier, noding-earlier}
 use Rattle.edit.specs.Budgets.{Budget}
-use Rattle.edit.specs.declared.faults.Fault.{Fault}
-use Rattle.edit.specs.declared.faults.Fault.TheVariants as faults
+use Rattle.edit.specs.declared.outcome.Fault.{Fault}
+use Rattle.edit.specs.declared.outcome.Fault.TheVariants as faults
 use Rattle.edit.specs.Edges.{edge_of, within, joined, around, is_clear}
 use Rattle.edit.specs.States.{IsOpenAt, IsOnTheWay, IsArrived, IsCounted}
-use Rattle.edit.specs.Stops.{IsUnwritten, IsRefused, fault_of, IsStopped, IsUnread, IsOnward, open_edge}
+use Rattle.edit.specs.Stops.{IsUnwritten, IsRefused, draft_fault_of, IsStopped, IsUnread, IsOnward, open_edge}
 use Rattle.edit.proofs.Within.{subtree-within}
 use Rattle.edit.proofs.Around.{around-more, part-through}
 use Rattle.edit.proofs.Cuts.{snoc-same, cut-at, take-length}
@@ -94,7 +94,7 @@ arrived-goes digest all b fs ls rest log w =
 
 pub arrived-stopped : {A : Type 0} (gives : List ℕ → Option A) (digest : List ℕ → List ℕ) (all : Step LinkEdge)
     (a : Budget) (b : ℕ) (fs : List Shape) (ls : List Rows) (rest : Option (List ℕ)) (log : Log) (f : DraftFault)
-    → IsArrived digest all b fs ls rest log → IsRefused all f → IsStopped gives a a.0 log all (fault_of f)
+    → IsArrived digest all b fs ls rest log → IsRefused all f → IsStopped gives a a.0 log all (draft_fault_of f)
 arrived-stopped gives digest all a b fs ls rest log f w r =
     refused-stopped gives a (edge_of (drop (b + length fs) ls) rest) log all f r
     (arrived-goes digest all b fs ls rest log w)

@@ -11,10 +11,11 @@ use Rattle.batch_laws.specs.Links.{Rows, LinkEdge, LinkClear, LinkWaiting, Log, 
 use Rattle.batch_laws.specs.Written.{IsEarlier, OnEnd}
 use Rattle.batch_laws.proofs.Earlier.{topping-earlier}
 use Rattle.edit.specs.Budgets.{Budget}
-use Rattle.edit.specs.declared.faults.Fault.{Fault}
-use Rattle.edit.specs.declared.faults.Fault.TheVariants as faults
+use Rattle.edit.specs.declared.outcome.Fault.{Fault}
+use Rattle.edit.specs.declared.outcome.Fault.TheVariants as faults
 use Rattle.edit.specs.Edges.{edge_of, highest_of}
-use Rattle.edit.specs.Stops.{IsUnwritten, IsRefused, fault_of, IsStopped, IsUnread, at_top}
+use Rattle.batch_laws.specs.Within.{at_top}
+use Rattle.edit.specs.Stops.{IsUnwritten, IsRefused, draft_fault_of, IsStopped, IsUnread}
 use Rattle.edit.proofs.Cuts.{snoc-same, cut-at}
 use Rattle.edit.proofs.Topping.{top-down, none-top, has-top}
 use Rattle.edit.proofs.Stopping.{empty-keys, Goes, refused-stopped, memory-stopped, ReadsMore, asks-more, unread-stopped}
@@ -58,7 +59,7 @@ pub top-stopped : {A : Type 0} (gives : List ℕ → Option A) (digest : List �
     → d < length ls
     → ((above : List Rows) (rows : Rows) → take (d + 1) ls ≡ above ++ (rows ∷ [])
     → IsRefused (at_top (new_top digest rows (closing digest (edge_of (drop (d + 1) ls) rest) log))) f)
-    → IsStopped gives a a.0 log (at_top (topping digest shows k (edge_of ls rest) log)) (fault_of f)
+    → IsStopped gives a a.0 log (at_top (topping digest shows k (edge_of ls rest) log)) (draft_fault_of f)
 top-stopped gives digest shows a k d ls rest log f e h r =
     let g : highest_of ls < length ls = omega arith in
     let p = has-top ls g in
@@ -86,7 +87,7 @@ top-memory gives digest shows a k s log =
 pub empty-stopped : {A : Type 0} (gives : List ℕ → Option A) (digest : List ℕ → List ℕ) (shows : List ℕ → Option Shape)
     (a : Budget) (k : ℕ) (s : LinkEdge) (log : Log) (rows : Rows) (f : DraftFault) → rows ≡ []
     → IsFaultOf (onto_links rows (LastLink None)) f
-    → IsStopped gives a a.0 log (at_top (topping digest shows k s log)) (fault_of f)
+    → IsStopped gives a a.0 log (at_top (topping digest shows k s log)) (draft_fault_of f)
 empty-stopped gives digest shows a k s log rows NoMemory e h = top-memory gives digest shows a k s log
 empty-stopped gives digest shows a k s log rows NotNode e h =
     absurd (h (subst (λ ys. HasKeys (onto_links ys (LastLink None))) (sym e) empty-keys))

@@ -11,11 +11,11 @@ use Rattle.batch_laws.specs.Links.{LinkEdge, Log, and_then, ask, pairing, pairs_
 use Rattle.batch_laws.proofs.Earlier.{steps-earlier, pairs-earlier, walking_node-earlier, walking-earlier}
 use Rattle.rows.specs.declared.draft.DraftFault.{DraftFault}
 use Rattle.edit.specs.Budgets.{Budget}
-use Rattle.edit.specs.declared.faults.Fault.{Fault}
-use Rattle.edit.specs.declared.faults.Fault.TheVariants as faults
+use Rattle.edit.specs.declared.outcome.Fault.{Fault}
+use Rattle.edit.specs.declared.outcome.Fault.TheVariants as faults
 use Rattle.edit.specs.Agenda.{Later, Gap, Task, ToPair, ToGap, node_does, task_does, agenda_does, IsGoneOn}
 use Rattle.edit.specs.States.{IsCounted}
-use Rattle.edit.specs.Stops.{IsStopped, IsUnread, IsRefused, fault_of}
+use Rattle.edit.specs.Stops.{IsStopped, IsUnread, IsRefused, draft_fault_of}
 use Rattle.edit.proofs.Stopping.{empty-keys, Goes, Leads, leads-stopped, leads-same, leads-then, onward-leads, from-stopped, refused-stopped, memory-stopped, asked-unread}
 use Rattle.edit.proofs.Putting.{alone}
 use Rattle.edit.proofs.Walking.{does-more, does-none, walks-down}
@@ -89,7 +89,7 @@ module _ {A : Type 0} (gives : List ℕ → Option A) (digest : List ℕ → Lis
 
     pub node-refused : (a : Budget) (k d : ℕ) (cs : List Change) (r : Shape) (s : LinkEdge) (log : Log) (f : DraftFault)
         → IsRefused (node_does digest shows layer n k d cs r s log) f
-        → IsStopped gives a a.0 log (node_does digest shows layer n k d cs r s log) (fault_of f)
+        → IsStopped gives a a.0 log (node_does digest shows layer n k d cs r s log) (draft_fault_of f)
     node-refused a k d cs r s log f h =
         refused-stopped gives a s log (node_does digest shows layer n k d cs r s log) f h (node-goes k d cs r s log)
 
@@ -152,13 +152,13 @@ module _ {A : Type 0} (gives : List ℕ → Option A) (digest : List ℕ → Lis
         (f : DraftFault) → g.link ≡ Some c
         → g.layer ≡ suc k → 0 < length g.changes → ask shows c LinkClear log ≡ Ok (node, now) → IsCounted b a log now
         → IsRefused (node_does digest shows layer n k g.depth g.changes node s now) f
-        → IsStopped gives b a.0 log (task_does digest shows layer n (ToGap g) s log) (fault_of f)
+        → IsStopped gives b a.0 log (task_does digest shows layer n (ToGap g) s log) (draft_fault_of f)
     gap-refused b a k g c node s log now f e m z q i r =
-        subst (λ o. IsStopped gives b a.0 log o (fault_of f))
+        subst (λ o. IsStopped gives b a.0 log o (draft_fault_of f))
         (sym (ap (λ l. walking digest shows layer n g.layer g.depth l g.changes s log) e
         ∙ ap (λ j. walking digest shows layer n j g.depth (Some c) g.changes s log) m
         ∙ walks-down digest shows layer n k g.depth c g.changes node s log now z q))
-        (from-stopped gives b a a.0 log now (node_does digest shows layer n k g.depth g.changes node s now) (fault_of f) i
+        (from-stopped gives b a a.0 log now (node_does digest shows layer n k g.depth g.changes node s now) (draft_fault_of f) i
         (node-refused a k g.depth g.changes node s now f r))
 
     pub entry-stopped : (b : Budget) (a : ℕ) (p : Later) (s : LinkEdge) (log : Log) (f : Fault)
@@ -173,11 +173,11 @@ module _ {A : Type 0} (gives : List ℕ → Option A) (digest : List ℕ → Lis
     pub entry-refused : (b a : Budget) (p : Later) (s t : LinkEdge) (log later : Log) (f : DraftFault)
         → pairs_in_turn digest shows (λ key. p.depth) (entry p.at p.pair) s log ≡ Ok (t, later) → IsCounted b a log later
         → IsRefused (node_does digest shows layer n p.layer p.depth p.changes p.rest t later) f
-        → IsStopped gives b a.0 log (task_does digest shows layer n (ToPair p) s log) (fault_of f)
+        → IsStopped gives b a.0 log (task_does digest shows layer n (ToPair p) s log) (draft_fault_of f)
     entry-refused b a p s t log later f e i r =
         let g = node_does digest shows layer n p.layer p.depth p.changes p.rest in
-        subst (λ o. IsStopped gives b a.0 log o (fault_of f)) (sym (ap (λ x. and_then x g) e))
-        (from-stopped gives b a a.0 log later (g t later) (fault_of f) i
+        subst (λ o. IsStopped gives b a.0 log o (draft_fault_of f)) (sym (ap (λ x. and_then x g) e))
+        (from-stopped gives b a a.0 log later (g t later) (draft_fault_of f) i
         (node-refused a p.layer p.depth p.changes p.rest t later f r))
 
     -- ---- the whole walk

@@ -7,13 +7,14 @@ use Rattle.edit_laws.specs.Lawful.{HasKeys}
 use Rattle.batch_laws.specs.Links.{Rows, LinkEdge, LinkOpened, LinkTooDeep, Log, NotShown, Step, Stop, Stopped, add_row, and_then, ask, closing, log_shown, opening, Top, link_edge, noding, pairing, pairs_in_turn, parting, pruning, pruning_at, subtreeing, topping, under_rows, walking, walking_node}
 use Rattle.batch_laws.specs.Written.{AllGoOn, AreWritten}
 use Rattle.std.specs.List.{AllByRecursion}
-use Rattle.edit.specs.declared.faults.Fault.{Fault}
-use Rattle.edit.specs.declared.faults.Fault.TheVariants as faults
+use Rattle.edit.specs.declared.outcome.Fault.{Fault}
+use Rattle.edit.specs.declared.outcome.Fault.TheVariants as faults
 use Rattle.edit.specs.Edges.{edge_of, within, under, joined, around, is_clear, highest_of}
-use Rattle.edit.specs.Stops.{at_top, open_edge, IsUnshown}
+use Rattle.batch_laws.specs.Within.{IsWithin, asked, at_top}
+use Rattle.edit.specs.Stops.{open_edge, IsUnshown}
 use Rattle.edit.specs.Budgets.{Budget}
 use Rattle.edit.specs.States.{edge_in, log_in, IsCounted, IsOpenAt, IsOnTheWay}
-use Rattle.edit.specs.Halts.{AreFew, IsAt, Halts, IsHalted, IsHaltedFrom, IsReached, IsReachedFor, most_in, Stays, IsStill}
+use Rattle.edit.specs.Halts.{IsAt, Halts, IsHalted, IsHaltedFrom, IsReachedFor, most_in, Stays, IsStill}
 use Rattle.edit.specs.declared.edge.Edge.{Edge}
 use Rattle.batch_laws.specs.Batch.{Change, entry, if_put, puts}
 use Rattle.batch_laws.specs.Walking.{depth_of}
@@ -447,14 +448,14 @@ none-goes_on [] n (Some c) = tt
 none-goes_on (x ∷ ls) n rest = absurd (omega arith)
 
 at-reached : (most : ℕ) (why : Stop) (s : LinkEdge) (now : Log) (e : Stopped) → IsAt most why s now e
-    → AreWritten HasKeys s now → IsReached most (Err e)
+    → AreWritten HasKeys s now → IsWithin most (Err e)
 at-reached most why s now e h w = (
-  subst (λ x. AreFew most x e.log) (sym h.why_is) (subst (λ l. AreFew most why l) (sym h.log_is) h.few),
+  subst (λ x. asked x e.log ≤ most) (sym h.why_is) (subst (λ l. asked why l ≤ most) (sym h.log_is) h.few),
   record { made = subst (λ (l : Log). AllByRecursion HasKeys l.made) (sym h.log_is) w.made; begun = h.begun w.begun },
 )
 
 halts-reached : (most : ℕ) (why : Stop) (s : LinkEdge) (now : Log) (x : Step Top) → Halts most why s now (at_top x)
-    → AreWritten HasKeys s now → IsReached most x
+    → AreWritten HasKeys s now → IsWithin most (at_top x)
 halts-reached most why s now (Ok x) h w = absurd h
 halts-reached most why s now (Err e) h w = at-reached most why s now e h w
 

@@ -1,5 +1,5 @@
 mod Results
-mod Lists
+pub mod Lists
 mod Among
 pub mod Within
 pub mod Bounds
@@ -28,7 +28,7 @@ pub mod Halting
 mod Runs
 pub mod Untouched
 pub mod Spelling
-mod Testing
+pub mod Testing
 mod MadeKeys
 mod WholeReads
 mod OneChange

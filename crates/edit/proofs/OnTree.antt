@@ -25,24 +25,25 @@ use Rattle.batch_laws.specs.Previous.{previous_top, values}
 use Rattle.batch_laws.specs.Trace.{batch_made, batch_read}
 use Rattle.batch_laws.specs.Laws.Sources.{IsBatchFrom}
 use Rattle.batch_laws.specs.Written.{OnAnswer}
+use Rattle.batch_laws.specs.Within.{IsWithin, at_top}
 use Rattle.edit_laws.specs.Lawful.{HasKeys}
 use Rattle.batch_laws.proofs.Lawful.{batch-has_keys}
-use Rattle.batch_laws.specs.Counts.{most_reads, most_from}
+use Rattle.batch_laws.specs.Counts.{most_reads, most_from, layers_for, layers_needed, put_layers}
 use Rattle.batch_laws.proofs.ReadsFew.{batch-reads_few}
 use Rattle.std.specs.declared.sync.Arc.{Arc}
-use Rattle.edit.specs.declared.faults.Fault.{Fault}
-use Rattle.edit.specs.declared.faults.Fault.TheVariants as walks
+use Rattle.edit.specs.declared.outcome.Fault.{Fault}
+use Rattle.edit.specs.declared.outcome.Fault.TheVariants as walks
 use Rattle.edit.specs.declared.outcome.EditFault.{EditFault}
 use Rattle.edit.specs.declared.outcome.EditFault.TheVariants.{Missing, BadNode, TooDeep, NotTree, NoSuchKey, Clash, NoMemory}
-use Rattle.edit.specs.Stops.{IsUnreached, IsCause, at_top}
+use Rattle.edit.specs.Stops.{IsCause}
 use Rattle.edit_laws.proofs.Tops.{layer_of-top}
 use Rattle.batch_laws.proofs.OverSource.{batch-over_source}
 use Rattle.batch_laws.proofs.Previous.{previous-is_values}
 use Rattle.batch_laws.proofs.MakesFew.{batch-makes_few}
-use Rattle.edit.specs.Batches.{have_keys, are_changes, put_layers, layers_for, layers_of, nodes_read, IsBatchOf, IsAnswer, IsReason, of_walk}
+use Rattle.edit.specs.Batches.{have_keys, are_changes, layers_of, nodes_read, IsBatchOf, IsAnswer, IsReason, of_walk}
 use Rattle.edit.specs.Places.{are_ascending}
 use Rattle.edit.specs.Refusals.{IsRefusal}
-use Rattle.edit.specs.Tops.{IsEnded, layers_needed}
+use Rattle.edit.specs.Tops.{IsEnded}
 use Rattle.edit.proofs.Among.{add-few}
 use Rattle.edit.proofs.Bounds.{most-shown}
 use Rattle.edit.proofs.MadeKeys.{made-has_keys}
@@ -248,12 +249,13 @@ module _ (digest : List ℕ → List ℕ) (bits : ℕ) (fits : IsDigest digest) 
   walk-refused D B P given (walks.BadNode c) keys cause =
       absurd (subst (λ a. StopsAt (NotShown c) (at_top a)) answers cause.1)
   walk-refused D B P given walks.TooDeep keys cause = absurd (subst (λ a. StopsAt LinkTooDeep (at_top a)) answers cause)
-  walk-refused D B P given walks.NotTree keys unreached =
+  walk-refused D B P given walks.NotTree keys beyond =
       let few = reads-few in
       let most = enough-reads in
-      subst (λ a. IsUnreached (most_from (layer digest bits) cs (shown_by gives root) + 0) (at_top a)) answers unreached
-      (omega (arith, few, most))
-      (record { made = subst (AllByRecursion HasKeys) (sym is-batch.made_is) keys; begun = tt })
+      absurd (subst (λ a. ¬ IsWithin (most_from (layer digest bits) cs (shown_by gives root) + 0) (at_top a)) answers beyond (
+        omega (arith, few, most),
+        record { made = subst (AllByRecursion HasKeys) (sym is-batch.made_is) keys; begun = tt },
+      ))
   walk-refused D B P given walks.NoMemory keys cause = tt
 
   -- where the walk stopped, no more was read than the batch reads
@@ -313,7 +315,7 @@ walk-reason D P given most answer (walks.Missing c) cause = (cause.0, top-stops 
 walk-reason D P given most answer (walks.BadNode c) cause = (cause.0, top-stops answer (NotShown c) cause.1)
 walk-reason D P given most answer walks.TooDeep cause = top-stops answer LinkTooDeep cause
 walk-reason D P given most answer walks.NotTree cause =
-    let all : most + 0 ≡ most = omega arith in subst (λ m. IsUnreached m (at_top answer)) all cause
+    let all : most + 0 ≡ most = omega arith in subst (λ m. ¬ IsWithin m (at_top answer)) all cause
 walk-reason D P given most answer walks.NoMemory cause = tt
 
 -- there is an answer, and what it has clashes

@@ -11,11 +11,12 @@ use Rattle.edit_laws.specs.Changes.{AreChanges}
 use Rattle.edit_laws.specs.TreeEdit.{layer_of}
 use Rattle.edit_laws.proofs.Tops.{layer_of-top}
 use Rattle.batch_laws.specs.Batch.{changed}
+use Rattle.batch_laws.specs.Counts.{put_layers}
 use Rattle.edit.specs.Edits.{IsEditOf}
 use Rattle.lookups.specs.Steps.{layers}
-use Rattle.edit.specs.declared.faults.Fault.{Fault}
-use Rattle.edit.specs.declared.faults.Fault.TheVariants as walks
-use Rattle.edit.specs.Batches.{are_changes, put_layers, layers_of, nodes_read, IsBatchOf, of_walk}
+use Rattle.edit.specs.declared.outcome.Fault.{Fault}
+use Rattle.edit.specs.declared.outcome.Fault.TheVariants as walks
+use Rattle.edit.specs.Batches.{are_changes, layers_of, nodes_read, IsBatchOf, of_walk}
 use Rattle.edit.specs.Refusals.{IsAbsence}
 use Rattle.edit.specs.Singles.{first_value}
 

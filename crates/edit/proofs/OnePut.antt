@@ -23,14 +23,15 @@ use Rattle.batch_laws.proofs.PutReads.{put-reads_path}
 use Rattle.lookups.specs.Steps.{layers, IsWholePath}
 use Rattle.lookups.specs.Trees.{HasTree, top_layer}
 use Rattle.lookups.proofs.Stepping.{is-lookup}
-use Rattle.edit.specs.declared.faults.Fault.{Fault}
-use Rattle.edit.specs.Batches.{put_layers, nodes_read, IsAnswer, of_walk}
-use Rattle.batch_laws.specs.Counts.{most_from}
+use Rattle.edit.specs.declared.outcome.Fault.{Fault}
+use Rattle.edit.specs.Batches.{nodes_read, IsAnswer, of_walk}
+use Rattle.batch_laws.specs.Counts.{most_from, layers_needed, put_layers}
 use Rattle.edit.specs.Edits.{IsEditOf}
 use Rattle.edit.specs.Refusals.{IsRefusal}
 use Rattle.edit.specs.Singles.{first_value}
-use Rattle.edit.specs.Stops.{IsCause, at_top}
-use Rattle.edit.specs.Tops.{IsEnded, layers_needed}
+use Rattle.batch_laws.specs.Within.{at_top}
+use Rattle.edit.specs.Stops.{IsCause}
+use Rattle.edit.specs.Tops.{IsEnded}
 use Rattle.edit.proofs.OneChange.{are-one, low-key, edit-of_batch}
 use Rattle.edit.proofs.OnTree.{is-batch, answers, read-bytes, keyed-changes, walk-refused, walk-few, tree-reads, tree-few, tree-nodes, batch-edit}
 use Rattle.edit.proofs.WholeReads.{whole-path}

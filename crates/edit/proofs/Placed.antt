@@ -15,8 +15,8 @@ use Rattle.edit_laws.specs.Changes.{has_cid, drop_of}
 use Rattle.edit.specs.Among.{IsAmong}
 use Rattle.edit.proofs.Among.{one-here}
 use Rattle.edit.specs.Firsts.{first_place, HasPlaces, place_in}
-use Rattle.edit.specs.declared.places.Places.{Places}
-use Rattle.edit.specs.declared.places.Places.TheVariants.{Few, Many}
+use Rattle.edit.specs.declared.differences.Places.{Places}
+use Rattle.edit.specs.declared.differences.Places.TheVariants.{Few, Many}
 
 same-eq-case : (a b : List ℕ) (s t : Bool) → bytes_eq a b ≡ s → bytes_eq b a ≡ t → s ≡ t
 same-eq-case a b true true h k = refl

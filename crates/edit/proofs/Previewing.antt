@@ -1,5 +1,5 @@
 -- What a batch comes to, from what the walk answers.
-use Rattle.std.proofs.Common.{◌≡◌, ℕ, ◌+◌, List, ◌++◌, Option, sym, ap, subst, ◌∙◌, arith, Err, Ok, Result}
+use Rattle.std.proofs.Common.{◌≡◌, ℕ, ◌+◌, List, ◌++◌, Option, sym, ap, subst, ◌∙◌, arith, Ok, Result}
 use Rattle.std.specs.declared.option.Option.TheVariants.{Some}
 use Rattle.std.specs.declared.sync.Arc.{Arc}
 use Rattle.spec.specs.Cid.{IsDigest}
@@ -14,15 +14,16 @@ use Rattle.lookups.specs.Trees.{HasTree}
 use Rattle.batch_laws.specs.Batch.{Change, changed, AreAscending}
 use Rattle.batch_laws.specs.Links.{Log, Top, batch_from, Step, NotShown, LinkTooDeep, Stopped}
 use Rattle.batch_laws.specs.Previous.{previous_top}
-use Rattle.edit.specs.Batches.{put_layers, answer_of, of_walk}
+use Rattle.batch_laws.specs.Counts.{layers_needed, put_layers}
+use Rattle.batch_laws.specs.Within.{IsWithin, at_top}
+use Rattle.edit.specs.Batches.{answer_of, of_walk}
 use Rattle.edit.specs.Previews.{IsPreview, IsPreviewOf, IsPreviewReason, IsReachedHere, IsWant}
 use Rattle.edit.specs.Halts.{IsReachedFor}
 use Rattle.edit.specs.Refusals.{IsRefusal}
-use Rattle.edit.specs.Stops.{IsCause, IsUnreached, at_top}
-use Rattle.edit.specs.Tops.{IsEnded, layers_needed}
-use Rattle.edit.specs.declared.faults.Fault.{Fault}
-use Rattle.edit.specs.declared.outcome.EditFault.{EditFault}
-use Rattle.edit.specs.declared.faults.Fault.TheVariants as walks
+use Rattle.edit.specs.Stops.{IsCause}
+use Rattle.edit.specs.Tops.{IsEnded}
+use Rattle.edit.specs.declared.outcome.Fault.{Fault}
+use Rattle.edit.specs.declared.outcome.Fault.TheVariants as walks
 use Rattle.edit.proofs.OnTree.{is-batch, answers, read-bytes, met-values, top-stops}
 
 -- what was read and met is that of the answer
@@ -78,20 +79,14 @@ preview-reason D A given most answer (walks.Missing c) cause = (cause.0, top-sto
 preview-reason D A given most answer (walks.BadNode c) cause = (cause.0, top-stops answer (NotShown c) cause.1)
 preview-reason D A given most answer walks.TooDeep cause = top-stops answer LinkTooDeep cause
 preview-reason D A given most answer walks.NotTree cause =
-    let all : most + 0 ≡ most = omega arith in subst (λ m. IsUnreached m (at_top answer)) all cause
+    let all : most + 0 ≡ most = omega arith in subst (λ m. ¬ IsWithin m (at_top answer)) all cause
 preview-reason D A given most answer walks.NoMemory cause = tt
 
 -- as far as it comes, nothing is wrong there
-reached-here : (X D A : Type 0) (most : ℕ) (answer : Step Top) (fault : Fault) → IsReachedFor most answer fault
-    → IsReachedHere {X = X} {D = D} {A = A} most answer (Err (of_walk fault))
-reached-here X D A most answer (walks.Missing c) h = h
-reached-here X D A most answer (walks.BadNode c) h = h
-reached-here X D A most answer walks.TooDeep h = h
-reached-here X D A most answer walks.NotTree h = tt
-reached-here X D A most answer walks.NoMemory h = tt
-
-pub reached-for : {X D A : Type 0} (most : ℕ) (answer : Step Top) (r : Result X (EditFault D A)) (given : EditFault D A)
-    (fault : Fault) → r ≡ Err given → given ≡ of_walk fault → IsReachedFor most answer fault → IsReachedHere most answer r
-reached-for {X} {D} {A} most answer r given fault e f h =
-    subst (IsReachedHere most answer) (sym e)
-    (subst (λ g. IsReachedHere {X = X} most answer (Err g)) (sym f) (reached-here X D A most answer fault h))
+pub reached-here : (D A : Type 0) (most : ℕ) (answer : Step Top) (fault : Fault) → IsReachedFor most answer fault
+    → IsReachedHere {D = D} {A = A} most answer (of_walk fault)
+reached-here D A most answer (walks.Missing c) h = h
+reached-here D A most answer (walks.BadNode c) h = h
+reached-here D A most answer walks.TooDeep h = h
+reached-here D A most answer walks.NotTree h = tt
+reached-here D A most answer walks.NoMemory h = tt

@@ -12,10 +12,10 @@ use Rattle.rows.specs.Drafts.{IsFaultOf, IsFaultOfAll}
 use Rattle.batch_laws.specs.Links.{Rows, LinkEdge, LinkClear, LinkWaiting, LinkOpened, Log, and_then, ask, onto_links, rows_in_shape, complete, closing, opening, opened_rows, link_edge, add_row, pairing, Step}
 use Rattle.batch_laws.proofs.Earlier.{closing-earlier, pairing-earlier, row-earlier}
 use Rattle.edit.specs.Budgets.{Budget}
-use Rattle.edit.specs.declared.faults.Fault.{Fault}
+use Rattle.edit.specs.declared.outcome.Fault.{Fault}
 use Rattle.edit.specs.Edges.{edge_of, within, under}
 use Rattle.edit.specs.States.{IsOpenAt, IsCounted}
-use Rattle.edit.specs.Stops.{IsUnwritten, IsRefused, fault_of, IsStopped, IsOnward, all_closed, open_edge}
+use Rattle.edit.specs.Stops.{IsUnwritten, IsRefused, draft_fault_of, IsStopped, IsOnward, all_closed, open_edge}
 use Rattle.edit.proofs.Closing.{closing-from}
 use Rattle.edit.proofs.Cuts.{snoc-same}
 use Rattle.edit.proofs.Making.{onto-same}
@@ -89,10 +89,10 @@ waiting-rows digest shows c log now node NotNode a r =
 pub open-refused : {A : Type 0} (gives : List ℕ → Option A) (digest : List ℕ → List ℕ) (shows : List ℕ → Option Shape)
     (b a : Budget) (c : List ℕ) (rest : Option (List ℕ)) (log now : Log) (node : Shape) (f : DraftFault) → rest ≡ Some c
     → ask shows c LinkClear log ≡ Ok (node, now) → IsCounted b a log now → IsFaultOfAll ([] ++ rows_in_shape node) f
-    → IsStopped gives b a.0 log (open_edge (opening shows (link_edge rest) log)) (fault_of f)
+    → IsStopped gives b a.0 log (open_edge (opening shows (link_edge rest) log)) (draft_fault_of f)
 open-refused gives digest shows b a c rest log now node f e q n r =
-    subst (λ l. IsStopped gives b a.0 log (open_edge (opening shows (link_edge l) log)) (fault_of f)) (sym e)
-    (from-stopped gives b a a.0 log now (open_edge (opening shows (LinkWaiting c) log)) (fault_of f) n
+    subst (λ l. IsStopped gives b a.0 log (open_edge (opening shows (link_edge l) log)) (draft_fault_of f)) (sym e)
+    (from-stopped gives b a a.0 log now (open_edge (opening shows (LinkWaiting c) log)) (draft_fault_of f) n
     (refused-stopped gives a (LinkOpened (rows_in_shape node) (link_edge (last_link node))) now
     (open_edge (opening shows (LinkWaiting c) log)) f (waiting-rows digest shows c log now node f q r)
     (subst (λ o. Goes (LinkOpened (rows_in_shape node) (link_edge (last_link node))) now (open_edge (and_then o opened_rows)))
@@ -146,16 +146,16 @@ pub pair-refused : {A : Type 0} (gives : List ℕ → Option A) (digest : List �
     → d ≤ length ls → IsCounted b m start log → IsCounted m a log inner → IsOpenAt shows d ls rest log mid link inner
     → ((above : List Rows) (rows : Rows) → take (d + 1) mid ≡ above ++ (rows ∷ [])
     → IsRefused (add_row e rows (closing digest (edge_of (drop (d + 1) mid) link) inner)) f)
-    → IsStopped gives b a.0 start (pairing digest shows d e all start) (fault_of f)
+    → IsStopped gives b a.0 start (pairing digest shows d e all start) (draft_fault_of f)
 pair-refused gives digest shows b m a d e all start ls mid rest link log inner f same h n k o r =
     let s0 = edge_of (drop (d + 1) mid) link in
     let row = add_row e o.rows (closing digest s0 inner) in
     let met : pairing digest shows zero e (edge_of (drop d ls) rest) log ≡ row =
     ap (λ x. and_then x (λ p log1. add_row e p.0 (closing digest p.1 log1))) o.is in
-    subst (λ w. IsStopped gives b a.0 start w (fault_of f))
+    subst (λ w. IsStopped gives b a.0 start w (draft_fault_of f))
     (sym (pair-under digest shows d e all start ls rest log same h ∙ ap (under (take d ls)) met))
-    (from-stopped gives b a a.0 start inner (under (take d ls) row) (fault_of f) (counted-then b m a start log inner n k)
-    (leads-stopped gives a a.0 inner row (under (take d ls) row) (fault_of f) (under-leads (take d ls) row)
+    (from-stopped gives b a a.0 start inner (under (take d ls) row) (draft_fault_of f) (counted-then b m a start log inner n k)
+    (leads-stopped gives a a.0 inner row (under (take d ls) row) (draft_fault_of f) (under-leads (take d ls) row)
     (refused-stopped gives a (LinkOpened o.rows s0) inner row f (r (take d ls) o.rows o.levels)
     (row-earlier HasKeys empty-keys digest o.rows _ s0 LinkClear inner))))
 

@@ -1,14 +1,12 @@
 -- Pairs of a node that were read, and then come at once.
-use Rattle.std.proofs.Common.{◌≡◌, ℕ, suc, ◌+◌, ◌<◌, Bool, true, false, List, [], ◌∷◌, ◌++◌, length, take, drop, length-append, nat_lt, refl, sym, ap, ◌∙◌, arith, Option}
+use Rattle.std.proofs.Common.{◌≡◌, ℕ, suc, ◌+◌, ◌<◌, List, [], ◌∷◌, ◌++◌, length, take, drop, length-append, refl, sym, ap, ◌∙◌, arith, Option}
 use Rattle.std.proofs.Math.Seq.{take-append_seam, drop-append_seam}
 use Rattle.std.proofs.lemmas.List.{append_assoc, append-nil}
-use Rattle.std.proofs.lemmas.Bool.{le-ltb, lt-ltb}
 use Rattle.spec.specs.Tree.{Pair}
 use Rattle.spec.specs.NodeFormat.{Shape, LastLink, MoreLinks}
 use Rattle.edit_laws.specs.ShapeEdit.{last_link}
 use Rattle.rows.specs.Entries.{part_of, pairs_left, key_behind}
 use Rattle.batch_laws.specs.Links.{Rows, rows_in_shape}
-use Rattle.edit.specs.Edges.{has_rows}
 
 -- those behind the first ones, of which more may have been read since
 pub part-is : (begun more read last now : Rows) (from to : ℕ) → from ≡ length begun → to ≡ length read → now ≡ read ++ last
@@ -80,29 +78,3 @@ pub read-all : (begun now : Rows) (first s : Shape) (l : Option (List ℕ)) → 
     → now ++ rows_in_shape s ≡ begun ++ rows_in_shape first → now ≡ begun ++ rows_in_shape first
 read-all begun now first s l shape_is same =
     sym (append-nil now) ∙ sym (ap (λ x. now ++ rows_in_shape x) shape_is) ∙ same
-
--- ---- whether there are pairs then
-
-pub rows-had : (old more : Rows) → has_rows old ≡ true → has_rows (old ++ more) ≡ true
-rows-had [] more h = absurd cc
-rows-had (x ∷ old) more h = refl
-
-pub rows-came : (old more : Rows) → 0 < length more → has_rows (old ++ more) ≡ true
-rows-came [] [] h = absurd (omega arith)
-rows-came [] (y ∷ more) h = refl
-rows-came (x ∷ old) more h = refl
-
-pub rows-none : (old more : Rows) → has_rows old ≡ false → length more ≡ 0 → has_rows (old ++ more) ≡ false
-rows-none [] [] h n = refl
-rows-none [] (y ∷ more) h n = absurd (omega arith)
-rows-none (x ∷ old) more h n = absurd cc
-
-pub then-rows : (had : Bool) (old more new : Rows) → had ≡ true → had ≡ has_rows old → new ≡ old ++ more → true ≡ has_rows new
-then-rows had old more new some same new_is = sym (ap has_rows new_is ∙ rows-had old more (sym same ∙ some))
-
-pub else-rows : (had : Bool) (old more new : Rows) (from to : ℕ) → had ≡ false → had ≡ has_rows old → new ≡ old ++ more
-    → to ≡ from + length more → nat_lt from to ≡ has_rows new
-else-rows had old [] new from to none same new_is long =
-    le-ltb from to (omega (arith, long)) ∙ sym (ap has_rows new_is ∙ rows-none old [] (sym same ∙ none) refl)
-else-rows had old (y ∷ more) new from to none same new_is long =
-    lt-ltb from to (omega (arith, long)) ∙ sym (ap has_rows new_is ∙ rows-came old (y ∷ more) (omega arith))

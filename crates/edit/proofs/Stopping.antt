@@ -5,16 +5,17 @@ use Rattle.spec.specs.NodeFormat.{Shape, LastLink, MoreLinks}
 use Rattle.edit_laws.specs.Lawful.{HasKeys}
 use Rattle.edit_laws.specs.ShapeEdit.{last_link}
 use Rattle.batch_laws.specs.Links.{Rows, LinkEdge, LinkOpened, Log, and_then, ask, log_shown, with_read, opening, under_rows, link_edge, Step, Stop, Stopped, StopsAt, stopped, NotShown, LinkTooDeep}
-use Rattle.batch_laws.specs.Written.{AreWritten, IsEarlier, OnAnswer, OnEnd, GoesFrom}
+use Rattle.batch_laws.specs.Written.{IsEarlier, OnAnswer, OnEnd, GoesFrom}
+use Rattle.batch_laws.specs.Within.{IsWithin, asked}
 use Rattle.batch_laws.proofs.Earlier.{same-earlier, then-earlier, steps-earlier, under-earlier, row-earlier, opening-earlier}
 use Rattle.rows.specs.declared.draft.DraftFault.{DraftFault}
 use Rattle.rows.specs.declared.draft.DraftFault.TheVariants as drafts
 use Rattle.edit.specs.Budgets.{Budget}
-use Rattle.edit.specs.declared.faults.Fault.{Fault}
-use Rattle.edit.specs.declared.faults.Fault.TheVariants.{Missing, BadNode, TooDeep, NotTree, NoMemory}
+use Rattle.edit.specs.declared.outcome.Fault.{Fault}
+use Rattle.edit.specs.declared.outcome.Fault.TheVariants.{Missing, BadNode, TooDeep, NotTree, NoMemory}
 use Rattle.edit.specs.Edges.{edge_of, within, under, joined, around}
 use Rattle.edit.specs.States.{IsCounted}
-use Rattle.edit.specs.Stops.{IsUnwritten, IsUnreachedAt, IsUnreached, IsRefused, fault_of, IsCause, IsStopped, IsUnshown, IsUnread, IsOnward, open_edge}
+use Rattle.edit.specs.Stops.{IsUnwritten, IsRefused, draft_fault_of, IsCause, IsStopped, IsUnshown, IsUnread, IsOnward, open_edge}
 
 pub empty-keys : HasKeys (LastLink None)
 empty-keys = refl
@@ -45,26 +46,25 @@ leads-unwritten (Err e) (Err f) h u = λ w. u (h.1.written w)
 leads-unwritten (Ok x) (Err f) h u = λ w. u (h.written w)
 leads-unwritten (Ok x) (Ok y) h u = λ w. u (h.written w)
 
--- as far as it comes, from where something else is that is not reached
-stop-unreached : (most : ℕ) (why : Stop) (s t : LinkEdge) (log later : Log)
-    → IsEarlier HasKeys s log t later → IsUnreachedAt most why s log → IsUnreachedAt most why t later
-stop-unreached most (NotShown c) s t log later h u = λ n w. (let i = h.reads in u (omega arith) (h.written w))
-stop-unreached most LinkTooDeep s t log later h u = λ n w. (let i = h.reads in u (omega arith) (h.written w))
+-- what is read is asked for
+asks-read : (why : Stop) (log : Log) → length log.read ≤ asked why log
+asks-read (NotShown c) log = omega arith
+asks-read LinkTooDeep log = omega arith
 
-answer-unreached : (most : ℕ) (why : Stop) (s t : LinkEdge) (log later : Log)
-    → IsEarlier HasKeys s log t later → (length log.read ≤ most → ¬ AreWritten HasKeys s log)
-    → IsUnreachedAt most why t later
-answer-unreached most (NotShown c) s t log later h u = λ n w. (let i = h.reads in u (omega arith) (h.written w))
-answer-unreached most LinkTooDeep s t log later h u = λ n w. (let i = h.reads in u (omega arith) (h.written w))
+asks-later : (why : Stop) (log later : Log) → length log.read ≤ length later.read → asked why log ≤ asked why later
+asks-later (NotShown c) log later n = omega arith
+asks-later LinkTooDeep log later n = n
 
-leads-unreached : (most : ℕ) (step whole : Step LinkEdge) → Leads step whole
-    → IsUnreached most step → IsUnreached most whole
-leads-unreached most (Err e) (Ok y) h u = absurd h
-leads-unreached most (Err e) (Err f) h u =
-    stop-unreached most f.why e.edge f.edge e.log f.log h.1
-    (subst (λ why. IsUnreachedAt most why e.edge e.log) (sym h.0) u)
-leads-unreached most (Ok x) (Err f) h u = answer-unreached most f.why x.0 f.edge x.1 f.log h u
-leads-unreached most (Ok x) (Ok y) h u = λ n w. (let i = h.reads in u (omega arith) (h.written w))
+-- a whole that keeps within what there is for it does so up to there
+leads-within : (most : ℕ) (step whole : Step LinkEdge) → Leads step whole → IsWithin most whole → IsWithin most step
+leads-within most (Err e) (Ok y) h w = absurd h
+leads-within most (Err e) (Err f) h w =
+    let n = subst (λ why. asked why f.log ≤ most) h.0 w.0 in
+    let i = asks-later e.why e.log f.log h.1.reads in
+    (omega arith, h.1.written w.1)
+leads-within most (Ok x) (Err f) h w =
+    let n = w.0 in let i = h.reads in let r = asks-read f.why f.log in (omega arith, h.written w.1)
+leads-within most (Ok x) (Ok y) h w = let n = w.0 in let i = h.reads in (omega arith, h.written w.1)
 
 pub leads-refused : (step whole : Step LinkEdge) (f : DraftFault) → Leads step whole → IsRefused step f
     → IsRefused whole f
@@ -76,7 +76,7 @@ leads-cause : {A : Type 0} (gives : List ℕ → Option A) (most : ℕ) (step wh
 leads-cause gives most step whole (Missing c) h k = (k.0, leads-stop (NotShown c) step whole h k.1)
 leads-cause gives most step whole (BadNode c) h k = (k.0, leads-stop (NotShown c) step whole h k.1)
 leads-cause gives most step whole TooDeep h k = leads-stop LinkTooDeep step whole h k
-leads-cause gives most step whole NotTree h k = leads-unreached most step whole h k
+leads-cause gives most step whole NotTree h k = λ w. k (leads-within most step whole h w)
 leads-cause gives most step whole NoMemory h k = tt
 
 abbrev AreReads : ℕ → ℕ → Log → Step LinkEdge → Type 0
@@ -121,21 +121,16 @@ goes-reads : (a : ℕ) (s : LinkEdge) (now : Log) (step : Step LinkEdge) → Goe
 goes-reads a s now (Err stop) h = tt
 goes-reads a s now (Ok x) h = let i = h.reads in omega arith
 
--- what is not written is not for few reads
-unwritten-at : (most : ℕ) (why : Stop) (s : LinkEdge) (log : Log)
-    → ¬ AreWritten HasKeys s log → IsUnreachedAt most why s log
-unwritten-at most (NotShown c) s log u = λ n. u
-unwritten-at most LinkTooDeep s log u = λ n. u
-
-unwritten-unreached : (most : ℕ) (step : Step LinkEdge) → IsUnwritten step → IsUnreached most step
-unwritten-unreached most (Err e) u = unwritten-at most e.why e.edge e.log u
-unwritten-unreached most (Ok x) u = λ n. u
+-- what is not written is not within it
+unwritten-beyond : (most : ℕ) (step : Step LinkEdge) → IsUnwritten step → ¬ IsWithin most step
+unwritten-beyond most (Err e) u = λ w. u w.1
+unwritten-beyond most (Ok x) u = λ w. u w.1
 
 pub refused-stopped : {A : Type 0} (gives : List ℕ → Option A) (a : Budget) (s : LinkEdge) (now : Log)
     (step : Step LinkEdge) (f : DraftFault) → IsRefused step f → Goes s now step
-    → IsStopped gives a a.0 now step (fault_of f)
+    → IsStopped gives a a.0 now step (draft_fault_of f)
 refused-stopped gives a s now step drafts.NotNode r h = record {
-  cause = unwritten-unreached (a.1 + length now.read) step r;
+  cause = unwritten-beyond (a.1 + length now.read) step r;
   reads = goes-reads a.0 s now step h;
   few = omega arith;
 }
@@ -152,15 +147,12 @@ pub none-stopped : {A : Type 0} (gives : List ℕ → Option A) (a : Budget) (s 
 none-stopped gives a s now = record { cause = refl; reads = tt; few = omega arith }
 
 -- it reads more than a log has, or asks for more
-abbrev pub AsksMore : Log → Stop → Log → Type 0
-AsksMore log (NotShown c) later = length log.read ≤ length later.read
-AsksMore log LinkTooDeep later = suc (length log.read) ≤ length later.read
-
 abbrev pub ReadsMore : Log → Step LinkEdge → Type 0
-ReadsMore log (Ok x) = suc (length log.read) ≤ length x.1.read
-ReadsMore log (Err e) = AsksMore log e.why e.log
+ReadsMore log (Ok x) = length log.read < length x.1.read
+ReadsMore log (Err e) = length log.read < asked e.why e.log
 
-pub asks-more : (log : Log) (why : Stop) (later : Log) → suc (length log.read) ≤ length later.read → AsksMore log why later
+pub asks-more : (log : Log) (why : Stop) (later : Log) → length log.read < length later.read
+    → length log.read < asked why later
 asks-more log (NotShown c) later n = omega arith
 asks-more log LinkTooDeep later n = n
 
@@ -171,14 +163,9 @@ pub unread-stopped : {A : Type 0} (gives : List ℕ → Option A) (b : Budget) (
 unread-stopped gives b a asked shown log whole f n m u =
     record { cause = why b.1 f u.cause; reads = counted whole m; few = u.few }
   where
-    past-at : (w : Stop) (s : LinkEdge) (later : Log) (most : ℕ) → most ≡ length log.read → AsksMore log w later
-        → IsUnreachedAt most w s later
-    past-at (NotShown c) s later most z r = λ k w. absurd (omega arith)
-    past-at LinkTooDeep s later most z r = λ k w. absurd (omega arith)
-
-    past : (o : Step LinkEdge) (most : ℕ) → most ≡ length log.read → ReadsMore log o → IsUnreached most o
-    past (Err e) most z r = past-at e.why e.edge e.log most z r
-    past (Ok x) most z r = λ k w. absurd (omega arith)
+    past : (o : Step LinkEdge) (most : ℕ) → most ≡ length log.read → ReadsMore log o → ¬ IsWithin most o
+    past (Err e) most z r = λ w. (let n = w.0 in absurd (omega arith))
+    past (Ok x) most z r = λ w. (let n = w.0 in absurd (omega arith))
 
     why : (left : ℕ) (g : Fault) → IsUnshown gives left asked shown g → IsCause gives (left + length log.read) whole g
     why left (Missing c) k = (k.1, subst (λ x. StopsAt (NotShown x) whole) (sym k.0) (n k.2))

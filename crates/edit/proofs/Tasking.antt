@@ -1,7 +1,7 @@
 -- The agenda of the code.
 use Rattle.std.proofs.Common.{◌≡◌, List, [], ◌∷◌, ◌++◌, length, refl, ap, ◌∙◌, arith}
 use Rattle.cid.specs.declared.digest.Digest.{Ghosts}
-use Rattle.edit.specs.declared.tasks.Task as code
+use Rattle.edit.specs.declared.walk.Task as code
 use Rattle.edit.specs.Agendas.{task_of, agenda_of}
 
 more : {D A : Type 0} {g : Ghosts D} (ts : List (code.Task D A g)) (t : code.Task D A g) → agenda_of (ts ++ (t ∷ [])) ≡ agenda_of ts ++ (task_of t ∷ [])

@@ -1,9 +1,8 @@
 -- The test of changes, from the last one on.
-use Rattle.std.proofs.Common.{◌≡◌, ℕ, zero, suc, ◌+◌, ◌-◌, ◌<◌, Bool, true, false, ◌&&◌, List, [], ◌∷◌, length, get_or, take, drop, refl, sym, ap, ◌∙◌, arith}
+use Rattle.std.proofs.Common.{◌≡◌, ℕ, zero, suc, ◌+◌, ◌<◌, Bool, true, false, ◌&&◌, List, [], ◌∷◌, length, map, get_or, drop, refl, sym, ap, ◌∙◌, arith}
 use Rattle.std.specs.declared.cmp.Ordering.{Ordering}
 use Rattle.std.specs.declared.cmp.Ordering.TheVariants.{Less, Equal, Greater}
 use Rattle.std.specs.Ordering.{is_gt}
-use Rattle.std.proofs.lemmas.List.{take_all, length-drop}
 use Rattle.std.proofs.Math.Seq.{drop-cons}
 use Rattle.spec.specs.NodeFormat.{is_key}
 use Rattle.spec.proofs.Bools.{both}
@@ -42,24 +41,22 @@ tail-case true true false d h = refl
 tail-case true false k d h = refl
 tail-case false b k d h = refl
 
--- what some changes at the end aren't, all of them aren't
-pub none-of : (cs : List Change) (i : ℕ) → are_changes (drop i cs) ≡ false → are_changes cs ≡ false
-none-of cs zero h = h
-none-of [] (suc i) h = absurd cc
-none-of (c ∷ cs) (suc i) h =
-    tail-case (are_later c.0 cs) (are_ascending cs) (is_key c.0) (have_keys cs) (none-of cs i h)
+-- what some at the end aren't, all of them aren't
+pub none-of : {X : Type 0} (seen : X → Change) (xs : List X) (i : ℕ) → are_changes (map seen (drop i xs)) ≡ false
+    → are_changes (map seen xs) ≡ false
+none-of seen xs zero h = h
+none-of seen [] (suc i) h = absurd cc
+none-of seen (x ∷ xs) (suc i) h =
+    let cs = map seen xs in
+    tail-case (are_later (seen x).0 cs) (are_ascending cs) (is_key (seen x).0) (have_keys cs) (none-of seen xs i h)
 
 -- one more to the front
-pub one-more : (cs : List Change) (i : ℕ) (c : Change) (b : Bool) → i < length cs → c ≡ get_or cs i c
-    → b ≡ are_changes (c ∷ drop (i + 1) cs) → b ≡ are_changes (drop i cs)
-one-more cs i c b l is h =
+pub one-more : {X : Type 0} (seen : X → Change) (xs : List X) (i : ℕ) (x : X) (b : Bool) → i < length xs → x ≡ get_or xs i x
+    → b ≡ are_changes (map seen (x ∷ drop (i + 1) xs)) → b ≡ are_changes (map seen (drop i xs))
+one-more seen xs i x b l is h =
     let next : i + 1 ≡ suc i = omega arith in
-    let e : drop i cs ≡ c ∷ drop (suc i) cs = drop-cons cs i c l ∙ ap (λ t. t ∷ drop (suc i) cs) (sym is) in
-    h ∙ ap (λ n. are_changes (c ∷ drop n cs)) next ∙ sym (ap are_changes e)
-
--- the changes from a place on
-pub rest-of : (cs : List Change) (i : ℕ) → take (length cs - i) (drop i cs) ≡ drop i cs
-rest-of cs i = let l = length-drop i cs in take_all (length cs - i) (drop i cs) (omega (arith, l))
+    let e : drop i xs ≡ x ∷ drop (suc i) xs = drop-cons xs i x l ∙ ap (λ t. t ∷ drop (suc i) xs) (sym is) in
+    h ∙ ap (λ n. are_changes (map seen (x ∷ drop n xs))) next ∙ sym (ap (λ ys. are_changes (map seen ys)) e)
 
 pub gt-is : (o : Ordering) → is_gt o ≡ is_greater o
 gt-is Less = refl

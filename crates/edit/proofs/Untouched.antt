@@ -15,12 +15,13 @@ use Rattle.rows.specs.declared.draft.DraftFault.{DraftFault}
 use Rattle.rows.specs.declared.draft.DraftFault.TheVariants.{NotNode, NoMemory}
 use Rattle.rows.specs.Drafts.{IsFaultOfAll}
 use Rattle.rows.specs.Entries.{part_of}
+use Rattle.rows.specs.Written.{has_rows}
 use Rattle.batch_laws.specs.Batch.{Change, at_key, after, entry, IsLater}
 use Rattle.batch_laws.specs.Previous.{value_met, previous_node, previous_gap}
 use Rattle.batch_laws.specs.Links.{Rows, LinkEdge, Log, and_then, add_row, under_rows, onto_links, pairing, pairs_in_turn, subtreeing, walking, Step}
 use Rattle.batch_laws.specs.Written.{AllGoOn, GoesOn}
 use Rattle.edit.specs.Agenda.{Task, node_does, agenda_does, agenda_meets, size_of_node, size_of_gap, IsPutOff, IsGoneOn}
-use Rattle.edit.specs.Edges.{edge_of, has_rows}
+use Rattle.edit.specs.Edges.{edge_of}
 use Rattle.edit.specs.Passing.{IsUntouched, AreUntouched, IsTaken, IsUntaken, IsPassed, IsUnpassed}
 use Rattle.edit.specs.Places.{are_ascending}
 use Rattle.edit.specs.Stops.{IsRefused}

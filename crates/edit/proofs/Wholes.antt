@@ -8,7 +8,7 @@ use Rattle.spec.proofs.LayerLaws.{zero_bits-le}
 use Rattle.edit_laws.specs.Lawful.{HasKeys}
 use Rattle.edit_laws.specs.ShapeEdit.{layer_of_shape}
 use Rattle.batch_laws.specs.Batch.{Change}
-use Rattle.batch_laws.specs.Counts.{most_reads, most_from}
+use Rattle.batch_laws.specs.Counts.{most_reads, most_from, layers_needed}
 use Rattle.batch_laws.specs.Links.{LinkEdge, LinkClear, Log, Top, and_then, ask, walking, walking_top, topping, batch_from, Step}
 use Rattle.batch_laws.proofs.Earlier.{steps-earlier, walking_node-earlier, walking-earlier}
 use Rattle.batch_laws.specs.Previous.{previous_node, previous_gap, previous_top}
@@ -17,15 +17,16 @@ use Rattle.edit.specs.Budgets.{Budget}
 use Rattle.edit.specs.States.{IsCounted}
 use Rattle.edit.proofs.Bounds.{most-one, most-shown}
 use Rattle.edit.proofs.Topping.{was-shown}
-use Rattle.edit.specs.Tops.{IsEnded, layers_needed}
-use Rattle.edit.specs.Stops.{IsStopped, IsUnshown, IsUnread, at_top}
-use Rattle.edit.specs.declared.faults.Fault.{Fault}
-use Rattle.edit.specs.declared.faults.Fault.TheVariants as faults
+use Rattle.edit.specs.Tops.{IsEnded}
+use Rattle.batch_laws.specs.Within.{IsWithin, at_top}
+use Rattle.edit.specs.Stops.{IsStopped, IsUnshown, IsUnread}
+use Rattle.edit.specs.declared.outcome.Fault.{Fault}
+use Rattle.edit.specs.declared.outcome.Fault.TheVariants as faults
 use Rattle.edit.proofs.Stopping.{empty-keys, Goes, leads-stopped, onward-leads, from-stopped, memory-stopped, asked-unread}
 use Rattle.edit.proofs.Ending.{top-goes}
 use Rattle.std.specs.List.{AllByRecursion}
 use Rattle.batch_laws.specs.Written.{AreWritten}
-use Rattle.edit.specs.Halts.{IsHalted, IsReached, IsReachedFor}
+use Rattle.edit.specs.Halts.{IsHalted, IsReachedFor}
 use Rattle.edit.proofs.Halts.{halted-by, halted-reached, then-follows}
 
 pub whole : (digest : List ℕ → List ℕ) (shows : List ℕ → Option Shape) (layer : List ℕ → ℕ) (n t d : ℕ) (cs : List Change)
@@ -236,7 +237,9 @@ module _ {A : Type 0} (gives : List ℕ → Option A) (digest : List ℕ → Lis
 
 -- where there is an answer
 pub ended-reached : (most : ℕ) (answer : Step Top) (root : List ℕ) (gone : ℕ) (now : Log) → IsEnded answer root gone now
-    → length now.read ≤ most → AllByRecursion HasKeys now.made → IsReached most answer
+    → length now.read ≤ most → AllByRecursion HasKeys now.made → IsWithin most (at_top answer)
 ended-reached most answer root gone now w n h =
-    subst (IsReached most) (sym w.is)
-    (subst (λ (xs : List Shape). length xs ≤ most) w.read n, subst (λ (xs : List Shape). AllByRecursion HasKeys xs) w.made h)
+    subst (λ o. IsWithin most (at_top o)) (sym w.is) (
+      subst (λ (xs : List Shape). length xs ≤ most) w.read n,
+      record { made = subst (λ (xs : List Shape). AllByRecursion HasKeys xs) w.made h; begun = tt },
+    )

@@ -2,10 +2,10 @@
 use Rattle.std.specs.Prelude.{List, map}
 use Rattle.cid.specs.declared.digest.Digest.{Ghosts}
 use Rattle.edit.specs.Agenda.{Later, Gap, Task, ToPair, ToGap}
-use Rattle.edit.specs.declared.tasks.NextPair.{NextPair}
-use Rattle.edit.specs.declared.tasks.NextGap.{NextGap}
-use Rattle.edit.specs.declared.tasks.Task as code
-use Rattle.edit.specs.declared.tasks.Task.TheVariants as variants
+use Rattle.edit.specs.declared.walk.NextPair.{NextPair}
+use Rattle.edit.specs.declared.walk.NextGap.{NextGap}
+use Rattle.edit.specs.declared.walk.Task as code
+use Rattle.edit.specs.declared.walk.Task.TheVariants as variants
 
 abbrev pub later_of : {D A : Type 0} {g : Ghosts D} → NextPair D A g → Later
 later_of p = record {

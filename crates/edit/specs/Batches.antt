@@ -1,5 +1,5 @@
 -- What a batch answers, over the pairs of the tree and over any source.
-use Rattle.std.specs.Prelude.{◌≡◌, ◌≤◌, ◌+◌, ◌-◌, ◌*◌, ⊤, ℕ, suc, max, Bool, true, ◌&&◌, List, [], ◌∷◌, ◌++◌, map, length, Option, Some, None, Ok, IsOk, Result, IfOk, IfErr, IsSome}
+use Rattle.std.specs.Prelude.{◌≡◌, ◌≤◌, ◌+◌, ◌-◌, ◌*◌, ⊤, ℕ, suc, max, Bool, true, ◌&&◌, List, [], ◌∷◌, ◌++◌, map, length, Option, None, Ok, IsOk, Result, IfOk, IfErr, IsSome}
 use Rattle.std.specs.Arc.{arc_value}
 use Rattle.std.specs.declared.sync.Arc.{Arc}
 use Rattle.spec.specs.Tree.{Pair, top, top_layer}
@@ -14,13 +14,12 @@ use Rattle.batch_laws.specs.Batch.{Change, changed}
 use Rattle.batch_laws.specs.Links.{LinkTooDeep, Log, NotShown, Step, StopsAt, Top, batch_from}
 use Rattle.batch_laws.specs.Previous.{values}
 use Rattle.batch_laws.specs.Trace.{batch_read}
-use Rattle.batch_laws.specs.Counts.{most_from}
+use Rattle.batch_laws.specs.Within.{IsWithin, at_top}
+use Rattle.batch_laws.specs.Counts.{most_from, put_layers, layers_needed}
 use Rattle.edit.specs.Places.{are_ascending}
 use Rattle.edit.specs.Refusals.{IsRefusal}
-use Rattle.edit.specs.Stops.{IsUnreached, at_top}
-use Rattle.edit.specs.Tops.{layers_needed}
-use Rattle.edit.specs.declared.faults.Fault.{Fault}
-use Rattle.edit.specs.declared.faults.Fault.TheVariants as walks
+use Rattle.edit.specs.declared.outcome.Fault.{Fault}
+use Rattle.edit.specs.declared.outcome.Fault.TheVariants as walks
 use Rattle.edit.specs.declared.outcome.BatchEdit.{BatchEdit}
 use Rattle.edit.specs.declared.outcome.EditFault.{EditFault}
 use Rattle.edit.specs.declared.outcome.EditFault.TheVariants.{Missing, BadNode, TooDeep, NotTree, NoSuchKey, Clash, NoMemory}
@@ -34,16 +33,6 @@ have_keys (c ∷ cs) = is_key c.0 && have_keys cs
 -- whether keys have 1 to 1,024 bytes and ascend strictly
 abbrev pub are_changes : List Change → Bool
 are_changes cs = are_ascending cs && have_keys cs
-
--- how many layers the new tree has at least for a key that gets this value
-abbrev pub layers_for : (List ℕ → ℕ) → List ℕ → Option (List ℕ) → ℕ
-layers_for layer key None = 0
-layers_for layer key (Some v) = suc (layer key)
-
--- and for the keys of all changes
-abbrev pub put_layers : (List ℕ → ℕ) → List Change → ℕ
-put_layers layer [] = 0
-put_layers layer (c ∷ cs) = max (layers_for layer c.0 c.1) (put_layers layer cs)
 
 -- how many layers the old tree or the new one has
 abbrev pub layers_of : (List ℕ → List ℕ) → ℕ → List Change → List Pair → ℕ
@@ -134,7 +123,7 @@ abbrev pub IsReason : {D A : Type 0} → (List ℕ → Option (Arc (List ℕ) A)
 IsReason gives most answer P (Missing c) = (gives c ≡ None) × StopsAt (NotShown c) answer
 IsReason gives most answer P (BadNode c) = IsSome (gives c) × StopsAt (NotShown c) answer
 IsReason gives most answer P TooDeep = StopsAt LinkTooDeep answer
-IsReason gives most answer P NotTree = IsUnreached most (at_top answer)
+IsReason gives most answer P NotTree = ¬ IsWithin most (at_top answer)
 IsReason gives most answer P NoSuchKey = P
 IsReason gives most answer P (Clash pair) = IsOk answer
 IsReason gives most answer P NoMemory = ⊤

@@ -8,9 +8,10 @@ use Rattle.batch_laws.specs.Batch.{Change}
 use Rattle.batch_laws.specs.Previous.{previous_top}
 use Rattle.edit.specs.Batches.{answer_of, most_of}
 use Rattle.edit.specs.States.{log_in}
-use Rattle.edit.specs.Stops.{IsStopped, at_top}
+use Rattle.batch_laws.specs.Within.{at_top}
+use Rattle.edit.specs.Stops.{IsStopped}
 use Rattle.edit.specs.Tops.{IsEnded}
-use Rattle.edit.specs.declared.faults.Fault.{Fault}
+use Rattle.edit.specs.declared.outcome.Fault.{Fault}
 use Rattle.edit.specs.declared.whole.Changed.{Changed}
 
 -- as many more reads as blocks were read for it

@@ -31,10 +31,6 @@ around digest zero (r ∷ rs) [] x = under_rows r (around digest zero rs [] x)
 around digest zero (r ∷ rs) (f ∷ fs) x = joined digest r f (around digest zero rs fs x)
 around digest (suc b) (r ∷ rs) fs x = under_rows r (around digest b rs fs x)
 
-abbrev pub has_rows : Rows → Bool
-has_rows [] = false
-has_rows (x ∷ xs) = true
-
 -- nothing stands there
 abbrev pub is_clear : LinkEdge → Bool
 is_clear LinkClear = true

@@ -4,8 +4,8 @@ use Rattle.std.specs.BTreeMap.{BTreeMap, get}
 use Rattle.std.specs.Cmp.Lexicographic.{slice_cmp}
 use Rattle.std.specs.Ordering.{nat_cmp}
 use Rattle.std.specs.Str.{bytes_eq}
-use Rattle.edit.specs.declared.places.Places.{Places}
-use Rattle.edit.specs.declared.places.Places.TheVariants.{Few, Many}
+use Rattle.edit.specs.declared.differences.Places.{Places}
+use Rattle.edit.specs.declared.differences.Places.TheVariants.{Few, Many}
 
 abbrev pub first_place : List ℕ → List (List ℕ) → Option ℕ
 first_place c [] = None

@@ -1,26 +1,22 @@
 -- Where a step stops for its source: at the edge and the log that there are then, within the reads that were left. A step that
 -- stops as a node can't be written, or as memory is wanted, has no such place.
-use Rattle.std.specs.Prelude.{◌≡◌, ◌<◌, ◌≤◌, ◌+◌, ◌++◌, ⊤, ℕ, length, Ok, Err, Result}
-use Rattle.std.specs.List.{AllByRecursion}
+use Rattle.std.specs.Prelude.{◌≡◌, ◌<◌, ◌≤◌, ◌+◌, ⊤, ℕ, length, Ok, Err, Result}
 use Rattle.edit_laws.specs.Lawful.{HasKeys}
 use Rattle.batch_laws.specs.Links.{LinkEdge, LinkTooDeep, Log, NotShown, Step, Stop, Stopped, Top}
-use Rattle.batch_laws.specs.Written.{AllGoOn, AreWritten}
+use Rattle.batch_laws.specs.Written.{AllGoOn}
+use Rattle.batch_laws.specs.Within.{IsWithin, asked, at_top}
 use Rattle.edit.specs.States.{edge_in, log_in}
 use Rattle.edit.specs.declared.edge.Edge.{Edge}
-use Rattle.edit.specs.declared.faults.Fault.{Fault}
-use Rattle.edit.specs.declared.faults.Fault.TheVariants.{Missing, BadNode, TooDeep, NotTree, NoMemory}
+use Rattle.edit.specs.declared.outcome.Fault.{Fault}
+use Rattle.edit.specs.declared.outcome.Fault.TheVariants.{Missing, BadNode, TooDeep, NotTree, NoMemory}
 
--- no more than so many nodes are read, or asked for, where it stops for this
-abbrev pub AreFew : ℕ → Stop → Log → Type 0
-AreFew most (NotShown c) log = length log.read < most
-AreFew most LinkTooDeep log = length log.read ≤ most
-
--- it stops for this with this log, and what is open there may have keys of the grammar where it may in this edge
+-- it stops for this with this log, no more than so many nodes are read or asked for there, and what is open there may have keys of
+-- the grammar where it may in this edge
 pub record IsAt (most : ℕ) (why : Stop) (s : LinkEdge) (now : Log) (e : Stopped) : Type 0 where
   pub why_is : e.why ≡ why
   pub log_is : e.log ≡ now
   pub begun : AllGoOn HasKeys s → AllGoOn HasKeys e.edge
-  pub few : AreFew most why now
+  pub few : asked why now ≤ most
 
 abbrev pub Halts : ℕ → Stop → LinkEdge → Log → Step LinkEdge → Type 0
 Halts most why s now (Ok x) = ⊥
@@ -58,19 +54,15 @@ IsStill old new NoMemory = ⊤
 
 -- ---- a whole batch
 
--- as far as a batch comes, it reads no more nodes, and what it writes has keys of the grammar
-abbrev pub IsReached : ℕ → Step Top → Type 0
-IsReached most (Ok x) = (length (x.1.read ++ x.0.1) ≤ most) × AllByRecursion HasKeys x.1.made
-IsReached most (Err e) = AreFew most e.why e.log × AreWritten HasKeys e.edge e.log
-
--- so it is where it stops for its source
+-- as far as a batch comes, it reads no more nodes, and what it writes has keys of the grammar, where it stops for its source
 abbrev pub IsReachedFor : ℕ → Step Top → Fault → Type 0
-IsReachedFor most answer (Missing c) = IsReached most answer
-IsReachedFor most answer (BadNode c) = IsReached most answer
-IsReachedFor most answer TooDeep = IsReached most answer
+IsReachedFor most answer (Missing c) = IsWithin most (at_top answer)
+IsReachedFor most answer (BadNode c) = IsWithin most (at_top answer)
+IsReachedFor most answer TooDeep = IsWithin most (at_top answer)
 IsReachedFor most answer NotTree = ⊤
 IsReachedFor most answer NoMemory = ⊤
 
+-- and where it has an answer
 abbrev pub IsReachedOn : {X : Type 0} → ℕ → Step Top → Result X Fault → Type 0
-IsReachedOn most answer (Ok x) = IsReached most answer
+IsReachedOn most answer (Ok x) = IsWithin most (at_top answer)
 IsReachedOn most answer (Err fault) = IsReachedFor most answer fault

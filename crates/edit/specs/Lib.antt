@@ -11,6 +11,8 @@ pub mod Among
 pub mod Batches
 pub mod Stops
 pub mod Halts
+pub mod Steps
+pub mod Tasks
 pub mod Refusals
 pub mod Edits
 pub mod Deletes

@@ -12,9 +12,8 @@ use Rattle.lookups.specs.Trees.{OfTree}
 use Rattle.batch_laws.specs.Batch.{Change, changed}
 use Rattle.batch_laws.specs.Links.{LinkTooDeep, Log, NotShown, Step, StopsAt, Top}
 use Rattle.batch_laws.specs.Previous.{previous_top, values}
+use Rattle.batch_laws.specs.Within.{IsWithin, at_top}
 use Rattle.edit.specs.Batches.{answer_of, most_of, nodes_read}
-use Rattle.edit.specs.Halts.{IsReached}
-use Rattle.edit.specs.Stops.{IsUnreached, at_top}
 use Rattle.edit.specs.declared.previews.BatchPreview.{BatchPreview}
 use Rattle.edit.specs.declared.outcome.EditFault.{EditFault}
 use Rattle.edit.specs.declared.outcome.EditFault.TheVariants.{Missing, BadNode, TooDeep, NotTree, NoSuchKey, Clash, NoMemory}
@@ -43,7 +42,7 @@ abbrev pub IsPreviewReason : {X D A : Type 0} → (List ℕ → Option X) → �
 IsPreviewReason gives most answer (Missing c) = (gives c ≡ None) × StopsAt (NotShown c) answer
 IsPreviewReason gives most answer (BadNode c) = IsSome (gives c) × StopsAt (NotShown c) answer
 IsPreviewReason gives most answer TooDeep = StopsAt LinkTooDeep answer
-IsPreviewReason gives most answer NotTree = IsUnreached most (at_top answer)
+IsPreviewReason gives most answer NotTree = ¬ IsWithin most (at_top answer)
 IsPreviewReason gives most answer NoSuchKey = ⊥
 IsPreviewReason gives most answer (Clash pair) = ⊥
 IsPreviewReason gives most answer NoMemory = ⊤
@@ -53,22 +52,23 @@ abbrev pub IsPreviewLack : {D A : Type 0} → (List ℕ → List ℕ) → ℕ �
 IsPreviewLack digest bits gives root cs result =
     IfErr result (IsPreviewReason gives (most_of digest bits gives cs root) (answer_of digest bits gives cs root))
 
--- As far as the batch comes, it reads no more nodes, and what it writes has keys of the grammar: where there is an answer, and where
--- the source is at fault.
-abbrev pub IsReachedHere : {X D A : Type 0} → ℕ → Step Top → Result X (EditFault D A) → Type 0
-IsReachedHere most answer (Ok x) = IsReached most answer
-IsReachedHere most answer (Err (Missing c)) = IsReached most answer
-IsReachedHere most answer (Err (BadNode c)) = IsReached most answer
-IsReachedHere most answer (Err TooDeep) = IsReached most answer
-IsReachedHere most answer (Err NotTree) = ⊤
-IsReachedHere most answer (Err NoSuchKey) = ⊤
-IsReachedHere most answer (Err (Clash pair)) = ⊤
-IsReachedHere most answer (Err NoMemory) = ⊤
+-- As far as the batch comes, it reads no more nodes, and what it writes has keys of the grammar: where the source is at fault,
+abbrev pub IsReachedHere : {D A : Type 0} → ℕ → Step Top → EditFault D A → Type 0
+IsReachedHere most answer (Missing c) = IsWithin most (at_top answer)
+IsReachedHere most answer (BadNode c) = IsWithin most (at_top answer)
+IsReachedHere most answer TooDeep = IsWithin most (at_top answer)
+IsReachedHere most answer NotTree = ⊤
+IsReachedHere most answer NoSuchKey = ⊤
+IsReachedHere most answer (Clash pair) = ⊤
+IsReachedHere most answer NoMemory = ⊤
 
+-- and where there is an answer
 abbrev pub IsPreviewReached : {D A : Type 0} → (List ℕ → List ℕ) → ℕ → (List ℕ → Option (Arc (List ℕ) A)) → List ℕ
     → List Change → Result (BatchPreview D A) (EditFault D A) → Type 0
-IsPreviewReached digest bits gives root cs result =
-    IsReachedHere (most_of digest bits gives cs root) (answer_of digest bits gives cs root) result
+IsPreviewReached digest bits gives root cs (Ok preview) =
+    IsWithin (most_of digest bits gives cs root) (at_top (answer_of digest bits gives cs root))
+IsPreviewReached digest bits gives root cs (Err fault) =
+    IsReachedHere (most_of digest bits gives cs root) (answer_of digest bits gives cs root) fault
 
 -- ---- over a source that has a tree
 

@@ -1,28 +1,20 @@
 -- Where a step stops: what its fault means, and how much was read by then. A step is what the laws make of it, an edge with
 -- its log, or why the laws stop.
-use Rattle.std.specs.Prelude.{◌≡◌, ◌<◌, ◌≤◌, ◌+◌, ⊤, ℕ, suc, List, ◌++◌, length, Option, None, Ok, Err, IsSome}
+use Rattle.std.specs.Prelude.{◌≡◌, ◌≤◌, ◌+◌, ⊤, ℕ, suc, List, length, Option, None, Ok, IsSome}
 use Rattle.spec.specs.NodeFormat.{Shape}
 use Rattle.edit_laws.specs.Lawful.{HasKeys}
-use Rattle.batch_laws.specs.Links.{Rows, LinkEdge, LinkClear, LinkOpened, Log, LinkTooDeep, NotShown, Step, Stop, StopsAt, Top, and_then, closing}
+use Rattle.batch_laws.specs.Links.{Rows, LinkEdge, LinkClear, LinkOpened, Log, LinkTooDeep, NotShown, Step, StopsAt, and_then, closing}
 use Rattle.batch_laws.specs.Written.{AreWritten, OnAnswer, OnEnd, GoesFrom}
+use Rattle.batch_laws.specs.Within.{IsWithin}
 use Rattle.rows.specs.declared.draft.DraftFault.{DraftFault}
 use Rattle.rows.specs.declared.draft.DraftFault.TheVariants as drafts
 use Rattle.edit.specs.Budgets.{Budget}
-use Rattle.edit.specs.declared.faults.Fault.{Fault}
-use Rattle.edit.specs.declared.faults.Fault.TheVariants.{Missing, BadNode, TooDeep, NotTree, NoMemory}
+use Rattle.edit.specs.declared.outcome.Fault.{Fault}
+use Rattle.edit.specs.declared.outcome.Fault.TheVariants.{Missing, BadNode, TooDeep, NotTree, NoMemory}
 
 -- as far as it comes, not each node that was made has keys of the grammar, with each that is open one that may still have them
 abbrev pub IsUnwritten : Step LinkEdge → Type 0
 IsUnwritten step = OnEnd (λ s. s) step (λ s log. ¬ AreWritten HasKeys s log)
-
--- nor is it so, with no more than so many nodes that are read for it, or asked for
-abbrev pub IsUnreachedAt : ℕ → Stop → LinkEdge → Log → Type 0
-IsUnreachedAt most (NotShown c) s log = length log.read < most → ¬ AreWritten HasKeys s log
-IsUnreachedAt most LinkTooDeep s log = length log.read ≤ most → ¬ AreWritten HasKeys s log
-
-abbrev pub IsUnreached : ℕ → Step LinkEdge → Type 0
-IsUnreached most (Ok x) = length x.1.read ≤ most → ¬ AreWritten HasKeys x.0 x.1
-IsUnreached most (Err e) = IsUnreachedAt most e.why e.edge e.log
 
 -- a node was not written; of a want of memory nothing is said
 abbrev pub IsRefused : Step LinkEdge → DraftFault → Type 0
@@ -30,9 +22,9 @@ IsRefused step drafts.NotNode = IsUnwritten step
 IsRefused step drafts.NoMemory = ⊤
 
 -- what a node that is not written is to the whole walk
-abbrev pub fault_of : DraftFault → Fault
-fault_of drafts.NotNode = NotTree
-fault_of drafts.NoMemory = NoMemory
+abbrev pub draft_fault_of : DraftFault → Fault
+draft_fault_of drafts.NotNode = NotTree
+draft_fault_of drafts.NoMemory = NoMemory
 
 -- the source lacks just the block at which the laws stop, or gives one that is no node; or they stop at a link below layer 0; or,
 -- as far as they come, they read more nodes, or write keys that are not of the grammar
@@ -40,7 +32,7 @@ abbrev pub IsCause : {A : Type 0} → (List ℕ → Option A) → ℕ → Step L
 IsCause gives most step (Missing c) = (gives c ≡ None) × StopsAt (NotShown c) step
 IsCause gives most step (BadNode c) = IsSome (gives c) × StopsAt (NotShown c) step
 IsCause gives most step TooDeep = StopsAt LinkTooDeep step
-IsCause gives most step NotTree = IsUnreached most step
+IsCause gives most step NotTree = ¬ IsWithin most step
 IsCause gives most step NoMemory = ⊤
 
 -- a step that was begun with a log stopped, after no more reads than its answer would have, and no more than were left
@@ -80,8 +72,3 @@ all_closed digest s log = Ok (LinkClear, (closing digest s log).1)
 -- rows and the edge after them, as an edge
 abbrev pub open_edge : Step (Rows × LinkEdge) → Step LinkEdge
 open_edge step = and_then step (λ o later. Ok (LinkOpened o.0 o.1, later))
-
--- a top with all that was read for it, also the node that stays
-abbrev pub at_top : Step Top → Step LinkEdge
-at_top step =
-    and_then step (λ top later. Ok (LinkClear, record { read = later.read ++ top.1; made = later.made }))

@@ -1,7 +1,6 @@
 -- The top of the tree that the edge has become.
-use Rattle.std.specs.Prelude.{◌≡◌, ℕ, suc, max, ◌+◌, List, [], ◌∷◌, ◌++◌, length, take, drop, Option, Some, None, Ok}
+use Rattle.std.specs.Prelude.{◌≡◌, ℕ, ◌+◌, List, [], ◌∷◌, ◌++◌, length, take, drop, Option, None, Ok}
 use Rattle.spec.specs.NodeFormat.{Shape, LastLink, MoreLinks}
-use Rattle.edit_laws.specs.ShapeEdit.{layer_of_shape}
 use Rattle.batch_laws.specs.Links.{Rows, LinkClear, Log, Step, Top, ask, closing, new_top}
 use Rattle.edit.specs.Edges.{edge_of}
 
@@ -42,8 +41,3 @@ pub record IsEnded (answer : Step Top) (root : List ℕ) (gone : ℕ) (now : Log
   pub read : now.read ≡ next.read ++ left
   pub made : now.made ≡ next.made
   pub gone_is : gone ≡ length next.read
-
--- how many layers the edge has: those up to the old top, and no fewer than the puts want
-abbrev pub layers_needed : (List ℕ → ℕ) → ℕ → Option Shape → ℕ
-layers_needed layer wanted None = 0
-layers_needed layer wanted (Some s) = max (suc (layer_of_shape layer s)) wanted

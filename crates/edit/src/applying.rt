@@ -13,7 +13,7 @@ ghost use Rattle.lookups.specs.Trees.{OfTree};
 ghost use Rattle.batch_laws.specs.Counts.{most_reads};
 ghost use Rattle.edit.specs.Batches.{are_changes as are_changes_of, nodes_read, IsBatch, IsBatchRefusal, IsAnswered, IsLack};
 
-use crate::changes::Change;
+use crate::changes::{Change, Keyed};
 use crate::differences::{added, dropped, places_of_read};
 use crate::edge::Edge;
 use crate::hashed::hash_each;
@@ -31,6 +31,13 @@ use std::sync::Arc;
 pub fn are_changes(changes: &[Change<'_>]) -> bool
     ensures { result ≡ are_changes_of changes.now }
 {
+    are_keyed(changes)
+}
+
+/// Whether a batch takes the changes that these stand for, as [`are_changes`] does.
+pub fn are_keyed<C: Keyed>(changes: &[C]) -> bool
+    ensures { result ≡ are_changes_of (map C.change changes.now) }
+{
     let mut left = changes.len();
     while left > 0 {
         left -= 1;
@@ -42,9 +49,9 @@ pub fn are_changes(changes: &[Change<'_>]) -> bool
 }
 
 /// Whether a change can come before these, which a batch takes.
-fn comes_first(change: &Change<'_>, others: &[Change<'_>]) -> bool
-    ensures { are_changes_of others.now ≡ true
-        → result ≡ are_changes_of (change.now ∷ others.now) }
+fn comes_first<C: Keyed>(change: &C, others: &[C]) -> bool
+    ensures { are_changes_of (map C.change others.now) ≡ true
+        → result ≡ are_changes_of (map C.change (change.now ∷ others.now)) }
 {
     if !is_key(change.key()) {
         return false;

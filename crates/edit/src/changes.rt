@@ -1,6 +1,7 @@
-//! Changes by key, and where a key stands among them.
+//! Changes by key, where a key stands among them, and how many nodes they may read.
 
 ghost use Rattle.std.specs.Prelude.{◌≡◌, ◌≤◌, true, false, length, drop};
+ghost use Rattle.batch_laws.specs.Counts.{most_reads, reads_of};
 ghost use Rattle.edit.specs.Places.{are_ascending, is_first_before, IsPlace, IsAround};
 
 use crate::hashed::HashedChange;
@@ -22,6 +23,26 @@ impl<'k> Model for Change<'k> {
     ghost Value = { List ℕ × Option (List ℕ) };
 
     ghost view = { λ c. (c.key.now, c.value) };
+}
+
+/// What changes one key: a [`Change`], or what says more of one.
+pub trait Keyed {
+    ghost use Rattle.batch_laws.specs.Batch.{Change as Pair};
+
+    /// The change of a batch that it stands for.
+    ghost change: { Self → Pair };
+
+    /// The key that it changes.
+    fn key(&self) -> &[u8]
+        ensures { result.now ≡ (change self.now).0 };
+}
+
+impl<'k> Keyed for Change<'k> {
+    ghost change = { λ c. c };
+
+    fn key(&self) -> &[u8] {
+        self.key
+    }
 }
 
 impl<'k> Change<'k> {
@@ -93,5 +114,28 @@ pub(crate) fn changes_around<'c, D: Digest>(
         before,
         at: None,
         after: rest,
+    }
+}
+
+/// How many nodes a batch of these changes reads at most below a top of this layer.
+pub(crate) fn most_reads_below<D: Digest>(layer: u16, changes: &[HashedChange<'_, D>]) -> u128
+    ensures { result ≡ most_reads layer changes.now }
+{
+    let mut most = 0;
+    let mut left = changes.len();
+    while left > 0 {
+        left -= 1;
+        most += reads_below(layer, &changes[left]);
+    }
+    most
+}
+
+/// How many one change reads at most there: a put one node a layer, a delete two.
+fn reads_below<D: Digest>(layer: u16, change: &HashedChange<'_, D>) -> u128
+    ensures { result ≡ reads_of layer change.now.1 }
+{
+    match change.value() {
+        Some(_) => u128::from(layer),
+        None => 2 * u128::from(layer),
     }
 }

@@ -1,25 +1,25 @@
 //! What a batch adds to a set of blocks and drops from it.
 //!
-//! Blocks are found by the places of their CIDs (`places`), so a batch of any size costs little more than its blocks.
+//! Blocks are found by the places of their CIDs, so a batch of any size costs little more than its blocks.
 
-ghost use Rattle.std.specs.Prelude.{◌≡◌, ◌∷◌, [], ◌++◌, map, IfOk, IfErr, OnOk};
+ghost use Rattle.std.specs.Prelude.{◌≡◌, ℕ, List, ◌∷◌, [], ◌++◌, length, map, IfOk, IfErr, OnOk};
 ghost use Rattle.std.specs.Arc.{arc_value};
 ghost use Rattle.spec.specs.Cid.{cid as cid_of};
-ghost use Rattle.edit.specs.Firsts.{HasPlaces};
+ghost use Rattle.edit.specs.Firsts.{HasPlaces, HasFirsts, first_place, place_in};
 ghost use Rattle.spec.specs.NodeFormat.{shape_bytes};
 ghost use Rattle.edit.specs.States.{shapes_in};
 ghost use Rattle.spec.specs.Blocks.{IsClashFree};
-ghost use Rattle.edit_laws.specs.Changes.{add_of, drop_of};
+ghost use Rattle.edit_laws.specs.Changes.{add_of, drop_of, has_cid};
 ghost use Rattle.edit.specs.Among.{IsAmong};
 ghost use Rattle.edit.specs.Refusals.{IsRefusal};
 
+use crate::edge::ReadNode;
 use crate::outcome::EditFault;
-use crate::places::Places;
-use crate::read_nodes::ReadNode;
 use crate::shown::Shown;
 use block::{Block, Collided};
 use cid::{Cid, Digest};
 use std::alloc::{AllocError, Allocator};
+use std::collections::BTreeMap;
 use std::sync::Arc;
 
 /// Of the blocks that were made those whose CIDs were not read, each once. A made block that has the CID of one that
@@ -58,8 +58,8 @@ pub(crate) fn dropped<D: Digest, A: Allocator + Clone>(
     made: &[Arc<Block<D, A>, A>],
     gone: &[ReadNode<'_, D, A>],
 ) -> Result<Vec<Cid, A>, AllocError>
-    ensures { IfOk result (λ dropped. dropped.items ≡ drop_of D.digest_of (map arc_value made.now)
-        (map arc_value gone.now)) }
+    ensures { IfOk result (λ dropped. dropped.items
+        ≡ drop_of D.digest_of (map arc_value made.now) (map arc_value gone.now)) }
 {
     let new = places_of_made(alloc.clone()?, made)?;
     let mut dropped = Vec::new(alloc);
@@ -111,7 +111,8 @@ fn is_among<D: Digest, A: Allocator + Clone, T: Shown<D, A>>(
     places: &Places<A>,
 ) -> Result<bool, EditFault<D, A>>
     requires { HasPlaces (map (cid_of D.digest_of) (map T.bytes others.now)) places.now }
-    ensures found { IfOk result (IsAmong D.digest_of (arc_value block.now) (map T.bytes others.now)) }
+    ensures found { IfOk result
+        (IsAmong D.digest_of (arc_value block.now) (map T.bytes others.now)) }
     ensures fault { IfErr result
         (IsRefusal D.digest_of (arc_value block.now ∷ map T.bytes others.now) ⊥) }
 {
@@ -142,4 +143,75 @@ fn is_same<D: Digest, A: Allocator>(
         return Ok(true);
     }
     Err(EditFault::Clash(Collided::of_shared(one, other)?))
+}
+
+/// How long a list is at most that is looked through.
+const FEW: usize = 24;
+
+/// The first place of each CID in a list that grows: the list itself where it is short, else a map.
+#[derive(Drop)]
+pub(crate) enum Places<A: Allocator> {
+    Few(Vec<Cid, A>),
+    Many(BTreeMap<Cid, usize, A>),
+}
+
+impl<A: Allocator + Clone> Places<A> {
+    /// Of the empty list, where so many are to come.
+    pub(crate) fn new(alloc: A, count: usize) -> Result<Places<A>, AllocError>
+        ensures { IfOk result (HasPlaces []) }
+    {
+        if count > FEW {
+            return Ok(Places::Many(BTreeMap::new(alloc)));
+        }
+        Ok(Places::Few(Vec::with_capacity(alloc, count)?))
+    }
+
+    /// The place of a CID.
+    pub(crate) fn find(&self, cid: &Cid) -> Option<usize>
+        ensures { result ≡ place_in self.now cid.now }
+    {
+        match self {
+            Places::Few(cids) => place_among(cids, cid),
+            Places::Many(places) => places.get(cid).copied(),
+        }
+    }
+
+    /// Whether the list has a CID.
+    pub(crate) fn has(&self, cid: &Cid) -> bool
+        ensures { (cids : List (List ℕ)) → HasPlaces cids self.now
+            → result ≡ has_cid cid.now cids }
+    {
+        self.find(cid).is_some()
+    }
+
+    /// One more comes, after so many.
+    pub(crate) fn push(&mut self, cid: Cid, count: usize) -> Result<(), AllocError>
+        ensures { (cids : List (List ℕ)) → HasPlaces cids self.old → count ≡ length cids
+            → OnOk result (HasPlaces (cids ++ cid ∷ []) self.new) }
+    {
+        match self {
+            Places::Few(cids) => Ok(cids.push(cid)?),
+            Places::Many(places) => put_first(places, cid, count),
+        }
+    }
+}
+
+/// Where a CID stands first among some.
+fn place_among(cids: &[Cid], cid: &Cid) -> Option<usize>
+    ensures { result ≡ first_place cid.now cids.now }
+{
+    cids.iter().position(|other| other.is_same(cid))
+}
+
+/// One more CID comes, after so many; where it is there, it keeps its place.
+fn put_first<A: Allocator + Clone>(
+    places: &mut BTreeMap<Cid, usize, A>,
+    cid: Cid,
+    count: usize,
+) -> Result<(), AllocError>
+    ensures { (cids : List (List ℕ)) → HasFirsts cids places.old → count ≡ length cids
+        → OnOk result (HasFirsts (cids ++ cid ∷ []) places.new) }
+{
+    places.entry(cid)?.or_insert(count);
+    Ok(())
 }

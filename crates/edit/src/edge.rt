@@ -1,34 +1,111 @@
-//! The right edge of the new tree, and a pair that comes to it.
+//! The right edge of the new tree, the nodes that are read for it, and a pair that comes to it.
 
+ghost use Rattle.std.specs.Arc.{arc_value};
+ghost use Rattle.lookups.specs.Nodes.{IsNodeOf};
+ghost use Rattle.rows.specs.Drafts.{shape_in};
 ghost use Rattle.std.specs.Prelude.{◌≡◌, ◌<◌, ◌≤◌, ◌+◌, ◌∷◌, ◌++◌, [], List, Option, None, Some, length, take, drop, IfOk, IfErr, OnOk, Ok, ℕ};
 ghost use Rattle.lookups.specs.Steps.{nodes_given};
 ghost use Rattle.rows.specs.Drafts.{pair_of};
 ghost use Rattle.rows.specs.Entries.{shape_of};
-ghost use Rattle.batch_laws.specs.Links.{Rows, LinkEdge, LinkClear, Log, ask, add_row, opening, closing, link_edge, pairing, Step};
+ghost use Rattle.batch_laws.specs.Links.{Rows, LinkEdge, LinkClear, Log, add_row, closing, link_edge, pairing, Step};
 ghost use Rattle.edit_laws.specs.Lawful.{HasKeys};
 ghost use Rattle.batch_laws.specs.Written.{AllGoOn, AreWritten};
 ghost use Rattle.edit.specs.Edges.{edge_of, within};
-ghost use Rattle.edit.specs.Stops.{IsRefused, IsStopped, IsUnread, IsOnward, all_closed, open_edge};
-ghost use Rattle.edit.specs.Halts.{most_in, IsHalted, IsHaltedFrom, IsStill};
+ghost use Rattle.edit.specs.Steps.{IsOpening, IsRead, IsShown, Makes, ReadsNothing};
+ghost use Rattle.edit.specs.Stops.{IsRefused, IsStopped, IsOnward, all_closed};
+ghost use Rattle.edit.specs.Halts.{IsHaltedFrom};
 ghost use Rattle.edit.specs.States.{edge_in, log_in, IsOpened, IsOpenAt, IsAdded, IsCountedOn, KeepsWithin};
 
-use crate::faults::Fault;
-use crate::level::Level;
-use crate::read_nodes::{ReadNode, count_to};
+use crate::level::{close, copy_rows};
+use crate::outcome::Fault;
 use block::Block;
 use cid::{Cid, CidRef, Digest};
 use lookups::{Source, view_of};
 use node::{KeyBuf, NodeView};
-use rows::{DraftFault, KeyedEntries, Made};
-use std::alloc::{AllocError, Allocator};
+use rows::{DraftFault, KeyedEntries, Made, Writer};
+use std::alloc::{AllocError, Allocator, Global};
 use std::clone::Clone;
+use std::marker::Model;
 use std::sync::Arc;
+
+/// A block that a source lent, and that was found to be a node when it was read.
+///
+/// A contract sees it as the block.
+#[derive(Drop)]
+pub(crate) struct ReadNode<'a, D: Digest, A: Allocator = Global> {
+    block: &'a Arc<Block<D, A>, A>,
+
+    /// How many layers below the top of the new tree it was read.
+    depth: usize,
+
+    /// How many were read up to the one read last on a layer above its own.
+    above: usize,
+}
+
+impl<'a, D: Digest, A: Allocator> Model for ReadNode<'a, D, A> {
+    ghost use Rattle.std.specs.Prelude.{ℕ, List};
+    ghost use Rattle.std.specs.Arc.{arc_value};
+    ghost use Rattle.std.specs.declared.sync.Arc.{Arc};
+    ghost use Rattle.lookups.specs.Nodes.{IsNodeOf};
+    ghost use Rattle.rows.specs.Drafts.{shape_in};
+
+    ghost Value = { Arc (List ℕ) A };
+
+    ghost view = { λ n. n.block.now };
+
+    ghost invariant = { λ n. IsNodeOf (arc_value n.block.now) (shape_in (arc_value n.block.now)) };
+}
+
+impl<'a, D: Digest, A: Allocator> ReadNode<'a, D, A> {
+    /// A block that was read as a node, at this depth. So many were read up to the one read last on a layer above its own.
+    pub(crate) fn of(
+        block: &'a Arc<Block<D, A>, A>,
+        depth: usize,
+        above: usize,
+    ) -> ReadNode<'a, D, A>
+        requires { IsNodeOf (arc_value block.now) (shape_in (arc_value block.now)) }
+        ensures { result ≡ block.now }
+    {
+        ReadNode {
+            block,
+            depth,
+            above,
+        }
+    }
+
+    /// The block.
+    pub(crate) fn block(&self) -> &'a Arc<Block<D, A>, A>
+        ensures same { result.now ≡ self.now }
+        ensures node { IsNodeOf (arc_value self.now) (shape_in (arc_value self.now)) }
+    {
+        self.block
+    }
+}
+
+/// How many of these nodes were read up to the last one of this depth or less. All that were read after it lie deeper.
+///
+/// Each node says where the next one above it stands, so that one node a layer is looked at. No contract says what is
+/// answered: who asks compares bytes.
+pub(crate) fn count_to<D: Digest, A: Allocator>(
+    read: &[ReadNode<'_, D, A>],
+    depth: usize,
+) -> usize {
+    let mut count = read.len();
+    while count > 0 {
+        let node = &read[count - 1];
+        if node.depth <= depth {
+            return count;
+        }
+        count = node.above.min(count - 1);
+    }
+    0
+}
 
 /// The right edge of a tree in the making: the node of each open layer, from the top down, and what waits below the lowest
 /// of them; with what was read and made for it.
 #[derive(Drop)]
 pub(crate) struct Edge<'a, D: Digest, A: Allocator> {
-    pub(crate) levels: Vec<Level<'a, A>, A>,
+    pub(crate) levels: Vec<Writer<'a, A>, A>,
     pub(crate) rest: Option<Cid>,
     pub(crate) read: Vec<ReadNode<'a, D, A>, A>,
     pub(crate) made: Made<D, A>,
@@ -38,13 +115,13 @@ pub(crate) struct Edge<'a, D: Digest, A: Allocator> {
 }
 
 /// Keys of the grammar may go on in each of these layers. This is a statement for proofs alone.
-fn go_on<A: Allocator + Clone>(levels: &[Level<'_, A>])
+fn go_on<A: Allocator + Clone>(levels: &[Writer<'_, A>])
     ensures { (rest : Option (List ℕ)) → AllGoOn HasKeys (edge_of levels.now rest) }
 {
     let [first, others @ ..] = levels else {
         return;
     };
-    first.goes_on();
+    first.has_keys();
     go_on(others);
 }
 
@@ -93,8 +170,7 @@ impl<'a, D: Digest, A: Allocator + Clone> Edge<'a, D, A> {
         ensures closed { IfOk result (λ link. closing D.digest_of
             (edge_of (drop depth self.old.levels.items) self.old.rest) (log_in self.old)
             ≡ (link, log_in self.new)) }
-        ensures read { self.new.read.items ≡ self.old.read.items }
-        ensures budget { self.new.left ≡ self.old.left }
+        ensures reads { ReadsNothing self.old self.new }
         ensures fault { IfErr result (IsRefused (all_closed D.digest_of
             (edge_of (drop depth self.old.levels.items) self.old.rest) (log_in self.old))) }
     {
@@ -105,7 +181,7 @@ impl<'a, D: Digest, A: Allocator + Clone> Edge<'a, D, A> {
             unreachable!()
         };
         let like = self.read_last();
-        self.rest = level.close(self.rest, like, &mut self.made)?;
+        self.rest = close(level, self.rest, like, &mut self.made)?;
         self.close_below(depth)
     }
 
@@ -116,18 +192,18 @@ impl<'a, D: Digest, A: Allocator + Clone> Edge<'a, D, A> {
             self.old.levels.items self.old.rest (log_in self.old)
             self.new.levels.items (log_in self.new)) }
         ensures rest { OnOk result (self.new.rest ≡ None) }
-        ensures read { self.new.read.items ≡ self.old.read.items }
-        ensures budget { self.new.left ≡ self.old.left }
+        ensures reads { ReadsNothing self.old self.new }
         ensures fault { (above : List Rows) (rows : Rows)
             → take (depth + 1) self.old.levels.items ≡ above ++ (rows ∷ [])
-            → IfErr result (IsRefused (add_row (pair_of key.now value.entry) rows (closing D.digest_of
-            (edge_of (drop (depth + 1) self.old.levels.items) self.old.rest) (log_in self.old)))) }
+            → IfErr result (IsRefused (add_row (pair_of key.now value.entry) rows
+            (closing D.digest_of (edge_of (drop (depth + 1) self.old.levels.items) self.old.rest)
+            (log_in self.old)))) }
     {
         let link = self.close_below(depth + 1)?;
-        let Some(level) = self.levels.pop() else {
+        let Some(mut level) = self.levels.pop() else {
             unreachable!()
         };
-        let level = level.with_pair(link, key, value)?;
+        level.pair(link, key, value)?;
         self.levels.push(level)?;
         self.rest = None;
         Ok(())
@@ -142,15 +218,8 @@ impl<'a, D: Digest + 'a, A: Allocator + Clone + 'a> Edge<'a, D, A> {
         depth: usize,
         cid: Cid,
     ) -> Result<NodeView<'a>, Fault>
-        ensures shown { IfOk result (λ view. ask (nodes_given (S.gives src.old)) cid
-            LinkClear (log_in self.old) ≡ Ok (shape_of view, log_in self.new)) }
-        ensures counted { OnOk result (IsCountedOn (S.reads src.old) self.old (S.reads src.new) self.new) }
-        ensures levels { self.new.levels.items ≡ self.old.levels.items }
-        ensures rest { self.new.rest ≡ self.old.rest }
-        ensures same { S.gives src.new ≡ S.gives src.old }
-        ensures unread { IfErr result (IsUnread (S.gives src.old) (S.reads src.old, self.old.left)
-            (S.reads src.new) cid (nodes_given (S.gives src.old) cid)) }
-        ensures still { IfErr result (IsStill self.old self.new) }
+        ensures { IsRead S.gives S.reads src.old src.new self.old self.new cid
+            (λ shows view. IsShown shows cid self.old self.new (shape_of view)) result }
     {
         self.left = self.left.checked_sub(1).ok_or(Fault::NotTree)?;
         let Some(block) = src.get(&cid) else {
@@ -171,15 +240,8 @@ impl<'a, D: Digest + 'a, A: Allocator + Clone + 'a> Edge<'a, D, A> {
         depth: usize,
         cid: Cid,
     ) -> Result<KeyedEntries<'a, A>, Fault>
-        ensures shown { IfOk result (λ rows. ask (nodes_given (S.gives src.old)) cid
-            LinkClear (log_in self.old) ≡ Ok (rows.rest, log_in self.new)) }
-        ensures counted { OnOk result (IsCountedOn (S.reads src.old) self.old (S.reads src.new) self.new) }
-        ensures levels { self.new.levels.items ≡ self.old.levels.items }
-        ensures rest { self.new.rest ≡ self.old.rest }
-        ensures same { S.gives src.new ≡ S.gives src.old }
-        ensures unread { IfErr result (IsUnread (S.gives src.old) (S.reads src.old, self.old.left)
-            (S.reads src.new) cid (nodes_given (S.gives src.old) cid)) }
-        ensures still { IfErr result (IsStill self.old self.new) }
+        ensures { IsRead S.gives S.reads src.old src.new self.old self.new cid
+            (λ shows rows. IsShown shows cid self.old self.new rows.rest) result }
     {
         let view = self.view(src, depth, cid)?;
         Ok(KeyedEntries::of(&view, KeyBuf::new(self.alloc()?)?))
@@ -187,29 +249,20 @@ impl<'a, D: Digest + 'a, A: Allocator + Clone + 'a> Edge<'a, D, A> {
 
     /// One layer more is open: that of the node that waits, which is read, or one without pairs.
     fn open_level<S: Source<&'a Arc<Block<D, A>, A>>>(&mut self, src: &mut S) -> Result<(), Fault>
-        ensures opened { OnOk result (IsOpened (nodes_given (S.gives src.old))
-            self.old.levels.items self.old.rest (log_in self.old)
-            self.new.levels.items self.new.rest (log_in self.new)) }
-        ensures counted { OnOk result (IsCountedOn (S.reads src.old) self.old (S.reads src.new) self.new) }
-        ensures same { S.gives src.new ≡ S.gives src.old }
-        ensures stopped { IfErr result (IsStopped (S.gives src.old) (S.reads src.old, self.old.left)
-            (S.reads src.new) (log_in self.old) (open_edge (opening (nodes_given (S.gives src.old))
-            (link_edge self.old.rest) (log_in self.old)))) }
-        ensures still { IfErr result (IsStill self.old self.new) }
-        ensures halted { IfErr result (IsHalted (most_in self.old) (link_edge self.old.rest)
-            (log_in self.old) (open_edge (opening (nodes_given (S.gives src.old))
-            (link_edge self.old.rest) (log_in self.old)))) }
+        ensures { IsOpening S.gives S.reads src.old src.new self.old self.new
+            (link_edge self.old.rest)
+            (λ shows. IsOpened shows self.old.levels.items self.old.rest (log_in self.old)
+            self.new.levels.items self.new.rest (log_in self.new)) result }
     {
         let Some(cid) = self.rest else {
-            let level = Level::new(self.alloc()?);
+            let level = Writer::new(self.alloc()?);
             self.levels.push(level)?;
             return Ok(());
         };
         let depth = self.levels.len();
         let mut rows = self.rows(src, depth, cid)?;
-        let opened = Level::new(self.alloc()?).with_rows(&mut rows)?;
-        let (level, link) = opened;
-        self.rest = link;
+        let mut level = Writer::new(self.alloc()?);
+        self.rest = copy_rows(&mut level, &mut rows)?;
         self.levels.push(level)?;
         Ok(())
     }
@@ -223,7 +276,8 @@ impl<'a, D: Digest + 'a, A: Allocator + Clone + 'a> Edge<'a, D, A> {
         ensures keeps { OnOk result (KeepsWithin (nodes_given (S.gives src.old)) count
             (edge_in self.old) (log_in self.old) (edge_in self.new) (log_in self.new)) }
         ensures long { OnOk result (count ≤ length self.new.levels.items) }
-        ensures counted { OnOk result (IsCountedOn (S.reads src.old) self.old (S.reads src.new) self.new) }
+        ensures counted { OnOk result
+            (IsCountedOn (S.reads src.old) self.old (S.reads src.new) self.new) }
         ensures same { S.gives src.new ≡ S.gives src.old }
         ensures stopped { (f : LinkEdge → Log → Step LinkEdge) → IsOnward f
             → IfErr result (IsStopped (S.gives src.old) (S.reads src.old, self.old.left)
@@ -246,19 +300,10 @@ impl<'a, D: Digest + 'a, A: Allocator + Clone + 'a> Edge<'a, D, A> {
         depth: usize,
     ) -> Result<(), Fault>
         requires above { depth ≤ length self.old.levels.items }
-        ensures opened { OnOk result (IsOpenAt (nodes_given (S.gives src.old)) depth
-            self.old.levels.items self.old.rest (log_in self.old)
-            self.new.levels.items self.new.rest (log_in self.new)) }
-        ensures counted { OnOk result (IsCountedOn (S.reads src.old) self.old (S.reads src.new) self.new) }
-        ensures same { S.gives src.new ≡ S.gives src.old }
-        ensures stopped { IfErr result (IsStopped (S.gives src.old) (S.reads src.old, self.old.left)
-            (S.reads src.new) (log_in self.old) (open_edge (opening (nodes_given (S.gives src.old))
-            (edge_of (drop depth self.old.levels.items) self.old.rest) (log_in self.old)))) }
-        ensures still { IfErr result (IsStill self.old self.new) }
-        ensures halted { IfErr result (IsHalted (most_in self.old)
-            (edge_of (drop depth self.old.levels.items) self.old.rest) (log_in self.old)
-            (open_edge (opening (nodes_given (S.gives src.old))
-            (edge_of (drop depth self.old.levels.items) self.old.rest) (log_in self.old)))) }
+        ensures { IsOpening S.gives S.reads src.old src.new self.old self.new
+            (edge_of (drop depth self.old.levels.items) self.old.rest)
+            (λ shows. IsOpenAt shows depth self.old.levels.items self.old.rest (log_in self.old)
+            self.new.levels.items self.new.rest (log_in self.new)) result }
     {
         if depth < self.levels.len() {
             return Ok(());
@@ -274,17 +319,8 @@ impl<'a, D: Digest + 'a, A: Allocator + Clone + 'a> Edge<'a, D, A> {
         key: &[u8],
         value: CidRef<'_>,
     ) -> Result<(), Fault>
-        ensures paired { OnOk result (pairing D.digest_of (nodes_given (S.gives src.old)) depth
-            (pair_of key.now value.entry) (edge_in self.old) (log_in self.old)
-            ≡ Ok (edge_in self.new, log_in self.new)) }
-        ensures counted { OnOk result (IsCountedOn (S.reads src.old) self.old (S.reads src.new) self.new) }
-        ensures same { S.gives src.new ≡ S.gives src.old }
-        ensures stopped { IfErr result (IsStopped (S.gives src.old) (S.reads src.old, self.old.left)
-            (S.reads src.new) (log_in self.old) (pairing D.digest_of (nodes_given (S.gives src.old))
-            depth (pair_of key.now value.entry) (edge_in self.old) (log_in self.old))) }
-        ensures halted { IfErr result (IsHaltedFrom self.old self.new (pairing D.digest_of
-            (nodes_given (S.gives src.old)) depth (pair_of key.now value.entry) (edge_in self.old)
-            (log_in self.old))) }
+        ensures { Makes S.gives S.reads src.old src.new self.old self.new
+            (λ shows. pairing D.digest_of shows depth (pair_of key.now value.entry)) result }
     {
         self.open_to(src, depth)?;
         self.open_at(src, depth)?;

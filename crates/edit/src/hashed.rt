@@ -2,7 +2,7 @@
 
 ghost use Rattle.std.specs.Prelude.{◌≡◌, ◌≤◌, ◌∷◌, ◌++◌, [], IfOk, IfSome, OnOk};
 ghost use Rattle.spec.specs.Layer.{layer as layer_of};
-ghost use Rattle.edit.specs.Batches.{layers_for, put_layers};
+ghost use Rattle.batch_laws.specs.Counts.{layers_for, put_layers};
 
 use crate::changes::Change;
 use cid::{Cid, Digest, layer, layer_four};

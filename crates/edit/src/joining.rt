@@ -1,16 +1,18 @@
 //! A subtree that comes to the edge.
 
-ghost use Rattle.std.specs.Prelude.{◌≡◌, [], ◌∷◌, ◌++◌, ◌<◌, ◌≤◌, ◌+◌, ℕ, suc, List, Option, Some, map, take, drop, length, IfOk, IfErr, IfSome, IfNone, OnOk, Ok};
+ghost use Rattle.std.specs.Prelude.{◌≡◌, [], ◌∷◌, ◌++◌, ◌<◌, ◌≤◌, ◌+◌, ℕ, suc, List, Option, Some, take, drop, length, IfOk, IfErr, IfSome, IfNone, OnOk, Ok};
 ghost use Rattle.lookups.specs.Steps.{nodes_given};
-ghost use Rattle.batch_laws.specs.Links.{Rows, LinkEdge, Log, parting, subtreeing, Step};
+ghost use Rattle.batch_laws.specs.Links.{Rows, LinkEdge, parting, subtreeing, Step};
 ghost use Rattle.spec.specs.NodeFormat.{Shape};
 ghost use Rattle.edit.specs.Edges.{edge_of, joined, around};
 ghost use Rattle.edit.specs.Halts.{IsHaltedFrom};
+ghost use Rattle.edit.specs.Steps.{IsStep, Makes, ReadsNothing};
 ghost use Rattle.edit.specs.Stops.{IsRefused, IsStopped};
 ghost use Rattle.edit.specs.States.{edge_in, log_in, shapes_coming, IsComing, IsWaiting, IsOnTheWay, IsArrived, IsJoined, IsCountedOn};
 
 use crate::edge::Edge;
-use crate::faults::Fault;
+use crate::level::copy_rows;
+use crate::outcome::Fault;
 use block::Block;
 use cid::{Cid, Digest};
 use lookups::Source;
@@ -27,8 +29,7 @@ impl<'a, D: Digest, A: Allocator + Clone> Edge<'a, D, A> {
         ensures joined { OnOk result (IsJoined D.digest_of depth rows.entry.rest
             self.old.levels.items self.old.rest (log_in self.old)
             self.new.levels.items self.new.rest (log_in self.new)) }
-        ensures read { self.new.read.items ≡ self.old.read.items }
-        ensures budget { self.new.left ≡ self.old.left }
+        ensures reads { ReadsNothing self.old self.new }
         ensures fault { (above : List Rows) (begun : Rows)
             → take (depth + 1) self.old.levels.items ≡ above ++ (begun ∷ [])
             → IfErr result (IsRefused (joined D.digest_of begun rows.entry.rest (Ok
@@ -38,13 +39,11 @@ impl<'a, D: Digest, A: Allocator + Clone> Edge<'a, D, A> {
             return Ok(());
         };
         let link = self.close_below(depth + 1)?;
-        let Some(level) = self.levels.pop() else {
+        let Some(mut level) = self.levels.pop() else {
             unreachable!()
         };
-        let level = level.with_pair(link, rows.key(), value)?;
-        let filled = level.with_rows(&mut rows)?;
-        let (level, last) = filled;
-        self.rest = last;
+        level.pair(link, rows.key(), value)?;
+        self.rest = copy_rows(&mut level, &mut rows)?;
         self.levels.push(level)?;
         Ok(())
     }
@@ -59,8 +58,7 @@ impl<'a, D: Digest, A: Allocator + Clone> Edge<'a, D, A> {
         ensures joined { (all : Step LinkEdge) → IsArrived D.digest_of all depth
             (shapes_coming coming.entry.items) self.old.levels.items self.old.rest (log_in self.old)
             → OnOk result (all ≡ Ok (edge_in self.new, log_in self.new)) }
-        ensures read { self.new.read.items ≡ self.old.read.items }
-        ensures budget { self.new.left ≡ self.old.left }
+        ensures reads { ReadsNothing self.old self.new }
         ensures fault { (all : Step LinkEdge) → IsArrived D.digest_of all depth
             (shapes_coming coming.entry.items) self.old.levels.items self.old.rest (log_in self.old)
             → IfErr result (IsRefused all) }
@@ -91,7 +89,8 @@ impl<'a, D: Digest + 'a, A: Allocator + Clone + 'a> Edge<'a, D, A> {
             (nodes_given (S.gives src.old)) depth cid
             self.old.levels.items self.old.rest (log_in self.old) rows.rest
             self.new.levels.items self.new.rest (log_in self.new))) }
-        ensures counted { OnOk result (IsCountedOn (S.reads src.old) self.old (S.reads src.new) self.new) }
+        ensures counted { OnOk result
+            (IsCountedOn (S.reads src.old) self.old (S.reads src.new) self.new) }
         ensures same { S.gives src.new ≡ S.gives src.old }
         ensures stopped { (k : ℕ) → IfErr result (IsStopped (S.gives src.old)
             (S.reads src.old, self.old.left) (S.reads src.new) (log_in self.old)
@@ -121,24 +120,14 @@ impl<'a, D: Digest + 'a, A: Allocator + Clone + 'a> Edge<'a, D, A> {
         cid: Cid,
     ) -> Result<Vec<KeyedEntries<'a, A>, A>, Fault>
         requires above { depth ≤ length self.old.levels.items }
-        ensures arrived { (all : Step LinkEdge) → IsOnTheWay D.digest_of
+        ensures step { (all : Step LinkEdge) → IsOnTheWay D.digest_of
             (nodes_given (S.gives src.old)) all depth layers (Some cid) []
             self.old.levels.items self.old.rest (log_in self.old)
-            → IfOk result (λ coming. IsArrived D.digest_of all depth (shapes_coming coming.items)
-            self.new.levels.items self.new.rest (log_in self.new)) }
+            → IsStep S.gives S.reads src.old src.new self.old self.new
+            (λ _ coming. IsArrived D.digest_of all depth (shapes_coming coming.items)
+            self.new.levels.items self.new.rest (log_in self.new)) (λ _. all) result }
         ensures within { IfOk result
             (λ coming. depth + length coming.items ≤ length self.new.levels.items) }
-        ensures counted { OnOk result (IsCountedOn (S.reads src.old) self.old (S.reads src.new) self.new) }
-        ensures same { S.gives src.new ≡ S.gives src.old }
-        ensures stopped { (all : Step LinkEdge) → IsOnTheWay D.digest_of
-            (nodes_given (S.gives src.old)) all depth layers (Some cid) []
-            self.old.levels.items self.old.rest (log_in self.old)
-            → IfErr result (IsStopped (S.gives src.old) (S.reads src.old, self.old.left)
-            (S.reads src.new) (log_in self.old) all) }
-        ensures halted { (all : Step LinkEdge) → IsOnTheWay D.digest_of
-            (nodes_given (S.gives src.old)) all depth layers (Some cid) []
-            self.old.levels.items self.old.rest (log_in self.old)
-            → IfErr result (IsHaltedFrom self.old self.new all) }
     {
         let mut coming = Vec::new(self.alloc()?);
         let mut next = Some(cid);
@@ -165,18 +154,8 @@ impl<'a, D: Digest + 'a, A: Allocator + Clone + 'a> Edge<'a, D, A> {
         layers: u16,
         cid: Cid,
     ) -> Result<(), Fault>
-        ensures grown { OnOk result (subtreeing D.digest_of (nodes_given (S.gives src.old))
-            layers depth cid (edge_in self.old) (log_in self.old)
-            ≡ Ok (edge_in self.new, log_in self.new)) }
-        ensures counted { OnOk result (IsCountedOn (S.reads src.old) self.old (S.reads src.new) self.new) }
-        ensures same { S.gives src.new ≡ S.gives src.old }
-        ensures stopped { IfErr result (IsStopped (S.gives src.old) (S.reads src.old, self.old.left)
-            (S.reads src.new) (log_in self.old) (subtreeing D.digest_of
-            (nodes_given (S.gives src.old)) layers depth cid (edge_in self.old)
-            (log_in self.old))) }
-        ensures halted { IfErr result (IsHaltedFrom self.old self.new (subtreeing D.digest_of
-            (nodes_given (S.gives src.old)) layers depth cid (edge_in self.old)
-            (log_in self.old))) }
+        ensures { Makes S.gives S.reads src.old src.new self.old self.new
+            (λ shows. subtreeing D.digest_of shows layers depth cid) result }
     {
         self.open_to(src, depth)?;
         let coming = self.descend(src, depth, layers, cid)?;

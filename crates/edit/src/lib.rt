@@ -31,35 +31,29 @@
 //! subtree waits until something else comes into its gap, and is opened then. So a split, a merge, a raised top and a
 //! pruned one are nothing of their own.
 //!
-//! `walk` is the one side, over the `changes` around each key, each of which was `hashed` once; `edge`, with a `level` for
-//! each layer, `joining` and `tops` are the other, and `budgets` says how many nodes may be read. `whole` puts them
-//! together, `differences` compares what was read with what was made, `applying` is the call for many keys, and `singles` has
-//! those for one.
+//! `walk` is the one side, over the `changes` around each key, each of which was `hashed` once; `edge`, with `level` for what
+//! comes to one layer, `joining` and `tops` are the other. `whole` puts them together, `differences` compares what was read
+//! with what was made, `applying` is the call for many keys, and `singles` has those for one.
 #![tactic(auto)]
 
 mod applying;
-mod budgets;
 mod changes;
 mod differences;
 mod edge;
-mod faults;
 mod hashed;
 mod joining;
 mod level;
 mod outcome;
 mod passing;
-mod places;
 mod previews;
-mod read_nodes;
 mod shown;
 mod singles;
-mod tasks;
 mod tops;
 mod walk;
 mod whole;
 
-pub use applying::{apply, are_changes};
-pub use changes::Change;
+pub use applying::{apply, are_changes, are_keyed};
+pub use changes::{Change, Keyed};
 pub use node::is_key;
 pub use outcome::{BatchEdit, Edit, EditFault};
 pub use previews::{BatchPreview, preview};

@@ -1,11 +1,13 @@
-//! What a change leaves, or why there is no edit.
+//! What a change leaves, or why there is no edit: a fault of the walk, and what it is to the caller.
 
 ghost use Rattle.std.specs.Prelude.{◌≡◌};
+ghost use Rattle.edit.specs.Stops.{draft_fault_of};
 ghost use Rattle.edit.specs.declared.outcome.EditFault.TheVariants.{NoMemory};
+ghost use Rattle.edit.specs.declared.outcome.Fault.TheVariants as walks;
 
-use crate::faults::Fault;
 use block::{Block, Collided};
 use cid::{Cid, Digest};
+use rows::DraftFault;
 use std::alloc::{AllocError, AllocFailed, Allocator, Global};
 use std::sync::Arc;
 use thiserror::Error;
@@ -103,6 +105,52 @@ impl<D: Digest, A: Allocator> From<Fault> for EditFault<D, A> {
             Fault::TooDeep => EditFault::TooDeep,
             Fault::NotTree => EditFault::NotTree,
             Fault::NoMemory => EditFault::NoMemory,
+        }
+    }
+}
+
+/// Why the walk stopped.
+#[derive(Clone, Copy, Debug, Drop)]
+pub(crate) enum Fault {
+    /// The source lacks the node with this CID, which was to be read.
+    Missing(Cid),
+
+    /// What the source gives for this CID is no node.
+    BadNode(Cid),
+
+    /// A link stands below layer 0.
+    TooDeep,
+
+    /// More nodes are read than a tree needs, or keys don't ascend in a node that is made.
+    NotTree,
+
+    /// Memory was refused.
+    NoMemory,
+}
+
+impl From<AllocError> for Fault {
+    ghost from_gives = { λ _ fault. fault ≡ walks.NoMemory };
+
+    fn from(_: AllocError) -> Fault {
+        Fault::NoMemory
+    }
+}
+
+impl<T: Drop> From<AllocFailed<T>> for Fault {
+    ghost from_gives = { λ _ fault. fault ≡ walks.NoMemory };
+
+    fn from(_: AllocFailed<T>) -> Fault {
+        Fault::NoMemory
+    }
+}
+
+impl From<DraftFault> for Fault {
+    ghost from_gives = { λ given fault. fault ≡ draft_fault_of given };
+
+    fn from(fault: DraftFault) -> Fault {
+        match fault {
+            DraftFault::NotNode => Fault::NotTree,
+            DraftFault::NoMemory => Fault::NoMemory,
         }
     }
 }

@@ -1,17 +1,17 @@
 //! Pairs of an old node that no change touches, which come to the edge as they stand.
 
-ghost use Rattle.std.specs.Prelude.{◌≡◌, ◌+◌, ◌++◌, ◌∷◌, [], ℕ, List, Option, true, None, is_some, length, IfOk, IfErr, OnOk};
+ghost use Rattle.std.specs.Prelude.{◌≡◌, ◌+◌, ℕ, List, Option, true, None, is_some, length};
 ghost use Rattle.rows.specs.Entries.{shape_at};
-ghost use Rattle.edit.specs.Edges.{edge_of};
-ghost use Rattle.edit.specs.Passing.{IsUntouched, IsTaken, IsPassed, IsUnpassed};
+ghost use Rattle.edit.specs.Passing.{IsUntouched, IsPassed};
 ghost use Rattle.edit.specs.Places.{are_ascending};
-ghost use Rattle.edit.specs.States.{edge_in, log_in};
+ghost use Rattle.edit.specs.States.{edge_in};
+ghost use Rattle.edit.specs.Steps.{IsPassing};
 
 use crate::edge::Edge;
 use crate::hashed::HashedChange;
-use crate::level::Level;
+use crate::level::copy_untouched;
 use cid::{Cid, Digest};
-use rows::{DraftFault, KeyedEntries, to_cid};
+use rows::{DraftFault, KeyedEntries, Writer, to_cid};
 use std::alloc::Allocator;
 use std::clone::Clone;
 
@@ -60,13 +60,9 @@ impl<'a, D: Digest, A: Allocator + Clone> Edge<'a, D, A> {
         changes: &[HashedChange<'_, D>],
     ) -> Result<Ahead, DraftFault>
         requires ascending { are_ascending changes.now ≡ true }
-        ensures passed { IfOk result (λ next. IsPassed layer depth changes.now
-            rows.old.rest (shape_at next.0 next.1 rows.new)
-            (edge_in self.old) (edge_in self.new)) }
-        ensures log { log_in self.new ≡ log_in self.old }
-        ensures budget { self.new.left ≡ self.old.left }
-        ensures fault { IfErr result (IsUnpassed layer depth changes.now
-            rows.old.rest (edge_in self.old) (log_in self.old)) }
+        ensures { IsPassing layer depth changes.now rows.old.rest self.old self.new
+            (λ next. IsPassed layer depth changes.now rows.old.rest
+            (shape_at next.0 next.1 rows.new) (edge_in self.old) (edge_in self.new)) result }
     {
         let None = self.rest else {
             return Ok(ahead_of(rows));
@@ -92,21 +88,16 @@ impl<'a, D: Digest, A: Allocator + Clone> Edge<'a, D, A> {
         requires ascending { are_ascending changes.now ≡ true }
         requires open { length self.old.levels.items ≡ depth + 1 }
         requires clear { self.old.rest ≡ None }
-        ensures passed { IfOk result (λ next. IsPassed layer depth changes.now
-            rows.old.rest (shape_at next.0 next.1 rows.new)
-            (edge_in self.old) (edge_in self.new)) }
-        ensures log { log_in self.new ≡ log_in self.old }
-        ensures budget { self.new.left ≡ self.old.left }
-        ensures fault { IfErr result (IsUnpassed layer depth changes.now
-            rows.old.rest (edge_in self.old) (log_in self.old)) }
+        ensures { IsPassing layer depth changes.now rows.old.rest self.old self.new
+            (λ next. IsPassed layer depth changes.now rows.old.rest
+            (shape_at next.0 next.1 rows.new) (edge_in self.old) (edge_in self.new)) result }
     {
-        let Some(level) = self.levels.pop() else {
+        let Some(mut level) = self.levels.pop() else {
             unreachable!()
         };
-        let taken = level.with_untouched(layer, rows, changes)?;
-        let (level, link, value) = taken;
+        let taken = copy_untouched(&mut level, layer, rows, changes)?;
         self.levels.push(level)?;
-        Ok((link, value))
+        Ok(taken)
     }
 
     /// The same, where all layers above the node's are open, and nothing stands below them.
@@ -120,20 +111,15 @@ impl<'a, D: Digest, A: Allocator + Clone> Edge<'a, D, A> {
         requires ascending { are_ascending changes.now ≡ true }
         requires closed { length self.old.levels.items ≡ depth }
         requires clear { self.old.rest ≡ None }
-        ensures passed { IfOk result (λ next. IsPassed layer depth changes.now
-            rows.old.rest (shape_at next.0 next.1 rows.new)
-            (edge_in self.old) (edge_in self.new)) }
-        ensures log { log_in self.new ≡ log_in self.old }
-        ensures budget { self.new.left ≡ self.old.left }
-        ensures fault { IfErr result (IsUnpassed layer depth changes.now
-            rows.old.rest (edge_in self.old) (log_in self.old)) }
+        ensures { IsPassing layer depth changes.now rows.old.rest self.old self.new
+            (λ next. IsPassed layer depth changes.now rows.old.rest
+            (shape_at next.0 next.1 rows.new) (edge_in self.old) (edge_in self.new)) result }
     {
-        let level = Level::new(self.alloc()?);
-        let taken = level.with_untouched(layer, rows, changes)?;
-        let (level, link, value) = taken;
+        let mut level = Writer::new(self.alloc()?);
+        let taken = copy_untouched(&mut level, layer, rows, changes)?;
         if level.has_pairs() {
             self.levels.push(level)?;
         }
-        Ok((link, value))
+        Ok(taken)
     }
 }

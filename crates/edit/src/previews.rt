@@ -9,10 +9,9 @@ ghost use Rattle.edit.specs.States.{shapes_in};
 ghost use Rattle.edit.specs.Previews.{IsPreviewed, IsPreviewedTree, IsPreviewLack, IsPreviewReached, IsPreviewWant};
 
 use crate::changes::Change;
-use crate::edge::Edge;
+use crate::edge::{Edge, ReadNode};
 use crate::hashed::hash_each;
 use crate::outcome::EditFault;
-use crate::read_nodes::ReadNode;
 use crate::whole::{Changed, change_tree};
 use block::Block;
 use cid::{Cid, Digest};
@@ -84,7 +83,8 @@ fn shared<D: Digest, A: Allocator>(
     alloc: A,
     read: &[ReadNode<'_, D, A>],
 ) -> Result<Vec<Arc<Block<D, A>, A>, A>, AllocError>
-    ensures { IfOk result (λ blocks. map arc_value blocks.items ≡ bytes_of (shapes_in read.now)) }
+    ensures { IfOk result
+        (λ blocks. map arc_value blocks.items ≡ bytes_of (shapes_in read.now)) }
 {
     let mut blocks = Vec::with_capacity(alloc, read.len())?;
     for node in read {

@@ -3,7 +3,7 @@
 ghost use Rattle.std.specs.Prelude.{◌≡◌, ℕ, List};
 ghost use Rattle.std.specs.Arc.{arc_value};
 
-use crate::read_nodes::ReadNode;
+use crate::edge::ReadNode;
 use block::Block;
 use cid::Digest;
 use std::alloc::Allocator;

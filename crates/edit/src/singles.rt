@@ -2,8 +2,7 @@
 
 ghost use Rattle.std.specs.Prelude.{◌≡◌, ◌≤◌, ◌+◌, ◌*◌, ◌/◌, ◌∷◌, [], ◌++◌, suc, length, map, true, Option, Some, None, IfOk, IfErr, OnOk};
 ghost use Rattle.std.specs.Arc.{arc_value};
-ghost use Rattle.spec.specs.Layer.{layer as layer_of};
-ghost use Rattle.spec.specs.NodeFormat.{is_key, Shape};
+ghost use Rattle.spec.specs.NodeFormat.{is_key};
 ghost use Rattle.spec.specs.Proof.{path};
 ghost use Rattle.edit_laws.specs.Laws.Edits.{bytes_of};
 ghost use Rattle.edit.specs.Changing.{HasPrevious, IsChanged, IsReadFor, IsUnchanged};
@@ -11,20 +10,17 @@ ghost use Rattle.edit.specs.Deletes.{CanReadDelete, nodes_read};
 ghost use Rattle.lookups.specs.Steps.{layers, IsWholePath, nodes_given};
 ghost use Rattle.lookups.specs.Trees.{OfTree, top_layer};
 ghost use Rattle.batch_laws.specs.Counts.{most_reads};
-ghost use Rattle.batch_laws.specs.Links.{Log, Top, Step};
-ghost use Rattle.batch_laws.specs.Previous.{previous_top};
-ghost use Rattle.edit.specs.Batches.{IsAnswer, answer_of, most_of};
+ghost use Rattle.batch_laws.specs.Links.{Top, Step};
+ghost use Rattle.edit.specs.Batches.{IsAnswer};
 ghost use Rattle.edit.specs.Refusals.{IsRefusal, IsMissing};
 ghost use Rattle.edit.specs.Singles.{first_value, IsPut, IsPutRefusal, IsPutLack, IsDelete, IsDeleteRefusal, IsDeleteLack};
 ghost use Rattle.edit.specs.States.{log_in};
-ghost use Rattle.edit.specs.Stops.{IsStopped, at_top};
 ghost use Rattle.edit.specs.Tops.{IsEnded};
 
 use crate::applying::difference_of;
 use crate::changes::Change;
-use crate::faults::Fault;
 use crate::hashed::HashedChange;
-use crate::outcome::{BatchEdit, Edit, EditFault};
+use crate::outcome::{BatchEdit, Edit, EditFault, Fault};
 use crate::whole::{Changed, change_tree};
 use block::Block;
 use cid::{Cid, Digest};
@@ -126,8 +122,10 @@ fn change_one<
     value: Option<Cid>,
 ) -> Result<Changed<'a, D, A>, Fault>
     requires least { 1 ≤ B }
-    ensures changed { IsChanged D.digest_of B (S.gives src.old) ((key.now, value) ∷ []) root result }
-    ensures previous { HasPrevious D.digest_of B (S.gives src.old) ((key.now, value) ∷ []) root result }
+    ensures changed { IsChanged D.digest_of B (S.gives src.old) ((key.now, value) ∷ []) root
+        result }
+    ensures previous { HasPrevious D.digest_of B (S.gives src.old) ((key.now, value) ∷ []) root
+        result }
     ensures counted { IsReadFor (S.reads src.old) (S.reads src.new) result }
     ensures same { S.gives src.new ≡ S.gives src.old }
     ensures stopped { IsUnchanged D.digest_of B (S.gives src.old) ((key.now, value) ∷ []) root

@@ -1,27 +1,27 @@
 //! The top of the tree that the edge has become.
 
-ghost use Rattle.std.specs.Prelude.{◌≡◌, ◌<◌, ◌≤◌, ◌+◌, ◌∷◌, ◌++◌, [], List, length, take, drop, IfOk, IfErr, OnOk};
-ghost use Rattle.lookups.specs.Steps.{nodes_given};
+ghost use Rattle.std.specs.Prelude.{◌≡◌, ◌<◌, ◌≤◌, ◌+◌, ◌∷◌, ◌++◌, [], List, length, take, drop, IfOk, IfErr};
 ghost use Rattle.batch_laws.specs.Links.{Rows, closing, new_top, pruning, topping};
 ghost use Rattle.edit.specs.Edges.{edge_of, highest_of};
-ghost use Rattle.edit.specs.Halts.{IsHaltedFrom, IsStill};
-ghost use Rattle.edit.specs.Stops.{IsRefused, IsStopped, IsUnread, at_top};
-ghost use Rattle.edit.specs.States.{edge_in, log_in, IsCountedOn};
+ghost use Rattle.edit.specs.Steps.{IsRead, IsStep, ReadsNothing};
+ghost use Rattle.batch_laws.specs.Within.{at_top};
+ghost use Rattle.edit.specs.Stops.{IsRefused};
+ghost use Rattle.edit.specs.States.{edge_in, log_in};
 ghost use Rattle.edit.specs.Tops.{IsTopped, IsLooked, IsTop, IsEnded};
 
 use crate::edge::Edge;
-use crate::faults::Fault;
-use crate::level::Level;
+use crate::level::close_top;
+use crate::outcome::Fault;
 use block::Block;
 use cid::{Cid, Digest};
 use lookups::Source;
-use rows::{DraftFault, to_cid};
+use rows::{DraftFault, Writer, to_cid};
 use std::alloc::Allocator;
 use std::clone::Clone;
 use std::sync::Arc;
 
 /// The depth of the highest layer with a pair, or how many layers are open where none has one.
-fn highest<A: Allocator + Clone>(levels: &[Level<'_, A>]) -> usize
+fn highest<A: Allocator + Clone>(levels: &[Writer<'_, A>]) -> usize
     ensures depth { result ≡ highest_of levels.now }
     ensures within { result ≤ length levels.now }
 {
@@ -40,8 +40,7 @@ impl<'a, D: Digest, A: Allocator + Clone> Edge<'a, D, A> {
         requires within { depth < length self.old.levels.items }
         ensures topped { IfOk result (λ root. IsTopped D.digest_of depth
             self.old.levels.items self.old.rest (log_in self.old) root (log_in self.new)) }
-        ensures read { self.new.read.items ≡ self.old.read.items }
-        ensures budget { self.new.left ≡ self.old.left }
+        ensures reads { ReadsNothing self.old self.new }
         ensures fault { (above : List Rows) (rows : Rows)
             → take (depth + 1) self.old.levels.items ≡ above ++ (rows ∷ [])
             → IfErr result (IsRefused (at_top (new_top D.digest_of rows (closing D.digest_of
@@ -53,7 +52,7 @@ impl<'a, D: Digest, A: Allocator + Clone> Edge<'a, D, A> {
             unreachable!()
         };
         let like = self.read_last();
-        level.close_top(link, like, &mut self.made)
+        close_top(level, link, like, &mut self.made)
     }
 }
 
@@ -64,13 +63,9 @@ impl<'a, D: Digest + 'a, A: Allocator + Clone + 'a> Edge<'a, D, A> {
         src: &mut S,
         cid: Cid,
     ) -> Result<Option<Cid>, Fault>
-        ensures looked { IfOk result (λ further. IsLooked (nodes_given (S.gives src.old)) cid
-            (log_in self.old) further (log_in self.new)) }
-        ensures counted { OnOk result (IsCountedOn (S.reads src.old) self.old (S.reads src.new) self.new) }
-        ensures same { S.gives src.new ≡ S.gives src.old }
-        ensures unread { IfErr result (IsUnread (S.gives src.old) (S.reads src.old, self.old.left)
-            (S.reads src.new) cid (nodes_given (S.gives src.old) cid)) }
-        ensures still { IfErr result (IsStill self.old self.new) }
+        ensures { IsRead S.gives S.reads src.old src.new self.old self.new cid
+            (λ shows further. IsLooked shows cid (log_in self.old) further (log_in self.new))
+            result }
     {
         // no layer is closed after this, so nothing asks for its depth
         let mut rows = self.rows(src, 0, cid)?;
@@ -88,15 +83,10 @@ impl<'a, D: Digest + 'a, A: Allocator + Clone + 'a> Edge<'a, D, A> {
         layers: u16,
         cid: Cid,
     ) -> Result<Cid, Fault>
-        ensures top { IfOk result (λ root. IsTop (pruning (nodes_given (S.gives src.old))
-            layers cid (log_in self.old)) root 1 (log_in self.new)) }
-        ensures counted { OnOk result (IsCountedOn (S.reads src.old) self.old (S.reads src.new) self.new) }
-        ensures same { S.gives src.new ≡ S.gives src.old }
-        ensures stopped { IfErr result (IsStopped (S.gives src.old) (S.reads src.old, self.old.left)
-            (S.reads src.new) (log_in self.old) (at_top (pruning (nodes_given (S.gives src.old))
-            layers cid (log_in self.old)))) }
-        ensures halted { IfErr result (IsHaltedFrom self.old self.new (at_top (pruning (nodes_given (S.gives src.old))
-            layers cid (log_in self.old)))) }
+        ensures { IsStep S.gives S.reads src.old src.new self.old self.new
+            (λ shows root. IsTop (pruning shows layers cid (log_in self.old))
+            root 1 (log_in self.new))
+            (λ shows. at_top (pruning shows layers cid (log_in self.old))) result }
     {
         let mut at = cid;
         let mut left = layers;
@@ -116,16 +106,11 @@ impl<'a, D: Digest + 'a, A: Allocator + Clone + 'a> Edge<'a, D, A> {
         src: &mut S,
         layers: u16,
     ) -> Result<(Cid, usize), Fault>
-        ensures ended { IfOk result (λ ended. IsEnded (topping D.digest_of
-            (nodes_given (S.gives src.old)) layers (edge_in self.old) (log_in self.old))
-            ended.0 ended.1 (log_in self.new)) }
-        ensures counted { OnOk result (IsCountedOn (S.reads src.old) self.old (S.reads src.new) self.new) }
-        ensures same { S.gives src.new ≡ S.gives src.old }
-        ensures stopped { IfErr result (IsStopped (S.gives src.old) (S.reads src.old, self.old.left)
-            (S.reads src.new) (log_in self.old) (at_top (topping D.digest_of
-            (nodes_given (S.gives src.old)) layers (edge_in self.old) (log_in self.old)))) }
-        ensures halted { IfErr result (IsHaltedFrom self.old self.new (at_top (topping D.digest_of
-            (nodes_given (S.gives src.old)) layers (edge_in self.old) (log_in self.old)))) }
+        ensures { IsStep S.gives S.reads src.old src.new self.old self.new
+            (λ shows ended. IsEnded (topping D.digest_of shows layers (edge_in self.old)
+            (log_in self.old)) ended.0 ended.1 (log_in self.new))
+            (λ shows. at_top (topping D.digest_of shows layers
+            (edge_in self.old) (log_in self.old))) result }
     {
         let depth = highest(&self.levels);
         if depth < self.levels.len() {
@@ -134,7 +119,7 @@ impl<'a, D: Digest + 'a, A: Allocator + Clone + 'a> Edge<'a, D, A> {
         }
         let Some(cid) = self.rest else {
             let like = self.read_last();
-            let root = Level::new(self.alloc()?).close_top(None, like, &mut self.made)?;
+            let root = close_top(Writer::new(self.alloc()?), None, like, &mut self.made)?;
             return Ok((root, self.read.len()));
         };
         let root = self.prune(src, layers, cid)?;

@@ -1,27 +1,14 @@
 //! The old tree in the order of keys, merged with the changes.
+//!
+//! What is still to come of it stands on an agenda, so that no depth of a tree takes stack.
 
-ghost use Rattle.std.specs.Prelude.{◌≡◌, ◌<◌, ◌≤◌, ◌+◌, ◌++◌, [], Some, true, IfOk, IfErr, OnOk, Ok};
-ghost use Rattle.spec.specs.Layer.{layer as layer_of};
-ghost use Rattle.lookups.specs.Steps.{nodes_given};
-ghost use Rattle.rows.specs.Drafts.{pair_of};
-ghost use Rattle.rows.specs.Entries.{shape_at};
-ghost use Rattle.batch_laws.specs.Batch.{entry, if_put, puts};
-ghost use Rattle.batch_laws.specs.Previous.{no_values, value_met, previous_node, previous_gap};
-ghost use Rattle.batch_laws.specs.Walking.{depth_of};
-ghost use Rattle.batch_laws.specs.Links.{pairs_in_turn};
-ghost use Rattle.edit.specs.Agenda.{ToGap, IsPutOff, IsGoneOn, IsDone, node_does, task_does};
-ghost use Rattle.edit.specs.Halts.{IsHaltedFrom};
-ghost use Rattle.edit.specs.Stops.{IsStopped};
-ghost use Rattle.edit.specs.States.{edge_in, log_in, IsCountedOn};
+ghost use Rattle.std.specs.Prelude.{◌≡◌, ◌<◌, ◌≤◌, ◌+◌, true};
 ghost use Rattle.edit.specs.Places.{are_ascending};
-ghost use Rattle.edit.specs.Agendas.{agenda_of, task_of, gap_of};
-ghost use Rattle.edit.specs.Passing.{IsUnpassed};
 
 use crate::changes::changes_around;
 use crate::edge::Edge;
-use crate::faults::Fault;
 use crate::hashed::HashedChange;
-use crate::tasks::{Agenda, NextGap, NextPair, Task};
+use crate::outcome::Fault;
 use block::Block;
 use cid::{Cid, CidRef, Digest};
 use lookups::Source;
@@ -30,50 +17,97 @@ use std::alloc::{AllocError, Allocator};
 use std::clone::Clone;
 use std::sync::Arc;
 
-/// What is left of a node of this depth and of so many layers below it is put off: its next gap comes next, and the pair
-/// after it later.
-fn put_off<'c, 'a, D: Digest, A: Allocator>(
-    agenda: &mut Agenda<'c, 'a, D, A>,
-    layer: u16,
-    depth: u16,
-    link: Option<Cid>,
-    value: Option<Cid>,
-    rows: KeyedEntries<'a, A>,
-    changes: &'c [HashedChange<'c, D>],
-) -> Result<(), AllocError>
-    requires fits { layer + depth < 65535 }
-    requires ascending { are_ascending changes.now ≡ true }
-    ensures { OnOk result (IsPutOff layer depth changes.now (shape_at link value rows.entry)
-        (agenda_of agenda.old.items) (agenda_of agenda.new.items)) }
-{
-    let Some(value) = value else {
+/// A pair of an old node that is still to come, with the change at its key, and what is left of the node after it, which
+/// also has its key, with the changes after that key. The node stands at this depth, and below it are so many layers.
+#[derive(Drop)]
+pub(crate) struct NextPair<'c, 'a, D: Digest, A: Allocator> {
+    pub(crate) layer: u16,
+    pub(crate) depth: u16,
+    pub(crate) value: Cid,
+    pub(crate) at: Option<Option<Cid>>,
+    pub(crate) rest: KeyedEntries<'a, A>,
+    pub(crate) changes: &'c [HashedChange<'c, D>],
+    pub(crate) ghost fits: { layer + depth < 65535 },
+    pub(crate) ghost ascending: { are_ascending changes.now ≡ true },
+}
+
+/// A gap of an old node, with the changes within it. What is in it stands at this depth, and has so many layers.
+#[derive(Drop)]
+pub(crate) struct NextGap<'c, D: Digest> {
+    pub(crate) layer: u16,
+    pub(crate) depth: u16,
+    pub(crate) link: Option<Cid>,
+    pub(crate) changes: &'c [HashedChange<'c, D>],
+    pub(crate) ghost fits: { layer + depth < 65536 },
+    pub(crate) ghost ascending: { are_ascending changes.now ≡ true },
+}
+
+/// What is still to come of the old tree.
+#[derive(Drop)]
+pub(crate) enum Task<'c, 'a, D: Digest, A: Allocator> {
+    Pair(NextPair<'c, 'a, D, A>),
+    Gap(NextGap<'c, D>),
+}
+
+/// The tasks that are left, the next one last.
+pub(crate) type Agenda<'c, 'a, D, A> = Vec<Task<'c, 'a, D, A>, A>;
+
+impl<'c, 'a, D: Digest, A: Allocator> Task<'c, 'a, D, A> {
+    ghost use Rattle.std.specs.Prelude.{OnOk};
+    ghost use Rattle.rows.specs.Entries.{shape_at};
+    ghost use Rattle.edit.specs.Agenda.{IsPutOff};
+    ghost use Rattle.edit.specs.Agendas.{agenda_of};
+
+    /// What is left of a node of this depth and of so many layers below it is put off: its next gap comes next, and the pair
+    /// after it later.
+    fn put_off(
+        agenda: &mut Agenda<'c, 'a, D, A>,
+        layer: u16,
+        depth: u16,
+        link: Option<Cid>,
+        value: Option<Cid>,
+        rows: KeyedEntries<'a, A>,
+        changes: &'c [HashedChange<'c, D>],
+    ) -> Result<(), AllocError>
+        requires fits { layer + depth < 65535 }
+        requires ascending { are_ascending changes.now ≡ true }
+        ensures { OnOk result (IsPutOff layer depth changes.now (shape_at link value rows.entry)
+            (agenda_of agenda.old.items) (agenda_of agenda.new.items)) }
+    {
+        let Some(value) = value else {
+            agenda.push(Task::Gap(NextGap {
+                layer,
+                depth: depth + 1,
+                link,
+                changes,
+            }))?;
+            return Ok(());
+        };
+        let here = changes_around(changes, rows.key());
+        agenda.push(Task::Pair(NextPair {
+            layer,
+            depth,
+            value,
+            at: here.at,
+            rest: rows,
+            changes: here.after,
+        }))?;
         agenda.push(Task::Gap(NextGap {
             layer,
             depth: depth + 1,
             link,
-            changes,
+            changes: here.before,
         }))?;
-        return Ok(());
-    };
-    let here = changes_around(changes, rows.key());
-    agenda.push(Task::Pair(NextPair {
-        layer,
-        depth,
-        value,
-        at: here.at,
-        rest: rows,
-        changes: here.after,
-    }))?;
-    agenda.push(Task::Gap(NextGap {
-        layer,
-        depth: depth + 1,
-        link,
-        changes: here.before,
-    }))?;
-    Ok(())
+        Ok(())
+    }
 }
 
 impl<'a, D: Digest, A: Allocator + Clone> Edge<'a, D, A> {
+    ghost use Rattle.edit.specs.Agenda.{IsGoneOn};
+    ghost use Rattle.edit.specs.Agendas.{agenda_of};
+    ghost use Rattle.edit.specs.States.{edge_in};
+    ghost use Rattle.edit.specs.Steps.{IsPassing};
+
     /// Goes on with what is left of a node of this depth and of so many layers below it: the pairs that no change touches
     /// come at once, where they can, and the rest is put off.
     fn go_on<'c>(
@@ -86,21 +120,30 @@ impl<'a, D: Digest, A: Allocator + Clone> Edge<'a, D, A> {
     ) -> Result<(), DraftFault>
         requires fits { layer + depth < 65535 }
         requires ascending { are_ascending changes.now ≡ true }
-        ensures gone { OnOk result (IsGoneOn layer depth changes.now rows.entry.rest
-            (agenda_of agenda.old.items) (agenda_of agenda.new.items)
-            (edge_in self.old) (edge_in self.new)) }
-        ensures log { log_in self.new ≡ log_in self.old }
-        ensures budget { self.new.left ≡ self.old.left }
-        ensures fault { IfErr result (IsUnpassed layer depth changes.now rows.entry.rest
-            (edge_in self.old) (log_in self.old)) }
+        ensures { IsPassing layer depth changes.now rows.entry.rest self.old self.new
+            (λ _. IsGoneOn layer depth changes.now rows.entry.rest (agenda_of agenda.old.items)
+            (agenda_of agenda.new.items) (edge_in self.old) (edge_in self.new)) result }
     {
         let passed = self.pass(layer, depth, &mut rows, changes)?;
         let (link, value) = passed;
-        Ok(put_off(agenda, layer, depth, link, value, rows, changes)?)
+        Ok(Task::put_off(agenda, layer, depth, link, value, rows, changes)?)
     }
 }
 
 impl<'a, D: Digest + 'a, A: Allocator + Clone + 'a> Edge<'a, D, A> {
+    ghost use Rattle.std.specs.Prelude.{◌++◌, [], IfOk, OnOk};
+    ghost use Rattle.spec.specs.Layer.{layer as layer_of};
+    ghost use Rattle.lookups.specs.Steps.{nodes_given};
+    ghost use Rattle.rows.specs.Drafts.{pair_of};
+    ghost use Rattle.batch_laws.specs.Batch.{entry, if_put, puts};
+    ghost use Rattle.batch_laws.specs.Previous.{no_values, value_met, previous_node, previous_gap};
+    ghost use Rattle.batch_laws.specs.Walking.{depth_of};
+    ghost use Rattle.batch_laws.specs.Links.{pairs_in_turn};
+    ghost use Rattle.edit.specs.Agenda.{ToGap, node_does};
+    ghost use Rattle.edit.specs.Agendas.{agenda_of, task_of, gap_of};
+    ghost use Rattle.edit.specs.Steps.{Makes};
+    ghost use Rattle.edit.specs.Tasks.{Performs};
+
     /// Changes where the old tree has nothing.
     fn puts<const B: u8, S: Source<&'a Arc<Block<D, A>, A>>>(
         &mut self,
@@ -110,20 +153,11 @@ impl<'a, D: Digest + 'a, A: Allocator + Clone + 'a> Edge<'a, D, A> {
         previous: &mut Vec<Option<Cid>, A>,
     ) -> Result<(), Fault>
         requires least { 1 ≤ B }
-        ensures put { OnOk result (pairs_in_turn D.digest_of (nodes_given (S.gives src.old))
-            (depth_of (layer_of D.digest_of B) layers) (puts changes.now)
-            (edge_in self.old) (log_in self.old) ≡ Ok (edge_in self.new, log_in self.new)) }
+        ensures step { Makes S.gives S.reads src.old src.new self.old self.new
+            (λ shows. pairs_in_turn D.digest_of shows (depth_of (layer_of D.digest_of B) layers)
+            (puts changes.now)) result }
         ensures previous { OnOk result
             (previous.new.items ≡ previous.old.items ++ no_values changes.now) }
-        ensures counted { OnOk result (IsCountedOn (S.reads src.old) self.old (S.reads src.new) self.new) }
-        ensures same { S.gives src.new ≡ S.gives src.old }
-        ensures stopped { IfErr result (IsStopped (S.gives src.old) (S.reads src.old, self.old.left)
-            (S.reads src.new) (log_in self.old) (pairs_in_turn D.digest_of
-            (nodes_given (S.gives src.old)) (depth_of (layer_of D.digest_of B) layers)
-            (puts changes.now) (edge_in self.old) (log_in self.old))) }
-        ensures halted { IfErr result (IsHaltedFrom self.old self.new (pairs_in_turn D.digest_of
-            (nodes_given (S.gives src.old)) (depth_of (layer_of D.digest_of B) layers)
-            (puts changes.now) (edge_in self.old) (log_in self.old))) }
     {
         for change in changes {
             previous.push(None)?;
@@ -140,18 +174,9 @@ impl<'a, D: Digest + 'a, A: Allocator + Clone + 'a> Edge<'a, D, A> {
         change: &HashedChange<'_, D>,
     ) -> Result<(), Fault>
         requires least { 1 ≤ B }
-        ensures put { OnOk result (pairs_in_turn D.digest_of (nodes_given (S.gives src.old))
-            (depth_of (layer_of D.digest_of B) layers) (if_put change.now.0 change.now.1 [])
-            (edge_in self.old) (log_in self.old) ≡ Ok (edge_in self.new, log_in self.new)) }
-        ensures counted { OnOk result (IsCountedOn (S.reads src.old) self.old (S.reads src.new) self.new) }
-        ensures same { S.gives src.new ≡ S.gives src.old }
-        ensures stopped { IfErr result (IsStopped (S.gives src.old) (S.reads src.old, self.old.left)
-            (S.reads src.new) (log_in self.old) (pairs_in_turn D.digest_of
-            (nodes_given (S.gives src.old)) (depth_of (layer_of D.digest_of B) layers)
-            (if_put change.now.0 change.now.1 []) (edge_in self.old) (log_in self.old))) }
-        ensures halted { IfErr result (IsHaltedFrom self.old self.new (pairs_in_turn D.digest_of
-            (nodes_given (S.gives src.old)) (depth_of (layer_of D.digest_of B) layers)
-            (if_put change.now.0 change.now.1 []) (edge_in self.old) (log_in self.old))) }
+        ensures { Makes S.gives S.reads src.old src.new self.old self.new
+            (λ shows. pairs_in_turn D.digest_of shows (depth_of (layer_of D.digest_of B) layers)
+            (if_put change.now.0 change.now.1 [])) result }
     {
         let Some(value) = change.value() else {
             return Ok(());
@@ -171,19 +196,10 @@ impl<'a, D: Digest + 'a, A: Allocator + Clone + 'a> Edge<'a, D, A> {
         previous: &mut Vec<Option<Cid>, A>,
     ) -> Result<(), Fault>
         requires least { 1 ≤ B }
-        ensures done { OnOk result (IsDone D.digest_of (nodes_given (S.gives src.old))
-            (layer_of D.digest_of B) layers (ToGap (gap_of gap.entry)) (agenda_of agenda.old.items)
-            (edge_in self.old) (log_in self.old) previous.old.items
-            (agenda_of agenda.new.items) (edge_in self.new) (log_in self.new) previous.new.items) }
-        ensures counted { OnOk result (IsCountedOn (S.reads src.old) self.old (S.reads src.new) self.new) }
-        ensures same { S.gives src.new ≡ S.gives src.old }
-        ensures stopped { IfErr result (IsStopped (S.gives src.old) (S.reads src.old, self.old.left)
-            (S.reads src.new) (log_in self.old) (task_does D.digest_of
-            (nodes_given (S.gives src.old)) (layer_of D.digest_of B) layers
-            (ToGap (gap_of gap.entry)) (edge_in self.old) (log_in self.old))) }
-        ensures halted { IfErr result (IsHaltedFrom self.old self.new (task_does D.digest_of
-            (nodes_given (S.gives src.old)) (layer_of D.digest_of B) layers
-            (ToGap (gap_of gap.entry)) (edge_in self.old) (log_in self.old))) }
+        ensures { Performs S.gives S.reads src.old src.new self.old self.new
+            D.digest_of (layer_of D.digest_of B) layers (ToGap (gap_of gap.entry))
+            (agenda_of agenda.old.items) (agenda_of agenda.new.items)
+            previous.old.items previous.new.items result }
     {
         let Some(cid) = gap.link else {
             self.puts::<B, S>(src, layers, gap.changes, previous)?;
@@ -211,20 +227,11 @@ impl<'a, D: Digest + 'a, A: Allocator + Clone + 'a> Edge<'a, D, A> {
         at: Option<Option<Cid>>,
         previous: &mut Vec<Option<Cid>, A>,
     ) -> Result<(), Fault>
-        ensures put { OnOk result (pairs_in_turn D.digest_of (nodes_given (S.gives src.old))
-            (λ k. depth) (entry at (pair_of key.now value.entry))
-            (edge_in self.old) (log_in self.old) ≡ Ok (edge_in self.new, log_in self.new)) }
+        ensures step { Makes S.gives S.reads src.old src.new self.old self.new
+            (λ shows. pairs_in_turn D.digest_of shows (λ k. depth)
+            (entry at (pair_of key.now value.entry))) result }
         ensures previous { OnOk result (previous.new.items ≡ previous.old.items
             ++ value_met at (pair_of key.now value.entry)) }
-        ensures counted { OnOk result (IsCountedOn (S.reads src.old) self.old (S.reads src.new) self.new) }
-        ensures same { S.gives src.new ≡ S.gives src.old }
-        ensures stopped { IfErr result (IsStopped (S.gives src.old) (S.reads src.old, self.old.left)
-            (S.reads src.new) (log_in self.old) (pairs_in_turn D.digest_of
-            (nodes_given (S.gives src.old)) (λ k. depth) (entry at (pair_of key.now value.entry))
-            (edge_in self.old) (log_in self.old))) }
-        ensures halted { IfErr result (IsHaltedFrom self.old self.new (pairs_in_turn D.digest_of
-            (nodes_given (S.gives src.old)) (λ k. depth) (entry at (pair_of key.now value.entry))
-            (edge_in self.old) (log_in self.old))) }
     {
         let Some(change) = at else {
             return self.pair(src, usize::from(depth), key, value);
@@ -246,19 +253,10 @@ impl<'a, D: Digest + 'a, A: Allocator + Clone + 'a> Edge<'a, D, A> {
         previous: &mut Vec<Option<Cid>, A>,
     ) -> Result<(), Fault>
         requires least { 1 ≤ B }
-        ensures done { OnOk result (IsDone D.digest_of (nodes_given (S.gives src.old))
-            (layer_of D.digest_of B) layers (task_of task.entry) (agenda_of agenda.old.items)
-            (edge_in self.old) (log_in self.old) previous.old.items
-            (agenda_of agenda.new.items) (edge_in self.new) (log_in self.new) previous.new.items) }
-        ensures counted { OnOk result (IsCountedOn (S.reads src.old) self.old (S.reads src.new) self.new) }
-        ensures same { S.gives src.new ≡ S.gives src.old }
-        ensures stopped { IfErr result (IsStopped (S.gives src.old) (S.reads src.old, self.old.left)
-            (S.reads src.new) (log_in self.old) (task_does D.digest_of
-            (nodes_given (S.gives src.old)) (layer_of D.digest_of B) layers (task_of task.entry)
-            (edge_in self.old) (log_in self.old))) }
-        ensures halted { IfErr result (IsHaltedFrom self.old self.new (task_does D.digest_of
-            (nodes_given (S.gives src.old)) (layer_of D.digest_of B) layers (task_of task.entry)
-            (edge_in self.old) (log_in self.old))) }
+        ensures { Performs S.gives S.reads src.old src.new self.old self.new
+            D.digest_of (layer_of D.digest_of B) layers (task_of task.entry)
+            (agenda_of agenda.old.items) (agenda_of agenda.new.items)
+            previous.old.items previous.new.items result }
     {
         match task {
             Task::Gap(gap) => Ok(self.fill::<B, S>(src, layers, agenda, gap, previous)?),
@@ -289,20 +287,11 @@ impl<'a, D: Digest + 'a, A: Allocator + Clone + 'a> Edge<'a, D, A> {
         requires least { 1 ≤ B }
         requires fits { layer + depth < 65535 }
         requires ascending { are_ascending changes.now ≡ true }
-        ensures walked { OnOk result (node_does D.digest_of (nodes_given (S.gives src.old))
-            (layer_of D.digest_of B) layers layer depth changes.now rows.entry.rest
-            (edge_in self.old) (log_in self.old) ≡ Ok (edge_in self.new, log_in self.new)) }
+        ensures step { Makes S.gives S.reads src.old src.new self.old self.new
+            (λ shows. node_does D.digest_of shows (layer_of D.digest_of B) layers layer depth
+            changes.now rows.entry.rest) result }
         ensures previous { IfOk result (λ previous. previous.items ≡ previous_node
             (previous_gap (nodes_given (S.gives src.old)) layer) changes.now rows.entry.rest) }
-        ensures counted { OnOk result (IsCountedOn (S.reads src.old) self.old (S.reads src.new) self.new) }
-        ensures same { S.gives src.new ≡ S.gives src.old }
-        ensures stopped { IfErr result (IsStopped (S.gives src.old) (S.reads src.old, self.old.left)
-            (S.reads src.new) (log_in self.old) (node_does D.digest_of
-            (nodes_given (S.gives src.old)) (layer_of D.digest_of B) layers layer depth changes.now
-            rows.entry.rest (edge_in self.old) (log_in self.old))) }
-        ensures halted { IfErr result (IsHaltedFrom self.old self.new (node_does D.digest_of
-            (nodes_given (S.gives src.old)) (layer_of D.digest_of B) layers layer depth changes.now
-            rows.entry.rest (edge_in self.old) (log_in self.old))) }
     {
         let mut previous = Vec::new(self.alloc()?);
         let mut agenda: Agenda<'c, 'a, D, A> = Vec::new(self.alloc()?);

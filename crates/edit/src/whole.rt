@@ -1,23 +1,16 @@
 //! A whole tree, from its root to its new root.
 
-ghost use Rattle.std.specs.Prelude.{◌≡◌, ◌<◌, ◌≤◌, ◌+◌, ◌/◌, [], suc, max, Some, length, true, IfOk, IfErr};
-ghost use Rattle.spec.specs.Layer.{layer as layer_of};
-ghost use Rattle.lookups.specs.Steps.{nodes_given};
-ghost use Rattle.spec.specs.NodeFormat.{Shape};
+ghost use Rattle.std.specs.Prelude.{◌≡◌, ◌<◌, ◌≤◌, ◌+◌, ◌/◌, suc, max, true};
 ghost use Rattle.batch_laws.specs.Counts.{most_reads};
-ghost use Rattle.batch_laws.specs.Previous.{previous_top};
 ghost use Rattle.edit.specs.Batches.{answer_of, most_of};
 ghost use Rattle.edit.specs.Halts.{IsReachedOn};
 ghost use Rattle.edit.specs.Changing.{HasPrevious, IsChanged, IsReadFor, IsUnchanged};
 ghost use Rattle.edit.specs.Places.{are_ascending};
-ghost use Rattle.edit.specs.States.{log_in};
-ghost use Rattle.edit.specs.Stops.{IsStopped, at_top};
-ghost use Rattle.edit.specs.Tops.{IsEnded};
 
-use crate::budgets::most_reads_below;
+use crate::changes::most_reads_below;
 use crate::edge::Edge;
-use crate::faults::Fault;
 use crate::hashed::{HashedChange, layers_of_puts};
+use crate::outcome::Fault;
 use block::Block;
 use cid::{Cid, Digest};
 use lookups::Source;

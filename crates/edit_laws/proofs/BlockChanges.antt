@@ -18,7 +18,7 @@ use Rattle.edit_laws.proofs.RecordMaps.{ascending-sorted}
 
 -- ---- counts in lists of blocks are weights of trees
 
-count-total : (f : Node → List ℕ) (c : List ℕ) (ms : List Node) → count c (map f ms) ≡ total (marked f c) ms
+pub count-total : (f : Node → List ℕ) (c : List ℕ) (ms : List Node) → count c (map f ms) ≡ total (marked f c) ms
 count-total f c [] = refl
 count-total f c (m ∷ ms) = let i = count-total f c ms in omega arith
 
@@ -52,7 +52,7 @@ module _ (digest : List ℕ → List ℕ) where
   same-map [] = refl
   same-map (x ∷ xs) = ap (λ ys. x ∷ ys) (same-map xs)
 
-  count-nodes : (b : List ℕ) (p : Part)
+  pub count-nodes : (b : List ℕ) (p : Part)
       → count b (blocks_in digest no_record p) ≡ weight (marked (node_bytes digest) b) p
   count-nodes b p = ap (count b) (sym (same-map (blocks_in digest no_record p))) ∙ count-blocks (λ x. x) b p
 
@@ -69,7 +69,7 @@ module _ (digest : List ℕ → List ℕ) where
       (ascending-sorted es are.sorted)
       (stands-top digest bits fits es are bs (λ b h. h)) c
 
-  bytes-once : (bits : ℕ) (es : List Pair)
+  pub bytes-once : (bits : ℕ) (es : List Pair)
       → ((c : List ℕ) → weight (marked (λ m. cid digest (node_bytes digest m)) c) (Sub (top (layer digest bits) es))
       ≤ 1) → (b : List ℕ) → count b (nodes digest bits es) ≤ 1
   bytes-once bits es once b =

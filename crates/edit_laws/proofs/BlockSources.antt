@@ -7,7 +7,7 @@ use Rattle.std.proofs.lemmas.List.Elements.{Contains-append_cases}
 use Rattle.spec.specs.Cid.{cid}
 use Rattle.spec.specs.Blocks.{block_at}
 use Rattle.spec.proofs.RepositoryBlocks.{node-in, block-none, block-some}
-use Rattle.edit_laws.specs.Sources.{HasBlocks}
+use Rattle.spec.specs.Sources.{HasBlocks}
 use Rattle.edit_laws.specs.Uses.{uses}
 use Rattle.edit_laws.specs.Laws.Sources.{SourceIsClashFree, BlocksAreSource, SourceHasNodes, SourceGivesBlock}
 use Rattle.edit_laws.specs.Laws.Uses.{ClashIsNew}

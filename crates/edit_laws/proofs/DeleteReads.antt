@@ -13,7 +13,8 @@ use Rattle.spec.specs.Blocks.{ArePairs, root, value_of}
 use Rattle.edit_laws.specs.TreeEdit.{layer_of}
 use Rattle.edit_laws.specs.Trace.{find_path, delete_path_nodes, seam_pairs, delete_left, prune_path, delete_path_read}
 use Rattle.edit_laws.specs.PathEdit.{flat, delete_read}
-use Rattle.edit_laws.specs.Sources.{HasNodes, shown_by, path_from, seam_from, delete_seam_from, delete_pruned_from}
+use Rattle.spec.specs.Sources.{HasNodes}
+use Rattle.edit_laws.specs.Sources.{shown_by, path_from, seam_from, delete_seam_from, delete_pruned_from}
 use Rattle.edit_laws.proofs.Within.{within-top}
 use Rattle.edit_laws.proofs.DeleteShapes.{links-same, links-path}
 use Rattle.edit_laws.proofs.DeleteSource.{map-flat, seam-row, pruned-top}

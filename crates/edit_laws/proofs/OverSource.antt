@@ -14,7 +14,8 @@ use Rattle.spec.proofs.SameTree.{Stands}
 use Rattle.spec.proofs.RootLaws.{stands-top}
 use Rattle.spec.proofs.VerifyLaws.{each-part_is}
 use Rattle.edit_laws.specs.Laws.Lookups.{ShapeReadsBack, OnlyShapesAreRead}
-use Rattle.edit_laws.specs.Sources.{shape_from, shape_of_reading, shape_of_bytes, shown_by, HasNodes, Holds}
+use Rattle.spec.specs.Sources.{HasNodes}
+use Rattle.edit_laws.specs.Sources.{shape_from, shape_of_reading, shape_of_bytes, shown_by, Holds}
 
 shape_from-parts : (s : Shape) → shape_from (first_link s) (entries_of s) ≡ s
 shape_from-parts (LastLink l) = refl

@@ -1,12 +1,10 @@
 -- Look-ups, walks and what a delete reads over a source of blocks, which shows the node with a CID, where it has it. Each function is
 -- what a loop reads, also where a block is missing.
-use Rattle.std.specs.Prelude.{◌≡◌, ℕ, zero, suc, List, [], ◌∷◌, ◌++◌, Contains, Option, Some, None, Result, Ok, Err, option_and_then}
+use Rattle.std.specs.Prelude.{◌≡◌, ℕ, zero, suc, List, [], ◌∷◌, ◌++◌, Option, Some, None, Result, Ok, Err, option_and_then}
 use Rattle.std.specs.declared.cmp.Ordering.{Ordering}
 use Rattle.std.specs.declared.cmp.Ordering.TheVariants.{Less, Equal, Greater}
-use Rattle.spec.specs.Cid.{cid}
 use Rattle.spec.specs.Tree.{Pair, Part, EachNode}
 use Rattle.spec.specs.NodeFormat.{Entry, NodeFault, read_node, Shape, LastLink, MoreLinks, first_link, shape, shape_cid}
-use Rattle.spec.specs.Blocks.{nodes}
 use Rattle.edit_laws.specs.Order.{order}
 use Rattle.edit_laws.specs.ShapeEdit.{last_link, links_beside}
 use Rattle.edit_laws.specs.PathEdit.{lowest_shape, prune_link}
@@ -37,14 +35,6 @@ shape_of_bytes bytes = shape_of_reading (read_node bytes)
 -- what a source of blocks by CID shows: the node of a block that reads as one
 abbrev pub shown_by : (List ℕ → Option (List ℕ)) → List ℕ → Option Shape
 shown_by gives c = option_and_then shape_of_bytes (gives c)
-
--- the source has each of these blocks under its CID
-abbrev pub HasBlocks : (List ℕ → List ℕ) → (List ℕ → Option (List ℕ)) → List (List ℕ) → Type 0
-HasBlocks digest gives bs = (b : List ℕ) → Contains bs b → gives (cid digest b) ≡ Some b
-
--- and each node of the tree of these pairs
-abbrev pub HasNodes : (List ℕ → List ℕ) → ℕ → (List ℕ → Option (List ℕ)) → List Pair → Type 0
-HasNodes digest bits gives es = HasBlocks digest gives (nodes digest bits es)
 
 -- what the first source gives, the second gives too
 abbrev pub Extends : (List ℕ → Option (List ℕ)) → (List ℕ → Option (List ℕ)) → Type 0

@@ -1,7 +1,7 @@
 -- What is written over a source that has a repository's blocks is the repository's CAR.
 use Rattle.std.proofs.Common.{◌≡◌, ℕ, zero, suc, true, false, cond, List, [], ◌∷◌, ◌++◌, refl, sym, ap, ◌∙◌, append_assoc, arith, Option, None}
 use Rattle.std.specs.declared.option.Option.TheVariants.{Some}
-use Rattle.std.specs.Prelude.{Contains, nat_lt, option_and_then}
+use Rattle.std.specs.Prelude.{Contains, option_and_then}
 use Rattle.std.specs.List.{cons_option, flat_map}
 use Rattle.std.specs.Cmp.Lexicographic.{slice_cmp, nat_list_cmp_total}
 use Rattle.std.specs.Ordering.{nat_cmp, is_lt, is_eq, eq_by_cmp, ordering_reverse}
@@ -28,7 +28,8 @@ use Rattle.spec.proofs.TreeLaws.{pairs-top}
 use Rattle.spec.proofs.VerifyLaws.{each-part_is}
 use Rattle.spec.proofs.WriteLaws.{is_sorted-leaves}
 use Rattle.edit_laws.specs.Pairs.{Each}
-use Rattle.edit_laws.specs.Sources.{HasBlocks, HasNodes, shape_of_bytes, shown_by}
+use Rattle.spec.specs.Sources.{HasBlocks, HasNodes}
+use Rattle.edit_laws.specs.Sources.{shape_of_bytes, shown_by}
 use Rattle.edit_laws.proofs.EachPair.{each-parts}
 use Rattle.edit_laws.proofs.LookupTheorems.{top-has_layer, within-bound}
 use Rattle.edit_laws.proofs.OverSource.{shape_of_bytes-shape_bytes}
@@ -36,6 +37,7 @@ use Rattle.edit_laws.proofs.Within.{AllWithin, IsWithin}
 use Rattle.lookups.specs.Steps.{layers}
 use Rattle.lookups.specs.Trees.{HasTree}
 use Rattle.export.specs.Walks.{blocks_at, blocks_met, car_met, cids_from, cids_in, cids_of, commit_block}
+use Rattle.export.specs.Founds.{may_repeat}
 use Rattle.export.specs.Once.{AreSingle}
 use Rattle.edit_laws.specs.Uses.{uses}
 
@@ -184,7 +186,7 @@ module _ (digest : List ℕ → List ℕ) (gives : List ℕ → Option (List ℕ
           ∙ ap (λ r. blocks_met gives (layers bits) (state_commit digest bits s) r) f ∙ blocks-is
 
       -- what a repository uses no more than once stands there no more than once
-      pub single-met : AreSingle digest (λ c. nat_lt 1 (uses digest c (state_blocks digest bits s))) (blocks_met gives (layers bits) commit root)
+      pub single-met : AreSingle digest (may_repeat digest bits s) (blocks_met gives (layers bits) commit root)
       single-met c h =
           let k = ap (uses digest c) blocks-met in
           let l = ltb-false 1 (uses digest c (state_blocks digest bits s)) h in

@@ -14,3 +14,4 @@ pub mod Singles
 pub mod Spelled
 pub mod Walked
 pub mod WholeFile
+mod Full

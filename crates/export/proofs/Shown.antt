@@ -12,7 +12,7 @@ use Rattle.spec.proofs.Taking.{ok_is}
 use Rattle.node.specs.declared.fault.NodeFault.TheVariants as nodes_faults
 use Rattle.export.specs.declared.proof_fault.ProofFault.{ProofFault}
 use Rattle.export.specs.declared.proof_fault.ProofFault.TheVariants as errors
-use Rattle.export.specs.Faults.{fault_of}
+use Rattle.export.specs.Faults.{proof_fault_of}
 
 -- a key of another length is refused
 pub refused : (digest : List ℕ → List ℕ) (bits : ℕ) (c : List ℕ) (given : List (List ℕ)) (key : List ℕ) → is_key key ≡ false
@@ -28,7 +28,7 @@ looked_up digest bits c given key good = ap (λ b. ensure b KeyLength >>= (λ ok
 
 -- an answer is the key's value
 pub shown_right : (digest : List ℕ → List ℕ) (bits : ℕ) → ((bytes : List ℕ) → length (digest bytes) ≡ 32) → (c : List ℕ) (given : List (List ℕ)) (key : List ℕ)
-    (r : Result (Option (List ℕ)) ProofFault) → Gives (λ x. x) fault_of r (verified digest bits c given key)
+    (r : Result (Option (List ℕ)) ProofFault) → Gives (λ x. x) proof_fault_of r (verified digest bits c given key)
     → (es : List Pair) → ArePairs es → c ≡ root digest bits es → ClashesWithNone digest (nodes digest bits es) given → IfOk r (λ x. value_of key es ≡ x)
 shown_right digest bits fits c given key (Ok x) answer es are is free =
     verifier-sound digest bits fits es are given free key x (ap (λ d. verified digest bits d given key) (sym is) ∙ answer)
@@ -37,7 +37,7 @@ shown_right digest bits fits c given key (Err f) answer es are is free = tt
 err_is_none : {A E : Type 0} (r : Result A E) (f : E) (x : A) → r ≡ Err f → r ≡ Ok x → ⊥
 err_is_none r f x bad good = subst (λ s. IfOk s (λ y. ⊥)) (sym bad ∙ good) tt
 
-no_fault : (f : ProofFault) (r : Result (Option (List ℕ)) proof.ProofFault) (x : Option (List ℕ)) → Fails (fault_of f) r → r ≡ Ok x → ⊥
+no_fault : (f : ProofFault) (r : Result (Option (List ℕ)) proof.ProofFault) (x : Option (List ℕ)) → Fails (proof_fault_of f) r → r ≡ Ok x → ⊥
 no_fault errors.BlockMissing r x bad good = err_is_none r _ x bad good
 no_fault (errors.BadNode nodes_faults.NotNode) r x bad good = err_is_none r _ x bad good
 no_fault (errors.BadNode nodes_faults.BadPrefix) r x bad good = err_is_none r _ x bad good
@@ -47,13 +47,13 @@ no_fault errors.TooDeep r x bad good = err_is_none r _ x bad good
 no_fault errors.KeyLength r x bad good = err_is_none r _ x bad good
 
 answer_is : (r : Result (Option (List ℕ)) ProofFault) (s : Result (Option (List ℕ)) proof.ProofFault) (x : Option (List ℕ))
-    → Gives (λ v. v) fault_of r s → s ≡ Ok x → r ≡ Ok x
+    → Gives (λ v. v) proof_fault_of r s → s ≡ Ok x → r ≡ Ok x
 answer_is (Ok v) s x answer good = ap Ok (ok_is proof.ProofFault v x (sym answer ∙ good))
 answer_is (Err f) s x answer good = absurd (no_fault f s x answer good)
 
 -- with the key's path there is one
 pub shown_all : (digest : List ℕ → List ℕ) (bits : ℕ) → ((bytes : List ℕ) → length (digest bytes) ≡ 32) → (c : List ℕ) (given : List (List ℕ)) (key : List ℕ)
-    (r : Result (Option (List ℕ)) ProofFault) → Gives (λ x. x) fault_of r (verified digest bits c given key)
+    (r : Result (Option (List ℕ)) ProofFault) → Gives (λ x. x) proof_fault_of r (verified digest bits c given key)
     → (es : List Pair) → ArePairs es → c ≡ root digest bits es → ClashesWithNone digest (nodes digest bits es) given → is_key key ≡ true
     → ((b : List ℕ) → Contains (path digest bits es key) b → Contains given b) → r ≡ Ok (value_of key es)
 shown_all digest bits fits c given key r answer es are is free good has =

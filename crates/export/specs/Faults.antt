@@ -5,8 +5,8 @@ use Rattle.node.specs.Fault as nodes
 use Rattle.export.specs.declared.proof_fault.ProofFault.{ProofFault}
 use Rattle.export.specs.declared.proof_fault.ProofFault.TheVariants as errors
 
-abbrev pub fault_of : ProofFault → Option proof.ProofFault
-fault_of errors.BlockMissing = Some proof.BlockMissing
-fault_of (errors.BadNode f) = option_map proof.BadNode (nodes.fault_of f)
-fault_of errors.TooDeep = Some proof.TooDeep
-fault_of errors.KeyLength = Some proof.KeyLength
+abbrev pub proof_fault_of : ProofFault → Option proof.ProofFault
+proof_fault_of errors.BlockMissing = Some proof.BlockMissing
+proof_fault_of (errors.BadNode f) = option_map proof.BadNode (nodes.node_fault_of f)
+proof_fault_of errors.TooDeep = Some proof.TooDeep
+proof_fault_of errors.KeyLength = Some proof.KeyLength

@@ -6,3 +6,4 @@ pub mod Once
 pub mod Outs
 pub mod Shown
 pub mod Walks
+pub mod Windows

@@ -5,7 +5,7 @@ use Rattle.spec.specs.NodeFormat.{is_key}
 use Rattle.spec.specs.Blocks.{ArePairs, ClashesWithNone, value_of, nodes, root as root_of}
 use Rattle.spec.specs.Proof.{path, verified}
 use Rattle.spec.specs.Reading.{Gives}
-use Rattle.export.specs.Faults.{fault_of}
+use Rattle.export.specs.Faults.{proof_fault_of}
 use Rattle.export.specs.declared.proof_fault.ProofFault.{ProofFault}
 
 -- what is answered: the value of a key, or none, or a fault
@@ -15,7 +15,7 @@ Answer = Result (Option (List ℕ)) ProofFault
 -- it is the defined one
 abbrev pub IsAnswer : (List ℕ → List ℕ) → ℕ → List ℕ → List (List ℕ) → List ℕ → Answer → Type 0
 IsAnswer digest bits root given key answer =
-    Gives (λ value. value) fault_of answer (verified digest bits root given key)
+    Gives (λ value. value) proof_fault_of answer (verified digest bits root given key)
 
 -- the tree of these pairs has this root, and its nodes clash with none of the given blocks
 pub record IsRootOf (digest : List ℕ → List ℕ) (bits : ℕ) (root : List ℕ) (given : List (List ℕ)) (es : List Pair) : Type 0 where

@@ -22,20 +22,16 @@ impl<'a, T> Given for Found<&'a T> {
     ghost seen = { seen_found };
 }
 
-/// The blocks of a repository: a block that has one use alone stands once. The look-up of a block tells its uses too.
-#[derive(Drop)]
-pub(crate) struct Counted<'a, D: Digest, A: Allocator> {
-    pub(crate) lender: Lender<'a, D, A>,
-}
+/// The blocks of a repository as an export finds them: a block that has one use alone stands once. The look-up of a block
+/// tells its uses too.
+impl<'a, D: Digest, A: Allocator> Source<Found<&'a Arc<Block<D, A>, A>>> for Lender<'a, D, A> {
+    ghost gives = { λ s. found_in s.blocks.now };
 
-impl<'a, D: Digest, A: Allocator> Source<Found<&'a Arc<Block<D, A>, A>>> for Counted<'a, D, A> {
-    ghost gives = { λ s. found_in s.lender.blocks.now };
-
-    ghost reads = { λ s. s.lender.asked.times };
+    ghost reads = { λ s. s.asked.times };
 
     #[inline(always)]
     fn get(&mut self, cid: &Cid) -> Option<Found<&'a Arc<Block<D, A>, A>>> {
-        let (lent, uses) = self.lender.get_counted(cid)?;
+        let (lent, uses) = self.get_counted(cid)?;
         Some(Found {
             lent,
             may_repeat: uses > 1,

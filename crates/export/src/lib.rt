@@ -3,6 +3,11 @@
 //! [`car`] writes a repository as one file (CARv1) to whatever is an [`Out`]: [`ToMemory`], or [`ToWriter`] over a writer of
 //! the standard library.
 //!
+//! For who can't keep a whole file, [`car_length`] answers how many bytes it has, and makes none of them; [`car_part`] answers so many
+//! of them from a place on: the parts behind one another are the file. A part costs the way through all that is before it. Who has
+//! to have a large file, and not the memory for it, puts it together in one go: [`car_head`] is its header, and [`car_section`] the
+//! section of a block by its CID.
+//!
 //! A proof that a tree has a value under a key, or none, is the list of the nodes on the key's path. [`prove`] makes it,
 //! and [`verify`] tells what such blocks prove to someone who knows the tree's root alone: nothing of the host that gave them
 //! is trusted, but that it found no other bytes with the CID of a block of the tree.
@@ -20,13 +25,14 @@ mod blocks;
 mod cars;
 mod export_fault;
 mod found;
-mod given;
 mod hashed;
 mod once;
 mod out;
+mod parts;
+mod pieces;
+mod proof_blocks;
 mod proof_fault;
 mod proving;
-mod repeats;
 mod sections;
 mod seen;
 mod taken;
@@ -36,10 +42,13 @@ mod varint;
 mod verifying;
 mod walk;
 mod whole;
+mod window;
 
 pub use cars::car;
 pub use export_fault::ExportFault;
 pub use out::{Failed, Out};
+pub use parts::{car_length, car_part};
+pub use pieces::{car_head, car_section};
 pub use proof_fault::ProofFault;
 pub use proving::prove;
 pub use taken::Taken;

@@ -23,7 +23,8 @@ pub(crate) fn write_once<D: Digest, A: Allocator + Clone, W: Out>(
     out: &mut W,
     found: &Found<&Arc<Block<D, A>, A>>,
 ) -> Result<u64, ExportFault>
-    requires { IsNewOr found.now.may_repeat seen.now (cid_of D.digest_of (bytes_found (seen_found found.now))) }
+    requires { IsNewOr found.now.may_repeat seen.now
+        (cid_of D.digest_of (bytes_found (seen_found found.now))) }
     ensures taken { Takes (W.taken out.old) (W.taken out.new) result
         (section_once D.digest_of seen.old (bytes_found (seen_found found.now))) }
     ensures length { IfOk result (λ count. count

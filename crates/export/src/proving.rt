@@ -2,19 +2,16 @@
 
 ghost use Rattle.std.specs.Prelude.{◌≡◌, ◌≤◌, ℕ, List, Some, map, option_map, IfOk, IfSome};
 ghost use Rattle.std.specs.Arc.{arc_value};
-ghost use Rattle.spec.specs.Tree.{Pair};
 ghost use Rattle.spec.specs.NodeFormat.{shape_bytes};
-ghost use Rattle.spec.specs.Proof.{path};
 ghost use Rattle.edit_laws.specs.Sources.{gap, path_from, shape_of_bytes, shown_by};
 ghost use Rattle.edit_laws.specs.Laws.Lookups.{found_at};
 ghost use Rattle.node.specs.Views.{place_of};
-ghost use Rattle.lookups.specs.Trees.{HasTree};
 ghost use Rattle.export.specs.Exports.{ArePathOf};
 
 use block::Block;
 use cid::{Cid, Digest};
 use kept::Lender;
-use lookups::{Source, view_of};
+use lookups::{Source, layers, view_of};
 use node::Place;
 use repo::Core;
 use std::alloc::{AllocError, Allocator};
@@ -34,7 +31,7 @@ pub fn prove<D: Digest, const B: u8, A: Allocator>(
 {
     let root = core.root();
     let mut lender = core.lender();
-    path_within::<D, A, Lender<'_, D, A>>(alloc, &mut lender, root, key, 256 / B as u16 + 1)
+    path_within::<D, A, Lender<'_, D, A>>(alloc, &mut lender, root, key, layers::<B>())
 }
 
 /// The nodes of a key's path below a root, over `most` nodes at most. Where a block is missing or is no node, the path ends.

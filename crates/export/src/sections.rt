@@ -1,6 +1,6 @@
 //! The header and the sections of a CAR (CARv1).
 
-ghost use Rattle.std.specs.Prelude.{◌≡◌, ◌++◌, ◌+◌, length, IfOk};
+ghost use Rattle.std.specs.Prelude.{◌≡◌, ◌+◌, length, IfOk};
 ghost use Rattle.spec.specs.Car.{header, section};
 ghost use Rattle.export.specs.Outs.{Fails, Takes};
 

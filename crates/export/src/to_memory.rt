@@ -1,6 +1,6 @@
 //! An output in memory.
 
-ghost use Rattle.std.specs.Prelude.{◌≡◌, ◌<◌, ◌≤◌, ◌++◌, [], suc, length, take, IfOk, OnOk, OnErr};
+ghost use Rattle.std.specs.Prelude.{◌≡◌, ◌<◌, []};
 
 use crate::out::{Failed, Out};
 use counts::Count;

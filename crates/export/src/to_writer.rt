@@ -1,6 +1,6 @@
 //! A writer of the standard library as an output.
 
-ghost use Rattle.std.specs.Prelude.{◌≡◌, ◌<◌, ◌≤◌, ◌++◌, [], suc, length, take, IfOk, OnOk, OnErr};
+ghost use Rattle.std.specs.Prelude.{◌≡◌, ◌<◌, ◌≤◌, suc, length, IfOk, OnOk, OnErr};
 ghost use Rattle.export.specs.Outs.{held, Holds, TakesFirst, WriterTakes};
 
 use crate::out::{Failed, Out};

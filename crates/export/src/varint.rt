@@ -1,6 +1,6 @@
 //! Numbers as unsigned LEB128 (multiformats, unsigned-varint).
 
-ghost use Rattle.std.specs.Prelude.{◌≡◌, ◌≤◌, take, length};
+ghost use Rattle.std.specs.Prelude.{◌≡◌, ◌≤◌, take};
 ghost use Rattle.spec.specs.Varint.{varint};
 
 /// How many bytes a number of 64 bits has at most.

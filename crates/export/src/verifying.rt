@@ -4,14 +4,15 @@ ghost use Rattle.std.specs.Prelude.{◌≤◌, map};
 ghost use Rattle.spec.specs.Proof.{verified_within};
 ghost use Rattle.spec.specs.Reading.{Gives};
 ghost use Rattle.node.specs.Views.{place_of};
-ghost use Rattle.export.specs.Faults.{fault_of};
+ghost use Rattle.export.specs.Faults.{proof_fault_of};
 ghost use Rattle.export.specs.GivenBlocks.{AreHashed, place_below};
 ghost use Rattle.export.specs.Shown.{IsAnswer, IsRight, IsWhole};
 
-use crate::given::find;
 use crate::hashed::Hashed;
+use crate::proof_blocks::find;
 use crate::proof_fault::ProofFault;
 use cid::{Cid, Digest};
+use lookups::layers;
 use node::{NodeView, Place, is_key};
 use std::convert::AsSlice;
 
@@ -51,7 +52,7 @@ pub fn verify<D: Digest, const B: u8, K: AsSlice<u8>>(
     if !is_key(key) {
         return Err(ProofFault::KeyLength);
     }
-    value_below::<D, K>(blocks, *root, key, 256 / B as u16 + 1)
+    value_below::<D, K>(blocks, *root, key, layers::<B>())
 }
 
 /// What the node with this CID and those below it have under the key, over so many nodes at most.
@@ -61,7 +62,7 @@ fn value_below<D: Digest, K: AsSlice<u8>>(
     key: &[u8],
     most: u16,
 ) -> Result<Option<Cid>, ProofFault>
-    ensures { Gives (λ value. value) fault_of result
+    ensures { Gives (λ value. value) proof_fault_of result
         (verified_within most D.digest_of (map K.items blocks.now) key.now top) }
 {
     let mut hashed = Hashed::none(top);
@@ -87,7 +88,7 @@ fn place_below<'a, D: Digest, K: AsSlice<u8>>(
     key: &[u8],
 ) -> Result<Place<'a>, ProofFault>
     requires { AreHashed D.digest_of (map K.items blocks.now) hashed.now }
-    ensures place { Gives (place_of key.now) fault_of result
+    ensures place { Gives (place_of key.now) proof_fault_of result
         (place_below D.digest_of (map K.items blocks.now) key.now cid.now) }
     ensures hashed { AreHashed D.digest_of (map K.items blocks.now) hashed.new }
 {

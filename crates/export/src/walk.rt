@@ -3,16 +3,16 @@
 ghost use Rattle.std.specs.Prelude.{◌≡◌, ◌<◌, ◌≤◌, [], Some, None, nat_lt, length, option_map, IfNone, IfOk, IfSome, OnOk, if◌then◌else◌};
 ghost use Rattle.std.specs.Arc.{arc_value};
 ghost use Rattle.spec.specs.NodeFormat.{read_node};
-ghost use Rattle.cid.specs.CidRef.{bytes_of};
 ghost use Rattle.node.specs.Views.{row_of};
 ghost use Rattle.export.specs.Founds.{bytes_found};
 ghost use Rattle.export.specs.Walks.{entered, next_row, turned, without_link, IsNext, IsStep, IsStepFrom};
 
 use crate::found::Found;
 use block::Block;
-use cid::{Cid, CidRef, Digest};
+use cid::{Cid, Digest};
 use lookups::Source;
 use node::{Entries, EntryView};
+use rows::to_cid;
 use std::alloc::{AllocError, Allocator};
 use std::marker::Model;
 use std::sync::Arc;
@@ -154,14 +154,4 @@ fn next_entry<'a, A: Allocator>(
         }
     }
     Ok(None)
-}
-
-/// A lent identifier with bytes of its own.
-fn to_cid(link: Option<CidRef<'_>>) -> Option<Cid>
-    ensures { result ≡ option_map bytes_of link.entry }
-{
-    match link {
-        Some(link) => Some(link.to_cid()),
-        None => None,
-    }
 }

@@ -11,7 +11,7 @@ use export::{ExportFault, ToMemory, car};
 use repo::Core;
 use std::alloc::{AllocError, Global};
 use std::process::Abort;
-use store::Shard;
+use store::{Shard, TableKey};
 
 /// The CAR of the repository without records: a header of 59 bytes, and the section of the node without entries. The digest
 /// is SHA-256 of the node, by another program.
@@ -25,7 +25,7 @@ const EMPTY: &[u8] = b"\x3a\xa2\x65roots\x81\xd8\x2a\x58\x25\x00\
 
 #[test]
 fn the_repository_without_records(rt: HostRuntime) {
-    let mut shard = Shard::<Sha256>::new(rt.alloc(), 9);
+    let mut shard = Shard::<Sha256>::new(rt.alloc(), 9, TableKey::known());
     let core = opened::<_, _, 2, _>(&rt, rt.alloc(), &mut shard);
     let file = file_of(rt.alloc(), rt.alloc(), &core);
     end(&mut shard, core);
@@ -48,7 +48,7 @@ fn is_behind_another(alloc: Global, core: &Core<Sha256, 2>) -> bool {
 
 #[test]
 fn a_file_behind_another(rt: HostRuntime) {
-    let mut shard = Shard::<Sha256>::new(rt.alloc(), 9);
+    let mut shard = Shard::<Sha256>::new(rt.alloc(), 9, TableKey::known());
     let core = opened::<_, _, 2, _>(&rt, rt.alloc(), &mut shard);
     let is_behind = is_behind_another(rt.alloc(), &core);
     end(&mut shard, core);
@@ -162,7 +162,7 @@ fn is_written(alloc: Global, core: &Core<Toy, 2>) -> bool {
 
 #[test]
 fn five_nodes_and_outputs_that_fail(rt: HostRuntime) {
-    let mut shard = Shard::new(rt.alloc(), 20);
+    let mut shard = Shard::new(rt.alloc(), 20, TableKey::known());
     let mut core = opened(&rt, rt.alloc(), &mut shard);
     let taken = takes(rt.alloc(), &mut shard, &mut core, FIVE_NODES);
     assert!(rt; taken && is_written(rt.alloc(), &core));
@@ -180,7 +180,7 @@ fn have_file<R: Abort, const B: u8>(
     requires least { 1 ≤ B }
     requires most { B ≤ 8 }
 {
-    let mut shard = Shard::new(alloc, 20);
+    let mut shard = Shard::new(alloc, 20, TableKey::known());
     let mut core = opened::<R, Toy, B, Global>(rt, alloc, &mut shard);
     let taken = takes(alloc, &mut shard, &mut core, records);
     let file = file_of(alloc, alloc, &core);

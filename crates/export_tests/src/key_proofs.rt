@@ -9,7 +9,7 @@ use cid::{Cid, Digest, Sha256};
 use export::{ProofFault, prove, verify};
 use repo::Core;
 use std::alloc::{AllocError, Global};
-use store::Shard;
+use store::{Shard, TableKey};
 
 /// The proof that a core gives of a key.
 fn proof_of<D: Digest, const B: u8>(
@@ -65,7 +65,7 @@ fn is_one_node(alloc: Global, core: &Core<Sha256, 2>, size: usize, value: Option
 
 #[test]
 fn no_record_and_one(rt: HostRuntime) {
-    let mut shard = Shard::new(rt.alloc(), 9);
+    let mut shard = Shard::new(rt.alloc(), 9, TableKey::known());
     let mut core = opened(&rt, rt.alloc(), &mut shard);
     let none = is_one_node(rt.alloc(), &core, EMPTY_NODE.len(), None);
     let taken = takes(rt.alloc(), &mut shard, &mut core, &[(b"a/b", b"\xa0")]);
@@ -141,7 +141,7 @@ fn are_numbers_proved(alloc: Global, core: &Core<Toy, 2>, count: u16) -> bool {
 
 #[test]
 fn five_hundred_records_and_as_many_absent_keys(rt: HostRuntime) {
-    let mut shard = Shard::new(rt.alloc(), 3000);
+    let mut shard = Shard::new(rt.alloc(), 3000, TableKey::known());
     let mut core = opened(&rt, rt.alloc(), &mut shard);
     let filled = is_filled(rt.alloc(), &mut shard, &mut core, 500);
     let right = are_numbers_proved(rt.alloc(), &core, 500);
@@ -163,7 +163,7 @@ fn are_proved<const B: u8>(alloc: Global, core: &Core<Toy, B>) -> bool
 
 #[test]
 fn layers_of_one_bit_and_of_eight(rt: HostRuntime) {
-    let mut shard = Shard::new(rt.alloc(), 50);
+    let mut shard = Shard::new(rt.alloc(), 50, TableKey::known());
     let mut low = opened::<_, Toy, 8, _>(&rt, rt.alloc(), &mut shard);
     let mut deep = opened::<_, Toy, 1, _>(&rt, rt.alloc(), &mut shard);
     let taken = takes(rt.alloc(), &mut shard, &mut low, FIVE_NODES)
@@ -309,7 +309,7 @@ fn need_all(alloc: Global, core: &Core<Toy, 2>, count: u16) -> bool {
 
 #[test]
 fn proofs_without_a_node_or_with_a_bit_changed(rt: HostRuntime) {
-    let mut shard = Shard::new(rt.alloc(), 100);
+    let mut shard = Shard::new(rt.alloc(), 100, TableKey::known());
     let mut core = opened(&rt, rt.alloc(), &mut shard);
     let filled = is_filled(rt.alloc(), &mut shard, &mut core, 20);
     let are_needed = need_all(rt.alloc(), &core, 20);

@@ -11,6 +11,8 @@ mod fixtures;
 #[cfg(test)]
 mod key_proofs;
 #[cfg(test)]
+mod many_layers;
+#[cfg(test)]
 mod memory;
 #[cfg(test)]
 mod one_batch;

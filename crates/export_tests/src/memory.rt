@@ -12,7 +12,7 @@ use repo::Core;
 use std::alloc::{Allocator, Global};
 use std::process::Abort;
 use std::sync::Arc;
-use store::Shard;
+use store::{Shard, TableKey};
 
 /// Memory that refuses requests.
 type Heap<'h> = &'h Refusing<Global>;
@@ -159,7 +159,7 @@ fn refusals<'h>(
 /// Whether each request of the CAR of these records was refused, and it has this size.
 fn is_each_refused<R: Abort>(rt: &R, alloc: Global, records: &[Record<'_>], size: usize) -> bool {
     let heap = Refusing::new(alloc);
-    let mut shard = Shard::new(&heap, 20);
+    let mut shard = Shard::new(&heap, 20, TableKey::known());
     let mut core = opened(rt, &heap, &mut shard);
     let filled = takes(&heap, &mut shard, &mut core, records);
     let right = match file_of(alloc, &heap, &core) {
@@ -181,7 +181,7 @@ fn each_request_of_a_car_refused(rt: HostRuntime) {
 #[test]
 fn each_request_of_a_proof_refused(rt: HostRuntime) {
     let heap = Refusing::new(rt.alloc());
-    let mut shard = Shard::new(&heap, 50);
+    let mut shard = Shard::new(&heap, 50, TableKey::known());
     let mut core = opened(&rt, &heap, &mut shard);
     let filled = takes(&heap, &mut shard, &mut core, FIVE_NODES);
     let refusals = refusals(&heap, &core, b"a/p0", Cid::of::<Toy>(FIVE_NODES[0].1));

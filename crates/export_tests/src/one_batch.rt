@@ -14,7 +14,7 @@ use repo::Core;
 use std::alloc::{AllocError, Global};
 use std::process::Abort;
 use std::sync::Arc;
-use store::{LentShard, Shard};
+use store::{LentShard, Shard, TableKey};
 
 /// One key that is put three times, two keys with one record, and a record with the bytes of the node without entries.
 static MIXED: [Record<'static>; 7] = [
@@ -149,9 +149,9 @@ fn is_as_one_by_one<R: Abort, D: Digest, const B: u8>(
     requires least { 1 ≤ B }
     requires most { B ≤ 8 }
 {
-    let mut shard = Shard::<D>::new(alloc, 2000);
+    let mut shard = Shard::<D>::new(alloc, 2000, TableKey::known());
     let mut core = opened::<R, D, B, Global>(rt, alloc, &mut shard);
-    let mut shard_of_other = Shard::<D>::new(alloc, 2000);
+    let mut shard_of_other = Shard::<D>::new(alloc, 2000, TableKey::known());
     let mut other = opened::<R, D, B, Global>(rt, alloc, &mut shard_of_other);
     let same = takes(alloc, &mut shard, &mut core, records)
         && takes_each(alloc, &mut shard_of_other, &mut other, records)

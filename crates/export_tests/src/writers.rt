@@ -10,7 +10,7 @@ use export::{ExportFault, ToWriter, car};
 use repo::Core;
 use std::alloc::Global;
 use std::io::{self, ErrorKind, Write};
-use store::Shard;
+use store::{Shard, TableKey};
 
 /// A core's CAR behind what a vector has: by its contract alone, as its caller has nothing but the vector.
 fn file_behind<D: Digest, const B: u8>(
@@ -112,7 +112,7 @@ fn are_taken(alloc: Global, core: &Core<Toy, 2>) -> bool {
 
 #[test]
 fn writers_that_take_all_and_that_fail(rt: HostRuntime) {
-    let mut shard = Shard::new(rt.alloc(), 20);
+    let mut shard = Shard::new(rt.alloc(), 20, TableKey::known());
     let mut core = opened(&rt, rt.alloc(), &mut shard);
     let taken = takes(rt.alloc(), &mut shard, &mut core, FIVE_NODES);
     let right = are_taken(rt.alloc(), &core);

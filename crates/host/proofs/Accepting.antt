@@ -10,9 +10,8 @@ use Rattle.batches.specs.Write.{Write}
 use Rattle.batches.specs.declared.fault.RepoFault.{RepoFault}
 use Rattle.repo.specs.Refusals.{IsRefusal}
 use Rattle.repo.specs.declared.applied.Applied.{Applied}
-use Rattle.host.specs.Seeing.{IsSeen, IsTaken, IsTakenBy, IsRefusedSo}
+use Rattle.host.specs.Seeing.{IsSeen, IsTaken, IsTakenBy, IsRefusedSo, Wanted}
 use Rattle.host.specs.Versions.{IsVersion, IsVersionIn}
-use Rattle.host.specs.declared.locked.Wanted.{Wanted}
 use Rattle.host.specs.declared.version.Version.{Version}
 
 -- a batch that a core of such a state took was accepted after it

@@ -5,7 +5,7 @@ use Rattle.notices.specs.declared.notice.Notice.{Notice}
 use Rattle.notices.specs.Numbering.{NumberedFrom}
 use Rattle.notices.specs.Views.{PassView, SenderView, WasFull, sent_one, refused_once}
 use Rattle.std.proofs.Common.{ℕ}
-use Rattle.closing.specs.Ending.{told}
+use Rattle.ended.specs.Ending.{told}
 use Rattle.host.specs.Views.{IsOrderly}
 
 -- one more has the next number

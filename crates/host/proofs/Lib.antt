@@ -1,6 +1,4 @@
 pub mod Keeping
 pub mod Seats
 pub mod Accepting
-pub mod Sizes
 pub mod Wanting
-mod ChangeProving

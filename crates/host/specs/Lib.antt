@@ -1,7 +1,6 @@
 pub mod Opening
 pub mod Views
+pub mod Fitting
 pub mod Seeing
 pub mod Versions
 pub mod Telling
-pub mod Exporting
-pub mod ChangeProofs

@@ -12,9 +12,15 @@ use Rattle.repo.specs.Readings.{record_at, pairs_from}
 use Rattle.repo.specs.Refusals.{IsRefusal, IsApplied}
 use Rattle.repo.specs.declared.applied.Applied.{Applied}
 use Rattle.host.specs.Views.{HostView, WriterView}
-use Rattle.host.specs.declared.locked.Wanted.{Wanted}
 
--- the repository of this number, of which so many accepted writes were seen
+-- which repository a call wants: its number, how many writes it may have, and how many accepted
+-- writes the caller has seen there
+pub record Wanted : Type 0 where
+  pub repo : ℕ
+  pub limit : ℕ
+  pub seen : ℕ
+
+-- the host's repository of this number, of which so many accepted writes were seen
 abbrev pub wanted_of : HostView → ℕ → ℕ → Wanted
 wanted_of host repo seen = record { repo = repo; limit = host.limit; seen = seen }
 
@@ -28,10 +34,6 @@ pub record IsSeen (w : Wanted) (s : State) : Type 0 where
   pub me_is : s.me ≡ w.repo
   pub limit_is : s.limit ≡ w.limit
   pub long : w.seen ≤ length s.accepted
-
--- a core of this state isn't the wanted one
-abbrev pub IsPassedOver : Wanted → State → Type 0
-IsPassedOver w s = IsSeen w s → ⊥
 
 -- A core took the batch: it passes its test, the state after it is the one that the batch leaves,
 -- and the answer is of that state.

@@ -6,7 +6,7 @@ use Rattle.batches.specs.declared.stamp.Stamp.{Stamp}
 use Rattle.batches.specs.Write.{Write}
 use Rattle.notices.specs.Views.{WasFull}
 use Rattle.notices.specs.declared.notice.Notice.{Notice}
-use Rattle.closing.specs.Ending.{told}
+use Rattle.ended.specs.Ending.{told}
 use Rattle.host.specs.declared.fault.HostFault.{HostFault}
 use Rattle.host.specs.declared.fault.HostFault.TheVariants as faults
 use Rattle.host.specs.Views.{HostView, WriterView, with_seen}

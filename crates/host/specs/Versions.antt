@@ -5,8 +5,7 @@ use Rattle.spec.specs.Writes.{leaves, is_lawful_list}
 use Rattle.spec.specs.Blocks.{repository_root}
 use Rattle.spec.specs.States.{State, state_root}
 use Rattle.batches.specs.Values.{shared_writes}
-use Rattle.host.specs.Seeing.{IsSeen}
-use Rattle.host.specs.declared.locked.Wanted.{Wanted}
+use Rattle.host.specs.Seeing.{IsSeen, Wanted}
 use Rattle.host.specs.declared.version.Version.{Version}
 
 abbrev pub version_writes : {A : Type 0} → Version A → List ws.Write

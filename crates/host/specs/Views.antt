@@ -3,7 +3,7 @@ use Rattle.std.specs.Prelude.{◌≡◌, ◌≤◌, ◌+◌, ℕ, List, [], leng
 use Rattle.boxcar.specs.Table.{Shelves}
 use Rattle.notices.specs.declared.notice.Notice.{Notice}
 use Rattle.notices.specs.Numbering.{NumberedFrom}
-use Rattle.closing.specs.Ending.{EndedView}
+use Rattle.ended.specs.Ending.{EndedView}
 use Rattle.notices.specs.Views.{QueueId, QueueView, PassView, SenderView, fresh_passes}
 
 -- its queue, its published versions, how many repositories it has, and how many writes each may have

@@ -3,7 +3,6 @@
 use crate::host::{Host, Opened};
 use crate::version::Receipt;
 use crate::writer::Writer;
-use closing::{Closed, Uneven};
 use std::alloc::Global;
 
 /// A host of repositories of the AT Protocol (repository v3, MST structure: two zero bits a layer).
@@ -17,9 +16,3 @@ pub type AtprotoWriter<'a, D, A = Global> = Writer<'a, D, 2, A>;
 
 /// A receipt of a version of such a host.
 pub type AtprotoReceipt<D, A = Global> = Receipt<D, 2, A>;
-
-/// Such a host that has closed.
-pub type AtprotoClosed<D, A = Global> = Closed<D, 2, A>;
-
-/// Such a host that doesn't close.
-pub type AtprotoUneven<D, A = Global> = Uneven<D, 2, A>;

@@ -4,9 +4,7 @@ ghost use Rattle.std.specs.Prelude.{◌≡◌};
 ghost use Rattle.host.specs.declared.fault.OpenFault.TheVariants as faults;
 
 use batches::RepoFault;
-use change_proofs::ProvingFault;
 use cid::Digest;
-use export::ExportFault;
 use std::alloc::{AllocError, Allocator, Global};
 use thiserror::Error;
 
@@ -26,55 +24,6 @@ pub enum HostFault<D: Digest, A: Allocator = Global> {
     /// The writer's last accepted call has the number 2^64 - 1.
     #[error("the writer has no number for one more accepted call")]
     SeqFull,
-}
-
-/// Why there is no CAR of a host's repository.
-#[derive(Clone, Copy, Debug, PartialEq, Eq, Error)]
-pub enum CarFault {
-    /// There is no repository of this number. Nothing was written.
-    #[error("there is no such repository")]
-    NoSuchRepository,
-    /// The CAR wasn't written, or not all of it.
-    #[error("{0}")]
-    Export(ExportFault),
-}
-
-/// Why there is no proof of a key in a host's repository.
-#[derive(Clone, Copy, Debug, PartialEq, Eq, Error)]
-pub enum ProveFault {
-    /// There is no repository of this number.
-    #[error("there is no such repository")]
-    NoSuchRepository,
-    /// Memory was refused.
-    #[error("out of memory")]
-    NoMemory,
-}
-
-/// Why there is no proof of some changes of a host's repository.
-#[derive(Clone, Copy, Debug, PartialEq, Eq, Error)]
-pub enum ProveChangeFault {
-    /// There is no repository of this number.
-    #[error("there is no such repository")]
-    NoSuchRepository,
-    /// The key of the change at this place has another value in the repository than the one told after it.
-    #[error("the key of change {0} has another value")]
-    OtherValue(usize),
-    /// Memory was refused.
-    #[error("out of memory")]
-    NoMemory,
-}
-
-impl From<ProvingFault> for ProveChangeFault {
-    ghost use Rattle.host.specs.ChangeProofs.{of_proving};
-
-    ghost from_gives = { λ given fault. fault ≡ of_proving given };
-
-    fn from(fault: ProvingFault) -> ProveChangeFault {
-        match fault {
-            ProvingFault::OtherValue(place) => ProveChangeFault::OtherValue(place),
-            ProvingFault::NoMemory => ProveChangeFault::NoMemory,
-        }
-    }
 }
 
 /// Why a host wasn't opened.

@@ -1,9 +1,8 @@
-//! The host, and its close.
+//! The host, and its parts.
 
-ghost use Rattle.std.specs.Prelude.{◌≡◌, ◌≤◌, [], length, All, IfOk, IfErr, vec_len, vec_capacity};
+ghost use Rattle.std.specs.Prelude.{◌≡◌, ◌≤◌, length, vec_len, vec_capacity};
 ghost use Rattle.boxcar.specs.Table.{Shows};
-ghost use Rattle.closing.specs.Ending.{IsEndedAt, joined_all};
-ghost use Rattle.closing.specs.Settling.{IsSettled, IsUneven};
+ghost use Rattle.host.specs.Fitting.{AreTablesFit, CoreFits};
 ghost use Rattle.host.specs.Versions.{IsVersion};
 ghost use Rattle.host.specs.Views.{IsSeatOf, beginning};
 
@@ -11,13 +10,14 @@ use crate::seat::Seat;
 use crate::version::{Receipt, Shelf, Version};
 use crate::writer::Writer;
 use cid::Digest;
-use closing::{Closed, Ended, Feed, Taker, Uneven, close, element, end_all};
+use ended::{Feed, Taker};
+use fitting::element;
 use notices::Queue;
-use repo::{Core, Repository};
+use repo::{Core, Repository, end_all};
 use std::alloc::{Allocator, Global};
 use std::marker::Model;
 use std::slice::from_ref;
-use store::Shards;
+use store::{SHARDS, Shard, Shards};
 
 /// Many repositories, each behind its own lock, the shards with their blocks, the queue of notices, and the published versions.
 ///
@@ -72,6 +72,15 @@ impl<D: Digest, const B: u8, A: Allocator + Clone> Host<D, B, A> {
         self.repositories.len()
     }
 
+    /// What stands behind its locks fits in memory, a core and the tables of the shards. It does nothing: whoever is lent a
+    /// core, or takes the host apart, has to know this before.
+    pub fn fits_in_memory(&self)
+        ensures core { CoreFits D.row B.row A.row D.Digest A.Allocator }
+        ensures tables { AreTablesFit D.row A.row D.Digest A.Allocator }
+    {
+        let _ = element(&self.repositories, 0);
+    }
+
     /// The writer of this seat, which must be of this host. It takes no memory.
     pub fn writer(&self, seat: Seat<A>) -> Writer<'_, D, B, A>
         requires { IsSeatOf self.now seat }
@@ -124,44 +133,13 @@ fn take_out<D: Digest, const B: u8, A: Allocator>(
     room
 }
 
-impl<D: Digest, const B: u8, A: Allocator + Clone> Drop for Host<D, B, A> {
-    fn drop(self) {
-        let Host {
-            queue: _,
-            repositories,
-            limit: _,
-            shards,
-            room,
-            shelf: _,
-        } = self;
-        let _ = element(&repositories, 0);
-        end_all(take_out(repositories, room), shards.tables());
-    }
-}
-
 impl<D: Digest, const B: u8, A: Allocator + Clone> Host<D, B, A> {
-    /// Takes cores and tables out of their locks, and compares them with each other and with what writers have seen.
+    /// The queue, the cores in order, and the tables of the shards, out of their locks. It takes no memory.
     ///
-    /// These must be all writers and the feed that `Host::open` gave. Where all agree, it answers the closed host; otherwise
-    /// `Uneven`, which holds cores, tables and what the writers ended with, and shows in what these don't agree. It takes no
-    /// memory.
-    pub fn close(
-        self,
-        ended: Vec<Ended<A>, A>,
-        feed: Feed<A>,
-    ) -> Result<Closed<D, B, A>, Uneven<D, B, A>>
-        requires feed { feed.queue_id ≡ self.queue.queue_id }
-        requires fresh { feed.joined ≡ [] }
-        requires ended { All (IsEndedAt self.queue.queue_id self.repos) ended.items }
-        requires all { length ended.items ≡ feed.made }
-        ensures cores { IfOk result (λ c. length c.cores ≡ self.repos) }
-        ensures ended { IfOk result (λ c. c.ended ≡ ended.items) }
-        ensures joined { IfOk result (λ c. c.feed ≡ joined_all feed ended.items) }
-        ensures settled { IfOk result (λ c. IsSettled D.digest_of B c.cores c.tables c.ended) }
-        ensures held { IfErr result (λ u. length u.cores ≡ self.repos) }
-        ensures same { IfErr result (λ u. u.ended ≡ ended.items) }
-        ensures uneven { IfErr result (λ u. IsUneven D.digest_of B u.cores u.tables u.ended
-            u.mismatch) }
+    /// They are what the close of a host compares.
+    pub fn into_parts(self) -> (Queue<A>, Vec<Core<D, B, A>, A>, [Shard<D, A>; SHARDS])
+        ensures queue { result.0 ≡ self.queue }
+        ensures cores { length result.1.items ≡ self.repos }
     {
         let Host {
             queue,
@@ -172,7 +150,14 @@ impl<D: Digest, const B: u8, A: Allocator + Clone> Host<D, B, A> {
             shelf: _,
         } = self;
         let _ = element(&repositories, 0);
-        let cores = take_out(repositories, room);
-        close(queue, feed, ended, cores, shards.tables())
+        (queue, take_out(repositories, room), shards.tables())
+    }
+}
+
+impl<D: Digest, const B: u8, A: Allocator + Clone> Drop for Host<D, B, A> {
+    fn drop(self) {
+        self.fits_in_memory();
+        let (_, cores, tables) = self.into_parts();
+        end_all(cores, tables);
     }
 }

@@ -9,13 +9,13 @@
 //!   less of a repository than this writer has seen there.
 //! - `Writer::publish` makes a version, which `Host::version` shows for good and without a lock: what is to be read often,
 //!   or over a long time, is read by a version.
-//! - `Host::car` writes a repository as one file, `Host::prove` gives the nodes that prove what a key holds, and
-//!   `Host::prove_change` those that prove which keys changed and how, each while it shares the repository's lock with readers.
+//! - `Host::read` lends a repository as it is, under its read lock. So the crate `host_exports` writes a repository as one
+//!   file, and gives the nodes that prove what a key holds, or which keys changed and how.
 //! - `Host::taker` makes the one that takes notices out of the queue. What a full queue doesn't take a writer keeps, in
 //!   order, until `apply` or `flush` finds room.
-//! - `Writer::end` and the taker's `end` leave what `Host::close` wants of all of them. A host that has closed tells how many
-//!   repositories have each block, and what each repository is (the crate `closing`). One that isn't closed gives its blocks
-//!   back when it is dropped.
+//! - `Writer::end` and the taker's `end` leave what the close wants of all of them (`close` of the crate `host_close`). A host
+//!   that has closed tells how many repositories have each block, and what each repository is (the crate `closing`). One that
+//!   isn't closed gives its blocks back when it is dropped.
 //!
 //! # Who waits for whom
 //!
@@ -25,36 +25,38 @@
 //! - Writers of one repository wait for each other, and a long batch holds back those that read there. Writers of different
 //!   repositories meet in the shards alone, each time for one block.
 //! - Those that read a repository share its lock. Whoever comes while a writer waits there waits behind it.
-//! - `car` shares the lock until all is written. So a slow output holds back the writers of its repository, and those that
-//!   come to read there after one of these; nobody elsewhere. An output that itself waits for a call on this repository may
-//!   wait for ever.
+//! - The guard of `read` shares the lock until it goes. So who keeps it holds back the writers of its repository, and those
+//!   that come to read there after one of these; nobody elsewhere. Who asks for the same repository meanwhile may wait for
+//!   ever.
 //! - `version` takes no lock: it has no leave to wait, so that a host behind one lock couldn't offer it. `flush` and the taker
-//!   wait for nothing but the queue's own steps, and `close` for nothing.
+//!   wait for nothing but the queue's own steps, and `into_parts` for nothing.
 //!
 //! # What is proved
 //!
 //! Each answer of a writer is right for a lawful list of accepted writes of a repository of this number and this host's
-//! limit, of no fewer writes than the writer has seen there; each of `car`, `prove` and `prove_change` for some such list.
-//! What a call does to a core whose lock it has is said exactly: an accepted batch leaves the state that its writes and its
-//! stamp leave, and where the batch is refused, or the core isn't the wanted one, the core is as before. Once the host has
-//! closed, each repository is what its accepted writes leave, by the Merkle search tree built from scratch from their records,
-//! and each block's count is the number of repositories that have it.
+//! limit, of no fewer writes than the writer has seen there; and of such a list is the core that `read` lends. What a call does
+//! to a core whose lock it has is said exactly, by the contract of `repo::Core`: an accepted batch leaves the state that its
+//! writes and its stamp leave, and where the batch is refused the core is as before. Once the host has closed, each repository
+//! is what its accepted writes leave, by the Merkle search tree built from scratch from their records, and each block's count
+//! is the number of repositories that have it.
 //!
 //! No proof says that a lock is got or that a thread runs, nor which lock a call took and what stood behind it. So each call
 //! passes over a repository of another number, of another limit, or of fewer writes than were seen. Nor does one say that the
 //! repositories and counts of a host that has closed are those that stood behind its locks. Tests show these.
 //!
 //! ```rust
-//! ghost use Rattle.closing.specs.Ending.{IsEndedAt};
+//! ghost use Rattle.ended.specs.Ending.{IsEndedAt};
 //! ghost use Rattle.host.specs.Views.{IsSeatOf};
 //!
 //! use batches::{Stamp, Write};
 //! use cid::{Cid, Sha256};
-//! use closing::Ended;
+//! use ended::Ended;
 //! use host::{Host, Limits, Opened, Seat};
+//! use host_close::close;
 //! use std::alloc::{AllocError, Global};
 //! use std::process::Abort;
 //! use std::sync::Wait;
+//! use store::TableKey;
 //!
 //! /// The key of a post, and its record in DAG-CBOR.
 //! const KEY: &[u8] = b"app.bsky.feed.post/3jzfcijpj2z2a";
@@ -111,12 +113,12 @@
 //!         shard_blocks: 1000,
 //!         repo_writes: 1000,
 //!     };
-//!     let opened = Host::<Sha256, 2>::open(&rt, alloc, limits).expect(&rt, "a host");
+//!     let opened = Host::<Sha256, 2>::open(&rt, alloc, limits, TableKey::known());
 //!     let Opened {
 //!         host,
 //!         mut seats,
 //!         feed,
-//!     } = opened;
+//!     } = opened.expect(&rt, "a host");
 //!     let other = seats.pop().expect(&rt, "a seat");
 //!     let seat = seats.pop().expect(&rt, "a seat");
 //!     let mut ended = Vec::with_capacity(alloc, 2).expect(&rt, "memory");
@@ -129,7 +131,7 @@
 //!     let feed = taker.end();
 //!
 //!     // Once all writers have ended the host closes, and tells how many repositories have a block.
-//!     let count = match host.close(ended, feed) {
+//!     let count = match close(host, ended, feed) {
 //!         Ok(closed) => closed.count(&Cid::of::<Sha256>(RECORD)),
 //!         Err(_) => 0,
 //!     };
@@ -139,10 +141,7 @@
 #![tactic(auto)]
 
 mod atproto;
-mod change_proving;
-mod exporting;
 mod fault;
-mod fitting;
 mod host;
 mod limits;
 mod locked;
@@ -152,10 +151,8 @@ mod version;
 mod waiting;
 mod writer;
 
-pub use atproto::{
-    AtprotoClosed, AtprotoHost, AtprotoOpened, AtprotoReceipt, AtprotoUneven, AtprotoWriter,
-};
-pub use fault::{CarFault, HostFault, OpenFault, ProveChangeFault, ProveFault};
+pub use atproto::{AtprotoHost, AtprotoOpened, AtprotoReceipt, AtprotoWriter};
+pub use fault::{HostFault, OpenFault};
 pub use host::{Host, Opened};
 pub use limits::Limits;
 pub use seat::Seat;

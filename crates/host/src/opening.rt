@@ -6,13 +6,13 @@ ghost use Rattle.host.specs.Opening.{AreLawful, IsOutOfRange};
 ghost use Rattle.host.specs.Views.{fresh_seat, fresh_seats};
 
 use crate::fault::OpenFault;
-use crate::fitting::fits_in_memory;
 use crate::host::{Host, Opened};
 use crate::limits::Limits;
 use crate::seat::Seat;
 use crate::version::Shelf;
 use cid::Digest;
-use closing::Feed;
+use ended::Feed;
+use fitting::fits_in_memory;
 use notices::{Queue, SendPass};
 use repo::{Core, Repository};
 use std::alloc::{AllocError, Allocator};
@@ -165,7 +165,7 @@ impl<D: Digest, const B: u8, A: Allocator + Copy> Host<D, B, A> {
         let opened = queue_of(alloc, limits)?;
         let (queue, seats, feed) = opened;
         let shelf = Shelf::open(alloc)?;
-        let shards = Shards::open_keyed(alloc, limits.shard_blocks, key);
+        let shards = Shards::open(alloc, limits.shard_blocks, key);
         let (repositories, room) = open_all(rt, alloc, &shards, limits.repos, limits.repo_writes)?;
         let host = Host {
             queue,
@@ -180,30 +180,13 @@ impl<D: Digest, const B: u8, A: Allocator + Copy> Host<D, B, A> {
 
     /// A host of repositories without writes, with the seat of each writer in the order of their numbers, and the feed.
     ///
-    /// Its shards hash CIDs under a key that everybody knows. Where strangers choose records, `open_keyed` takes a key that
-    /// they don't know.
+    /// Its shards hash CIDs under this key: two numbers that the caller has drawn at random, or `TableKey::known()`, which
+    /// everybody knows. Where strangers choose records it has to be a key that they don't know.
     ///
     /// All limits are tested first, in their order, and the fault names the first one that is out of its range. After that
     /// only memory can be refused, `OpenFault::NoMemory`, also where shards, cores or repositories over this allocator would be
     /// too large for any memory; all that was taken is given back then.
-    pub fn open<R: Wait>(rt: &R, alloc: A, limits: Limits) -> Result<Opened<D, B, A>, OpenFault>
-        requires least_bits { 1 ≤ B }
-        requires most_bits { B ≤ 8 }
-        ensures lawful { OnOk result (AreLawful limits) }
-        ensures fault { IfErr result (IsOutOfRange limits) }
-        ensures repos { IfOk result (λ o. o.host.repos ≡ limits.repos) }
-        ensures limit { IfOk result (λ o. o.host.limit ≡ limits.repo_writes) }
-        ensures room { IfOk result (λ o. o.host.queue.room ≡ limits.queue) }
-        ensures feed { IfOk result (λ o.
-            o.feed ≡ fresh_feed o.host.queue.queue_id limits.writers) }
-        ensures seats { IfOk result (λ o. o.seats.items
-            ≡ fresh_seats o.host.queue.queue_id limits.writers limits.repos) }
-    {
-        Host::open_keyed(rt, alloc, limits, TableKey::known())
-    }
-
-    /// `open` with the key of the shards: two numbers that the caller has drawn at random.
-    pub fn open_keyed<R: Wait>(
+    pub fn open<R: Wait>(
         rt: &R,
         alloc: A,
         limits: Limits,

@@ -1,12 +1,10 @@
 //! Published versions, which are read without a lock.
 
-ghost use Rattle.std.specs.Prelude.{◌≡◌, IfOk, IfErr, IfNone, IfSome};
+ghost use Rattle.std.specs.Prelude.{◌≡◌, IfOk, IfErr};
 ghost use Rattle.boxcar.specs.Table.{Shows};
 ghost use Rattle.batches.specs.Values.{shared_writes};
-ghost use Rattle.host.specs.Seeing.{IsSeen, IsPassedOver};
 ghost use Rattle.host.specs.Versions.{IsVersion, IsVersionIn};
 
-use crate::locked::{Wanted, is_wanted};
 use batches::Write;
 use boxcar::tag::Tag;
 use boxcar::{Keeps, Pushed};
@@ -110,27 +108,21 @@ impl<D: Digest, const B: u8, A: Allocator> Shelf<D, B, A> {
     }
 }
 
-/// The core's version, where the core is the wanted one.
+/// The core's version.
 pub(crate) fn version_in<D: Digest, const B: u8, A: Allocator>(
     alloc: A,
     core: &Core<D, B, A>,
-    wanted: Wanted,
-) -> Option<Result<Version<A>, AllocError>>
-    ensures seen { IfSome result (λ r. IsSeen wanted core.now) }
-    ensures passed { IfNone result (IsPassedOver wanted core.now) }
-    ensures version { IfSome result (λ r. IfOk r (IsVersionIn D.digest_of B core.now)) }
+) -> Result<Version<A>, AllocError>
+    ensures { IfOk result (IsVersionIn D.digest_of B core.now) }
 {
-    if !is_wanted(core, wanted) {
-        return None;
-    }
     match shared(alloc, core.accepted()) {
-        Ok(writes) => Some(Ok(Version {
-            repo: wanted.repo,
+        Ok(writes) => Ok(Version {
+            repo: core.me(),
             number: core.number(),
             root: core.root(),
             writes,
-        })),
-        Err(refused) => Some(Err(refused)),
+        }),
+        Err(refused) => Err(refused),
     }
 }
 

@@ -1,39 +1,66 @@
 //! Calls that wait for a repository's lock.
 //!
-//! Each takes the lock of its repository, and lets it go before it answers or tries again. No contract can say which lock was
-//! taken, nor what stands behind it but a lawful core; so the work is done by functions that are lent the core, and these pass
-//! over one that isn't the wanted one.
+//! Each takes the lock of its repository, and lets it go when it has answered. No contract can say which lock was taken, nor
+//! what stands behind it but a lawful core. So `read` and `write` pass over a core that isn't the wanted one: one of another
+//! number, of another limit, or of fewer accepted writes than the caller has seen. They let its lock go and try again. What
+//! the guard then gives is known, and what a call does under it is exact: it is what the core's own contract says.
 
 ghost use Rattle.std.specs.Prelude.{◌≡◌, ◌<◌, IfOk, IfErr, option_map};
+ghost use Rattle.std.specs.Sync.RwLock.{read_guard_value, write_guard_value};
 ghost use Rattle.boxcar.specs.Table.{Shows};
 ghost use Rattle.lookups.specs.Walks.{pairs_given};
-ghost use Rattle.host.specs.Seeing.{IsTaken, IsRefusedSo, IsFound, IsListed, wanted_of};
+ghost use Rattle.host.specs.Seeing.{IsSeen, IsTaken, IsRefusedSo, IsFound, IsListed, wanted_of};
 ghost use Rattle.host.specs.Versions.{IsVersion, IsOfState};
 
 use crate::host::Host;
-use crate::locked::{Wanted, apply_at, pairs_in, record_in};
+use crate::locked::{apply_at, is_wanted, pairs_in, record_in};
 use crate::version::{Receipt, Version, version_in};
 use batches::{RepoFault, Stamp, Write};
 use cid::{Cid, Digest};
-use closing::element;
-use repo::Applied;
+use fitting::element;
+use repo::{Applied, Core};
 use std::alloc::{AllocError, Allocator};
-use std::sync::Wait;
+use std::sync::{RwLockReadGuard, RwLockWriteGuard, Wait};
 use store::LockedShards;
 
 impl<D: Digest, const B: u8, A: Allocator + Clone> Host<D, B, A> {
-    /// The repository of this number, of which so many accepted writes were seen.
-    pub(crate) fn wanted(&self, repo: usize, seen: u64) -> Wanted
+    /// The core of a repository, which must be one of the host's, under its read lock, once it has at least `seen` accepted
+    /// writes.
+    ///
+    /// It waits for the lock, and shares it with other readers. Writers of this repository wait until the guard goes, and so
+    /// do those that come to read there after one of these; nobody in another one. It takes no memory.
+    pub fn read<R: Wait>(
+        &self,
+        rt: &R,
+        repo: usize,
+        seen: u64,
+    ) -> RwLockReadGuard<'_, Core<D, B, A>>
         requires { repo < self.now.repos }
-        ensures { result ≡ wanted_of self.now repo seen }
+        ensures { IsSeen (wanted_of self.now repo seen) (read_guard_value result) }
     {
-        // it is known there that they are few
-        let _ = self.repos();
-        Wanted {
-            repo: repo as u32,
-            limit: self.limit,
-            seen,
+        let repository = element(&self.repositories, repo);
+        for _ in rt.forever() {
+            let core = repository.lock.read(rt);
+            if is_wanted(&core, repo, self.limit, seen) {
+                return core;
+            }
         }
+        unreachable!()
+    }
+
+    /// The same under the write lock, which is shared with nobody.
+    fn write<R: Wait>(&self, rt: &R, repo: usize, seen: u64) -> RwLockWriteGuard<'_, Core<D, B, A>>
+        requires { repo < self.now.repos }
+        ensures { IsSeen (wanted_of self.now repo seen) (write_guard_value result) }
+    {
+        let repository = element(&self.repositories, repo);
+        for _ in rt.forever() {
+            let core = repository.lock.write(rt);
+            if is_wanted(&core, repo, self.limit, seen) {
+                return core;
+            }
+        }
+        unreachable!()
     }
 }
 
@@ -54,17 +81,10 @@ impl<D: Digest, const B: u8, A: Allocator + Copy> Host<D, B, A> {
         ensures refused { IfErr result
             (IsRefusedSo D.digest_of B (wanted_of self.now repo seen) stamp.now writes.now) }
     {
-        let wanted = self.wanted(repo, seen);
-        let repository = element(&self.repositories, repo);
-        for _ in rt.forever() {
-            let mut core = repository.lock.write(rt);
-            let mut store = LockedShards::new(rt, &self.shards);
-            let answer = apply_at(alloc, &mut store, &mut core, wanted, stamp, writes);
-            if let Some(answer) = answer {
-                return answer;
-            }
-        }
-        unreachable!()
+        self.fits_in_memory();
+        let mut core = self.write(rt, repo, seen);
+        let mut store = LockedShards::new(rt, &self.shards);
+        apply_at(alloc, &mut store, &mut core, stamp, writes)
     }
 
     /// The record of a key, with the number of accepted writes, under the repository's read lock, once the core has at least
@@ -81,15 +101,8 @@ impl<D: Digest, const B: u8, A: Allocator + Copy> Host<D, B, A> {
         ensures { IfOk result (λ r.
             IsFound (wanted_of self.now repo seen) key.now r.0 (option_map (λ v. v.items) r.1)) }
     {
-        let wanted = self.wanted(repo, seen);
-        let repository = element(&self.repositories, repo);
-        for _ in rt.forever() {
-            let core = repository.lock.read(rt);
-            if let Some(answer) = record_in(alloc, &core, wanted, key) {
-                return answer;
-            }
-        }
-        unreachable!()
+        self.fits_in_memory();
+        record_in(alloc, &self.read(rt, repo, seen), key)
     }
 
     /// The first pairs from a key on, with the number of accepted writes, under the repository's read lock, once the core has at
@@ -107,15 +120,8 @@ impl<D: Digest, const B: u8, A: Allocator + Copy> Host<D, B, A> {
         ensures { IfOk result (λ r. IsListed D.digest_of (wanted_of self.now repo seen)
             from.now limit r.0 (pairs_given r.1.items)) }
     {
-        let wanted = self.wanted(repo, seen);
-        let repository = element(&self.repositories, repo);
-        for _ in rt.forever() {
-            let core = repository.lock.read(rt);
-            if let Some(answer) = pairs_in(alloc, &core, wanted, from, limit) {
-                return answer;
-            }
-        }
-        unreachable!()
+        self.fits_in_memory();
+        pairs_in(alloc, &self.read(rt, repo, seen), from, limit)
     }
 
     /// The repository's version, under its read lock, once the core has at least `seen` accepted writes.
@@ -130,15 +136,8 @@ impl<D: Digest, const B: u8, A: Allocator + Copy> Host<D, B, A> {
         ensures lawful { IfOk result (IsVersion D.digest_of B) }
         ensures state { IfOk result (IsOfState D.digest_of B (wanted_of self.now repo seen)) }
     {
-        let wanted = self.wanted(repo, seen);
-        let repository = element(&self.repositories, repo);
-        for _ in rt.forever() {
-            let core = repository.lock.read(rt);
-            if let Some(answer) = version_in(alloc, &core, wanted) {
-                return answer;
-            }
-        }
-        unreachable!()
+        self.fits_in_memory();
+        version_in(alloc, &self.read(rt, repo, seen))
     }
 
     /// Publishes a version. It comes back where memory was refused.

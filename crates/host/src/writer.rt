@@ -1,10 +1,10 @@
 //! A writer: what it has told, what it keeps, and what it has seen.
 
-ghost use Rattle.std.specs.Prelude.{◌≡◌, ◌<◌, ◌≤◌, ◌+◌, ◌++◌, ◌∷◌, [], length, IfOk, IfErr, OnErr, OnOk, Err, slice_index, option_map};
+ghost use Rattle.std.specs.Prelude.{◌≡◌, ◌<◌, ◌≤◌, ◌+◌, ◌++◌, ◌∷◌, [], length, IfOk, IfErr, OnErr, OnOk, Err, option_map};
 ghost use Rattle.std.specs.VecDeque.{deque_len, deque_capacity};
 ghost use Rattle.boxcar.specs.Table.{Shows};
 ghost use Rattle.lookups.specs.Walks.{pairs_given};
-ghost use Rattle.closing.specs.Ending.{IsEndedAt};
+ghost use Rattle.ended.specs.Ending.{IsEndedAt};
 ghost use Rattle.host.specs.Seeing.{IsTaken, IsRefusedSo, wanted_by};
 ghost use Rattle.host.specs.Versions.{IsVersion, IsOfState};
 ghost use Rattle.host.specs.Views.{ended_of, with_seen};
@@ -17,7 +17,8 @@ use crate::host::Host;
 use crate::version::Receipt;
 use batches::{RepoFault, Stamp, Write};
 use cid::{Cid, Digest};
-use closing::{Ended, element};
+use ended::Ended;
+use fitting::element;
 use notices::{Notice, Sender};
 use repo::Applied;
 use std::alloc::{Allocator, Global};

@@ -1,8 +1,7 @@
 //! Each call of a host with each of its requests for memory refused in turn: all is as before then, and asked again it goes on.
 
 ghost use Rattle.std.specs.Prelude.{◌≡◌, ◌≤◌, [], vec_capacity};
-ghost use Rattle.boxcar.specs.Table.{Shows};
-ghost use Rattle.closing.specs.Ending.{IsEndedAt};
+ghost use Rattle.ended.specs.Ending.{IsEndedAt};
 ghost use Rattle.host.specs.Views.{IsSeatOf, fresh_seats};
 ghost use Rattle.notices.specs.Views.{fresh_feed};
 
@@ -11,9 +10,12 @@ use crate::queue_of_two::{Left, THREE, popped};
 use crate::seated::Alone;
 use cid::Cid;
 use cid::digests::Toy;
-use closing::{Closed, Ended, Feed, Taker};
+use closing::Closed;
+use ended::{Ended, Feed, Taker};
 use export::ToMemory;
 use host::{Host, HostFault, OpenFault, Opened, Version, Writer};
+use host_close::close;
+use host_exports::{car, prove};
 use notices::Notice;
 use refusing::Refusing;
 use repo_fixtures::batch::{Batch, EMPTY_NODE, ONE, Step, TWO, batch_at};
@@ -21,6 +23,7 @@ use repo_fixtures::ends::{Why, why_of};
 use std::alloc::{AllocError, Allocator, Global};
 use std::process::Abort;
 use std::sync::Wait;
+use store::TableKey;
 
 /// Memory that refuses requests.
 pub(crate) type Heap = Refusing<Global>;
@@ -31,11 +34,12 @@ fn opened<'h, R: Wait + Abort>(rt: &R, heap: &'h Heap) -> Opened<Toy, 2, &'h Hea
     ensures feed { result.feed ≡ fresh_feed result.host.queue.queue_id 1 }
     ensures seats { result.seats.items ≡ fresh_seats result.host.queue.queue_id 1 1 }
 {
-    match Host::<Toy, 2, &'h Heap>::open(rt, heap, limits(1, 1, 2)) {
+    let key = TableKey::known();
+    match Host::<Toy, 2, &'h Heap>::open(rt, heap, limits(1, 1, 2), key) {
         Ok(opened) => opened,
         Err(fault) => {
             assert!(rt; fault == OpenFault::NoMemory && heap.refused() == 1 && heap.live() == 0);
-            Host::<Toy, 2, &'h Heap>::open(rt, heap, limits(1, 1, 2)).expect(rt, "a host")
+            Host::<Toy, 2, &'h Heap>::open(rt, heap, limits(1, 1, 2), key).expect(rt, "a host")
         }
     }
 }
@@ -255,11 +259,11 @@ pub(crate) fn puts_three<'h, R: Wait>(
 /// Whether the repository's file is made, and a proof of its key.
 fn exports<'h, R: Wait>(rt: &R, heap: &'h Heap, host: &Host<Toy, 2, &'h Heap>) -> bool {
     let mut out = ToMemory::new(heap);
-    let is_made = match host.car(rt, heap, 0, &mut out) {
+    let is_made = match car(rt, heap, host, 0, &mut out) {
         Ok(length) => length == out.bytes().len() as u64,
         Err(_) => false,
     };
-    match host.prove(rt, heap, 0, b"a/b0") {
+    match prove(rt, heap, host, 0, b"a/b0") {
         Ok(nodes) => nodes.len() == 1 && is_made,
         Err(_) => false,
     }
@@ -363,7 +367,7 @@ pub(crate) fn closes<'h, R: Wait>(
 {
     let mut all = room;
     all.push_reserved(ended);
-    match host.close(all, feed) {
+    match close(host, all, feed) {
         Ok(closed) => is_closed(rt, closed),
         Err(_) => false,
     }

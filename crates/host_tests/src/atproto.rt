@@ -2,10 +2,9 @@
 //! takes a type with the number written out, and gives it under its name.
 
 use cid::Sha256;
-use closing::{Closed, Uneven};
+use closing::{AtprotoClosed, AtprotoUneven, Closed, Uneven};
 use host::{
-    AtprotoClosed, AtprotoHost, AtprotoOpened, AtprotoReceipt, AtprotoUneven, AtprotoWriter, Host,
-    Opened, Receipt, Writer,
+    AtprotoHost, AtprotoOpened, AtprotoReceipt, AtprotoWriter, Host, Opened, Receipt, Writer,
 };
 
 pub(crate) fn host_of_two_bits(host: &Host<Sha256, 2>) -> &AtprotoHost<Sha256> {

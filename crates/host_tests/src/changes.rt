@@ -7,7 +7,8 @@ use block::Block;
 use change_proofs::{ChangeFault, KeyChange, are_key_changes, verify_blocks};
 use cid::Cid;
 use cid::digests::Toy;
-use host::{Host, ProveChangeFault, Writer};
+use host::{Host, Writer};
+use host_exports::{ProveChangeFault, prove_change};
 use notices::Notice;
 use repo_fixtures::batch::{ONE, Step, TWO, batch_at};
 use std::alloc::{AllocError, Global};
@@ -85,7 +86,7 @@ fn proved<R: Wait>(
     if !are_key_changes(&changes) {
         return Err(ProveChangeFault::NoMemory);
     }
-    host.prove_change(rt, alloc, repo, &changes)
+    prove_change(rt, alloc, host, repo, &changes)
 }
 
 /// Why it doesn't prove them.

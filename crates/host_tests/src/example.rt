@@ -1,15 +1,17 @@
 //! The example of the crate `host`: from its first `use` on, this file is what the root of that crate shows.
 
-ghost use Rattle.closing.specs.Ending.{IsEndedAt};
+ghost use Rattle.ended.specs.Ending.{IsEndedAt};
 ghost use Rattle.host.specs.Views.{IsSeatOf};
 
 use batches::{Stamp, Write};
 use cid::{Cid, Sha256};
-use closing::Ended;
+use ended::Ended;
 use host::{Host, Limits, Opened, Seat};
+use host_close::close;
 use std::alloc::{AllocError, Global};
 use std::process::Abort;
 use std::sync::Wait;
+use store::TableKey;
 
 /// The key of a post, and its record in DAG-CBOR.
 const KEY: &[u8] = b"app.bsky.feed.post/3jzfcijpj2z2a";
@@ -67,12 +69,12 @@ fn two_writers_and_a_version(rt: HostRuntime) {
         shard_blocks: 1000,
         repo_writes: 1000,
     };
-    let opened = Host::<Sha256, 2>::open(&rt, alloc, limits).expect(&rt, "a host");
+    let opened = Host::<Sha256, 2>::open(&rt, alloc, limits, TableKey::known());
     let Opened {
         host,
         mut seats,
         feed,
-    } = opened;
+    } = opened.expect(&rt, "a host");
     let other = seats.pop().expect(&rt, "a seat");
     let seat = seats.pop().expect(&rt, "a seat");
     let mut ended = Vec::with_capacity(alloc, 2).expect(&rt, "memory");
@@ -85,7 +87,7 @@ fn two_writers_and_a_version(rt: HostRuntime) {
     let feed = taker.end();
 
     // Once all writers have ended the host closes, and tells how many repositories have a block.
-    let count = match host.close(ended, feed) {
+    let count = match close(host, ended, feed) {
         Ok(closed) => closed.count(&Cid::of::<Sha256>(RECORD)),
         Err(_) => 0,
     };

@@ -1,14 +1,16 @@
 //! CAR files and proofs of a host's repositories.
 
-ghost use Rattle.closing.specs.Ending.{IsEndedAt};
+ghost use Rattle.ended.specs.Ending.{IsEndedAt};
 
 use crate::seated::{Alone, close_one, open_one};
 use block::Block;
 use cid::Cid;
 use cid::digests::Toy;
-use closing::{Closed, Ended};
+use closing::Closed;
+use ended::Ended;
 use export::{ExportFault, ToMemory, car, verify};
-use host::{CarFault, Host, ProveFault, Writer};
+use host::{Host, Writer};
+use host_exports::{CarFault, ProveFault, prove};
 use refusing::Refusing;
 use repo::Core;
 use repo_fixtures::batch::{ONE, Step, TWO, stamped};
@@ -46,7 +48,7 @@ pub(crate) fn car_of<R: Wait>(
     repo: usize,
 ) -> Option<Vec<u8>> {
     let mut out = ToMemory::new(alloc);
-    match host.car(rt, alloc, repo, &mut out) {
+    match host_exports::car(rt, alloc, host, repo, &mut out) {
         Ok(length) if length == out.bytes().len() as u64 => Some(out.into_bytes()),
         _ => None,
     }
@@ -94,7 +96,7 @@ fn proves<R: Wait>(
     key: &[u8],
     record: Option<&[u8]>,
 ) -> bool {
-    match host.prove(rt, alloc, 1, key) {
+    match prove(rt, alloc, host, 1, key) {
         Ok(nodes) => show(alloc, &nodes, root, key, record),
         Err(_) => false,
     }
@@ -122,11 +124,11 @@ fn proves_all<R: Wait>(rt: &R, alloc: Global, host: &Host<Toy, 2>, root: &Cid) -
 /// Whether a host of two repositories says that there is none of number 2, and an output takes nothing then.
 fn none_is_there<R: Wait>(rt: &R, alloc: Global, host: &Host<Toy, 2>) -> bool {
     let mut out = ToMemory::new(alloc);
-    let answer = host.car(rt, alloc, 2, &mut out);
+    let answer = host_exports::car(rt, alloc, host, 2, &mut out);
     matches!(answer, Err(CarFault::NoSuchRepository))
         && out.bytes().is_empty()
         && matches!(
-            host.prove(rt, alloc, 2, b"a/p0"),
+            prove(rt, alloc, host, 2, b"a/p0"),
             Err(ProveFault::NoSuchRepository)
         )
 }
@@ -143,7 +145,7 @@ fn is_beginning<R: Wait>(
     let heap = Refusing::new(alloc);
     heap.refuse(number);
     let mut out = ToMemory::new(&heap);
-    match host.car(rt, alloc, 1, &mut out) {
+    match host_exports::car(rt, alloc, host, 1, &mut out) {
         Ok(_) if out.bytes() == file => Some(true),
         Err(CarFault::Export(ExportFault::DeviceFault)) if file.starts_with(out.bytes()) => {
             Some(false)

@@ -12,6 +12,8 @@ mod example;
 #[cfg(test)]
 mod exports;
 #[cfg(test)]
+mod great_batches;
+#[cfg(test)]
 mod hosts;
 #[cfg(test)]
 mod listing;

@@ -2,7 +2,7 @@
 
 ghost use Rattle.std.specs.Prelude.{◌≡◌};
 ghost use Rattle.boxcar.specs.Table.{Shows};
-ghost use Rattle.closing.specs.Ending.{IsEndedAt};
+ghost use Rattle.ended.specs.Ending.{IsEndedAt};
 
 use crate::asked_again::{
     Heap, Stand, closes, is_version, puts_three, room_for_one, seated, stands, tells,
@@ -11,7 +11,7 @@ use crate::hosts::{Answer, answer_of};
 use crate::queue_of_two::Left;
 use crate::seated::Alone;
 use cid::digests::Toy;
-use closing::Taker;
+use ended::Taker;
 use host::{Host, HostFault, Receipt, Writer};
 use refusing::Refusing;
 use repo_fixtures::batch::{ONE, Step, batch_at};

@@ -3,11 +3,14 @@
 use crate::hosts::{Answer, apply_steps, limits};
 use cid::digests::Toy;
 use host::{Host, Limits, OpenFault, Opened};
+use repo::end_all;
 use repo_fixtures::batch::Step;
 use repo_fixtures::ends::Why;
 use std::alloc::Global;
+use std::hash::{BuildHasher, Hasher};
 use std::process::Abort;
 use std::sync::Wait;
+use store::{SHARDS, Shard, TableKey};
 
 /// How a host is opened.
 #[derive(Clone, Copy, PartialEq, Eq)]
@@ -23,7 +26,7 @@ enum Opening {
 
 /// How a host of these limits is opened.
 fn opening_of<R: Wait>(rt: &R, alloc: Global, limits: Limits) -> Opening {
-    match Host::<Toy, 2>::open(rt, alloc, limits) {
+    match Host::<Toy, 2>::open(rt, alloc, limits, TableKey::known()) {
         Ok(_) => Opening::Opened,
         Err(OpenFault::BadRepos) => Opening::BadRepos,
         Err(OpenFault::BadWriters) => Opening::BadWriters,
@@ -84,7 +87,7 @@ fn puts_within<R: Wait + Abort>(
         repo_writes,
         ..limits(1, 1, 9)
     };
-    let opened = Host::<Toy, 2>::open(rt, alloc, given).expect(rt, "a host");
+    let opened = Host::<Toy, 2>::open(rt, alloc, given, TableKey::known()).expect(rt, "a host");
     let Opened {
         host,
         mut seats,
@@ -123,5 +126,47 @@ fn each_shard_and_repository_has_its_limit(rt: HostRuntime) {
             puts_within(&rt, rt.alloc(), *blocks, *writes) == *wanted,
             "{blocks} blocks and {writes} writes"
         );
+    }
+}
+
+/// What a table makes of the key alone.
+fn hash_of(key: TableKey) -> u64 {
+    key.build_hasher().finish()
+}
+
+/// Whether each of the sixteen shards may have so many blocks, under this key.
+fn have_all(tables: &[Shard<Toy>; SHARDS], limit: usize, key: TableKey) -> bool {
+    for table in tables {
+        if table.limit() != limit || hash_of(table.key()) != hash_of(key) {
+            return false;
+        }
+    }
+    true
+}
+
+/// Whether each shard of a host has the limit and the key with which it was opened.
+fn is_opened_so<R: Wait + Abort>(rt: &R, alloc: Global, limit: usize, key: TableKey) -> bool {
+    let given = Limits {
+        shard_blocks: limit,
+        ..limits(1, 1, 9)
+    };
+    let opened = Host::<Toy, 2>::open(rt, alloc, given, key).expect(rt, "a host");
+    let Opened {
+        host,
+        seats: _,
+        feed: _,
+    } = opened;
+    let (_, cores, tables) = host.into_parts();
+    let is_so = have_all(&tables, limit, key);
+    end_all(cores, tables);
+    is_so
+}
+
+/// No contract can say what stands behind a lock.
+#[test]
+fn each_shard_has_the_limit_and_the_key(rt: HostRuntime) {
+    let key = TableKey::of(0x0706_0504_0302_0100, u64::MAX);
+    for limit in [1usize, 65_537, 1_048_576] {
+        assert!(rt; is_opened_so(&rt, rt.alloc(), limit, key), "at {limit}");
     }
 }

@@ -1,12 +1,13 @@
 //! A queue of two, and a writer that tells three notices.
 
-ghost use Rattle.std.specs.Prelude.{◌≡◌, length, All, []};
-ghost use Rattle.closing.specs.Ending.{IsEndedAt};
+ghost use Rattle.std.specs.Prelude.{◌≡◌};
+ghost use Rattle.ended.specs.Ending.{IsEndedAt};
 
 use crate::hosts::{Answer, apply_steps, finds};
 use crate::seated::{Alone, close_one, open_one};
 use cid::digests::Toy;
-use closing::{Closed, Ended, Feed, Taker};
+use closing::Closed;
+use ended::{Ended, Feed, Taker};
 use host::Writer;
 use notices::Notice;
 use repo_fixtures::batch::{ONE, Step, TWO};

@@ -1,17 +1,20 @@
 //! Hosts that are opened with one writer or with two, and closed.
 
 ghost use Rattle.std.specs.Prelude.{◌≡◌, ◌≤◌, [], vec_capacity};
-ghost use Rattle.closing.specs.Ending.{IsEndedAt};
+ghost use Rattle.ended.specs.Ending.{IsEndedAt};
 ghost use Rattle.host.specs.Views.{IsSeatOf};
 
 use crate::hosts::limits;
 use cid::Digest;
 use cid::digests::Toy;
-use closing::{Closed, Ended, Feed};
+use closing::Closed;
+use ended::{Ended, Feed};
 use host::{Host, Opened, Seat};
+use host_close::close;
 use std::alloc::{Allocator, Global};
 use std::process::Abort;
 use std::sync::Wait;
+use store::TableKey;
 
 /// A host with one writer.
 #[derive(Drop)]
@@ -35,7 +38,8 @@ pub(crate) fn open_one<D: Digest, const B: u8, R: Wait + Abort>(
     ensures one { result.feed.made ≡ 1 }
     ensures fresh { result.feed.joined ≡ [] }
 {
-    let opened = Host::<D, B>::open(rt, alloc, limits(repos, 1, queue)).expect(rt, "a host");
+    let key = TableKey::known();
+    let opened = Host::<D, B>::open(rt, alloc, limits(repos, 1, queue), key).expect(rt, "a host");
     let Opened {
         host,
         mut seats,
@@ -79,7 +83,7 @@ pub(crate) fn close_in<D: Digest, const B: u8, R: Abort>(
 {
     let mut all = room;
     all.push_reserved(ended);
-    match host.close(all, feed) {
+    match close(host, all, feed) {
         Ok(closed) => closed,
         Err(_) => panic!(rt; "it doesn't close"),
     }
@@ -102,7 +106,8 @@ pub(crate) fn open_two<R: Wait + Abort>(rt: &R, alloc: Global, queue: usize) -> 
     ensures two { result.feed.made ≡ 2 }
     ensures fresh { result.feed.joined ≡ [] }
 {
-    let opened = Host::<Toy, 2>::open(rt, alloc, limits(2, 2, queue)).expect(rt, "a host");
+    let key = TableKey::known();
+    let opened = Host::<Toy, 2>::open(rt, alloc, limits(2, 2, queue), key).expect(rt, "a host");
     let Opened {
         host,
         mut seats,
@@ -136,7 +141,7 @@ pub(crate) fn close_two<R: Abort>(
     let mut all = Vec::with_capacity(alloc, 2).expect(rt, "room");
     all.push_reserved(first);
     all.push_reserved(second);
-    match host.close(all, feed) {
+    match close(host, all, feed) {
         Ok(closed) => closed,
         Err(_) => panic!(rt; "it doesn't close"),
     }

@@ -1,13 +1,14 @@
 //! Two repositories that share blocks, blocks that clash, and a host that did nothing.
 
-ghost use Rattle.std.specs.Prelude.{◌≡◌, ◌≤◌};
-ghost use Rattle.closing.specs.Ending.{IsEndedAt};
+ghost use Rattle.std.specs.Prelude.{◌≤◌};
+ghost use Rattle.ended.specs.Ending.{IsEndedAt};
 
 use crate::hosts::{Answer, apply_steps};
 use crate::seated::{Alone, close_one, open_one};
 use cid::digests::{Clash, Size, Toy};
 use cid::{Cid, Digest};
-use closing::{Closed, Ended};
+use closing::Closed;
+use ended::Ended;
 use host::Writer;
 use repo_fixtures::batch::{EMPTY, EMPTY_NODE, ONE, Step, TWO};
 use repo_fixtures::ends::Why;

@@ -2,13 +2,14 @@
 //! the close.
 
 ghost use Rattle.std.specs.Prelude.{◌≡◌};
-ghost use Rattle.closing.specs.Ending.{IsEndedAt};
+ghost use Rattle.ended.specs.Ending.{IsEndedAt};
 
 use crate::hosts::{Answer, apply_steps, finds};
 use crate::seated::{Pair, close_two, open_two};
 use cid::Cid;
 use cid::digests::Toy;
-use closing::{Closed, Ended, Feed, Taker};
+use closing::Closed;
+use ended::{Ended, Feed, Taker};
 use host::Writer;
 use notices::Notice;
 use repo_fixtures::batch::{EMPTY, ONE, Step};

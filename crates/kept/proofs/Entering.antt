@@ -1,6 +1,6 @@
 -- The cores that a core's calls enter in its store.
 use Rattle.std.proofs.Common.{◌≡◌, ℕ, ◌<◌, List, length, refl, ap, sym, ◌∙◌, cond, Bool, true, false, arith, nat_eq}
-use Rattle.std.specs.Prelude.{◌≢◌, Option, Some, None, Result, Ok, is_some, ◌&&◌}
+use Rattle.std.specs.Prelude.{◌≢◌, Option, Some, None, Ok, is_some, ◌&&◌}
 use Rattle.std.specs.Arc.{arc_value}
 use Rattle.std.proofs.lemmas.Bool.Decides.{nat_tests}
 use Rattle.std.specs.BTreeMap.{is_at}
@@ -11,7 +11,6 @@ use Rattle.std.specs.Ordering.{nat_cmp, is_eq}
 use Rattle.std.specs.declared.sync.Arc.{Arc}
 use Rattle.spec.specs.Cid.{cid as cid_of}
 use Rattle.store.specs.Stores.{Entered, Store, with_core}
-use Rattle.store.specs.declared.fault.StoreFault.{StoreFault}
 use Rattle.kept.specs.Counts.{Keeping}
 use Rattle.kept.specs.Entering.{Enters, EntersKept, Follows, has_entry, no_block}
 use Rattle.kept.specs.Leaving.{is_held}

@@ -1,7 +1,8 @@
 -- What the blocks that come and go do to what is there, as a source of blocks and as counts.
 use Rattle.std.specs.Prelude.{◌≡◌, ◌+◌, ◌≤◌, ℕ, List}
 use Rattle.edit_laws.specs.Changes.{count}
-use Rattle.edit_laws.specs.Sources.{HasBlocks, Extends}
+use Rattle.spec.specs.Sources.{HasBlocks}
+use Rattle.edit_laws.specs.Sources.{Extends}
 use Rattle.edit_laws.specs.Uses.{uses}
 use Rattle.kept.specs.Counts.{Counts, AllUsed, bytes_at, count_at}
 

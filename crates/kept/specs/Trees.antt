@@ -3,13 +3,12 @@ use Rattle.std.specs.Prelude.{◌≡◌, ◌≤◌, ◌++◌, ℕ, suc, List, le
 use Rattle.std.specs.Prelude.{Result, IfOk, IfErr}
 use Rattle.std.specs.Arc.{arc_value}
 use Rattle.std.specs.declared.vec.Vec.{Vec}
-use Rattle.spec.specs.Tree.{Pair, top, top_layer as top_of}
+use Rattle.spec.specs.Tree.{Pair, top_layer as top_of}
 use Rattle.spec.specs.Layer.{layer}
 use Rattle.spec.specs.Blocks.{nodes, value_of, listed}
-use Rattle.edit_laws.specs.TreeEdit.{layer_of}
 use Rattle.batch_laws.specs.Batch.{Change, changed}
 use Rattle.batch_laws.specs.Counts.{most_reads}
-use Rattle.lookups.specs.Trees.{HasTree}
+use Rattle.lookups.specs.Trees.{HasTree, top_layer}
 use Rattle.lookups.specs.Walks.{pairs_given}
 use Rattle.counts.specs.declared.count.Count.{Count}
 use Rattle.edit.specs.Batches.{IsBatchOf, nodes_read}
@@ -21,10 +20,6 @@ use Rattle.kept.specs.Counts.{Counts, bytes_at}
 -- for every list of pairs whose tree has this root among these blocks
 abbrev pub OfTree : (List ℕ → List ℕ) → ℕ → Counts → List ℕ → (List Pair → Type 0) → Type 0
 OfTree digest bits m root P = (es : List Pair) → HasTree digest bits (bytes_at m) root es → P es
-
--- the layer of the top
-abbrev pub top_layer : (List ℕ → List ℕ) → ℕ → List Pair → ℕ
-top_layer digest bits es = layer_of (layer digest bits) (top (layer digest bits) es)
 
 -- what was found under a key
 abbrev pub IsValue : List ℕ → Option (List ℕ) → List Pair → Type 0

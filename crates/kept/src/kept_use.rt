@@ -28,13 +28,10 @@ fn collision<D: Digest, A: Allocator>(
     ensures fault { IsRefusalOf D.digest_of (arc_value came.now) result }
     ensures not_full { IsNotFull result }
 {
-    let Ok(came) = Arc::try_clone(came) else {
-        return StoreFault::NoMemory;
-    };
-    let Ok(held) = Arc::try_clone(held) else {
-        return StoreFault::NoMemory;
-    };
-    StoreFault::Collision(Collided::new(came, held))
+    match Collided::of_shared(came, held) {
+        Ok(pair) => StoreFault::Collision(pair),
+        Err(_) => StoreFault::NoMemory,
+    }
 }
 
 impl<D: Digest, A: Allocator> Use<D, A> {

@@ -21,7 +21,8 @@ pub struct Lender<'a, D: Digest, A: Allocator = Global> {
 impl<'a, D: Digest, A: Allocator> Lender<'a, D, A> {
     /// The block with this CID, as `get` gives it, with how often it is used: one look-up for both.
     pub fn get_counted(&mut self, cid: &Cid) -> Option<(&'a Arc<Block<D, A>, A>, u64)>
-        ensures found { option_map (λ found. found.0.now) result ≡ lent self.old.blocks.now cid.now }
+        ensures found { option_map (λ found. found.0.now) result
+            ≡ lent self.old.blocks.now cid.now }
         ensures uses { IfSome result
             (λ found. found.1 ≡ uses_of (at self.old.blocks.now cid.now)) }
         ensures same { self.new.blocks.now ≡ self.old.blocks.now }

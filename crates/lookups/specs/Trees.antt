@@ -5,7 +5,7 @@ use Rattle.std.specs.declared.sync.Arc.{Arc}
 use Rattle.spec.specs.Tree.{Pair, top}
 use Rattle.spec.specs.Layer.{layer}
 use Rattle.spec.specs.Blocks.{ArePairs, root as root_of}
-use Rattle.edit_laws.specs.Sources.{HasNodes}
+use Rattle.spec.specs.Sources.{HasNodes}
 use Rattle.edit_laws.specs.TreeEdit.{layer_of}
 
 -- the root is that of the tree of these pairs, and the source has each node of the tree

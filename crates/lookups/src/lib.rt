@@ -5,6 +5,7 @@
 //!
 //! - [`get`] answers the value of a key. It reads one block for each node of the key's path, and takes no memory.
 //! - [`walk`] lists pairs from a key on, up to a limit, and reads no block that it doesn't need.
+//! - [`layers`] is how many layers a tree has at most.
 //! - [`view_of`] shows the node that a block is.
 //! - [`BlockMap`] is a source over a slice of blocks. The crate `kept` has the one of a repository, and `edit` changes trees
 //!   over any.
@@ -36,7 +37,7 @@ mod source;
 mod walks;
 
 pub use block_map::BlockMap;
-pub use lookups::get;
+pub use lookups::{get, layers};
 pub use nodes::view_of;
 pub use source::{Given, Source};
 pub use walks::walk;

@@ -16,7 +16,7 @@ use std::alloc::Allocator;
 use std::sync::Arc;
 
 /// How many layers a tree has at most, where `B` zero bits of a digest count for one layer.
-pub(crate) fn layers<const B: u8>() -> u16
+pub fn layers<const B: u8>() -> u16
     requires { 1 ≤ B }
     ensures { result ≡ layers B }
 {

@@ -1,10 +1,14 @@
 //! `msthost`: Merkle search trees of AT Protocol repositories, from the command line.
 #![tactic(auto)]
 
+mod hinting;
+
+use cid::Sha256;
 use commands::{not_started, run_words};
+use hinting::{Hinting, what_is_read};
 use std::alloc::Global;
 use std::env;
-use std::io::{self, BufReader, BufWriter, Read, Write};
+use std::io::{self, BufReader, BufWriter, IsTerminal, Read, Write};
 use std::process::ExitCode;
 use std::random::RandomSource;
 use std::sync::Wait;
@@ -13,7 +17,10 @@ use std::thread::Threads;
 fn main(rt: HostRuntime) -> ExitCode {
     let mut err = rt.stderr();
     let ended = match words_of(&rt, rt.alloc()) {
-        Ok(words) => run_on_streams(&rt, rt.alloc(), &words, rt.stdin(), rt.stdout(), &mut err),
+        Ok(words) => {
+            let input = hinted(rt.stdin(), &words, rt.stderr());
+            run_on_streams(&rt, rt.alloc(), &words, input, rt.stdout(), &mut err)
+        }
         Err(error) => Err(error),
     };
     let status = match ended {
@@ -26,6 +33,15 @@ fn main(rt: HostRuntime) -> ExitCode {
 /// The words of the command line, the program's name first.
 fn words_of(rt: &HostRuntime, alloc: Global) -> io::Result<Vec<String>> {
     Ok(env::args(rt)?.collect(alloc)?)
+}
+
+/// Standard input for these words: where it is a terminal, a command that reads it says so on `err`.
+fn hinted<R: Read + IsTerminal, X: Write>(input: R, words: &[String], err: X) -> Hinting<R, X> {
+    let hint = match words {
+        [_, command, ..] if input.is_terminal() => what_is_read(command),
+        _ => None,
+    };
+    Hinting::new(input, hint, err)
 }
 
 /// The status of these words over these streams, or why room for buffers can't be had.
@@ -41,6 +57,6 @@ fn run_on_streams<
     }
     let mut input = BufReader::new(alloc, input)?;
     let mut out = BufWriter::new(alloc, out)?;
-    let outcome = run_words(rt, alloc, &lent, &mut input, &mut out, err);
+    let outcome = run_words::<Sha256, _, _, _, _>(rt, alloc, &lent, &mut input, &mut out, err);
     Ok(outcome.status)
 }

@@ -1,16 +1,15 @@
 -- Gaps of a node in its bytes.
-use Rattle.std.proofs.Common.{◌≡◌, ℕ, zero, suc, ◌+◌, ◌-◌, ◌<◌, ◌≤◌, true, List, [], ◌∷◌, ◌++◌, length, take, drop, Option, Ok, IsOk, refl, sym, ap, subst, ◌∙◌, append_assoc, arith, length-append}
-use Rattle.std.proofs.lemmas.List.{append-nil, take_at, drop_at, length-take, length-drop, take-append-drop}
-use Rattle.spec.specs.Head.{head}
-use Rattle.spec.specs.NodeFormat.{Entry, NodeFault, link_or_null, entry_bytes, entries_bytes, are_keys_after, are_links, is_node, node_spelling, entries_at}
+use Rattle.std.proofs.Common.{◌≡◌, ℕ, zero, suc, ◌+◌, ◌-◌, ◌<◌, ◌≤◌, true, List, [], ◌∷◌, ◌++◌, length, take, drop, Option, Ok, IsOk, refl, sym, ap, subst, ◌∙◌, append_assoc, arith}
+use Rattle.std.proofs.lemmas.List.{append-nil, length-drop, take-append-drop}
+use Rattle.spec.specs.NodeFormat.{Entry, NodeFault, entry_bytes, entries_bytes, are_keys_after, are_links, is_node, entries_at}
 use Rattle.spec.proofs.NodeLaws.{entries_at-entries_bytes}
 use Rattle.spec.proofs.Taking.{ok_is}
 use Rattle.node.specs.Contents.{Contents, last_key}
 use Rattle.node.specs.Gaps.{IsGap, bytes_behind, rows_behind}
 use Rattle.node.specs.Rows.{Row, row_after, rows, row_at, rows_of_reading, rows_shown}
 use Rattle.node.specs.Runs.{Begins}
-use Rattle.node.specs.Search.{gap_at, relink_at}
-use Rattle.node.proofs.Joining.{entries_bytes-append, are_keys_after-parts, are_links-parts}
+use Rattle.node.specs.Search.{gap_at}
+use Rattle.node.proofs.Joining.{are_keys_after-parts, are_links-parts}
 use Rattle.node.proofs.Passing.{after_rows-none, after_rows-first, after_rows-next, after_rows-entries, begins-rows}
 use Rattle.node.proofs.ReadAgain.{read-ok}
 use Rattle.node.proofs.Relinking.{field, ascending-entries, linked-entries}

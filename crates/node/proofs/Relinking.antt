@@ -1,11 +1,11 @@
 -- A node with another link in a gap: its other bytes stay.
-use Rattle.std.proofs.Common.{◌≡◌, ℕ, zero, suc, ◌+◌, ◌-◌, ◌<◌, ◌≤◌, ◌^◌, Bool, true, ◌&&◌, nat_lt, List, [], ◌∷◌, ◌++◌, length, take, drop, Option, None, Result, Ok, Err, OnOk, refl, sym, ap, subst, ◌∙◌, append_assoc, arith, length-append}
+use Rattle.std.proofs.Common.{◌≡◌, ℕ, zero, suc, ◌+◌, ◌-◌, ◌<◌, ◌≤◌, ◌^◌, Bool, true, ◌&&◌, nat_lt, List, [], ◌∷◌, ◌++◌, length, take, drop, Option, None, refl, sym, ap, subst, ◌∙◌, append_assoc, arith, length-append}
 use Rattle.std.specs.Cmp.Lexicographic.{slice_cmp}
 use Rattle.std.specs.Ordering.{nat_cmp, is_lt}
 use Rattle.std.proofs.lemmas.List.{append-nil, take_at, drop_at}
 use Rattle.spec.specs.Head.{head}
 use Rattle.spec.specs.Cid.{link, is_own_cid}
-use Rattle.spec.specs.NodeFormat.{Entry, common, suffix_after, link_or_null, entry_bytes, entries_bytes, is_key, are_keys_after, are_links, is_own_cid_or_none, is_node, node_spelling}
+use Rattle.spec.specs.NodeFormat.{Entry, common, suffix_after, link_or_null, entry_bytes, entries_bytes, is_key, are_keys_after, are_links, is_own_cid_or_none, is_node}
 use Rattle.spec.proofs.Bools.{both}
 use Rattle.node.specs.Contents.{Contents, last_key, entries_in, Spells, IsWritten}
 use Rattle.node.specs.Search.{gap_at, relink_at}

@@ -4,8 +4,8 @@ use Rattle.spec.specs.NodeFormat as node
 use Rattle.node.specs.declared.fault.NodeFault.{NodeFault}
 use Rattle.node.specs.declared.fault.NodeFault.TheVariants as errors
 
-abbrev pub fault_of : NodeFault → Option node.NodeFault
-fault_of errors.NotNode = Some node.NotNode
-fault_of errors.BadPrefix = Some node.BadPrefix
-fault_of errors.KeyOrder = Some node.KeyOrder
-fault_of errors.KeyLength = Some node.KeyLength
+abbrev pub node_fault_of : NodeFault → Option node.NodeFault
+node_fault_of errors.NotNode = Some node.NotNode
+node_fault_of errors.BadPrefix = Some node.BadPrefix
+node_fault_of errors.KeyOrder = Some node.KeyOrder
+node_fault_of errors.KeyLength = Some node.KeyLength

@@ -1,6 +1,6 @@
 -- Gaps of a node, each by where it stands in the node's bytes.
 use Rattle.std.specs.Prelude.{◌≡◌, ◌≤◌, ℕ, List, [], ◌∷◌, ◌++◌, length, take, drop, Option}
-use Rattle.spec.specs.NodeFormat.{Entry, link_or_null, entries_bytes}
+use Rattle.spec.specs.NodeFormat.{link_or_null, entries_bytes}
 use Rattle.node.specs.Contents.{Contents, last_key}
 use Rattle.node.specs.Rows.{Row, rows}
 use Rattle.node.specs.Search.{gap_at}

@@ -1,7 +1,7 @@
 //! The parts of a node's bytes (AT Protocol repository v3, MST node data format). Where memory is refused, what
 //! stood in the bytes before stays at their front.
 
-ghost use Rattle.std.specs.Prelude.{◌≡◌, ◌+◌, ◌∷◌, ◌++◌, [], length, true, OnOk, option_map};
+ghost use Rattle.std.specs.Prelude.{◌≡◌, ◌+◌, ◌∷◌, ◌++◌, length, true, OnOk, option_map};
 ghost use Rattle.spec.specs.Cid.{link};
 ghost use Rattle.spec.specs.Head.{head};
 ghost use Rattle.spec.specs.NodeFormat.{link_or_null, is_own_cid_or_none};

@@ -1,7 +1,5 @@
 //! The entries of a node, one after the other.
 
-ghost use Rattle.std.specs.Prelude.{◌≡◌};
-
 use crate::entry::EntryView;
 use crate::tested::tested_entry;
 use std::marker::Model;

@@ -3,7 +3,7 @@
 ghost use Rattle.std.specs.Prelude.{◌≡◌, ◌<◌, ◌≤◌, ◌++◌, [], true, length, slice_index, take, IfOk, IfErr, Ok};
 ghost use Rattle.spec.specs.Reading.{Gives, Fails};
 ghost use Rattle.spec.specs.NodeFormat.{whole_key};
-ghost use Rattle.node.specs.Fault.{fault_of};
+ghost use Rattle.node.specs.Fault.{node_fault_of};
 ghost use Rattle.node.specs.KeyParts.{key_from, place_after, AreParts};
 
 use crate::common::LONGEST_KEY;
@@ -81,7 +81,7 @@ fn byte_at(parts: &[Part<'_>], place: usize) -> u8
 fn test(parts: &[Part<'_>], prefix: usize, suffix: &[u8]) -> Result<(), NodeFault>
     requires are { AreParts 0 [] parts.now }
     requires short { length (key_from [] parts.now) ≤ 1024 }
-    ensures { Gives (λ _. take prefix (key_from [] parts.now) ++ suffix.now) fault_of result
+    ensures { Gives (λ _. take prefix (key_from [] parts.now) ++ suffix.now) node_fault_of result
         (whole_key (key_from [] parts.now) prefix suffix.now) }
 {
     let key_length = length_of(parts);
@@ -122,7 +122,7 @@ impl<'a, const ROOM: usize> KeyBefore<'a, ROOM> {
     /// Tests an entry that was read whole, and takes its key. False where there is no room for one more part: there is
     /// for any key where there is for as many parts as the longest has bytes.
     pub(crate) fn next(&mut self, prefix: usize, suffix: &'a [u8]) -> Result<bool, NodeFault>
-        ensures fault { IfErr result (λ fault. Fails (fault_of fault)
+        ensures fault { IfErr result (λ fault. Fails (node_fault_of fault)
             (whole_key self.old prefix suffix.now)) }
         ensures taken { IfOk result (λ taken. taken ≡ true
             → whole_key self.old prefix suffix.now ≡ Ok self.new) }

@@ -35,6 +35,7 @@ mod view;
 mod writer;
 
 pub use common::is_key;
+pub use decode::{link, link_or_null, literal};
 pub use entries::Entries;
 pub use entry::EntryView;
 pub use fault::NodeFault;

@@ -4,7 +4,7 @@ ghost use Rattle.std.specs.Prelude.{◌≡◌, ◌≤◌, [], option_map, IfOk, 
 ghost use Rattle.spec.specs.Reading.{Gives, Fails, IsBytes};
 ghost use Rattle.spec.specs.NodeFormat.{entries_at};
 ghost use Rattle.cid.specs.CidRef.{bytes_of};
-ghost use Rattle.node.specs.Fault.{fault_of};
+ghost use Rattle.node.specs.Fault.{node_fault_of};
 ghost use Rattle.node.specs.Rows.{after_entries, shown_node};
 ghost use Rattle.node.specs.Contents.{entries_shown};
 
@@ -27,7 +27,7 @@ pub(crate) struct NodeParts<'a> {
 #[tactic(auto, unfolding(crate::specs::Rows::shown_node))]
 pub(crate) fn node(bytes: &[u8]) -> Result<NodeParts<'_>, NodeFault>
     ensures read { Gives (λ x. (option_map bytes_of x.left, entries_shown x.count x.first.now))
-        fault_of result (shown_node bytes.now) }
+        node_fault_of result (shown_node bytes.now) }
     ensures all { IfOk result (λ x. IsOk (entries_at x.count [] x.first.now)) }
     ensures fits { IfOk result (λ x. IsBytes x.first.now) }
 {
@@ -48,7 +48,7 @@ const USUAL_ROOM: usize = 8;
 /// The bytes after so many entries, each of which is tested against the one before. Where a key has more parts than
 /// most, all is read again, with room for as many as a key can have.
 fn after_entries(count: u64, bytes: &[u8]) -> Result<&[u8], NodeFault>
-    ensures read { Gives (λ rest. rest.now) fault_of result (after_entries count [] bytes.now) }
+    ensures read { Gives (λ rest. rest.now) node_fault_of result (after_entries count [] bytes.now) }
     ensures all { OnOk result (IsOk (entries_at count [] bytes.now)) }
     ensures fits { OnOk result (IsBytes bytes.now) }
 {
@@ -61,7 +61,7 @@ fn after_entries(count: u64, bytes: &[u8]) -> Result<&[u8], NodeFault>
 /// The bytes after so many entries. It is not inlined, so that the stack of most readings is without its room.
 #[inline(never)]
 fn after_entries_of_many_parts(count: u64, bytes: &[u8]) -> Result<&[u8], NodeFault>
-    ensures read { Gives (λ rest. rest.now) fault_of result (after_entries count [] bytes.now) }
+    ensures read { Gives (λ rest. rest.now) node_fault_of result (after_entries count [] bytes.now) }
     ensures all { OnOk result (IsOk (entries_at count [] bytes.now)) }
     ensures fits { OnOk result (IsBytes bytes.now) }
 {
@@ -77,7 +77,7 @@ fn after_entries_within<const ROOM: usize>(
     bytes: &[u8],
 ) -> Result<Option<&[u8]>, NodeFault>
     requires { ROOM ≤ 1024 }
-    ensures fault { IfErr result (λ fault. Fails (fault_of fault)
+    ensures fault { IfErr result (λ fault. Fails (node_fault_of fault)
         (after_entries count [] bytes.now)) }
     ensures read { IfOk result (λ rest. IfSome rest
         (λ x. after_entries count [] bytes.now ≡ Ok x.now)) }

@@ -5,7 +5,7 @@ ghost use Rattle.spec.specs.Reading.{Gives};
 ghost use Rattle.spec.specs.NodeFormat.{are_keys_after, entries_bytes, is_node, link_or_null, read_node};
 ghost use Rattle.spec.specs.Proof.{place};
 ghost use Rattle.cid.specs.CidRef.{bytes_of};
-ghost use Rattle.node.specs.Fault.{fault_of};
+ghost use Rattle.node.specs.Fault.{node_fault_of};
 ghost use Rattle.node.specs.Rows.{rows};
 ghost use Rattle.node.specs.Search.{gap_before};
 ghost use Rattle.node.specs.Views.{place_of, row_of, row_with, IsRowWith};
@@ -53,7 +53,7 @@ impl<'a> NodeView<'a> {
     /// before has, else `KeyLength`, else `BadPrefix` where it keeps less than it could, else `KeyOrder`. This takes no
     /// memory and copies nothing.
     pub fn parse(bytes: &'a [u8]) -> Result<NodeView<'a>, NodeFault>
-        ensures { Gives (λ view. (view.left, view.entries)) fault_of result (read_node bytes.now) }
+        ensures { Gives (λ view. (view.left, view.entries)) node_fault_of result (read_node bytes.now) }
     {
         let _ = node(bytes)?;
         Ok(NodeView::of_tested(bytes))

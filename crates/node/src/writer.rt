@@ -154,7 +154,8 @@ impl<A: Allocator + Clone> NodeWriter<A> {
         new: Option<Cid>,
     ) -> Result<NodeWriter<A>, AllocError>
         requires some { 0 < length self.entries }
-        requires old { option_map bytes_of old ≡ gap_at (length self.entries) self.left self.entries }
+        requires old { option_map bytes_of old
+            ≡ gap_at (length self.entries) self.left self.entries }
         ensures { IfOk result (λ writer. writer
             ≡ relink_at (length self.entries) self.left self.entries new) }
     {

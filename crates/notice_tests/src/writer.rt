@@ -1,5 +1,5 @@
 //! A writer that numbers its notices and keeps what a full queue gives back, as a host's writer does.
-ghost use Rattle.std.specs.Prelude.{◌≡◌, ◌+◌, [], length};
+ghost use Rattle.std.specs.Prelude.{◌≡◌, [], length};
 
 use cid::Cid;
 use cid::digests::Toy;

@@ -1,30 +1,28 @@
 //! The repository, its store and its next batch.
 
-ghost use Rattle.std.specs.Prelude.{◌≡◌, ◌≤◌, Ok, IfOk, IfErr, OnOk, OnErr};
+ghost use Rattle.std.specs.Prelude.{◌≡◌, ◌≤◌, true, Ok, IfOk, IfErr, OnOk, OnErr};
 ghost use Rattle.sha2.specs.Sha256.{sha256};
 ghost use Rattle.spec.specs.States.{IsLawful, after_batch, fresh, state_test};
-ghost use Rattle.repo.specs.Fulls.{fulls_after_batch, fulls_after_step};
+ghost use Rattle.repo.specs.Fulls.{fulls_after_batch, fulls_after_step, is_full};
 ghost use Rattle.repo.specs.Refusals.{IsRefusal, IsApplied, IsOpenRefusal};
 ghost use Rattle.batches.specs.Values.{stamp_of, write_of, writes_of};
+ghost use Rattle.store.specs.Shards.{WasFull};
 ghost use Rattle.owned_repo.specs.Owning.{opened, staged, cleared, applied};
 
+use crate::own_shards::OwnShards;
 use batches::{RepoFault, Stamp, Write};
 use cid::Sha256;
 use repo::{Applied, Core};
 use std::alloc::{AllocError, Global};
 use std::marker::Model;
 use std::mem::replace;
-use store::{LentShards, SHARDS, Shard, empty_shards};
-
-/// How many blocks each shard of its store may have.
-const MOST_BLOCKS: usize = 1_048_576;
 
 /// One repository with a store of its own, and the writes that wait for a stamp.
 ///
 /// A contract sees it as its state and these writes.
 pub struct OwnedRepo {
     core: Core<Sha256, 2>,
-    shards: [Shard<Sha256>; SHARDS],
+    store: OwnShards,
     pending: Vec<Write>,
 }
 
@@ -41,29 +39,32 @@ impl Drop for OwnedRepo {
     fn drop(self) {
         let OwnedRepo {
             core,
-            mut shards,
+            mut store,
             pending,
         } = self;
-        core.end(&mut lent(&mut shards));
+        core.end(&mut store);
         drop(pending);
-        drop(shards);
+        drop(store);
     }
 }
 
 impl OwnedRepo {
-    /// A repository without writes, which may have `limit` of them.
+    /// A repository without writes, which may have `limit` of them. `RepoFault::StoreFull` comes only where a shard of its store
+    /// has 1,048,576 blocks.
     pub fn open(alloc: Global, limit: usize) -> Result<OwnedRepo, RepoFault<Sha256>>
         requires least { 1 ≤ limit }
         requires most { limit ≤ 1048576 }
         ensures opened { IfOk result (λ repo. repo ≡ opened limit) }
         ensures fault { IfErr result (IsOpenRefusal sha256 2 (fresh 0 limit)
             0 (fulls_after_step 0 result)) }
+        ensures full { IfErr result
+            (λ fault. is_full fault ≡ true → WasFull sha256 1048576) }
     {
-        let mut shards = empty_shards(alloc, MOST_BLOCKS);
-        match Core::open(alloc, &mut lent(&mut shards), 0, limit) {
+        let mut store = OwnShards::empty(alloc);
+        match Core::open(alloc, &mut store, 0, limit) {
             Ok(core) => Ok(OwnedRepo {
                 core,
-                shards,
+                store,
                 pending: Vec::new(alloc),
             }),
             Err(fault) => Err(fault),
@@ -94,6 +95,7 @@ impl OwnedRepo {
     }
 
     /// Accepts all writes that wait, in order, as one batch under this stamp, or none of them. None waits afterwards.
+    /// `RepoFault::StoreFull` comes only where a shard of its store has 1,048,576 blocks.
     pub fn apply(
         &mut self,
         alloc: Global,
@@ -107,16 +109,18 @@ impl OwnedRepo {
         ensures refused { OnErr result (self.new ≡ cleared self.old) }
         ensures fault { IfErr result (IsRefusal sha256 2 self.old.state
             (stamp_of stamp.now) self.old.pending 0 (fulls_after_batch 0 result)) }
+        ensures full { IfErr result
+            (λ refusal. is_full refusal.1 ≡ true → WasFull sha256 1048576) }
     {
         let writes = replace(&mut self.pending, Vec::new(alloc));
-        apply_in(&mut self.core, &mut self.shards, alloc, stamp, &writes)
+        apply_in(&mut self.core, &mut self.store, alloc, stamp, &writes)
     }
 }
 
 /// The same of writes that are given.
 fn apply_in(
     core: &mut Core<Sha256, 2>,
-    shards: &mut [Shard<Sha256>; SHARDS],
+    store: &mut OwnShards,
     alloc: Global,
     stamp: &Stamp,
     writes: &[Write],
@@ -130,13 +134,8 @@ fn apply_in(
     ensures refused { OnErr result (core.new ≡ core.old) }
     ensures fault { IfErr result (IsRefusal sha256 2 core.old
         (stamp_of stamp.now) (writes_of writes.now) 0 (fulls_after_batch 0 result)) }
+    ensures full { IfErr result
+        (λ refusal. is_full refusal.1 ≡ true → WasFull sha256 1048576) }
 {
-    core.apply(alloc, &mut lent(shards), stamp, writes)
-}
-
-/// Its shards as a store, of which nothing is said of how many blocks they have.
-fn lent(shards: &mut [Shard<Sha256>; SHARDS]) -> LentShards<'_, Sha256, 0>
-    ensures { result.fulls.times ≡ 0 }
-{
-    LentShards::new(shards)
+    core.apply(alloc, store, stamp, writes)
 }

@@ -24,7 +24,8 @@ use Rattle.spec.proofs.BatchSteps.{room-from}
 use Rattle.spec.proofs.RecordPairs.{lawful-pairs}
 use Rattle.spec.proofs.StampLaws.{last-push}
 use Rattle.edit_laws.specs.Changes.{AreChanges, count}
-use Rattle.edit_laws.specs.Sources.{HasBlocks, Extends}
+use Rattle.spec.specs.Sources.{HasBlocks}
+use Rattle.edit_laws.specs.Sources.{Extends}
 use Rattle.edit_laws.specs.Uses.{uses}
 use Rattle.edit_laws.specs.Staged.{records_after, old_commit}
 use Rattle.edit_laws.proofs.Lists.{count-append}

@@ -10,7 +10,7 @@ use Rattle.spec.specs.Writes.{Write, WriteFault, batch_test}
 use Rattle.spec.specs.Stamps.{Stamp, stamp_test, rev_of, last}
 use Rattle.spec.specs.States.{State, BatchFault, OfWrite, state_test}
 use Rattle.edit_laws.proofs.StagedBatches.{staged-passes, staged-ends}
-use Rattle.dagcbor.specs.Fault.{fault_of}
+use Rattle.dagcbor.specs.Fault.{cbor_fault_of}
 use Rattle.dagcbor.specs.declared.fault.CborFault.{CborFault}
 use Rattle.batches.specs.Tests.{write_fault, IsNamed, IsTestFault}
 use Rattle.batches.specs.declared.fault.RepoFault.{RepoFault}
@@ -47,7 +47,7 @@ module _ (digest : List ℕ → List ℕ) (bits : ℕ) (s : State) (stamp : Stam
   write-refused : {D A : Type 0} (full fuller : ℕ) (fault : RepoFault D A) → IsTestFault write_fault (next_test s before w) fault
       → IsRefusal digest bits s stamp batch full fuller (i, fault)
   write-refused {D} {A} full fuller faults.NoMemory h = before-pass
-  write-refused {D} {A} full fuller (faults.BadRecord e) h = bad-record D A full fuller e (fault_of e) h
+  write-refused {D} {A} full fuller (faults.BadRecord e) h = bad-record D A full fuller e (cbor_fault_of e) h
   write-refused {D} {A} full fuller faults.BadKey h = fails writes.BadKey h
   write-refused {D} {A} full fuller faults.NotAMap h = fails writes.NotAMap h
   write-refused {D} {A} full fuller faults.RecordSize h = fails writes.RecordSize h

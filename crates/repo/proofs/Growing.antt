@@ -1,5 +1,5 @@
 -- A core's lists after a batch.
-use Rattle.std.proofs.Common.{◌≡◌, ◌-◌, ℕ, zero, suc, List, [], ◌∷◌, ◌++◌, length, map, refl, sym, ap, subst, ◌∙◌, Option}
+use Rattle.std.proofs.Common.{◌≡◌, ◌-◌, ℕ, zero, suc, List, [], ◌∷◌, ◌++◌, length, map, refl, sym, ap, ◌∙◌, Option}
 use Rattle.std.specs.declared.option.Option.TheVariants.{Some}
 use Rattle.std.specs.Prelude.{slice_get, option_map}
 use Rattle.std.specs.Arc.{arc_value}
@@ -10,10 +10,9 @@ use Rattle.spec.specs.Stamps.{Stamped, rev_of, last}
 use Rattle.spec.specs.Writes as writes
 use Rattle.spec.specs.States.{State, after_batch, state_root, state_commit}
 use Rattle.kept.specs.Counts.{Counts}
-use Rattle.repo.specs.Refusals.{IsStagedBatch, IsApplied, IsRefusal}
+use Rattle.repo.specs.Refusals.{IsStagedBatch, IsApplied}
 use Rattle.batches.specs.Values.{write_of, shared_writes, stamp_of, stamps_of}
 use Rattle.repo.specs.Views.{state_view}
-use Rattle.batches.specs.declared.fault.RepoFault.{RepoFault}
 use Rattle.batches.specs.declared.stamp.Stamp.{Stamp}
 use Rattle.batches.specs.Write.{Write}
 
@@ -48,17 +47,12 @@ state-same old me limit before list was now e w t = λ i. state_view (e i) limit
 
 -- ---- what is answered
 
-pub applied-after : (digest : List ℕ → List ℕ) (bits : ℕ) (s given t : State) (stamp : stamps.Stamp) (batch : List writes.Write) (number : ℕ) (root first commit : List ℕ) (m : Counts)
-    → s ≡ given → t ≡ after_batch s stamp batch → IsStagedBatch digest bits s stamp batch root commit m → first ≡ state_root digest bits s → number ≡ length t.accepted
-    → IsApplied digest bits given t (record { number = number; root = root; previous = first; commit = commit })
-applied-after digest bits s given t stamp batch number root first commit m v e h f n = record {
+pub applied-after : (digest : List ℕ → List ℕ) (bits : ℕ) (s t : State) (stamp : stamps.Stamp) (batch : List writes.Write) (number : ℕ) (root first commit : List ℕ) (m : Counts)
+    → t ≡ after_batch s stamp batch → IsStagedBatch digest bits s stamp batch root commit m → first ≡ state_root digest bits s → number ≡ length t.accepted
+    → IsApplied digest bits s t (record { number = number; root = root; previous = first; commit = commit })
+applied-after digest bits s t stamp batch number root first commit m e h f n = record {
   number = n;
   root = h.root_is ∙ ap (state_root digest bits) (sym e);
-  previous = f ∙ ap (state_root digest bits) v;
+  previous = f;
   commit = h.commit_is ∙ ap (state_commit digest bits) (sym e);
 }
-
-pub refused-on : {D A : Type 0} (digest : List ℕ → List ℕ) (bits : ℕ) (s given : State) (stamp : stamps.Stamp) (batch : List writes.Write) (full fuller last : ℕ) (e : ℕ × RepoFault D A)
-    → s ≡ given → last ≡ fuller → IsRefusal digest bits s stamp batch full fuller e → IsRefusal digest bits given stamp batch full last e
-refused-on digest bits s given stamp batch full fuller last e v l h =
-    subst (λ (n : ℕ). IsRefusal digest bits given stamp batch full n e) (sym l) (subst (λ (x : State). IsRefusal digest bits x stamp batch full fuller e) v h)

@@ -33,6 +33,7 @@ use Rattle.repo.specs.Edits.{IsEditRefusal}
 use Rattle.repo.specs.Exchanging.{IsExchangeOf}
 use Rattle.repo.specs.Keeping.{AreKept}
 use Rattle.repo.specs.BlockFaults.{IsClashAt}
+use Rattle.repo.specs.Wants.{placed, IsPlacedBy}
 use Rattle.repo.specs.Refusals.{PassesTo, PassesBefore, IsRefusal, IsTestRefusal, blocks_shown}
 use Rattle.repo.proofs.Exchanging.{HasPassed, has-passed, sorted-after, sorted-records, records-changed, pairs-changed_after}
 
@@ -74,9 +75,6 @@ module _ (s : State) (stamp : Stamp) (batch : List Write) (passes : state_test s
     λ h. staged-passes s stamp (take i batch) (take-some i batch h (omega arith)) has.stamped
         (prefix-passes s.limit s.accepted batch i has.passed),
   )
-
-  pub last-before : PassesBefore s stamp batch (length batch - 1)
-  last-before = let some = has.some in passes-before (length batch - 1) (omega arith)
 
   -- ---- the blocks after it
 
@@ -145,23 +143,26 @@ module _ (digest : List ℕ → List ℕ) (bits : ℕ) (s : State) (stamp : Stam
         ];
       }
 
-  pub edit-refused : {D A : Type 0} (fault : RepoFault D A)
+  pub edit-refused : {D A : Type 0} (place : ℕ) (fault : RepoFault D A)
       → IsEditRefusal digest bits (with_cids digest (collected batch)) (old_pairs digest s) fault
-      → IsTestRefusal digest bits s stamp batch (length batch - 1, fault)
-  edit-refused (faults.Collision pair) h full = (last-passes s stamp batch passes, edit-clash pair h)
-  edit-refused faults.NoMemory h full = last-before s stamp batch passes
-  edit-refused faults.StoreFull h full = absurd h
-  edit-refused (faults.BadRecord f) h full = absurd h
-  edit-refused faults.BadKey h full = absurd h
-  edit-refused faults.NotAMap h full = absurd h
-  edit-refused faults.RecordSize h full = absurd h
-  edit-refused faults.KeyExists h full = absurd h
-  edit-refused faults.NoSuchKey h full = absurd h
-  edit-refused faults.WritesFull h full = absurd h
-  edit-refused faults.EmptyBatch h full = absurd h
-  edit-refused faults.BadDid h full = absurd h
-  edit-refused faults.BadRev h full = absurd h
-  edit-refused faults.RevOrder h full = absurd h
+      → IsPlacedBy (length batch) place fault → IsTestRefusal digest bits s stamp batch (place, fault)
+  edit-refused place (faults.Collision pair) h at full =
+      let last : length batch - 1 ≡ place = omega (arith, at) in
+      subst (λ (i : ℕ). PassesTo s stamp batch i × IsClashAt digest (blocks_shown digest bits s stamp batch i) pair) last
+      (last-passes s stamp batch passes, edit-clash pair h)
+  edit-refused place faults.NoMemory h at full = passes-before s stamp batch passes place at
+  edit-refused place faults.StoreFull h at full = absurd h
+  edit-refused place (faults.BadRecord f) h at full = absurd h
+  edit-refused place faults.BadKey h at full = absurd h
+  edit-refused place faults.NotAMap h at full = absurd h
+  edit-refused place faults.RecordSize h at full = absurd h
+  edit-refused place faults.KeyExists h at full = absurd h
+  edit-refused place faults.NoSuchKey h at full = absurd h
+  edit-refused place faults.WritesFull h at full = absurd h
+  edit-refused place faults.EmptyBatch h at full = absurd h
+  edit-refused place faults.BadDid h at full = absurd h
+  edit-refused place faults.BadRev h at full = absurd h
+  edit-refused place faults.RevOrder h at full = absurd h
 
 -- ---- refused where its blocks are exchanged
 
@@ -184,8 +185,8 @@ module _ (digest : List ℕ → List ℕ) (bits : ℕ) (s : State) (stamp : Stam
       ]
 
   pub exchange-refused : {D A : Type 0} (full : ℕ) (fault : StoreFault D A) → IsRefusalOfOne digest come fault
-      → IsRefusal digest bits s stamp batch full (fulls_after_fault full fault) (length batch - 1, of_store fault)
+      → IsRefusal digest bits s stamp batch full (fulls_after_fault full fault) (placed (length batch - 1) (of_store fault))
   exchange-refused full (stores.Collision pair) h =
       (last-passes s stamp batch is.passes, record { clash = h.1; here = inl (come-shown pair.0 h.0) })
   exchange-refused full stores.Full h = (last-passes s stamp batch is.passes, omega arith)
-  exchange-refused full stores.NoMemory h = last-before s stamp batch is.passes
+  exchange-refused full stores.NoMemory h = passes-before s stamp batch is.passes 0 (let some = (has s stamp batch is.passes).some in omega (arith, some))

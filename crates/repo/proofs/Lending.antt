@@ -3,7 +3,8 @@ use Rattle.std.proofs.Common.{◌≡◌, ℕ, List, subst, Option}
 use Rattle.spec.specs.Cid.{cid, IsDigest}
 use Rattle.spec.specs.Blocks.{pairs}
 use Rattle.spec.specs.States.{State, records, state_blocks, state_root}
-use Rattle.edit_laws.specs.Sources.{HasBlocks, Extends}
+use Rattle.spec.specs.Sources.{HasBlocks}
+use Rattle.edit_laws.specs.Sources.{Extends}
 use Rattle.lookups.specs.Trees.{HasTree}
 use Rattle.kept.specs.Counts.{Keeping, bytes_at}
 use Rattle.kept.proofs.LentTrees.{lent_tree}

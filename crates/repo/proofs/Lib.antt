@@ -1,4 +1,3 @@
-pub mod Outcomes
 pub mod Testing
 pub mod TestedWrites
 pub mod Stamping
@@ -10,6 +9,7 @@ pub mod Keeping
 pub mod Edits
 mod SharedRecords
 pub mod Growing
+pub mod Preparing
 pub mod Applying
 pub mod Fresh
 pub mod Listing

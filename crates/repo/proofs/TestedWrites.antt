@@ -5,7 +5,9 @@ use Rattle.std.specs.declared.option.Option.TheVariants.{Some}
 use Rattle.std.specs.declared.cmp.Ordering.{Ordering}
 use Rattle.std.specs.declared.cmp.Ordering.TheVariants.{Less, Equal, Greater}
 use Rattle.std.specs.Prelude.{nat_lt, is_some, option_map}
+use Rattle.std.specs.Arc.{arc_value}
 use Rattle.std.specs.Borrow.{Bor}
+use Rattle.std.specs.declared.sync.Arc.{Arc}
 use Rattle.std.specs.BTreeMap.{insert_entry, is_at}
 use Rattle.std.specs.Map.{lookup}
 use Rattle.std.specs.FinMap.{find, put}
@@ -29,17 +31,14 @@ use Rattle.batch_laws.proofs.ChangeMaps.{changes-are_entries}
 use Rattle.batch_laws.proofs.WritesAtOnce.{one_more-collected}
 use Rattle.kept.specs.Counts.{Counts}
 use Rattle.batches.specs.Tests.{write_fault, IsTestFault}
-use Rattle.batches.specs.Values.{write_of, writes_of}
+use Rattle.batches.specs.Values.{write_of, shared_writes}
 use Rattle.batches.specs.declared.fault.RepoFault.{RepoFault}
 use Rattle.batches.specs.Write as Code
 use Rattle.repo.specs.Refusals.{next_test}
-use Rattle.repo.specs.Tested.{lent, changes_of, is_there, test_after, HaveSameTest, IsTestStart, IsFailedWrite}
+use Rattle.repo.specs.Tested.{is_there, test_after, HaveSameTest, IsTestStart, IsFailedWrite}
 use Rattle.repo.proofs.Testing.{cut-at, length-of, one-more-write, room-at}
 
 -- ---- the map of changes
-
-abbrev pub Entry : Type 0
-Entry = Bor (List ℕ) × Option (Bor (List ℕ))
 
 abbrev pub by_bytes : Bor (List ℕ) → Bor (List ℕ) → Ordering
 by_bytes a b = slice_cmp nat_cmp a.now b.now
@@ -67,30 +66,27 @@ module _ {V : Type 0} (left : V → Option (List ℕ)) where
       → map (λ e. (e.0.now, left e.1)) (insert_entry by_bytes es k v) ≡ with_change (k.now, left v) (map (λ e. (e.0.now, left e.1)) es)
   changes-insert es k v = insert-put es k v ∙ sym (changes-are_entries (k.now, left v) (changes_by left es) []).2
 
--- what is found under a key is its change
-found-case : (t : Bool) (v : Option (Bor (List ℕ))) (o : Option (Option (Bor (List ℕ)))) (p : Option (Option (List ℕ)))
-    → option_map lent o ≡ p → option_map lent (cond t (Some v) o) ≡ cond t (Some (lent v)) p
-found-case true v o p e = refl
-found-case false v o p e = e
+  -- what is found under a key is its change
+  found-case : (t : Bool) (v : V) (o : Option V) (p : Option (Option (List ℕ)))
+      → option_map left o ≡ p → option_map left (cond t (Some v) o) ≡ cond t (Some (left v)) p
+  found-case true v o p e = refl
+  found-case false v o p e = e
 
-lookup-find : (key : List ℕ) (es : List Entry)
-    → option_map lent (lookup (is_at (λ (k : Bor (List ℕ)). slice_cmp nat_cmp key k.now)) es)
-    ≡ find (slice_cmp nat_cmp) key (changes_of es)
-lookup-find key [] = refl
-lookup-find key (e ∷ es) = found-case (is_eq (slice_cmp nat_cmp key e.0.now)) e.1 _ _ (lookup-find key es)
+  lookup-find : (key : List ℕ) (es : List (Bor (List ℕ) × V))
+      → option_map left (lookup (is_at (λ (k : Bor (List ℕ)). slice_cmp nat_cmp key k.now)) es)
+      ≡ find (slice_cmp nat_cmp) key (changes_by left es)
+  lookup-find key [] = refl
+  lookup-find key (e ∷ es) = found-case (is_eq (slice_cmp nat_cmp key e.0.now)) e.1 _ _ (lookup-find key es)
 
-pub lookup-change : (key : List ℕ) (es : List Entry)
-    → option_map lent (lookup (is_at (λ (k : Bor (List ℕ)). slice_cmp nat_cmp key k.now)) es) ≡ at_key key (changes_of es)
-lookup-change key es = lookup-find key es ∙ sym (changes-are_entries (key, None) (changes_of es) key).1
+  pub lookup-change : (key : List ℕ) (es : List (Bor (List ℕ) × V))
+      → option_map left (lookup (is_at (λ (k : Bor (List ℕ)). slice_cmp nat_cmp key k.now)) es)
+      ≡ at_key key (map (λ e. (e.0.now, left e.1)) es)
+  lookup-change key es = lookup-find key es ∙ sym (changes-are_entries (key, None) (changes_by left es) key).1
 
-some-lent : (o : Option (Bor (List ℕ))) → is_some o ≡ is_some (lent o)
-some-lent None = refl
-some-lent (Some x) = refl
-
-pub some-change : (o : Option (Option (Bor (List ℕ)))) (p : Option (Option (List ℕ))) → option_map lent o ≡ p
-    → option_map is_some o ≡ option_map is_some p
-some-change None p e = ap (option_map is_some) e
-some-change (Some v) p e = ap (λ (t : Bool). Some t) (some-lent v) ∙ ap (option_map is_some) e
+-- lent bytes are there where their values are
+pub some-lent : (o : Option (Bor (List ℕ))) (r : Option (List ℕ)) → option_map (λ bytes. bytes.now) o ≡ r → is_some o ≡ is_some r
+some-lent None r e = ap is_some e
+some-lent (Some x) r e = ap is_some e
 
 -- what the changes say of a key
 pub said : (o : Option (Option (List ℕ))) (there before : Bool) → Some there ≡ option_map is_some o → there ≡ there_after o before
@@ -143,35 +139,39 @@ one-more-change seen ws i x old new l e o n =
 
 module _ (digest : List ℕ → List ℕ) (bits : ℕ) (s : State) (room : ℕ) (root : List ℕ) (m : Counts)
     (start : IsTestStart digest bits s room root m) where
-  this-is : {A : Type 0} (ws : List (Code.Write A)) (i : ℕ) (x : Code.Write A) (changes : List Change)
-      → i < length ws → changes ≡ collected (writes_of (take i ws))
-      → next_test s (writes_of (take i ws)) (write_of x) ≡ test_after (ltb i room) changes (old_pairs digest s) (write_of x)
+  this-is : {A : Type 0} (ws : List (Arc (Code.Write A) A)) (i : ℕ) (x : Arc (Code.Write A) A) (changes : List Change)
+      → i < length ws → changes ≡ collected (shared_writes (take i ws))
+      → next_test s (shared_writes (take i ws)) (write_of (arc_value x))
+      ≡ test_after (ltb i room) changes (old_pairs digest s) (write_of (arc_value x))
   this-is ws i x changes l c =
-      next-is digest s (writes_of (take i ws)) (ltb i room) changes (write_of x)
-      (room-at s.accepted (writes_of (take i ws)) i room s.limit start.room_is (length-of ws i (omega arith))) c
+      next-is digest s (shared_writes (take i ws)) (ltb i room) changes (write_of (arc_value x))
+      (room-at s.accepted (shared_writes (take i ws)) i room s.limit start.room_is
+      (length-of (λ w. write_of (arc_value w)) ws i (omega arith))) c
 
-  pub passes-on : {A : Type 0} (ws : List (Code.Write A)) (i : ℕ) (x : Code.Write A) (changes : List Change)
-      → i < length ws → x ≡ get_or ws i x → changes ≡ collected (writes_of (take i ws))
-      → batch_test s.limit s.accepted (writes_of (take i ws)) ≡ Ok tt
-      → test_after (ltb i room) changes (old_pairs digest s) (write_of x) ≡ Ok tt
-      → batch_test s.limit s.accepted (writes_of (take (i + 1) ws)) ≡ Ok tt
+  pub passes-on : {A : Type 0} (ws : List (Arc (Code.Write A) A)) (i : ℕ) (x : Arc (Code.Write A) A) (changes : List Change)
+      → i < length ws → x ≡ get_or ws i x → changes ≡ collected (shared_writes (take i ws))
+      → batch_test s.limit s.accepted (shared_writes (take i ws)) ≡ Ok tt
+      → test_after (ltb i room) changes (old_pairs digest s) (write_of (arc_value x)) ≡ Ok tt
+      → batch_test s.limit s.accepted (shared_writes (take (i + 1) ws)) ≡ Ok tt
   passes-on ws i x changes l e c passed passes =
-      ap (batch_test s.limit s.accepted) (one-more-write write_of ws i x l e)
-      ∙ batch-goes_on s.limit s.accepted (writes_of (take i ws)) (write_of x) passed (this-is ws i x changes l c ∙ passes)
+      ap (batch_test s.limit s.accepted) (one-more-write (λ w. write_of (arc_value w)) ws i x l e)
+      ∙ batch-goes_on s.limit s.accepted (shared_writes (take i ws)) (write_of (arc_value x)) passed
+      (this-is ws i x changes l c ∙ passes)
 
-  pub fails-at : {D A : Type 0} (ws : List (Code.Write A)) (i : ℕ) (x : Code.Write A) (changes : List Change) (fault : RepoFault D A)
-      → i < length ws → x ≡ get_or ws i x → changes ≡ collected (writes_of (take i ws))
-      → batch_test s.limit s.accepted (writes_of (take i ws)) ≡ Ok tt
-      → IsTestFault write_fault (test_after (ltb i room) changes (old_pairs digest s) (write_of x)) fault
-      → IsFailedWrite s (writes_of ws) (i, fault)
-  fails-at ws i x changes fault l e c passed fails =
+  pub fails-at : {D A : Type 0} (ws : List (Arc (Code.Write A) A)) (i : ℕ) (x : Arc (Code.Write A) A) (changes : List Change) (fault : RepoFault D A)
+      → i < length ws → x ≡ get_or ws i x → changes ≡ collected (shared_writes (take i ws))
+      → batch_test s.limit s.accepted (shared_writes (take i ws)) ≡ Ok tt
+      → IsTestFault write_fault (test_after (ltb i room) changes (old_pairs digest s) (write_of (arc_value x))) fault
+      → IsFailedWrite s (shared_writes ws) (i, fault)
+  fails-at {D} {A} ws i x changes fault l e c passed fails =
       let cut = cut-at ws i x l e in
       record {
-        before = writes_of (take i ws);
-        here = write_of x;
-        after = writes_of cut.rest;
-        whole = ap writes_of cut.whole ∙ map-append write_of (take i ws) (x ∷ cut.rest);
-        place = length-of ws i (omega arith);
+        before = shared_writes (take i ws);
+        here = write_of (arc_value x);
+        after = shared_writes cut.rest;
+        whole = ap (λ (xs : List (Arc (Code.Write A) A)). shared_writes xs) cut.whole
+            ∙ map-append (λ w. write_of (arc_value w)) (take i ws) (x ∷ cut.rest);
+        place = length-of (λ w. write_of (arc_value w)) ws i (omega arith);
         passed = passed;
         fault = subst (λ (r : Result (Unit {0}) WriteFault). IsTestFault write_fault r fault) (sym (this-is ws i x changes l c)) fails;
       }

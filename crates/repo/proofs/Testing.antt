@@ -3,12 +3,10 @@ use Rattle.std.proofs.Common.{◌≡◌, ℕ, Bool, true, false, zero, suc, ◌+
 use Rattle.std.proofs.lemmas.Bool.{ltb-true, ltb-false, lt-ltb, le-ltb}
 use Rattle.std.proofs.lemmas.List.{map-append, length-append, length-map, length-take-le}
 use Rattle.spec.specs.Writes.{Write}
-use Rattle.batches.specs.Write as Code
-use Rattle.batches.specs.Values.{write_of, writes_of}
 use Rattle.kept.proofs.Exchanging.{one_further}
 
-pub length-of : {A : Type 0} (ws : List (Code.Write A)) (i : ℕ) → i ≤ length ws → length (writes_of (take i ws)) ≡ i
-length-of ws i l = length-map (take i ws) write_of ∙ length-take-le i ws l
+pub length-of : {X : Type 0} (seen : X → Write) (ws : List X) (i : ℕ) → i ≤ length ws → length (map seen (take i ws)) ≡ i
+length-of seen ws i l = length-map (take i ws) seen ∙ length-take-le i ws l
 
 pub room-at : (accepted before : List Write) (place room limit : ℕ) → length accepted + room ≡ limit → length before ≡ place → ltb place room ≡ ltb (length (accepted ++ before)) limit
 room-at accepted before place room limit e l = by_test (ltb place room) refl

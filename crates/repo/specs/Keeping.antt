@@ -1,6 +1,6 @@
 -- What a core keeps, by its counts.
 use Rattle.std.specs.Prelude.{◌≡◌, ℕ, List}
-use Rattle.edit_laws.specs.Sources.{HasBlocks}
+use Rattle.spec.specs.Sources.{HasBlocks}
 use Rattle.edit_laws.specs.Uses.{uses}
 use Rattle.kept.specs.Counts.{Counts, AllUsed, bytes_at, count_at}
 

@@ -8,3 +8,4 @@ pub mod Fulls
 pub mod Tested
 pub mod Exchanging
 pub mod Edits
+pub mod Wants

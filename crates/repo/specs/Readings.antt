@@ -8,7 +8,7 @@ use Rattle.spec.specs.Cid.{cid as cid_of}
 use Rattle.spec.specs.Tree.{Pair}
 use Rattle.spec.specs.Blocks.{block_at, listed, pairs}
 use Rattle.spec.specs.States.{State, records, state_root, state_blocks}
-use Rattle.edit_laws.specs.Sources.{HasBlocks}
+use Rattle.spec.specs.Sources.{HasBlocks}
 use Rattle.lookups.specs.Trees.{HasTree}
 use Rattle.edit_laws.specs.Uses.{uses as uses_of}
 use Rattle.kept.specs.declared.kept_use.Use.{Use}

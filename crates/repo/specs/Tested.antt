@@ -8,7 +8,6 @@ use Rattle.spec.specs.Tree.{Pair}
 use Rattle.spec.specs.Blocks.{value_of}
 use Rattle.spec.specs.Writes.{Write, Put, Create, Update, Delete, WriteFault, WritesFull}
 use Rattle.spec.specs.Writes.{key_of, test_when, batch_test}
-use Rattle.spec.specs.Stamps.{rev_of, last}
 use Rattle.spec.specs.States.{State}
 use Rattle.batch_laws.specs.Batch.{Change, at_key}
 use Rattle.batch_laws.specs.Collecting.{there_after}
@@ -31,14 +30,14 @@ lent o = option_map (λ bytes. bytes.now) o
 abbrev pub changes_of : List (Bor (List ℕ) × Option (Bor (List ℕ))) → List Change
 changes_of es = each (λ e. (e.0.now, lent e.1)) es
 
--- the changes that were collected
-abbrev pub changes_in : {A : Type 0} → Collected A → List Change
-changes_in c = changes_of c.changes.entries
-
 -- shared writes by their keys as changes: each key, with the record that its write leaves or none
 abbrev pub shared_changes : {A : Type 0} → List (Bor (List ℕ) × Bor (Arc (Code.Write A) A))
     → List Change
 shared_changes es = each (λ e. (e.0.now, shared_record e.1.now)) es
+
+-- the changes that were collected
+abbrev pub changes_in : {A : Type 0} → Collected A → List Change
+changes_in c = shared_changes c.writes.entries
 
 -- ---- the test of a write
 
@@ -86,12 +85,6 @@ pub record IsTestStart (digest : List ℕ → List ℕ) (bits : ℕ) (s : State)
 -- for every such state
 abbrev pub OnOldTree : (List ℕ → List ℕ) → ℕ → ℕ → List ℕ → Counts → (State → Type 0) → Type 0
 OnOldTree digest bits room root m P = (s : State) → IsTestStart digest bits s room root m → P s
-
--- for every such state with this last revision
-abbrev pub OnOldState : (List ℕ → List ℕ) → ℕ → ℕ → List ℕ → Option (List ℕ) → Counts
-    → (State → Type 0) → Type 0
-OnOldState digest bits room root rev m P =
-    OnOldTree digest bits room root m (λ s. rev ≡ rev_of (last s.stamps) → P s)
 
 -- The writes before a place pass, and the one there has this fault: its test's, or a want of memory.
 pub record IsFailedWrite {D A : Type 0} (s : State) (batch : List Write) (e : ℕ × RepoFault D A)

@@ -1,6 +1,6 @@
 //! What the writes of a batch change, by key.
 
-ghost use Rattle.std.specs.Prelude.{◌≡◌, ℕ, List, [], map as each, option_map, is_some, IfOk, OnOk};
+ghost use Rattle.std.specs.Prelude.{◌≡◌, ◌++◌, ℕ, List, [], Some, map as each, option_map, is_some, IfOk, OnOk};
 ghost use Rattle.std.specs.Arc.{arc_value};
 ghost use Rattle.std.specs.List.{cons_option};
 ghost use Rattle.std.specs.Slice.Iter.{iter_rest};
@@ -9,7 +9,8 @@ ghost use Rattle.batch_laws.specs.Batch.{at_key, with_change};
 ghost use Rattle.batch_laws.specs.Collecting.{change_of, with_cids};
 ghost use Rattle.batch_laws.specs.Uses.{records_come};
 ghost use Rattle.batches.specs.Values.{write_of};
-ghost use Rattle.repo.specs.Tested.{changes_in, lent};
+ghost use Rattle.block.specs.Bytes.{shared_record};
+ghost use Rattle.repo.specs.Tested.{changes_in};
 
 use batches::Write;
 use block::Block;
@@ -20,11 +21,10 @@ use std::collections::BTreeMap;
 use std::slice::Iter;
 use std::sync::Arc;
 
-/// What some writes change: each key that one of them names, in order, with the record that the last of these leaves under
-/// it, or none where that is a delete. Keys and records are lent by the writes.
+/// What some shared writes change: the last of them for each key that they name, by key.
 #[derive(Drop)]
 pub(crate) struct Collected<'w, A: Allocator> {
-    changes: BTreeMap<&'w [u8], Option<&'w [u8]>, A>,
+    writes: BTreeMap<&'w [u8], &'w Arc<Write<A>, A>, A>,
 }
 
 impl<'w, A: Allocator + Copy> Collected<'w, A> {
@@ -33,7 +33,7 @@ impl<'w, A: Allocator + Copy> Collected<'w, A> {
         ensures { changes_in result ≡ [] }
     {
         Collected {
-            changes: BTreeMap::new(alloc),
+            writes: BTreeMap::new(alloc),
         }
     }
 
@@ -41,21 +41,31 @@ impl<'w, A: Allocator + Copy> Collected<'w, A> {
     pub(crate) fn there(&self, key: &[u8]) -> Option<bool>
         ensures { result ≡ option_map is_some (at_key key.now (changes_in self.now)) }
     {
-        match self.changes.get(key) {
-            Some(record) => Some(record.is_some()),
+        match self.writes.get(key) {
+            Some(write) => Some(write.record().is_some()),
             None => None,
         }
     }
 
     /// One more write, which decides for its key.
-    pub(crate) fn collect(&mut self, write: &'w Write<A>) -> Result<(), AllocError>
+    pub(crate) fn collect(&mut self, write: &'w Arc<Write<A>, A>) -> Result<(), AllocError>
         ensures { OnOk result (changes_in self.new
-            ≡ with_change (change_of (write_of write.now)) (changes_in self.old)) }
+            ≡ with_change (change_of (write_of (arc_value write.now))) (changes_in self.old)) }
     {
-        let key = write.key();
-        let record = write.record();
-        self.changes.insert(key, record)?;
+        self.writes.insert(write.key(), write)?;
         Ok(())
+    }
+
+    /// Those of the writes that leave a record, in the order of their keys.
+    pub(crate) fn with_records(&self, alloc: A) -> Result<Vec<Arc<Write<A>, A>, A>, AllocError>
+        ensures { IfOk result (λ writes. each shared_record writes.items
+            ≡ each Some (records_come (changes_in self.now))) }
+    {
+        let mut writes = Vec::new(alloc);
+        for (_, write) in &self.writes {
+            push_with_record(&mut writes, write)?;
+        }
+        Ok(writes)
     }
 
     /// The changes as an edit takes them, with the CIDs of the blocks of their records.
@@ -70,27 +80,43 @@ impl<'w, A: Allocator + Copy> Collected<'w, A> {
     {
         let mut changes = Vec::new(alloc);
         let mut left = blocks.iter();
-        for (key, record) in &self.changes {
-            let value = next_cid(&mut left, record);
+        for (key, write) in &self.writes {
+            let value = next_cid(&mut left, write);
             changes.push(Change { key: *key, value })?;
         }
         Ok(changes)
     }
 }
 
-/// The CID of the next block, where a change has a record.
+/// A write comes behind others, where it leaves a record.
+fn push_with_record<A: Allocator>(
+    writes: &mut Vec<Arc<Write<A>, A>, A>,
+    write: &Arc<Write<A>, A>,
+) -> Result<(), AllocError>
+    ensures { OnOk result (each shared_record writes.new.items
+        ≡ each shared_record writes.old.items
+        ++ each Some (cons_option (shared_record write.now) [])) }
+{
+    if write.record().is_some() {
+        let one = Arc::try_clone(write)?;
+        writes.push(one)?;
+    }
+    Ok(())
+}
+
+/// The CID of the next block, where a write leaves a record.
 fn next_cid<D: Digest, A: Allocator>(
     left: &mut Iter<'_, Arc<Block<D, A>, A>>,
-    value: &Option<&[u8]>,
+    write: &Arc<Write<A>, A>,
 ) -> Option<Cid>
     ensures cid { (come : List (List ℕ))
-        → each arc_value (iter_rest left.old) ≡ cons_option (lent value.now) come
-        → result ≡ option_map (cid_of D.digest_of) (lent value.now) }
+        → each arc_value (iter_rest left.old) ≡ cons_option (shared_record write.now) come
+        → result ≡ option_map (cid_of D.digest_of) (shared_record write.now) }
     ensures left { (come : List (List ℕ))
-        → each arc_value (iter_rest left.old) ≡ cons_option (lent value.now) come
+        → each arc_value (iter_rest left.old) ≡ cons_option (shared_record write.now) come
         → each arc_value (iter_rest left.new) ≡ come }
 {
-    if value.is_none() {
+    if write.record().is_none() {
         return None;
     }
     Some(left.next()?.cid())

@@ -21,7 +21,8 @@ pub(crate) fn copies_of<A: Allocator + Copy>(
     stamp: &Stamp<A>,
     writes: &[Write<A>],
 ) -> Result<Copies<A>, AllocError>
-    ensures writes { IfOk result (λ copies. shared_writes copies.writes.items ≡ writes_of writes.now) }
+    ensures writes { IfOk result (λ copies.
+        shared_writes copies.writes.items ≡ writes_of writes.now) }
     ensures stamp { IfOk result (λ copies. stamp_of copies.stamp ≡ stamp_of stamp.now) }
 {
     let stamp = stamp.copied(alloc)?;
@@ -57,7 +58,8 @@ pub(crate) fn grow<A: Allocator>(
     stamps: &mut Vec<(Stamp<A>, u64), A>,
     copies: Copies<A>,
 ) -> u64
-    requires writes { vec_len accepted.old + length copies.writes.items ≤ vec_capacity accepted.old }
+    requires writes { vec_len accepted.old + length copies.writes.items
+        ≤ vec_capacity accepted.old }
     requires stamps { vec_len stamps.old + 1 ≤ vec_capacity stamps.old }
     ensures writes { shared_writes accepted.new.items
         ≡ shared_writes accepted.old.items ++ shared_writes copies.writes.items }

@@ -1,6 +1,6 @@
 //! One repository.
 
-ghost use Rattle.std.specs.Prelude.{◌≡◌, ◌≤◌, ◌<◌, ◌+◌, ◌++◌, ◌∷◌, [], ℕ, List, Some, Ok, length, option_map, IfOk, IfErr, OnOk, OnErr};
+ghost use Rattle.std.specs.Prelude.{◌≡◌, ◌≤◌, ◌<◌, ◌+◌, Some, Ok, length, option_map, IfOk, IfErr, OnOk, OnErr};
 ghost use Rattle.std.specs.Arc.{arc_value};
 ghost use Rattle.lookups.specs.Walks.{pairs_given};
 ghost use Rattle.spec.specs.States.{IsLawful, fresh, after_batch, state_blocks, state_root, state_commit, state_test};
@@ -11,16 +11,17 @@ ghost use Rattle.kept.specs.Uses.{used_blocks};
 ghost use Rattle.kept.specs.Entering.{Enters, no_block};
 ghost use Rattle.repo.specs.Fulls.{fulls_after_batch, fulls_after_step};
 ghost use Rattle.repo.specs.Readings.{AreBlocksOnce, CountsBlocks, LendsBlocks, LendsTree, has_block, pairs_from, record_at, state_block};
-ghost use Rattle.repo.specs.Refusals.{IsRefusal, IsApplied, IsOpenRefusal};
+ghost use Rattle.repo.specs.Edits.{IsExchangeMade};
+ghost use Rattle.repo.specs.Refusals.{IsRefusal, IsApplied, IsOpenRefusal, IsTestRefusal};
 ghost use Rattle.batches.specs.Values.{stamp_of, stamps_of, writes_of, shared_writes};
 ghost use Rattle.store.specs.Stores.{IsStore};
 
 use crate::applied::Applied;
 use crate::copies::{copies_of, grow, make_room};
-use crate::exchanges::exchange_of;
+use crate::exchanges::{Prepared, exchange_of, placed};
 use crate::opening::empty_node;
-use crate::write_tests::test_batch;
-use batches::{RepoFault, Stamp, Write};
+use crate::write_tests::test_writes;
+use batches::{RepoFault, Stamp, Write, test_stamp};
 use block::Block;
 use cid::{Cid, Digest};
 use kept::{Blocks, Kept, Lender, value_at};
@@ -255,16 +256,16 @@ impl<D: Digest, const B: u8, A: Allocator + Copy> Core<D, B, A> {
     /// Accepts all writes of a batch, in order, or none of them.
     ///
     /// The tests come in this order: a batch without writes is `RepoFault::EmptyBatch`; the stamp, `RepoFault::BadDid`,
-    /// `RepoFault::BadRev`, `RepoFault::RevOrder`; and then write by write, each on the records that those before it leave:
-    /// `RepoFault::WritesFull`, `RepoFault::BadKey`, `RepoFault::RecordSize`, `RepoFault::BadRecord`, `RepoFault::NotAMap`,
-    /// `RepoFault::KeyExists` or `RepoFault::NoSuchKey`. Then the blocks are made and held, all at once:
+    /// `RepoFault::BadRev`, `RepoFault::RevOrder`; and then, once the batch is copied, write by write, each on the records that
+    /// those before it leave: `RepoFault::WritesFull`, `RepoFault::BadKey`, `RepoFault::RecordSize`, `RepoFault::BadRecord`,
+    /// `RepoFault::NotAMap`, `RepoFault::KeyExists` or `RepoFault::NoSuchKey`. Then the blocks are made and held, all at once:
     /// `RepoFault::Collision` shows two blocks that clash, of which one is of the repository after the batch, and
     /// `RepoFault::StoreFull` says that the store answered so. `RepoFault::NoMemory` comes where memory was refused.
     ///
     /// A refusal names a place, from 0. What a test finds stands at its write's place, and what comes of the blocks at the
-    /// last write's; a want of memory stands at that of the write that is tested, of the last one where blocks are made and
-    /// held, and at 0 for the copies that are to be kept. All is then as before, and each hold that was taken has been given
-    /// back.
+    /// last write's. A want of memory stands at the place of the write that is tested or whose record's block is made, at the
+    /// last one for the commit, and at 0 for all that serves the whole batch: the copies that are to be kept, the tree's new
+    /// nodes, and the holds. All is then as before, and each hold that was taken has been given back.
     pub fn apply<S: BlockStore<Arc<Block<D, A>, A>, Hold<D, A>, StoreFault<D, A>>>(
         &mut self,
         alloc: A,
@@ -289,28 +290,15 @@ impl<D: Digest, const B: u8, A: Allocator + Copy> Core<D, B, A> {
             (has_block D.digest_of B self.old) (has_block D.digest_of B self.new)
             store.old store.new }
     {
-        let room = room_for(self.limit, &self.accepted);
-        let rev = last_rev(&self.stamps);
-        let root = self.root;
-        let changes = test_batch::<D, B, A>(&self.kept, alloc, room, root, rev, stamp, writes)?;
+        let prepared = self.prepared(alloc, stamp, writes)?;
+        let Prepared { copies, exchange } = prepared;
         let last = writes.len() - 1;
-
-        let Ok(copies) = copies_of(alloc, stamp, writes) else {
-            return Err((0, RepoFault::NoMemory));
-        };
-        let shared = copies.writes.as_slice();
-        let before = self.commit;
-        let made = exchange_of::<D, B, A>(&self.kept, alloc, root, before, stamp, &changes, shared);
-        let exchange = match made {
-            Ok(exchange) => exchange,
-            Err(fault) => return Err((last, fault)),
-        };
-        let Ok(()) = make_room(&mut self.accepted, &mut self.stamps, writes.len()) else {
+        let Ok(()) = make_room(&mut self.accepted, &mut self.stamps, copies.writes.len()) else {
             return Err((0, RepoFault::NoMemory));
         };
         match self.kept.exchange(store, exchange.come, &exchange.go) {
             Ok(()) => {}
-            Err(fault) => return Err((last, RepoFault::from(fault))),
+            Err(fault) => return Err(placed(last, RepoFault::from(fault))),
         }
 
         let number = grow(&mut self.accepted, &mut self.stamps, copies);
@@ -323,6 +311,48 @@ impl<D: Digest, const B: u8, A: Allocator + Copy> Core<D, B, A> {
             previous,
             commit: exchange.commit,
         })
+    }
+
+    /// A batch that its tests let through: the copies of it that are to be kept, and what it exchanges; or the place and the
+    /// fault by which it's refused before the store is asked.
+    ///
+    /// No writes come first, then the stamp, then write by write. The writes are copied before they are tested, so one map by
+    /// key serves their tests, the blocks of their records and the edit.
+    fn prepared(
+        &self,
+        alloc: A,
+        stamp: &Stamp<A>,
+        writes: &[Write<A>],
+    ) -> Result<Prepared<D, A>, (usize, RepoFault<D, A>)>
+        ensures writes { IfOk result (λ made.
+            shared_writes made.copies.writes.items ≡ writes_of writes.now) }
+        ensures stamp { IfOk result (λ made. stamp_of made.copies.stamp ≡ stamp_of stamp.now) }
+        ensures exchange { IfOk result (λ made. IsExchangeMade D.digest_of B self.now
+            (stamp_of stamp.now) (writes_of writes.now) made.exchange) }
+        ensures fault { IfErr result (IsTestRefusal D.digest_of B self.now
+            (stamp_of stamp.now) (writes_of writes.now)) }
+    {
+        if writes.is_empty() {
+            return Err((0, RepoFault::EmptyBatch));
+        }
+        match test_stamp::<D, A>(last_rev(&self.stamps), stamp) {
+            Ok(()) => {}
+            Err(fault) => return Err((0, fault)),
+        }
+        let Ok(copies) = copies_of(alloc, stamp, writes) else {
+            return Err((0, RepoFault::NoMemory));
+        };
+        let room = room_for(self.limit, &self.accepted);
+        let shared = copies.writes.as_slice();
+        let (kept, root, before) = (&self.kept, self.root, self.commit);
+        let made = {
+            let changes = test_writes::<D, B, A>(kept, alloc, room, root, shared)?;
+            exchange_of::<D, B, A>(kept, alloc, root, before, stamp, &changes, shared)
+        };
+        match made {
+            Ok(exchange) => Ok(Prepared { copies, exchange }),
+            Err(refusal) => Err(refusal),
+        }
     }
 }
 

@@ -1,18 +1,20 @@
 //! What a batch exchanges: which blocks come with it, and which go.
 
-ghost use Rattle.std.specs.Prelude.{◌≡◌, ◌≤◌, ◌++◌, ◌∷◌, [], true, map, IfOk, IfErr, OnOk};
+ghost use Rattle.std.specs.Prelude.{◌≡◌, ◌≤◌, ◌<◌, ◌++◌, ◌∷◌, [], true, length, map, IfOk, IfErr, OnOk};
 ghost use Rattle.std.specs.List.{cons_option};
 ghost use Rattle.std.specs.Arc.{arc_value};
 ghost use Rattle.spec.specs.Commits.{commit_bytes};
-ghost use Rattle.batch_laws.specs.Collecting.{collected, with_cids};
+ghost use Rattle.batch_laws.specs.Collecting.{with_cids};
 ghost use Rattle.batch_laws.specs.Uses.{given, records_come};
 ghost use Rattle.edit.specs.Batches.{are_changes};
 ghost use Rattle.kept.specs.Trees.{OfTree};
-ghost use Rattle.batches.specs.Values.{shared_writes, stamp_of};
+ghost use Rattle.batches.specs.Values.{stamp_of};
 ghost use Rattle.repo.specs.Edits.{HasSomeTree, IsEditMade, IsEditRefusal, IsExchangeMade, OnTested};
+ghost use Rattle.repo.specs.Wants.{IsPlaced, placed};
 ghost use Rattle.repo.specs.Tested.{changes_in};
 
 use crate::changes::Collected;
+use crate::copies::Copies;
 use crate::records::blocks_of_records;
 use batches::{RepoFault, Stamp, Write, commit_bytes};
 use block::Block;
@@ -31,29 +33,50 @@ pub(crate) struct Exchange<D: Digest, A: Allocator> {
     pub(crate) go: Vec<Cid, A>,
 }
 
-/// What a batch that passed its tests exchanges over the tree with this root and the last commit, by what its writes change.
-/// The blocks of its records keep the writes that are shared.
+/// A batch that passed its tests: the copies of it that are kept, and what it exchanges.
+#[derive(Drop)]
+pub(crate) struct Prepared<D: Digest, A: Allocator> {
+    pub(crate) copies: Copies<A>,
+    pub(crate) exchange: Exchange<D, A>,
+}
+
+/// What a batch that passed its tests exchanges over the tree with this root and the commit before, by what its writes change.
+/// These are the writes: the blocks of its records keep those that leave one.
+///
+/// Want of memory that serves the whole batch is told at the first write, that for a record's block at a write of the record,
+/// and that for the commit at the last write, as is a clash.
 pub(crate) fn exchange_of<D: Digest, const B: u8, A: Allocator + Copy>(
     kept: &Kept<D, A>,
     alloc: A,
     root: Cid,
-    last: Option<Cid>,
+    before: Option<Cid>,
     stamp: &Stamp<A>,
     changes: &Collected<'_, A>,
     writes: &[Arc<Write<A>, A>],
-) -> Result<Exchange<D, A>, RepoFault<D, A>>
+) -> Result<Exchange<D, A>, (usize, RepoFault<D, A>)>
     requires least { 1 ≤ B }
     requires tree { HasSomeTree D.digest_of B kept.now.uses root }
     requires changes { are_changes (with_cids D.digest_of (changes_in changes.now)) ≡ true }
-    requires writes { changes_in changes.now ≡ collected (shared_writes writes.now) }
-    ensures exchange { OnTested D.digest_of B root last stamp.now changes.now kept.now.uses
+    requires some { 0 < length writes.now }
+    ensures exchange { OnTested D.digest_of B root before stamp.now changes.now kept.now.uses
         (λ s batch. IfOk result (IsExchangeMade D.digest_of B s (stamp_of stamp.now) batch)) }
-    ensures fault { OfTree D.digest_of B kept.now.uses root (λ es. IfErr result
-        (IsEditRefusal D.digest_of B (with_cids D.digest_of (changes_in changes.now)) es)) }
+    ensures fault { OfTree D.digest_of B kept.now.uses root (λ es. IfErr result (λ refusal.
+        IsEditRefusal D.digest_of B (with_cids D.digest_of (changes_in changes.now)) es
+        refusal.1)) }
+    ensures place { IfErr result (IsPlaced (length writes.now)) }
 {
-    let records = blocks_of_records::<D, A>(alloc, writes)?;
-    let edit = edit_for::<D, B, A>(kept, alloc, root, changes, &records)?;
-    let block = commit_block(alloc, stamp, edit.root)?;
+    let last = writes.len() - 1;
+    let records = match blocks_of_records::<D, A>(alloc, changes, writes) {
+        Ok(records) => records,
+        Err(place) => return Err((place, RepoFault::NoMemory)),
+    };
+    let edit = match edit_for::<D, B, A>(kept, alloc, root, changes, &records) {
+        Ok(edit) => edit,
+        Err(fault) => return Err(placed(last, fault)),
+    };
+    let Ok(block) = commit_block(alloc, stamp, edit.root) else {
+        return Err((last, RepoFault::NoMemory));
+    };
     let commit = block.cid();
     let BatchEdit {
         root,
@@ -61,14 +84,32 @@ pub(crate) fn exchange_of<D: Digest, const B: u8, A: Allocator + Copy>(
         drop,
         previous,
     } = edit;
-    let come = all_that_come(add, records, block)?;
-    let go = all_that_go(drop, previous, last)?;
+    let Ok(come) = all_that_come(add, records, block) else {
+        return Err((0, RepoFault::NoMemory));
+    };
+    let Ok(go) = all_that_go(drop, previous, before) else {
+        return Err((0, RepoFault::NoMemory));
+    };
     Ok(Exchange {
         root,
         commit,
         come,
         go,
     })
+}
+
+/// At which write a fault of the whole batch's blocks is told, where this is the last: want of memory at the first one.
+pub(crate) fn placed<D: Digest, A: Allocator>(
+    last: usize,
+    fault: RepoFault<D, A>,
+) -> (usize, RepoFault<D, A>)
+    ensures { result ≡ placed last fault }
+{
+    let place = match fault {
+        RepoFault::NoMemory => 0,
+        _ => last,
+    };
+    (place, fault)
 }
 
 /// The edit of the tree with this root that makes these changes. It owns the blocks that it adds.

@@ -21,7 +21,7 @@
 //! use repo::Core;
 //! use scratch::build;
 //! use std::test::Fail;
-//! use store::{LentShard, Shard};
+//! use store::{LentShard, Shard, TableKey};
 //!
 //! fn a_batch_of_two_writes(rt: HostRuntime) -> Result<(), Fail> {
 //!     let alloc = rt.alloc();
@@ -42,7 +42,7 @@
 //!     };
 //!
 //!     // A repository of at most 1,000 writes, under number 0, over one shard of at most 1,000 blocks.
-//!     let mut shard = Shard::new(alloc, 1000);
+//!     let mut shard = Shard::new(alloc, 1000, TableKey::known());
 //!     let mut store = LentShard::new(&mut shard);
 //!     let mut core = Core::<Sha256, 2, _>::open(alloc, &mut store, 0, 1000).expect(&rt, "a core");
 //!
@@ -67,6 +67,7 @@ mod applied;
 mod changes;
 mod copies;
 mod cores;
+mod ending;
 mod exchanges;
 mod opening;
 mod records;
@@ -75,4 +76,5 @@ mod write_tests;
 
 pub use applied::Applied;
 pub use cores::Core;
+pub use ending::end_all;
 pub use repository::Repository;

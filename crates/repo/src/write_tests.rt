@@ -1,70 +1,41 @@
-//! A batch is tested, before a block of it is made.
+//! The writes of a batch are tested, before a block of it is made.
 
-ghost use Rattle.std.specs.Prelude.{◌≡◌, ◌≤◌, ◌<◌, true, length, Ok, OnOk, IfOk, IfErr};
+ghost use Rattle.std.specs.Prelude.{◌≡◌, ◌≤◌, true, Ok, OnOk, IfOk, IfErr};
+ghost use Rattle.std.specs.Arc.{arc_value};
 ghost use Rattle.spec.specs.Writes.{batch_test, key_of};
-ghost use Rattle.spec.specs.States.{state_test};
 ghost use Rattle.batch_laws.specs.Batch.{with_change};
 ghost use Rattle.batch_laws.specs.Collecting.{change_of, collected};
 ghost use Rattle.kept.specs.Trees.{OfTree, IsReadOnce};
 ghost use Rattle.batches.specs.Tests.{write_fault, IsTestFault};
-ghost use Rattle.batches.specs.Values.{stamp_of, write_of, writes_of};
-ghost use Rattle.repo.specs.Refusals.{IsTestRefusal};
-ghost use Rattle.repo.specs.Tested.{changes_in, is_named, is_there, lent, test_after};
-ghost use Rattle.repo.specs.Tested.{HaveSameTest, IsFailedWrite, IsUnread, OnOldState, OnOldTree};
+ghost use Rattle.batches.specs.Values.{shared_writes, write_of};
+ghost use Rattle.repo.specs.Tested.{changes_in, is_named, is_there, test_after};
+ghost use Rattle.repo.specs.Tested.{HaveSameTest, IsFailedWrite, IsUnread, OnOldTree};
 
 use crate::changes::Collected;
-use batches::{RepoFault, Stamp, Write, test_stamp, test_write};
+use batches::{RepoFault, Write, test_write};
 use cid::{Cid, Digest};
 use counts::Count;
 use kept::{Kept, value_at};
 use std::alloc::Allocator;
-
-/// Tests a batch over the tree with this root, where there is room for so many writes and the revision before is the last
-/// one: what the writes change, or the place and the fault of the first test that fails. No writes come first, then the
-/// stamp, then write by write.
-pub(crate) fn test_batch<'w, D: Digest, const B: u8, A: Allocator + Copy>(
-    kept: &Kept<D, A>,
-    alloc: A,
-    room: usize,
-    root: Cid,
-    last: Option<&[u8]>,
-    stamp: &Stamp<A>,
-    writes: &'w [Write<A>],
-) -> Result<Collected<'w, A>, (usize, RepoFault<D, A>)>
-    requires { 1 ≤ B }
-    ensures passed { OnOldState D.digest_of B room root (lent last.entry) kept.now.uses (λ s.
-        OnOk result (state_test s (stamp_of stamp.now) (writes_of writes.now) ≡ Ok tt)) }
-    ensures changes { IfOk result (λ all. changes_in all ≡ collected (writes_of writes.now)) }
-    ensures some { OnOk result (0 < length writes.now) }
-    ensures fault { OnOldState D.digest_of B room root (lent last.entry) kept.now.uses (λ s.
-        IfErr result (IsTestRefusal D.digest_of B s (stamp_of stamp.now) (writes_of writes.now))) }
-{
-    if writes.is_empty() {
-        return Err((0, RepoFault::EmptyBatch));
-    }
-    match test_stamp::<D, A>(last, stamp) {
-        Ok(()) => test_writes::<D, B, A>(kept, alloc, room, root, writes),
-        Err(fault) => Err((0, fault)),
-    }
-}
+use std::sync::Arc;
 
 /// Tests all writes of a batch, where there is room for so many, over the tree with this root: what they change, or the
 /// place of the first one that fails, and why.
 ///
 /// Whether a key is there comes from the writes before, else from one look-up.
-fn test_writes<'w, D: Digest, const B: u8, A: Allocator + Copy>(
+pub(crate) fn test_writes<'w, D: Digest, const B: u8, A: Allocator + Copy>(
     kept: &Kept<D, A>,
     alloc: A,
     room: usize,
     root: Cid,
-    writes: &'w [Write<A>],
+    writes: &'w [Arc<Write<A>, A>],
 ) -> Result<Collected<'w, A>, (usize, RepoFault<D, A>)>
     requires { 1 ≤ B }
     ensures passed { OnOldTree D.digest_of B room root kept.now.uses (λ s. OnOk result
-        (batch_test s.limit s.accepted (writes_of writes.now) ≡ Ok tt)) }
-    ensures changes { IfOk result (λ all. changes_in all ≡ collected (writes_of writes.now)) }
+        (batch_test s.limit s.accepted (shared_writes writes.now) ≡ Ok tt)) }
+    ensures changes { IfOk result (λ all. changes_in all ≡ collected (shared_writes writes.now)) }
     ensures fault { OnOldTree D.digest_of B room root kept.now.uses (λ s. IfErr result
-        (IsFailedWrite s (writes_of writes.now))) }
+        (IsFailedWrite s (shared_writes writes.now))) }
 {
     let mut changes = Collected::new(alloc);
     for (place, write) in writes.iter().enumerate() {
@@ -83,17 +54,19 @@ fn take_write<'w, D: Digest, const B: u8, A: Allocator + Copy>(
     room: bool,
     root: Cid,
     changes: &mut Collected<'w, A>,
-    write: &'w Write<A>,
+    write: &'w Arc<Write<A>, A>,
 ) -> Result<Count, RepoFault<D, A>>
     requires { 1 ≤ B }
     ensures passed { OfTree D.digest_of B kept.now.uses root (λ es. OnOk result
-        (test_after room (changes_in changes.old) es (write_of write.now) ≡ Ok tt)) }
+        (test_after room (changes_in changes.old) es (write_of (arc_value write.now)) ≡ Ok tt)) }
     ensures changed { OnOk result (changes_in changes.new
-        ≡ with_change (change_of (write_of write.now)) (changes_in changes.old)) }
+        ≡ with_change (change_of (write_of (arc_value write.now))) (changes_in changes.old)) }
     ensures fault { OfTree D.digest_of B kept.now.uses root (λ es. IfErr result (IsTestFault
-        write_fault (test_after room (changes_in changes.old) es (write_of write.now)))) }
+        write_fault (test_after room (changes_in changes.old) es
+        (write_of (arc_value write.now))))) }
     ensures reads { IfOk result (IsReadOnce D.digest_of B kept.now.uses root) }
-    ensures unread { IfOk result (IsUnread (changes_in changes.old) (write_of write.now)) }
+    ensures unread { IfOk result (IsUnread (changes_in changes.old)
+        (write_of (arc_value write.now))) }
 {
     match test_next::<D, B, A>(kept, alloc, room, root, changes, write) {
         Ok(looked) => {

@@ -5,7 +5,7 @@ use cid::{Cid, Sha256};
 use repo::Core;
 use scratch::build;
 use std::test::Fail;
-use store::{LentShard, Shard};
+use store::{LentShard, Shard, TableKey};
 
 #[test]
 fn a_batch_of_two_writes(rt: HostRuntime) -> Result<(), Fail> {
@@ -27,7 +27,7 @@ fn a_batch_of_two_writes(rt: HostRuntime) -> Result<(), Fail> {
     };
 
     // A repository of at most 1,000 writes, under number 0, over one shard of at most 1,000 blocks.
-    let mut shard = Shard::new(alloc, 1000);
+    let mut shard = Shard::new(alloc, 1000, TableKey::known());
     let mut store = LentShard::new(&mut shard);
     let mut core = Core::<Sha256, 2, _>::open(alloc, &mut store, 0, 1000).expect(&rt, "a core");
 

@@ -11,7 +11,7 @@ use repo_fixtures::ends::Ended::Accepted;
 use repo_fixtures::trees::is_of;
 use std::alloc::Global;
 use std::process::Abort;
-use store::Shard;
+use store::{Shard, TableKey};
 
 /// The writes of the tree of five nodes, with two records, in each of their six orders.
 const ORDERS: [[Step<'static>; 3]; 6] = [
@@ -49,7 +49,7 @@ fn are_taken(
 /// Whether two repositories share all their blocks after the writes in the first order and in this one. With equal stamps the
 /// commits are one block, too.
 fn leaves_the_same<R: Abort>(rt: &R, alloc: Global, order: &[Step<'static>; 3]) -> bool {
-    let mut shard = Shard::new(alloc, 100);
+    let mut shard = Shard::new(alloc, 100, TableKey::known());
     let mut first = opened(rt, alloc, &mut shard, 0);
     let mut second = opened(rt, alloc, &mut shard, 1);
     let is_right = are_taken(alloc, &mut shard, &mut first, &ORDERS[0])

@@ -12,12 +12,24 @@ use repo_fixtures::ends::Ended::{Accepted, Refused};
 use repo_fixtures::ends::Why;
 use std::alloc::{AllocError, Global};
 use std::process::Abort;
-use store::Shard;
+use store::{Shard, TableKey};
 
 /// Three writes, each of which takes memory.
 const WRITES: [Step; 3] = [Put(b"a/b0", EMPTY), Put(b"a/c1", ONE), Delete(b"a/b0")];
 
-/// The same before one that its test refuses, so that no block is made.
+/// Eight writes of which each brings a record of its own, so that the core's map of blocks grows.
+const EIGHT: [Step; 8] = [
+    Put(b"a/b0", b"\xa1\x61a\x01"),
+    Put(b"a/c0", b"\xa1\x61a\x02"),
+    Put(b"a/d0", b"\xa1\x61a\x03"),
+    Put(b"a/e0", b"\xa1\x61a\x04"),
+    Put(b"a/f0", b"\xa1\x61a\x05"),
+    Put(b"a/g0", b"\xa1\x61a\x06"),
+    Put(b"a/h0", b"\xa1\x61a\x07"),
+    Put(b"a/i0", b"\xa1\x61a\x08"),
+];
+
+/// The three before one that its test refuses, so that no block is made.
 const REFUSED: [Step; 4] = [
     Put(b"a/b0", EMPTY),
     Put(b"a/c1", ONE),
@@ -49,7 +61,7 @@ fn place_without<R: Abort>(
     request: u64,
 ) -> Option<usize> {
     let heap = Refusing::new(alloc);
-    let mut shard: Shard<Toy, &Heap> = Shard::new(&heap, 100);
+    let mut shard: Shard<Toy, &Heap> = Shard::new(&heap, 100, TableKey::known());
     let mut core = core_of(rt, &heap, &mut shard, has_commit);
     let batch = batch_at(&heap, 1, steps).expect(rt, "memory for a batch");
     heap.refuse(request);
@@ -87,16 +99,73 @@ fn told<R: Abort>(
 }
 
 /// Whether the core has a commit already, the batch, and where its requests are told.
-const ROWS: [(bool, &[Step<'static>], &[(usize, u64)]); 4] = [
-    (false, &REFUSED, &[(0, 1), (1, 1)]),
-    (false, &WRITES, &[(0, 1), (1, 1), (0, 11), (2, 30), (0, 2)]),
-    (true, &REFUSED, &[(0, 1), (1, 1)]),
-    (true, &WRITES, &[(0, 1), (1, 1), (0, 11), (2, 29), (0, 1)]),
+const ROWS: [(bool, &[Step<'static>], &[(usize, u64)]); 6] = [
+    (false, &REFUSED, &[(0, 14), (1, 1)]),
+    (
+        false,
+        &WRITES,
+        &[(0, 12), (1, 1), (0, 5), (1, 1), (0, 17), (2, 6), (0, 2)],
+    ),
+    (false, &EIGHT, &TOLD_OF_EIGHT_FIRST),
+    (true, &REFUSED, &[(0, 14), (1, 1)]),
+    (
+        true,
+        &WRITES,
+        &[(0, 12), (1, 1), (0, 5), (1, 1), (0, 14), (2, 6), (0, 3)],
+    ),
+    (true, &EIGHT, &TOLD_OF_EIGHT),
 ];
 
-/// What the test of a write takes is told at that write, in their order, and what the edit takes at the last one. Copies of
-/// the writes and of the stamp, before the edit, and room for them in the core's lists, after it, serve the whole batch; room
-/// for the blocks that come is told at the last write again. Over the tree that these very writes left its node stays, and so no block is made of it.
+/// Where those of the eight writes are told: the test and the record of each at its own, the commit at the last one.
+const TOLD_OF_EIGHT: [(usize, u64); 19] = [
+    (0, 29),
+    (1, 1),
+    (2, 1),
+    (3, 1),
+    (4, 1),
+    (5, 1),
+    (6, 1),
+    (7, 1),
+    (0, 7),
+    (1, 1),
+    (2, 1),
+    (3, 1),
+    (4, 1),
+    (5, 1),
+    (6, 1),
+    (7, 1),
+    (0, 27),
+    (7, 6),
+    (0, 13),
+];
+
+/// The same in a core without writes.
+const TOLD_OF_EIGHT_FIRST: [(usize, u64); 19] = [
+    (0, 29),
+    (1, 1),
+    (2, 1),
+    (3, 1),
+    (4, 1),
+    (5, 1),
+    (6, 1),
+    (7, 1),
+    (0, 7),
+    (1, 1),
+    (2, 1),
+    (3, 1),
+    (4, 1),
+    (5, 1),
+    (6, 1),
+    (7, 1),
+    (0, 19),
+    (7, 6),
+    (0, 14),
+];
+
+/// What the test of a write takes is told at that write, and so is the block of its record; what the commit takes at the last
+/// one. All else serves the whole batch and is told at the first: copies of the writes and of the stamp, the edit, what is
+/// exchanged, and room for it in the core's lists and in its map of blocks, which grows under eight records. Over the tree that
+/// these very writes left its node stays, and so no block is made of it.
 #[test]
 fn want_of_memory_is_told_at_its_write(rt: HostRuntime) {
     for (has_commit, steps, wanted) in &ROWS {

@@ -17,7 +17,7 @@ use repo_fixtures::trees::is_of;
 use std::alloc::{AllocError, Global};
 use std::cmp::Ordering;
 use std::process::Abort;
-use store::Shard;
+use store::{Shard, TableKey};
 
 /// Numbers that look random, the same in each run.
 #[derive(Drop)]
@@ -297,7 +297,7 @@ fn agrees_from<R: Abort, D: Digest, const B: u8>(
     requires least_room { 1 ≤ room }
     requires most_room { room ≤ 1000 }
 {
-    let mut shard: Shard<D> = Shard::new(alloc, room);
+    let mut shard: Shard<D> = Shard::new(alloc, room, TableKey::known());
     let mut first: Side<D, B> = Side::open(rt, alloc, &mut shard, 0);
     let mut second: Side<D, B> = Side::open(rt, alloc, &mut shard, 1);
     let is_right = take_all(alloc, seed, &mut shard, &mut first, &mut second, room < 100);

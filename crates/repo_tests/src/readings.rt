@@ -14,7 +14,7 @@ use repo_fixtures::cores::{apply_steps, counts, end, held};
 use repo_fixtures::ends::Ended::Accepted;
 use std::alloc::Allocator;
 use std::sync::Arc;
-use store::Shard;
+use store::{Shard, TableKey};
 
 /// The writes of two batches of three, which leave a tree of five nodes.
 const STEPS: [Step<'static>; 6] = [
@@ -251,7 +251,7 @@ fn tells_without_memory<D: Digest, const B: u8, A: Allocator + Copy>(
 #[test]
 fn what_two_batches_left(rt: HostRuntime) {
     let heap = Refusing::new(rt.alloc());
-    let mut shard: Shard<Toy, &Heap> = Shard::new(&heap, 100);
+    let mut shard: Shard<Toy, &Heap> = Shard::new(&heap, 100, TableKey::known());
     let mut core: Core<Toy, 2, &Heap> = opened(&rt, &heap, &mut shard, 7);
     let is_told = tells_without_memory(&heap, &heap, &mut shard, &mut core);
     let refused = heap.refused();

@@ -13,7 +13,7 @@ use repo_fixtures::ends::{Ended, Why, end_of};
 use std::alloc::Global;
 use std::process::Abort;
 use std::sync::{RwLock, Wait};
-use store::{LockedShards, Shards, shard_number};
+use store::{LockedShards, Shards, TableKey, shard_number};
 
 /// The DAG-CBOR bytes of the map of "a" to the integer -20. The digit 3, their last byte as ASCII, has `Toy` put them into
 /// shard 3.
@@ -101,7 +101,7 @@ fn is_so<R: Wait + Abort>(
     requires least { 1 ≤ room }
     requires most { room ≤ 9 }
 {
-    let shards: Shards<Toy> = Shards::open(alloc, room);
+    let shards: Shards<Toy> = Shards::open(alloc, room, TableKey::known());
     let repository = Repository {
         lock: RwLock::new(opened(rt, alloc, &shards, 0)),
     };
@@ -163,7 +163,7 @@ fn share_none<R: Wait>(
 
 #[test]
 fn two_repositories_in_the_shards(rt: HostRuntime) {
-    let shards: Shards<Toy> = Shards::open(rt.alloc(), 5);
+    let shards: Shards<Toy> = Shards::open(rt.alloc(), 5, TableKey::known());
     let mut first = opened(&rt, rt.alloc(), &shards, 0);
     let mut second = opened(&rt, rt.alloc(), &shards, 1);
     let is_right = share_blocks(&rt, rt.alloc(), &shards, &mut first, &mut second)

@@ -12,7 +12,7 @@ use repo_fixtures::cores::{counts, held};
 use repo_fixtures::ends::{Ended, end_of};
 use std::alloc::Global;
 use std::sync::{Arc, Wait};
-use store::{BlockStore, Hold, LentShard, LockedShards, Shard, Shards, StoreFault};
+use store::{BlockStore, Hold, LentShard, LockedShards, Shard, Shards, StoreFault, TableKey};
 
 /// Memory that refuses requests.
 pub(crate) type Heap = Refusing<Global>;
@@ -43,10 +43,10 @@ pub(crate) fn both_stores<'r, 'h, R: Wait, D: Digest>(
     requires most { limit ≤ 1048576 }
 {
     [
-        Store::Lent(Shard::new(heap, limit)),
+        Store::Lent(Shard::new(heap, limit, TableKey::known())),
         Store::Locked(Locked {
             rt,
-            shards: Shards::open(heap, limit),
+            shards: Shards::open(heap, limit, TableKey::known()),
         }),
     ]
 }

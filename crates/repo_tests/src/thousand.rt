@@ -13,7 +13,7 @@ use repo_fixtures::ends::Ended::Accepted;
 use repo_fixtures::trees::{is_of, tree_of};
 use std::alloc::{AllocError, Global};
 use std::process::Abort;
-use store::Shard;
+use store::{Shard, TableKey};
 
 type Pairs = Vec<([u8; 5], Cid)>;
 
@@ -106,7 +106,7 @@ fn fit<R: Abort>(rt: &R, alloc: Global, few: &Puts, all: &Puts) -> bool {
     if before >= 1000 || after >= 3000 || all.batch.writes.len() != 1000 {
         return false;
     }
-    let mut shard = Shard::new(alloc, before + after + 8);
+    let mut shard = Shard::new(alloc, before + after + 8, TableKey::known());
     let mut core = opened(rt, alloc, &mut shard, 0);
     let are_so = are_taken(alloc, &mut shard, &mut core, few, all, after as u64);
     end(&mut shard, core);

@@ -10,7 +10,7 @@ use repo_fixtures::cores::{apply, counts, end, held};
 use repo_fixtures::ends::Ended::Accepted;
 use std::alloc::{AllocError, Global};
 use std::process::Abort;
-use store::Shard;
+use store::{Shard, TableKey};
 
 /// The record of a number: the map of "n" to its two bytes.
 fn record_of(number: u16) -> [u8; 6] {
@@ -57,7 +57,7 @@ fn taken_back(alloc: Global) -> Result<Batch<Global>, AllocError> {
 /// Whether a batch on a repository without writes is taken in a store that has room for four blocks: the node before, and the
 /// node, the record and the commit after it, which are left.
 fn fits<R: Abort>(rt: &R, alloc: Global, batch: &Batch<Global>, record: &[u8]) -> bool {
-    let mut shard: Shard<Toy> = Shard::new(alloc, 4);
+    let mut shard: Shard<Toy> = Shard::new(alloc, 4, TableKey::known());
     let mut core: Core<Toy, 2> = opened(rt, alloc, &mut shard, 0);
     let is_taken = apply(alloc, &mut shard, &mut core, batch)
         == Accepted(batch.writes.len() as u64);

@@ -4,8 +4,3 @@ pub mod Repositories
 pub mod Endings
 pub mod Making
 pub mod Readings
-pub mod Telling
-pub mod Following
-pub mod ChangedKeys
-pub mod Shown
-pub mod BatchTexts

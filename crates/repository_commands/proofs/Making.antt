@@ -4,12 +4,12 @@ use Rattle.std.specs.Prelude.{Option, Result, Ok, Err, IfSome, IsErrAnd}
 use Rattle.spec.specs.Reading.{◌>>=◌, Gives, Fails}
 use Rattle.spec.specs.Cid.{cid_of_text}
 use Rattle.spec.specs.Stamps.{Stamp}
-use Rattle.console.specs.Lines.{lines}
+use Rattle.console.specs.Lines.{numbered_lines}
 use Rattle.repository_commands.specs.Puts.{Given, given_in}
-use Rattle.repository_commands.specs.Faults.{Fault, fault_of}
+use Rattle.repository_commands.specs.Faults.{Fault, text_fault_of}
 use Rattle.repository_commands.specs.Outcomes.{IsMade, Texts}
 use Rattle.repository_commands.specs.Texts.{stamp_check, key_check, car_of_given, car_text, proof_of_given, prove_text, blocks_of_lines, or_bad_root, answer_of_blocks, verify_text}
-use Rattle.repository_commands.specs.declared.fault.CommandFault.{CommandFault}
+use Rattle.repository_commands.specs.declared.fault.TextFault.{TextFault}
 use Rattle.repository_commands.proofs.Endings.{always_known, for_known}
 
 -- ---- one step of a reading
@@ -27,18 +27,18 @@ pub passed : {X E : Type 0} (P : Result X E → Type 0) (r : Result X E) (f : E)
 passed P (Ok x) f e p = absurd e
 passed P (Err g) f e p = subst (λ h. P (Err h)) (sym e) p
 
-module _ {X D A : Type 0} (view : X → List ℕ) (text : Texts) (input : Option (List ℕ)) (r : Result X (CommandFault D A)) where
+module _ {X D A : Type 0} (view : X → List ℕ) (text : Texts) (input : Option (List ℕ)) (r : Result X (TextFault D A)) where
   -- a fault that comes whatever the input is
-  pub made_by_fault : (f : CommandFault D A) → IsErrAnd r (λ e. e ≡ f) → ((xs : List ℕ) → Fails (fault_of f) (text xs)) → IsMade view text input r
-  made_by_fault f e fails = passed (IsMade view text input) r f e (always_known (λ xs. Fails (fault_of f) (text xs)) input fails)
+  pub made_by_fault : (f : TextFault D A) → IsErrAnd r (λ e. e ≡ f) → ((xs : List ℕ) → Fails (text_fault_of f) (text xs)) → IsMade view text input r
+  made_by_fault f e fails = passed (IsMade view text input) r f e (always_known (λ xs. Fails (text_fault_of f) (text xs)) input fails)
 
   -- what was read of it is at fault
-  pub made_by_input : (f : CommandFault D A) → IsErrAnd r (λ e. e ≡ f) → IfSome input (λ xs. Fails (fault_of f) (text xs)) → IsMade view text input r
+  pub made_by_input : (f : TextFault D A) → IsErrAnd r (λ e. e ≡ f) → IfSome input (λ xs. Fails (text_fault_of f) (text xs)) → IsMade view text input r
   made_by_input f e known = passed (IsMade view text input) r f e known
 
   -- it was read, and what was made of it is its text
-  pub made_of : (P : List ℕ → Type 0) → IfSome input P → ((xs : List ℕ) → P xs → Gives view fault_of r (text xs)) → IsMade view text input r
-  made_of P known gives = for_known P (λ xs. Gives view fault_of r (text xs)) input gives known
+  pub made_of : (P : List ℕ → Type 0) → IfSome input P → ((xs : List ℕ) → P xs → Gives view text_fault_of r (text xs)) → IsMade view text input r
+  made_of P known gives = for_known P (λ xs. Gives view text_fault_of r (text xs)) input gives known
 
 -- ---- the texts, step by step
 
@@ -62,23 +62,23 @@ module _ (digest : List ℕ → List ℕ) (root key : List ℕ) where
   -- a faulty root, a faulty key
   pub verify_unrooted : (o : Option Fault) → Fails o (or_bad_root (cid_of_text root)) → (xs : List ℕ) → Fails o (verify_text digest root key xs)
   unfolding verify_text
-  verify_unrooted o e xs = fails_then o (or_bad_root (cid_of_text root)) (λ r. key_check key >>= (λ _. blocks_of_lines 1 (lines xs) >>= answer_of_blocks digest r key)) e
+  verify_unrooted o e xs = fails_then o (or_bad_root (cid_of_text root)) (λ r. key_check key >>= (λ _. blocks_of_lines (numbered_lines xs) >>= answer_of_blocks digest r key)) e
 
   module _ (r : List ℕ) (rooted : or_bad_root (cid_of_text root) ≡ Ok r) where
-    verify_rooted : (xs : List ℕ) → verify_text digest root key xs ≡ (key_check key >>= (λ _. blocks_of_lines 1 (lines xs) >>= answer_of_blocks digest r key))
+    verify_rooted : (xs : List ℕ) → verify_text digest root key xs ≡ (key_check key >>= (λ _. blocks_of_lines (numbered_lines xs) >>= answer_of_blocks digest r key))
     unfolding verify_text
-    verify_rooted xs = gives_then (or_bad_root (cid_of_text root)) r (λ r. key_check key >>= (λ _. blocks_of_lines 1 (lines xs) >>= answer_of_blocks digest r key)) rooted
+    verify_rooted xs = gives_then (or_bad_root (cid_of_text root)) r (λ r. key_check key >>= (λ _. blocks_of_lines (numbered_lines xs) >>= answer_of_blocks digest r key)) rooted
 
     pub verify_unkeyed : (o : Option Fault) → Fails o (key_check key) → (xs : List ℕ) → Fails o (verify_text digest root key xs)
-    verify_unkeyed o e xs = subst (Fails o) (sym (verify_rooted xs)) (fails_then o (key_check key) (λ _. blocks_of_lines 1 (lines xs) >>= answer_of_blocks digest r key) e)
+    verify_unkeyed o e xs = subst (Fails o) (sym (verify_rooted xs)) (fails_then o (key_check key) (λ _. blocks_of_lines (numbered_lines xs) >>= answer_of_blocks digest r key) e)
 
     -- both words pass
     module _ (keyed : key_check key ≡ Ok tt) where
-      verify_keyed : (xs : List ℕ) → verify_text digest root key xs ≡ (blocks_of_lines 1 (lines xs) >>= answer_of_blocks digest r key)
-      verify_keyed xs = verify_rooted xs ∙ gives_then (key_check key) tt (λ _. blocks_of_lines 1 (lines xs) >>= answer_of_blocks digest r key) keyed
+      verify_keyed : (xs : List ℕ) → verify_text digest root key xs ≡ (blocks_of_lines (numbered_lines xs) >>= answer_of_blocks digest r key)
+      verify_keyed xs = verify_rooted xs ∙ gives_then (key_check key) tt (λ _. blocks_of_lines (numbered_lines xs) >>= answer_of_blocks digest r key) keyed
 
-      pub verify_unlined : (o : Option Fault) (xs : List ℕ) → Fails o (blocks_of_lines 1 (lines xs)) → Fails o (verify_text digest root key xs)
-      verify_unlined o xs e = subst (Fails o) (sym (verify_keyed xs)) (fails_then o (blocks_of_lines 1 (lines xs)) (answer_of_blocks digest r key) e)
+      pub verify_unlined : (o : Option Fault) (xs : List ℕ) → Fails o (blocks_of_lines (numbered_lines xs)) → Fails o (verify_text digest root key xs)
+      verify_unlined o xs e = subst (Fails o) (sym (verify_keyed xs)) (fails_then o (blocks_of_lines (numbered_lines xs)) (answer_of_blocks digest r key) e)
 
-      pub verify_lined : (xs : List ℕ) (bs : List (List ℕ)) → blocks_of_lines 1 (lines xs) ≡ Ok bs → verify_text digest root key xs ≡ answer_of_blocks digest r key bs
-      verify_lined xs bs e = verify_keyed xs ∙ gives_then (blocks_of_lines 1 (lines xs)) bs (answer_of_blocks digest r key) e
+      pub verify_lined : (xs : List ℕ) (bs : List (List ℕ)) → blocks_of_lines (numbered_lines xs) ≡ Ok bs → verify_text digest root key xs ≡ answer_of_blocks digest r key bs
+      verify_lined xs bs e = verify_keyed xs ∙ gives_then (blocks_of_lines (numbered_lines xs)) bs (answer_of_blocks digest r key) e

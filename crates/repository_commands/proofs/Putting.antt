@@ -1,9 +1,9 @@
 -- Reading puts line by line: what was read, and what is left to read.
-use Rattle.std.proofs.Common.{◌≡◌, ℕ, ◌+◌, ◌≤◌, List, [], ◌∷◌, ◌++◌, length, true, false, ◌==◌, eqb-true, refl, sym, ap, ◌∙◌, append_assoc, arith}
-use Rattle.std.specs.Prelude.{Option, Some, None}
+use Rattle.std.proofs.Common.{◌≡◌, ℕ, Bool, List, [], ◌∷◌, ◌++◌, true, false, refl, sym, ap, ◌∙◌, append_assoc}
+use Rattle.std.specs.Prelude.{Option, Some, None, is_some, option_map}
 use Rattle.std.proofs.lemmas.List.{append-nil}
 use Rattle.spec.specs.Writes.{Write}
-use Rattle.repository_commands.specs.Puts.{Given, added, put_of_line, with_put, given_from}
+use Rattle.repository_commands.specs.Puts.{Given, added, put_of_line, taken, with_put, given_from}
 
 -- these puts, and then those of further lines
 abbrev pub onto : Given → Given → Given
@@ -23,27 +23,36 @@ onto_onto g n w h = λ i. record {
   stop = h.stop;
 }
 
-pub onto_empty : (n : ℕ) (g : Given) (l : List ℕ) (ls : List (List ℕ)) → (length l == 0) ≡ true → onto g (given_from n (l ∷ ls)) ≡ onto g (given_from (n + 1) ls)
-unfolding given_from
-onto_empty n g [] ls e = refl
-onto_empty n g (c ∷ l) ls e = absurd (omega (arith, eqb-true _ _ e))
+module _ (n : ℕ) (l : List ℕ) (g : Given) (ls : List (ℕ × List ℕ)) where
+  on : (o : Option Write) → is_some o ≡ true → onto g (with_put n o (given_from ls)) ≡ onto (taken g n o) (given_from ls)
+  on None some = absurd cc
+  on (Some w) some = onto_onto g n w (given_from ls)
 
-pub onto_put : (n : ℕ) (g : Given) (l : List ℕ) (ls : List (List ℕ)) (w : Write) → (length l == 0) ≡ false → Some w ≡ put_of_line l → onto g (given_from n (l ∷ ls)) ≡ onto (added g n w) (given_from (n + 1) ls)
-unfolding given_from
-onto_put n g [] ls w some is = absurd cc
-onto_put n g (c ∷ l) ls w some is = ap (λ (o : Option Write). onto g (with_put n o (given_from (n + 1) ls))) (sym is) ∙ onto_onto g n w (given_from (n + 1) ls)
+  none : (o : Option Write) → is_some o ≡ false → onto g (with_put n o (given_from ls)) ≡ taken g n o
+  none None some = onto_stopped g (Some n)
+  none (Some w) some = absurd cc
 
-pub onto_stop : (n : ℕ) (g : Given) (l : List ℕ) (ls : List (List ℕ)) → (length l == 0) ≡ false → None ≡ put_of_line l → onto g (given_from n (l ∷ ls)) ≡ stopped g (Some n)
-unfolding given_from
-onto_stop n g [] ls some is = absurd cc
-onto_stop n g (c ∷ l) ls some is = ap (λ (o : Option Write). onto g (with_put n o (given_from (n + 1) ls))) (sym is) ∙ onto_stopped g (Some n)
+  -- a line that is a put, and one that is none
+  pub onto_put : (o : Option Write) (h : Given) (more : Bool) → h ≡ taken g n o → o ≡ put_of_line l → more ≡ is_some o → more ≡ true
+      → onto g (given_from ((n, l) ∷ ls)) ≡ onto h (given_from ls)
+  unfolding given_from
+  onto_put o h more put is some held =
+      ap (λ o. onto g (with_put n o (given_from ls))) (sym is) ∙ on o (sym some ∙ held) ∙ ap (λ h. onto h (given_from ls)) (sym put)
 
-pub onto_done : (n : ℕ) (g : Given) → g.stop ≡ None → onto g (given_from n []) ≡ g
-unfolding given_from
-onto_done n g going_on = onto_stopped g None ∙ (λ i. record { numbers = g.numbers; writes = g.writes; stop = sym going_on i })
+  pub onto_stop : (o : Option Write) (h : Given) (more : Bool) → h ≡ taken g n o → o ≡ put_of_line l → more ≡ is_some o → more ≡ false
+      → onto g (given_from ((n, l) ∷ ls)) ≡ h
+  unfolding given_from
+  onto_stop o h more put is some failed =
+      ap (λ o. onto g (with_put n o (given_from ls))) (sym is) ∙ none o (sym some ∙ failed) ∙ sym put
 
--- the reading of all lines, seen after some of them
-pub record Remains (all : Given) (most number : ℕ) (g : Given) (ls : List (List ℕ)) : Type 0 where
-  pub reading : all ≡ onto g (given_from (number + 1) ls)
-  pub going_on : g.stop ≡ None
-  pub bound : number + length ls ≤ most
+pub some_map : {A B : Type 0} (f : A → B) (o : Option A) → is_some o ≡ is_some (option_map f o)
+some_map f None = refl
+some_map f (Some x) = refl
+
+pub going_on : (g h : Given) (n : ℕ) (o : Option Write) (more : Bool) → h ≡ taken g n o → more ≡ is_some o → more ≡ true → g.stop ≡ None → h.stop ≡ None
+going_on g h n None more put some held e = absurd (cc)
+going_on g h n (Some w) more put some held e = ap (λ (h : Given). h.stop) put ∙ e
+
+pub onto_done : (g : Given) → g.stop ≡ None → onto g (given_from []) ≡ g
+unfolding given_from
+onto_done g going_on = onto_stopped g None ∙ (λ i. record { numbers = g.numbers; writes = g.writes; stop = sym going_on i })

@@ -11,13 +11,13 @@ use Rattle.batches.specs.declared.fault.RepoFault.{RepoFault}
 use Rattle.batches.specs.declared.fault.RepoFault.TheVariants as faults
 use Rattle.repo.specs.Refusals.{IsOther, IsRefusal, IsRefusalBy}
 use Rattle.repository_commands.specs.Puts.{Given}
-use Rattle.repository_commands.specs.Faults.{Line, OfWrite, fault_of}
+use Rattle.repository_commands.specs.Faults.{Line, OfWrite, text_fault_of}
 use Rattle.repository_commands.specs.Refusals.{IsLineFault, IsRefusedAt, IsRefusedLine, is_bad_line, is_want_of_memory, refused}
 use Rattle.repository_commands.specs.Texts.{at_its_line, writes_check}
 use Rattle.repository_commands.specs.declared.fault.LineFault.{LineFault}
 use Rattle.repository_commands.specs.declared.fault.LineFault.TheVariants as lines
-use Rattle.repository_commands.specs.declared.fault.CommandFault.{CommandFault}
-use Rattle.repository_commands.specs.declared.fault.CommandFault.TheVariants as errors
+use Rattle.repository_commands.specs.declared.fault.TextFault.{TextFault}
+use Rattle.repository_commands.specs.declared.fault.TextFault.TheVariants as errors
 
 -- ---- the test of a batch and that of its writes
 
@@ -71,9 +71,9 @@ module _ {D A : Type 0} (digest : List ℕ → List ℕ) (s : State) (stamp : St
   record-refused fault None e = tt
   record-refused fault (Some f) e = line-refused_at s stamp given place (BadRecord f) e
 
-  refused_fails : (fault : RepoFault D A) → IsRefusal digest 2 s stamp given.writes full fuller (place, fault) → Fails (fault_of (refused (slice_index given.numbers place) fault)) (writes_check s given)
+  refused_fails : (fault : RepoFault D A) → IsRefusal digest 2 s stamp given.writes full fuller (place, fault) → Fails (text_fault_of (refused (slice_index given.numbers place) fault)) (writes_check s given)
   refused_fails faults.BadKey e = line-refused_at s stamp given place _ e
-  refused_fails (faults.BadRecord f) e = record-refused (faults.BadRecord f) (cbor.fault_of f) e
+  refused_fails (faults.BadRecord f) e = record-refused (faults.BadRecord f) (cbor.cbor_fault_of f) e
   refused_fails faults.NotAMap e = line-refused_at s stamp given place _ e
   refused_fails faults.RecordSize e = line-refused_at s stamp given place _ e
   refused_fails faults.KeyExists e = line-refused_at s stamp given place _ e
@@ -92,10 +92,10 @@ module _ {D A : Type 0} (digest : List ℕ → List ℕ) (s : State) (stamp : St
   refusal_of ws fault ew is = subst (λ vs. IsRefusal digest 2 s stamp vs full fuller (place, fault)) ew is
 
   -- a refusal of the repository is one of the lines' test, or none of a test
-  pub refusal_fails : (ws : List Write) (n : ℕ) (fault : RepoFault D A) (f : CommandFault D A) → ws ≡ given.writes
-      → IsRefusal digest 2 s stamp ws full fuller (place, fault) → n ≡ slice_index given.numbers place → f ≡ refused n fault → Fails (fault_of f) (writes_check s given)
+  pub refusal_fails : (ws : List Write) (n : ℕ) (fault : RepoFault D A) (f : TextFault D A) → ws ≡ given.writes
+      → IsRefusal digest 2 s stamp ws full fuller (place, fault) → n ≡ slice_index given.numbers place → f ≡ refused n fault → Fails (text_fault_of f) (writes_check s given)
   refusal_fails ws n fault f ew is en ef =
-      subst (λ h. Fails (fault_of h) (writes_check s given)) (sym (ef ∙ ap (λ m. refused m fault) en)) (refused_fails fault (refusal_of ws fault ew is))
+      subst (λ h. Fails (text_fault_of h) (writes_check s given)) (sym (ef ∙ ap (λ m. refused m fault) en)) (refused_fails fault (refusal_of ws fault ew is))
 
   -- the store had answered so or not before
   record-since : (fault : RepoFault D A) (o : Option CborFault) → ((n : ℕ) → IsOther digest 2 s stamp given.writes n fuller place fault → ⊥)
@@ -107,7 +107,7 @@ module _ {D A : Type 0} (digest : List ℕ → List ℕ) (s : State) (stamp : St
   since_new : (fault : RepoFault D A) → IsRefusal digest 2 s stamp given.writes full fuller (place, fault)
       → IsRefusal digest 2 s stamp given.writes 0 fuller (place, fault)
   since_new faults.BadKey e = e
-  since_new (faults.BadRecord f) e = record-since (faults.BadRecord f) (cbor.fault_of f) (λ n h. h) e
+  since_new (faults.BadRecord f) e = record-since (faults.BadRecord f) (cbor.cbor_fault_of f) (λ n h. h) e
   since_new faults.NotAMap e = e
   since_new faults.RecordSize e = e
   since_new faults.KeyExists e = e
@@ -149,7 +149,7 @@ module _ {D A : Type 0} (digest : List ℕ → List ℕ) (s : State) (stamp : St
     refused_line faults.RevOrder is = at_line faults.RevOrder refl is
 
     -- and its line is named
-    pub refusal_names : (ws : List Write) (fault : RepoFault D A) (f : CommandFault D A) → ws ≡ given.writes → IsRefusal digest 2 s stamp ws full fuller (place, fault)
+    pub refusal_names : (ws : List Write) (fault : RepoFault D A) (f : TextFault D A) → ws ≡ given.writes → IsRefusal digest 2 s stamp ws full fuller (place, fault)
         → f ≡ refused n fault → IsRefusedLine digest s stamp given (0 < fuller) f
     refusal_names ws fault f ew is ef = subst (λ h. IsRefusedLine digest s stamp given (0 < fuller) h) (sym ef) (refused_line fault (refusal_of ws fault ew is))
 
@@ -158,7 +158,7 @@ module _ {D A : Type 0} (digest : List ℕ → List ℕ) (s : State) (stamp : St
 module _ {D A P Q : Type 0} (digest : List ℕ → List ℕ) (s : State) (stamp : Stamp) (given : Given) (follows : P → Q) where
   line_further : (n : ℕ) (fault : LineFault D A) → IsLineFault digest s stamp given P n fault → IsLineFault digest s stamp given Q n fault
   line_further n lines.BadLine is = tt
-  line_further n lines.OtherValue is = tt
+  line_further n lines.OtherValue is = absurd is
   line_further n (lines.Refused fault) is = record {
     place = is.place;
     fulls = is.fulls;
@@ -168,42 +168,48 @@ module _ {D A P Q : Type 0} (digest : List ℕ → List ℕ) (s : State) (stamp 
     named = is.named;
   }
 
-  further : (e : CommandFault D A) → IsRefusedLine digest s stamp given P e → IsRefusedLine digest s stamp given Q e
+  further : (e : TextFault D A) → IsRefusedLine digest s stamp given P e → IsRefusedLine digest s stamp given Q e
   further (errors.Line n fault) is = line_further n fault is
   further errors.BadDid is = tt
   further errors.BadRev is = tt
   further (errors.Root f) is = tt
+  further (errors.BadBefore f) is = absurd is
+  further (errors.BadAfter f) is = absurd is
   further (errors.Proof f) is = tt
+  further errors.OtherBefore is = absurd is
+  further errors.OtherAfter is = absurd is
   further (errors.Change f) is = absurd is
   further errors.NoMemory is = tt
   further errors.ReadFailed is = tt
-  further errors.WriteFailed is = tt
 
-  pub further_all : {X : Type 0} (r : Result X (CommandFault D A)) → IfErr r (IsRefusedLine digest s stamp given P) → IfErr r (IsRefusedLine digest s stamp given Q)
+  pub further_all : {X : Type 0} (r : Result X (TextFault D A)) → IfErr r (IsRefusedLine digest s stamp given P) → IfErr r (IsRefusedLine digest s stamp given Q)
   further_all (Ok x) is = tt
   further_all (Err e) is = further e is
 
   -- a fault that is passed on
-  pub passed_further : {X : Type 0} (r : Result X (CommandFault D A)) (f : CommandFault D A) → IsErrAnd r (λ e. e ≡ f)
+  pub passed_further : {X : Type 0} (r : Result X (TextFault D A)) (f : TextFault D A) → IsErrAnd r (λ e. e ≡ f)
       → IsRefusedLine digest s stamp given P f → IfErr r (IsRefusedLine digest s stamp given Q)
   passed_further (Ok x) f e is = tt
-  passed_further (Err h) f e is = subst (λ (k : CommandFault D A). IsRefusedLine digest s stamp given Q k) (sym e) (further f is)
+  passed_further (Err h) f e is = subst (λ (k : TextFault D A). IsRefusedLine digest s stamp given Q k) (sym e) (further f is)
 
 -- ---- a line that is no put
 
-bad_line_named : {D A : Type 0} (digest : List ℕ → List ℕ) (s : State) (stamp : Stamp) (given : Given) (P : Type 0) (f : CommandFault D A) → is_bad_line f ≡ true → IsRefusedLine digest s stamp given P f
+bad_line_named : {D A : Type 0} (digest : List ℕ → List ℕ) (s : State) (stamp : Stamp) (given : Given) (P : Type 0) (f : TextFault D A) → is_bad_line f ≡ true → IsRefusedLine digest s stamp given P f
 bad_line_named digest s stamp given P (errors.Line n lines.BadLine) e = tt
 bad_line_named digest s stamp given P (errors.Line n (lines.Refused f)) e = absurd cc
 bad_line_named digest s stamp given P (errors.Line n lines.OtherValue) e = absurd cc
 bad_line_named digest s stamp given P errors.BadDid e = absurd cc
 bad_line_named digest s stamp given P errors.BadRev e = absurd cc
 bad_line_named digest s stamp given P (errors.Root f) e = absurd cc
+bad_line_named digest s stamp given P (errors.BadBefore f) e = absurd cc
+bad_line_named digest s stamp given P (errors.BadAfter f) e = absurd cc
 bad_line_named digest s stamp given P (errors.Proof f) e = absurd cc
+bad_line_named digest s stamp given P errors.OtherBefore e = absurd cc
+bad_line_named digest s stamp given P errors.OtherAfter e = absurd cc
 bad_line_named digest s stamp given P (errors.Change f) e = absurd cc
 bad_line_named digest s stamp given P errors.NoMemory e = absurd cc
 bad_line_named digest s stamp given P errors.ReadFailed e = absurd cc
-bad_line_named digest s stamp given P errors.WriteFailed e = absurd cc
 
-pub bad_line_refused : {X D A : Type 0} (digest : List ℕ → List ℕ) (s : State) (stamp : Stamp) (given : Given) (P : Type 0) (r : Result X (CommandFault D A)) → IfErr r (λ e. is_bad_line e ≡ true) → IfErr r (IsRefusedLine digest s stamp given P)
+pub bad_line_refused : {X D A : Type 0} (digest : List ℕ → List ℕ) (s : State) (stamp : Stamp) (given : Given) (P : Type 0) (r : Result X (TextFault D A)) → IfErr r (λ e. is_bad_line e ≡ true) → IfErr r (IsRefusedLine digest s stamp given P)
 bad_line_refused digest s stamp given P (Ok x) e = tt
 bad_line_refused digest s stamp given P (Err f) e = bad_line_named digest s stamp given P f e

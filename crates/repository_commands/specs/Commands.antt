@@ -1,7 +1,6 @@
 -- What each command writes, by its words.
 use Rattle.std.specs.Prelude.{◌≡◌, ℕ, List, codes, false, IsErr}
 use Rattle.spec.specs.Stamps.{Stamp}
-use Rattle.repository_commands.specs.ChangeTexts.{prove_change_text, verify_change_text, IsUnproved, IsUnshown}
 use Rattle.repository_commands.specs.Outcomes.{Reasons, Texts}
 use Rattle.repository_commands.specs.Refusals.{IsRefusedIn, is_refusal}
 use Rattle.repository_commands.specs.Texts.{car_text, key_check, prove_text, stamp_check, verify_text}
@@ -21,22 +20,16 @@ abbrev pub texts_of : (List ℕ → List ℕ) → RepositoryCommand → Texts
 texts_of digest (commands.Car did rev) = car_text digest (stamp_of_words did.now rev.now)
 texts_of digest (commands.Prove key) = prove_text digest own_stamp key.now
 texts_of digest (commands.Verify root key) = verify_text digest root.now key.now
-texts_of digest commands.ProveChange = prove_change_text digest
-texts_of digest commands.VerifyChange = verify_change_text digest
 
--- why a command may end with a fault on an input: `car`, `prove` and `prove-change` refuse a line alone that a
--- repository refuses, `verify` none, and `verify-change` what isn't shown
+-- why there may be no text of an input: `car` and `prove` refuse a line alone that a repository refuses, and
+-- `verify` none
 abbrev pub reasons_of : {D A : Type 0} → (List ℕ → List ℕ) → RepositoryCommand → Reasons D A
 reasons_of digest (commands.Car did rev) = IsRefusedIn digest (stamp_of_words did.now rev.now)
 reasons_of digest (commands.Prove key) = IsRefusedIn digest own_stamp
 reasons_of digest (commands.Verify root key) = λ xs e. is_refusal e ≡ false
-reasons_of digest commands.ProveChange = IsUnproved digest
-reasons_of digest commands.VerifyChange = IsUnshown digest
 
 -- a word of the command isn't one that it takes
 abbrev pub HasFaultyWord : RepositoryCommand → Type 0
 HasFaultyWord (commands.Car did rev) = IsErr (stamp_check (stamp_of_words did.now rev.now))
 HasFaultyWord (commands.Prove key) = IsErr (key_check key.now)
 HasFaultyWord (commands.Verify root key) = IsErr (words_check root.now key.now)
-HasFaultyWord commands.ProveChange = ⊥
-HasFaultyWord commands.VerifyChange = ⊥

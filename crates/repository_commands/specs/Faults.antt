@@ -1,5 +1,5 @@
 -- Why there is no text (the names are a choice of this project).
-use Rattle.std.specs.Prelude.{◌≡◌, ◌⊎◌, ℕ, Bool, true, false, Option, Some, None, option_map}
+use Rattle.std.specs.Prelude.{◌≡◌, ◌⊎◌, ⊤, ℕ, Bool, true, false, Option, Some, None, option_map}
 use Rattle.std.specs.Prelude.{Result, IsErrAnd}
 use Rattle.spec.specs.Cid as cids
 use Rattle.spec.specs.Proof as proofs
@@ -13,12 +13,13 @@ use Rattle.export.specs.Faults as of_proof
 use Rattle.export.specs.declared.proof_fault.ProofFault.TheVariants as proof_faults
 use Rattle.console.specs.declared.reading.ReadFault.{ReadFault}
 use Rattle.console.specs.declared.reading.ReadFault.TheVariants as reads
-use Rattle.console.specs.declared.writing.WriteFault.{WriteFault as OutputFault}
-use Rattle.console.specs.declared.writing.WriteFault.TheVariants as writes
 use Rattle.repository_commands.specs.declared.fault.LineFault.{LineFault as GivenLineFault}
 use Rattle.repository_commands.specs.declared.fault.LineFault.TheVariants as lines
-use Rattle.repository_commands.specs.declared.fault.CommandFault.{CommandFault}
-use Rattle.repository_commands.specs.declared.fault.CommandFault.TheVariants as errors
+use Rattle.console.specs.Faults.{write_status}
+use Rattle.console.specs.declared.fault.CommandFault.{CommandFault}
+use Rattle.console.specs.declared.fault.CommandFault.TheVariants as commands
+use Rattle.repository_commands.specs.declared.fault.TextFault.{TextFault}
+use Rattle.repository_commands.specs.declared.fault.TextFault.TheVariants as errors
 
 -- what is wrong with a line: it hasn't the words that it should have; its write isn't taken; or the key of
 -- its change has another value in the tree after it
@@ -27,13 +28,17 @@ pub data LineFault : Type 0 where
   OfWrite : WriteFault → LineFault
   OtherValue : LineFault
 
--- whose repository it is, and the revision; the text of a root; a key or the blocks of a proof; the blocks
--- of a change; a line by its number, from 1
+-- whose repository it is, and the revision; the text of a root, and of those before and after a change; a key or
+-- the blocks of a proof; the roots that are told of a change; its blocks; a line by its number, from 1
 pub data Fault : Type 0 where
   BadDid : Fault
   BadRev : Fault
   OfRoot : cids.CidFault → Fault
+  OfBefore : cids.CidFault → Fault
+  OfAfter : cids.CidFault → Fault
   OfProof : proofs.ProofFault → Fault
+  OtherBefore : Fault
+  OtherAfter : Fault
   OfChange : changes.ChangeFault → Fault
   Line : ℕ → LineFault → Fault
 
@@ -54,62 +59,68 @@ change_fault_of (change_faults.OtherValue place) = Some (changes.OtherValue plac
 change_fault_of change_faults.OtherRoot = Some changes.OtherRoot
 change_fault_of change_faults.NoMemory = None
 
-abbrev pub fault_of : {D A : Type 0} → CommandFault D A → Option Fault
-fault_of errors.BadDid = Some BadDid
-fault_of errors.BadRev = Some BadRev
-fault_of (errors.Root f) = option_map OfRoot (of_cid.fault_of f)
-fault_of (errors.Proof f) = option_map OfProof (of_proof.fault_of f)
-fault_of (errors.Change f) = option_map OfChange (change_fault_of f)
-fault_of (errors.Line n f) = option_map (Line n) (line_fault_of f)
-fault_of errors.NoMemory = None
-fault_of errors.ReadFailed = None
-fault_of errors.WriteFailed = None
-
--- whether some of the text may have been written
-abbrev pub may_have_written : {D A : Type 0} → CommandFault D A → Bool
-may_have_written errors.BadDid = false
-may_have_written errors.BadRev = false
-may_have_written (errors.Root f) = false
-may_have_written (errors.Proof f) = false
-may_have_written (errors.Change f) = false
-may_have_written (errors.Line n f) = false
-may_have_written errors.NoMemory = true
-may_have_written errors.ReadFailed = false
-may_have_written errors.WriteFailed = true
+abbrev pub text_fault_of : {D A : Type 0} → TextFault D A → Option Fault
+text_fault_of errors.BadDid = Some BadDid
+text_fault_of errors.BadRev = Some BadRev
+text_fault_of (errors.Root f) = option_map OfRoot (of_cid.cid_fault_of f)
+text_fault_of (errors.BadBefore f) = option_map OfBefore (of_cid.cid_fault_of f)
+text_fault_of (errors.BadAfter f) = option_map OfAfter (of_cid.cid_fault_of f)
+text_fault_of (errors.Proof f) = option_map OfProof (of_proof.proof_fault_of f)
+text_fault_of errors.OtherBefore = Some OtherBefore
+text_fault_of errors.OtherAfter = Some OtherAfter
+text_fault_of (errors.Change f) = option_map OfChange (change_fault_of f)
+text_fault_of (errors.Line n f) = option_map (Line n) (line_fault_of f)
+text_fault_of errors.NoMemory = None
+text_fault_of errors.ReadFailed = None
 
 -- whether it is a fault of a word
-abbrev pub is_of_words : {D A : Type 0} → CommandFault D A → Bool
+abbrev pub is_of_words : {D A : Type 0} → TextFault D A → Bool
 is_of_words errors.BadDid = true
 is_of_words errors.BadRev = true
 is_of_words (errors.Root f) = true
+is_of_words (errors.BadBefore f) = true
+is_of_words (errors.BadAfter f) = true
 is_of_words (errors.Proof proof_faults.KeyLength) = true
 is_of_words fault = false
 
 -- a fault of a word was told
-abbrev pub TellsWords : {X D A : Type 0} → Result X (CommandFault D A) → Type 0
+abbrev pub TellsWords : {X D A : Type 0} → Result X (TextFault D A) → Type 0
 TellsWords result = IsErrAnd result (λ e. is_of_words e ≡ true)
 
--- a fault of a word was told, or memory was refused to the words themselves
-abbrev pub EndsEarly : {X D A : Type 0} → Result X (CommandFault D A) → Type 0
-EndsEarly result = IsErrAnd result (λ e. (is_of_words e ≡ true) ⊎ (e ≡ errors.NoMemory))
-
--- whether a write failed
-abbrev pub is_write_failure : {D A : Type 0} → CommandFault D A → Bool
-is_write_failure errors.WriteFailed = true
-is_write_failure fault = false
-
--- what a failed read and a failed write are called
-abbrev pub of_read : {D A : Type 0} → ReadFault → CommandFault D A
+-- what a failed read is called
+abbrev pub of_read : {D A : Type 0} → ReadFault → TextFault D A
 of_read reads.NoMemory = errors.NoMemory
 of_read reads.Failed = errors.ReadFailed
 
-abbrev pub of_write : {D A : Type 0} → OutputFault → CommandFault D A
-of_write writes.NoMemory = errors.NoMemory
-of_write writes.Failed = errors.WriteFailed
-
 -- the status that the program ends with
-abbrev pub status_of : {D A : Type 0} → CommandFault D A → ℕ
+abbrev pub status_of : {D A : Type 0} → TextFault D A → ℕ
 status_of errors.NoMemory = 3
 status_of errors.ReadFailed = 4
-status_of errors.WriteFailed = 4
 status_of fault = 1
+
+-- ---- of a command: there is no text, or it can't be written
+
+abbrev pub IfNoText : {F : Type 0} → CommandFault F → (F → Type 0) → Type 0
+IfNoText (commands.NoText e) P = P e
+IfNoText (commands.Unwritten w) P = ⊤
+
+abbrev pub IfUnwritten : {F : Type 0} → CommandFault F → Type 0 → Type 0
+IfUnwritten (commands.NoText e) P = ⊤
+IfUnwritten (commands.Unwritten w) P = P
+
+abbrev pub IsNoTextAnd : {F : Type 0} → CommandFault F → (F → Type 0) → Type 0
+IsNoTextAnd (commands.NoText e) P = P e
+IsNoTextAnd (commands.Unwritten w) P = ⊥
+
+-- a fault of a word was told
+abbrev pub TellsFaultyWord : {X D A : Type 0} → Result X (CommandFault (TextFault D A)) → Type 0
+TellsFaultyWord result = IsErrAnd result (λ e. IsNoTextAnd e (λ f. is_of_words f ≡ true))
+
+-- a fault of a word was told, or memory was refused to the words themselves
+abbrev pub EndsEarly : {X D A : Type 0} → Result X (CommandFault (TextFault D A)) → Type 0
+EndsEarly result = IsErrAnd result (λ e. IsNoTextAnd e (λ f. (is_of_words f ≡ true) ⊎ (f ≡ errors.NoMemory)))
+
+-- the status that a command ends with
+abbrev pub command_status : {D A : Type 0} → CommandFault (TextFault D A) → ℕ
+command_status (commands.NoText e) = status_of e
+command_status (commands.Unwritten w) = write_status w

@@ -5,9 +5,6 @@ pub mod Texts
 pub mod Views
 pub mod Shards
 pub mod Refusals
-pub mod Stories
-pub mod Told
-pub mod ChangeTexts
 pub mod Outcomes
 pub mod Commands
 pub mod Words

@@ -1,8 +1,8 @@
 -- Lines `KEY HEX`, each of which puts a record under a key (a choice of this project).
-use Rattle.std.specs.Prelude.{ℕ, ◌+◌, List, [], ◌∷◌, ◌++◌, Option, Some, None}
+use Rattle.std.specs.Prelude.{ℕ, List, [], ◌∷◌, ◌++◌, Option, Some, None}
 use Rattle.std.specs.List.{before_first, after_first}
 use Rattle.spec.specs.Writes.{Write, Put}
-use Rattle.console.specs.Lines.{lines, is_space, bytes_of_hex}
+use Rattle.console.specs.Lines.{numbered_lines, is_space, bytes_of_hex}
 
 -- the put of a key and of the bytes of its record; an empty key is none, and nor is one without bytes
 abbrev pub put_of : List ℕ → Option (List ℕ) → Option Write
@@ -41,16 +41,11 @@ with_put n None rest = record { numbers = []; writes = []; stop = Some n }
 with_put n (Some w) rest =
     record { numbers = n ∷ rest.numbers; writes = w ∷ rest.writes; stop = rest.stop }
 
--- an empty line is passed over
-abbrev pub with_line : ℕ → List ℕ → Given → Given
-with_line n [] rest = rest
-with_line n (c ∷ l) rest = with_put n (put_of_line (c ∷ l)) rest
-
--- of lines of which the first has this number
-unfoldable pub given_from : ℕ → List (List ℕ) → Given
-given_from n [] = nothing_given
-given_from n (l ∷ ls) = with_line n l (given_from (n + 1) ls)
+-- of numbered lines
+unfoldable pub given_from : List (ℕ × List ℕ) → Given
+given_from [] = nothing_given
+given_from (l ∷ ls) = with_put l.0 (put_of_line l.1) (given_from ls)
 
 -- of an input
 abbrev pub given_in : List ℕ → Given
-given_in input = given_from 1 (lines input)
+given_in input = given_from (numbered_lines input)

@@ -10,8 +10,8 @@ use Rattle.repository_commands.specs.Shards.{WasFull}
 use Rattle.repository_commands.specs.Texts.{no_writes}
 use Rattle.repository_commands.specs.declared.fault.LineFault.{LineFault}
 use Rattle.repository_commands.specs.declared.fault.LineFault.TheVariants as lines
-use Rattle.repository_commands.specs.declared.fault.CommandFault.{CommandFault}
-use Rattle.repository_commands.specs.declared.fault.CommandFault.TheVariants as errors
+use Rattle.repository_commands.specs.declared.fault.TextFault.{TextFault}
+use Rattle.repository_commands.specs.declared.fault.TextFault.TheVariants as errors
 
 -- want of memory has no line
 abbrev pub is_want_of_memory : {D A : Type 0} → RepoFault D A → Bool
@@ -33,43 +33,42 @@ pub record IsRefusedAt {D A : Type 0} (digest : List ℕ → List ℕ) (s : Stat
 abbrev pub IsLineFault : {D A : Type 0} → (List ℕ → List ℕ) → State → Stamp → Given → Type 0 → ℕ
     → LineFault D A → Type 0
 IsLineFault digest s stamp given when_full n lines.BadLine = ⊤
-IsLineFault digest s stamp given when_full n lines.OtherValue = ⊤
+IsLineFault digest s stamp given when_full n lines.OtherValue = ⊥
 IsLineFault digest s stamp given when_full n (lines.Refused fault) =
     IsRefusedAt digest s stamp given when_full n fault
 
 -- where a command answers that a line is refused, it is
 abbrev pub IsRefusedLine : {D A : Type 0} → (List ℕ → List ℕ) → State → Stamp → Given → Type 0
-    → CommandFault D A → Type 0
+    → TextFault D A → Type 0
 IsRefusedLine digest s stamp given when_full (errors.Line n fault) =
     IsLineFault digest s stamp given when_full n fault
 IsRefusedLine digest s stamp given when_full errors.BadDid = ⊤
 IsRefusedLine digest s stamp given when_full errors.BadRev = ⊤
 IsRefusedLine digest s stamp given when_full (errors.Root f) = ⊤
 IsRefusedLine digest s stamp given when_full (errors.Proof f) = ⊤
-IsRefusedLine digest s stamp given when_full (errors.Change f) = ⊥
 IsRefusedLine digest s stamp given when_full errors.NoMemory = ⊤
 IsRefusedLine digest s stamp given when_full errors.ReadFailed = ⊤
-IsRefusedLine digest s stamp given when_full errors.WriteFailed = ⊤
+IsRefusedLine digest s stamp given when_full fault = ⊥
 
 -- of the lines of an input, by a store that the command has for itself: it has answered that it's
 -- full only where a shard was
-abbrev pub IsRefusedIn : {D A : Type 0} → (List ℕ → List ℕ) → Stamp → List ℕ → CommandFault D A
+abbrev pub IsRefusedIn : {D A : Type 0} → (List ℕ → List ℕ) → Stamp → List ℕ → TextFault D A
     → Type 0
 IsRefusedIn digest stamp input e =
     IsRefusedLine digest no_writes stamp (given_in input) (WasFull digest) e
 
 -- the fault of a line that is refused
-abbrev pub refused : {D A : Type 0} → ℕ → RepoFault D A → CommandFault D A
+abbrev pub refused : {D A : Type 0} → ℕ → RepoFault D A → TextFault D A
 refused n faults.NoMemory = errors.NoMemory
 refused n fault = errors.Line n (lines.Refused fault)
 
 -- what no reader of blocks has: a line that a repository refuses, and changes that aren't shown
-abbrev pub is_refusal : {D A : Type 0} → CommandFault D A → Bool
+abbrev pub is_refusal : {D A : Type 0} → TextFault D A → Bool
 is_refusal (errors.Line n (lines.Refused f)) = true
 is_refusal (errors.Change f) = true
 is_refusal fault = false
 
 -- a line that is none of the command's
-abbrev pub is_bad_line : {D A : Type 0} → CommandFault D A → Bool
+abbrev pub is_bad_line : {D A : Type 0} → TextFault D A → Bool
 is_bad_line (errors.Line n lines.BadLine) = true
 is_bad_line fault = false

@@ -1,6 +1,6 @@
 -- What the commands write for an input, or why nothing (the forms of the texts are a choice of this
 -- project).
-use Rattle.std.specs.Prelude.{ℕ, ◌+◌, List, [], ◌∷◌, ◌++◌, codes, slice_index, Option, Some, None, Result, Ok, Err}
+use Rattle.std.specs.Prelude.{ℕ, List, [], ◌∷◌, ◌++◌, codes, slice_index, Option, Some, None, Result, Ok, Err}
 use Rattle.std.specs.List.{flat_map}
 use Rattle.hex.specs.Hex.{encode_lower}
 use Rattle.spec.specs.Reading.{◌>>=◌, ensure}
@@ -11,7 +11,7 @@ use Rattle.spec.specs.Proof.{ProofFault, KeyLength, path, verified}
 use Rattle.spec.specs.Stamps.{Stamp, is_did, is_tid}
 use Rattle.spec.specs.Writes.{Write, WriteFault, batch_test}
 use Rattle.spec.specs.States.{State, fresh, after_batch, records, state_root, state_car}
-use Rattle.console.specs.Lines.{lines, bytes_of_hex}
+use Rattle.console.specs.Lines.{numbered_lines, bytes_of_hex}
 use Rattle.repository_commands.specs.Puts.{Given, given_in}
 use Rattle.repository_commands.specs.Faults.{Fault, BadDid, BadRev, OfRoot, OfProof, Line, BadLine, OfWrite}
 
@@ -115,17 +115,12 @@ abbrev pub or_bad_line : ℕ → Option (List ℕ) → Result (List (List ℕ)) 
 or_bad_line n None = Err (Line n BadLine)
 or_bad_line n (Some block) = Ok (block ∷ [])
 
--- an empty line is passed over
-abbrev pub blocks_on_line : ℕ → List ℕ → Result (List (List ℕ)) Fault
-blocks_on_line n [] = Ok []
-blocks_on_line n (c ∷ l) = or_bad_line n (bytes_of_hex (c ∷ l))
-
--- the blocks in the order of their lines, of which the first has this number, or the first faulty line
-unfoldable pub blocks_of_lines : ℕ → List (List ℕ) → Result (List (List ℕ)) Fault
-blocks_of_lines n [] = Ok []
-blocks_of_lines n (l ∷ ls) = do
-  bs ← blocks_on_line n l
-  more ← blocks_of_lines (n + 1) ls
+-- the blocks of numbered lines in their order, or the first faulty line
+unfoldable pub blocks_of_lines : List (ℕ × List ℕ) → Result (List (List ℕ)) Fault
+blocks_of_lines [] = Ok []
+blocks_of_lines (l ∷ ls) = do
+  bs ← or_bad_line l.0 (bytes_of_hex l.1)
+  more ← blocks_of_lines ls
   Ok (bs ++ more)
 
 -- the root of a text, or what is wrong with it
@@ -159,7 +154,7 @@ unfoldable pub verify_text : (List ℕ → List ℕ) → List ℕ → List ℕ �
 verify_text digest root key input = do
   r ← or_bad_root (cid_of_text root)
   key_ok ← key_check key
-  bs ← blocks_of_lines 1 (lines input)
+  bs ← blocks_of_lines (numbered_lines input)
   answer_of_blocks digest r key bs
 
 -- ---- a text that may not be there

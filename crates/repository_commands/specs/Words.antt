@@ -33,23 +33,10 @@ verify_shape = record (new_shape (codes "verify")) {
   rules = required_rule (codes "root") ∷ required_rule (codes "key") ∷ [];
 }
 
-abbrev pub prove_change_shape : Shape
-prove_change_shape = new_shape (codes "prove-change")
-
-abbrev pub verify_change_shape : Shape
-verify_change_shape = new_shape (codes "verify-change")
-
--- a program with those on records, with those on a change, and with all of them
-abbrev pub with_record_commands : App → App
-with_record_commands app =
-    with_subcommand (with_subcommand (with_subcommand app car_shape) prove_shape) verify_shape
-
-abbrev pub with_change_commands : App → App
-with_change_commands app =
-    with_subcommand (with_subcommand app prove_change_shape) verify_change_shape
-
+-- a program with these commands
 abbrev pub with_commands : App → App
-with_commands app = with_change_commands (with_record_commands app)
+with_commands app =
+    with_subcommand (with_subcommand (with_subcommand app car_shape) prove_shape) verify_shape
 
 -- the text of the word with this id, or another text where there is none
 abbrev pub word_or : List ℕ → List Row → List ℕ → List ℕ
@@ -66,14 +53,7 @@ IsOfWords name rows (commands.Prove key) = (name ≡ codes "prove")
 IsOfWords name rows (commands.Verify root key) = (name ≡ codes "verify")
     × (root.now ≡ word_or [] rows (codes "root"))
     × (key.now ≡ word_or [] rows (codes "key"))
-IsOfWords name rows commands.ProveChange = name ≡ codes "prove-change"
-IsOfWords name rows commands.VerifyChange = name ≡ codes "verify-change"
-
--- no command on a change has this name
-abbrev pub IsNoChange : List ℕ → Type 0
-IsNoChange name = (name ≢ codes "prove-change") × (name ≢ codes "verify-change")
 
 -- no command on one repository has this name
 abbrev pub IsOtherName : List ℕ → Type 0
 IsOtherName name = (name ≢ codes "car") × (name ≢ codes "prove") × (name ≢ codes "verify")
-    × IsNoChange name

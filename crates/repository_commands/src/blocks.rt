@@ -1,16 +1,15 @@
 //! The blocks that the lines of an input give.
 ghost use Rattle.std.specs.Prelude.{◌≡◌, false, IfErr, IfSome};
 ghost use Rattle.spec.specs.Reading.{Gives};
-ghost use Rattle.console.specs.Lines.{lines};
-ghost use Rattle.repository_commands.specs.Faults.{fault_of, is_write_failure};
+ghost use Rattle.console.specs.Lines.{numbered_lines as numbered};
+ghost use Rattle.repository_commands.specs.Faults.{text_fault_of};
 ghost use Rattle.repository_commands.specs.Refusals.{is_refusal};
 ghost use Rattle.repository_commands.specs.Texts.{blocks_of_lines};
 ghost use Rattle.repository_commands.specs.Views.{blocks_of};
 
-use crate::fault::{CommandFault, LineFault};
-use bstr::ByteSlice;
+use crate::fault::{LineFault, TextFault};
 use cid::Digest;
-use console::{bytes_of_hex, read_all};
+use console::{bytes_of_hex, numbered_lines, read_all};
 use std::alloc::Allocator;
 use std::io::Read;
 
@@ -18,11 +17,10 @@ use std::io::Read;
 pub(crate) fn read_blocks<D: Digest, A: Allocator + Copy, R: Read>(
     alloc: A,
     input: &mut R,
-) -> Result<Vec<Vec<u8, A>, A>, CommandFault<D, A>>
+) -> Result<Vec<Vec<u8, A>, A>, TextFault<D, A>>
     ensures blocks { IfSome (R.remaining input.old) (λ xs. Gives
-        (λ blocks. blocks_of blocks.items) fault_of result (blocks_of_lines 1 (lines xs))) }
+        (λ blocks. blocks_of blocks.items) text_fault_of result (blocks_of_lines (numbered xs))) }
     ensures refused { IfErr result (λ e. is_refusal e ≡ false) }
-    ensures kind { IfErr result (λ e. is_write_failure e ≡ false) }
 {
     let bytes = read_all(alloc, input)?;
     blocks_of_input(alloc, &bytes)
@@ -32,24 +30,18 @@ pub(crate) fn read_blocks<D: Digest, A: Allocator + Copy, R: Read>(
 fn blocks_of_input<D: Digest, A: Allocator + Copy>(
     alloc: A,
     input: &[u8],
-) -> Result<Vec<Vec<u8, A>, A>, CommandFault<D, A>>
-    ensures blocks { Gives (λ blocks. blocks_of blocks.items) fault_of result
-        (blocks_of_lines 1 (lines input.now)) }
+) -> Result<Vec<Vec<u8, A>, A>, TextFault<D, A>>
+    ensures blocks { Gives (λ blocks. blocks_of blocks.items) text_fault_of result
+        (blocks_of_lines (numbered input.now)) }
     ensures refused { IfErr result (λ e. is_refusal e ≡ false) }
-    ensures kind { IfErr result (λ e. is_write_failure e ≡ false) }
 {
     let mut blocks = Vec::new(alloc);
-    let mut number = 0;
-    for line in input.lines() {
-        number += 1;
-        if line.is_empty() {
-            continue;
-        }
+    for (number, line) in numbered_lines(input) {
         match bytes_of_hex(alloc, line)? {
             Some(block) => blocks.push(block)?,
             None => {
                 let fault = LineFault::BadLine;
-                return Err(CommandFault::Line { number, fault });
+                return Err(TextFault::Line { number, fault });
             }
         }
     }

@@ -1,14 +1,14 @@
 //! A repository that is filled with the puts of an input.
-ghost use Rattle.std.specs.Prelude.{◌≡◌, ◌<◌, true, false, slice_index, IfErr, IfOk, OnOk};
+ghost use Rattle.std.specs.Prelude.{◌≡◌, ◌<◌, true, slice_index, IfErr, IfOk, OnOk};
 ghost use Rattle.spec.specs.Reading.{Gives};
 ghost use Rattle.batches.specs.Values.{stamp_of, writes_of};
 ghost use Rattle.store.specs.Stores.{IsStore};
-ghost use Rattle.repository_commands.specs.Faults.{fault_of, is_write_failure};
+ghost use Rattle.repository_commands.specs.Faults.{text_fault_of};
 ghost use Rattle.repository_commands.specs.Refusals.{IsRefusedLine, is_bad_line, refused as refused_by};
 ghost use Rattle.repository_commands.specs.Texts.{no_writes, state_of, state_of_given, unless_stopped, writes_check};
 ghost use Rattle.repository_commands.specs.Views.{given_of};
 
-use crate::fault::{CommandFault, LineFault};
+use crate::fault::{LineFault, TextFault};
 use crate::puts::Puts;
 use batches::{RepoFault, Stamp};
 use block::Block;
@@ -22,23 +22,22 @@ use store::{BlockStore, Hold, StoreFault};
 pub(crate) const MOST_WRITES: usize = 1_048_576;
 
 /// How many blocks a shard of its store may have.
-pub(crate) const MOST_BLOCKS: usize = 1_048_576;
+pub const MOST_BLOCKS: usize = 1_048_576;
 
 /// The repository that has all puts as one batch under a stamp, and none where there are no puts; or the first line at
 /// fault. The puts before a line that is none are tried first. At `Err` no block is held. The puts are let go: the repository
 /// has copies of its own.
-pub(crate) fn filled<D: Digest, S: BlockStore<Arc<Block<D>>, Hold<D>, StoreFault<D>>>(
+pub fn filled<D: Digest, S: BlockStore<Arc<Block<D>>, Hold<D>, StoreFault<D>>>(
     alloc: Global,
     store: &mut S,
     stamp: &Stamp,
     puts: Puts<Global>,
-) -> Result<Core<D, 2>, CommandFault<D>>
+) -> Result<Core<D, 2>, TextFault<D>>
     requires store { IsStore D.digest_of S.BlockStore }
-    ensures state { Gives (λ core. core) fault_of result
+    ensures state { Gives (λ core. core) text_fault_of result
         (state_of_given no_writes (stamp_of stamp.now) (given_of puts)) }
     ensures refused { IfErr result (IsRefusedLine D.digest_of no_writes (stamp_of stamp.now)
         (given_of puts) (0 < S.fulls store.new)) }
-    ensures kind { IfErr result (λ e. is_write_failure e ≡ false) }
 {
     let mut core = empty::<D, S>(alloc, store)?;
     match apply_puts::<D, S>(alloc, store, &mut core, stamp, &puts) {
@@ -70,19 +69,18 @@ fn empty<D: Digest, S: BlockStore<Arc<Block<D>>, Hold<D>, StoreFault<D>>>(
 /// Applies the writes of some lines to a repository as one batch, and none where there are no writes; or names the first line
 /// at fault.
 #[tactic(auto, unfolding(crate::specs::Texts::state_of_given))]
-pub(crate) fn apply_puts<D: Digest, S: BlockStore<Arc<Block<D>>, Hold<D>, StoreFault<D>>>(
+pub fn apply_puts<D: Digest, S: BlockStore<Arc<Block<D>>, Hold<D>, StoreFault<D>>>(
     alloc: Global,
     store: &mut S,
     core: &mut Core<D, 2>,
     stamp: &Stamp,
     puts: &Puts<Global>,
-) -> Result<(), CommandFault<D>>
+) -> Result<(), TextFault<D>>
     requires store { IsStore D.digest_of S.BlockStore }
-    ensures state { Gives (λ _. core.new) fault_of result
+    ensures state { Gives (λ _. core.new) text_fault_of result
         (state_of_given core.old (stamp_of stamp.now) (given_of puts.now)) }
     ensures refused { IfErr result (IsRefusedLine D.digest_of core.old (stamp_of stamp.now)
         (given_of puts.now) (0 < S.fulls store.new)) }
-    ensures kind { IfErr result (λ e. is_write_failure e ≡ false) }
 {
     apply_writes::<D, S>(alloc, store, core, stamp, puts)?;
     check_end::<D>(puts.stop)
@@ -95,15 +93,14 @@ fn apply_writes<D: Digest, S: BlockStore<Arc<Block<D>>, Hold<D>, StoreFault<D>>>
     core: &mut Core<D, 2>,
     stamp: &Stamp,
     puts: &Puts<Global>,
-) -> Result<(), CommandFault<D>>
+) -> Result<(), TextFault<D>>
     requires store { IsStore D.digest_of S.BlockStore }
-    ensures passes { Gives (λ ok. ok) fault_of result
+    ensures passes { Gives (λ ok. ok) text_fault_of result
         (writes_check core.old (given_of puts.now)) }
     ensures state { OnOk result (core.new
         ≡ state_of core.old (stamp_of stamp.now) (writes_of puts.now.writes.items)) }
     ensures refused { IfErr result (IsRefusedLine D.digest_of core.old (stamp_of stamp.now)
         (given_of puts.now) (0 < S.fulls store.new)) }
-    ensures kind { IfErr result (λ e. is_write_failure e ≡ false) }
 {
     if puts.writes.is_empty() {
         return Ok(());
@@ -114,37 +111,36 @@ fn apply_writes<D: Digest, S: BlockStore<Arc<Block<D>>, Hold<D>, StoreFault<D>>>
     }
 }
 
-/// The number of the line at a place.
-pub(crate) fn number_at(numbers: &[u64], place: usize) -> u64
+/// The number of the line at a place, or 0 where there is none.
+pub fn number_at(numbers: &[u64], place: usize) -> u64
     ensures { result ≡ slice_index numbers.now place }
 {
     numbers.get(place).copied().unwrap_or(0)
 }
 
 /// Whether each line was a write.
-fn check_end<D: Digest>(stop: Option<u64>) -> Result<(), CommandFault<D>>
-    ensures check { Gives (λ ok. ok) fault_of result (unless_stopped stop) }
+fn check_end<D: Digest>(stop: Option<u64>) -> Result<(), TextFault<D>>
+    ensures check { Gives (λ ok. ok) text_fault_of result (unless_stopped stop) }
     ensures line { IfErr result (λ e. is_bad_line e ≡ true) }
-    ensures kind { IfErr result (λ e. is_write_failure e ≡ false) }
 {
     match stop {
         None => Ok(()),
         Some(number) => {
             let fault = LineFault::BadLine;
-            Err(CommandFault::Line { number, fault })
+            Err(TextFault::Line { number, fault })
         }
     }
 }
 
 /// The fault of a line that is refused; want of memory has no line.
-fn refused<D: Digest>(number: u64, fault: RepoFault<D>) -> CommandFault<D>
+fn refused<D: Digest>(number: u64, fault: RepoFault<D>) -> TextFault<D>
     ensures { result ≡ refused_by number fault }
 {
     match fault {
-        RepoFault::NoMemory => CommandFault::NoMemory,
+        RepoFault::NoMemory => TextFault::NoMemory,
         fault => {
             let fault = LineFault::Refused(fault);
-            CommandFault::Line { number, fault }
+            TextFault::Line { number, fault }
         }
     }
 }

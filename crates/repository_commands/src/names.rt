@@ -1,11 +1,12 @@
-//! The names of the faults of a root and of a proof.
-ghost use Rattle.std.specs.Prelude.{◌≡◌};
+//! The names of the faults of a root, of a proof and of a change.
+ghost use Rattle.std.specs.Prelude.{◌≡◌, Some};
 ghost use Rattle.repository_commands.specs.Names.{bad_node_name as bad_node_name_of, change_fault_name as change_fault_name_of, proof_fault_name as proof_fault_name_of, root_fault_name as root_fault_name_of};
 
 use change_proofs::ChangeFault;
 use cid::CidFault;
 use export::ProofFault;
 use node::NodeFault;
+use std::fmt;
 
 /// The name of a fault of a root's text.
 pub(crate) fn root_fault_name(fault: &CidFault) -> &'static str
@@ -44,17 +45,22 @@ fn bad_node_name(fault: &NodeFault) -> &'static str
     }
 }
 
-/// The name of a fault of a change.
-pub(crate) fn change_fault_name(fault: &ChangeFault) -> &'static str
-    ensures { result.now ≡ change_fault_name_of fault.now }
-{
-    match fault {
-        ChangeFault::BlockMissing(_) => "BlockMissing",
-        ChangeFault::BadNode(_) => "BadNode",
-        ChangeFault::TooDeep => "TooDeep",
-        ChangeFault::NotTree => "NotTree",
-        ChangeFault::OtherValue(_) => "OtherValue",
-        ChangeFault::OtherRoot => "OtherRoot",
-        ChangeFault::NoMemory => "NoMemory",
+/// A fault of a change, shown by its name; the CID of a block that it names stands in parentheses.
+#[derive(Drop)]
+pub(crate) struct ChangeName<'a>(pub(crate) &'a ChangeFault);
+
+impl fmt::Display for ChangeName<'_> {
+    ghost output = { λ name. Some (change_fault_name_of name.0.now) };
+
+    fn fmt<W: fmt::Write>(&self, f: &mut fmt::Formatter<W>) -> fmt::Result {
+        match self.0 {
+            ChangeFault::BlockMissing(cid) => write!(f, "BlockMissing({cid})"),
+            ChangeFault::BadNode(cid) => write!(f, "BadNode({cid})"),
+            ChangeFault::TooDeep => f.write_str("TooDeep"),
+            ChangeFault::NotTree => f.write_str("NotTree"),
+            ChangeFault::OtherValue(_) => f.write_str("OtherValue"),
+            ChangeFault::OtherRoot => f.write_str("OtherRoot"),
+            ChangeFault::NoMemory => f.write_str("NoMemory"),
+        }
     }
 }

@@ -4,26 +4,26 @@ ghost use Rattle.std.specs.Arc.{arc_value};
 ghost use Rattle.std.specs.List.{flat_map};
 ghost use Rattle.spec.specs.Reading.{Gives};
 ghost use Rattle.batches.specs.Values.{stamp_of};
-ghost use Rattle.repository_commands.specs.Faults.{fault_of, is_of_words, is_write_failure, TellsWords};
-ghost use Rattle.repository_commands.specs.Outcomes.{IsMade, IsOutcome};
+ghost use Rattle.repository_commands.specs.Faults.{text_fault_of, is_of_words, TellsFaultyWord, TellsWords};
+ghost use Rattle.repository_commands.specs.Outcomes.{HasReason, IsMade, IsOutcome};
 ghost use Rattle.repository_commands.specs.Refusals.{IsRefusedIn, IsRefusedLine, is_refusal};
 ghost use Rattle.repository_commands.specs.Shards.{WasFull};
 ghost use Rattle.repository_commands.specs.Texts.{hex_line, key_check, no_writes, path_of_given, proof_of_given, prove_text as prove_text_of, text_of_path};
 ghost use Rattle.repository_commands.specs.Views.{given_of, nodes_of};
 
-use crate::ending::write_made;
-use crate::fault::CommandFault;
+use crate::fault::TextFault;
 use crate::filling::{MOST_BLOCKS, MOST_WRITES, filled};
 use crate::puts::{Puts, read_puts};
 use batches::Stamp;
 use block::Block;
 use cid::{Cid, Digest};
+use console::{CommandFault, write_made};
 use export::{ProofFault, prove};
 use node::is_key;
 use std::alloc::{AllocError, Allocator, Global};
 use std::io::{Read, Write};
 use std::sync::Arc;
-use store::{LentShards, empty_shards};
+use store::{LentShards, TableKey, empty_shards};
 
 /// Reads lines `KEY HEX` into one repository, as `car_text` does, and writes the proof of a key: the text of the CID of the
 /// tree's root, and then a line in hexadecimal for each node of the key's path, from the top.
@@ -36,14 +36,14 @@ pub fn prove_text<D: Digest, R: Read, W: Write>(
     key: &[u8],
     input: &mut R,
     out: &mut W,
-) -> Result<(), CommandFault<D>>
+) -> Result<(), CommandFault<TextFault<D>>>
     ensures outcome { IsOutcome (prove_text_of D.digest_of (stamp_of stamp.now) key.now)
         (R.remaining input.old) (W.contents out.old) (W.contents out.new) result }
-    ensures refused { IfErr result (λ e. IfSome (R.remaining input.old) (λ xs.
-        IsRefusedIn D.digest_of (stamp_of stamp.now) xs e)) }
+    ensures refused { HasReason (IsRefusedIn D.digest_of (stamp_of stamp.now))
+        (R.remaining input.old) result }
 
     // A faulty key is told, before the input is read.
-    ensures told { IsErr (key_check key.now) → TellsWords result }
+    ensures told { IsErr (key_check key.now) → TellsFaultyWord result }
     ensures unread { IsErr (key_check key.now) → input.new ≡ input.old }
 {
     write_made(proof_made(alloc, stamp, key, input), out)
@@ -55,14 +55,13 @@ fn proof_made<D: Digest, R: Read>(
     stamp: &Stamp,
     key: &[u8],
     input: &mut R,
-) -> Result<Vec<u8>, CommandFault<D>>
+) -> Result<Vec<u8>, TextFault<D>>
     ensures made { IsMade (λ bytes. bytes.items)
         (prove_text_of D.digest_of (stamp_of stamp.now) key.now) (R.remaining input.old) result }
     ensures refused { IfErr result (λ e. IfSome (R.remaining input.old) (λ xs.
         IsRefusedIn D.digest_of (stamp_of stamp.now) xs e)) }
     ensures told { IsErr (key_check key.now) → TellsWords result }
     ensures unread { IsErr (key_check key.now) → input.new ≡ input.old }
-    ensures kind { IfErr result (λ e. is_write_failure e ≡ false) }
 {
     check_key::<D, Global>(key)?;
     let puts = read_puts(alloc, input)?;
@@ -70,14 +69,13 @@ fn proof_made<D: Digest, R: Read>(
 }
 
 /// Tests a key.
-pub(crate) fn check_key<D: Digest, A: Allocator>(key: &[u8]) -> Result<(), CommandFault<D, A>>
-    ensures check { Gives (λ ok. ok) fault_of result (key_check key.now) }
+pub(crate) fn check_key<D: Digest, A: Allocator>(key: &[u8]) -> Result<(), TextFault<D, A>>
+    ensures check { Gives (λ ok. ok) text_fault_of result (key_check key.now) }
     ensures words { IfErr result (λ e. is_of_words e ≡ true) }
     ensures refused { IfErr result (λ e. is_refusal e ≡ false) }
-    ensures kind { IfErr result (λ e. is_write_failure e ≡ false) }
 {
     if !is_key(key) {
-        return Err(CommandFault::Proof(ProofFault::KeyLength));
+        return Err(TextFault::Proof(ProofFault::KeyLength));
     }
     Ok(())
 }
@@ -88,12 +86,11 @@ fn proof_of_puts<D: Digest>(
     stamp: &Stamp,
     key: &[u8],
     puts: Puts<Global>,
-) -> Result<Vec<u8>, CommandFault<D>>
-    ensures text { Gives (λ bytes. bytes.items) fault_of result
+) -> Result<Vec<u8>, TextFault<D>>
+    ensures text { Gives (λ bytes. bytes.items) text_fault_of result
         (proof_of_given D.digest_of (stamp_of stamp.now) key.now (given_of puts)) }
     ensures refused { IfErr result (IsRefusedLine D.digest_of no_writes (stamp_of stamp.now)
         (given_of puts) (WasFull D.digest_of)) }
-    ensures kind { IfErr result (λ e. is_write_failure e ≡ false) }
 {
     let path = path_of_puts::<D>(alloc, stamp, key, puts)?;
     Ok(text_of(alloc, &path)?)
@@ -112,14 +109,13 @@ fn path_of_puts<D: Digest>(
     stamp: &Stamp,
     key: &[u8],
     puts: Puts<Global>,
-) -> Result<PathNodes<D>, CommandFault<D>>
-    ensures path { Gives nodes_of fault_of result
+) -> Result<PathNodes<D>, TextFault<D>>
+    ensures path { Gives nodes_of text_fault_of result
         (path_of_given D.digest_of (stamp_of stamp.now) key.now (given_of puts)) }
     ensures refused { IfErr result (IsRefusedLine D.digest_of no_writes (stamp_of stamp.now)
         (given_of puts) (WasFull D.digest_of)) }
-    ensures kind { IfErr result (λ e. is_write_failure e ≡ false) }
 {
-    let mut shards = empty_shards(alloc, MOST_BLOCKS);
+    let mut shards = empty_shards(alloc, MOST_BLOCKS, TableKey::known());
     let mut store = LentShards::<D, MOST_BLOCKS, Global>::new(&mut shards);
     let core = filled::<D, LentShards<'_, D, MOST_BLOCKS, Global>>(alloc, &mut store, stamp, puts)?;
     let root = core.root();
@@ -143,7 +139,7 @@ fn text_of<D: Digest>(alloc: Global, path: &PathNodes<D>) -> Result<Vec<u8>, All
 }
 
 /// Puts a line for each block at the end.
-pub(crate) fn push_lines<D: Digest>(
+pub fn push_lines<D: Digest>(
     alloc: Global,
     text: &mut Vec<u8>,
     blocks: &[Arc<Block<D>>],

@@ -3,29 +3,28 @@ ghost use Rattle.std.specs.Prelude.{◌≡◌, ◌≤◌, is_some, length, optio
 ghost use Rattle.std.specs.List.{position_or_len};
 ghost use Rattle.batches.specs.Values.{write_of};
 ghost use Rattle.console.specs.Lines.{bytes_of_hex as bytes_of, is_space};
-ghost use Rattle.repository_commands.specs.Puts.{added, given_in, nothing_given, put_of, put_of_line as put_of_line_of, taken};
+ghost use Rattle.repository_commands.specs.Puts.{given_in, nothing_given, put_of, put_of_line as put_of_line_of, taken};
 ghost use Rattle.repository_commands.specs.Views.{given_of};
 
 use batches::Write;
-use bstr::ByteSlice;
-use console::{ReadFault, bytes_of_hex, read_all};
+use console::{ReadFault, bytes_of_hex, numbered_lines, read_all};
 use std::alloc::{AllocError, Allocator};
 use std::io::Read;
 
 /// The writes of some lines, up to the first line that is none.
 #[derive(Drop)]
-pub(crate) struct Puts<A: Allocator> {
+pub struct Puts<A: Allocator> {
     /// The number of each write's line.
-    pub(crate) numbers: Vec<u64, A>,
+    pub numbers: Vec<u64, A>,
     /// The writes.
-    pub(crate) writes: Vec<Write<A>, A>,
+    pub writes: Vec<Write<A>, A>,
     /// The number of the line that is none, if there is one.
-    pub(crate) stop: Option<u64>,
+    pub stop: Option<u64>,
 }
 
 impl<A: Allocator + Copy> Puts<A> {
     /// None so far.
-    pub(crate) fn none(alloc: A) -> Puts<A>
+    pub fn none(alloc: A) -> Puts<A>
         ensures { given_of result ≡ nothing_given }
     {
         Puts {
@@ -35,25 +34,16 @@ impl<A: Allocator + Copy> Puts<A> {
         }
     }
 
-    /// With the write of this line after the others.
-    fn add(&mut self, number: u64, write: Write<A>) -> Result<(), AllocError>
-        ensures { OnOk result (given_of self.new
-            ≡ added (given_of self.old) number (write_of write)) }
-    {
-        self.numbers.push(number)?;
-        self.writes.push(write)?;
-        Ok(())
-    }
-
     /// With the write of this line after the others, or with the number of a line that is none. Whether it was one.
-    pub(crate) fn take(&mut self, number: u64, write: Option<Write<A>>) -> Result<bool, AllocError>
+    pub fn take(&mut self, number: u64, write: Option<Write<A>>) -> Result<bool, AllocError>
         ensures taken { OnOk result (given_of self.new
             ≡ taken (given_of self.old) number (option_map write_of write)) }
         ensures going_on { IfOk result (λ more. more ≡ is_some write) }
     {
         match write {
             Some(write) => {
-                self.add(number, write)?;
+                self.numbers.push(number)?;
+                self.writes.push(write)?;
                 Ok(true)
             }
             None => {
@@ -65,7 +55,7 @@ impl<A: Allocator + Copy> Puts<A> {
 }
 
 /// The puts of all that the reader still gives. The input is let go before they are used.
-pub(crate) fn read_puts<A: Allocator + Copy, R: Read>(
+pub fn read_puts<A: Allocator + Copy, R: Read>(
     alloc: A,
     input: &mut R,
 ) -> Result<Puts<A>, ReadFault>
@@ -84,25 +74,17 @@ fn puts_of_input<A: Allocator + Copy>(alloc: A, input: &[u8]) -> Result<Puts<A>,
     ensures { IfOk result (λ puts. given_of puts ≡ given_in input.now) }
 {
     let mut puts = Puts::none(alloc);
-    let mut number = 0;
-    for line in input.lines() {
-        number += 1;
-        if line.is_empty() {
-            continue;
-        }
-        match put_of_line(alloc, line)? {
-            Some(put) => puts.add(number, put)?,
-            None => {
-                puts.stop = Some(number);
-                return Ok(puts);
-            }
+    for (number, line) in numbered_lines(input) {
+        let is_put = puts.take(number, put_of_line(alloc, line)?)?;
+        if !is_put {
+            return Ok(puts);
         }
     }
     Ok(puts)
 }
 
 /// The put of a line `KEY HEX`, or `None` where it is none.
-pub(crate) fn put_of_line<A: Allocator + Copy>(
+pub fn put_of_line<A: Allocator + Copy>(
     alloc: A,
     line: &[u8],
 ) -> Result<Option<Write<A>>, AllocError>
@@ -116,7 +98,7 @@ pub(crate) fn put_of_line<A: Allocator + Copy>(
 }
 
 /// The place of the first space, or the length where there is none.
-pub(crate) fn space_in(line: &[u8]) -> usize
+pub fn space_in(line: &[u8]) -> usize
     ensures place { result ≡ position_or_len is_space line.now }
     ensures within { result ≤ length line.now }
 {

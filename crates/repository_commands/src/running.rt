@@ -8,15 +8,14 @@ ghost use Rattle.repository_commands.specs.Refusals.{IsRefusedIn};
 ghost use Rattle.repository_commands.specs.Texts.{car_text as car_text_of, key_check, prove_text as prove_text_of, stamp_check};
 
 use crate::car::car_text;
-use crate::change_proving::prove_change_text;
-use crate::change_verifying::verify_change_text;
 use crate::ending::status_of;
-use crate::fault::CommandFault;
+use crate::fault::TextFault;
 use crate::proving::prove_text;
 use crate::verifying::verify_text;
 use crate::words::{DID, REV, RepositoryCommand};
 use batches::Stamp;
 use cid::Digest;
+use console::CommandFault;
 use std::alloc::{AllocError, Global};
 use std::io::{Read, Write};
 
@@ -53,7 +52,7 @@ fn write_text<D: Digest, R: Read, W: Write>(
     alloc: Global,
     input: &mut R,
     out: &mut W,
-) -> Result<(), CommandFault<D>>
+) -> Result<(), CommandFault<TextFault<D>>>
     ensures outcome { IsOutcome (texts_of D.digest_of command.entry) (R.remaining input.old)
         (W.contents out.old) (W.contents out.new) result }
     ensures reason { HasReason (reasons_of D.digest_of command.entry)
@@ -67,8 +66,6 @@ fn write_text<D: Digest, R: Read, W: Write>(
         RepositoryCommand::Verify { root, key } => {
             verify_text(alloc, root.as_bytes(), key.as_bytes(), input, out)
         }
-        RepositoryCommand::ProveChange => prove_change_text(alloc, input, out),
-        RepositoryCommand::VerifyChange => verify_change_text(alloc, input, out),
     }
 }
 
@@ -79,7 +76,7 @@ fn write_car<D: Digest, R: Read, W: Write>(
     alloc: Global,
     input: &mut R,
     out: &mut W,
-) -> Result<(), CommandFault<D>>
+) -> Result<(), CommandFault<TextFault<D>>>
     ensures outcome { IsOutcome (car_text_of D.digest_of (stamp_of_words did.now rev.now))
         (R.remaining input.old) (W.contents out.old) (W.contents out.new) result }
     ensures reason { HasReason (IsRefusedIn D.digest_of (stamp_of_words did.now rev.now))
@@ -87,8 +84,10 @@ fn write_car<D: Digest, R: Read, W: Write>(
     ensures told { IsErr (stamp_check (stamp_of_words did.now rev.now)) → EndsEarly result }
     ensures unread { IsErr (stamp_check (stamp_of_words did.now rev.now)) → input.new ≡ input.old }
 {
-    let stamp = stamp_of_words(did, rev, alloc)?;
-    car_text(alloc, &stamp, input, out)
+    match stamp_of_words(did, rev, alloc) {
+        Ok(stamp) => car_text(alloc, &stamp, input, out),
+        Err(_) => Err(CommandFault::NoText(TextFault::NoMemory)),
+    }
 }
 
 /// Writes the proof of a key in the repository of the lines, under the program's own stamp.
@@ -97,7 +96,7 @@ fn write_proof<D: Digest, R: Read, W: Write>(
     alloc: Global,
     input: &mut R,
     out: &mut W,
-) -> Result<(), CommandFault<D>>
+) -> Result<(), CommandFault<TextFault<D>>>
     ensures outcome { IsOutcome (prove_text_of D.digest_of own_stamp key.now)
         (R.remaining input.old) (W.contents out.old) (W.contents out.new) result }
     ensures reason { HasReason (IsRefusedIn D.digest_of own_stamp)
@@ -105,12 +104,14 @@ fn write_proof<D: Digest, R: Read, W: Write>(
     ensures told { IsErr (key_check key.now) → EndsEarly result }
     ensures unread { IsErr (key_check key.now) → input.new ≡ input.old }
 {
-    let stamp = stamp_of_words(DID, REV, alloc)?;
-    prove_text(alloc, &stamp, key.as_bytes(), input, out)
+    match stamp_of_words(DID, REV, alloc) {
+        Ok(stamp) => prove_text(alloc, &stamp, key.as_bytes(), input, out),
+        Err(_) => Err(CommandFault::NoText(TextFault::NoMemory)),
+    }
 }
 
 /// The stamp of these words.
-pub(crate) fn stamp_of_words(did: &str, rev: &str, alloc: Global) -> Result<Stamp, AllocError>
+pub fn stamp_of_words(did: &str, rev: &str, alloc: Global) -> Result<Stamp, AllocError>
     ensures { IfOk result (λ stamp. stamp_of stamp ≡ stamp_of_words did.now rev.now) }
 {
     Ok(Stamp {

@@ -1,9 +1,9 @@
 //! What the commands are told on a command line.
-ghost use Rattle.std.specs.Prelude.{◌≡◌, false, [], IfNone, IfOk, IfSome};
+ghost use Rattle.std.specs.Prelude.{◌≡◌, false, IfNone, IfOk, IfSome};
 ghost use Rattle.clap.specs.Words.{app_of, found_of, rows_of, rule_of, shape_of};
 ghost use Rattle.clap.specs.declared.builder.command.Command.TheViews.{out-Command as fields_of};
-ghost use Rattle.repository_commands.specs.Words.{IsNoChange, IsOfWords, IsOtherName, word_or as word_or_of};
-ghost use Rattle.repository_commands.specs.Words.{car_shape, prove_shape, verify_shape, prove_change_shape, verify_change_shape, with_change_commands, with_commands, with_record_commands};
+ghost use Rattle.repository_commands.specs.Words.{IsOfWords, IsOtherName, word_or as word_or_of};
+ghost use Rattle.repository_commands.specs.Words.{car_shape, prove_shape, verify_shape, with_commands};
 ghost use Rattle.repository_commands.specs.Words.{option_rule, required_rule};
 
 use clap::{Arg, ArgMatches, Command};
@@ -31,20 +31,13 @@ pub enum RepositoryCommand<'a> {
         /// The key.
         key: &'a str,
     },
-    /// Write what the batch of the input changes in the repository of the input, and the nodes that show it.
-    ProveChange,
-    /// Write whether the text of the input shows what it tells of a change.
-    VerifyChange,
 }
 
 /// Whose repository it is where no word says so.
-pub(crate) const DID: &str = "did:web:localhost";
+pub const DID: &str = "did:web:localhost";
 
 /// The revision where no word says which: the least of all.
-pub(crate) const REV: &str = "2222222222222";
-
-/// The revision after it.
-pub(crate) const LATER_REV: &str = "2222222222223";
+pub const REV: &str = "2222222222222";
 
 const CAR: &str = "Reads lines KEY HEX and writes their repository as one CAR file";
 
@@ -81,7 +74,8 @@ const VERIFY: &str = "Reads the blocks of a proof and writes what they show of a
 
 const LONG_VERIFY: &str = "\
 Reads blocks from standard input, a line in hexadecimal each, and writes what they show of KEY in the tree whose root's
-CID is ROOT: 'found CID', the CID of its record, or 'absent'. Nothing but ROOT is trusted.
+CID is ROOT: 'found CID', the CID of its record, or 'absent', which is an answer too and ends with 0. Nothing but ROOT is
+trusted.
 
 Exit status: 0 done, 1 a faulty line, root or key, or blocks that show nothing, 2 a wrong command line, 3 no memory,
 4 reading or writing failed.";
@@ -92,59 +86,14 @@ Example:
   $ printf 'a2616580616cf6' | msthost verify $root a/b
   absent";
 
-const PROVE_CHANGE: &str = "Reads a repository and a batch, and writes what changes and its proof";
-
-const LONG_PROVE_CHANGE: &str = "\
-Reads lines KEY HEX from standard input, the records of a repository, then an empty line, and then the writes of one
-batch, lines put KEY HEX and delete KEY. It writes the text of the CID of the tree's root before the batch and that
-after it, a line each, then a line 'change KEY BEFORE AFTER' for each key of the batch, with the CID of its record
-or '-', and then the nodes that show these changes, a line in hexadecimal each.
-
-Exit status: 0 done, 1 a faulty line, 2 a wrong command line, 3 no memory, 4 reading or writing failed.";
-
-const PROVE_CHANGE_EXAMPLE: &str = "\
-Example:
-  $ printf '\\nput a/b a0' | msthost prove-change | sed -n 3p
-  change a/b - bafyreigbtj4x7ip5legnfznufuopl4sg4knzc2cof6duas4b3q2fy6swua";
-
-const VERIFY_CHANGE: &str = "Reads what prove-change writes, and writes whether it is shown";
-
-const LONG_VERIFY_CHANGE: &str = "\
-Reads from standard input what prove-change writes: two roots, changes and nodes. Where the nodes show that by the changes
-the tree with the first root became the one with the second, it writes 'shown'. Nothing but the two roots is trusted.
-
-Exit status: 0 done, 1 a faulty line, or nodes that don't show it, 2 a wrong command line, 3 no memory, 4 reading or
-writing failed.";
-
-const VERIFY_CHANGE_EXAMPLE: &str = "\
-Example:
-  $ printf '\\nput a/b a0' | msthost prove-change | msthost verify-change
-  shown";
-
 /// Adds the commands on one repository to a program's.
 pub fn with_words<'a>(alloc: Global, program: Command<'a>) -> Result<Command<'a>, AllocError>
     ensures { IfOk result (λ r. app_of r ≡ with_commands (app_of program.entry)) }
-{
-    with_change_words(alloc, with_record_words(alloc, program)?)
-}
-
-/// Adds those on records.
-fn with_record_words<'a>(alloc: Global, program: Command<'a>) -> Result<Command<'a>, AllocError>
-    ensures { IfOk result (λ r. app_of r ≡ with_record_commands (app_of program.entry)) }
 {
     program
         .subcommand(car_words(alloc)?)?
         .subcommand(prove_words(alloc)?)?
         .subcommand(verify_words(alloc)?)
-}
-
-/// Adds those on a change.
-fn with_change_words<'a>(alloc: Global, program: Command<'a>) -> Result<Command<'a>, AllocError>
-    ensures { IfOk result (λ r. app_of r ≡ with_change_commands (app_of program.entry)) }
-{
-    program
-        .subcommand(prove_change_words(alloc))?
-        .subcommand(verify_change_words(alloc))
 }
 
 /// The command of this name, with what its words say; or `None` where it is another.
@@ -169,25 +118,11 @@ pub fn command_of<'a>(name: &str, words: &ArgMatches<'a>) -> Option<RepositoryCo
             key: word_or("", words, "key"),
         });
     }
-    change_command_of(name)
-}
-
-/// The command on a change of this name, or `None` where it is another.
-fn change_command_of<'a>(name: &str) -> Option<RepositoryCommand<'a>>
-    ensures command { IfSome result (IsOfWords name.now []) }
-    ensures none { IfNone result (IsNoChange name.now) }
-{
-    if name == "prove-change" {
-        return Some(RepositoryCommand::ProveChange);
-    }
-    if name == "verify-change" {
-        return Some(RepositoryCommand::VerifyChange);
-    }
     None
 }
 
 /// The text of the word with this id, or another text where there is none.
-fn word_or<'a>(other: &'a str, words: &ArgMatches<'a>, id: &str) -> &'a str
+pub fn word_or<'a>(other: &'a str, words: &ArgMatches<'a>, id: &str) -> &'a str
     ensures { result.now ≡ word_or_of other.now (rows_of (found_of words.now)) id.now }
 {
     words.get_str(id).unwrap_or(other)
@@ -199,6 +134,7 @@ fn car_words<'a>(alloc: Global) -> Result<Command<'a>, AllocError>
     ensures local { IfOk result (λ r. (fields_of r).has_globals ≡ false) }
 {
     Command::new(alloc, "car")
+        .override_usage("msthost car [OPTIONS] < FILE")
         .about(CAR)
         .long_about(LONG_CAR)
         .after_help(CAR_EXAMPLE)
@@ -212,6 +148,7 @@ fn prove_words<'a>(alloc: Global) -> Result<Command<'a>, AllocError>
     ensures local { IfOk result (λ r. (fields_of r).has_globals ≡ false) }
 {
     Command::new(alloc, "prove")
+        .override_usage("msthost prove <KEY> < FILE")
         .about(PROVE)
         .long_about(LONG_PROVE)
         .after_help(PROVE_EXAMPLE)
@@ -224,6 +161,7 @@ fn verify_words<'a>(alloc: Global) -> Result<Command<'a>, AllocError>
     ensures local { IfOk result (λ r. (fields_of r).has_globals ≡ false) }
 {
     Command::new(alloc, "verify")
+        .override_usage("msthost verify <ROOT> <KEY> < FILE")
         .about(VERIFY)
         .long_about(LONG_VERIFY)
         .after_help(VERIFY_EXAMPLE)
@@ -234,28 +172,6 @@ fn verify_words<'a>(alloc: Global) -> Result<Command<'a>, AllocError>
             "The text of the CID of the tree's root",
         ))?
         .arg(required(alloc, "key", "KEY", "The key, of 1 to 1,024 bytes"))
-}
-
-/// The words that `prove-change` takes.
-fn prove_change_words<'a>(alloc: Global) -> Command<'a>
-    ensures shape { shape_of result ≡ prove_change_shape }
-    ensures local { (fields_of result).has_globals ≡ false }
-{
-    Command::new(alloc, "prove-change")
-        .about(PROVE_CHANGE)
-        .long_about(LONG_PROVE_CHANGE)
-        .after_help(PROVE_CHANGE_EXAMPLE)
-}
-
-/// The words that `verify-change` takes.
-fn verify_change_words<'a>(alloc: Global) -> Command<'a>
-    ensures shape { shape_of result ≡ verify_change_shape }
-    ensures local { (fields_of result).has_globals ≡ false }
-{
-    Command::new(alloc, "verify-change")
-        .about(VERIFY_CHANGE)
-        .long_about(LONG_VERIFY_CHANGE)
-        .after_help(VERIFY_CHANGE_EXAMPLE)
 }
 
 /// An option that takes a text, and has another one where it is left out.
@@ -271,7 +187,7 @@ fn option<'a>(alloc: Global, id: &'a str, name: &'a str, other: &'a str, help: &
 }
 
 /// A word that must be there.
-fn required<'a>(alloc: Global, id: &'a str, name: &'a str, help: &'a str) -> Arg<'a>
+pub fn required<'a>(alloc: Global, id: &'a str, name: &'a str, help: &'a str) -> Arg<'a>
     ensures rule { rule_of result ≡ required_rule id.entry.now }
     ensures local { result.global ≡ false }
 {

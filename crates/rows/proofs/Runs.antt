@@ -11,6 +11,7 @@ use Rattle.rows.specs.Drafts.{onto, IsDraft, shape_in, is_empty_node}
 use Rattle.rows.specs.Entries.{key_behind, part_of, rows_between}
 use Rattle.rows.specs.OldNodes.{linked, first_rows}
 use Rattle.rows.specs.Begun.{IsBegun}
+use Rattle.rows.specs.Written.{has_rows}
 use Rattle.rows.proofs.Drafting.{Links, turned, unlawful, entry_with, written}
 use Rattle.rows.proofs.Keys.{keys-next, keys-run, keys-relinked}
 
@@ -49,6 +50,10 @@ pub linked-append : (l : Option (List ℕ)) (xs ys : List Entry)
     → linked l (xs ++ ys) ≡ linked l xs ++ linked (gap_at (length xs) l xs) ys
 linked-append l [] ys = refl
 linked-append l (x ∷ xs) ys = ap (λ (zs : Links). row_of l x ∷ zs) (linked-append x.tree xs ys)
+
+pub some-rows : (l : Option (List ℕ)) (es : List Entry) → 0 < length es → true ≡ has_rows (linked l es)
+some-rows l [] some = absurd (omega arith)
+some-rows l (e ∷ es) some = refl
 
 pub key-linked : (b : List ℕ) (l : Option (List ℕ)) (es : List Entry) → key_behind b (linked l es) ≡ last_key b es
 key-linked b l [] = refl

@@ -42,6 +42,10 @@ shape_at link (Some value) r = MoreLinks link (r.before, value) r.rest
 abbrev pub shape_of : Contents → Shape
 shape_of n = shape_from n.left n.entries
 
+-- a reader before the first pair of a node: all of it is left
+abbrev pub unread : Contents → Reading
+unread n = record { before = []; passed = []; start = 0; rest = shape_of n }
+
 -- how many pairs are left
 abbrev pub pairs_left : Shape → ℕ
 pairs_left (LastLink l) = 0

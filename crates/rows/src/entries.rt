@@ -3,7 +3,7 @@
 ghost use Rattle.std.specs.Prelude.{◌≡◌, ◌≤◌, ◌+◌, ◌∷◌, ◌++◌, [], length, option_map, IfNone, IfSome};
 ghost use Rattle.spec.specs.NodeFormat.{LastLink, MoreLinks, first_link};
 ghost use Rattle.cid.specs.CidRef.{bytes_of};
-ghost use Rattle.rows.specs.Entries.{AreGapsOf, key_behind, shape_of};
+ghost use Rattle.rows.specs.Entries.{AreGapsOf, key_behind, unread};
 
 use cid::{Cid, CidRef};
 use node::{Gap, KeyBuf, NodeView};
@@ -42,7 +42,7 @@ impl<'a, A: Allocator> Model for KeyedEntries<'a, A> {
 impl<'a, A: Allocator> KeyedEntries<'a, A> {
     /// All of a node. The room for its keys is taken over, whatever key it has.
     pub fn of(view: &NodeView<'a>, key: KeyBuf<A>) -> KeyedEntries<'a, A>
-        ensures { result ≡ record { before = []; passed = []; start = 0; rest = shape_of view.now } }
+        ensures { result ≡ unread view.now }
     {
         let mut key = key;
         key.reset();

@@ -9,7 +9,7 @@ ghost use Rattle.edit_laws.specs.Lawful.{HasKeys};
 ghost use Rattle.rows.specs.Drafts.{onto, IsFaultOf, IsFaultOfAll, pair_of, IsNode};
 ghost use Rattle.rows.specs.Entries.{part_of, key_behind, rows_between};
 ghost use Rattle.rows.specs.OldNodes.{linked};
-ghost use Rattle.rows.specs.Written.{rows_in};
+ghost use Rattle.rows.specs.Written.{has_rows, rows_in};
 
 use crate::draft::{Draft, DraftFault};
 use crate::entries::{KeyedEntries, to_cid};
@@ -55,6 +55,16 @@ impl<'a, A: Allocator + Clone> Writer<'a, A> {
         Writer {
             alloc,
             rows: Rows::Nothing,
+        }
+    }
+
+    /// Whether it has a pair.
+    pub fn has_pairs(&self) -> bool
+        ensures { result ≡ has_rows self.now }
+    {
+        match &self.rows {
+            Rows::Nothing => false,
+            Rows::Open(node) => node.has_pairs(),
         }
     }
 
@@ -275,6 +285,14 @@ impl<'a, A: Allocator + Clone> OpenNode<'a, A> {
         })
     }
 
+    /// It has a pair.
+    fn has_pairs(&self) -> bool
+        ensures { result ≡ has_rows self.now }
+    {
+        let _ = &self.written;
+        true
+    }
+
     /// Its keys have 1 to 1,024 bytes and ascend. This is a statement for proofs alone: it does nothing.
     fn has_keys(&self)
         ensures { HasKeys (onto self.now (LastLink None)) }
@@ -350,17 +368,10 @@ fn is_same(link: &Option<Cid>, lent: Option<CidRef<'_>>) -> bool
     match lent {
         None => link.is_none(),
         Some(lent) => match link {
-            Some(link) => is_same_cid(CidRef::from(link), lent),
+            Some(link) => CidRef::from(link).is_same(lent),
             None => false,
         },
     }
-}
-
-/// Whether two CIDs are the same. Most that aren't differ in their last byte.
-fn is_same_cid(one: CidRef<'_>, other: CidRef<'_>) -> bool
-    ensures { result ≡ true → bytes_of one.entry ≡ bytes_of other.entry }
-{
-    one.as_bytes()[35] == other.as_bytes()[35] && one == other
 }
 
 /// Whether two keys are the same.

@@ -9,7 +9,7 @@ use Rattle.spec.specs.Stamps.{Stamped}
 use Rattle.spec.specs.States.{State, IsLawful}
 use Rattle.store.specs.Table.{Table}
 use Rattle.closing.specs.Headline.{AreTallies, IsFromScratch}
-use Rattle.script_text.specs.Report.{repository_line}
+use Rattle.run_command.specs.Report.{repository_line}
 use Rattle.run_command.specs.Reports.{IsShown, ShownView, shown_line, shown_lines}
 
 -- a line more at the end

@@ -5,11 +5,11 @@ use Rattle.std.specs.Io.KnownBytes.{Appends, Keeps}
 use Rattle.spec.specs.Stamps.{is_did}
 use Rattle.console.specs.Written.{AppendsBeginning}
 use Rattle.scripts.specs.declared.script.Line.{Line}
-use Rattle.script_text.specs.Script.{script_in}
-use Rattle.script_text.specs.Views.{view_of_lines}
+use Rattle.run_command.specs.Script.{script_in}
+use Rattle.run_command.specs.Views.{view_of_lines}
 use Rattle.console.specs.declared.writing.WriteFault.{WriteFault}
 use Rattle.console.specs.declared.writing.WriteFault.TheVariants as writes
-use Rattle.run_command.specs.Faults.{fault_of, may_have_written, of_write, status_of}
+use Rattle.run_command.specs.Faults.{run_fault_of, may_have_written, of_write, status_of}
 use Rattle.run_command.specs.Reports.{IsReport}
 use Rattle.std.proofs.lemmas.List.{append-nil}
 use Rattle.run_command.specs.Outcomes.{IsFaulty, IsOutcome, IsStatusOf, IsStatusAfter, Reports, ReportsBeginning}
@@ -23,7 +23,7 @@ err_is (Err e) x h = ap Err h
 
 -- what a failed write is called says nothing of the script
 abbrev IsWriteFault : RunFault → Type 0
-IsWriteFault e = (fault_of e ≡ None) × (may_have_written e ≡ true) × (e ≡ errors.BadDid → ⊥) × (e ≡ errors.Uneven → ⊥)
+IsWriteFault e = (run_fault_of e ≡ None) × (may_have_written e ≡ true) × (e ≡ errors.BadDid → ⊥) × (e ≡ errors.Uneven → ⊥)
 
 is_write_fault : (f : WriteFault) → IsWriteFault (of_write f)
 is_write_fault writes.NoMemory = (refl, refl, (λ e. absurd cc), (λ e. absurd cc))

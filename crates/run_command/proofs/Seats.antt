@@ -8,7 +8,7 @@ use Rattle.std.proofs.lemmas.List.FromFn.{length-range_with_len}
 use Rattle.spec.specs.States.{State}
 use Rattle.store.specs.Table.{Table}
 use Rattle.notices.specs.Views.{QueueId, fresh, fresh_passes}
-use Rattle.closing.specs.Ending.{EndedView}
+use Rattle.ended.specs.Ending.{EndedView}
 use Rattle.closing.specs.Settling.{IsSettled, IsUneven}
 use Rattle.closing.specs.declared.mismatch.Mismatch.{Mismatch}
 use Rattle.host.specs.Views.{HostView, SeatView, IsSeatOf, fresh_seat, fresh_seats}

@@ -4,19 +4,19 @@ use Rattle.console.specs.declared.reading.ReadFault.{ReadFault}
 use Rattle.console.specs.declared.reading.ReadFault.TheVariants as reads
 use Rattle.console.specs.declared.writing.WriteFault.{WriteFault}
 use Rattle.console.specs.declared.writing.WriteFault.TheVariants as writes
-use Rattle.script_text.specs.declared.script.ScriptFault.{ScriptFault}
-use Rattle.script_text.specs.declared.script.ScriptFault.TheVariants as scripts
+use Rattle.run_command.specs.declared.script.lines.ScriptFault.{ScriptFault}
+use Rattle.run_command.specs.declared.script.lines.ScriptFault.TheVariants as scripts
 use Rattle.run_command.specs.declared.fault.RunFault.{RunFault}
 use Rattle.run_command.specs.declared.fault.RunFault.TheVariants as errors
 
 -- the faulty line, for which there is no script
-abbrev pub fault_of : RunFault → Option ℕ
-fault_of (errors.BadScript number) = Some number
-fault_of errors.BadDid = None
-fault_of errors.Uneven = None
-fault_of errors.NoMemory = None
-fault_of errors.ReadFailed = None
-fault_of errors.WriteFailed = None
+abbrev pub run_fault_of : RunFault → Option ℕ
+run_fault_of (errors.BadScript number) = Some number
+run_fault_of errors.BadDid = None
+run_fault_of errors.Uneven = None
+run_fault_of errors.NoMemory = None
+run_fault_of errors.ReadFailed = None
+run_fault_of errors.WriteFailed = None
 
 -- whether some of the report may have been written
 abbrev pub may_have_written : RunFault → Bool

@@ -1,3 +1,6 @@
+pub mod Script
+pub mod Views
+pub mod Report
 pub mod Reports
 pub mod Draining
 pub mod Faults

@@ -5,9 +5,9 @@ use Rattle.spec.specs.Reading.{Fails}
 use Rattle.spec.specs.Stamps.{is_did}
 use Rattle.console.specs.Written.{AppendsBeginning}
 use Rattle.scripts.specs.declared.script.Line.{Line}
-use Rattle.script_text.specs.Script.{script_in}
-use Rattle.script_text.specs.Views.{view_of_lines}
-use Rattle.run_command.specs.Faults.{fault_of, is_of_run, may_have_written, status_of}
+use Rattle.run_command.specs.Script.{script_in}
+use Rattle.run_command.specs.Views.{view_of_lines}
+use Rattle.run_command.specs.Faults.{run_fault_of, is_of_run, may_have_written, status_of}
 use Rattle.run_command.specs.Reports.{IsReport, IsUnclosed}
 use Rattle.run_command.specs.declared.fault.RunFault.{RunFault}
 use Rattle.run_command.specs.declared.fault.RunFault.TheVariants as errors
@@ -44,7 +44,7 @@ ReportsBeginning D digest s did old new input = (text : List ℕ)
 pub record IsOutcome (D : Type 0) (digest : List ℕ → List ℕ) (s : Settings) (did : List ℕ)
     (input old new : Option (List ℕ)) (result : Result (Unit {0}) RunFault) : Type 0 where
   pub written : OnOk result (IfSome input (Reports D digest s did old new))
-  pub fault : IfErr result (λ e. IfSome input (λ xs. Fails (fault_of e) (script_in s.workers did xs)))
+  pub fault : IfErr result (λ e. IfSome input (λ xs. Fails (run_fault_of e) (script_in s.workers did xs)))
   pub run_failed : IfErr result (λ e. is_of_run e ≡ true
       → IfSome input (λ xs. is_ok (script_in s.workers did xs) ≡ true))
   pub uneven : result ≡ Err errors.Uneven → IfSome input (IsUnclosedOn D digest s did)

@@ -9,14 +9,14 @@ use Rattle.store.specs.Table.{Table}
 use Rattle.closing.specs.Tally.{count}
 use Rattle.closing.specs.Counts.{count_in, positive}
 use Rattle.closing.specs.Headline.{IsFromScratch, AreTallies}
-use Rattle.closing.specs.Ending.{EndedView, told_by}
+use Rattle.ended.specs.Ending.{EndedView, told_by}
 use Rattle.closing.specs.Settling.{IsSettled, IsUneven}
 use Rattle.closing.specs.declared.mismatch.Mismatch.{Mismatch}
 use Rattle.host.specs.Views.{HostView, fresh_seats}
 use Rattle.scripts.specs.Scripts.{AreDone}
 use Rattle.scripts.specs.declared.script.Line.{Line}
 use Rattle.scripts.specs.declared.script.Answer.{Answer}
-use Rattle.script_text.specs.Report.{answer_lines, repository_line, block_lines, notice_lines}
+use Rattle.run_command.specs.Report.{answer_lines, repository_line, block_lines, notice_lines}
 use Rattle.run_command.specs.declared.settings.Settings.{Settings}
 
 -- ---- what is shown of a host that has closed

@@ -1,5 +1,5 @@
 //! The notices that a closed host's queue was left with.
-ghost use Rattle.std.specs.Prelude.{◌≡◌, ◌++◌, IfOk, OnOk};
+ghost use Rattle.std.specs.Prelude.{IfOk, OnOk};
 ghost use Rattle.closing.specs.Settling.{IsAllTold};
 ghost use Rattle.run_command.specs.Draining.{IsDrained};
 

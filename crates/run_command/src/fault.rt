@@ -3,8 +3,8 @@ ghost use Rattle.std.specs.Prelude.{◌≡◌, ◌≤◌};
 ghost use Rattle.run_command.specs.Faults.{of_read, of_script, of_write, status_of};
 ghost use Rattle.run_command.specs.declared.fault.RunFault.TheVariants as errors;
 
+use crate::script::ScriptFault;
 use console::{Decimal, FAULTY, IO_FAILED, NO_MEMORY, ReadFault, WriteFault};
-use script_text::ScriptFault;
 use std::alloc::AllocError;
 use thiserror::Error;
 

@@ -8,6 +8,7 @@ use crate::report::report_of;
 use crate::settings::Settings;
 use cid::Digest;
 use host::{Host, Opened};
+use host_close::close;
 use scripts::{Line, OpenGate, Report, run_script};
 use std::alloc::Global;
 use std::sync::Wait;
@@ -30,13 +31,13 @@ pub(crate) fn report_of_lines<D: Digest + Send + Sync, T: Threads + Wait + Sync>
         → IsUnclosed D D.digest_of settings.now lines.now }
     ensures kind { IfErr result IsOfHost }
 {
-    let Ok(opened) = Host::<D, 2>::open_keyed(rt, alloc, settings.limits(), key) else {
+    let Ok(opened) = Host::<D, 2>::open(rt, alloc, settings.limits(), key) else {
         // all limits are in their ranges, so memory was refused
         return Err(RunFault::NoMemory);
     };
     let Opened { host, seats, feed } = opened;
     let Report { answers, ended } = run_script(rt, alloc, &host, seats, &OpenGate, lines)?;
-    match host.close(ended, feed) {
+    match close(host, ended, feed) {
         Ok(mut closed) => {
             let text = report_of(rt, alloc, settings, lines, &answers, &mut closed)?;
             Ok(text)

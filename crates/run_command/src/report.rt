@@ -5,11 +5,11 @@ ghost use Rattle.closing.specs.Settling.{IsAllTold};
 ghost use Rattle.run_command.specs.Reports.{AddsCounts, AddsShown, IsTextOf, told_lines, told_lines_of};
 
 use crate::drained::drained;
+use crate::script::{push_answers, push_blocks, push_notices, push_notices_of, push_repository};
 use crate::settings::Settings;
 use cid::Digest;
 use closing::Closed;
 use notices::Notice;
-use script_text::{push_answers, push_blocks, push_notices, push_notices_of, push_repository};
 use scripts::{Answer, Line};
 use std::alloc::{AllocError, Global};
 use std::sync::Wait;

@@ -2,18 +2,18 @@
 ghost use Rattle.std.specs.Prelude.{◌≡◌, ◌<◌, true, false, Err, All, IfErr, IfOk, IfSome, OnOk};
 ghost use Rattle.spec.specs.Reading.{Gives};
 ghost use Rattle.spec.specs.Stamps.{is_did as is_did_of};
-ghost use Rattle.script_text.specs.Script.{script_in};
-ghost use Rattle.script_text.specs.Views.{view_of_lines};
-ghost use Rattle.run_command.specs.Faults.{fault_of, IsOfScript};
+ghost use Rattle.run_command.specs.Script.{script_in};
+ghost use Rattle.run_command.specs.Views.{view_of_lines};
+ghost use Rattle.run_command.specs.Faults.{run_fault_of, IsOfScript};
 ghost use Rattle.run_command.specs.Outcomes.{IsOutcome};
 
 use crate::fault::RunFault;
 use crate::hosting::report_of_lines;
+use crate::script::script_of;
 use crate::settings::Settings;
 use batches::is_did;
 use cid::Digest;
 use console::{read_all, write_whole};
-use script_text::script_of;
 use scripts::Line;
 use std::alloc::Global;
 use std::io::{Read, Write};
@@ -101,7 +101,7 @@ fn read_script<R: Read>(
     input: &mut R,
 ) -> Result<Vec<Line>, RunFault>
     ensures script { IfSome (R.remaining input.old) (λ xs. Gives
-        (λ lines. view_of_lines lines.items) fault_of result
+        (λ lines. view_of_lines lines.items) run_fault_of result
         (script_in settings.now.workers did.now xs)) }
     ensures workers { IfOk result (λ lines.
         All (λ l. l.worker < settings.now.workers) lines.items) }

@@ -34,7 +34,7 @@ have them, and the notices that each worker told, in their order.
 
 A line is WORKER REPO REV WRITE, or WORKER REPO REV WRITE ; WRITE .. for a batch, or WORKER REPO get KEY. A WRITE is
 put KEY HEX, create KEY HEX, update KEY HEX or delete KEY, with a record in hexadecimal: one DAG-CBOR map. One space
-stands between two words, and empty lines are passed over.
+stands between two words, and empty lines are passed over. That a call is refused is an answer: the status is 0.
 
 Exit status: 0 done, 1 a faulty line or DID, or a host that doesn't close, 2 a wrong command line, 3 no memory,
 4 reading or writing failed.";
@@ -62,6 +62,7 @@ fn words<'a>(alloc: Global) -> Result<Command<'a>, AllocError>
     let workers = value_parser!(u32).range(1..=64);
     let queue = value_parser!(u32).range(1..=65536);
     Command::new(alloc, "run")
+        .override_usage("msthost run [OPTIONS] < FILE")
         .about(ABOUT)
         .long_about(LONG_ABOUT)
         .after_help(EXAMPLE)

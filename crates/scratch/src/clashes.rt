@@ -1,6 +1,6 @@
 //! Blocks with one CID and different bytes.
 
-ghost use Rattle.std.specs.Prelude.{◌≡◌, map, IfOk, MatchOption};
+ghost use Rattle.std.specs.Prelude.{map, IfOk, MatchOption};
 ghost use Rattle.std.specs.Arc.{arc_value};
 ghost use Rattle.spec.specs.Blocks.{IsClashFree, IsClashIn};
 ghost use Rattle.scratch.specs.Faults.{AreClashing};

@@ -1,6 +1,6 @@
 //! Sorted pairs with the layers of their keys, and their taking from the front.
 
-ghost use Rattle.std.specs.Prelude.{◌≡◌, ◌≤◌, ℕ, List, map, IfOk};
+ghost use Rattle.std.specs.Prelude.{◌≡◌, ◌≤◌, map, IfOk};
 ghost use Rattle.spec.specs.Layer.{layer as layer_of};
 ghost use Rattle.spec.specs.Tree.{top_layer as top_layer_of};
 ghost use Rattle.scratch.specs.Pairs.{pairs_of};

@@ -6,11 +6,13 @@ ghost use Rattle.host.specs.Views.{IsSeatOf};
 use cid::digests::Toy;
 use closing::Closed;
 use host::{Host, Limits, Opened};
+use host_close::close;
 use scripts::{Answer, Gate, Line, Report, have_workers, run_script};
 use std::alloc::Global;
 use std::process::Abort;
 use std::sync::Wait;
 use std::thread::Threads;
+use store::TableKey;
 
 /// So many repositories and writers, and a queue with this room.
 pub(crate) fn limits(repos: u32, writers: u32, queue: usize) -> Limits {
@@ -30,7 +32,7 @@ pub(crate) fn open<R: Wait + Abort>(rt: &R, alloc: Global, limits: Limits) -> Op
     ensures feed { result.feed.queue_id ≡ result.host.queue.queue_id }
     ensures fresh { result.feed.joined ≡ [] }
 {
-    match Host::<Toy, 2>::open(rt, alloc, limits) {
+    match Host::<Toy, 2>::open(rt, alloc, limits, TableKey::known()) {
         Ok(opened) => opened,
         Err(_) => panic!(rt; "no host"),
     }
@@ -58,7 +60,7 @@ pub(crate) fn run<G: Gate, R: Threads + Wait + Abort + Sync>(
     }
     let report = run_script(rt, alloc, &host, seats, gate, lines).expect(rt, "a report");
     let Report { answers, ended } = report;
-    match host.close(ended, feed) {
+    match close(host, ended, feed) {
         Ok(closed) => Ran { answers, closed },
         Err(_) => panic!(rt; "it doesn't close"),
     }

@@ -3,8 +3,10 @@
 use batches::{Stamp, Write};
 use cid::{Cid, Sha256};
 use host::{Host, Limits, Opened};
+use host_close::close;
 use scripts::{Answer, Call, Line, OpenGate, have_workers, run_script};
 use std::alloc::{AllocError, Global};
+use store::TableKey;
 
 /// The key of a post, and its record in DAG-CBOR.
 const KEY: &[u8] = b"app.bsky.feed.post/3jzfcijpj2z2a";
@@ -69,7 +71,7 @@ fn three_lines_by_two_workers(rt: HostRuntime) {
         shard_blocks: 1000,
         repo_writes: 1000,
     };
-    let Ok(opened) = Host::<Sha256, 2>::open(&rt, alloc, limits) else {
+    let Ok(opened) = Host::<Sha256, 2>::open(&rt, alloc, limits, TableKey::known()) else {
         panic!(&rt; "no host");
     };
     let Opened { host, seats, feed } = opened;
@@ -82,7 +84,7 @@ fn three_lines_by_two_workers(rt: HostRuntime) {
     assert!(&rt; are_right(&report.answers));
 
     // The writers have ended, so that the host closes.
-    let count = match host.close(report.ended, feed) {
+    let count = match close(host, report.ended, feed) {
         Ok(closed) => closed.count(&Cid::of::<Sha256>(RECORD)),
         Err(_) => 0,
     };

@@ -1,14 +1,16 @@
 //! Two workers of 1,000 accepted calls and one that takes their notices, on three threads.
 
-ghost use Rattle.std.specs.Prelude.{◌≡◌, IfOk, All, length, [], ◌<◌};
-ghost use Rattle.closing.specs.Ending.{IsEndedAt};
+ghost use Rattle.std.specs.Prelude.{◌≡◌, IfOk, All, length, ◌<◌};
+ghost use Rattle.ended.specs.Ending.{IsEndedAt};
 ghost use Rattle.host.specs.Views.{IsSeatOf};
 
 use crate::closes::{limits, open};
 use crate::tables::{Doing, line_of};
 use cid::digests::Toy;
-use closing::{Closed, Feed};
+use closing::Closed;
+use ended::Feed;
 use host::{Host, Opened, Seat};
+use host_close::close;
 use notices::Notice;
 use repo_fixtures::batch::Step::Put;
 use repo_fixtures::batch::{ONE, TWO};
@@ -150,7 +152,7 @@ fn are_all_told<R: Threads + Wait + Abort + Sync>(
         { take_all(rt, lent, feed, is_done) },
     );
     let Report { answers: _, ended } = report.expect(rt, "a report");
-    match host.close(ended, feed) {
+    match close(host, ended, feed) {
         Ok(closed) => count_rest(rt, closed, &mut counted),
         Err(_) => return false,
     }

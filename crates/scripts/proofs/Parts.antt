@@ -4,7 +4,7 @@ use Rattle.std.proofs.lemmas.List.{length-map}
 use Rattle.std.proofs.lemmas.List.{get_or-map as get_or_map}
 use Rattle.std.proofs.Math.ListN.{get_or-map}
 use Rattle.std.specs.declared.collections.VecDeque.{VecDeque}
-use Rattle.closing.specs.Ending.{EndedView, IsEndedAt}
+use Rattle.ended.specs.Ending.{EndedView, IsEndedAt}
 use Rattle.host.specs.Views.{HostView, SeatView, IsSeatOf, beginning}
 use Rattle.scripts.specs.Merging.{AreEnough, AreOwn, own_lines, own_answers}
 use Rattle.scripts.specs.Working.{IsDone, IsWork}

@@ -2,7 +2,7 @@
 use Rattle.std.proofs.Common.{Bool, ◌≡◌, ◌≢◌, ◌<◌, ◌==◌, ℕ, ◌+◌, List, [], ◌∷◌, ◌++◌, length, take, get_or, refl, ap, sym, ◌∙◌, subst, arith, cond, true, false, append-nil}
 use Rattle.std.proofs.lemmas.Bool.Decides.{nat_tests}
 use Rattle.std.proofs.lemmas.List.Elements.{filter_more}
-use Rattle.closing.specs.Ending.{EndedView}
+use Rattle.ended.specs.Ending.{EndedView}
 use Rattle.host.specs.Views.{HostView, SeatView, WriterView, beginning, ended_of}
 use Rattle.scripts.specs.Calls.{IsCall}
 use Rattle.scripts.specs.Merging.{own_lines}

@@ -1,6 +1,6 @@
 -- What all workers of a script did.
 use Rattle.std.specs.Prelude.{◌≡◌, ◌<◌, ℕ, List, length, All, IfOk, slice_index_or, Result}
-use Rattle.closing.specs.Ending.{EndedView, IsEndedAt}
+use Rattle.ended.specs.Ending.{EndedView, IsEndedAt}
 use Rattle.host.specs.Views.{HostView, SeatView}
 use Rattle.scripts.specs.Merging.{own_lines, own_answers}
 use Rattle.scripts.specs.Working.{IsDone, IsWork}

@@ -1,6 +1,6 @@
 -- What one worker did.
 use Rattle.std.specs.Prelude.{◌≡◌, ℕ, List, [], ◌∷◌}
-use Rattle.closing.specs.Ending.{EndedView}
+use Rattle.ended.specs.Ending.{EndedView}
 use Rattle.host.specs.Views.{HostView, SeatView, WriterView, beginning, ended_of}
 use Rattle.scripts.specs.Calls.{IsCall}
 use Rattle.scripts.specs.Merging.{own_lines}

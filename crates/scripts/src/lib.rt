@@ -8,7 +8,7 @@
 //! - [`run_script`] takes the seats of a host. The worker of each seat does its own lines in their order. Lines of different workers
 //!   are done in any order, or at the same time.
 //! - The [`Report`] has an [`Answer`] for each line, in the order of the lines, and each writer as it ended, which is what
-//!   `Host::close` wants.
+//!   `host_close::close` wants.
 //! - A [`Gate`] is called before and after each line, by the thread that does it: a test makes threads wait for each other there.
 //!   [`OpenGate`] is the one that nobody waits at.
 //!
@@ -23,8 +23,10 @@
 //! use batches::{Stamp, Write};
 //! use cid::{Cid, Sha256};
 //! use host::{Host, Limits, Opened};
+//! use host_close::close;
 //! use scripts::{Answer, Call, Line, OpenGate, have_workers, run_script};
 //! use std::alloc::{AllocError, Global};
+//! use store::TableKey;
 //!
 //! /// The key of a post, and its record in DAG-CBOR.
 //! const KEY: &[u8] = b"app.bsky.feed.post/3jzfcijpj2z2a";
@@ -88,7 +90,7 @@
 //!         shard_blocks: 1000,
 //!         repo_writes: 1000,
 //!     };
-//!     let Ok(opened) = Host::<Sha256, 2>::open(&rt, alloc, limits) else {
+//!     let Ok(opened) = Host::<Sha256, 2>::open(&rt, alloc, limits, TableKey::known()) else {
 //!         panic!(&rt; "no host");
 //!     };
 //!     let Opened { host, seats, feed } = opened;
@@ -101,7 +103,7 @@
 //!     assert!(&rt; are_right(&report.answers));
 //!
 //!     // The writers have ended, so that the host closes.
-//!     let count = match host.close(report.ended, feed) {
+//!     let count = match close(host, report.ended, feed) {
 //!         Ok(closed) => closed.count(&Cid::of::<Sha256>(RECORD)),
 //!         Err(_) => 0,
 //!     };

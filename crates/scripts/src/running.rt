@@ -1,7 +1,7 @@
 //! A whole script, each worker in a thread of its own.
 
 ghost use Rattle.std.specs.Prelude.{◌≡◌, ◌<◌, length, map, All, IfOk, Ok};
-ghost use Rattle.closing.specs.Ending.{IsEndedAt};
+ghost use Rattle.ended.specs.Ending.{IsEndedAt};
 ghost use Rattle.host.specs.Views.{IsSeatOf};
 ghost use Rattle.scripts.specs.Working.{IsWork};
 ghost use Rattle.scripts.specs.Scripts.{AreByPlace, AreDone, AreEachDone, AreEachEnded};
@@ -11,7 +11,7 @@ use crate::merging::in_order;
 use crate::script::{Answer, Line, Report};
 use crate::working::{Done, work};
 use cid::Digest;
-use closing::Ended;
+use ended::Ended;
 use host::{Host, Seat};
 use std::alloc::{AllocError, Global};
 use std::collections::VecDeque;

@@ -4,7 +4,7 @@ ghost use Rattle.std.specs.Prelude.{◌<◌, ◌↔◌, All, IsTrue};
 
 use batches::{Stamp, Write};
 use cid::Digest;
-use closing::Ended;
+use ended::Ended;
 use host::HostFault;
 use notices::Notice;
 

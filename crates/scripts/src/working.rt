@@ -1,7 +1,7 @@
 //! What one worker does: its own lines, in their order.
 
 ghost use Rattle.std.specs.Prelude.{◌≡◌, IfOk};
-ghost use Rattle.closing.specs.Ending.{IsEndedAt};
+ghost use Rattle.ended.specs.Ending.{IsEndedAt};
 ghost use Rattle.host.specs.Views.{IsSeatOf};
 ghost use Rattle.scripts.specs.Calls.{IsCall};
 ghost use Rattle.scripts.specs.Working.{IsWork};
@@ -9,7 +9,7 @@ ghost use Rattle.scripts.specs.Working.{IsWork};
 use crate::gate::Gate;
 use crate::script::{Answer, Call, Line};
 use cid::Digest;
-use closing::Ended;
+use ended::Ended;
 use host::{Host, Seat, Writer};
 use std::alloc::{AllocError, Global};
 use std::collections::VecDeque;

@@ -24,6 +24,8 @@ pub mod Once
 pub mod PathPlace
 pub mod PathNodes
 pub mod VerifyLaws
+-- Files of blocks.
+pub mod CarLaws
 -- Writes.
 pub mod WriteLaws
 pub mod BatchLaws

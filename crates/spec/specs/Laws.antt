@@ -11,5 +11,7 @@ pub mod Once
 pub mod Writes
 pub mod Blocks
 pub mod Commits
+pub mod SignedCommits
+pub mod Exports
 pub mod States
 pub mod Verifier

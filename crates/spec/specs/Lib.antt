@@ -8,11 +8,15 @@ pub mod Layer
 pub mod Tree
 pub mod NodeFormat
 pub mod Blocks
+pub mod Sources
 pub mod Car
+pub mod CarReading
 pub mod Proof
 pub mod Keys
 pub mod Writes
 pub mod Stamps
 pub mod Commits
+pub mod SignedCommits
+pub mod Exports
 pub mod States
 pub mod Laws

@@ -12,8 +12,9 @@ use Rattle.std.specs.FinSet as set
 use Rattle.std.specs.declared.sync.Arc.{Arc}
 use Rattle.spec.specs.Cid.{cid as cid_of}
 use Rattle.store.specs.Faults.{IsRefusal, IsRefusalBeside}
-use Rattle.store.specs.Table.{Table, Held, entered, entry_at, left, left_entry, shard_of, IsLawful}
-use Rattle.store.specs.Shards.{AreEmpty, AreShardsOf, HasFullShard, HasOwnBlocks, IsMadeIn, empty_shard, no_table, own_shard, table_at}
+use Rattle.store.specs.Keys.{Key}
+use Rattle.store.specs.Table.{Table, Held, empty_table, entered, entry_at, left, left_entry, shard_of, IsLawful}
+use Rattle.store.specs.Shards.{AreEmpty, AreShardsOf, HasFullShard, HasOwnBlocks, IsMadeIn, no_table, own_shard, table_at}
 use Rattle.store.specs.Stores.{IsAnswer}
 use Rattle.store.specs.declared.fault.StoreFault.{StoreFault}
 use Rattle.store.specs.declared.fault.StoreFault.TheVariants.{Full}
@@ -21,8 +22,8 @@ use Rattle.store.proofs.Tables.{same}
 
 -- ---- empty shards
 
-pub none_own : (place limit : ℕ) → HasOwnBlocks place (empty_shard limit)
-none_own place limit q e h = absurd (let never : None ≡ Some e = sym (map.get-empty (slice_cmp nat_cmp) q) ∙ h in cc)
+pub none_own : (place limit : ℕ) (key : Key) → HasOwnBlocks place (empty_table limit key)
+none_own place limit key q e h = absurd (let never : None ≡ Some e = sym (map.get-empty (slice_cmp nat_cmp) q) ∙ h in cc)
 
 -- a property of each shard that is there, and of none
 everywhere : (P : ℕ → Table → Type 0) (ts : List Table) → length ts ≡ 16 → ((place : ℕ) → P place no_table)
@@ -38,8 +39,8 @@ everywhere P ts sixteen none some place = from (λ k. P k) ts place none (λ h. 
 pub all_empty : (limit : ℕ) (ts : List Table) → length ts ≡ 16 → AreEmpty limit ts → AreShardsOf limit ts
 all_empty limit ts sixteen empty = record {
   limits = λ place h. ap (λ t. t.limit) (empty place h);
-  own = everywhere HasOwnBlocks ts sixteen (λ place. none_own place 0)
-      (λ place h. subst (HasOwnBlocks place) (sym (empty place h)) (none_own place limit));
+  own = everywhere HasOwnBlocks ts sixteen (λ place. none_own place 0 no_table.key)
+      (λ place h. subst (HasOwnBlocks place) (sym (empty place h)) (none_own place limit (table_at ts place).key));
 }
 
 -- ---- a shard that changes in its place
@@ -85,7 +86,7 @@ module _ (place : ℕ) (t : Table) (k : List ℕ) (own : HasOwnBlocks place t) (
   own_put_at v q e Equal tied h = ap shard_of (same q k tied) ∙ here
   own_put_at v q e Greater tied h = own q e h
 
-  own_put : (v : Held) → HasOwnBlocks place (record { entries = map.insert t.entries k v; limit = t.limit })
+  own_put : (v : Held) → HasOwnBlocks place (record t { entries = map.insert t.entries k v })
   own_put v = λ q e h. own_put_at v q e (slice_cmp nat_cmp q k) refl (sym (map.get-insert nat_list_cmp_total t.entries k v q) ∙ h)
 
   own_cut_at : (q : List ℕ) (e : Held) (r : Ordering) → cond (is_eq r) None (entry_at t q) ≡ Some e → shard_of q ≡ place
@@ -93,15 +94,15 @@ module _ (place : ℕ) (t : Table) (k : List ℕ) (own : HasOwnBlocks place t) (
   own_cut_at q e Equal h = absurd cc
   own_cut_at q e Greater h = own q e h
 
-  own_cut : HasOwnBlocks place (record { entries = map.remove t.entries k; limit = t.limit })
+  own_cut : HasOwnBlocks place (record t { entries = map.remove t.entries k })
   own_cut = λ q e h. own_cut_at q e (slice_cmp nat_cmp q k) (sym (map.get-remove nat_list_cmp_total t.entries k q) ∙ h)
 
   own_left_entry : (core : ℕ) (o : Option Held) → HasOwnBlocks place (left_entry t k core o)
   own_left_entry core None = own
   own_left_entry core (Some e) = either (set.len (set.remove e.1 core) == 0)
     where
-      either : (b : Bool) → HasOwnBlocks place (cond {A = Table} b (record { entries = map.remove t.entries k; limit = t.limit })
-          (record { entries = map.insert t.entries k (e.0, set.remove e.1 core); limit = t.limit }))
+      either : (b : Bool) → HasOwnBlocks place (cond {A = Table} b (record t { entries = map.remove t.entries k })
+          (record t { entries = map.insert t.entries k (e.0, set.remove e.1 core) }))
       either true = own_cut
       either false = own_put (e.0, set.remove e.1 core)
 
@@ -109,8 +110,8 @@ left_limit : (t : Table) (k : List ℕ) (core : ℕ) (o : Option Held) → (left
 left_limit t k core None = refl
 left_limit t k core (Some e) = either (set.len (set.remove e.1 core) == 0)
   where
-    either : (b : Bool) → (cond {A = Table} b (record { entries = map.remove t.entries k; limit = t.limit })
-        (record { entries = map.insert t.entries k (e.0, set.remove e.1 core); limit = t.limit })).limit ≡ t.limit
+    either : (b : Bool) → (cond {A = Table} b (record t { entries = map.remove t.entries k })
+        (record t { entries = map.insert t.entries k (e.0, set.remove e.1 core) })).limit ≡ t.limit
     either true = refl
     either false = refl
 

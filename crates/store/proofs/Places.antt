@@ -21,8 +21,9 @@ use Rattle.slab.specs.Slab.{ContainsKey, HasRoomFor, Updates, SameValues, get, s
 use Rattle.slab.proofs.SlabLemmas.{Updates-with_value}
 use Rattle.store.specs.Cores.{IsSetOfMore}
 use Rattle.store.specs.Places.{Sets, Slots, Stored, cores_in, held_in, held_of, key_at, key_of, key_of_entry, set_or_none, HasMore, HaveTheirSets, IsMoved, IsSound, StaysAt}
-use Rattle.store.specs.declared.shard.holders.Holders.{Holders}
-use Rattle.store.specs.declared.shard.holders.Holders.TheVariants.{One, Several}
+use Rattle.store.specs.declared.shard.entry.Holders.{Holders}
+use Rattle.store.specs.declared.shard.entry.Holders.TheVariants.{One, Several}
+use Rattle.store.specs.Keys.{Key}
 use Rattle.store.specs.Table.{Held, IsEntry, IsLawful, entered, left, table_view}
 use Rattle.store.proofs.CoreSets.{more_left}
 use Rattle.store.proofs.Tables.{Updated, at, cut_view, get_view, lawful_added, lawful_changed, lawful_empty, lawful_taken, left_view_last, left_view_some, len_view, entered_view, entry_entered, entry_first, put_view, same, same_view}
@@ -317,7 +318,7 @@ module _ (digest : List ℕ → List ℕ) (es fs : List (List ℕ × Stored)) (s
   pub sound_changed : (e w : Stored) → IsSound digest es s limit → at es c ≡ Some e → IsMoved s t (key_of e.1) (key_of w.1)
       → Updated es fs c (Some w) → IsEntry digest c (held_of t.slots w) → IsSound digest fs t limit
   sound_changed e w sound here moved u is = record {
-    lawful = lawful_changed digest (held_in s.slots es) (held_in t.slots fs) limit c (held_of s.slots e) (held_of t.slots w) sound.lawful
+    lawful = λ key. lawful_changed digest (held_in s.slots es) (held_in t.slots fs) limit key c (held_of s.slots e) (held_of t.slots w) (sound.lawful key)
         (held_at s.slots es c ∙ ap (option_map (held_of s.slots)) here) is
         (held_moved es fs s t c (Some e) (Some w) sound.placed here moved u);
     placed = sets_moved es fs s t c (Some e) (Some w) sound.placed here moved u
@@ -332,7 +333,7 @@ module _ (digest : List ℕ → List ℕ) (es fs : List (List ℕ × Stored)) (s
   pub sound_taken : (e : Stored) → IsSound digest es s limit → at es c ≡ Some e → IsMoved s t (key_of e.1) None
       → Updated es fs c None → IsSound digest fs t limit
   sound_taken e sound here moved u = record {
-    lawful = lawful_taken digest (held_in s.slots es) (held_in t.slots fs) limit c sound.lawful
+    lawful = λ key. lawful_taken digest (held_in s.slots es) (held_in t.slots fs) limit key c (sound.lawful key)
         (held_moved es fs s t c (Some e) None sound.placed here moved u);
     placed = sets_moved es fs s t c (Some e) None sound.placed here moved u
         (let room = sound.placed.room in
@@ -351,7 +352,7 @@ module _ (digest : List ℕ → List ℕ) (es fs : List (List ℕ × Stored)) (s
       let own = sets_grown es s sound.placed t keep more in
       let moved : IsMoved t t None (key_of w.1) = subst (λ (o : Option ℕ). IsMoved t t None o) (sym none)
       (moved_not t None (λ key x. absurd (none-some key x))) in record {
-        lawful = lawful_added digest (held_in s.slots es) (held_in t.slots fs) limit c (held_of t.slots w) sound.lawful free is
+        lawful = λ key. lawful_added digest (held_in s.slots es) (held_in t.slots fs) limit key c (held_of t.slots w) (sound.lawful key) free is
             (subst (λ (xs : List (List ℕ × Held)). Updated xs (held_in t.slots fs) c (Some (held_of t.slots w))) (held_same s t keep es)
             (held_moved es fs t t c None (Some w) own here moved u));
         placed = sets_moved es fs t t c None (Some w) own here moved u
@@ -364,15 +365,15 @@ module _ (digest : List ℕ → List ℕ) (es fs : List (List ℕ × Stored)) (s
 pub sound_grown : (digest : List ℕ → List ℕ) (es fs : List (List ℕ × Stored)) (s t : Sets) (limit : ℕ) → IsSound digest es s limit
     → fs ≡ es → SameValues s t → s.capacity ≤ t.capacity → IsSound digest fs t limit
 sound_grown digest es fs s t limit sound kept keep more = subst (λ (xs : List (List ℕ × Stored)). IsSound digest xs t limit) (sym kept) (record {
-  lawful = subst (λ (xs : List (List ℕ × Held)). IsLawful digest (table_view xs limit)) (sym (held_same s t keep es)) sound.lawful;
+  lawful = λ key. subst (λ (xs : List (List ℕ × Held)). IsLawful digest (table_view xs limit key)) (sym (held_same s t keep es)) (sound.lawful key);
   placed = sets_grown es s sound.placed t keep more;
 })
 
 -- and is not seen
-pub view_grown : (es fs : List (List ℕ × Stored)) (s t : Sets) (limit : ℕ) → fs ≡ es → SameValues s t
-    → table_view (held_in t.slots fs) limit ≡ table_view (held_in s.slots es) limit
-view_grown es fs s t limit kept keep = ap (λ (xs : List (List ℕ × Stored)). table_view (held_in t.slots xs) limit) kept
-    ∙ ap (λ (xs : List (List ℕ × Held)). table_view xs limit) (held_same s t keep es)
+pub view_grown : (es fs : List (List ℕ × Stored)) (s t : Sets) (limit : ℕ) (key : Key) → fs ≡ es → SameValues s t
+    → table_view (held_in t.slots fs) limit key ≡ table_view (held_in s.slots es) limit key
+view_grown es fs s t limit key kept keep = ap (λ (xs : List (List ℕ × Stored)). table_view (held_in t.slots xs) limit key) kept
+    ∙ ap (λ (xs : List (List ℕ × Held)). table_view xs limit key) (held_same s t keep es)
 
 -- there are no entries and no sets
 pub sound_empty : (digest : List ℕ → List ℕ) (es : List (List ℕ × Stored)) (s : Sets) (limit : ℕ) → es ≡ [] → s.slots ≡ [] → IsSound digest es s limit
@@ -387,6 +388,10 @@ sound_empty digest es s limit empty bare = subst (λ (xs : List (List ℕ × Sto
 })
 
 -- ---- what contracts see, after a change
+
+-- the key is that of before
+pub view_under : (es : List (List ℕ × Held)) (limit : ℕ) (new old : Key) → new ≡ old → table_view es limit new ≡ table_view es limit old
+view_under es limit new old same = ap (table_view es limit) same
 
 pub on_ok_two : {X Y P Q R : Type 0} (r : Result X Y) → (P → Q → R) → OnOk r P → OnOk r Q → OnOk r R
 on_ok_two (Ok x) f p q = f p q
@@ -405,50 +410,50 @@ pub entry_new : (digest : List ℕ → List ℕ) (k bytes : List ℕ) (x : Held)
 entry_new digest k bytes x core small name is cores = subst (λ (z : Held). IsEntry digest k z) (λ i. (sym is i, sym cores i))
     (subst (λ (q : List ℕ). IsEntry digest q (bytes, set.insert set.empty core)) (sym name) (entry_first digest bytes core small))
 
-module _ (es fs : List (List ℕ × Stored)) (s t : Sets) (limit : ℕ) (k : List ℕ) (e : Stored)
+module _ (es fs : List (List ℕ × Stored)) (s t : Sets) (limit : ℕ) (key : Key) (k : List ℕ) (e : Stored)
     (own : HaveTheirSets es s) (here : at es k ≡ Some e) where
   -- a core has come
   pub view_entered : (w : Stored) (bytes : List ℕ) (core : ℕ) → IsMoved s t (key_of e.1) (key_of w.1) → Updated es fs k (Some w)
       → w.0 ≡ e.0 → e.0 ≡ bytes → cores_in t.slots w.1 ≡ set.insert (cores_in s.slots e.1) core
-      → table_view (held_in t.slots fs) limit ≡ entered (table_view (held_in s.slots es) limit) k bytes core
+      → table_view (held_in t.slots fs) limit key ≡ entered (table_view (held_in s.slots es) limit key) k bytes core
   view_entered w bytes core moved u same_bytes of_bytes more =
       let held : held_of t.slots w ≡ (bytes, set.insert (cores_in s.slots e.1) core) = λ i. ((same_bytes ∙ of_bytes) i, more i) in
-      entered_view (held_in s.slots es) (held_in t.slots fs) limit k bytes core (Some (held_of s.slots e)) (held_found s.slots es k (Some e) here)
+      entered_view (held_in s.slots es) (held_in t.slots fs) limit key k bytes core (Some (held_of s.slots e)) (held_found s.slots es k (Some e) here)
       (subst (λ (z : Held). Updated (held_in s.slots es) (held_in t.slots fs) k (Some z)) held (held_moved es fs s t k (Some e) (Some w) own here moved u))
 
   -- all is as before
   pub view_same : (w : Stored) → IsMoved s t (key_of e.1) (key_of w.1) → Updated es fs k (Some w) → w.0 ≡ e.0
-      → cores_in t.slots w.1 ≡ cores_in s.slots e.1 → table_view (held_in t.slots fs) limit ≡ table_view (held_in s.slots es) limit
+      → cores_in t.slots w.1 ≡ cores_in s.slots e.1 → table_view (held_in t.slots fs) limit key ≡ table_view (held_in s.slots es) limit key
   view_same w moved u same_bytes same_cores =
       let held : held_of t.slots w ≡ held_of s.slots e = λ i. (same_bytes i, same_cores i) in
-      same_view (held_in s.slots es) (held_in t.slots fs) limit k (held_of s.slots e) (held_found s.slots es k (Some e) here)
+      same_view (held_in s.slots es) (held_in t.slots fs) limit key k (held_of s.slots e) (held_found s.slots es k (Some e) here)
       (subst (λ (z : Held). Updated (held_in s.slots es) (held_in t.slots fs) k (Some z)) held (held_moved es fs s t k (Some e) (Some w) own here moved u))
 
   -- a core has left, and others are left
   pub view_left : (w : Stored) (core : ℕ) → IsMoved s t (key_of e.1) (key_of w.1) → Updated es fs k (Some w) → w.0 ≡ e.0
       → cores_in t.slots w.1 ≡ set.remove (cores_in s.slots e.1) core → nat_eq (set.len (set.remove (cores_in s.slots e.1) core)) 0 ≡ false
-      → table_view (held_in t.slots fs) limit ≡ left (table_view (held_in s.slots es) limit) k core
+      → table_view (held_in t.slots fs) limit key ≡ left (table_view (held_in s.slots es) limit key) k core
   view_left w core moved u same_bytes less more =
       let held : held_of t.slots w ≡ (e.0, set.remove (cores_in s.slots e.1) core) = λ i. (same_bytes i, less i) in
-      left_view_some (held_in s.slots es) (held_in t.slots fs) limit k core (held_of s.slots e) (held_found s.slots es k (Some e) here)
+      left_view_some (held_in s.slots es) (held_in t.slots fs) limit key k core (held_of s.slots e) (held_found s.slots es k (Some e) here)
       (subst (λ (z : Held). Updated (held_in s.slots es) (held_in t.slots fs) k (Some z)) held (held_moved es fs s t k (Some e) (Some w) own here moved u)) more
 
   -- the last one has left
   pub view_ended : (core : ℕ) → IsMoved s t (key_of e.1) None → Updated es fs k None → nat_eq (set.len (set.remove (cores_in s.slots e.1) core)) 0 ≡ true
-      → table_view (held_in t.slots fs) limit ≡ left (table_view (held_in s.slots es) limit) k core
+      → table_view (held_in t.slots fs) limit key ≡ left (table_view (held_in s.slots es) limit key) k core
   view_ended core moved u last =
-      left_view_last (held_in s.slots es) (held_in t.slots fs) limit k core (held_of s.slots e) (held_found s.slots es k (Some e) here)
+      left_view_last (held_in s.slots es) (held_in t.slots fs) limit key k core (held_of s.slots e) (held_found s.slots es k (Some e) here)
       (held_moved es fs s t k (Some e) None own here moved u) last
 
 -- a block has come with its first core
-pub view_added : (es fs : List (List ℕ × Stored)) (s t : Sets) (limit : ℕ) (k : List ℕ) (w : Stored) (bytes : List ℕ) (core : ℕ)
+pub view_added : (es fs : List (List ℕ × Stored)) (s t : Sets) (limit : ℕ) (key : Key) (k : List ℕ) (w : Stored) (bytes : List ℕ) (core : ℕ)
     → HaveTheirSets es s → at es k ≡ None → SameValues s t → s.capacity ≤ t.capacity → key_of w.1 ≡ None → Updated es fs k (Some w)
     → w.0 ≡ bytes → cores_in t.slots w.1 ≡ set.insert set.empty core
-    → table_view (held_in t.slots fs) limit ≡ entered (table_view (held_in s.slots es) limit) k bytes core
-view_added es fs s t limit k w bytes core own here keep more none u of_bytes first =
+    → table_view (held_in t.slots fs) limit key ≡ entered (table_view (held_in s.slots es) limit key) k bytes core
+view_added es fs s t limit key k w bytes core own here keep more none u of_bytes first =
     let held : held_of t.slots w ≡ (bytes, set.insert set.empty core) = λ i. (of_bytes i, first i) in
     let moved : IsMoved t t None (key_of w.1) = subst (λ (o : Option ℕ). IsMoved t t None o) (sym none) (moved_not t None (λ key x. absurd (none-some key x))) in
-    entered_view (held_in s.slots es) (held_in t.slots fs) limit k bytes core None (held_found s.slots es k None here)
+    entered_view (held_in s.slots es) (held_in t.slots fs) limit key k bytes core None (held_found s.slots es k None here)
     (subst (λ (z : Held). Updated (held_in s.slots es) (held_in t.slots fs) k (Some z)) held
     (subst (λ (xs : List (List ℕ × Held)). Updated xs (held_in t.slots fs) k (Some (held_of t.slots w))) (held_same s t keep es)
     (held_moved es fs t t k None (Some w) (sets_grown es s own t keep more) here moved u)))

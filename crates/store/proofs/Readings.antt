@@ -55,8 +55,8 @@ left_at t c core q = at_entry (entry_at t c) refl
     none_left false e a = refl
 
     of_entry : (e : Held) (b : Bool)
-        → entry_at (cond b (record { entries = map.remove t.entries c; limit = t.limit })
-        (record { entries = map.insert t.entries c (e.0, set.remove e.1 core); limit = t.limit })) q
+        → entry_at (cond b (record t { entries = map.remove t.entries c })
+        (record t { entries = map.insert t.entries c (e.0, set.remove e.1 core) })) q
         ≡ cond (is_at (slice_cmp nat_cmp c) q) (cond b None (Some (e.0, set.remove e.1 core))) (entry_at t q)
     of_entry e true = map.get-remove nat_list_cmp_total t.entries c q ∙ ap (λ b. cond b None (entry_at t q)) (sym (turn c q))
     of_entry e false = map.get-insert nat_list_cmp_total t.entries c (e.0, set.remove e.1 core) q

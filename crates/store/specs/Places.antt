@@ -8,9 +8,10 @@ use Rattle.std.specs.FinMap as map
 use Rattle.std.specs.FinSet as set
 use Rattle.slab.specs.Slab.{Slab, get, ContainsKey}
 use Rattle.store.specs.Cores.{IsSetOfMore}
+use Rattle.store.specs.Keys.{Key}
 use Rattle.store.specs.Table.{Held, IsLawful, table_view}
-use Rattle.store.specs.declared.shard.holders.Holders.{Holders}
-use Rattle.store.specs.declared.shard.holders.Holders.TheVariants.{One, Several}
+use Rattle.store.specs.declared.shard.entry.Holders.{Holders}
+use Rattle.store.specs.declared.shard.entry.Holders.TheVariants.{One, Several}
 
 -- sets of cores, each under its key
 abbrev pub Sets : Type 0
@@ -99,7 +100,7 @@ pub record HaveTheirSets (es : List (List ℕ × Stored)) (sets : Sets) : Type 0
   pub used : (key : ℕ) → ContainsKey sets key → (cid : List ℕ) × (key_at es cid ≡ Some key)
   pub room : map.len (map.from_entries {R = slice_cmp nat_cmp} es) ≤ sets.capacity
 
--- what a shard keeps of its entries and sets
+-- what a shard keeps of its entries and sets, whatever its key
 pub record IsSound (digest : List ℕ → List ℕ) (es : List (List ℕ × Stored)) (sets : Sets) (limit : ℕ) : Type 0 where
-  pub lawful : IsLawful digest (table_view (held_in sets.slots es) limit)
+  pub lawful : (key : Key) → IsLawful digest (table_view (held_in sets.slots es) limit key)
   pub placed : HaveTheirSets es sets

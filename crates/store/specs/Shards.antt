@@ -8,10 +8,11 @@ use Rattle.std.specs.Ordering.{nat_cmp}
 use Rattle.std.specs.declared.sync.Arc.{Arc}
 use Rattle.spec.specs.Cid.{cid as cid_of}
 use Rattle.store.specs.declared.fault.StoreFault.{StoreFault}
-use Rattle.store.specs.Table.{Table, Held, cores_at, entered, entry_at, left, shard_of, IsLawful}
+use Rattle.store.specs.Keys.{Key, state_after}
+use Rattle.store.specs.Table.{Table, Held, cores_at, empty_table, entered, entry_at, left, shard_of, IsLawful}
 
 abbrev pub no_table : Table
-no_table = record { entries = map.empty; limit = 0 }
+no_table = empty_table 0 (state_after 0 0)
 
 -- the table at a place among these
 abbrev pub table_at : List Table → ℕ → Table
@@ -21,13 +22,14 @@ table_at tables place = slice_index_or tables place no_table
 abbrev pub cores_in : List Table → ℕ → List ℕ → set.FinSet nat_cmp
 cores_in tables place c = cores_at (table_at tables place) c
 
--- a shard without blocks, of at most so many
-abbrev pub empty_shard : ℕ → Table
-empty_shard limit = record { entries = map.empty; limit = limit }
-
--- all sixteen are such shards
+-- all sixteen are without blocks, and each may have so many
 abbrev pub AreEmpty : ℕ → List Table → Type 0
-AreEmpty limit tables = (place : ℕ) → place < 16 → table_at tables place ≡ empty_shard limit
+AreEmpty limit tables = (place : ℕ) → place < 16
+    → table_at tables place ≡ empty_table limit (table_at tables place).key
+
+-- all sixteen hash CIDs under this key
+abbrev pub AreUnder : Key → List Table → Type 0
+AreUnder key tables = (place : ℕ) → place < 16 → (table_at tables place).key ≡ key
 
 -- a block stands in the shard of its CID
 abbrev pub HasOwnBlocks : ℕ → Table → Type 0

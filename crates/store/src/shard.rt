@@ -3,7 +3,7 @@ ghost use Rattle.std.specs.Arc.{arc_value};
 ghost use Rattle.std.specs.FinMap as map;
 ghost use Rattle.std.specs.FinSet as set;
 ghost use Rattle.spec.specs.Cid.{cid as cid_of};
-ghost use Rattle.store.specs.Table.{entered, entry_at, left, HasNoOther, cores_at, IsListing, IsLawful};
+ghost use Rattle.store.specs.Table.{empty_table, entered, entry_at, left, HasNoOther, cores_at, IsListing, IsLawful};
 ghost use Rattle.store.specs.Holds.{IsHoldOf};
 ghost use Rattle.store.specs.Faults.{IsRefusal, IsRefusalOfNew};
 
@@ -21,21 +21,18 @@ use std::sync::Arc;
 mod entries;
 mod entry;
 mod hold;
-mod holders;
-mod room;
 
 pub use entries::Entries;
-use entry::Entry;
+use entry::{Entry, make_room};
 pub use hold::Hold;
-use room::make_room;
 
 /// Blocks by their CIDs, each with the cores that hold it, at most `limit` of them.
 ///
 /// An entry has the number of its one core, as nearly each, or the key of the set of its cores in the slab. Room for a set is
 /// reserved with each entry that comes, so a core that comes to a held block wants no memory. A set of one ends.
 ///
-/// A contract sees it as a finite map from CIDs to bytes and sets of cores, beside its limit. Each entry stands under the
-/// CID of its bytes and has at least one core: this is a rule of this repository, no standard has it.
+/// A contract sees it as a finite map from CIDs to bytes and sets of cores, beside its limit and the key under which the
+/// table hashes CIDs. Each entry stands under the CID of its bytes and has at least one core: this is a rule of this repository, no standard has it.
 #[derive(Drop)]
 pub struct Shard<D: Digest, A: Allocator = Global> {
     sets: Slab<Cores, A>,
@@ -44,6 +41,7 @@ pub struct Shard<D: Digest, A: Allocator = Global> {
 }
 
 impl<D: Digest, A: Allocator> Model for Shard<D, A> {
+    ghost use Rattle.std.specs.HashMap.{hasher_of};
     ghost use Rattle.store.specs.Table.{Table, table_code, table_view};
     ghost use Rattle.store.specs.Places.{held_in, IsSound};
 
@@ -51,26 +49,17 @@ impl<D: Digest, A: Allocator> Model for Shard<D, A> {
 
     ghost coded = { table_code };
 
-    ghost view = { λ s. table_view (held_in s.sets.slots s.table.entries) s.limit };
+    ghost view = { λ s. table_view (held_in s.sets.slots s.table.entries) s.limit (hasher_of s.table) };
 
     ghost invariant = { λ s. IsSound D.digest_of s.table.entries s.sets s.limit };
 }
 
 impl<D: Digest, A: Allocator + Copy> Shard<D, A> {
-    /// An empty shard that may have `limit` blocks, 1 to 1,048,576, under a key that everybody knows. It takes no memory yet.
-    pub fn new(alloc: A, limit: usize) -> Shard<D, A>
-        requires least { 1 ≤ limit }
-        requires most { limit ≤ 1048576 }
-        ensures { result ≡ record { entries = map.empty; limit = limit } }
-    {
-        Shard::keyed(alloc, limit, TableKey::known())
-    }
-
     /// An empty shard that may have `limit` blocks, 1 to 1,048,576, under this key. It takes no memory yet.
-    pub fn keyed(alloc: A, limit: usize, key: TableKey) -> Shard<D, A>
+    pub fn new(alloc: A, limit: usize, key: TableKey) -> Shard<D, A>
         requires least { 1 ≤ limit }
         requires most { limit ≤ 1048576 }
-        ensures { result ≡ record { entries = map.empty; limit = limit } }
+        ensures { result ≡ empty_table limit key }
     {
         let sets = Slab::new(alloc);
         let table = HashMap::with_hasher(alloc, key);
@@ -79,6 +68,20 @@ impl<D: Digest, A: Allocator + Copy> Shard<D, A> {
 }
 
 impl<D: Digest, A: Allocator> Shard<D, A> {
+    /// How many blocks it may have.
+    pub fn limit(&self) -> usize
+        ensures { result ≡ self.now.limit }
+    {
+        self.limit
+    }
+
+    /// The key under which its table hashes CIDs.
+    pub fn key(&self) -> TableKey
+        ensures { result ≡ self.now.key }
+    {
+        *self.table.hasher()
+    }
+
     /// Takes the hold's core out of the entry under the hold's CID, and the entry out with its last core.
     ///
     /// A core that isn't there changes nothing. It takes no memory and can't fail.

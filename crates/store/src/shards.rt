@@ -1,5 +1,5 @@
 ghost use Rattle.std.specs.Prelude.{◌≡◌, ◌<◌, ◌≤◌};
-ghost use Rattle.store.specs.Shards.{AreEmpty, empty_shard};
+ghost use Rattle.store.specs.Shards.{AreEmpty, AreUnder};
 ghost use Rattle.store.specs.Table.{shard_of};
 
 use crate::shard::Shard;
@@ -20,29 +20,34 @@ pub fn shard_number(cid: &Cid) -> usize
     usize::from(cid.as_bytes()[4]) % SHARDS
 }
 
-/// Sixteen empty shards, each of at most `limit` blocks, 1 to 1,048,576. It takes no memory yet.
-pub fn empty_shards<D: Digest, A: Allocator + Copy>(alloc: A, limit: usize) -> [Shard<D, A>; SHARDS]
+/// Sixteen empty shards, each of at most `limit` blocks, 1 to 1,048,576, under this key. It takes no memory yet.
+pub fn empty_shards<D: Digest, A: Allocator + Copy>(
+    alloc: A,
+    limit: usize,
+    key: TableKey,
+) -> [Shard<D, A>; SHARDS]
     requires least { 1 ≤ limit }
     requires most { limit ≤ 1048576 }
-    ensures { AreEmpty limit result }
+    ensures empty { AreEmpty limit result }
+    ensures keyed { AreUnder key result }
 {
     [
-        Shard::new(alloc, limit),
-        Shard::new(alloc, limit),
-        Shard::new(alloc, limit),
-        Shard::new(alloc, limit),
-        Shard::new(alloc, limit),
-        Shard::new(alloc, limit),
-        Shard::new(alloc, limit),
-        Shard::new(alloc, limit),
-        Shard::new(alloc, limit),
-        Shard::new(alloc, limit),
-        Shard::new(alloc, limit),
-        Shard::new(alloc, limit),
-        Shard::new(alloc, limit),
-        Shard::new(alloc, limit),
-        Shard::new(alloc, limit),
-        Shard::new(alloc, limit),
+        Shard::new(alloc, limit, key),
+        Shard::new(alloc, limit, key),
+        Shard::new(alloc, limit, key),
+        Shard::new(alloc, limit, key),
+        Shard::new(alloc, limit, key),
+        Shard::new(alloc, limit, key),
+        Shard::new(alloc, limit, key),
+        Shard::new(alloc, limit, key),
+        Shard::new(alloc, limit, key),
+        Shard::new(alloc, limit, key),
+        Shard::new(alloc, limit, key),
+        Shard::new(alloc, limit, key),
+        Shard::new(alloc, limit, key),
+        Shard::new(alloc, limit, key),
+        Shard::new(alloc, limit, key),
+        Shard::new(alloc, limit, key),
     ]
 }
 
@@ -55,7 +60,7 @@ fn locked<D: Digest, A: Allocator + Copy>(
     requires least { 1 ≤ limit }
     requires most { limit ≤ 1048576 }
 {
-    Mutex::new(Shard::keyed(alloc, limit, key))
+    Mutex::new(Shard::new(alloc, limit, key))
 }
 
 /// Sixteen locked shards, which threads share. A block stands in the shard of its CID.
@@ -101,17 +106,8 @@ impl<D: Digest, A: Allocator> Shards<D, A> {
 }
 
 impl<D: Digest, A: Allocator + Copy> Shards<D, A> {
-    /// Sixteen empty shards, each of at most `limit` blocks, 1 to 1,048,576, under a key that everybody knows. It takes no
-    /// memory yet.
-    pub fn open(alloc: A, limit: usize) -> Shards<D, A>
-        requires least { 1 ≤ limit }
-        requires most { limit ≤ 1048576 }
-    {
-        Shards::open_keyed(alloc, limit, TableKey::known())
-    }
-
     /// Sixteen empty shards, each of at most `limit` blocks, 1 to 1,048,576, under this key. It takes no memory yet.
-    pub fn open_keyed(alloc: A, limit: usize, key: TableKey) -> Shards<D, A>
+    pub fn open(alloc: A, limit: usize, key: TableKey) -> Shards<D, A>
         requires least { 1 ≤ limit }
         requires most { limit ≤ 1048576 }
     {

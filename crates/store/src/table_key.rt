@@ -1,6 +1,6 @@
 //! The key under which tables hash CIDs.
 
-ghost use Rattle.std.specs.Prelude.{◌≡◌, ◌∷◌, []};
+ghost use Rattle.std.specs.Prelude.{◌≡◌};
 ghost use Rattle.store.specs.Keys.{state_after};
 
 use std::hash::{BuildHasher, DefaultHasher, Hasher};

@@ -1,7 +1,7 @@
 -- Blocks whose CIDs are given, and the CIDs of many.
-use Rattle.std.proofs.Common.{◌≡◌, ◌<◌, ◌≤◌, ◌+◌, ◌*◌, ◌/◌, ℕ, zero, suc, List, [], ◌∷◌, ◌++◌, map, take, drop, length, refl, ap, sym, subst, ◌∙◌, arith, Bool, true, false, append_assoc}
-use Rattle.std.specs.Prelude.{Option, Some, None, IfSome, option_map, nat_eq, if◌then◌else◌}
-use Rattle.std.proofs.lemmas.List.{append-nil, length-append, length-map, map-append, take-map, take_all}
+use Rattle.std.proofs.Common.{◌≡◌, ◌<◌, ◌≤◌, ◌+◌, ◌*◌, ◌/◌, ℕ, suc, List, [], ◌∷◌, ◌++◌, map, take, drop, length, refl, ap, sym, subst, ◌∙◌, arith, Bool, true, false}
+use Rattle.std.specs.Prelude.{Option, Some, None, option_map, nat_eq, if◌then◌else◌}
+use Rattle.std.proofs.lemmas.List.{length-append, length-map, map-append, take-map, take_all}
 use Rattle.sha2.specs.Sha256.{sha256}
 use Rattle.sha2.proofs.Facts256.{length-sha256}
 use Rattle.spec.specs.Cid.{cid, prefix}
@@ -85,6 +85,7 @@ cids_small now blocks room size is less =
     record {
       size_is = long;
       whole = λ e. absurd cc;
+      behind = λ e. absurd cc;
       room_is = λ e. absurd cc;
       small = λ no. (refl, subst (λ (n : ℕ). length room < n) long less, refl);
     }

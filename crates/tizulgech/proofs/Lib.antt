@@ -1,4 +1,3 @@
-mod Found
 mod Told
 mod Shown
 mod Rows
@@ -8,3 +7,5 @@ mod Telling
 mod Linking
 mod Handing
 mod Knowing
+mod Causes
+mod Going

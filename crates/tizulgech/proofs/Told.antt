@@ -7,25 +7,25 @@ use Rattle.spec.specs.Reading.{Gives}
 use Rattle.spec.specs.States.{State, state_test}
 use Rattle.spec.specs.Stamps.{Stamp}
 use Rattle.spec.specs.Writes.{Write, WriteFault}
-use Rattle.dagcbor.specs.Fault.{fault_of}
+use Rattle.dagcbor.specs.Fault.{cbor_fault_of}
 use Rattle.dagcbor.specs.declared.fault.CborFault.{CborFault as Told}
 use Rattle.dagcbor.specs.declared.fault.CborFault.TheVariants as errors
 use Rattle.batches.specs.declared.fault.RepoFault.{RepoFault}
 use Rattle.batches.specs.declared.fault.RepoFault.TheVariants as faults
 use Rattle.repo.specs.Refusals.{IsRefusal}
 use Rattle.spec.specs.Proof.{ProofFault}
-use Rattle.export.specs.Faults.{fault_of as proof_fault}
+use Rattle.export.specs.Faults.{proof_fault_of}
 use Rattle.node.specs.declared.fault.NodeFault.TheVariants as nodes
 use Rattle.export.specs.declared.proof_fault.ProofFault.{ProofFault as GivenProofFault}
 use Rattle.export.specs.declared.proof_fault.ProofFault.TheVariants as proofs
 use Rattle.batches.specs.Tests.{write_fault, IsTestFault}
 use Rattle.tizulgech.specs.Numbers.{fault_number, test_answer, cbor_answer, record_code, IsRecordAnswer, batch_code, tested, IsTested, IsProof, IsProofTold, IsCidRead, IsCidTold}
 use Rattle.spec.specs.Cid.{CidFault}
-use Rattle.cid.specs.CidFault.{fault_of as cid_fault}
+use Rattle.cid.specs.CidFault.{cid_fault_of}
 use Rattle.cid.specs.declared.cid_fault.CidFault.{CidFault as GivenCidFault}
 use Rattle.cid.specs.declared.cid_fault.CidFault.TheVariants as cids
 
-pub record_told : {X Y : Type 0} (view : X → Y) (r : Result X Told) (read : Result Y CborFault) → Gives view fault_of r read → IsRecordAnswer (record_code r) read
+pub record_told : {X Y : Type 0} (view : X → Y) (r : Result X Told) (read : Result Y CborFault) → Gives view cbor_fault_of r read → IsRecordAnswer (record_code r) read
 record_told view (Ok x) read g _ = sym (ap cbor_answer g)
 record_told view (Err errors.Truncated) read g _ = sym (ap cbor_answer g)
 record_told view (Err errors.LongHead) read g _ = sym (ap cbor_answer g)
@@ -73,7 +73,7 @@ batch_told s stamp batch full fuller (Err (i, faults.Collision pair)) p h o = ab
 batch_told s stamp batch full fuller (Err (i, faults.StoreFull)) p h o = absurd cc
 batch_told s stamp batch full fuller (Err (i, faults.NoMemory)) p h o = absurd cc
 
-pub proof_told : (code : ℕ) (out : List ℕ) (r : Result (Option (List ℕ)) GivenProofFault) (answer : Result (Option (List ℕ)) ProofFault) → IsProofTold code out r → Gives (λ v. v) proof_fault r answer → IsProof code out answer
+pub proof_told : (code : ℕ) (out : List ℕ) (r : Result (Option (List ℕ)) GivenProofFault) (answer : Result (Option (List ℕ)) ProofFault) → IsProofTold code out r → Gives (λ v. v) proof_fault_of r answer → IsProof code out answer
 proof_told code out (Ok (Some c)) answer t g = subst (IsProof code out) (sym g) t
 proof_told code out (Ok None) answer t g = subst (IsProof code out) (sym g) t
 proof_told code out (Err proofs.BlockMissing) answer t g = subst (IsProof code out) (sym g) t
@@ -84,7 +84,7 @@ proof_told code out (Err (proofs.BadNode nodes.BadPrefix)) answer t g = subst (I
 proof_told code out (Err (proofs.BadNode nodes.KeyOrder)) answer t g = subst (IsProof code out) (sym g) t
 proof_told code out (Err (proofs.BadNode nodes.KeyLength)) answer t g = subst (IsProof code out) (sym g) t
 
-pub cid_told : (code : ℕ) (out : List ℕ) (r : Result (List ℕ) GivenCidFault) (answer : Result (List ℕ) CidFault) → IsCidTold code out r → Gives (λ v. v) cid_fault r answer → IsCidRead code out answer
+pub cid_told : (code : ℕ) (out : List ℕ) (r : Result (List ℕ) GivenCidFault) (answer : Result (List ℕ) CidFault) → IsCidTold code out r → Gives (λ v. v) cid_fault_of r answer → IsCidRead code out answer
 cid_told code out (Ok c) answer t g = subst (IsCidRead code out) (sym g) t
 cid_told code out (Err cids.BadLength) answer t g = subst (IsCidRead code out) (sym g) t
 cid_told code out (Err cids.BadPrefix) answer t g = subst (IsCidRead code out) (sym g) t

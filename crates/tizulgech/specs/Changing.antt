@@ -1,7 +1,6 @@
 -- What is told of changes between two roots.
-use Rattle.std.specs.Prelude.{◌≡◌, ℕ, Bool, true, false, List, [], ◌∷◌, Option, Some, None, Result, Ok, Err, nat_eq, length, if◌then◌else◌}
+use Rattle.std.specs.Prelude.{◌≡◌, ℕ, List, [], ◌∷◌, Option, Some, None, Result, Ok, Err, nat_eq, length, if◌then◌else◌}
 use Rattle.sha2.specs.Sha256.{sha256}
-use Rattle.spec.specs.Tree.{Pair}
 use Rattle.spec.specs.Blocks.{pairs}
 use Rattle.spec.specs.States.{State, records}
 use Rattle.batch_laws.specs.Batch.{Change}

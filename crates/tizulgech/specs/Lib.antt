@@ -1,7 +1,9 @@
-pub mod Held
 pub mod Numbers
+pub mod Handles
 pub mod Trees
 pub mod Known
+pub mod Causes
+pub mod Below
 pub mod Changing
 pub mod Parting
 pub use Rattle.spec.specs.Cid

@@ -1,24 +1,25 @@
 //! Changes of keys as they are told, between two roots: what shows them, and whether some nodes do.
 
-ghost use Rattle.std.specs.Prelude.{◌≡◌, length, map, true, false, nat_eq, option_map, is_some, None, IfOk, IfErr, IfSome};
+ghost use Rattle.std.specs.Prelude.{◌≡◌, length, map, true, false, nat_eq, option_map, None, IfOk, IfErr, IfSome};
 ghost use Rattle.sha2.specs.Sha256.{sha256};
 ghost use Rattle.edit.specs.Batches.{are_changes as are_changes_of};
 ghost use Rattle.change_laws.specs.Told.{undone as undone_of};
 ghost use Rattle.change_proofs.specs.Provings.{IsUntrue};
 ghost use Rattle.buffers.specs.Framing.{cid_at, cut};
 ghost use Rattle.tizulgech.specs.Changing.{both_told, told, told_in, IsSpelt, IsChangeOver, IsChangeVerified, IsProvenOf, IsProven, IsVerdictTold};
+ghost use Rattle.buffers.specs.Answers.{IsKept};
+ghost use Rattle.tizulgech.specs.Handles.{OnlyReads};
 
 use crate::codes::{BAD, BAD_NODE, CLOSED, MISSING, NO_MEMORY, NOT_TREE, TOO_DEEP, tell_node};
 use crate::edits::changes_of;
-use crate::handle::Repository;
-use crate::repository::spell_blocks;
+use crate::proving::spell_blocks;
 use buffers::{DONE, cid_in, hand, slices};
 use change_proofs::{
     ChangeFault, KeyChange, ProvingFault, are_key_changes, prove_change, verify_change,
 };
 use cid::{Cid, Sha256};
 use edit::Change;
-use owned_repo::OwnedRepo;
+use owned_repo::{OwnedRepo, Repository};
 use std::alloc::{AllocError, Global};
 
 /// The key of a change has another value in the tree after the changes.
@@ -49,9 +50,11 @@ pub extern "C" fn tizulgech_verify_change(
     place: &mut usize,
 ) -> u8
     requires { length missing.old ≡ 36 }
-    ensures { nat_eq result 255 ≡ false → IsChangeVerified result missing.new place.new
+    ensures verdict { nat_eq result 255 ≡ false → IsChangeVerified result missing.new place.new
         (cut 0 node_ends.now nodes.now) (cid_at before.now) (cid_at after.now)
         (told_in keys.now key_ends.now befores.now afters.now) }
+    ensures missing { ¬ (result ≡ 2) → ¬ (result ≡ 30) → missing.new ≡ missing.old }
+    ensures place { ¬ (result ≡ 33) → place.new ≡ place.old }
 {
     let Ok(nodes) = slices(alloc, nodes, node_ends) else {
         return NO_MEMORY;
@@ -86,8 +89,10 @@ fn verify_over(
 ) -> u8
     requires changes { are_changes_of (undone_of changes.now) ≡ true }
     requires missing { length missing.old ≡ 36 }
-    ensures { nat_eq result 255 ≡ false → IsChangeOver result missing.new place.new
+    ensures verdict { nat_eq result 255 ≡ false → IsChangeOver result missing.new place.new
         (map (λ node. node.now) nodes.now) before after changes.now }
+    ensures missing { ¬ (result ≡ 2) → ¬ (result ≡ 30) → missing.new ≡ missing.old }
+    ensures place { ¬ (result ≡ 33) → place.new ≡ place.old }
 {
     let answer = verify_change::<Sha256, 2, _, _>(alloc, before, after, nodes, changes);
     tell_verdict(&answer, missing, place)
@@ -96,7 +101,9 @@ fn verify_over(
 /// What a verdict is told.
 fn tell_verdict(answer: &Result<(), ChangeFault>, missing: &mut [u8], place: &mut usize) -> u8
     requires { length missing.old ≡ 36 }
-    ensures { IsVerdictTold result missing.new place.new answer.now }
+    ensures verdict { IsVerdictTold result missing.new place.new answer.now }
+    ensures missing { ¬ (result ≡ 2) → ¬ (result ≡ 30) → missing.new ≡ missing.old }
+    ensures place { ¬ (result ≡ 33) → place.new ≡ place.old }
 {
     match answer {
         Ok(()) => DONE,
@@ -214,8 +221,9 @@ pub extern "C" fn tizulgech_prove_change(
     ensures proof { IfSome repository.old.handle.repo (λ o. nat_eq result 255 ≡ false
         → IsProven result place.new out.old out.new size.new o.state
         (told_in keys.now key_ends.now befores.now afters.now)) }
-    ensures unchanged { repository.new.handle.repo ≡ repository.old.handle.repo }
-    ensures closed { repository.old.handle.repo ≡ None → result ≡ 250 }
+    ensures read { OnlyReads result repository.old.handle.repo repository.new.handle.repo }
+    ensures place { ¬ (result ≡ 33) → place.new ≡ place.old }
+    ensures kept { IsKept result out.old out.new size.old size.new }
 {
     let Some(repo) = repository.taken(alloc) else {
         return CLOSED;
@@ -239,8 +247,10 @@ fn proven_in(
     out: &mut [u8],
     size: &mut usize,
 ) -> u8
-    ensures { nat_eq result 255 ≡ false → IsProven result place.new out.old out.new size.new
+    ensures proof { nat_eq result 255 ≡ false → IsProven result place.new out.old out.new size.new
         repo.now.state (told_in keys.now key_ends.now befores.now afters.now) }
+    ensures place { ¬ (result ≡ 33) → place.new ≡ place.old }
+    ensures kept { IsKept result out.old out.new size.old size.new }
 {
     let Ok(changes) = told_at(alloc, keys, key_ends, befores, afters) else {
         return NO_MEMORY;
@@ -261,8 +271,10 @@ fn proven_told(
     size: &mut usize,
 ) -> u8
     requires { are_changes_of (undone_of changes.now) ≡ true }
-    ensures { nat_eq result 255 ≡ false → IsProvenOf result place.new out.old out.new size.new
+    ensures proof { nat_eq result 255 ≡ false → IsProvenOf result place.new out.old out.new size.new
         repo.now.state changes.now }
+    ensures place { ¬ (result ≡ 33) → place.new ≡ place.old }
+    ensures kept { IsKept result out.old out.new size.old size.new }
 {
     match proven_bytes(alloc, repo, changes) {
         Ok(bytes) => hand(&bytes, out, size),

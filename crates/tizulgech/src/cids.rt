@@ -1,9 +1,9 @@
 //! The CIDs of many blocks at once.
 
-ghost use Rattle.std.specs.Prelude.{◌≡◌, ◌*◌, ◌<◌, ◌++◌, length, map, nat_eq, false, IfOk, OnOk};
+ghost use Rattle.std.specs.Prelude.{◌≡◌, ◌*◌, ◌<◌, ◌++◌, map, nat_eq, false, IfOk, OnOk};
 ghost use Rattle.sha2.specs.Sha256.{sha256};
 ghost use Rattle.spec.specs.Cid.{cid as cid_of, prefix};
-ghost use Rattle.buffers.specs.Answers.{cids_bytes, IsHanded};
+ghost use Rattle.buffers.specs.Answers.{cids_bytes, IsHanded, IsKept};
 ghost use Rattle.buffers.specs.Framing.{cut};
 ghost use Rattle.tizulgech.specs.Known.{AreCids};
 
@@ -22,8 +22,9 @@ pub extern "C" fn tizulgech_cids(
     out: &mut [u8],
     size: &mut usize,
 ) -> u8
-    ensures { nat_eq result 255 ≡ false
+    ensures answer { nat_eq result 255 ≡ false
         → AreCids result (cut 0 ends.now blocks.now) out.old out.new size.new }
+    ensures kept { IsKept result out.old out.new size.old size.new }
 {
     let Ok(blocks) = slices(alloc, blocks, ends) else {
         return NO_MEMORY;
@@ -36,9 +37,10 @@ pub extern "C" fn tizulgech_cids(
 
 /// The same of a list of blocks.
 fn cids_told(alloc: Global, blocks: &[&[u8]], out: &mut [u8], size: &mut usize) -> u8
-    ensures { nat_eq result 255 ≡ false → IsHanded result
+    ensures answer { nat_eq result 255 ≡ false → IsHanded result
         (cids_bytes (map (cid_of sha256) (map (λ block. block.now) blocks.now)))
         out.old out.new size.new }
+    ensures kept { IsKept result out.old out.new size.old size.new }
 {
     let Some(wanted) = blocks.len().checked_mul(36) else {
         return NO_MEMORY;

@@ -116,7 +116,8 @@ pub(crate) fn write_of_kind(
 /// 0 and the CID, else the number of the fault.
 pub(crate) fn tell_cid(read: &Result<Cid, CidFault>, out: &mut [u8]) -> u8
     requires { length out.old ≡ 36 }
-    ensures { IsCidTold result out.new read.now }
+    ensures read { IsCidTold result out.new read.now }
+    ensures kept { ¬ (result ≡ 0) → out.new ≡ out.old }
 {
     match read {
         Ok(cid) => {

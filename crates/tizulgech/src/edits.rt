@@ -4,7 +4,7 @@ ghost use Rattle.std.specs.Prelude.{◌≡◌, length, map, true, IfOk, OnOk, If
 ghost use Rattle.std.specs.Arc.{arc_value};
 ghost use Rattle.sha2.specs.Sha256.{sha256};
 ghost use Rattle.edit.specs.Batches.{are_changes as are_changes_of};
-ghost use Rattle.buffers.specs.Answers.{blocks_bytes};
+ghost use Rattle.buffers.specs.Answers.{blocks_bytes, IsKept};
 ghost use Rattle.buffers.specs.Framing.{cid_at, cid_or_none_at, cut, with_values};
 ghost use Rattle.tizulgech.specs.Known.{AreKnown};
 ghost use Rattle.tizulgech.specs.Trees.{changes_in, edit_bytes, IsEdited, IsEditKnown, IsEditOver, IsEditTold};
@@ -48,9 +48,11 @@ pub extern "C" fn tizulgech_tree_apply(
 ) -> u8
     requires known { IfSome (cut 0 node_ends.now nodes.now) (AreKnown cids.now) }
     requires missing { length missing.old ≡ 36 }
-    ensures { nat_eq result 255 ≡ false → IsEdited result missing.new out.old out.new size.new
+    ensures edit { nat_eq result 255 ≡ false → IsEdited result missing.new out.old out.new size.new
         (cut 0 node_ends.now nodes.now) cids.now (cid_at root.now)
         (changes_in keys.now key_ends.now values.now) }
+    ensures missing { ¬ (result ≡ 2) → ¬ (result ≡ 30) → missing.new ≡ missing.old }
+    ensures kept { IsKept result out.old out.new size.old size.new }
 {
     let Ok(nodes) = slices(alloc, nodes, node_ends) else {
         return NO_MEMORY;
@@ -84,8 +86,11 @@ fn edit_over(
     requires changes { are_changes_of changes.now ≡ true }
     requires known { AreKnown cids.now (map (λ node. node.now) nodes.now) }
     requires missing { length missing.old ≡ 36 }
-    ensures { nat_eq result 255 ≡ false → IsEditKnown result missing.new out.old out.new size.new
+    ensures edit { nat_eq result 255 ≡ false →
+        IsEditKnown result missing.new out.old out.new size.new
         (map (λ node. node.now) nodes.now) cids.now root changes.now }
+    ensures missing { ¬ (result ≡ 2) → ¬ (result ≡ 30) → missing.new ≡ missing.old }
+    ensures kept { IsKept result out.old out.new size.old size.new }
 {
     let Ok(blocks) = blocks_of(alloc, nodes, cids) else {
         return NO_MEMORY;
@@ -108,8 +113,11 @@ fn edit_of_blocks(
 ) -> u8
     requires changes { are_changes_of changes.now ≡ true }
     requires missing { length missing.old ≡ 36 }
-    ensures { nat_eq result 255 ≡ false → IsEditOver result missing.new out.old out.new size.new
+    ensures edit { nat_eq result 255 ≡ false →
+        IsEditOver result missing.new out.old out.new size.new
         (map arc_value blocks.now) root changes.now }
+    ensures missing { ¬ (result ≡ 2) → ¬ (result ≡ 30) → missing.new ≡ missing.old }
+    ensures kept { IsKept result out.old out.new size.old size.new }
 {
     let Ok(mut source) = BlockMap::new(alloc, blocks) else {
         return NO_MEMORY;
@@ -127,7 +135,9 @@ fn tell(
     size: &mut usize,
 ) -> u8
     requires { length missing.old ≡ 36 }
-    ensures { IsEditTold result missing.new out.old out.new size.new answer.now }
+    ensures edit { IsEditTold result missing.new out.old out.new size.new answer.now }
+    ensures missing { ¬ (result ≡ 2) → ¬ (result ≡ 30) → missing.new ≡ missing.old }
+    ensures kept { IsKept result out.old out.new size.old size.new }
 {
     match answer {
         Ok(edit) => match written(alloc, edit) {
@@ -195,7 +205,7 @@ pub(crate) fn changes_of<'k>(
 }
 
 /// The changes of a listing, where a batch takes them.
-fn changes_at<'k>(
+pub(crate) fn changes_at<'k>(
     alloc: Global,
     keys: &'k [u8],
     ends: &[usize],

@@ -4,21 +4,25 @@
 //! contract of a call states the clauses of the library's call that it makes.
 //!
 //! - `values`, `stamps` and `cids` have the calls on values: records, keys, CIDs, nodes, stamps, commits.
-//! - `edits`, `given` and `listings` have those on trees that the caller keeps by itself, over the `nodes` that it hands in.
-//! - `repository`, `pages` and `sections` have those on a repository in memory, behind a `handle`.
+//! - `edits`, `below`, `given` and `listings` have those on trees that the caller keeps by itself, over the `nodes` that it hands in.
+//! - `opening`, `staging`, `reading`, `pages`, `files`, `sections` and `proving` have those on a repository in memory, behind a handle (`owned_repo::Repository`).
 //! - `changes` has those that prove which keys changed and how, and that check such a proof.
 #![tactic(auto)]
 
+mod below;
 mod changes;
 mod cids;
 mod codes;
 mod edits;
-mod given;
-mod handle;
+mod files;
 mod listings;
 mod nodes;
+mod opening;
 mod pages;
-mod repository;
+mod proving;
+mod reading;
 mod sections;
+mod staging;
 mod stamps;
 mod values;
+mod verifying;

@@ -1,16 +1,18 @@
 //! The root of a listing's tree, and the CAR file of a repository that takes it as one batch.
 
 ghost use Rattle.std.specs.Prelude.{◌≡◌, ◌++◌, length, map, option_map, nat_eq, false, true, IfOk, OnOk};
-ghost use Rattle.sha2.specs.Sha256.{sha256};
 ghost use Rattle.spec.specs.NodeFormat.{is_ascending as is_ascending_of};
 ghost use Rattle.batches.specs.Values.{stamp_of, writes_of};
 ghost use Rattle.scratch.specs.Pairs.{pairs_of};
 ghost use Rattle.buffers.specs.Framing.{cut};
 ghost use Rattle.owned_repo.specs.Owning.{opened};
 ghost use Rattle.tizulgech.specs.Trees.{batch_number, listing, puts, puts_in, IsFileOf, IsFiled, IsListed, IsTreeOf};
+ghost use Rattle.buffers.specs.Answers.{IsKept};
+ghost use Rattle.tizulgech.specs.Causes.{HasCause};
 
 use crate::codes::{BAD, CLASH, FULL, NO_MEMORY};
-use crate::repository::{car_handed, code_of_opening};
+use crate::files::car_handed;
+use crate::opening::code_of_opening;
 use crate::stamps::stamp_of_bytes;
 use batches::{RepoFault, Stamp, Write};
 use buffers::{DONE, pairs, slices};
@@ -31,8 +33,10 @@ pub extern "C" fn tizulgech_tree_root(
     nodes: &mut usize,
 ) -> u8
     requires { length out.old ≡ 36 }
-    ensures { nat_eq result 255 ≡ false → IsListed result out.new nodes.new
+    ensures answer { nat_eq result 255 ≡ false → IsListed result out.new nodes.new
         (listing keys.now ends.now cids.now) }
+    ensures root { ¬ (result ≡ 0) → out.new ≡ out.old }
+    ensures count { ¬ (result ≡ 0) → nodes.new ≡ nodes.old }
 {
     let Ok(pairs) = pairs_at(alloc, keys, ends, cids) else {
         return NO_MEMORY;
@@ -53,7 +57,8 @@ fn pairs_at(
     ends: &[usize],
     cids: &[u8],
 ) -> Result<Option<Vec<(Vec<u8>, Cid)>>, AllocError>
-    ensures { IfOk result (λ pairs. option_map (λ pairs. pairs_of (λ key. key.items) pairs.items) pairs
+    ensures { IfOk result (λ pairs. option_map (λ pairs. pairs_of
+        (λ key. key.items) pairs.items) pairs
         ≡ listing keys.now ends.now cids.now) }
 {
     let Some(parts) = slices(alloc, keys, ends)? else {
@@ -66,7 +71,9 @@ fn pairs_at(
 fn root_told(alloc: Global, pairs: &[(Vec<u8>, Cid)], out: &mut [u8], nodes: &mut usize) -> u8
     requires ascending { is_ascending_of (pairs_of (λ key. key.items) pairs.now) ≡ true }
     requires room { length out.old ≡ 36 }
-    ensures { IsTreeOf result out.new nodes.new (pairs_of (λ key. key.items) pairs.now) }
+    ensures answer { IsTreeOf result out.new nodes.new (pairs_of (λ key. key.items) pairs.now) }
+    ensures root { ¬ (result ≡ 0) → out.new ≡ out.old }
+    ensures count { ¬ (result ≡ 0) → nodes.new ≡ nodes.old }
 {
     match build::<Sha256, 2, _, _>(alloc, pairs) {
         Ok(built) => {
@@ -134,9 +141,11 @@ pub extern "C" fn tizulgech_listing_car(
     out: &mut [u8],
     size: &mut usize,
 ) -> u8
-    ensures { nat_eq result 255 ≡ false → IsFiled result out.old out.new size.new
+    ensures file { nat_eq result 255 ≡ false → IsFiled result out.old out.new size.new
         (record { did = did.now; rev = rev.now })
         (puts_in (cut 0 key_ends.now keys.now) (cut 0 record_ends.now records.now)) }
+    ensures kept { IsKept result out.old out.new size.old size.new }
+    ensures cause { HasCause result }
 {
     let Ok(writes) = puts_at(alloc, keys, key_ends, records, record_ends) else {
         return NO_MEMORY;
@@ -158,7 +167,10 @@ fn file_told(
     out: &mut [u8],
     size: &mut usize,
 ) -> u8
-    ensures { IsFileOf result out.old out.new size.new (stamp_of stamp.now) (writes_of writes.items) }
+    ensures file { IsFileOf result out.old out.new size.new
+        (stamp_of stamp.now) (writes_of writes.items) }
+    ensures kept { IsKept result out.old out.new size.old size.new }
+    ensures cause { HasCause result }
 {
     match OwnedRepo::open(alloc, 1_048_576) {
         Ok(mut repo) => batch_filed(alloc, &mut repo, stamp, writes, out, size),
@@ -176,7 +188,10 @@ fn batch_filed(
     size: &mut usize,
 ) -> u8
     requires { repo.old ≡ opened 1048576 }
-    ensures { IsFileOf result out.old out.new size.new (stamp_of stamp.now) (writes_of writes.items) }
+    ensures file { IsFileOf result out.old out.new size.new
+        (stamp_of stamp.now) (writes_of writes.items) }
+    ensures kept { IsKept result out.old out.new size.old size.new }
+    ensures cause { HasCause result }
 {
     let Ok(()) = stage_all(repo, writes) else {
         return NO_MEMORY;

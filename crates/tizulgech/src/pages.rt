@@ -1,18 +1,18 @@
 //! Lists in pages as large as the caller's room.
 
-ghost use Rattle.std.specs.Prelude.{◌≡◌, ◌+◌, ◌||◌, None, length, nat_eq, nat_le, IfOk, IfSome};
+ghost use Rattle.std.specs.Prelude.{◌≡◌, ◌+◌, ◌||◌, length, nat_eq, nat_le, IfOk, IfSome};
 ghost use Rattle.sha2.specs.Sha256.{sha256};
 ghost use Rattle.lookups.specs.Walks.{pairs_given};
 ghost use Rattle.repo.specs.Readings.{pairs_from};
-ghost use Rattle.buffers.specs.Answers.{pair_bytes, pairs_bytes};
+ghost use Rattle.buffers.specs.Answers.{pair_bytes, pairs_bytes, IsKept};
 ghost use Rattle.tizulgech.specs.Numbers.{IsHandedOr255};
 ghost use Rattle.tizulgech.specs.Parting.{page_of};
+ghost use Rattle.tizulgech.specs.Handles.{OnlyReads};
 
 use crate::codes::{CLOSED, NO_MEMORY};
-use crate::handle::Repository;
 use buffers::{hand, push_pair};
 use cid::Cid;
-use owned_repo::OwnedRepo;
+use owned_repo::{OwnedRepo, Repository};
 use std::alloc::{AllocError, Global};
 
 /// Of the first `most` pairs of a key and its record's CID, from a key on, as many as there is room for: for each the key's
@@ -30,8 +30,8 @@ pub extern "C" fn tizulgech_entries(
     ensures page { IfSome repository.old.handle.repo (λ o. IsHandedOr255 result
         (pairs_bytes (page_of (length out.old) (pairs_from sha256 o.state from.now most)))
         out.old out.new size.new) }
-    ensures unchanged { repository.new.handle.repo ≡ repository.old.handle.repo }
-    ensures closed { repository.old.handle.repo ≡ None → result ≡ 250 }
+    ensures read { OnlyReads result repository.old.handle.repo repository.new.handle.repo }
+    ensures kept { IsKept result out.old out.new size.old size.new }
 {
     let Some(repo) = repository.taken(alloc) else {
         return CLOSED;
@@ -50,9 +50,10 @@ fn page_told(
     out: &mut [u8],
     size: &mut usize,
 ) -> u8
-    ensures { IsHandedOr255 result
+    ensures answer { IsHandedOr255 result
         (pairs_bytes (page_of (length out.old) (pairs_from sha256 repo.now.state from.now most)))
         out.old out.new size.new }
+    ensures kept { IsKept result out.old out.new size.old size.new }
 {
     match page_bytes(alloc, repo, from, most, out.len()) {
         Ok(bytes) => hand(&bytes, out, size),

@@ -1,6 +1,6 @@
 //! The file of a repository in parts of which none is made twice, and what stands below a node.
 
-ghost use Rattle.std.specs.Prelude.{◌≡◌, ◌++◌, None, is_some, option_map, IfOk, OnOk, IfSome};
+ghost use Rattle.std.specs.Prelude.{◌≡◌, ◌++◌, None, option_map, IfOk, OnOk, IfSome};
 ghost use Rattle.sha2.specs.Sha256.{sha256};
 ghost use Rattle.spec.specs.Car.{header, section};
 ghost use Rattle.spec.specs.Commits.{car_root};
@@ -11,14 +11,15 @@ ghost use Rattle.cid.specs.CidRef.{bytes_of};
 ghost use Rattle.buffers.specs.Framing.{cid_at};
 ghost use Rattle.tizulgech.specs.Numbers.{IsHandedOr255};
 ghost use Rattle.tizulgech.specs.Parting.{AreLinks, IsHandedIfThere, IsSectionOf, links_bytes, node_link, record_link};
+ghost use Rattle.buffers.specs.Answers.{IsKept};
+ghost use Rattle.tizulgech.specs.Handles.{OnlyReads};
 
 use crate::codes::{BAD, BAD_NODE, CLOSED, NO_MEMORY, NONE};
-use crate::handle::Repository;
 use buffers::{cid_in, hand};
-use car_parts::{car_head, car_section};
 use cid::{Cid, CidRef};
+use export::{car_head, car_section};
 use node::NodeView;
-use owned_repo::OwnedRepo;
+use owned_repo::{OwnedRepo, Repository};
 use std::alloc::{AllocError, Global};
 
 /// The header of the CAR file (CARv1) of the repository: 0, 250, 251, 255. Behind it come the sections of its blocks.
@@ -32,8 +33,8 @@ pub extern "C" fn tizulgech_car_head(
     ensures head { IfSome repository.old.handle.repo (λ o. IsHandedOr255 result
         (header (car_root (state_commit sha256 2 o.state) (state_root sha256 2 o.state)))
         out.old out.new size.new) }
-    ensures unchanged { repository.new.handle.repo ≡ repository.old.handle.repo }
-    ensures closed { repository.old.handle.repo ≡ None → result ≡ 250 }
+    ensures read { OnlyReads result repository.old.handle.repo repository.new.handle.repo }
+    ensures kept { IsKept result out.old out.new size.old size.new }
 {
     let Some(repo) = repository.taken(alloc) else {
         return CLOSED;
@@ -45,9 +46,10 @@ pub extern "C" fn tizulgech_car_head(
 
 /// The same of a repository.
 fn head_told(alloc: Global, repo: &OwnedRepo, out: &mut [u8], size: &mut usize) -> u8
-    ensures { IsHandedOr255 result
+    ensures answer { IsHandedOr255 result
         (header (car_root (state_commit sha256 2 repo.now.state) (state_root sha256 2 repo.now.state)))
         out.old out.new size.new }
+    ensures kept { IsKept result out.old out.new size.old size.new }
 {
     match head_bytes(alloc, repo) {
         Ok(head) => hand(&head, out, size),
@@ -77,8 +79,8 @@ pub extern "C" fn tizulgech_car_section(
     ensures section { IfSome repository.old.handle.repo (λ o. IsSectionOf result
         (λ c. option_map (section sha256) (state_block sha256 2 o.state c)) (cid_at cid.now)
         out.old out.new size.new) }
-    ensures unchanged { repository.new.handle.repo ≡ repository.old.handle.repo }
-    ensures closed { repository.old.handle.repo ≡ None → result ≡ 250 }
+    ensures read { OnlyReads result repository.old.handle.repo repository.new.handle.repo }
+    ensures kept { IsKept result out.old out.new size.old size.new }
 {
     let Some(repo) = repository.taken(alloc) else {
         return CLOSED;
@@ -90,9 +92,10 @@ pub extern "C" fn tizulgech_car_section(
 
 /// The same of a repository.
 fn section_in(alloc: Global, repo: &OwnedRepo, cid: &[u8], out: &mut [u8], size: &mut usize) -> u8
-    ensures { IsSectionOf result
+    ensures answer { IsSectionOf result
         (λ c. option_map (section sha256) (state_block sha256 2 repo.now.state c)) (cid_at cid.now)
         out.old out.new size.new }
+    ensures kept { IsKept result out.old out.new size.old size.new }
 {
     match cid_in(cid) {
         Some(cid) => section_told(alloc, repo, &cid, out, size),
@@ -102,9 +105,10 @@ fn section_in(alloc: Global, repo: &OwnedRepo, cid: &[u8], out: &mut [u8], size:
 
 /// The same of a CID.
 fn section_told(alloc: Global, repo: &OwnedRepo, cid: &Cid, out: &mut [u8], size: &mut usize) -> u8
-    ensures { IsHandedIfThere result
+    ensures answer { IsHandedIfThere result
         (option_map (section sha256) (state_block sha256 2 repo.now.state cid.now))
         out.old out.new size.new }
+    ensures kept { IsKept result out.old out.new size.old size.new }
 {
     match section_bytes(alloc, repo, cid) {
         Ok(Some(section)) => hand(&section, out, size),
@@ -130,7 +134,8 @@ pub extern "C" fn tizulgech_links(
     out: &mut [u8],
     size: &mut usize,
 ) -> u8
-    ensures { AreLinks result (read_node node.now) out.old out.new size.new }
+    ensures answer { AreLinks result (read_node node.now) out.old out.new size.new }
+    ensures kept { IsKept result out.old out.new size.old size.new }
 {
     let Ok(view) = NodeView::parse(node) else {
         return BAD_NODE;
@@ -140,8 +145,9 @@ pub extern "C" fn tizulgech_links(
 
 /// The same of a node.
 fn links_told(alloc: Global, view: &NodeView<'_>, out: &mut [u8], size: &mut usize) -> u8
-    ensures { IsHandedOr255 result (links_bytes view.now.left view.now.entries)
+    ensures answer { IsHandedOr255 result (links_bytes view.now.left view.now.entries)
         out.old out.new size.new }
+    ensures kept { IsKept result out.old out.new size.old size.new }
 {
     match links_of(alloc, view) {
         Ok(bytes) => hand(&bytes, out, size),

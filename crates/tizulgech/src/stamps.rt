@@ -6,6 +6,7 @@ ghost use Rattle.spec.specs.Stamps.{is_did as is_did_of, is_tid as is_tid_of, st
 ghost use Rattle.batches.specs.Values.{stamp_of};
 ghost use Rattle.buffers.specs.Framing.{cid_at};
 ghost use Rattle.tizulgech.specs.Numbers.{last_rev, stamp_answer, IsCommitted};
+ghost use Rattle.buffers.specs.Answers.{IsKept};
 
 use crate::codes::{BAD, NO_MEMORY};
 use batches::{Stamp, commit_bytes, is_did, is_tid};
@@ -67,8 +68,9 @@ pub extern "C" fn tizulgech_commit_bytes(
     out: &mut [u8],
     size: &mut usize,
 ) -> u8
-    ensures { IsCommitted result (record { did = did.now; rev = rev.now }) (cid_at root.now)
+    ensures answer { IsCommitted result (record { did = did.now; rev = rev.now }) (cid_at root.now)
         out.old out.new size.new }
+    ensures kept { IsKept result out.old out.new size.old size.new }
 {
     let Some(root) = cid_in(root) else {
         return BAD;

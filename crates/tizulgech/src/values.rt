@@ -15,7 +15,7 @@ use crate::codes::{
     BAD, BAD_NODE, NO_MEMORY, code_of_fault, code_of_record, tell_cid, write_of_kind,
 };
 use batches::{Write, test_write};
-use buffers::DONE;
+use buffers::{DONE, cid_in};
 use cid::{Cid, Sha256};
 use node::{NodeView, Place};
 use std::alloc::Global;
@@ -107,17 +107,15 @@ pub extern "C" fn tizulgech_cid(block: &[u8], out: &mut [u8])
     out.copy_from_slice(Cid::of::<Sha256>(block).as_bytes());
 }
 
-/// The text of a CID of 36 bytes; false where the bytes are no CID of this profile.
+/// The text of a CID; false where the bytes are none of this profile, and then nothing is written.
 #[unsafe(no_mangle)]
 pub extern "C" fn tizulgech_cid_text(cid: &[u8], out: &mut [u8]) -> bool
-    requires size { length cid.now ≡ 36 }
     requires room { length out.old ≡ 59 }
     ensures own { result ≡ is_own_cid cid.now }
     ensures text { result ≡ true → out.new ≡ text_of cid.now }
+    ensures kept { result ≡ false → out.new ≡ out.old }
 {
-    let mut bytes = [0; 36];
-    bytes.copy_from_slice(cid);
-    match Cid::from_bytes(bytes) {
+    match cid_in(cid) {
         Some(cid) => {
             out.copy_from_slice(&cid.text());
             true
@@ -131,7 +129,8 @@ pub extern "C" fn tizulgech_cid_text(cid: &[u8], out: &mut [u8]) -> bool
 #[tactic(auto, using(crate::proofs::Told::cid_told))]
 pub extern "C" fn tizulgech_cid_from_text(text: &[u8], out: &mut [u8]) -> u8
     requires room { length out.old ≡ 36 }
-    ensures { IsCidRead result out.new (cid_of_text text.now) }
+    ensures read { IsCidRead result out.new (cid_of_text text.now) }
+    ensures kept { ¬ (result ≡ 0) → out.new ≡ out.old }
 {
     let read = Cid::from_text(text);
     tell_cid(&read, out)
@@ -142,7 +141,8 @@ pub extern "C" fn tizulgech_cid_from_text(text: &[u8], out: &mut [u8]) -> u8
 #[unsafe(no_mangle)]
 pub extern "C" fn tizulgech_step(node: &[u8], key: &[u8], out: &mut [u8]) -> u8
     requires room { length out.old ≡ 36 }
-    ensures { IsStepIn result out.new key.now (read_node node.now) }
+    ensures step { IsStepIn result out.new key.now (read_node node.now) }
+    ensures kept { ¬ (result ≡ 0) → ¬ (result ≡ 1) → out.new ≡ out.old }
 {
     let Ok(view) = NodeView::parse(node) else {
         return BAD_NODE;

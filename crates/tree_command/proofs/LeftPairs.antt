@@ -1,5 +1,5 @@
 -- The pairs that lines leave: keys of 1 to 1,024 bytes that ascend strictly, each with a CID of the host's form.
-use Rattle.std.proofs.Common.{◌≡◌, ℕ, ◌+◌, Bool, true, false, ◌&&◌, T, List, [], ◌∷◌, ◌++◌, Ordering, Less, Equal, Greater, refl, ap, subst}
+use Rattle.std.proofs.Common.{◌≡◌, ℕ, Bool, true, false, ◌&&◌, T, List, [], ◌∷◌, Ordering, Less, Equal, Greater, refl, ap, subst, ◌∙◌}
 use Rattle.std.specs.Prelude.{fold, Result, Ok, Err}
 use Rattle.std.specs.List.{list_all, before_last, after_last, list_any}
 use Rattle.std.specs.FinMap.{put, is_sorted, slice_cmp-IsAntisymmetric, nat_cmp-IsAntisymmetric}
@@ -8,8 +8,11 @@ use Rattle.spec.specs.Cid.{CidFault, is_own_cid, cid_of_text}
 use Rattle.spec.specs.NodeFormat.{is_key, is_ascending}
 use Rattle.spec.proofs.Taking.{bind_then, ensure_ok, ok_is}
 use Rattle.spec.proofs.CidTexts.{cid_of_text_takes}
-use Rattle.console.specs.Lines.{lines, is_space}
-use Rattle.tree_command.specs.TreeText.{LineFault, TreeFault, BadLine, BadKey, or_bad_cid, pair_of_line, at_line, pairs_on_line, pairs_of_lines, last_of_each_key, map_of_input}
+use Rattle.console.specs.Lines.{numbered_lines, is_space}
+use Rattle.spec.proofs.RecordPairs.{repository-key}
+use Rattle.tree_command.specs.declared.keys.Keys.{Keys}
+use Rattle.tree_command.specs.declared.keys.Keys.TheVariants as keys
+use Rattle.tree_command.specs.TreeText.{LineFault, TreeFault, BadLine, BadKey, is_taken, or_bad_cid, pair_of_line, at_line, pairs_of_lines, last_of_each_key, map_of_input}
 use Rattle.tree_command.proofs.LastLines.{order, is_sorted-last_of_each_key}
 
 -- ---- a line's pair
@@ -23,14 +26,19 @@ own_cid : (r : Result (List ℕ) CidFault) (c : List ℕ) → or_bad_cid r ≡ O
 own_cid (Ok x) c e = ap Ok (ok_is LineFault x c e)
 own_cid (Err f) c e = absurd cc
 
-good_line : (l : List ℕ) (e : Pair) → pair_of_line l ≡ Ok e → IsGood e
+-- a key that is taken is a key of a tree
+taken_key : (taken : Keys) (key : List ℕ) → is_taken taken key ≡ true → is_key key ≡ true
+taken_key keys.Any key is = is
+taken_key keys.Paths key is = repository-key key is
+
+good_line : (taken : Keys) (l : List ℕ) (e : Pair) → pair_of_line taken l ≡ Ok e → IsGood e
 unfolding pair_of_line
-good_line l e is =
+good_line taken l e is =
     let spaced = ensure_ok (list_any is_space l) BadLine _ e is in
-    let keyed = ensure_ok (is_key (before_last is_space l)) BadKey _ e spaced.1 in
+    let keyed = ensure_ok (is_taken taken (before_last is_space l)) BadKey _ e spaced.1 in
     bind_then (or_bad_cid (cid_of_text (after_last is_space l))) _ e keyed.1 (λ c read made.
     let pair : (before_last is_space l, c) ≡ e = ok_is LineFault _ _ made in
-    subst IsGood pair (record { key = keyed.0; value = (cid_of_text_takes (after_last is_space l) c (own_cid (cid_of_text (after_last is_space l)) c read)).2 }))
+    subst IsGood pair (record { key = taken_key taken _ keyed.0; value = (cid_of_text_takes (after_last is_space l) c (own_cid (cid_of_text (after_last is_space l)) c read)).2 }))
 
 -- ---- what holds of each line's pair holds of each pair that is left
 
@@ -47,10 +55,6 @@ other true b h = h
 other false b h = absurd cc
 
 module _ (p : Pair → Bool) where
-  all-append : (xs ys : List Pair) → list_all p xs ≡ true → list_all p ys ≡ true → list_all p (xs ++ ys) ≡ true
-  all-append [] ys f g = g
-  all-append (x ∷ xs) ys f g = both (p x) (list_all p (xs ++ ys)) (one (p x) (list_all p xs) f) (all-append xs ys (other (p x) (list_all p xs) f) g)
-
   put-by : (k v : List ℕ) (e : Pair) (es : List Pair) (o : Ordering) → order k e.0 ≡ o → p (k, v) ≡ true → p e ≡ true → list_all p es ≡ true → list_all p (put order k v es) ≡ true
       → list_all p (put order k v (e ∷ es)) ≡ true
   put-by k v e es Less t f here rest after = rw t (both (p (k, v)) (p e && list_all p es) f (both (p e) (list_all p es) here rest))
@@ -68,33 +72,29 @@ module _ (p : Pair → Bool) where
   all-fold m [] f g = f
   all-fold m (e ∷ es) f g = all-fold (put order e.0 e.1 m) es (all-put e.0 e.1 m (one (p e) (list_all p es) g) f) (other (p e) (list_all p es) g)
 
-  module _ (good : (l : List ℕ) (e : Pair) → pair_of_line l ≡ Ok e → p e ≡ true) where
-    all-at : (n : ℕ) (l : List ℕ) (r : Result Pair LineFault) (es : List Pair) → pair_of_line l ≡ r → at_line n r ≡ Ok es → list_all p es ≡ true
-    all-at n l (Ok e) es is made = subst (λ (fs : List Pair). list_all p fs ≡ true) (ok_is TreeFault (e ∷ []) es made) (both (p e) true (good l e is) refl)
-    all-at n l (Err f) es is made = absurd cc
+  module _ (taken : Keys) (good : (l : List ℕ) (e : Pair) → pair_of_line taken l ≡ Ok e → p e ≡ true) where
+    at : (n : ℕ) (l : List ℕ) (r : Result Pair LineFault) (e : Pair) → pair_of_line taken l ≡ r → at_line n r ≡ Ok e → p e ≡ true
+    at n l (Ok f) e is made = good l e (is ∙ ap Ok (ok_is TreeFault f e made))
+    at n l (Err f) e is made = absurd cc
 
-    all-on : (n : ℕ) (l : List ℕ) (es : List Pair) → pairs_on_line n l ≡ Ok es → list_all p es ≡ true
-    all-on n [] es made = subst (λ (fs : List Pair). list_all p fs ≡ true) (ok_is TreeFault [] es made) refl
-    all-on n (c ∷ l) es made = all-at n (c ∷ l) (pair_of_line (c ∷ l)) es refl made
-
-    all-of : (n : ℕ) (ls : List (List ℕ)) (es : List Pair) → pairs_of_lines n ls ≡ Ok es → list_all p es ≡ true
+    all-of : (ls : List (ℕ × List ℕ)) (es : List Pair) → pairs_of_lines taken ls ≡ Ok es → list_all p es ≡ true
     unfolding pairs_of_lines
-    all-of n [] es made = subst (λ (fs : List Pair). list_all p fs ≡ true) (ok_is TreeFault [] es made) refl
-    all-of n (l ∷ ls) es made =
-        bind_then (pairs_on_line n l) _ es made (λ fs on next.
-        bind_then (pairs_of_lines (n + 1) ls) _ es next (λ more of last.
-        subst (λ (gs : List Pair). list_all p gs ≡ true) (ok_is TreeFault (fs ++ more) es last) (all-append fs more (all-on n l fs on) (all-of (n + 1) ls more of))))
+    all-of [] es made = subst (λ (fs : List Pair). list_all p fs ≡ true) (ok_is TreeFault [] es made) refl
+    all-of (l ∷ ls) es made =
+        bind_then (at_line l.0 (pair_of_line taken l.1)) _ es made (λ e on next.
+        bind_then (pairs_of_lines taken ls) _ es next (λ more of last.
+        subst (λ (gs : List Pair). list_all p gs ≡ true) (ok_is TreeFault (e ∷ more) es last) (both (p e) (list_all p more) (at l.0 l.1 _ e refl on) (all-of ls more of))))
 
-    all-left : (input : List ℕ) (m : List Pair) → map_of_input input ≡ Ok m → list_all p m ≡ true
+    all-left : (input : List ℕ) (m : List Pair) → map_of_input taken input ≡ Ok m → list_all p m ≡ true
     unfolding map_of_input
     all-left input m made =
-        bind_then (pairs_of_lines 1 (lines input)) _ m made (λ es of left.
-        subst (λ (gs : List Pair). list_all p gs ≡ true) (ok_is TreeFault (last_of_each_key es) m left) (all-fold [] es refl (all-of 1 (lines input) es of)))
+        bind_then (pairs_of_lines taken (numbered_lines input)) _ m made (λ es of left.
+        subst (λ (gs : List Pair). list_all p gs ≡ true) (ok_is TreeFault (last_of_each_key es) m left) (all-fold [] es refl (all-of (numbered_lines input) es of)))
 
-sorted-left : (input : List ℕ) (m : List Pair) → map_of_input input ≡ Ok m → is_sorted order m ≡ true
+sorted-left : (taken : Keys) (input : List ℕ) (m : List Pair) → map_of_input taken input ≡ Ok m → is_sorted order m ≡ true
 unfolding map_of_input
-sorted-left input m made =
-    bind_then (pairs_of_lines 1 (lines input)) _ m made (λ es of left.
+sorted-left taken input m made =
+    bind_then (pairs_of_lines taken (numbered_lines input)) _ m made (λ es of left.
     subst (λ (gs : List Pair). is_sorted order gs ≡ true) (ok_is TreeFault (last_of_each_key es) m left) (from_T _ (is_sorted-last_of_each_key es)))
   where
     from_T : (b : Bool) → T b → b ≡ true
@@ -103,5 +103,5 @@ sorted-left input m made =
 
 -- ---- what is left
 
-pub ascending-left : (input : List ℕ) (m : List Pair) → map_of_input input ≡ Ok m → is_ascending m ≡ true
-ascending-left input m made = both (is_sorted order m) (list_all (λ e. is_key e.0) m) (sorted-left input m made) (all-left (λ e. is_key e.0) (λ l e is. (good_line l e is).key) input m made)
+pub ascending-left : (taken : Keys) (input : List ℕ) (m : List Pair) → map_of_input taken input ≡ Ok m → is_ascending m ≡ true
+ascending-left taken input m made = both (is_sorted order m) (list_all (λ e. is_key e.0) m) (sorted-left taken input m made) (all-left (λ e. is_key e.0) taken (λ l e is. (good_line taken l e is).key) input m made)

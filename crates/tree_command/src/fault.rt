@@ -1,9 +1,9 @@
 //! Why there is no listing of a tree.
 ghost use Rattle.std.specs.Prelude.{◌≡◌};
 ghost use Rattle.tree_command.specs.declared.fault.TreeFault.TheVariants as errors;
-ghost use Rattle.tree_command.specs.Fault.{of_read, of_write};
+ghost use Rattle.tree_command.specs.Fault.{of_read, status_of};
 
-use console::{Decimal, ReadFault, WriteFault};
+use console::{Decimal, FAULTY, IO_FAILED, NO_MEMORY, ReadFault};
 use std::alloc::AllocError;
 use thiserror::Error;
 
@@ -13,7 +13,7 @@ pub enum LineFault {
     /// There is no space.
     #[error("BadLine")]
     BadLine,
-    /// The key, which is all before the last space, doesn't have 1 to 1,024 bytes.
+    /// The key, which is all before the last space, isn't one that is taken (`Keys`).
     #[error("BadKey")]
     BadKey,
     /// What follows the last space isn't the text of a CID of a block of this host.
@@ -21,11 +21,10 @@ pub enum LineFault {
     BadCid,
 }
 
-/// Why there is no listing of a tree, or not all of it. Standard error shows these names, which are this repository's
-/// own.
+/// Why there is no listing of a tree. Standard error shows these names, which are this repository's own.
 #[derive(Clone, Copy, PartialEq, Eq, Debug, Error)]
 pub enum TreeFault {
-    /// This line of the input is the first faulty one. Nothing was written.
+    /// This line of the input is the first faulty one.
     #[error("line {line}: {fault}", line = Decimal(*.number))]
     Line {
         /// The line's number, from 1. Empty lines count.
@@ -33,18 +32,28 @@ pub enum TreeFault {
         /// What is wrong with it.
         fault: LineFault,
     },
-    /// Two different nodes of the tree have one CID. Nothing was written.
+    /// Two different nodes of the tree have one CID.
     #[error("Clash")]
     Clash,
-    /// An allocation was refused. A beginning of the listing may have been written.
+    /// An allocation was refused.
     #[error("no memory")]
     NoMemory,
-    /// The input can't be read. Nothing was written.
+    /// The input can't be read.
     #[error("read failed")]
     ReadFailed,
-    /// The listing can't be written. A beginning of it may have been written.
-    #[error("write failed")]
-    WriteFailed,
+}
+
+impl TreeFault {
+    /// The exit status that says so.
+    pub fn status(self) -> u8
+        ensures { result ≡ status_of self }
+    {
+        match self {
+            TreeFault::Line { .. } | TreeFault::Clash => FAULTY,
+            TreeFault::NoMemory => NO_MEMORY,
+            TreeFault::ReadFailed => IO_FAILED,
+        }
+    }
 }
 
 impl From<AllocError> for TreeFault {
@@ -62,17 +71,6 @@ impl From<ReadFault> for TreeFault {
         match fault {
             ReadFault::NoMemory => TreeFault::NoMemory,
             ReadFault::Failed => TreeFault::ReadFailed,
-        }
-    }
-}
-
-impl From<WriteFault> for TreeFault {
-    ghost from_gives = { λ f e. e ≡ of_write f };
-
-    fn from(fault: WriteFault) -> TreeFault {
-        match fault {
-            WriteFault::NoMemory => TreeFault::NoMemory,
-            WriteFault::Failed => TreeFault::WriteFailed,
         }
     }
 }

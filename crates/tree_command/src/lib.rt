@@ -3,25 +3,32 @@
 //!
 //! - `tree_text` reads the lines and writes the listing, with the fault as a value: under a digest and a fan-out fixed by
 //!   types, and with any allocator.
-//! - `Bits` is a fan-out chosen while the program runs.
+//! - `TreeOptions` says how: with which fan-out (`Bits`), and which keys are taken (`Keys`).
 //! - `TreeFault` says why there is no listing, or not all of it.
 //!
-//! A program has it by `with_words`, `bits_of` and `run`: what help shows of it, the fan-out that a command line asks for, and
-//! its run to the exit status.
+//! For a repository take `Keys::Paths`: then a line whose key is no record's is refused, and no tree of something else is
+//! listed. In a shell: `msthost tree --paths < examples/repository.txt`.
+//!
+//! A program has it by `with_words`, `options_of` and `run`: what help shows of it, what a command line tells it, and its run
+//! to the exit status.
 #![tactic(auto)]
 
 mod bits;
 mod fault;
 mod key;
+mod keys;
 mod line;
 mod listing;
 mod node_lines;
+mod options;
 mod running;
 mod text;
 mod words;
 
 pub use bits::Bits;
 pub use fault::{LineFault, TreeFault};
+pub use keys::Keys;
+pub use options::TreeOptions;
 pub use running::run;
 pub use text::tree_text;
-pub use words::{EXAMPLE, bits_of, with_words};
+pub use words::{EXAMPLE, options_of, with_words};

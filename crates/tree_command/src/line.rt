@@ -7,19 +7,20 @@ ghost use Rattle.tree_command.specs.TreeText.{pair_of_line as pair_of_line_of};
 ghost use Rattle.tree_command.specs.Fault.{some_line_fault_of};
 
 use crate::fault::LineFault;
+use crate::keys::{Keys, is_taken};
 use bstr::ByteSlice;
 use cid::Cid;
-use scratch::is_key;
 
-/// The key and the CID of a line `KEY CID`: the key is all before the last space, and is tested first.
+/// The key and the CID of a line `KEY CID`: the key is all before the last space, and whether it is taken is tested first.
 #[tactic(auto, unfolding(crate::specs::TreeText::pair_of_line))]
-pub(crate) fn pair_of_line(line: &[u8]) -> Result<(&[u8], Cid), LineFault>
-    ensures { Gives (λ e. (e.0.now, e.1)) some_line_fault_of result (pair_of_line_of line.now) }
+pub(crate) fn pair_of_line(taken: Keys, line: &[u8]) -> Result<(&[u8], Cid), LineFault>
+    ensures { Gives (λ e. (e.0.now, e.1)) some_line_fault_of result
+        (pair_of_line_of taken line.now) }
 {
     let Some((key, text)) = around_last_space(line) else {
         return Err(LineFault::BadLine);
     };
-    if !is_key(key) {
+    if !is_taken(taken, key) {
         return Err(LineFault::BadKey);
     }
     match Cid::from_text(text) {

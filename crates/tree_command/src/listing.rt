@@ -1,34 +1,30 @@
 //! The pairs of key and CID that the lines of an input leave.
-ghost use Rattle.std.specs.Prelude.{◌≡◌, [], ◌∷◌, ◌++◌, true, IfErr, OnOk};
+ghost use Rattle.std.specs.Prelude.{◌≡◌, [], ◌∷◌, ◌++◌, OnOk};
 ghost use Rattle.spec.specs.Reading.{Gives};
-ghost use Rattle.console.specs.Lines.{lines};
+ghost use Rattle.console.specs.Lines.{numbered_lines as numbered_lines_of};
 ghost use Rattle.tree_command.specs.TreeText.{pairs_of_lines, last_of_each_key, map_of_input as map_of};
-ghost use Rattle.tree_command.specs.Fault.{fault_of, is_of_input};
+ghost use Rattle.tree_command.specs.Fault.{tree_fault_of};
 
 use crate::fault::TreeFault;
 use crate::key::ListedKey;
+use crate::keys::Keys;
 use crate::line::pair_of_line;
-use bstr::ByteSlice;
 use cid::Cid;
+use console::numbered_lines;
 use std::alloc::{AllocError, Allocator};
 
 /// The pairs in the order of their lines, or the first line that is faulty.
 pub(crate) fn pairs_of_input<A: Allocator>(
+    taken: Keys,
     alloc: A,
     input: &[u8],
 ) -> Result<Vec<(ListedKey<'_>, Cid), A>, TreeFault>
-    ensures pairs { Gives (λ pairs. pairs.items) fault_of result
-        (pairs_of_lines 1 (lines input.now)) }
-    ensures kind { IfErr result (λ e. is_of_input e ≡ true) }
+    ensures { Gives (λ pairs. pairs.items) tree_fault_of result
+        (pairs_of_lines taken (numbered_lines_of input.now)) }
 {
     let mut pairs = Vec::new(alloc);
-    let mut number = 0;
-    for line in input.lines() {
-        number += 1;
-        if line.is_empty() {
-            continue;
-        }
-        match pair_of_line(line) {
+    for (number, line) in numbered_lines(input) {
+        match pair_of_line(taken, line) {
             Ok(pair) => push_pair(&mut pairs, pair)?,
             Err(fault) => return Err(TreeFault::Line { number, fault }),
         }
@@ -63,13 +59,13 @@ pub(crate) fn keep_last_of_each_key<A: Allocator>(
 /// The map that the lines of an input leave, in the order of its keys, or the first line that is faulty.
 #[tactic(auto, unfolding(crate::specs::TreeText::map_of_input))]
 pub(crate) fn map_of_input<A: Allocator>(
+    taken: Keys,
     alloc: A,
     input: &[u8],
 ) -> Result<Vec<(ListedKey<'_>, Cid), A>, TreeFault>
-    ensures map { Gives (λ pairs. pairs.items) fault_of result (map_of input.now) }
-    ensures kind { IfErr result (λ e. is_of_input e ≡ true) }
+    ensures { Gives (λ pairs. pairs.items) tree_fault_of result (map_of taken input.now) }
 {
-    let mut pairs = pairs_of_input(alloc, input)?;
+    let mut pairs = pairs_of_input(taken, alloc, input)?;
     keep_last_of_each_key(&mut pairs)?;
     Ok(pairs)
 }

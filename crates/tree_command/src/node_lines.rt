@@ -3,18 +3,36 @@ ghost use Rattle.std.specs.Prelude.{◌∷◌, [], ◌++◌, map};
 ghost use Rattle.std.specs.Arc.{arc_value};
 ghost use Rattle.std.specs.List.{flat_map};
 ghost use Rattle.spec.specs.Cid.{text};
-ghost use Rattle.tree_command.specs.TreeText.{block_line};
+ghost use Rattle.tree_command.specs.TreeText.{block_line, text_of_tree};
+ghost use Rattle.tree_command.specs.Outcomes.{seen};
+ghost use Rattle.console.specs.Faults.{IsWritten};
 ghost use Rattle.console.specs.Written.{Writes};
 
+use crate::fault::TreeFault;
 use block::Block;
 use cid::{Cid, Digest};
-use console::{WriteFault, write_hex, write_whole};
+use console::{CommandFault, WriteFault, write_hex, write_whole};
+use scratch::Built;
 use std::alloc::Allocator;
 use std::io::Write;
 use std::sync::Arc;
 
+/// Writes the listing of a tree that was made, if one was.
+pub(crate) fn write_listed<D: Digest, A: Allocator, W: Write>(
+    made: Result<Built<D, A>, TreeFault>,
+    out: &mut W,
+) -> Result<(), CommandFault<TreeFault>>
+    ensures { IsWritten (λ built. text_of_tree D.digest_of (seen built)) made
+        (W.contents out.old) (W.contents out.new) result }
+{
+    match made {
+        Ok(built) => Ok(write_tree(out, built.root, &built.blocks)?),
+        Err(fault) => Err(CommandFault::NoText(fault)),
+    }
+}
+
 /// Writes the text of the root's CID, and then a line for each block.
-pub(crate) fn write_tree<D: Digest, A: Allocator, W: Write>(
+fn write_tree<D: Digest, A: Allocator, W: Write>(
     out: &mut W,
     root: Cid,
     blocks: &[Arc<Block<D, A>, A>],

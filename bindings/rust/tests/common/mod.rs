@@ -56,15 +56,37 @@ pub fn no_pairs() -> (Cid, Nodes) {
     (root, HashMap::from([(root, tree::EMPTY_NODE.to_vec())]))
 }
 
+/// A node without entries, over another one.
+pub fn node_over(root: &Cid) -> Vec<u8> {
+    [b"\xa2\x61e\x80\x61l\xd8\x2a\x58\x25\0", &root.as_bytes()[..]].concat()
+}
+
+/// A node of one pair, with a link before it and one behind it.
+fn node_of(left: Option<&Cid>, key: &[u8], right: Option<&Cid>) -> Vec<u8> {
+    let link = |cid: Option<&Cid>| cid.map_or(vec![0xf6], |cid| [&b"\xd8\x2a\x58\x25\0"[..], cid.as_bytes()].concat());
+    let mut bytes = b"\xa2\x61e\x81\xa4\x61k".to_vec();
+    bytes.push(0x40 + key.len() as u8);
+    bytes.extend([key, b"\x61p\0\x61t", &link(right), b"\x61v", &link(Some(&Cid::of(b""))), b"\x61l", &link(left)].concat());
+    bytes
+}
+
+/// A key, and three nodes, the first one over the others, that meet where the key goes, with their own keys in no order.
+pub fn nodes_of_no_tree() -> (String, [Vec<u8>; 3]) {
+    let high = (0..).map(|number| format!("b{number}")).find(|key| layer(key) == 1).unwrap();
+    let (before, behind) = (node_of(None, b"z", None), node_of(None, b"a", None));
+    let top = node_of(Some(&Cid::of(&before)), high.as_bytes(), Some(&Cid::of(&behind)));
+    (high, [top, before, behind])
+}
+
 /// What a host's map of nodes gives.
-pub fn from(nodes: &Nodes) -> impl FnMut(&Cid) -> Result<Option<Vec<u8>>, ()> + '_ {
-    |cid| Ok(nodes.get(cid).cloned())
+pub fn from<'a>(nodes: &'a Nodes) -> impl FnMut(&Cid) -> Result<Option<&'a Vec<u8>>, ()> + 'a {
+    |cid| Ok(nodes.get(cid))
 }
 
 /// The same of nodes that are known to be those of their CIDs.
-pub fn known(nodes: &Nodes) -> impl FnMut(&Cid) -> Result<Option<tree::Known>, ()> + '_ {
+pub fn known<'a>(nodes: &'a Nodes) -> impl FnMut(&Cid) -> Result<Option<tree::Known<&'a Vec<u8>>>, ()> + 'a {
     // SAFETY: they stand under the CIDs that the library told with them.
-    |cid| Ok(nodes.get(cid).cloned().map(|node| unsafe { tree::Known::of(node) }))
+    |cid| Ok(nodes.get(cid).map(|node| unsafe { tree::Known::of(*cid, node) }))
 }
 
 /// Does an edit to a host's map of nodes, and answers the root and the values before it.

@@ -5,7 +5,8 @@ use Rattle.spec.specs.Layer.{layer as layer_of_key}
 use Rattle.spec.specs.Tree.{Pair, top, top_layer}
 use Rattle.spec.specs.NodeFormat.{Shape, shape}
 use Rattle.spec.specs.Blocks.{ArePairs, root}
-use Rattle.edit_laws.specs.Sources.{HasNodes, shown_by}
+use Rattle.spec.specs.Sources.{HasNodes}
+use Rattle.edit_laws.specs.Sources.{shown_by}
 use Rattle.edit_laws.specs.Laws.Edits.{IsEdit}
 use Rattle.batch_laws.specs.Batch.{Change, puts, changed, AreAscending}
 use Rattle.batch_laws.specs.Trace.{batch_made, batch_read}

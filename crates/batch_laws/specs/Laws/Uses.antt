@@ -7,7 +7,8 @@ use Rattle.spec.specs.Cid.{IsDigest}
 use Rattle.spec.specs.Tree.{Pair}
 use Rattle.spec.specs.Blocks.{ArePairs, nodes, blocks, pairs, record_blocks}
 use Rattle.edit_laws.specs.Changes.{count, AreChanges}
-use Rattle.edit_laws.specs.Sources.{HasBlocks, Extends}
+use Rattle.spec.specs.Sources.{HasBlocks}
+use Rattle.edit_laws.specs.Sources.{Extends}
 use Rattle.edit_laws.specs.Uses.{uses}
 use Rattle.batch_laws.specs.Batch.{Change, changed, AreAscending}
 use Rattle.batch_laws.specs.Previous.{values}

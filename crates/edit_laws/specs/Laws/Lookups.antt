@@ -12,7 +12,8 @@ use Rattle.spec.specs.Blocks.{ArePairs, value_of, root}
 use Rattle.spec.specs.Proof.{path, Place, Here, Below, Gap, place}
 use Rattle.edit_laws.specs.TreeEdit.{layer_of, find}
 use Rattle.edit_laws.specs.Trace.{find_path}
-use Rattle.edit_laws.specs.Sources.{HasNodes, shown_by, shape_of_bytes, entry_value, gap, path_from, value_from}
+use Rattle.spec.specs.Sources.{HasNodes}
+use Rattle.edit_laws.specs.Sources.{shown_by, shape_of_bytes, entry_value, gap, path_from, value_from}
 
 -- a look-up in the tree of ascending pairs finds the key's value, with any bound above the top's layer
 abbrev pub FindIsValue : Type 0

@@ -4,7 +4,7 @@ use Rattle.std.specs.Cmp.Lexicographic.{slice_cmp}
 use Rattle.std.specs.Ordering.{nat_cmp}
 use Rattle.std.specs.FinMap.{is_sorted}
 use Rattle.spec.specs.Blocks.{IsClashFree, blocks, block_at, pairs}
-use Rattle.edit_laws.specs.Sources.{HasBlocks, HasNodes}
+use Rattle.spec.specs.Sources.{HasBlocks, HasNodes}
 use Rattle.edit_laws.specs.Uses.{uses}
 
 -- blocks that one source has under their CIDs don't clash

@@ -7,7 +7,7 @@ use Rattle.spec.specs.Cid.{IsDigest}
 use Rattle.spec.specs.Tree.{Pair}
 use Rattle.spec.specs.Blocks.{ArePairs, IsClash, IsClashFree, nodes, blocks}
 use Rattle.edit_laws.specs.Changes.{count, AreChanges}
-use Rattle.edit_laws.specs.Sources.{HasBlocks}
+use Rattle.spec.specs.Sources.{HasBlocks}
 use Rattle.edit_laws.specs.Uses.{uses}
 
 -- an edit exchanges uses of nodes, CID by CID: one comes for each block added, one goes for each

@@ -12,7 +12,8 @@ use Rattle.spec.specs.Blocks.{ArePairs, listed, root, nodes}
 use Rattle.edit_laws.specs.TreeEdit.{layer_of}
 use Rattle.edit_laws.specs.Trace.{find_path}
 use Rattle.edit_laws.specs.Walk.{walk, walk_reads, Ranged, ranged_in, is_above, is_under, nodes_meeting, last_key}
-use Rattle.edit_laws.specs.Sources.{HasNodes, shown_by, walk_from, walk_path}
+use Rattle.spec.specs.Sources.{HasNodes}
+use Rattle.edit_laws.specs.Sources.{shown_by, walk_from, walk_path}
 
 -- a walk over the tree of ascending pairs gives the first of them from a key on
 abbrev pub WalkIsListed : Type 0

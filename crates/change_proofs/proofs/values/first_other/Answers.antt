@@ -1,6 +1,5 @@
 use Rattle.std.proofs.Common.{◌∙◌}
-use Rattle.change_proofs.proofs.Lists.{none-below}
-use Rattle.change_proofs.proofs.Telling.{values-end}
+use Rattle.change_proofs.proofs.Telling.{none-below, values-end}
 use Rattle.change_proofs.proofs.values.first_other.Goals as goal
 
 pub returns : goal.returns

@@ -2,7 +2,7 @@ use Rattle.std.proofs.Common.{map, sym, ap, subst, ◌∙◌, Err}
 use Rattle.std.specs.Arc.{arc_value}
 use Rattle.std.proofs.lemmas.Result.{err_from_is_err_and}
 use Rattle.edit.specs.Batches.{answer_of, most_of}
-use Rattle.edit.specs.Halts.{IsReached}
+use Rattle.batch_laws.specs.Within.{IsWithin, at_top}
 use Rattle.edit.specs.Previews.{IsPreview, IsPreviewReason, IsPreviewReached}
 use Rattle.change_laws.specs.Verdict.{are_told}
 use Rattle.change_proofs.specs.Verdicts.{IsSaidOver, told_of}
@@ -32,7 +32,8 @@ returns g c =
     let n = c.in_ok-found.found in
     let p = subst (λ us. IsPreview digest g.row.B gives us c.args.after n.root n.previous.items (map arc_value n.read.items))
     (c.deref.ensures.value ∙ c.in_ok-undone.ensures) c.in_ok-found.ensures.preview in
-    let few = subst (λ us. IsReached (most_of digest g.row.B gives us c.args.after) (answer_of digest g.row.B gives us c.args.after))
+    let few = subst (λ us. IsWithin (most_of digest g.row.B gives us c.args.after)
+    (at_top (answer_of digest g.row.B gives us c.args.after)))
     (c.deref.ensures.value ∙ c.in_ok-undone.ensures) c.in_ok-found.ensures.reached in
     preview-said digest g.row.B gives c.args.after cs c.args.before n.root n.previous.items (map arc_value n.read.items) p few
     (told_of c.first_other.result) (ap (λ vs. are_told 0 vs cs) (sym c.deref-2.ensures.value) ∙ c.first_other.ensures)

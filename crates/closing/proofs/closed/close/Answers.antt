@@ -1,5 +1,5 @@
 use Rattle.std.proofs.Common.{◌≡◌, ◌∙◌, sym, ap, subst, length, All, rules}
-use Rattle.closing.specs.Ending.{EndedView}
+use Rattle.ended.specs.Ending.{EndedView}
 use Rattle.closing.proofs.Closings.{settled_at, uneven_at, is_closed}
 use Rattle.closing.proofs.closed.close.Goals as goal
 
@@ -13,13 +13,13 @@ compare-requires g c = (
   ),
 )
 
-pub settle_all-settled-requires-clause-ended : goal.settle_all-settled-requires-clause-ended
-settle_all-settled-requires-clause-ended g c k d less = (c.requires.ended k d less).queue
+pub settle-feed-requires-clause-ended : goal.settle-feed-requires-clause-ended
+settle-feed-requires-clause-ended g c k d less = (c.requires.ended k d less).queue
 
 pub invariant_of-result : goal.invariant_of-result
 invariant_of-result g c =
-    is_closed g.D.Digest.digest_of g.row.B c.args.tables c.args.queue.queue_id c.args.cores.items c.args.feed c.feed.inside.feed c.settle_all-settled.new.feed c.args.ended.items c.settle_all-settled.result.items
-    c.feed.view_is c.requires.feed c.requires.fresh c.requires.all c.settle_all-settled.ensures.feed c.settle_all-settled.ensures.same
+    is_closed g.D.Digest.digest_of g.row.B c.args.tables c.args.queue.queue_id c.args.cores.items c.args.feed c.settle-feed.result.0 c.args.ended.items c.settle-feed.result.1.items
+    c.requires.feed c.requires.fresh c.requires.all c.settle-feed.ensures.feed c.settle-feed.ensures.same
     (settled_at g.D.Digest.digest_of g.row.B c.args.tables c.deref.result.now c.args.cores.items c.deref-2.result.now c.args.ended.items c.deref.ensures.value c.deref-2.ensures.value c.in-Ok.ensures.settled)
 
 pub invariant_of-result-in-Err : goal.invariant_of-result-in-Err

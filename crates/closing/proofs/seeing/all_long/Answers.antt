@@ -1,6 +1,6 @@
 use Rattle.std.proofs.Common.{rules, length, subst, sym, ◌∙◌, ap, get_or, below_more, arith}
 use Rattle.std.proofs.lemmas.List.{get_or_read}
-use Rattle.closing.specs.Ending.{EndedView}
+use Rattle.ended.specs.Ending.{EndedView}
 use Rattle.closing.specs.Settling.{IsShort, NoneShort}
 use Rattle.closing.proofs.seeing.all_long.Goals as goal
 

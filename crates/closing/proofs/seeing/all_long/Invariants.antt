@@ -1,5 +1,5 @@
 use Rattle.std.proofs.Common.{ℕ, ◌<◌, slice_index_or}
-use Rattle.closing.specs.Ending.{EndedView}
+use Rattle.ended.specs.Ending.{EndedView}
 use Rattle.closing.specs.Settling.{NoneShort}
 use Rattle.closing.proofs.seeing.all_long.Given as goal
 

@@ -1,8 +1,10 @@
-use Rattle.std.proofs.Common.{◌∙◌, ◌≡◌, [], ap, rules, true}
+use Rattle.std.proofs.Common.{◌∙◌, ◌≡◌, [], ap, ap₂, rules, true}
 use Rattle.std.proofs.lemmas.Result.{IfOk-weaker}
 use Rattle.clap.specs.Words.{App, app_of, with_subcommand}
 use Rattle.tree_command.specs.Words.{tree_shape}
 use Rattle.repository_commands.specs.Words.{with_commands}
+use Rattle.change_commands.specs.Words.{with_commands as with_change_commands}
+use Rattle.explain_command.specs.Words.{explain_shape}
 use Rattle.run_command.specs.Words.{run_shape}
 use Rattle.commands.specs.CommandLine.{msthost, program_shape}
 use Rattle.commands.proofs.command_line.command.Goals as goal
@@ -15,4 +17,9 @@ returns c =
     let one = c.in_ok-program.ensures ∙ ap (λ a. with_subcommand a tree_shape) start in
     let two = c.in_ok-program-2.ensures
     ∙ ap with_commands one in
-    IfOk-weaker c.with_words-3.result _ _ (λ r is. is ∙ ap (λ a. with_subcommand a run_shape) two) c.with_words-3.ensures
+    let three = c.in_ok-program-3.ensures
+    ∙ ap with_change_commands two in
+    let four = c.in_ok-program-4.ensures ∙ ap (λ a. with_subcommand a run_shape) three in
+    let five = c.in_ok-program-5.ensures ∙ ap (λ a. with_subcommand a explain_shape) four in
+    IfOk-weaker c.subcommand.result _ _
+    (λ r adds. adds.shape c.help.ensures.local ∙ ap₂ with_subcommand five c.help.ensures.shape) c.subcommand.ensures

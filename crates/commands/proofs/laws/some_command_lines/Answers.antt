@@ -1,9 +1,11 @@
-use Rattle.std.proofs.Common.{◌≡◌, ◌∷◌, List, [], refl, rules, codes, arith}
+use Rattle.std.proofs.Common.{◌≡◌, [], ◌∷◌, ℕ, List, ap, get_or, refl, rules, codes, arith}
 use Rattle.std.specs.Prelude.{IsSomeAnd}
 use Rattle.clap.proofs.OnLiterals.{clap_on_literals}
 use Rattle.clap.specs.Words.{Text, subcommand_of}
-use Rattle.tree_command.specs.declared.bits.Bits.{Bits}
+use Rattle.tree_command.specs.declared.keys.Keys.TheVariants as keys
+use Rattle.tree_command.specs.declared.options.TreeOptions.{TreeOptions}
 use Rattle.repository_commands.specs.declared.words.RepositoryCommand.TheVariants as commands
+use Rattle.change_commands.specs.declared.words.ChangeCommand.TheVariants as changes
 use Rattle.commands.specs.declared.command_line.Request.{Request}
 use Rattle.commands.specs.declared.command_line.Request.TheVariants as requests
 use Rattle.commands.specs.CommandLine.{IsNamed, msthost}
@@ -12,16 +14,42 @@ use Rattle.commands.proofs.laws.some_command_lines.Goals as goal
 words : List Text
 words = codes "msthost" ∷ codes "tree" ∷ codes "--bits" ∷ codes "3" ∷ []
 
+of_paths : List Text
+of_paths = codes "msthost" ∷ codes "tree" ∷ codes "--paths" ∷ []
+
+-- `cc` counts down from the letters, and comes to no end
+tree_is_not_help : codes "tree" ≡ codes "help" → ⊥
+tree_is_not_help e = let first : 116 ≡ 104 = ap (λ (xs : List ℕ). get_or xs 0 0) e in omega (arith, first)
+
 only : (request : Request) → IsSomeAnd (subcommand_of msthost words) (λ c. IsNamed c.0 c.1 request)
-    → (bits : Bits) × (request ≡ requests.Tree bits) × (bits.number ≡ 3)
+    → (options : TreeOptions) × (request ≡ requests.Tree options) × (options.bits.number ≡ 3) × (options.keys ≡ keys.Any)
 unfolding msthost clap_on_literals words
-only (requests.Tree bits) is = (bits, refl, is.1 3 (search rules) (omega arith, omega arith))
+only (requests.Tree options) is = (options, refl, is.1 3 (search rules) (omega arith, omega arith), is.2.any refl)
+only (requests.Explain command) is = absurd (cc)
+only requests.Help is = absurd (tree_is_not_help is)
 only (requests.OnRepository (commands.Car did rev)) is = absurd (cc)
 only (requests.OnRepository (commands.Prove key)) is = absurd (cc)
 only (requests.OnRepository (commands.Verify root key)) is = absurd (cc)
-only (requests.OnRepository commands.ProveChange) is = absurd (cc)
-only (requests.OnRepository commands.VerifyChange) is = absurd (cc)
+only (requests.OnChange changes.Prove) is = absurd (cc)
+only (requests.OnChange (changes.Verify before after)) is = absurd (cc)
 only (requests.Run command) is = absurd (cc)
+
+only_paths : (request : Request) → IsSomeAnd (subcommand_of msthost of_paths) (λ c. IsNamed c.0 c.1 request)
+    → (options : TreeOptions) × (request ≡ requests.Tree options) × (options.bits.number ≡ 2) × (options.keys ≡ keys.Paths)
+unfolding msthost clap_on_literals of_paths
+only_paths (requests.Tree options) is = (options, refl, is.1 2 (search rules) (omega arith, omega arith), is.2.paths refl)
+only_paths (requests.Explain command) is = absurd (cc)
+only_paths requests.Help is = absurd (tree_is_not_help is)
+only_paths (requests.OnRepository (commands.Car did rev)) is = absurd (cc)
+only_paths (requests.OnRepository (commands.Prove key)) is = absurd (cc)
+only_paths (requests.OnRepository (commands.Verify root key)) is = absurd (cc)
+only_paths (requests.OnChange changes.Prove) is = absurd (cc)
+only_paths (requests.OnChange (changes.Verify before after)) is = absurd (cc)
+only_paths (requests.Run command) is = absurd (cc)
+
+pub returns-clause-paths : goal.returns-clause-paths
+unfolding msthost clap_on_literals of_paths
+returns-clause-paths c = (refl, λ request asked. only_paths request asked.found)
 
 pub returns-clause-asked : goal.returns-clause-asked
 unfolding msthost clap_on_literals words

@@ -12,3 +12,6 @@ returns-in-Tree-clause-beginning g c = search rules
 
 pub returns-in-OnRepository-clause-faulty_word : goal.returns-in-OnRepository-clause-faulty_word
 returns-in-OnRepository-clause-faulty_word g c = search rules
+
+pub returns-in-OnChange-clause-faulty_word : goal.returns-in-OnChange-clause-faulty_word
+returns-in-OnChange-clause-faulty_word g c = search rules

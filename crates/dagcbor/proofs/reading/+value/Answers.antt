@@ -5,7 +5,7 @@ use Rattle.spec.specs.Reading.{◌>>=◌}
 use Rattle.spec.specs.Head.{CborFault, Major, Map, major_of, head_at}
 use Rattle.spec.specs.DagCbor.{Value, items_at, fields_at, content_of, value_at}
 use Rattle.dagcbor.specs.Levels.{within}
-use Rattle.dagcbor.specs.Fault.{fault_of}
+use Rattle.dagcbor.specs.Fault.{cbor_fault_of}
 use Rattle.dagcbor.proofs.Readings.{value_at-is, Fails-then, Fails-same, Gives-at_err, Gives-same, behind_values, items_more, items_end, items_fail, behind_fields, fields_more, fields_end, fields_no_key, fields_fail}
 use Rattle.dagcbor.proofs.reading.+value.Goals as goal
 
@@ -19,22 +19,22 @@ pub value-returns-in_err-major : goal.value-returns-in_err-major
 value-returns-in_err-major g t c =
     let p = err_from_is_err_and c.from_residual.result c.from_residual.ensures.1 in
     let e = c.in_err-major.field-0.0 in
-    Gives-at_err _ fault_of e c.from_residual.result _ (p.1 ∙ ap Err p.2)
-    (Fails-same (fault_of e) _ _ (value_at-is c.args.levels c.args.bytes.now) (Fails-then (fault_of e) (head_at c.args.bytes.now) _ (c.in_err-major.ensures.read)))
+    Gives-at_err _ cbor_fault_of e c.from_residual.result _ (p.1 ∙ ap Err p.2)
+    (Fails-same (cbor_fault_of e) _ _ (value_at-is c.args.levels c.args.bytes.now) (Fails-then (cbor_fault_of e) (head_at c.args.bytes.now) _ (c.in_err-major.ensures.read)))
 
 pub value-returns : goal.value-returns
 value-returns g t c =
     let here : head_at c.args.bytes.now ≡ Ok ((c.in_ok-major.major, c.in_ok-major.n), c.in_ok-major.rest.now) = c.in_ok-major.ensures.read in
     let go : Head → Reading = λ r. r >>= λ h. content_of (within c.args.levels) (major_of h.0.0) h.0.1 h.1 in
     let kind : Major → Reading = λ m. content_of (within c.args.levels) m c.in_ok-major.n c.in_ok-major.rest.now in
-    Gives-same _ fault_of c.content.result _ _ (value_at-is c.args.levels c.args.bytes.now ∙ ap go here ∙ ap kind (sym c.major_of.ensures)) c.content.ensures
+    Gives-same _ cbor_fault_of c.content.result _ _ (value_at-is c.args.levels c.args.bytes.now ∙ ap go here ∙ ap kind (sym c.major_of.ensures)) c.content.ensures
 
 pub item-returns-in_err-major : goal.item-returns-in_err-major
 item-returns-in_err-major g t c =
     let p = err_from_is_err_and c.from_residual.result c.from_residual.ensures.1 in
     let e = c.in_err-major.field-0.0 in
-    Gives-at_err _ fault_of e c.from_residual.result _ (p.1 ∙ ap Err p.2)
-    (Fails-same (fault_of e) _ _ (value_at-is c.args.levels c.args.bytes.now) (Fails-then (fault_of e) (head_at c.args.bytes.now) _ (c.in_err-major.ensures.read)))
+    Gives-at_err _ cbor_fault_of e c.from_residual.result _ (p.1 ∙ ap Err p.2)
+    (Fails-same (cbor_fault_of e) _ _ (value_at-is c.args.levels c.args.bytes.now) (Fails-then (cbor_fault_of e) (head_at c.args.bytes.now) _ (c.in_err-major.ensures.read)))
 
 pub item-returns-then-n-eq1 : goal.item-returns-then-n-eq1
 item-returns-then-n-eq1 g t c =
@@ -44,22 +44,22 @@ item-returns-then-n-eq1 g t c =
     let go : Head → Reading = λ r. r >>= λ h. content_of (within c.args.levels) (major_of h.0.0) h.0.1 h.1 in
     let kind : ℕ → Reading = λ m. content_of (within c.args.levels) (major_of m) c.in_ok-major.n c.in_ok-major.rest.now in
     let count : ℕ → Reading = λ n. content_of (within c.args.levels) Map n c.in_ok-major.rest.now in
-    Gives-same _ fault_of c.map_of_one.result _ _ (value_at-is c.args.levels c.args.bytes.now ∙ ap go here ∙ ap kind is_map ∙ ap count is_one) c.map_of_one.ensures
+    Gives-same _ cbor_fault_of c.map_of_one.result _ _ (value_at-is c.args.levels c.args.bytes.now ∙ ap go here ∙ ap kind is_map ∙ ap count is_one) c.map_of_one.ensures
 
 pub item-returns-else-major : goal.item-returns-else-major
 item-returns-else-major g t c =
     let here : head_at c.args.bytes.now ≡ Ok ((c.in_ok-major.major, c.in_ok-major.n), c.in_ok-major.rest.now) = c.in_ok-major.ensures.read in
     let go : Head → Reading = λ r. r >>= λ h. content_of (within c.args.levels) (major_of h.0.0) h.0.1 h.1 in
     let kind : Major → Reading = λ m. content_of (within c.args.levels) m c.in_ok-major.n c.in_ok-major.rest.now in
-    Gives-same _ fault_of c.content.result _ _ (value_at-is c.args.levels c.args.bytes.now ∙ ap go here ∙ ap kind (sym c.major_of.ensures)) c.content.ensures
+    Gives-same _ cbor_fault_of c.content.result _ _ (value_at-is c.args.levels c.args.bytes.now ∙ ap go here ∙ ap kind (sym c.major_of.ensures)) c.content.ensures
 
 pub items-returns-in_err-item : goal.items-returns-in_err-item
 items-returns-in_err-item g t c =
     let p = err_from_is_err_and c.from_residual.result c.from_residual.ensures.1 in
     let e = c.in_err-item.field-0.0 in
     let l = c.loop-turn in
-    Gives-at_err _ fault_of e c.from_residual.result _ (p.1 ∙ ap Err p.2)
-    (Fails-same (fault_of e) _ _ l.invariant (items_fail (fault_of e) (value_at c.args.levels) c.args.n l._turn l.rest.now l.items.items (omega arith) (c.in_err-item.ensures)))
+    Gives-at_err _ cbor_fault_of e c.from_residual.result _ (p.1 ∙ ap Err p.2)
+    (Fails-same (cbor_fault_of e) _ _ l.invariant (items_fail (cbor_fault_of e) (value_at c.args.levels) c.args.n l._turn l.rest.now l.items.items (omega arith) (c.in_err-item.ensures)))
 
 pub items-loop-turn-preserved : goal.items-loop-turn-preserved
 items-loop-turn-preserved g t c =
@@ -82,8 +82,8 @@ fields-returns-in_err-key g t c =
     let e = c.in_err-key.field-0.0 in
     let l = c.loop-turn in
     let before = option_map (λ s. s.now) l.before in
-    Gives-at_err _ fault_of e c.from_residual.result _ (p.1 ∙ ap Err p.2)
-    (Fails-same (fault_of e) _ _ l.invariant (fields_no_key (fault_of e) (value_at c.args.levels) before c.args.n l._turn l.rest.now l.fields.items (omega arith) (c.in_err-key.ensures)))
+    Gives-at_err _ cbor_fault_of e c.from_residual.result _ (p.1 ∙ ap Err p.2)
+    (Fails-same (cbor_fault_of e) _ _ l.invariant (fields_no_key (cbor_fault_of e) (value_at c.args.levels) before c.args.n l._turn l.rest.now l.fields.items (omega arith) (c.in_err-key.ensures)))
 
 pub fields-returns-in_err-value : goal.fields-returns-in_err-value
 fields-returns-in_err-value g t c =
@@ -91,9 +91,9 @@ fields-returns-in_err-value g t c =
     let e = c.in_err-value.field-0.0 in
     let l = c.loop-turn in
     let before = option_map (λ s. s.now) l.before in
-    Gives-at_err _ fault_of e c.from_residual-in_err-value.result _ (p.1 ∙ ap Err p.2)
-    (Fails-same (fault_of e) _ _ l.invariant
-    (fields_fail (fault_of e) (value_at c.args.levels) before c.args.n l._turn l.rest.now c.in_ok-key.after.now c.in_ok-key.key.now l.fields.items (omega arith) c.in_ok-key.ensures (c.in_err-value.ensures)))
+    Gives-at_err _ cbor_fault_of e c.from_residual-in_err-value.result _ (p.1 ∙ ap Err p.2)
+    (Fails-same (cbor_fault_of e) _ _ l.invariant
+    (fields_fail (cbor_fault_of e) (value_at c.args.levels) before c.args.n l._turn l.rest.now c.in_ok-key.after.now c.in_ok-key.key.now l.fields.items (omega arith) c.in_ok-key.ensures (c.in_err-value.ensures)))
 
 pub fields-loop-turn-preserved : goal.fields-loop-turn-preserved
 fields-loop-turn-preserved g t c =

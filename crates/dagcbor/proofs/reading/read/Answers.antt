@@ -5,7 +5,7 @@ use Rattle.spec.specs.Reading.{IsBytes}
 use Rattle.spec.specs.Head.{Trailing}
 use Rattle.spec.specs.DagCbor.{value_at, read}
 use Rattle.spec.proofs.DagCborTakes.{read_takes}
-use Rattle.dagcbor.specs.Fault.{fault_of}
+use Rattle.dagcbor.specs.Fault.{cbor_fault_of}
 use Rattle.dagcbor.specs.View.{view}
 use Rattle.dagcbor.specs.Refused.{HasNoValue}
 use Rattle.dagcbor.proofs.Readings.{Fails-then}
@@ -31,8 +31,8 @@ unfolding read
 returns-in_err-value-clause-refused g c =
     let p = err_from_is_err_and c.from_residual.result c.from_residual.ensures.1 in
     let e = c.in_err-value.field-0.0 in
-    subst (λ r. IfErr r (λ f. IsSome (fault_of f) → HasNoValue c.args.bytes.now)) (sym (p.1 ∙ ap Err p.2))
-    (refused (fault_of e) c.args.bytes.now (Fails-then (fault_of e) (value_at 64 c.args.bytes.now) _ c.in_err-value.ensures))
+    subst (λ r. IfErr r (λ f. IsSome (cbor_fault_of f) → HasNoValue c.args.bytes.now)) (sym (p.1 ∙ ap Err p.2))
+    (refused (cbor_fault_of e) c.args.bytes.now (Fails-then (cbor_fault_of e) (value_at 64 c.args.bytes.now) _ c.in_err-value.ensures))
 
 pub returns-then-not-is_empty-clause-refused : goal.returns-then-not-is_empty-clause-refused
 unfolding read

@@ -12,7 +12,8 @@ use Rattle.batch_laws.specs.Previous.{previous_top}
 use Rattle.edit.specs.Batches.{IsReason, answer_of, most_of}
 use Rattle.edit.specs.Refusals.{IsRefusal}
 use Rattle.edit.specs.States.{log_in}
-use Rattle.edit.specs.Stops.{IsCause, IsStopped, at_top}
+use Rattle.batch_laws.specs.Within.{at_top}
+use Rattle.edit.specs.Stops.{IsCause, IsStopped}
 use Rattle.edit.specs.Tops.{IsEnded}
 use Rattle.edit.proofs.Among.{refusal-within}
 use Rattle.edit.proofs.Answering.{gone-within, answered}

@@ -1,4 +1,5 @@
-use Rattle.std.proofs.Common.{◌≡◌, map, rules, true, false, sym, ap, ◌∙◌}
+use Rattle.std.proofs.Common.{◌≡◌, map, rules, true, false, sym, ap, ◌∙◌, arith}
+use Rattle.std.proofs.lemmas.Grind.{common_steps}
 use Rattle.std.specs.Arc.{arc_value}
 use Rattle.spec.specs.Cid.{cid}
 use Rattle.edit_laws.specs.Changes.{has_cid}
@@ -27,3 +28,6 @@ loop-lent-preserved g c =
             c.loop-lent.invariant.dropped (search rules))
       ];
     }
+
+pub returns : goal.returns
+returns g c = grind (arith, common_steps)

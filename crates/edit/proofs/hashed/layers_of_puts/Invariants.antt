@@ -1,6 +1,6 @@
 use Rattle.std.proofs.Common.{◌≡◌, take}
 use Rattle.spec.specs.Layer.{layer}
-use Rattle.edit.specs.Batches.{put_layers}
+use Rattle.batch_laws.specs.Counts.{put_layers}
 use Rattle.edit.proofs.hashed.layers_of_puts.Given as goal
 
 abbrev pub invariant-loop-change : goal.invariant-loop-change

@@ -18,10 +18,11 @@ returns-in_err-pair-clause-fault g c =
     c.key.result.now c.next.new.self.before (bytes_of c.in-Some.value) c.in-Some.ensures.some
     (c.to_cid-link.ensures ∙ c.link.ensures) c.key.ensures c.in_err-pair.ensures.fault)
 
-pub run_rows-requires-2-clause-follows : goal.run_rows-requires-2-clause-follows
-run_rows-requires-2-clause-follows g c =
-    key-of-last c.args.written.now c.pair.new.self c.to_cid-link.result c.key.result.now (bytes_of c.in-Some.value)
-    c.next.new.self.before c.in_ok-pair.ensures.ok c.key.ensures
+pub run_rows-requires-2 : goal.run_rows-requires-2
+run_rows-requires-2 g c = record {
+  follows = key-of-last c.args.written.now c.pair.new.self c.to_cid-link.result c.key.result.now (bytes_of c.in-Some.value)
+      c.next.new.self.before c.in_ok-pair.ensures.ok c.key.ensures;
+}
 
 pub returns-clause-rows : goal.returns-clause-rows
 returns-clause-rows g c =
@@ -33,7 +34,7 @@ returns-clause-rows g c =
 
 pub returns-clause-last : goal.returns-clause-last
 returns-clause-last g c =
-    subst (λ l. IfOk c.run_rows-2.result (λ copied. copied.1 ≡ l)) (sym (ap last_link c.in-Some.ensures.some))
+    subst (λ l. IfOk c.run_rows-2.result (λ last. last ≡ l)) (sym (ap last_link c.in-Some.ensures.some))
     c.run_rows-2.ensures.last
 
 pub returns-clause-fault : goal.returns-clause-fault

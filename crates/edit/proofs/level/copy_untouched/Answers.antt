@@ -17,7 +17,7 @@ returns-in_default-clause-taken g c =
     let left = c.copy_next.new.rows.rest in
     let rows = c.run_untouched-in_default.new.rows in
     if-ok c.run_untouched-in_default.result
-    (λ taken t. taken-then k cs old mid new node left (shape_at taken.1 taken.2 rows)
+    (λ ahead t. taken-then k cs old mid new node left (shape_at ahead.0 ahead.1 rows)
     (subst (λ n. IfNone n (IsTaken k cs old node mid left)) c.in_default.is c.in_ok-next.ensures.came) t)
     c.run_untouched-in_default.ensures.taken
 

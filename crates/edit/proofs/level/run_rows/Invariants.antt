@@ -7,7 +7,6 @@ use Rattle.edit.proofs.level.run_rows.Given as goal
 abbrev pub invariant-loop-rows : goal.invariant-loop-rows
 invariant-loop-rows g l = record {
   written : l.written ≡ l.initial.written;
-  from : l.from ≡ length l.initial.rows.passed;
   start : l.rows.start ≡ length l.initial.rows.passed;
   read : l.rows.passed ++ rows_in_shape l.rows.rest ≡ l.initial.rows.passed ++ rows_in_shape l.initial.rows.rest;
   last : last_link l.rows.rest ≡ last_link l.initial.rows.rest;

@@ -3,10 +3,9 @@ use Rattle.std.proofs.lemmas.List.{append_assoc}
 use Rattle.spec.specs.NodeFormat.{first_link}
 use Rattle.rows.specs.Entries.{shape_at, part_of, key_behind}
 use Rattle.edit.specs.Passing.{IsTaken}
-use Rattle.edit.proofs.Runs.{part-is, part-long, run-follows, then-rows, else-rows}
+use Rattle.edit.proofs.Runs.{part-long, run-follows}
 use Rattle.edit.proofs.Untouched.{taken-more, taken-run}
 use Rattle.edit.proofs.level.run_untouched.Goals as goal
-use Rattle.edit.proofs.level.run_untouched.Goals.{then-had_pairs, else-had_pairs}
 
 pub returns-in-Some-clause-taken : goal.returns-in-Some-clause-taken
 returns-in-Some-clause-taken g c =
@@ -25,30 +24,6 @@ returns-in-Some-clause-taken g c =
     c.passed-to.ensures c.in-Some.ensures.touched.passed_is at.invariant.taken
     (c.in_ok-run.ensures ∙ ap (λ xs. xs ++ part) at.invariant.written)))
 
-pub returns-in-Some-clause-pairs : goal.returns-in-Some-clause-pairs
-returns-in-Some-clause-pairs g c =
-    let at = c.loop-value in
-    let old = c.start_here.new.self in
-    let written = c.args.written.now in
-    let from = c.passed-from.result in
-    let to = c.passed-to.result in
-    let more = at.invariant.taken.more in
-    let new = c.touched.new.rows in
-    let part = part_of new.start to new.passed in
-    let come : c.run.new.self ≡ written ++ more =
-    c.in_ok-run.ensures ∙ ap (λ xs. xs ++ part) at.invariant.written
-    ∙ ap (λ xs. written ++ xs)
-    (part-is old.passed more at.rows.passed c.in-Some.ensures.touched.last new.passed new.start to
-    (c.in-Some.ensures.touched.start_is ∙ at.invariant.start) c.passed-to.ensures c.in-Some.ensures.touched.passed_is
-    at.invariant.taken.new_is) in
-    let long = part-long old.passed more at.rows.passed from to at.invariant.from c.passed-to.ensures at.invariant.taken.new_is in
-    elim c.if-had_pairs.branch [
-      | then-had_pairs w ↦ w.result-is ∙ w.if-had_pairs.true
-          ∙ then-rows c.args.had_pairs written more c.run.new.self w.if-had_pairs.true c.requires.pairs come
-      | else-had_pairs w ↦ w.result-is
-          ∙ else-rows c.args.had_pairs written more c.run.new.self from to w.if-had_pairs.false c.requires.pairs come long
-    ]
-
 pub loop-value-preserved : goal.loop-value-preserved
 loop-value-preserved g c =
     let at = c.loop-value in
@@ -57,7 +32,6 @@ loop-value-preserved g c =
     let more = c.in_default.ensures.untouched in
     record {
       written = at.invariant.written;
-      from = at.invariant.from;
       start = more.start_is ∙ at.invariant.start;
       taken = taken-more c.args.layer c.args.changes.now old.passed at.rows.passed new.passed old.rest at.rows.rest new.rest
           (first_link at.rows.rest) more.pair at.invariant.taken more.next_is more.untouched more.passed_is;

@@ -7,7 +7,6 @@ use Rattle.edit.proofs.level.run_untouched.Given as goal
 abbrev pub invariant-loop-value : goal.invariant-loop-value
 invariant-loop-value g l = record {
   written : l.written ≡ l.initial.written;
-  from : l.from ≡ length l.initial.rows.passed;
   start : l.rows.start ≡ length l.initial.rows.passed;
   taken : IsTaken l.layer l.changes l.initial.rows.passed l.initial.rows.rest l.rows.passed l.rows.rest;
 }

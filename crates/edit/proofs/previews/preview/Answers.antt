@@ -8,14 +8,15 @@ use Rattle.lookups.specs.Steps.{nodes_given}
 use Rattle.lookups.specs.Trees.{bytes_given}
 use Rattle.batch_laws.specs.Batch.{changed}
 use Rattle.batch_laws.specs.Previous.{previous_top}
+use Rattle.batch_laws.specs.Within.{IsWithin, at_top}
 use Rattle.edit.specs.Batches.{answer_of, most_of}
-use Rattle.edit.specs.Previews.{IsPreviewReason, IsWant}
-use Rattle.edit.specs.Halts.{IsReached, IsReachedFor}
+use Rattle.edit.specs.Previews.{IsPreviewReason, IsReachedHere, IsWant}
+use Rattle.edit.specs.Halts.{IsReachedFor}
 use Rattle.edit.specs.States.{log_in, shapes_in}
-use Rattle.edit.specs.Stops.{IsCause, at_top}
+use Rattle.edit.specs.Stops.{IsCause}
 use Rattle.edit.specs.Tops.{IsEnded}
 use Rattle.edit.proofs.OnTree.{are-keyed, keyed-changes, walk-refused}
-use Rattle.edit.proofs.Previewing.{preview-of, preview-tree, preview-reason, reached-for, walk-want}
+use Rattle.edit.proofs.Previewing.{preview-of, preview-tree, preview-reason, reached-here, walk-want}
 use Rattle.edit.proofs.previews.preview.Goals as goal
 
 pub returns-in_err-changed-clause-want : goal.returns-in_err-changed-clause-want
@@ -89,13 +90,15 @@ returns-in_err-changed-clause-reached g c =
     let most = most_of digest g.row.B gives c.args.changes.now c.args.root in
     let answer = answer_of digest g.row.B gives c.args.changes.now c.args.root in
     let fault = c.in_err-changed.field-0.0 in
-    reached-for most answer c.from_residual-in_err-changed.result p.0 fault p.1 p.2
+    rw p.1
+    (subst (IsReachedHere most answer) (sym p.2)
+    (reached-here _ _ most answer fault
     (subst (λ cs. IsReachedFor (most_of digest g.row.B gives cs c.args.root) (answer_of digest g.row.B gives cs c.args.root) fault)
-    (c.deref.ensures.value ∙ c.in_ok-hashed.ensures) c.in_err-changed.ensures.reached)
+    (c.deref.ensures.value ∙ c.in_ok-hashed.ensures) c.in_err-changed.ensures.reached)))
 
 pub returns-clause-reached : goal.returns-clause-reached
 returns-clause-reached g c =
     let digest = g.D.Digest.digest_of in
     let gives = g.S.Source.gives c.args.src.now in
-    subst (λ cs. IsReached (most_of digest g.row.B gives cs c.args.root) (answer_of digest g.row.B gives cs c.args.root))
+    subst (λ cs. IsWithin (most_of digest g.row.B gives cs c.args.root) (at_top (answer_of digest g.row.B gives cs c.args.root)))
     (c.deref.ensures.value ∙ c.in_ok-hashed.ensures) c.in_ok-changed.ensures.reached

@@ -5,11 +5,10 @@ use Rattle.lookups.specs.Steps.{nodes_given}
 use Rattle.batch_laws.specs.Links.{topping, batch_from, LinkClear, Log}
 use Rattle.edit.specs.Edges.{edge_of}
 use Rattle.edit.specs.Agenda.{node_does}
-use Rattle.edit.specs.Batches.{put_layers}
 use Rattle.edit.specs.Budgets.{Budget}
 use Rattle.edit.specs.States.{edge_in, log_in}
-use Rattle.edit.specs.Tops.{IsEnded, layers_needed}
-use Rattle.batch_laws.specs.Counts.{most_reads, most_from}
+use Rattle.edit.specs.Tops.{IsEnded}
+use Rattle.batch_laws.specs.Counts.{most_reads, most_from, layers_needed, put_layers}
 use Rattle.batch_laws.specs.Previous.{previous_node, previous_gap}
 use Rattle.edit.proofs.Bounds.{most-within}
 use Rattle.edit.proofs.Making.{shapes-count}
@@ -17,8 +16,9 @@ use Rattle.edit.proofs.Wholes.{whole, met, counted-all, counted-within, stopped-
 use Rattle.edit.proofs.Pairing.{counted-then}
 use Rattle.edit.proofs.Topping.{was-shown}
 use Rattle.std.proofs.lemmas.Result.{err_from_is_err_and}
-use Rattle.edit.specs.Stops.{IsStopped, at_top}
-use Rattle.edit.specs.declared.faults.Fault.TheVariants.{NoMemory}
+use Rattle.batch_laws.specs.Within.{at_top}
+use Rattle.edit.specs.Stops.{IsStopped}
+use Rattle.edit.specs.declared.outcome.Fault.TheVariants.{NoMemory}
 use Rattle.edit.specs.Halts.{IsHalted, IsReachedFor}
 use Rattle.edit.proofs.whole.change_tree.Goals as goal
 
@@ -41,11 +41,11 @@ returns-clause-changed g c =
     ∙ ap (edge_of none.levels.items) c.view.ensures.rest in
     let later = c.view.ensures.same in
     let walked = subst (λ gv. node_does digest (nodes_given gv) layer n t d cs c.of-rows.result.rest (edge_in begun) (log_in begun)
-    ≡ Ok (edge_in mid, log_in mid)) later c.in_ok-previous.ensures.walked in
+    ≡ Ok (edge_in mid, log_in mid)) later c.in_ok-previous.ensures.step.done in
     let walked_node = subst (λ m. node_does digest shows layer n t d cs m (edge_in begun) (log_in begun)
     ≡ Ok (edge_in mid, log_in mid)) (ap (λ r. r.rest) c.of-rows.ensures) walked in
     let ended = subst (λ gv. IsEnded (topping digest (nodes_given gv) n (edge_in mid) (log_in mid)) c.in_ok-ended.ended.0
-    c.in_ok-ended.ended.1 (log_in last)) (c.walk-walked.ensures.same ∙ later) c.in_ok-ended.ensures.ended in
+    c.in_ok-ended.ended.1 (log_in last)) (c.walk-walked.ensures.step.same ∙ later) c.in_ok-ended.ensures.done in
     let seen = was-shown c.args.root (shows c.args.root) node (log_in none) (log_in begun) c.in_ok-view.ensures.shown in
     let n_is = needed layer (put_layers layer cs) t n (shows c.args.root) node seen.is c.top_layer-top.ensures
     (c.layers_for-layers.ensures ∙ ap (max (suc t)) c.layers_of_puts.ensures) in
@@ -86,7 +86,7 @@ returns-clause-counted g c =
     c.in_ok-edge.ensures.left c.most_reads_below.ensures c.in_ok-view.ensures.counted in
     counted-all b m (g.S.Source.reads c.walk-walked.new.src, mid.left) (g.S.Source.reads c.finish-ended.new.src, last.left)
     (length last.read.items) (log_in none) (log_in begun) (log_in mid) (log_in last) c.in_ok-edge.ensures.log counted
-    c.in_ok-previous.ensures.counted c.in_ok-ended.ensures.counted (shapes-count last.read.items)
+    c.in_ok-previous.ensures.step.counted c.in_ok-ended.ensures.counted (shapes-count last.read.items)
 
 pub returns-clause-most : goal.returns-clause-most
 returns-clause-most g c =
@@ -106,7 +106,7 @@ returns-clause-most g c =
     let last = c.finish-ended.new.self in
     counted-within b m (g.S.Source.reads c.walk-walked.new.src, mid.left) (g.S.Source.reads c.finish-ended.new.src, last.left)
     (suc (most_reads (256 / g.row.B) cs)) (log_in none) (log_in begun) (log_in mid) (log_in last) counted
-    c.in_ok-previous.ensures.counted c.in_ok-ended.ensures.counted most
+    c.in_ok-previous.ensures.step.counted c.in_ok-ended.ensures.counted most
 
 pub layers_for-layers-requires : goal.layers_for-layers-requires
 layers_for-layers-requires g c = record {
@@ -188,7 +188,7 @@ returns-in_err-previous-clause-stopped g c =
     let a = g.S.Source.reads c.walk-walked.new.src in
     let f = c.in_err-previous.field-0.0 in
     let step = subst (λ gv. IsStopped gv m a (log_in begun) (node_does digest (nodes_given gv) layer n t d cs
-    c.of-rows.result.rest (edge_in begun) (log_in begun)) f) c.view.ensures.same c.in_err-previous.ensures.stopped in
+    c.of-rows.result.rest (edge_in begun) (log_in begun)) f) c.view.ensures.same c.in_err-previous.ensures.step.stopped in
     rw (p.1, p.2)
     (subst (λ j. IsStopped gives b a (record { read = []; made = [] })
     (at_top (batch_from digest shows layer j cs c.args.root)) f) n_is
@@ -225,7 +225,7 @@ returns-in_err-ended-clause-stopped g c =
     c.most_reads_below.ensures c.in_ok-view.ensures.counted in
     let mid = c.walk-walked.new.self in
     let walked = subst (λ gv. node_does digest (nodes_given gv) layer n t d cs c.of-rows.result.rest (edge_in begun) (log_in begun)
-    ≡ Ok (edge_in mid, log_in mid)) c.view.ensures.same c.in_ok-previous.ensures.walked in
+    ≡ Ok (edge_in mid, log_in mid)) c.view.ensures.same c.in_ok-previous.ensures.step.done in
     let walked_node = subst (λ r. node_does digest shows layer n t d cs r (edge_in begun) (log_in begun)
     ≡ Ok (edge_in mid, log_in mid)) (ap (λ r. r.rest) c.of-rows.ensures) walked in
     let k : Budget = (g.S.Source.reads c.walk-walked.new.src, mid.left) in
@@ -236,9 +236,9 @@ returns-in_err-ended-clause-stopped g c =
     (at_top (batch_from digest shows layer j cs c.args.root)) f) n_is
     (finish-stopped gives digest shows layer n cs c.args.root t d node (log_in none) (log_in begun) (edge_in begun)
     c.in_ok-edge.ensures.log c.in_ok-view.ensures.shown c.top_layer-top.ensures d_is clear
-    b m k a f (edge_in mid) (log_in mid) counted c.in_ok-previous.ensures.counted walked_node
+    b m k a f (edge_in mid) (log_in mid) counted c.in_ok-previous.ensures.step.counted walked_node
     (subst (λ gv. IsStopped gv k a (log_in mid) (at_top (topping digest (nodes_given gv) n (edge_in mid) (log_in mid))) f)
-    (c.walk-walked.ensures.same ∙ c.view.ensures.same) c.in_err-ended.ensures.stopped)))
+    (c.walk-walked.ensures.step.same ∙ c.view.ensures.same) c.in_err-ended.ensures.stopped)))
 
 pub returns-in_err-previous-clause-most : goal.returns-in_err-previous-clause-most
 returns-in_err-previous-clause-most g c =
@@ -256,7 +256,7 @@ returns-in_err-previous-clause-most g c =
     let most = most-within digest g.row.B g.met.D.Digest.digest_len cs (shows c.args.root) in
     stopped-within b m (g.S.Source.reads c.walk-walked.new.src) (suc (most_reads (256 / g.row.B) cs)) (log_in none) (log_in begun)
     counted
-    c.in_err-previous.ensures.stopped.few most
+    c.in_err-previous.ensures.step.stopped.few most
 
 pub returns-in_err-ended-clause-most : goal.returns-in_err-ended-clause-most
 returns-in_err-ended-clause-most g c =
@@ -275,7 +275,7 @@ returns-in_err-ended-clause-most g c =
     let mid = c.walk-walked.new.self in
     let k : Budget = (g.S.Source.reads c.walk-walked.new.src, mid.left) in
     stopped-within b k (g.S.Source.reads c.finish-ended.new.src) (suc (most_reads (256 / g.row.B) cs)) (log_in none) (log_in mid)
-    (counted-then b m k (log_in none) (log_in begun) (log_in mid) counted c.in_ok-previous.ensures.counted)
+    (counted-then b m k (log_in none) (log_in begun) (log_in mid) counted c.in_ok-previous.ensures.step.counted)
     c.in_err-ended.ensures.stopped.few most
 
 pub returns-in_err-previous-clause-reached : goal.returns-in_err-previous-clause-reached
@@ -309,7 +309,7 @@ returns-in_err-previous-clause-reached g c =
     let f = c.in_err-previous.field-0.0 in
     let step = subst (λ gv. IsHalted (m.1 + length (log_in begun).read) (edge_in mid) (log_in mid)
     (node_does digest (nodes_given gv) layer n t d cs c.of-rows.result.rest (edge_in begun) (log_in begun)) f)
-    c.view.ensures.same c.in_err-previous.ensures.halted in
+    c.view.ensures.same c.in_err-previous.ensures.step.halted in
     rw (p.1, p.2)
     (subst (λ j. IsReachedFor b.1 (batch_from digest shows layer j cs c.args.root) f) n_is
     (walk-reached gives digest shows layer n cs c.args.root t d node (log_in none) (log_in begun) (edge_in begun)
@@ -347,14 +347,14 @@ returns-in_err-ended-clause-reached g c =
     c.most_reads_below.ensures c.in_ok-view.ensures.counted in
     let mid = c.walk-walked.new.self in
     let walked = subst (λ gv. node_does digest (nodes_given gv) layer n t d cs c.of-rows.result.rest (edge_in begun) (log_in begun)
-    ≡ Ok (edge_in mid, log_in mid)) c.view.ensures.same c.in_ok-previous.ensures.walked in
+    ≡ Ok (edge_in mid, log_in mid)) c.view.ensures.same c.in_ok-previous.ensures.step.done in
     let walked_node = subst (λ r. node_does digest shows layer n t d cs r (edge_in begun) (log_in begun)
     ≡ Ok (edge_in mid, log_in mid)) (ap (λ r. r.rest) c.of-rows.ensures) walked in
     let begins = ap (λ (l : Log). length l.read) c.in_ok-edge.ensures.log in
     let all : m.1 + length (log_in begun).read ≡ b.1 = let l = counted.left in omega (arith, l, begins) in
     let last = c.finish-ended.new.self in
     let f = c.in_err-ended.field-0.0 in
-    let more : mid.left + length (log_in mid).read ≡ b.1 = let l = c.in_ok-previous.ensures.counted.left in omega (arith, l, all) in
+    let more : mid.left + length (log_in mid).read ≡ b.1 = let l = c.in_ok-previous.ensures.step.counted.left in omega (arith, l, all) in
     rw (p.1, p.2)
     (subst (λ j. IsReachedFor b.1 (batch_from digest shows layer j cs c.args.root) f) n_is
     (finish-reached gives digest shows layer n cs c.args.root t d node (log_in none) (log_in begun) (edge_in begun)
@@ -363,7 +363,7 @@ returns-in_err-ended-clause-reached g c =
     (subst (λ most. IsHalted most (edge_in last) (log_in last) (at_top (topping digest shows n (edge_in mid) (log_in mid))) f) more
     (subst (λ gv. IsHalted (mid.left + length (log_in mid).read) (edge_in last) (log_in last)
     (at_top (topping digest (nodes_given gv) n (edge_in mid) (log_in mid))) f)
-    (c.walk-walked.ensures.same ∙ c.view.ensures.same) c.in_err-ended.ensures.halted)) c.is_written-2.ensures))
+    (c.walk-walked.ensures.step.same ∙ c.view.ensures.same) c.in_err-ended.ensures.halted)) c.is_written-2.ensures))
 
 pub returns-clause-reached : goal.returns-clause-reached
 returns-clause-reached g c =
@@ -383,7 +383,7 @@ returns-clause-reached g c =
     c.in_ok-edge.ensures.left c.most_reads_below.ensures c.in_ok-view.ensures.counted in
     let begins = ap (λ (l : Log). length l.read) c.in_ok-edge.ensures.log in
     let all : m.1 + length (log_in begun).read ≡ b.1 = let l = counted.left in omega (arith, l, begins) in
-    let more : mid.left + length (log_in mid).read ≡ b.1 = let l = c.in_ok-previous.ensures.counted.left in omega (arith, l, all) in
+    let more : mid.left + length (log_in mid).read ≡ b.1 = let l = c.in_ok-previous.ensures.step.counted.left in omega (arith, l, all) in
     let end : last.left + length (log_in last).read ≡ b.1 = let l = c.in_ok-ended.ensures.counted.left in omega (arith, l, more) in
     ended-reached most _ c.in_ok-ended.ended.0 c.in_ok-ended.ended.1 (log_in last) (returns-clause-changed g c)
     (omega (arith, end)) c.is_written-2.ensures.made

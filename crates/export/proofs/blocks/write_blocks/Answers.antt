@@ -1,6 +1,6 @@
-use Rattle.std.proofs.Common.{ℕ, List, Option, ◌+◌, length, option_map, refl, sym, ap, subst, ◌∙◌, arith}
+use Rattle.std.proofs.Common.{ℕ, List, Option, ◌+◌, length, refl, sym, ap, subst, ◌∙◌, arith}
 use Rattle.spec.specs.Cid.{cid}
-use Rattle.export.specs.Founds.{bytes_found, seen_found}
+use Rattle.export.specs.Founds.{bytes_found, bytes_in, found_in, may_repeat, seen_found}
 use Rattle.export.specs.Once.{AreSingle, capped, sections}
 use Rattle.export.specs.Walks.{blocks_left, steps_behind, IsStepFrom}
 use Rattle.export.proofs.Ahead.{ahead-stops, behind, smaller, step-same, single-others, written-stops, written-leaves, written-count}
@@ -30,24 +30,24 @@ returns-in_err-next-in-Found-clause-taken g c =
 pub returns-in_err-write_once-in-Found-clause-taken :
     goal.returns-in_err-write_once-in-Found-clause-taken
 returns-in_err-write_once-in-Found-clause-taken g c =
-    written-stops g.D.Digest.digest_of c.steps.seen (bytes_found (seen_found c.in-Found.found)) (bytes_found (seen_found c.in-Found.found)) (blocks_left (λ d. option_map bytes_found (g.S.Source.gives c.args.src.now d)) c.steps.walk) refl
+    written-stops g.D.Digest.digest_of c.steps.seen (bytes_found (seen_found c.in-Found.found)) (bytes_found (seen_found c.in-Found.found)) (blocks_left (bytes_in c.args.src.now.blocks.now) c.steps.walk) refl
     (g.W.Out.taken c.args.out.now) (g.W.Out.taken c.steps.out) (g.W.Out.taken c.write_once.new.out) _ c.from_residual-in_err-write_once-in-Found.result
     (rw c.in-Found.is at c.steps.invariant.leaves) c.from_residual-in_err-write_once-in-Found.ensures.0 c.in_err-write_once-in-Found.ensures.taken
 
 pub steps-smaller-in-Found : goal.steps-smaller-in-Found
 steps-smaller-in-Found g c =
-    let base : List ℕ → Option (List ℕ) = λ d. option_map bytes_found (g.S.Source.gives c.args.src.now d) in
+    let base : List ℕ → Option (List ℕ) = bytes_in c.args.src.now.blocks.now in
     smaller base c.steps.step c.in_ok-next-in-Found.next c.steps.walk c.step.new.self (ap (λ s. steps_behind base s c.steps.walk) c.in-Found.is)
-    (step-same bytes_found (g.S.Source.gives c.args.src.now) (g.S.Source.gives c.steps.src) c.in_ok-next-in-Found.next c.steps.walk c.step.new.self c.steps.invariant.same c.in_ok-next-in-Found.ensures.step)
+    (step-same bytes_found (found_in c.args.src.now.blocks.now) (found_in c.steps.src.blocks.now) c.in_ok-next-in-Found.next c.steps.walk c.step.new.self c.steps.invariant.same c.in_ok-next-in-Found.ensures.step)
 
 pub steps-preserved-in-Found : goal.steps-preserved-in-Found
 steps-preserved-in-Found g c =
-    let base : List ℕ → Option (List ℕ) = λ d. option_map bytes_found (g.S.Source.gives c.args.src.now d) in
-    let may_repeat = g.R.Repeats.may_repeat c.args.repeats.now in
-    let by = step-same bytes_found (g.S.Source.gives c.args.src.now) (g.S.Source.gives c.steps.src) c.in_ok-next-in-Found.next c.steps.walk c.step.new.self c.steps.invariant.same c.in_ok-next-in-Found.ensures.step in
+    let base : List ℕ → Option (List ℕ) = bytes_in c.args.src.now.blocks.now in
+    let may_repeat = may_repeat g.D.Digest.digest_of g.row.B c.args.core.now in
+    let by = step-same bytes_found (found_in c.args.src.now.blocks.now) (found_in c.steps.src.blocks.now) c.in_ok-next-in-Found.next c.steps.walk c.step.new.self c.steps.invariant.same c.in_ok-next-in-Found.ensures.step in
     let left = behind base c.in_ok-next-in-Found.next c.steps.walk c.step.new.self by in
     let single = rw c.in-Found.is at c.steps.invariant.single in
-    let noted = noted-as g.D.Digest.digest_of (g.S.Source.gives c.args.src.now) may_repeat (seen_found c.in-Found.found) (rw c.in-Found.is at c.steps.invariant.from) c.steps.invariant.marked
+    let noted = noted-as g.D.Digest.digest_of (found_in c.args.src.now.blocks.now) may_repeat (seen_found c.in-Found.found) (rw c.in-Found.is at c.steps.invariant.from) c.steps.invariant.marked
     c.steps.seen c.write_once.new.seen c.in_ok-write_once-in-Found.ensures.seen in
     record {
       same = c.in_ok-next-in-Found.ensures.same ∙ c.steps.invariant.same;
@@ -72,14 +72,14 @@ returns-in_err-step-in-Missing-clause-taken g c =
 
 pub steps-smaller : goal.steps-smaller
 steps-smaller g c =
-    let base : List ℕ → Option (List ℕ) = λ d. option_map bytes_found (g.S.Source.gives c.args.src.now d) in
+    let base : List ℕ → Option (List ℕ) = bytes_in c.args.src.now.blocks.now in
     smaller base c.steps.step _ c.steps.walk c.step-in-Missing.new.self (ap (λ s. steps_behind base s c.steps.walk) c.in-Missing.is)
-    (step-same bytes_found (g.S.Source.gives c.args.src.now) (g.S.Source.gives c.steps.src) _ c.steps.walk c.step-in-Missing.new.self c.steps.invariant.same c.in_ok-step-in-Missing.ensures.step)
+    (step-same bytes_found (found_in c.args.src.now.blocks.now) (found_in c.steps.src.blocks.now) _ c.steps.walk c.step-in-Missing.new.self c.steps.invariant.same c.in_ok-step-in-Missing.ensures.step)
 
 pub steps-preserved : goal.steps-preserved
 steps-preserved g c =
-    let base : List ℕ → Option (List ℕ) = λ d. option_map bytes_found (g.S.Source.gives c.args.src.now d) in
-    let by = step-same bytes_found (g.S.Source.gives c.args.src.now) (g.S.Source.gives c.steps.src) _ c.steps.walk c.step-in-Missing.new.self c.steps.invariant.same c.in_ok-step-in-Missing.ensures.step in
+    let base : List ℕ → Option (List ℕ) = bytes_in c.args.src.now.blocks.now in
+    let by = step-same bytes_found (found_in c.args.src.now.blocks.now) (found_in c.steps.src.blocks.now) _ c.steps.walk c.step-in-Missing.new.self c.steps.invariant.same c.in_ok-step-in-Missing.ensures.step in
     let left = behind base _ c.steps.walk c.step-in-Missing.new.self by in
     let e = ap (sections g.D.Digest.digest_of c.steps.seen) left in
     record {
@@ -88,7 +88,7 @@ steps-preserved g c =
       count = ap (λ t. capped (c.steps.written + length t)) (sym e) ∙ (rw c.in-Missing.is at c.steps.invariant.count);
       fits = c.steps.invariant.fits;
       noted = c.steps.invariant.noted;
-      single = subst (AreSingle g.D.Digest.digest_of (g.R.Repeats.may_repeat c.args.repeats.now)) left (rw c.in-Missing.is at c.steps.invariant.single);
+      single = subst (AreSingle g.D.Digest.digest_of (may_repeat g.D.Digest.digest_of g.row.B c.args.core.now)) left (rw c.in-Missing.is at c.steps.invariant.single);
       marked = c.steps.invariant.marked;
       from = subst (λ f. IsStepFrom f c.in_ok-step-in-Missing.step) c.steps.invariant.same c.in_ok-step-in-Missing.ensures.from;
       failures = c.steps.invariant.failures;
@@ -104,5 +104,5 @@ returns-in-End-clause-length g c =
 
 pub write_once-requires : goal.write_once-requires
 write_once-requires g c =
-    is-new g.D.Digest.digest_of (g.S.Source.gives c.args.src.now) (g.R.Repeats.may_repeat c.args.repeats.now) (seen_found c.in-Found.found)
+    is-new g.D.Digest.digest_of (found_in c.args.src.now.blocks.now) (may_repeat g.D.Digest.digest_of g.row.B c.args.core.now) (seen_found c.in-Found.found)
     (rw c.in-Found.is at c.steps.invariant.from) c.steps.invariant.marked c.steps.seen c.steps.invariant.noted

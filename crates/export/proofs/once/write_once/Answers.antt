@@ -1,5 +1,4 @@
 use Rattle.std.proofs.Common.{◌++◌, length, sym, ap, subst, ◌∙◌, append-nil}
-use Rattle.std.specs.Arc.{arc_value}
 use Rattle.spec.specs.Car.{section}
 use Rattle.spec.specs.Cid.{cid}
 use Rattle.export.specs.Founds.{bytes_found, seen_found}

@@ -1,7 +1,7 @@
 use Rattle.std.proofs.Common.{◌∙◌, ◌-◌, sym, ap, subst, map, Ok, Some, arith}
 use Rattle.spec.specs.Reading.{◌>>=◌, Fails}
 use Rattle.spec.specs.Proof.{answer_at, verified_within}
-use Rattle.export.specs.Faults.{fault_of}
+use Rattle.export.specs.Faults.{proof_fault_of}
 use Rattle.node.specs.Views.{place_of}
 use Rattle.export.proofs.OneNode.{node_by_node, node_fails, too_deep}
 use Rattle.export.proofs.verifying.value_below.Goals as goal
@@ -31,7 +31,7 @@ returns-in-Ok-Gap g c =
     (c.in-Ok-Gap.ensures.place ∙ ap (λ p. Ok (place_of c.args.key.now p)) c.in-Ok-Gap.field-0-is)
 
 pub returns-in-Err : goal.returns-in-Err
-returns-in-Err g c = subst (Fails (fault_of c.in-Err.fault)) (sym c.loop-left.invariant.answer) (node_fails g.D.Digest.digest_of (map g.K.AsSlice.items c.args.blocks.now) c.args.key.now c.loop-left.cid c.loop-left.left c.loop-left-test.true (fault_of c.in-Err.fault) c.in-Err.ensures.place)
+returns-in-Err g c = subst (Fails (proof_fault_of c.in-Err.fault)) (sym c.loop-left.invariant.answer) (node_fails g.D.Digest.digest_of (map g.K.AsSlice.items c.args.blocks.now) c.args.key.now c.loop-left.cid c.loop-left.left c.loop-left-test.true (proof_fault_of c.in-Err.fault) c.in-Err.ensures.place)
 
 pub returns : goal.returns
 returns g c =

@@ -1,6 +1,7 @@
-use Rattle.std.proofs.Common.{◌∙◌, sym, map, subst}
+use Rattle.std.proofs.Common.{◌∙◌, sym, ap, map, subst}
 use Rattle.spec.specs.Reading.{Gives}
-use Rattle.export.specs.Faults.{fault_of}
+use Rattle.spec.specs.Proof.{verified_within}
+use Rattle.export.specs.Faults.{proof_fault_of}
 use Rattle.export.proofs.Shown.{refused, looked_up, shown_right, shown_all}
 use Rattle.export.proofs.verifying.verify.Goals as goal
 
@@ -9,8 +10,10 @@ returns-then-not-is_key-clause-answer g c = refused _ _ _ _ _ (sym c.is_key.ensu
 
 pub returns-clause-answer : goal.returns-clause-answer
 returns-clause-answer g c =
-    subst (Gives (λ x. x) fault_of c.value_below.result)
-    (sym (looked_up g.D.Digest.digest_of g.row.B c.args.root.now (map g.K.AsSlice.items c.args.blocks.now) c.args.key.now (sym c.is_key.ensures ∙ c.if-not-is_key.false)))
+    let given = map g.K.AsSlice.items c.args.blocks.now in
+    subst (Gives (λ x. x) proof_fault_of c.value_below.result)
+    (ap (λ n. verified_within n g.D.Digest.digest_of given c.args.key.now c.args.root.now) c.layers.ensures
+    ∙ sym (looked_up g.D.Digest.digest_of g.row.B c.args.root.now given c.args.key.now (sym c.is_key.ensures ∙ c.if-not-is_key.false)))
     c.value_below.ensures
 
 pub returns-clause-right : goal.returns-clause-right

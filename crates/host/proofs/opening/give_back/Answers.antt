@@ -2,7 +2,7 @@ use Rattle.std.proofs.Common.{rules, ◌<◌, ◌^◌}
 use prog.Memory.{size}
 use denote.Param.{layout, param, number}
 use Rattle.repo.specs.contracts.repository.Repository as repository
-use Rattle.host.proofs.Sizes.{field, field_fits}
+use Rattle.fitting.proofs.Sizes.{field, field_fits}
 use Rattle.host.proofs.opening.give_back.Goals as goal
 
 pub end-requires : goal.end-requires

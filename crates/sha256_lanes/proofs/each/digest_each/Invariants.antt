@@ -1,4 +1,4 @@
-use Rattle.std.proofs.Common.{◌≡◌, ◌++◌, drop, length, map}
+use Rattle.std.proofs.Common.{◌≡◌, ◌++◌, drop, length}
 use Rattle.sha256_lanes.specs.Digests.{digests_of}
 use Rattle.sha256_lanes.proofs.each.digest_each.Given as goal
 

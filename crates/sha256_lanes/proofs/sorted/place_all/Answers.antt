@@ -1,4 +1,4 @@
-use Rattle.std.proofs.Common.{length, map}
+use Rattle.std.proofs.Common.{length}
 use Rattle.sha256_lanes.specs.Digests.{digests_of}
 use Rattle.sha256_lanes.proofs.PlaceLemmas.{four_more}
 use Rattle.sha256_lanes.proofs.sorted.place_all.Goals as goal

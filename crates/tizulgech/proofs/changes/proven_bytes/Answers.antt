@@ -1,10 +1,6 @@
-use Rattle.std.proofs.Common.{◌∙◌, map, ap, subst}
-use Rattle.std.specs.Prelude.{IfErr}
+use Rattle.std.proofs.Common.{◌∙◌, map, ap}
 use Rattle.std.specs.Arc.{arc_value}
-use Rattle.sha2.specs.Sha256.{sha256}
-use Rattle.spec.specs.States.{State}
 use Rattle.buffers.specs.Answers.{parts_bytes}
-use Rattle.change_proofs.specs.Provings.{IsUntrue}
 use Rattle.tizulgech.proofs.Telling.{spelt}
 use Rattle.tizulgech.proofs.changes.proven_bytes.Goals as goal
 

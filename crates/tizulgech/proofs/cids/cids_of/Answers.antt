@@ -1,4 +1,4 @@
-use Rattle.std.proofs.Common.{◌∙◌, ◌++◌, ap, sym, map}
+use Rattle.std.proofs.Common.{◌∙◌, ◌++◌, ap, map}
 use Rattle.spec.specs.Cid.{prefix}
 use Rattle.buffers.specs.Answers.{cids_bytes}
 use Rattle.tizulgech.proofs.Knowing.{cids_spelt}

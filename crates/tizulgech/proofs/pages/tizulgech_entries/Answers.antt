@@ -10,4 +10,4 @@ use Rattle.tizulgech.proofs.pages.tizulgech_entries.Goals as goal
 
 pub returns-clause-page : goal.returns-clause-page
 returns-clause-page c = shown (λ (o : Owned). IsHandedOr255 c.page_told-code.result (pairs_bytes (page_of (length c.args.out.now) (pairs_from sha256 o.state c.args.from.now c.args.most))) c.args.out.now c.page_told-code.new.out c.page_told-code.new.size)
-    _ c.in-Some.repo.value c.deref.result.now c.in-Some.ensures.taken c.deref.ensures c.page_told-code.ensures
+    _ c.in-Some.repo.value c.deref.result.now c.in-Some.ensures.taken c.deref.ensures c.page_told-code.ensures.answer

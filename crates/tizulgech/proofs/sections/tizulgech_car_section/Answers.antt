@@ -10,4 +10,4 @@ use Rattle.tizulgech.proofs.sections.tizulgech_car_section.Goals as goal
 
 pub returns-clause-section : goal.returns-clause-section
 returns-clause-section c = shown (λ (o : Owned). IsSectionOf c.section_in-code.result (λ d. option_map (section sha256) (state_block sha256 2 o.state d)) (cid_at c.args.cid.now) c.args.out.now c.section_in-code.new.out c.section_in-code.new.size)
-    _ c.in-Some.repo.value c.deref.result.now c.in-Some.ensures.taken c.deref.ensures c.section_in-code.ensures
+    _ c.in-Some.repo.value c.deref.result.now c.in-Some.ensures.taken c.deref.ensures c.section_in-code.ensures.answer

@@ -2,6 +2,6 @@ use Rattle.std.proofs.Common.{rules}
 use Rattle.tree_command.specs.TreeText.{map_of_input}
 use Rattle.tree_command.proofs.listing.map_of_input.Goals as goal
 
-pub returns-clause-map : goal.returns-clause-map
+pub returns : goal.returns
 unfolding map_of_input
-returns-clause-map g c = search rules
+returns g c = search rules

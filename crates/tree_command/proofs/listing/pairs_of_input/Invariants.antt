@@ -1,11 +1,11 @@
-use Rattle.std.proofs.Common.{length}
-use Rattle.console.specs.Lines.{lines}
+use Rattle.std.proofs.Common.{◌≡◌}
+use Rattle.console.specs.Lines.{numbered_lines}
 use Rattle.tree_command.specs.TreeText.{pairs_of_lines}
-use Rattle.tree_command.proofs.Remaining.{Remains}
+use Rattle.tree_command.proofs.Remaining.{onto}
 use Rattle.tree_command.proofs.listing.pairs_of_input.Given as goal
 
-abbrev pub invariant-loop-line : goal.invariant-loop-line
-invariant-loop-line g l =
-    (goal.iterator-loop-line g).can_next l.line-iterator
-    × (goal.iterator-loop-line g).is_finite l.line-iterator
-    × Remains (pairs_of_lines 1 (lines l.fn.input)) (length l.fn.input) l.number l.pairs.items l.line-iterator
+abbrev pub invariant-loop-number : goal.invariant-loop-number
+invariant-loop-number g l =
+    (goal.iterator-loop-number g).can_next l.number-iterator
+    × (goal.iterator-loop-number g).is_finite l.number-iterator
+    × (pairs_of_lines l.fn.taken (numbered_lines l.fn.input) ≡ onto l.pairs.items (pairs_of_lines l.fn.taken l.number-iterator))

@@ -1,5 +1,14 @@
-use Rattle.std.proofs.Common.{rules}
+use Rattle.tree_command.specs.TreeText.{listing}
+use Rattle.tree_command.proofs.Listings.{done-status, failed-status}
 use Rattle.tree_command.proofs.running.run.Goals as goal
 
-pub returns-in-Err-clause-nothing : goal.returns-in-Err-clause-nothing
-returns-in-Err-clause-nothing g c = search rules
+pub returns-in-Ok-clause-status : goal.returns-in-Ok-clause-status
+returns-in-Ok-clause-status g c =
+    done-status (listing g.D.Digest.digest_of c.args.options) (g.R.Read.remaining c.args.input.now) (g.R.Read.remaining c.tree_text_with.new.input)
+    (g.W.Write.contents c.args.out.now) (g.W.Write.contents c.tree_text_with.new.out) (g.W.Write.contents c.done.new.out) c.done.result
+    c.in-Ok.ensures c.done.ensures.kept c.done.ensures.status
+
+pub returns-in-Err-clause-status : goal.returns-in-Err-clause-status
+returns-in-Err-clause-status g c =
+    failed-status (listing g.D.Digest.digest_of c.args.options) (g.R.Read.remaining c.args.input.now) (g.R.Read.remaining c.tree_text_with.new.input)
+    (g.W.Write.contents c.args.out.now) (g.W.Write.contents c.tree_text_with.new.out) c.in-Err.fault c.failed.result c.in-Err.ensures c.failed.ensures

@@ -7,10 +7,10 @@ use Rattle.tree_command.proofs.text.tree_of_input.Goals as goal
 
 pub tree_of_pairs-requires-clause-ascending : goal.tree_of_pairs-requires-clause-ascending
 tree_of_pairs-requires-clause-ascending g c =
-    ap (λ es. is_ascending es) c.deref.ensures.value ∙ ascending-left c.args.input.now c.in_ok-pairs.pairs.items c.in_ok-pairs.ensures.map
+    ap (λ es. is_ascending es) c.deref.ensures.value ∙ ascending-left c.args.taken c.args.input.now c.in_ok-pairs.pairs.items c.in_ok-pairs.ensures
 
-pub returns-clause-tree : goal.returns-clause-tree
-returns-clause-tree g c =
+pub returns : goal.returns
+returns g c =
     let same = ap (λ es. tree_of_map g.D.Digest.digest_of g.row.B es) c.deref.ensures.value
-    ∙ tree-of-map g.D.Digest.digest_of g.row.B c.args.input.now c.in_ok-pairs.pairs.items c.in_ok-pairs.ensures.map in
-    rw (← same) c.tree_of_pairs.ensures.tree
+    ∙ tree-of-map c.args.taken g.D.Digest.digest_of g.row.B c.args.input.now c.in_ok-pairs.pairs.items c.in_ok-pairs.ensures in
+    rw (← same) c.tree_of_pairs.ensures

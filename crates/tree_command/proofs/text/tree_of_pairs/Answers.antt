@@ -11,15 +11,15 @@ use Rattle.tree_command.proofs.text.tree_of_pairs.Goals as goal
 pub build-requires-clause-ascending : goal.build-requires-clause-ascending
 build-requires-clause-ascending g c = ap is_ascending (same_pairs c.args.pairs.now) ∙ c.requires.ascending
 
-pub returns-in-Ok-clause-tree : goal.returns-in-Ok-clause-tree
-returns-in-Ok-clause-tree g c =
+pub returns-in-Ok : goal.returns-in-Ok
+returns-in-Ok g c =
     let e = c.in-Ok.ensures in
     let digest = g.D.Digest.digest_of in
     sym (ap (tree_of_map digest g.row.B) (same_pairs c.args.pairs.now))
     ∙ tree-free digest g.row.B _ _ _ e.clash_free e.root e.blocks e.once
 
-pub returns-in-Err-Clash-clause-tree : goal.returns-in-Err-Clash-clause-tree
-returns-in-Err-Clash-clause-tree g c =
+pub returns-in-Err-Clash : goal.returns-in-Err-Clash
+returns-in-Err-Clash g c =
     let digest = g.D.Digest.digest_of in
     let pairs = pairs_of (λ key. key) c.args.pairs.now in
     let found : IsClashIn digest (nodes digest g.row.B pairs) c.in-Err-Clash.field-0-0 =

@@ -4,7 +4,7 @@ use Rattle.std.specs.List.{list_all, range_with_len}
 use Rattle.std.proofs.lemmas.Bool.{ne_eqb}
 use Rattle.spec.specs.Cid.{letter_value, letter_values, eight_bits, bytes_of_text, cid_of_text}
 use Rattle.spec.specs.Reading.{Gives}
-use Rattle.cid.specs.CidFault.{fault_of}
+use Rattle.cid.specs.CidFault.{cid_fault_of}
 use Rattle.cid.proofs.Filling.{none_says, some_says, some_is}
 use Rattle.cid.proofs.Texts.{text_bad_letter, text_bad_bits, text_read, read_text, tail_is, last_value}
 use Rattle.cid.proofs.cid.Cid.from_text.Goals as goal
@@ -29,7 +29,7 @@ returns c =
     some_is _ _ _ c.in-Some.ensures ∙ ap (λ (v : List ℕ). map (eight_bits v) (range_with_len 0 36)) values in
     let bits : eqb (get_or (letter_values c.args.text.now) 57 0 % 4) 0 ≡ true =
     ap (λ (v : ℕ). eqb (v % 4) 0) (last_value c.args.text.now c.value.result c.if-text-ne59.false c.value.ensures) ∙ rw c.if-value-ne0.false refl in
-    let read : Gives (λ cid. cid) fault_of c.try_from.result (cid_of_text c.args.text.now) =
+    let read : Gives (λ cid. cid) cid_fault_of c.try_from.result (cid_of_text c.args.text.now) =
     text_read c.args.text.now c.in-Some.bytes c.try_from.result c.if-text-ne59.false c.if-text-ne98.false
     (letters_pass c.args.text.now true c.if-text-ne59.false (some_says _ _ _ c.in-Some.ensures)) bits bytes c.try_from.ensures in
     record { read = read; text = read_text c.args.text.now c.try_from.result read }

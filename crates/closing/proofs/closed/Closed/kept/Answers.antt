@@ -1,6 +1,6 @@
 use Rattle.std.proofs.Common.{◌≤◌, length, sym, ap, ◌∙◌, arith}
 use Rattle.std.proofs.lemmas.List.{drop_all}
-use Rattle.closing.specs.Ending.{kept_by}
+use Rattle.ended.specs.Ending.{kept_by}
 use Rattle.closing.specs.Settling.{ClosedView}
 use Rattle.closing.proofs.Closings.{kept_found, kept_further}
 use Rattle.closing.proofs.closed.Closed.kept.Goals as goal

@@ -1,5 +1,5 @@
 use Rattle.std.proofs.Common.{◌≡◌, drop}
-use Rattle.closing.specs.Ending.{kept_by}
+use Rattle.ended.specs.Ending.{kept_by}
 use Rattle.closing.proofs.closed.Closed.kept.Given as goal
 
 abbrev pub invariant-loop-settled : goal.invariant-loop-settled

@@ -3,7 +3,7 @@ use prog.Memory.{size}
 use denote.Param.{layout, param, number}
 use Rattle.closing.specs.contracts.repositories.Repositories as repositories
 use Rattle.closing.proofs.Numbers.{some_left}
-use Rattle.closing.proofs.Sizes.{field_fits}
+use Rattle.fitting.proofs.Sizes.{field_fits}
 use Rattle.closing.proofs.repositories.Repositories.drop.Goals as goal
 
 pub element-requires : goal.element-requires

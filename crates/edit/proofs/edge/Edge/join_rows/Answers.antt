@@ -21,20 +21,20 @@ returns-clause-joined g c =
     let r = c.next.new.self.rest in
     let l = first_link c.args.rows.rest in
     joined-more g.D.Digest.digest_of c.args.depth c.args.rows.rest r l (c.key.result.now, v) c.args.self.now.levels.items
-    c.close_below.new.self.levels.items c.pop.new.self.items c.push.new.self.items c.in-Some-pop.level c.in_ok-level.level
-    c.in_ok-filled.filled.0 c.args.self.now.rest c.in_ok-link.link c.in_ok-filled.filled.1 (log_in c.args.self.now)
+    c.close_below.new.self.levels.items c.pop.new.self.items c.push.new.self.items c.in-Some-pop.level c.pair.new.self
+    c.copy_rows.new.written c.args.self.now.rest c.in_ok-link.link c.in_ok-self.field-0 (log_in c.args.self.now)
     (log_in c.close_below.new.self) (c.in-Some.ensures.some ∙ ap (λ k. MoreLinks l (k, v) r) (sym c.key.ensures))
-    c.requires.within c.in_ok-link.ensures.left c.in-Some-pop.ensures.items c.in_ok-link.ensures.closed c.in_ok-level.ensures.ok
-    c.in_ok-filled.ensures.rows c.in_ok-push.ensures.items c.in_ok-filled.ensures.last
+    c.requires.within c.in_ok-link.ensures.left c.in-Some-pop.ensures.items c.in_ok-link.ensures.closed c.in_ok-pair.ensures.ok
+    c.in_ok-self.ensures.rows c.in_ok-push.ensures.items c.in_ok-self.ensures.last
 
-pub returns-in_err-level-clause-fault : goal.returns-in_err-level-clause-fault
-returns-in_err-level-clause-fault g c above begun cut =
-    let p = err_from_is_err_and c.from_residual-in_err-level.result c.from_residual-in_err-level.ensures.1 in
+pub returns-in_err-pair-clause-fault : goal.returns-in_err-pair-clause-fault
+returns-in_err-pair-clause-fault g c above begun cut =
+    let p = err_from_is_err_and c.from_residual-in_err-pair.result c.from_residual-in_err-pair.ensures.1 in
     let v = bytes_of c.in-Some.value in
     let r = c.next.new.self.rest in
     let l = first_link c.args.rows.rest in
     let e : Pair = (c.key.result.now, v) in
-    let f = c.in_err-level.field-0.0 in
+    let f = c.in_err-pair.field-0.0 in
     let row : Rows = (c.in_ok-link.link, e) ∷ [] in
     rw (p.1, p.2)
     (joined-refused g.D.Digest.digest_of c.args.depth c.args.rows.rest r l e c.args.self.now.levels.items
@@ -43,16 +43,16 @@ returns-in_err-level-clause-fault g c above begun cut =
     (c.in-Some.ensures.some ∙ ap (λ k. MoreLinks l (k, v) r) (sym c.key.ensures)) c.in_ok-link.ensures.left
     c.in-Some-pop.ensures.items c.in_ok-link.ensures.closed
     (begins-refused f (c.in-Some-pop.level ++ row) (rows_in_shape r) _
-    (append_assoc c.in-Some-pop.level row (rows_in_shape r)) c.in_err-level.ensures.fault) cut)
+    (append_assoc c.in-Some-pop.level row (rows_in_shape r)) c.in_err-pair.ensures.fault) cut)
 
-pub returns-in_err-filled-clause-fault : goal.returns-in_err-filled-clause-fault
-returns-in_err-filled-clause-fault g c above begun cut =
-    let p = err_from_is_err_and c.from_residual-in_err-filled.result c.from_residual-in_err-filled.ensures.1 in
+pub returns-in_err-self-clause-fault : goal.returns-in_err-self-clause-fault
+returns-in_err-self-clause-fault g c above begun cut =
+    let p = err_from_is_err_and c.from_residual-in_err-self.result c.from_residual-in_err-self.ensures.1 in
     let v = bytes_of c.in-Some.value in
     let r = c.next.new.self.rest in
     let l = first_link c.args.rows.rest in
     let e : Pair = (c.key.result.now, v) in
-    let f = c.in_err-filled.field-0.0 in
+    let f = c.in_err-self.field-0.0 in
     let row : Rows = (c.in_ok-link.link, e) ∷ [] in
     rw (p.1, p.2)
     (joined-refused g.D.Digest.digest_of c.args.depth c.args.rows.rest r l e c.args.self.now.levels.items
@@ -60,5 +60,5 @@ returns-in_err-filled-clause-fault g c above begun cut =
     c.in_ok-link.link (log_in c.args.self.now) (log_in c.close_below.new.self) f
     (c.in-Some.ensures.some ∙ ap (λ k. MoreLinks l (k, v) r) (sym c.key.ensures)) c.in_ok-link.ensures.left
     c.in-Some-pop.ensures.items c.in_ok-link.ensures.closed
-    (subst (λ xs. IsFaultOfAll xs f) (ap (λ xs. xs ++ rows_in_shape r) c.in_ok-level.ensures.ok
-    ∙ append_assoc c.in-Some-pop.level row (rows_in_shape r)) c.in_err-filled.ensures.fault) cut)
+    (subst (λ xs. IsFaultOfAll xs f) (ap (λ xs. xs ++ rows_in_shape r) c.in_ok-pair.ensures.ok
+    ∙ append_assoc c.in-Some-pop.level row (rows_in_shape r)) c.in_err-self.ensures.fault) cut)

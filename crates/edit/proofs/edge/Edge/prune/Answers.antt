@@ -1,4 +1,4 @@
-use Rattle.std.proofs.Common.{◌-◌, Some, None, ◌∙◌, subst, arith}
+use Rattle.std.proofs.Common.{◌-◌, Some, None, ◌∙◌, subst, arith, rules}
 use Rattle.lookups.specs.Steps.{nodes_given}
 use Rattle.batch_laws.specs.Links.{pruning}
 use Rattle.edit.specs.Budgets.{Budget}
@@ -7,23 +7,30 @@ use Rattle.edit.specs.Tops.{IsLooked}
 use Rattle.edit.proofs.Pairing.{counted-then}
 use Rattle.edit.proofs.Topping.{look-ends, look-goes, top-of}
 use Rattle.std.proofs.lemmas.Result.{err_from_is_err_and}
-use Rattle.edit.specs.Stops.{IsUnread, at_top, IsUnshown}
+use Rattle.batch_laws.specs.Within.{at_top}
+use Rattle.edit.specs.Stops.{IsUnread, IsUnshown}
 use Rattle.edit.proofs.Stopping.{from-stopped}
 use Rattle.edit.proofs.Ending.{prune-stopped, look-stopped}
 use Rattle.edit.proofs.Halts.{look-halted}
 use Rattle.edit.proofs.edge.Edge.prune.Goals as goal
 
-pub returns-in_default-clause-top : goal.returns-in_default-clause-top
-returns-in_default-clause-top g c =
+pub returns-in_default : goal.returns-in_default
+returns-in_default g c =
     let at = c.loop-left in
     let shows = nodes_given (g.S.Source.gives c.args.src.now) in
     let now = log_in c.look.new.self in
     let seen : IsLooked (nodes_given (g.S.Source.gives at.src)) at.at (log_in at.self) None now =
-    rw c.in_default.is at c.in_ok-next.ensures.looked in
+    rw c.in_default.is at c.in_ok-next.ensures.shown in
     let looked = subst (λ gives. IsLooked (nodes_given gives) at.at (log_in at.self) None now) at.invariant.same seen in
-    top-of (pruning shows c.args.layers c.args.cid (log_in c.args.self.now)) (pruning shows at.left at.at (log_in at.self)) at.at 1
-    now at.invariant.is
-    (look-ends shows at.left (at.left - 1) at.at (log_in at.self) now (omega (arith, c.loop-left-test.true)) looked)
+    record {
+      done = top-of (pruning shows c.args.layers c.args.cid (log_in c.args.self.now)) (pruning shows at.left at.at (log_in at.self)) at.at 1
+          now at.invariant.is
+          (look-ends shows at.left (at.left - 1) at.at (log_in at.self) now (omega (arith, c.loop-left-test.true)) looked);
+      counted = search rules;
+      same = search rules;
+      stopped = tt;
+      halted = tt;
+    }
 
 pub loop-left-preserved : goal.loop-left-preserved
 loop-left-preserved g c =
@@ -31,7 +38,7 @@ loop-left-preserved g c =
     let shows = nodes_given (g.S.Source.gives c.args.src.now) in
     let now = log_in c.look.new.self in
     let seen : IsLooked (nodes_given (g.S.Source.gives at.src)) at.at (log_in at.self) (Some c.in-Some.next) now =
-    rw c.in-Some.is at c.in_ok-next.ensures.looked in
+    rw c.in-Some.is at c.in_ok-next.ensures.shown in
     let looked = subst (λ gives. IsLooked (nodes_given gives) at.at (log_in at.self) (Some c.in-Some.next) now) at.invariant.same
     seen in
     record {
@@ -43,8 +50,8 @@ loop-left-preserved g c =
           (log_in c.args.self.now) (log_in at.self) now at.invariant.counted c.in_ok-next.ensures.counted;
     }
 
-pub returns-in_err-next-clause-stopped : goal.returns-in_err-next-clause-stopped
-returns-in_err-next-clause-stopped g c =
+pub returns-in_err-next : goal.returns-in_err-next
+returns-in_err-next g c =
     let p = err_from_is_err_and c.from_residual.result c.from_residual.ensures.1 in
     let gives = g.S.Source.gives c.args.src.now in
     let shows = nodes_given gives in
@@ -54,25 +61,21 @@ returns-in_err-next-clause-stopped g c =
     let m : Budget = (g.S.Source.reads at.src, at.self.left) in
     let a = g.S.Source.reads c.look.new.src in
     let f = c.in_err-next.field-0.0 in
-    rw (p.1, p.2)
-    (prune-stopped gives b a start (pruning shows c.args.layers c.args.cid start) (pruning shows at.left at.at (log_in at.self)) f
-    at.invariant.is
-    (from-stopped gives b m a start (log_in at.self) (at_top (pruning shows at.left at.at (log_in at.self))) f
-    at.invariant.counted
-    (look-stopped gives shows m a at.left (at.left - 1) at.at (log_in at.self) f (omega (arith, c.loop-left-test.true))
-    (subst (λ gv. IsUnread gv m a at.at (nodes_given gv at.at) f) at.invariant.same c.in_err-next.ensures.unread))))
-
-pub returns-in_err-next-clause-halted : goal.returns-in_err-next-clause-halted
-returns-in_err-next-clause-halted g c =
-    let p = err_from_is_err_and c.from_residual.result c.from_residual.ensures.1 in
-    let gives = g.S.Source.gives c.args.src.now in
-    let shows = nodes_given gives in
-    let at = c.loop-left in
     let old = c.args.self.now in
-    let f = c.in_err-next.field-0.0 in
     rw (p.1, p.2)
-    (look-halted g.D.Digest.digest_of shows gives old at.self c.look.new.self at.left (at.left - 1) at.at
-    (pruning shows c.args.layers c.args.cid (log_in old)) f (omega (arith, c.loop-left-test.true)) at.invariant.is
-    at.invariant.counted.left c.in_err-next.ensures.still
-    (subst (λ gv. IsUnshown gv at.self.left at.at (nodes_given gv at.at) f) at.invariant.same
-    c.in_err-next.ensures.unread.cause))
+    (record {
+      done = tt;
+      counted = tt;
+      same = search rules;
+      stopped = (prune-stopped gives b a start (pruning shows c.args.layers c.args.cid start) (pruning shows at.left at.at (log_in at.self)) f
+          at.invariant.is
+          (from-stopped gives b m a start (log_in at.self) (at_top (pruning shows at.left at.at (log_in at.self))) f
+          at.invariant.counted
+          (look-stopped gives shows m a at.left (at.left - 1) at.at (log_in at.self) f (omega (arith, c.loop-left-test.true))
+          (subst (λ gv. IsUnread gv m a at.at (nodes_given gv at.at) f) at.invariant.same c.in_err-next.ensures.unread))));
+      halted = (look-halted g.D.Digest.digest_of shows gives old at.self c.look.new.self at.left (at.left - 1) at.at
+          (pruning shows c.args.layers c.args.cid (log_in old)) f (omega (arith, c.loop-left-test.true)) at.invariant.is
+          at.invariant.counted.left c.in_err-next.ensures.still
+          (subst (λ gv. IsUnshown gv at.self.left at.at (nodes_given gv at.at) f) at.invariant.same
+          c.in_err-next.ensures.unread.cause));
+    })

@@ -1,4 +1,4 @@
-use Rattle.std.proofs.Common.{◌≡◌, ◌+◌, ◌++◌, [], sym, ap, ◌∙◌, subst, arith, drop, Ok}
+use Rattle.std.proofs.Common.{◌≡◌, ◌+◌, ◌++◌, [], sym, ap, ◌∙◌, subst, arith, drop, Ok, rules}
 use Rattle.std.proofs.lemmas.List.{append-nil}
 use Rattle.spec.specs.Layer.{layer as layer_of}
 use Rattle.lookups.specs.Steps.{nodes_given}
@@ -35,7 +35,7 @@ loop-change-preserved g c =
           (pairs_in_turn digest shows depth (puts cs) (edge_in c.args.self.now) (log_in c.args.self.now)) cs i (i + 1) x
           (edge_in at.self) (edge_in new) (log_in at.self) (log_in new) (omega arith) here at.invariant.put
           (subst (λ gives. pairs_in_turn digest (nodes_given gives) depth (if_put x.0 x.1 []) (edge_in at.self) (log_in at.self)
-          ≡ Ok (edge_in new, log_in new)) at.invariant.same c.in_ok-put_one.ensures.put);
+          ≡ Ok (edge_in new, log_in new)) at.invariant.same c.in_ok-put_one.ensures.done);
       previous = none-step (c.args.previous.now.items ++ no_values cs) at.previous.items c.push.new.self.items cs i (i + 1) x
           (omega arith) here at.invariant.previous c.in_ok-push.ensures.items;
       counted = counted-then (g.S.Source.reads c.args.src.now, c.args.self.now.left) (g.S.Source.reads at.src, at.self.left)
@@ -43,15 +43,21 @@ loop-change-preserved g c =
           (log_in c.args.self.now) (log_in at.self) (log_in new) at.invariant.counted c.in_ok-put_one.ensures.counted;
     }
 
-pub returns-clause-put : goal.returns-clause-put
-returns-clause-put g c =
+pub returns-clause-step : goal.returns-clause-step
+returns-clause-step g c =
     let digest = g.D.Digest.digest_of in
     let shows = nodes_given (g.S.Source.gives c.args.src.now) in
     let depth = depth_of (layer_of digest g.row.B) c.args.layers in
     let at = c.loop-change in
-    at.invariant.put
-    ∙ ap (λ ds. pairs_in_turn digest shows depth (puts ds) (edge_in at.self) (log_in at.self))
-    (drop-over at.change-index c.args.changes.now (omega arith))
+    record {
+      done = at.invariant.put
+          ∙ ap (λ ds. pairs_in_turn digest shows depth (puts ds) (edge_in at.self) (log_in at.self))
+          (drop-over at.change-index c.args.changes.now (omega arith));
+      counted = search rules;
+      same = search rules;
+      stopped = tt;
+      halted = tt;
+    }
 
 pub returns-clause-previous : goal.returns-clause-previous
 returns-clause-previous g c =
@@ -59,8 +65,8 @@ returns-clause-previous g c =
     let over = drop-over at.change-index c.args.changes.now (omega arith) in
     sym (append-nil at.previous.items) ∙ sym (ap (λ ds. at.previous.items ++ no_values ds) over) ∙ at.invariant.previous
 
-pub returns-in_err-push-clause-stopped : goal.returns-in_err-push-clause-stopped
-returns-in_err-push-clause-stopped g c =
+pub returns-in_err-push-clause-step : goal.returns-in_err-push-clause-step
+returns-in_err-push-clause-step g c =
     let p = err_from_is_err_and c.from_residual.result c.from_residual.ensures.1 in
     let digest = g.D.Digest.digest_of in
     let gives = g.S.Source.gives c.args.src.now in
@@ -69,14 +75,20 @@ returns-in_err-push-clause-stopped g c =
     let at = c.loop-change in
     let cs = c.args.changes.now in
     rw (p.1, p.2)
-    (puts-memory gives digest shows (g.S.Source.reads c.args.src.now, c.args.self.now.left)
-    (g.S.Source.reads at.src, at.self.left) depth
-    (pairs_in_turn digest shows depth (puts cs) (edge_in c.args.self.now) (log_in c.args.self.now))
-    (puts (drop at.change-index cs)) (edge_in at.self) (log_in c.args.self.now) (log_in at.self) at.invariant.put
-    at.invariant.counted)
+    (record {
+      done = tt;
+      counted = tt;
+      same = search rules;
+      stopped = (puts-memory gives digest shows (g.S.Source.reads c.args.src.now, c.args.self.now.left)
+          (g.S.Source.reads at.src, at.self.left) depth
+          (pairs_in_turn digest shows depth (puts cs) (edge_in c.args.self.now) (log_in c.args.self.now))
+          (puts (drop at.change-index cs)) (edge_in at.self) (log_in c.args.self.now) (log_in at.self) at.invariant.put
+          at.invariant.counted);
+      halted = search rules;
+    })
 
-pub returns-in_err-put_one-clause-stopped : goal.returns-in_err-put_one-clause-stopped
-returns-in_err-put_one-clause-stopped g c =
+pub returns-in_err-put_one-clause-step : goal.returns-in_err-put_one-clause-step
+returns-in_err-put_one-clause-step g c =
     let p = err_from_is_err_and c.from_residual-in_err-put_one.result c.from_residual-in_err-put_one.ensures.1 in
     let digest = g.D.Digest.digest_of in
     let gives = g.S.Source.gives c.args.src.now in
@@ -89,31 +101,23 @@ returns-in_err-put_one-clause-stopped g c =
     let m : Budget = (g.S.Source.reads at.src, at.self.left) in
     let a = g.S.Source.reads c.put_one.new.src in
     let f = c.in_err-put_one.field-0.0 in
-    rw (p.1, p.2)
-    (puts-stopped gives digest shows (g.S.Source.reads c.args.src.now, c.args.self.now.left) m a depth
-    (pairs_in_turn digest shows depth (puts cs) (edge_in c.args.self.now) (log_in c.args.self.now)) cs i x (edge_in at.self)
-    (log_in c.args.self.now) (log_in at.self) f (cut-here cs i x (omega arith) c.change-item.is) at.invariant.put
-    at.invariant.counted
-    (subst (λ gv. IsStopped gv m a (log_in at.self)
-    (pairs_in_turn digest (nodes_given gv) depth (if_put x.0 x.1 []) (edge_in at.self) (log_in at.self)) f) at.invariant.same
-    c.in_err-put_one.ensures.stopped))
-
-pub returns-in_err-put_one-clause-halted : goal.returns-in_err-put_one-clause-halted
-returns-in_err-put_one-clause-halted g c =
-    let p = err_from_is_err_and c.from_residual-in_err-put_one.result c.from_residual-in_err-put_one.ensures.1 in
-    let digest = g.D.Digest.digest_of in
-    let shows = nodes_given (g.S.Source.gives c.args.src.now) in
-    let depth = depth_of (layer_of digest g.row.B) c.args.layers in
-    let at = c.loop-change in
     let old = c.args.self.now in
     let new = c.put_one.new.self in
-    let cs = c.args.changes.now in
-    let i = at.change-index in
-    let x = c.change-item.result in
-    let f = c.in_err-put_one.field-0.0 in
     rw (p.1, p.2)
-    (puts-halted digest shows old at.self new depth (pairs_in_turn digest shows depth (puts cs) (edge_in old) (log_in old)) cs i x
-    f (cut-here cs i x (omega arith) c.change-item.is) at.invariant.put at.invariant.counted.left
-    (subst (λ gv. IsHaltedFrom at.self new
-    (pairs_in_turn digest (nodes_given gv) depth (if_put x.0 x.1 []) (edge_in at.self) (log_in at.self)) f) at.invariant.same
-    c.in_err-put_one.ensures.halted))
+    (record {
+      done = tt;
+      counted = tt;
+      same = search rules;
+      stopped = (puts-stopped gives digest shows (g.S.Source.reads c.args.src.now, c.args.self.now.left) m a depth
+          (pairs_in_turn digest shows depth (puts cs) (edge_in c.args.self.now) (log_in c.args.self.now)) cs i x (edge_in at.self)
+          (log_in c.args.self.now) (log_in at.self) f (cut-here cs i x (omega arith) c.change-item.is) at.invariant.put
+          at.invariant.counted
+          (subst (λ gv. IsStopped gv m a (log_in at.self)
+          (pairs_in_turn digest (nodes_given gv) depth (if_put x.0 x.1 []) (edge_in at.self) (log_in at.self)) f) at.invariant.same
+          c.in_err-put_one.ensures.stopped));
+      halted = (puts-halted digest shows old at.self new depth (pairs_in_turn digest shows depth (puts cs) (edge_in old) (log_in old)) cs i x
+          f (cut-here cs i x (omega arith) c.change-item.is) at.invariant.put at.invariant.counted.left
+          (subst (λ gv. IsHaltedFrom at.self new
+          (pairs_in_turn digest (nodes_given gv) depth (if_put x.0 x.1 []) (edge_in at.self) (log_in at.self)) f) at.invariant.same
+          c.in_err-put_one.ensures.halted));
+    })

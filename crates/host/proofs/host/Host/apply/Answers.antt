@@ -1,36 +1,32 @@
-use Rattle.std.proofs.Common.{rules, arith, subst, ◌<◌, ◌^◌}
+use Rattle.std.proofs.Common.{rules, arith, subst, sym, ◌<◌, ◌^◌}
 use prog.Memory.{size}
 use denote.Param.{layout, param, number}
-use Rattle.repo.specs.contracts.repository.Repository as repository
 use Rattle.host.specs.contracts.host.Host as host
-use Rattle.host.proofs.Sizes.{core_fits, field_fits}
-use Rattle.host.specs.Seeing.{IsSeen}
+use Rattle.fitting.proofs.Sizes.{field_fits}
+use Rattle.host.specs.Seeing.{IsSeen, wanted_of}
 use Rattle.host.proofs.Accepting.{taken, refused}
 use Rattle.host.proofs.host.Host.apply.Goals as goal
 
-pub returns-in-Some-answer-clause-accepted : goal.returns-in-Some-answer-clause-accepted
-returns-in-Some-answer-clause-accepted g c =
-    let e = c.in-Some-answer.ensures in
-    let seen = subst (λ w. IsSeen w c.deref_mut.result.now) c.wanted-wanted.ensures e.seen in
-    taken g.D.Digest.digest_of g.row.B _ _ _ c.args.stamp.now c.args.writes.now _ seen e.accepted
+pub write-core-requires : goal.write-core-requires
+write-core-requires g c =
+    let fits : size (layout (host.the_row (param 0 g.row.D) (number g.row.B) (param 2 g.row.A) g.D.Digest g.A.Allocator g.A.Clone)) < 2 ^ 63 = search (c.requires-raw.1, rules) in
+    (fits, (c.fits_in_memory.ensures.core, search rules))
 
-pub returns-in-Some-answer-clause-refused : goal.returns-in-Some-answer-clause-refused
-returns-in-Some-answer-clause-refused g c =
-    let e = c.in-Some-answer.ensures in
-    let seen = subst (λ w. IsSeen w c.deref_mut.result.now) c.wanted-wanted.ensures e.seen in
-    refused g.D.Digest.digest_of g.row.B _ _ c.args.stamp.now c.args.writes.now _ _ _ seen e.refused
+pub apply_at-requires : goal.apply_at-requires
+apply_at-requires g c = (c.fits_in_memory.ensures.core, search rules)
 
-pub apply_at-answer-requires : goal.apply_at-answer-requires
-apply_at-answer-requires g c =
-    (core_fits (layout (repository.the_row (param 0 g.row.D) (number g.row.B) (param 2 g.row.A) g.D.Digest g.A.Allocator)) c.element-repository.ensures.fits, search rules)
+pub returns-clause-accepted : goal.returns-clause-accepted
+returns-clause-accepted g c =
+    let seen = subst (IsSeen (wanted_of c.args.self.now c.args.repo c.args.seen)) (sym c.deref_mut.ensures.value) c.write-core.ensures in
+    taken g.D.Digest.digest_of g.row.B _ _ _ c.args.stamp.now c.args.writes.now _ seen c.apply_at.ensures.accepted
+
+pub returns-clause-refused : goal.returns-clause-refused
+returns-clause-refused g c =
+    let seen = subst (IsSeen (wanted_of c.args.self.now c.args.repo c.args.seen)) (sym c.deref_mut.ensures.value) c.write-core.ensures in
+    refused g.D.Digest.digest_of g.row.B _ _ c.args.stamp.now c.args.writes.now _ _ _ seen c.apply_at.ensures.refused
 
 pub drop-core-requires-room-T-Destruct : goal.drop-core-requires-room-T-Destruct
-drop-core-requires-room-T-Destruct g c κs within =
-    core_fits (layout (repository.the_row (param 0 g.row.D) (number g.row.B) (param 2 g.row.A) g.D.Digest g.A.Allocator)) c.element-repository.ensures.fits
-
-pub drop-core-requires-in-loop-room-T-Destruct : goal.drop-core-requires-in-loop-room-T-Destruct
-drop-core-requires-in-loop-room-T-Destruct g c κs within =
-    core_fits (layout (repository.the_row (param 0 g.row.D) (number g.row.B) (param 2 g.row.A) g.D.Digest g.A.Allocator)) c.element-repository.ensures.fits
+drop-core-requires-room-T-Destruct g c κs within = c.fits_in_memory.ensures.core
 
 pub new-store-requires : goal.new-store-requires
 new-store-requires g c =

@@ -1,27 +1,20 @@
-use Rattle.std.proofs.Common.{subst}
+use Rattle.std.proofs.Common.{rules, ◌<◌, ◌^◌, subst, sym}
+use prog.Memory.{size}
 use denote.Param.{layout, param, number}
-use Rattle.repo.specs.contracts.repository.Repository as repository
-use Rattle.host.proofs.Sizes.{core_fits}
-use Rattle.host.specs.Seeing.{IsSeen}
-use Rattle.host.specs.declared.locked.Wanted.{Wanted}
+use Rattle.host.specs.contracts.host.Host as host
+use Rattle.host.specs.Seeing.{IsSeen, wanted_of}
 use Rattle.host.proofs.Accepting.{ok_then}
 use Rattle.host.proofs.host.Host.pairs.Goals as goal
 
-pub returns-in-Some-pairs_in : goal.returns-in-Some-pairs_in
-returns-in-Some-pairs_in g c =
-    let e = c.in-Some-pairs_in.ensures in
-    let s = c.deref-in-loop.result.now in
-    let seen = subst (λ (w : Wanted). IsSeen w s) c.wanted-wanted.ensures e.seen in
-    ok_then c.in-Some-pairs_in.answer (λ r here. (s, seen, here.0, here.1)) e.listed
+pub read-requires : goal.read-requires
+read-requires g c =
+    let fits : size (layout (host.the_row (param 0 g.row.D) (number g.row.B) (param 2 g.row.A) g.D.Digest g.A.Allocator g.A.Clone)) < 2 ^ 63 = search (c.requires-raw.1, rules) in
+    (fits, (c.fits_in_memory.ensures.core, search rules))
 
 pub pairs_in-requires : goal.pairs_in-requires
-pairs_in-requires g c =
-    core_fits (layout (repository.the_row (param 0 g.row.D) (number g.row.B) (param 2 g.row.A) g.D.Digest g.A.Allocator)) c.element-repository.ensures.fits
+pairs_in-requires g c = c.fits_in_memory.ensures.core
 
-pub drop-core-requires-room-T-Destruct : goal.drop-core-requires-room-T-Destruct
-drop-core-requires-room-T-Destruct g c κs within =
-    core_fits (layout (repository.the_row (param 0 g.row.D) (number g.row.B) (param 2 g.row.A) g.D.Digest g.A.Allocator)) c.element-repository.ensures.fits
-
-pub drop-core-requires-in-loop-room-T-Destruct : goal.drop-core-requires-in-loop-room-T-Destruct
-drop-core-requires-in-loop-room-T-Destruct g c κs within =
-    core_fits (layout (repository.the_row (param 0 g.row.D) (number g.row.B) (param 2 g.row.A) g.D.Digest g.A.Allocator)) c.element-repository.ensures.fits
+pub returns : goal.returns
+returns g c =
+    let seen = subst (IsSeen (wanted_of c.args.self.now c.args.repo c.args.seen)) (sym c.deref.ensures) c.read.ensures in
+    ok_then c.pairs_in.result (λ r here. (_, seen, here.0, here.1)) c.pairs_in.ensures

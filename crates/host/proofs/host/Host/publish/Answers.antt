@@ -4,7 +4,7 @@ use denote.Param.{layout, param, number}
 use Rattle.boxcar.specs.Table.{Shows}
 use Rattle.host.specs.Views.{HostView}
 use Rattle.host.specs.contracts.host.Host as host
-use Rattle.host.proofs.Sizes.{field_fits}
+use Rattle.fitting.proofs.Sizes.{field_fits}
 use Rattle.host.proofs.host.Host.publish.Goals as goal
 
 pub publish-requires : goal.publish-requires

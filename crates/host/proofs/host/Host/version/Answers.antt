@@ -5,7 +5,7 @@ use Rattle.boxcar.specs.Table.{Shows}
 use Rattle.host.specs.Views.{HostView}
 use Rattle.host.specs.contracts.host.Host as host
 use Rattle.host.specs.contracts.version.Receipt as receipt
-use Rattle.host.proofs.Sizes.{field_fits}
+use Rattle.fitting.proofs.Sizes.{field_fits}
 use Rattle.host.proofs.host.Host.version.Goals as goal
 
 pub version-requires : goal.version-requires

@@ -3,7 +3,7 @@ use prog.Memory.{size}
 use denote.Param.{layout, param, number}
 use Rattle.host.specs.contracts.host.Opened as opened
 use Rattle.store.specs.contracts.shards.Shards as shards
-use Rattle.host.proofs.Sizes.{field, field_fits}
+use Rattle.fitting.proofs.Sizes.{field, field_fits}
 use Rattle.host.proofs.host.Host.with_limits.Goals as goal
 
 pub open-requires : goal.open-requires

@@ -2,7 +2,7 @@ use Rattle.std.proofs.Common.{◌≡◌, ◌+◌, ◌%◌, ◌^◌, ◌∷◌, �
 use Rattle.notices.specs.declared.notice.Notice.{Notice}
 use Rattle.batches.specs.Values.{stamp_of, writes_of}
 use Rattle.host.specs.Seeing.{IsAcceptance, wanted_by}
-use Rattle.host.specs.declared.locked.Wanted.{Wanted}
+use Rattle.host.specs.Seeing.{Wanted}
 use Rattle.host.specs.Views.{WriterView, IsOrderly}
 use Rattle.host.proofs.Keeping.{orderly_push}
 use Rattle.host.proofs.writer.Writer.apply.Goals as goal

@@ -2,7 +2,7 @@ use Rattle.std.proofs.Common.{◌≡◌, ◌∷◌, ◌++◌, [], List, Option, 
 use Rattle.std.specs.Prelude.{Some, option_to_list}
 use Rattle.notices.specs.declared.notice.Notice.{Notice}
 use Rattle.notices.specs.Views.{SenderView, with_sent}
-use Rattle.closing.specs.Ending.{told}
+use Rattle.ended.specs.Ending.{told}
 use Rattle.host.specs.Views.{IsOrderly, IsWriting}
 use Rattle.host.proofs.Keeping.{orderly_rest, told_rest, given_back}
 use Rattle.host.proofs.writer.Writer.flush.Goals as goal

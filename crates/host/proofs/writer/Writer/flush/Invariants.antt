@@ -1,5 +1,5 @@
 use Rattle.std.proofs.Common.{◌≡◌, length}
-use Rattle.closing.specs.Ending.{told}
+use Rattle.ended.specs.Ending.{told}
 use Rattle.host.specs.Views.{IsWriting}
 use Rattle.host.proofs.writer.Writer.flush.Given as goal
 

@@ -1,7 +1,7 @@
 use Rattle.std.proofs.Common.{rules, ◌∙◌, ◌<◌, ◌≤◌, arith, ap, subst, option_map}
 use Rattle.host.specs.Seeing.{IsFound}
 use Rattle.host.specs.Views.{WriterView, with_seen}
-use Rattle.host.specs.declared.locked.Wanted.{Wanted}
+use Rattle.host.specs.Seeing.{Wanted}
 use Rattle.host.proofs.Wanting.{wanted_is}
 use Rattle.host.proofs.writer.Writer.get.Goals as goal
 

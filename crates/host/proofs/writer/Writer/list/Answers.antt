@@ -2,7 +2,7 @@ use Rattle.std.proofs.Common.{rules, ◌∙◌, ◌<◌, ◌≤◌, arith, ap, s
 use Rattle.lookups.specs.Walks.{pairs_given}
 use Rattle.host.specs.Seeing.{IsListed}
 use Rattle.host.specs.Views.{WriterView, with_seen}
-use Rattle.host.specs.declared.locked.Wanted.{Wanted}
+use Rattle.host.specs.Seeing.{Wanted}
 use Rattle.host.proofs.Wanting.{wanted_is}
 use Rattle.host.proofs.writer.Writer.list.Goals as goal
 

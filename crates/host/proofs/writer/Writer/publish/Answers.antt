@@ -2,7 +2,7 @@ use Rattle.std.proofs.Common.{rules, subst, sym, ap, ◌∙◌, ◌<◌, ◌≤�
 use Rattle.host.specs.Seeing.{wanted_of}
 use Rattle.host.specs.Views.{WriterView, with_seen}
 use Rattle.host.specs.Versions.{IsVersion, IsOfState}
-use Rattle.host.specs.declared.locked.Wanted.{Wanted}
+use Rattle.host.specs.Seeing.{Wanted}
 use Rattle.host.proofs.Wanting.{wanted_is}
 use Rattle.host.proofs.writer.Writer.publish.Goals as goal
 

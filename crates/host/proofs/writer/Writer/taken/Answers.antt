@@ -1,7 +1,7 @@
 use Rattle.std.proofs.Common.{rules, ◌<◌, arith, length, sym, subst, IfOk, IfErr}
 use Rattle.host.specs.Views.{WriterView}
 use Rattle.host.specs.Seeing.{IsTaken, IsRefusedSo}
-use Rattle.host.specs.declared.locked.Wanted.{Wanted}
+use Rattle.host.specs.Seeing.{Wanted}
 use Rattle.host.proofs.Wanting.{wanted_is}
 use Rattle.host.proofs.writer.Writer.taken.Goals as goal
 

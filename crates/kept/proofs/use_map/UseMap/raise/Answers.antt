@@ -5,7 +5,7 @@ use Rattle.std.proofs.lemmas.Result.{on_err_weaker}
 use Rattle.spec.specs.Cid.{cid as cid_of}
 use Rattle.std.specs.FinMap as map
 use Rattle.kept.specs.Entering.{Enters, has_entry}
-use Rattle.kept.specs.Uses.{Uses, at, Updated, IsUse, IsRaisedIn}
+use Rattle.kept.specs.Uses.{Uses, at, Updated, IsUse}
 use Rattle.kept.specs.declared.kept_use.Use.{Use}
 use Rattle.kept.proofs.Entries.{listed_at, seen_at, seen_updated, raised_held, raised_new, same_entry, shown_at, shown_same, shown_raised}
 use Rattle.kept.proofs.Entering.{in_words, one_comes, one_stays, one_tried, none_some}

@@ -1,4 +1,4 @@
-use Rattle.std.proofs.Common.{◌<◌, ℕ, List, length, option_map, sym, ap, ◌∙◌, arith}
+use Rattle.std.proofs.Common.{◌<◌, length, sym, ap, ◌∙◌, arith}
 use Rattle.node.specs.Gaps.{GapIn, rows_behind}
 use Rattle.node.specs.Views.{row_of}
 use Rattle.node.proofs.Gaps.{row-there, steps}

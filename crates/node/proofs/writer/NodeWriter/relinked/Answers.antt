@@ -1,6 +1,5 @@
-use Rattle.std.proofs.Common.{◌≡◌, ◌-◌, ◌+◌, ◌^◌, ◌<◌, ◌++◌, ℕ, List, Option, None, length, take, drop, option_map, refl, sym, ap, ◌∙◌, arith}
+use Rattle.std.proofs.Common.{◌≡◌, ◌-◌, ◌+◌, ◌^◌, ◌<◌, ◌++◌, ℕ, List, Option, None, length, take, drop, option_map, refl, ap, ◌∙◌, arith}
 use Rattle.std.proofs.lemmas.List.{take_rest, length-drop}
-use Rattle.spec.specs.NodeFormat.{link_or_null}
 use Rattle.cid.specs.CidRef.{bytes_of}
 use Rattle.node.proofs.Relinking.{field, last-relinked}
 use Rattle.node.proofs.Writing.{count-fits}

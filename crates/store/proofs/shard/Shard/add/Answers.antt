@@ -1,9 +1,10 @@
 use Rattle.std.proofs.Common.{◌≡◌, ◌<◌, ◌≤◌, sym, ap, subst, ◌∙◌, refl, None, arith, rules}
 use Rattle.std.specs.Arc.{arc_value}
 use Rattle.std.specs.FinMap as map
+use Rattle.std.specs.HashMap.{hasher_of}
 use Rattle.store.specs.Places.{held_in, held_of}
 use Rattle.store.specs.Table.{Table, entered}
-use Rattle.store.proofs.Places.{entry_new, no_more, none_held, size_held, sound_added, sound_grown, view_added, view_grown}
+use Rattle.store.proofs.Places.{entry_new, no_more, none_held, size_held, sound_added, sound_grown, view_added, view_grown, view_under}
 use Rattle.store.proofs.Tables.{at, get_view, len_view}
 use Rattle.store.proofs.shard.Shard.add.Goals as goal
 
@@ -40,7 +41,7 @@ returns-in_err-make_room-clause-fault g c =
 
 pub returns-in_err-make_room-clause-unchanged : goal.returns-in_err-make_room-clause-unchanged
 returns-in_err-make_room-clause-unchanged g c =
-    let same = view_grown c.self.inside.table.entries c.self.inside.table.entries c.self.inside.sets c.make_room.new.sets c.self.inside.limit
+    let same = view_grown c.self.inside.table.entries c.self.inside.table.entries c.self.inside.sets c.make_room.new.sets c.self.inside.limit (hasher_of c.self.inside.table)
     refl c.make_room.ensures.values
     ∙ c.self.view_is in
     search rules
@@ -52,7 +53,8 @@ invariant_of-self-in_err-insert g c =
 
 pub returns-in_err-insert-clause-unchanged : goal.returns-in_err-insert-clause-unchanged
 returns-in_err-insert-clause-unchanged g c =
-    let same = view_grown c.self.inside.table.entries c.insert.new.self.entries c.self.inside.sets c.make_room.new.sets c.self.inside.limit
+    let same = view_under (held_in c.make_room.new.sets.slots c.insert.new.self.entries) c.self.inside.limit _ _ c.insert.ensures.hasher
+    ∙ view_grown c.self.inside.table.entries c.insert.new.self.entries c.self.inside.sets c.make_room.new.sets c.self.inside.limit (hasher_of c.self.inside.table)
     c.in_err-insert.ensures.err c.make_room.ensures.values
     ∙ c.self.view_is in
     search rules
@@ -86,7 +88,8 @@ returns-clause-entered g c =
     let s = c.self.inside.sets in
     let t = c.make_room.new.sets in
     let none : at es c.args.cid ≡ None = none_held s.slots es c.args.cid (sym (get_view (held_in s.slots es) c.args.cid) ∙ ap (λ (u : Table). map.get u.entries c.args.cid) c.self.view_is ∙ c.requires.new) in
-    view_added es c.insert.new.self.entries s t c.self.inside.limit c.args.cid c.new.result (arc_value c.args.block) c.args.core c.self.invariant.placed none
+    view_under (held_in t.slots c.insert.new.self.entries) c.self.inside.limit _ _ c.insert.ensures.hasher
+    ∙ view_added es c.insert.new.self.entries s t c.self.inside.limit (hasher_of c.self.inside.table) c.args.cid c.new.result (arc_value c.args.block) c.args.core c.self.invariant.placed none
     c.make_room.ensures.values c.make_room.ensures.capacity c.new.ensures.alone c.in_ok-insert.ensures.updates.0
     (c.new.ensures.bytes ∙ c.in_ok-held.ensures) (c.new.ensures.core t.slots)
     ∙ ap (λ (u : Table). entered u c.args.cid (arc_value c.args.block) c.args.core) c.self.view_is

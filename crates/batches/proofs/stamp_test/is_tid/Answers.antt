@@ -1,5 +1,0 @@
-use Rattle.std.proofs.Common.{rules}
-use Rattle.batches.proofs.stamp_test.is_tid.Goals as goal
-
-pub returns-then-are_all_of : goal.returns-then-are_all_of
-returns-then-are_all_of c = search rules

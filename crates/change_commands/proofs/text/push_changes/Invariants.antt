@@ -1,0 +1,9 @@
+use Rattle.std.proofs.Common.{◌≡◌, ◌++◌, drop}
+use Rattle.std.specs.List.{flat_map}
+use Rattle.change_commands.specs.Texts.{change_line}
+use Rattle.change_commands.proofs.text.push_changes.Given as goal
+
+abbrev pub invariant-loop-change : goal.invariant-loop-change
+invariant-loop-change l =
+    l.text.items ++ flat_map change_line (drop l.change-index l.changes)
+    ≡ l.initial.text.items ++ flat_map change_line l.changes

@@ -1,0 +1,34 @@
+//! The commands on a change of a repository, over any reader and writers: a batch, what it changes, and the nodes that show
+//! it (AT Protocol repository v3; the forms of the texts are this repository's own).
+//!
+//! - `prove_change_text` reads the records of a repository and the writes of a batch, and writes both roots, the changes of
+//!   the keys, and the nodes that show them.
+//! - `verify_change_text` reads such a text beside two roots that are known, and writes whether it shows that the one came of
+//!   the other.
+//!
+//! A program has them by `with_words`, `command_of` and `run`: what help shows of them, which of them a command line asks
+//! for, and its run to the exit status. Their faults are those of `repository_commands`.
+//!
+//! ```text
+//! let mut lines: &[u8] = b"\nput a/b a0";
+//! prove_change_text::<Sha256, _, _>(Global, &mut lines, &mut text)?;
+//! verify_change_text::<Sha256, _, _>(Global, before, after, &mut &text[..], &mut out)?;
+//! ```
+#![tactic(auto)]
+
+mod change_words;
+mod changed;
+mod proving;
+mod roots;
+mod running;
+mod story;
+mod text;
+mod told;
+mod verifying;
+mod words;
+mod write_lines;
+
+pub use proving::prove_change_text;
+pub use running::run;
+pub use verifying::verify_change_text;
+pub use words::{ChangeCommand, command_of, with_words};

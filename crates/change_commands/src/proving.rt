@@ -1,0 +1,143 @@
+//! The command `prove-change`: what a batch changes in a repository, and the nodes that show it.
+ghost use Rattle.std.specs.Prelude.{◌≡◌, ◌<◌, true, map, Ok, IfErr, IfOk, IfSome};
+ghost use Rattle.std.specs.Arc.{arc_value};
+ghost use Rattle.spec.specs.Blocks.{pairs};
+ghost use Rattle.spec.specs.Reading.{Gives};
+ghost use Rattle.spec.specs.States.{records};
+ghost use Rattle.edit.specs.Batches.{are_changes};
+ghost use Rattle.change_laws.specs.Told.{undone};
+ghost use Rattle.change_laws.specs.Laws.{change_path};
+ghost use Rattle.change_proofs.specs.Provings.{told_by};
+ghost use Rattle.store.specs.Stores.{IsStore};
+ghost use Rattle.change_commands.specs.Texts.{prove_change_text as prove_change_text_of, second_stamp, text_of_story, text_on, text_to, IsRefusedStory, IsUnproved};
+ghost use Rattle.repository_commands.specs.Refusals.{IsRefusedLine};
+ghost use Rattle.repository_commands.specs.Faults.{text_fault_of};
+ghost use Rattle.repository_commands.specs.Outcomes.{HasReason, IsMade, IsOutcome};
+ghost use Rattle.repository_commands.specs.Views.{given_of};
+ghost use Rattle.change_commands.specs.Views.{story_of};
+
+use crate::changed::{changes_after, changes_before};
+use crate::story::{Story, read_story};
+use crate::text::text_of;
+use block::Block;
+use change_proofs::{KeyChange, ProvingFault, prove_change};
+use cid::{Cid, Digest};
+use console::{CommandFault, write_made};
+use repo::Core;
+use repository_commands::{
+    DID, MOST_BLOCKS, Puts, REV, TextFault, apply_puts, filled, stamp_of_words,
+};
+use std::alloc::{AllocError, Global};
+use std::io::{Read, Write};
+use std::sync::Arc;
+use store::{BlockStore, Hold, LentShards, StoreFault, TableKey, empty_shards};
+
+/// The revision of the batch, which comes behind that of the records before it.
+const LATER_REV: &str = "2222222222223";
+
+/// Reads lines `KEY HEX`, which are put into one repository, an empty line, and lines `put KEY HEX`, `create KEY HEX`,
+/// `update KEY HEX` and `delete KEY`, which are one batch on it. It writes the CID of the tree's root before the batch and
+/// that after it, a line each; then a line `change KEY BEFORE AFTER` for each key of the batch, in the order of the keys, with
+/// the CID of its record or `-`; and then a line in hexadecimal for each node that shows these changes.
+///
+/// Empty lines behind the first one are passed over, and all are counted. Where there are no writes there is no batch. The
+/// faults are those of `car_text`, the writes before a line that is none tried first.
+pub fn prove_change_text<D: Digest, R: Read, W: Write>(
+    alloc: Global,
+    input: &mut R,
+    out: &mut W,
+) -> Result<(), CommandFault<TextFault<D>>>
+    ensures outcome { IsOutcome (prove_change_text_of D.digest_of)
+        (R.remaining input.old) (W.contents out.old) (W.contents out.new) result }
+
+    // Where a line is refused, it is so by a test, by a clash that is shown, or by a full store.
+    ensures refused { HasReason (IsUnproved D.digest_of) (R.remaining input.old) result }
+{
+    write_made(change_made(alloc, input), out)
+}
+
+/// The text for the lines of the input.
+fn change_made<D: Digest, R: Read>(alloc: Global, input: &mut R) -> Result<Vec<u8>, TextFault<D>>
+    ensures made { IsMade (λ bytes. bytes.items) (prove_change_text_of D.digest_of)
+        (R.remaining input.old) result }
+    ensures refused { IfErr result (λ e. IfSome (R.remaining input.old) (λ xs.
+        IsUnproved D.digest_of xs e)) }
+{
+    let story = read_story(alloc, input)?;
+    change_of_story(alloc, story)
+}
+
+/// The text for a story.
+fn change_of_story<D: Digest>(alloc: Global, story: Story) -> Result<Vec<u8>, TextFault<D>>
+    ensures text { Gives (λ bytes. bytes.items) text_fault_of result
+        (text_of_story D.digest_of (story_of story)) }
+    ensures refused { IfErr result (IsRefusedStory D.digest_of (story_of story)) }
+{
+    let Story { before, batch, .. } = story;
+    let stamp = stamp_of_words(DID, REV, alloc)?;
+    let mut shards = empty_shards(alloc, MOST_BLOCKS, TableKey::known());
+    let mut store = LentShards::<D, MOST_BLOCKS, Global>::new(&mut shards);
+    let mut core = filled::<D, LentShards<'_, D, MOST_BLOCKS, Global>>(
+        alloc, &mut store, &stamp, before,
+    )?;
+    let text = change_of_batch::<D, LentShards<'_, D, MOST_BLOCKS, Global>>(
+        alloc, &mut store, &mut core, &batch,
+    );
+    core.end(&mut store);
+    text
+}
+
+/// The text for a batch on a repository.
+fn change_of_batch<D: Digest, S: BlockStore<Arc<Block<D>>, Hold<D>, StoreFault<D>>>(
+    alloc: Global,
+    store: &mut S,
+    core: &mut Core<D, 2>,
+    batch: &Puts<Global>,
+) -> Result<Vec<u8>, TextFault<D>>
+    requires store { IsStore D.digest_of S.BlockStore }
+    ensures text { Gives (λ bytes. bytes.items) text_fault_of result
+        (text_on D.digest_of core.old (given_of batch.now)) }
+    ensures refused { IfErr result (IsRefusedLine D.digest_of core.old second_stamp
+        (given_of batch.now) (0 < S.fulls store.new)) }
+{
+    let root = core.root();
+    let before = changes_before(alloc, core, &batch.writes)?;
+    let stamp = stamp_of_words(DID, LATER_REV, alloc)?;
+    apply_puts::<D, S>(alloc, store, core, &stamp, batch)?;
+    Ok(shown_text(alloc, core, &root, &before)?)
+}
+
+/// The text of changes that led from a root to a repository, of which what their keys had is known.
+fn shown_text<D: Digest>(
+    alloc: Global,
+    core: &Core<D, 2>,
+    root: &Cid,
+    before: &[KeyChange<'_>],
+) -> Result<Vec<u8>, AllocError>
+    requires keyed { are_changes (undone before.now) ≡ true }
+    ensures { IfOk result (λ text. text.items
+        ≡ text_to D.digest_of root.now core.now before.now) }
+{
+    let changes = changes_after(alloc, core, before)?;
+    let nodes = nodes_of(alloc, core, &changes)?;
+    text_of(alloc, root, &core.root(), &changes, &nodes)
+}
+
+/// The nodes that show these changes.
+fn nodes_of<D: Digest>(
+    alloc: Global,
+    core: &Core<D, 2>,
+    changes: &[KeyChange<'_>],
+) -> Result<Vec<Arc<Block<D>>>, AllocError>
+    requires keyed { are_changes (undone changes.now) ≡ true }
+    requires told { told_by (pairs D.digest_of (records core.now)) changes.now ≡ Ok tt }
+    ensures { IfOk result (λ nodes. map arc_value nodes.items
+        ≡ change_path D.digest_of 2 changes.now (pairs D.digest_of (records core.now))) }
+{
+    match prove_change::<D, 2, Global>(alloc, core, changes) {
+        Ok(nodes) => Ok(nodes),
+        // each key has the value that was just looked up
+        Err(ProvingFault::OtherValue(_)) => unreachable!(),
+        Err(ProvingFault::NoMemory) => Err(AllocError),
+    }
+}

@@ -1,0 +1,77 @@
+//! The text of a change: both roots, the changes of the keys, and the nodes.
+ghost use Rattle.std.specs.Prelude.{◌≡◌, ◌++◌, map, IfOk, OnOk};
+ghost use Rattle.std.specs.Arc.{arc_value};
+ghost use Rattle.std.specs.List.{flat_map};
+ghost use Rattle.change_commands.specs.Texts.{change_line, root_line, text_of_parts, value_words};
+
+use block::Block;
+use change_proofs::KeyChange;
+use cid::{Cid, Digest};
+use repository_commands::push_lines;
+use std::alloc::{AllocError, Global};
+use std::sync::Arc;
+
+/// The text of these.
+pub(crate) fn text_of<D: Digest>(
+    alloc: Global,
+    before: &Cid,
+    after: &Cid,
+    changes: &[KeyChange<'_>],
+    nodes: &[Arc<Block<D>>],
+) -> Result<Vec<u8>, AllocError>
+    ensures { IfOk result (λ text. text.items
+        ≡ text_of_parts before.now after.now changes.now (map arc_value nodes.now)) }
+{
+    let mut text = Vec::new(alloc);
+    push_root(&mut text, before)?;
+    push_root(&mut text, after)?;
+    push_changes(&mut text, changes)?;
+    push_lines(alloc, &mut text, nodes)?;
+    Ok(text)
+}
+
+/// Puts the line of a root at the end.
+fn push_root(text: &mut Vec<u8>, root: &Cid) -> Result<(), AllocError>
+    ensures { OnOk result (text.new.items ≡ text.old.items ++ root_line root.now) }
+{
+    text.extend_from_slice(&root.text())?;
+    text.push(b'\n')?;
+    Ok(())
+}
+
+/// Puts the lines of some changes at the end.
+fn push_changes(text: &mut Vec<u8>, changes: &[KeyChange<'_>]) -> Result<(), AllocError>
+    ensures { OnOk result
+        (text.new.items ≡ text.old.items ++ flat_map change_line changes.now) }
+{
+    for change in changes {
+        push_change(text, change)?;
+    }
+    Ok(())
+}
+
+/// Puts the line of a change at the end.
+fn push_change(text: &mut Vec<u8>, change: &KeyChange<'_>) -> Result<(), AllocError>
+    ensures { OnOk result (text.new.items ≡ text.old.items ++ change_line change.now) }
+{
+    text.extend_from_slice(b"change ")?;
+    text.extend_from_slice(change.key)?;
+    push_value(text, &change.before)?;
+    push_value(text, &change.after)?;
+    text.push(b'\n')?;
+    Ok(())
+}
+
+/// Puts a space and the CID of a record at the end, or `-` where there is none.
+fn push_value(text: &mut Vec<u8>, value: &Option<Cid>) -> Result<(), AllocError>
+    ensures { OnOk result (text.new.items ≡ text.old.items ++ value_words value.now) }
+{
+    match value {
+        Some(cid) => {
+            text.push(b' ')?;
+            text.extend_from_slice(&cid.text())?;
+        }
+        None => text.extend_from_slice(b" -")?,
+    }
+    Ok(())
+}

@@ -1,0 +1,118 @@
+//! What the commands are told on a command line.
+ghost use Rattle.std.specs.Prelude.{◌≡◌, false, IfNone, IfOk, IfSome};
+ghost use Rattle.clap.specs.Words.{app_of, found_of, rows_of, shape_of};
+ghost use Rattle.clap.specs.declared.builder.command.Command.TheViews.{out-Command as fields_of};
+ghost use Rattle.change_commands.specs.Words.{prove_change_shape, verify_change_shape, with_commands, IsOfWords, IsOtherName};
+
+use clap::{ArgMatches, Command};
+use repository_commands::{required, word_or};
+use std::alloc::{AllocError, Global};
+
+/// A command on a change, with what its words say.
+#[derive(Clone, Copy)]
+pub enum ChangeCommand<'a> {
+    /// Write what the batch of the input changes in the repository of the input, and the nodes that show it.
+    Prove,
+    /// Write whether the text of the input shows what it tells of a change between two roots.
+    Verify {
+        /// The text of the CID of the tree's root before the change.
+        before: &'a str,
+        /// The text of that after it.
+        after: &'a str,
+    },
+}
+
+const PROVE_CHANGE: &str = "Reads a repository and a batch, and writes what changes and its proof";
+
+const LONG_PROVE_CHANGE: &str = "\
+Reads lines KEY HEX from standard input, the records of a repository, then an empty line, and then the writes of one
+batch, lines put KEY HEX, create KEY HEX, update KEY HEX and delete KEY. It writes the text of the CID of the tree's root
+before the batch and that after it, a line each, then a line 'change KEY BEFORE AFTER' for each key of the batch, with the
+CID of its record or '-', and then the nodes that show these changes, a line in hexadecimal each. Line numbers count empty
+lines. Without writes behind the empty line there is no batch.
+
+Exit status: 0 done, 1 a faulty line, 2 a wrong command line, 3 no memory, 4 reading or writing failed.";
+
+const PROVE_CHANGE_EXAMPLE: &str = "\
+Example:
+  $ printf '\\nput a/b a0' | msthost prove-change | sed -n 3p
+  change a/b - bafyreigbtj4x7ip5legnfznufuopl4sg4knzc2cof6duas4b3q2fy6swua";
+
+const VERIFY_CHANGE: &str = "Reads what prove-change writes, and writes whether it is shown";
+
+const LONG_VERIFY_CHANGE: &str = "\
+Reads from standard input what prove-change writes: two roots, changes and nodes. Where the roots are BEFORE and AFTER, and
+the nodes show that by the changes the tree with the root BEFORE became the one with AFTER, it writes 'shown'. Nothing but
+BEFORE and AFTER is trusted: take them from elsewhere, as the prevData and the data of a commit.
+
+Exit status: 0 done, 1 a faulty word or line, other roots, or nodes that don't show it, 2 a wrong command line, 3 no memory,
+4 reading or writing failed.";
+
+const VERIFY_CHANGE_EXAMPLE: &str = "\
+Example:
+  $ before=bafyreie5737gdxlw5i64vzichcalba3z2v5n6icifvx5xytvske7mr3hpm
+  $ after=bafyreihkkefvij2yxd6vkifr7342uvsineepfcevg2pduv3e4idaxosycu
+  $ printf '\\nput a/b a0' | msthost prove-change | msthost verify-change $before $after
+  shown";
+
+/// Adds the commands on a change to a program's.
+pub fn with_words<'a>(alloc: Global, program: Command<'a>) -> Result<Command<'a>, AllocError>
+    ensures { IfOk result (λ r. app_of r ≡ with_commands (app_of program.entry)) }
+{
+    program
+        .subcommand(prove_change_words(alloc))?
+        .subcommand(verify_change_words(alloc)?)
+}
+
+/// The command of this name, with what its words say; or `None` where it is another.
+pub fn command_of<'a>(name: &str, words: &ArgMatches<'a>) -> Option<ChangeCommand<'a>>
+    ensures command { IfSome result (IsOfWords name.now (rows_of (found_of words.now))) }
+    ensures none { IfNone result (IsOtherName name.now) }
+{
+    if name == "prove-change" {
+        return Some(ChangeCommand::Prove);
+    }
+    if name == "verify-change" {
+        return Some(ChangeCommand::Verify {
+            before: word_or("", words, "before"),
+            after: word_or("", words, "after"),
+        });
+    }
+    None
+}
+
+/// The words that `prove-change` takes.
+fn prove_change_words<'a>(alloc: Global) -> Command<'a>
+    ensures shape { shape_of result ≡ prove_change_shape }
+    ensures local { (fields_of result).has_globals ≡ false }
+{
+    Command::new(alloc, "prove-change")
+        .override_usage("msthost prove-change < FILE")
+        .about(PROVE_CHANGE)
+        .long_about(LONG_PROVE_CHANGE)
+        .after_help(PROVE_CHANGE_EXAMPLE)
+}
+
+/// The words that `verify-change` takes.
+fn verify_change_words<'a>(alloc: Global) -> Result<Command<'a>, AllocError>
+    ensures shape { IfOk result (λ r. shape_of r ≡ verify_change_shape) }
+    ensures local { IfOk result (λ r. (fields_of r).has_globals ≡ false) }
+{
+    Command::new(alloc, "verify-change")
+        .override_usage("msthost verify-change <BEFORE> <AFTER> < FILE")
+        .about(VERIFY_CHANGE)
+        .long_about(LONG_VERIFY_CHANGE)
+        .after_help(VERIFY_CHANGE_EXAMPLE)
+        .arg(required(
+            alloc,
+            "before",
+            "BEFORE",
+            "The text of the CID of the root before, a commit's prevData",
+        ))?
+        .arg(required(
+            alloc,
+            "after",
+            "AFTER",
+            "The text of that after, a commit's data",
+        ))
+}

@@ -1,0 +1,107 @@
+//! The lines of a batch: `put KEY HEX`, `create KEY HEX`, `update KEY HEX` and `delete KEY`.
+ghost use Rattle.std.specs.Prelude.{◌≡◌, ◌≤◌, ◌+◌, drop, length, option_map, IfOk};
+ghost use Rattle.std.specs.List.{list_any, before_first, after_first};
+ghost use Rattle.batches.specs.Values.{write_of};
+ghost use Rattle.console.specs.Lines.{bytes_of_hex as hex_of, is_space};
+ghost use Rattle.change_commands.specs.Stories.{delete_of as delete_of_key, record_write as record_write_of, write_by as write_by_of, write_of_line as write_of_line_of};
+
+use batches::Write;
+use console::bytes_of_hex;
+use repository_commands::space_in;
+use std::alloc::{AllocError, Global};
+
+/// A line, cut at its first space.
+#[derive(Clone, Copy)]
+pub(crate) struct Cut<'t> {
+    /// What stands before the space.
+    pub(crate) word: &'t [u8],
+    /// What stands behind it.
+    pub(crate) rest: &'t [u8],
+}
+
+/// All of a line before its first space, and all behind it.
+pub(crate) fn cut_at_space(line: &[u8]) -> Cut<'_>
+    ensures word { result.word.now ≡ before_first is_space line.now }
+    ensures rest { result.rest.now ≡ after_first is_space line.now }
+{
+    let space = space_in(line);
+    Cut {
+        word: &line[..space],
+        rest: behind(line, space),
+    }
+}
+
+/// What stands behind a place.
+fn behind(line: &[u8], place: usize) -> &[u8]
+    requires { place ≤ length line.now }
+    ensures { result.now ≡ drop (place + 1) line.now }
+{
+    if place == line.len() {
+        return &line[place..];
+    }
+    &line[place + 1..]
+}
+
+/// The write of a line, or `None` where it is none.
+pub(crate) fn write_of_line(alloc: Global, line: &[u8]) -> Result<Option<Write>, AllocError>
+    ensures { IfOk result (λ write. option_map write_of write ≡ write_of_line_of line.now) }
+{
+    let Cut { word, rest } = cut_at_space(line);
+    if word == b"delete".as_slice() {
+        return delete_of(alloc, rest);
+    }
+    let Cut { word: key, rest } = cut_at_space(rest);
+    record_write(alloc, word, key, rest)
+}
+
+/// The write of a word, a key and a record in hexadecimal, or `None` where they are none.
+fn record_write(
+    alloc: Global,
+    word: &[u8],
+    key: &[u8],
+    digits: &[u8],
+) -> Result<Option<Write>, AllocError>
+    ensures { IfOk result (λ write. option_map write_of write
+        ≡ record_write_of word.now key.now (hex_of digits.now)) }
+{
+    if key.is_empty() {
+        return Ok(None);
+    }
+    let Some(bytes) = bytes_of_hex(alloc, digits)? else {
+        return Ok(None);
+    };
+    Ok(write_by(word, Vec::from_slice(alloc, key)?, bytes))
+}
+
+/// The write that leaves a record under a key by this word, or `None` where none does.
+fn write_by(word: &[u8], key: Vec<u8>, bytes: Vec<u8>) -> Option<Write>
+    ensures { option_map write_of result ≡ write_by_of word.now key.items bytes.items }
+{
+    if word == b"put".as_slice() {
+        return Some(Write::Put(key, bytes));
+    }
+    if word == b"create".as_slice() {
+        return Some(Write::Create(key, bytes));
+    }
+    if word == b"update".as_slice() {
+        return Some(Write::Update(key, bytes));
+    }
+    None
+}
+
+/// The delete of a key without spaces, or `None` where it is none.
+fn delete_of(alloc: Global, key: &[u8]) -> Result<Option<Write>, AllocError>
+    ensures { IfOk result (λ write. option_map write_of write ≡ delete_of_key key.now) }
+{
+    if key.is_empty() || has_space(key) {
+        return Ok(None);
+    }
+    Ok(Some(Write::Delete(Vec::from_slice(alloc, key)?)))
+}
+
+/// Whether there is a space in a key.
+fn has_space(key: &[u8]) -> bool
+    ensures { result ≡ list_any is_space key.now }
+{
+    key.iter().any(|c| *c == b' ')
+}

@@ -1,5 +1,0 @@
-use Rattle.std.proofs.Common.{vec_len}
-use Rattle.closing.proofs.repositories.end_all.Given as goal
-
-abbrev pub decreases-loop-core : goal.decreases-loop-core
-decreases-loop-core g l = vec_len l.cores

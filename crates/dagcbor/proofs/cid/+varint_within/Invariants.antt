@@ -1,4 +1,0 @@
-use Rattle.dagcbor.proofs.cid.+varint_within.Given as goal
-
-abbrev pub decreases-varint_within : goal.decreases-varint_within
-decreases-varint_within l = l.most

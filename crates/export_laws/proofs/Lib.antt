@@ -1,0 +1,2 @@
+mod OfOne
+mod NoOrder

@@ -1,5 +1,0 @@
-use Rattle.std.proofs.Common.{rules}
-use Rattle.record_writes.proofs.write.Write.share.Goals as goal
-
-pub returns : goal.returns
-returns g c = search rules

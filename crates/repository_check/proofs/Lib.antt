@@ -1,0 +1,9 @@
+pub mod Spelled
+pub mod Listing
+pub mod Trees
+pub mod Refusals
+pub mod Steps
+pub mod Taken
+pub mod Exporting
+pub mod FirstFaults
+pub mod Whole

@@ -1,9 +1,0 @@
-use Rattle.std.proofs.Common.{◌≡◌, ◌++◌, drop}
-use Rattle.std.specs.List.{flat_map}
-use Rattle.repository_commands.specs.ChangeTexts.{change_line}
-use Rattle.repository_commands.proofs.change_text.push_changes.Given as goal
-
-abbrev pub invariant-loop-change : goal.invariant-loop-change
-invariant-loop-change l =
-    l.text.items ++ flat_map change_line (drop l.change-index l.changes)
-    ≡ l.initial.text.items ++ flat_map change_line l.changes

@@ -1,5 +1,0 @@
-pub mod Mapped
-pub mod Digits
-pub mod Parts
-pub mod Remaining
-pub mod Pushing

@@ -1,7 +1,0 @@
-use Rattle.std.proofs.Common.{[], ◌++◌}
-use Rattle.script_text.specs.Report.{block_line, block_lines}
-use Rattle.script_text.proofs.Pushing.{Left}
-use Rattle.script_text.proofs.report.push_blocks.Given as goal
-
-abbrev pub invariant-loop-cid : goal.invariant-loop-cid
-invariant-loop-cid l = Left block_line l.counts (l.initial.text.items ++ block_lines l.counts) [] 0 l.text.items l.cid-index

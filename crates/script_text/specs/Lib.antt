@@ -1,4 +1,0 @@
-pub mod Script
-pub mod Views
-pub mod Names
-pub mod Report

@@ -1,0 +1,4 @@
+pub mod Spelling
+pub mod CommitLaws
+pub mod Texts
+pub mod Values

@@ -1,0 +1,180 @@
+"""The commands: what each says of a faulty word, a missing file and an empty input, and what it does on something small."""
+
+import contextlib
+import io
+import os
+import shutil
+import subprocess
+import tempfile
+import unittest
+
+from lib.files import ROOT, text_of, write
+from lib.manuals import faults_of, files_of, helps_of
+from tests.support import command, program, ran
+
+COMMANDS = sorted(it for it in os.listdir(f"{ROOT}/tools") if os.access(f"{ROOT}/tools/{it}", os.X_OK) and os.path.isfile(f"{ROOT}/tools/{it}"))
+IN_PYTHON = [it for it in COMMANDS if text_of(f"tools/{it}").startswith("#!/usr/bin/env python3")]
+# What each is given that it can't do anything with.
+FAULTY: dict[str, list[str]] = {
+    "build": ["nosuch"],
+    "compare-runs": ["nosuch"],
+    "draw-pictures": ["nosuch"],
+    "draw-tree": ["nosuch"],
+    "edits": ["nosuch"],
+    "gate-times": ["--functions", "nosuch"],
+    "install": ["--test", "nosuch"],
+    "readme-example": ["--run", "nosuch"],
+    "refuse-memory": ["nosuch"],
+    "repeat-tests": ["nosuch"],
+    "written-answers": ["nosuch"],
+}
+
+
+class FaultsTest(unittest.TestCase):
+    def test_help(self) -> None:
+        for name in IN_PYTHON:
+            if "parser_of" in text_of(f"tools/{name}"):
+                said = ran(name, "--help")
+                self.assertEqual((said.returncode, said.stderr), (0, ""), name)
+                self.assertIn("usage: ", said.stdout)
+
+    def test_unknown_words(self) -> None:
+        for name in IN_PYTHON:
+            if "parser_of" in text_of(f"tools/{name}"):
+                said = ran(name, "--no-such-option")
+                self.assertEqual(said.returncode, 2, name)
+                self.assertNotIn("Traceback", said.stderr)
+
+    def test_one_line(self) -> None:
+        for name, words in FAULTY.items():
+            with tempfile.TemporaryDirectory() as room:
+                said = ran(name, *words, folder=room)
+            self.assertIn(said.returncode, (1, 2), name)
+            self.assertEqual(said.stdout, "", name)
+            self.assertRegex(said.stderr, rf"\Atools/{name}: [^\n]+\n\Z", name)
+
+    def test_without_rt(self) -> None:
+        around = {"PATH": "/usr/bin:/bin"}
+        if shutil.which("rt", path=around["PATH"]):
+            self.skipTest("rt stands where it is always found")
+        for name in ("demo", "edits", "must-not-compile", "written-answers"):
+            words = ["cid"] if name == "written-answers" else []
+            said = subprocess.run([shutil.which("python3") or "python3", f"{ROOT}/tools/{name}", *words], capture_output=True, text=True, env=around)
+            self.assertEqual((said.returncode, said.stderr), (2, f"tools/{name}: rt, of the Rattle toolchain, is not on the path\n"))
+
+
+class DrawTreeTest(unittest.TestCase):
+    def setUp(self) -> None:
+        self.tree = subprocess.run(["python3", f"{ROOT}/examples/reference.py"], input=text_of("examples/small.txt"), capture_output=True, text=True).stdout
+
+    def test_small(self) -> None:
+        said = ran("draw-tree", "examples/small.txt", given=self.tree)
+        self.assertEqual((said.returncode, said.stderr), (0, ""))
+        self.assertTrue(said.stdout.startswith("<svg ") and said.stdout.endswith("</svg>\n"))
+
+    def test_faulty_input(self) -> None:
+        for given in ("", "x\n", self.tree[:-4], self.tree.replace("\n", "\nx", 1)):
+            said = ran("draw-tree", "examples/small.txt", given=given)
+            self.assertEqual((said.returncode, said.stdout), (1, ""))
+            self.assertRegex(said.stderr, r"\Atools/draw-tree: [^\n]+\n\Z")
+        said = ran("draw-tree", "examples/script.txt", given=self.tree)
+        self.assertRegex(said.stderr, r"\Atools/draw-tree: line 1 of the listing [^\n]+\n\Z")
+
+
+class ByModelTest(unittest.TestCase):
+    """What runs msthost, over a program that answers as the model does."""
+
+    def setUp(self) -> None:
+        room = tempfile.TemporaryDirectory()
+        self.addCleanup(room.cleanup)
+        self.room = room.name
+        self.program = program(f"{self.room}/model")
+
+    def test_compare_runs(self) -> None:
+        said = ran("compare-runs", self.program, "2")
+        self.assertEqual((said.returncode, said.stdout.splitlines()[-1]), (0, "2 rounds, 0 wrong"), said.stdout)
+        wrong = program(f"{self.room}/wrong", "#!/bin/sh\nexit 0\n")
+        said = ran("compare-runs", wrong, "1", around={"TMPDIR": self.room})
+        self.assertEqual((said.returncode, said.stdout.splitlines()[-1]), (1, "1 rounds, 1 wrong"))
+
+    def test_a_fault_may_be_explained(self) -> None:
+        is_told = command("compare-runs").is_told
+        wanted = b"msthost: line 1: BadLine\n"
+        for err in (wanted, b"msthost: line 1: BadLine: it isn't a key, a space and a record\n"):
+            self.assertTrue(is_told(err, wanted))
+        for err in (b"", b"msthost: line 1: BadLines\n", b"msthost: line 2: BadLine\n"):
+            self.assertFalse(is_told(err, wanted))
+        self.assertFalse(is_told(wanted, b""))
+
+    def test_pictures(self) -> None:
+        said = ran("draw-pictures", "--compare", self.program)
+        self.assertEqual((said.returncode, said.stdout), (0, "4 pictures, 0 otherwise\n"), said.stderr)
+
+    def test_completions(self) -> None:
+        installing = command("install")
+        with contextlib.redirect_stdout(io.StringIO()):
+            installing.install(f"{self.room}/prefix", self.program)
+        wanted = {"msthost": {"tree", "prove-change", "explain", "help", "-h", "--help", "-V", "--version"}, "msthost prove-change": {"--bits", "-h", "--help"}}
+        for shell, place in (("bash", "bash-completion/completions/msthost"), ("fish", "fish/vendor_completions.d/msthost.fish")):
+            file = f"{self.room}/prefix/share/{place}"
+            if shutil.which(shell):
+                self.assertEqual(installing.faults_of_shell(shell, file, wanted), [])
+                self.assertEqual(len(installing.faults_of_shell(shell, file, {"msthost": {"--nosuch"}})), 1)
+
+    def test_page(self) -> None:
+        if not shutil.which("groff"):
+            self.skipTest("groff isn't here")
+        installing, (_, helps) = command("install"), helps_of(self.program)
+        page, told = files_of(self.program)["share/man/man1/msthost.1"], faults_of(self.program, helps)
+        self.assertEqual([name for name, _ in told], ["BadLine", "BadRecord(Float)"])
+        write(f"{self.room}/page", page)
+        self.assertEqual(installing.faults_of_page(f"{self.room}/page", helps, told), [])
+        write(f"{self.room}/page", page.replace("second", "third").replace("a number with a point", "a number"))
+        self.assertEqual(len(installing.faults_of_page(f"{self.room}/page", helps, told)), 5)
+
+    def test_zsh_shows_words_with_hyphens(self) -> None:
+        shown = command("install").in_zsh("prove-change  Proves a change\r\n--no-such-flag  None\r\n\x1b[J-h tree  Prints\n")
+        self.assertTrue({"prove-change", "--no-such-flag", "-h", "tree"} <= shown)
+
+    def test_manual(self) -> None:
+        made = files_of(self.program)
+        self.assertEqual([*made], ["share/man/man1/msthost.1", "share/bash-completion/completions/msthost", "share/zsh/site-functions/_msthost", "share/fish/vendor_completions.d/msthost.fish"])
+        self.assertIn(".SS prove\\-change", made["share/man/man1/msthost.1"])
+        self.assertIn("    prove-change) words='--bits -h --help' ;;", made["share/bash-completion/completions/msthost"])
+
+
+class ExamplesTest(unittest.TestCase):
+    def test_calls_of_a_page(self) -> None:
+        calls = command("readme-example").calls_of("docs/PROGRAM.md")
+        self.assertTrue(any(it.startswith("msthost ") for it, _ in calls))
+        self.assertTrue(all(it and not it.startswith("$") for it, _ in calls))
+
+    def test_jobs(self) -> None:
+        jobs = command("draw-pictures").jobs_in("| Job | Ratio | Aim |\n|---|---|---|\n| a | 1.1 to 1.3 | 1.2 |\n| b | | 2 |\n| c | 0.5 | |\n")
+        self.assertEqual([(it.name, it.told, it.aim) for it in jobs], [("a", "1.10 to 1.30", 1.2), ("c", "0.50", None)])
+
+
+class EditsTest(unittest.TestCase):
+    def test_words_of_an_edit(self) -> None:
+        faults = command("edits").faults_of_words
+        self.assertEqual(faults("cid", "what: a\nbreaks: b\nin the gate: layer_not_divided rows/empty_node_kept\n"), [])
+        self.assertEqual(len(faults("cid", "what: a\nbreaks:\n")), 1)
+        self.assertEqual(len(faults("cid", "what: a\nbreaks: b\nin the gate: nosuch\n")), 1)
+
+
+class VersionTest(unittest.TestCase):
+    def test_places(self) -> None:
+        version = command("version")
+        with tempfile.TemporaryDirectory() as room:
+            write(f"{room}/VERSION", "1.2.3\n")
+            for place in version.PLACES:
+                write(f"{room}/{place.path}", place.example.replace("{}", "1.2.3"))
+            self.assertEqual(version.faults_in(room), [])
+            for place in version.PLACES:
+                write(f"{room}/{place.path}", place.example.replace("{}", "1.2.4"))
+                self.assertEqual(len(version.faults_in(room)), 1, place)
+                write(f"{room}/{place.path}", "nothing")
+                self.assertEqual(len(version.faults_in(room)), 1, place)
+                write(f"{room}/{place.path}", place.example.replace("{}", "1.2.3"))
+            write(f"{room}/VERSION", "one\n")
+            self.assertEqual(len(version.faults_in(room)), 1)

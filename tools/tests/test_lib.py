@@ -1,0 +1,197 @@
+"""The package lib: crates.txt, edits, copies, the model, trees, times, progress."""
+
+import contextlib
+import io
+import os
+import random
+import subprocess
+import sys
+import tempfile
+import time
+import unittest
+
+from lib import commands, copies, crates, edits, model, times
+from lib.files import ROOT, bytes_of, text_of, write
+from lib.made_input import made_puts, made_script
+from lib.progress import Progress, told
+from lib.trees import Faulty, Tree, drawn, shared_by
+
+TXT = """\
+# a comment
+top may_wait=2: middle other kit_crate  # another
+low:
+middle: low
+other: low
+archive staticlib: low
+bench: low
+# tests
+top_tests tests_may=Wait: top
+"""
+
+
+class CratesTest(unittest.TestCase):
+    def setUp(self) -> None:
+        self.all = crates.Crates(TXT)
+
+    def test_lines(self) -> None:
+        self.assertEqual([*self.all], ["top", "low", "middle", "other", "archive", "bench", "top_tests"])
+        self.assertEqual(self.all["top"].needs, ("middle", "other", "kit_crate"))
+        self.assertEqual(self.all.own("top"), ["middle", "other"])
+        self.assertEqual([it for it in self.all if self.all[it].is_test], ["top_tests"])
+        self.assertEqual([it for it in self.all if self.all[it].is_static], ["archive"])
+        self.assertEqual(self.all.shown(), ["top", "low", "middle", "other", "archive"])
+
+    def test_up_to(self) -> None:
+        self.assertEqual([*self.all.up_to("top")], ["top", "low", "middle", "other"])
+        with self.assertRaisesRegex(commands.Stop, "no crate nosuch"):
+            self.all.up_to("nosuch")
+
+    def test_order_and_chain(self) -> None:
+        order = self.all.lowest_first()
+        self.assertTrue(all(order.index(dep) < order.index(it) for it in order for dep in self.all.own(it)))
+        self.assertEqual(self.all.chain({"low": 1, "middle": 5, "other": 2, "top": 3}), 9)
+
+    def test_own_file(self) -> None:
+        found = crates.read_crates()
+        self.assertEqual(sorted(found), copies.all_crates())
+        self.assertTrue({it for name in found for it in found.own(name)} <= {*found})
+
+
+class EditsTest(unittest.TestCase):
+    def test_pairs(self) -> None:
+        pair = edits.pairs_of("what: a\nfile: src/lib.rt\nold: a\nnew: b\nold: c\nnew:\n")
+        self.assertEqual(pair, [edits.Pair("src/lib.rt", "a", "b"), edits.Pair("src/lib.rt", "c", "")])
+        for text in ("", "old: a\nnew: b", "file: ../x\n", "file: src/lib.rt\nnew: b", "file: docs/x"):
+            with self.assertRaises(edits.BadEdit):
+                edits.pairs_of(text)
+
+    def test_applied(self) -> None:
+        with tempfile.TemporaryDirectory() as room:
+            write(f"{room}/src/lib.rt", "one two two\n")
+            pair = edits.Pair("src/lib.rt", "one", "two")
+            self.assertEqual(edits.applied(room, [pair, edits.Pair("src/lib.rt", "two two two", "x")]), {"src/lib.rt": "x\n"})
+            for bad in (edits.Pair("src/lib.rt", "two", "x"), edits.Pair("src/lib.rt", "z", "x"), edits.Pair("src/no.rt", "z", "x")):
+                with self.assertRaises(edits.BadEdit):
+                    edits.applied(room, [bad])
+
+
+class CopiesTest(unittest.TestCase):
+    def test_copy(self) -> None:
+        with tempfile.TemporaryDirectory() as top:
+            copies.copy_crates(f"{top}/copy", ["counts", "spec"], "counts:\nspec:\n")
+            self.assertEqual(sorted(os.listdir(f"{top}/copy")), [".git", "HANDLES", "crates", "crates.txt"])
+            self.assertEqual(sorted(os.listdir(f"{top}/copy/crates")), ["counts", "spec"])
+            inside = {*os.listdir(f"{top}/copy/crates/spec")}
+            self.assertFalse(inside & {"must-fail", "more-edits"})
+            self.assertTrue({"src", "specs", "proofs"} <= inside)
+
+
+class ModelTest(unittest.TestCase):
+    def test_tree_is_the_references(self) -> None:
+        for name in ("small", "repository"):
+            listing = bytes_of(f"examples/{name}.txt")
+            reference = [sys.executable, f"{ROOT}/examples/reference.py"]
+            wanted = subprocess.run(reference, input=listing, stdout=subprocess.PIPE, check=True).stdout
+            self.assertEqual(model.tree(listing), model.Ended(0, wanted, b""))
+        self.assertEqual(model.tree(b"").out.split(b"\n")[0], b"bafyreie5737gdxlw5i64vzichcalba3z2v5n6icifvx5xytvske7mr3hpm")
+
+    def test_layers(self) -> None:
+        known = {b"2653ae71": 0, b"blue": 1, b"app.bsky.feed.post/454397e440ec": 4, b"app.bsky.feed.post/9adeb165882c": 8}
+        self.assertEqual({key: model.layer(key) for key in known}, known)
+
+    def test_faults(self) -> None:
+        known = {b"a0": None, b"80": "NotAMap", b"a": "", b"a161610a": None, b"a1": "BadRecord(Truncated)", b"a0a0": "BadRecord(Trailing)"}
+        known |= {b"a16161f97e00": "BadRecord(Float)", b"a1616118": "BadRecord(Truncated)", b"a161611801": "BadRecord(LongHead)"}
+        for digits, wanted in known.items():
+            record = model.hex_of(digits)
+            self.assertEqual(model.fault_of_record(record) if record is not None else "", wanted, digits)
+        self.assertEqual(model.car(b"a/b a0\na b\n", b"2222222222222"), model.refused("BadLine", 2))
+        self.assertEqual(model.car(b"a a0\n", b"2222222222222"), model.refused("BadKey", 1))
+
+    def test_script(self) -> None:
+        said = model.run(1, 1, b"0 0 2222222222222 put a/b a0\n0 0 get a/b\n0 0 2222222222222 put a/b a0\n0 0 get a/c\n")
+        self.assertEqual(said.out.decode().splitlines()[:4], ["1 ok 1", "2 found a0", "3 refused 0 RevOrder", "4 none"])
+        self.assertEqual(model.run(1, 1, b"x\n"), model.refused("BadScript", 1))
+        # What a script of a refused batch leaves is what it leaves without that line.
+        self.assertEqual(said.out.decode().splitlines()[4:], model.run(1, 1, b"0 0 2222222222222 put a/b a0\n").out.decode().splitlines()[1:])
+
+    def test_made_input_is_the_same_by_its_seed(self) -> None:
+        self.assertEqual(made_script(random.Random(3)), made_script(random.Random(3)))
+        self.assertNotEqual(made_puts(random.Random(3)), made_puts(random.Random(4)))
+
+
+class TreesTest(unittest.TestCase):
+    def setUp(self) -> None:
+        self.text = model.tree(bytes_of("examples/small.txt")).out.decode()
+
+    def test_reads_what_the_model_writes(self) -> None:
+        tree = Tree(self.text)
+        self.assertEqual((len(tree.pairs), len(tree.nodes), tree.top), (21, 10, 2))
+        picture = drawn(tree, "A tree")
+        self.assertEqual(sum("<rect" in it for it in picture.parts), 10)
+        self.assertLess(picture.width, 1000)
+        self.assertIn("raven", picture.svg())
+
+    def test_faults(self) -> None:
+        lines = self.text.splitlines()
+        other = "\n".join([lines[0], lines[1].replace(" a2", " a3"), *lines[2:]])
+        for text in ("", "\n", "x", f"{lines[0]}\n", other, "\n".join(lines[:-1]), "bafy zz\n"):
+            with self.assertRaises(Faulty, msg=text[:80]):
+                Tree(text)
+        with self.assertRaises(Faulty):
+            Tree(self.text, bits=1)
+
+    def test_no_keys_and_many(self) -> None:
+        self.assertIn("0 keys in 1 node", drawn(Tree(model.tree(b"").out.decode()), "Empty").svg())
+        many = drawn(Tree(model.tree(bytes_of("examples/repository.txt")).out.decode()), "Many").svg()
+        self.assertIn("rotate(-90", many)
+        self.assertEqual(shared_by([b"a/b/c", b"a/b/d", b"a/x"]), b"a/")
+
+
+class TimesTest(unittest.TestCase):
+    def test_run(self) -> None:
+        about = {"commit": "aa", "date": "d", "kit": "k", "machine": "m", "said": "1 passed, 0 failed", "took": "1 min 2 s"}
+        run = times.Run(about, {"low": times.Times(1.0, 0.0, 2.04, 3, "aa"), "top": times.Times(2.0, 1.0, 0.0, 0, "bb")})
+        self.assertEqual(times.run_in(run.text()), run)
+        table = times.table(run, ["low", "other", "top"])
+        self.assertIn("| `low` | 1.0 |  | 2.0 | 3.0 | 3 |\n", table)
+        self.assertIn("| **in all** | 3.0 | 1.0 | 2.0 | 6.0 | 3 |\n", table)
+        self.assertIn("Those of 1 crates are of other runs.", times.told(run))
+
+    def test_own_file(self) -> None:
+        run, known = times.read_run(), crates.read_crates()
+        self.assertTrue(run.crates)
+        lacking = [it for it in known if it not in run.crates]
+        self.assertLess(len(lacking), len(known) / 4, "measure the gate anew")
+
+
+class ProgressTest(unittest.TestCase):
+    def progress(self) -> Progress:
+        return Progress(crates.Crates(TXT).up_to("top"), {"low": 1.0, "middle": 5.0, "other": 2.0, "top": 3.0}, cores=4)
+
+    def test_left_is_the_longest_chain(self) -> None:
+        progress = self.progress()
+        self.assertAlmostEqual(progress.left(), 9.0, places=1)
+        self.assertEqual(progress.at_work(), ["low"])
+        with contextlib.redirect_stdout(io.StringIO()):
+            progress.done("low", is_kept=True)
+        self.assertAlmostEqual(progress.left(), 8.0, places=1)
+        self.assertEqual(progress.at_work(), ["middle", "other"])
+        # What a crate has been at is taken off, and a tenth of it stays at least.
+        progress.began -= 3600
+        progress.ended["low"] = time.monotonic() - 240
+        self.assertAlmostEqual(progress.left(), 4.0, places=1)
+        progress.ended["low"] = time.monotonic() - 2400
+        self.assertAlmostEqual(progress.left(), 3.5, places=1)
+
+    def test_few_cores(self) -> None:
+        self.assertAlmostEqual(Progress(crates.Crates(TXT).up_to("top"), dict.fromkeys(("low", "middle", "other", "top"), 1.0), cores=1).left(), 4.0, places=1)
+
+    def test_told(self) -> None:
+        said = io.StringIO()
+        with contextlib.redirect_stdout(said):
+            progress = self.progress()
+            progress.done("low", is_kept=True)
+            progress.waits(os.getpid())
+        self.assertRegex(said.getvalue(), r"1 of 4 +0:00  low +kept   about 8 minutes are left\n +0:00  at work: middle \(0 min\), other \(0 min\); about 8")
+        self.assertEqual([told(it) for it in (0.1, 1.2, 7.6)], ["some seconds are left", "about a minute is left", "about 8 minutes are left"])
