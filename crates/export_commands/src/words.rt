@@ -25,7 +25,7 @@ failed.";
 const CHECK_EXAMPLE: &str = "\
 Example:
   $ msthost check < examples/export.car
-  DID REV ROOT COUNT";
+  did:web:example.com 3jzfcijpj2z2e bafyreidyenu27cdomis4z7l7lj7qtx7zarjr3blh7rlt2hkugvb6dqhqum 5";
 
 const RECORDS: &str = "Reads a CAR file and writes the records of its repository";
 
@@ -40,7 +40,7 @@ failed.";
 const RECORDS_EXAMPLE: &str = "\
 Example:
   $ msthost records --cids < examples/export.car | msthost tree --paths | sed -n 1p
-  ROOT";
+  bafyreidyenu27cdomis4z7l7lj7qtx7zarjr3blh7rlt2hkugvb6dqhqum";
 
 const COMMIT: &str = "Reads a CAR file and writes what was signed and the signature";
 
@@ -53,8 +53,9 @@ failed.";
 
 const COMMIT_EXAMPLE: &str = "\
 Example:
-  $ msthost commit < examples/export.car | sed -n 2p
-  SIGNATURE";
+  $ msthost commit < examples/export.car | cut -c 1-48
+  a563646964736469643a7765623a6578616d706c652e636f
+  1bb733a46b791e232abc2edb6691704f6c5ef0bf1456c1c9";
 
 /// Adds the commands on an export to a program's.
 pub fn with_words<'a>(alloc: Global, program: Command<'a>) -> Result<Command<'a>, AllocError>
