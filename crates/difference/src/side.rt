@@ -48,8 +48,8 @@ impl<'a, D: Digest + 'a, A: Allocator + Clone + 'a> Side<'a, D, A> {
         requires least { 1 ≤ B }
         ensures start { IfOk result (λ side. IsStart (nodes_given (S.gives src.old))
             (layer_of D.digest_of B) root (side_in side)) }
-        ensures begun { IfOk result (λ side. IsBegun (S.gives src.old) (rows_of side.line.rows.items)
-            side.line.last side.top side.read.items) }
+        ensures begun { IfOk result (λ side. IsBegun (S.gives src.old)
+            (rows_of side.line.rows.items) side.line.last side.top side.read.items) }
         ensures waits { IfOk result (λ side. waiting side.top + length side.read.items ≡ 1) }
         ensures lack { IfErr result
             (IsLackAt (S.gives src.old) (nodes_given (S.gives src.old)) (Some root)) }
