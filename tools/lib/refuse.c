@@ -1,6 +1,6 @@
-/* Stands before the C library's malloc, calloc, realloc, pthread_create and _exit. The request for memory whose number is in
-   REFUSE is refused, or the thread whose number is in REFUSE_THREAD; COUNT names a file to which the numbers of requests and
-   of threads are written at the end. */
+/* Stands before the C library's malloc, calloc, realloc, pthread_create, getentropy and _exit. The request for memory whose
+   number is in REFUSE is refused, or the thread whose number is in REFUSE_THREAD; where REFUSE_RANDOM is set, there are no
+   random bytes. COUNT names a file to which the numbers of requests and of threads are written at the end. */
 #define _GNU_SOURCE
 #include <dlfcn.h>
 #include <errno.h>
@@ -70,6 +70,14 @@ int pthread_create(pthread_t *thread, const pthread_attr_t *attributes, void *(*
         return EAGAIN;
     }
     return next_create(thread, attributes, start, argument);
+}
+
+int getentropy(void *bytes, size_t size) {
+    if (getenv("REFUSE_RANDOM") != NULL) {
+        errno = ENOSYS;
+        return -1;
+    }
+    return syscall(SYS_getrandom, bytes, size, 0) == (long)size ? 0 : -1;
 }
 
 __attribute__((destructor)) static void tell(void) {

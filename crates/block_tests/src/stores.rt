@@ -121,7 +121,7 @@ fn show_both<D: Digest, R: Wait + Abort>(rt: &R, alloc: Global) -> bool {
     let mut sixteen: [Shard<D>; SHARDS] = empty_shards(alloc, 2, TableKey::known());
     let shards: Shards<D> = Shards::open(alloc, 2, TableKey::known());
     shows_both(rt, alloc, &mut LentShard::new(&mut shard))
-        && shows_both(rt, alloc, &mut LentShards::<D, 1>::new(&mut sixteen))
+        && shows_both(rt, alloc, &mut LentShards::<D, 2>::new(&mut sixteen))
         && shows_both(rt, alloc, &mut LockedShards::new(rt, &shards))
         && entry_count(&shard) == 0
         && are_empty(&sixteen)

@@ -22,8 +22,6 @@ mod refusals;
 #[cfg(test)]
 mod repositories;
 #[cfg(test)]
-mod sentences;
-#[cfg(test)]
 mod shown;
 #[cfg(test)]
 mod strangers;
