@@ -7,6 +7,8 @@ mod changes;
 #[cfg(test)]
 mod explanations;
 #[cfg(test)]
+mod exports;
+#[cfg(test)]
 mod fault_names;
 #[cfg(test)]
 mod faults;

@@ -1,7 +1,9 @@
 //! Memory that is refused.
+use crate::exports::file;
 use crate::running::{EMPTY, joined};
 use cid::Sha256;
-use console::CommandFault;
+use console::{CommandFault, NO_MEMORY};
+use export_commands::{ExportCommand, export_text};
 use refusing::Refusing;
 use repository_commands::{TextFault, verify_text};
 use std::alloc::Global;
@@ -24,6 +26,8 @@ enum Work<'a> {
     Tree(&'a [u8], &'a [u8]),
     /// A proof of two blocks.
     Verify,
+    /// What a command tells of this file, which is to write so many bytes.
+    Export(ExportCommand, &'a [u8], usize),
 }
 
 /// How the tree of a listing ends in this memory, which is to write this.
@@ -47,11 +51,30 @@ fn verify_end(alloc: Global, heap: &Refusing<Global>) -> Ended {
     }
 }
 
+/// How a command on a file ends in this memory, which is to write so many bytes.
+fn export_end(
+    alloc: Global,
+    heap: &Refusing<Global>,
+    command: ExportCommand,
+    file: &[u8],
+    wanted: usize,
+) -> Ended {
+    let mut out = Vec::new(alloc);
+    match export_text::<Sha256, _, _, _>(command, heap, &mut &file[..], &mut out) {
+        Ok(()) if out.len() == wanted => Ended::Done,
+        Err(CommandFault::NoText(fault)) if fault.status() == NO_MEMORY && out.is_empty() => {
+            Ended::NoMemory
+        }
+        _ => Ended::Wrong,
+    }
+}
+
 /// How the work ends in this memory.
 fn work_end(alloc: Global, heap: &Refusing<Global>, work: Work<'_>) -> Ended {
     match work {
         Work::Tree(input, wanted) => tree_end(alloc, heap, input, wanted),
         Work::Verify => verify_end(alloc, heap),
+        Work::Export(command, file, wanted) => export_end(alloc, heap, command, file, wanted),
     }
 }
 
@@ -102,4 +125,13 @@ fn each_request_refused(rt: HostRuntime) {
 fn each_request_of_verify_refused(rt: HostRuntime) {
     let refusals = refusals(rt.alloc(), Work::Verify);
     assert!(rt; is_more(refusals, 4), "{refusals:?}");
+}
+
+#[test]
+fn each_request_of_an_export_refused(rt: HostRuntime) {
+    let file = file(&rt, rt.alloc());
+    let summary = refusals(rt.alloc(), Work::Export(ExportCommand::Check, &file, 96));
+    assert!(rt; is_more(summary, 4), "{summary:?}");
+    let signed = refusals(rt.alloc(), Work::Export(ExportCommand::Commit, &file, 338));
+    assert!(rt; is_more(signed, 5), "{signed:?}");
 }

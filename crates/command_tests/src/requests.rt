@@ -3,6 +3,7 @@ use crate::running::EMPTY;
 use change_commands::ChangeCommand;
 use cid::Sha256;
 use commands::{Request, run_words};
+use export_commands::{ExportCommand, Values};
 use repository_commands::RepositoryCommand;
 use std::alloc::Global;
 use std::random::RandomSource;
@@ -19,6 +20,10 @@ enum Asked {
     Verify,
     ProveChange,
     VerifyChange,
+    Check,
+    Records,
+    Cids,
+    Commit,
     Run,
     Explain,
     Help,
@@ -44,13 +49,17 @@ fn request_of<T: Threads + Wait + RandomSource + Sync>(
         Some(Request::OnRepository(RepositoryCommand::Verify { .. })) => Asked::Verify,
         Some(Request::OnChange(ChangeCommand::Prove)) => Asked::ProveChange,
         Some(Request::OnChange(ChangeCommand::Verify { .. })) => Asked::VerifyChange,
+        Some(Request::OnExport(ExportCommand::Check)) => Asked::Check,
+        Some(Request::OnExport(ExportCommand::Records(Values::Bytes))) => Asked::Records,
+        Some(Request::OnExport(ExportCommand::Records(Values::Cids))) => Asked::Cids,
+        Some(Request::OnExport(ExportCommand::Commit)) => Asked::Commit,
         Some(Request::Run(_)) => Asked::Run,
         Some(Request::Explain(_)) => Asked::Explain,
         Some(Request::Help) => Asked::Help,
     }
 }
 
-static ROWS: [(&[&str], Asked); 13] = [
+static ROWS: [(&[&str], Asked); 17] = [
     (&["msthost", "tree"], Asked::Tree),
     (&["msthost", "car"], Asked::Car),
     (&["msthost", "prove", "a/b"], Asked::Prove),
@@ -60,6 +69,10 @@ static ROWS: [(&[&str], Asked); 13] = [
         &["msthost", "verify-change", EMPTY, EMPTY],
         Asked::VerifyChange,
     ),
+    (&["msthost", "check"], Asked::Check),
+    (&["msthost", "records"], Asked::Records),
+    (&["msthost", "records", "--cids"], Asked::Cids),
+    (&["msthost", "commit"], Asked::Commit),
     (&["msthost", "run"], Asked::Run),
     (&["msthost", "explain"], Asked::Explain),
     (&["msthost", "explain", "BadLine"], Asked::Explain),

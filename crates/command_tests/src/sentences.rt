@@ -1,6 +1,7 @@
 //! What each fault says, its name, and what `explain` says of that name.
 use batches::{RefusalName, RepoFault};
 use block::{Block, Collided};
+use car_reader::CarFault as FileFault;
 use change_proofs::{ChangeFault, ProvingFault};
 use cid::digests::Clash;
 use cid::{Cid, CidFault, Sha256};
@@ -10,12 +11,15 @@ use dagcbor::CborFault;
 use edit::EditFault;
 use explain_command::FAULTS;
 use export::{ExportFault, ProofFault};
+use export_commands::ExportFault as TextOfExportFault;
 use host::{HostFault, OpenFault};
 use host_exports::{CarFault, ProveChangeFault, ProveFault};
 use node::NodeFault;
+use repository_check::{CheckFault, RecordFault};
 use repository_commands::{LineFault, TextFault};
 use run_command::{RunFault, ScriptFault};
 use scratch::ScratchFault;
+use signed_commits::CommitFault;
 use std::alloc::{AllocError, Global};
 use std::process::Abort;
 use std::sync::Arc;
@@ -774,4 +778,112 @@ fn faults_of_reading_and_writing(rt: HostRuntime) {
         let told = format!(in rt.alloc(); "{fault}").expect(&rt, "memory");
         assert!(rt; told.as_str() == *name, "{told}");
     }
+}
+
+#[test]
+fn faults_of_a_file(rt: HostRuntime) {
+    let rows = [
+        (
+            CheckFault::Car(FileFault::BadHeader),
+            "Car(BadHeader)",
+            "the file does not begin as a CAR with one root",
+        ),
+        (
+            CheckFault::Car(FileFault::BadLength),
+            "Car(BadLength)",
+            "the length of a section is not a number in its shortest form",
+        ),
+        (
+            CheckFault::Car(FileFault::Truncated),
+            "Car(Truncated)",
+            "the file ends within a section",
+        ),
+        (
+            CheckFault::Car(FileFault::BadCid),
+            "Car(BadCid)",
+            "a section does not begin with a CID of a block",
+        ),
+        (
+            CheckFault::Misnamed,
+            "Misnamed",
+            "the CID of a section is not that of its block",
+        ),
+        (
+            CheckFault::NoCommit,
+            "NoCommit",
+            "the root is not in the file",
+        ),
+        (
+            CheckFault::Commit(CommitFault::NotACommit),
+            "Commit(NotACommit)",
+            "the bytes are not those of a signed commit",
+        ),
+        (
+            CheckFault::Commit(CommitFault::BadDid),
+            "Commit(BadDid)",
+            "the DID is not one",
+        ),
+        (
+            CheckFault::Commit(CommitFault::BadRev),
+            "Commit(BadRev)",
+            "the revision is not a timestamp identifier",
+        ),
+        (
+            CheckFault::NotTheTree,
+            "NotTheTree",
+            "the file does not have a whole tree under its commit",
+        ),
+    ];
+    for (fault, name, sentence) in &rows {
+        let told = format!(in rt.alloc(); "{fault}").expect(&rt, "memory");
+        let text = TextOfExportFault::Check(*fault);
+        let named = format!(in rt.alloc(); "{text}").expect(&rt, "memory");
+        assert!(rt;
+            told.as_str() == *sentence && named.as_str() == *name,
+            "{named}: {told}"
+        );
+        assert!(rt; is_explained(*name, *sentence), "{named}");
+    }
+}
+
+#[test]
+fn faults_of_a_record_of_a_file(rt: HostRuntime) {
+    let rows = [
+        (
+            RecordFault::BadKey,
+            "record 7: BadKey",
+            "record 7: the key is not that of a record",
+        ),
+        (
+            RecordFault::NoRecord,
+            "record 7: NoRecord",
+            "record 7: the record is not in the file",
+        ),
+        (
+            RecordFault::RecordSize,
+            "record 7: RecordSize",
+            "record 7: the record is too long",
+        ),
+        (
+            RecordFault::BadRecord(CborFault::Float),
+            "record 7: BadRecord(Float)",
+            "record 7: the record is not DAG-CBOR: a floating-point number",
+        ),
+        (
+            RecordFault::NotAMap,
+            "record 7: NotAMap",
+            "record 7: the record is not a map",
+        ),
+    ];
+    for (fault, name, sentence) in &rows {
+        let checked = CheckFault::Record(7, *fault);
+        let told = format!(in rt.alloc(); "{checked}").expect(&rt, "memory");
+        let text = TextOfExportFault::Check(checked);
+        let named = format!(in rt.alloc(); "{text}").expect(&rt, "memory");
+        assert!(rt;
+            told.as_str() == *sentence && named.as_str() == *name,
+            "{named}: {told}"
+        );
+    }
+    assert!(rt; is_explained("NoRecord", "the record is not in the file"));
 }

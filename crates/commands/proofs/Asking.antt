@@ -69,10 +69,14 @@ named_sub test =
     let verify : IsCommandName (codes "verify") = (3, codes "verify", omega arith, refl, refl) in
     let prove_change : IsCommandName (codes "prove-change") = (4, codes "prove-change", omega arith, refl, refl) in
     let verify_change : IsCommandName (codes "verify-change") = (5, codes "verify-change", omega arith, refl, refl) in
-    let run : IsCommandName (codes "run") = (6, codes "run", omega arith, refl, refl) in
-    let explain : IsCommandName (codes "explain") = (7, codes "explain", omega arith, refl, refl) in
-    let help : IsCommandName (codes "help") = (8, codes "help", omega arith, refl, refl) in
-    found_in HasName test (built msthost).subs (tree, (car, (prove, (verify, (prove_change, (verify_change, (run, (explain, (help, tt)))))))))
+    let check : IsCommandName (codes "check") = (6, codes "check", omega arith, refl, refl) in
+    let records : IsCommandName (codes "records") = (7, codes "records", omega arith, refl, refl) in
+    let commit : IsCommandName (codes "commit") = (8, codes "commit", omega arith, refl, refl) in
+    let run : IsCommandName (codes "run") = (9, codes "run", omega arith, refl, refl) in
+    let explain : IsCommandName (codes "explain") = (10, codes "explain", omega arith, refl, refl) in
+    let help : IsCommandName (codes "help") = (11, codes "help", omega arith, refl, refl) in
+    let on_change = (prove_change, (verify_change, (check, (records, (commit, (run, (explain, (help, tt)))))))) in
+    found_in HasName test (built msthost).subs (tree, (car, (prove, (verify, on_change))))
 
 entered_name : (words : List Text) (o : Option Shape) → IfSome o HasName → IfSome (option_map (λ s. rows_at s words) o) (λ c. IsCommandName c.0)
 unfolding HasName

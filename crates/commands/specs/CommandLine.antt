@@ -15,6 +15,7 @@ use Rattle.explain_command.specs.Words.{HasNameOf, explain_shape}
 use Rattle.tree_command.specs.Words.{AreKeysOf, HasNumberOf, tree_shape}
 use Rattle.repository_commands.specs.Words.{IsOfWords, car_shape, prove_shape, verify_shape}
 use Rattle.change_commands.specs.Words.{prove_change_shape, verify_change_shape, IsOfWords as IsChangeOfWords}
+use Rattle.export_commands.specs.Words.{check_shape, records_shape, commit_shape, IsOfWords as IsExportOfWords}
 use Rattle.run_command.specs.Words.{HasNumbersOf, did_of_words, run_shape}
 
 -- What clap reads of the program, beside its commands: it has a version and wants a command, and
@@ -31,12 +32,12 @@ program_shape = record (new_shape (codes "msthost")) {
 abbrev pub help_shape : Shape
 help_shape = new_shape (codes "help")
 
--- the program with its nine commands
+-- the program with its twelve commands
 unfoldable pub msthost : App
 msthost = record {
   top = program_shape;
   subs = tree_shape ∷ car_shape ∷ prove_shape ∷ verify_shape ∷ prove_change_shape ∷ verify_change_shape
-      ∷ run_shape ∷ explain_shape ∷ help_shape ∷ [];
+      ∷ check_shape ∷ records_shape ∷ commit_shape ∷ run_shape ∷ explain_shape ∷ help_shape ∷ [];
 }
 
 -- the request is the one of this name, with what the command's own words say
@@ -45,6 +46,7 @@ IsNamed name rows (requests.Tree options) = (name ≡ codes "tree") × HasNumber
     × AreKeysOf rows options.keys
 IsNamed name rows (requests.OnRepository command) = IsOfWords name rows command
 IsNamed name rows (requests.OnChange command) = IsChangeOfWords name rows command
+IsNamed name rows (requests.OnExport command) = IsExportOfWords name rows command
 IsNamed name rows (requests.Run command) = (name ≡ codes "run")
     × HasNumbersOf rows command.settings × (command.did.now ≡ did_of_words rows)
 IsNamed name rows (requests.Explain command) = (name ≡ codes "explain") × HasNameOf rows command
@@ -59,8 +61,8 @@ pub record IsAskedBy (words : List Text) (request : Request) : Type 0 where
 -- one of the commands has this name
 abbrev pub IsCommandName : Text → Type 0
 IsCommandName name = Any (λ x. x ≡ name) (codes "tree" ∷ codes "car" ∷ codes "prove" ∷ codes "verify"
-    ∷ codes "prove-change" ∷ codes "verify-change" ∷ codes "run"
-    ∷ codes "explain" ∷ codes "help" ∷ [])
+    ∷ codes "prove-change" ∷ codes "verify-change" ∷ codes "check" ∷ codes "records" ∷ codes "commit"
+    ∷ codes "run" ∷ codes "explain" ∷ codes "help" ∷ [])
 
 -- an answer of this kind is help or the version
 abbrev pub is_shown : ErrorKind → Bool

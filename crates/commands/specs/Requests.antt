@@ -11,12 +11,13 @@ use Rattle.repository_commands.specs.Commands.{HasFaultyWord as IsFaultyCommand,
 use Rattle.repository_commands.specs.Outcomes.{IsFaulty as IsFaultyOn}
 use Rattle.repository_commands.specs.Texts.{text_or_nothing as repository_text_or_nothing}
 use Rattle.change_commands.specs.Commands.{HasFaultyWord as IsFaultyChange, reasons_of as change_reasons_of, texts_of as change_texts_of}
+use Rattle.export_commands.specs.Outcomes.{AppendsTextOf, BeginsTextOf, HasFault}
 use Rattle.run_command.specs.Outcomes.{IsFaulty, Reports, ReportsBeginning}
 
 -- What was asked for is done, on an input that is known or not, and with a writer's known contents before
--- and after: the listing of the tree, the text of a command on one repository or on a change of one, or
--- the report of a run of the script that the input is; or what there is to say of a fault. What help
--- shows is said nowhere.
+-- and after: the listing of the tree, the text of a command on one repository or on a change of one, what
+-- a command tells of the repository that the input is the export of, or the report of a run of the script
+-- that the input is; or what there is to say of a fault. What help shows is said nowhere.
 abbrev pub IsDone : (D : Type 0) → (List ℕ → List ℕ) → Request → Option (List ℕ) → Option (List ℕ)
     → Option (List ℕ) → Type 0
 IsDone D digest (requests.Tree options) input old new =
@@ -25,14 +26,17 @@ IsDone D digest (requests.OnRepository command) input old new =
     IfSome input (λ xs. AppendsText old new (texts_of digest command xs))
 IsDone D digest (requests.OnChange command) input old new =
     IfSome input (λ xs. AppendsText old new (change_texts_of digest command xs))
+IsDone D digest (requests.OnExport command) input old new =
+    IfSome input (λ file. AppendsTextOf digest command file old new)
 IsDone D digest (requests.Run command) input old new =
     IfSome input (Reports D digest command.settings command.did.now old new)
 IsDone D digest (requests.Explain command) input old new =
     Appends old new (explanation (word_of command.name))
 IsDone D digest requests.Help input old new = ⊤
 
--- The input has no such text: of the tree; of the command, for a reason that it may have; or of a run,
--- as the DID or the script is faulty, or the host didn't close; or no fault has the name.
+-- The input has no such text: of the tree; of the command, for a reason that it may have; of an export,
+-- as the file has a first fault; or of a run, as the DID or the script is faulty, or the host didn't close;
+-- or no fault has the name.
 abbrev pub IsRefused : (D A : Type 0) → (List ℕ → List ℕ) → Request → Option (List ℕ) → Type 0
 IsRefused D A digest (requests.Tree options) input =
     IfSome input (λ xs. is_ok (listing digest options xs) ≡ false)
@@ -40,6 +44,7 @@ IsRefused D A digest (requests.OnRepository command) input =
     IsFaultyOn {D = D} {A = A} (texts_of digest command) (reasons_of digest command) input
 IsRefused D A digest (requests.OnChange command) input =
     IsFaultyOn {D = D} {A = A} (change_texts_of digest command) (change_reasons_of digest command) input
+IsRefused D A digest (requests.OnExport command) input = IfSome input (HasFault digest)
 IsRefused D A digest (requests.Run command) input =
     IfSome input (IsFaulty D digest command.settings command.did.now)
 IsRefused D A digest (requests.Explain command) input = explanation (word_of command.name) ≡ []
@@ -54,6 +59,8 @@ IsBegun D digest (requests.OnRepository command) input old new = IfSome input (�
     AppendsBeginning old new (repository_text_or_nothing (texts_of digest command xs)))
 IsBegun D digest (requests.OnChange command) input old new = IfSome input (λ xs.
     AppendsBeginning old new (repository_text_or_nothing (change_texts_of digest command xs)))
+IsBegun D digest (requests.OnExport command) input old new = IfSome input (λ file.
+    Keeps old new ⊎ BeginsTextOf digest command file old new)
 IsBegun D digest (requests.Run command) input old new = IfSome input (λ xs.
     Keeps old new ⊎ ReportsBeginning D digest command.settings command.did.now old new xs)
 IsBegun D digest (requests.Explain command) input old new =
@@ -66,6 +73,7 @@ abbrev pub HasFaultyWord : Request → Type 0
 HasFaultyWord (requests.Tree options) = ⊥
 HasFaultyWord (requests.OnRepository command) = IsFaultyCommand command
 HasFaultyWord (requests.OnChange command) = IsFaultyChange command
+HasFaultyWord (requests.OnExport command) = ⊥
 HasFaultyWord (requests.Run command) = is_did command.did.now ≡ false
 HasFaultyWord (requests.Explain command) = ⊥
 HasFaultyWord requests.Help = ⊥

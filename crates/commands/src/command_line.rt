@@ -9,6 +9,7 @@ ghost use Rattle.commands.specs.CommandLine.{IsAskedBy, IsCommandName, IsNamed, 
 use change_commands::ChangeCommand;
 use clap::{ArgMatches, Command, Error};
 use explain_command::ExplainCommand;
+use export_commands::ExportCommand;
 use repository_commands::RepositoryCommand;
 use run_command::RunCommand;
 use std::alloc::{AllocError, Global};
@@ -23,6 +24,8 @@ pub enum Request<'a> {
     OnRepository(RepositoryCommand<'a>),
     /// Do a command on a change of one repository.
     OnChange(ChangeCommand<'a>),
+    /// Do a command on a file that is the export of a repository.
+    OnExport(ExportCommand),
     /// Let a host's workers do the script of the input.
     Run(RunCommand<'a>),
     /// Say what a fault means.
@@ -65,6 +68,9 @@ fn request_by<'a>(name: &str, words: &ArgMatches<'a>) -> Request<'a>
     if let Some(command) = change_commands::command_of(name, words) {
         return Request::OnChange(command);
     }
+    if let Some(command) = export_commands::command_of(name, words) {
+        return Request::OnExport(command);
+    }
     if let Some(command) = run_command::command_of(name, words) {
         return Request::Run(command);
     }
@@ -90,6 +96,7 @@ fn command<'a>(alloc: Global) -> Result<Command<'a>, AllocError>
     let program = tree_command::with_words(alloc, program)?;
     let program = repository_commands::with_words(alloc, program)?;
     let program = change_commands::with_words(alloc, program)?;
+    let program = export_commands::with_words(alloc, program)?;
     let program = run_command::with_words(alloc, program)?;
     let program = explain_command::with_words(alloc, program)?;
     program.subcommand(help(alloc))

@@ -130,6 +130,9 @@ fn do_request<
         Request::OnChange(command) => {
             change_commands::run::<D, R, W, X>(command, alloc, input, out, err)
         }
+        Request::OnExport(command) => {
+            export_commands::run::<D, R, W, X>(command, alloc, input, out, err)
+        }
         Request::Run(command) => {
             run_command::run::<D, T, R, W, X>(command, rt, alloc, input, out, err)
         }

@@ -4,7 +4,7 @@
 pub type Explanation = (&'static str, &'static str, &'static str);
 
 /// Each fault that the program tells.
-pub static FAULTS: [(&str, &str, &str); 57] = [
+pub static FAULTS: [(&str, &str, &str); 68] = [
     (
         "BadLine",
         "the line has not the words that a line of this command has",
@@ -265,6 +265,61 @@ pub static FAULTS: [(&str, &str, &str); 57] = [
         "OtherAfter",
         "the text of the change has another root after it",
         "a change of another commit; a commit's CID in place of its data",
+    ),
+    (
+        "Car(BadHeader)",
+        "the file does not begin as a CAR with one root",
+        "a file that isn't a CAR, as lines of text or a page that says why there is no file; a CAR of version 2, one with several roots, or whose root isn't a commit's CID",
+    ),
+    (
+        "Car(BadLength)",
+        "the length of a section is not a number in its shortest form",
+        "bytes behind the last section; a file that was changed on its way",
+    ),
+    (
+        "Car(Truncated)",
+        "the file ends within a section",
+        "a download that was broken off",
+    ),
+    (
+        "Car(BadCid)",
+        "a section does not begin with a CID of a block",
+        "a blob's section, whose CID has the codec raw: an export has records alone",
+    ),
+    (
+        "Misnamed",
+        "the CID of a section is not that of its block",
+        "a file that was changed on its way; a program that computes CIDs of other bytes",
+    ),
+    (
+        "NoCommit",
+        "the root is not in the file",
+        "a slice of an export, as one since a revision, or the blocks of a message",
+    ),
+    (
+        "Commit(NotACommit)",
+        "the bytes are not those of a signed commit",
+        "a file of car, whose commit isn't signed; a commit of version 2 of the repository format",
+    ),
+    (
+        "Commit(BadDid)",
+        "the DID is not one",
+        "a handle in its place",
+    ),
+    (
+        "Commit(BadRev)",
+        "the revision is not a timestamp identifier",
+        "a date or a number in place of its 13 letters",
+    ),
+    (
+        "NotTheTree",
+        "the file does not have a whole tree under its commit",
+        "a slice of an export, which lacks nodes; a tree that another program made in another form",
+    ),
+    (
+        "NoRecord",
+        "the record is not in the file",
+        "a slice of an export; what stands before the name is the record's place, from 0, among the records in the order of their keys",
     ),
     (
         "Uneven",

@@ -2,7 +2,7 @@
 use std::io::{self, Read, Write};
 
 /// What the commands read.
-static READ: [(&str, &str); 7] = [
+static READ: [(&str, &str); 10] = [
     ("tree", "lines KEY CID"),
     ("car", "lines KEY HEX"),
     ("prove", "lines KEY HEX"),
@@ -12,6 +12,9 @@ static READ: [(&str, &str); 7] = [
         "lines KEY HEX, an empty line, and lines put KEY HEX, create KEY HEX, update KEY HEX and delete KEY",
     ),
     ("verify-change", "what prove-change writes"),
+    ("check", "a CAR file"),
+    ("records", "a CAR file"),
+    ("commit", "a CAR file"),
     ("run", "a script"),
 ];
 

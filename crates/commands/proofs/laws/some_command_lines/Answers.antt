@@ -6,6 +6,7 @@ use Rattle.tree_command.specs.declared.keys.Keys.TheVariants as keys
 use Rattle.tree_command.specs.declared.options.TreeOptions.{TreeOptions}
 use Rattle.repository_commands.specs.declared.words.RepositoryCommand.TheVariants as commands
 use Rattle.change_commands.specs.declared.words.ChangeCommand.TheVariants as changes
+use Rattle.export_commands.specs.declared.command.ExportCommand.TheVariants as exports
 use Rattle.commands.specs.declared.command_line.Request.{Request}
 use Rattle.commands.specs.declared.command_line.Request.TheVariants as requests
 use Rattle.commands.specs.CommandLine.{IsNamed, msthost}
@@ -32,6 +33,9 @@ only (requests.OnRepository (commands.Prove key)) is = absurd (cc)
 only (requests.OnRepository (commands.Verify root key)) is = absurd (cc)
 only (requests.OnChange changes.Prove) is = absurd (cc)
 only (requests.OnChange (changes.Verify before after)) is = absurd (cc)
+only (requests.OnExport exports.Check) is = absurd (cc)
+only (requests.OnExport (exports.Records values)) is = absurd (cc)
+only (requests.OnExport exports.Commit) is = absurd (cc)
 only (requests.Run command) is = absurd (cc)
 
 only_paths : (request : Request) → IsSomeAnd (subcommand_of msthost of_paths) (λ c. IsNamed c.0 c.1 request)
@@ -45,6 +49,9 @@ only_paths (requests.OnRepository (commands.Prove key)) is = absurd (cc)
 only_paths (requests.OnRepository (commands.Verify root key)) is = absurd (cc)
 only_paths (requests.OnChange changes.Prove) is = absurd (cc)
 only_paths (requests.OnChange (changes.Verify before after)) is = absurd (cc)
+only_paths (requests.OnExport exports.Check) is = absurd (cc)
+only_paths (requests.OnExport (exports.Records values)) is = absurd (cc)
+only_paths (requests.OnExport exports.Commit) is = absurd (cc)
 only_paths (requests.Run command) is = absurd (cc)
 
 pub returns-clause-paths : goal.returns-clause-paths
