@@ -1,0 +1,4 @@
+pub mod LinkTexts
+pub mod Trees
+pub mod Numerals
+pub mod ReadsBack

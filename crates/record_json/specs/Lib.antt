@@ -1,0 +1,5 @@
+pub mod LinkText
+pub mod Form
+pub mod Reading
+pub mod OfBytes
+pub mod Laws
