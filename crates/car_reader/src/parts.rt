@@ -82,7 +82,8 @@ pub(crate) fn header(file: &[u8]) -> Result<(CidRef<'_>, &[u8]), CarFault>
 /// A section.
 #[tactic(auto, unfolding(spec::specs::CarReading::section_at))]
 pub(crate) fn section(bytes: &[u8]) -> Result<(Section<'_>, &[u8]), CarFault>
-    ensures read { Gives (λ x. (section_of x.0, x.1.now)) car_fault_of result (section_at bytes.now) }
+    ensures read { Gives (λ x. (section_of x.0, x.1.now)) car_fault_of result
+        (section_at bytes.now) }
     ensures shorter { IfOk result (λ x. length x.1.now < length bytes.now) }
 {
     let Some((length, rest)) = varint(bytes) else {

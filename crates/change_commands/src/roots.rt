@@ -32,7 +32,8 @@ pub(crate) fn roots_of<D: Digest>(before: &[u8], after: &[u8]) -> Result<Roots, 
 
 /// The root before a change, of its text.
 fn before_of<D: Digest>(text: &[u8]) -> Result<Cid, TextFault<D>>
-    ensures root { Gives (λ root. root) text_fault_of result (or_bad_before (cid_of_text text.now)) }
+    ensures root { Gives (λ root. root) text_fault_of result
+        (or_bad_before (cid_of_text text.now)) }
     ensures words { IfErr result (λ e. is_of_words e ≡ true) }
     ensures refused { IfErr result (λ e. is_refusal e ≡ false) }
 {

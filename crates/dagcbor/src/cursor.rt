@@ -56,7 +56,8 @@ impl<'a> Cursor<'a> {
     /// `Truncated`, `LongHead`, `Indefinite`, `Float` and `Simple` say what is wrong with the head, and then nothing was read.
     #[inline(always)]
     pub fn head(&mut self) -> Result<(u8, u64), CborFault>
-        ensures read { Gives (λ h. (h, self.new.left)) cbor_fault_of result (head_at self.old.left) }
+        ensures read { Gives (λ h. (h, self.new.left)) cbor_fault_of result
+            (head_at self.old.left) }
         ensures place { self.new.place + length self.new.left
             ≡ self.old.place + length self.old.left }
         ensures unchanged { OnErr result (self.new ≡ self.old) }

@@ -145,7 +145,8 @@ pub(crate) fn head(bytes: &[u8]) -> Result<((u8, u64), &[u8]), CborFault>
 /// The first `n` bytes and the others, or `Truncated` where there are fewer.
 #[inline]
 pub(crate) fn front(n: u64, bytes: &[u8]) -> Result<(&[u8], &[u8]), CborFault>
-    ensures read { Gives (λ x. (x.0.now, x.1.now)) cbor_fault_of result (front Truncated n bytes.now) }
+    ensures read { Gives (λ x. (x.0.now, x.1.now)) cbor_fault_of result
+        (front Truncated n bytes.now) }
     ensures takes_no_memory { result ≢ Err CborFault.NoMemory }
 {
     if (bytes.len() as u64) < n {

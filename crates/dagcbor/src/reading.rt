@@ -64,7 +64,8 @@ fn negative<'a, A: Allocator>(
     n: u64,
     bytes: &'a [u8],
 ) -> Result<(Value<'a, A>, &'a [u8]), CborFault>
-    ensures { Gives (λ x. (view x.0, x.1.now)) cbor_fault_of result (integer_of negsuc n bytes.now) }
+    ensures { Gives (λ x. (view x.0, x.1.now)) cbor_fault_of result
+        (integer_of negsuc n bytes.now) }
 {
     match i64::try_from(n) {
         Ok(z) => Ok((Value::Int(-1 - z), bytes)),

@@ -4,3 +4,4 @@ pub mod Opens
 pub mod Levels
 pub mod Compares
 pub mod Outcomes
+pub mod Needing

@@ -9,12 +9,15 @@
 
 mod comparing;
 mod faults;
+mod lacking;
 mod line;
 mod merging;
+mod needs;
 mod outcome;
 mod read_nodes;
 mod side;
 
 pub use comparing::difference;
 pub use faults::DifferenceFault;
+pub use lacking::missing;
 pub use outcome::{Difference, KeyDifference};

@@ -64,7 +64,8 @@ impl<A: Allocator + Clone> Line<A> {
 
     /// The links, or none where one stands twice.
     pub(crate) fn links(&self, alloc: A) -> Result<Option<Links<A>>, AllocError>
-        ensures { IfOk result (λ links. MatchOption links (repeats (links_in (line_of self.now)) ≡ true)
+        ensures { IfOk result (λ links. MatchOption links
+            (repeats (links_in (line_of self.now)) ≡ true)
             (λ links. HasLinks (links_in (line_of self.now)) links
             × (repeats (links_in (line_of self.now)) ≡ false))) }
     {

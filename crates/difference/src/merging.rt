@@ -57,7 +57,8 @@ fn take_last<A: Allocator>(
     old: &mut Vec<Row<A>, A>,
     new: &mut Vec<Row<A>, A>,
 ) -> Option<KeyDifference<A>>
-    ensures last { IfSome result (λ change. IsLastOf (pairs_in old.old.items) (pairs_in new.old.items)
+    ensures last { IfSome result (λ change.
+        IsLastOf (pairs_in old.old.items) (pairs_in new.old.items)
         (pairs_in old.new.items) (pairs_in new.new.items) (told_of change)) }
     ensures less { IfSome result (λ change. length old.new.items + length new.new.items
         < length old.old.items + length new.old.items) }

@@ -48,7 +48,8 @@ const USUAL_ROOM: usize = 8;
 /// The bytes after so many entries, each of which is tested against the one before. Where a key has more parts than
 /// most, all is read again, with room for as many as a key can have.
 fn after_entries(count: u64, bytes: &[u8]) -> Result<&[u8], NodeFault>
-    ensures read { Gives (λ rest. rest.now) node_fault_of result (after_entries count [] bytes.now) }
+    ensures read { Gives (λ rest. rest.now) node_fault_of result
+        (after_entries count [] bytes.now) }
     ensures all { OnOk result (IsOk (entries_at count [] bytes.now)) }
     ensures fits { OnOk result (IsBytes bytes.now) }
 {
@@ -61,7 +62,8 @@ fn after_entries(count: u64, bytes: &[u8]) -> Result<&[u8], NodeFault>
 /// The bytes after so many entries. It is not inlined, so that the stack of most readings is without its room.
 #[inline(never)]
 fn after_entries_of_many_parts(count: u64, bytes: &[u8]) -> Result<&[u8], NodeFault>
-    ensures read { Gives (λ rest. rest.now) node_fault_of result (after_entries count [] bytes.now) }
+    ensures read { Gives (λ rest. rest.now) node_fault_of result
+        (after_entries count [] bytes.now) }
     ensures all { OnOk result (IsOk (entries_at count [] bytes.now)) }
     ensures fits { OnOk result (IsBytes bytes.now) }
 {

@@ -53,7 +53,8 @@ impl<'a> NodeView<'a> {
     /// before has, else `KeyLength`, else `BadPrefix` where it keeps less than it could, else `KeyOrder`. This takes no
     /// memory and copies nothing.
     pub fn parse(bytes: &'a [u8]) -> Result<NodeView<'a>, NodeFault>
-        ensures { Gives (λ view. (view.left, view.entries)) node_fault_of result (read_node bytes.now) }
+        ensures { Gives (λ view. (view.left, view.entries)) node_fault_of result
+            (read_node bytes.now) }
     {
         let _ = node(bytes)?;
         Ok(NodeView::of_tested(bytes))
