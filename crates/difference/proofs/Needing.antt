@@ -1,10 +1,10 @@
 -- What a layer needs, and what of it a source lacks.
 use Rattle.std.proofs.Common.{◌≡◌, ◌≢◌, ℕ, zero, suc, ◌+◌, ◌-◌, ◌<◌, ◌≤◌, max, Bool, true, false, ◌||◌, ◌&&◌, cond, not, nat_eq, List, [], ◌∷◌, ◌++◌, append_assoc, length, get_or, take, refl, sym, ap, ◌∙◌, subst, arith, Option, Result, Ok, Err}
-use Rattle.std.proofs.lemmas.List.{length-append, map-append, take_all, take_more}
+use Rattle.std.proofs.lemmas.List.{length-append, length-map, map-append, take_all, take_more}
 use Rattle.std.proofs.lemmas.List.Elements.{filter-append}
 use Rattle.std.proofs.lemmas.Bool.Decides.{nat_tests}
 use Rattle.std.specs.declared.option.Option.TheVariants.{Some, None}
-use Rattle.std.specs.Prelude.{is_none, filter}
+use Rattle.std.specs.Prelude.{is_none, filter, option_and_then, option_map}
 use Rattle.std.proofs.lemmas.Slice.Eq.{bytes_eq-Decides}
 use Rattle.std.specs.List.{cons_option}
 use Rattle.std.specs.Str.{bytes_eq}
@@ -12,6 +12,9 @@ use Rattle.std.specs.declared.cmp.Ordering.{Ordering}
 use Rattle.std.specs.declared.cmp.Ordering.TheVariants.{Less, Equal, Greater}
 use Rattle.edit_laws.specs.Changes.{count, has_cid, one_if_equal}
 use Rattle.edit_laws.specs.Order.{order}
+use Rattle.edit_laws.specs.Sources.{shape_of_bytes}
+use Rattle.lookups.specs.Steps.{nodes_given}
+use Rattle.spec.specs.Layer.{layer as layer_of}
 use Rattle.edit_laws.proofs.Lists.{count-append, filter-fewer, filter-out, has-not}
 use Rattle.edit_laws.proofs.Orders.{order-equal, order-same}
 use Rattle.spec.specs.Reading.{◌>>=◌}
@@ -20,13 +23,17 @@ use Rattle.difference_laws.specs.Lines.{Opened, Side, Stop, NotShown, both_opene
 use Rattle.difference_laws.specs.Lines as lines
 use Rattle.batch_laws.specs.Links.{Rows, onto_links}
 use Rattle.difference.specs.declared.line.Row.{Row}
-use Rattle.difference.specs.Sides.{HasLinks, links_among, row_of, rows_of, rows_without}
+use Rattle.difference.specs.Sides.{HasLinks, IsStopped, links_among, row_of, rows_of, rows_without, shapes_in}
+use Rattle.rows.specs.Drafts.{shape_in}
+use Rattle.std.specs.Arc.{arc_value}
+use Rattle.std.specs.declared.sync.Arc.{Arc}
 use Rattle.difference.proofs.Noting.{links-append, links-line, links_of, rows-more}
-use Rattle.difference.proofs.Opens.{without-empty, without-line, without-set}
+use Rattle.difference.proofs.Opens.{ok-is, without-empty, without-line, without-set}
 use Rattle.difference.specs.declared.faults.DifferenceFault.{DifferenceFault}
 use Rattle.difference.specs.declared.faults.DifferenceFault.TheVariants.{BlockMissing, BadNode, TooDeep, NotTree, NoMemory}
 use Rattle.std.specs.BTreeSet.{BTreeSet}
-use Rattle.difference.specs.Missing.{IfMissing, Place, both_links, further, lacked, links_when, needed_at, needed_from, needed_in, needed_last, needed_of, reached}
+use Rattle.difference.specs.Starts.{IsStart}
+use Rattle.difference.specs.Missing.{IfMissing, IsOtherStop, IsTelling, Place, both_links, further, lacked, links_when, needed_at, needed_from, needed_in, needed_last, needed_of, reached, reached_from, read_before, read_from, read_in}
 
 -- ---- where something stops
 
@@ -256,17 +263,16 @@ module _ (shows : List ℕ → Option Shape) (c : List ℕ) where
   levels-stop zero a b h = absurd cc
   levels-stop (suc n) a b h = levels-case n a b (level shows n a b) refl h (levels-stop n)
 
-module _ (shows : List ℕ → Option Shape) where
-  end-level : (n : ℕ) (x : Place) (y : Result (Side × Side) Stop) (z : Side × Side)
-      → (y >>= λ w. levels shows n w.0 w.1) ≡ Ok z
-      → ((s t : Side) → levels shows n s t ≡ Ok z → needed_in (reached shows n s t) ≡ [])
-      → needed_in (further x y (λ w. reached shows n w.0 w.1)) ≡ []
-  end-level n x (Ok w) z h f = f w.0 w.1 h
-  end-level n x (Err e) z h f = absurd cc
+module _ (shows : List ℕ → Option Shape) (z : Side × Side) where
+  end-level : (n : ℕ) (x : Place) (y : Result (Side × Side) Stop) → (y >>= λ w. levels shows n w.0 w.1) ≡ Ok z
+      → ((s t : Side) → levels shows n s t ≡ Ok z → reached shows n s t ≡ (0, z.0, z.1))
+      → further x y (λ w. reached shows n w.0 w.1) ≡ (0, z.0, z.1)
+  end-level n x (Ok w) h f = f w.0 w.1 h
+  end-level n x (Err e) h f = absurd cc
 
-  levels-end : (k : ℕ) (a b : Side) (z : Side × Side) → levels shows k a b ≡ Ok z → needed_in (reached shows k a b) ≡ []
-  levels-end zero a b z h = refl
-  levels-end (suc n) a b z h = end-level n (suc n, a, b) (level shows n a b) z h (λ s t i. levels-end n s t z i)
+  levels-end : (k : ℕ) (a b : Side) → levels shows k a b ≡ Ok z → reached shows k a b ≡ (0, z.0, z.1)
+  levels-end zero a b h = ap (λ (w : Side × Side). (0, w.0, w.1)) (ok-is (a, b) z h)
+  levels-end (suc n) a b h = end-level n (suc n, a, b) (level shows n a b) h (levels-end n)
 
 -- ---- from the roots
 
@@ -307,17 +313,21 @@ module _ (shows : List ℕ → Option Shape) (layer : List ℕ → ℕ) (old new
       → IsStop shows c (needed_last shows layer old new)
   stops-at c apart h = from-case c apart (shows old) (shows new) refl refl h
 
-  end-case : (s t : Option Shape) (x : Side × Side) → compared_at shows layer old new s t ≡ Ok x
-      → needed_from shows layer old new s t ≡ []
+  -- where opening doesn't stop nothing is needed, and this is read
+  pub record IsEnd (x : Side × Side) (s t : Option Shape) : Type 0 where
+    pub needs : needed_from shows layer old new s t ≡ []
+    pub reads : read_from shows layer old new s t ≡ read_in (0, x.0, x.1)
+
+  end-case : (s t : Option Shape) (x : Side × Side) → compared_at shows layer old new s t ≡ Ok x → IsEnd x s t
   end-case None t x h = absurd cc
   end-case (Some s) None x h = absurd cc
   end-case (Some s) (Some t) x h =
       let a = side_at layer old s in
       let b = side_at layer new t in
-      levels-end shows (max a.left b.left) a b x h
+      let e = levels-end shows x (max a.left b.left) a b h in
+      record { needs = ap needed_in e; reads = ap read_in e }
 
-  -- where opening doesn't stop nothing is needed
-  pub ends-at : (x : Side × Side) → compared shows layer old new ≡ Ok x → needed_last shows layer old new ≡ []
+  pub ends-at : (x : Side × Side) → compared shows layer old new ≡ Ok x → IsEnd x (shows old) (shows new)
   ends-at x h = end-case (shows old) (shows new) x h
 
 -- ---- what the code opens
@@ -480,3 +490,97 @@ both-lengths a b e some ours theirs h k =
     ∙ length-append (links_in (without (links_in b.line) a.line)) (links_in (without (links_in a.line) b.line))
     ∙ (λ i. length (links_in (sym (without-set (links_in b.line) theirs k a.line) i))
     + length (links_in (sym (without-set (links_in a.line) ours h b.line) i)))
+
+-- ---- what is needed, from both roots on
+
+pub missing-both : (fault : DifferenceFault) (P Q R : Type 0) → (P → Q → R) → IfMissing fault P → IfMissing fault Q
+    → IfMissing fault R
+missing-both (BlockMissing c) P Q R f p q = f p q
+missing-both (BadNode c) P Q R f p q = tt
+missing-both TooDeep P Q R f p q = tt
+missing-both NotTree P Q R f p q = tt
+missing-both NoMemory P Q R f p q = tt
+
+pub missing-then : (fault : DifferenceFault) (P R : Type 0) → (P → R) → IfMissing fault P → IfMissing fault R
+missing-then (BlockMissing c) P R f p = f p
+missing-then (BadNode c) P R f p = tt
+missing-then TooDeep P R f p = tt
+missing-then NotTree P R f p = tt
+missing-then NoMemory P R f p = tt
+
+module _ (shows : List ℕ → Option Shape) (layer : List ℕ → ℕ) (old new : List ℕ) where
+  pub needed-starts : (a b : Side) → IsStart shows layer old a → IsStart shows layer new b
+      → needed_last shows layer old new ≡ needed_in (reached_from shows a b)
+  needed-starts a b (s, p) (t, q) =
+      (λ i. needed_from shows layer old new (p.0 i) (q.0 i))
+      ∙ (λ i. needed_in (reached_from shows (sym p.1 i) (sym q.1 i)))
+
+  pub read-starts : (a b : Side) → IsStart shows layer old a → IsStart shows layer new b
+      → read_before shows layer old new ≡ read_in (reached_from shows a b)
+  read-starts a b (s, p) (t, q) =
+      (λ i. read_from shows layer old new (p.0 i) (q.0 i))
+      ∙ (λ i. read_in (reached_from shows (sym p.1 i) (sym q.1 i)))
+
+-- where a block is missing, no more is opened
+pub reached-missing : {A : Type 0} (gives : List ℕ → Option A) (shows : List ℕ → Option Shape) (k : ℕ) (a b : Side)
+    (fault : DifferenceFault) → 0 < k → ((n : ℕ) → k ≡ suc n → IsStopped gives (level shows n a b) fault)
+    → IfMissing fault (reached shows k a b ≡ (k, a, b))
+reached-missing gives shows k a b (BlockMissing c) some h = reached-stop shows k a b (NotShown c) some (λ n e. (h n e).1)
+reached-missing gives shows k a b (BadNode c) some h = tt
+reached-missing gives shows k a b TooDeep some h = tt
+reached-missing gives shows k a b NotTree some h = tt
+reached-missing gives shows k a b NoMemory some h = tt
+
+-- how often it was asked: once for each root, then for each block that was opened, and for what the layer needs at most
+pub most-here : (r0 r1 r2 at now wa wb xa xb na nb need before : ℕ) → r1 ≡ suc r0 → r2 ≡ suc r1 → wa ≡ 1 → wb ≡ 1
+    → at + (wa + wb) ≡ r2 + (xa + xb) → xa ≡ max 1 na → xb ≡ max 1 nb → before ≡ max 1 na + max 1 nb
+    → now ≤ at + need → now ≤ r0 + (before + need)
+most-here r0 r1 r2 at now wa wb xa xb na nb need before h i j k l m n o p = omega arith
+
+pub read-lengths : {A : Type 0} (k : ℕ) (a b : Side) (xs ys : List (Arc (List ℕ) A)) → a.read ≡ shapes_in xs → b.read ≡ shapes_in ys
+    → read_in (k, a, b) ≡ max 1 (length xs) + max 1 (length ys)
+read-lengths k a b xs ys h i =
+    let m = ap length h ∙ length-map xs (λ b. shape_in (arc_value b)) in
+    let n = ap length i ∙ length-map ys (λ b. shape_in (arc_value b)) in
+    (λ j. max 1 (m j) + max 1 (n j))
+
+-- ---- what is answered
+
+pub telling-of : {A : Type 0} (gives : List ℕ → Option A) (step : Result (Side × Side) Stop) (c : List ℕ) (cs : List (List ℕ))
+    → gives c ≡ None → step ≡ Err (NotShown c) → IsFirst c cs → IsTelling gives step cs
+telling-of gives step c [] g h f = absurd f
+telling-of gives step c (d ∷ ds) g h f = (ap gives (sym f) ∙ g, h ∙ ap (λ x. Err (NotShown x)) f)
+
+pub not-given : {A : Type 0} (gives : List ℕ → Option (Arc (List ℕ) A)) (c : List ℕ) → gives c ≡ None → nodes_given gives c ≡ None
+not-given gives c h = ap (λ o. option_and_then shape_of_bytes (option_map arc_value o)) h
+
+-- the list that is answered where opening stops for want of a block
+module _ {A : Type 0} (digest : List ℕ → List ℕ) (bits : ℕ) (gives : List ℕ → Option (Arc (List ℕ) A)) (old new c : List ℕ)
+    (cids needs : List (List ℕ)) (apart : old ≢ new)
+    (stopped : IsStopped gives (compared (nodes_given gives) (layer_of digest bits) old new) (BlockMissing c))
+    (needed : needs ≡ needed_last (nodes_given gives) (layer_of digest bits) old new) (found : cids ≡ lacked gives needs) where
+  at-stop : IsStop (nodes_given gives) c (needed_last (nodes_given gives) (layer_of digest bits) old new)
+  at-stop = stops-at (nodes_given gives) (layer_of digest bits) old new c apart stopped.1
+
+  pub missing-told : IsTelling gives (compared (nodes_given gives) (layer_of digest bits) old new) cids
+  missing-told =
+      telling-of gives (compared (nodes_given gives) (layer_of digest bits) old new) c cids stopped.0 stopped.1
+      (subst (IsFirst c) (sym (found ∙ ap (lacked gives) needed))
+      (first-lacked gives (nodes_given gives) (not-given gives) c
+      (needed_last (nodes_given gives) (layer_of digest bits) old new) stopped.0 at-stop.first))
+
+  pub missing-once : (d : List ℕ) → count d cids ≤ 1
+  missing-once d =
+      let is = ap (count d) (found ∙ ap (lacked gives) needed) in
+      let few = filter-fewer (λ x. is_none (gives x)) d (needed_last (nodes_given gives) (layer_of digest bits) old new) in
+      let once = at-stop.once d in
+      omega arith
+
+-- why there is no list
+pub other-stop : {A : Type 0} (gives : List ℕ → Option A) (step : Result (Side × Side) Stop) (fault : DifferenceFault)
+    → ((c : List ℕ) → fault ≢ BlockMissing c) → IsStopped gives step fault → IsOtherStop gives step fault
+other-stop gives step (BlockMissing c) n h = n c refl
+other-stop gives step (BadNode c) n h = h
+other-stop gives step TooDeep n h = h
+other-stop gives step NotTree n h = h
+other-stop gives step NoMemory n h = tt

@@ -54,10 +54,12 @@ pub fn missing<
         return Ok(Vec::new(alloc));
     }
     let mut needs = Needs::of_roots(alloc.clone()?, old, new)?;
-    match open_both::<D, B, A, S>(alloc.clone()?, src, old, new, &mut needs) {
-        Ok(_) => Ok(Vec::new(alloc)),
-        Err(DifferenceFault::BlockMissing(_)) => Ok(lacked(alloc, src, &needs.cids)?),
-        Err(fault) => Err(fault),
+    let Err(fault) = open_both::<D, B, A, S>(alloc.clone()?, src, old, new, &mut needs) else {
+        return Ok(Vec::new(alloc));
+    };
+    match fault {
+        DifferenceFault::BlockMissing(_) => Ok(lacked(alloc, src, &needs.cids)?),
+        other => Err(other),
     }
 }
 
