@@ -5,3 +5,5 @@ pub mod Levels
 pub mod Compares
 pub mod Outcomes
 pub mod Needing
+pub mod Parts
+pub mod Rounds

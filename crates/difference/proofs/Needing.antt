@@ -41,7 +41,7 @@ abbrev pub stop_of : {X : Type 0} → Result X Stop → Option Stop
 stop_of (Ok x) = None
 stop_of (Err e) = Some e
 
-abbrev or_next : Option Shape → List ℕ → Option Stop → Option Stop
+abbrev pub or_next : Option Shape → List ℕ → Option Stop → Option Stop
 or_next None c s = Some (NotShown c)
 or_next (Some m) c s = s
 
@@ -132,7 +132,7 @@ tail-same : (c d : List ℕ) (xs ys : List (List ℕ)) (b : Bool) → b ≡ fals
 tail-same c d xs ys true e q = absurd cc
 tail-same c d xs ys false e q = q
 
-stop-same : (c d : List ℕ) → ◌≡◌ {A = Option Stop} (Some (NotShown d)) (Some (NotShown c)) → c ≡ d
+pub stop-same : (c d : List ℕ) → ◌≡◌ {A = Option Stop} (Some (NotShown d)) (Some (NotShown c)) → c ≡ d
 stop-same c d h = cc
 
 module _ {A : Type 0} (gives : List ℕ → Option A) (shows : List ℕ → Option Shape)
@@ -270,7 +270,7 @@ module _ (shows : List ℕ → Option Shape) (z : Side × Side) where
   end-level n x (Ok w) h f = f w.0 w.1 h
   end-level n x (Err e) h f = absurd cc
 
-  levels-end : (k : ℕ) (a b : Side) → levels shows k a b ≡ Ok z → reached shows k a b ≡ (0, z.0, z.1)
+  pub levels-end : (k : ℕ) (a b : Side) → levels shows k a b ≡ Ok z → reached shows k a b ≡ (0, z.0, z.1)
   levels-end zero a b h = ap (λ (w : Side × Side). (0, w.0, w.1)) (ok-is (a, b) z h)
   levels-end (suc n) a b h = end-level n (suc n, a, b) (level shows n a b) h (levels-end n)
 

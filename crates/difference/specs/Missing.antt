@@ -1,10 +1,14 @@
 -- What a source lacks of the first layer of two trees that isn't all there.
-use Rattle.std.specs.Prelude.{◌≡◌, ◌≢◌, ◌≤◌, ℕ, zero, suc, ◌+◌, ◌*◌, max, Bool, true, false, ◌&&◌, nat_eq, List, [], ◌∷◌, ◌++◌, filter, is_none, length, Option, Some, None, Result, Ok, Err, IfOk, IfErr, IsSome}
+use Rattle.std.specs.Prelude.{◌≡◌, ◌≢◌, ◌⊎◌, Contains, ℕ, zero, suc, ◌+◌, ◌*◌, max, Bool, true, false, ◌&&◌, nat_eq, List, [], ◌∷◌, ◌++◌, filter, is_none, length, Option, Some, None, Result, Ok, Err, IsSome}
 use Rattle.std.specs.declared.sync.Arc.{Arc}
+use Rattle.spec.specs.Blocks.{nodes}
+use Rattle.spec.specs.Cid.{IsDigest}
 use Rattle.spec.specs.Layer.{layer}
-use Rattle.spec.specs.NodeFormat.{Shape}
-use Rattle.edit_laws.specs.Changes.{count}
+use Rattle.spec.specs.NodeFormat.{Shape, shape_bytes}
+use Rattle.spec.specs.Tree.{Pair}
+use Rattle.edit_laws.specs.Sources.{Extends, shown_by}
 use Rattle.lookups.specs.Steps.{nodes_given}
+use Rattle.lookups.specs.Trees.{HasTree, bytes_given, top_layer}
 use Rattle.difference_laws.specs.Lines.{Side, Stop, NotShown, links_in, shared_when, level, side_at, compared}
 use Rattle.difference_laws.specs.Lines as lines
 use Rattle.difference.specs.declared.faults.DifferenceFault.{DifferenceFault}
@@ -75,9 +79,13 @@ needed_last shows layer old new = needed_from shows layer old new (shows old) (s
 abbrev pub lacked : {A : Type 0} → (List ℕ → Option A) → List (List ℕ) → List (List ℕ)
 lacked gives cs = filter (λ c. is_none (gives c)) cs
 
--- the CIDs that a source lacks of the layer at which opening stops
+-- the CIDs that a source lacks of the layer at which opening stops, where it shows these nodes
+abbrev pub missing_by : {A : Type 0} → (List ℕ → Option A) → (List ℕ → Option Shape) → (List ℕ → ℕ) → List ℕ → List ℕ
+    → List (List ℕ)
+missing_by gives shows layer old new = lacked gives (needed_last shows layer old new)
+
 abbrev pub missing_of : {A : Type 0} → (List ℕ → Option (Arc (List ℕ) A)) → (List ℕ → ℕ) → List ℕ → List ℕ → List (List ℕ)
-missing_of gives layer old new = lacked gives (needed_last (nodes_given gives) layer old new)
+missing_of gives layer old new = missing_by gives (nodes_given gives) layer old new
 
 -- ---- how much is read
 
@@ -135,3 +143,45 @@ module _ {A : Type 0} (digest : List ℕ → List ℕ) (bits : ℕ) (gives : Lis
   abbrev pub most_asked : ℕ
   most_asked = read_before (nodes_given gives) (layer digest bits) old new
       + 2 * length (needed_last (nodes_given gives) (layer digest bits) old new)
+
+-- ---- of a part of two trees
+
+-- P holds of whatever pairs the trees with these roots have in a whole source of which this one gives a part
+abbrev pub OfPart : {A : Type 0} → (List ℕ → List ℕ) → ℕ → (List ℕ → Option (Arc (List ℕ) A)) → List ℕ → List ℕ
+    → ((List ℕ → Option (List ℕ)) → List Pair → List Pair → Type 0) → Type 0
+OfPart digest bits gives old new P = (whole : List ℕ → Option (List ℕ)) → Extends (bytes_given gives) whole
+    → (es fs : List Pair) → HasTree digest bits whole old es → HasTree digest bits whole new fs → P whole es fs
+
+-- a node of just one of two trees
+abbrev pub IsOfOne : (List ℕ → List ℕ) → ℕ → List Pair → List Pair → List ℕ → Type 0
+IsOfOne digest bits es fs b = (Contains (nodes digest bits es) b × ¬ Contains (nodes digest bits fs) b)
+    ⊎ (Contains (nodes digest bits fs) b × ¬ Contains (nodes digest bits es) b)
+
+-- the CIDs are roots, or of nodes of just one of both trees
+abbrev pub AreUnshared : (List ℕ → List ℕ) → ℕ → (List ℕ → Option (List ℕ)) → List ℕ → List ℕ → List Pair → List Pair
+    → List (List ℕ) → Type 0
+AreUnshared digest bits whole old new es fs cids = (c : List ℕ) → Contains cids c → (c ≡ old) ⊎ ((c ≡ new)
+    ⊎ ((m : Shape) × ((shown_by whole c ≡ Some m) × IsOfOne digest bits es fs (shape_bytes m))))
+
+-- ---- a layer a round
+
+-- Sources of which each has what the one before has, and what that one lacks of the first layer that isn't all there, as a
+-- whole source has it.
+pub record AreRounds (digest : List ℕ → List ℕ) (bits : ℕ) (whole : List ℕ → Option (List ℕ)) (old new : List ℕ)
+    (sources : ℕ → List ℕ → Option (List ℕ)) : Type 0 where
+  pub grow : (i : ℕ) → Extends (sources i) (sources (suc i))
+  pub parts : (i : ℕ) → Extends (sources i) whole
+  pub fetched : (i : ℕ) (c : List ℕ)
+      → Contains (missing_by (sources i) (shown_by (sources i)) (layer digest bits) old new) c → sources (suc i) c ≡ whole c
+
+-- how many layers the higher of two trees has
+abbrev pub layers_of : (List ℕ → List ℕ) → ℕ → List Pair → List Pair → ℕ
+layers_of digest bits es fs = suc (max (top_layer digest bits es) (top_layer digest bits fs))
+
+-- nothing is lacked after as many rounds as there are layers
+abbrev pub RoundsEnd : Type 0
+RoundsEnd = (digest : List ℕ → List ℕ) (bits : ℕ) → IsDigest digest → (whole : List ℕ → Option (List ℕ))
+    → (old new : List ℕ) (es fs : List Pair) → HasTree digest bits whole old es → HasTree digest bits whole new fs
+    → (sources : ℕ → List ℕ → Option (List ℕ)) → AreRounds digest bits whole old new sources
+    → let last = sources (layers_of digest bits es fs) in
+    missing_by last (shown_by last) (layer digest bits) old new ≡ []

@@ -10,6 +10,7 @@
 mod comparing;
 mod faults;
 mod lacking;
+pub mod laws;
 mod line;
 mod merging;
 mod needs;

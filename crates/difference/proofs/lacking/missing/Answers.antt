@@ -10,6 +10,7 @@ use Rattle.difference.specs.declared.faults.DifferenceFault.TheVariants.{BlockMi
 use Rattle.difference.proofs.Compares.{stopped-trees}
 use Rattle.difference.proofs.Levels.{begun-asked}
 use Rattle.difference.proofs.Needing.{ends-at, missing-once, missing-told, other-stop, read-lengths}
+use Rattle.difference.proofs.Parts.{missing-unshared, want-part}
 use Rattle.difference.proofs.lacking.missing.Goals as goal
 
 pub returns-in_default-clause-missing : goal.returns-in_default-clause-missing
@@ -80,6 +81,21 @@ returns-in_default-fault-clause-fault g c =
     other-stop gives step c.in-Err.fault c.in_default-fault.not-BlockMissing c.in-Err.ensures.stopped
 
 pub returns-in_default-fault-clause-no_fault : goal.returns-in_default-fault-clause-no_fault
-returns-in_default-fault-clause-no_fault g c = λ es fs h k.
-    stopped-trees g.D.Digest.digest_of g.row.B g.met.D.Digest.digest_len (g.S.Source.gives c.args.src.now) c.args.old c.args.new
-    es fs h k c.in-Err.fault c.in-Err.ensures.stopped
+returns-in_default-fault-clause-no_fault g c = λ whole e es fs h k.
+    let gives = g.S.Source.gives c.args.src.now in
+    let digest = g.D.Digest.digest_of in
+    let step = compared (nodes_given gives) (layer digest g.row.B) c.args.old c.args.new in
+    want-part digest g.row.B g.met.D.Digest.digest_len gives whole e c.args.old c.args.new es fs h k c.in-Err.fault
+    (other-stop gives step c.in-Err.fault c.in_default-fault.not-BlockMissing c.in-Err.ensures.stopped)
+
+pub returns-in_ok-lacked-in-BlockMissing-clause-unshared : goal.returns-in_ok-lacked-in-BlockMissing-clause-unshared
+returns-in_ok-lacked-in-BlockMissing-clause-unshared g c = λ whole e es fs h k.
+    let gives = g.S.Source.gives c.args.src.now in
+    let digest = g.D.Digest.digest_of in
+    let needs = subst (λ f. IfMissing f (c.open_both.new.needs.cids.items
+    ≡ needed_last (nodes_given gives) (layer digest g.row.B) c.args.old c.args.new)) c.in-BlockMissing.is
+    (c.in-Err.ensures.needs c.in_ok-needs.ensures.wanted) in
+    let found : c.in_ok-lacked-in-BlockMissing.field-0.items ≡ lacked gives c.open_both.new.needs.cids.items =
+    c.in_ok-lacked-in-BlockMissing.ensures.lacked ∙ (λ i. lacked (c.in-Err.ensures.same i) (c.deref.ensures.value i)) in
+    missing-unshared digest g.row.B g.met.D.Digest.digest_len gives whole e c.args.old c.args.new es fs h k
+    c.in_ok-lacked-in-BlockMissing.field-0.items (found ∙ ap (lacked gives) needs)
