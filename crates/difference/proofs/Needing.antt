@@ -5,9 +5,7 @@ use Rattle.std.proofs.lemmas.List.Elements.{filter-append}
 use Rattle.std.proofs.lemmas.Bool.Decides.{nat_tests}
 use Rattle.std.specs.declared.option.Option.TheVariants.{Some, None}
 use Rattle.std.specs.Prelude.{is_none, filter, option_and_then, option_map}
-use Rattle.std.proofs.lemmas.Slice.Eq.{bytes_eq-Decides}
 use Rattle.std.specs.List.{cons_option}
-use Rattle.std.specs.Str.{bytes_eq}
 use Rattle.std.specs.declared.cmp.Ordering.{Ordering}
 use Rattle.std.specs.declared.cmp.Ordering.TheVariants.{Less, Equal, Greater}
 use Rattle.edit_laws.specs.Changes.{count, has_cid, one_if_equal}
@@ -16,7 +14,7 @@ use Rattle.edit_laws.specs.Sources.{shape_of_bytes}
 use Rattle.lookups.specs.Steps.{nodes_given}
 use Rattle.spec.specs.Layer.{layer as layer_of}
 use Rattle.edit_laws.proofs.Lists.{count-append, filter-fewer, filter-out, has-not}
-use Rattle.edit_laws.proofs.Orders.{order-equal, order-same}
+use Rattle.edit_laws.proofs.Orders.{order-equal}
 use Rattle.spec.specs.Reading.{◌>>=◌}
 use Rattle.spec.specs.NodeFormat.{Shape, LastLink, MoreLinks}
 use Rattle.difference_laws.specs.Lines.{Opened, Side, Stop, NotShown, both_opened, compared, compared_at, level, levels, link_without, links_in, opened, opened_last, opened_row, opened_when, repeats, shared_when, side_at, side_of, side_without, spliced, tested, unless, within, without}

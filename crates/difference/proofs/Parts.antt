@@ -1,5 +1,5 @@
 -- Two trees over a part of a source that has both.
-use Rattle.std.proofs.Common.{◌≡◌, ◌≢◌, ◌⊎◌, inl, inr, ℕ, zero, suc, ◌+◌, ◌<◌, Bool, true, false, ◌||◌, ◌&&◌, nat_eq, max, List, [], ◌∷◌, ◌++◌, length, map, refl, sym, ap, ◌∙◌, subst, arith, Option, Result, Ok, Err}
+use Rattle.std.proofs.Common.{◌≡◌, ◌⊎◌, inl, inr, ℕ, zero, suc, ◌+◌, ◌<◌, Bool, true, false, ◌||◌, ◌&&◌, nat_eq, max, List, [], ◌∷◌, ◌++◌, map, refl, sym, ap, ◌∙◌, subst, arith, Option, Result, Ok, Err}
 use Rattle.std.specs.Prelude.{Contains, IsSome, is_none, option_and_then, option_map}
 use Rattle.std.specs.Arc.{arc_value}
 use Rattle.std.specs.declared.cmp.Ordering.{Ordering}
@@ -7,7 +7,7 @@ use Rattle.std.specs.declared.cmp.Ordering.TheVariants.{Less, Equal, Greater}
 use Rattle.std.specs.declared.sync.Arc.{Arc}
 use Rattle.std.proofs.lemmas.List.{get_or-map, length-map}
 use Rattle.std.proofs.lemmas.List.Elements.{Contains-append_left, Contains-append_right}
-use Rattle.std.specs.List.{AllByRecursion, cons_option}
+use Rattle.std.specs.List.{AllByRecursion}
 use Rattle.std.specs.declared.option.Option.TheVariants.{Some, None}
 use Rattle.spec.specs.Cid.{IsDigest}
 use Rattle.spec.specs.Layer.{layer as layer_of}
@@ -29,7 +29,7 @@ use Rattle.difference.specs.declared.faults.DifferenceFault.{DifferenceFault}
 use Rattle.difference.specs.declared.faults.DifferenceFault.TheVariants.{BlockMissing, BadNode, TooDeep, NotTree, NoMemory}
 use Rattle.difference_laws.specs.Lines.{Opened, Side, Stop, NotShown, both_opened, compared, compared_at, level, levels, links_in, opened, opened_last, opened_row, opened_when, repeats, shared_when, side_at, side_of, side_without, spliced, tested, within}
 use Rattle.difference_laws.specs.Lines as lines
-use Rattle.difference.specs.Missing.{AreUnshared, IsOfOne, IsOtherStop, Place, both_links, further, links_when, needed_at, needed_from, needed_in, needed_last, needed_of, lacked, missing_of, reached}
+use Rattle.difference.specs.Missing.{AreUnshared, IsOfOne, IsOtherStop, Place, both_links, further, links_when, needed_at, needed_from, needed_in, needed_last, lacked, missing_of, reached}
 use Rattle.difference.proofs.Needing.{first_stop, level-stop, levels-end, or_next, stop-same, stop_of}
 
 -- ---- what is opened is read

@@ -1,5 +1,5 @@
 -- A source that fetches what it lacks, a layer a round.
-use Rattle.std.proofs.Common.{◌≡◌, ◌≢◌, ◌⊎◌, inl, inr, ℕ, zero, suc, ◌-◌, ◌<◌, ◌≤◌, Bool, true, false, ◌||◌, ◌&&◌, nat_eq, max, List, [], ◌∷◌, ◌++◌, refl, sym, ap, ◌∙◌, subst, arith, Option, Result, Ok, Err}
+use Rattle.std.proofs.Common.{◌≡◌, ℕ, zero, suc, ◌-◌, ◌≤◌, Bool, true, false, ◌||◌, ◌&&◌, nat_eq, max, List, [], ◌∷◌, refl, sym, ap, ◌∙◌, subst, arith, Option, Result, Ok, Err}
 use Rattle.std.specs.List.{AllByRecursion, cons_option}
 use Rattle.std.specs.declared.option.Option.TheVariants.{Some, None}
 use Rattle.std.specs.Prelude.{option_and_then}
@@ -15,7 +15,7 @@ use Rattle.lookups.specs.Trees.{HasTree}
 use Rattle.difference_laws.specs.Laws.{HaveCompared}
 use Rattle.difference_laws.proofs.Compared.{trees-compared}
 use Rattle.edit_laws.specs.Changes.{has_cid}
-use Rattle.difference_laws.specs.Lines.{Side, Stop, compared, compared_at, level, levels, link_without, links_in, repeats, shared_when, side_at, side_without, unless, without}
+use Rattle.difference_laws.specs.Lines.{Side, Stop, compared, compared_at, level, levels, links_in, repeats, shared_when, side_at, side_without, unless, without}
 use Rattle.difference.specs.Missing.{AreRounds, Place, RoundsEnd, layers_of, lacked, missing_by, both_links, further, links_when, needed_at, needed_from, needed_in, needed_last, needed_of, reached}
 use Rattle.difference.proofs.Needing.{first_stop, or_next}
 use Rattle.difference.proofs.Parts.{among-lacked, contained-each, each-append, level-each, level-same, shows-part, stopped-layer}

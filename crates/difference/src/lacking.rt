@@ -15,17 +15,18 @@ use std::alloc::{AllocError, Allocator};
 use std::clone::Clone;
 use std::sync::Arc;
 
-/// What the source lacks of the first layer of two trees that isn't all there: the CIDs of all blocks of that layer that
-/// `difference` would ask for and the source lacks, those of the old tree first, each once. Nothing is lacked where the list
-/// is empty: then `difference` asks for no block that isn't there.
+/// What the source lacks of the first layer of two trees that isn't all there: the CIDs, each once, of all blocks of that
+/// layer that `difference` would ask for and that the source lacks, those of the old tree first. Both roots are the first
+/// layer, and then the layers come from the top down; a node that both trees have is not asked for. Where the list is empty,
+/// `difference` misses no block.
 ///
-/// So a mirror that has a part of the blocks fetches what is lacked, and calls again, until the list is empty: a layer a round
-/// trip. Both roots come first, and then the layers from the top down. `B` is the number of zero bits of a digest that count
-/// for one layer, at least 1 (AT Protocol repository v3, MST structure).
+/// So a mirror that has a part of the blocks fetches what is missing, and calls again, until nothing is: a layer a round trip.
+/// `B` is the number of zero bits of a digest that count for one layer, at least 1 (AT Protocol repository v3, MST structure).
 ///
-/// Where the source gives what is no tree, `DifferenceFault::BadNode` and `DifferenceFault::NotTree` come as of `difference`,
-/// if they come before the first block that is lacked. What `difference` notices at the end alone is not noticed here: a
-/// link below layer 0, and keys that don't ascend.
+/// Where the source gives what is no tree, `DifferenceFault::BadNode` has the CID of a block that is no node, and
+/// `DifferenceFault::NotTree` comes where a link stands twice on one layer, if that is before the first block that is missing.
+/// A link below layer 0 and keys that don't ascend are told by `difference` alone. `DifferenceFault::NoMemory` comes where
+/// memory was refused, and `DifferenceFault::BlockMissing` never.
 pub fn missing<
     'a,
     D: Digest + 'a,

@@ -1,11 +1,10 @@
-use Rattle.std.proofs.Common.{◌≡◌, ◌≢◌, ◌∙◌, refl, ◌+◌, ◌*◌, ◌≤◌, ℕ, List, max, length, ap, arith, rules, subst, sym}
+use Rattle.std.proofs.Common.{◌≡◌, ◌≢◌, ◌∙◌, refl, ◌+◌, max, length, ap, arith, rules, subst, sym}
 use Rattle.spec.specs.Layer.{layer}
 use Rattle.lookups.specs.Steps.{nodes_given}
 use Rattle.difference_laws.specs.Lines.{Side, compared}
 use Rattle.difference.specs.Missing.{IfMissing, lacked, needed_last, read_before}
 use Rattle.difference.specs.Sides.{IsStopped, rows_of}
-use Rattle.difference.specs.Starts.{asked_by, side_in}
-use Rattle.difference.specs.declared.faults.DifferenceFault.{DifferenceFault}
+use Rattle.difference.specs.Starts.{side_in}
 use Rattle.difference.specs.declared.faults.DifferenceFault.TheVariants.{BlockMissing}
 use Rattle.difference.proofs.Compares.{stopped-trees}
 use Rattle.difference.proofs.Levels.{begun-asked}
