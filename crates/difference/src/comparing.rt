@@ -96,8 +96,8 @@ pub(crate) fn open_both<
     ensures needs { IsTrue needs.old.is_wanted → IfErr result (λ fault. IfMissing fault
         (needs.new.cids.items ≡ needed_last (nodes_given (S.gives src.old))
         (layer_of D.digest_of B) old new)) }
-    ensures most { IfErr result (λ fault. IfMissing fault (S.reads src.new
-        ≤ S.reads src.old + most_read (nodes_given (S.gives src.old)) (layer_of D.digest_of B) old new)) }
+    ensures most { IfErr result (λ fault. IfMissing fault (S.reads src.new ≤ S.reads src.old
+        + most_read (nodes_given (S.gives src.old)) (layer_of D.digest_of B) old new)) }
     ensures same { S.gives src.new ≡ S.gives src.old }
 {
     let mut old_side = Side::new::<B, S>(alloc.clone()?, src, old)?;
