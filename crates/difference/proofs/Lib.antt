@@ -4,3 +4,6 @@ pub mod Opens
 pub mod Levels
 pub mod Compares
 pub mod Outcomes
+pub mod Needing
+pub mod Parts
+pub mod Rounds

@@ -98,7 +98,7 @@ pub links-line : (xs : Rows) (t : Shape) → links_in (onto_links xs t) ≡ link
 links-line [] t = refl
 links-line (x ∷ xs) t = ap (cons_option x.0) (links-line xs t) ∙ cons-append x.0 (links_of xs) (links_in t)
 
-links-append : (xs ys : Rows) → links_of (xs ++ ys) ≡ links_of xs ++ links_of ys
+pub links-append : (xs ys : Rows) → links_of (xs ++ ys) ≡ links_of xs ++ links_of ys
 links-append [] ys = refl
 links-append (x ∷ xs) ys = ap (cons_option x.0) (links-append xs ys) ∙ cons-append x.0 (links_of xs) (links_of ys)
 
@@ -154,7 +154,7 @@ none-alone None s = refl
 none-alone (Some c) s = absurd cc
 
 module _ {A : Type 0} (rs : List (Row A)) (i : ℕ) (x : Row A) (short : i < length rs) (is : x ≡ get_or rs i x) where
-  rows-more : rows_of (take (i + 1) rs) ≡ rows_of (take i rs) ++ (row_of x ∷ [])
+  pub rows-more : rows_of (take (i + 1) rs) ≡ rows_of (take i rs) ++ (row_of x ∷ [])
   rows-more =
       ap rows_of (take_more rs i x short ∙ ap (λ y. take i rs ++ (y ∷ [])) (sym is))
       ∙ map-append row_of (take i rs) (x ∷ [])

@@ -1,5 +1,6 @@
--- In the order in which a newcomer reads them: lines and sides of the code, two lists merged, what is answered.
+-- In the order in which a newcomer reads them: lines and sides of the code, two lists merged, what is answered, what is missing.
 pub mod Sides
 pub mod Starts
 pub mod Merged
 pub mod Differences
+pub mod Missing

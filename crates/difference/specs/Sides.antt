@@ -1,5 +1,5 @@
 -- Lines and sides of the code as the laws see them.
-use Rattle.std.specs.Prelude.{◌≡◌, ℕ, ◌≤◌, Bool, false, List, [], ◌∷◌, ◌++◌, map, length, Option, Some, None, Result, Err, IsSome}
+use Rattle.std.specs.Prelude.{◌≡◌, ℕ, ◌+◌, ◌≤◌, Bool, false, List, [], ◌∷◌, ◌++◌, map, length, Option, Some, None, Result, Err, IsSome}
 use Rattle.std.specs.Arc.{arc_value}
 use Rattle.std.specs.BTreeSet.{BTreeSet, contains}
 use Rattle.std.specs.Cmp.Lexicographic.{slice_cmp}
@@ -96,6 +96,11 @@ IsSpread shows (Some c) old new read then last = (m : Shape)
 -- some rows without these links
 abbrev pub rows_without : List (List ℕ) → Rows → Rows
 rows_without cids rows = map (λ x. (link_without cids x.0, x.1)) rows
+
+-- how many links these rows have then
+abbrev pub links_among : List (List ℕ) → Rows → ℕ
+links_among cids [] = 0
+links_among cids (x ∷ rows) = length (cons_option (link_without cids x.0) []) + links_among cids rows
 
 -- these rows were opened: all that is still to come after them comes after those, which were made of them
 abbrev pub AreOpened : (List ℕ → Option Shape) → Rows → Rows → List Shape → List Shape → Type 0

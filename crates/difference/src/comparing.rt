@@ -1,6 +1,6 @@
 //! Two trees compared.
 
-ghost use Rattle.std.specs.Prelude.{◌≡◌, ◌≢◌, ◌≤◌, ◌<◌, ◌+◌, ℕ, suc, max, map, length, Ok, IfOk, IfErr, OnOk};
+ghost use Rattle.std.specs.Prelude.{◌≡◌, ◌≢◌, ◌≤◌, ◌<◌, ◌+◌, ◌∷◌, ℕ, suc, max, map, length, [], Ok, IfOk, IfErr, IsTrue, OnOk};
 ghost use Rattle.std.specs.Arc.{arc_value};
 ghost use Rattle.spec.specs.Cid.{cid as cid_of};
 ghost use Rattle.spec.specs.Layer.{layer as layer_of};
@@ -10,11 +10,13 @@ ghost use Rattle.difference_laws.specs.Lines.{compared, level};
 ghost use Rattle.difference.specs.Sides.{IsStopped, shapes_in};
 ghost use Rattle.difference.specs.Starts.{HasBegun, asked_by, side_in};
 ghost use Rattle.difference.specs.Merged.{told};
+ghost use Rattle.difference.specs.Missing.{IfMissing, most_read, needed_by, needed_last};
 ghost use Rattle.difference.specs.Differences.{AreTold, IsCompared, IsLack, IsNoFault, IsNothing, IsOpened, IsUnended, asked_for};
 
 use crate::faults::DifferenceFault;
 use crate::line::Links;
 use crate::merging::merged;
+use crate::needs::Needs;
 use crate::outcome::Difference;
 use crate::read_nodes::ReadNode;
 use crate::side::Side;
@@ -61,12 +63,14 @@ pub fn difference<
             go: Vec::new(alloc),
         });
     }
-    let (old_side, new_side) = open_both::<D, B, A, S>(alloc.clone()?, src, old, new)?;
+    let mut needs = Needs::unwanted(alloc.clone()?);
+    let (old_side, new_side) = open_both::<D, B, A, S>(alloc.clone()?, src, old, new, &mut needs)?;
     tell(alloc, old_side, new_side)
 }
 
-/// Both trees down to their pairs, without what they share.
-fn open_both<
+/// Both trees down to their pairs, without what they share. Where that stops for want of a block, and what is needed is
+/// wanted, the needs are those of the layer at which it stops; at first they are both roots.
+pub(crate) fn open_both<
     'a,
     D: Digest + 'a,
     const B: u8,
@@ -77,8 +81,10 @@ fn open_both<
     src: &mut S,
     old: Cid,
     new: Cid,
+    needs: &mut Needs<A>,
 ) -> Result<(Side<'a, D, A>, Side<'a, D, A>), DifferenceFault>
     requires least { 1 ≤ B }
+    requires roots { IsTrue needs.old.is_wanted → needs.old.cids.items ≡ old ∷ new ∷ [] }
     ensures opened { IfOk result (λ sides. compared (nodes_given (S.gives src.old))
         (layer_of D.digest_of B) old new ≡ Ok (side_in sides.0, side_in sides.1)) }
     ensures stopped { IfErr result (IsStopped (S.gives src.old)
@@ -87,12 +93,17 @@ fn open_both<
     ensures new_begun { IfOk result (λ sides. HasBegun (S.gives src.old) sides.1) }
     ensures counted { IfOk result (λ sides. S.reads src.new
         ≡ S.reads src.old + (asked_by sides.0 + asked_by sides.1)) }
+    ensures needs { IsTrue needs.old.is_wanted → IfErr result (λ fault. IfMissing fault
+        (needs.new.cids.items ≡ needed_last (nodes_given (S.gives src.old))
+        (layer_of D.digest_of B) old new)) }
+    ensures most { IfErr result (λ fault. IfMissing fault (S.reads src.new ≤ S.reads src.old
+        + most_read (nodes_given (S.gives src.old)) (layer_of D.digest_of B) old new)) }
     ensures same { S.gives src.new ≡ S.gives src.old }
 {
     let mut old_side = Side::new::<B, S>(alloc.clone()?, src, old)?;
     let mut new_side = Side::new::<B, S>(alloc.clone()?, src, new)?;
     'layers: while layers_left(&old_side, &new_side) > 0 {
-        descend(alloc.clone()?, src, &mut old_side, &mut new_side)?;
+        descend(alloc.clone()?, src, &mut old_side, &mut new_side, needs)?;
     }
     Ok((old_side, new_side))
 }
@@ -108,12 +119,14 @@ fn layers_left<D: Digest, A: Allocator>(old: &Side<'_, D, A>, new: &Side<'_, D, 
     }
 }
 
-/// The higher of two trees is opened by one layer, or both are where they stand at the same layer.
+/// The higher of two trees is opened by one layer, or both are where they stand at the same layer. The needs are those of
+/// that layer, where they are wanted.
 fn descend<'a, D: Digest + 'a, A: Allocator + Clone + 'a, S: Source<&'a Arc<Block<D, A>, A>>>(
     alloc: A,
     src: &mut S,
     old: &mut Side<'a, D, A>,
     new: &mut Side<'a, D, A>,
+    needs: &mut Needs<A>,
 ) -> Result<(), DifferenceFault>
     requires some { 0 < old.old.left + new.old.left }
     requires old_begun { HasBegun (S.gives src.old) old.old }
@@ -130,6 +143,11 @@ fn descend<'a, D: Digest + 'a, A: Allocator + Clone + 'a, S: Source<&'a Arc<Bloc
     ensures new_begun { OnOk result (HasBegun (S.gives src.old) new.new) }
     ensures counted { OnOk result (S.reads src.new + (asked_by old.old + asked_by new.old)
         ≡ S.reads src.old + (asked_by old.new + asked_by new.new)) }
+    ensures needs { IsTrue needs.old.is_wanted → IfErr result (λ fault. IfMissing fault
+        (needs.new.cids.items ≡ needed_by (side_in old.old) (side_in new.old))) }
+    ensures wanted { needs.new.is_wanted ≡ needs.old.is_wanted }
+    ensures most { S.reads src.new
+        ≤ S.reads src.old + length (needed_by (side_in old.old) (side_in new.old)) }
     ensures same { S.gives src.new ≡ S.gives src.old }
 {
     let Some(ours) = old.line.links(alloc.clone()?)? else {
@@ -138,14 +156,21 @@ fn descend<'a, D: Digest + 'a, A: Allocator + Clone + 'a, S: Source<&'a Arc<Bloc
     let Some(theirs) = new.line.links(alloc.clone()?)? else {
         return Err(DifferenceFault::NotTree);
     };
+    needs.clear();
     if old.left > new.left {
-        old.open(src, &Links::new(alloc))?;
+        let none = Links::new(alloc);
+        needs.add(&old.line, &none)?;
+        old.open(src, &none)?;
         return Ok(());
     }
     if old.left < new.left {
-        new.open(src, &Links::new(alloc))?;
+        let none = Links::new(alloc);
+        needs.add(&new.line, &none)?;
+        new.open(src, &none)?;
         return Ok(());
     }
+    needs.add(&old.line, &theirs)?;
+    needs.add(&new.line, &ours)?;
     old.open(src, &theirs)?;
     new.open(src, &ours)?;
     Ok(())

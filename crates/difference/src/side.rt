@@ -1,13 +1,14 @@
 //! One of the two trees, as far as it is opened.
 
 ghost use Rattle.std.specs.Prelude.{◌≡◌, ◌≤◌, ◌+◌, ◌-◌, ◌++◌, suc, [], length, Some, Ok, IfOk, IfErr, IfSome, OnOk};
+ghost use Rattle.std.specs.List.{cons_option};
 ghost use Rattle.spec.specs.Layer.{layer as layer_of};
 ghost use Rattle.edit_laws.specs.ShapeEdit.{last_link};
 ghost use Rattle.batch_laws.specs.Links.{rows_in_shape};
 ghost use Rattle.rows.specs.Entries.{shape_of};
 ghost use Rattle.lookups.specs.Steps.{nodes_given};
-ghost use Rattle.difference_laws.specs.Lines.{opened, without};
-ghost use Rattle.difference.specs.Sides.{AreOpened, AreStopped, IsBegun, IsLackAt, IsSpread, IsStopped, IsTop, line_of, rows_of, rows_without, shapes_in, top_after, waiting};
+ghost use Rattle.difference_laws.specs.Lines.{links_in, opened, without};
+ghost use Rattle.difference.specs.Sides.{AreOpened, AreStopped, IsBegun, IsLackAt, IsSpread, IsStopped, IsTop, line_of, links_among, rows_of, rows_without, shapes_in, top_after, waiting};
 ghost use Rattle.difference.specs.Starts.{IsStart, side_in};
 
 use crate::faults::DifferenceFault;
@@ -137,6 +138,7 @@ impl<'a, D: Digest + 'a, A: Allocator + Clone + 'a> Side<'a, D, A> {
         ensures counted { OnOk result
             (S.reads src.new + waiting self.old.top + length self.old.read.items
             ≡ S.reads src.old + waiting self.new.top + length self.new.read.items) }
+        ensures most { S.reads src.new ≤ S.reads src.old + length (cons_option link []) }
         ensures top { OnOk result (self.new.top ≡ top_after link self.old.top) }
         ensures after { self.new.line.last ≡ self.old.line.last }
         ensures left { self.new.left ≡ self.old.left }
@@ -171,6 +173,8 @@ impl<'a, D: Digest + 'a, A: Allocator + Clone + 'a> Side<'a, D, A> {
         ensures grown { OnOk result (length self.old.read.items ≤ length self.new.read.items) }
         ensures counted { OnOk result (S.reads src.new + length self.old.read.items
             ≡ S.reads src.old + length self.new.read.items) }
+        ensures most { S.reads src.new
+            ≤ S.reads src.old + links_among shared.now.keys (rows_of rows.items) }
         ensures top { OnOk result (self.new.top ≡ self.old.top) }
         ensures after { self.new.line.last ≡ self.old.line.last }
         ensures left { self.new.left ≡ self.old.left }
@@ -204,6 +208,8 @@ impl<'a, D: Digest + 'a, A: Allocator + Clone + 'a> Side<'a, D, A> {
         ensures counted { OnOk result
             (S.reads src.new + waiting self.old.top + length self.old.read.items
             ≡ S.reads src.old + waiting self.new.top + length self.new.read.items) }
+        ensures most { S.reads src.new ≤ S.reads src.old
+            + length (links_in (without shared.now.keys (line_of self.old.line))) }
         ensures same { S.gives src.new ≡ S.gives src.old }
     {
         let empty = Vec::new(self.alloc()?);

@@ -1,11 +1,13 @@
-use Rattle.std.proofs.Common.{◌≡◌, ◌∙◌, ◌<◌, ℕ, max, List, Some, Ok, refl, subst, sym, arith}
+use Rattle.std.proofs.Common.{◌≡◌, ◌∙◌, ◌+◌, ◌<◌, ◌≤◌, ℕ, max, List, Some, Ok, ap, length, refl, subst, sym, arith}
 use Rattle.std.proofs.lemmas.Result.{err_from_is_err_and}
 use Rattle.spec.specs.Layer.{layer}
 use Rattle.lookups.specs.Steps.{nodes_given}
 use Rattle.difference_laws.specs.Lines.{compared, level, levels}
-use Rattle.difference.specs.Sides.{IsLackAt, IsStopped}
-use Rattle.difference.specs.Starts.{HasBegun, IsStart, side_in}
-use Rattle.difference.proofs.Levels.{lack-stops, levels-end, levels-step, levels-stop, new-lacks, old-lacks, starts}
+use Rattle.difference.specs.Sides.{IsLackAt, IsStopped, rows_of}
+use Rattle.difference.specs.Starts.{HasBegun, IsStart, asked_by, side_in}
+use Rattle.difference.specs.Missing.{most_read, needed_by, needed_in, needed_last, reached, reached_from, read_before, read_in}
+use Rattle.difference.proofs.Needing.{missing-both, missing-then, most-here, needed-starts, reached-missing, reached-step, read-lengths, read-starts}
+use Rattle.difference.proofs.Levels.{begun-asked, lack-stops, levels-end, levels-step, levels-stop, new-lacks, old-lacks, starts}
 use Rattle.difference.proofs.comparing.open_both.Goals as goal
 
 pub returns-in_err-old_side-clause-stopped : goal.returns-in_err-old_side-clause-stopped
@@ -39,6 +41,8 @@ layers-init g c = record {
   new_begun = subst (λ (v : List ℕ → _). HasBegun v c.in_ok-new_side.new_side) (sym c.in_ok-new_side.ensures.same)
       c.in_ok-new_side.ensures.begun;
   opened_so = refl;
+  reached_so = refl;
+  wanted = refl;
   counted = refl;
 }
 
@@ -65,6 +69,11 @@ layers-preserved g c =
           (max s.left t.left) s t c.in_ok-descend.ensures.left
           (λ n e. (subst (λ (v : List ℕ → _). level (nodes_given v) n a b ≡ Ok (s, t)) at.invariant.same
           (c.in_ok-descend.ensures.opened n e)));
+      reached_so = at.invariant.reached_so
+          ∙ reached-step shows (max a.left b.left) a b (max s.left t.left) s t c.in_ok-descend.ensures.left
+          (λ n e. (subst (λ (v : List ℕ → _). level (nodes_given v) n a b ≡ Ok (s, t)) at.invariant.same
+          (c.in_ok-descend.ensures.opened n e)));
+      wanted = c.in_ok-descend.ensures.wanted ∙ at.invariant.wanted;
       counted = omega (arith, k, l);
     }
 
@@ -134,3 +143,78 @@ returns-clause-counted g c =
 pub returns-clause-same : goal.returns-clause-same
 returns-clause-same g c =
     c.layers.invariant.same ∙ c.in_ok-new_side.ensures.same ∙ c.in_ok-old_side.ensures.same
+
+pub returns-in_err-descend-clause-needs : goal.returns-in_err-descend-clause-needs
+returns-in_err-descend-clause-needs g c = λ w.
+    let p = err_from_is_err_and c.from_residual-in_err-descend.result c.from_residual-in_err-descend.ensures.1 in
+    let at = c.layers in
+    let gives = g.S.Source.gives c.args.src.now in
+    let shows = nodes_given gives in
+    let lay = layer g.D.Digest.digest_of g.row.B in
+    let a = side_in at.old_side in
+    let b = side_in at.new_side in
+    let a0 = side_in c.in_ok-old_side.old_side in
+    let b0 = side_in c.in_ok-new_side.new_side in
+    let e = c.in_ok-new_side.ensures.same ∙ c.in_ok-old_side.ensures.same in
+    let start = needed-starts shows lay c.args.old c.args.new a0 b0 c.in_ok-old_side.ensures.start
+    (subst (λ (v : List ℕ → _). IsStart (nodes_given v) lay c.args.new b0) c.in_ok-old_side.ensures.same
+    c.in_ok-new_side.ensures.start) in
+    let so_far : reached_from shows a0 b0 ≡ reached shows (max a.left b.left) a b =
+    subst (λ (v : List ℕ → _). reached (nodes_given v) (max a0.left b0.left) a0 b0
+    ≡ reached (nodes_given v) (max a.left b.left) a b) e at.invariant.reached_so in
+    let fault = c.in_err-descend.field-0.0 in
+    let some : 0 < max a.left b.left = omega (arith, c.layers-test.true, c.layers_left.ensures) in
+    let stop = reached-missing gives shows (max a.left b.left) a b fault some
+    (λ n q. (subst (λ (v : List ℕ → _). IsStopped v (level (nodes_given v) n a b) fault) (at.invariant.same ∙ e)
+    (c.in_err-descend.ensures.stopped n q))) in
+    let cids = c.descend.new.needs.cids.items in
+    rw (p.1, p.2)
+    (missing-both fault (cids ≡ needed_by a b) (reached shows (max a.left b.left) a b ≡ (max a.left b.left, a, b))
+    (cids ≡ needed_last shows lay c.args.old c.args.new)
+    (λ h k. (h ∙ ap needed_in (sym k) ∙ ap needed_in (sym so_far) ∙ sym start))
+    (c.in_err-descend.ensures.needs (at.invariant.wanted ∙ w)) stop)
+
+pub returns-in_err-descend-clause-most : goal.returns-in_err-descend-clause-most
+returns-in_err-descend-clause-most g c =
+    let p = err_from_is_err_and c.from_residual-in_err-descend.result c.from_residual-in_err-descend.ensures.1 in
+    let at = c.layers in
+    let gives = g.S.Source.gives c.args.src.now in
+    let shows = nodes_given gives in
+    let lay = layer g.D.Digest.digest_of g.row.B in
+    let a = side_in at.old_side in
+    let b = side_in at.new_side in
+    let a0 = side_in c.in_ok-old_side.old_side in
+    let b0 = side_in c.in_ok-new_side.new_side in
+    let e = c.in_ok-new_side.ensures.same ∙ c.in_ok-old_side.ensures.same in
+    let second = subst (λ (v : List ℕ → _). IsStart (nodes_given v) lay c.args.new b0) c.in_ok-old_side.ensures.same
+    c.in_ok-new_side.ensures.start in
+    let needed = needed-starts shows lay c.args.old c.args.new a0 b0 c.in_ok-old_side.ensures.start second in
+    let read = read-starts shows lay c.args.old c.args.new a0 b0 c.in_ok-old_side.ensures.start second in
+    let so_far : reached_from shows a0 b0 ≡ reached shows (max a.left b.left) a b =
+    subst (λ (v : List ℕ → _). reached (nodes_given v) (max a0.left b0.left) a0 b0
+    ≡ reached (nodes_given v) (max a.left b.left) a b) e at.invariant.reached_so in
+    let fault = c.in_err-descend.field-0.0 in
+    let some : 0 < max a.left b.left = omega (arith, c.layers-test.true, c.layers_left.ensures) in
+    let stop = reached-missing gives shows (max a.left b.left) a b fault some
+    (λ n q. (subst (λ (v : List ℕ → _). IsStopped v (level (nodes_given v) n a b) fault) (at.invariant.same ∙ e)
+    (c.in_err-descend.ensures.stopped n q))) in
+    let x = begun-asked (g.S.Source.gives at.src) (rows_of at.old_side.line.rows.items) at.old_side.line.last at.old_side.top
+    at.old_side.read.items at.invariant.old_begun in
+    let y = begun-asked (g.S.Source.gives at.src) (rows_of at.new_side.line.rows.items) at.new_side.line.last at.new_side.top
+    at.new_side.read.items at.invariant.new_begun in
+    let ra = at.old_side.read.items in
+    let rb = at.new_side.read.items in
+    let before = g.S.Source.reads c.args.src.now in
+    let now = g.S.Source.reads c.descend.new.src in
+    rw (p.1, p.2)
+    (missing-then fault (reached shows (max a.left b.left) a b ≡ (max a.left b.left, a, b))
+    (now ≤ before + most_read shows lay c.args.old c.args.new)
+    (λ k. (let place = so_far ∙ k in
+    let all = ap length (needed ∙ ap needed_in place) in
+    let first = read ∙ ap read_in place ∙ read-lengths (max a.left b.left) a b ra rb refl refl in
+    subst (λ n. now ≤ before + (read_before shows lay c.args.old c.args.new + n)) (sym all)
+    (most-here before (g.S.Source.reads c.new.new.src) (g.S.Source.reads c.new-2.new.src) (g.S.Source.reads at.src) now
+    (asked_by c.in_ok-old_side.old_side) (asked_by c.in_ok-new_side.new_side) (asked_by at.old_side) (asked_by at.new_side)
+    (length ra) (length rb) (length (needed_by a b)) (read_before shows lay c.args.old c.args.new)
+    c.in_ok-old_side.ensures.counted c.in_ok-new_side.ensures.counted c.in_ok-old_side.ensures.waits
+    c.in_ok-new_side.ensures.waits at.invariant.counted x y first c.in_err-descend.ensures.most))) stop)

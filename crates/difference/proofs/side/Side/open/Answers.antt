@@ -1,9 +1,11 @@
-use Rattle.std.proofs.Common.{◌∙◌, ℕ, List, Option, ap, refl, subst, sym}
+use Rattle.std.proofs.Common.{◌∙◌, ℕ, ◌+◌, ◌≤◌, List, [], Option, ap, arith, length, refl, subst, sym}
+use Rattle.std.specs.List.{cons_option}
 use Rattle.std.proofs.lemmas.Result.{err_from_is_err_and}
 use Rattle.std.specs.declared.vec.Vec.{Vec}
 use Rattle.lookups.specs.Steps.{nodes_given}
 use Rattle.difference_laws.specs.Lines.{link_without}
-use Rattle.difference.specs.Sides.{AreOpened, AreStopped, IsBegun, IsLackAt, IsSpread, IsTop, rows_of, rows_without, shapes_in, top_after}
+use Rattle.difference.specs.Sides.{AreOpened, AreStopped, IsBegun, IsLackAt, IsSpread, IsTop, links_among, rows_of, rows_without, shapes_in, top_after}
+use Rattle.difference.proofs.Needing.{among-line}
 use Rattle.difference.proofs.Opens.{begun-still, begun-top, line-opened, line-stops, own-links, rows-stop}
 use Rattle.difference.proofs.side.Side.open.Goals as goal
 
@@ -87,3 +89,36 @@ returns-clause-begun g c =
     (begun-still gives (nodes_given gives) keys old.top (rows_of old.line.rows.items) (rows_of mid.line.rows.items)
     (rows_of then.line.rows.items) old.line.last link c.in_ok-self.field-0 old.read.items mid.read.items then.read.items
     c.requires.begun so_far c.in_ok-open_rows.ensures.grown spread)
+
+pub returns-in_err-open_rows-clause-most : goal.returns-in_err-open_rows-clause-most
+returns-in_err-open_rows-clause-most g c =
+    let old = c.args.self.now in
+    let keys = c.args.shared.now.keys in
+    let k = subst (λ (v : Vec _ _). g.S.Source.reads c.open_rows.new.src ≤ g.S.Source.reads c.args.src.now
+    + links_among keys (rows_of v.items)) c.replace-rows.ensures.value c.in_err-open_rows.ensures.most in
+    let all = among-line keys (rows_of old.line.rows.items) old.line.last in
+    omega arith
+
+pub returns-in_err-self-clause-most : goal.returns-in_err-self-clause-most
+returns-in_err-self-clause-most g c =
+    let old = c.args.self.now in
+    let keys = c.args.shared.now.keys in
+    let k = subst (λ (v : Vec _ _). g.S.Source.reads c.open_rows.new.src ≤ g.S.Source.reads c.args.src.now
+    + links_among keys (rows_of v.items)) c.replace-rows.ensures.value c.in_ok-open_rows.ensures.most in
+    let link = c.unless.ensures keys (own-links c.args.shared.now) ∙ ap (link_without keys) c.in_ok-open_rows.ensures.after in
+    let l = c.in_err-self.ensures.most in
+    let m = ap (λ z. length (cons_option z [])) link in
+    let all = among-line keys (rows_of old.line.rows.items) old.line.last in
+    omega arith
+
+pub returns-clause-most : goal.returns-clause-most
+returns-clause-most g c =
+    let old = c.args.self.now in
+    let keys = c.args.shared.now.keys in
+    let k = subst (λ (v : Vec _ _). g.S.Source.reads c.open_rows.new.src ≤ g.S.Source.reads c.args.src.now
+    + links_among keys (rows_of v.items)) c.replace-rows.ensures.value c.in_ok-open_rows.ensures.most in
+    let link = c.unless.ensures keys (own-links c.args.shared.now) ∙ ap (link_without keys) c.in_ok-open_rows.ensures.after in
+    let l = c.in_ok-self.ensures.most in
+    let m = ap (λ z. length (cons_option z [])) link in
+    let all = among-line keys (rows_of old.line.rows.items) old.line.last in
+    omega arith

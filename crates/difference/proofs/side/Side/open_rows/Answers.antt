@@ -6,6 +6,7 @@ use Rattle.batch_laws.specs.Links.{onto_links}
 use Rattle.lookups.specs.Steps.{nodes_given}
 use Rattle.difference_laws.specs.Lines.{Opened, opened}
 use Rattle.difference.specs.Sides.{IsLackAt, IsSpread, rows_of, rows_without, shapes_in, waiting}
+use Rattle.difference.proofs.Needing.{among-next}
 use Rattle.difference.proofs.Opens.{none-alone, no-top, no-top-after, own-links, row-step, row-stops, rows-end, spread-longer}
 use Rattle.difference.proofs.side.Side.open_rows.Goals as goal
 
@@ -52,6 +53,10 @@ loop-row-preserved g c =
       many = let was = at.invariant.many in let gone = c.in-Some.ensures.steps.1 in let short = ap length next in omega arith;
       counted = let a : waiting at.self.top ≡ 0 = ap waiting none in let b : waiting then.top ≡ 0 = ap waiting still in
           let k = c.in_ok-link.ensures.counted in let l = at.invariant.counted in omega arith;
+      most = let k = c.in_ok-link.ensures.most in let l = at.invariant.most in
+          let next_row = among-next keys (into_iter_items at.row-iterator) c.in-Some.row (into_iter_items c.next.new.self) next
+          c.unless.result (c.unless.ensures keys (own-links c.args.shared.now)) in
+          omega arith;
       grown = let k = spread-longer (nodes_given gives) c.unless.result (rows_of at.self.line.rows.items)
           (rows_of then.line.rows.items) c.in_ok-link.link at.self.read.items then.read.items spread in
           let l = at.invariant.grown in omega arith;
@@ -60,3 +65,26 @@ loop-row-preserved g c =
       after = c.in_ok-link.ensures.after ∙ at.invariant.after;
       left = c.in_ok-link.ensures.left ∙ at.invariant.left;
     }
+
+pub returns-in_err-link-clause-most : goal.returns-in_err-link-clause-most
+returns-in_err-link-clause-most g c =
+    let at = c.loop-row in
+    let keys = c.args.shared.now.keys in
+    let k = c.in_err-link.ensures.most in
+    let l = at.invariant.most in
+    let next = among-next keys (into_iter_items at.row-iterator) c.in-Some.row (into_iter_items c.next.new.self)
+    c.in-Some.ensures.steps.0 c.unless.result (c.unless.ensures keys (own-links c.args.shared.now)) in
+    omega arith
+
+pub returns-in_err-push-clause-most : goal.returns-in_err-push-clause-most
+returns-in_err-push-clause-most g c =
+    let at = c.loop-row in
+    let keys = c.args.shared.now.keys in
+    let k = c.in_ok-link.ensures.most in
+    let l = at.invariant.most in
+    let next = among-next keys (into_iter_items at.row-iterator) c.in-Some.row (into_iter_items c.next.new.self)
+    c.in-Some.ensures.steps.0 c.unless.result (c.unless.ensures keys (own-links c.args.shared.now)) in
+    omega arith
+
+pub returns-clause-most : goal.returns-clause-most
+returns-clause-most g c = let l = c.loop-row.invariant.most in omega arith
