@@ -1,0 +1,17 @@
+//! Tests of records as JSON: worked texts, values without a form, records, large values, want of memory. The texts come from
+//! a program in another language, and not from what is tested; two records are the AT Protocol's own, from its
+//! interoperability tests.
+#![tactic(auto)]
+
+#[cfg(test)]
+mod forms;
+#[cfg(test)]
+mod large;
+#[cfg(test)]
+mod memory;
+#[cfg(test)]
+mod no_form;
+#[cfg(test)]
+mod records;
+#[cfg(test)]
+mod texts;

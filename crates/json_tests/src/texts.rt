@@ -1,0 +1,46 @@
+//! The text of a value, by the bytes that spell the value.
+
+use dagcbor::read;
+use record_json::{has_form, json_of};
+use std::alloc::{AllocError, Global};
+use std::process::Abort;
+
+/// The bytes of a value, with its text.
+pub type Row = (&'static [u8], &'static str);
+
+/// The text of the value of these bytes, or none: there is no value, or it has no form.
+fn text_of(alloc: Global, bytes: &[u8]) -> Option<Vec<u8>> {
+    let Ok(value) = read(alloc, bytes) else {
+        return None;
+    };
+    if !has_form(&value) {
+        return None;
+    }
+    json_of(alloc, &value).ok()
+}
+
+/// Whether the value of these bytes has this text.
+pub fn is_text_of(alloc: Global, bytes: &[u8], wanted: &[u8]) -> bool {
+    match text_of(alloc, bytes) {
+        Some(text) => text.as_slice() == wanted,
+        None => false,
+    }
+}
+
+/// Sees that the value of each row has the row's text.
+pub fn assert_texts(rt: &impl Abort, alloc: Global, rows: &[Row]) {
+    for (bytes, text) in rows {
+        assert!(rt; is_text_of(alloc, bytes, text.as_bytes()), "at {text}");
+    }
+}
+
+/// These parts one after the other, each so many times.
+pub fn joined(alloc: Global, parts: &[(&[u8], usize)]) -> Result<Vec<u8>, AllocError> {
+    let mut all = Vec::new(alloc);
+    for (part, times) in parts {
+        for _ in 0..*times {
+            all.extend_from_slice(part)?;
+        }
+    }
+    Ok(all)
+}
