@@ -1,5 +1,5 @@
 -- Two trees over a part of a source that has both.
-use Rattle.std.proofs.Common.{◌≡◌, ◌⊎◌, inl, inr, ℕ, zero, suc, ◌+◌, ◌<◌, Bool, true, false, ◌||◌, ◌&&◌, nat_eq, max, List, [], ◌∷◌, ◌++◌, map, refl, sym, ap, ◌∙◌, subst, arith, Option, Result, Ok, Err}
+use Rattle.std.proofs.Common.{◌≡◌, ◌⊎◌, inl, inr, ℕ, zero, suc, ◌+◌, ◌<◌, Bool, true, false, cond, ◌||◌, ◌&&◌, nat_eq, max, List, [], ◌∷◌, ◌++◌, map, refl, sym, ap, ◌∙◌, subst, arith, Option, Result, Ok, Err}
 use Rattle.std.specs.Prelude.{Contains, IsSome, is_none, option_and_then, option_map}
 use Rattle.std.specs.Arc.{arc_value}
 use Rattle.std.specs.declared.cmp.Ordering.{Ordering}
@@ -29,7 +29,7 @@ use Rattle.difference.specs.declared.faults.DifferenceFault.{DifferenceFault}
 use Rattle.difference.specs.declared.faults.DifferenceFault.TheVariants.{BlockMissing, BadNode, TooDeep, NotTree, NoMemory}
 use Rattle.difference_laws.specs.Lines.{Opened, Side, Stop, NotShown, both_opened, compared, compared_at, level, levels, links_in, opened, opened_last, opened_row, opened_when, repeats, shared_when, side_at, side_of, side_without, spliced, tested, within}
 use Rattle.difference_laws.specs.Lines as lines
-use Rattle.difference.specs.Missing.{AreUnshared, IsOfOne, IsOtherStop, Place, both_links, further, links_when, needed_at, needed_from, needed_in, needed_last, lacked, missing_of, reached}
+use Rattle.difference.specs.Missing.{AreOfOneTree, IsOfOneTree, IsOtherStop, Place, both_links, further, links_when, needed_at, needed_from, needed_in, needed_last, lacked, missing_of, reached}
 use Rattle.difference.proofs.Needing.{first_stop, level-stop, levels-end, or_next, stop-same, stop_of}
 
 -- ---- what is opened is read
@@ -478,6 +478,16 @@ among-lacked gives cs c h e =
     let all = filter-in (λ d. is_none (gives d)) c cs (ap is_none e) in
     contains-counted c (lacked gives cs) (omega arith)
 
+-- a source lacks what it has no bytes of
+none-of : {A : Type 0} (o : Option (Arc (List ℕ) A)) → is_none (option_map arc_value o) ≡ is_none o
+none-of None = refl
+none-of (Some b) = refl
+
+pub lacked-bytes : {A : Type 0} (gives : List ℕ → Option (Arc (List ℕ) A)) (cs : List (List ℕ))
+    → lacked (bytes_given gives) cs ≡ lacked gives cs
+lacked-bytes gives [] = refl
+lacked-bytes gives (c ∷ cs) = (λ i. cond (none-of (gives c) i) (c ∷ lacked-bytes gives cs i) (lacked-bytes gives cs i))
+
 -- ---- sources of bytes
 
 shows-case : (o p : Option (List ℕ)) (m : Shape) → ((b : List ℕ) → o ≡ Some b → p ≡ Some b)
@@ -519,25 +529,25 @@ module _ {A : Type 0} (digest : List ℕ → List ℕ) (bits : ℕ) (fits : IsDi
   part = part-of (nodes_given gives) (shown_by whole) (shows-part (bytes_given gives) whole extends) lay old new sides whole-is
 
   of-one : (c : List ℕ) → IsAmong (shown_by whole) ended.old.read c ⊎ IsAmong (shown_by whole) ended.new.read c
-      → (m : Shape) × ((shown_by whole c ≡ Some m) × IsOfOne digest bits es fs (shape_bytes m))
+      → (m : Shape) × ((shown_by whole c ≡ Some m) × IsOfOneTree digest bits es fs (shape_bytes m))
   of-one c (inl h) =
       (h.node, (h.shown, inl ((ended.are.unshared.go_is (shape_bytes h.node)).0 (contains-map shape_bytes ended.old.read h.node h.among))))
   of-one c (inr h) =
       (h.node, (h.shown, inr ((ended.are.unshared.come_is (shape_bytes h.node)).0 (contains-map shape_bytes ended.new.read h.node h.among))))
 
   asked-one : (c : List ℕ) → (c ≡ old) ⊎ ((c ≡ new) ⊎ (IsAmong (shown_by whole) ended.old.read c ⊎ IsAmong (shown_by whole) ended.new.read c))
-      → (c ≡ old) ⊎ ((c ≡ new) ⊎ ((m : Shape) × ((shown_by whole c ≡ Some m) × IsOfOne digest bits es fs (shape_bytes m))))
+      → (c ≡ old) ⊎ ((c ≡ new) ⊎ ((m : Shape) × ((shown_by whole c ≡ Some m) × IsOfOneTree digest bits es fs (shape_bytes m))))
   asked-one c (inl h) = inl h
   asked-one c (inr (inl h)) = inr (inl h)
   asked-one c (inr (inr h)) = inr (inr (of-one c h))
 
   -- the list that is answered, as no node of both trees
   pub missing-unshared : (cids : List (List ℕ)) → cids ≡ missing_of gives lay old new
-      → AreUnshared digest bits whole old new es fs cids
+      → AreOfOneTree digest bits whole old new es fs cids
   missing-unshared cids q = λ c h.
       asked-one c (each-contained (IsAsked (nodes_given gives) (shown_by whole)
       (shows-part (bytes_given gives) whole extends) lay old new sides) (needed_last (nodes_given gives) lay old new) part.asked c
-      (lacked-among gives (needed_last (nodes_given gives) lay old new) c (subst (λ x. Contains x c) q h)))
+      (lacked-among (bytes_given gives) (needed_last (nodes_given gives) lay old new) c (subst (λ x. Contains x c) q h)))
 
   -- no reason but a want of memory
   given-node : (c : List ℕ) (m : Shape) (o : Option (Arc (List ℕ) A)) → gives c ≡ o → IsSome o → shown_by whole c ≡ Some m

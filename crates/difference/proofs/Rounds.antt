@@ -274,7 +274,7 @@ module _ (digest : List ℕ → List ℕ) (bits : ℕ) (fits : IsDigest digest) 
       omega arith
 
   rounds-last : (sources : ℕ → List ℕ → Option (List ℕ)) → AreRounds digest bits whole old new sources
-      → missing_by (sources (layers_of digest bits es fs)) (shown_by (sources (layers_of digest bits es fs))) lay old new ≡ []
+      → missing_by (sources (layers_of digest bits es fs)) lay old new ≡ []
   rounds-last sources r =
       let n = rounds-end (shown_by whole) lay old new (root_shape es) (root_shape fs) ends (has-root old es has_es)
       (has-root new fs has_fs) opens-all (λ i. shown_by (sources i))

@@ -79,13 +79,12 @@ needed_last shows layer old new = needed_from shows layer old new (shows old) (s
 abbrev pub lacked : {A : Type 0} → (List ℕ → Option A) → List (List ℕ) → List (List ℕ)
 lacked gives cs = filter (λ c. is_none (gives c)) cs
 
--- the CIDs that a source lacks of the layer at which opening stops, where it shows these nodes
-abbrev pub missing_by : {A : Type 0} → (List ℕ → Option A) → (List ℕ → Option Shape) → (List ℕ → ℕ) → List ℕ → List ℕ
-    → List (List ℕ)
-missing_by gives shows layer old new = lacked gives (needed_last shows layer old new)
+-- the CIDs that a source lacks of the layer at which opening stops
+abbrev pub missing_by : (List ℕ → Option (List ℕ)) → (List ℕ → ℕ) → List ℕ → List ℕ → List (List ℕ)
+missing_by gives layer old new = lacked gives (needed_last (shown_by gives) layer old new)
 
 abbrev pub missing_of : {A : Type 0} → (List ℕ → Option (Arc (List ℕ) A)) → (List ℕ → ℕ) → List ℕ → List ℕ → List (List ℕ)
-missing_of gives layer old new = missing_by gives (nodes_given gives) layer old new
+missing_of gives layer old new = missing_by (bytes_given gives) layer old new
 
 -- ---- how much is read
 
@@ -153,15 +152,15 @@ OfPart digest bits gives old new P = (whole : List ℕ → Option (List ℕ)) �
     → (es fs : List Pair) → HasTree digest bits whole old es → HasTree digest bits whole new fs → P whole es fs
 
 -- a node of just one of two trees
-abbrev pub IsOfOne : (List ℕ → List ℕ) → ℕ → List Pair → List Pair → List ℕ → Type 0
-IsOfOne digest bits es fs b = (Contains (nodes digest bits es) b × ¬ Contains (nodes digest bits fs) b)
+abbrev pub IsOfOneTree : (List ℕ → List ℕ) → ℕ → List Pair → List Pair → List ℕ → Type 0
+IsOfOneTree digest bits es fs b = (Contains (nodes digest bits es) b × ¬ Contains (nodes digest bits fs) b)
     ⊎ (Contains (nodes digest bits fs) b × ¬ Contains (nodes digest bits es) b)
 
 -- the CIDs are roots, or of nodes of just one of both trees
-abbrev pub AreUnshared : (List ℕ → List ℕ) → ℕ → (List ℕ → Option (List ℕ)) → List ℕ → List ℕ → List Pair → List Pair
+abbrev pub AreOfOneTree : (List ℕ → List ℕ) → ℕ → (List ℕ → Option (List ℕ)) → List ℕ → List ℕ → List Pair → List Pair
     → List (List ℕ) → Type 0
-AreUnshared digest bits whole old new es fs cids = (c : List ℕ) → Contains cids c → (c ≡ old) ⊎ ((c ≡ new)
-    ⊎ ((m : Shape) × ((shown_by whole c ≡ Some m) × IsOfOne digest bits es fs (shape_bytes m))))
+AreOfOneTree digest bits whole old new es fs cids = (c : List ℕ) → Contains cids c → (c ≡ old) ⊎ ((c ≡ new)
+    ⊎ ((m : Shape) × ((shown_by whole c ≡ Some m) × IsOfOneTree digest bits es fs (shape_bytes m))))
 
 -- ---- a layer a round
 
@@ -172,7 +171,7 @@ pub record AreRounds (digest : List ℕ → List ℕ) (bits : ℕ) (whole : List
   pub grow : (i : ℕ) → Extends (sources i) (sources (suc i))
   pub parts : (i : ℕ) → Extends (sources i) whole
   pub fetched : (i : ℕ) (c : List ℕ)
-      → Contains (missing_by (sources i) (shown_by (sources i)) (layer digest bits) old new) c → sources (suc i) c ≡ whole c
+      → Contains (missing_by (sources i) (layer digest bits) old new) c → sources (suc i) c ≡ whole c
 
 -- how many layers the higher of two trees has
 abbrev pub layers_of : (List ℕ → List ℕ) → ℕ → List Pair → List Pair → ℕ
@@ -183,5 +182,4 @@ abbrev pub RoundsEnd : Type 0
 RoundsEnd = (digest : List ℕ → List ℕ) (bits : ℕ) → IsDigest digest → (whole : List ℕ → Option (List ℕ))
     → (old new : List ℕ) (es fs : List Pair) → HasTree digest bits whole old es → HasTree digest bits whole new fs
     → (sources : ℕ → List ℕ → Option (List ℕ)) → AreRounds digest bits whole old new sources
-    → let last = sources (layers_of digest bits es fs) in
-    missing_by last (shown_by last) (layer digest bits) old new ≡ []
+    → missing_by (sources (layers_of digest bits es fs)) (layer digest bits) old new ≡ []

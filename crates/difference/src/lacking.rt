@@ -3,7 +3,7 @@
 ghost use Rattle.std.specs.Prelude.{◌≡◌, ◌≤◌, ◌+◌, ℕ, List, [], length, IfOk, IfErr, OnOk};
 ghost use Rattle.edit_laws.specs.Changes.{count};
 ghost use Rattle.difference.specs.Differences.{IsWant, OfTrees};
-ghost use Rattle.difference.specs.Missing.{AreUnshared, IsMissing, IsMissingFault, IsMissingTold, OfPart, lacked as lacked_of, most_asked};
+ghost use Rattle.difference.specs.Missing.{AreOfOneTree, IsMissing, IsMissingFault, IsMissingTold, OfPart, lacked as lacked_of, most_asked};
 
 use crate::comparing::open_both;
 use crate::faults::DifferenceFault;
@@ -44,7 +44,7 @@ pub fn missing<
     ensures nothing { OfTrees D.digest_of B (S.gives src.old) old new
         (λ es fs. IfOk result (λ cids. cids.items ≡ [])) }
     ensures unshared { OfPart D.digest_of B (S.gives src.old) old new (λ whole es fs. IfOk result
-        (λ cids. AreUnshared D.digest_of B whole old new es fs cids.items)) }
+        (λ cids. AreOfOneTree D.digest_of B whole old new es fs cids.items)) }
     ensures no_fault { OfPart D.digest_of B (S.gives src.old) old new
         (λ whole es fs. IfErr result IsWant) }
     ensures equal { old ≡ new → IfOk result (λ cids. cids.items ≡ []) }

@@ -5,7 +5,7 @@ ghost use Rattle.std.specs.Prelude.{◌≤◌};
 use block::Block;
 use cid::digests::Toy;
 use cid::{Cid, Digest};
-use difference::{Difference, DifferenceFault, difference};
+use difference::{Difference, DifferenceFault, difference, missing};
 use lookups::BlockMap;
 use scratch::{Built, build, is_ascending};
 use std::alloc::{AllocError, Global};
@@ -138,4 +138,17 @@ pub(crate) fn compared<D: Digest, const B: u8>(
     };
     let answer = difference::<D, B, _, _>(alloc, &mut map, old, new);
     (answer, map.reads())
+}
+
+/// What is missing over these blocks.
+pub(crate) fn missing_over<D: Digest, const B: u8>(
+    alloc: Global,
+    blocks: &[Arc<Block<D>>],
+    old: Cid,
+    new: Cid,
+) -> Result<Vec<Cid>, DifferenceFault>
+    requires { 1 ≤ B }
+{
+    let mut map = BlockMap::new(alloc, blocks)?;
+    missing::<D, B, _, _>(alloc, &mut map, old, new)
 }

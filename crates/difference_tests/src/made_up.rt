@@ -1,6 +1,6 @@
 //! Comparisons over blocks that are no tree.
 
-use crate::fixtures::{Blocks, compared, value};
+use crate::fixtures::{Blocks, compared, missing_over, value};
 use block::Block;
 use cid::digests::Toy;
 use cid::{Cid, CidRef};
@@ -79,6 +79,24 @@ fn unsorted(alloc: Global) -> Result<Option<DifferenceFault>, AllocError> {
     let root = add_node(alloc, &mut blocks, None, b"k/001", Some(below))?;
     let (answer, _) = compared::<Toy, 2>(alloc, &blocks, empty, root);
     Ok(answer.err())
+}
+
+/// Whether two trees over their roots alone, with a leaf of both and one of each after their key, lack just the leaves of each.
+fn lacks_leaves(alloc: Global) -> Result<bool, AllocError> {
+    let mut leaves = Vec::new(alloc);
+    let both = add_node(alloc, &mut leaves, None, b"k/000", None)?;
+    let first = add_node(alloc, &mut leaves, None, b"k/100", None)?;
+    let second = add_node(alloc, &mut leaves, None, b"k/110", None)?;
+    let mut roots = Vec::new(alloc);
+    let old = add_node(alloc, &mut roots, Some(both), b"k/001", Some(first))?;
+    let new = add_node(alloc, &mut roots, Some(both), b"k/001", Some(second))?;
+    let found = missing_over::<Toy, 2>(alloc, &roots, old, new);
+    Ok(matches!(found, Ok(cids) if cids.as_slice() == [first, second].as_slice()))
+}
+
+#[test]
+fn leaves_of_one_tree(rt: HostRuntime) {
+    assert!(rt; matches!(lacks_leaves(rt.alloc()), Ok(true)));
 }
 
 #[test]

@@ -21,7 +21,7 @@ impl Numbers {
     }
 
     /// The next number, below 256.
-    fn next(&mut self) -> u8 {
+    pub(crate) fn next(&mut self) -> u8 {
         self.state ^= self.state << 13;
         self.state ^= self.state >> 7;
         self.state ^= self.state << 17;

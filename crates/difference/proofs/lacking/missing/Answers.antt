@@ -1,6 +1,7 @@
 use Rattle.std.proofs.Common.{◌≡◌, ◌≢◌, ◌∙◌, refl, ◌+◌, max, length, ap, arith, rules, subst, sym}
 use Rattle.spec.specs.Layer.{layer}
 use Rattle.lookups.specs.Steps.{nodes_given}
+use Rattle.lookups.specs.Trees.{bytes_given}
 use Rattle.difference_laws.specs.Lines.{Side, compared}
 use Rattle.difference.specs.Missing.{IfMissing, lacked, needed_last, read_before}
 use Rattle.difference.specs.Sides.{IsStopped, rows_of}
@@ -9,7 +10,7 @@ use Rattle.difference.specs.declared.faults.DifferenceFault.TheVariants.{BlockMi
 use Rattle.difference.proofs.Compares.{stopped-trees}
 use Rattle.difference.proofs.Levels.{begun-asked}
 use Rattle.difference.proofs.Needing.{ends-at, missing-once, missing-told, other-stop, read-lengths}
-use Rattle.difference.proofs.Parts.{missing-unshared, want-part}
+use Rattle.difference.proofs.Parts.{lacked-bytes, missing-unshared, want-part}
 use Rattle.difference.proofs.lacking.missing.Goals as goal
 
 pub returns-in_default-clause-missing : goal.returns-in_default-clause-missing
@@ -17,7 +18,7 @@ returns-in_default-clause-missing g c = λ n.
     let gives = g.S.Source.gives c.args.src.now in
     let sides : Side × Side = (side_in c.in_default.field-0.0, side_in c.in_default.field-0.1) in
     let end = ends-at (nodes_given gives) (layer g.D.Digest.digest_of g.row.B) c.args.old c.args.new sides c.in_default.ensures.opened in
-    c.new-in_default.ensures.items ∙ sym (ap (lacked gives) end.needs)
+    c.new-in_default.ensures.items ∙ sym (ap (lacked (bytes_given gives)) end.needs)
 
 pub returns-in_default-clause-reads : goal.returns-in_default-clause-reads
 returns-in_default-clause-reads g c =
@@ -34,6 +35,16 @@ returns-in_default-clause-reads g c =
     end.reads ∙ read-lengths 0 (side_in o) (side_in p) o.read.items p.read.items refl refl in
     let counted = c.in_default.ensures.counted in
     omega (arith, counted, x, y, read)
+
+pub returns-in_ok-lacked-in-BlockMissing-clause-missing : goal.returns-in_ok-lacked-in-BlockMissing-clause-missing
+returns-in_ok-lacked-in-BlockMissing-clause-missing g c = λ n.
+    let gives = g.S.Source.gives c.args.src.now in
+    let needed = needed_last (nodes_given gives) (layer g.D.Digest.digest_of g.row.B) c.args.old c.args.new in
+    let needs = subst (λ f. IfMissing f (c.open_both.new.needs.cids.items ≡ needed)) c.in-BlockMissing.is
+    (c.in-Err.ensures.needs c.in_ok-needs.ensures.wanted) in
+    let found : c.in_ok-lacked-in-BlockMissing.field-0.items ≡ lacked gives c.open_both.new.needs.cids.items =
+    c.in_ok-lacked-in-BlockMissing.ensures.lacked ∙ (λ i. lacked (c.in-Err.ensures.same i) (c.deref.ensures.value i)) in
+    found ∙ ap (lacked gives) needs ∙ sym (lacked-bytes gives needed)
 
 pub returns-in_ok-lacked-in-BlockMissing-clause-told : goal.returns-in_ok-lacked-in-BlockMissing-clause-told
 returns-in_ok-lacked-in-BlockMissing-clause-told g c = λ n.
@@ -97,4 +108,6 @@ returns-in_ok-lacked-in-BlockMissing-clause-unshared g c = λ whole e es fs h k.
     let found : c.in_ok-lacked-in-BlockMissing.field-0.items ≡ lacked gives c.open_both.new.needs.cids.items =
     c.in_ok-lacked-in-BlockMissing.ensures.lacked ∙ (λ i. lacked (c.in-Err.ensures.same i) (c.deref.ensures.value i)) in
     missing-unshared digest g.row.B g.met.D.Digest.digest_len gives whole e c.args.old c.args.new es fs h k
-    c.in_ok-lacked-in-BlockMissing.field-0.items (found ∙ ap (lacked gives) needs)
+    c.in_ok-lacked-in-BlockMissing.field-0.items
+    (found ∙ ap (lacked gives) needs
+    ∙ sym (lacked-bytes gives (needed_last (nodes_given gives) (layer digest g.row.B) c.args.old c.args.new)))
