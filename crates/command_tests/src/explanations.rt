@@ -1,7 +1,7 @@
 //! What `explain` writes, and which names it has.
 use crate::running::{ends, run};
 use bstr::ByteSlice;
-use explain_command::FAULTS;
+use explain_command::{FAULTS, FAULTS_OF_FILES};
 use std::alloc::Global;
 use std::random::RandomSource;
 use std::sync::Wait;
@@ -51,14 +51,28 @@ fn a_name_that_no_fault_has(rt: HostRuntime) {
     );
 }
 
+/// Whether what is written of a name begins with it and has its causes.
+fn is_explained<T: Threads + Wait + RandomSource + Sync>(
+    rt: &T,
+    alloc: Global,
+    name: &str,
+    causes: &str,
+) -> bool {
+    let ended = run(rt, alloc, &["msthost", "explain", name], b"");
+    ended.begins(name) && ended.out.as_slice().contains_str(causes.as_bytes())
+}
+
 /// Whether each fault has a line of the list, and an explanation of its own under its name.
 fn are_explained<T: Threads + Wait + RandomSource + Sync>(rt: &T, alloc: Global) -> bool {
     let list = run(rt, alloc, &["msthost", "explain"], b"");
     let mut lines = list.out.as_slice().lines();
     for (name, _, causes) in &FAULTS {
-        let ended = run(rt, alloc, &["msthost", "explain", name], b"");
-        let has_causes = ended.out.as_slice().contains_str(causes.as_bytes());
-        if lines.next() != Some(name.as_bytes()) || !ended.begins(name) || !has_causes {
+        if lines.next() != Some(name.as_bytes()) || !is_explained(rt, alloc, name, causes) {
+            return false;
+        }
+    }
+    for (name, _, causes) in &FAULTS_OF_FILES {
+        if lines.next() != Some(name.as_bytes()) || !is_explained(rt, alloc, name, causes) {
             return false;
         }
     }

@@ -9,7 +9,7 @@ use closing::Mismatch;
 use console::{ReadFault, WriteFault};
 use dagcbor::CborFault;
 use edit::EditFault;
-use explain_command::FAULTS;
+use explain_command::{FAULTS, FAULTS_OF_FILES};
 use export::{ExportFault, ProofFault};
 use export_commands::ExportFault as TextOfExportFault;
 use host::{HostFault, OpenFault};
@@ -29,6 +29,11 @@ use tree_command::TreeFault;
 /// Whether `explain` says this of a name.
 fn is_explained(name: &'static str, meaning: &'static str) -> bool {
     for (of, says, _) in &FAULTS {
+        if *of == name {
+            return *says == meaning;
+        }
+    }
+    for (of, says, _) in &FAULTS_OF_FILES {
         if *of == name {
             return *says == meaning;
         }

@@ -3,7 +3,7 @@ use Rattle.std.specs.Prelude.{ℕ, List, [], ◌∷◌, ◌++◌, codes, Option,
 use Rattle.std.specs.Borrow.{Bor}
 use Rattle.std.specs.List.{flat_map}
 use Rattle.std.specs.Str.{bytes_eq}
-use Rattle.explain_command.specs.declared.table.TheConstants.{FAULTS}
+use Rattle.explain_command.specs.declared.table.TheConstants.{FAULTS, FAULTS_OF_FILES}
 
 -- the text of a word, if there is one
 abbrev pub word_of : Option (Bor (List ℕ)) → Option (List ℕ)
@@ -33,6 +33,13 @@ texts_of e = (e.0.now, e.1.now, e.2.now)
 abbrev pub explained : List (Bor (List ℕ) × Bor (List ℕ) × Bor (List ℕ)) → Option (List ℕ) → List ℕ
 explained faults name = flat_map (λ e. said name (texts_of e)) faults
 
+-- of the faults that aren't those of a file, and of these
+unfoldable pub explanation_of_common : Option (List ℕ) → List ℕ
+explanation_of_common name = flat_map (λ e. said name (e.0.now, e.1.now, e.2.now)) FAULTS
+
+unfoldable pub explanation_of_files : Option (List ℕ) → List ℕ
+explanation_of_files name = flat_map (λ e. said name (e.0.now, e.1.now, e.2.now)) FAULTS_OF_FILES
+
 -- of all faults of the program
 unfoldable pub explanation : Option (List ℕ) → List ℕ
-explanation name = flat_map (λ e. said name (e.0.now, e.1.now, e.2.now)) FAULTS
+explanation name = explanation_of_common name ++ explanation_of_files name

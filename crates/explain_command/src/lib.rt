@@ -1,6 +1,7 @@
 //! The command `explain`: what a fault of the program means, and what usually causes it.
 //!
-//! - `FAULTS` has them, each with its name. It is the one place of these texts: tables of documents are made from it.
+//! - `FAULTS` has them, each with its name, and `FAULTS_OF_FILES` those of a CAR file. They are the one place of these texts:
+//!   tables of documents are made from them.
 //! - `run` writes what there is to say of a name, or the names of all.
 //!
 //! A program has it by `with_words`, `command_of` and `run`.
@@ -12,5 +13,5 @@ mod text;
 mod words;
 
 pub use running::run;
-pub use table::{Explanation, FAULTS};
+pub use table::{Explanation, FAULTS, FAULTS_OF_FILES};
 pub use words::{ExplainCommand, command_of, with_words};

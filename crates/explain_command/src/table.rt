@@ -3,8 +3,8 @@
 /// What there is to say of a fault: its name, as standard error or a report shows it, what it means, and what usually causes it.
 pub type Explanation = (&'static str, &'static str, &'static str);
 
-/// Each fault that the program tells.
-pub static FAULTS: [(&str, &str, &str); 68] = [
+/// Each fault that the program tells, but for those of a CAR file.
+pub static FAULTS: [(&str, &str, &str); 57] = [
     (
         "BadLine",
         "the line has not the words that a line of this command has",
@@ -267,6 +267,30 @@ pub static FAULTS: [(&str, &str, &str); 68] = [
         "a change of another commit; a commit's CID in place of its data",
     ),
     (
+        "Uneven",
+        "what the host's repositories and its table of blocks say of each other does not agree",
+        "none is known: a fault of this program",
+    ),
+    (
+        "no memory",
+        "memory was refused",
+        "more input than there is memory: all of it is read before a line is judged",
+    ),
+    (
+        "read failed",
+        "the input can't be read",
+        "a folder as standard input; a device that failed; of run also a system without random numbers",
+    ),
+    (
+        "write failed",
+        "the output can't be written",
+        "a reader of the pipe that has gone, as head; a full disk",
+    ),
+];
+
+/// The faults of a CAR file that is no export of a repository.
+pub static FAULTS_OF_FILES: [(&str, &str, &str); 11] = [
+    (
         "Car(BadHeader)",
         "the file does not begin as a CAR with one root",
         "a file that isn't a CAR, as lines of text or a page that says why there is no file; a CAR of version 2, one with several roots, or whose root isn't a commit's CID",
@@ -320,25 +344,5 @@ pub static FAULTS: [(&str, &str, &str); 68] = [
         "NoRecord",
         "the record is not in the file",
         "a slice of an export; what stands before the name is the record's place, from 0, among the records in the order of their keys",
-    ),
-    (
-        "Uneven",
-        "what the host's repositories and its table of blocks say of each other does not agree",
-        "none is known: a fault of this program",
-    ),
-    (
-        "no memory",
-        "memory was refused",
-        "more input than there is memory: all of it is read before a line is judged",
-    ),
-    (
-        "read failed",
-        "the input can't be read",
-        "a folder as standard input; a device that failed; of run also a system without random numbers",
-    ),
-    (
-        "write failed",
-        "the output can't be written",
-        "a reader of the pipe that has gone, as head; a full disk",
     ),
 ];

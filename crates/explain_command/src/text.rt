@@ -1,8 +1,8 @@
 //! What there is to say of a fault.
 ghost use Rattle.std.specs.Prelude.{◌≡◌, ◌++◌, IfOk, OnOk};
-ghost use Rattle.explain_command.specs.Explained.{explained as explained_of, explanation, line_of_name, paragraph, said, texts_of, word_of};
+ghost use Rattle.explain_command.specs.Explained.{explained as explained_of, explanation, explanation_of_common, explanation_of_files, line_of_name, paragraph, said, texts_of, word_of};
 
-use crate::table::{Explanation, FAULTS};
+use crate::table::{Explanation, FAULTS, FAULTS_OF_FILES};
 use std::alloc::{AllocError, Global};
 
 /// What there is to say of the program's faults of this name, or each name on a line where none is given. Of a name that no
@@ -11,20 +11,28 @@ use std::alloc::{AllocError, Global};
 pub(crate) fn explanation_of(alloc: Global, name: Option<&str>) -> Result<Vec<u8>, AllocError>
     ensures { IfOk result (λ text. text.items ≡ explanation (word_of name.entry)) }
 {
-    explained(alloc, &FAULTS, name)
+    let mut text = Vec::new(alloc);
+    push_common(&mut text, name)?;
+    push_of_files(&mut text, name)?;
+    Ok(text)
 }
 
-/// What there is to say of these faults under the name.
-fn explained(
-    alloc: Global,
-    faults: &[Explanation],
-    name: Option<&str>,
-) -> Result<Vec<u8>, AllocError>
-    ensures { IfOk result (λ text. text.items ≡ explained_of faults.now (word_of name.entry)) }
+/// Adds what there is to say of the faults that aren't those of a file.
+#[tactic(auto, unfolding(crate::specs::Explained::explanation_of_common))]
+fn push_common(text: &mut Vec<u8>, name: Option<&str>) -> Result<(), AllocError>
+    ensures { OnOk result (text.new.items ≡ text.old.items
+        ++ explanation_of_common (word_of name.entry)) }
 {
-    let mut text = Vec::new(alloc);
-    push_all(&mut text, faults, name)?;
-    Ok(text)
+    push_all(text, &FAULTS, name)
+}
+
+/// Adds what there is to say of the faults of a file.
+#[tactic(auto, unfolding(crate::specs::Explained::explanation_of_files))]
+fn push_of_files(text: &mut Vec<u8>, name: Option<&str>) -> Result<(), AllocError>
+    ensures { OnOk result (text.new.items ≡ text.old.items
+        ++ explanation_of_files (word_of name.entry)) }
+{
+    push_all(text, &FAULTS_OF_FILES, name)
 }
 
 /// Adds what there is to say of each of these under the name.
