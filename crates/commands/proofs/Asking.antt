@@ -75,8 +75,8 @@ named_sub test =
     let run : IsCommandName (codes "run") = (9, codes "run", omega arith, refl, refl) in
     let explain : IsCommandName (codes "explain") = (10, codes "explain", omega arith, refl, refl) in
     let help : IsCommandName (codes "help") = (11, codes "help", omega arith, refl, refl) in
-    let on_change = (prove_change, (verify_change, (check, (records, (commit, (run, (explain, (help, tt)))))))) in
-    found_in HasName test (built msthost).subs (tree, (car, (prove, (verify, on_change))))
+    found_in HasName test (built msthost).subs
+    (tree, (car, (prove, (verify, (prove_change, (verify_change, (check, (records, (commit, (run, (explain, (help, tt))))))))))))
 
 entered_name : (words : List Text) (o : Option Shape) → IfSome o HasName → IfSome (option_map (λ s. rows_at s words) o) (λ c. IsCommandName c.0)
 unfolding HasName
