@@ -112,12 +112,18 @@ fn is_refused_at<T: Threads + Wait + RandomSource + Abort + Sync>(
 #[test]
 fn files_that_are_no_car(rt: HostRuntime) {
     let alloc = rt.alloc();
-    let length = file(&rt, alloc).len();
     assert!(rt; is_refused(&rt, alloc, b"a/b a0\n", "msthost: Car(BadHeader)\n"));
     assert!(rt; is_refused(&rt, alloc, b"", "msthost: Car(BadHeader)\n"));
     assert!(rt; is_refused_with(&rt, alloc, b"\x80\0", "msthost: Car(BadLength)\n"));
     assert!(rt; is_refused_with(&rt, alloc, b"\x01\0", "msthost: Car(BadCid)\n"));
-    assert!(rt; is_refused_at(&rt, alloc, length - 1, "msthost: Car(Truncated)\n"));
+    assert!(rt;
+        is_refused_at(
+            &rt,
+            alloc,
+            HEADER + COMMIT + NODE + 20,
+            "msthost: Car(Truncated)\n"
+        )
+    );
 }
 
 #[test]
