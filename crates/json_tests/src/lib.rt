@@ -4,9 +4,13 @@
 #![tactic(auto)]
 
 #[cfg(test)]
+mod faults;
+#[cfg(test)]
 mod forms;
 #[cfg(test)]
 mod large;
+#[cfg(test)]
+mod layouts;
 #[cfg(test)]
 mod memory;
 #[cfg(test)]

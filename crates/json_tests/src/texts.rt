@@ -1,7 +1,7 @@
 //! The text of a value, by the bytes that spell the value.
 
 use dagcbor::read;
-use record_json::{has_form, json_of};
+use record_json::{dag_cbor_of, has_form, json_of};
 use std::alloc::{AllocError, Global};
 use std::process::Abort;
 
@@ -27,10 +27,27 @@ pub fn is_text_of(alloc: Global, bytes: &[u8], wanted: &[u8]) -> bool {
     }
 }
 
-/// Sees that the value of each row has the row's text.
+/// Whether these are the bytes of the record of this text.
+pub fn is_read(alloc: Global, text: &str, bytes: &[u8]) -> bool {
+    match dag_cbor_of(alloc, text) {
+        Ok(read) => read.as_slice() == bytes,
+        Err(_) => false,
+    }
+}
+
+/// Whether a value of these bytes is a map.
+fn is_map(bytes: &[u8]) -> bool {
+    match bytes.first() {
+        Some(head) => (0xa0..=0xbf).contains(head),
+        None => false,
+    }
+}
+
+/// Sees that the value of each row has the row's text, and that the text of a map is read back.
 pub fn assert_texts(rt: &impl Abort, alloc: Global, rows: &[Row]) {
     for (bytes, text) in rows {
         assert!(rt; is_text_of(alloc, bytes, text.as_bytes()), "at {text}");
+        assert!(rt; !is_map(bytes) || is_read(alloc, text, bytes), "at {text}");
     }
 }
 

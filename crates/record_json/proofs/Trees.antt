@@ -40,7 +40,7 @@ mutual
 
 -- ---- numbers
 
-mag-is_safe : (z : ℤ) → is_safe z ≡ true → mag z < 2 ^ 63
+pub mag-is_safe : (z : ℤ) → is_safe z ≡ true → mag z < 2 ^ 63
 mag-is_safe (pos n) safe = let lt = ltb-true n (2 ^ 53) safe in omega arith
 mag-is_safe (negsuc n) safe = let lt = ltb-true n (2 ^ 53 - 1) safe in omega arith
 

@@ -13,14 +13,14 @@ use std::alloc::{Allocator, Global};
 const MOST: i64 = 0x1f_ffff_ffff_ffff;
 
 /// Whether a key stands for a link or for bytes, and so for no field (AT Protocol data model).
-fn is_reserved(key: &str) -> bool
+pub(crate) fn is_reserved(key: &str) -> bool
     ensures { result ≡ is_reserved key.now }
 {
     key == "$link" || key == "$bytes"
 }
 
 /// Whether each reader of JSON holds the number exactly.
-fn is_safe(z: i64) -> bool
+pub(crate) fn is_safe(z: i64) -> bool
     ensures { result ≡ is_safe z }
 {
     -MOST <= z && z <= MOST
@@ -28,7 +28,7 @@ fn is_safe(z: i64) -> bool
 
 /// Whether these bytes are a CID of version 1: of the CIDs that a link may hold, those with another first byte than
 /// version 0.
-fn is_version_1(bytes: &[u8]) -> bool
+pub(crate) fn is_version_1(bytes: &[u8]) -> bool
     ensures { result ≡ is_version_1 bytes.now }
 {
     if bytes.is_empty() || bytes[0] != 1 {

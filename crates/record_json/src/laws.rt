@@ -1,6 +1,6 @@
 //! Laws that show what the JSON form means. Each function is empty, and its contract is a law.
 
-ghost use Rattle.record_json.specs.Laws.{FormIsJson, LinkTextReadsBack, TreeReadsBack, NoTextForTwo};
+ghost use Rattle.record_json.specs.Laws.{FormIsJson, LinkTextReadsBack, TreeReadsBack, ReadsBack, OnlyFormsAreRead, NoTextForTwo};
 
 /// The text of a lawful value that has one is JSON, and stands for the tree of objects, lists and texts by which the
 /// data model defines it.
@@ -16,6 +16,16 @@ pub fn link_text_reads_back()
 /// The tree of a value means that value.
 pub fn tree_reads_back()
     ensures { TreeReadsBack }
+{}
+
+/// What is written of a record is read as that record.
+pub fn reads_back()
+    ensures { ReadsBack }
+{}
+
+/// What is read is a map, and each value in it has a JSON form.
+pub fn only_forms_are_read()
+    ensures { OnlyFormsAreRead }
 {}
 
 /// No two values have one text.
