@@ -1,6 +1,6 @@
-//! Tests of records as JSON: worked texts, values without a form, records, large values, want of memory. The texts come from
-//! a program in another language, and not from what is tested; two records are the AT Protocol's own, from its
-//! interoperability tests.
+//! Tests of records as JSON: worked texts, written and read, values without a form, texts that are no records, records, large
+//! values, want of memory. The texts come from a program in another language, and not from what is tested; two records are the
+//! AT Protocol's own, from its interoperability tests.
 #![tactic(auto)]
 
 #[cfg(test)]
