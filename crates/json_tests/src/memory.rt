@@ -2,7 +2,7 @@
 
 use crate::texts::joined;
 use dagcbor::{Value, is_lawful, read};
-use record_json::{has_form, json_of};
+use record_json::{JsonFaultKind, dag_cbor_of, has_form, json_of};
 use refusing::Refusing;
 use std::alloc::{AllocError, Allocator, Global};
 use std::process::Abort;
@@ -93,4 +93,62 @@ fn answers_each_refusal_of_memory(rt: HostRuntime) {
         let requests = requests_behind(&rt, rt.alloc(), &heap, letters);
         assert!(rt; requests >= 4, "{requests} requests");
     }
+}
+
+/// A text with bytes, a link, a list and a text.
+const READ: &str =
+    r#"{"b":{"$link":"bafkqababaibqi"},"a":[false,{"$bytes":"AAEC/w"}],"c":"\u00e9"}"#;
+
+/// The bytes of its record.
+const BYTES: &[u8] = b"\xa3\x61a\x82\xf4\x44\x00\x01\x02\xff\
+    \x61b\xd8\x2a\x49\x00\x01\x55\x00\x04\x01\x02\x03\x04\x61c\x62\xc3\xa9";
+
+/// A text with a fault, to which there is a way.
+const FAULTY: &str = r#"{"a":[0,{"b":1.5}]}"#;
+
+/// Reads a text: whether these bytes came, or another fault than a want of memory where none are wanted; `None` where memory
+/// was refused.
+fn is_read_in(heap: &Refusing<Global>, text: &str, wanted: Option<&[u8]>) -> Option<bool> {
+    match dag_cbor_of(heap, text) {
+        Ok(bytes) => Some(wanted == Some(bytes.as_slice())),
+        Err(fault) => {
+            if fault.kind == JsonFaultKind::NoMemory {
+                return None;
+            }
+            Some(wanted.is_none())
+        }
+    }
+}
+
+/// Reads a text with each request for memory refused in turn: how many requests there are.
+fn requests_of_reading(
+    rt: &impl Abort,
+    heap: &Refusing<Global>,
+    text: &str,
+    wanted: Option<&[u8]>,
+) -> u64 {
+    for number in 1..200u64 {
+        heap.refuse(number);
+        let before = heap.refused();
+        let answer = is_read_in(heap, text, wanted);
+        let refused = heap.refused() != before;
+        let right = match answer {
+            Some(same) => same && !refused,
+            None => refused,
+        };
+        assert!(rt; right && heap.live() == 0, "at request {number}");
+        if !refused {
+            return number - 1;
+        }
+    }
+    0
+}
+
+#[test]
+fn answers_each_refusal_while_it_reads(rt: HostRuntime) {
+    let heap = Refusing::new(rt.alloc());
+    let read = requests_of_reading(&rt, &heap, READ, Some(BYTES));
+    assert!(rt; read >= 6, "{read} requests");
+    let faulty = requests_of_reading(&rt, &heap, FAULTY, None);
+    assert!(rt; faulty >= 4, "{faulty} requests");
 }
