@@ -9,6 +9,8 @@ mod fixtures;
 #[cfg(test)]
 mod lacking;
 #[cfg(test)]
+mod large;
+#[cfg(test)]
 mod layered;
 #[cfg(test)]
 mod made_up;

@@ -2,6 +2,7 @@
 
 use crate::writing::{file_of_commit, push_block};
 use cid::{Cid, Sha256};
+use export_commands::{ExportCommand, Values, export_text};
 use repository_check::{CheckFault, RecordFault, Repository, check};
 use scratch::{Built, build, is_ascending};
 use std::alloc::{AllocError, Global};
@@ -91,4 +92,28 @@ fn names_the_place_of_a_lost_record(rt: HostRuntime) {
     let file = file_over(rt.alloc(), &tree, COUNT, 1234).expect(&rt, "memory");
     let fault = check::<Sha256, 2, Global>(rt.alloc(), &file).err();
     assert!(rt; fault == Some(CheckFault::Record(1234, RecordFault::NoRecord)));
+}
+
+/// What a command tells of so many records.
+fn told(alloc: Global, command: ExportCommand, count: u16) -> Option<Vec<u8>> {
+    let tree = tree(alloc, count)?;
+    let file = file_over(alloc, &tree, count, count).ok()?;
+    let mut input: &[u8] = &file;
+    let mut out = Vec::new(alloc);
+    export_text::<Sha256, Global, _, _>(command, alloc, &mut input, &mut out).ok()?;
+    Some(out)
+}
+
+/// A line has a key of 23 bytes, and a record of 6 bytes in hexadecimal or a CID's text of 59 letters.
+#[test]
+fn tells_two_thousand_records(rt: HostRuntime) {
+    let alloc = rt.alloc();
+    let records = told(alloc, ExportCommand::Records(Values::Bytes), COUNT);
+    let records = records.expect(&rt, "lines of records");
+    assert_eq!(rt; records.len(), 74_000);
+    assert!(rt; records.ends_with(b"\napp.bsky.feed.post/1999 a1616e190bb7\n"));
+    let cids = told(alloc, ExportCommand::Records(Values::Cids), COUNT);
+    assert_eq!(rt; cids.expect(&rt, "lines of CIDs").len(), 168_000);
+    let summary = told(alloc, ExportCommand::Check, COUNT).expect(&rt, "a summary");
+    assert!(rt; summary.ends_with(b" 2000\n"));
 }
