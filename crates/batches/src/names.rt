@@ -1,10 +1,10 @@
 //! The names of refusals.
 ghost use Rattle.std.specs.Prelude.{◌≡◌, Some};
-ghost use Rattle.batches.specs.Names.{bad_record_name as bad_record_name_of, refusal_name as refusal_name_of};
+ghost use Rattle.batches.specs.Names.{refusal_name as refusal_name_of};
 
 use crate::fault::RepoFault;
 use cid::Digest;
-use dagcbor::CborFault;
+use record_rules::bad_record_name;
 use std::alloc::{Allocator, Global};
 use std::fmt;
 
@@ -40,27 +40,5 @@ pub fn refusal_name<D: Digest, A: Allocator>(fault: &RepoFault<D, A>) -> &'stati
         RepoFault::BadDid => "BadDid",
         RepoFault::BadRev => "BadRev",
         RepoFault::RevOrder => "RevOrder",
-    }
-}
-
-/// The name of a refusal for a fault in a record.
-fn bad_record_name(fault: &CborFault) -> &'static str
-    ensures { result.now ≡ bad_record_name_of fault.now }
-{
-    match fault {
-        CborFault::Truncated => "BadRecord(Truncated)",
-        CborFault::LongHead => "BadRecord(LongHead)",
-        CborFault::Indefinite => "BadRecord(Indefinite)",
-        CborFault::BadTag => "BadRecord(BadTag)",
-        CborFault::BadLink => "BadRecord(BadLink)",
-        CborFault::KeyNotText => "BadRecord(KeyNotText)",
-        CborFault::KeyOrder => "BadRecord(KeyOrder)",
-        CborFault::BadUtf8 => "BadRecord(BadUtf8)",
-        CborFault::Float => "BadRecord(Float)",
-        CborFault::Simple => "BadRecord(Simple)",
-        CborFault::IntegerRange => "BadRecord(IntegerRange)",
-        CborFault::TooDeep => "BadRecord(TooDeep)",
-        CborFault::Trailing => "BadRecord(Trailing)",
-        CborFault::NoMemory => "BadRecord(NoMemory)",
     }
 }

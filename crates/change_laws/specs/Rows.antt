@@ -3,23 +3,13 @@
 use Rattle.std.specs.Prelude.{◌≡◌, ℕ, ◌+◌, ◌-◌, ◌*◌, ◌/◌, ◌%◌, ◌^◌, ◌&&◌, List, [], ◌∷◌, ◌++◌, length, map, fold, replicate, codes, slice_index, nat_lt, if◌then◌else◌, Option, Some, None, Ok, Err}
 use Rattle.std.specs.Int.{w64, to_be_bytes}
 use Rattle.spec.specs.Cid.{cid}
+use Rattle.spec.specs.TestDigests.{by_last_digit}
 use Rattle.spec.specs.Tree.{Pair}
 use Rattle.spec.specs.NodeFormat.{Shape, LastLink, MoreLinks, shape_bytes, shape_cid}
 use Rattle.spec.specs.Blocks.{nodes, root}
 use Rattle.change_laws.specs.Told.{KeyChange}
 use Rattle.change_laws.specs.Given.{NotTree, OtherValue, OtherRoot}
 use Rattle.change_laws.specs.Verdict.{change_verdict}
-
--- the digit, 0 to 3, that a key ends in, and 0 for other bytes
-abbrev pub last_digit : List ℕ → ℕ
-last_digit bytes =
-    let c = slice_index bytes (length bytes - 1) in if nat_lt 47 c && nat_lt c 52 then c - 48 else 0
-
--- 32 bytes that begin with two zero bits for each layer, and differ where the bytes do (as far as a row needs it)
-abbrev pub by_last_digit : List ℕ → List ℕ
-by_last_digit bytes =
-    (255 / 2 ^ (2 * last_digit bytes)) ∷ to_be_bytes w64 (fold (λ sum b. (sum * 257 + b) % 2 ^ 64) 1 bytes)
-    ++ replicate 23 0
 
 abbrev pub record_cid : (List ℕ → List ℕ) → ℕ → List ℕ
 record_cid digest n = cid digest (n ∷ [])

@@ -1,10 +1,11 @@
 -- Digests for tests (a choice of this project): 32 bytes without any cryptography.
-use Rattle.std.specs.Prelude.{◌≡◌, ◌<◌, ℕ, zero, suc, ◌-◌, ◌*◌, ◌/◌, ◌%◌, ◌^◌, ◌&&◌, List, ◌∷◌, ◌++◌, length, fold, replicate, slice_index, bit_xor, nat_lt, if◌then◌else◌}
+use Rattle.std.specs.Prelude.{◌≡◌, ◌<◌, ℕ, zero, suc, ◌*◌, ◌%◌, ◌^◌, List, ◌∷◌, ◌++◌, length, fold, replicate, bit_xor}
 use Rattle.std.specs.Int.{w64, to_be_bytes}
 use Rattle.std.proofs.Common.{refl, arith}
 use Rattle.std.proofs.Math.Nat.{div-le_self}
 use Rattle.std.proofs.lemmas.Nat.{mod_below}
 use Rattle.spec.specs.Reading.{IsBytes}
+use Rattle.spec.specs.TestDigests.{last_digit, first_byte}
 use Rattle.cid.specs.Digests.{IsBytes-cons, IsBytes-append, IsBytes-high_first}
 
 -- FNV-1a of 64 bits (Fowler, Noll, Vo)
@@ -13,14 +14,6 @@ mixed hash byte = bit_xor hash byte * 0x00000100000001b3 % 2 ^ 64
 
 abbrev pub fnv1a : List ℕ → ℕ
 fnv1a bytes = fold mixed 0xcbf29ce484222325 bytes
-
--- 0 to 3 for a last byte that is that ASCII digit, else 0
-abbrev pub last_digit : List ℕ → ℕ
-last_digit bytes = let c = slice_index bytes (length bytes - 1) in if nat_lt 47 c && nat_lt c 52 then c - 48 else 0
-
--- 2 d zero bits and then ones, for a last digit d
-abbrev pub first_byte : List ℕ → ℕ
-first_byte bytes = 255 / 2 ^ (2 * last_digit bytes)
 
 -- a first byte that gives a key the layer that it asks for, the hash, and zeros
 unfoldable pub toy : List ℕ → List ℕ

@@ -1,7 +1,8 @@
 //! Digests for tests, of no standard but this repository's own: 32 bytes without any cryptography, so that layers and
 //! collisions can be had at will.
 ghost use Rattle.std.specs.Prelude.{◌≡◌, ◌<◌};
-ghost use Rattle.cid.specs.TestDigests.{toy, clash, size, fnv1a as fnv1a_of, last_digit as last_digit_of, first_byte as first_byte_of};
+ghost use Rattle.cid.specs.TestDigests.{toy, clash, size, fnv1a as fnv1a_of};
+ghost use Rattle.spec.specs.TestDigests.{last_digit as last_digit_of, first_byte as first_byte_of};
 ghost use Rattle.cid.specs.TestDigests.{length-toy, length-clash, length-size, IsBytes-toy, IsBytes-clash, IsBytes-size};
 
 use crate::digest::Digest;

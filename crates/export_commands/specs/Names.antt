@@ -3,8 +3,7 @@
 use Rattle.std.specs.Prelude.{ℕ, List, ◌++◌, codes, decimal}
 use Rattle.car_reader.specs.declared.fault.CarFault.{CarFault}
 use Rattle.car_reader.specs.declared.fault.CarFault.TheVariants as cars
-use Rattle.dagcbor.specs.declared.fault.CborFault.{CborFault}
-use Rattle.dagcbor.specs.declared.fault.CborFault.TheVariants as cbor
+use Rattle.record_rules.specs.Names.{bad_record_name}
 use Rattle.signed_commits.specs.declared.fault.CommitFault.{CommitFault}
 use Rattle.signed_commits.specs.declared.fault.CommitFault.TheVariants as commits
 use Rattle.repository_check.specs.declared.fault.RecordFault.{RecordFault}
@@ -25,22 +24,6 @@ abbrev pub commit_fault_name : CommitFault → List ℕ
 commit_fault_name commits.NotACommit = codes "Commit(NotACommit)"
 commit_fault_name commits.BadDid = codes "Commit(BadDid)"
 commit_fault_name commits.BadRev = codes "Commit(BadRev)"
-
-abbrev pub bad_record_name : CborFault → List ℕ
-bad_record_name cbor.Truncated = codes "BadRecord(Truncated)"
-bad_record_name cbor.LongHead = codes "BadRecord(LongHead)"
-bad_record_name cbor.Indefinite = codes "BadRecord(Indefinite)"
-bad_record_name cbor.BadTag = codes "BadRecord(BadTag)"
-bad_record_name cbor.BadLink = codes "BadRecord(BadLink)"
-bad_record_name cbor.KeyNotText = codes "BadRecord(KeyNotText)"
-bad_record_name cbor.KeyOrder = codes "BadRecord(KeyOrder)"
-bad_record_name cbor.BadUtf8 = codes "BadRecord(BadUtf8)"
-bad_record_name cbor.Float = codes "BadRecord(Float)"
-bad_record_name cbor.Simple = codes "BadRecord(Simple)"
-bad_record_name cbor.IntegerRange = codes "BadRecord(IntegerRange)"
-bad_record_name cbor.TooDeep = codes "BadRecord(TooDeep)"
-bad_record_name cbor.Trailing = codes "BadRecord(Trailing)"
-bad_record_name cbor.NoMemory = codes "BadRecord(NoMemory)"
 
 abbrev pub record_fault_name : RecordFault → List ℕ
 record_fault_name records.BadKey = codes "BadKey"

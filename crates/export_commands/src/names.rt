@@ -1,11 +1,11 @@
 //! The names of the faults of a file.
 
 ghost use Rattle.std.specs.Prelude.{◌≡◌, Some};
-ghost use Rattle.export_commands.specs.Names.{bad_record_name as bad_record_name_of, car_fault_name as car_fault_name_of, check_fault_name, commit_fault_name as commit_fault_name_of, record_fault_name as record_fault_name_of};
+ghost use Rattle.export_commands.specs.Names.{car_fault_name as car_fault_name_of, check_fault_name, commit_fault_name as commit_fault_name_of, record_fault_name as record_fault_name_of};
 
 use car_reader::CarFault;
 use console::Decimal;
-use dagcbor::CborFault;
+use record_rules::bad_record_name;
 use repository_check::{CheckFault, RecordFault};
 use signed_commits::CommitFault;
 use std::fmt;
@@ -69,27 +69,5 @@ fn record_fault_name(fault: &RecordFault) -> &'static str
         RecordFault::RecordSize => "RecordSize",
         RecordFault::BadRecord(fault) => bad_record_name(fault),
         RecordFault::NotAMap => "NotAMap",
-    }
-}
-
-/// The name of a record's fault for a fault of its spelling.
-fn bad_record_name(fault: &CborFault) -> &'static str
-    ensures { result.now ≡ bad_record_name_of fault.now }
-{
-    match fault {
-        CborFault::Truncated => "BadRecord(Truncated)",
-        CborFault::LongHead => "BadRecord(LongHead)",
-        CborFault::Indefinite => "BadRecord(Indefinite)",
-        CborFault::BadTag => "BadRecord(BadTag)",
-        CborFault::BadLink => "BadRecord(BadLink)",
-        CborFault::KeyNotText => "BadRecord(KeyNotText)",
-        CborFault::KeyOrder => "BadRecord(KeyOrder)",
-        CborFault::BadUtf8 => "BadRecord(BadUtf8)",
-        CborFault::Float => "BadRecord(Float)",
-        CborFault::Simple => "BadRecord(Simple)",
-        CborFault::IntegerRange => "BadRecord(IntegerRange)",
-        CborFault::TooDeep => "BadRecord(TooDeep)",
-        CborFault::Trailing => "BadRecord(Trailing)",
-        CborFault::NoMemory => "BadRecord(NoMemory)",
     }
 }

@@ -19,4 +19,5 @@ pub mod Commits
 pub mod SignedCommits
 pub mod Exports
 pub mod States
+pub mod TestDigests
 pub mod Laws

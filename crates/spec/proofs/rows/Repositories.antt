@@ -9,7 +9,8 @@ use Rattle.spec.specs.Blocks.{firsts, blocks, pairs, repository_root}
 use Rattle.spec.specs.Car.{car_of}
 use Rattle.spec.specs.Proof.{path, verified, verified_within, BlockMissing, KeyLength}
 use Rattle.spec.specs.Writes.{Write, Put, Delete, leaves}
-use Rattle.spec.proofs.rows.Written.{hex, by_last_digit}
+use Rattle.spec.proofs.rows.Written.{hex}
+use Rattle.spec.specs.TestDigests.{by_last_digit}
 
 abbrev empty_node : List ℕ
 empty_node = hex "a2616580616cf6"

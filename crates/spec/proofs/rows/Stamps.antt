@@ -17,7 +17,8 @@ use Rattle.spec.specs.Stamps.{are_stamps}
 use Rattle.spec.specs.Commits.{commit_bytes}
 use Rattle.spec.specs.States.{State, fresh, after_batch, state_root, state_blocks, state_commit}
 use Rattle.spec.specs.States.{state_car, state_test, EmptyBatch, OfStamp, OfWrite}
-use Rattle.spec.proofs.rows.Written.{hex, by_last_digit, stamped}
+use Rattle.spec.proofs.rows.Written.{hex, stamped}
+use Rattle.spec.specs.TestDigests.{by_last_digit}
 
 -- ---- commits
 
