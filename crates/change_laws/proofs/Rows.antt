@@ -6,7 +6,8 @@ use Rattle.spec.specs.Cid.{cid}
 use Rattle.spec.specs.NodeFormat.{entry_at, entries_at, read_node}
 use Rattle.edit_laws.specs.Order.{order}
 use Rattle.change_laws.specs.Verdict.{change_verdict}
-use Rattle.change_laws.specs.Rows.{by_last_digit, AreRows}
+use Rattle.spec.specs.TestDigests.{by_last_digit}
+use Rattle.change_laws.specs.Rows.{AreRows}
 
 pub rows : AreRows by_last_digit
 unfolding change_verdict read_node entries_at entry_at head_at cid count_leading_zeros order

@@ -1,7 +1,6 @@
 -- Rows worked by hand, over a digest that gives a key the layer of its last digit: two records, of which one was put, and
 -- nodes of no tree.
-use Rattle.std.specs.Prelude.{◌≡◌, ℕ, ◌+◌, ◌-◌, ◌*◌, ◌/◌, ◌%◌, ◌^◌, ◌&&◌, List, [], ◌∷◌, ◌++◌, length, map, fold, replicate, codes, slice_index, nat_lt, if◌then◌else◌, Option, Some, None, Ok, Err}
-use Rattle.std.specs.Int.{w64, to_be_bytes}
+use Rattle.std.specs.Prelude.{◌≡◌, ℕ, List, [], ◌∷◌, map, codes, Option, Some, None, Ok, Err}
 use Rattle.spec.specs.Cid.{cid}
 use Rattle.spec.specs.TestDigests.{by_last_digit}
 use Rattle.spec.specs.Tree.{Pair}

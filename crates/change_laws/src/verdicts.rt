@@ -1,7 +1,8 @@
 //! What a verdict means.
 
 ghost use Rattle.change_laws.specs.Laws.{VerdictIsSound, OldIsUndone, VerdictIsComplete, FaultsAreSo, NothingGiven, TreeOnlyLacks, NotShownIsTrue, MissingIsMissing, NotTreeIsBeyond, TreeOnlyMissing};
-ghost use Rattle.change_laws.specs.Rows.{AreRows, by_last_digit};
+ghost use Rattle.change_laws.specs.Rows.{AreRows};
+ghost use Rattle.spec.specs.TestDigests.{by_last_digit};
 
 /// Changes that are shown are true of the pairs after them, whatever pairs these are: each key has the value that is told, and
 /// the pairs with each change undone are those that the root before names.

@@ -4,7 +4,7 @@ use Rattle.std.specs.Prelude.{ℕ, List, ◌++◌, codes}
 use Rattle.dagcbor.specs.declared.fault.CborFault.{CborFault}
 use Rattle.dagcbor.specs.declared.fault.CborFault.TheVariants as cbor
 
-abbrev cbor_name : CborFault → List ℕ
+abbrev pub cbor_name : CborFault → List ℕ
 cbor_name cbor.Truncated = codes "Truncated"
 cbor_name cbor.LongHead = codes "LongHead"
 cbor_name cbor.Indefinite = codes "Indefinite"

@@ -6,7 +6,8 @@ use Rattle.spec.specs.Cid.{cid}
 use Rattle.spec.specs.Layer.{layer}
 use Rattle.spec.specs.Tree.{Pair, Node, Last, More, Nothing, Sub, top}
 use Rattle.spec.specs.Blocks.{nodes, is_clash_free}
-use Rattle.spec.proofs.rows.Written.{hex, by_last_digit, cid_of_byte}
+use Rattle.spec.proofs.rows.Written.{hex, cid_of_byte}
+use Rattle.spec.specs.TestDigests.{by_last_digit}
 
 abbrev p0 : Pair
 p0 = (codes "a/p0", cid_of_byte 0x11)
