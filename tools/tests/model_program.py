@@ -2,7 +2,7 @@
 
 import sys
 
-from lib import model
+from lib import exports, model
 
 HELP = """\
 Computes and checks repositories.
@@ -70,6 +70,8 @@ def answer(words: list[str], data: bytes) -> model.Ended:
         return model.car(data, named.get("--rev", "2222222222222").encode(), did)
     if words[0] == "prove":
         return model.prove(data, words[1].encode())
+    if words[0] in ("check", "records", "commit"):
+        return exports.answer(words, data)
     if words[0] == "verify":
         return verified(data, words[1], words[2].encode())
     return model.run(int(named["--repos"]), int(named["--workers"]), data, did)

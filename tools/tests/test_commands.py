@@ -3,13 +3,19 @@
 import contextlib
 import io
 import os
+import random
 import shutil
 import subprocess
 import tempfile
 import unittest
 
-from lib.files import ROOT, text_of, write
+from lib.exports import NAMES
+from lib.files import ROOT, bytes_of, text_of, write
+from lib.made_exports import KINDS
 from lib.manuals import faults_of, files_of, helps_of
+from lib.model import Ended
+from lib.programs import Outcome
+from tests.model_program import answer
 from tests.support import command, program, ran
 
 COMMANDS = sorted(it for it in os.listdir(f"{ROOT}/tools") if os.access(f"{ROOT}/tools/{it}", os.X_OK) and os.path.isfile(f"{ROOT}/tools/{it}"))
@@ -91,11 +97,23 @@ class ByModelTest(unittest.TestCase):
         self.program = program(f"{self.room}/model")
 
     def test_compare_runs(self) -> None:
-        said = ran("compare-runs", self.program, "2")
-        self.assertEqual((said.returncode, said.stdout.splitlines()[-1]), (0, "2 rounds, 0 wrong"), said.stdout)
+        said = ran("compare-runs", self.program, "2", "--exports", "2")
+        self.assertEqual((said.returncode, said.stdout.splitlines()[-2:]), (0, ["4 exports: none 2, Commit(BadDid) 2", "2 rounds, 0 wrong"]), said.stdout)
         wrong = program(f"{self.room}/wrong", "#!/bin/sh\nexit 0\n")
-        said = ran("compare-runs", wrong, "1", around={"TMPDIR": self.room})
+        said = ran("compare-runs", wrong, "1", "--exports", "2", around={"TMPDIR": self.room})
         self.assertEqual((said.returncode, said.stdout.splitlines()[-1]), (1, "1 rounds, 1 wrong"))
+
+    def test_exports_of_all_kinds(self) -> None:
+        compared = command("compare-runs")
+        compared.outcome = lambda program, words, given: Outcome(*answer(words, given))  # type: ignore[attr-defined]
+        rounds = compared.Rounds("", len(KINDS))
+        self.assertTrue(rounds.round(random.Random(1)))
+        self.assertEqual({*rounds.reached}, {"none", *NAMES})
+        for found in (answer(["check"], b""), Ended(0, b"", b"")):
+            compared.outcome = lambda program, words, given: Outcome(*found)  # type: ignore[attr-defined]
+            with contextlib.redirect_stdout(io.StringIO()) as said:
+                self.assertFalse(rounds.export(random.Random(1), bytes_of("examples/export.car")))
+            os.remove(said.getvalue().splitlines()[0].rpartition(" < ")[2])
 
     def test_a_fault_may_be_explained(self) -> None:
         is_told = command("compare-runs").is_told

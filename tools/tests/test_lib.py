@@ -10,8 +10,9 @@ import tempfile
 import time
 import unittest
 
-from lib import commands, copies, crates, edits, model, times
+from lib import commands, copies, crates, edits, exports, model, times
 from lib.files import ROOT, bytes_of, text_of, write
+from lib.made_exports import KINDS, made_export
 from lib.made_input import made_puts, made_script
 from lib.progress import Progress, told
 from lib.trees import Faulty, Tree, drawn, shared_by
@@ -118,6 +119,43 @@ class ModelTest(unittest.TestCase):
     def test_made_input_is_the_same_by_its_seed(self) -> None:
         self.assertEqual(made_script(random.Random(3)), made_script(random.Random(3)))
         self.assertNotEqual(made_puts(random.Random(3)), made_puts(random.Random(4)))
+
+
+class ExportsTest(unittest.TestCase):
+    def setUp(self) -> None:
+        self.file = bytes_of("examples/export.car")
+
+    def told(self, file: bytes) -> str:
+        return exports.answer(["check"], file).err.decode().removeprefix("msthost: ").rstrip()
+
+    def test_example(self) -> None:
+        found = exports.export_in(self.file)
+        self.assertEqual((found.did, found.rev, len(found.records)), (b"did:web:example.com", b"3jzfcijpj2z2e", 5))
+        puts = exports.told(["records"], found)
+        self.assertEqual(sorted(puts.splitlines()), sorted(bytes_of("examples/records.txt").splitlines()))
+        self.assertEqual(model.tree(exports.told(["records", "--cids"], found)).out.splitlines()[0].decode(), model.text_of(found.root))
+        signed, signature = exports.told(["commit"], found).decode().split()
+        self.assertIn(exports.commit_bytes(found.did, found.rev, bytes.fromhex(signature), found.root, found.prev), self.file)
+        self.assertEqual(signed[:2], "a5")
+
+    def test_faults_of_the_form(self) -> None:
+        self.assertEqual(self.told(self.file), "")
+        self.assertEqual([self.told(self.file[:at]) for at in (0, 58, 59, 60, 1000)], ["Car(BadHeader)", "Car(BadHeader)", "NoCommit", "Car(BadLength)", "Car(Truncated)"])
+        self.assertEqual(self.told(self.file + b"\0"), "Car(BadCid)")
+        self.assertEqual(self.told(self.file + b"\x80\0"), "Car(BadLength)")
+        self.assertEqual(self.told(self.file[:-1] + b"?"), "Misnamed")
+
+    def test_numbers(self) -> None:
+        for number in (0, 127, 128, 16384, 2**63 - 1):
+            self.assertEqual(exports.number_at(model.varint(number), 0), (number, len(model.varint(number))))
+        for faulty in (b"", b"\x80", b"\x80\0", 9 * b"\xff", model.varint(2**63)):
+            with self.assertRaises(model.Fault):
+                exports.number_at(faulty, 0)
+
+    def test_made_exports_are_the_same_by_their_seed(self) -> None:
+        for number in (0, len(KINDS) - 1, len(KINDS)):
+            self.assertEqual(made_export(random.Random(3), number), made_export(random.Random(3), number))
+        self.assertNotEqual(made_export(random.Random(3), 0), made_export(random.Random(4), 0))
 
 
 class TreesTest(unittest.TestCase):
