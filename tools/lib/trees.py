@@ -1,12 +1,15 @@
 """Trees as `msthost tree` prints them, read and drawn: a column for each key, a row for each layer, a box for each node."""
 
 import binascii
+from collections.abc import Callable
+from typing import NamedTuple
 
 from lib.model import cid_in, cid_of, layer
-from lib.svg import GREY, Picture, width_of
+from lib.svg import GREY, INK, Picture, width_of
 
-# What a node is filled with: one that stays, one that comes, one that goes.
+# What a node is filled with: one that stays, one that comes, one that goes; and one that both of two trees have, with its words.
 STAYS, COMES, GOES = ("#f3f5f7", "#5b6770"), ("#d3f2d9", "#1f7a35"), ("#fde3cf", "#b4560f")
+SHARED, PALE = ("#eceff1", "#c3cad0"), "#8a949c"
 # How large a key's name is, and how wide a tree may be whose names don't stand upright.
 SIZE, WIDEST = 13, 1000
 
@@ -140,17 +143,27 @@ def shared_by(keys: list[bytes]) -> bytes:
     return start
 
 
-class Layout:
-    """Where a tree's keys and nodes stand."""
+class Look(NamedTuple):
+    """How a node is drawn: its ground, its edge, its words."""
 
-    def __init__(self, tree: Tree, names: dict[bytes, str]) -> None:
+    fill: str
+    stroke: str
+    ink: str = INK
+    dashed: bool = False
+
+
+class Layout:
+    """Where a tree's keys and nodes stand, with so many rows free above them."""
+
+    def __init__(self, tree: Tree, names: dict[bytes, str], widest: float = WIDEST, free: int = 0) -> None:
         self.tree, self.names = tree, names
         wide = [max(width_of(names[key], SIZE) + 12, 24) for key, _ in tree.pairs]
         longest = max((width_of(it, SIZE) for it in names.values()), default=0)
-        self.upright = sum(wide) > WIDEST
+        self.upright = sum(wide) > widest
         wide = [18.0] * len(wide) if self.upright else wide
         self.tall = (longest if self.upright else SIZE + 2) + 16
-        self.left, self.top, self.gap = 78.0, 76.0, 34.0
+        self.left, self.gap = 78.0, 34.0
+        self.top = 76.0 + free * (self.tall + self.gap)
         self.edges = [self.left]
         for it in wide:
             self.edges.append(self.edges[-1] + it)
@@ -196,16 +209,19 @@ class Layout:
         return found
 
 
-def drawn(tree: Tree, title: str, beside: Tree | None = None, is_before: bool = False, start: bytes | None = None, marked: tuple[bytes, ...] = ()) -> Picture:
-    """The picture of a tree. Beside another tree the nodes that one of the two lacks are marked, and so are these keys."""
-    keys = [key for key, _ in tree.pairs]
-    start = shared_by(keys) if start is None else start
-    names = {key: key[len(start) :].decode(errors="replace") for key in keys}
-    layout = Layout(tree, names)
-    picture = Picture(layout.right + 14, layout.bottom + 12, title)
-    keys_in = f"{len(keys)} key{'s' * (len(keys) != 1)} in {len(tree.nodes)} node{'s' * (len(tree.nodes) != 1)}"
-    shown = f"{keys_in}; the root's CID ends in {tree.names[tree.root][-6:]}"
-    picture.heads(shown, *([f"Each key begins with {start.decode(errors='replace')}, which is left out here."] if start else []))
+def counted(count: int, word: str) -> str:
+    return f"{count} {word}{'s' * (count != 1)}"
+
+
+def heads_of(tree: Tree, start: bytes) -> list[str]:
+    """What stands above a tree: how large it is, and what all of its keys begin with."""
+    shown = f"{counted(len(tree.pairs), 'key')} in {counted(len(tree.nodes), 'node')}; the root's CID ends in {tree.names[tree.root][-6:]}"
+    return [shown, *([f"Each key begins with {start.decode(errors='replace')}, which is left out here."] if start else [])]
+
+
+def drawn_at(layout: Layout, picture: Picture, marked: tuple[bytes, ...], look: Callable[[Node], Look]) -> None:
+    """Draws the nodes of a tree, each with its look, below their links; these keys are bold."""
+    tree = layout.tree
     for depth, row in enumerate(tree.rows):
         picture.text(12, layout.height_of(depth) + layout.tall / 2 + 4, f"layer {tree.top - depth}", 12, GREY, "start")
         for node in row:
@@ -213,16 +229,34 @@ def drawn(tree: Tree, title: str, beside: Tree | None = None, is_before: bool = 
                 picture.curve(*ends)
     for node in (node for row in tree.rows for node in row):
         x, y, wide = layout.boxes[id(node)]
-        other = beside is not None and node.cid not in beside.nodes
-        fill, stroke = STAYS if not other else GOES if is_before else COMES
-        picture.box(x, y, wide, layout.tall, fill, stroke, dashed=other and is_before)
+        fill, stroke, ink, dashed = look(node)
+        picture.box(x, y, wide, layout.tall, fill, stroke, dashed)
         for key in node.keys:
             at = tree.columns[key]
             middle, bold = (layout.edges[at] + layout.edges[at + 1]) / 2, key in marked
             if layout.upright:
-                picture.text(middle + 4, y + layout.tall - 8, names[key], SIZE, anchor="start", bold=bold, upright=True)
+                picture.text(middle + 4, y + layout.tall - 8, layout.names[key], SIZE, ink, anchor="start", bold=bold, upright=True)
             else:
-                picture.text(middle, y + layout.tall / 2 + 4, names[key], SIZE, bold=bold)
+                picture.text(middle, y + layout.tall / 2 + 4, layout.names[key], SIZE, ink, bold=bold)
+
+
+def names_of(tree: Tree, start: bytes) -> dict[bytes, str]:
+    return {key: key[len(start) :].decode(errors="replace") for key, _ in tree.pairs}
+
+
+def drawn(tree: Tree, title: str, beside: Tree | None = None, is_before: bool = False, start: bytes | None = None, marked: tuple[bytes, ...] = ()) -> Picture:
+    """The picture of a tree. Beside another tree the nodes that one of the two lacks are marked, and so are these keys."""
+    start = shared_by([key for key, _ in tree.pairs]) if start is None else start
+    layout = Layout(tree, names_of(tree, start))
+    picture = Picture(layout.right + 14, layout.bottom + 12, title)
+    picture.heads(*heads_of(tree, start))
+
+    def look(node: Node) -> Look:
+        if beside is None or node.cid in beside.nodes:
+            return Look(*STAYS)
+        return Look(*(GOES if is_before else COMES), dashed=is_before)
+
+    drawn_at(layout, picture, marked, look)
     return picture
 
 
@@ -240,10 +274,15 @@ def with_caption(picture: Picture, bits: int = 2) -> Picture:
     return picture
 
 
+def lacking(one: Tree, other: Tree) -> int:
+    """How many nodes of one tree the other lacks."""
+    return sum(cid not in other.nodes for cid in one.nodes)
+
+
 def before_and_after(before: Tree, after: Tree, title: str, marked: tuple[bytes, ...]) -> Picture:
     """Two trees, one above the other, with the nodes that go and those that come."""
     start = shared_by([key for key, _ in [*before.pairs, *after.pairs]])
-    gone, come = (sum(cid not in other.nodes for cid in one.nodes) for one, other in ((before, after), (after, before)))
+    gone, come = lacking(before, after), lacking(after, before)
     above = drawn(before, f"{title}: before", after, True, start, marked)
     below = drawn(after, f"{title}: after", before, False, start, marked)
     whole = Picture(max(above.width, below.width), above.height + below.height + 46, title)
@@ -255,4 +294,30 @@ def before_and_after(before: Tree, after: Tree, title: str, marked: tuple[bytes,
         x = 14 + 200 * at
         whole.box(x, y, 22, 13, fill, stroke, dashed, 3)
         whole.text(x + 30, y + 11, words, 12, GREY, "start")
+    return whole
+
+
+def side_by_side(old: Tree, new: Tree, title: str) -> Picture:
+    """Two trees, one beside the other by their layers, with what they share in grey; the keys that differ are bold."""
+    start = shared_by([key for key, _ in [*old.pairs, *new.pairs]])
+    marked = tuple(key for key, _ in {*old.pairs} ^ {*new.pairs})
+    gone, come = lacking(old, new), lacking(new, old)
+    whole = Picture(0, 0, title)
+    left = 0.0
+    for tree, other, colours in ((old, new, GOES), (new, old, COMES)):
+        layout = Layout(tree, names_of(tree, start), WIDEST / 2, max(other.top - tree.top, 0))
+        part = Picture(layout.right + 14, layout.bottom + 12, "Old" if tree is old else "New")
+        part.heads(heads_of(tree, b"")[0])
+        drawn_at(layout, part, marked, lambda node: Look(*SHARED, PALE) if node.cid in other.nodes else Look(*colours, dashed=tree is old))  # noqa: B023
+        whole.put(part, left, 42)
+        left += part.width + 20
+        whole.width, whole.height = left, max(whole.height, part.height + 42)
+    whole.heads(*heads_of(new, start)[1:])
+    legend = ((GOES, f"{counted(gone, 'node')} of the old tree alone", True), (COMES, f"{counted(come, 'node')} of the new tree alone", False), (SHARED, f"{counted(len(old.nodes) - gone, 'node')} of both, not read", False))
+    x, y = 14.0, whole.height + 10
+    for (fill, stroke), words, dashed in legend:
+        whole.box(x, y, 22, 13, fill, stroke, dashed, 3)
+        whole.text(x + 30, y + 11, words, 12, GREY, "start")
+        x += 60 + width_of(words, 12)
+    whole.width, whole.height = max(whole.width, x), y + 24
     return whole

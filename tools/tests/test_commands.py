@@ -13,7 +13,7 @@ from lib.exports import NAMES
 from lib.files import ROOT, bytes_of, text_of, write
 from lib.made_exports import KINDS
 from lib.manuals import faults_of, files_of, helps_of
-from lib.model import Ended
+from lib.model import Ended, tree
 from lib.programs import Outcome
 from tests.model_program import answer
 from tests.support import command, program, ran
@@ -86,6 +86,19 @@ class DrawTreeTest(unittest.TestCase):
         said = ran("draw-tree", "examples/script.txt", given=self.tree)
         self.assertRegex(said.stderr, r"\Atools/draw-tree: line 1 of the listing [^\n]+\n\Z")
 
+    def test_two(self) -> None:
+        with tempfile.TemporaryDirectory() as room:
+            shorter = "".join(text_of("examples/small.txt").splitlines(keepends=True)[1:])
+            write(f"{room}/new", shorter)
+            new = tree(shorter.encode()).out.decode()
+            said = ran("draw-tree", "examples/small.txt", f"{room}/new", given=self.tree + new)
+            self.assertEqual((said.returncode, said.stderr), (0, ""))
+            self.assertIn("The trees of small.txt and new", said.stdout)
+            for given in (self.tree, new + self.tree, self.tree + new + new, self.tree + self.tree):
+                said = ran("draw-tree", "examples/small.txt", f"{room}/new", given=given)
+                self.assertEqual((said.returncode, said.stdout), (1, ""))
+                self.assertRegex(said.stderr, r"\Atools/draw-tree: [^\n]+\n\Z")
+
 
 class ByModelTest(unittest.TestCase):
     """What runs msthost, over a program that answers as the model does."""
@@ -126,7 +139,7 @@ class ByModelTest(unittest.TestCase):
 
     def test_pictures(self) -> None:
         said = ran("draw-pictures", "--compare", self.program)
-        self.assertEqual((said.returncode, said.stdout), (0, "4 pictures, 0 otherwise\n"), said.stderr)
+        self.assertEqual((said.returncode, said.stdout), (0, "5 pictures, 0 otherwise\n"), said.stderr)
 
     def test_completions(self) -> None:
         installing = command("install")

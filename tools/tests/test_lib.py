@@ -15,7 +15,7 @@ from lib.files import ROOT, bytes_of, text_of, write
 from lib.made_exports import KINDS, made_export
 from lib.made_input import made_puts, made_script
 from lib.progress import Progress, told
-from lib.trees import Faulty, Tree, drawn, shared_by
+from lib.trees import SHARED, Faulty, Tree, drawn, shared_by, side_by_side
 
 TXT = """\
 # a comment
@@ -178,6 +178,22 @@ class TreesTest(unittest.TestCase):
                 Tree(text)
         with self.assertRaises(Faulty):
             Tree(self.text, bits=1)
+
+    def test_side_by_side(self) -> None:
+        lines = bytes_of("examples/small.txt").splitlines(keepends=True)
+        tree, empty = Tree(self.text), Tree(model.tree(b"").out.decode())
+        other = Tree(model.tree(b"".join(lines[:-1])).out.decode())
+        shared = {*tree.nodes} & {*other.nodes}
+        self.assertGreater(len(shared), 3)
+        text = side_by_side(tree, other, "Two").svg()
+        told = (f"{len(tree.nodes) - len(shared)} nodes of the old tree alone", f"{len(other.nodes) - len(shared)} nodes of the new tree alone", f"{len(shared)} nodes of both")
+        self.assertTrue(all(it in text for it in told), told)
+        # Three boxes of what the colours are; a shared node's is drawn in both trees.
+        self.assertEqual(text.count(f'fill="{SHARED[0]}"'), 2 * len(shared) + 1)
+        self.assertEqual(text.count("font-weight"), 4)
+        self.assertIn("10 nodes of both", side_by_side(tree, tree, "Same").svg())
+        for one, two in ((tree, empty), (empty, tree)):
+            self.assertIn("0 nodes of both", side_by_side(one, two, "All").svg())
 
     def test_no_keys_and_many(self) -> None:
         self.assertIn("0 keys in 1 node", drawn(Tree(model.tree(b"").out.decode()), "Empty").svg())
