@@ -8,8 +8,8 @@ from collections.abc import Callable
 from random import Random
 
 from lib.exports import commit_bytes
-from lib.made_input import made_keys, made_map, made_rev
-from lib.model import car_of, cid_of, data_of, head, layer, link, text, varint
+from lib.made_input import made_keys, made_map, made_rev, usual_keys, usual_record
+from lib.model import Tree, car_of, cid_of, data_of, head, layer, link, text, varint
 
 Spelled = Callable[[bytes], bytes]
 
@@ -456,3 +456,11 @@ def made_export(pick: Random, number: int) -> bytes:
     for change in (it for it in OF_PIECES if it in kinds and len(pieces) > 1):
         change(pick, pieces)
     return b"".join(pieces)
+
+
+def usual_export(pick: Random, count: int) -> bytes:
+    """The export of a repository of so many usual records."""
+    records = {cid_of(it): it for it in (usual_record(pick) for _ in range(count))}
+    tree = Tree(dict(zip(usual_keys(pick, count), records)), records)
+    commit = commit_bytes(b"did:plc:usual", 13 * b"3", pick.randbytes(64), tree.root, None)
+    return car_of(cid_of(commit), [commit, *tree.order])

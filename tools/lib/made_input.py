@@ -2,7 +2,7 @@
 
 from random import Random
 
-from lib.model import cid_of, data_of, head, link, text
+from lib.model import cid_of, data_of, head, link, text, text_of
 
 LETTERS = "234567abcdefghijklmnopqrstuvwxyz"
 
@@ -106,3 +106,35 @@ def made_puts(pick: Random) -> tuple[list[bytes], bytes]:
     if lines and pick.random() < 0.1:
         lines[pick.randrange(len(lines))] = pick.choice([b"a/b", b"a/b  a0", b"a/b a0 ", b"a/b a", b"a/b zz", b""])
     return keys, b"\n".join(lines) + (b"\n" if pick.random() < 0.8 else b"")
+
+
+# The collections of an account, each as often as its weight of 100.
+COLLECTIONS = [*50 * ["app.bsky.feed.like"], *25 * ["app.bsky.feed.post"], *10 * ["app.bsky.feed.repost"], *13 * ["app.bsky.graph.follow"], *2 * ["app.bsky.graph.block"]]
+
+
+def usual_keys(pick: Random, count: int) -> list[bytes]:
+    """Keys as an account has them, with times in ascending steps."""
+    return [pick.choice(COLLECTIONS).encode() + b"/" + made_rev((1 << 55) + (at << 22) + pick.getrandbits(20)) for at in range(count)]
+
+
+def usual_record(pick: Random) -> bytes:
+    """A post of 288 bytes."""
+    words = "".join(pick.choices(LETTERS, k=209)).encode()
+    return b"\xa4" + text(b"text") + text(words) + text(b"$type") + text(b"app.bsky.feed.post") + text(b"langs") + b"\x81\x62en" + text(b"createdAt") + text(b"2023-11-14T22:13:20.000Z")
+
+
+def two_listings(pick: Random, count: int, changes: int) -> bytes:
+    """Two listings of so many keys with an empty line between them, which differ in so many keys: a third each come, have another
+    CID, and go. With no fewer changes than keys each has another CID."""
+    keys = usual_keys(pick, count if changes >= count else count + (changes + 2) // 3)
+    old = {key: cid_of(key) for key in keys}
+    new = dict(old)
+    for at, key in enumerate(keys if changes >= count else pick.sample(keys, changes)):
+        turn = 1 if changes >= count else at % 3
+        if turn == 0:
+            del old[key]
+        elif turn == 1:
+            new[key] = cid_of(new[key])
+        else:
+            del new[key]
+    return b"\n".join(b"".join(key + b" " + text_of(it[key]).encode() + b"\n" for key in pick.sample(sorted(it), len(it))) for it in (old, new))

@@ -124,14 +124,14 @@ def varint(number: int) -> bytes:
 
 def car_of(root: bytes, blocks: list[bytes]) -> bytes:
     header = b"\xa2" + text(b"roots") + b"\x81" + link(root) + text(b"version") + b"\x01"
-    out = varint(len(header)) + header
+    out = [varint(len(header)) + header]
     seen: set[bytes] = set()
     for block in blocks:
         cid = cid_of(block)
         if cid not in seen:
             seen.add(cid)
-            out += varint(36 + len(block)) + cid + block
-    return out
+            out.append(varint(36 + len(block)) + cid + block)
+    return b"".join(out)
 
 
 # What is read, and which fault is the first.

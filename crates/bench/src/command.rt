@@ -16,6 +16,9 @@ pub enum Command {
     Build {
         rounds: u32,
     },
+    Difference {
+        rounds: u32,
+    },
     Get {
         count: u32,
         rounds: u32,
@@ -81,6 +84,7 @@ fn of_one(name: &str, rounds: u32) -> Option<Command> {
     match name {
         "read" => Some(Command::Read { rounds }),
         "build" => Some(Command::Build { rounds }),
+        "difference" => Some(Command::Difference { rounds }),
         _ => None,
     }
 }

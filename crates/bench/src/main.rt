@@ -3,6 +3,7 @@
 
 mod blocks;
 mod command;
+mod differences;
 mod edits;
 mod exports;
 mod hosts;
@@ -39,6 +40,9 @@ usage: bench store COUNT ROUNDS
          reads each of three records of about 300 bytes ROUNDS times
        bench build ROUNDS < LISTING
          reads lines of key and CID, sorts them, and builds their tree ROUNDS times
+       bench difference ROUNDS < LISTINGS
+         reads two listings of lines of key and CID with an empty line between them, builds both trees, and compares these
+         ROUNDS times
        bench get COUNT ROUNDS
          makes a tree of COUNT keys, at most 1,000,000, and looks 10,000 of them up ROUNDS times
        bench edit COUNT ROUNDS
@@ -69,6 +73,7 @@ fn main(rt: HostRuntime) -> io::Result<()> {
         Some(Command::Store { count, rounds }) => print_store(&rt, count, rounds),
         Some(Command::Read { rounds }) => print_read(&rt, rounds),
         Some(Command::Build { rounds }) => print_build(&rt, rounds),
+        Some(Command::Difference { rounds }) => print_difference(&rt, rounds),
         Some(Command::Get { count, rounds }) => print_get(&rt, count, rounds),
         Some(Command::Edit { count, rounds }) => print_edit(&rt, count, rounds),
         Some(
@@ -146,6 +151,20 @@ fn print_build(rt: &HostRuntime, rounds: u32) -> io::Result<()> {
             built.least / 1000
         ),
         None => println!(rt; "the tree can't be built"),
+    }
+}
+
+/// Prints what the trees of the two listings on standard input differ by, and how long comparing them took at the least.
+fn print_difference(rt: &HostRuntime, rounds: u32) -> io::Result<()> {
+    let alloc = rt.alloc();
+    let listings = io::read_to_string(alloc, rt.stdin())?;
+    let (old, new) = trees::two(alloc, listings.as_bytes())?;
+    match differences::measure(rt, alloc, &old, &new, rounds) {
+        Some(compared) => println!(rt;
+            "{} changes, {} nodes come, {} go, {} reads, {} ns at the least",
+            compared.changes, compared.come, compared.go, compared.reads, compared.least
+        ),
+        None => println!(rt; "refused"),
     }
 }
 

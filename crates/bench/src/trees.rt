@@ -21,6 +21,20 @@ pub fn pairs(alloc: Global, listing: &[u8]) -> Result<Vec<(Vec<u8>, Cid)>, Alloc
     Ok(pairs)
 }
 
+/// The pairs of two listings with an empty line between them.
+pub fn two(
+    alloc: Global,
+    listings: &[u8],
+) -> Result<(Vec<(Vec<u8>, Cid)>, Vec<(Vec<u8>, Cid)>), AllocError> {
+    match listings.find(b"\n\n") {
+        Some(end) => Ok((
+            pairs(alloc, &listings[..end])?,
+            pairs(alloc, &listings[end..])?,
+        )),
+        None => Ok((pairs(alloc, listings)?, Vec::new(alloc))),
+    }
+}
+
 /// Adds a pair of a copy of this key.
 pub fn push_pair(
     alloc: Global,

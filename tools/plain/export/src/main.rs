@@ -1,6 +1,7 @@
 //! What `msthost check`, `records` and `records --cids` do, over Rust's library: a file is read, each block is hashed, the tree
 //! is listed and built anew, and each record is tested.
 
+mod build;
 mod car;
 mod cbor;
 mod cid;
