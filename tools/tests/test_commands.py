@@ -22,6 +22,7 @@ COMMANDS = sorted(it for it in os.listdir(f"{ROOT}/tools") if os.access(f"{ROOT}
 IN_PYTHON = [it for it in COMMANDS if text_of(f"tools/{it}").startswith("#!/usr/bin/env python3")]
 # What each is given that it can't do anything with.
 FAULTY: dict[str, list[str]] = {
+    "baseline": ["exports", "--program", "nosuch"],
     "build": ["nosuch"],
     "compare-runs": ["nosuch"],
     "draw-pictures": ["nosuch"],

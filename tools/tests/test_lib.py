@@ -12,8 +12,8 @@ import unittest
 
 from lib import commands, copies, crates, edits, exports, model, times
 from lib.files import ROOT, bytes_of, text_of, write
-from lib.made_exports import KINDS, made_export
-from lib.made_input import made_puts, made_script
+from lib.made_exports import KINDS, made_export, usual_export
+from lib.made_input import made_puts, made_script, two_listings
 from lib.progress import Progress, told
 from lib.trees import SHARED, Faulty, Tree, drawn, shared_by, side_by_side
 
@@ -151,6 +151,18 @@ class ExportsTest(unittest.TestCase):
         for faulty in (b"", b"\x80", b"\x80\0", 9 * b"\xff", model.varint(2**63)):
             with self.assertRaises(model.Fault):
                 exports.number_at(faulty, 0)
+
+    def test_usual_exports(self) -> None:
+        found = exports.export_in(usual_export(random.Random(1), 50))
+        self.assertEqual([len(record) for _, _, record in found.records], 50 * [288])
+        self.assertEqual(len({key for key, _, _ in found.records}), 50)
+
+    def test_two_listings(self) -> None:
+        for keys, changes in ((1, 1), (40, 7), (40, 40), (3, 9), (5, 0)):
+            parts = two_listings(random.Random(1), keys, changes).split(b"\n\n")
+            old, new = (dict(line.rsplit(b" ", 1) for line in part.split(b"\n") if line) for part in parts)
+            self.assertEqual(len(old), keys)
+            self.assertEqual(sum(old.get(key) != new.get(key) for key in {*old, *new}), min(keys, changes))
 
     def test_made_exports_are_the_same_by_their_seed(self) -> None:
         for number in (0, len(KINDS) - 1, len(KINDS)):
