@@ -313,7 +313,8 @@ def side_by_side(old: Tree, new: Tree, title: str) -> Picture:
         left += part.width + 20
         whole.width, whole.height = left, max(whole.height, part.height + 42)
     whole.heads(*heads_of(new, start)[1:])
-    legend = ((GOES, f"{counted(gone, 'node')} of the old tree alone", True), (COMES, f"{counted(come, 'node')} of the new tree alone", False), (SHARED, f"{counted(len(old.nodes) - gone, 'node')} of both, not read", False))
+    ours, theirs, both = (counted(it, "node") for it in (gone, come, len(old.nodes) - gone))
+    legend = ((GOES, f"{ours} of the old tree alone", True), (COMES, f"{theirs} of the new tree alone", False), (SHARED, f"{both} of both, not read", False))
     x, y = 14.0, whole.height + 10
     for (fill, stroke), words, dashed in legend:
         whole.box(x, y, 22, 13, fill, stroke, dashed, 3)
