@@ -1,6 +1,6 @@
 //! A mirror that checks a change, as docs/AUDIT.md shows it.
 
-use change_proofs::{KeyChange, are_key_changes, prove_change, verify_blocks};
+use change_proofs::{KeyChange, are_key_changes, prove_inversion, verify_inversion_blocks};
 use cid::{Cid, Sha256};
 use repo::Core;
 use repo_fixtures::batch::{ONE, Step};
@@ -39,16 +39,16 @@ fn a_mirror_checks_a_change(rt: HostRuntime) -> Result<(), Fail> {
     assert!(rt; are_key_changes(&changes));
 
     // The host gives the nodes of its tree that undoing these changes reads.
-    let proof = prove_change(alloc, &core, &changes).expect(&rt, "a proof");
+    let proof = prove_inversion(alloc, &core, &changes).expect(&rt, "a proof");
     end(&mut shard, core);
 
     // The mirror undoes each change on them, and the root before comes out.
-    verify_blocks::<Sha256, 2, _>(alloc, before, after, &proof, &changes)?;
+    verify_inversion_blocks::<Sha256, 2, _>(alloc, before, after, &proof, &changes)?;
 
     // That a change was left out is seen.
     let fewer = &changes[..1];
     assert!(rt; are_key_changes(fewer));
-    let shown = verify_blocks::<Sha256, 2, _>(alloc, before, after, &proof, fewer);
+    let shown = verify_inversion_blocks::<Sha256, 2, _>(alloc, before, after, &proof, fewer);
     assert!(rt; shown.is_err());
     Ok(())
 }

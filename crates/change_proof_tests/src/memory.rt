@@ -1,7 +1,7 @@
 //! A proof of a change where memory is refused.
 
 use crate::fixtures::{Side, changes, tree_of};
-use change_proofs::{ChangeFault, KeyChange, are_key_changes, verify_change};
+use change_proofs::{ChangeFault, KeyChange, are_key_changes, verify_inversion};
 use cid::Cid;
 use cid::digests::Toy;
 use refusing::Refusing;
@@ -24,7 +24,7 @@ fn is_shown_without<'h>(
         return None;
     }
     heap.refuse(request);
-    let answer = verify_change::<Toy, 2, Heap<'h>, Vec<u8>>(heap, before, after, blocks, changes);
+    let answer = verify_inversion::<Toy, 2, Heap<'h>, Vec<u8>>(heap, before, after, blocks, changes);
     let is_shown = match answer {
         Ok(()) => true,
         Err(ChangeFault::NoMemory) => false,

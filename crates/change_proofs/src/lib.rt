@@ -1,14 +1,14 @@
 //! What some blocks show of a change between two roots.
 //!
 //! Who knows a repository's root before a batch and its root after it, and is told which keys changed and how, need neither
-//! believe it nor fetch the repository. [`verify_change`] undoes the changes on the nodes of the tree after them, as far as
+//! believe it nor fetch the repository. [`verify_inversion`] undoes the changes on the nodes of the tree after them, as far as
 //! these are given, and sees whether the root before comes out. Nothing of the host that gave the blocks is trusted, but that
 //! it found no other bytes with the CID of a node of the tree after.
 //!
 //! ```text
 //! let changes = [KeyChange { key, before: None, after: Some(cid) }];
 //! if are_key_changes(&changes) {
-//!     verify_change::<Sha256, 2, _, _>(alloc, before, after, &blocks, &changes)?;
+//!     verify_inversion::<Sha256, 2, _, _>(alloc, before, after, &blocks, &changes)?;
 //! }
 //! ```
 //!
@@ -20,13 +20,13 @@
 mod change_fault;
 mod given_blocks;
 mod key_changes;
-mod proving;
 mod proving_fault;
+mod proving_inversions;
 mod values;
-mod verifying;
+mod verifying_inversions;
 
 pub use change_fault::ChangeFault;
 pub use key_changes::{KeyChange, are_key_changes};
-pub use proving::{prove_change, prove_change_over};
 pub use proving_fault::ProvingFault;
-pub use verifying::{verify_blocks, verify_change};
+pub use proving_inversions::{prove_inversion, prove_inversion_over};
+pub use verifying_inversions::{verify_inversion, verify_inversion_blocks};

@@ -15,7 +15,7 @@ use crate::edits::changes_of;
 use crate::proving::spell_blocks;
 use buffers::{DONE, cid_in, hand, slices};
 use change_proofs::{
-    ChangeFault, KeyChange, ProvingFault, are_key_changes, prove_change, verify_change,
+    ChangeFault, KeyChange, ProvingFault, are_key_changes, prove_inversion, verify_inversion,
 };
 use cid::{Cid, Sha256};
 use edit::Change;
@@ -94,7 +94,7 @@ fn verify_over(
     ensures missing { ¬ (result ≡ 2) → ¬ (result ≡ 30) → missing.new ≡ missing.old }
     ensures place { ¬ (result ≡ 33) → place.new ≡ place.old }
 {
-    let answer = verify_change::<Sha256, 2, _, _>(alloc, before, after, nodes, changes);
+    let answer = verify_inversion::<Sha256, 2, _, _>(alloc, before, after, nodes, changes);
     tell_verdict(&answer, missing, place)
 }
 
@@ -296,7 +296,7 @@ fn proven_bytes(
     ensures proof { IfOk result (λ bytes. IsSpelt repo.now.state changes.now bytes.items) }
     ensures fault { IfErr result (IsUntrue sha256 repo.now.state changes.now) }
 {
-    let nodes = prove_change(alloc, repo.core(), changes)?;
+    let nodes = prove_inversion(alloc, repo.core(), changes)?;
     match spell_blocks(alloc, &nodes) {
         Ok(bytes) => Ok(bytes),
         Err(_) => Err(ProvingFault::NoMemory),

@@ -7,7 +7,7 @@ use Rattle.repo.specs.Readings.{bytes_lent}
 use Rattle.edit.proofs.OnTree.{are-keyed}
 use Rattle.change_laws.specs.Told.{undone}
 use Rattle.change_proofs.proofs.ReadNodes.{nodes-show, told-fault}
-use Rattle.change_proofs.proofs.proving.prove_change.Goals as goal
+use Rattle.change_proofs.proofs.proving_inversions.prove_inversion.Goals as goal
 
 pub returns-in-Ok-clause-proof : goal.returns-in-Ok-clause-proof
 returns-in-Ok-clause-proof g c =

@@ -5,7 +5,7 @@ use Rattle.edit.specs.Batches.{answer_of, most_of}
 use Rattle.edit.specs.Previews.{IsPreview, IsPreviewOf, IsPreviewReason}
 use Rattle.change_proofs.specs.Provings.{AreNodes, AreNodesOver, IsFaultOf, IsLackOver}
 use Rattle.change_proofs.proofs.ReadNodes.{ok-with, err-with, tree-nodes, tree-other, tree-want, over-nodes, over-other, over-lack}
-use Rattle.change_proofs.proofs.proving.prove_change_over.Goals as goal
+use Rattle.change_proofs.proofs.proving_inversions.prove_inversion_over.Goals as goal
 
 pub returns-in_err-found-clause-fault : goal.returns-in_err-found-clause-fault
 returns-in_err-found-clause-fault g c es h =

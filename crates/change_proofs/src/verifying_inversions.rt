@@ -27,7 +27,7 @@ use std::sync::Arc;
 /// `ChangeFault::BadNode`, `ChangeFault::TooDeep` and `ChangeFault::NotTree` don't come.
 ///
 /// [`are_key_changes`](crate::are_key_changes) is the test of what it takes.
-pub fn verify_change<D: Digest, const B: u8, A: Allocator + Clone, K: AsSlice<u8>>(
+pub fn verify_inversion<D: Digest, const B: u8, A: Allocator + Clone, K: AsSlice<u8>>(
     alloc: A,
     before: Cid,
     after: Cid,
@@ -54,11 +54,11 @@ pub fn verify_change<D: Digest, const B: u8, A: Allocator + Clone, K: AsSlice<u8
         changes.now result }
 {
     let own = blocks_of::<D, A, K>(alloc.clone()?, blocks)?;
-    verify_blocks::<D, B, A>(alloc, before, after, &own, changes)
+    verify_inversion_blocks::<D, B, A>(alloc, before, after, &own, changes)
 }
 
 /// The same over blocks whose CIDs are known.
-pub fn verify_blocks<D: Digest, const B: u8, A: Allocator + Clone>(
+pub fn verify_inversion_blocks<D: Digest, const B: u8, A: Allocator + Clone>(
     alloc: A,
     before: Cid,
     after: Cid,

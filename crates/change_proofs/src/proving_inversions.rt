@@ -26,12 +26,12 @@ use std::sync::Arc;
 /// each once, in the order in which they are read. It shares the blocks with the repository.
 ///
 /// Who has these nodes, in any order and among others, and both roots gets `Ok` from
-/// [`verify_change`](crate::verify_change), where each key had before the changes what is told; of that this tree knows
+/// [`verify_inversion`](crate::verify_inversion), where each key had before the changes what is told; of that this tree knows
 /// nothing. That each key has now what is told after its change is looked at: else `ProvingFault::OtherValue` has the place
 /// of the first that hasn't. `ProvingFault::NoMemory` comes where memory was refused.
 ///
 /// [`are_key_changes`](crate::are_key_changes) is the test of what it takes.
-pub fn prove_change<D: Digest, const B: u8, A: Allocator + Clone>(
+pub fn prove_inversion<D: Digest, const B: u8, A: Allocator + Clone>(
     alloc: A,
     core: &Core<D, B, A>,
     changes: &[KeyChange<'_>],
@@ -46,7 +46,7 @@ pub fn prove_change<D: Digest, const B: u8, A: Allocator + Clone>(
 {
     let root = core.root();
     let mut lender = core.lender();
-    match prove_change_over::<D, B, A, Lender<'_, D, A>>(alloc, &mut lender, root, changes) {
+    match prove_inversion_over::<D, B, A, Lender<'_, D, A>>(alloc, &mut lender, root, changes) {
         Ok(nodes) => Ok(nodes),
         Err(fault) => Err(told(fault)),
     }
@@ -58,7 +58,7 @@ pub fn prove_change<D: Digest, const B: u8, A: Allocator + Clone>(
 /// `ChangeFault::BlockMissing` has the CID of a node that is needed and not there, so that who has it elsewhere can add it
 /// and call again; `ChangeFault::BadNode`, with a CID, `ChangeFault::TooDeep` and `ChangeFault::NotTree` come where the source
 /// gives what is no tree. The source stays as it is.
-pub fn prove_change_over<
+pub fn prove_inversion_over<
     'a,
     D: Digest + 'a,
     const B: u8,
