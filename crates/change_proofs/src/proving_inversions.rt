@@ -1,4 +1,4 @@
-//! The nodes that show some changes.
+//! The nodes that show some changes, which are undone.
 
 ghost use Rattle.std.specs.Prelude.{◌≡◌, ◌≤◌, true, map, Ok, IfOk, IfErr, OnOk};
 ghost use Rattle.std.specs.Arc.{arc_value};
@@ -22,8 +22,12 @@ use std::alloc::Allocator;
 use std::clone::Clone;
 use std::sync::Arc;
 
-/// The proof of some changes that led to the repository's tree as it is now: the nodes of the tree that undoing them reads,
-/// each once, in the order in which they are read. It shares the blocks with the repository.
+/// The nodes of the repository's tree as it is now that undoing some changes reads, which led to it. They show the changes only to
+/// who knows that the root after is that of some pairs: of a root that no pairs have
+/// [`verify_inversion`](crate::verify_inversion) says nothing. For who goes on from root to root
+/// [`prove_change`](crate::prove_change) gives the nodes of the tree before.
+///
+/// They come each once, in the order in which they are read, and are shared with the repository.
 ///
 /// Who has these nodes, in any order and among others, and both roots gets `Ok` from
 /// [`verify_inversion`](crate::verify_inversion), where each key had before the changes what is told; of that this tree knows

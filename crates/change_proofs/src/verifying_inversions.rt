@@ -1,4 +1,4 @@
-//! Whether given blocks show some changes.
+//! Whether given blocks show some changes, which are undone.
 
 ghost use Rattle.std.specs.Prelude.{◌≡◌, ◌≤◌, true, map, None};
 ghost use Rattle.std.specs.Arc.{arc_value};
@@ -19,12 +19,14 @@ use std::clone::Clone;
 use std::convert::AsSlice;
 use std::sync::Arc;
 
-/// Whether the tree with the root `before` became that with the root `after` by these changes, as some nodes of the tree
-/// after show.
+/// Whether these changes undone lead from the root `after` back to the root `before`, as some nodes of the tree after show. An
+/// `Ok` speaks only of whatever pairs have the root after; of a root that no pairs have it says nothing, and one can be made up
+/// that hides keys. Who goes on from root to root takes [`verify_change`](crate::verify_change).
 ///
-/// The answer is the verdict of `change_laws`, whatever blocks are given; `ChangeFault::NoMemory` alone, where memory was
+/// It is the operation inversion of the event stream. The answer is the verdict of `change_laws`, whatever blocks are given; `ChangeFault::NoMemory` alone, where memory was
 /// refused, says nothing of them. Where they are all or some of a tree's, with the CID of none of its nodes on other bytes,
-/// `ChangeFault::BadNode`, `ChangeFault::TooDeep` and `ChangeFault::NotTree` don't come.
+/// `ChangeFault::BadNode`, `ChangeFault::TooDeep` and `ChangeFault::NotTree` don't come, and `ChangeFault::BlockMissing` has the
+/// CID of a node of it.
 ///
 /// [`are_key_changes`](crate::are_key_changes) is the test of what it takes.
 pub fn verify_inversion<D: Digest, const B: u8, A: Allocator + Clone, K: AsSlice<u8>>(
