@@ -1,7 +1,9 @@
 //! A change of twenty keys, and the trees before and after it.
 
 use block::Block;
-use change_proofs::{ChangeFault, KeyChange, are_key_changes, prove_inversion_over, verify_inversion_blocks};
+use change_proofs::{
+    ChangeFault, KeyChange, are_key_changes, prove_inversion_over, verify_inversion_blocks,
+};
 use cid::Cid;
 use cid::digests::Toy;
 use lookups::BlockMap;

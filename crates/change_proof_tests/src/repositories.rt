@@ -4,7 +4,9 @@ use crate::fixtures::Both;
 use crate::random::{Sides, both_of, is_proof, sides_of};
 use crate::refusals::{Part, with_altered};
 use block::Block;
-use change_proofs::{KeyChange, ProvingFault, are_key_changes, prove_inversion, verify_inversion_blocks};
+use change_proofs::{
+    KeyChange, ProvingFault, are_key_changes, prove_inversion, verify_inversion_blocks,
+};
 use cid::Cid;
 use cid::digests::Toy;
 use refusing::Refusing;

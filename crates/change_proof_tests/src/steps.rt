@@ -38,13 +38,7 @@ fn told_by_bytes(
     if !are_key_changes(changes) {
         return Err(ChangeFault::NoMemory);
     }
-    verify_change::<Toy, 2, _, Vec<u8>>(
-        alloc,
-        both.before.root,
-        both.after.root,
-        blocks,
-        changes,
-    )
+    verify_change::<Toy, 2, _, Vec<u8>>(alloc, both.before.root, both.after.root, blocks, changes)
 }
 
 /// The batch that these changes are.

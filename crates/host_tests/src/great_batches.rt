@@ -220,7 +220,9 @@ fn proves_all<R: Wait>(
     }
     let before = Cid::of::<Toy>(EMPTY_NODE);
     match prove_change(rt, alloc, host, 0, changes) {
-        Ok(nodes) => verify_inversion_blocks::<Toy, 2, _>(alloc, before, root, &nodes, changes).is_ok(),
+        Ok(nodes) => verify_inversion_blocks::<Toy, 2, _>(
+            alloc, before, root, &nodes, changes,
+        ).is_ok(),
         Err(_) => false,
     }
 }
