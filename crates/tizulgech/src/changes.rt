@@ -27,7 +27,8 @@ const OTHER_VALUE: u8 = 33;
 /// The changes undone lead to another root.
 const OTHER_ROOT: u8 = 34;
 
-/// Whether the tree with the root `before` became that with the root `after` by these changes, as nodes of the tree after show.
+/// Whether the tree with the root `before` became that with the root `after` by these changes, as nodes of the tree after show:
+/// undone, they lead back to the root before. Of a root after that no pairs have, 0 says nothing.
 ///
 /// A key had the value of 36 bytes at its place among `befores`, and has that among `afters`; 36 zeros stand for none. The keys
 /// have 1 to 1,024 bytes and ascend strictly. 0 where the changes are shown; 2 where a node is missing, whose CID is then in
