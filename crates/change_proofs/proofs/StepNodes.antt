@@ -25,7 +25,7 @@ use Rattle.step_laws.specs.StepLaws.{step_path}
 use Rattle.step_laws.proofs.Turning.{undone-turned, differ-turned}
 use Rattle.step_laws.proofs.Stepping.{step-complete}
 use Rattle.change_proofs.specs.Verdicts.{of_preview, IsWant}
-use Rattle.change_proofs.specs.StepProvings.{told_one, told_as, IsStepOf, IsStepOver, IsStepLack}
+use Rattle.change_proofs.specs.StepProvings.{told_as, IsStepOf, IsStepOver, IsStepLack}
 use Rattle.change_proofs.specs.declared.change_fault.ChangeFault.{ChangeFault}
 use Rattle.change_proofs.specs.declared.change_fault.ChangeFault.TheVariants.{BlockMissing, BadNode, TooDeep, NotTree, OtherValue, OtherRoot, NoMemory}
 
