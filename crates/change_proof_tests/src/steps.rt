@@ -190,5 +190,5 @@ fn all_are_steps(alloc: Global, seeds: u64) -> bool {
 
 #[test]
 fn random_steps_are_shown(rt: HostRuntime) {
-    assert!(rt; all_are_steps(rt.alloc(), 60));
+    assert!(rt; all_are_steps(rt.alloc(), 40));
 }
