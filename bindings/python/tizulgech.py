@@ -458,7 +458,7 @@ def _told(changes: Told) -> Dict[str, Any]:
 
 def verify_change(before: Cid, after: Cid, proof: Iterable[bytes], changes: Told) -> None:
     """Raises a fault unless the tree with one root became that with the other by these changes, as the nodes of a proof show. Each change is
-    a key, what it had and what it has; the keys ascend."""
+    a key, what it had and what it has; the keys ascend. The changes are undone: of a root after that no records have this says nothing."""
     missing, place = _room(), ctypes.c_size_t()
     nodes, node_ends = _joined(map(_bytes, proof))
     number = _call("verify_change", nodes=nodes, node_ends=node_ends, before=_cid(before), after=_cid(after), missing=missing, place=place, **_told(changes))

@@ -45,8 +45,9 @@ pub struct ChangeProof {
 }
 
 impl ChangeProof {
-    /// Whether the tree with the root `before` became that with the root `after` by these changes, whose keys ascend strictly.
-    /// Nothing of whoever gave the proof is trusted.
+    /// Whether the tree with the root `before` became that with the root `after` by these changes, whose keys ascend strictly:
+    /// undone, they lead back to the root before. Nothing of whoever gave the proof is trusted; but of a root after that no
+    /// records have, `Ok` says nothing.
     ///
     /// ```
     /// use tizulgech::{ChangeFault, ChangeProof, Cid, KeyChange, Repository, Stamp, Write};

@@ -20,7 +20,7 @@ use crate::changed::{changes_after, changes_before};
 use crate::story::{Story, read_story};
 use crate::text::text_of;
 use block::Block;
-use change_proofs::{KeyChange, ProvingFault, prove_change};
+use change_proofs::{KeyChange, ProvingFault, prove_inversion};
 use cid::{Cid, Digest};
 use console::{CommandFault, write_made};
 use repo::Core;
@@ -134,7 +134,7 @@ fn nodes_of<D: Digest>(
     ensures { IfOk result (λ nodes. map arc_value nodes.items
         ≡ change_path D.digest_of 2 changes.now (pairs D.digest_of (records core.now))) }
 {
-    match prove_change::<D, 2, Global>(alloc, core, changes) {
+    match prove_inversion::<D, 2, Global>(alloc, core, changes) {
         Ok(nodes) => Ok(nodes),
         // each key has the value that was just looked up
         Err(ProvingFault::OtherValue(_)) => unreachable!(),

@@ -10,7 +10,7 @@ ghost use Rattle.change_commands.specs.Views.{told_of as view_of_told};
 
 use crate::roots::{check_roots, roots_of};
 use crate::told::{Told, told_of};
-use change_proofs::{ChangeFault, verify_change};
+use change_proofs::{ChangeFault, verify_inversion};
 use cid::Digest;
 use console::{CommandFault, read_all, write_made};
 use repository_commands::{LineFault, TextFault, number_at};
@@ -74,7 +74,7 @@ fn answer_of<D: Digest>(alloc: Global, told: &Told<'_>) -> Result<Vec<u8>, TextF
         (answer_of_told D.digest_of (view_of_told told.now)) }
     ensures unshown { IfErr result (IsUnshownBy D.digest_of (Ok (view_of_told told.now))) }
 {
-    match verify_change::<D, 2, Global, Vec<u8>>(
+    match verify_inversion::<D, 2, Global, Vec<u8>>(
         alloc,
         told.before,
         told.after,

@@ -1,5 +1,5 @@
 -- Where some blocks of a tree are given, a batch stops only as one isn't.
-use Rattle.std.proofs.Common.{◌≡◌, ℕ, suc, ◌<◌, ◌≤◌, max, Bool, true, false, cond, List, [], ◌∷◌, ◌++◌, length, length-append, refl, sym, ap, subst, ◌∙◌, arith, Option, Ok, Err}
+use Rattle.std.proofs.Common.{◌≡◌, ℕ, suc, ◌<◌, ◌≤◌, max, Bool, true, false, cond, List, [], ◌∷◌, ◌++◌, length, length-append, map, refl, sym, ap, subst, ◌∙◌, arith, Option, Ok, Err}
 use Rattle.std.specs.Prelude.{Contains, option_and_then}
 use Rattle.std.specs.List.{AllByRecursion}
 use Rattle.std.specs.Str.{bytes_eq}
@@ -29,7 +29,7 @@ use Rattle.batch_laws.proofs.Lawful.{batch-has_keys}
 use Rattle.batch_laws.proofs.OverSource.{batch-over_source}
 use Rattle.batch_laws.proofs.ReadsFew.{batch-reads_few}
 use Rattle.change_laws.specs.Given.{given_at}
-use Rattle.change_laws.specs.Laws.{OnlyLacks, TreeOnlyLacks}
+use Rattle.change_laws.specs.Laws.{node_cids, OnlyLacks, TreeOnlyLacks}
 use Rattle.change_laws.proofs.Following.{Follows, IsThere, IsFewer, follows-batch}
 use Rattle.change_laws.proofs.Missing.{Stops, stops-batch}
 use Rattle.change_laws.proofs.Showing.{found-is, some-is, ok-is, layers-are, tree-within, puts-are-within}
@@ -53,6 +53,21 @@ found digest (x ∷ xs) c b h = by (bytes_eq (cid digest x) c) refl (found diges
         (record { in_bs = in_head x xs; cid_is = (bytes_eq-Decides (cid digest x) c).0 q })
     by false q f e =
         let i = f e in record { in_bs = in_tail x b xs i.in_bs; cid_is = i.cid_is }
+
+-- its CID is one of theirs
+found-cid : (digest : List ℕ → List ℕ) (bs : List (List ℕ)) (c b : List ℕ) → given_at digest bs c ≡ Some b
+    → Contains (map (cid digest) bs) c
+found-cid digest [] c b h = absurd cc
+found-cid digest (x ∷ xs) c b h = by (bytes_eq (cid digest x) c) refl (found-cid digest xs c b) h
+  where
+    cids : List (List ℕ)
+    cids = map (cid digest) xs
+
+    by : (t : Bool) → bytes_eq (cid digest x) c ≡ t → (given_at digest xs c ≡ Some b → Contains cids c)
+        → cond t (Some x) (given_at digest xs c) ≡ Some b → Contains (cid digest x ∷ cids) c
+    by true q f e =
+        subst (Contains (cid digest x ∷ cids)) ((bytes_eq-Decides (cid digest x) c).0 q) (in_head (cid digest x) cids)
+    by false q f e = in_tail (cid digest x) c cids (f e)
 
 -- ---- the same, and then others
 
@@ -128,6 +143,25 @@ module _ (digest : List ℕ → List ℕ) (bits : ℕ) (fits : IsDigest digest) 
       lacks-case c there.0 (given_at digest own c) (gives c) refl refl
       (sym (ap (option_and_then shape_of_bytes) (all-is c (given_at digest own c) refl)) ∙ there.1) z
 
+  -- and is a node of the tree
+  abbrev cids : List (List ℕ)
+  cids = node_cids digest bits es
+
+  own-case : (c : List ℕ) (m : Shape) (o : Option (List ℕ)) → given_at digest own c ≡ o
+      → option_and_then shape_of_bytes (or_else o None) ≡ Some m → Contains cids c
+  own-case c m None h e = absurd cc
+  own-case c m (Some b) h e = found-cid digest own c b h
+
+  is-lack : (c : List ℕ) → IsThere HasKeys refl shows full more (NotShown c) → shows c ≡ None
+      → (gives c ≡ None) × Contains cids c
+  is-lack c there z =
+      let none = lacks c there z in (
+        none,
+        own-case c there.0 (given_at digest own c) refl
+            (sym (ap (option_and_then shape_of_bytes)
+            (all-is c (given_at digest own c) refl ∙ ap (or_else (given_at digest own c)) none)) ∙ there.1),
+      )
+
   has-own : (b : List ℕ) → Contains own b → given_at digest own (cid digest b) ≡ Some b
   has-own b h =
       found-is (given_at digest own (cid digest b)) b
@@ -175,12 +209,12 @@ module _ (digest : List ℕ → List ℕ) (bits : ℕ) (fits : IsDigest digest) 
 
   stopped-at : (why : Stop) (s : LinkEdge) (log : Log) → IsThere HasKeys refl shows full more why
       → Stops shows {A = Top} (Err (record { why = why; edge = s; log = log })) → length log.read < most
-      → AreWritten HasKeys s log → OnlyLacks gives most (Err (record { why = why; edge = s; log = log }))
-  stopped-at (NotShown c) s log there told n w = ((n, w), lacks c there told)
+      → AreWritten HasKeys s log → OnlyLacks cids gives most (Err (record { why = why; edge = s; log = log }))
+  stopped-at (NotShown c) s log there told n w = ((n, w), is-lack c there told)
   stopped-at LinkTooDeep s log there told n w = absurd there
 
   follows : (step other : Step Top) → Follows HasKeys refl shows full more (λ t. LinkClear) (λ t. length t.1) step other
-      → Stops shows step → IsWhole other → most ≡ suc reads → OnlyLacks gives most step
+      → Stops shows step → IsWhole other → most ≡ suc reads → OnlyLacks cids gives most step
   follows (Ok x) other h told w z =
       let f = w.few in
       let same = ok-is x w.x (sym h ∙ w.is) in (
@@ -202,7 +236,7 @@ module _ (digest : List ℕ → List ℕ) (bits : ℕ) (fits : IsDigest digest) 
   start = record { read = []; made = [] }
 
   abbrev goal : ℕ → Type 0
-  goal n = OnlyLacks gives most (batch_from digest shows lay n cs (root digest bits es))
+  goal n = OnlyLacks cids gives most (batch_from digest shows lay n cs (root digest bits es))
 
   top-shown : full (root digest bits es) ≡ Some (shape digest (top lay es))
   top-shown = (holds-top digest bits fits all es are has-all).0
@@ -211,11 +245,11 @@ module _ (digest : List ℕ → List ℕ) (bits : ℕ) (fits : IsDigest digest) 
   top-there = (shape digest (top lay es), top-shown)
 
   rootless : (n : ℕ) (o : Option Shape) → shows (root digest bits es) ≡ o → o ≡ None
-      → OnlyLacks gives most (and_then (log_shown (root digest bits es) LinkClear o start)
+      → OnlyLacks cids gives most (and_then (log_shown (root digest bits es) LinkClear o start)
       (λ s log. and_then (walking_top digest shows lay n cs s log) (topping digest shows n)))
   rootless n None q z = (
     (most-one lay cs (shows (root digest bits es)), record { made = tt; begun = tt }),
-    lacks (root digest bits es) top-there q,
+    is-lack (root digest bits es) top-there q,
   )
   rootless n (Some s) q z = absurd cc
 

@@ -1,6 +1,6 @@
 -- The laws of a proof of changes.
 use Rattle.std.specs.Prelude.{◌≡◌, ◌↔◌, ⊤, Contains, ◌<◌, ◌^◌, ℕ, suc, max, List, [], length, map, Option, None, Ok, Err, IfErr}
-use Rattle.spec.specs.Cid.{IsDigest}
+use Rattle.spec.specs.Cid.{cid, IsDigest}
 use Rattle.spec.specs.Layer.{layer as layer_of_key}
 use Rattle.spec.specs.Tree.{Pair, top, top_layer}
 use Rattle.spec.specs.NodeFormat.{node_bytes}
@@ -58,14 +58,18 @@ VerdictIsComplete = (digest : List ℕ → List ℕ) (bits : ℕ) → IsDigest d
 
 -- ---- where some of a tree's blocks are given
 
--- it stops as a block isn't given
-abbrev pub IsLack : (List ℕ → Option (List ℕ)) → Stop → Type 0
-IsLack gives (NotShown c) = gives c ≡ None
-IsLack gives LinkTooDeep = ⊥
+-- the CIDs of the nodes of a tree
+abbrev pub node_cids : (List ℕ → List ℕ) → ℕ → List Pair → List (List ℕ)
+node_cids digest bits es = map (cid digest) (nodes digest bits es)
+
+-- it stops as a block with one of these CIDs isn't given
+abbrev pub IsLack : List (List ℕ) → (List ℕ → Option (List ℕ)) → Stop → Type 0
+IsLack cids gives (NotShown c) = (gives c ≡ None) × Contains cids c
+IsLack cids gives LinkTooDeep = ⊥
 
 -- a batch keeps within what a tree has for it, and stops only for that
-abbrev pub OnlyLacks : (List ℕ → Option (List ℕ)) → ℕ → Step Top → Type 0
-OnlyLacks gives most step = IsWithin most (at_top step) × IfErr step (λ e. IsLack gives e.why)
+abbrev pub OnlyLacks : List (List ℕ) → (List ℕ → Option (List ℕ)) → ℕ → Step Top → Type 0
+OnlyLacks cids gives most step = IsWithin most (at_top step) × IfErr step (λ e. IsLack cids gives e.why)
 
 -- nothing else stops a batch where no two nodes of the tree clash, and none with a given block
 abbrev pub TreeOnlyLacks : Type 0
@@ -73,24 +77,25 @@ TreeOnlyLacks = (digest : List ℕ → List ℕ) (bits : ℕ) → IsDigest diges
     → IsClashFree digest (nodes digest bits es) → (given : List (List ℕ)) → ClashesWithNone digest (nodes digest bits es) given
     → (cs : List Change) → AreKeyed cs
     → let gives = given_at digest given in
-    OnlyLacks gives (most_from (layer_of_key digest bits) cs (shown_by gives (root digest bits es)))
+    OnlyLacks (node_cids digest bits es) gives (most_from (layer_of_key digest bits) cs (shown_by gives (root digest bits es)))
     (batch_over digest bits gives cs (root digest bits es))
 
--- what is said there of blocks: one is missing; or it is another value or another root
-abbrev pub IsOfTree : ChangeFault → Type 0
-IsOfTree (BlockMissing c) = ⊤
-IsOfTree (BadNode c) = ⊥
-IsOfTree TooDeep = ⊥
-IsOfTree NotTree = ⊥
-IsOfTree (OtherValue place) = ⊤
-IsOfTree OtherRoot = ⊤
+-- what is said there of blocks: one of the tree's nodes, which have these CIDs, is missing; or it is another value or another root
+abbrev pub IsOfTree : List (List ℕ) → ChangeFault → Type 0
+IsOfTree cids (BlockMissing c) = Contains cids c
+IsOfTree cids (BadNode c) = ⊥
+IsOfTree cids TooDeep = ⊥
+IsOfTree cids NotTree = ⊥
+IsOfTree cids (OtherValue place) = ⊤
+IsOfTree cids OtherRoot = ⊤
 
--- so no block is called bad there, no link too deep, and the blocks are not called no tree
+-- So no block is called bad there, no link too deep, and the blocks are not called no tree. What is called missing is a node of
+-- the tree, so that who asks for it and gives it gets on.
 abbrev pub TreeOnlyMissing : Type 0
 TreeOnlyMissing = (digest : List ℕ → List ℕ) (bits : ℕ) → IsDigest digest → (es : List Pair) → ArePairs es
     → IsClashFree digest (nodes digest bits es) → (given : List (List ℕ)) → ClashesWithNone digest (nodes digest bits es) given
     → (before : List ℕ) (cs : List KeyChange) → AreKeyed (undone cs) → (fault : ChangeFault)
-    → change_verdict digest bits before (root digest bits es) given cs ≡ Err fault → IsOfTree fault
+    → change_verdict digest bits before (root digest bits es) given cs ≡ Err fault → IsOfTree (node_cids digest bits es) fault
 
 -- ---- faults
 

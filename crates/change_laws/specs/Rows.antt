@@ -2,7 +2,6 @@
 -- nodes of no tree.
 use Rattle.std.specs.Prelude.{◌≡◌, ℕ, List, [], ◌∷◌, map, codes, Option, Some, None, Ok, Err}
 use Rattle.spec.specs.Cid.{cid}
-use Rattle.spec.specs.TestDigests.{by_last_digit}
 use Rattle.spec.specs.Tree.{Pair}
 use Rattle.spec.specs.NodeFormat.{Shape, LastLink, MoreLinks, shape_bytes, shape_cid}
 use Rattle.spec.specs.Blocks.{nodes, root}

@@ -30,8 +30,8 @@ pub fn tree_only_lacks()
     ensures { TreeOnlyLacks }
 {}
 
-/// So nothing is called bad there, and the blocks not no tree: the verdict is that a block is missing, or one on values and
-/// roots.
+/// So nothing is called bad there, and the blocks not no tree: the verdict is that a node of the tree is missing, or one on
+/// values and roots.
 pub fn tree_is_not_called_bad()
     ensures { TreeOnlyMissing }
 {}

@@ -1,7 +1,8 @@
-//! A mirror that checks a change, as docs/AUDIT.md shows it.
+//! A mirror that follows a repository from root to root, as docs/AUDIT.md shows it.
 
-use change_proofs::{KeyChange, are_key_changes, prove_change, verify_blocks};
+use change_proofs::{are_key_changes, prove_change, verify_change_blocks};
 use cid::{Cid, Sha256};
+use edit::{Change, are_changes};
 use repo::Core;
 use repo_fixtures::batch::{ONE, Step};
 use repo_fixtures::cores::{apply_steps, end};
@@ -9,46 +10,45 @@ use std::test::Fail;
 use store::{LentShard, Shard, TableKey};
 
 #[test]
-fn a_mirror_checks_a_change(rt: HostRuntime) -> Result<(), Fail> {
+fn a_mirror_follows_a_repository(rt: HostRuntime) -> Result<(), Fail> {
     let alloc = rt.alloc();
 
-    // A host's repository has two records. Then it takes a batch: one record comes, and one goes.
+    // A host's repository has two records.
     let mut shard = Shard::new(alloc, 1000, TableKey::known());
     let opened = Core::<Sha256, 2, _>::open(alloc, &mut LentShard::new(&mut shard), 0, 1000);
     let mut core = opened.expect(&rt, "a core");
     let first = [Step::Put(b"posts/1", ONE), Step::Put(b"posts/3", ONE)];
-    let second = [Step::Put(b"posts/2", ONE), Step::Delete(b"posts/3")];
     apply_steps(alloc, &mut shard, &mut core, 0, &first);
     let before = core.root();
-    apply_steps(alloc, &mut shard, &mut core, 1, &second);
-    let after = core.root();
 
-    // A mirror knows the root before. It is told the root after, and what changed.
-    let record = Cid::of::<Sha256>(ONE);
-    let put = KeyChange {
+    // A batch comes, by which one record comes and one goes. First the host asks what it makes of the tree, and which nodes show it.
+    let put = Change {
         key: b"posts/2".as_slice(),
-        before: None,
-        after: Some(record),
+        value: Some(Cid::of::<Sha256>(ONE)),
     };
-    let deleted = KeyChange {
+    let deleted = Change {
         key: b"posts/3".as_slice(),
-        before: Some(record),
-        after: None,
+        value: None,
     };
-    let changes = [put, deleted];
-    assert!(rt; are_key_changes(&changes));
-
-    // The host gives the nodes of its tree that undoing these changes reads.
-    let proof = prove_change(alloc, &core, &changes).expect(&rt, "a proof");
+    let batch = [put, deleted];
+    assert!(rt; are_changes(&batch));
+    let proof = prove_change(alloc, &core, &batch).expect(&rt, "a proof");
+    let second = [Step::Put(b"posts/2", ONE), Step::Delete(b"posts/3")];
+    apply_steps(alloc, &mut shard, &mut core, 1, &second);
+    assert!(rt; core.root() == proof.after);
     end(&mut shard, core);
 
-    // The mirror undoes each change on them, and the root before comes out.
-    verify_blocks::<Sha256, 2, _>(alloc, before, after, &proof, &changes)?;
+    // A mirror knows the root before. It is told the root after, what changed, and these nodes, and does each change on them.
+    let changes = proof.changes.as_slice();
+    let nodes = proof.nodes.as_slice();
+    assert!(rt; are_key_changes(changes));
+    verify_change_blocks::<Sha256, 2, _>(alloc, before, proof.after, nodes, changes)?;
 
     // That a change was left out is seen.
+    assert!(rt; changes.len() == 2);
     let fewer = &changes[..1];
     assert!(rt; are_key_changes(fewer));
-    let shown = verify_blocks::<Sha256, 2, _>(alloc, before, after, &proof, fewer);
+    let shown = verify_change_blocks::<Sha256, 2, _>(alloc, before, proof.after, nodes, fewer);
     assert!(rt; shown.is_err());
     Ok(())
 }

@@ -1,7 +1,9 @@
 //! A change of twenty keys, and the trees before and after it.
 
 use block::Block;
-use change_proofs::{ChangeFault, KeyChange, are_key_changes, prove_change_over, verify_blocks};
+use change_proofs::{
+    ChangeFault, KeyChange, are_key_changes, prove_inversion_over, verify_inversion_blocks,
+};
 use cid::Cid;
 use cid::digests::Toy;
 use lookups::BlockMap;
@@ -111,7 +113,7 @@ pub(crate) fn verified(
     if !are_key_changes(changes) {
         return Err(ChangeFault::NoMemory);
     }
-    verify_blocks::<Toy, 2, _>(alloc, before, after, blocks, changes)
+    verify_inversion_blocks::<Toy, 2, _>(alloc, before, after, blocks, changes)
 }
 
 /// The nodes that show these changes in the tree with this root over these blocks. What are no changes is answered as if there
@@ -126,7 +128,7 @@ pub(crate) fn proved(
         return Err(ChangeFault::NoMemory);
     }
     let mut map = BlockMap::new(alloc, blocks)?;
-    prove_change_over::<Toy, 2, _, _>(alloc, &mut map, after, changes)
+    prove_inversion_over::<Toy, 2, _, _>(alloc, &mut map, after, changes)
 }
 
 /// Adds some blocks to others, but for the one of this CID.

@@ -12,6 +12,8 @@ mod fixtures;
 #[cfg(test)]
 mod great;
 #[cfg(test)]
+mod lost;
+#[cfg(test)]
 mod many_layers;
 #[cfg(test)]
 mod memory;
@@ -23,5 +25,7 @@ mod refusals;
 mod repositories;
 #[cfg(test)]
 mod shown;
+#[cfg(test)]
+mod steps;
 #[cfg(test)]
 mod strangers;

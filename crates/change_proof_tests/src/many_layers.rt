@@ -1,6 +1,6 @@
 //! A change in a tree of twenty-two layers.
 
-use change_proofs::{KeyChange, are_key_changes, prove_change_over, verify_blocks};
+use change_proofs::{KeyChange, are_key_changes, prove_inversion_over, verify_inversion_blocks};
 use cid::{Cid, Sha256};
 use lookups::BlockMap;
 use scratch::{Built, build, is_ascending};
@@ -59,10 +59,10 @@ fn is_shown(
     let Ok(mut map) = BlockMap::new(alloc, &after.blocks) else {
         return false;
     };
-    match prove_change_over::<Sha256, 1, _, _>(alloc, &mut map, after.root, changes) {
+    match prove_inversion_over::<Sha256, 1, _, _>(alloc, &mut map, after.root, changes) {
         Ok(nodes) => {
             nodes.len() >= 22
-                && verify_blocks::<Sha256, 1, _>(
+                && verify_inversion_blocks::<Sha256, 1, _>(
                     alloc,
                     before.root,
                     after.root,

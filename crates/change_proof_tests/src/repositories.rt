@@ -4,7 +4,9 @@ use crate::fixtures::Both;
 use crate::random::{Sides, both_of, is_proof, sides_of};
 use crate::refusals::{Part, with_altered};
 use block::Block;
-use change_proofs::{KeyChange, ProvingFault, are_key_changes, prove_change, verify_blocks};
+use change_proofs::{
+    KeyChange, ProvingFault, are_key_changes, prove_inversion, verify_inversion_blocks,
+};
 use cid::Cid;
 use cid::digests::Toy;
 use refusing::Refusing;
@@ -95,7 +97,7 @@ fn proof_of<'h>(
     if !are_key_changes(changes) {
         return Err(ProvingFault::NoMemory);
     }
-    prove_change(heap, core, changes)
+    prove_inversion(heap, core, changes)
 }
 
 /// Whether these are four nodes, which show the changes from a root to the core's.
@@ -109,7 +111,7 @@ fn are_shown<'h>(
     if !are_key_changes(&changes) || nodes.len() != 4 {
         return false;
     }
-    verify_blocks::<Toy, 2, _>(heap, before, core.root(), nodes, &changes).is_ok()
+    verify_inversion_blocks::<Toy, 2, _>(heap, before, core.root(), nodes, &changes).is_ok()
 }
 
 /// Whether the core proves the changes from this root.
@@ -218,7 +220,7 @@ fn tells_other(alloc: Global, core: &Core<Toy, 2>, both: &Both, place: usize) ->
     if !are_key_changes(&changes) {
         return false;
     }
-    match prove_change(alloc, core, &changes) {
+    match prove_inversion(alloc, core, &changes) {
         Ok(_) => false,
         Err(fault) => fault == ProvingFault::OtherValue(place),
     }
@@ -239,7 +241,7 @@ fn gives_proof(alloc: Global, core: &Core<Toy, 2>, both: &Both) -> bool {
     if !are_key_changes(&both.changes) {
         return false;
     }
-    match prove_change(alloc, core, &both.changes) {
+    match prove_inversion(alloc, core, &both.changes) {
         Ok(proof) => is_proof(alloc, both, &proof),
         Err(_) => false,
     }

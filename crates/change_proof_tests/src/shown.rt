@@ -1,7 +1,7 @@
 //! Changes that are shown.
 
 use crate::fixtures::{Both, KEYS, add_others, two_trees, value, verified};
-use change_proofs::{KeyChange, are_key_changes, verify_change};
+use change_proofs::{KeyChange, are_key_changes, verify_inversion};
 use cid::Cid;
 use cid::digests::Toy;
 use std::alloc::{AllocError, Global};
@@ -65,7 +65,7 @@ fn is_shown_by_bytes(alloc: Global, both: &Both) -> bool {
     if !are_key_changes(&both.changes) {
         return false;
     }
-    verify_change::<Toy, 2, _, Vec<u8>>(
+    verify_inversion::<Toy, 2, _, Vec<u8>>(
         alloc,
         both.before.root,
         both.after.root,

@@ -3,7 +3,7 @@
 use crate::deep::is_too_deep;
 use crate::fixtures::value;
 use crate::refusals::is_other_root;
-use change_proofs::{ChangeFault, KeyChange, are_key_changes, verify_change};
+use change_proofs::{ChangeFault, KeyChange, are_key_changes, verify_inversion};
 use cid::digests::Toy;
 use cid::{Cid, CidRef};
 use node::NodeWriter;
@@ -43,7 +43,7 @@ fn told(
     if !are_key_changes(&changes) {
         return Err(ChangeFault::NoMemory);
     }
-    verify_change::<Toy, 2, _, Vec<u8>>(alloc, value(9), root, blocks, &changes)
+    verify_inversion::<Toy, 2, _, Vec<u8>>(alloc, value(9), root, blocks, &changes)
 }
 
 /// What is told where the key came.

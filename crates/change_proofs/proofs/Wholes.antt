@@ -6,9 +6,9 @@ use Rattle.spec.specs.Tree.{Pair}
 use Rattle.spec.specs.Blocks.{ArePairs, ClashesWithNone, IsClashFree, nodes, root as root_of}
 use Rattle.batch_laws.specs.Batch.{AreKeyed}
 use Rattle.change_laws.specs.Told.{KeyChange, undone, DifferBy}
-use Rattle.change_laws.specs.Given.{BadNode as HasBadNode, TooDeep as HasTooDeep, NotTree as HasNotTree}
+use Rattle.change_laws.specs.Given.{BlockMissing as HasBlockMissing, BadNode as HasBadNode, TooDeep as HasTooDeep, NotTree as HasNotTree}
 use Rattle.change_laws.specs.Verdict.{change_verdict}
-use Rattle.change_laws.specs.Laws.{change_path}
+use Rattle.change_laws.specs.Laws.{change_path, node_cids}
 use Rattle.change_laws.proofs.Unblamed.{tree-only_missing}
 use Rattle.change_laws.proofs.Showing.{verdict-complete}
 use Rattle.change_proofs.specs.Verdicts.{IsVerdict, IsWhole, IsWant, IsOfTree, IsOfATree}
@@ -53,8 +53,10 @@ module _ (digest : List ℕ → List ℕ) (bits : ℕ) (fits : IsDigest digest) 
     (keyed : AreKeyed (undone cs)) where
   of-tree : (before : List ℕ) (new : List Pair) → ArePairs new → IsClashFree digest (nodes digest bits new)
       → ClashesWithNone digest (nodes digest bits new) given → (fault : ChangeFault)
-      → IsVerdict digest bits before (root_of digest bits new) given cs (Err fault) → IsOfATree fault
-  of-tree before new are own_free free (BlockMissing c) h = tt
+      → IsVerdict digest bits before (root_of digest bits new) given cs (Err fault)
+      → IsOfATree (node_cids digest bits new) fault
+  of-tree before new are own_free free (BlockMissing c) h =
+      tree-only_missing digest bits fits new are own_free given free before cs keyed (HasBlockMissing c) h.1
   of-tree before new are own_free free (BadNode c) h =
       tree-only_missing digest bits fits new are own_free given free before cs keyed (HasBadNode c) h.1
   of-tree before new are own_free free TooDeep h =

@@ -14,7 +14,7 @@ use Rattle.edit.specs.declared.outcome.EditFault.TheVariants as edits
 use Rattle.change_laws.specs.Told.{KeyChange, undone, DifferBy}
 use Rattle.change_laws.specs.Given.{ChangeFault as GivenFault, BlockMissing as HasBlockMissing, BadNode as HasBadNode, TooDeep as HasTooDeep, NotTree as HasNotTree, OtherValue as HasOtherValue, OtherRoot as HasOtherRoot, given_at, or_fault}
 use Rattle.change_laws.specs.Verdict.{previous_of, are_told, change_verdict}
-use Rattle.change_laws.specs.Laws.{change_path, IsShown}
+use Rattle.change_laws.specs.Laws.{change_path, node_cids, IsShown}
 use Rattle.change_proofs.specs.declared.change_fault.ChangeFault.{ChangeFault}
 use Rattle.change_proofs.specs.declared.change_fault.ChangeFault.TheVariants.{BlockMissing, BadNode, TooDeep, NotTree, OtherValue, OtherRoot, NoMemory}
 
@@ -101,15 +101,15 @@ IsWant (OtherValue place) = ⊥
 IsWant OtherRoot = ⊥
 IsWant NoMemory = ⊤
 
--- it is not that a block is no node, a link too deep, or that there is no tree
-abbrev pub IsOfATree : ChangeFault → Type 0
-IsOfATree (BlockMissing c) = ⊤
-IsOfATree (BadNode c) = ⊥
-IsOfATree TooDeep = ⊥
-IsOfATree NotTree = ⊥
-IsOfATree (OtherValue place) = ⊤
-IsOfATree OtherRoot = ⊤
-IsOfATree NoMemory = ⊤
+-- it is not that a block is no node, a link too deep, or that there is no tree; a block that is missing has one of these CIDs
+abbrev pub IsOfATree : List (List ℕ) → ChangeFault → Type 0
+IsOfATree cids (BlockMissing c) = Contains cids c
+IsOfATree cids (BadNode c) = ⊥
+IsOfATree cids TooDeep = ⊥
+IsOfATree cids NotTree = ⊥
+IsOfATree cids (OtherValue place) = ⊤
+IsOfATree cids OtherRoot = ⊤
+IsOfATree cids NoMemory = ⊤
 
 -- ---- over given blocks
 
@@ -124,10 +124,10 @@ module _ (digest : List ℕ → List ℕ) (bits : ℕ) (before after : List ℕ)
   IsRight = (new : List Pair) → ArePairs new → after ≡ root_of digest bits new
       → ClashesWithNone digest (nodes digest bits new) given → OnOk result (IsShown digest bits before cs new)
 
-  -- where all or some blocks of a tree are given, nothing is said against a block: the answer is the verdict, or memory is wanted
+  -- where all or some blocks of a tree are given, nothing is said against a block, and one that is missing is a node of the tree
   abbrev pub IsOfTree : Type 0
   IsOfTree = (new : List Pair) → ArePairs new → after ≡ root_of digest bits new → IsClashFree digest (nodes digest bits new)
-      → ClashesWithNone digest (nodes digest bits new) given → IfErr result IsOfATree
+      → ClashesWithNone digest (nodes digest bits new) given → IfErr result (IsOfATree (node_cids digest bits new))
 
   -- and true ones are shown where the nodes are given that undoing reads
   abbrev pub IsWhole : Type 0

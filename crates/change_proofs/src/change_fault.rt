@@ -9,9 +9,12 @@ use std::alloc::{AllocError, AllocFailed, Allocator};
 use thiserror::Error;
 
 /// Why blocks don't show that a tree became another one by some changes.
+///
+/// Whose nodes are given is the tree *before* for [`verify_change`](crate::verify_change), which does the changes in it, and the
+/// tree *after* for [`verify_inversion`](crate::verify_inversion), which undoes them.
 #[derive(Clone, Copy, PartialEq, Eq, Debug, Drop, Error)]
 pub enum ChangeFault {
-    /// The block with this CID is needed, and not given. It is the first of these that undoing asks for.
+    /// The block with this CID is needed, and not given. It is the first of these that doing or undoing the changes asks for.
     #[error("a block that is needed is not given: {0}")]
     BlockMissing(Cid),
 
@@ -23,16 +26,16 @@ pub enum ChangeFault {
     #[error("a link stands below layer 0")]
     TooDeep,
 
-    /// The nodes that are given are of no tree with the root after: as far as undoing comes, it reads more of them than such a
-    /// tree has for it, or keys don't ascend in a node that it makes.
+    /// The nodes that are given are of no tree with the root that is asked for first: as far as the changes come, they read more
+    /// nodes than such a tree has for them, or keys don't ascend in a node that they make.
     #[error("the blocks are no tree with the root after")]
     NotTree,
 
-    /// The key of the change at this place has another value in the tree after.
+    /// The key of the change at this place has another value in the tree whose nodes are given.
     #[error("the key of change {0} has another value")]
     OtherValue(usize),
 
-    /// The changes undone lead to another root than the one before.
+    /// The changes done lead to another root than the one after, or undone to another one than the one before.
     #[error("the changes undone lead to another root")]
     OtherRoot,
 

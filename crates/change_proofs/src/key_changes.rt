@@ -55,7 +55,8 @@ impl<'k> KeyChange<'k> {
     }
 }
 
-/// Whether [`verify_change`](crate::verify_change) takes these changes: their keys have 1 to 1,024 bytes and ascend strictly.
+/// Whether [`verify_change`](crate::verify_change) and [`verify_inversion`](crate::verify_inversion) take these changes: their
+/// keys have 1 to 1,024 bytes and ascend strictly.
 pub fn are_key_changes(changes: &[KeyChange<'_>]) -> bool
     ensures { result ≡ are_changes_of (undone_of changes.now) }
 {

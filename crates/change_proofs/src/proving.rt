@@ -1,64 +1,61 @@
-//! The nodes that show some changes.
+//! The nodes that show a step from a tree.
 
-ghost use Rattle.std.specs.Prelude.{◌≡◌, ◌≤◌, true, map, Ok, IfOk, IfErr, OnOk};
+ghost use Rattle.std.specs.Prelude.{◌≡◌, ◌≤◌, true, map, IfOk, IfErr};
 ghost use Rattle.std.specs.Arc.{arc_value};
+ghost use Rattle.spec.specs.Blocks.{pairs};
+ghost use Rattle.spec.specs.States.{records};
 ghost use Rattle.lookups.specs.Trees.{OfTree};
 ghost use Rattle.edit.specs.Batches.{are_changes as are_changes_of};
-ghost use Rattle.change_laws.specs.Told.{undone as undone_of};
-ghost use Rattle.change_laws.specs.Verdict.{are_told};
-ghost use Rattle.change_proofs.specs.Provings.{AreNodes, AreNodesOver, IsFaultOf, IsLackOver, IsOtherValue, IsProofOf, IsUntrue, ShowsChanges, proving_fault_of};
+ghost use Rattle.change_proofs.specs.Verdicts.{IsWant};
+ghost use Rattle.change_proofs.specs.StepProvings.{told_one, told_as, IsStepOf, IsStepOver, IsStepLack};
 
 use crate::change_fault::ChangeFault;
-use crate::key_changes::{KeyChange, undone};
-use crate::proving_fault::ProvingFault;
-use crate::values::first_other;
+use crate::change_proof::ChangeProof;
+use crate::key_changes::KeyChange;
 use block::Block;
 use cid::{Cid, Digest};
-use edit::{BatchPreview, preview};
+use edit::{BatchPreview, Change, preview};
 use kept::Lender;
 use lookups::Source;
 use repo::Core;
-use std::alloc::Allocator;
+use std::alloc::{AllocError, Allocator};
 use std::clone::Clone;
 use std::sync::Arc;
 
-/// The proof of some changes that led to the repository's tree as it is now: the nodes of the tree that undoing them reads,
-/// each once, in the order in which they are read. It shares the blocks with the repository.
+/// What these changes make of the repository's tree as it is now, and the nodes that show it: to be asked before they are
+/// applied. It shares the blocks with the repository, which stays as it is.
 ///
-/// Who has these nodes, in any order and among others, and both roots gets `Ok` from
-/// [`verify_change`](crate::verify_change), where each key had before the changes what is told; of that this tree knows
-/// nothing. That each key has now what is told after its change is looked at: else `ProvingFault::OtherValue` has the place
-/// of the first that hasn't. `ProvingFault::NoMemory` comes where memory was refused.
+/// Who knows the root before, and is given the root after, the changes and the nodes, in any order and among others, gets `Ok`
+/// from [`verify_change`](crate::verify_change). `AllocError` says that memory was refused.
 ///
-/// [`are_key_changes`](crate::are_key_changes) is the test of what it takes.
-pub fn prove_change<D: Digest, const B: u8, A: Allocator + Clone>(
+/// `edit::are_changes` is the test of what it takes.
+pub fn prove_change<'k, D: Digest, const B: u8, A: Allocator + Clone>(
     alloc: A,
     core: &Core<D, B, A>,
-    changes: &[KeyChange<'_>],
-) -> Result<Vec<Arc<Block<D, A>, A>, A>, ProvingFault>
+    changes: &[Change<'k>],
+) -> Result<ChangeProof<'k, D, A>, AllocError>
     requires least { 1 ≤ B }
-    requires changes { are_changes_of (undone_of changes.now) ≡ true }
-    ensures proof { IfOk result
-        (λ nodes. IsProofOf D.digest_of B core.now changes.now nodes.items) }
-    ensures shows { IfOk result
-        (λ nodes. ShowsChanges D.digest_of B core.now changes.now nodes.items) }
-    ensures fault { IfErr result (IsUntrue D.digest_of core.now changes.now) }
+    requires changes { are_changes_of changes.now ≡ true }
+    ensures { IfOk result (λ proof. IsStepOf D.digest_of B changes.now
+        (pairs D.digest_of (records core.now)) proof.after proof.changes.items
+        (map arc_value proof.nodes.items)) }
 {
     let root = core.root();
     let mut lender = core.lender();
     match prove_change_over::<D, B, A, Lender<'_, D, A>>(alloc, &mut lender, root, changes) {
-        Ok(nodes) => Ok(nodes),
-        Err(fault) => Err(told(fault)),
+        Ok(proof) => Ok(proof),
+        Err(_) => Err(AllocError),
     }
 }
 
 /// The same over a source of blocks, from a tree's root. It is for who has a tree's blocks and no `Core`.
 ///
-/// Where the source has all nodes of the tree only `ChangeFault::OtherValue` and `ChangeFault::NoMemory` come. Else
-/// `ChangeFault::BlockMissing` has the CID of a node that is needed and not there, so that who has it elsewhere can add it
-/// and call again; `ChangeFault::BadNode`, with a CID, `ChangeFault::TooDeep` and `ChangeFault::NotTree` come where the source
-/// gives what is no tree. The source stays as it is.
+/// Where the source has all nodes of the tree only `ChangeFault::NoMemory` comes. Else `ChangeFault::BlockMissing` has the CID
+/// of a node that is needed and not there, so that who has it elsewhere can add it and call again; `ChangeFault::BadNode`, with
+/// a CID, `ChangeFault::TooDeep` and `ChangeFault::NotTree` come where the source gives what is no tree. `ChangeFault::OtherValue`
+/// and `ChangeFault::OtherRoot` don't come. The source stays as it is.
 pub fn prove_change_over<
+    'k,
     'a,
     D: Digest + 'a,
     const B: u8,
@@ -68,46 +65,74 @@ pub fn prove_change_over<
     alloc: A,
     src: &mut S,
     root: Cid,
-    changes: &[KeyChange<'_>],
-) -> Result<Vec<Arc<Block<D, A>, A>, A>, ChangeFault>
+    changes: &[Change<'k>],
+) -> Result<ChangeProof<'k, D, A>, ChangeFault>
     requires least { 1 ≤ B }
-    requires changes { are_changes_of (undone_of changes.now) ≡ true }
+    requires changes { are_changes_of changes.now ≡ true }
     ensures proof { OfTree D.digest_of B (S.gives src.old) root (λ es. IfOk result
-        (λ nodes. AreNodes D.digest_of B changes.now es (map arc_value nodes.items))) }
-    ensures fault { OfTree D.digest_of B (S.gives src.old) root
-        (λ es. IfErr result (IsFaultOf es changes.now)) }
-    ensures nodes { IfOk result (λ nodes. AreNodesOver D.digest_of B (S.gives src.old) root
-        changes.now (map arc_value nodes.items)) }
+        (λ proof. IsStepOf D.digest_of B changes.now es proof.after proof.changes.items
+        (map arc_value proof.nodes.items))) }
+    ensures want { OfTree D.digest_of B (S.gives src.old) root (λ es. IfErr result IsWant) }
+    ensures nodes { IfOk result (λ proof. IsStepOver D.digest_of B (S.gives src.old) root
+        changes.now proof.after proof.changes.items (map arc_value proof.nodes.items)) }
     ensures lack { IfErr result
-        (IsLackOver D.digest_of B (S.gives src.old) root changes.now) }
+        (IsStepLack D.digest_of B (S.gives src.old) root changes.now) }
     ensures same { S.gives src.new ≡ S.gives src.old }
 {
-    let undone = undone(alloc.clone()?, changes)?;
-    let found = preview::<D, B, A, S>(alloc, src, root, &undone)?;
-    told_nodes(found, changes)
+    let other = alloc.clone()?;
+    let found = preview::<D, B, A, S>(alloc, src, root, changes)?;
+    with_told(other, changes, found)
 }
 
-/// The nodes that a batch read, where each key has the value that is told after its change.
-fn told_nodes<D: Digest, A: Allocator>(
+/// What a batch comes to, with its changes told.
+fn with_told<'k, D: Digest, A: Allocator>(
+    alloc: A,
+    changes: &[Change<'k>],
     found: BatchPreview<D, A>,
-    changes: &[KeyChange<'_>],
-) -> Result<Vec<Arc<Block<D, A>, A>, A>, ChangeFault>
-    ensures nodes { IfOk result (λ nodes. nodes.items ≡ found.read.items) }
-    ensures told { OnOk result (are_told 0 found.previous.items changes.now ≡ Ok tt) }
-    ensures other { IfErr result (IsOtherValue found.previous.items changes.now) }
+) -> Result<ChangeProof<'k, D, A>, ChangeFault>
+    ensures after { IfOk result (λ proof. proof.after ≡ found.root) }
+    ensures changes { IfOk result
+        (λ proof. proof.changes.items ≡ told_as changes.now found.previous.items) }
+    ensures nodes { IfOk result (λ proof. proof.nodes.items ≡ found.read.items) }
+    ensures want { IfErr result IsWant }
 {
-    match first_other(&found.previous, changes) {
-        Some(place) => Err(ChangeFault::OtherValue(place)),
-        None => Ok(found.read),
+    let BatchPreview {
+        root,
+        previous,
+        read,
+    } = found;
+    match told_changes(alloc, changes, &previous) {
+        Ok(changes) => Ok(ChangeProof {
+            after: root,
+            changes,
+            nodes: read,
+        }),
+        Err(_) => Err(ChangeFault::NoMemory),
     }
 }
 
-/// What a fault over a source is where the source has a tree.
-fn told(fault: ChangeFault) -> ProvingFault
-    ensures { result ≡ proving_fault_of fault }
+/// Changes with what their keys had before.
+fn told_changes<'k, A: Allocator>(
+    alloc: A,
+    changes: &[Change<'k>],
+    previous: &[Option<Cid>],
+) -> Result<Vec<KeyChange<'k>, A>, AllocError>
+    ensures { IfOk result (λ told. told.items ≡ told_as changes.now previous.now) }
 {
-    match fault {
-        ChangeFault::OtherValue(place) => ProvingFault::OtherValue(place),
-        _ => ProvingFault::NoMemory,
+    let mut told = Vec::with_capacity(alloc, changes.len())?;
+    for (change, before) in changes.iter().zip(previous.iter()) {
+        told.push(told_change(change, *before))?;
+    }
+    Ok(told)
+}
+
+/// A change with what its key had before.
+fn told_change<'k>(change: &Change<'k>, before: Option<Cid>) -> KeyChange<'k>
+    ensures { result ≡ told_one change.now before }
+{
+    KeyChange {
+        key: change.key,
+        before,
+        after: change.value,
     }
 }

@@ -1,4 +1,4 @@
-//! What the changed keys have in the tree after.
+//! What the changed keys have in a tree.
 
 ghost use Rattle.std.specs.Prelude.{◌≡◌};
 ghost use Rattle.change_laws.specs.Verdict.{are_told, is_same as is_same_of};

@@ -1,30 +1,35 @@
-//! Whether given blocks show some changes.
+//! Whether given blocks show a step from one root to the next.
 
-ghost use Rattle.std.specs.Prelude.{◌≡◌, ◌≤◌, true, map, None};
+ghost use Rattle.std.specs.Prelude.{◌≡◌, ◌≤◌, true, map};
 ghost use Rattle.std.specs.Arc.{arc_value};
 ghost use Rattle.edit.specs.Batches.{are_changes as are_changes_of};
 ghost use Rattle.change_laws.specs.Told.{undone as undone_of};
-ghost use Rattle.change_proofs.specs.Verdicts.{IsJudged, judgement, told_of, IsSaidOver, IsVerdict, IsRight, IsWhole, IsOfTree};
+ghost use Rattle.change_proofs.specs.StepVerdicts.{IsStepVerdict, IsStepRight, IsStepWhole, IsStepOfTree};
 
 use crate::change_fault::ChangeFault;
-use crate::given_blocks::blocks_of;
-use crate::key_changes::{KeyChange, undone};
-use crate::values::first_other;
+use crate::key_changes::KeyChange;
+use crate::turning::turned;
+use crate::verifying_inversions::{verify_inversion, verify_inversion_blocks};
 use block::Block;
 use cid::{Cid, Digest};
-use edit::preview;
-use lookups::{BlockMap, Source};
 use std::alloc::Allocator;
 use std::clone::Clone;
 use std::convert::AsSlice;
 use std::sync::Arc;
 
-/// Whether the tree with the root `before` became that with the root `after` by these changes, as some nodes of the tree
-/// after show.
+/// Whether the tree with the root `before` becomes that with the root `after` by these changes, as some nodes of the tree
+/// before show.
 ///
-/// The answer is the verdict of `change_laws`, whatever blocks are given; `ChangeFault::NoMemory` alone, where memory was
-/// refused, says nothing of them. Where they are all or some of a tree's, with the CID of none of its nodes on other bytes,
-/// `ChangeFault::BadNode`, `ChangeFault::TooDeep` and `ChangeFault::NotTree` don't come.
+/// Where the root before is that of some pairs, `Ok` says that the root after is that of these pairs with the changes done: so
+/// it is the root of pairs again, and the next step can be verified from it. It says too that each key had the value that is
+/// told before its change.
+///
+/// The answer is the verdict of `step_laws`, whatever blocks are given; `ChangeFault::NoMemory` alone, where memory was
+/// refused, says nothing of them. `ChangeFault::OtherValue` has the place of the first change whose key has another value in
+/// the tree before than the one that is told; `ChangeFault::OtherRoot` says that the changes lead to another root than the one
+/// after. Where the blocks are all or some of those of the tree before, with the CID of none of its nodes on other bytes,
+/// `ChangeFault::BadNode`, `ChangeFault::TooDeep` and `ChangeFault::NotTree` don't come, and `ChangeFault::BlockMissing` has the
+/// CID of a node of that tree: who asks for it, and verifies again, gets on.
 ///
 /// [`are_key_changes`](crate::are_key_changes) is the test of what it takes.
 pub fn verify_change<D: Digest, const B: u8, A: Allocator + Clone, K: AsSlice<u8>>(
@@ -38,27 +43,27 @@ pub fn verify_change<D: Digest, const B: u8, A: Allocator + Clone, K: AsSlice<u8
     requires changes { are_changes_of (undone_of changes.now) ≡ true }
 
     // The answer is the verdict, but for want of memory.
-    ensures verdict { IsVerdict D.digest_of B before after (map K.items blocks.now)
+    ensures verdict { IsStepVerdict D.digest_of B before after (map K.items blocks.now)
         changes.now result }
 
-    // Changes that are shown are true of the pairs of each tree with this root.
-    ensures right { IsRight D.digest_of B before after (map K.items blocks.now)
+    // Where the root before is that of some pairs, the root after is that of these pairs with the changes done.
+    ensures right { IsStepRight D.digest_of B before after (map K.items blocks.now)
         changes.now result }
 
-    // Changes that are true are shown where the nodes are given that undoing reads.
-    ensures comes { IsWhole D.digest_of B before after (map K.items blocks.now)
+    // A true step is shown where the nodes are given that doing its changes reads.
+    ensures comes { IsStepWhole D.digest_of B before after (map K.items blocks.now)
         changes.now result }
 
-    // Where all or some blocks of a tree are given, nothing is said against a block.
-    ensures tree { IsOfTree D.digest_of B before after (map K.items blocks.now)
+    // Where all or some blocks of the tree before are given, nothing is said against a block.
+    ensures tree { IsStepOfTree D.digest_of B before after (map K.items blocks.now)
         changes.now result }
 {
-    let own = blocks_of::<D, A, K>(alloc.clone()?, blocks)?;
-    verify_blocks::<D, B, A>(alloc, before, after, &own, changes)
+    let back = turned(alloc.clone()?, changes)?;
+    verify_inversion::<D, B, A, K>(alloc, after, before, blocks, &back)
 }
 
 /// The same over blocks whose CIDs are known.
-pub fn verify_blocks<D: Digest, const B: u8, A: Allocator + Clone>(
+pub fn verify_change_blocks<D: Digest, const B: u8, A: Allocator + Clone>(
     alloc: A,
     before: Cid,
     after: Cid,
@@ -67,59 +72,15 @@ pub fn verify_blocks<D: Digest, const B: u8, A: Allocator + Clone>(
 ) -> Result<(), ChangeFault>
     requires least { 1 ≤ B }
     requires changes { are_changes_of (undone_of changes.now) ≡ true }
-    ensures verdict { IsVerdict D.digest_of B before after (map arc_value blocks.now)
+    ensures verdict { IsStepVerdict D.digest_of B before after (map arc_value blocks.now)
         changes.now result }
-    ensures right { IsRight D.digest_of B before after (map arc_value blocks.now)
+    ensures right { IsStepRight D.digest_of B before after (map arc_value blocks.now)
         changes.now result }
-    ensures comes { IsWhole D.digest_of B before after (map arc_value blocks.now)
+    ensures comes { IsStepWhole D.digest_of B before after (map arc_value blocks.now)
         changes.now result }
-    ensures tree { IsOfTree D.digest_of B before after (map arc_value blocks.now)
+    ensures tree { IsStepOfTree D.digest_of B before after (map arc_value blocks.now)
         changes.now result }
 {
-    let mut source = BlockMap::new(alloc.clone()?, blocks)?;
-    verify_over::<D, B, A, BlockMap<'_, D, A>>(alloc, before, after, &mut source, changes)
-}
-
-/// The same over a source of blocks.
-fn verify_over<
-    'a,
-    D: Digest + 'a,
-    const B: u8,
-    A: Allocator + Clone + 'a,
-    S: Source<&'a Arc<Block<D, A>, A>>,
->(
-    alloc: A,
-    before: Cid,
-    after: Cid,
-    src: &mut S,
-    changes: &[KeyChange<'_>],
-) -> Result<(), ChangeFault>
-    requires least { 1 ≤ B }
-    requires changes { are_changes_of (undone_of changes.now) ≡ true }
-    ensures { IsSaidOver D.digest_of B (S.gives src.old) before after changes.now result }
-{
-    let undone = undone(alloc.clone()?, changes)?;
-    let found = preview::<D, B, A, S>(alloc, src, after, &undone)?;
-    judged(first_other(&found.previous, changes), &found.root, &before)
-}
-
-/// What is to be said where the key of the change at a place has another value, or each the one that is told, and the changes
-/// undone lead to this root.
-fn judged(other: Option<usize>, old: &Cid, before: &Cid) -> Result<(), ChangeFault>
-    ensures { IsJudged (judgement (told_of other) old.now before.now) result }
-{
-    match other {
-        Some(place) => Err(ChangeFault::OtherValue(place)),
-        None => compared(old, before),
-    }
-}
-
-/// What is to be said where the changes undone lead to this root.
-fn compared(old: &Cid, before: &Cid) -> Result<(), ChangeFault>
-    ensures { IsJudged (judgement (told_of None) old.now before.now) result }
-{
-    if old == before {
-        return Ok(());
-    }
-    Err(ChangeFault::OtherRoot)
+    let back = turned(alloc.clone()?, changes)?;
+    verify_inversion_blocks::<D, B, A>(alloc, after, before, blocks, &back)
 }

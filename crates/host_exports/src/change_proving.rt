@@ -15,7 +15,7 @@ use host::Host;
 use std::alloc::Allocator;
 use std::sync::{Arc, Wait};
 
-/// The proof of some changes that led to a repository as it is, as `change_proofs::prove_change` makes it: the nodes of its
+/// The proof of some changes that led to a repository as it is, as `change_proofs::prove_inversion` makes it: the nodes of its
 /// tree that undoing them reads.
 ///
 /// `ProveChangeFault::NoSuchRepository` says that there is no such repository, `ProveChangeFault::OtherValue` has the place of
@@ -40,7 +40,7 @@ pub fn prove_change<D: Digest, const B: u8, A: Allocator + Copy, R: Wait>(
         return Err(ProveChangeFault::NoSuchRepository);
     }
     host.fits_in_memory();
-    match change_proofs::prove_change(alloc, &host.read(rt, repo, 0), changes) {
+    match change_proofs::prove_inversion(alloc, &host.read(rt, repo, 0), changes) {
         Ok(nodes) => Ok(nodes),
         Err(fault) => Err(ProveChangeFault::from(fault)),
     }

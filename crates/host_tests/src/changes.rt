@@ -4,7 +4,7 @@ ghost use Rattle.std.specs.Prelude.{◌≡◌};
 
 use crate::seated::{Alone, open_one};
 use block::Block;
-use change_proofs::{ChangeFault, KeyChange, are_key_changes, verify_blocks};
+use change_proofs::{ChangeFault, KeyChange, are_key_changes, verify_inversion_blocks};
 use cid::Cid;
 use cid::digests::Toy;
 use host::{Host, Writer};
@@ -119,7 +119,7 @@ fn shown(
     if !are_key_changes(changes) {
         return Err(ChangeFault::NoMemory);
     }
-    verify_blocks::<Toy, 2, _>(alloc, roots.before, roots.after, nodes, changes)
+    verify_inversion_blocks::<Toy, 2, _>(alloc, roots.before, roots.after, nodes, changes)
 }
 
 /// The nodes but for the one of this CID, each behind a stranger's block.

@@ -7,7 +7,7 @@ ghost use Rattle.host.specs.Views.{IsSeatOf};
 use crate::exports::car_of;
 use crate::hosts::limits;
 use crate::seated::{Alone, close_one};
-use change_proofs::{KeyChange, are_key_changes, verify_blocks};
+use change_proofs::{KeyChange, are_key_changes, verify_inversion_blocks};
 use cid::Cid;
 use cid::digests::Toy;
 use closing::Closed;
@@ -220,7 +220,9 @@ fn proves_all<R: Wait>(
     }
     let before = Cid::of::<Toy>(EMPTY_NODE);
     match prove_change(rt, alloc, host, 0, changes) {
-        Ok(nodes) => verify_blocks::<Toy, 2, _>(alloc, before, root, &nodes, changes).is_ok(),
+        Ok(nodes) => verify_inversion_blocks::<Toy, 2, _>(
+            alloc, before, root, &nodes, changes,
+        ).is_ok(),
         Err(_) => false,
     }
 }

@@ -15,7 +15,7 @@ use crate::edits::changes_of;
 use crate::proving::spell_blocks;
 use buffers::{DONE, cid_in, hand, slices};
 use change_proofs::{
-    ChangeFault, KeyChange, ProvingFault, are_key_changes, prove_change, verify_change,
+    ChangeFault, KeyChange, ProvingFault, are_key_changes, prove_inversion, verify_inversion,
 };
 use cid::{Cid, Sha256};
 use edit::Change;
@@ -27,7 +27,8 @@ const OTHER_VALUE: u8 = 33;
 /// The changes undone lead to another root.
 const OTHER_ROOT: u8 = 34;
 
-/// Whether the tree with the root `before` became that with the root `after` by these changes, as nodes of the tree after show.
+/// Whether the tree with the root `before` became that with the root `after` by these changes, as nodes of the tree after show:
+/// undone, they lead back to the root before. Of a root after that no pairs have, 0 says nothing.
 ///
 /// A key had the value of 36 bytes at its place among `befores`, and has that among `afters`; 36 zeros stand for none. The keys
 /// have 1 to 1,024 bytes and ascend strictly. 0 where the changes are shown; 2 where a node is missing, whose CID is then in
@@ -94,7 +95,7 @@ fn verify_over(
     ensures missing { ¬ (result ≡ 2) → ¬ (result ≡ 30) → missing.new ≡ missing.old }
     ensures place { ¬ (result ≡ 33) → place.new ≡ place.old }
 {
-    let answer = verify_change::<Sha256, 2, _, _>(alloc, before, after, nodes, changes);
+    let answer = verify_inversion::<Sha256, 2, _, _>(alloc, before, after, nodes, changes);
     tell_verdict(&answer, missing, place)
 }
 
@@ -296,7 +297,7 @@ fn proven_bytes(
     ensures proof { IfOk result (λ bytes. IsSpelt repo.now.state changes.now bytes.items) }
     ensures fault { IfErr result (IsUntrue sha256 repo.now.state changes.now) }
 {
-    let nodes = prove_change(alloc, repo.core(), changes)?;
+    let nodes = prove_inversion(alloc, repo.core(), changes)?;
     match spell_blocks(alloc, &nodes) {
         Ok(bytes) => Ok(bytes),
         Err(_) => Err(ProvingFault::NoMemory),

@@ -1,24 +1,35 @@
-use Rattle.std.proofs.Common.{map, subst, ap, ◌∙◌}
-use Rattle.std.specs.Arc.{arc_value}
-use Rattle.change_proofs.specs.Verdicts.{IsVerdict, IsRight, IsWhole, IsOfTree}
+use Rattle.std.proofs.Common.{◌≡◌, true, sym, map, subst, ◌∙◌}
+use Rattle.edit.specs.Batches.{are_changes}
+use Rattle.change_laws.specs.Told.{undone}
+use Rattle.change_proofs.specs.Verdicts.{IsVerdict, IsWhole, IsOfTree}
+use Rattle.change_proofs.proofs.Keys.{taken-turned}
+use Rattle.change_proofs.proofs.Stepped.{keyed-done, step-right, step-whole}
 use Rattle.change_proofs.proofs.verifying.verify_change.Goals as goal
 
 pub returns-clause-verdict : goal.returns-clause-verdict
 returns-clause-verdict g c =
-    subst (λ given. IsVerdict g.D.Digest.digest_of g.row.B c.args.before c.args.after given c.args.changes.now
-    c.verify_blocks.result) (ap (map arc_value) c.deref.ensures.value ∙ c.in_ok-own.ensures) c.verify_blocks.ensures.verdict
+    subst (λ cs. IsVerdict g.D.Digest.digest_of g.row.B c.args.after c.args.before (map g.K.AsSlice.items c.args.blocks.now) cs c.verify_inversion.result)
+    (c.deref.ensures.value ∙ c.in_ok-back.ensures) c.verify_inversion.ensures.verdict
 
 pub returns-clause-right : goal.returns-clause-right
 returns-clause-right g c =
-    subst (λ given. IsRight g.D.Digest.digest_of g.row.B c.args.before c.args.after given c.args.changes.now
-    c.verify_blocks.result) (ap (map arc_value) c.deref.ensures.value ∙ c.in_ok-own.ensures) c.verify_blocks.ensures.right
+    step-right g.D.Digest.digest_of g.row.B c.args.before c.args.after (map g.K.AsSlice.items c.args.blocks.now) c.args.changes.now
+    g.met.D.Digest.digest_len (keyed-done c.args.changes.now c.requires.changes) c.verify_inversion.result
+    (subst (λ cs. IsVerdict g.D.Digest.digest_of g.row.B c.args.after c.args.before (map g.K.AsSlice.items c.args.blocks.now) cs c.verify_inversion.result)
+    (c.deref.ensures.value ∙ c.in_ok-back.ensures) c.verify_inversion.ensures.verdict)
 
 pub returns-clause-comes : goal.returns-clause-comes
 returns-clause-comes g c =
-    subst (λ given. IsWhole g.D.Digest.digest_of g.row.B c.args.before c.args.after given c.args.changes.now
-    c.verify_blocks.result) (ap (map arc_value) c.deref.ensures.value ∙ c.in_ok-own.ensures) c.verify_blocks.ensures.comes
+    step-whole g.D.Digest.digest_of g.row.B c.args.before c.args.after (map g.K.AsSlice.items c.args.blocks.now) c.args.changes.now c.verify_inversion.result
+    (subst (λ cs. IsWhole g.D.Digest.digest_of g.row.B c.args.after c.args.before (map g.K.AsSlice.items c.args.blocks.now) cs c.verify_inversion.result)
+    (c.deref.ensures.value ∙ c.in_ok-back.ensures) c.verify_inversion.ensures.comes)
 
 pub returns-clause-tree : goal.returns-clause-tree
 returns-clause-tree g c =
-    subst (λ given. IsOfTree g.D.Digest.digest_of g.row.B c.args.before c.args.after given c.args.changes.now
-    c.verify_blocks.result) (ap (map arc_value) c.deref.ensures.value ∙ c.in_ok-own.ensures) c.verify_blocks.ensures.tree
+    subst (λ cs. IsOfTree g.D.Digest.digest_of g.row.B c.args.after c.args.before (map g.K.AsSlice.items c.args.blocks.now) cs c.verify_inversion.result)
+    (c.deref.ensures.value ∙ c.in_ok-back.ensures) c.verify_inversion.ensures.tree
+
+pub verify_inversion-requires-clause-changes : goal.verify_inversion-requires-clause-changes
+verify_inversion-requires-clause-changes g c =
+    subst (λ cs. are_changes (undone cs) ≡ true) (sym (c.deref.ensures.value ∙ c.in_ok-back.ensures))
+    (taken-turned c.args.changes.now ∙ c.requires.changes)

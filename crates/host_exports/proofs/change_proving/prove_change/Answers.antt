@@ -11,8 +11,8 @@ read-requires g c =
     let fits : size (layout (host.the_row (param 0 g.row.D) (number g.row.B) (param 2 g.row.A) g.D.Digest g.A.Allocator g.A.Clone)) < 2 ^ 63 = search (c.requires-raw, rules) in
     (fits, (c.fits_in_memory.ensures.core, subst (λ n. c.args.repo < n) c.repos.ensures.repos c.if-repo-repos.false))
 
-pub prove_change-requires : goal.prove_change-requires
-prove_change-requires g c = (c.fits_in_memory.ensures.core, (c.requires.least_bits, c.requires.changes))
+pub prove_inversion-requires : goal.prove_inversion-requires
+prove_inversion-requires g c = (c.fits_in_memory.ensures.core, (c.requires.least_bits, c.requires.changes))
 
 pub returns-in-Ok-clause-proof : goal.returns-in-Ok-clause-proof
 returns-in-Ok-clause-proof g c =

@@ -7,7 +7,7 @@ use Rattle.edit.specs.Previews.{IsPreview, IsPreviewReason, IsPreviewReached}
 use Rattle.change_laws.specs.Verdict.{are_told}
 use Rattle.change_proofs.specs.Verdicts.{IsSaidOver, told_of}
 use Rattle.change_proofs.proofs.Saying.{preview-said, reason-said}
-use Rattle.change_proofs.proofs.verifying.verify_over.Goals as goal
+use Rattle.change_proofs.proofs.verifying_inversions.verify_over.Goals as goal
 
 pub returns-in_err-found : goal.returns-in_err-found
 returns-in_err-found g c =

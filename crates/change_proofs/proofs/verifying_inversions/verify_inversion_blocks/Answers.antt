@@ -7,7 +7,7 @@ use Rattle.change_laws.specs.Told.{undone}
 use Rattle.change_proofs.specs.Verdicts.{IsSaidOver}
 use Rattle.change_proofs.proofs.Judged.{verdict-is, verdict-right}
 use Rattle.change_proofs.proofs.Wholes.{verdict-whole, verdict-tree}
-use Rattle.change_proofs.proofs.verifying.verify_blocks.Goals as goal
+use Rattle.change_proofs.proofs.verifying_inversions.verify_inversion_blocks.Goals as goal
 
 pub returns-clause-verdict : goal.returns-clause-verdict
 returns-clause-verdict g c =

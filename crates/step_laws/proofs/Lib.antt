@@ -1,0 +1,4 @@
+pub mod Turning
+pub mod Stepping
+pub mod Chaining
+pub mod Rows
