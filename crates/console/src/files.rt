@@ -1,5 +1,5 @@
 //! The files that words of a command line name.
-ghost use Rattle.std.specs.Prelude.{◌≡◌, ◌≢◌, IfOk, None, Some};
+ghost use Rattle.std.specs.Prelude.{◌≡◌, ℕ, List, IfOk, None, Option, Some};
 ghost use Rattle.std.specs.IoError.{error_kind};
 ghost use Rattle.console.specs.Files.{open_fault_text, open_status};
 

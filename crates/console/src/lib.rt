@@ -6,6 +6,7 @@
 //!   `Decimal` shows a number.
 //! - `Files` is where a command finds the files that its words name, and `OpenFault` says why one can't be opened.
 //!   `with_file` gives a command the word that names one, and `file_of` reads it.
+//! - `Watched` shows how much of an input was read, where that takes long.
 //! - `DONE`, `FAULTY`, `USAGE`, `NO_MEMORY` and `IO_FAILED` are the exit statuses. `done` ends what has written its text.
 //!   `tell` says on standard error what is wrong; `no_memory`, `write_failed` and `unopened` do so and answer the status.
 #![tactic(auto)]
@@ -16,6 +17,7 @@ mod file_word;
 mod files;
 mod hexadecimal;
 mod numbered;
+mod progress;
 mod reading;
 mod status;
 mod telling;
@@ -27,6 +29,7 @@ pub use file_word::{file_of, with_file};
 pub use files::{Files, OpenFault};
 pub use hexadecimal::bytes_of_hex;
 pub use numbered::{NumberedLines, numbered_lines};
+pub use progress::Watched;
 pub use reading::{ReadFault, read_all};
 pub use status::{DONE, FAULTY, IO_FAILED, NO_MEMORY, USAGE};
 pub use telling::{done, no_memory, tell, unopened, write_failed};
