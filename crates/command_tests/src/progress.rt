@@ -64,14 +64,14 @@ fn nothing_is_shown_within_a_second(rt: HostRuntime) {
 #[test]
 fn progress_is_shown_and_taken_away(rt: HostRuntime) {
     let (told, is_whole) = shown(rt.alloc(), 150, true);
-    let wanted = b"\r7 bytes read\r                               \r";
+    let wanted: &[u8] = b"\r7 bytes read\r                               \r";
     assert!(rt; told.as_slice() == wanted && is_whole);
 }
 
 #[test]
 fn progress_is_shown_five_times_a_second(rt: HostRuntime) {
     let (told, _) = shown(rt.alloc(), 199, true);
-    let wanted = b"\r6 bytes read\r8 bytes read\r                               \r";
+    let wanted: &[u8] = b"\r6 bytes read\r8 bytes read\r                               \r";
     assert!(rt; told.as_slice() == wanted, "{told:?}");
 }
 
