@@ -57,6 +57,7 @@ pub(crate) fn asked_of<'a>(alloc: Global, words: &'a [&'a str]) -> Result<Asked<
 }
 
 /// What the command that was found is to do, and on which file.
+#[tactic(auto, using(crate::proofs::OnFiles::file_found, crate::proofs::OnFiles::none_found))]
 fn asked_in<'a>(matches: &ArgMatches<'a>) -> Asked<'a>
     requires { IsSomeAnd (subcommand_rows_of matches.now) (λ c. IsCommandName c.0) }
     ensures request { IsSomeAnd (subcommand_rows_of matches.now)

@@ -152,6 +152,7 @@ fn do_asked<
 
 /// Does what is asked for on the file of this name, and answers the status. Where that can't be opened it is told, and
 /// nothing is written.
+#[tactic(auto, using(crate::proofs::OnFiles::unopened_ends, crate::proofs::OnFiles::begun_with_nothing))]
 fn do_on_file<
     D: Digest + Send + Sync,
     T: Threads + Wait + RandomSource + Sync,
