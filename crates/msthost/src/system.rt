@@ -21,6 +21,7 @@ impl Read for Source {
 }
 
 /// The files of the operating system.
+#[derive(Drop)]
 pub(crate) struct SystemFiles<'a> {
     rt: &'a HostRuntime,
 }
