@@ -1,5 +1,5 @@
 -- A command on a file that its words name.
-use Rattle.std.proofs.Common.{◌≡◌, ◌⊎◌, ◌∙◌, ℕ, List, [], Some, None, inl, inr, ap, refl, subst, sym}
+use Rattle.std.proofs.Common.{◌≡◌, ◌⊎◌, ◌∙◌, ℕ, List, [], Some, None, inl, inr, ap, refl, subst}
 use Rattle.std.specs.Prelude.{Option, option_map, unwrap_or}
 use Rattle.std.specs.Io.KnownBytes.{Keeps}
 use Rattle.clap.specs.Walk.{Row, Text}
