@@ -28,6 +28,7 @@ class Help:
         self.commands = re.findall(r"^  ([\w-]+) +(.+)$", found.get("Commands", ""), re.M)
         self.arguments = items_of(found.get("Arguments", ""))
         self.options = [Option(head, told) for head, told in items_of(found.get("Options", ""))]
+        self.takes_file = any(head == "[FILE]" for head, _ in self.arguments)
         example = found.get("Example", "") + found.get("Examples", "")
         self.example = [it.removeprefix("  ") for it in example.rstrip().split("\n")]
 
@@ -98,10 +99,13 @@ def for_bash(whole: Help, helps: dict[str, Help]) -> str:
     def flags(found: list[Option]) -> str:
         return " ".join(flag for it in found for flag in it.flags)
 
-    cases = "".join(f"    {name}) words='{flags(it.options)}' ;;\n" for name, it in helps.items())
+    def files(it: Help) -> str:
+        return " files=1" if it.takes_file else ""
+
+    cases = "".join(f"    {name}) words='{flags(it.options)}'{files(it)} ;;\n" for name, it in helps.items())
     valued = "|".join(sorted({flag for it in helps.values() for option in it.options if option.value for flag in option.flags}))
     return f"""_{NAME}() {{
-  local words before=${{COMP_WORDS[COMP_CWORD-1]}}
+  local words files before=${{COMP_WORDS[COMP_CWORD-1]}}
   COMPREPLY=()
   case $before in
     {valued}) return ;;
@@ -112,6 +116,10 @@ def for_bash(whole: Help, helps: dict[str, Help]) -> str:
 {cases}    *) return ;;
   esac
   COMPREPLY=($(compgen -W "$words" -- "${{COMP_WORDS[COMP_CWORD]}}"))
+  if [ -n "$files" ]; then
+    local IFS=$'\\n'
+    COMPREPLY+=($(compgen -f -- "${{COMP_WORDS[COMP_CWORD]}}"))
+  fi
 }}
 complete -o default -F _{NAME} {NAME}
 """
@@ -130,7 +138,10 @@ def for_zsh(whole: Help, helps: dict[str, Help]) -> str:
         return " ".join(words)
 
     commands = " ".join(f"'{name}:{quoted(told)}'" for name, told in whole.commands)
-    cases = "".join(f"        {name}) _arguments {arguments(it.options)} {' '.join(repr(':' + word + ':') for word in re.findall('<(.+?)>', it.usage))} ;;\n" for name, it in helps.items())
+    def words(it: Help) -> str:
+        return " ".join([repr(f":{word}:") for word in re.findall("<(.+?)>", it.usage)] + (["':FILE:_files'"] if it.takes_file else []))
+
+    cases = "".join(f"        {name}) _arguments {arguments(it.options)} {words(it)} ;;\n" for name, it in helps.items())
     return f"""#compdef {NAME}
 _{NAME}() {{
   local state line curcontext=$curcontext
@@ -163,6 +174,8 @@ def for_fish(whole: Help, helps: dict[str, Help]) -> str:
     lines += [f"complete -c {NAME} -n __fish_use_subcommand -a {name} -d {quoted(told)}" for name, told in whole.commands]
     for name, it in helps.items():
         lines += options(it.options, f"__fish_seen_subcommand_from {name}")
+        if it.takes_file:
+            lines += [f"complete -c {NAME} -n {quoted(f'__fish_seen_subcommand_from {name}')} -F"]
     return "\n".join(lines) + "\n"
 
 

@@ -3,6 +3,7 @@ use Rattle.std.specs.Prelude.{◌≡◌, ◌≢◌, ℕ, List, [], ◌∷◌, co
 use Rattle.clap.specs.Simple.{App, Shape, new_shape}
 use Rattle.clap.specs.Words.{with_subcommand}
 use Rattle.clap.specs.Walk.{Row}
+use Rattle.console.specs.FileWords.{with_file}
 use Rattle.repository_commands.specs.Words.{required_rule, word_or}
 use Rattle.change_commands.specs.declared.words.ChangeCommand.{ChangeCommand}
 use Rattle.change_commands.specs.declared.words.ChangeCommand.TheVariants as commands
@@ -16,9 +17,10 @@ verify_change_shape = record (new_shape (codes "verify-change")) {
   rules = required_rule (codes "before") ∷ required_rule (codes "after") ∷ [];
 }
 
--- a program with these commands
+-- a program with these commands, each of which may be given a file
 abbrev pub with_commands : App → App
-with_commands app = with_subcommand (with_subcommand app prove_change_shape) verify_change_shape
+with_commands app = with_subcommand (with_subcommand app (with_file prove_change_shape))
+    (with_file verify_change_shape)
 
 -- the command is the one of this name, and has what the words say
 abbrev pub IsOfWords : List ℕ → List Row → ChangeCommand → Type 0

@@ -5,6 +5,7 @@ ghost use Rattle.clap.specs.declared.builder.command.Command.TheViews.{out-Comma
 ghost use Rattle.change_commands.specs.Words.{prove_change_shape, verify_change_shape, with_commands, IsOfWords, IsOtherName};
 
 use clap::{ArgMatches, Command};
+use console::with_file;
 use repository_commands::{required, word_or};
 use std::alloc::{AllocError, Global};
 
@@ -25,7 +26,7 @@ pub enum ChangeCommand<'a> {
 const PROVE_CHANGE: &str = "Reads a repository and a batch, and writes what changes and its proof";
 
 const LONG_PROVE_CHANGE: &str = "\
-Reads lines KEY HEX from standard input, the records of a repository, then an empty line, and then the writes of one
+Reads lines KEY HEX, the records of a repository, then an empty line, and then the writes of one
 batch, lines put KEY HEX, create KEY HEX, update KEY HEX and delete KEY. It writes the text of the CID of the tree's root
 before the batch and that after it, a line each, then a line 'change KEY BEFORE AFTER' for each key of the batch, with the
 CID of its record or '-', and then the nodes that show these changes, a line in hexadecimal each. Line numbers count empty
@@ -41,7 +42,7 @@ Example:
 const VERIFY_CHANGE: &str = "Reads what prove-change writes, and writes whether it is shown";
 
 const LONG_VERIFY_CHANGE: &str = "\
-Reads from standard input what prove-change writes: two roots, changes and nodes. Where the roots are BEFORE and AFTER, and
+Reads what prove-change writes: two roots, changes and nodes. Where the roots are BEFORE and AFTER, and
 the nodes show that by the changes the tree with the root BEFORE became the one with AFTER, it writes 'shown'. Nothing but
 BEFORE and AFTER is trusted: take them from elsewhere, as the prevData and the data of a commit.
 
@@ -60,8 +61,8 @@ pub fn with_words<'a>(alloc: Global, program: Command<'a>) -> Result<Command<'a>
     ensures { IfOk result (λ r. app_of r ≡ with_commands (app_of program.entry)) }
 {
     program
-        .subcommand(prove_change_words(alloc))?
-        .subcommand(verify_change_words(alloc)?)
+        .subcommand(with_file(alloc, prove_change_words(alloc))?)?
+        .subcommand(with_file(alloc, verify_change_words(alloc)?)?)
 }
 
 /// The command of this name, with what its words say; or `None` where it is another.
@@ -87,7 +88,6 @@ fn prove_change_words<'a>(alloc: Global) -> Command<'a>
     ensures local { (fields_of result).has_globals ≡ false }
 {
     Command::new(alloc, "prove-change")
-        .override_usage("msthost prove-change < FILE")
         .about(PROVE_CHANGE)
         .long_about(LONG_PROVE_CHANGE)
         .after_help(PROVE_CHANGE_EXAMPLE)
@@ -99,7 +99,6 @@ fn verify_change_words<'a>(alloc: Global) -> Result<Command<'a>, AllocError>
     ensures local { IfOk result (λ r. (fields_of r).has_globals ≡ false) }
 {
     Command::new(alloc, "verify-change")
-        .override_usage("msthost verify-change <BEFORE> <AFTER> < FILE")
         .about(VERIFY_CHANGE)
         .long_about(LONG_VERIFY_CHANGE)
         .after_help(VERIFY_CHANGE_EXAMPLE)

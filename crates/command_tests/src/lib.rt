@@ -15,13 +15,19 @@ mod faults;
 #[cfg(test)]
 mod files;
 #[cfg(test)]
+mod held_files;
+#[cfg(test)]
 mod large;
 #[cfg(test)]
 mod listings;
 #[cfg(test)]
 mod memory;
 #[cfg(test)]
+mod named_files;
+#[cfg(test)]
 mod paths;
+#[cfg(test)]
+mod progress;
 #[cfg(test)]
 mod requests;
 #[cfg(test)]

@@ -1,4 +1,5 @@
 //! Which command `run_words` says that the words ask for.
+use crate::held_files::NO_FILES;
 use crate::running::EMPTY;
 use change_commands::ChangeCommand;
 use cid::Sha256;
@@ -38,8 +39,8 @@ fn request_of<T: Threads + Wait + RandomSource + Sync>(
     let mut input: &[u8] = b"";
     let mut out = Vec::new(alloc);
     let mut err = Vec::new(alloc);
-    match run_words::<Sha256, _, _, _, _>(
-        rt, alloc, words, &mut input, &mut out, &mut err,
+    match run_words::<Sha256, _, _, _, _, _>(
+        rt, alloc, words, &NO_FILES, &mut input, &mut out, &mut err,
     ).request
     {
         None => Asked::Nothing,

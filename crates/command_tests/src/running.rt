@@ -1,4 +1,5 @@
 //! Running a command over memory, and what came of it.
+use crate::held_files::NO_FILES;
 use cid::{Digest, Sha256};
 use commands::run_words;
 use std::alloc::{AllocError, Global};
@@ -61,8 +62,8 @@ pub(crate) fn run_over<T: Threads + Wait + RandomSource + Sync, R: Read>(
 ) -> Ended {
     let mut out = Vec::new(alloc);
     let mut err = Vec::new(alloc);
-    let status = run_words::<Sha256, _, _, _, _>(
-        rt, alloc, words, input, &mut out, &mut err,
+    let status = run_words::<Sha256, _, _, _, _, _>(
+        rt, alloc, words, &NO_FILES, input, &mut out, &mut err,
     ).status;
     Ended { status, out, err }
 }
@@ -77,7 +78,9 @@ pub(crate) fn run_with<D: Digest + Send + Sync, T: Threads + Wait + RandomSource
     let mut input = input;
     let mut out = Vec::new(alloc);
     let mut err = Vec::new(alloc);
-    let outcome = run_words::<D, _, _, _, _>(rt, alloc, words, &mut input, &mut out, &mut err);
+    let outcome = run_words::<D, _, _, _, _, _>(
+        rt, alloc, words, &NO_FILES, &mut input, &mut out, &mut err,
+    );
     Ended {
         status: outcome.status,
         out,

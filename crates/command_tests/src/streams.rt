@@ -1,6 +1,7 @@
 //! Readers and writers that fail, or move few bytes at a time.
 ghost use Rattle.std.specs.Prelude.{Some};
 
+use crate::held_files::NO_FILES;
 use crate::running::{EMPTY, Ended, TREE, joined, run, run_over};
 use cid::Sha256;
 use commands::run_words;
@@ -195,8 +196,8 @@ fn run_into<T: Threads + Wait + RandomSource + Sync>(
     let mut input = input;
     let mut out = out;
     let mut err = Vec::new(alloc);
-    let status = run_words::<Sha256, _, _, _, _>(
-        rt, alloc, words, &mut input, &mut out, &mut err,
+    let status = run_words::<Sha256, _, _, _, _, _>(
+        rt, alloc, words, &NO_FILES, &mut input, &mut out, &mut err,
     ).status;
     Ended {
         status,
@@ -324,13 +325,15 @@ fn standard_error_that_fails(rt: HostRuntime) {
     let mut input: &[u8] = b"a/b";
     let mut out = Vec::new(rt.alloc());
     let mut err = narrow(rt.alloc(), 0, End::Fails);
-    let status = run_words::<Sha256, _, _, _, _>(
+    let status = run_words::<Sha256, _, _, _, _, _>(
         &rt,
         rt.alloc(),
         &TREE,
+        &NO_FILES,
         &mut input,
         &mut out,
         &mut err,
-    ).status;
+    )
+    .status;
     assert!(rt; status == 1 && out.is_empty());
 }

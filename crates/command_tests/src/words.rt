@@ -9,25 +9,27 @@ use std::sync::Wait;
 use std::thread::Threads;
 
 /// Wrong command lines.
-static WRONG: [&[&str]; 27] = [
+static WRONG: [&[&str]; 29] = [
     &[],
     &["msthost"],
     &["msthost", "help", "tree"],
     &["msthost", "explain", "BadLine", "BadKey"],
+    &["msthost", "check", "a.car", "b.car"],
+    &["msthost", "verify-change", EMPTY, EMPTY, "a.txt", "b.txt"],
     &["msthost", "trees"],
-    &["msthost", "tree", "file"],
+    &["msthost", "tree", "a.txt", "b.txt"],
     &["msthost", "tree", "--bits"],
     &["msthost", "tree", "--bits", "0"],
     &["msthost", "tree", "--bits", "9"],
     &["msthost", "tree", "--bits", "two"],
-    &["msthost", "car", "x"],
+    &["msthost", "car", "a.txt", "b.txt"],
     &["msthost", "car", "--did"],
     &["msthost", "prove"],
-    &["msthost", "prove", "a/b", "a/c"],
+    &["msthost", "prove", "a/b", "a.txt", "b.txt"],
     &["msthost", "prove", "a/b", "--did", "did:web:a.b"],
     &["msthost", "verify", EMPTY],
-    &["msthost", "verify", EMPTY, "a/b", "a/c"],
-    &["msthost", "run", "x"],
+    &["msthost", "verify", EMPTY, "a/b", "a.txt", "b.txt"],
+    &["msthost", "run", "a.txt", "b.txt"],
     &["msthost", "run", "--did"],
     &["msthost", "run", "--rev", "2222222222222"],
     &["msthost", "run", "--repos", "0"],
@@ -69,15 +71,15 @@ static HELP: [(&[&str], &str); 20] = [
     (&["msthost", "help"], "$ printf '' | msthost tree"),
     (
         &["msthost", "tree", "--help"],
-        "Usage: msthost tree [OPTIONS] < FILE\n",
+        "Usage: msthost tree [OPTIONS] [FILE]\n",
     ),
     (
         &["msthost", "verify", "--help"],
-        "Usage: msthost verify <ROOT> <KEY> < FILE\n",
+        "Usage: msthost verify <ROOT> <KEY> [FILE]\n",
     ),
     (
         &["msthost", "run", "--help"],
-        "Usage: msthost run [OPTIONS] < FILE\n",
+        "Usage: msthost run [OPTIONS] [FILE]\n",
     ),
     (
         &["msthost", "explain", "--help"],

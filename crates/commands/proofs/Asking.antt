@@ -1,5 +1,5 @@
 -- What clap's contract says of the program's command lines.
-use Rattle.std.proofs.Common.{◌∙◌, ◌≡◌, ◌≢◌, ℕ, inl, inr, ap, subst, sym, cond, false, refl, true, Bool, List, [], ◌∷◌, arith, rules, ◌⊎◌}
+use Rattle.std.proofs.Common.{◌∙◌, ◌≡◌, ◌≢◌, ℕ, inl, inr, ap, subst, sym, cond, false, refl, true, Bool, List, [], ◌∷◌, arith, ◌⊎◌}
 use Rattle.std.specs.Prelude.{⊤, codes, Option, Some, None, Result, Ok, Err, IfErr, IsErrAnd, IfSome, IsSomeAnd, is_some, option_map, find}
 use Rattle.clap.proofs.OnLiterals.{clap_on_literals}
 use Rattle.clap.specs.Words.{App, HasMatchesOf, Row, Shape, Text, built, fault_of, is_simple}

@@ -1,7 +1,9 @@
 -- What the words of a command line ask for, by clap's contract. Of a program as simple as this one it
 -- has as functions of the words which faults they have (`fault_of`), and which command they name, with
 -- the values of its options (`subcommand_of`).
-use Rattle.std.specs.Prelude.{◌≡◌, ◌⊎◌, ℕ, Bool, true, false, List, [], ◌∷◌, IsSomeAnd, codes}
+use Rattle.std.specs.Prelude.{◌≡◌, ◌⊎◌, ℕ, Bool, true, false, List, [], ◌∷◌, IsSomeAnd, Option, codes}
+use Rattle.std.specs.Prelude.{option_and_then, option_map}
+use Rattle.std.specs.Borrow.{Bor}
 use Rattle.std.specs.List.{Any}
 use Rattle.clap.specs.Faults.{fault_of}
 use Rattle.clap.specs.Kinds.{IsAmong, Kinds}
@@ -9,6 +11,7 @@ use Rattle.clap.specs.Simple.{App, Shape, new_shape, subcommand_of}
 use Rattle.clap.specs.Walk.{Row, Text}
 use Rattle.clap.specs.declared.error.kind.ErrorKind.{ErrorKind}
 use Rattle.clap.specs.declared.error.kind.ErrorKind.TheVariants.{DisplayHelp, DisplayVersion}
+use Rattle.console.specs.FileWords.{file_in, with_file}
 use Rattle.commands.specs.declared.command_line.Request.{Request}
 use Rattle.commands.specs.declared.command_line.Request.TheVariants as requests
 use Rattle.explain_command.specs.Words.{HasNameOf, explain_shape}
@@ -32,12 +35,14 @@ program_shape = record (new_shape (codes "msthost")) {
 abbrev pub help_shape : Shape
 help_shape = new_shape (codes "help")
 
--- the program with its twelve commands
+-- the program with its twelve commands, of which those that read something may be given a file
 unfoldable pub msthost : App
 msthost = record {
   top = program_shape;
-  subs = tree_shape ∷ car_shape ∷ prove_shape ∷ verify_shape ∷ prove_change_shape ∷ verify_change_shape
-      ∷ check_shape ∷ records_shape ∷ commit_shape ∷ run_shape ∷ explain_shape ∷ help_shape ∷ [];
+  subs = with_file tree_shape ∷ with_file car_shape ∷ with_file prove_shape ∷ with_file verify_shape
+      ∷ with_file prove_change_shape ∷ with_file verify_change_shape ∷ with_file check_shape
+      ∷ with_file records_shape ∷ with_file commit_shape ∷ with_file run_shape ∷ explain_shape
+      ∷ help_shape ∷ [];
 }
 
 -- the request is the one of this name, with what the command's own words say
@@ -57,6 +62,18 @@ IsNamed name rows requests.Help = name ≡ codes "help"
 pub record IsAskedBy (words : List Text) (request : Request) : Type 0 where
   pub faultless : fault_of msthost words ≡ []
   pub found : IsSomeAnd (subcommand_of msthost words) (λ c. IsNamed c.0 c.1 request)
+
+-- the file that the words of a command name, if there is a command and they name one
+abbrev pub file_given : Option (Text × List Row) → Option Text
+file_given = option_and_then (λ c. file_in c.1)
+
+-- the file that the words of a command line name for its command to read, if they name one
+abbrev pub file_of_words : List Text → Option Text
+file_of_words words = file_given (subcommand_of msthost words)
+
+-- the name of a file, if there is one
+abbrev pub name_of : Option (Bor Text) → Option Text
+name_of = option_map (λ name. name.now)
 
 -- one of the commands has this name
 abbrev pub IsCommandName : Text → Type 0

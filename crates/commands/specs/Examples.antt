@@ -1,12 +1,12 @@
 -- Some command lines, and what the definitions make of them.
-use Rattle.std.specs.Prelude.{◌≡◌, List, [], ◌∷◌, codes}
+use Rattle.std.specs.Prelude.{◌≡◌, List, [], ◌∷◌, None, Some, codes}
 use Rattle.clap.specs.Kinds.{Kinds}
 use Rattle.clap.specs.Walk.{Text}
 use Rattle.clap.specs.Faults.{fault_of}
 use Rattle.clap.specs.declared.error.kind.ErrorKind.TheVariants as kinds
 use Rattle.tree_command.specs.declared.keys.Keys.TheVariants as keys
 use Rattle.tree_command.specs.declared.options.TreeOptions.{TreeOptions}
-use Rattle.commands.specs.CommandLine.{IsAskedBy, msthost}
+use Rattle.commands.specs.CommandLine.{IsAskedBy, file_of_words, msthost}
 use Rattle.commands.specs.declared.command_line.Request.{Request}
 use Rattle.commands.specs.declared.command_line.Request.TheVariants as requests
 
@@ -32,6 +32,14 @@ AsksForPaths =
     (faults words ≡ []) × ((request : Request) → IsAskedBy (line words) request
     → (options : TreeOptions) × (request ≡ requests.Tree options) × (options.bits.number ≡ 2)
     × (options.keys ≡ keys.Paths))
+
+-- `tree --paths FILE` has no fault, and names its file; `tree --paths` names none, and two are wrong
+abbrev pub NamesAFile : Type 0
+NamesAFile = (faults (codes "tree" ∷ codes "--paths" ∷ codes "list.txt" ∷ []) ≡ [])
+    × (file_of_words (line (codes "tree" ∷ codes "--paths" ∷ codes "list.txt" ∷ []))
+    ≡ Some (codes "list.txt"))
+    × (file_of_words (line (codes "tree" ∷ codes "--paths" ∷ [])) ≡ None)
+    × (faults (codes "tree" ∷ codes "a.txt" ∷ codes "b.txt" ∷ []) ≡ kinds.UnknownArgument ∷ [])
 
 -- help and the version are asked for
 abbrev pub AsksToBeShown : Type 0

@@ -1,5 +1,5 @@
 -- What a request writes.
-use Rattle.std.specs.Prelude.{⊤, [], ◌≡◌, ◌⊎◌, ℕ, false, List, Option, IfSome, is_ok}
+use Rattle.std.specs.Prelude.{⊤, [], ◌≡◌, ◌⊎◌, ℕ, false, List, Option, Some, None, IfSome, is_ok}
 use Rattle.std.specs.Io.KnownBytes.{Appends, Keeps}
 use Rattle.spec.specs.Stamps.{is_did}
 use Rattle.console.specs.Written.{AppendsBeginning, AppendsText}
@@ -77,3 +77,9 @@ HasFaultyWord (requests.OnExport command) = ⊥
 HasFaultyWord (requests.Run command) = is_did command.did.now ≡ false
 HasFaultyWord (requests.Explain command) = ⊥
 HasFaultyWord requests.Help = ⊥
+
+-- A run ends so where a word of its request is faulty: that is told, or memory was refused; or the file
+-- that the words name, which is opened first, can't be.
+abbrev pub EndsFaultyWord : Option (List ℕ) → ℕ → Type 0
+EndsFaultyWord None status = (status ≡ 1) ⊎ (status ≡ 3)
+EndsFaultyWord (Some file) status = (status ≡ 1) ⊎ ((status ≡ 3) ⊎ (status ≡ 4))

@@ -4,10 +4,12 @@ ghost use Rattle.clap.specs.Kinds.{HasKind};
 ghost use Rattle.clap.specs.Walk.{texts};
 ghost use Rattle.clap.specs.Words.{app_of, fault_of, found_of, rows_of, shape_of, subcommand_rows_of};
 ghost use Rattle.clap.specs.declared.builder.command.Command.TheViews.{out-Command as fields_of};
-ghost use Rattle.commands.specs.CommandLine.{IsAskedBy, IsCommandName, IsNamed, help_shape, msthost};
+ghost use Rattle.commands.specs.CommandLine.{IsAskedBy, IsCommandName, IsNamed, file_given, file_of_words};
+ghost use Rattle.commands.specs.CommandLine.{help_shape, msthost, name_of};
 
 use change_commands::ChangeCommand;
 use clap::{ArgMatches, Command, Error};
+use console::file_of;
 use explain_command::ExplainCommand;
 use export_commands::ExportCommand;
 use repository_commands::RepositoryCommand;
@@ -34,26 +36,44 @@ pub enum Request<'a> {
     Help,
 }
 
+/// A command, with the file that the words name for it to read, if they name one.
+#[derive(Clone, Copy)]
+pub(crate) struct Asked<'a> {
+    pub(crate) request: Request<'a>,
+    pub(crate) file: Option<&'a str>,
+}
+
 const ABOUT: &str = "Merkle search trees of AT Protocol repositories";
 
 /// What the words ask for, of which the first is the program's name; or the text for the user, as an error.
-pub(crate) fn request_of<'a>(alloc: Global, words: &'a [&'a str]) -> Result<Request<'a>, Error>
-    ensures asked { IfOk result (IsAskedBy (texts words.entry.now)) }
+pub(crate) fn asked_of<'a>(alloc: Global, words: &'a [&'a str]) -> Result<Asked<'a>, Error>
+    ensures asked { IfOk result (λ asked. IsAskedBy (texts words.entry.now) asked.request) }
+    ensures file { IfOk result
+        (λ asked. name_of asked.file ≡ file_of_words (texts words.entry.now)) }
     ensures refused { IfErr result (HasKind (fault_of msthost (texts words.entry.now))) }
 {
     let matches = command(alloc)?.try_get_matches_from(words)?;
-    Ok(request_in(&matches))
+    Ok(asked_in(&matches))
 }
 
-/// What the command that was found is to do.
-fn request_in<'a>(matches: &ArgMatches<'a>) -> Request<'a>
+/// What the command that was found is to do, and on which file.
+#[tactic(auto, using(crate::proofs::OnFiles::file_found, crate::proofs::OnFiles::none_found))]
+fn asked_in<'a>(matches: &ArgMatches<'a>) -> Asked<'a>
     requires { IsSomeAnd (subcommand_rows_of matches.now) (λ c. IsCommandName c.0) }
-    ensures { IsSomeAnd (subcommand_rows_of matches.now) (λ c. IsNamed c.0 c.1 result) }
+    ensures request { IsSomeAnd (subcommand_rows_of matches.now)
+        (λ c. IsNamed c.0 c.1 result.request) }
+    ensures file { name_of result.file ≡ file_given (subcommand_rows_of matches.now) }
 {
     match matches.subcommand() {
-        Some((name, words)) => request_by(name, words),
+        Some((name, words)) => Asked {
+            request: request_by(name, words),
+            file: file_of(words),
+        },
         // Never so: words without a command are refused before.
-        None => Request::Help,
+        None => Asked {
+            request: Request::Help,
+            file: None,
+        },
     }
 }
 
@@ -114,7 +134,7 @@ fn help<'a>(alloc: Global) -> Command<'a>
 pub(crate) fn help_of(alloc: Global) -> Error
     ensures { HasKind (fault_of msthost (codes "msthost" ∷ codes "--help" ∷ [])) result }
 {
-    match request_of(alloc, &["msthost", "--help"]) {
+    match asked_of(alloc, &["msthost", "--help"]) {
         Ok(_) => Error::from(AllocError),
         Err(error) => error,
     }

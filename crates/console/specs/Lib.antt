@@ -1,4 +1,6 @@
 pub mod Faults
+pub mod FileWords
+pub mod Files
 pub mod Lines
 pub mod Numbers
 pub mod Written

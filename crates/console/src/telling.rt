@@ -1,7 +1,9 @@
 //! How a command ends: what standard error is told, and the exit status.
 ghost use Rattle.std.specs.Prelude.{◌≡◌, ◌⊎◌};
 ghost use Rattle.std.specs.Io.KnownBytes.{Keeps};
+ghost use Rattle.console.specs.Files.{open_status};
 
+use crate::files::OpenFault;
 use crate::status::{DONE, IO_FAILED, NO_MEMORY};
 use std::fmt::Display;
 use std::io::Write;
@@ -37,4 +39,12 @@ pub fn write_failed<X: Write>(err: &mut X) -> u8
 {
     tell(&"write failed", err);
     IO_FAILED
+}
+
+/// Tells that the file of this name can't be opened, and answers the status.
+pub fn unopened<X: Write>(name: &str, fault: OpenFault, err: &mut X) -> u8
+    ensures { result ≡ open_status fault }
+{
+    let _ = writeln!(err, "msthost: {name}: {fault}");
+    fault.status()
 }

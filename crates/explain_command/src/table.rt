@@ -4,7 +4,7 @@
 pub type Explanation = (&'static str, &'static str, &'static str);
 
 /// Each fault that the program tells, but for those of a CAR file.
-pub static FAULTS: [(&str, &str, &str); 57] = [
+pub static FAULTS: [(&str, &str, &str); 61] = [
     (
         "BadLine",
         "the line has not the words that a line of this command has",
@@ -275,6 +275,26 @@ pub static FAULTS: [(&str, &str, &str); 57] = [
         "no memory",
         "memory was refused",
         "more input than there is memory: all of it is read before a line is judged",
+    ),
+    (
+        "not found",
+        "there is no file of this name",
+        "a name that is misspelt, or that is meant from another folder; two words where one was meant, as of a name with a space",
+    ),
+    (
+        "permission denied",
+        "the file may not be read",
+        "a file of another user",
+    ),
+    (
+        "is a directory",
+        "the name is that of a directory",
+        "the folder of the file in place of the file",
+    ),
+    (
+        "open failed",
+        "the file can't be opened",
+        "too many files are open; a device that failed",
     ),
     (
         "read failed",

@@ -4,6 +4,7 @@ use Rattle.clap.specs.Simple.{App, Shape, new_rule, new_shape}
 use Rattle.clap.specs.Words.{with_subcommand}
 use Rattle.clap.specs.Walk.{Row, Rule, one_of}
 use Rattle.clap.specs.declared.builder.action.ArgAction.TheVariants.{SetTrue}
+use Rattle.console.specs.FileWords.{with_file}
 use Rattle.export_commands.specs.declared.command.Values.{Values}
 use Rattle.export_commands.specs.declared.command.Values.TheVariants as values
 use Rattle.export_commands.specs.declared.command.ExportCommand.{ExportCommand}
@@ -23,10 +24,10 @@ records_shape = record (new_shape (codes "records")) { rules = cids_rule ∷ [] 
 abbrev pub commit_shape : Shape
 commit_shape = new_shape (codes "commit")
 
--- a program with these commands
+-- a program with these commands, each of which may be given a file
 abbrev pub with_commands : App → App
-with_commands app =
-    with_subcommand (with_subcommand (with_subcommand app check_shape) records_shape) commit_shape
+with_commands app = with_subcommand (with_subcommand (with_subcommand app (with_file check_shape))
+    (with_file records_shape)) (with_file commit_shape)
 
 -- where `--cids` is among the words CIDs are asked for, and else bytes
 pub record AreValuesOf (rows : List Row) (asked : Values) : Type 0 where

@@ -8,12 +8,13 @@ ghost use Rattle.export_commands.specs.Words.{check_shape, cids_rule, commit_sha
 
 use crate::command::{ExportCommand, Values};
 use clap::{Arg, ArgAction, ArgMatches, Command};
+use console::with_file;
 use std::alloc::{AllocError, Global};
 
 const CHECK: &str = "Reads a CAR file and writes which repository it is the export of";
 
 const LONG_CHECK: &str = "\
-Reads a CAR file from standard input, the export of a repository as a server gives it, and writes a line DID REV ROOT COUNT:
+Reads a CAR file, the export of a repository as a server gives it, and writes a line DID REV ROOT COUNT:
 whose repository it is, its revision, the text of the CID of its tree's root, and how many records it has.
 
 Nothing in the file is trusted: each block is hashed, and the tree is built anew from the records. Blocks may stand in any
@@ -24,13 +25,13 @@ failed.";
 
 const CHECK_EXAMPLE: &str = "\
 Example:
-  $ msthost check < examples/export.car
+  $ msthost check examples/export.car
   did:web:example.com 3jzfcijpj2z2e bafyreidyenu27cdomis4z7l7lj7qtx7zarjr3blh7rlt2hkugvb6dqhqum 5";
 
 const RECORDS: &str = "Reads a CAR file and writes the records of its repository";
 
 const LONG_RECORDS: &str = "\
-Reads a CAR file from standard input, checks it as check does, and writes a line KEY HEX for each record, in the order of
+Reads a CAR file, checks it as check does, and writes a line KEY HEX for each record, in the order of
 the keys: its key, a space, and its bytes in hexadecimal, as car reads them. With --cids it writes lines KEY CID, as tree
 reads them.
 
@@ -39,13 +40,13 @@ failed.";
 
 const RECORDS_EXAMPLE: &str = "\
 Example:
-  $ msthost records --cids < examples/export.car | msthost tree --paths | sed -n 1p
+  $ msthost records --cids examples/export.car | msthost tree --paths | sed -n 1p
   bafyreidyenu27cdomis4z7l7lj7qtx7zarjr3blh7rlt2hkugvb6dqhqum";
 
 const COMMIT: &str = "Reads a CAR file and writes what was signed and the signature";
 
 const LONG_COMMIT: &str = "\
-Reads a CAR file from standard input, checks it as check does, and writes two lines in hexadecimal: the bytes that were
+Reads a CAR file, checks it as check does, and writes two lines in hexadecimal: the bytes that were
 signed, which are those of its commit without the signature, and the signature. Who has the key of the DID tests it.
 
 Exit status: 0 done, 1 the file is no export of a repository, 2 a wrong command line, 3 no memory, 4 reading or writing
@@ -53,7 +54,7 @@ failed.";
 
 const COMMIT_EXAMPLE: &str = "\
 Example:
-  $ msthost commit < examples/export.car | cut -c 1-48
+  $ msthost commit examples/export.car | cut -c 1-48
   a563646964736469643a7765623a6578616d706c652e636f
   1bb733a46b791e232abc2edb6691704f6c5ef0bf1456c1c9";
 
@@ -62,9 +63,9 @@ pub fn with_words<'a>(alloc: Global, program: Command<'a>) -> Result<Command<'a>
     ensures { IfOk result (λ r. app_of r ≡ with_commands (app_of program.entry)) }
 {
     program
-        .subcommand(check_words(alloc))?
-        .subcommand(records_words(alloc)?)?
-        .subcommand(commit_words(alloc))
+        .subcommand(with_file(alloc, check_words(alloc))?)?
+        .subcommand(with_file(alloc, records_words(alloc)?)?)?
+        .subcommand(with_file(alloc, commit_words(alloc))?)
 }
 
 /// The command of this name, with what its words say; or `None` where it is another.
@@ -101,7 +102,6 @@ fn check_words<'a>(alloc: Global) -> Command<'a>
     ensures local { (fields_of result).has_globals ≡ false }
 {
     Command::new(alloc, "check")
-        .override_usage("msthost check < FILE.car")
         .about(CHECK)
         .long_about(LONG_CHECK)
         .after_help(CHECK_EXAMPLE)
@@ -113,7 +113,6 @@ fn records_words<'a>(alloc: Global) -> Result<Command<'a>, AllocError>
     ensures local { IfOk result (λ r. (fields_of r).has_globals ≡ false) }
 {
     Command::new(alloc, "records")
-        .override_usage("msthost records [OPTIONS] < FILE.car")
         .about(RECORDS)
         .long_about(LONG_RECORDS)
         .after_help(RECORDS_EXAMPLE)
@@ -126,7 +125,6 @@ fn commit_words<'a>(alloc: Global) -> Command<'a>
     ensures local { (fields_of result).has_globals ≡ false }
 {
     Command::new(alloc, "commit")
-        .override_usage("msthost commit < FILE.car")
         .about(COMMIT)
         .long_about(LONG_COMMIT)
         .after_help(COMMIT_EXAMPLE)

@@ -3,6 +3,7 @@ use Rattle.std.specs.Prelude.{◌≡◌, ◌≢◌, ℕ, true, List, [], ◌∷�
 use Rattle.clap.specs.Simple.{App, Shape, new_rule, new_shape}
 use Rattle.clap.specs.Words.{with_subcommand}
 use Rattle.clap.specs.Walk.{Row, Rule, first_of}
+use Rattle.console.specs.FileWords.{with_file}
 use Rattle.repository_commands.specs.declared.words.RepositoryCommand.{RepositoryCommand}
 use Rattle.repository_commands.specs.declared.words.RepositoryCommand.TheVariants as commands
 
@@ -33,10 +34,10 @@ verify_shape = record (new_shape (codes "verify")) {
   rules = required_rule (codes "root") ∷ required_rule (codes "key") ∷ [];
 }
 
--- a program with these commands
+-- a program with these commands, each of which may be given a file
 abbrev pub with_commands : App → App
-with_commands app =
-    with_subcommand (with_subcommand (with_subcommand app car_shape) prove_shape) verify_shape
+with_commands app = with_subcommand (with_subcommand (with_subcommand app (with_file car_shape))
+    (with_file prove_shape)) (with_file verify_shape)
 
 -- the text of the word with this id, or another text where there is none
 abbrev pub word_or : List ℕ → List Row → List ℕ → List ℕ

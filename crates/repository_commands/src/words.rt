@@ -7,6 +7,7 @@ ghost use Rattle.repository_commands.specs.Words.{car_shape, prove_shape, verify
 ghost use Rattle.repository_commands.specs.Words.{option_rule, required_rule};
 
 use clap::{Arg, ArgMatches, Command};
+use console::with_file;
 use std::alloc::{AllocError, Global};
 
 /// A command on one repository, with what its words say.
@@ -42,7 +43,7 @@ pub const REV: &str = "2222222222222";
 const CAR: &str = "Reads lines KEY HEX and writes their repository as one CAR file";
 
 const LONG_CAR: &str = "\
-Reads lines KEY HEX from standard input, puts each record under its key into one repository, all in one batch, and
+Reads lines KEY HEX, puts each record under its key into one repository, all in one batch, and
 writes the repository as one CAR file: the commit, the nodes of the tree and the records.
 
 A key is a collection, a slash and a record key. HEX is a record in hexadecimal: one DAG-CBOR map. One space stands
@@ -58,7 +59,7 @@ Example:
 const PROVE: &str = "Reads lines KEY HEX and writes the proof of a key in their tree";
 
 const LONG_PROVE: &str = "\
-Reads lines KEY HEX from standard input as car does, and writes the text of the CID of the tree's root, and then the
+Reads lines KEY HEX as car does, and writes the text of the CID of the tree's root, and then the
 nodes on the path of KEY from the top, a line in hexadecimal each. They show what the tree has under KEY, or that it has
 nothing.
 
@@ -73,7 +74,7 @@ Example:
 const VERIFY: &str = "Reads the blocks of a proof and writes what they show of a key";
 
 const LONG_VERIFY: &str = "\
-Reads blocks from standard input, a line in hexadecimal each, and writes what they show of KEY in the tree whose root's
+Reads blocks, a line in hexadecimal each, and writes what they show of KEY in the tree whose root's
 CID is ROOT: 'found CID', the CID of its record, or 'absent', which is an answer too and ends with 0. Nothing but ROOT is
 trusted.
 
@@ -91,9 +92,9 @@ pub fn with_words<'a>(alloc: Global, program: Command<'a>) -> Result<Command<'a>
     ensures { IfOk result (λ r. app_of r ≡ with_commands (app_of program.entry)) }
 {
     program
-        .subcommand(car_words(alloc)?)?
-        .subcommand(prove_words(alloc)?)?
-        .subcommand(verify_words(alloc)?)
+        .subcommand(with_file(alloc, car_words(alloc)?)?)?
+        .subcommand(with_file(alloc, prove_words(alloc)?)?)?
+        .subcommand(with_file(alloc, verify_words(alloc)?)?)
 }
 
 /// The command of this name, with what its words say; or `None` where it is another.
@@ -134,7 +135,6 @@ fn car_words<'a>(alloc: Global) -> Result<Command<'a>, AllocError>
     ensures local { IfOk result (λ r. (fields_of r).has_globals ≡ false) }
 {
     Command::new(alloc, "car")
-        .override_usage("msthost car [OPTIONS] < FILE")
         .about(CAR)
         .long_about(LONG_CAR)
         .after_help(CAR_EXAMPLE)
@@ -148,7 +148,6 @@ fn prove_words<'a>(alloc: Global) -> Result<Command<'a>, AllocError>
     ensures local { IfOk result (λ r. (fields_of r).has_globals ≡ false) }
 {
     Command::new(alloc, "prove")
-        .override_usage("msthost prove <KEY> < FILE")
         .about(PROVE)
         .long_about(LONG_PROVE)
         .after_help(PROVE_EXAMPLE)
@@ -161,7 +160,6 @@ fn verify_words<'a>(alloc: Global) -> Result<Command<'a>, AllocError>
     ensures local { IfOk result (λ r. (fields_of r).has_globals ≡ false) }
 {
     Command::new(alloc, "verify")
-        .override_usage("msthost verify <ROOT> <KEY> < FILE")
         .about(VERIFY)
         .long_about(LONG_VERIFY)
         .after_help(VERIFY_EXAMPLE)

@@ -3,6 +3,7 @@ ghost use Rattle.std.specs.Prelude.{◌≡◌, ◌↔◌, ℕ, codes, false, IfO
 ghost use Rattle.clap.specs.Words.{app_of, found_of, one_of, rows_of, rule_of, shape_of};
 ghost use Rattle.clap.specs.Words.{with_subcommand};
 ghost use Rattle.clap.specs.declared.builder.command.Command.TheViews.{out-Command as fields_of};
+ghost use Rattle.console.specs.FileWords.{with_file as with_file_of};
 ghost use Rattle.console.specs.Numbers.{IsNumberOf};
 ghost use Rattle.run_command.specs.Words.{HasNumbersOf, did_of_words};
 ghost use Rattle.run_command.specs.Words.{did_rule, number_rule, run_shape};
@@ -10,6 +11,7 @@ ghost use Rattle.run_command.specs.Words.{did_rule, number_rule, run_shape};
 use crate::settings::Settings;
 use clap::builder::ValueParser;
 use clap::{Arg, ArgMatches, Command, value_parser};
+use console::with_file;
 use std::alloc::{AllocError, Global};
 
 /// The command, with what its words say.
@@ -28,7 +30,7 @@ const ABOUT: &str =
     "Reads a script, lets workers do it in repositories of one host, and writes what came of it";
 
 const LONG_ABOUT: &str = "\
-Reads a script from standard input. Each worker does its own lines in their order, in a thread of its own. Then a line
+Reads a script. Each worker does its own lines in their order, in a thread of its own. Then a line
 says what each line was answered, and after them stand the repositories, the blocks with the number of repositories that
 have them, and the notices that each worker told, in their order.
 
@@ -48,9 +50,10 @@ Example:
 
 /// Adds the command to a program's.
 pub fn with_words<'a>(alloc: Global, program: Command<'a>) -> Result<Command<'a>, AllocError>
-    ensures { IfOk result (λ r. app_of r ≡ with_subcommand (app_of program.entry) run_shape) }
+    ensures { IfOk result (λ r. app_of r
+        ≡ with_subcommand (app_of program.entry) (with_file_of run_shape)) }
 {
-    program.subcommand(words(alloc)?)
+    program.subcommand(with_file(alloc, words(alloc)?)?)
 }
 
 /// The words that `run` takes, with what help shows of them.
@@ -62,7 +65,6 @@ fn words<'a>(alloc: Global) -> Result<Command<'a>, AllocError>
     let workers = value_parser!(u32).range(1..=64);
     let queue = value_parser!(u32).range(1..=65536);
     Command::new(alloc, "run")
-        .override_usage("msthost run [OPTIONS] < FILE")
         .about(ABOUT)
         .long_about(LONG_ABOUT)
         .after_help(EXAMPLE)

@@ -3,6 +3,7 @@ ghost use Rattle.std.specs.Prelude.{◌≡◌, ℕ, false, IfOk};
 ghost use Rattle.clap.specs.Words.{app_of, found_of, one_of, rows_of, rule_of, shape_of};
 ghost use Rattle.clap.specs.Words.{with_subcommand};
 ghost use Rattle.clap.specs.declared.builder.command.Command.TheViews.{out-Command as fields_of};
+ghost use Rattle.console.specs.FileWords.{with_file as with_file_of};
 ghost use Rattle.console.specs.Numbers.{IsNumberOf};
 ghost use Rattle.tree_command.specs.Words.{AreKeysOf, HasNumberOf, bits_rule, paths_rule, tree_shape};
 
@@ -10,6 +11,7 @@ use crate::bits::Bits;
 use crate::keys::Keys;
 use crate::options::TreeOptions;
 use clap::{Arg, ArgAction, ArgMatches, Command, value_parser};
+use console::with_file;
 use std::alloc::{AllocError, Global};
 
 /// What a user types, and what comes of it.
@@ -18,12 +20,12 @@ Example:
   $ printf '' | msthost tree
   bafyreie5737gdxlw5i64vzichcalba3z2v5n6icifvx5xytvske7mr3hpm
   bafyreie5737gdxlw5i64vzichcalba3z2v5n6icifvx5xytvske7mr3hpm a2616580616cf6
-For a repository: msthost tree --paths < FILE";
+For a repository: msthost tree --paths FILE";
 
 const ABOUT: &str = "Reads lines KEY CID and lists the tree of them";
 
 const LONG_ABOUT: &str = "\
-Reads lines KEY CID from standard input and writes the text of the CID of their tree's root, and then a line CID HEX
+Reads lines KEY CID and writes the text of the CID of their tree's root, and then a line CID HEX
 for each node, from the top.
 
 Lines come in any order and end at LF or CR LF. The key is all before a line's last space, and has 1 to 1,024 bytes.
@@ -35,9 +37,10 @@ writing failed.";
 
 /// Adds the command to a program's.
 pub fn with_words<'a>(alloc: Global, program: Command<'a>) -> Result<Command<'a>, AllocError>
-    ensures { IfOk result (λ r. app_of r ≡ with_subcommand (app_of program.entry) tree_shape) }
+    ensures { IfOk result (λ r. app_of r
+        ≡ with_subcommand (app_of program.entry) (with_file_of tree_shape)) }
 {
-    program.subcommand(words(alloc)?)
+    program.subcommand(with_file(alloc, words(alloc)?)?)
 }
 
 /// The words that `tree` takes, with what help shows of them.
@@ -46,7 +49,6 @@ fn words<'a>(alloc: Global) -> Result<Command<'a>, AllocError>
     ensures local { IfOk result (λ r. (fields_of r).has_globals ≡ false) }
 {
     Command::new(alloc, "tree")
-        .override_usage("msthost tree [OPTIONS] < FILE")
         .about(ABOUT)
         .long_about(LONG_ABOUT)
         .after_help(EXAMPLE)

@@ -69,3 +69,7 @@ returns-clause-shown c = (refl, refl)
 pub returns-clause-wrong : goal.returns-clause-wrong
 unfolding msthost clap_on_literals
 returns-clause-wrong c = (refl, refl)
+
+pub returns-clause-file : goal.returns-clause-file
+unfolding msthost clap_on_literals
+returns-clause-file c = (refl, refl, refl, refl)

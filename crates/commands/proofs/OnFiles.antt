@@ -1,0 +1,71 @@
+-- A command on a file that its words name.
+use Rattle.std.proofs.Common.{◌≡◌, ◌⊎◌, ◌∙◌, ℕ, List, [], Some, None, inl, inr, ap, refl, subst}
+use Rattle.std.specs.Prelude.{Option, option_map, unwrap_or}
+use Rattle.std.specs.Io.KnownBytes.{Keeps}
+use Rattle.clap.specs.Walk.{Row, Text}
+use Rattle.console.specs.FileWords.{file_in}
+use Rattle.console.specs.Files.{open_status}
+use Rattle.console.specs.Written.{AppendsBeginning}
+use Rattle.console.specs.declared.files.OpenFault.{OpenFault}
+use Rattle.console.specs.declared.files.OpenFault.TheVariants as faults
+use Rattle.console.proofs.Leaving.{Appends-nil}
+use Rattle.commands.specs.declared.command_line.Request.{Request}
+use Rattle.commands.specs.declared.command_line.Request.TheVariants as requests
+use Rattle.commands.specs.CommandLine.{file_given}
+use Rattle.commands.specs.Requests.{IsBegun, IsDone, IsRefused}
+
+-- ---- the file that words name
+
+pub file_found : (o : Option (Text × List Row)) (rows : List Row) (name : Option Text) → Some rows ≡ option_map (λ p. p.1) o → name ≡ file_in rows
+    → name ≡ file_given o
+file_found None rows name found is = absurd (cc)
+file_found (Some c) rows name found is = is ∙ ap file_in (ap (λ (r : Option (List Row)). unwrap_or r []) found)
+
+pub none_found : (o : Option (Text × List Row)) → None ≡ option_map (λ p. p.1) o → None ≡ file_given o
+none_found None found = refl
+none_found (Some c) found = absurd (cc)
+
+-- ---- a file that can't be opened
+
+pub unopened_ends : (fault : OpenFault) (n : ℕ) → n ≡ open_status fault → (n ≡ 3) ⊎ (n ≡ 4)
+unopened_ends faults.NotFound n is = inr is
+unopened_ends faults.Denied n is = inr is
+unopened_ends faults.Directory n is = inr is
+unopened_ends faults.NoMemory n is = inl is
+unopened_ends faults.Failed n is = inr is
+
+nothing : (o : Option (List ℕ)) (text : List ℕ) → AppendsBeginning o o text
+nothing o text = ([], text, refl, Appends-nil o)
+
+kept : (o : Option (List ℕ)) → Keeps o o
+kept None = tt
+kept (Some xs) = refl
+
+-- nothing is a beginning of any text
+pub begun_with_nothing : (D : Type 0) (digest : List ℕ → List ℕ) (request : Request) (input old : Option (List ℕ)) → IsBegun D digest request input old old
+begun_with_nothing D digest (requests.Tree options) None old = tt
+begun_with_nothing D digest (requests.Tree options) (Some xs) old = nothing old _
+begun_with_nothing D digest (requests.OnRepository command) None old = tt
+begun_with_nothing D digest (requests.OnRepository command) (Some xs) old = nothing old _
+begun_with_nothing D digest (requests.OnChange command) None old = tt
+begun_with_nothing D digest (requests.OnChange command) (Some xs) old = nothing old _
+begun_with_nothing D digest (requests.OnExport command) None old = tt
+begun_with_nothing D digest (requests.OnExport command) (Some xs) old = inl (kept old)
+begun_with_nothing D digest (requests.Run command) None old = tt
+begun_with_nothing D digest (requests.Run command) (Some xs) old = inl (kept old)
+begun_with_nothing D digest (requests.Explain command) input old = nothing old _
+begun_with_nothing D digest requests.Help input old = tt
+
+-- ---- a file that holds what is read of it
+
+pub done_on : (D : Type 0) (digest : List ℕ → List ℕ) (request : Request) (read held old new : Option (List ℕ)) → read ≡ held
+    → IsDone D digest request read old new → IsDone D digest request held old new
+done_on D digest request read held old new is = subst (λ i. IsDone D digest request i old new) is
+
+pub refused_on : (D A : Type 0) (digest : List ℕ → List ℕ) (request : Request) (read held : Option (List ℕ)) → read ≡ held
+    → IsRefused D A digest request read → IsRefused D A digest request held
+refused_on D A digest request read held is = subst (λ i. IsRefused D A digest request i) is
+
+pub begun_on : (D : Type 0) (digest : List ℕ → List ℕ) (request : Request) (read held old new : Option (List ℕ)) → read ≡ held
+    → IsBegun D digest request read old new → IsBegun D digest request held old new
+begun_on D digest request read held old new is = subst (λ i. IsBegun D digest request i old new) is
