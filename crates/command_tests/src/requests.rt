@@ -23,6 +23,7 @@ enum Asked {
     VerifyChange,
     Check,
     Records,
+    Json,
     Cids,
     Commit,
     Run,
@@ -52,6 +53,7 @@ fn request_of<T: Threads + Wait + RandomSource + Sync>(
         Some(Request::OnChange(ChangeCommand::Verify { .. })) => Asked::VerifyChange,
         Some(Request::OnExport(ExportCommand::Check)) => Asked::Check,
         Some(Request::OnExport(ExportCommand::Records(Values::Bytes))) => Asked::Records,
+        Some(Request::OnExport(ExportCommand::Records(Values::Json))) => Asked::Json,
         Some(Request::OnExport(ExportCommand::Records(Values::Cids))) => Asked::Cids,
         Some(Request::OnExport(ExportCommand::Commit)) => Asked::Commit,
         Some(Request::Run(_)) => Asked::Run,
@@ -60,7 +62,7 @@ fn request_of<T: Threads + Wait + RandomSource + Sync>(
     }
 }
 
-static ROWS: [(&[&str], Asked); 17] = [
+static ROWS: [(&[&str], Asked); 18] = [
     (&["msthost", "tree"], Asked::Tree),
     (&["msthost", "car"], Asked::Car),
     (&["msthost", "prove", "a/b"], Asked::Prove),
@@ -72,6 +74,7 @@ static ROWS: [(&[&str], Asked); 17] = [
     ),
     (&["msthost", "check"], Asked::Check),
     (&["msthost", "records"], Asked::Records),
+    (&["msthost", "records", "--json"], Asked::Json),
     (&["msthost", "records", "--cids"], Asked::Cids),
     (&["msthost", "commit"], Asked::Commit),
     (&["msthost", "run"], Asked::Run),

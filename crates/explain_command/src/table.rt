@@ -3,8 +3,8 @@
 /// What there is to say of a fault: its name, as standard error or a report shows it, what it means, and what usually causes it.
 pub type Explanation = (&'static str, &'static str, &'static str);
 
-/// Each fault that the program tells, but for those of a CAR file.
-pub static FAULTS: [(&str, &str, &str); 61] = [
+/// Each fault that the program tells, but for those of files.
+pub static FAULTS: [(&str, &str, &str); 57] = [
     (
         "BadLine",
         "the line has not the words that a line of this command has",
@@ -277,26 +277,6 @@ pub static FAULTS: [(&str, &str, &str); 61] = [
         "more input than there is memory: all of it is read before a line is judged",
     ),
     (
-        "not found",
-        "there is no file of this name",
-        "a name that is misspelt, or that is meant from another folder; two words where one was meant, as of a name with a space",
-    ),
-    (
-        "permission denied",
-        "the file may not be read",
-        "a file of another user",
-    ),
-    (
-        "is a directory",
-        "the name is that of a directory",
-        "the folder of the file in place of the file",
-    ),
-    (
-        "open failed",
-        "the file can't be opened",
-        "too many files are open; a device that failed",
-    ),
-    (
         "read failed",
         "the input can't be read",
         "a folder as standard input; a device that failed; of run also a system without random numbers",
@@ -308,8 +288,8 @@ pub static FAULTS: [(&str, &str, &str); 61] = [
     ),
 ];
 
-/// The faults of a CAR file that is no export of a repository.
-pub static FAULTS_OF_FILES: [(&str, &str, &str); 11] = [
+/// The faults of files: why one can't be opened, why a CAR file is no export of a repository, and what `records` can't write of it.
+pub static FAULTS_OF_FILES: [(&str, &str, &str); 16] = [
     (
         "Car(BadHeader)",
         "the file does not begin as a CAR with one root",
@@ -364,5 +344,30 @@ pub static FAULTS_OF_FILES: [(&str, &str, &str); 11] = [
         "NoRecord",
         "the record is not in the file",
         "a slice of an export; what stands before the name is the record's place, from 0, among the records in the order of their keys",
+    ),
+    (
+        "not found",
+        "there is no file of this name",
+        "a name that is misspelt, or that is meant from another folder; two words where one was meant, as of a name with a space",
+    ),
+    (
+        "permission denied",
+        "the file may not be read",
+        "a file of another user",
+    ),
+    (
+        "is a directory",
+        "the name is that of a directory",
+        "the folder of the file in place of the file",
+    ),
+    (
+        "open failed",
+        "the file can't be opened",
+        "too many files are open; a device that failed",
+    ),
+    (
+        "NoJsonForm",
+        "the record has no form as JSON",
+        "a whole number of 2^53 or more, a key $link or $bytes, a CID of version 0; records without --json writes it in hexadecimal",
     ),
 ];
