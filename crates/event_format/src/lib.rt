@@ -1,0 +1,27 @@
+//! The form of messages `#commit` of the event stream `com.atproto.sync.subscribeRepos` (AT Protocol, event streams, sync 1.1):
+//! two values of DAG-CBOR, of which the first is [`HEADER`] and the second says what a batch changed.
+//!
+//! - [`read_event`] takes a message's bytes and tests all that needs no blocks. What it says is lent from them. It names the
+//!   first fault, [`FormFault`].
+//! - [`write_event`] spells an event.
+//! - [`action_of`] is what an operation is called.
+//!
+//! The bounds of a message stand in `event_times::limits`.
+#![tactic(auto)]
+
+mod event;
+mod fault;
+mod fields;
+mod kinds;
+mod ops;
+mod ops_reading;
+mod parts;
+mod reading;
+mod said;
+mod writing;
+
+pub use event::{Event, HEADER};
+pub use fault::{Field, FormFault};
+pub use ops::action_of;
+pub use reading::read_event;
+pub use writing::write_event;
