@@ -1,4 +1,7 @@
 //! A repository and its mirror, which was away for some batches.
+
+ghost use Rattle.std.specs.Prelude.{◌<◌};
+
 use change_proofs::{KeyChange, are_key_changes, verify_inversion_blocks};
 use cid::{Cid, Sha256};
 use core_differences::{Span, difference, prove_span};
@@ -32,7 +35,9 @@ fn opened<R: Abort>(
     shard: &mut Shard<Sha256>,
     me: u32,
     batches: &[&[Step<'static>]],
-) -> Core<Sha256, 2> {
+) -> Core<Sha256, 2>
+    requires { me < 1024 }
+{
     let mut core = Core::<Sha256, 2>::open(alloc, &mut LentShard::new(shard), me, 1000).expect(
         rt, "a core",
     );
