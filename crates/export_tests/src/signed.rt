@@ -1,8 +1,10 @@
 //! Files with a signed commit, beside those without: outputs that fail, and want of memory.
 
+ghost use Rattle.std.specs.Prelude.{◌≤◌};
+
 use crate::fixtures::{Checked, FIVE_NODES, ONE_RECORD_TWICE, Record, end, file_of, opened, takes};
-use cid::Cid;
 use cid::digests::Toy;
+use cid::{Cid, Digest};
 use export::{ExportFault, ToMemory, car, signed_car};
 use refusing::Refusing;
 use repo::Core;
@@ -25,11 +27,13 @@ const FRONT: &[u8] = b"\xa6\x63did\x6bdid:web:a.b\x63rev\x6d3jzfcijpj2z2a\x63sig
 const BEHIND: &[u8] = b"\x64data\xd8\x2a\x58\x25\x00";
 
 /// The bytes of a core's signed file, where it is answered with their number.
-fn signed_file<A: Allocator + Clone>(
+fn signed_file<D: Digest, const B: u8, A: Allocator + Clone>(
     global: Global,
     alloc: A,
-    core: &Core<Toy, 2, A>,
-) -> Option<Vec<u8>> {
+    core: &Core<D, B, A>,
+) -> Option<Vec<u8>>
+    requires { 1 ≤ B }
+{
     let mut out = ToMemory::new(global);
     match signed_car(alloc, core, SIGNATURE, &mut out) {
         Ok(Some(length)) if length == out.bytes().len() as u64 => Some(out.into_bytes()),
