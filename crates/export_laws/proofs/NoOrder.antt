@@ -30,7 +30,7 @@ at-each P [] x i all lt is = absurd (omega arith)
 at-each P (y ∷ ys) x zero all lt is = subst P is all.0
 at-each P (y ∷ ys) x (suc i) all lt is = at-each P ys x i all.1 (omega arith) is
 
-by-recursion : {X : Type 0} (P : X → Type 0) (xs : List X) → ((x : X) → Contains xs x → P x) → AllByRecursion P xs
+pub by-recursion : {X : Type 0} (P : X → Type 0) (xs : List X) → ((x : X) → Contains xs x → P x) → AllByRecursion P xs
 by-recursion P [] h = tt
 by-recursion P (x ∷ xs) h = (h x (in-first x xs), by-recursion P xs (λ y c. h y (in-rest x y xs c)))
 

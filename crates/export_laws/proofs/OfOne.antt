@@ -1,5 +1,5 @@
 -- A file is the export of one repository.
-use Rattle.std.proofs.Common.{◌≡◌, ℕ, ◌+◌, true, eqb, List, [], ◌∷◌, ◌++◌, length, Option, Some, Result, Ok, refl, sym, ap, ◌∙◌, arith}
+use Rattle.std.proofs.Common.{◌≡◌, ℕ, true, eqb, List, [], ◌∷◌, ◌++◌, length, Option, Some, Result, Ok, refl, sym, ap, ◌∙◌, arith}
 use Rattle.std.specs.Prelude.{Contains}
 use Rattle.std.proofs.lemmas.Bool.{eq-eqb}
 use Rattle.spec.specs.Cid.{cid, is_own_cid, prefix, IsDigest}
@@ -45,7 +45,7 @@ abbrev Has : (List ℕ → List ℕ) → List Section → List (List ℕ) → Ty
 Has digest ss bs = HasBlocks digest (given_by ss) bs
 
 -- blocks that one source has don't clash
-no-clash : (digest : List ℕ → List ℕ) (ss : List Section) (xs ys : List (List ℕ)) → Has digest ss xs → Has digest ss ys
+pub no-clash : (digest : List ℕ → List ℕ) (ss : List Section) (xs ys : List (List ℕ)) → Has digest ss xs → Has digest ss ys
     → (a b : List ℕ) → Contains xs a → Contains ys b → cid digest a ≡ cid digest b → a ≡ b
 no-clash digest ss xs ys h k a b in_a in_b e =
     some-is a b (given_by ss (cid digest a)) (given_by ss (cid digest b)) (h a in_a) (k b in_b) (ap (given_by ss) e)
