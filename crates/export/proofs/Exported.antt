@@ -15,7 +15,7 @@ use Rattle.spec.specs.Cid.{cid, IsDigest}
 use Rattle.spec.specs.Layer.{layer}
 use Rattle.spec.specs.Tree.{Pair, Node, Last, More, Part, Nothing, Sub, EachNode, EachUnder, top, pairs_in, pairs_under}
 use Rattle.spec.specs.NodeFormat.{node_bytes, part_link, shape, shape_bytes, shape_cid}
-use Rattle.spec.specs.Blocks.{ArePairs, blocks_in, blocks_under, nodes, pairs, record_at, record_blocks}
+use Rattle.spec.specs.Blocks.{ArePairs, blocks, blocks_in, blocks_under, nodes, pairs, record_at, record_blocks}
 use Rattle.spec.specs.Car.{car_of}
 use Rattle.spec.specs.Commits.{car_root, commit_blocks, commit_bytes, commit_cid}
 use Rattle.spec.specs.Stamps.{Stamp}
@@ -172,6 +172,10 @@ module _ (digest : List ℕ → List ℕ) (gives : List ℕ → Option (List ℕ
 
     car-is : car_met digest gives (layers bits) (state_commit digest bits s) (state_root digest bits s) ≡ state_car digest bits s
     car-is = ap (car_of digest (car_root (state_commit digest bits s) (state_root digest bits s))) blocks-is
+
+    -- without the commit they are the nodes and the records
+    pub tree-met : (root : List ℕ) → root ≡ state_root digest bits s → blocks_met gives (layers bits) None root ≡ blocks digest bits [] (records s)
+    tree-met root f = ap (λ r. blocks_met gives (layers bits) None r) f ∙ of-tree
 
     module _ (commit : Option (List ℕ)) (root : List ℕ) (e : commit ≡ state_commit digest bits s) (f : root ≡ state_root digest bits s) where
       -- what is written where the root and the commit are asked for first

@@ -66,6 +66,14 @@ module _ (old p q s all : List ℕ) (parts : all ≡ p ++ (q ++ s)) where
       → Takes old new r all
   stops-second one new r a err t = stops old one new all q s r (leaves-two one a) err t
 
+  pub stops-third : {T E : Type 0} (one two new : List ℕ) (r : Result T E) → one ≡ old ++ p → two ≡ one ++ q → IsErr r → TakesBeginning two new s
+      → Takes old new r all
+  stops-third one two new r a b err t = stops-last old two new all s r (leaves-one one two a b) err t
+
+  pub takes-three : (one two new : List ℕ) → one ≡ old ++ p → two ≡ one ++ q → new ≡ two ++ s → new ≡ old ++ all
+  takes-three one two new a b d =
+      leaves-none old new all [] (leaves-less old two new all s [] (leaves-same old two all s _ (leaves-one one two a b) (sym (append-nil s))) d) refl
+
   -- and the third ended so
   pub takes-last : {T E : Type 0} (one two new : List ℕ) (r : Result T E) → one ≡ old ++ p → two ≡ one ++ q → Takes two new r s
       → Takes old new r all

@@ -10,6 +10,7 @@ pub mod OneNode
 pub mod Paths
 pub mod Sectioned
 pub mod Shown
+pub mod SignedFile
 pub mod Singles
 pub mod Spelled
 pub mod Walked

@@ -13,7 +13,7 @@ use Rattle.export.proofs.Leaving.{leaves-all, leaves-less, leaves-same, stops, s
 use Rattle.export.proofs.Sectioned.{car-due, met-due}
 use Rattle.export.proofs.Singles.{single-later}
 
-sum-of : (a b sum x y all : ℕ) → a ≡ x → b ≡ capped y → sum ≡ min (a + b) (2 ^ 64 - 1) → all ≡ x + y → sum ≡ capped all
+pub sum-of : (a b sum x y all : ℕ) → a ≡ x → b ≡ capped y → sum ≡ min (a + b) (2 ^ 64 - 1) → all ≡ x + y → sum ≡ capped all
 sum-of a b sum x y all e f g h = omega arith
 
 -- the first of two parts failed

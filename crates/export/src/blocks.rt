@@ -78,7 +78,7 @@ fn write_commit<'a, D: Digest + 'a, const B: u8, A: Allocator + Clone + 'a, W: O
 ///
 /// The next block is looked up before the present one is written: both wait for memory that the processor hasn't seen yet,
 /// and so they wait at once.
-fn write_blocks<'a, D: Digest + 'a, const B: u8, A: Allocator + Clone + 'a, W: Out>(
+pub(crate) fn write_blocks<'a, D: Digest + 'a, const B: u8, A: Allocator + Clone + 'a, W: Out>(
     core: &Core<D, B, A>,
     src: &mut Lender<'a, D, A>,
     mut walk: Walk<'a, A>,

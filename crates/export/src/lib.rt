@@ -1,7 +1,7 @@
 //! Exports of a repository, and proofs about its single keys.
 //!
 //! [`car`] writes a repository as one file (CARv1) to whatever is an [`Out`]: [`ToMemory`], or [`ToWriter`] over a writer of
-//! the standard library.
+//! the standard library. [`signed_car`] writes the file that a server serves, whose root is the commit with its signature.
 //!
 //! For who can't keep a whole file, [`car_length`] answers how many bytes it has, and makes none of them; [`car_part`] answers so many
 //! of them from a place on: the parts behind one another are the file. A part costs the way through all that is before it. Who has
@@ -35,6 +35,7 @@ mod proof_fault;
 mod proving;
 mod sections;
 mod seen;
+mod signed;
 mod taken;
 mod to_memory;
 mod to_writer;
@@ -51,6 +52,7 @@ pub use parts::{car_length, car_part};
 pub use pieces::{car_head, car_section};
 pub use proof_fault::ProofFault;
 pub use proving::prove;
+pub use signed::signed_car;
 pub use taken::Taken;
 pub use to_memory::ToMemory;
 pub use to_writer::ToWriter;

@@ -19,4 +19,6 @@ mod one_batch;
 #[cfg(test)]
 mod proofs;
 #[cfg(test)]
+mod signed;
+#[cfg(test)]
 mod writers;

@@ -11,7 +11,7 @@ use std::alloc::{AllocError, Global};
 const COUNT: u16 = 2000;
 
 /// The key of the record with a number below 10,000.
-fn key_of(alloc: Global, n: u16) -> Result<Vec<u8>, AllocError> {
+pub(crate) fn key_of(alloc: Global, n: u16) -> Result<Vec<u8>, AllocError> {
     let mut key = Vec::from_slice(alloc, b"app.bsky.feed.post/")?;
     for unit in [1000u16, 100, 10, 1] {
         key.push(b'0' + (n / unit % 10) as u8)?;
@@ -20,7 +20,7 @@ fn key_of(alloc: Global, n: u16) -> Result<Vec<u8>, AllocError> {
 }
 
 /// The record with a number.
-fn record_of(n: u16) -> [u8; 6] {
+pub(crate) fn record_of(n: u16) -> [u8; 6] {
     let [high, low] = (n % 2000 + 1000).to_be_bytes();
     [0xa1, 0x61, b'n', 0x19, high, low]
 }
