@@ -147,6 +147,16 @@ pub static FAULTS: [(&str, &str, &str); 57] = [
         "a date or a number in place of its 13 letters; in a script a WRITE in the revision's place",
     ),
     (
+        "BadSig",
+        "the signature is not hexadecimal",
+        "base64 or DER in place of 128 hexadecimal digits, 0x before them, an odd number of digits",
+    ),
+    (
+        "NothingToSign",
+        "no line puts a record, so there is no commit to sign",
+        "an empty input beside --sig: a repository has its first commit by its first record",
+    ),
+    (
         "RevOrder",
         "the revision is not after the last one",
         "a batch that is applied again, batches out of their order, two workers with one repository",
