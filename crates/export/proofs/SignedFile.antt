@@ -1,5 +1,5 @@
 -- The file of a signed commit: its header, the section of the commit, and those of the blocks of a tree.
-use Rattle.std.proofs.Common.{◌≡◌, ℕ, zero, suc, ◌+◌, ◌-◌, ◌^◌, List, [], ◌∷◌, ◌++◌, length, map, Option, option_map, Result, min, refl, sym, ap, subst, ◌∙◌}
+use Rattle.std.proofs.Common.{◌≡◌, ℕ, zero, suc, ◌+◌, ◌-◌, ◌^◌, Bool, List, [], ◌∷◌, ◌++◌, length, map, Option, option_map, Result, min, refl, sym, ap, subst, ◌∙◌}
 use Rattle.std.specs.Prelude.{IsErr, slice_get, IfOk}
 use Rattle.std.specs.declared.option.Option.TheVariants.{Some, None}
 use Rattle.std.specs.List.{flat_map}
@@ -64,7 +64,7 @@ module _ {X : Type 0} (view : X → List ℕ) (digest : List ℕ → List ℕ) (
   top = record { most = most; link = Some root; stack = [] }
 
   -- what is written behind the commit stands once
-  pub walk-single : (may_repeat : List ℕ → _) (w : Walking) → w ≡ top → AreSingle digest may_repeat (blocks_met shown most None root)
+  pub walk-single : (may_repeat : List ℕ → Bool) (w : Walking) → w ≡ top → AreSingle digest may_repeat (blocks_met shown most None root)
       → AreSingle digest may_repeat (blocks_left shown w)
   walk-single may_repeat w at single = subst (AreSingle digest may_repeat) (met-due digest shown most None root w at) single
 
@@ -102,6 +102,12 @@ module _ {X : Type 0} (view : X → List ℕ) (digest : List ℕ → List ℕ) (
           sum-of h sum total (length (header name)) (length (first ++ rest)) (length all) a
           (sum-of f others sum (length first) (length rest) (length (first ++ rest)) b d e (length-append first rest)) g
           (ap length file-parts ∙ length-append (header name) (first ++ rest))
+
+-- before the first batch there is no file
+pub none-met : (digest : List ℕ → List ℕ) (bits : ℕ) (s : State) (sig : List ℕ) (o : Option stamps.Stamp) → o ≡ last_stamp s
+    → ◌≡◌ {A = Option stamps.Stamp} None o → ◌≡◌ {A = Option (List ℕ)} None (state_signed_car digest bits s sig)
+none-met digest bits s sig o last_is is =
+    ap (option_map (λ t. car_over digest (signed_bytes (signed_commit t (state_root digest bits s) sig)) (blocks digest bits [] (records s)))) (is ∙ last_is)
 
 -- ---- over a source that has a repository's blocks
 

@@ -1,5 +1,5 @@
 //! What the commands are told on a command line.
-ghost use Rattle.std.specs.Prelude.{◌≡◌, codes, false, option_map, IfNone, IfOk, IfSome};
+ghost use Rattle.std.specs.Prelude.{◌≡◌, false, option_map, IfNone, IfOk, IfSome};
 ghost use Rattle.clap.specs.Walk.{first_of};
 ghost use Rattle.clap.specs.Words.{app_of, found_of, rows_of, rule_of, shape_of};
 ghost use Rattle.clap.specs.declared.builder.command.Command.TheViews.{out-Command as fields_of};
@@ -115,7 +115,12 @@ pub fn command_of<'a>(name: &str, words: &ArgMatches<'a>) -> Option<RepositoryCo
     ensures none { IfNone result (IsOtherName name.now) }
 {
     if name == "car" {
-        return Some(car_of(words));
+        let did = word_or(DID, words, "did");
+        let rev = word_or(REV, words, "rev");
+        if let Some(sig) = word_in(words, "sig") {
+            return Some(RepositoryCommand::SignedCar { did, rev, sig });
+        }
+        return Some(RepositoryCommand::Car { did, rev });
     }
     if name == "prove" {
         return Some(RepositoryCommand::Prove {
@@ -129,18 +134,6 @@ pub fn command_of<'a>(name: &str, words: &ArgMatches<'a>) -> Option<RepositoryCo
         });
     }
     None
-}
-
-/// The command `car`, with what its words say.
-fn car_of<'a>(words: &ArgMatches<'a>) -> RepositoryCommand<'a>
-    ensures { IsOfWords (codes "car") (rows_of (found_of words.now)) result }
-{
-    let did = word_or(DID, words, "did");
-    let rev = word_or(REV, words, "rev");
-    match word_in(words, "sig") {
-        Some(sig) => RepositoryCommand::SignedCar { did, rev, sig },
-        None => RepositoryCommand::Car { did, rev },
-    }
 }
 
 /// The text of the word with this id, if there is one.
