@@ -56,7 +56,7 @@ pub fn signed_car<D: Digest, const B: u8, A: Allocator + Clone, W: Out>(
         return Ok(None);
     };
     let root = core.root();
-    let commit = signed_block::<D, A>(alloc.clone()?, stamp, &root, signature)?;
+    let commit = signed_block(alloc.clone()?, stamp, &root, signature)?;
     let most = layers::<B>();
     let mut lender = core.lender();
     let length = write_signed(alloc, core, &mut lender, &commit, root, most, out)?;
@@ -95,11 +95,11 @@ fn write_signed<'a, D: Digest + 'a, const B: u8, A: Allocator + Clone + 'a, W: O
 }
 
 /// The block of the commit of a stamp over a root, with this signature.
-fn signed_block<D: Digest, A: Allocator>(
+fn signed_block<'c, D: Digest, A: Allocator>(
     alloc: A,
-    stamp: &Stamp<A>,
-    root: &Cid,
-    signature: &[u8],
+    stamp: &'c Stamp<A>,
+    root: &'c Cid,
+    signature: &'c [u8],
 ) -> Result<Block<D, A>, AllocError>
     ensures { IfOk result (λ block. block
         ≡ signed_bytes (signed_commit (stamp_of stamp.now) root.now signature.now)) }
