@@ -77,7 +77,7 @@ write_signed-requires g c =
     let digest = g.D.Digest.digest_of in
     let m = c.lender-lender.result.blocks.now in
     let s = c.args.core.now in (
-      search rules,
+      search (c.requires-raw, rules),
       (
         single-tree digest (bytes_in m) g.row.B g.met.D.Digest.digest_len s
             (found-blocks m digest (state_blocks digest g.row.B s) c.lender-lender.ensures.blocks)
@@ -86,3 +86,6 @@ write_signed-requires g c =
         found-marked m digest g.row.B s c.lender-lender.ensures.uses,
       ),
     )
+
+pub lender-lender-requires : goal.lender-lender-requires
+lender-lender-requires g c = search (c.requires-raw, rules)
