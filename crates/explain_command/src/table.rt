@@ -4,7 +4,7 @@
 pub type Explanation = (&'static str, &'static str, &'static str);
 
 /// Each fault that the program tells, but for those of a CAR file.
-pub static FAULTS: [(&str, &str, &str); 57] = [
+pub static FAULTS: [(&str, &str, &str); 59] = [
     (
         "BadLine",
         "the line has not the words that a line of this command has",
