@@ -17,6 +17,7 @@ enum Asked {
     Nothing,
     Tree,
     Car,
+    SignedCar,
     Prove,
     Verify,
     ProveChange,
@@ -47,6 +48,7 @@ fn request_of<T: Threads + Wait + RandomSource + Sync>(
         None => Asked::Nothing,
         Some(Request::Tree(_)) => Asked::Tree,
         Some(Request::OnRepository(RepositoryCommand::Car { .. })) => Asked::Car,
+        Some(Request::OnRepository(RepositoryCommand::SignedCar { .. })) => Asked::SignedCar,
         Some(Request::OnRepository(RepositoryCommand::Prove { .. })) => Asked::Prove,
         Some(Request::OnRepository(RepositoryCommand::Verify { .. })) => Asked::Verify,
         Some(Request::OnChange(ChangeCommand::Prove)) => Asked::ProveChange,
@@ -62,9 +64,10 @@ fn request_of<T: Threads + Wait + RandomSource + Sync>(
     }
 }
 
-static ROWS: [(&[&str], Asked); 18] = [
+static ROWS: [(&[&str], Asked); 19] = [
     (&["msthost", "tree"], Asked::Tree),
     (&["msthost", "car"], Asked::Car),
+    (&["msthost", "car", "--sig", "00"], Asked::SignedCar),
     (&["msthost", "prove", "a/b"], Asked::Prove),
     (&["msthost", "verify", EMPTY, "a/b"], Asked::Verify),
     (&["msthost", "prove-change"], Asked::ProveChange),

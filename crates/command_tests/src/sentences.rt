@@ -638,13 +638,25 @@ fn faults_without_a_line(rt: HostRuntime) {
 
 #[test]
 fn faults_of_a_text(rt: HostRuntime) {
-    let rows: [(TextFault<Sha256>, &'static str, &'static str, &'static str); 8] = [
+    let rows: [(TextFault<Sha256>, &'static str, &'static str, &'static str); 10] = [
         (TextFault::BadDid, "BadDid", "BadDid", "the DID is not one"),
         (
             TextFault::BadRev,
             "BadRev",
             "BadRev",
             "the revision is not a timestamp identifier",
+        ),
+        (
+            TextFault::BadSig,
+            "BadSig",
+            "BadSig",
+            "the signature is not hexadecimal",
+        ),
+        (
+            TextFault::NothingToSign,
+            "NothingToSign",
+            "NothingToSign",
+            "no line puts a record, so there is no commit to sign",
         ),
         (
             TextFault::BadBefore(CidFault::BadBits),

@@ -4,7 +4,7 @@
 pub type Explanation = (&'static str, &'static str, &'static str);
 
 /// Each fault that the program tells, but for those of files.
-pub static FAULTS: [(&str, &str, &str); 57] = [
+pub static FAULTS: [(&str, &str, &str); 59] = [
     (
         "BadLine",
         "the line has not the words that a line of this command has",
@@ -145,6 +145,16 @@ pub static FAULTS: [(&str, &str, &str); 57] = [
         "BadRev",
         "the revision is not a timestamp identifier",
         "a date or a number in place of its 13 letters; in a script a WRITE in the revision's place",
+    ),
+    (
+        "BadSig",
+        "the signature is not hexadecimal",
+        "base64 or DER in place of 128 hexadecimal digits, 0x before them, an odd number of digits",
+    ),
+    (
+        "NothingToSign",
+        "no line puts a record, so there is no commit to sign",
+        "an empty input beside --sig: a repository has its first commit by its first record",
     ),
     (
         "RevOrder",

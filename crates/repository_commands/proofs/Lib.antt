@@ -4,3 +4,4 @@ pub mod Repositories
 pub mod Endings
 pub mod Making
 pub mod Readings
+pub mod SignedFiles

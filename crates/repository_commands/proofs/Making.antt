@@ -8,7 +8,7 @@ use Rattle.console.specs.Lines.{numbered_lines}
 use Rattle.repository_commands.specs.Puts.{Given, given_in}
 use Rattle.repository_commands.specs.Faults.{Fault, text_fault_of}
 use Rattle.repository_commands.specs.Outcomes.{IsMade, Texts}
-use Rattle.repository_commands.specs.Texts.{stamp_check, key_check, car_of_given, car_text, proof_of_given, prove_text, blocks_of_lines, or_bad_root, answer_of_blocks, verify_text}
+use Rattle.repository_commands.specs.Texts.{stamp_check, signing_check, key_check, car_of_given, car_text, signed_car_of_given, signed_car_text, proof_of_given, prove_text, blocks_of_lines, or_bad_root, answer_of_blocks, verify_text}
 use Rattle.repository_commands.specs.declared.fault.TextFault.{TextFault}
 use Rattle.repository_commands.proofs.Endings.{always_known, for_known}
 
@@ -49,6 +49,15 @@ car_unchecked digest stamp o e xs = fails_then o (stamp_check stamp) (λ _. car_
 pub car_checked : (digest : List ℕ → List ℕ) (stamp : Stamp) (given : Given) (xs : List ℕ) → stamp_check stamp ≡ Ok tt → given ≡ given_in xs → car_text digest stamp xs ≡ car_of_given digest stamp given
 unfolding car_text
 car_checked digest stamp given xs e is = gives_then (stamp_check stamp) tt (λ _. car_of_given digest stamp (given_in xs)) e ∙ ap (car_of_given digest stamp) (sym is)
+
+pub signing_unchecked : (digest : List ℕ → List ℕ) (stamp : Stamp) (word : List ℕ) (o : Option Fault) → Fails o (signing_check stamp word) → (xs : List ℕ) → Fails o (signed_car_text digest stamp word xs)
+unfolding signed_car_text
+signing_unchecked digest stamp word o e xs = fails_then o (signing_check stamp word) (λ sig. signed_car_of_given digest stamp sig (given_in xs)) e
+
+pub signing_checked : (digest : List ℕ → List ℕ) (stamp : Stamp) (word sig : List ℕ) (given : Given) (xs : List ℕ) → signing_check stamp word ≡ Ok sig → given ≡ given_in xs → signed_car_text digest stamp word xs ≡ signed_car_of_given digest stamp sig given
+unfolding signed_car_text
+signing_checked digest stamp word sig given xs e is =
+    gives_then (signing_check stamp word) sig (λ s. signed_car_of_given digest stamp s (given_in xs)) e ∙ ap (signed_car_of_given digest stamp sig) (sym is)
 
 pub prove_unchecked : (digest : List ℕ → List ℕ) (stamp : Stamp) (key : List ℕ) (o : Option Fault) → Fails o (key_check key) → (xs : List ℕ) → Fails o (prove_text digest stamp key xs)
 unfolding prove_text

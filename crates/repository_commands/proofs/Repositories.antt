@@ -172,6 +172,8 @@ module _ {D A P Q : Type 0} (digest : List ℕ → List ℕ) (s : State) (stamp 
   further (errors.Line n fault) is = line_further n fault is
   further errors.BadDid is = tt
   further errors.BadRev is = tt
+  further errors.BadSig is = tt
+  further errors.NothingToSign is = tt
   further (errors.Root f) is = tt
   further (errors.BadBefore f) is = absurd is
   further (errors.BadAfter f) is = absurd is
@@ -200,6 +202,8 @@ bad_line_named digest s stamp given P (errors.Line n (lines.Refused f)) e = absu
 bad_line_named digest s stamp given P (errors.Line n lines.OtherValue) e = absurd cc
 bad_line_named digest s stamp given P errors.BadDid e = absurd cc
 bad_line_named digest s stamp given P errors.BadRev e = absurd cc
+bad_line_named digest s stamp given P errors.BadSig e = absurd cc
+bad_line_named digest s stamp given P errors.NothingToSign e = absurd cc
 bad_line_named digest s stamp given P (errors.Root f) e = absurd cc
 bad_line_named digest s stamp given P (errors.BadBefore f) e = absurd cc
 bad_line_named digest s stamp given P (errors.BadAfter f) e = absurd cc

@@ -28,11 +28,13 @@ pub data LineFault : Type 0 where
   OfWrite : WriteFault → LineFault
   OtherValue : LineFault
 
--- whose repository it is, and the revision; the text of a root, and of those before and after a change; a key or
+-- whose repository it is, the revision, and the signature; no batch, and so no commit to sign; the text of a root, and of those before and after a change; a key or
 -- the blocks of a proof; the roots that are told of a change; its blocks; a line by its number, from 1
 pub data Fault : Type 0 where
   BadDid : Fault
   BadRev : Fault
+  BadSig : Fault
+  NothingToSign : Fault
   OfRoot : cids.CidFault → Fault
   OfBefore : cids.CidFault → Fault
   OfAfter : cids.CidFault → Fault
@@ -62,6 +64,8 @@ change_fault_of change_faults.NoMemory = None
 abbrev pub text_fault_of : {D A : Type 0} → TextFault D A → Option Fault
 text_fault_of errors.BadDid = Some BadDid
 text_fault_of errors.BadRev = Some BadRev
+text_fault_of errors.BadSig = Some BadSig
+text_fault_of errors.NothingToSign = Some NothingToSign
 text_fault_of (errors.Root f) = option_map OfRoot (of_cid.cid_fault_of f)
 text_fault_of (errors.BadBefore f) = option_map OfBefore (of_cid.cid_fault_of f)
 text_fault_of (errors.BadAfter f) = option_map OfAfter (of_cid.cid_fault_of f)
@@ -77,6 +81,7 @@ text_fault_of errors.ReadFailed = None
 abbrev pub is_of_words : {D A : Type 0} → TextFault D A → Bool
 is_of_words errors.BadDid = true
 is_of_words errors.BadRev = true
+is_of_words errors.BadSig = true
 is_of_words (errors.Root f) = true
 is_of_words (errors.BadBefore f) = true
 is_of_words (errors.BadAfter f) = true
@@ -86,6 +91,10 @@ is_of_words fault = false
 -- a fault of a word was told
 abbrev pub TellsWords : {X D A : Type 0} → Result X (TextFault D A) → Type 0
 TellsWords result = IsErrAnd result (λ e. is_of_words e ≡ true)
+
+-- that, or memory was refused to the words themselves
+abbrev pub EndsWords : {X D A : Type 0} → Result X (TextFault D A) → Type 0
+EndsWords result = IsErrAnd result (λ e. (is_of_words e ≡ true) ⊎ (e ≡ errors.NoMemory))
 
 -- what a failed read is called
 abbrev pub of_read : {D A : Type 0} → ReadFault → TextFault D A

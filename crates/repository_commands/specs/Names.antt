@@ -61,6 +61,8 @@ of_line_number n name = codes "line " ++ (decimal n ++ (codes ": " ++ name))
 abbrev pub fault_text : {D A : Type 0} → TextFault D A → List ℕ
 fault_text of_text.BadDid = codes "BadDid"
 fault_text of_text.BadRev = codes "BadRev"
+fault_text of_text.BadSig = codes "BadSig"
+fault_text of_text.NothingToSign = codes "NothingToSign"
 fault_text (of_text.Root fault) = root_fault_name fault
 fault_text (of_text.BadBefore fault) = codes "BadBefore(" ++ (root_fault_name fault ++ codes ")")
 fault_text (of_text.BadAfter fault) = codes "BadAfter(" ++ (root_fault_name fault ++ codes ")")

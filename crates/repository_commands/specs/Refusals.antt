@@ -44,6 +44,8 @@ IsRefusedLine digest s stamp given when_full (errors.Line n fault) =
     IsLineFault digest s stamp given when_full n fault
 IsRefusedLine digest s stamp given when_full errors.BadDid = ⊤
 IsRefusedLine digest s stamp given when_full errors.BadRev = ⊤
+IsRefusedLine digest s stamp given when_full errors.BadSig = ⊤
+IsRefusedLine digest s stamp given when_full errors.NothingToSign = ⊤
 IsRefusedLine digest s stamp given when_full (errors.Root f) = ⊤
 IsRefusedLine digest s stamp given when_full (errors.Proof f) = ⊤
 IsRefusedLine digest s stamp given when_full errors.NoMemory = ⊤

@@ -1,5 +1,5 @@
 -- Which command a name and its words ask for.
-use Rattle.std.specs.Prelude.{◌≡◌, ◌≢◌, ℕ, true, List, [], ◌∷◌, Some, codes, unwrap_or}
+use Rattle.std.specs.Prelude.{◌≡◌, ◌≢◌, ℕ, true, List, [], ◌∷◌, Some, None, codes, unwrap_or}
 use Rattle.clap.specs.Simple.{App, Shape, new_rule, new_shape}
 use Rattle.clap.specs.Words.{with_subcommand}
 use Rattle.clap.specs.Walk.{Row, Rule, first_of}
@@ -15,6 +15,10 @@ option_rule id other = record (new_rule id) {
   defaults = other ∷ [];
 }
 
+-- `--id TEXT`, which may be left out
+abbrev pub optional_rule : List ℕ → Rule
+optional_rule id = record (new_rule id) { long = Some id; value_names = 1 }
+
 -- a word that must be there
 abbrev pub required_rule : List ℕ → Rule
 required_rule id = record (new_rule id) { value_names = 1; required = true }
@@ -23,7 +27,7 @@ required_rule id = record (new_rule id) { value_names = 1; required = true }
 abbrev pub car_shape : Shape
 car_shape = record (new_shape (codes "car")) {
   rules = option_rule (codes "did") (codes "did:web:localhost")
-      ∷ option_rule (codes "rev") (codes "2222222222222") ∷ [];
+      ∷ option_rule (codes "rev") (codes "2222222222222") ∷ optional_rule (codes "sig") ∷ [];
 }
 
 abbrev pub prove_shape : Shape
@@ -44,11 +48,17 @@ abbrev pub word_or : List ℕ → List Row → List ℕ → List ℕ
 word_or other rows id = unwrap_or (first_of id rows) other
 
 -- The command is the one of this name, and has what the words say. Where there is no DID or no
--- revision, it has the program's own (a choice of this project).
+-- revision, it has the program's own (a choice of this project). With a signature it is the command that
+-- writes a signed commit.
 abbrev pub IsOfWords : List ℕ → List Row → RepositoryCommand → Type 0
 IsOfWords name rows (commands.Car did rev) = (name ≡ codes "car")
     × (did.now ≡ word_or (codes "did:web:localhost") rows (codes "did"))
     × (rev.now ≡ word_or (codes "2222222222222") rows (codes "rev"))
+    × (None ≡ first_of (codes "sig") rows)
+IsOfWords name rows (commands.SignedCar did rev sig) = (name ≡ codes "car")
+    × (did.now ≡ word_or (codes "did:web:localhost") rows (codes "did"))
+    × (rev.now ≡ word_or (codes "2222222222222") rows (codes "rev"))
+    × (Some sig.now ≡ first_of (codes "sig") rows)
 IsOfWords name rows (commands.Prove key) = (name ≡ codes "prove")
     × (key.now ≡ word_or [] rows (codes "key"))
 IsOfWords name rows (commands.Verify root key) = (name ≡ codes "verify")

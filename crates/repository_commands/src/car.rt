@@ -73,7 +73,7 @@ fn car_made<D: Digest, R: Read>(
 }
 
 /// Tests a stamp: whose repository it is, and then the revision.
-fn check_stamp<D: Digest>(stamp: &Stamp) -> Result<(), TextFault<D>>
+pub(crate) fn check_stamp<D: Digest>(stamp: &Stamp) -> Result<(), TextFault<D>>
     ensures check { Gives (λ ok. ok) text_fault_of result (stamp_check (stamp_of stamp.now)) }
     ensures words { IfErr result (λ e. is_of_words e ≡ true) }
     ensures refused { (xs : List ℕ) →

@@ -34,6 +34,10 @@ pub enum TextFault<D: Digest, A: Allocator = Global> {
     BadDid,
     /// The revision isn't a timestamp identifier (AT Protocol, TID). Nothing was read.
     BadRev,
+    /// The signature isn't hexadecimal, or has no digits. Nothing was read.
+    BadSig,
+    /// No line puts a record, so there is no batch, and no commit to be signed.
+    NothingToSign,
     /// The root isn't the text of a CID of a block of this host. Nothing was read.
     Root(CidFault),
     /// The root before a change isn't the text of such a CID. Nothing was read.
@@ -99,6 +103,8 @@ impl<D: Digest, A: Allocator> fmt::Display for TextFault<D, A> {
         match self {
             TextFault::BadDid => f.write_str("BadDid"),
             TextFault::BadRev => f.write_str("BadRev"),
+            TextFault::BadSig => f.write_str("BadSig"),
+            TextFault::NothingToSign => f.write_str("NothingToSign"),
             TextFault::Root(fault) => f.write_str(root_fault_name(fault)),
             TextFault::BadBefore(fault) => write!(f, "BadBefore({})", root_fault_name(fault)),
             TextFault::BadAfter(fault) => write!(f, "BadAfter({})", root_fault_name(fault)),

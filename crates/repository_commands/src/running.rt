@@ -5,12 +5,13 @@ ghost use Rattle.repository_commands.specs.Commands.{own_stamp, reasons_of, stam
 ghost use Rattle.repository_commands.specs.Faults.{EndsEarly};
 ghost use Rattle.repository_commands.specs.Outcomes.{HasReason, IsFaulty, IsOutcome, IsStatusOf};
 ghost use Rattle.repository_commands.specs.Refusals.{IsRefusedIn};
-ghost use Rattle.repository_commands.specs.Texts.{car_text as car_text_of, key_check, prove_text as prove_text_of, stamp_check};
+ghost use Rattle.repository_commands.specs.Texts.{car_text as car_text_of, key_check, prove_text as prove_text_of, signed_car_text as signed_car_text_of, signing_check, stamp_check};
 
 use crate::car::car_text;
 use crate::ending::status_of;
 use crate::fault::TextFault;
 use crate::proving::prove_text;
+use crate::signing::signed_car_text;
 use crate::verifying::verify_text;
 use crate::words::{DID, REV, RepositoryCommand};
 use batches::Stamp;
@@ -62,6 +63,9 @@ fn write_text<D: Digest, R: Read, W: Write>(
 {
     match command {
         RepositoryCommand::Car { did, rev } => write_car(did, rev, alloc, input, out),
+        RepositoryCommand::SignedCar { did, rev, sig } => {
+            write_signed_car(did, rev, sig, alloc, input, out)
+        }
         RepositoryCommand::Prove { key } => write_proof(key, alloc, input, out),
         RepositoryCommand::Verify { root, key } => {
             verify_text(alloc, root.as_bytes(), key.as_bytes(), input, out)
@@ -86,6 +90,31 @@ fn write_car<D: Digest, R: Read, W: Write>(
 {
     match stamp_of_words(did, rev, alloc) {
         Ok(stamp) => car_text(alloc, &stamp, input, out),
+        Err(_) => Err(CommandFault::NoText(TextFault::NoMemory)),
+    }
+}
+
+/// Writes the repository of the lines, under the stamp of these words and with this signature of its commit.
+fn write_signed_car<D: Digest, R: Read, W: Write>(
+    did: &str,
+    rev: &str,
+    sig: &str,
+    alloc: Global,
+    input: &mut R,
+    out: &mut W,
+) -> Result<(), CommandFault<TextFault<D>>>
+    ensures outcome { IsOutcome
+        (signed_car_text_of D.digest_of (stamp_of_words did.now rev.now) sig.now)
+        (R.remaining input.old) (W.contents out.old) (W.contents out.new) result }
+    ensures reason { HasReason (IsRefusedIn D.digest_of (stamp_of_words did.now rev.now))
+        (R.remaining input.old) result }
+    ensures told { IsErr (signing_check (stamp_of_words did.now rev.now) sig.now)
+        → EndsEarly result }
+    ensures unread { IsErr (signing_check (stamp_of_words did.now rev.now) sig.now)
+        → input.new ≡ input.old }
+{
+    match stamp_of_words(did, rev, alloc) {
+        Ok(stamp) => signed_car_text(alloc, &stamp, sig.as_bytes(), input, out),
         Err(_) => Err(CommandFault::NoText(TextFault::NoMemory)),
     }
 }
