@@ -1,5 +1,5 @@
 -- How a command on an export ends.
-use Rattle.std.proofs.Common.{◌≡◌, ◌⊎◌, ⊎_elim, inl, inr, ℕ, List, [], Some, None, refl, sym, subst, arith}
+use Rattle.std.proofs.Common.{◌≡◌, ◌∙◌, ◌⊎◌, ⊎_elim, inl, inr, ℕ, List, [], Some, None, refl, sym, subst, arith}
 use Rattle.std.specs.Prelude.{◌≤◌, Option, Result, Ok, Err, IfErr, IfSome}
 use Rattle.std.proofs.lemmas.List.{append-nil}
 use Rattle.std.specs.Io.KnownBytes.{Appends, IsAtEnd, Keeps}
@@ -10,6 +10,7 @@ use Rattle.repository_check.specs.Views.{check_fault_of}
 use Rattle.repository_check.specs.declared.fault.CheckFault.TheVariants as checks
 use Rattle.console.proofs.Leaving.{Appends-append, Appends-kept}
 use Rattle.console.specs.Faults.{write_status}
+use Rattle.console.specs.Written.{AppendsText}
 use Rattle.console.specs.declared.fault.CommandFault.{CommandFault}
 use Rattle.console.specs.declared.fault.CommandFault.TheVariants as ends
 use Rattle.console.specs.declared.writing.WriteFault.{WriteFault}
@@ -18,7 +19,7 @@ use Rattle.export_commands.specs.declared.command.ExportCommand.{ExportCommand}
 use Rattle.export_commands.specs.declared.fault.ExportFault.{ExportFault}
 use Rattle.export_commands.specs.declared.fault.ExportFault.TheVariants as errors
 use Rattle.export_commands.specs.Faults.{check_status, command_status, status_of}
-use Rattle.export_commands.specs.Outcomes.{AppendsTextOf, BeginsTextOf, HasFault, IsFaultOf, IsOutcome, IsOutcomeOf, IsStatusOf, IsTold, KeepsWithoutText}
+use Rattle.export_commands.specs.Outcomes.{AppendsTextOf, BeginsText, BeginsTextOf, HasFault, IsFaultOf, IsOutcome, IsOutcomeOf, IsStatusOf, IsTextOf, IsTold, IsUntold, KeepsWithoutText}
 use Rattle.export_commands.specs.Texts.{Records, export_text}
 
 -- ---- what is said of an input that may be known
@@ -42,23 +43,29 @@ module _ (digest : List ℕ → List ℕ) (command : ExportCommand) where
   -- ---- a file that is an export
 
   module _ (file : List ℕ) (c : Commit) (m : Records) (export : IsExport digest 2 file c m) (old new : Option (List ℕ)) where
-    unsaid : (f : ExportFault) → f ≡ errors.Check checks.NoMemory → IsFaultOf digest file f
-    unsaid f is = subst (IsFaultOf digest file) (sym is) tt
+    -- why nothing was told
+    untold : (text : Result (List ℕ) ℕ) (f : ExportFault) → text ≡ export_text digest command c m → IsUntold text f → IsFaultOf digest command file f
+    untold text (errors.Check f) is p = subst (λ g. IsFaultOf digest command file (errors.Check g)) (sym p) tt
+    untold text (errors.NoJsonForm place) is p = record { commit = c; records = m; export = export; untold = sym is ∙ p }
+    untold text errors.ReadFailed is p = absurd p
+
+    text-of : (text : List ℕ) → export_text digest command c m ≡ Ok text → IsTextOf digest command file text
+    text-of text is = record { commit = c; records = m; export = export; is = is }
+
+    appended : (text : Result (List ℕ) ℕ) → export_text digest command c m ≡ text → AppendsText old new text → AppendsTextOf digest command file old new
+    appended (Ok text) is p = record { text = text; of_file = text-of text is; written = p }
+    appended (Err place) is p = absurd p
+
+    begun : (text : Result (List ℕ) ℕ) → export_text digest command c m ≡ text → BeginsText old new text → BeginsTextOf digest command file old new
+    begun (Ok text) is p = record { text = text; of_file = text-of text is; written = p }
+    begun (Err place) is p = absurd p
 
     -- what is told of it is its outcome
     pub outcome-of-told : (r : Result (Unit {0}) (CommandFault ExportFault)) → IsTold (export_text digest command c m) old new r
         → IsOutcomeOf digest command file old new r
-    outcome-of-told (Ok done) p = record {
-      text = export_text digest command c m;
-      of_file = record { commit = c; records = m; export = export; is = refl };
-      written = p;
-    }
-    outcome-of-told (Err (ends.NoText f)) p = (unsaid f p.0, p.1)
-    outcome-of-told (Err (ends.Unwritten w)) p = record {
-      text = export_text digest command c m;
-      of_file = record { commit = c; records = m; export = export; is = refl };
-      written = p;
-    }
+    outcome-of-told (Ok done) p = appended (export_text digest command c m) refl p
+    outcome-of-told (Err (ends.NoText f)) p = (untold (export_text digest command c m) f refl p.0, p.1)
+    outcome-of-told (Err (ends.Unwritten w)) p = begun (export_text digest command c m) refl p
 
   -- ---- an input that was read
 
@@ -109,18 +116,20 @@ module _ (digest : List ℕ → List ℕ) (command : ExportCommand) where
 
     statuses : (f : ExportFault) → (1 ≤ status_of f) × (status_of f ≤ 4) × ((status_of f ≡ 2) → ⊥)
     statuses (errors.Check f) = check-statuses (check_fault_of f)
+    statuses (errors.NoJsonForm place) = (omega arith, omega arith, λ e. omega (arith, e))
     statuses errors.ReadFailed = (omega arith, omega arith, λ e. omega (arith, e))
 
     write-statuses : (w : WriteFault) → (3 ≤ write_status w) × (write_status w ≤ 4)
     write-statuses writes.NoMemory = (omega arith, omega arith)
     write-statuses writes.Failed = (omega arith, omega arith)
 
-    first : (file : List ℕ) (o : Option exports.ExportFault) → IfSome o (IsFirstFault digest 2 file) → check_status o ≡ 1 → HasFault digest file
-    first file (Some f) p one = (f, p)
+    first : (file : List ℕ) (o : Option exports.ExportFault) → IfSome o (IsFirstFault digest 2 file) → check_status o ≡ 1 → HasFault digest command file
+    first file (Some f) p one = inl (f, p)
     first file None p one = absurd (omega (arith, one))
 
-    faulty : (file : List ℕ) (f : ExportFault) → IsFaultOf digest file f → status_of f ≡ 1 → HasFault digest file
+    faulty : (file : List ℕ) (f : ExportFault) → IsFaultOf digest command file f → status_of f ≡ 1 → HasFault digest command file
     faulty file (errors.Check f) p one = first file (check_fault_of f) p one
+    faulty file (errors.NoJsonForm place) p one = inr (place, p)
     faulty file errors.ReadFailed p one = absurd (omega (arith, one))
 
     failed-with : (e : CommandFault ExportFault) → IsOutcome digest command input left old new (Err e) → IsStatusOf digest command input old new (command_status e)

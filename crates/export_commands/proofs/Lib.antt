@@ -1,3 +1,4 @@
 pub mod Writing
 pub mod Told
+pub mod Formless
 pub mod Endings

@@ -11,9 +11,10 @@ use Rattle.console.specs.declared.reading.ReadFault.TheVariants as reads
 use Rattle.export_commands.specs.declared.fault.ExportFault.{ExportFault}
 use Rattle.export_commands.specs.declared.fault.ExportFault.TheVariants as errors
 
--- the definitions' fault, but for want of memory and failed reads, of which they know nothing
+-- the definitions' fault of a file that is no export; they know nothing of want of memory, of failed reads and of JSON
 abbrev pub export_fault_of : ExportFault → Option exports.ExportFault
 export_fault_of (errors.Check f) = check_fault_of f
+export_fault_of (errors.NoJsonForm place) = None
 export_fault_of errors.ReadFailed = None
 
 -- what a failed read is called
@@ -28,6 +29,7 @@ check_status None = 3
 
 abbrev pub status_of : ExportFault → ℕ
 status_of (errors.Check f) = check_status (check_fault_of f)
+status_of (errors.NoJsonForm place) = 1
 status_of errors.ReadFailed = 4
 
 -- the status that a command ends with

@@ -32,16 +32,20 @@ record_fault_name records.RecordSize = codes "RecordSize"
 record_fault_name (records.BadRecord fault) = bad_record_name fault
 record_fault_name records.NotAMap = codes "NotAMap"
 
+-- what is said of the record at a place
+abbrev pub of_record_at : ℕ → List ℕ → List ℕ
+of_record_at place name = codes "record " ++ (decimal place ++ (codes ": " ++ name))
+
 abbrev pub check_fault_name : CheckFault → List ℕ
 check_fault_name (checks.Car fault) = car_fault_name fault
 check_fault_name checks.Misnamed = codes "Misnamed"
 check_fault_name checks.NoCommit = codes "NoCommit"
 check_fault_name (checks.Commit fault) = commit_fault_name fault
 check_fault_name checks.NotTheTree = codes "NotTheTree"
-check_fault_name (checks.Record place fault) =
-    codes "record " ++ (decimal place ++ (codes ": " ++ record_fault_name fault))
+check_fault_name (checks.Record place fault) = of_record_at place (record_fault_name fault)
 check_fault_name checks.NoMemory = codes "no memory"
 
 abbrev pub fault_text : ExportFault → List ℕ
 fault_text (errors.Check fault) = check_fault_name fault
+fault_text (errors.NoJsonForm place) = of_record_at place (codes "NoJsonForm")
 fault_text errors.ReadFailed = codes "read failed"

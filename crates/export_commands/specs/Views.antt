@@ -5,11 +5,12 @@ use Rattle.spec.specs.Cid.{text}
 use Rattle.repository_check.specs.declared.repository.Record.{Record}
 use Rattle.export_commands.specs.declared.command.Values.{Values}
 use Rattle.export_commands.specs.declared.command.Values.TheVariants as values
-use Rattle.export_commands.specs.Texts.{ended, spaced}
+use Rattle.export_commands.specs.Texts.{ended, json_or_nothing, spaced}
 
 -- the word behind the key of one
 abbrev pub value_of : {A : Type 0} → Values → Record A → List ℕ
 value_of values.Bytes r = encode_lower r.bytes.now
+value_of values.Json r = json_or_nothing r.bytes.now
 value_of values.Cids r = text r.cid
 
 -- and its line

@@ -4,6 +4,7 @@ use Rattle.clap.specs.Simple.{App, Shape, new_rule, new_shape}
 use Rattle.clap.specs.Words.{with_subcommand}
 use Rattle.clap.specs.Walk.{Row, Rule, one_of}
 use Rattle.clap.specs.declared.builder.action.ArgAction.TheVariants.{SetTrue}
+use Rattle.record_forms.specs.Options.{json_rule}
 use Rattle.export_commands.specs.declared.command.Values.{Values}
 use Rattle.export_commands.specs.declared.command.Values.TheVariants as values
 use Rattle.export_commands.specs.declared.command.ExportCommand.{ExportCommand}
@@ -18,7 +19,7 @@ abbrev pub check_shape : Shape
 check_shape = new_shape (codes "check")
 
 abbrev pub records_shape : Shape
-records_shape = record (new_shape (codes "records")) { rules = cids_rule ∷ [] }
+records_shape = record (new_shape (codes "records")) { rules = cids_rule ∷ json_rule ∷ [] }
 
 abbrev pub commit_shape : Shape
 commit_shape = new_shape (codes "commit")
@@ -28,10 +29,13 @@ abbrev pub with_commands : App → App
 with_commands app =
     with_subcommand (with_subcommand (with_subcommand app check_shape) records_shape) commit_shape
 
--- where `--cids` is among the words CIDs are asked for, and else bytes
+-- where `--cids` is among the words CIDs are asked for, else where `--json` is JSON, and else bytes
 pub record AreValuesOf (rows : List Row) (asked : Values) : Type 0 where
   pub cids : one_of (codes "cids") rows ≡ Some (codes "true") → asked ≡ values.Cids
-  pub bytes : one_of (codes "cids") rows ≡ Some (codes "false") → asked ≡ values.Bytes
+  pub json : one_of (codes "cids") rows ≡ Some (codes "false")
+      → one_of (codes "json") rows ≡ Some (codes "true") → asked ≡ values.Json
+  pub bytes : one_of (codes "cids") rows ≡ Some (codes "false")
+      → one_of (codes "json") rows ≡ Some (codes "false") → asked ≡ values.Bytes
 
 -- the command is the one of this name, and has what the words say
 abbrev pub IsOfWords : List ℕ → List Row → ExportCommand → Type 0

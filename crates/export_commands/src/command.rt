@@ -5,6 +5,8 @@
 pub enum Values {
     /// Its bytes.
     Bytes,
+    /// Its JSON.
+    Json,
     /// Its CID.
     Cids,
 }

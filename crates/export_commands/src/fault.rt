@@ -7,7 +7,7 @@ ghost use Rattle.export_commands.specs.Names.{fault_text};
 
 use crate::names::CheckName;
 use car_reader::CarFault;
-use console::{FAULTY, IO_FAILED, NO_MEMORY, ReadFault};
+use console::{Decimal, FAULTY, IO_FAILED, NO_MEMORY, ReadFault};
 use dagcbor::CborFault;
 use repository_check::{CheckFault, RecordFault};
 use std::error::Error;
@@ -18,6 +18,8 @@ use std::fmt;
 pub enum ExportFault {
     /// The file is no export, or memory was refused.
     Check(CheckFault),
+    /// It is one, and JSON was asked for: the record at this place has none. Places count from 0, in the order of the keys.
+    NoJsonForm(u64),
     /// The file can't be read.
     ReadFailed,
 }
@@ -29,7 +31,7 @@ impl ExportFault {
     {
         match self {
             ExportFault::Check(fault) if is_want_of_memory(&fault) => NO_MEMORY,
-            ExportFault::Check(_) => FAULTY,
+            ExportFault::Check(_) | ExportFault::NoJsonForm(_) => FAULTY,
             ExportFault::ReadFailed => IO_FAILED,
         }
     }
@@ -54,6 +56,10 @@ impl fmt::Display for ExportFault {
     fn fmt<W: fmt::Write>(&self, f: &mut fmt::Formatter<W>) -> fmt::Result {
         match self {
             ExportFault::Check(fault) => CheckName(fault).fmt(f),
+            ExportFault::NoJsonForm(place) => {
+                let place = Decimal(*place);
+                write!(f, "record {place}: NoJsonForm")
+            }
             ExportFault::ReadFailed => f.write_str("read failed"),
         }
     }

@@ -2,8 +2,8 @@
 //! shows (CARv1; AT Protocol repository v3; the forms of the texts are this repository's own).
 //!
 //! - `export_text` reads a file and writes what an `ExportCommand` tells of the repository that the file is the export of:
-//!   whose it is (`Check`), its records or their CIDs (`Records`), what was signed and the signature (`Commit`).
-//! - `ExportFault` says why there is no text: the first fault of a file that is no export.
+//!   whose it is (`Check`), its records, their JSON or their CIDs (`Records`), what was signed and the signature (`Commit`).
+//! - `ExportFault` says why there is no text: the first fault of a file that is no export, or a record without JSON.
 //!
 //! A program has them by `with_words`, `command_of` and `run`: what help shows of them, which of them a command line asks
 //! for, and its run to the exit status.
@@ -16,6 +16,7 @@
 
 mod command;
 mod fault;
+mod forms;
 mod lines;
 mod names;
 mod records;

@@ -15,7 +15,8 @@ use std::io::{Read, Write};
 /// Tells what the command tells of the file, or says on standard error why not, and answers the exit status.
 ///
 /// At 0 the text of the repository that the file is the export of was written; at 1 it is the export of none, whose first
-/// fault is told, and nothing was written. At 3 memory was refused, and at 4 reading or writing failed.
+/// fault is told, or of one of which a record has no JSON where that is asked for, and nothing was written. At 3 memory was
+/// refused, and at 4 reading or writing failed.
 pub fn run<D: Digest, R: Read, W: Write, X: Write>(
     command: ExportCommand,
     alloc: Global,

@@ -1,6 +1,6 @@
 //! What a command tells of a repository.
 
-ghost use Rattle.std.specs.Prelude.{◌≡◌, ◌++◌};
+ghost use Rattle.std.specs.Prelude.{◌≡◌, ◌++◌, Ok};
 ghost use Rattle.hex.specs.Hex.{encode_lower};
 ghost use Rattle.spec.specs.Blocks.{pairs};
 ghost use Rattle.signed_commits.specs.Views.{commit_of};
@@ -12,7 +12,7 @@ ghost use Rattle.export_commands.specs.Texts.{ended, export_text, signing_lines,
 use crate::command::ExportCommand;
 use crate::fault::ExportFault;
 use crate::lines::{write_ended, write_hex_ended, write_spaced};
-use crate::records::write_records;
+use crate::records::write_listed;
 use cid::Digest;
 use console::{CommandFault, WriteFault};
 use itoa::Buffer;
@@ -22,7 +22,7 @@ use std::alloc::Allocator;
 use std::io::Write;
 
 /// Writes what the command tells of this repository.
-pub(crate) fn write_told<D: Digest, A: Allocator, W: Write>(
+pub(crate) fn write_told<D: Digest, A: Allocator + Copy, W: Write>(
     command: ExportCommand,
     alloc: A,
     found: &Repository<'_, A>,
@@ -35,7 +35,7 @@ pub(crate) fn write_told<D: Digest, A: Allocator, W: Write>(
 {
     match command {
         ExportCommand::Check => Ok(write_summary(out, &found.commit, found.records.len())?),
-        ExportCommand::Records(values) => Ok(write_records(values, out, &found.records)?),
+        ExportCommand::Records(values) => write_listed(values, alloc, out, &found.records),
         ExportCommand::Commit => write_signing(alloc, out, &found.commit),
     }
 }
@@ -62,7 +62,7 @@ fn write_signing<A: Allocator, W: Write>(
     out: &mut W,
     commit: &SignedCommit<'_>,
 ) -> Result<(), CommandFault<ExportFault>>
-    ensures { IsTold (signing_lines (commit_of commit.now))
+    ensures { IsTold (Ok (signing_lines (commit_of commit.now)))
         (W.contents out.old) (W.contents out.new) result }
 {
     match commit.unsigned_bytes(alloc) {

@@ -8,6 +8,7 @@ ghost use Rattle.export_commands.specs.Words.{check_shape, cids_rule, commit_sha
 
 use crate::command::{ExportCommand, Values};
 use clap::{Arg, ArgAction, ArgMatches, Command};
+use record_forms::{Form, form_of, json_option};
 use std::alloc::{AllocError, Global};
 
 const CHECK: &str = "Reads a CAR file and writes which repository it is the export of";
@@ -31,8 +32,8 @@ const RECORDS: &str = "Reads a CAR file and writes the records of its repository
 
 const LONG_RECORDS: &str = "\
 Reads a CAR file from standard input, checks it as check does, and writes a line KEY HEX for each record, in the order of
-the keys: its key, a space, and its bytes in hexadecimal, as car reads them. With --cids it writes lines KEY CID, as tree
-reads them.
+the keys: its key, a space, and its bytes in hexadecimal, as car reads them. With --json it writes lines KEY JSON, as
+car --json reads them, and with --cids lines KEY CID, as tree reads them; of the two --cids decides.
 
 Exit status: 0 done, 1 the file is no export of a repository, 2 a wrong command line, 3 no memory, 4 reading or writing
 failed.";
@@ -40,7 +41,9 @@ failed.";
 const RECORDS_EXAMPLE: &str = "\
 Example:
   $ msthost records --cids < examples/export.car | msthost tree --paths | sed -n 1p
-  bafyreidyenu27cdomis4z7l7lj7qtx7zarjr3blh7rlt2hkugvb6dqhqum";
+  bafyreidyenu27cdomis4z7l7lj7qtx7zarjr3blh7rlt2hkugvb6dqhqum
+  $ msthost records --json < examples/export.car | sed -n 1p
+  app.bsky.actor.profile/self {}";
 
 const COMMIT: &str = "Reads a CAR file and writes what was signed and the signature";
 
@@ -89,9 +92,11 @@ fn values_of(words: &ArgMatches) -> Values
     ensures { AreValuesOf (rows_of (found_of words.now)) result }
 {
     if words.get_flag("cids") {
-        Values::Cids
-    } else {
-        Values::Bytes
+        return Values::Cids;
+    }
+    match form_of(words) {
+        Form::Json => Values::Json,
+        Form::Hex => Values::Bytes,
     }
 }
 
@@ -117,7 +122,8 @@ fn records_words<'a>(alloc: Global) -> Result<Command<'a>, AllocError>
         .about(RECORDS)
         .long_about(LONG_RECORDS)
         .after_help(RECORDS_EXAMPLE)
-        .arg(cids_word(alloc))
+        .arg(cids_word(alloc))?
+        .arg(json_option(alloc))
 }
 
 /// The words that `commit` takes.

@@ -1,0 +1,58 @@
+-- Records as words of lines: in hexadecimal, or as JSON (the first is a choice of this project; AT Protocol data model).
+use Rattle.std.specs.Prelude.{ℕ, List, [], ◌∷◌, Option, Some, None, Result, Ok, Err, if◌then◌else◌}
+use Rattle.std.specs.Str.{is_utf8}
+use Rattle.spec.specs.DagCbor.{Value, read, spelling}
+use Rattle.console.specs.Lines.{bytes_of_hex}
+use Rattle.record_json.specs.Form.{has_form, json_of}
+use Rattle.record_json.specs.Reading.{Fault, NotJson, value_of_json}
+use Rattle.record_forms.specs.declared.form.Form.{Form}
+use Rattle.record_forms.specs.declared.form.Form.TheVariants as forms
+
+-- ---- from a word to a record
+
+-- why a word is no record: it is empty or isn't bytes in hexadecimal; or the first fault of its JSON
+pub data WordFault : Type 0 where
+  BadWord : WordFault
+  OfJson : Fault → WordFault
+
+abbrev pub or_bad_word : Option (List ℕ) → Result (List ℕ) WordFault
+or_bad_word None = Err BadWord
+or_bad_word (Some bytes) = Ok bytes
+
+-- the bytes of a word in hexadecimal; an empty word has none
+abbrev pub record_of_hex : List ℕ → Result (List ℕ) WordFault
+record_of_hex word = or_bad_word (bytes_of_hex word)
+
+-- JSON is UTF-8 (RFC 8259, section 8.1)
+abbrev pub value_of_json_text : List ℕ → Result Value Fault
+value_of_json_text text =
+    if is_utf8 text then value_of_json text else Err (record { kind = NotJson; path = [] })
+
+-- the bytes of what was read
+abbrev pub spelled : Result Value Fault → Result (List ℕ) WordFault
+spelled (Ok v) = Ok (spelling v)
+spelled (Err f) = Err (OfJson f)
+
+-- the bytes of the record that a word is as JSON; an empty word is none
+abbrev pub record_of_json : List ℕ → Result (List ℕ) WordFault
+record_of_json [] = Err BadWord
+record_of_json (c ∷ word) = spelled (value_of_json_text (c ∷ word))
+
+-- the bytes of the record that a word stands for
+abbrev pub record_of_word : Form → List ℕ → Result (List ℕ) WordFault
+record_of_word forms.Hex word = record_of_hex word
+record_of_word forms.Json word = record_of_json word
+
+-- ---- from a record to its JSON
+
+-- the one text of a value, if it has one
+abbrev pub json_of_value : Value → Option (List ℕ)
+json_of_value v = if has_form v then Some (json_of v) else None
+
+abbrev pub json_of_read : {E : Type 0} → Result Value E → Option (List ℕ)
+json_of_read (Ok v) = json_of_value v
+json_of_read (Err f) = None
+
+-- the one text of a record by its bytes, if it has one
+abbrev pub json_of_record : List ℕ → Option (List ℕ)
+json_of_record bytes = json_of_read (read bytes)

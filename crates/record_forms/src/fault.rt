@@ -1,0 +1,18 @@
+//! Why a word is no record.
+
+use record_json::JsonFaultKind;
+use std::alloc::{Allocator, Global};
+
+/// Why a word is no record.
+#[derive(Drop)]
+#[derive_where(Debug)]
+pub enum WordFault<A: Allocator = Global> {
+    /// It is empty, or it isn't bytes in hexadecimal.
+    BadWord,
+    /// It has this fault as JSON, the first one.
+    Json {
+        kind: JsonFaultKind,
+        /// The way to it from the outside: `.key` for a key of an object, `[place]` for an item of a list, counted from 0.
+        path: String<A>,
+    },
+}
