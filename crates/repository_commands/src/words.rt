@@ -7,6 +7,7 @@ ghost use Rattle.repository_commands.specs.Words.{car_shape, prove_shape, verify
 ghost use Rattle.repository_commands.specs.Words.{option_rule, required_rule};
 
 use clap::{Arg, ArgMatches, Command};
+use record_forms::{Form, form_of, json_option};
 use std::alloc::{AllocError, Global};
 
 /// A command on one repository, with what its words say.
@@ -18,11 +19,15 @@ pub enum RepositoryCommand<'a> {
         did: &'a str,
         /// The revision of its one batch.
         rev: &'a str,
+        /// The form of the records.
+        form: Form,
     },
     /// Write the proof of a key in the repository of the lines of the input.
     Prove {
         /// The key.
         key: &'a str,
+        /// The form of the records.
+        form: Form,
     },
     /// Write what the blocks of the input show of a key.
     Verify {
@@ -46,7 +51,8 @@ Reads lines KEY HEX from standard input, puts each record under its key into one
 writes the repository as one CAR file: the commit, the nodes of the tree and the records.
 
 A key is a collection, a slash and a record key. HEX is a record in hexadecimal: one DAG-CBOR map. One space stands
-between them. Of lines with one key the last decides, and empty lines are passed over. Without lines there is no commit.
+between them. With --json the lines are KEY JSON: a record as records --json writes it, in any layout on one line. Of lines
+with one key the last decides, and empty lines are passed over. Without lines there is no commit.
 
 Exit status: 0 done, 1 a faulty line, DID or revision, 2 a wrong command line, 3 no memory, 4 reading or writing failed.";
 
@@ -58,7 +64,7 @@ Example:
 const PROVE: &str = "Reads lines KEY HEX and writes the proof of a key in their tree";
 
 const LONG_PROVE: &str = "\
-Reads lines KEY HEX from standard input as car does, and writes the text of the CID of the tree's root, and then the
+Reads lines KEY HEX, or KEY JSON with --json, from standard input as car does, and writes the text of the CID of the tree's root, and then the
 nodes on the path of KEY from the top, a line in hexadecimal each. They show what the tree has under KEY, or that it has
 nothing.
 
@@ -105,11 +111,13 @@ pub fn command_of<'a>(name: &str, words: &ArgMatches<'a>) -> Option<RepositoryCo
         return Some(RepositoryCommand::Car {
             did: word_or(DID, words, "did"),
             rev: word_or(REV, words, "rev"),
+            form: form_of(words),
         });
     }
     if name == "prove" {
         return Some(RepositoryCommand::Prove {
             key: word_or("", words, "key"),
+            form: form_of(words),
         });
     }
     if name == "verify" {
@@ -139,7 +147,8 @@ fn car_words<'a>(alloc: Global) -> Result<Command<'a>, AllocError>
         .long_about(LONG_CAR)
         .after_help(CAR_EXAMPLE)
         .arg(option(alloc, "did", "DID", DID, "Whose repository it is"))?
-        .arg(option(alloc, "rev", "REV", REV, "The revision of its commit"))
+        .arg(option(alloc, "rev", "REV", REV, "The revision of its commit"))?
+        .arg(json_option(alloc))
 }
 
 /// The words that `prove` takes.
@@ -148,11 +157,12 @@ fn prove_words<'a>(alloc: Global) -> Result<Command<'a>, AllocError>
     ensures local { IfOk result (λ r. (fields_of r).has_globals ≡ false) }
 {
     Command::new(alloc, "prove")
-        .override_usage("msthost prove <KEY> < FILE")
+        .override_usage("msthost prove [OPTIONS] <KEY> < FILE")
         .about(PROVE)
         .long_about(LONG_PROVE)
         .after_help(PROVE_EXAMPLE)
-        .arg(required(alloc, "key", "KEY", "The key, of 1 to 1,024 bytes"))
+        .arg(required(alloc, "key", "KEY", "The key, of 1 to 1,024 bytes"))?
+        .arg(json_option(alloc))
 }
 
 /// The words that `verify` takes.
