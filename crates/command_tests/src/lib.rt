@@ -15,6 +15,8 @@ mod faults;
 #[cfg(test)]
 mod files;
 #[cfg(test)]
+mod json;
+#[cfg(test)]
 mod large;
 #[cfg(test)]
 mod listings;

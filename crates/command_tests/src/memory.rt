@@ -2,8 +2,8 @@
 use crate::exports::file;
 use crate::running::{EMPTY, joined};
 use cid::Sha256;
-use console::{CommandFault, NO_MEMORY};
-use export_commands::{ExportCommand, export_text};
+use console::{CommandFault, NO_MEMORY, WriteFault};
+use export_commands::{ExportCommand, Values, export_text};
 use refusing::Refusing;
 use repository_commands::{TextFault, verify_text};
 use std::alloc::Global;
@@ -65,6 +65,8 @@ fn export_end(
         Err(CommandFault::NoText(fault)) if fault.status() == NO_MEMORY && out.is_empty() => {
             Ended::NoMemory
         }
+        // JSON is made while it is written.
+        Err(CommandFault::Unwritten(WriteFault::NoMemory)) if out.len() < wanted => Ended::NoMemory,
         _ => Ended::Wrong,
     }
 }
@@ -134,4 +136,7 @@ fn each_request_of_an_export_refused(rt: HostRuntime) {
     assert!(rt; is_more(summary, 4), "{summary:?}");
     let signed = refusals(rt.alloc(), Work::Export(ExportCommand::Commit, &file, 338));
     assert!(rt; is_more(signed, 5), "{signed:?}");
+    let asked = ExportCommand::Records(Values::Json);
+    let json = refusals(rt.alloc(), Work::Export(asked, &file, 7));
+    assert!(rt; is_more(json, 5), "{json:?}");
 }

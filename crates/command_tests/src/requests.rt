@@ -22,6 +22,7 @@ enum Asked {
     VerifyChange,
     Check,
     Records,
+    Json,
     Cids,
     Commit,
     Run,
@@ -47,10 +48,11 @@ fn request_of<T: Threads + Wait + RandomSource + Sync>(
         Some(Request::OnRepository(RepositoryCommand::Car { .. })) => Asked::Car,
         Some(Request::OnRepository(RepositoryCommand::Prove { .. })) => Asked::Prove,
         Some(Request::OnRepository(RepositoryCommand::Verify { .. })) => Asked::Verify,
-        Some(Request::OnChange(ChangeCommand::Prove)) => Asked::ProveChange,
+        Some(Request::OnChange(ChangeCommand::Prove(_))) => Asked::ProveChange,
         Some(Request::OnChange(ChangeCommand::Verify { .. })) => Asked::VerifyChange,
         Some(Request::OnExport(ExportCommand::Check)) => Asked::Check,
         Some(Request::OnExport(ExportCommand::Records(Values::Bytes))) => Asked::Records,
+        Some(Request::OnExport(ExportCommand::Records(Values::Json))) => Asked::Json,
         Some(Request::OnExport(ExportCommand::Records(Values::Cids))) => Asked::Cids,
         Some(Request::OnExport(ExportCommand::Commit)) => Asked::Commit,
         Some(Request::Run(_)) => Asked::Run,
@@ -59,7 +61,7 @@ fn request_of<T: Threads + Wait + RandomSource + Sync>(
     }
 }
 
-static ROWS: [(&[&str], Asked); 17] = [
+static ROWS: [(&[&str], Asked); 18] = [
     (&["msthost", "tree"], Asked::Tree),
     (&["msthost", "car"], Asked::Car),
     (&["msthost", "prove", "a/b"], Asked::Prove),
@@ -71,6 +73,7 @@ static ROWS: [(&[&str], Asked); 17] = [
     ),
     (&["msthost", "check"], Asked::Check),
     (&["msthost", "records"], Asked::Records),
+    (&["msthost", "records", "--json"], Asked::Json),
     (&["msthost", "records", "--cids"], Asked::Cids),
     (&["msthost", "commit"], Asked::Commit),
     (&["msthost", "run"], Asked::Run),

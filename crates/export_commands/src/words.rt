@@ -43,7 +43,7 @@ Example:
   $ msthost records --cids < examples/export.car | msthost tree --paths | sed -n 1p
   bafyreidyenu27cdomis4z7l7lj7qtx7zarjr3blh7rlt2hkugvb6dqhqum
   $ msthost records --json < examples/export.car | sed -n 1p
-  app.bsky.actor.profile/self {}";
+  app.bsky.actor.profile/self {\"displayName\":\"Ann\"}";
 
 const COMMIT: &str = "Reads a CAR file and writes what was signed and the signature";
 
