@@ -44,7 +44,7 @@ IsRefused D A digest (requests.OnRepository command) input =
     IsFaultyOn {D = D} {A = A} (texts_of digest command) (reasons_of digest command) input
 IsRefused D A digest (requests.OnChange command) input =
     IsFaultyOn {D = D} {A = A} (change_texts_of digest command) (change_reasons_of digest command) input
-IsRefused D A digest (requests.OnExport command) input = IfSome input (HasFault digest)
+IsRefused D A digest (requests.OnExport command) input = IfSome input (HasFault digest command)
 IsRefused D A digest (requests.Run command) input =
     IfSome input (IsFaulty D digest command.settings command.did.now)
 IsRefused D A digest (requests.Explain command) input = explanation (word_of command.name) ≡ []
