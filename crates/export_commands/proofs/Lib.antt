@@ -1,4 +1,3 @@
 pub mod Writing
 pub mod Told
-pub mod Formless
 pub mod Endings
