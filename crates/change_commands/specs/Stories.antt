@@ -36,7 +36,7 @@ abbrev pub write_of_words : Form → List ℕ → List ℕ → Result Write Word
 write_of_words form word rest =
     if bytes_eq word (codes "delete") then delete_of rest
     else record_write word (before_first is_space rest)
-        (record_of_word form (after_first is_space rest))
+    (record_of_word form (after_first is_space rest))
 
 -- the word is all before the first space
 abbrev pub write_of_line : Form → List ℕ → Result Write WordFault

@@ -60,7 +60,10 @@ fn a_record_without_json(rt: HostRuntime) {
 /// The same record in hexadecimal and as JSON, in other orders of keys and with spaces.
 const RECORDS: [(&str, &str); 3] = [
     ("a0", "{}"),
-    ("a361610061620162616102", r#" { "aa" : 2 , "b":1,"a" :-0 } "#),
+    (
+        "a361610061620162616102",
+        r#" { "aa" : 2 , "b":1,"a" :-0 } "#,
+    ),
     (
         "a2616ff6617482f5a161786420613b20",
         r#"{"t":[true,{"x":" a; "}],"o":null}"#,
@@ -96,7 +99,13 @@ fn are_one<T: Threads + Wait + RandomSource + Abort + Sync>(
     let proof = on(rt, alloc, &["msthost", "prove", "a/b"], hex.as_str());
     car.status == 0
         && on(rt, alloc, &["msthost", "car", "--json"], json.as_str()).is(0, &car.out, "")
-        && on(rt, alloc, &["msthost", "prove", "--json", "a/b"], json.as_str()).is(0, &proof.out, "")
+        && on(
+            rt,
+            alloc,
+            &["msthost", "prove", "--json", "a/b"],
+            json.as_str(),
+        )
+        .is(0, &proof.out, "")
         && are_one_in_a_batch(rt, alloc, hex.as_str(), json.as_str())
 }
 
@@ -111,11 +120,13 @@ fn are_one_in_a_batch<T: Threads + Wait + RandomSource + Abort + Sync>(
     let json = format!(in alloc; "{json}\nupdate {json}").expect(rt, "memory");
     let change = on(rt, alloc, &["msthost", "prove-change"], hex.as_str());
     change.status == 0
-        && on(rt, alloc, &["msthost", "prove-change", "--json"], json.as_str()).is(
-            0,
-            &change.out,
-            "",
+        && on(
+            rt,
+            alloc,
+            &["msthost", "prove-change", "--json"],
+            json.as_str(),
         )
+        .is(0, &change.out, "")
 }
 
 #[test]
@@ -153,11 +164,23 @@ static FAULTS: [(&str, &str); 15] = [
     ("a/b {", "BadJson(NotJson)"),
     ("a/b {} {}", "BadJson(NotJson)"),
     (r#"a/b {"a":1,"b":1.5,"a":2}"#, "BadJson(DoubledKey) at .a"),
-    (r#"a/b {"a":{"b":[0,1,2,1.0]}}"#, "BadJson(Float) at .a.b[3]"),
-    (r#"a/b {"a":9007199254740992}"#, "BadJson(IntegerRange) at .a"),
+    (
+        r#"a/b {"a":{"b":[0,1,2,1.0]}}"#,
+        "BadJson(Float) at .a.b[3]",
+    ),
+    (
+        r#"a/b {"a":9007199254740992}"#,
+        "BadJson(IntegerRange) at .a",
+    ),
     (r#"a/b {"a":{"$link":"a"}}"#, "BadJson(BadLink) at .a"),
-    (r#"a/b {"a":[{"$bytes":"*"}]}"#, "BadJson(BadBytes) at .a[0]"),
-    (r#"a/b {"a":{"$link":"a","b":0}}"#, "BadJson(BadDollar) at .a"),
+    (
+        r#"a/b {"a":[{"$bytes":"*"}]}"#,
+        "BadJson(BadBytes) at .a[0]",
+    ),
+    (
+        r#"a/b {"a":{"$link":"a","b":0}}"#,
+        "BadJson(BadDollar) at .a",
+    ),
     ("a/b []", "BadJson(NotAMap)"),
     (r#"a/b {"$bytes":""}"#, "BadJson(NotAMap)"),
     ("a/b 1e3", "BadJson(Float)"),
@@ -173,16 +196,20 @@ fn is_refused<T: Threads + Wait + RandomSource + Abort + Sync>(
     let text = format!(in alloc; "a/b {{}}\n{line}\n").expect(rt, "memory");
     let told = format!(in alloc; "msthost: line 2: {name}\n").expect(rt, "memory");
     on(rt, alloc, &["msthost", "car", "--json"], text.as_str()).is(1, b"", told.as_str())
-        && on(rt, alloc, &["msthost", "prove", "--json", "a/b"], text.as_str()).is(
-            1,
-            b"",
-            told.as_str(),
+        && on(
+            rt,
+            alloc,
+            &["msthost", "prove", "--json", "a/b"],
+            text.as_str(),
         )
-        && on(rt, alloc, &["msthost", "prove-change", "--json"], text.as_str()).is(
-            1,
-            b"",
-            told.as_str(),
+        .is(1, b"", told.as_str())
+        && on(
+            rt,
+            alloc,
+            &["msthost", "prove-change", "--json"],
+            text.as_str(),
         )
+        .is(1, b"", told.as_str())
 }
 
 #[test]
@@ -198,7 +225,12 @@ fn json_too_deep_and_no_utf_8(rt: HostRuntime) {
     let deep = joined(alloc, &["a/b ", DEEP[0], DEEP[1], DEEP[2], "\n"]).expect(&rt, "memory");
     let words = ["msthost", "car", "--json"];
     let ended = run(&rt, alloc, &words, &deep);
-    assert!(rt; ended.status == 1 && ended.err.starts_with(b"msthost: line 1: BadJson(TooDeep) at .a[0][0]"));
+    assert!(rt;
+        ended.status == 1
+            && ended
+                .err
+                .starts_with(b"msthost: line 1: BadJson(TooDeep) at .a[0][0]")
+    );
     let told = "msthost: line 1: BadJson(NotJson)\n";
     assert!(rt; run(&rt, alloc, &words, b"a/b {\"a\":\"\xff\"}").is(1, b"", told));
 }
@@ -211,7 +243,12 @@ fn writes_of_a_batch(rt: HostRuntime) {
     let refused = on(&rt, alloc, &words, "a/b {}\n\nput a/c {\"a\":0.5}\n");
     assert!(rt; refused.is(1, b"", "msthost: line 3: BadJson(Float) at .a\n"));
     let deleted = on(&rt, alloc, &words, "a/b {}\n\ndelete a/b\n");
-    let same = on(&rt, alloc, &["msthost", "prove-change"], "a/b a0\n\ndelete a/b\n");
+    let same = on(
+        &rt,
+        alloc,
+        &["msthost", "prove-change"],
+        "a/b a0\n\ndelete a/b\n",
+    );
     assert!(rt; deleted.is(0, &same.out, ""));
 }
 

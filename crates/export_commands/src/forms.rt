@@ -28,10 +28,7 @@ pub(crate) fn check_words<A: Allocator + Copy>(
 }
 
 /// Tests that each record has JSON.
-fn check_forms<A: Allocator + Copy>(
-    alloc: A,
-    records: &[Record<'_, A>],
-) -> Result<(), ExportFault>
+fn check_forms<A: Allocator + Copy>(alloc: A, records: &[Record<'_, A>]) -> Result<(), ExportFault>
     ensures { IsTestOf (formless (map keyed_record records.now)) result }
 {
     match first_formless(alloc, records) {
