@@ -16,6 +16,7 @@ mod faults;
 mod files;
 #[cfg(test)]
 mod held_files;
+#[cfg(test)]
 mod json;
 #[cfg(test)]
 mod large;

@@ -3,5 +3,4 @@ pub mod Listing
 pub mod Repositories
 pub mod Endings
 pub mod Making
-pub mod Readings
 pub mod SignedFiles

@@ -1,6 +1,6 @@
 -- Why there is no text (the names are a choice of this project).
 use Rattle.std.specs.Prelude.{◌≡◌, ◌⊎◌, ⊤, ℕ, Bool, true, false, Option, Some, None, option_map}
-use Rattle.std.specs.Prelude.{Result, IsErrAnd}
+use Rattle.std.specs.Prelude.{Result, IsErrAnd, string_bytes}
 use Rattle.spec.specs.Cid as cids
 use Rattle.spec.specs.Proof as proofs
 use Rattle.spec.specs.Writes.{WriteFault}
@@ -11,6 +11,9 @@ use Rattle.cid.specs.CidFault as of_cid
 use Rattle.batches.specs.Tests.{write_fault}
 use Rattle.export.specs.Faults as of_proof
 use Rattle.export.specs.declared.proof_fault.ProofFault.TheVariants as proof_faults
+use Rattle.record_json.specs.Reading.{Fault as JsonFault}
+use Rattle.record_forms.specs.Records as words
+use Rattle.record_forms.specs.Views.{json_fault_of}
 use Rattle.console.specs.declared.reading.ReadFault.{ReadFault}
 use Rattle.console.specs.declared.reading.ReadFault.TheVariants as reads
 use Rattle.repository_commands.specs.declared.fault.LineFault.{LineFault as GivenLineFault}
@@ -21,10 +24,11 @@ use Rattle.console.specs.declared.fault.CommandFault.TheVariants as commands
 use Rattle.repository_commands.specs.declared.fault.TextFault.{TextFault}
 use Rattle.repository_commands.specs.declared.fault.TextFault.TheVariants as errors
 
--- what is wrong with a line: it hasn't the words that it should have; its write isn't taken; or the key of
--- its change has another value in the tree after it
+-- what is wrong with a line: it hasn't the words that it should have; what stands in it is no record as JSON;
+-- its write isn't taken; or the key of its change has another value in the tree after it
 pub data LineFault : Type 0 where
   BadLine : LineFault
+  BadJson : JsonFault → LineFault
   OfWrite : WriteFault → LineFault
   OtherValue : LineFault
 
@@ -44,11 +48,17 @@ pub data Fault : Type 0 where
   OfChange : changes.ChangeFault → Fault
   Line : ℕ → LineFault → Fault
 
+-- a line with a word that is no record
+abbrev pub of_word : words.WordFault → LineFault
+of_word words.BadWord = BadLine
+of_word (words.OfJson f) = BadJson f
+
 -- ---- what a fault of the program is to these definitions, which know nothing of clashes of records, of
 -- a full store, of memory and of devices
 
 abbrev pub line_fault_of : {D A : Type 0} → GivenLineFault D A → Option LineFault
 line_fault_of lines.BadLine = Some BadLine
+line_fault_of (lines.BadJson kind path) = Some (BadJson (json_fault_of kind (string_bytes path)))
 line_fault_of (lines.Refused f) = option_map OfWrite (write_fault f)
 line_fault_of lines.OtherValue = Some OtherValue
 

@@ -14,7 +14,9 @@ use Rattle.spec.specs.States.{State, fresh, after_batch, records, state_root, st
 use Rattle.export_laws.specs.SignedCars.{state_signed_car}
 use Rattle.console.specs.Lines.{numbered_lines, bytes_of_hex}
 use Rattle.repository_commands.specs.Puts.{Given, given_in}
-use Rattle.repository_commands.specs.Faults.{Fault, BadDid, BadRev, BadSig, NothingToSign, OfRoot, OfProof, Line, BadLine, OfWrite}
+use Rattle.record_forms.specs.Records.{WordFault}
+use Rattle.record_forms.specs.declared.form.Form.{Form}
+use Rattle.repository_commands.specs.Faults.{Fault, BadDid, BadRev, BadSig, NothingToSign, OfRoot, OfProof, Line, BadLine, OfWrite, of_word}
 
 -- ---- the repository of some puts
 
@@ -37,9 +39,9 @@ at_its_line numbers (Ok ok) = Ok ok
 at_its_line numbers (Err f) = Err (Line (slice_index numbers f.0) (OfWrite f.1))
 
 -- and a line that is no write by its own
-abbrev pub unless_stopped : Option ℕ → Result (Unit {0}) Fault
+abbrev pub unless_stopped : Option (ℕ × WordFault) → Result (Unit {0}) Fault
 unless_stopped None = Ok tt
-unless_stopped (Some n) = Err (Line n BadLine)
+unless_stopped (Some s) = Err (Line s.0 (of_word s.1))
 
 -- the writes are tested in their order, on a repository
 abbrev pub writes_check : State → Given → Result (Unit {0}) Fault
@@ -67,10 +69,10 @@ car_of_given digest stamp given = do
   s ← state_of_given no_writes stamp given
   Ok (state_car digest 2 s)
 
-unfoldable pub car_text : (List ℕ → List ℕ) → Stamp → List ℕ → Result (List ℕ) Fault
-car_text digest stamp input = do
+unfoldable pub car_text : (List ℕ → List ℕ) → Form → Stamp → List ℕ → Result (List ℕ) Fault
+car_text digest form stamp input = do
   stamp_ok ← stamp_check stamp
-  car_of_given digest stamp (given_in input)
+  car_of_given digest stamp (given_in form input)
 
 -- ---- `car --sig`
 
@@ -96,10 +98,11 @@ signed_car_of_given digest stamp sig given = do
   s ← state_of_given no_writes stamp given
   or_nothing_signed (state_signed_car digest 2 s sig)
 
-unfoldable pub signed_car_text : (List ℕ → List ℕ) → Stamp → List ℕ → List ℕ → Result (List ℕ) Fault
-signed_car_text digest stamp word input = do
+unfoldable pub signed_car_text : (List ℕ → List ℕ) → Form → Stamp → List ℕ → List ℕ
+    → Result (List ℕ) Fault
+signed_car_text digest form stamp word input = do
   sig ← signing_check stamp word
-  signed_car_of_given digest stamp sig (given_in input)
+  signed_car_of_given digest stamp sig (given_in form input)
 
 -- ---- `prove`
 
@@ -133,10 +136,11 @@ proof_of_given digest stamp key given = do
   p ← path_of_given digest stamp key given
   Ok (text_of_path p)
 
-unfoldable pub prove_text : (List ℕ → List ℕ) → Stamp → List ℕ → List ℕ → Result (List ℕ) Fault
-prove_text digest stamp key input = do
+unfoldable pub prove_text : (List ℕ → List ℕ) → Form → Stamp → List ℕ → List ℕ
+    → Result (List ℕ) Fault
+prove_text digest form stamp key input = do
   key_ok ← key_check key
-  proof_of_given digest stamp key (given_in input)
+  proof_of_given digest stamp key (given_in form input)
 
 -- ---- `verify`
 

@@ -10,6 +10,8 @@ use change_proofs::ChangeFault;
 use cid::{CidFault, Digest};
 use console::{Decimal, FAULTY, IO_FAILED, NO_MEMORY, ReadFault};
 use export::ProofFault;
+use record_forms::JsonFaultText;
+use record_json::JsonFaultKind;
 use std::alloc::{AllocError, AllocFailed, Allocator, Global};
 use std::error::Error;
 use std::fmt;
@@ -20,6 +22,12 @@ use std::fmt;
 pub enum LineFault<D: Digest, A: Allocator = Global> {
     /// It hasn't the words that a line of this command has.
     BadLine,
+    /// What stands behind its key is no record as JSON. It has this fault, the first one.
+    BadJson {
+        kind: JsonFaultKind,
+        /// The way to it from the outside: `.key` for a key of an object, `[place]` for an item of a list, counted from 0.
+        path: String<A>,
+    },
     /// The repository doesn't take its write.
     Refused(RepoFault<D, A>),
     /// The key of its change has another record in the tree after it, or none.
@@ -86,6 +94,11 @@ impl<D: Digest, A: Allocator> fmt::Display for LineFault<D, A> {
     fn fmt<W: fmt::Write>(&self, f: &mut fmt::Formatter<W>) -> fmt::Result {
         match self {
             LineFault::BadLine => f.write_str("BadLine"),
+            LineFault::BadJson { kind, path } => JsonFaultText {
+                kind: *kind,
+                path: path.as_str(),
+            }
+            .fmt(f),
             LineFault::Refused(fault) => RefusalName(fault).fmt(f),
             LineFault::OtherValue => f.write_str("OtherValue"),
         }

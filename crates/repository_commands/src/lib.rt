@@ -16,7 +16,7 @@
 //! ```text
 //! let mut lines: &[u8] = b"a/b a0";
 //! let stamp = Stamp { did, rev };
-//! car_text::<Sha256, _, _>(Global, &stamp, &mut lines, &mut out)?;
+//! car_text::<Sha256, _, _>(Global, Form::Hex, &stamp, &mut lines, &mut out)?;
 //!
 //! let mut nodes: &[u8] = b"a2616580616cf6";
 //! verify_text::<Sha256, _, _, _>(Global, root, b"a/b", &mut nodes, &mut out)?;
@@ -41,7 +41,7 @@ pub use ending::status_of;
 pub use fault::{LineFault, TextFault};
 pub use filling::{MOST_BLOCKS, apply_puts, filled, number_at};
 pub use proving::{prove_text, push_lines};
-pub use puts::{Puts, put_of_line, space_in};
+pub use puts::{Puts, Stop, put_of_line, space_in};
 pub use running::{run, stamp_of_words};
 pub use signing::signed_car_text;
 pub use verifying::verify_text;

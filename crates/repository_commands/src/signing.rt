@@ -3,6 +3,7 @@ ghost use Rattle.std.specs.Prelude.{◌≡◌, ◌⊎◌, List, ℕ, true, optio
 ghost use Rattle.spec.specs.Reading.{Gives};
 ghost use Rattle.batches.specs.Values.{stamp_of};
 ghost use Rattle.export_laws.specs.SignedCars.{state_signed_car};
+ghost use Rattle.record_forms.specs.declared.form.Form.{Form};
 ghost use Rattle.repository_commands.specs.Faults.{text_fault_of, is_of_words, EndsEarly, EndsWords};
 ghost use Rattle.repository_commands.specs.Outcomes.{HasReason, IsMade, IsOutcome};
 ghost use Rattle.repository_commands.specs.Refusals.{IsRefusedIn, IsRefusedLine};
@@ -19,14 +20,16 @@ use batches::Stamp;
 use cid::Digest;
 use console::{CommandFault, bytes_of_hex, write_made};
 use export::ToMemory;
+use record_forms::Form;
 use repo::Core;
 use std::alloc::{AllocError, Global};
 use std::io::{Read, Write};
 use store::{LentShards, TableKey, empty_shards};
 
-/// Reads lines `KEY HEX`, puts each record under its key into one repository, all in one batch under a stamp, and writes the
-/// repository as the file that a server serves (CARv1; AT Protocol repository v3, commit objects): its root is the batch's
-/// commit with this signature, which is a word in hexadecimal. Whose signature it is isn't tested.
+/// Reads lines `KEY HEX`, or `KEY JSON` in that form, puts each record under its key into one repository, all in one batch
+/// under a stamp, and writes the repository as the file that a server serves (CARv1; AT Protocol repository v3, commit
+/// objects): its root is the batch's commit with this signature, which is a word in hexadecimal. Whose signature it is isn't
+/// tested.
 ///
 /// The lines are those of `car_text`. The stamp and then the signature are tested before the input is read, all of the input is
 /// read before a line is judged, and the file is made before a byte is written: only at `CommandFault::Unwritten` a beginning
@@ -35,17 +38,18 @@ use store::{LentShards, TableKey, empty_shards};
 /// `TextFault::ReadFailed`.
 pub fn signed_car_text<D: Digest, R: Read, W: Write>(
     alloc: Global,
+    form: Form,
     stamp: &Stamp,
     sig: &[u8],
     input: &mut R,
     out: &mut W,
 ) -> Result<(), CommandFault<TextFault<D>>>
-    ensures outcome { IsOutcome (signed_car_text_of D.digest_of (stamp_of stamp.now) sig.now)
+    ensures outcome { IsOutcome (signed_car_text_of D.digest_of form (stamp_of stamp.now) sig.now)
         (R.remaining input.old) (W.contents out.old) (W.contents out.new) result }
 
     // Where a line is refused, it is so by a test, by a clash that is shown, or by a store of which a
     // shard was full.
-    ensures refused { HasReason (IsRefusedIn D.digest_of (stamp_of stamp.now))
+    ensures refused { HasReason (IsRefusedIn D.digest_of form (stamp_of stamp.now))
         (R.remaining input.old) result }
 
     // A faulty stamp or signature is told, or memory was refused to it, before the input is read.
@@ -53,27 +57,28 @@ pub fn signed_car_text<D: Digest, R: Read, W: Write>(
     ensures unread { IsErr (signing_check (stamp_of stamp.now) sig.now)
         → input.new ≡ input.old }
 {
-    write_made(signed_car_made(alloc, stamp, sig, input), out)
+    write_made(signed_car_made(alloc, form, stamp, sig, input), out)
 }
 
 /// The file of the lines of the input.
 fn signed_car_made<D: Digest, R: Read>(
     alloc: Global,
+    form: Form,
     stamp: &Stamp,
     sig: &[u8],
     input: &mut R,
 ) -> Result<Vec<u8>, TextFault<D>>
     ensures made { IsMade (λ bytes. bytes.items)
-        (signed_car_text_of D.digest_of (stamp_of stamp.now) sig.now)
+        (signed_car_text_of D.digest_of form (stamp_of stamp.now) sig.now)
         (R.remaining input.old) result }
     ensures refused { IfErr result (λ e. IfSome (R.remaining input.old) (λ xs.
-        IsRefusedIn D.digest_of (stamp_of stamp.now) xs e)) }
+        IsRefusedIn D.digest_of form (stamp_of stamp.now) xs e)) }
     ensures told { IsErr (signing_check (stamp_of stamp.now) sig.now) → EndsWords result }
     ensures unread { IsErr (signing_check (stamp_of stamp.now) sig.now)
         → input.new ≡ input.old }
 {
     let signature = signature_in::<D>(alloc, stamp, sig)?;
-    let puts = read_puts(alloc, input)?;
+    let puts = read_puts(alloc, form, input)?;
     signed_car_of_puts(alloc, stamp, &signature, puts)
 }
 
@@ -86,8 +91,8 @@ fn signature_in<D: Digest>(
     ensures check { Gives (λ bytes. bytes.items) text_fault_of result
         (signing_check (stamp_of stamp.now) sig.now) }
     ensures words { IfErr result (λ e. (is_of_words e ≡ true) ⊎ (e ≡ errors.NoMemory)) }
-    ensures refused { (xs : List ℕ) →
-        IfErr result (IsRefusedIn D.digest_of (stamp_of stamp.now) xs) }
+    ensures refused { (form : Form) (xs : List ℕ) →
+        IfErr result (IsRefusedIn D.digest_of form (stamp_of stamp.now) xs) }
 {
     check_stamp::<D>(stamp)?;
     match bytes_of_hex(alloc, sig)? {

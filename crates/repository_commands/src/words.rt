@@ -9,6 +9,7 @@ ghost use Rattle.repository_commands.specs.Words.{option_rule, optional_rule, re
 
 use clap::{Arg, ArgMatches, Command};
 use console::with_file;
+use record_forms::{Form, form_of, json_option};
 use std::alloc::{AllocError, Global};
 
 /// A command on one repository, with what its words say.
@@ -20,6 +21,8 @@ pub enum RepositoryCommand<'a> {
         did: &'a str,
         /// The revision of its one batch.
         rev: &'a str,
+        /// The form of the records.
+        form: Form,
     },
     /// Write it as the file that a server serves, whose root is its commit with a signature.
     SignedCar {
@@ -29,11 +32,15 @@ pub enum RepositoryCommand<'a> {
         rev: &'a str,
         /// The signature of its commit, in hexadecimal.
         sig: &'a str,
+        /// The form of the records.
+        form: Form,
     },
     /// Write the proof of a key in the repository of the lines of the input.
     Prove {
         /// The key.
         key: &'a str,
+        /// The form of the records.
+        form: Form,
     },
     /// Write what the blocks of the input show of a key.
     Verify {
@@ -57,12 +64,14 @@ Reads lines KEY HEX, puts each record under its key into one repository, all in 
 writes the repository as one CAR file: the commit, the nodes of the tree and the records.
 
 A key is a collection, a slash and a record key. HEX is a record in hexadecimal: one DAG-CBOR map. One space stands
-between them. Of lines with one key the last decides, and empty lines are passed over. Without lines there is no commit.
+between them. With --json the lines are KEY JSON: a record as records --json writes it, in any layout on one line. Of lines
+with one key the last decides, and empty lines are passed over. Without lines there is no commit.
 
 With --sig the file is the one that a server serves: its root is the commit with this signature, of which check, records
 and commit read what they tell. The signature isn't tested.
 
-Exit status: 0 done, 1 a faulty line, DID, revision or signature, or no line to sign, 2 a wrong command line, 3 no memory, 4 reading or writing failed.";
+Exit status: 0 done, 1 a faulty line, DID, revision or signature, or no line to sign, 2 a wrong command line, 3 no memory,
+4 reading or writing failed.";
 
 const CAR_EXAMPLE: &str = "\
 Example:
@@ -72,7 +81,7 @@ Example:
 const PROVE: &str = "Reads lines KEY HEX and writes the proof of a key in their tree";
 
 const LONG_PROVE: &str = "\
-Reads lines KEY HEX as car does, and writes the text of the CID of the tree's root, and then the
+Reads lines KEY HEX, or KEY JSON with --json, as car does, and writes the text of the CID of the tree's root, and then the
 nodes on the path of KEY from the top, a line in hexadecimal each. They show what the tree has under KEY, or that it has
 nothing.
 
@@ -118,14 +127,21 @@ pub fn command_of<'a>(name: &str, words: &ArgMatches<'a>) -> Option<RepositoryCo
     if name == "car" {
         let did = word_or(DID, words, "did");
         let rev = word_or(REV, words, "rev");
+        let form = form_of(words);
         if let Some(sig) = word_in(words, "sig") {
-            return Some(RepositoryCommand::SignedCar { did, rev, sig });
+            return Some(RepositoryCommand::SignedCar {
+                did,
+                rev,
+                sig,
+                form,
+            });
         }
-        return Some(RepositoryCommand::Car { did, rev });
+        return Some(RepositoryCommand::Car { did, rev, form });
     }
     if name == "prove" {
         return Some(RepositoryCommand::Prove {
             key: word_or("", words, "key"),
+            form: form_of(words),
         });
     }
     if name == "verify" {
@@ -168,7 +184,8 @@ fn car_words<'a>(alloc: Global) -> Result<Command<'a>, AllocError>
             "sig",
             "HEX",
             "The signature of its commit, in hexadecimal",
-        ))
+        ))?
+        .arg(json_option(alloc))
 }
 
 /// The words that `prove` takes.
@@ -180,7 +197,8 @@ fn prove_words<'a>(alloc: Global) -> Result<Command<'a>, AllocError>
         .about(PROVE)
         .long_about(LONG_PROVE)
         .after_help(PROVE_EXAMPLE)
-        .arg(required(alloc, "key", "KEY", "The key, of 1 to 1,024 bytes"))
+        .arg(required(alloc, "key", "KEY", "The key, of 1 to 1,024 bytes"))?
+        .arg(json_option(alloc))
 }
 
 /// The words that `verify` takes.
