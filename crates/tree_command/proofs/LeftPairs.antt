@@ -68,7 +68,7 @@ module _ (p : Pair → Bool) where
       let rest = other (p e) (list_all p es) g in
       put-by k v e es (order k e.0) refl f (one (p e) (list_all p es) g) rest (all-put k v es f rest)
 
-  all-fold : (m es : List Pair) → list_all p m ≡ true → list_all p es ≡ true → list_all p (fold (λ m e. put order e.0 e.1 m) m es) ≡ true
+  pub all-fold : (m es : List Pair) → list_all p m ≡ true → list_all p es ≡ true → list_all p (fold (λ m e. put order e.0 e.1 m) m es) ≡ true
   all-fold m [] f g = f
   all-fold m (e ∷ es) f g = all-fold (put order e.0 e.1 m) es (all-put e.0 e.1 m (one (p e) (list_all p es) g) f) (other (p e) (list_all p es) g)
 

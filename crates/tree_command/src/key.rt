@@ -17,7 +17,7 @@ use std::marker::Model;
 /// the AT Protocol begin like others and differ from them within these. So a sort seldom goes to the bytes, which lie
 /// all over the input.
 #[derive(Drop)]
-pub(crate) struct ListedKey<'a> {
+pub struct ListedKey<'a> {
     front: [u64; 4],
     bytes: &'a [u8],
 }
@@ -35,13 +35,20 @@ impl<'a> Model for ListedKey<'a> {
 
 impl<'a> ListedKey<'a> {
     /// The key of these bytes.
-    pub(crate) fn new(bytes: &'a [u8]) -> ListedKey<'a>
+    pub fn new(bytes: &'a [u8]) -> ListedKey<'a>
         ensures { result ≡ bytes.now }
     {
         ListedKey {
             front: numbers(&filled(bytes)),
             bytes,
         }
+    }
+
+    /// Its bytes, as the input lends them.
+    pub fn bytes(&self) -> &'a [u8]
+        ensures { result.now ≡ self.now }
+    {
+        self.bytes
     }
 }
 

@@ -9,6 +9,8 @@
 //! For a repository take `Keys::Paths`: then a line whose key is no record's is refused, and no tree of something else is
 //! listed. In a shell: `msthost tree --paths < examples/repository.txt`.
 //!
+//! `map_of_input` has the pairs of the lines alone, for other commands that read them; a `ListedKey` is a key among them.
+//!
 //! A program has it by `with_words`, `options_of` and `run`: what help shows of it, what a command line tells it, and its run
 //! to the exit status.
 #![tactic(auto)]
@@ -27,7 +29,9 @@ mod words;
 
 pub use bits::Bits;
 pub use fault::{LineFault, TreeFault};
+pub use key::ListedKey;
 pub use keys::Keys;
+pub use listing::map_of_input;
 pub use options::TreeOptions;
 pub use running::run;
 pub use text::tree_text;

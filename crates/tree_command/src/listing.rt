@@ -56,9 +56,10 @@ pub(crate) fn keep_last_of_each_key<A: Allocator>(
     Ok(())
 }
 
-/// The map that the lines of an input leave, in the order of its keys, or the first line that is faulty.
+/// The map that the lines `KEY CID` of an input leave, in the order of its keys, or the first line that is faulty
+/// (`TreeFault::Line`); `TreeFault::NoMemory` comes where memory was refused. Of the lines with one key the last decides.
 #[tactic(auto, unfolding(crate::specs::TreeText::map_of_input))]
-pub(crate) fn map_of_input<A: Allocator>(
+pub fn map_of_input<A: Allocator>(
     taken: Keys,
     alloc: A,
     input: &[u8],
