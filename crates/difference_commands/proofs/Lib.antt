@@ -1,1 +1,7 @@
-
+pub mod RecordLists
+pub mod Owning
+pub mod Giving
+pub mod Finding
+pub mod Ascents
+pub mod Making
+pub mod Endings

@@ -2,6 +2,7 @@
 use Rattle.std.specs.Prelude.{ℕ, Option, Some, None, option_map}
 use Rattle.spec.specs.Writes as writes
 use Rattle.record_rules.specs.Faults.{record_fault_of}
+use Rattle.record_rules.specs.declared.fault.RecordFault.TheVariants as records
 use Rattle.export_commands.specs.Faults as export
 use Rattle.tree_command.specs.Fault as tree
 use Rattle.console.specs.Faults.{read_status, write_status}
@@ -19,6 +20,10 @@ abbrev pub line_fault_of : LineFault → Option lines.LineFault
 line_fault_of line_faults.BadLine = Some lines.BadLine
 line_fault_of line_faults.BadKey = Some (lines.OfWrite writes.BadKey)
 line_fault_of (line_faults.Record f) = option_map lines.OfWrite (record_fault_of f)
+
+-- a want of memory while a line is read
+abbrev pub no_memory : LineFault
+no_memory = line_faults.Record records.NoMemory
 
 -- of lines `KEY HEX` the first faulty one
 abbrev pub lines_fault_of : FileFault → Option lines.LinesFault

@@ -1,6 +1,6 @@
 //! What is wrong with a line `KEY HEX`.
-ghost use Rattle.std.specs.Prelude.{◌≡◌, None, is_none};
-ghost use Rattle.difference_commands.specs.Faults.{line_fault_of, line_status};
+ghost use Rattle.std.specs.Prelude.{◌≡◌, is_none};
+ghost use Rattle.difference_commands.specs.Faults.{line_fault_of, line_status, no_memory};
 
 use console::{FAULTY, NO_MEMORY};
 use dagcbor::CborFault;
@@ -61,7 +61,7 @@ impl fmt::Display for LineFault {
 impl Error for LineFault {}
 
 impl From<AllocError> for LineFault {
-    ghost from_gives = { λ _ fault. line_fault_of fault ≡ None };
+    ghost from_gives = { λ _ fault. fault ≡ no_memory };
 
     fn from(_refused: AllocError) -> LineFault {
         LineFault::Record(RecordFault::NoMemory)
