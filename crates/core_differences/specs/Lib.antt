@@ -1,0 +1,3 @@
+-- In the order in which a newcomer reads them.
+pub mod Between
+pub mod Lent
