@@ -78,6 +78,16 @@ module _ {D A : Type 0} (digest : List ℕ → List ℕ) (bits : ℕ) (s : State
   own-gives : (b : List ℕ) → Contains (state_blocks digest bits s) b → option_map arc_value (own_in digest m (cid_of digest b)) ≡ Some b
   own-gives b h = given-case b (at m (cid_of digest b)) h refl (lends b h)
 
+-- the tree of a state, over a source that has its blocks
+tree-over : {D A : Type 0} (digest : List ℕ → List ℕ) (bits : ℕ) (s : State) (m : Uses D A) (gives : List ℕ → Option (List ℕ))
+    → LendsTree digest bits s m → HasBlocks digest gives (state_blocks digest bits s)
+    → HasTree digest bits gives (state_root digest bits s) (pairs digest (records s))
+tree-over digest bits s m gives tree has = record {
+  pairs = tree.pairs;
+  root_is = tree.root_is;
+  nodes = source-nodes digest bits (old_commit digest bits s) (records s) (sorted-records s) gives has;
+}
+
 module _ {D A : Type 0} (digest : List ℕ → List ℕ) (bits : ℕ) (old new : State) (n m : Uses D A)
     (old_lends : LendsBlocks digest bits old n) (old_counts : CountsBlocks digest bits old n)
     (new_lends : LendsBlocks digest bits new m) (new_counts : CountsBlocks digest bits new m) where
@@ -101,12 +111,19 @@ module _ {D A : Type 0} (digest : List ℕ → List ℕ) (bits : ℕ) (old new :
   pub old-blocks : AreApart digest bits old new → HasBlocks digest (bytes_given (lent_by digest m n)) (state_blocks digest bits old)
   old-blocks apart b h = either-case apart b h (own_in digest m (cid_of digest b)) refl
 
--- the tree of a state, over a source that has its blocks
-pub tree-over : {D A : Type 0} (digest : List ℕ → List ℕ) (bits : ℕ) (s : State) (m : Uses D A) (gives : List ℕ → Option (List ℕ))
-    → LendsTree digest bits s m → HasBlocks digest gives (state_blocks digest bits s)
-    → HasTree digest bits gives (state_root digest bits s) (pairs digest (records s))
-tree-over digest bits s m gives tree has = record {
-  pairs = tree.pairs;
-  root_is = tree.root_is;
-  nodes = source-nodes digest bits (old_commit digest bits s) (records s) (sorted-records s) gives has;
-}
+  -- so over both there are both trees
+  pub old-tree : AreApart digest bits old new → (gives : List ℕ → Option (Arc (List ℕ) A)) → gives ≡ lent_by digest m n
+      → LendsTree digest bits old n → (root : List ℕ) → root ≡ state_root digest bits old
+      → HasTree digest bits (bytes_given gives) root (pairs digest (records old))
+  old-tree apart gives is tree root at =
+      subst (λ (f : List ℕ → Option (Arc (List ℕ) A)). HasTree digest bits (bytes_given f) root (pairs digest (records old))) (sym is)
+      (subst (λ (r : List ℕ). HasTree digest bits (bytes_given (lent_by digest m n)) r (pairs digest (records old))) (sym at)
+      (tree-over digest bits old n (bytes_given (lent_by digest m n)) tree (old-blocks apart)))
+
+  pub new-tree : (gives : List ℕ → Option (Arc (List ℕ) A)) → gives ≡ lent_by digest m n
+      → LendsTree digest bits new m → (root : List ℕ) → root ≡ state_root digest bits new
+      → HasTree digest bits (bytes_given gives) root (pairs digest (records new))
+  new-tree gives is tree root at =
+      subst (λ (f : List ℕ → Option (Arc (List ℕ) A)). HasTree digest bits (bytes_given f) root (pairs digest (records new))) (sym is)
+      (subst (λ (r : List ℕ). HasTree digest bits (bytes_given (lent_by digest m n)) r (pairs digest (records new))) (sym at)
+      (tree-over digest bits new m (bytes_given (lent_by digest m n)) tree new-blocks))

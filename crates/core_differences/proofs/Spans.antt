@@ -1,3 +1,64 @@
 -- The changes of a difference can be proved, and their proof shows them.
-use Rattle.std.proofs.Common.{◌≡◌, ℕ, List, refl}
-use Rattle.core_differences.specs.Between.{AreApart}
+use Rattle.std.proofs.Common.{◌≡◌, ℕ, suc, Bool, true, ◌&&◌, List, [], ◌∷◌, map, refl, sym, ap, subst, ◌∙◌, Option}
+use Rattle.std.specs.declared.option.Option.TheVariants.{Some, None}
+use Rattle.std.specs.Prelude.{Contains, Result, Ok, Err}
+use Rattle.std.specs.Arc.{arc_value}
+use Rattle.std.specs.List.{AllByRecursion}
+use Rattle.std.specs.declared.sync.Arc.{Arc}
+use Rattle.std.proofs.lemmas.Slice.Eq.{bytes_eq-Decides}
+use Rattle.spec.specs.NodeFormat.{is_key}
+use Rattle.spec.specs.Reading.{◌>>=◌, ensure}
+use Rattle.spec.specs.Tree.{Pair}
+use Rattle.spec.specs.Blocks.{ArePairs, ClashesWithNone, nodes, pairs, value_of}
+use Rattle.spec.specs.States.{State, records, state_root}
+use Rattle.spec.proofs.Bools.{and}
+use Rattle.batch_laws.specs.Batch.{Change, AreKeyed}
+use Rattle.batch_laws.specs.Previous.{values}
+use Rattle.edit.specs.Batches.{are_changes, have_keys}
+use Rattle.edit.specs.Places.{are_ascending}
+use Rattle.edit.proofs.Placing.{ascends-back}
+use Rattle.change_laws.specs.Told.{KeyChange, undone}
+use Rattle.change_laws.specs.Given.{ChangeFault, OtherValue}
+use Rattle.change_laws.specs.Verdict.{are_told, is_same}
+use Rattle.change_proofs.specs.Provings.{told_by}
+use Rattle.difference.specs.Differences.{IsDifferenceOf}
+use Rattle.core_differences.specs.Spans.{AreTrue, IsShownBy, IsSpan}
+
+keys-back : (cs : List Change) → AllByRecursion (λ c. is_key c.0 ≡ true) cs → have_keys cs ≡ true
+keys-back [] h = refl
+keys-back (c ∷ cs) h = and (is_key c.0) (have_keys cs) h.0 (keys-back cs h.1)
+
+keyed-changes : (cs : List Change) → AreKeyed cs → are_changes cs ≡ true
+keyed-changes cs h = and (are_ascending cs) (have_keys cs) (ascends-back cs h.ascending) (keys-back cs h.keys)
+
+same-value : (o p : Option (List ℕ)) → o ≡ p → is_same o p ≡ true
+same-value o p e = subst (λ (q : Option (List ℕ)). is_same o q ≡ true) e (itself o)
+  where
+    itself : (o : Option (List ℕ)) → is_same o o ≡ true
+    itself None = refl
+    itself (Some x) = (bytes_eq-Decides x x).1 refl
+
+true-told : (place : ℕ) (es : List Pair) (cs : List KeyChange) → AllByRecursion (λ c. value_of c.key es ≡ c.after) cs
+    → are_told place (values (undone cs) es) cs ≡ Ok tt
+true-told place es [] h = refl
+true-told place es (c ∷ cs) h =
+    ap (λ (t : Bool). ensure t (OtherValue place) >>= (λ same. are_told (suc place) (values (undone cs) es) cs))
+    (same-value (value_of c.key es) c.after h.0)
+    ∙ true-told (suc place) es cs h.1
+
+module _ (digest : List ℕ → List ℕ) (bits : ℕ) (old new : State) (cs : List KeyChange) (come go : List (List ℕ))
+    (d : IsDifferenceOf digest bits (pairs digest (records old)) (pairs digest (records new)) cs come go) where
+  -- they are true of the new tree
+  pub are-true : AreTrue digest new cs
+  are-true = record {
+    keyed = keyed-changes (undone cs) d.keyed;
+    told = true-told 0 (pairs digest (records new)) cs d.differ.differ.after;
+  }
+
+  -- and their proof is that of a span
+  pub is-span : {A : Type 0} (shown : List (Arc (List ℕ) A)) → ArePairs (pairs digest (records old)) → IsShownBy digest bits new cs shown
+      → IsSpan digest bits old new cs shown
+  is-span shown are shows = record {
+    differ = d.differ;
+    shows = λ given apart all. shows (pairs digest (records old)) are d.differ.differ given apart all;
+  }

@@ -25,8 +25,8 @@ pub(crate) struct BothCores<'a, D: Digest, A: Allocator> {
 impl<'a, D: Digest, A: Allocator> BothCores<'a, D, A> {
     /// Of two lenders, that wasn't asked for any block so far.
     pub(crate) fn new(first: Lender<'a, D, A>, second: Lender<'a, D, A>) -> BothCores<'a, D, A>
-        ensures first { result.first ≡ first }
-        ensures second { result.second ≡ second }
+        ensures first { result.first ≡ first.entry }
+        ensures second { result.second ≡ second.entry }
     {
         BothCores {
             first,

@@ -1,7 +1,7 @@
 //! Two repositories compared.
 
 ghost use Rattle.std.specs.Prelude.{◌≡◌, ◌≤◌, IfOk, IfErr};
-ghost use Rattle.spec.specs.States.{state_root};
+ghost use Rattle.spec.specs.States.{IsLawful, state_root};
 ghost use Rattle.difference.specs.Differences.{IsNothing, IsWant};
 ghost use Rattle.core_differences.specs.Between.{AreApart, IsDifferenceBetween};
 
@@ -28,8 +28,12 @@ pub fn difference<D: Digest, const B: u8, A: Allocator + Clone>(
     ensures fault { AreApart D.digest_of B old.now new.now → IfErr result IsWant }
     ensures equal { state_root D.digest_of B old.now ≡ state_root D.digest_of B new.now
         → IfOk result IsNothing }
+    ensures lawful { IsLawful old.now }
 {
-    let (before, after) = (old.root(), new.root());
-    let mut blocks = BothCores::new(new.lender(), old.lender());
+    let before = old.root();
+    let after = new.root();
+    let earlier = old.lender();
+    let later = new.lender();
+    let mut blocks = BothCores::new(later, earlier);
     difference::difference::<D, B, A, BothCores<'_, D, A>>(alloc, &mut blocks, before, after)
 }

@@ -3,7 +3,8 @@
 ghost use Rattle.std.specs.Prelude.{◌≡◌, ◌≤◌, IfOk, IfErr};
 ghost use Rattle.difference.specs.Differences.{IsWant};
 ghost use Rattle.difference.specs.Merged.{told, told_of};
-ghost use Rattle.core_differences.specs.Between.{AreApart, AreTrue, IsShownBy, IsSpan};
+ghost use Rattle.core_differences.specs.Between.{AreApart};
+ghost use Rattle.core_differences.specs.Spans.{AreTrue, IsShownBy, IsSpan};
 
 use crate::comparing::difference;
 use block::Block;
@@ -42,12 +43,17 @@ pub fn prove_span<D: Digest, const B: u8, A: Allocator + Clone>(
         (told span.changes.items) span.nodes.items) }
     ensures fault { AreApart D.digest_of B old.now new.now → IfErr result IsWant }
 {
-    let found = difference::<D, B, A>(alloc.clone()?, old, new)?;
-    let nodes = nodes_of::<D, B, A>(alloc, new, &found.changes)?;
-    Ok(Span {
-        changes: found.changes,
-        nodes,
-    })
+    let found = match difference::<D, B, A>(alloc.clone()?, old, new) {
+        Ok(found) => found,
+        Err(fault) => return Err(fault),
+    };
+    match nodes_of::<D, B, A>(alloc, new, &found.changes) {
+        Ok(nodes) => Ok(Span {
+            changes: found.changes,
+            nodes,
+        }),
+        Err(fault) => Err(fault),
+    }
 }
 
 /// The nodes that show these changes, which led to a repository as it is.
@@ -57,7 +63,8 @@ fn nodes_of<D: Digest, const B: u8, A: Allocator + Clone>(
     changes: &[KeyDifference<A>],
 ) -> Result<Vec<Arc<Block<D, A>, A>, A>, DifferenceFault>
     requires least { 1 ≤ B }
-    ensures nodes { IfOk result (IsShownBy D.digest_of B core.now (told changes.now)) }
+    ensures nodes { IfOk result
+        (λ nodes. IsShownBy D.digest_of B core.now (told changes.now) nodes.items) }
     ensures fault { AreTrue D.digest_of core.now (told changes.now) → IfErr result IsWant }
 {
     let told = key_changes(alloc.clone()?, changes)?;
