@@ -1,5 +1,5 @@
 -- The changes of a difference can be proved, and their proof shows them.
-use Rattle.std.proofs.Common.{◌≡◌, ℕ, suc, Bool, true, ◌&&◌, List, [], ◌∷◌, map, refl, sym, ap, subst, ◌∙◌, Option}
+use Rattle.std.proofs.Common.{◌≡◌, ℕ, suc, Bool, true, ◌&&◌, List, [], ◌∷◌, map, refl, sym, ap, subst, ◌∙◌, Option, arith}
 use Rattle.std.specs.declared.option.Option.TheVariants.{Some, None}
 use Rattle.std.specs.Prelude.{Contains, Result, Ok, Err}
 use Rattle.std.specs.Arc.{arc_value}
@@ -10,8 +10,10 @@ use Rattle.spec.specs.NodeFormat.{is_key}
 use Rattle.spec.specs.Reading.{◌>>=◌, ensure}
 use Rattle.spec.specs.Tree.{Pair}
 use Rattle.spec.specs.Blocks.{ArePairs, ClashesWithNone, nodes, pairs, value_of}
-use Rattle.spec.specs.States.{State, records, state_root}
+use Rattle.spec.specs.States.{IsLawful, State, records}
 use Rattle.spec.proofs.Bools.{and}
+use Rattle.spec.proofs.RecordPairs.{lawful-pairs}
+use Rattle.spec.specs.Cid.{IsDigest}
 use Rattle.batch_laws.specs.Batch.{Change, AreKeyed}
 use Rattle.batch_laws.specs.Previous.{values}
 use Rattle.edit.specs.Batches.{are_changes, have_keys}
@@ -62,3 +64,10 @@ module _ (digest : List ℕ → List ℕ) (bits : ℕ) (old new : State) (cs : L
     differ = d.differ;
     shows = λ given apart all. shows (pairs digest (records old)) are d.differ.differ given apart all;
   }
+
+-- the pairs of a lawful repository are those of a tree
+pub lawful-are : (digest : List ℕ → List ℕ) → IsDigest digest → (s : State) → IsLawful s → ArePairs (pairs digest (records s))
+lawful-are digest fits s lawful =
+    let a = lawful.within_limit in
+    let b = lawful.limit_fits in
+    lawful-pairs digest fits s.accepted lawful.writes (omega arith)
