@@ -1,0 +1,6 @@
+//! Tests of the difference of two repositories: of one store and of two, over a span of batches in which a key changes and changes
+//! back, and of one that is the same; what shows it is verified.
+#![tactic(auto)]
+
+#[cfg(test)]
+mod spans;
