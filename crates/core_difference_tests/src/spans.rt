@@ -33,8 +33,9 @@ fn opened<R: Abort>(
     me: u32,
     batches: &[&[Step<'static>]],
 ) -> Core<Sha256, 2> {
-    let mut core = Core::<Sha256, 2>::open(alloc, &mut LentShard::new(shard), me, 1000)
-        .expect(rt, "a core");
+    let mut core = Core::<Sha256, 2>::open(alloc, &mut LentShard::new(shard), me, 1000).expect(
+        rt, "a core",
+    );
     let mut turn = 0u16;
     for steps in batches {
         let _ = apply_steps(alloc, shard, &mut core, turn, steps);
@@ -44,7 +45,12 @@ fn opened<R: Abort>(
 }
 
 /// Whether a span has the changes that the second and the third batch leave, and its nodes show them.
-fn is_right(alloc: Global, span: &Span<Sha256>, before: Cid, after: Cid) -> Result<bool, AllocError> {
+fn is_right(
+    alloc: Global,
+    span: &Span<Sha256>,
+    before: Cid,
+    after: Cid,
+) -> Result<bool, AllocError> {
     let one = Cid::of::<Sha256>(ONE);
     let two = Cid::of::<Sha256>(TWO);
     let all = [

@@ -28,7 +28,15 @@ fn the_first_fault_and_of_which_file(rt: HostRuntime) -> Result<(), Fail> {
     assert!(rt; is_told(alloc, CIDS, b"a/b a0", b"\na/b a", "new: line 2: BadLine")?);
     assert!(rt; is_told(alloc, CIDS, b"ab a0", b"a/b a", "old: line 1: BadKey")?);
     assert!(rt; is_told(alloc, CIDS, b"a/b 80", b"a/b a0", "old: line 1: NotAMap")?);
-    assert!(rt; is_told(alloc, CIDS, b"a/b a0", b"a/b a1", "new: line 1: BadRecord(Truncated)")?);
+    assert!(rt;
+        is_told(
+            alloc,
+            CIDS,
+            b"a/b a0",
+            b"a/b a1",
+            "new: line 1: BadRecord(Truncated)"
+        )?
+    );
     assert!(rt; is_told(alloc, CIDS, listing, b"a/b a0", "old: line 2: BadCid")?);
     assert!(rt; is_told(alloc, CIDS, b"\x3a\xa2", b"a/b a0", "old: Car(BadHeader)")?);
     assert!(rt; is_told(alloc, RECORDS, b"a/b a0", listing, "new: NoRecords")?);

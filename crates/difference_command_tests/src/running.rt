@@ -12,7 +12,12 @@ fn ends(alloc: Global, old: &[u8], new: &[u8], status: u8, out: &[u8], err: &[u8
     let mut before = old;
     let mut after = new;
     let ended = run::<Sha256, &[u8], &[u8], Vec<u8>, Vec<u8>>(
-        CIDS, alloc, &mut before, &mut after, &mut text, &mut told,
+        CIDS,
+        alloc,
+        &mut before,
+        &mut after,
+        &mut text,
+        &mut told,
     );
     ended == status && text.as_slice() == out && told.as_slice() == err
 }
@@ -21,6 +26,15 @@ fn ends(alloc: Global, old: &[u8], new: &[u8], status: u8, out: &[u8], err: &[u8
 fn statuses(rt: HostRuntime) -> Result<(), Fail> {
     let alloc = rt.alloc();
     assert!(rt; ends(alloc, b"a/b a0", b"a/b a0", 0, b"", b""));
-    assert!(rt; ends(alloc, b"a/b a0", b"a/b", 1, b"", b"msthost: new: line 1: BadLine\n"));
+    assert!(rt;
+        ends(
+            alloc,
+            b"a/b a0",
+            b"a/b",
+            1,
+            b"",
+            b"msthost: new: line 1: BadLine\n"
+        )
+    );
     Ok(())
 }

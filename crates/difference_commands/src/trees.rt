@@ -137,10 +137,7 @@ fn gives_all<'a, D: Digest, A: Allocator>(
 }
 
 /// Whether a source gives this block under its CID.
-fn gives<'a, D: Digest, A: Allocator>(
-    source: &mut BlockMap<'a, D, A>,
-    block: &Block<D, A>,
-) -> bool
+fn gives<'a, D: Digest, A: Allocator>(source: &mut BlockMap<'a, D, A>, block: &Block<D, A>) -> bool
     ensures given { result ≡ is_given D.digest_of (first_of D.digest_of source.old.blocks)
         block.now }
     ensures same { source.new.blocks ≡ source.old.blocks }

@@ -150,10 +150,9 @@ fn form_word<'a>(alloc: Global) -> Arg<'a>
     ensures rule { rule_of result ≡ form_rule }
     ensures local { result.global ≡ false }
 {
-    Arg::new(alloc, "form")
-        .long("form")
-        .value_name("FORM")
-        .help("The form of both files: car, listing (KEY CID) or records (KEY HEX)")
+    Arg::new(alloc, "form").long("form").value_name("FORM").help(
+        "The form of both files: car, listing (KEY CID) or records (KEY HEX)",
+    )
 }
 
 /// The option for records.
