@@ -1,5 +1,5 @@
 -- Two cores that are apart lend both of their trees.
-use Rattle.std.proofs.Common.{◌≡◌, ℕ, ◌<◌, Bool, true, false, ◌&&◌, List, map, Option, refl, sym, ap, subst, ◌∙◌, arith}
+use Rattle.std.proofs.Common.{◌≡◌, ℕ, ◌<◌, Bool, true, false, ◌&&◌, List, Option, refl, sym, ap, subst, ◌∙◌}
 use Rattle.std.specs.declared.option.Option.TheVariants.{Some, None}
 use Rattle.std.specs.Prelude.{Contains, nat_lt, option_map, if◌then◌else◌}
 use Rattle.std.specs.Arc.{arc_value}
@@ -17,7 +17,7 @@ use Rattle.edit_laws.specs.Uses.{uses}
 use Rattle.edit_laws.proofs.BlockSources.{source-nodes}
 use Rattle.edit_laws.proofs.Using.{used_at, user}
 use Rattle.lookups.specs.Trees.{HasTree, bytes_given}
-use Rattle.kept.specs.Uses.{Uses, at, lent}
+use Rattle.kept.specs.Uses.{Uses, at}
 use Rattle.kept.specs.declared.kept_use.Use.{Use}
 use Rattle.repo.specs.Readings.{CountsBlocks, LendsBlocks, LendsTree, bytes_lent}
 use Rattle.repo.proofs.Exchanging.{sorted-records}

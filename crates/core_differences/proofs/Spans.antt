@@ -1,15 +1,14 @@
 -- The changes of a difference can be proved, and their proof shows them.
-use Rattle.std.proofs.Common.{◌≡◌, ℕ, suc, Bool, true, ◌&&◌, List, [], ◌∷◌, map, refl, sym, ap, subst, ◌∙◌, Option, arith}
+use Rattle.std.proofs.Common.{◌≡◌, ℕ, suc, Bool, true, List, [], ◌∷◌, refl, ap, subst, ◌∙◌, Option, arith}
 use Rattle.std.specs.declared.option.Option.TheVariants.{Some, None}
-use Rattle.std.specs.Prelude.{Contains, Result, Ok, Err}
-use Rattle.std.specs.Arc.{arc_value}
+use Rattle.std.specs.Prelude.{Ok}
 use Rattle.std.specs.List.{AllByRecursion}
 use Rattle.std.specs.declared.sync.Arc.{Arc}
 use Rattle.std.proofs.lemmas.Slice.Eq.{bytes_eq-Decides}
 use Rattle.spec.specs.NodeFormat.{is_key}
 use Rattle.spec.specs.Reading.{◌>>=◌, ensure}
 use Rattle.spec.specs.Tree.{Pair}
-use Rattle.spec.specs.Blocks.{ArePairs, ClashesWithNone, nodes, pairs, value_of}
+use Rattle.spec.specs.Blocks.{ArePairs, pairs, value_of}
 use Rattle.spec.specs.States.{IsLawful, State, records}
 use Rattle.spec.proofs.Bools.{and}
 use Rattle.spec.proofs.RecordPairs.{lawful-pairs}
@@ -20,9 +19,8 @@ use Rattle.edit.specs.Batches.{are_changes, have_keys}
 use Rattle.edit.specs.Places.{are_ascending}
 use Rattle.edit.proofs.Placing.{ascends-back}
 use Rattle.change_laws.specs.Told.{KeyChange, undone}
-use Rattle.change_laws.specs.Given.{ChangeFault, OtherValue}
+use Rattle.change_laws.specs.Given.{OtherValue}
 use Rattle.change_laws.specs.Verdict.{are_told, is_same}
-use Rattle.change_proofs.specs.Provings.{told_by}
 use Rattle.difference.specs.Differences.{IsDifferenceOf}
 use Rattle.core_differences.specs.Spans.{AreTrue, IsShownBy, IsSpan}
 

@@ -12,7 +12,7 @@ returns-clause-difference g c apart =
     let old = c.lender-earlier in
     let new = c.lender-later in
     let gives : ◌≡◌ {A = List ℕ → Option (Arc (List ℕ) g.row.A.Denot)} (lent_by digest c.new-blocks.result.first.blocks.now c.new-blocks.result.second.blocks.now)
-        (lent_by digest new.result.blocks.now old.result.blocks.now)
+    (lent_by digest new.result.blocks.now old.result.blocks.now)
     = ap₂ (λ x y. lent_by digest x.blocks.now y.blocks.now) c.new-blocks.ensures.first c.new-blocks.ensures.second in
     c.difference.ensures.compared (pairs digest (records c.args.old.now)) (pairs digest (records c.args.new.now))
     (old-tree digest g.row.B c.args.old.now c.args.new.now old.result.blocks.now new.result.blocks.now old.ensures.blocks old.ensures.uses
@@ -26,7 +26,7 @@ returns-clause-fault g c apart =
     let old = c.lender-earlier in
     let new = c.lender-later in
     let gives : ◌≡◌ {A = List ℕ → Option (Arc (List ℕ) g.row.A.Denot)} (lent_by digest c.new-blocks.result.first.blocks.now c.new-blocks.result.second.blocks.now)
-        (lent_by digest new.result.blocks.now old.result.blocks.now)
+    (lent_by digest new.result.blocks.now old.result.blocks.now)
     = ap₂ (λ x y. lent_by digest x.blocks.now y.blocks.now) c.new-blocks.ensures.first c.new-blocks.ensures.second in
     c.difference.ensures.no_fault (pairs digest (records c.args.old.now)) (pairs digest (records c.args.new.now))
     (old-tree digest g.row.B c.args.old.now c.args.new.now old.result.blocks.now new.result.blocks.now old.ensures.blocks old.ensures.uses
