@@ -3,5 +3,5 @@ pub mod Owning
 pub mod Giving
 pub mod Finding
 pub mod Ascents
-pub mod Making
+pub mod Made
 pub mod Endings

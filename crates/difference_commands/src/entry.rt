@@ -14,7 +14,7 @@ use std::convert::AsSlice;
 use tree_command::ListedKey;
 
 /// A key and its record. Where a file has no records, no bytes stand for each.
-#[derive(Clone, Copy)]
+#[derive(Drop)]
 pub(crate) struct Entry<'p> {
     pub(crate) key: &'p [u8],
     pub(crate) record: &'p [u8],

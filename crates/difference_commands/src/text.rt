@@ -106,12 +106,12 @@ fn push_value<A: Allocator>(text: &mut Vec<u8, A>, value: &Option<Cid>) -> Resul
 fn push_record<A: Allocator + Copy>(
     alloc: A,
     text: &mut Vec<u8, A>,
-    record: Option<&[u8]>,
+    found: Option<&[u8]>,
 ) -> Result<(), AllocError>
     ensures { OnOk result (text.new.items
-        ≡ text.old.items ++ record_words (option_map (λ bytes. bytes.now) record)) }
+        ≡ text.old.items ++ record_words (option_map (λ bytes. bytes.now) found.entry)) }
 {
-    match record {
+    match found {
         Some(bytes) => {
             text.push(b' ')?;
             text.extend_from_slice(hex::encode(alloc, bytes)?.as_bytes())?;

@@ -83,7 +83,7 @@ impl<'a> ChangesWords<'a> {
 
 /// The form of this word, which may be none; or `None` where it is no form's.
 fn form_of_word(word: Option<&str>) -> Option<Option<Form>>
-    ensures { result ≡ form_of_word_of (option_map (λ word. word.now) word) }
+    ensures { result ≡ form_of_word_of (option_map (λ name. name.now) word.entry) }
 {
     let Some(word) = word else {
         return Some(None);

@@ -1,4 +1,4 @@
-use Rattle.difference_commands.proofs.Making.{written}
+use Rattle.difference_commands.proofs.Made.{written}
 use Rattle.difference_commands.proofs.making.changes_text.Goals as goal
 
 pub returns : goal.returns
