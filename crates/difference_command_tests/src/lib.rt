@@ -1,0 +1,12 @@
+//! Tests of the command on two files: each form beside each other, what is written of records, the names of faults and which
+//! file they are of, and the exit status.
+#![tactic(auto)]
+
+#[cfg(test)]
+mod faults;
+#[cfg(test)]
+mod forms;
+#[cfg(test)]
+mod running;
+#[cfg(test)]
+mod told;
