@@ -78,7 +78,13 @@ fn is_right(
     if !are_key_changes(&told) {
         return Ok(false);
     }
-    Ok(verify_inversion_blocks::<Sha256, 2, Global>(alloc, before, after, &span.nodes, &told).is_ok())
+    Ok(verify_inversion_blocks::<Sha256, 2, Global>(
+        alloc,
+        before,
+        after,
+        &span.nodes,
+        &told,
+    ).is_ok())
 }
 
 /// Whether the difference of a core and one with the later batches is right, and nothing differs from itself.

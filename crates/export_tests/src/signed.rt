@@ -133,7 +133,9 @@ fn the_unsigned_file_is_as_before(rt: HostRuntime) {
     let again = car(alloc, &core, &mut out);
     let right = is_file(&signed, &before, &core.root());
     end(&mut shard, core);
-    assert!(rt; taken && right && again == Ok(before.len() as u64) && out.bytes() == before.as_slice());
+    assert!(rt;
+        taken && right && again == Ok(before.len() as u64) && out.bytes() == before.as_slice()
+    );
 }
 
 /// Memory that refuses requests.
