@@ -67,8 +67,8 @@ IsBegun D digest (requests.Explain command) input old new =
     AppendsBeginning old new (explanation (word_of command.name))
 IsBegun D digest requests.Help input old new = ⊤
 
--- A word of the request is faulty by the test that comes before its input is read: a DID, a revision,
--- the text of a root or a key.
+-- A word of the request is faulty by the test that comes before its input is read: a DID, a revision, a
+-- signature, the text of a root or a key.
 abbrev pub HasFaultyWord : Request → Type 0
 HasFaultyWord (requests.Tree options) = ⊥
 HasFaultyWord (requests.OnRepository command) = IsFaultyCommand command
