@@ -1,7 +1,8 @@
 //! What the commands are told on a command line.
 ghost use Rattle.std.specs.Prelude.{◌≡◌, false, IfNone, IfOk, IfSome};
-ghost use Rattle.clap.specs.Words.{app_of, found_of, rows_of, shape_of};
+ghost use Rattle.clap.specs.Words.{app_of, found_of, rows_of, shape_of, with_subcommand};
 ghost use Rattle.clap.specs.declared.builder.command.Command.TheViews.{out-Command as fields_of};
+ghost use Rattle.console.specs.FileWords.{with_file as with_file_of};
 ghost use Rattle.change_commands.specs.Words.{prove_change_shape, verify_change_shape, with_commands, IsOfWords, IsOtherName};
 
 use clap::{ArgMatches, Command};
@@ -62,9 +63,24 @@ Example:
 pub fn with_words<'a>(alloc: Global, program: Command<'a>) -> Result<Command<'a>, AllocError>
     ensures { IfOk result (λ r. app_of r ≡ with_commands (app_of program.entry)) }
 {
-    program
-        .subcommand(with_file(alloc, prove_change_words(alloc)?)?)?
-        .subcommand(with_file(alloc, verify_change_words(alloc)?)?)
+    let program = with_prove_change(alloc, program)?;
+    with_verify_change(alloc, program)
+}
+
+/// Adds `prove-change`.
+fn with_prove_change<'a>(alloc: Global, program: Command<'a>) -> Result<Command<'a>, AllocError>
+    ensures { IfOk result (λ r.
+        app_of r ≡ with_subcommand (app_of program.entry) (with_file_of prove_change_shape)) }
+{
+    program.subcommand(with_file(alloc, prove_change_words(alloc)?)?)
+}
+
+/// Adds `verify-change`.
+fn with_verify_change<'a>(alloc: Global, program: Command<'a>) -> Result<Command<'a>, AllocError>
+    ensures { IfOk result (λ r.
+        app_of r ≡ with_subcommand (app_of program.entry) (with_file_of verify_change_shape)) }
+{
+    program.subcommand(with_file(alloc, verify_change_words(alloc)?)?)
 }
 
 /// The command of this name, with what its words say; or `None` where it is another.

@@ -1,8 +1,9 @@
 //! What the commands are told on a command line.
 
 ghost use Rattle.std.specs.Prelude.{◌≡◌, false, IfNone, IfOk, IfSome};
-ghost use Rattle.clap.specs.Words.{app_of, found_of, rows_of, rule_of, shape_of};
+ghost use Rattle.clap.specs.Words.{app_of, found_of, rows_of, rule_of, shape_of, with_subcommand};
 ghost use Rattle.clap.specs.declared.builder.command.Command.TheViews.{out-Command as fields_of};
+ghost use Rattle.console.specs.FileWords.{with_file as with_file_of};
 ghost use Rattle.export_commands.specs.Words.{AreValuesOf, IsOfWords, IsOtherName};
 ghost use Rattle.export_commands.specs.Words.{check_shape, cids_rule, commit_shape, records_shape, with_commands};
 
@@ -65,10 +66,33 @@ Example:
 pub fn with_words<'a>(alloc: Global, program: Command<'a>) -> Result<Command<'a>, AllocError>
     ensures { IfOk result (λ r. app_of r ≡ with_commands (app_of program.entry)) }
 {
-    program
-        .subcommand(with_file(alloc, check_words(alloc))?)?
-        .subcommand(with_file(alloc, records_words(alloc)?)?)?
-        .subcommand(with_file(alloc, commit_words(alloc))?)
+    let program = with_check(alloc, program)?;
+    let program = with_records(alloc, program)?;
+    with_commit(alloc, program)
+}
+
+/// Adds `check`.
+fn with_check<'a>(alloc: Global, program: Command<'a>) -> Result<Command<'a>, AllocError>
+    ensures { IfOk result (λ r.
+        app_of r ≡ with_subcommand (app_of program.entry) (with_file_of check_shape)) }
+{
+    program.subcommand(with_file(alloc, check_words(alloc))?)
+}
+
+/// Adds `records`.
+fn with_records<'a>(alloc: Global, program: Command<'a>) -> Result<Command<'a>, AllocError>
+    ensures { IfOk result (λ r.
+        app_of r ≡ with_subcommand (app_of program.entry) (with_file_of records_shape)) }
+{
+    program.subcommand(with_file(alloc, records_words(alloc)?)?)
+}
+
+/// Adds `commit`.
+fn with_commit<'a>(alloc: Global, program: Command<'a>) -> Result<Command<'a>, AllocError>
+    ensures { IfOk result (λ r.
+        app_of r ≡ with_subcommand (app_of program.entry) (with_file_of commit_shape)) }
+{
+    program.subcommand(with_file(alloc, commit_words(alloc))?)
 }
 
 /// The command of this name, with what its words say; or `None` where it is another.

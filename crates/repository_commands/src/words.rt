@@ -1,8 +1,9 @@
 //! What the commands are told on a command line.
 ghost use Rattle.std.specs.Prelude.{◌≡◌, false, option_map, IfNone, IfOk, IfSome};
 ghost use Rattle.clap.specs.Walk.{first_of};
-ghost use Rattle.clap.specs.Words.{app_of, found_of, rows_of, rule_of, shape_of};
+ghost use Rattle.clap.specs.Words.{app_of, found_of, rows_of, rule_of, shape_of, with_subcommand};
 ghost use Rattle.clap.specs.declared.builder.command.Command.TheViews.{out-Command as fields_of};
+ghost use Rattle.console.specs.FileWords.{with_file as with_file_of};
 ghost use Rattle.repository_commands.specs.Words.{IsOfWords, IsOtherName, word_or as word_or_of};
 ghost use Rattle.repository_commands.specs.Words.{car_shape, prove_shape, verify_shape, with_commands};
 ghost use Rattle.repository_commands.specs.Words.{option_rule, optional_rule, required_rule};
@@ -113,10 +114,33 @@ Example:
 pub fn with_words<'a>(alloc: Global, program: Command<'a>) -> Result<Command<'a>, AllocError>
     ensures { IfOk result (λ r. app_of r ≡ with_commands (app_of program.entry)) }
 {
-    program
-        .subcommand(with_file(alloc, car_words(alloc)?)?)?
-        .subcommand(with_file(alloc, prove_words(alloc)?)?)?
-        .subcommand(with_file(alloc, verify_words(alloc)?)?)
+    let program = with_car(alloc, program)?;
+    let program = with_prove(alloc, program)?;
+    with_verify(alloc, program)
+}
+
+/// Adds `car`.
+fn with_car<'a>(alloc: Global, program: Command<'a>) -> Result<Command<'a>, AllocError>
+    ensures { IfOk result (λ r.
+        app_of r ≡ with_subcommand (app_of program.entry) (with_file_of car_shape)) }
+{
+    program.subcommand(with_file(alloc, car_words(alloc)?)?)
+}
+
+/// Adds `prove`.
+fn with_prove<'a>(alloc: Global, program: Command<'a>) -> Result<Command<'a>, AllocError>
+    ensures { IfOk result (λ r.
+        app_of r ≡ with_subcommand (app_of program.entry) (with_file_of prove_shape)) }
+{
+    program.subcommand(with_file(alloc, prove_words(alloc)?)?)
+}
+
+/// Adds `verify`.
+fn with_verify<'a>(alloc: Global, program: Command<'a>) -> Result<Command<'a>, AllocError>
+    ensures { IfOk result (λ r.
+        app_of r ≡ with_subcommand (app_of program.entry) (with_file_of verify_shape)) }
+{
+    program.subcommand(with_file(alloc, verify_words(alloc)?)?)
 }
 
 /// The command of this name, with what its words say; or `None` where it is another.
