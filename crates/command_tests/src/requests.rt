@@ -27,6 +27,7 @@ enum Asked {
     Json,
     Cids,
     Commit,
+    Changes,
     Run,
     Explain,
     Help,
@@ -58,13 +59,14 @@ fn request_of<T: Threads + Wait + RandomSource + Sync>(
         Some(Request::OnExport(ExportCommand::Records(Values::Json))) => Asked::Json,
         Some(Request::OnExport(ExportCommand::Records(Values::Cids))) => Asked::Cids,
         Some(Request::OnExport(ExportCommand::Commit)) => Asked::Commit,
+        Some(Request::OnDifference(_)) => Asked::Changes,
         Some(Request::Run(_)) => Asked::Run,
         Some(Request::Explain(_)) => Asked::Explain,
         Some(Request::Help) => Asked::Help,
     }
 }
 
-static ROWS: [(&[&str], Asked); 19] = [
+static ROWS: [(&[&str], Asked); 20] = [
     (&["msthost", "tree"], Asked::Tree),
     (&["msthost", "car"], Asked::Car),
     (&["msthost", "car", "--sig", "00"], Asked::SignedCar),
@@ -80,6 +82,7 @@ static ROWS: [(&[&str], Asked); 19] = [
     (&["msthost", "records", "--json"], Asked::Json),
     (&["msthost", "records", "--cids"], Asked::Cids),
     (&["msthost", "commit"], Asked::Commit),
+    (&["msthost", "changes", "a", "b"], Asked::Changes),
     (&["msthost", "run"], Asked::Run),
     (&["msthost", "explain"], Asked::Explain),
     (&["msthost", "explain", "BadLine"], Asked::Explain),

@@ -5,6 +5,9 @@ use Rattle.std.proofs.lemmas.List.{append-nil}
 use Rattle.std.specs.Io.KnownBytes.{Appends, Keeps}
 use Rattle.console.proofs.Leaving.{Appends-append, Appends-kept}
 use Rattle.console.specs.Faults.{read_status, write_status}
+use Rattle.console.specs.Files.{open_status}
+use Rattle.console.specs.declared.files.OpenFault.{OpenFault}
+use Rattle.console.specs.declared.files.OpenFault.TheVariants as opens
 use Rattle.console.specs.declared.fault.CommandFault.{CommandFault}
 use Rattle.console.specs.declared.fault.CommandFault.TheVariants as ends
 use Rattle.console.specs.declared.reading.ReadFault.{ReadFault}
@@ -21,7 +24,7 @@ use Rattle.tree_command.specs.declared.fault.TreeFault.{TreeFault}
 use Rattle.tree_command.specs.declared.fault.TreeFault.TheVariants as tree_faults
 use Rattle.difference_commands.specs.RecordLines as lines
 use Rattle.difference_commands.specs.Faults.{command_status, file_status, line_fault_of, line_status, status_of}
-use Rattle.difference_commands.specs.Outcomes.{AppendsTextOf, BeginsTextOf, HasFault, IsEnd, IsOutcome, IsStatusOf, KeepsWithoutText, OfInputs}
+use Rattle.difference_commands.specs.Outcomes.{AppendsTextOf, BeginsTextOf, HasFault, IsBegunBy, IsEnd, IsEndOf, IsOutcome, IsStatusOf, KeepsWithoutText, OfInputs}
 use Rattle.difference_commands.specs.declared.command.ChangesCommand.{ChangesCommand}
 use Rattle.difference_commands.specs.declared.fault.ChangesFault.{ChangesFault}
 use Rattle.difference_commands.specs.declared.fault.ChangesFault.TheVariants as errors
@@ -181,3 +184,72 @@ module _ (digest : List ℕ → List ℕ) (command : ChangesCommand) where
     pub failed-status : (e : CommandFault ChangesFault) (n : ℕ) → IsEnd digest command old new was is (Err e) → n ≡ command_status e
         → IsStatusOf digest command old new was is n
     failed-status e n end so = subst (IsStatusOf digest command old new was is) (sym so) (failed-with e end)
+
+-- ---- files that words name
+
+open-statuses : (f : OpenFault) → (3 ≤ open_status f) × (open_status f ≤ 4)
+open-statuses opens.NotFound = (omega arith, omega arith)
+open-statuses opens.Denied = (omega arith, omega arith)
+open-statuses opens.Directory = (omega arith, omega arith)
+open-statuses opens.NoMemory = (omega arith, omega arith)
+open-statuses opens.Failed = (omega arith, omega arith)
+
+-- a file that can't be opened doesn't end well
+pub unopened_ends : (f : OpenFault) (n : ℕ) → n ≡ open_status f → n ≡ 0 → ⊥
+unopened_ends f n so zero = omega (arith, so, zero, (open-statuses f).0)
+
+unopened-with : (digest : List ℕ → List ℕ) (command : ChangesCommand) (old new was : Option (List ℕ)) (f : OpenFault)
+    → IsStatusOf digest command old new was was (open_status f)
+unopened-with digest command old new was f =
+    let s = open-statuses f in
+    record {
+      one_of = s.1;
+      done = λ zero. absurd (omega (arith, zero, s.0));
+      faulty = λ one. absurd (omega (arith, one, s.0));
+      nothing = λ one. absurd (omega (arith, one, s.0));
+      usage = λ two. omega (arith, two, s.0);
+      beginning = always_both _ old new (λ xs ys. inl (keeps-itself was));
+    }
+
+pub unopened_status : (digest : List ℕ → List ℕ) (command : ChangesCommand) (old new was : Option (List ℕ)) (f : OpenFault) (n : ℕ)
+    → n ≡ open_status f → IsStatusOf digest command old new was was n
+unopened_status digest command old new was f n so =
+    subst (IsStatusOf digest command old new was was) (sym so) (unopened-with digest command old new was f)
+
+-- the words have a form, and what came of the files came of them
+end-with : (digest : List ℕ → List ℕ) (command : ChangesCommand) (old new was is : Option (List ℕ)) (n : ℕ)
+    → IsStatusOf digest command old new was is n → IsEndOf digest (Some command) old new was is n
+end-with digest command old new was is n s = record {
+  one_of = s.one_of;
+  done = s.done;
+  faulty = s.faulty;
+  nothing = s.nothing;
+  usage = s.usage;
+  beginning = s.beginning;
+}
+
+pub end_of_status : (digest : List ℕ → List ℕ) (asked : Option ChangesCommand) (command : ChangesCommand) (old new was is : Option (List ℕ)) (n : ℕ)
+    → Some command ≡ asked → IsStatusOf digest command old new was is n → IsEndOf digest asked old new was is n
+end_of_status digest asked command old new was is n so s =
+    subst (λ (o : Option ChangesCommand). IsEndOf digest o old new was is n) so (end-with digest command old new was is n s)
+
+-- they have none
+formless : (digest : List ℕ → List ℕ) (old new was : Option (List ℕ)) (n : ℕ) → n ≡ 1 → IsEndOf digest None old new was was n
+formless digest old new was n one = record {
+  one_of = omega (arith, one);
+  done = λ zero. omega (arith, one, zero);
+  faulty = λ _. tt;
+  nothing = λ _. keeps-itself was;
+  usage = λ two. omega (arith, one, two);
+  beginning = keeps-itself was;
+}
+
+pub end_formless : (digest : List ℕ → List ℕ) (asked : Option ChangesCommand) (old new was : Option (List ℕ)) (n : ℕ) → None ≡ asked → n ≡ 1
+    → IsEndOf digest asked old new was was n
+end_formless digest asked old new was n so one =
+    subst (λ (o : Option ChangesCommand). IsEndOf digest o old new was was n) so (formless digest old new was n one)
+
+-- nothing is a beginning of any text
+pub begun_by_nothing : (digest : List ℕ → List ℕ) (asked : Option ChangesCommand) (old new was : Option (List ℕ)) → IsBegunBy digest asked old new was was
+begun_by_nothing digest None old new was = keeps-itself was
+begun_by_nothing digest (Some command) old new was = always_both _ old new (λ xs ys. inl (keeps-itself was))

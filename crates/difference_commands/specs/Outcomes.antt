@@ -1,5 +1,5 @@
 -- How the command ends on two files.
-use Rattle.std.specs.Prelude.{◌≡◌, ◌⊎◌, ⊤, ◌≤◌, ℕ, List, Option, Result, Ok, Err, IfErr, IfSome}
+use Rattle.std.specs.Prelude.{◌≡◌, ◌⊎◌, ⊤, ◌≤◌, ℕ, List, Option, Some, None, Result, Ok, Err, IfErr, IfSome}
 use Rattle.std.specs.Io.KnownBytes.{Appends, Keeps}
 use Rattle.spec.specs.Tree.{Pair}
 use Rattle.change_laws.specs.Told.{KeyChange}
@@ -122,3 +122,32 @@ pub record IsStatusOf (digest : List ℕ → List ℕ) (command : ChangesCommand
   pub nothing : status ≡ 1 → Keeps was is
   pub usage : (status ≡ 2) → ⊥
   pub beginning : OfInputs old new (λ xs ys. Keeps was is ⊎ BeginsTextOf digest command xs ys was is)
+
+-- ---- of words that name the files
+
+-- the text of the files was written, in the form that the words tell; where that is none nothing is done
+abbrev pub IsDoneBy : (List ℕ → List ℕ) → Option ChangesCommand → Option (List ℕ) → Option (List ℕ) → Option (List ℕ)
+    → Option (List ℕ) → Type 0
+IsDoneBy digest None old new was is = ⊥
+IsDoneBy digest (Some command) old new was is = OfInputs old new (λ xs ys. AppendsTextOf digest command xs ys was is)
+
+-- they have none: the form is none, or the files have a fault
+abbrev pub IsRefusedBy : (List ℕ → List ℕ) → Option ChangesCommand → Option (List ℕ) → Option (List ℕ) → Type 0
+IsRefusedBy digest None old new = ⊤
+IsRefusedBy digest (Some command) old new = OfInputs old new (HasFault digest command)
+
+-- nothing was written, or a beginning of the text
+abbrev pub IsBegunBy : (List ℕ → List ℕ) → Option ChangesCommand → Option (List ℕ) → Option (List ℕ) → Option (List ℕ)
+    → Option (List ℕ) → Type 0
+IsBegunBy digest None old new was is = Keeps was is
+IsBegunBy digest (Some command) old new was is = OfInputs old new (λ xs ys. Keeps was is ⊎ BeginsTextOf digest command xs ys was is)
+
+-- The command that the words ask for ended so on the files that they name, of what these hold, as far as that is known.
+pub record IsEndOf (digest : List ℕ → List ℕ) (asked : Option ChangesCommand) (old new was is : Option (List ℕ))
+    (status : ℕ) : Type 0 where
+  pub one_of : status ≤ 4
+  pub done : status ≡ 0 → IsDoneBy digest asked old new was is
+  pub faulty : status ≡ 1 → IsRefusedBy digest asked old new
+  pub nothing : status ≡ 1 → Keeps was is
+  pub usage : (status ≡ 2) → ⊥
+  pub beginning : IsBegunBy digest asked old new was is

@@ -4,6 +4,7 @@ use Rattle.std.specs.Str.{bytes_eq}
 use Rattle.clap.specs.Simple.{Shape, new_rule, new_shape}
 use Rattle.clap.specs.Walk.{Row, Rule, first_of, one_of}
 use Rattle.clap.specs.declared.builder.action.ArgAction.TheVariants.{SetTrue}
+use Rattle.difference_commands.specs.declared.command.ChangesCommand.{ChangesCommand}
 use Rattle.difference_commands.specs.declared.command.Form.{Form}
 use Rattle.difference_commands.specs.declared.command.Form.TheVariants as forms
 use Rattle.difference_commands.specs.declared.command.Values.{Values}
@@ -61,3 +62,12 @@ form_named word =
 abbrev pub form_of_word : Option (List ℕ) → Option (Option Form)
 form_of_word None = Some None
 form_of_word (Some word) = form_named word
+
+-- the command of words with this form
+abbrev pub in_form : ChangesWords → Option Form → ChangesCommand
+in_form words form = record { form = form; values = words.values }
+
+-- the command that the words ask for, or nothing where the word for the form is none
+abbrev pub command_of : ChangesWords → Option ChangesCommand
+command_of words =
+    option_map (in_form words) (form_of_word (option_map (λ word. word.now) words.form))

@@ -6,8 +6,8 @@
 //!   which `Form` the files are, or that it is to be found out, and with which `Values` a change is told.
 //! - `ChangesFault` says why there is no text: the first fault of a file, and of which, `FileFault`.
 //!
-//! A program has it by `with_words`, `words_of` and `run`: what help shows of it, what a command line asks for, and its run to
-//! the exit status.
+//! A program has it by `with_words`, `words_of` and `run_on_files`: what help shows of it, what a command line asks for, and its
+//! run to the exit status on the files that this names. `run` is the same on two readers.
 //!
 //! ```text
 //! let told = ChangesCommand { form: None, values: Values::Cids };
@@ -23,6 +23,7 @@ mod file_fault;
 mod form;
 mod line_fault;
 mod making;
+mod on_files;
 mod record_line;
 mod record_map;
 mod running;
@@ -35,5 +36,6 @@ pub use fault::ChangesFault;
 pub use file_fault::FileFault;
 pub use line_fault::LineFault;
 pub use making::changes_text;
+pub use on_files::run_on_files;
 pub use running::run;
 pub use words::{ChangesWords, with_words, words_of};

@@ -1,8 +1,9 @@
 //! What the command is told on a command line.
-ghost use Rattle.std.specs.Prelude.{◌≡◌, false, None, Some, IfNone, IfOk, IfSome, option_map};
+ghost use Rattle.std.specs.Prelude.{◌≡◌, false, IfNone, IfOk, IfSome, option_map};
 ghost use Rattle.clap.specs.Words.{app_of, found_of, rows_of, rule_of, shape_of, with_subcommand};
 ghost use Rattle.clap.specs.declared.builder.command.Command.TheViews.{out-Command as fields_of};
-ghost use Rattle.difference_commands.specs.Words.{AreValuesOf, IsOfWords, IsOtherName, changes_shape, form_of_word as form_of_word_of, form_rule, records_rule, required_rule, word_or as word_or_of};
+ghost use Rattle.difference_commands.specs.Words.{AreValuesOf, IsOfWords, IsOtherName, changes_shape, command_of, form_of_word as form_of_word_of};
+ghost use Rattle.difference_commands.specs.Words.{form_rule, records_rule, required_rule, word_or as word_or_of};
 
 use crate::command::{ChangesCommand, Form, Values};
 use clap::{Arg, ArgAction, ArgMatches, Command};
@@ -67,11 +68,7 @@ pub fn words_of<'a>(name: &str, words: &ArgMatches<'a>) -> Option<ChangesWords<'
 impl<'a> ChangesWords<'a> {
     /// The command that they ask for, or `None` where the word for the form is none.
     pub fn command(&self) -> Option<ChangesCommand>
-        ensures form { IfSome result (λ command. form_of_word_of
-            (option_map (λ word. word.now) self.now.form) ≡ Some command.form) }
-        ensures values { IfSome result (λ command. command.values ≡ self.now.values) }
-        ensures none { IfNone result (form_of_word_of
-            (option_map (λ word. word.now) self.now.form) ≡ None) }
+        ensures { result ≡ command_of self.now }
     {
         let form = form_of_word(self.form)?;
         Some(ChangesCommand {

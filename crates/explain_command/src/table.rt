@@ -298,8 +298,9 @@ pub static FAULTS: [(&str, &str, &str); 59] = [
     ),
 ];
 
-/// The faults of files: why one can't be opened, and why a CAR file is no export of a repository; and those of records as JSON.
-pub static FAULTS_OF_FILES: [(&str, &str, &str); 25] = [
+/// The faults of files: why one can't be opened, why a CAR file is no export of a repository, and why two aren't compared; and those of
+/// records as JSON.
+pub static FAULTS_OF_FILES: [(&str, &str, &str); 27] = [
     (
         "Car(BadHeader)",
         "the file does not begin as a CAR with one root",
@@ -379,6 +380,16 @@ pub static FAULTS_OF_FILES: [(&str, &str, &str); 25] = [
         "NoJsonForm",
         "the record has no form as JSON",
         "a whole number of 2^53 or more, a key $link or $bytes, a CID of version 0; records without --json writes it in hexadecimal",
+    ),
+    (
+        "BadForm",
+        "the word for the form of files is none",
+        "another word than car, listing and records behind --form",
+    ),
+    (
+        "NoRecords",
+        "the file lists CIDs and has no records",
+        "changes --records of a listing: give the export or lines of records",
     ),
     (
         "BadJson(NotJson)",

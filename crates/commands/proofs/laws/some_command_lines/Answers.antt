@@ -22,6 +22,9 @@ of_paths = codes "msthost" ∷ codes "tree" ∷ codes "--paths" ∷ []
 tree_is_not_help : codes "tree" ≡ codes "help" → ⊥
 tree_is_not_help e = let first : 116 ≡ 104 = ap (λ (xs : List ℕ). get_or xs 0 0) e in omega (arith, first)
 
+tree_is_not_changes : codes "tree" ≡ codes "changes" → ⊥
+tree_is_not_changes e = let first : 116 ≡ 99 = ap (λ (xs : List ℕ). get_or xs 0 0) e in omega (arith, first)
+
 only : (request : Request) → IsSomeAnd (subcommand_of msthost words) (λ c. IsNamed c.0 c.1 request)
     → (options : TreeOptions) × (request ≡ requests.Tree options) × (options.bits.number ≡ 3) × (options.keys ≡ keys.Any)
 unfolding msthost clap_on_literals words
@@ -37,6 +40,7 @@ only (requests.OnChange (changes.Verify before after)) is = absurd (cc)
 only (requests.OnExport exports.Check) is = absurd (cc)
 only (requests.OnExport (exports.Records values)) is = absurd (cc)
 only (requests.OnExport exports.Commit) is = absurd (cc)
+only (requests.OnDifference words) is = absurd (tree_is_not_changes is.name_is)
 only (requests.Run command) is = absurd (cc)
 
 only_paths : (request : Request) → IsSomeAnd (subcommand_of msthost of_paths) (λ c. IsNamed c.0 c.1 request)
@@ -54,6 +58,7 @@ only_paths (requests.OnChange (changes.Verify before after)) is = absurd (cc)
 only_paths (requests.OnExport exports.Check) is = absurd (cc)
 only_paths (requests.OnExport (exports.Records values)) is = absurd (cc)
 only_paths (requests.OnExport exports.Commit) is = absurd (cc)
+only_paths (requests.OnDifference words) is = absurd (tree_is_not_changes is.name_is)
 only_paths (requests.Run command) is = absurd (cc)
 
 pub returns-clause-paths : goal.returns-clause-paths
