@@ -48,14 +48,23 @@ static int of_cids(void) {
     return number ? number : size != 72;
 }
 static int of_verify(void) { return tizulgech_verify(node, node_end, &node_end, 1, root, 36, TEXT("a.b.c/d"), cid, 36); }
+/* The tree without the key is another one than that of no bytes, so both verdicts are told as far as they go. */
 static int of_change(void) {
-    static const uint8_t before[36];
-    uint8_t after[36], old[36];
+    static const uint8_t none[36];
+    uint8_t had[36], other[36];
     size_t end = 7;
-    tizulgech_cid(TEXT("\xa1\x61k\x01"), after, 36);
-    /* the tree without the key is another one than that with the root, so the verdict is told as far as it goes */
-    tizulgech_cid(TEXT(""), old, 36);
-    int number = tizulgech_verify_change(node, node_end, &node_end, 1, old, 36, root, 36, TEXT("a.b.c/d"), &end, 1, before, 36, after, 36, cid, 36, &place);
+    tizulgech_cid(TEXT("\xa1\x61k\x01"), had, 36);
+    tizulgech_cid(TEXT(""), other, 36);
+    int number = tizulgech_verify_change(node, node_end, &node_end, 1, root, 36, other, 36, TEXT("a.b.c/d"), &end, 1, had, 36, none, 36, cid, 36, &place);
+    return number == TIZULGECH_OTHER_ROOT ? 0 : number;
+}
+static int of_inversion(void) {
+    static const uint8_t none[36];
+    uint8_t has[36], other[36];
+    size_t end = 7;
+    tizulgech_cid(TEXT("\xa1\x61k\x01"), has, 36);
+    tizulgech_cid(TEXT(""), other, 36);
+    int number = tizulgech_verify_inversion(node, node_end, &node_end, 1, other, 36, root, 36, TEXT("a.b.c/d"), &end, 1, none, 36, has, 36, cid, 36, &place);
     return number == TIZULGECH_OTHER_ROOT ? 0 : number;
 }
 static int of_root_of_tree(void) {
@@ -85,11 +94,16 @@ static int of_part(void) { return tizulgech_car_part(&repository, 9, out, 99, &s
 static int of_head(void) { return tizulgech_car_head(&repository, out, sizeof out, &size); }
 static int of_section(void) { return tizulgech_car_section(&repository, root, 36, out, sizeof out, &size); }
 static int of_prove_change(void) {
+    static const uint8_t none[36];
+    size_t end = 7;
+    return tizulgech_prove_change(&repository, TEXT("a.b.c/d"), &end, 1, none, 36, out, sizeof out, &size);
+}
+static int of_prove_inversion(void) {
     static const uint8_t before[36];
     uint8_t after[36];
     size_t end = 7;
     tizulgech_cid(TEXT("\xa1\x61k\x01"), after, 36);
-    return tizulgech_prove_change(&repository, TEXT("a.b.c/d"), &end, 1, before, 36, after, 36, &place, out, sizeof out, &size);
+    return tizulgech_prove_inversion(&repository, TEXT("a.b.c/d"), &end, 1, before, 36, after, 36, &place, out, sizeof out, &size);
 }
 static int of_prove(void) { return tizulgech_prove(&repository, TEXT("a.b.c/d"), out, sizeof out, &size); }
 
@@ -116,9 +130,9 @@ static const struct {
     int count, takes_memory;
 } calls[] = {
     {"record_fault", of_record, 1, 1}, {"commit_bytes", of_commit_bytes, 1, 1}, {"tree_apply", of_tree, 1, 1}, {"tree_apply of known nodes", of_known, 1, 1}, {"cids", of_cids, 1, 1}, {"verify", of_verify, 1, 1},
-    {"write_fault", of_write, 1, 1}, {"below", of_below, 1, 1}, {"links", of_links, 1, 1}, {"verify_change", of_change, 3, 1}, {"tree_root", of_root_of_tree, 1, 1}, {"listing_car", of_listing, 1, 1}, {"open", of_open, 2, 1}, {"stage", of_stage, 2, 1},
+    {"write_fault", of_write, 1, 1}, {"below", of_below, 1, 1}, {"links", of_links, 1, 1}, {"verify_change", of_change, 3, 1}, {"verify_inversion", of_inversion, 3, 1}, {"tree_root", of_root_of_tree, 1, 1}, {"listing_car", of_listing, 1, 1}, {"open", of_open, 2, 1}, {"stage", of_stage, 2, 1},
     {"list", of_list, 1, 1}, {"car", of_car, 1, 1}, {"car_length", of_length, 1, 1}, {"car_part", of_part, 1, 1}, {"prove", of_prove, 1, 1},
-    {"entries", of_entries, 1, 1}, {"car_head", of_head, 1, 1}, {"car_section", of_section, 1, 1}, {"prove_change", of_prove_change, 2, 1},
+    {"entries", of_entries, 1, 1}, {"car_head", of_head, 1, 1}, {"car_section", of_section, 1, 1}, {"prove_change", of_prove_change, 1, 1}, {"prove_inversion", of_prove_inversion, 2, 1},
     {"those of values", of_values, 11, 0}, {"those of reading", of_reading, 4, 0},
 };
 enum { CALLS = sizeof calls / sizeof *calls };

@@ -14,6 +14,11 @@ int main(void) {
     if (tizulgech_get(&repo, TEXT(key), record, sizeof record, &size) != TIZULGECH_CLOSED) return 1;
     if (tizulgech_open(1000, &repo) != TIZULGECH_DONE || tizulgech_open(1000, &repo) != TIZULGECH_OPEN) return 2;
     tizulgech_stage(&repo, 0, TEXT(key), TEXT("\xa1\x64text\x65hello"));
+    /* what the batch is to make of the tree, for whoever knows the root before: the root after, what the key had, and nodes of the tree */
+    uint8_t step[4096], wanted[36];
+    size_t key_end = strlen(key), step_size;
+    tizulgech_cid(TEXT("\xa1\x64text\x65hello"), wanted, 36);
+    if (tizulgech_prove_change(&repo, TEXT(key), &key_end, 1, wanted, 36, step, sizeof step, &step_size) != TIZULGECH_DONE) return 19;
     uint8_t code = tizulgech_apply(&repo, TEXT("did:web:example.com"), TEXT("3jzfcijpj2z2a"), &place, root, 36, before, 36, commit, 36);
     if (code != TIZULGECH_DONE) {
         printf("refused: %d at %zu\n", code, place);
@@ -40,15 +45,19 @@ int main(void) {
     if (tizulgech_verify(proof + 8, end, &end, 1, root, 36, TEXT(key), value, 36) != TIZULGECH_DONE) return 8;
     tizulgech_cid(record, 12, before, 36);
     if (memcmp(value, before, 36) != 0) return 9;
-    /* and the proof of what the batch changed, for whoever knows both roots: the key had none, and has this record */
+    /* and whoever knows the root before sees that the batch leads to the one after: the key had none, and has this record */
     uint8_t none[36] = {0}, previous[36], missing[36];
-    size_t key_end = strlen(key);
     size_t empty_end = 7;
     if (tizulgech_cids(empty, 7, &empty_end, 1, previous, 36, &size) != TIZULGECH_DONE) return 13;
-    if (tizulgech_prove_change(&repo, TEXT(key), &key_end, 1, none, 36, value, 36, &place, proof, sizeof proof, &size) != TIZULGECH_DONE) return 11;
-    end = size - 8;
-    if (tizulgech_verify_change(proof + 8, end, &end, 1, previous, 36, root, 36, TEXT(key), &key_end, 1, none, 36, value, 36, missing, 36, &place))
+    if (memcmp(step, root, 36) || memcmp(step + 36, none, 36) || memcmp(wanted, value, 36)) return 20;
+    end = step_size - 36 - 36 - 8;
+    if (tizulgech_verify_change(step + 80, end, &end, 1, previous, 36, root, 36, TEXT(key), &key_end, 1, none, 36, value, 36, missing, 36, &place))
         return 12;
+    /* undone, as the event stream does it, over nodes of the tree after */
+    if (tizulgech_prove_inversion(&repo, TEXT(key), &key_end, 1, none, 36, value, 36, &place, proof, sizeof proof, &size) != TIZULGECH_DONE) return 11;
+    end = size - 8;
+    if (tizulgech_verify_inversion(proof + 8, end, &end, 1, previous, 36, root, 36, TEXT(key), &key_end, 1, none, 36, value, 36, missing, 36, &place))
+        return 21;
     /* the same tree over a host's own nodes: the empty one, whose CID is known, so that it isn't hashed again */
     uint8_t edit[4096];
     if (tizulgech_tree_apply(empty, 7, &empty_end, 1, previous, 36, previous, 36, TEXT(key), &key_end, 1, value, 36, missing, 36, edit, sizeof edit, &size))

@@ -54,6 +54,9 @@ static int of_trees(void) {
         && tizulgech_verify_change(NODE, &end, 1, root, 36, root, 36, NULL, 0, NULL, 0, NULL, 0, NULL, 0, cid, 36, &size) == TIZULGECH_DONE
         && tizulgech_verify_change(NULL, 0, NULL, 0, root, 36, root, 36, NULL, 0, NULL, 0, NULL, 0, NULL, 0, cid, 36, &size) == TIZULGECH_MISSING
         && tizulgech_verify_change(NULL, 0, NULL, 0, NULL, 0, NULL, 0, NULL, 0, NULL, 0, NULL, 0, NULL, 0, cid, 36, &size) == TIZULGECH_BAD
+        && tizulgech_verify_inversion(NODE, &end, 1, root, 36, root, 36, NULL, 0, NULL, 0, NULL, 0, NULL, 0, cid, 36, &size) == TIZULGECH_DONE
+        && tizulgech_verify_inversion(NULL, 0, NULL, 0, root, 36, root, 36, NULL, 0, NULL, 0, NULL, 0, NULL, 0, cid, 36, &size) == TIZULGECH_MISSING
+        && tizulgech_verify_inversion(NULL, 0, NULL, 0, NULL, 0, NULL, 0, NULL, 0, NULL, 0, NULL, 0, NULL, 0, cid, 36, &size) == TIZULGECH_BAD
         && tizulgech_tree_root(NULL, 0, NULL, 0, NULL, 0, cid, 36, &size) == TIZULGECH_DONE && memcmp(cid, root, 36) == 0
         && tizulgech_listing_car(NULL, 0, NULL, 0, NULL, 0, NULL, 0, NULL, 0, NULL, 0, NULL, 0, &size) == TIZULGECH_NOT_BUILT;
 }
@@ -72,7 +75,8 @@ static int of_repositories(void) {
         && tizulgech_car(&repository, NULL, 0, &size) == TIZULGECH_SMALL && tizulgech_car_part(&repository, 0, NULL, 0, &size) == TIZULGECH_DONE && size == 0
         && tizulgech_entries(&repository, NULL, 0, 9, NULL, 0, &size) == TIZULGECH_SMALL && tizulgech_car_head(&repository, NULL, 0, &size) == TIZULGECH_SMALL
         && tizulgech_car_section(&repository, NULL, 0, NULL, 0, &size) == TIZULGECH_BAD && tizulgech_car_section(&repository, cid, 36, NULL, 0, &size) == TIZULGECH_SMALL
-        && tizulgech_prove_change(&repository, NULL, 0, NULL, 0, NULL, 0, NULL, 0, &place, NULL, 0, &size) == TIZULGECH_SMALL
+        && tizulgech_prove_change(&repository, NULL, 0, NULL, 0, NULL, 0, NULL, 0, &size) == TIZULGECH_SMALL
+        && tizulgech_prove_inversion(&repository, NULL, 0, NULL, 0, NULL, 0, NULL, 0, &place, NULL, 0, &size) == TIZULGECH_SMALL
         && tizulgech_prove(&repository, NULL, 0, NULL, 0, &size) == TIZULGECH_SMALL;
     tizulgech_close(&repository);
     return well;

@@ -159,9 +159,9 @@ class Trees(unittest.TestCase):
             ([over, t.EMPTY_NODE], "a", None, 31, t.Fault), ([crossed, before, behind], high, t.Cid.of(b""), 35, t.Fault),
             ([b"no node"], "a", None, 30, t.BadNode),
         )
-        for blocks, key, after, number, raised in cases:
+        for blocks, key, had, number, raised in cases:
             root, nodes = t.Cid.of(blocks[0]), {t.Cid.of(it): it for it in blocks}
-            for call in (lambda: t.verify_change(root, root, blocks, [(key, None, after)]), lambda: t.tree_apply(nodes.get, root, {key: None}), lambda: t.tree_apply(nodes.get, root, {key: None}, known=True)):
+            for call in (lambda: t.verify_change(root, root, blocks, [(key, had, None)]), lambda: t.verify_inversion(root, root, blocks, [(key, None, had)]), lambda: t.tree_apply(nodes.get, root, {key: None}), lambda: t.tree_apply(nodes.get, root, {key: None}, known=True)):
                 with self.assertRaises(raised) as it:
                     call()
                 self.assertEqual((it.exception.number, getattr(it.exception, "cid", root)), (number, root))
@@ -181,9 +181,10 @@ class Repositories(unittest.TestCase):
             for turn in range(60):
                 writes = [t.Put(key(draw.randrange(50)), record(draw.randrange(99))) for _ in range(1 + draw.randrange(9))]
                 before, had = repository.root, dict(plain)
-                applied = repository.apply(DID, tid(turn + 1), writes)
                 plain.update({it.key: it.record for it in writes})
-                self.change_proofs(repository, applied, had, plain, sorted({it.key for it in writes}))
+                proof = repository.prove_change({it.key: t.Cid.of(plain[it.key]) for it in writes})
+                applied = repository.apply(DID, tid(turn + 1), writes)
+                self.change_proofs(repository, applied, proof, [(k, t.Cid.of(had[k]) if k in had else None, t.Cid.of(plain[k])) for k in sorted({it.key for it in writes})])
                 number += len(writes)
                 pairs = [(k, t.Cid.of(r)) for k, r in sorted(plain.items())]
                 self.assertEqual((applied.previous, applied.root), (before, t.tree_root(pairs)[0]))
@@ -203,22 +204,37 @@ class Repositories(unittest.TestCase):
             self.assertEqual((it.exception.number, it.exception.place), (23, 1 if key(0) in plain else 2))
         self.assertRaises(t.Fault, lambda: repository.root)
 
-    def change_proofs(self, repository, applied, had, has, keys):
-        """What a batch changed is proved, and with anything else told, or a node less, it isn't."""
-        cid = lambda records, key: t.Cid.of(records[key]) if key in records else None
-        told = [(key, cid(had, key), cid(has, key)) for key in keys]
-        proof, other = repository.prove_change(told), t.Cid.of(b"another")
-        t.verify_change(applied.previous, applied.root, proof, told)
-        last = told[:-1] + [(told[-1][0], told[-1][1], other)]
+    def change_proofs(self, repository, applied, proof, told):
+        """What a batch changed is proved, forward and back, and with anything else told, or a node less, it isn't."""
+        old, new, nodes, back, other = applied.previous, applied.root, proof.nodes, repository.prove_inversion(told), t.Cid.of(b"another")
+        self.assertEqual((proof.after, proof.changes), (new, [(key.encode(), before, after) for key, before, after in told]))
+        t.verify_change(old, new, nodes, told)
+        t.verify_inversion(old, new, back, told)
+        (key, before, after), front, place = told[-1], told[:-1], len(told) - 1
+        earlier, later = front + [(key, other, after)], front + [(key, before, other)]
         faults = (
-            (lambda: t.verify_change(other, applied.root, proof, told), 34, 0), (lambda: t.verify_change(applied.previous, applied.root, proof, last), 33, len(told) - 1),
-            (lambda: repository.prove_change(last), 33, len(told) - 1), (lambda: t.verify_change(applied.previous, applied.root, proof[1:], told), 2, 0),
-            (lambda: t.verify_change(applied.previous, applied.root, proof, told + told[:1]), 252, 0),
+            (lambda: t.verify_change(old, other, nodes, told), 34, 0), (lambda: t.verify_change(old, new, nodes, earlier), 33, place), (lambda: t.verify_change(old, new, nodes, later), 34, 0),
+            (lambda: t.verify_change(old, new, nodes[1:], told), 2, 0), (lambda: t.verify_change(old, new, nodes, told + told[:1]), 252, 0),
+            (lambda: t.verify_inversion(other, new, back, told), 34, 0), (lambda: t.verify_inversion(old, new, back, later), 33, place), (lambda: repository.prove_inversion(later), 33, place),
+            (lambda: t.verify_inversion(old, new, back[1:], told), 2, 0), (lambda: t.verify_inversion(old, new, back, told + told[:1]), 252, 0),
         )
         for call, number, place in faults:
             with self.assertRaises(t.Fault) as it:
                 call()
             self.assertEqual((it.exception.number, it.exception.place), (number, place))
+
+    def test_root_of_no_records(self):
+        """A root that no records have: undone, the change that is told leads back, though a record is lost. As a step it is refused."""
+        with open(os.path.join(os.path.dirname(__file__), "../../examples/lost.txt"), encoding="ascii") as file:
+            before, after, change, *nodes = file.read().splitlines()
+        (_, key, had, has), nodes, (before, after) = change.split(" "), [bytes.fromhex(it) for it in nodes], map(t.Cid.parse, (before, after))
+        self.assertEqual(had, "-")
+        told = [(key, None, t.Cid.parse(has))]
+        t.verify_inversion(before, after, nodes, told)
+        with self.assertRaises(t.Fault) as it:
+            t.verify_change(before, after, nodes, told)
+        self.assertEqual(it.exception.name, "OTHER_ROOT")
+        self.assertTrue(t.verify(before, nodes, "posts/10") and t.verify(after, nodes, "posts/10") is None)
 
     def test_limits(self):
         self.assertRaises(t.Fault, t.Repository, 0)
@@ -270,6 +286,10 @@ class Arguments(unittest.TestCase):
                 lambda it: t.verify_change(empty, it, [], []),
                 lambda it: t.verify_change(empty, empty, [it], []),
                 lambda it: t.verify_change(empty, empty, [], [("a", it, empty)]),
+                lambda it: t.verify_inversion(it, empty, [], []),
+                lambda it: t.verify_inversion(empty, it, [], []),
+                lambda it: t.verify_inversion(empty, empty, [it], []),
+                lambda it: t.verify_inversion(empty, empty, [], [("a", it, empty)]),
                 lambda it: t.tree_get(lambda _: it, empty, "a"),
                 lambda it: t.tree_get(nodes.get, it, "a"),
                 lambda it: t.tree_get(nodes.get, empty, it),
@@ -289,7 +309,8 @@ class Arguments(unittest.TestCase):
                 lambda it: repository.list(it),
                 lambda it: repository.list("", it),
                 lambda it: repository.prove(it),
-                lambda it: repository.prove_change([("a", it, None)]),
+                lambda it: repository.prove_change({"a": it}),
+                lambda it: repository.prove_inversion([("a", it, None)]),
                 lambda it: next(repository.car_parts(it)),
             ]
             for place, call in enumerate(wrong):
@@ -328,7 +349,9 @@ class Arguments(unittest.TestCase):
                 proof = [of(it) for it in repository.prove(key)]
                 told = [(key, None, t.Cid.of(b"\xa0"))]
                 self.assertEqual(t.verify(applied.root, proof, key), t.Cid.of(b"\xa0"))
-                t.verify_change(applied.previous, applied.root, [of(it) for it in repository.prove_change(told)], told)
+                t.verify_inversion(applied.previous, applied.root, [of(it) for it in repository.prove_inversion(told)], told)
+                back = repository.prove_change({"a.b.c/d": None})
+                t.verify_change(applied.root, applied.previous, [of(it) for it in back.nodes], back.changes)
             nodes = {applied.root: proof[0]}
             self.assertEqual((t.tree_get(nodes.get, applied.root, key), t.tree_apply(nodes.get, applied.root, {"a.b.c/d": None}).root), (t.Cid.of(b"\xa0"), t.Cid.of(t.EMPTY_NODE)))
 

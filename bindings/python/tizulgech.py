@@ -24,7 +24,7 @@ from typing import Any, Callable, Dict, Iterable, Iterator, List, Mapping, Optio
 __version__ = "0.3.0"
 
 # The number of the library's interface for which this module is written.
-VERSION = 3
+VERSION = 4
 
 EMPTY_NODE = b"\xa2ae\x80al\xf6"
 
@@ -58,7 +58,7 @@ FAULTS: Dict[int, Tuple[str, str]] = {
     31: ("TOO_MANY_NODES", "the path is longer than any tree is deep"),
     32: ("NOT_BUILT", "a repository doesn't take these records"),
     33: ("OTHER_VALUE", "a key has another value"),
-    34: ("OTHER_ROOT", "the changes undone lead to another root"),
+    34: ("OTHER_ROOT", "the changes lead to another root"),
     35: ("NOT_TREE", "the nodes aren't a tree's"),
     249: ("OPEN", "the repository is open already"),
     250: ("CLOSED", "the repository is closed"),
@@ -143,6 +143,7 @@ _CALLS = {
     "tree_apply": "nodes: bytes, node_ends: ends, cids: bytes, root: bytes, keys: bytes, key_ends: ends, values: bytes, missing: room, out: room, size: size -> u8",
     "verify": "blocks: bytes, ends: ends, root: bytes, key: bytes, value: room -> u8",
     "verify_change": "nodes: bytes, node_ends: ends, before: bytes, after: bytes, keys: bytes, key_ends: ends, befores: bytes, afters: bytes, missing: room, place: size -> u8",
+    "verify_inversion": "nodes: bytes, node_ends: ends, before: bytes, after: bytes, keys: bytes, key_ends: ends, befores: bytes, afters: bytes, missing: room, place: size -> u8",
     "tree_root": "keys: bytes, ends: ends, cids: bytes, out: room, nodes: size -> u8",
     "listing_car": "did: bytes, rev: bytes, keys: bytes, key_ends: ends, records: bytes, record_ends: ends, out: room, size: size -> u8",
     "open": "limit: usize, repository: repository -> u8",
@@ -162,7 +163,8 @@ _CALLS = {
     "car_head": "repository: repository, out: room, size: size -> u8",
     "car_section": "repository: repository, cid: bytes, out: room, size: size -> u8",
     "prove": "repository: repository, key: bytes, out: room, size: size -> u8",
-    "prove_change": "repository: repository, keys: bytes, key_ends: ends, befores: bytes, afters: bytes, place: size, out: room, size: size -> u8",
+    "prove_change": "repository: repository, keys: bytes, key_ends: ends, values: bytes, out: room, size: size -> u8",
+    "prove_inversion": "repository: repository, keys: bytes, key_ends: ends, befores: bytes, afters: bytes, place: size, out: room, size: size -> u8",
 }
 _KINDS: Dict[str, List[Any]] = {
     "u8": [ctypes.c_uint8], "u16": [ctypes.c_uint16], "u64": [ctypes.c_uint64], "usize": [ctypes.c_size_t], "bool": [ctypes.c_bool],
@@ -456,12 +458,39 @@ def _told(changes: Told) -> Dict[str, Any]:
     return {"keys": keys, "key_ends": key_ends, "befores": befores, "afters": afters}
 
 
-def verify_change(before: Cid, after: Cid, proof: Iterable[bytes], changes: Told) -> None:
-    """Raises a fault unless the tree with one root became that with the other by these changes, as the nodes of a proof show. Each change is
-    a key, what it had and what it has; the keys ascend. The changes are undone: of a root after that no records have this says nothing."""
+@dataclass(frozen=True)
+class ChangeProof:
+    """What changes make of a repository, and what shows it: the root after, the changes with what their keys had, and nodes of the tree before."""
+
+    after: Cid
+    changes: List[Tuple[bytes, Optional[Cid], Optional[Cid]]] = field(default_factory=list)
+    nodes: List[bytes] = field(default_factory=list)
+
+
+def verify_change(before: Cid, after: Cid, nodes: Iterable[bytes], changes: Told) -> None:
+    """Raises a fault unless the tree with one root becomes that with the other by these changes, as nodes of the tree before show. Each change
+    is a key, what it had and what it has; the keys ascend.
+
+    Where the root before is that of some records, the root after is that of these records with the changes done: so who goes on from root to
+    root begins with the empty tree's, or with one that it computed, and verifies step by step.
+    """
+    _verify("verify_change", before, after, nodes, changes)
+
+
+def verify_inversion(before: Cid, after: Cid, nodes: Iterable[bytes], changes: Told) -> None:
+    """Raises a fault unless these changes undone lead from the tree with the root after back to the root before, as nodes of the tree after
+    show: the operation inversion of the event stream.
+
+    No fault speaks only of whatever records have the root after. Of a root that no records have it says nothing, and one can be made up that
+    hides keys: so nobody goes on from a root after by it, but by `verify_change`.
+    """
+    _verify("verify_inversion", before, after, nodes, changes)
+
+
+def _verify(call: str, before: Cid, after: Cid, proof: Iterable[bytes], changes: Told) -> None:
     missing, place = _room(), ctypes.c_size_t()
     nodes, node_ends = _joined(map(_bytes, proof))
-    number = _call("verify_change", nodes=nodes, node_ends=node_ends, before=_cid(before), after=_cid(after), missing=missing, place=place, **_told(changes))
+    number = _call(call, nodes=nodes, node_ends=node_ends, before=_cid(before), after=_cid(after), missing=missing, place=place, **_told(changes))
     if number == 2:
         raise Missing(Cid(missing.raw))
     if number == 30:
@@ -834,19 +863,31 @@ class Repository:
             has_commit = _call("commit", repository=self._raw, commit=commit) == 0
         return number.value, [(True, Cid(root.raw))] + ([(False, Cid(commit.raw))] if has_commit else [])
 
-    def prove_change(self, changes: Told) -> Sequence[bytes]:
-        """The proof that changes led to the repository as it is: each a key, what it had and what it has; the keys ascend."""
+    def prove_change(self, changes: Mapping[Text, Optional[Cid]]) -> ChangeProof:
+        """What changes make of the repository as it is, and what shows it to whoever knows its root: ask before they are applied. Each key gets
+        a value, or goes where that is None. Nothing is changed by it."""
+        ordered = sorted(((_text(key), _value(value)) for key, value in changes.items()), key=lambda it: it[0])
+        reader = _Reader(self._filled("prove_change", first=_room_for_proof(len(ordered)), **_changes(ordered)))
+        after, told = reader.cid(), [(key, reader.value(), Cid(value) if any(value) else None) for key, value in ordered]
+        return ChangeProof(after, told, reader.parts())
+
+    def prove_inversion(self, changes: Told) -> Sequence[bytes]:
+        """The nodes that show that changes undone lead back from the repository as it is: each a key, what it had and what it has; the keys
+        ascend. That each key has what is told is looked at; of what it had this repository knows nothing."""
         place, told = ctypes.c_size_t(), _told(changes)
-        # Room for most proofs: where it is too small all is made once more.
-        first = 8192 + 4096 * min(len(changes), 4096)
         try:
-            return _Reader(self._filled("prove_change", first=first, place=place, **told)).parts()
+            return _Reader(self._filled("prove_inversion", first=_room_for_proof(len(changes)), place=place, **told)).parts()
         except Fault as fault:
             raise Fault(fault.number, place.value if fault.number == 33 else 0) from None
 
     def prove(self, key: Text) -> Sequence[bytes]:
         """The proof of a key: the nodes of its path, from the top."""
         return _Reader(self._filled("prove", key=_text(key))).parts()
+
+
+def _room_for_proof(changes: int) -> int:
+    """Room for most proofs of so many changes: where it is too small all is made once more."""
+    return 8192 + 4096 * min(changes, 4096)
 
 
 def _pairs(answer: bytes) -> List[Tuple[bytes, Cid]]:

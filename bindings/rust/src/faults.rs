@@ -88,6 +88,8 @@ faults! {
     }
 }
 /// Why blocks don't show some changes.
+///
+/// Whose nodes are given is the tree before for `ChangeProof::verify`, and the tree after for `InversionProof::verify`.
 #[derive(Clone, Copy, Debug, PartialEq, Eq)]
 #[non_exhaustive]
 pub enum ChangeFault {
@@ -101,9 +103,9 @@ pub enum ChangeFault {
     TooDeep,
     /// The nodes aren't a tree's: keys would not ascend in a node, or more nodes are needed than a tree has for it.
     NotTree,
-    /// The key of the change at this place has another value in the tree after.
+    /// The key of the change at this place has another value in the tree whose nodes are given.
     OtherValue(usize),
-    /// The changes undone lead to another root than the one before.
+    /// The changes lead to another root: done to another one than that after, or undone to another one than that before.
     OtherRoot,
     /// Memory was refused.
     NoMemory,
@@ -135,7 +137,7 @@ impl fmt::Display for ChangeFault {
             TooDeep => f.write_str("a link stands below layer 0"),
             NotTree => f.write_str("the nodes aren't a tree's"),
             OtherValue(place) => write!(f, "the key of change {place} has another value"),
-            OtherRoot => f.write_str("the changes undone lead to another root"),
+            OtherRoot => f.write_str("the changes lead to another root"),
             NoMemory => f.write_str("out of memory"),
         }
     }
@@ -148,7 +150,7 @@ impl Error for ChangeFault {}
 pub enum ProvingFault {
     /// The keys don't ascend strictly, or one has no bytes or more than 1,024.
     BadKeys,
-    /// The key of the change at this place has another value now than what is told after it.
+    /// The key of the change at this place has another value now than what is told after it: of `Repository::prove_inversion` alone.
     OtherValue(usize),
     /// Memory was refused.
     NoMemory,

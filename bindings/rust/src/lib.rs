@@ -2,7 +2,8 @@
 //!
 //! - [`Repository`] is a whole repository in memory: batches in, records, listings, roots, commits, CAR files and proofs out.
 //! - [`tree`] changes a tree whose nodes stand elsewhere, as in a database.
-//! - [`ChangeProof`] shows which keys changed between two roots to whoever knows both.
+//! - [`ChangeProof`] shows which keys changed from one root to the next to whoever knows the first, step by step; [`InversionProof`]
+//!   undoes changes, as the event stream's operation inversion does.
 //! - [`Cid`], [`check_record`], [`check_write`], [`check_stamp`], [`commit_bytes`], [`tree_root`], [`listing_car`] and [`Proof`] need no state.
 //!
 //! ```
@@ -23,7 +24,7 @@
 //! # What is proved, and what is trusted
 //!
 //! What is proved ends at the calls of the C interface: each has a contract, which is proved of its code together with its
-//! safety and its end. Of this crate nothing is proved: 1,600 lines of code, which tests try call by call.
+//! safety and its end. Of this crate nothing is proved: 1,700 lines of code, which tests try call by call.
 //! Trusted are:
 //!
 //! - that the declarations in `sys` are those of the library, and pass on what they are given in its order (a script of the
@@ -49,7 +50,7 @@ mod sys;
 pub mod tree;
 mod values;
 
-pub use changes::{ChangeProof, KeyChange};
+pub use changes::{ChangeProof, InversionProof, KeyChange, ProvenChange};
 pub use faults::{
     BatchError, BatchFault, ChangeFault, CidFault, NoMemory, NodeFault, OpenError, ProofFault, ProvingFault, RecordFault,
     StampFault, TreeFault,

@@ -1,9 +1,9 @@
 //! A repository in memory.
-use crate::changes::{ChangeProof, KeyChange, Told};
+use crate::changes::{ChangeProof, InversionProof, KeyChange, ProvenChange, Told};
 use crate::faults::{BatchError, BatchFault, NoMemory, OpenError, ProvingFault};
 use crate::framing::{Reader, filled};
 use crate::sys;
-use crate::tree::{Link, links_of};
+use crate::tree::{self, Link, links_of};
 use crate::values::{Cid, Proof};
 use std::collections::HashSet;
 use std::{fmt, io};
@@ -264,16 +264,36 @@ impl Repository {
         Ok(Proof { nodes: Reader(&bytes).parts() })
     }
 
-    /// The proof that some changes, whose keys ascend strictly, led to the repository as it is. Whoever has it and both roots can
-    /// see that they did; that each key had before what is told is for them to see, as this repository knows nothing of it.
-    pub fn prove_change(&self, changes: &[KeyChange<'_>]) -> Result<ChangeProof, ProvingFault> {
-        let (told, mut place) = (Told::of(changes), 0);
-        // Room for most proofs: where it is too small all is made once more.
-        let first = 8192 + 4096 * changes.len().min(4096);
-        let bytes = filled(first, |out, size| self.handle.prove_change(told.lists(), &mut place, out, size));
-        let bytes = bytes.map_err(|number| ProvingFault::of(number, place))?;
-        Ok(ChangeProof { nodes: Reader(&bytes).parts() })
+    /// What some changes, whose keys ascend strictly, make of the repository as it is, and what shows it to whoever knows its root:
+    /// ask before they are applied. Nothing is changed by it.
+    pub fn prove_change<'a>(&self, changes: &[tree::Change<'a>]) -> Result<ProvenChange<'a>, ProvingFault> {
+        let wanted = tree::Wanted::of(changes);
+        let bytes = filled(room_for_proof(changes.len()), |out, size| {
+            self.handle.prove_change(wanted.keys.parts(), &wanted.values, out, size)
+        });
+        let bytes = bytes.map_err(|number| ProvingFault::of(number, 0))?;
+        let mut reader = Reader(&bytes);
+        let after = reader.cid();
+        let told = |change: &tree::Change<'a>| KeyChange { key: change.key, before: reader.value(), after: change.value };
+        let changes = changes.iter().map(told).collect();
+        Ok(ProvenChange { after, changes, proof: ChangeProof { nodes: reader.parts() } })
     }
+
+    /// The proof that some changes, whose keys ascend strictly, undone lead back from the repository as it is. Whoever has it and
+    /// both roots can see that they do; that each key had before what is told is for them to see, as this repository knows nothing
+    /// of it.
+    pub fn prove_inversion(&self, changes: &[KeyChange<'_>]) -> Result<InversionProof, ProvingFault> {
+        let (told, mut place) = (Told::of(changes), 0);
+        let bytes =
+            filled(room_for_proof(changes.len()), |out, size| self.handle.prove_inversion(told.lists(), &mut place, out, size));
+        let bytes = bytes.map_err(|number| ProvingFault::of(number, place))?;
+        Ok(InversionProof { nodes: Reader(&bytes).parts() })
+    }
+}
+
+/// Room for most proofs of so many changes: where it is too small all is made once more.
+fn room_for_proof(changes: usize) -> usize {
+    8192 + 4096 * changes.min(4096)
 }
 
 /// The parts of a repository's file. It ends with the first fault.

@@ -134,6 +134,27 @@ unsafe extern "C" {
         missing_room: usize,
         place: *mut usize,
     ) -> u8;
+    pub fn tizulgech_verify_inversion(
+        nodes: *const u8,
+        nodes_len: usize,
+        node_ends: *const usize,
+        node_count: usize,
+        before: *const u8,
+        before_len: usize,
+        after: *const u8,
+        after_len: usize,
+        keys: *const u8,
+        keys_len: usize,
+        key_ends: *const usize,
+        key_count: usize,
+        befores: *const u8,
+        befores_len: usize,
+        afters: *const u8,
+        afters_len: usize,
+        missing: *mut u8,
+        missing_room: usize,
+        place: *mut usize,
+    ) -> u8;
     pub fn tizulgech_tree_root(
         keys: *const u8,
         keys_len: usize,
@@ -231,6 +252,18 @@ unsafe extern "C" {
         size: *mut usize,
     ) -> u8;
     pub fn tizulgech_prove_change(
+        repository: *mut Raw,
+        keys: *const u8,
+        keys_len: usize,
+        key_ends: *const usize,
+        key_count: usize,
+        values: *const u8,
+        values_len: usize,
+        out: *mut u8,
+        room: usize,
+        size: *mut usize,
+    ) -> u8;
+    pub fn tizulgech_prove_inversion(
         repository: *mut Raw,
         keys: *const u8,
         keys_len: usize,
@@ -467,6 +500,33 @@ pub fn verify_change(nodes: Parts<'_>, before: &Cid, after: &Cid, told: Told<'_>
     }
 }
 
+pub fn verify_inversion(nodes: Parts<'_>, before: &Cid, after: &Cid, told: Told<'_>, missing: &mut Cid, place: &mut usize) -> u8 {
+    // SAFETY: as above.
+    unsafe {
+        tizulgech_verify_inversion(
+            nodes.bytes.as_ptr(),
+            nodes.bytes.len(),
+            nodes.ends.as_ptr(),
+            nodes.ends.len(),
+            before.as_ptr(),
+            36,
+            after.as_ptr(),
+            36,
+            told.keys.bytes.as_ptr(),
+            told.keys.bytes.len(),
+            told.keys.ends.as_ptr(),
+            told.keys.ends.len(),
+            told.befores.as_ptr(),
+            told.befores.len(),
+            told.afters.as_ptr(),
+            told.afters.len(),
+            missing.as_mut_ptr(),
+            36,
+            place,
+        )
+    }
+}
+
 pub fn tree_root(keys: Parts<'_>, cids: &[u8], out: &mut Cid, nodes: &mut usize) -> u8 {
     // SAFETY: as above, and room for 36 bytes.
     unsafe {
@@ -627,10 +687,28 @@ impl Handle {
         unsafe { tizulgech_prove(self.raw.get(), key.as_ptr(), key.len(), out.as_mut_ptr(), out.len(), size) }
     }
 
-    pub fn prove_change(&self, told: Told<'_>, place: &mut usize, out: &mut [u8], size: &mut usize) -> u8 {
+    pub fn prove_change(&self, keys: Parts<'_>, values: &[u8], out: &mut [u8], size: &mut usize) -> u8 {
         // SAFETY: as above.
         unsafe {
             tizulgech_prove_change(
+                self.raw.get(),
+                keys.bytes.as_ptr(),
+                keys.bytes.len(),
+                keys.ends.as_ptr(),
+                keys.ends.len(),
+                values.as_ptr(),
+                values.len(),
+                out.as_mut_ptr(),
+                out.len(),
+                size,
+            )
+        }
+    }
+
+    pub fn prove_inversion(&self, told: Told<'_>, place: &mut usize, out: &mut [u8], size: &mut usize) -> u8 {
+        // SAFETY: as above.
+        unsafe {
+            tizulgech_prove_inversion(
                 self.raw.get(),
                 told.keys.bytes.as_ptr(),
                 told.keys.bytes.len(),

@@ -271,13 +271,13 @@ impl<F> Asked<F> {
 }
 
 /// Changes as the library takes them: keys, and 36 bytes for each.
-struct Wanted {
-    keys: Joined,
-    values: Vec<u8>,
+pub(crate) struct Wanted {
+    pub keys: Joined,
+    pub values: Vec<u8>,
 }
 
 impl Wanted {
-    fn of(changes: &[Change<'_>]) -> Wanted {
+    pub fn of(changes: &[Change<'_>]) -> Wanted {
         let values = changes.iter().flat_map(|change| change.value.map_or([0; 36], |cid| cid.0)).collect();
         Wanted { keys: Joined::of(changes.iter().map(|change| change.key)), values }
     }

@@ -112,7 +112,7 @@ pub fn is_key(key: impl AsRef<[u8]>) -> bool {
 }
 
 /// The number of the library's interface for which this crate is written.
-pub const VERSION: u64 = 3;
+pub const VERSION: u64 = 4;
 
 /// The number of the interface of the library that is linked: it has to be [`VERSION`].
 ///

@@ -32,6 +32,7 @@ const ANSWERS: &[(&str, &str)] = &[
     ("tree_apply", "DONE MISSING BAD_NODE TOO_MANY_NODES NOT_TREE SMALL BAD"),
     ("verify", "DONE MISSING BAD_KEY NONE BAD_NODE TOO_MANY_NODES BAD"),
     ("verify_change", "DONE MISSING BAD_NODE TOO_MANY_NODES NOT_TREE OTHER_VALUE OTHER_ROOT BAD"),
+    ("verify_inversion", "DONE MISSING BAD_NODE TOO_MANY_NODES NOT_TREE OTHER_VALUE OTHER_ROOT BAD"),
     ("tree_root", "DONE NOT_ASCENDING BAD"),
     ("listing_car", "DONE NOT_BUILT SMALL BAD"),
     ("open", "DONE OPEN BAD"),
@@ -54,7 +55,8 @@ const ANSWERS: &[(&str, &str)] = &[
     ("car_head", "DONE SMALL CLOSED"),
     ("car_section", "DONE NONE SMALL CLOSED BAD"),
     ("prove", "DONE SMALL CLOSED"),
-    ("prove_change", "DONE OTHER_VALUE SMALL CLOSED BAD"),
+    ("prove_change", "DONE SMALL CLOSED BAD"),
+    ("prove_inversion", "DONE OTHER_VALUE SMALL CLOSED BAD"),
 ];
 
 /// Bytes that are no record, in the order of the numbers.
@@ -190,21 +192,24 @@ fn trees(seen: &mut Seen) {
         seen.see("below", number);
     }
 
-    // the one key came with the one node
-    let mut verify_change = |nodes: &[u8], ends: &[usize], roots: [&Cid; 2], keys: &[usize], value: &Cid| {
-        let told = Told { keys: one(KEY, keys), befores: &[0; 36], afters: value.as_bytes() };
-        let [before, after] = roots.map(Cid::as_bytes);
-        seen.see("verify_change", sys::verify_change(one(nodes, ends), before, after, told, &mut [0; 36], &mut 0));
+    // the one key came with the one node, and a step takes it away again
+    let mut verify = |nodes: &[u8], ends: &[usize], [bare, full]: [&Cid; 2], keys: &[usize], value: &Cid| {
+        let (nodes, keys, zeros, value) = (one(nodes, ends), one(KEY, keys), &[0; 36], value.as_bytes());
+        let [bare, full] = [bare, full].map(Cid::as_bytes);
+        let came = Told { keys, befores: zeros, afters: value };
+        seen.see("verify_inversion", sys::verify_inversion(nodes, bare, full, came, &mut [0; 36], &mut 0));
+        let goes = Told { keys, befores: value, afters: zeros };
+        seen.see("verify_change", sys::verify_change(nodes, full, bare, goes, &mut [0; 36], &mut 0));
     };
     let (own, other) = (Cid::of(b""), Cid::of(b"other"));
-    verify_change(&node, &[node.len()], [&empty_root, &root], &[KEY.len()], &own);
-    verify_change(&node, &[node.len()], [&root, &root], &[KEY.len()], &own);
-    verify_change(&node, &[node.len()], [&empty_root, &root], &[KEY.len()], &other);
-    verify_change(&node, &[node.len()], [&empty_root, &other], &[KEY.len()], &own);
-    verify_change(b"x", &[1], [&empty_root, &Cid::of(b"x")], &[KEY.len()], &own);
-    verify_change(&over, &[over.len()], [&empty_root, &Cid::of(&over)], &[KEY.len()], &own);
-    verify_change(&node, &[node.len()], [&empty_root, &root], &[0], &own);
-    verify_change(&node, &[node.len() + 1], [&empty_root, &root], &[KEY.len()], &own);
+    verify(&node, &[node.len()], [&empty_root, &root], &[KEY.len()], &own);
+    verify(&node, &[node.len()], [&root, &root], &[KEY.len()], &own);
+    verify(&node, &[node.len()], [&empty_root, &root], &[KEY.len()], &other);
+    verify(&node, &[node.len()], [&empty_root, &other], &[KEY.len()], &own);
+    verify(b"x", &[1], [&empty_root, &Cid::of(b"x")], &[KEY.len()], &own);
+    verify(&over, &[over.len()], [&empty_root, &Cid::of(&over)], &[KEY.len()], &own);
+    verify(&node, &[node.len()], [&empty_root, &root], &[0], &own);
+    verify(&node, &[node.len() + 1], [&empty_root, &root], &[KEY.len()], &own);
 
     for (blocks, end, room) in [(&node[..], node.len(), 36), (&node, node.len(), 35), (&node, node.len() + 1, 36)] {
         seen.see("cids", sys::cids(one(blocks, &[end]), &mut vec![0; room], &mut 0));
@@ -249,9 +254,11 @@ fn trees(seen: &mut Seen) {
     let ends = [top.len(), top.len() + before.len(), top.len() + before.len() + behind.len()];
     let (nodes, top) = (nodes.concat(), Cid::of(top));
     let (keys, zeros) = (&[high.len()], &[0; 36]);
-    let told = Told { keys: one(high.as_bytes(), keys), befores: zeros, afters: own.as_bytes() };
+    let came = Told { keys: one(high.as_bytes(), keys), befores: zeros, afters: own.as_bytes() };
     let [old, new] = [&empty_root, &top].map(Cid::as_bytes);
-    seen.see("verify_change", sys::verify_change(one(&nodes, &ends), old, new, told, &mut [0; 36], &mut 0));
+    seen.see("verify_inversion", sys::verify_inversion(one(&nodes, &ends), old, new, came, &mut [0; 36], &mut 0));
+    let goes = Told { keys: one(high.as_bytes(), keys), befores: own.as_bytes(), afters: zeros };
+    seen.see("verify_change", sys::verify_change(one(&nodes, &ends), new, old, goes, &mut [0; 36], &mut 0));
     let delete = one(high.as_bytes(), keys);
     seen.see("tree_apply", sys::tree_apply(one(&nodes, &ends), &[], new, delete, zeros, &mut [0; 36], &mut [0; 1000], &mut 0));
 
@@ -341,10 +348,11 @@ fn repositories(seen: &mut Seen) {
         seen.see("car_section", number);
     }
     let mut place = 9;
-    seen.see("prove_change", handle.prove_change(told(KEY, &record, &[0; 36]), &mut place, out, size));
+    seen.see("prove_inversion", handle.prove_inversion(told(KEY, &record, &[0; 36]), &mut place, out, size));
     assert_eq!(place, 0);
-    for (key, befores) in [(&b""[..], &[0; 36][..]), (KEY, &[0; 35]), (KEY, &[1; 36])] {
-        seen.see("prove_change", handle.prove_change(told(key, befores, &record), &mut 0, out, size));
+    for (key, values) in [(&b""[..], &[0; 36][..]), (KEY, &[0; 35]), (KEY, &[1; 36])] {
+        seen.see("prove_inversion", handle.prove_inversion(told(key, values, &record), &mut 0, out, size));
+        seen.see("prove_change", handle.prove_change(one(key, &[7]), values, out, size));
     }
     for room in [1000, 0] {
         let out = &mut out[..room];
@@ -352,7 +360,8 @@ fn repositories(seen: &mut Seen) {
         seen.see("entries", handle.entries(b"", 9, out, size));
         seen.see("car_head", handle.car_head(out, size));
         seen.see("car_section", handle.car_section(&record, out, size));
-        seen.see("prove_change", handle.prove_change(told(KEY, &[0; 36], &record), &mut 0, out, size));
+        seen.see("prove_change", handle.prove_change(one(KEY, &[7]), &[0; 36], out, size));
+        seen.see("prove_inversion", handle.prove_inversion(told(KEY, &[0; 36], &record), &mut 0, out, size));
         seen.see("car", handle.car(out, size));
         seen.see("car_part", handle.car_part(0, out, size));
         seen.see("prove", handle.prove(KEY, out, size));
@@ -367,7 +376,7 @@ type OfRepository = (&'static str, fn(*mut Raw) -> u8);
 
 /// Each call that takes a repository and answers a number, but `open`.
 // SAFETY: each is given a repository, slices, and room for CIDs.
-const OF_REPOSITORIES: [OfRepository; 16] = [
+const OF_REPOSITORIES: [OfRepository; 17] = [
     ("stage", |it| unsafe { sys::tizulgech_stage(it, 0, KEY.as_ptr(), KEY.len(), b"\xa0".as_ptr(), 1) }),
     ("clear", |it| unsafe { sys::tizulgech_clear(it) }),
     ("apply", |it| unsafe {
@@ -389,7 +398,11 @@ const OF_REPOSITORIES: [OfRepository; 16] = [
     ("prove", |it| unsafe { sys::tizulgech_prove(it, KEY.as_ptr(), KEY.len(), [0; 999].as_mut_ptr(), 999, &mut 0) }),
     ("prove_change", |it| unsafe {
         let (no, out, none) = (KEY.as_ptr(), [0; 99].as_mut_ptr(), [0; 1].as_ptr());
-        sys::tizulgech_prove_change(it, no, 0, none, 0, no, 0, no, 0, &mut 0, out, 99, &mut 0)
+        sys::tizulgech_prove_change(it, no, 0, none, 0, no, 0, out, 99, &mut 0)
+    }),
+    ("prove_inversion", |it| unsafe {
+        let (no, out, none) = (KEY.as_ptr(), [0; 99].as_mut_ptr(), [0; 1].as_ptr());
+        sys::tizulgech_prove_inversion(it, no, 0, none, 0, no, 0, no, 0, &mut 0, out, 99, &mut 0)
     }),
 ];
 
@@ -462,7 +475,8 @@ fn small_rooms() {
     let record = *Cid::of(b"\xa0").as_bytes();
     each_room(|out, size| handle.car_section(&record, out, size));
     let told = Told { keys: one(KEY, &[7]), befores: &[0; 36], afters: &record };
-    each_room(|out, size| handle.prove_change(told, &mut 0, out, size));
+    each_room(|out, size| handle.prove_change(told.keys, &record, out, size));
+    each_room(|out, size| handle.prove_inversion(told, &mut 0, out, size));
     let (mut proof, mut length) = ([0; 999], 0);
     assert_eq!(handle.prove(KEY, &mut proof, &mut length), 0);
     each_room(|out, size| sys::links(&proof[8..length], out, size));

@@ -234,10 +234,11 @@ fn no_trees() {
     for (blocks, key, fault, error) in cases {
         let (root, nodes): (Cid, Nodes) =
             (Cid::of(&blocks[0]), blocks.iter().map(|node| (Cid::of(node), node.clone())).collect());
-        let after = (*key == *high).then_some(value);
-        let change = KeyChange { key: key.as_bytes(), before: None, after };
-        let proof = ChangeProof { nodes: blocks.to_vec() };
-        assert_eq!(proof.verify(&root, &root, &[change]), Err(fault));
+        let had = (*key == *high).then_some(value);
+        let goes = KeyChange { key: key.as_bytes(), before: had, after: None };
+        assert_eq!(ChangeProof { nodes: blocks.to_vec() }.verify(&root, &root, &[goes]), Err(fault));
+        let came = KeyChange { key: key.as_bytes(), before: None, after: had };
+        assert_eq!(InversionProof { nodes: blocks.to_vec() }.verify(&root, &root, &[came]), Err(fault));
         assert_eq!(tree::delete(from(&nodes), &root, key), Err(error.clone()));
         assert_eq!(tree::delete(known(&nodes), &root, key), Err(error));
     }
@@ -283,7 +284,54 @@ fn parts_of_files() {
     }
 }
 
-/// Changes of random batches are proved, and with anything else told, or a node less, they aren't.
+/// That the step between two roots is shown, and not where anything else is told, or a node is left out.
+fn is_proved(proof: &ChangeProof, [old, new]: [Cid; 2], changes: &[KeyChange<'_>]) {
+    let other = Cid::of(b"another");
+    assert_eq!(proof.verify(&old, &new, changes), Ok(()));
+    assert_eq!(proof.verify(&old, &other, changes), Err(ChangeFault::OtherRoot));
+    assert_eq!(proof.verify(&other, &new, changes), Err(ChangeFault::Missing(other)));
+    for place in 0..changes.len() {
+        let mut told = changes.to_vec();
+        told[place].before = Some(other);
+        assert_eq!(proof.verify(&old, &new, &told), Err(ChangeFault::OtherValue(place)));
+        let mut told = changes.to_vec();
+        told[place].after = Some(other);
+        assert!(proof.verify(&old, &new, &told).is_err());
+    }
+    for place in 0..proof.nodes.len() {
+        let mut fewer = proof.clone();
+        let gone = Cid::of(&fewer.nodes.remove(place));
+        assert_eq!(fewer.verify(&old, &new, changes), Err(ChangeFault::Missing(gone)));
+    }
+    assert_eq!(proof.verify(&old, &new, &[changes[0], changes[0]]), Err(ChangeFault::BadKeys));
+}
+
+/// The same of changes that are undone.
+fn is_inverted(repository: &Repository, [old, new]: [Cid; 2], changes: &[KeyChange<'_>]) {
+    let (proof, other) = (repository.prove_inversion(changes).unwrap(), Cid::of(b"another"));
+    assert_eq!(proof.verify(&old, &new, changes), Ok(()));
+    assert_eq!(proof.verify(&other, &new, changes), Err(ChangeFault::OtherRoot));
+    assert_eq!(proof.verify(&old, &other, changes), Err(ChangeFault::Missing(other)));
+    for place in 0..changes.len() {
+        let mut told = changes.to_vec();
+        told[place].after = Some(other);
+        assert_eq!(proof.verify(&old, &new, &told), Err(ChangeFault::OtherValue(place)));
+        assert_eq!(repository.prove_inversion(&told), Err(ProvingFault::OtherValue(place)));
+        let mut told = changes.to_vec();
+        told[place].before = Some(other);
+        assert!(proof.verify(&old, &new, &told).is_err());
+    }
+    for place in 0..proof.nodes.len() {
+        let mut fewer = proof.clone();
+        let gone = Cid::of(&fewer.nodes.remove(place));
+        assert_eq!(fewer.verify(&old, &new, changes), Err(ChangeFault::Missing(gone)));
+    }
+    let twice = [changes[0], changes[0]];
+    assert_eq!(proof.verify(&old, &new, &twice), Err(ChangeFault::BadKeys));
+    assert_eq!(repository.prove_inversion(&twice), Err(ProvingFault::BadKeys));
+}
+
+/// Changes of random batches are proved before they are applied, and their inversions after.
 #[test]
 fn proofs_of_changes() {
     let mut random = Random(11);
@@ -309,40 +357,42 @@ fn proofs_of_changes() {
         if writes.is_empty() {
             continue;
         }
-        let applied = repository.apply(Stamp { did: DID, rev: &tid(turn + 1) }, &writes).unwrap();
         let keys: BTreeSet<&String> = made.iter().map(|(key, _)| key).collect();
         let value = |records: &BTreeMap<String, Vec<u8>>, key: &String| records.get(key).map(|record| Cid::of(record));
         let changes: Vec<KeyChange> = keys
             .into_iter()
             .map(|key| KeyChange { key: key.as_bytes(), before: value(&before, key), after: value(&plain, key) })
             .collect();
-        let proof = repository.prove_change(&changes).unwrap();
-        let (old, new, other) = (applied.previous, applied.root, Cid::of(b"another"));
-        assert_eq!(proof.verify(&old, &new, &changes), Ok(()));
-        assert_eq!(proof.verify(&other, &new, &changes), Err(ChangeFault::OtherRoot));
-        assert_eq!(proof.verify(&old, &other, &changes), Err(ChangeFault::Missing(other)));
-        for place in 0..changes.len() {
-            let mut told = changes.clone();
-            told[place].after = Some(other);
-            assert_eq!(proof.verify(&old, &new, &told), Err(ChangeFault::OtherValue(place)));
-            assert_eq!(repository.prove_change(&told), Err(ProvingFault::OtherValue(place)));
-            let mut told = changes.clone();
-            told[place].before = Some(other);
-            assert!(proof.verify(&old, &new, &told).is_err());
-        }
-        for place in 0..proof.nodes.len() {
-            let mut fewer = proof.clone();
-            let gone = Cid::of(&fewer.nodes.remove(place));
-            assert_eq!(fewer.verify(&old, &new, &changes), Err(ChangeFault::Missing(gone)));
-        }
-        let twice = [changes[0], changes[0]];
-        assert_eq!(proof.verify(&old, &new, &twice), Err(ChangeFault::BadKeys));
-        assert_eq!(repository.prove_change(&twice), Err(ProvingFault::BadKeys));
+        let asked: Vec<tree::Change> = changes.iter().map(|it| tree::Change { key: it.key, value: it.after }).collect();
+        let proven = repository.prove_change(&asked).unwrap();
+        assert_eq!(repository.prove_change(&[asked[0], asked[0]]), Err(ProvingFault::BadKeys));
+        let applied = repository.apply(Stamp { did: DID, rev: &tid(turn + 1) }, &writes).unwrap();
+        assert_eq!((proven.after, &proven.changes), (applied.root, &changes));
+        is_proved(&proven.proof, [applied.previous, applied.root], &changes);
+        is_inverted(&repository, [applied.previous, applied.root], &changes);
     }
-    let no_node = ChangeProof { nodes: vec![b"x".to_vec()] };
+    let (no_node, bad) = (vec![b"x".to_vec()], Err(ChangeFault::BadNode(Cid::of(b"x"))));
     let change = [KeyChange { key: b"a", before: None, after: None }];
-    assert_eq!(no_node.verify(&Cid::of(b"x"), &Cid::of(b"x"), &change), Err(ChangeFault::BadNode(Cid::of(b"x"))));
-    assert_eq!(repository.prove_change(&[]).unwrap().verify(&repository.root(), &repository.root(), &[]), Ok(()));
+    assert_eq!(ChangeProof { nodes: no_node.clone() }.verify(&Cid::of(b"x"), &Cid::of(b"x"), &change), bad);
+    assert_eq!(InversionProof { nodes: no_node }.verify(&Cid::of(b"x"), &Cid::of(b"x"), &change), bad);
+    let (root, proven) = (repository.root(), repository.prove_change(&[]).unwrap());
+    assert_eq!((proven.after, proven.proof.verify(&root, &root, &[])), (root, Ok(())));
+    assert_eq!(repository.prove_inversion(&[]).unwrap().verify(&root, &root, &[]), Ok(()));
+}
+
+/// A root that no records have: undone, the change that is told leads back, though a record is lost. As a step it is refused.
+#[test]
+fn a_root_of_no_records() {
+    let lines: Vec<&str> = include_str!("../../../examples/lost.txt").lines().collect();
+    let [before, after]: [Cid; 2] = [lines[0], lines[1]].map(|text| text.parse().unwrap());
+    let [_, key, "-", value] = lines[2].split(' ').collect::<Vec<_>>()[..] else { panic!("a key comes") };
+    let changes = [KeyChange { key: key.as_bytes(), before: None, after: Some(value.parse().unwrap()) }];
+    let nodes: Vec<Vec<u8>> = lines[3..].iter().map(|line| hex(line)).collect();
+    assert_eq!(InversionProof { nodes: nodes.clone() }.verify(&before, &after, &changes), Ok(()));
+    assert_eq!(ChangeProof { nodes: nodes.clone() }.verify(&before, &after, &changes), Err(ChangeFault::OtherRoot));
+    let lost = Proof { nodes };
+    assert!(lost.verify(&before, "posts/10").unwrap().is_some());
+    assert_eq!(lost.verify(&after, "posts/10"), Ok(None));
 }
 
 /// A write's test by itself is that of a batch of it.

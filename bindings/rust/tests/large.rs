@@ -196,9 +196,9 @@ fn pages_and_sections() {
     assert_eq!(parts.concat(), repository.car().unwrap());
 }
 
-/// The proof of 10,000 changes in a repository of 20,000 records, and with anything else told it is none.
+/// The proofs of 10,000 changes in a repository of 20,000 records, forward and back, and with anything else told they are none.
 #[test]
-fn a_change_proof() {
+fn proofs_of_changes() {
     let (mut repository, records) = filled(2 * KEYS);
     // every second key gets another record or goes, and others come
     let made: BTreeMap<String, Option<Vec<u8>>> = (0..KEYS)
@@ -209,31 +209,38 @@ fn a_change_proof() {
         })
         .collect();
     let made: Vec<(String, Option<Vec<u8>>)> = made.into_iter().collect();
-    let writes = made.iter().map(|(key, record)| record.as_ref().map_or(Write::Delete(key), |record| Write::Put(key, record)));
-    let applied = repository.apply(Stamp { did: DID, rev: &tid(1000) }, &writes.collect::<Vec<_>>()).unwrap();
-
     let value = |record: Option<&Vec<u8>>| record.map(|record| Cid::of(record));
     let told = made.iter().map(|(key, after)| KeyChange {
         key: key.as_bytes(),
         before: value(records.get(key)),
         after: value(after.as_ref()),
     });
-    let mut told: Vec<KeyChange> = told.collect();
+    let told: Vec<KeyChange> = told.collect();
     assert_eq!(told.len() as u64, KEYS);
-    let proof = repository.prove_change(&told).unwrap();
-    let (before, after) = (applied.previous, applied.root);
-    assert_eq!(proof.verify(&before, &after, &told), Ok(()));
-    let mut fewer = proof.clone();
-    let gone = Cid::of(&fewer.nodes.pop().unwrap());
-    assert_eq!(fewer.verify(&before, &after, &told), Err(ChangeFault::Missing(gone)));
-    let last = told.len() - 1;
-    let own = told[last].after;
-    told[last].after = Some(Cid::of(b"another"));
-    assert_eq!(proof.verify(&before, &after, &told), Err(ChangeFault::OtherValue(last)));
-    assert_eq!(repository.prove_change(&told), Err(ProvingFault::OtherValue(last)));
-    told[last].after = own;
-    told[last].before = Some(Cid::of(b"another"));
-    assert_eq!(proof.verify(&before, &after, &told), Err(ChangeFault::OtherRoot));
+    let asked: Vec<tree::Change> = told.iter().map(|it| tree::Change { key: it.key, value: it.after }).collect();
+    let proven = repository.prove_change(&asked).unwrap();
+    let writes = made.iter().map(|(key, record)| record.as_ref().map_or(Write::Delete(key), |record| Write::Put(key, record)));
+    let applied = repository.apply(Stamp { did: DID, rev: &tid(1000) }, &writes.collect::<Vec<_>>()).unwrap();
+    let (before, after, last) = (applied.previous, applied.root, told.len() - 1);
+    assert_eq!((proven.after, &proven.changes), (after, &told));
+    let inversion = repository.prove_inversion(&told).unwrap();
+    assert_eq!(proven.proof.verify(&before, &after, &told), Ok(()));
+    assert_eq!(inversion.verify(&before, &after, &told), Ok(()));
+
+    let (mut fewer, mut less) = (proven.proof.clone(), inversion.clone());
+    let gone = [fewer.nodes.pop().unwrap(), less.nodes.pop().unwrap()].map(|node| Cid::of(&node));
+    assert_eq!(fewer.verify(&before, &after, &told), Err(ChangeFault::Missing(gone[0])));
+    assert_eq!(less.verify(&before, &after, &told), Err(ChangeFault::Missing(gone[1])));
+
+    let mut later = told.clone();
+    later[last].after = Some(Cid::of(b"another"));
+    assert_eq!(proven.proof.verify(&before, &after, &later), Err(ChangeFault::OtherRoot));
+    assert_eq!(inversion.verify(&before, &after, &later), Err(ChangeFault::OtherValue(last)));
+    assert_eq!(repository.prove_inversion(&later), Err(ProvingFault::OtherValue(last)));
+    let mut earlier = told.clone();
+    earlier[last].before = Some(Cid::of(b"another"));
+    assert_eq!(proven.proof.verify(&before, &after, &earlier), Err(ChangeFault::OtherValue(last)));
+    assert_eq!(inversion.verify(&before, &after, &earlier), Err(ChangeFault::OtherRoot));
 }
 
 /// Many nodes with the CIDs of some: an answer is the same whichever are known.

@@ -4,6 +4,8 @@ use Rattle.spec.specs.Stamps as stamps
 use Rattle.spec.specs.Writes as writes
 use Rattle.spec.specs.States.{BatchFault, EmptyBatch, OfStamp, OfWrite}
 use Rattle.dagcbor.specs.Fault.{cbor_fault_of}
+use Rattle.record_rules.specs.declared.fault.RecordFault.{RecordFault}
+use Rattle.record_rules.specs.declared.fault.RecordFault.TheVariants as records
 use Rattle.store.specs.declared.fault.StoreFault.{StoreFault}
 use Rattle.store.specs.declared.fault.StoreFault.TheVariants as stores
 use Rattle.batches.specs.declared.fault.RepoFault.{RepoFault}
@@ -60,3 +62,9 @@ abbrev pub of_store : {D A : Type 0} → StoreFault D A → RepoFault D A
 of_store (stores.Collision pair) = faults.Collision pair
 of_store stores.Full = faults.StoreFull
 of_store stores.NoMemory = faults.NoMemory
+
+-- what a record's fault is here
+abbrev pub of_record : {D A : Type 0} → RecordFault → RepoFault D A
+of_record records.RecordSize = faults.RecordSize
+of_record (records.BadRecord f) = faults.BadRecord f
+of_record records.NotAMap = faults.NotAMap

@@ -6,6 +6,7 @@ ghost use Rattle.batches.specs.declared.fault.RepoFault.TheVariants as faults;
 use block::Collided;
 use cid::Digest;
 use dagcbor::CborFault;
+use record_rules::RecordFault;
 use std::alloc::{AllocError, AllocFailed, Allocator, Global};
 use store::StoreFault;
 use thiserror::Error;
@@ -101,6 +102,20 @@ impl<D: Digest, A: Allocator> From<StoreFault<D, A>> for RepoFault<D, A> {
             StoreFault::Collision(pair) => RepoFault::Collision(pair),
             StoreFault::Full => RepoFault::StoreFull,
             StoreFault::NoMemory => RepoFault::NoMemory,
+        }
+    }
+}
+
+impl<D: Digest, A: Allocator> From<RecordFault> for RepoFault<D, A> {
+    ghost use Rattle.batches.specs.Tests.{of_record};
+
+    ghost from_gives = { λ refused fault. fault ≡ of_record refused };
+
+    fn from(fault: RecordFault) -> RepoFault<D, A> {
+        match fault {
+            RecordFault::RecordSize => RepoFault::RecordSize,
+            RecordFault::BadRecord(fault) => RepoFault::BadRecord(fault),
+            RecordFault::NotAMap => RepoFault::NotAMap,
         }
     }
 }

@@ -15,9 +15,8 @@ use Rattle.batch_laws.specs.Batch.{Change, AreKeyed}
 use Rattle.batch_laws.specs.Collecting.{collected, with_cids}
 use Rattle.batch_laws.specs.Previous.{values}
 use Rattle.batch_laws.proofs.WritesAtOnce.{collected-are_keyed, passed-have_keys}
-use Rattle.edit.specs.Batches.{are_changes, have_keys}
-use Rattle.edit.specs.Places.{are_ascending, are_later, is_greater}
-use Rattle.edit.proofs.Placing.{ascends-back}
+use Rattle.key_changes.specs.Keyed.{are_ascending, are_changes, are_later, have_keys, is_greater}
+use Rattle.key_changes.proofs.Ascending.{ascends-back}
 use Rattle.change_laws.specs.Told.{KeyChange, undone}
 use Rattle.change_laws.specs.Given as laws
 use Rattle.change_laws.specs.Verdict.{are_told, is_same}

@@ -5,10 +5,9 @@ use Rattle.spec.specs.NodeFormat.{is_key}
 use Rattle.spec.proofs.Bools.{both}
 use Rattle.edit_laws.specs.Order.{order}
 use Rattle.batch_laws.specs.Batch.{Change}
-use Rattle.edit.specs.Batches.{have_keys, are_changes}
-use Rattle.edit.specs.Places.{is_greater, are_later, are_ascending}
+use Rattle.key_changes.specs.Keyed.{are_ascending, are_changes, are_later, have_keys, is_greater}
 use Rattle.change_laws.specs.Told.{KeyChange, undone}
-use Rattle.edit.proofs.Testing.{next-one}
+use Rattle.key_changes.proofs.Testing.{next-one}
 
 at-end : {X : Type 0} (xs : List X) (x : X) (n : ℕ) → length xs ≡ suc n → x ≡ get_or xs n x → xs ≡ take n xs ++ x ∷ []
 at-end [] x n l e = absurd (omega (arith, l))

@@ -39,6 +39,8 @@ module _ {D A : Type 0} (digest : List ℕ → List ℕ) where
   refuses_nothing (Err f) e is = is
   refuses_nothing (Ok t) errors.BadDid is = is
   refuses_nothing (Ok t) errors.BadRev is = is
+  refuses_nothing (Ok t) errors.BadSig is = is
+  refuses_nothing (Ok t) errors.NothingToSign is = is
   refuses_nothing (Ok t) (errors.Root f) is = is
   refuses_nothing (Ok t) (errors.BadBefore f) is = is
   refuses_nothing (Ok t) (errors.BadAfter f) is = is

@@ -1,6 +1,8 @@
 -- Reading the lines of a change, one by one: what was read, and what is left to read.
 use Rattle.std.proofs.Common.{◌≡◌, Bool, ℕ, ◌+◌, ◌≤◌, List, [], ◌∷◌, length, true, false, ◌==◌, eqb-true, sym, ap, ◌∙◌, refl, arith}
-use Rattle.std.specs.Prelude.{Option, Some, None, Result, Err, is_some}
+use Rattle.std.specs.Prelude.{Some, None, Result, Ok, Err, is_ok}
+use Rattle.record_forms.specs.Records.{WordFault}
+use Rattle.record_forms.specs.declared.form.Form.{Form}
 use Rattle.spec.specs.Reading.{◌>>=◌}
 use Rattle.spec.specs.Writes.{Write}
 use Rattle.repository_commands.specs.Faults.{Fault, Line, BadLine}
@@ -10,43 +12,43 @@ use Rattle.change_commands.specs.Told.{Parts, Told, or_bad_part, told_from, told
 
 -- ---- a story
 
-pub story_empty : (s : Story) (n : ℕ) (l : List ℕ) (ls : List (List ℕ)) → (length l == 0) ≡ true
-    → story_from s n (l ∷ ls) ≡ story_from (parted s) (n + 1) ls
+pub story_empty : (form : Form) (s : Story) (n : ℕ) (l : List ℕ) (ls : List (List ℕ)) → (length l == 0) ≡ true
+    → story_from form s n (l ∷ ls) ≡ story_from form (parted s) (n + 1) ls
 unfolding story_from
-story_empty s n [] ls e = refl
-story_empty s n (c ∷ l) ls e = absurd (omega (arith, eqb-true _ _ e))
+story_empty form s n [] ls e = refl
+story_empty form s n (c ∷ l) ls e = absurd (omega (arith, eqb-true _ _ e))
 
-going-on : (o : Option Write) (t further : Story) → true ≡ is_some o → read_on o t further ≡ further
-going-on None t further e = absurd cc
-going-on (Some w) t further e = refl
+going-on : (o : Result Write WordFault) (t further : Story) → true ≡ is_ok o → read_on o t further ≡ further
+going-on (Err f) t further e = absurd cc
+going-on (Ok w) t further e = refl
 
-stopped : (o : Option Write) (t further : Story) → false ≡ is_some o → read_on o t further ≡ t
-stopped None t further e = refl
-stopped (Some w) t further e = absurd cc
+stopped : (o : Result Write WordFault) (t further : Story) → false ≡ is_ok o → read_on o t further ≡ t
+stopped (Err f) t further e = refl
+stopped (Ok w) t further e = absurd cc
 
 -- a line that is a write
-pub story_on : (s t : Story) (n : ℕ) (l : List ℕ) (ls : List (List ℕ)) → (length l == 0) ≡ false
-    → t ≡ taken_into s.is_parted s n (write_on s.is_parted l) → true ≡ is_some (write_on s.is_parted l)
-    → story_from s n (l ∷ ls) ≡ story_from t (n + 1) ls
+pub story_on : (form : Form) (s t : Story) (n : ℕ) (l : List ℕ) (ls : List (List ℕ)) → (length l == 0) ≡ false
+    → t ≡ taken_into s.is_parted s n (write_on form s.is_parted l) → true ≡ is_ok (write_on form s.is_parted l)
+    → story_from form s n (l ∷ ls) ≡ story_from form t (n + 1) ls
 unfolding story_from
-story_on s t n [] ls some e is = absurd cc
-story_on s t n (c ∷ l) ls some e is =
-    going-on (write_on s.is_parted (c ∷ l)) _ _ is ∙ ap (λ u. story_from u (n + 1) ls) (sym e)
+story_on form s t n [] ls some e is = absurd cc
+story_on form s t n (c ∷ l) ls some e is =
+    going-on (write_on form s.is_parted (c ∷ l)) _ _ is ∙ ap (λ u. story_from form u (n + 1) ls) (sym e)
 
 -- a line that is none
-pub story_stop : (s t : Story) (n : ℕ) (l : List ℕ) (ls : List (List ℕ)) → (length l == 0) ≡ false
-    → t ≡ taken_into s.is_parted s n (write_on s.is_parted l) → false ≡ is_some (write_on s.is_parted l)
-    → story_from s n (l ∷ ls) ≡ t
+pub story_stop : (form : Form) (s t : Story) (n : ℕ) (l : List ℕ) (ls : List (List ℕ)) → (length l == 0) ≡ false
+    → t ≡ taken_into s.is_parted s n (write_on form s.is_parted l) → false ≡ is_ok (write_on form s.is_parted l)
+    → story_from form s n (l ∷ ls) ≡ t
 unfolding story_from
-story_stop s t n [] ls some e is = absurd cc
-story_stop s t n (c ∷ l) ls some e is = stopped (write_on s.is_parted (c ∷ l)) _ _ is ∙ sym e
+story_stop form s t n [] ls some e is = absurd cc
+story_stop form s t n (c ∷ l) ls some e is = stopped (write_on form s.is_parted (c ∷ l)) _ _ is ∙ sym e
 
-pub story_done : (s : Story) (n : ℕ) → story_from s n [] ≡ s
+pub story_done : (form : Form) (s : Story) (n : ℕ) → story_from form s n [] ≡ s
 unfolding story_from
-story_done s n = refl
+story_done form s n = refl
 
-pub record StoryRemains (all : Story) (most number : ℕ) (s : Story) (ls : List (List ℕ)) : Type 0 where
-  pub reading : all ≡ story_from s (number + 1) ls
+pub record StoryRemains (form : Form) (all : Story) (most number : ℕ) (s : Story) (ls : List (List ℕ)) : Type 0 where
+  pub reading : all ≡ story_from form s (number + 1) ls
   pub bound : number + length ls ≤ most
 
 -- ---- what is told

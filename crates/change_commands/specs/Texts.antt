@@ -22,6 +22,7 @@ use Rattle.repository_commands.specs.Faults.{Fault, Line, OfAfter, OfBefore, OfC
 use Rattle.repository_commands.specs.Refusals.{IsRefusedLine, is_refusal}
 use Rattle.repository_commands.specs.Shards.{WasFull}
 use Rattle.repository_commands.specs.Puts.{Given}
+use Rattle.record_forms.specs.declared.form.Form.{Form}
 use Rattle.change_commands.specs.Stories.{Story, story_in}
 use Rattle.repository_commands.specs.Texts.{hex_line, no_writes, state_of_given}
 use Rattle.change_commands.specs.Told.{Told, told_in}
@@ -91,8 +92,8 @@ text_of_story digest story = do
   s ← state_of_given no_writes first_stamp story.before
   text_on digest s story.batch
 
-abbrev pub prove_change_text : (List ℕ → List ℕ) → List ℕ → Result (List ℕ) Fault
-prove_change_text digest input = text_of_story digest (story_in input)
+abbrev pub prove_change_text : (List ℕ → List ℕ) → Form → List ℕ → Result (List ℕ) Fault
+prove_change_text digest form input = text_of_story digest (story_in form input)
 
 -- where a line is refused, it is so in the one batch or in the other
 abbrev pub IsRefusedStory : {D A : Type 0} → (List ℕ → List ℕ) → Story → TextFault D A → Type 0
@@ -101,8 +102,9 @@ IsRefusedStory digest story e =
     ⊎ ((s : State) × (state_of_given no_writes first_stamp story.before ≡ Ok s)
     × IsRefusedLine digest s second_stamp story.batch (WasFull digest) e)
 
-abbrev pub IsUnproved : {D A : Type 0} → (List ℕ → List ℕ) → List ℕ → TextFault D A → Type 0
-IsUnproved digest input e = IsRefusedStory digest (story_in input) e
+abbrev pub IsUnproved : {D A : Type 0} → (List ℕ → List ℕ) → Form → List ℕ → TextFault D A
+    → Type 0
+IsUnproved digest form input e = IsRefusedStory digest (story_in form input) e
 
 -- ---- `verify-change`
 

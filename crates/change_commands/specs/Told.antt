@@ -4,7 +4,7 @@ use Rattle.std.specs.List.{before_first, after_first}
 use Rattle.std.specs.Str.{bytes_eq}
 use Rattle.spec.specs.Reading.{◌>>=◌}
 use Rattle.spec.specs.Cid.{CidFault, cid_of_text}
-use Rattle.edit.specs.Batches.{are_changes}
+use Rattle.key_changes.specs.Keyed.{are_changes}
 use Rattle.change_laws.specs.Told.{KeyChange, undone}
 use Rattle.console.specs.Lines.{is_space, bytes_of_hex}
 use Rattle.repository_commands.specs.Faults.{Fault, Line, BadLine}

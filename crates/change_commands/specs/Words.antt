@@ -4,13 +4,14 @@ use Rattle.clap.specs.Simple.{App, Shape, new_shape}
 use Rattle.clap.specs.Words.{with_subcommand}
 use Rattle.clap.specs.Walk.{Row}
 use Rattle.console.specs.FileWords.{with_file}
+use Rattle.record_forms.specs.Options.{IsFormOf, json_rule}
 use Rattle.repository_commands.specs.Words.{required_rule, word_or}
 use Rattle.change_commands.specs.declared.words.ChangeCommand.{ChangeCommand}
 use Rattle.change_commands.specs.declared.words.ChangeCommand.TheVariants as commands
 
 -- what clap reads of each command (`--help` comes with each)
 abbrev pub prove_change_shape : Shape
-prove_change_shape = new_shape (codes "prove-change")
+prove_change_shape = record (new_shape (codes "prove-change")) { rules = json_rule ∷ [] }
 
 abbrev pub verify_change_shape : Shape
 verify_change_shape = record (new_shape (codes "verify-change")) {
@@ -24,7 +25,7 @@ with_commands app = with_subcommand (with_subcommand app (with_file prove_change
 
 -- the command is the one of this name, and has what the words say
 abbrev pub IsOfWords : List ℕ → List Row → ChangeCommand → Type 0
-IsOfWords name rows commands.Prove = name ≡ codes "prove-change"
+IsOfWords name rows (commands.Prove form) = (name ≡ codes "prove-change") × IsFormOf rows form
 IsOfWords name rows (commands.Verify before after) = (name ≡ codes "verify-change")
     × (before.now ≡ word_or [] rows (codes "before"))
     × (after.now ≡ word_or [] rows (codes "after"))

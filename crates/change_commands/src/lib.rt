@@ -11,7 +11,7 @@
 //!
 //! ```text
 //! let mut lines: &[u8] = b"\nput a/b a0";
-//! prove_change_text::<Sha256, _, _>(Global, &mut lines, &mut text)?;
+//! prove_change_text::<Sha256, _, _>(Global, Form::Hex, &mut lines, &mut text)?;
 //! verify_change_text::<Sha256, _, _>(Global, before, after, &mut &text[..], &mut out)?;
 //! ```
 #![tactic(auto)]

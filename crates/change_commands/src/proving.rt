@@ -4,7 +4,7 @@ ghost use Rattle.std.specs.Arc.{arc_value};
 ghost use Rattle.spec.specs.Blocks.{pairs};
 ghost use Rattle.spec.specs.Reading.{Gives};
 ghost use Rattle.spec.specs.States.{records};
-ghost use Rattle.edit.specs.Batches.{are_changes};
+ghost use Rattle.key_changes.specs.Keyed.{are_changes};
 ghost use Rattle.change_laws.specs.Told.{undone};
 ghost use Rattle.change_laws.specs.Laws.{change_path};
 ghost use Rattle.change_proofs.specs.Provings.{told_by};
@@ -23,6 +23,7 @@ use block::Block;
 use change_proofs::{KeyChange, ProvingFault, prove_inversion};
 use cid::{Cid, Digest};
 use console::{CommandFault, write_made};
+use record_forms::Form;
 use repo::Core;
 use repository_commands::{
     DID, MOST_BLOCKS, Puts, REV, TextFault, apply_puts, filled, stamp_of_words,
@@ -36,34 +37,40 @@ use store::{BlockStore, Hold, LentShards, StoreFault, TableKey, empty_shards};
 const LATER_REV: &str = "2222222222223";
 
 /// Reads lines `KEY HEX`, which are put into one repository, an empty line, and lines `put KEY HEX`, `create KEY HEX`,
-/// `update KEY HEX` and `delete KEY`, which are one batch on it. It writes the CID of the tree's root before the batch and
-/// that after it, a line each; then a line `change KEY BEFORE AFTER` for each key of the batch, in the order of the keys, with
-/// the CID of its record or `-`; and then a line in hexadecimal for each node that shows these changes.
+/// `update KEY HEX` and `delete KEY`, which are one batch on it; with JSON in place of HEX in that form. It writes the CID of
+/// the tree's root before the batch and that after it, a line each; then a line `change KEY BEFORE AFTER` for each key of the
+/// batch, in the order of the keys, with the CID of its record or `-`; and then a line in hexadecimal for each node that shows
+/// these changes.
 ///
 /// Empty lines behind the first one are passed over, and all are counted. Where there are no writes there is no batch. The
 /// faults are those of `car_text`, the writes before a line that is none tried first.
 pub fn prove_change_text<D: Digest, R: Read, W: Write>(
     alloc: Global,
+    form: Form,
     input: &mut R,
     out: &mut W,
 ) -> Result<(), CommandFault<TextFault<D>>>
-    ensures outcome { IsOutcome (prove_change_text_of D.digest_of)
+    ensures outcome { IsOutcome (prove_change_text_of D.digest_of form)
         (R.remaining input.old) (W.contents out.old) (W.contents out.new) result }
 
     // Where a line is refused, it is so by a test, by a clash that is shown, or by a full store.
-    ensures refused { HasReason (IsUnproved D.digest_of) (R.remaining input.old) result }
+    ensures refused { HasReason (IsUnproved D.digest_of form) (R.remaining input.old) result }
 {
-    write_made(change_made(alloc, input), out)
+    write_made(change_made(alloc, form, input), out)
 }
 
 /// The text for the lines of the input.
-fn change_made<D: Digest, R: Read>(alloc: Global, input: &mut R) -> Result<Vec<u8>, TextFault<D>>
-    ensures made { IsMade (λ bytes. bytes.items) (prove_change_text_of D.digest_of)
+fn change_made<D: Digest, R: Read>(
+    alloc: Global,
+    form: Form,
+    input: &mut R,
+) -> Result<Vec<u8>, TextFault<D>>
+    ensures made { IsMade (λ bytes. bytes.items) (prove_change_text_of D.digest_of form)
         (R.remaining input.old) result }
     ensures refused { IfErr result (λ e. IfSome (R.remaining input.old) (λ xs.
-        IsUnproved D.digest_of xs e)) }
+        IsUnproved D.digest_of form xs e)) }
 {
-    let story = read_story(alloc, input)?;
+    let story = read_story(alloc, form, input)?;
     change_of_story(alloc, story)
 }
 

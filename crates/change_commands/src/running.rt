@@ -55,7 +55,7 @@ fn write_text<D: Digest, R: Read, W: Write>(
     ensures unread { HasFaultyWord command.entry → input.new ≡ input.old }
 {
     match command {
-        ChangeCommand::Prove => prove_change_text(alloc, input, out),
+        ChangeCommand::Prove(form) => prove_change_text(alloc, form, input, out),
         ChangeCommand::Verify { before, after } => {
             verify_change_text(alloc, before.as_bytes(), after.as_bytes(), input, out)
         }

@@ -2,7 +2,7 @@
 ghost use Rattle.std.specs.Prelude.{◌≡◌, ◌++◌, ◌∷◌, [], true, false, option_map, Some, IfErr, IfOk, OnOk};
 ghost use Rattle.spec.specs.Cid.{cid_of_text};
 ghost use Rattle.spec.specs.Reading.{Gives};
-ghost use Rattle.edit.specs.Batches.{are_changes};
+ghost use Rattle.key_changes.specs.Keyed.{are_changes};
 ghost use Rattle.change_laws.specs.Told.{undone};
 ghost use Rattle.console.specs.Lines.{lines};
 ghost use Rattle.repository_commands.specs.Faults.{text_fault_of, BadLine, Line};

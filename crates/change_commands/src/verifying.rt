@@ -1,6 +1,6 @@
 //! The command `verify-change`: whether a text shows what it tells of a change between two roots.
 ghost use Rattle.std.specs.Prelude.{◌≡◌, true, Ok, IfErr, IfOk, IfSome, IsErr};
-ghost use Rattle.edit.specs.Batches.{are_changes};
+ghost use Rattle.key_changes.specs.Keyed.{are_changes};
 ghost use Rattle.change_laws.specs.Told.{undone};
 ghost use Rattle.spec.specs.Reading.{Gives};
 ghost use Rattle.repository_commands.specs.Faults.{text_fault_of, TellsFaultyWord, TellsWords};

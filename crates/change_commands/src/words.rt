@@ -7,6 +7,7 @@ ghost use Rattle.change_commands.specs.Words.{prove_change_shape, verify_change_
 
 use clap::{ArgMatches, Command};
 use console::with_file;
+use record_forms::{Form, form_of, json_option};
 use repository_commands::{required, word_or};
 use std::alloc::{AllocError, Global};
 
@@ -14,7 +15,8 @@ use std::alloc::{AllocError, Global};
 #[derive(Clone, Copy)]
 pub enum ChangeCommand<'a> {
     /// Write what the batch of the input changes in the repository of the input, and the nodes that show it.
-    Prove,
+    /// The records of the input have this form.
+    Prove(Form),
     /// Write whether the text of the input shows what it tells of a change between two roots.
     Verify {
         /// The text of the CID of the tree's root before the change.
@@ -31,7 +33,7 @@ Reads lines KEY HEX, the records of a repository, then an empty line, and then t
 batch, lines put KEY HEX, create KEY HEX, update KEY HEX and delete KEY. It writes the text of the CID of the tree's root
 before the batch and that after it, a line each, then a line 'change KEY BEFORE AFTER' for each key of the batch, with the
 CID of its record or '-', and then the nodes that show these changes, a line in hexadecimal each. Line numbers count empty
-lines. Without writes behind the empty line there is no batch.
+lines. Without writes behind the empty line there is no batch. With --json a record is JSON, as of car --json.
 
 Exit status: 0 done, 1 a faulty line, 2 a wrong command line, 3 no memory, 4 reading or writing failed.";
 
@@ -70,7 +72,7 @@ fn with_prove_change<'a>(alloc: Global, program: Command<'a>) -> Result<Command<
     ensures { IfOk result (λ r.
         app_of r ≡ with_subcommand (app_of program.entry) (with_file_of prove_change_shape)) }
 {
-    program.subcommand(with_file(alloc, prove_change_words(alloc))?)
+    program.subcommand(with_file(alloc, prove_change_words(alloc)?)?)
 }
 
 /// Adds `verify-change`.
@@ -87,7 +89,7 @@ pub fn command_of<'a>(name: &str, words: &ArgMatches<'a>) -> Option<ChangeComman
     ensures none { IfNone result (IsOtherName name.now) }
 {
     if name == "prove-change" {
-        return Some(ChangeCommand::Prove);
+        return Some(ChangeCommand::Prove(form_of(words)));
     }
     if name == "verify-change" {
         return Some(ChangeCommand::Verify {
@@ -99,14 +101,15 @@ pub fn command_of<'a>(name: &str, words: &ArgMatches<'a>) -> Option<ChangeComman
 }
 
 /// The words that `prove-change` takes.
-fn prove_change_words<'a>(alloc: Global) -> Command<'a>
-    ensures shape { shape_of result ≡ prove_change_shape }
-    ensures local { (fields_of result).has_globals ≡ false }
+fn prove_change_words<'a>(alloc: Global) -> Result<Command<'a>, AllocError>
+    ensures shape { IfOk result (λ r. shape_of r ≡ prove_change_shape) }
+    ensures local { IfOk result (λ r. (fields_of r).has_globals ≡ false) }
 {
     Command::new(alloc, "prove-change")
         .about(PROVE_CHANGE)
         .long_about(LONG_PROVE_CHANGE)
         .after_help(PROVE_CHANGE_EXAMPLE)
+        .arg(json_option(alloc))
 }
 
 /// The words that `verify-change` takes.

@@ -1,12 +1,14 @@
-//! The lines of a batch: `put KEY HEX`, `create KEY HEX`, `update KEY HEX` and `delete KEY`.
-ghost use Rattle.std.specs.Prelude.{◌≡◌, ◌≤◌, ◌+◌, drop, length, option_map, IfOk};
+//! The lines of a batch: `put KEY HEX`, `create KEY HEX`, `update KEY HEX` and `delete KEY`, with JSON in place of HEX in that
+//! form.
+ghost use Rattle.std.specs.Prelude.{◌≡◌, ◌≤◌, ◌+◌, drop, length, IfOk};
 ghost use Rattle.std.specs.List.{list_any, before_first, after_first};
-ghost use Rattle.batches.specs.Values.{write_of};
-ghost use Rattle.console.specs.Lines.{bytes_of_hex as hex_of, is_space};
+ghost use Rattle.console.specs.Lines.{is_space};
+ghost use Rattle.record_forms.specs.Records.{record_of_word as record_of};
+ghost use Rattle.repository_commands.specs.Views.{write_read};
 ghost use Rattle.change_commands.specs.Stories.{delete_of as delete_of_key, record_write as record_write_of, write_by as write_by_of, write_of_line as write_of_line_of};
 
 use batches::Write;
-use console::bytes_of_hex;
+use record_forms::{Form, WordFault, record_of_word};
 use repository_commands::space_in;
 use std::alloc::{AllocError, Global};
 
@@ -42,61 +44,66 @@ fn behind(line: &[u8], place: usize) -> &[u8]
     &line[place + 1..]
 }
 
-/// The write of a line, or `None` where it is none.
-pub(crate) fn write_of_line(alloc: Global, line: &[u8]) -> Result<Option<Write>, AllocError>
-    ensures { IfOk result (λ write. option_map write_of write ≡ write_of_line_of line.now) }
+/// The write of a line, or why it is none.
+pub(crate) fn write_of_line(
+    alloc: Global,
+    form: Form,
+    line: &[u8],
+) -> Result<Result<Write, WordFault>, AllocError>
+    ensures { IfOk result (λ write. write_read write ≡ write_of_line_of form line.now) }
 {
     let Cut { word, rest } = cut_at_space(line);
     if word == b"delete".as_slice() {
         return delete_of(alloc, rest);
     }
     let Cut { word: key, rest } = cut_at_space(rest);
-    record_write(alloc, word, key, rest)
+    record_write(alloc, form, word, key, rest)
 }
 
-/// The write of a word, a key and a record in hexadecimal, or `None` where they are none.
+/// The write of a word, a key and the word of a record, or why they are none.
 fn record_write(
     alloc: Global,
+    form: Form,
     word: &[u8],
     key: &[u8],
-    digits: &[u8],
-) -> Result<Option<Write>, AllocError>
-    ensures { IfOk result (λ write. option_map write_of write
-        ≡ record_write_of word.now key.now (hex_of digits.now)) }
+    record_word: &[u8],
+) -> Result<Result<Write, WordFault>, AllocError>
+    ensures { IfOk result (λ write. write_read write
+        ≡ record_write_of word.now key.now (record_of form record_word.now)) }
 {
     if key.is_empty() {
-        return Ok(None);
+        return Ok(Err(WordFault::BadWord));
     }
-    let Some(bytes) = bytes_of_hex(alloc, digits)? else {
-        return Ok(None);
-    };
-    Ok(write_by(word, Vec::from_slice(alloc, key)?, bytes))
+    match record_of_word(alloc, form, record_word)? {
+        Ok(bytes) => Ok(write_by(word, Vec::from_slice(alloc, key)?, bytes)),
+        Err(fault) => Ok(Err(fault)),
+    }
 }
 
-/// The write that leaves a record under a key by this word, or `None` where none does.
-fn write_by(word: &[u8], key: Vec<u8>, bytes: Vec<u8>) -> Option<Write>
-    ensures { option_map write_of result ≡ write_by_of word.now key.items bytes.items }
+/// The write that leaves a record under a key by this word, where it is such a word.
+fn write_by(word: &[u8], key: Vec<u8>, bytes: Vec<u8>) -> Result<Write, WordFault>
+    ensures { write_read result ≡ write_by_of word.now key.items bytes.items }
 {
     if word == b"put".as_slice() {
-        return Some(Write::Put(key, bytes));
+        return Ok(Write::Put(key, bytes));
     }
     if word == b"create".as_slice() {
-        return Some(Write::Create(key, bytes));
+        return Ok(Write::Create(key, bytes));
     }
     if word == b"update".as_slice() {
-        return Some(Write::Update(key, bytes));
+        return Ok(Write::Update(key, bytes));
     }
-    None
+    Err(WordFault::BadWord)
 }
 
-/// The delete of a key without spaces, or `None` where it is none.
-fn delete_of(alloc: Global, key: &[u8]) -> Result<Option<Write>, AllocError>
-    ensures { IfOk result (λ write. option_map write_of write ≡ delete_of_key key.now) }
+/// The delete of a key without spaces, where it is one.
+fn delete_of(alloc: Global, key: &[u8]) -> Result<Result<Write, WordFault>, AllocError>
+    ensures { IfOk result (λ write. write_read write ≡ delete_of_key key.now) }
 {
     if key.is_empty() || has_space(key) {
-        return Ok(None);
+        return Ok(Err(WordFault::BadWord));
     }
-    Ok(Some(Write::Delete(Vec::from_slice(alloc, key)?)))
+    Ok(Ok(Write::Delete(Vec::from_slice(alloc, key)?)))
 }
 
 /// Whether there is a space in a key.

@@ -1,7 +1,7 @@
 //! A proof of a change where memory is refused.
 
 ghost use Rattle.std.specs.Prelude.{◌≡◌, true};
-ghost use Rattle.edit.specs.Batches.{are_changes as are_changes_of};
+ghost use Rattle.key_changes.specs.Keyed.{are_changes as are_changes_of};
 ghost use Rattle.change_laws.specs.Told.{undone as undone_of};
 
 use crate::fixtures::{Side, changes, tree_of};

@@ -208,7 +208,7 @@ fn shows(alloc: Global, both: &Both, proof: &Blocks) -> bool {
 }
 
 /// A proof without the block of this CID.
-fn without(alloc: Global, proof: &Blocks, cid: Cid) -> Result<Blocks, AllocError> {
+pub(crate) fn without(alloc: Global, proof: &Blocks, cid: Cid) -> Result<Blocks, AllocError> {
     let mut blocks = Vec::new(alloc);
     add_others(&mut blocks, proof, Some(cid))?;
     Ok(blocks)
@@ -245,7 +245,7 @@ fn refuses(alloc: Global, both: &Both, proof: &Blocks, place: usize) -> bool {
 }
 
 /// Whether another root comes out, or a block is missing, as undoing other changes may read other nodes.
-fn is_not_shown(told: &Result<(), ChangeFault>) -> bool {
+pub(crate) fn is_not_shown(told: &Result<(), ChangeFault>) -> bool {
     is_other_root(told) || missing_in(told).is_some()
 }
 

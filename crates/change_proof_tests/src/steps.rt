@@ -1,8 +1,8 @@
 //! Random batches as steps from a tree: the nodes of the tree before show them, and nothing less does.
 
-use crate::fixtures::{Blocks, Both, add_others};
-use crate::random::both_of;
-use crate::refusals::{Part, is_other_root, missing_in, other_value_in, with_altered};
+use crate::fixtures::{Blocks, Both};
+use crate::random::{both_of, is_not_shown, without};
+use crate::refusals::{Part, missing_in, other_value_in, with_altered};
 use block::Block;
 use change_proofs::{
     ChangeFault, ChangeProof, KeyChange, are_key_changes, prove_change_over, verify_change,
@@ -112,13 +112,6 @@ fn is_shown(alloc: Global, both: &Both, nodes: &Blocks) -> bool {
         && told_by_bytes(alloc, both, &bytes, &both.changes).is_ok()
 }
 
-/// The nodes without the block of this CID.
-fn without(alloc: Global, nodes: &Blocks, cid: Cid) -> Result<Blocks, AllocError> {
-    let mut blocks = Vec::new(alloc);
-    add_others(&mut blocks, nodes, Some(cid))?;
-    Ok(blocks)
-}
-
 /// Whether each node is missing where it is left out.
 fn needs_each(alloc: Global, both: &Both, nodes: &Blocks) -> bool {
     for node in nodes {
@@ -143,11 +136,6 @@ fn refuses(alloc: Global, both: &Both, nodes: &Blocks, place: usize) -> bool {
     };
     other_value_in(&told(alloc, both, nodes, &earlier)) == Some(place)
         && is_not_shown(&told(alloc, both, nodes, &later))
-}
-
-/// Whether another root comes out, or a block is missing, as other changes may read other nodes.
-fn is_not_shown(told: &Result<(), ChangeFault>) -> bool {
-    is_other_root(told) || missing_in(told).is_some()
 }
 
 /// Whether the change at each place is, and the last one where it is left out.

@@ -8,8 +8,8 @@ use Rattle.spec.specs.NodeFormat.{node_bytes}
 use Rattle.batch_laws.specs.Batch.{AreKeyed}
 use Rattle.batch_laws.specs.Counts.{put_layers}
 use Rattle.batch_laws.specs.Trace.{batch_read}
-use Rattle.edit.specs.Batches.{are_changes}
-use Rattle.edit.proofs.OnTree.{are-keyed}
+use Rattle.key_changes.specs.Keyed.{are_changes}
+use Rattle.key_changes.proofs.Ascending.{are-keyed}
 use Rattle.change_laws.specs.Told.{KeyChange, undone}
 use Rattle.step_laws.specs.Turned.{turned, done}
 use Rattle.step_laws.specs.Step.{step_verdict}

@@ -1,7 +1,7 @@
 -- The first change whose key has another value than the one that is told.
 use Rattle.std.proofs.Common.{◌≡◌, ℕ, suc, ◌+◌, ◌-◌, ◌≤◌, ◌<◌, true, false, List, [], ◌∷◌, length, get_or, take, drop, refl, ap, ◌∙◌, arith, Option, Ok, Err}
 use Rattle.spec.specs.Reading.{◌>>=◌, ensure}
-use Rattle.edit.proofs.Lists.{head-tail}
+use Rattle.key_changes.proofs.Lists.{head-tail}
 use Rattle.change_laws.specs.Told.{KeyChange}
 use Rattle.change_laws.specs.Given.{OtherValue}
 use Rattle.change_laws.specs.Verdict.{is_same, are_told}

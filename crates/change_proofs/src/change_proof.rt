@@ -1,8 +1,8 @@
 //! A change and what shows it.
 
-use crate::key_changes::KeyChange;
 use block::Block;
 use cid::{Cid, Digest};
+use key_changes::KeyChange;
 use std::alloc::{Allocator, Global};
 use std::sync::Arc;
 

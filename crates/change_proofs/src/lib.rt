@@ -20,8 +20,8 @@
 //! [`prove_change`] gives the nodes for the one, before the changes are applied, and [`prove_inversion`] those for the other,
 //! after they were.
 //!
-//! `key_changes` has a change with what its key had before and has after it, and `turning` turns changes round; `values` compares
-//! what the changed keys have in the tree whose nodes are given, `given_blocks` has these, and `verifying_inversions` puts these
+//! `undoing` undoes changes, and `turning` turns them round; `values` compares what the changed keys have in the tree whose
+//! nodes are given, `given_blocks` has these, and `verifying_inversions` puts these
 //! together; `verifying` is the same with the roots exchanged and the changes turned round. What the verdicts are and what they
 //! mean is defined in the crates `change_laws` and `step_laws`; each answer but want of memory is such a verdict.
 #![tactic(auto)]
@@ -29,11 +29,11 @@
 mod change_fault;
 mod change_proof;
 mod given_blocks;
-mod key_changes;
 mod proving;
 mod proving_fault;
 mod proving_inversions;
 mod turning;
+mod undoing;
 mod values;
 mod verifying;
 mod verifying_inversions;

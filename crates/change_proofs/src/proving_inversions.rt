@@ -3,19 +3,20 @@
 ghost use Rattle.std.specs.Prelude.{◌≡◌, ◌≤◌, true, map, Ok, IfOk, IfErr, OnOk};
 ghost use Rattle.std.specs.Arc.{arc_value};
 ghost use Rattle.lookups.specs.Trees.{OfTree};
-ghost use Rattle.edit.specs.Batches.{are_changes as are_changes_of};
+ghost use Rattle.key_changes.specs.Keyed.{are_changes as are_changes_of};
 ghost use Rattle.change_laws.specs.Told.{undone as undone_of};
 ghost use Rattle.change_laws.specs.Verdict.{are_told};
 ghost use Rattle.change_proofs.specs.Provings.{AreNodes, AreNodesOver, IsFaultOf, IsLackOver, IsOtherValue, IsProofOf, IsUntrue, ShowsChanges, proving_fault_of};
 
 use crate::change_fault::ChangeFault;
-use crate::key_changes::{KeyChange, undone};
 use crate::proving_fault::ProvingFault;
+use crate::undoing::undone;
 use crate::values::first_other;
 use block::Block;
 use cid::{Cid, Digest};
 use edit::{BatchPreview, preview};
 use kept::Lender;
+use key_changes::KeyChange;
 use lookups::Source;
 use repo::Core;
 use std::alloc::Allocator;

@@ -3,7 +3,7 @@
 ghost use Rattle.std.specs.Prelude.{◌≡◌, IfOk};
 ghost use Rattle.step_laws.specs.Turned.{turned as turned_of};
 
-use crate::key_changes::KeyChange;
+use key_changes::KeyChange;
 use std::alloc::{AllocError, Allocator};
 
 /// What leads back, in the order of the changes.

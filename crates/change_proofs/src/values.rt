@@ -4,8 +4,8 @@ ghost use Rattle.std.specs.Prelude.{◌≡◌};
 ghost use Rattle.change_laws.specs.Verdict.{are_told, is_same as is_same_of};
 ghost use Rattle.change_proofs.specs.Verdicts.{told_of};
 
-use crate::key_changes::KeyChange;
 use cid::Cid;
+use key_changes::KeyChange;
 
 /// The place of the first change after which another value is told than the one that its key has, or `None`. There is a value
 /// for each of the changes.

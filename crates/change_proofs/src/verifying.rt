@@ -2,16 +2,16 @@
 
 ghost use Rattle.std.specs.Prelude.{◌≡◌, ◌≤◌, true, map};
 ghost use Rattle.std.specs.Arc.{arc_value};
-ghost use Rattle.edit.specs.Batches.{are_changes as are_changes_of};
+ghost use Rattle.key_changes.specs.Keyed.{are_changes as are_changes_of};
 ghost use Rattle.change_laws.specs.Told.{undone as undone_of};
 ghost use Rattle.change_proofs.specs.StepVerdicts.{IsStepVerdict, IsStepRight, IsStepWhole, IsStepOfTree};
 
 use crate::change_fault::ChangeFault;
-use crate::key_changes::KeyChange;
 use crate::turning::turned;
 use crate::verifying_inversions::{verify_inversion, verify_inversion_blocks};
 use block::Block;
 use cid::{Cid, Digest};
+use key_changes::KeyChange;
 use std::alloc::Allocator;
 use std::clone::Clone;
 use std::convert::AsSlice;

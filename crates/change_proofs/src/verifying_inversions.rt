@@ -2,17 +2,18 @@
 
 ghost use Rattle.std.specs.Prelude.{◌≡◌, ◌≤◌, true, map, None};
 ghost use Rattle.std.specs.Arc.{arc_value};
-ghost use Rattle.edit.specs.Batches.{are_changes as are_changes_of};
+ghost use Rattle.key_changes.specs.Keyed.{are_changes as are_changes_of};
 ghost use Rattle.change_laws.specs.Told.{undone as undone_of};
 ghost use Rattle.change_proofs.specs.Verdicts.{IsJudged, judgement, told_of, IsSaidOver, IsVerdict, IsRight, IsWhole, IsOfTree};
 
 use crate::change_fault::ChangeFault;
 use crate::given_blocks::blocks_of;
-use crate::key_changes::{KeyChange, undone};
+use crate::undoing::undone;
 use crate::values::first_other;
 use block::Block;
 use cid::{Cid, Digest};
 use edit::preview;
+use key_changes::KeyChange;
 use lookups::{BlockMap, Source};
 use std::alloc::Allocator;
 use std::clone::Clone;

@@ -36,6 +36,18 @@ const SIGNED: &[&str] = &[
     "\n",
 ];
 
+/// The command that writes the file.
+const SIGN: &[&str] = &[
+    "msthost",
+    "car",
+    "--did",
+    "did:web:example.com",
+    "--rev",
+    "3jzfcijpj2z2e",
+    "--sig",
+    "000102030405060708090a0b0c0d0e0f101112131415161718191a1b1c1d1e1f202122232425262728292a2b2c2d2e2f303132333435363738393A3B3C3D3E3F",
+];
+
 /// The bytes of the file.
 pub(crate) fn file<R: Abort>(rt: &R, alloc: Global) -> Vec<u8> {
     let digits = joined(alloc, FILE).expect(rt, "memory for the digits");
@@ -64,6 +76,16 @@ fn what_the_commands_tell(rt: HostRuntime) {
     assert!(rt; tells(&rt, rt.alloc(), &["msthost", "records"], &["a/b a0\n"]));
     assert!(rt; tells(&rt, rt.alloc(), &["msthost", "records", "--cids"], &cids));
     assert!(rt; tells(&rt, rt.alloc(), &["msthost", "commit"], SIGNED));
+}
+
+/// The file that `car` writes with this signature is the one that the other program made.
+#[test]
+fn a_signed_file_is_written_and_read_back(rt: HostRuntime) {
+    let alloc = rt.alloc();
+    let written = run(&rt, alloc, SIGN, b"a/b a0\n");
+    assert!(rt; written.is(0, &file(&rt, alloc), ""));
+    let told = joined(alloc, SIGNED).expect(&rt, "memory for the text");
+    assert!(rt; run(&rt, alloc, &["msthost", "commit"], &written.out).is(0, &told, ""));
 }
 
 /// Whether each command refuses a file with this word.

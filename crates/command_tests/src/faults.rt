@@ -41,8 +41,17 @@ const CAR: &[&str] = &["msthost", "car", "--rev", "2222222222221"];
 
 const CAR_OF_NOBODY: &[&str] = &["msthost", "car", "--rev", "", "--did", ""];
 
+/// `car` with a signature that is none, of nobody, and with one that is hexadecimal.
+const SIGNED_BY_LETTERS: &[&str] = &["msthost", "car", "--sig", "0g"];
+
+const SIGNED_BY_NOTHING: &[&str] = &["msthost", "car", "--sig", ""];
+
+const SIGNED_OF_NOBODY: &[&str] = &["msthost", "car", "--sig", "0", "--did", ""];
+
+const SIGNED: &[&str] = &["msthost", "car", "--sig", "00fF"];
+
 /// Command lines, inputs, and what is told of them. `E` stands for the text of the CID of the empty tree's node.
-static FAULTS: [(&[&str], &[&str], &str); 14] = [
+static FAULTS: [(&[&str], &[&str], &str); 19] = [
     (&TREE, &["a/b"], "msthost: line 1: BadLine\n"),
     (&TREE, &["a/b\n"], "msthost: line 1: BadLine\n"),
     (&TREE, &[" ", "E"], "msthost: line 1: BadKey\n"),
@@ -60,6 +69,11 @@ static FAULTS: [(&[&str], &[&str], &str); 14] = [
     ),
     (CAR, &["x"], "msthost: BadRev\n"),
     (CAR_OF_NOBODY, &["x"], "msthost: BadDid\n"),
+    (SIGNED_BY_LETTERS, &["x"], "msthost: BadSig\n"),
+    (SIGNED_BY_NOTHING, &["x"], "msthost: BadSig\n"),
+    (SIGNED_OF_NOBODY, &["x"], "msthost: BadDid\n"),
+    (SIGNED, &["\n"], "msthost: NothingToSign\n"),
+    (SIGNED, &["a/b"], "msthost: line 1: BadLine\n"),
     (&["msthost", "prove", ""], &["x"], "msthost: KeyLength\n"),
 ];
 

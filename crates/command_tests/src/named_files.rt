@@ -207,3 +207,30 @@ fn words_without_a_file_name_none(rt: HostRuntime) {
     );
     assert!(rt; shown.file.is_none() && shown.ended.status == 0);
 }
+
+/// The command on two files opens both, and reads nothing else.
+#[test]
+fn two_files_are_compared(rt: HostRuntime) {
+    let files = held("a.txt", b"a/b a0\n");
+    let same = run_on(
+        &rt,
+        rt.alloc(),
+        &["msthost", "changes", "a.txt", "a.txt"],
+        &files,
+    );
+    assert!(rt; same.ended.is(0, b"", "") && same.file.is_none() && same.left == LEFT.len());
+    let missing = run_on(
+        &rt,
+        rt.alloc(),
+        &["msthost", "changes", "a.txt", "b.txt"],
+        &files,
+    );
+    assert!(rt; missing.ended.is(4, b"", "msthost: b.txt: not found\n"));
+    let formless = run_on(
+        &rt,
+        rt.alloc(),
+        &["msthost", "changes", "--form", "tree", "b.txt", "a.txt"],
+        &files,
+    );
+    assert!(rt; formless.ended.is(1, b"", "msthost: BadForm\n"));
+}

@@ -1,4 +1,4 @@
-//! How reports of `run` begin.
+//! How reports of `run` begin. Records come from a program in another language, and not from the commands.
 use crate::running::run;
 use std::alloc::Global;
 use std::random::RandomSource;
@@ -59,4 +59,40 @@ fn two_workers_in_one_repository(rt: HostRuntime) {
     for _ in 0..20 {
         assert!(rt; are_in_some_order(&rt, rt.alloc()));
     }
+}
+
+/// Two records: one with a link, bytes and a space in a text, and one that has no JSON, as it has the key `$link` beside
+/// another.
+const TWO_RECORDS: &str = "\
+0 0 2222222222222 put a/b \
+a36161d82a582500017112209dfefe61dd76ea3dcae5023880b08379d57adf20482d6fdbe2759289f647677b61624401020304616363612062 \
+; put a/c a261610065246c696e6b6178
+0 0 get a/b
+0 0 get a/c
+0 0 get a/d
+";
+
+/// How the report on them begins with records as JSON.
+const AS_JSON: &str = "\
+1 ok 2
+2 found {\"a\":{\"$link\":\"bafyreie5737gdxlw5i64vzichcalba3z2v5n6icifvx5xytvske7mr3hpm\"},\
+\"b\":{\"$bytes\":\"AQIDBA\"},\"c\":\"a b\"}
+3 found a261610065246c696e6b6178
+4 none
+repo 0 ";
+
+/// And with records in hexadecimal.
+const AS_HEX: &str = "\
+1 ok 2
+2 found a36161d82a582500017112209dfefe61dd76ea3dcae5023880b08379d57adf20482d6fdbe2759289f647677b61624401020304616363612062
+3 found a261610065246c696e6b6178
+4 none
+repo 0 ";
+
+#[test]
+fn records_as_json(rt: HostRuntime) {
+    let alloc = rt.alloc();
+    let script = TWO_RECORDS.as_bytes();
+    assert!(rt; run(&rt, alloc, &["msthost", "run", "--json"], script).begins(AS_JSON));
+    assert!(rt; run(&rt, alloc, &["msthost", "run"], script).begins(AS_HEX));
 }

@@ -13,7 +13,7 @@ use explain_command::{FAULTS, FAULTS_OF_FILES};
 use export::{ExportFault, ProofFault};
 use export_commands::ExportFault as TextOfExportFault;
 use host::{HostFault, OpenFault};
-use host_exports::{CarFault, ProveChangeFault, ProveFault};
+use host_exports::{CarFault, ProveChangeFault, ProveFault, ProveInversionFault};
 use node::NodeFault;
 use repository_check::{CheckFault, RecordFault};
 use repository_commands::{LineFault, TextFault};
@@ -529,14 +529,18 @@ fn faults_of_a_host_that_is_not_opened(rt: HostRuntime) {
 }
 
 /// What the faults of a host's CAR, of its proofs of keys and of its proofs of changes say.
-fn told_of_exports(alloc: Global) -> Result<[String; 6], AllocError> {
+fn told_of_exports(alloc: Global) -> Result<[String; 10], AllocError> {
     Ok([
         format!(in alloc; "{}", CarFault::NoSuchRepository)?,
         format!(in alloc; "{}", ProveFault::NoSuchRepository)?,
         format!(in alloc; "{}", ProveFault::NoMemory)?,
         format!(in alloc; "{}", ProveChangeFault::NoSuchRepository)?,
-        format!(in alloc; "{}", ProveChangeFault::OtherValue(7))?,
+        format!(in alloc; "{}", ProveChangeFault::OtherRoot)?,
         format!(in alloc; "{}", ProveChangeFault::NoMemory)?,
+        format!(in alloc; "{}", ProveInversionFault::NoSuchRepository)?,
+        format!(in alloc; "{}", ProveInversionFault::OtherRoot)?,
+        format!(in alloc; "{}", ProveInversionFault::OtherValue(7))?,
+        format!(in alloc; "{}", ProveInversionFault::NoMemory)?,
     ])
 }
 
@@ -547,6 +551,10 @@ fn faults_of_what_a_host_exports(rt: HostRuntime) {
         "there is no such repository",
         "out of memory",
         "there is no such repository",
+        "the repository has another root",
+        "out of memory",
+        "there is no such repository",
+        "the repository has another root",
         "the key of change 7 has another value",
         "out of memory",
     ];
@@ -638,13 +646,25 @@ fn faults_without_a_line(rt: HostRuntime) {
 
 #[test]
 fn faults_of_a_text(rt: HostRuntime) {
-    let rows: [(TextFault<Sha256>, &'static str, &'static str, &'static str); 8] = [
+    let rows: [(TextFault<Sha256>, &'static str, &'static str, &'static str); 10] = [
         (TextFault::BadDid, "BadDid", "BadDid", "the DID is not one"),
         (
             TextFault::BadRev,
             "BadRev",
             "BadRev",
             "the revision is not a timestamp identifier",
+        ),
+        (
+            TextFault::BadSig,
+            "BadSig",
+            "BadSig",
+            "the signature is not hexadecimal",
+        ),
+        (
+            TextFault::NothingToSign,
+            "NothingToSign",
+            "NothingToSign",
+            "no line puts a record, so there is no commit to sign",
         ),
         (
             TextFault::BadBefore(CidFault::BadBits),

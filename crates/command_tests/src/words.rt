@@ -106,7 +106,7 @@ static HELP: [(&[&str], &str); 20] = [
     ),
     (
         &["msthost", "car", "--help"],
-        "Exit status: 0 done, 1 a faulty line, DID or revision",
+        "Exit status: 0 done, 1 a faulty line, DID, revision or signature, or no line to sign",
     ),
     (
         &["msthost", "prove", "--help"],

@@ -72,11 +72,12 @@ named_sub test =
     let check : IsCommandName (codes "check") = (6, codes "check", omega arith, refl, refl) in
     let records : IsCommandName (codes "records") = (7, codes "records", omega arith, refl, refl) in
     let commit : IsCommandName (codes "commit") = (8, codes "commit", omega arith, refl, refl) in
-    let run : IsCommandName (codes "run") = (9, codes "run", omega arith, refl, refl) in
-    let explain : IsCommandName (codes "explain") = (10, codes "explain", omega arith, refl, refl) in
-    let help : IsCommandName (codes "help") = (11, codes "help", omega arith, refl, refl) in
+    let changes : IsCommandName (codes "changes") = (9, codes "changes", omega arith, refl, refl) in
+    let run : IsCommandName (codes "run") = (10, codes "run", omega arith, refl, refl) in
+    let explain : IsCommandName (codes "explain") = (11, codes "explain", omega arith, refl, refl) in
+    let help : IsCommandName (codes "help") = (12, codes "help", omega arith, refl, refl) in
     found_in HasName test (built msthost).subs
-    (tree, (car, (prove, (verify, (prove_change, (verify_change, (check, (records, (commit, (run, (explain, (help, tt))))))))))))
+    (tree, (car, (prove, (verify, (prove_change, (verify_change, (check, (records, (commit, (changes, (run, (explain, (help, tt)))))))))))))
 
 entered_name : (words : List Text) (o : Option Shape) → IfSome o HasName → IfSome (option_map (λ s. rows_at s words) o) (λ c. IsCommandName c.0)
 unfolding HasName

@@ -9,10 +9,12 @@ use Rattle.console.specs.Written.{AppendsBeginning}
 use Rattle.console.specs.declared.files.OpenFault.{OpenFault}
 use Rattle.console.specs.declared.files.OpenFault.TheVariants as faults
 use Rattle.console.proofs.Leaving.{Appends-nil}
+use Rattle.difference_commands.specs.Words.{command_of}
+use Rattle.difference_commands.proofs.Endings.{begun_by_nothing}
 use Rattle.commands.specs.declared.command_line.Request.{Request}
 use Rattle.commands.specs.declared.command_line.Request.TheVariants as requests
 use Rattle.commands.specs.CommandLine.{file_given}
-use Rattle.commands.specs.Requests.{IsBegun, IsDone, IsRefused}
+use Rattle.commands.specs.Requests.{Holding, IsBegun, IsDone, IsRefused}
 
 -- ---- the file that words name
 
@@ -42,30 +44,32 @@ kept None = tt
 kept (Some xs) = refl
 
 -- nothing is a beginning of any text
-pub begun_with_nothing : (D : Type 0) (digest : List ℕ → List ℕ) (request : Request) (input old : Option (List ℕ)) → IsBegun D digest request input old old
-begun_with_nothing D digest (requests.Tree options) None old = tt
-begun_with_nothing D digest (requests.Tree options) (Some xs) old = nothing old _
-begun_with_nothing D digest (requests.OnRepository command) None old = tt
-begun_with_nothing D digest (requests.OnRepository command) (Some xs) old = nothing old _
-begun_with_nothing D digest (requests.OnChange command) None old = tt
-begun_with_nothing D digest (requests.OnChange command) (Some xs) old = nothing old _
-begun_with_nothing D digest (requests.OnExport command) None old = tt
-begun_with_nothing D digest (requests.OnExport command) (Some xs) old = inl (kept old)
-begun_with_nothing D digest (requests.Run command) None old = tt
-begun_with_nothing D digest (requests.Run command) (Some xs) old = inl (kept old)
-begun_with_nothing D digest (requests.Explain command) input old = nothing old _
-begun_with_nothing D digest requests.Help input old = tt
+pub begun_with_nothing : (D : Type 0) (digest : List ℕ → List ℕ) (request : Request) (holds : Holding) (input old : Option (List ℕ)) → IsBegun D digest request holds input old old
+begun_with_nothing D digest (requests.Tree options) holds None old = tt
+begun_with_nothing D digest (requests.Tree options) holds (Some xs) old = nothing old _
+begun_with_nothing D digest (requests.OnRepository command) holds None old = tt
+begun_with_nothing D digest (requests.OnRepository command) holds (Some xs) old = nothing old _
+begun_with_nothing D digest (requests.OnChange command) holds None old = tt
+begun_with_nothing D digest (requests.OnChange command) holds (Some xs) old = nothing old _
+begun_with_nothing D digest (requests.OnExport command) holds None old = tt
+begun_with_nothing D digest (requests.OnExport command) holds (Some xs) old = inl (kept old)
+begun_with_nothing D digest (requests.OnDifference words) holds input old =
+    begun_by_nothing digest (command_of words) (holds words.old.now) (holds words.new.now) old
+begun_with_nothing D digest (requests.Run command) holds None old = tt
+begun_with_nothing D digest (requests.Run command) holds (Some xs) old = inl (kept old)
+begun_with_nothing D digest (requests.Explain command) holds input old = nothing old _
+begun_with_nothing D digest requests.Help holds input old = tt
 
 -- ---- a file that holds what is read of it
 
-pub done_on : (D : Type 0) (digest : List ℕ → List ℕ) (request : Request) (read held old new : Option (List ℕ)) → read ≡ held
-    → IsDone D digest request read old new → IsDone D digest request held old new
-done_on D digest request read held old new is = subst (λ i. IsDone D digest request i old new) is
+pub done_on : (D : Type 0) (digest : List ℕ → List ℕ) (request : Request) (holds : Holding) (read held old new : Option (List ℕ)) → read ≡ held
+    → IsDone D digest request holds read old new → IsDone D digest request holds held old new
+done_on D digest request holds read held old new is = subst (λ i. IsDone D digest request holds i old new) is
 
-pub refused_on : (D A : Type 0) (digest : List ℕ → List ℕ) (request : Request) (read held : Option (List ℕ)) → read ≡ held
-    → IsRefused D A digest request read → IsRefused D A digest request held
-refused_on D A digest request read held is = subst (λ i. IsRefused D A digest request i) is
+pub refused_on : (D A : Type 0) (digest : List ℕ → List ℕ) (request : Request) (holds : Holding) (read held : Option (List ℕ)) → read ≡ held
+    → IsRefused D A digest request holds read → IsRefused D A digest request holds held
+refused_on D A digest request holds read held is = subst (λ i. IsRefused D A digest request holds i) is
 
-pub begun_on : (D : Type 0) (digest : List ℕ → List ℕ) (request : Request) (read held old new : Option (List ℕ)) → read ≡ held
-    → IsBegun D digest request read old new → IsBegun D digest request held old new
-begun_on D digest request read held old new is = subst (λ i. IsBegun D digest request i old new) is
+pub begun_on : (D : Type 0) (digest : List ℕ → List ℕ) (request : Request) (holds : Holding) (read held old new : Option (List ℕ)) → read ≡ held
+    → IsBegun D digest request holds read old new → IsBegun D digest request holds held old new
+begun_on D digest request holds read held old new is = subst (λ i. IsBegun D digest request holds i old new) is

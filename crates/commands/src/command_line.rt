@@ -10,6 +10,7 @@ ghost use Rattle.commands.specs.CommandLine.{help_shape, msthost, name_of};
 use change_commands::ChangeCommand;
 use clap::{ArgMatches, Command, Error};
 use console::file_of;
+use difference_commands::ChangesWords;
 use explain_command::ExplainCommand;
 use export_commands::ExportCommand;
 use repository_commands::RepositoryCommand;
@@ -28,6 +29,8 @@ pub enum Request<'a> {
     OnChange(ChangeCommand<'a>),
     /// Do a command on a file that is the export of a repository.
     OnExport(ExportCommand),
+    /// Tell what the two files differ by that its words name.
+    OnDifference(ChangesWords<'a>),
     /// Let a host's workers do the script of the input.
     Run(RunCommand<'a>),
     /// Say what a fault means.
@@ -91,6 +94,9 @@ fn request_by<'a>(name: &str, words: &ArgMatches<'a>) -> Request<'a>
     if let Some(command) = export_commands::command_of(name, words) {
         return Request::OnExport(command);
     }
+    if let Some(words) = difference_commands::words_of(name, words) {
+        return Request::OnDifference(words);
+    }
     if let Some(command) = run_command::command_of(name, words) {
         return Request::Run(command);
     }
@@ -117,6 +123,7 @@ fn command<'a>(alloc: Global) -> Result<Command<'a>, AllocError>
     let program = repository_commands::with_words(alloc, program)?;
     let program = change_commands::with_words(alloc, program)?;
     let program = export_commands::with_words(alloc, program)?;
+    let program = difference_commands::with_words(alloc, program)?;
     let program = run_command::with_words(alloc, program)?;
     let program = explain_command::with_words(alloc, program)?;
     program.subcommand(help(alloc))

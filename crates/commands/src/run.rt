@@ -72,13 +72,13 @@ pub fn run_words<
     // At status 0 what was written is the text of the command that the words ask for, of what its file
     // holds, or of the input where they name none.
     ensures done { result.status ≡ 0 → IfSome result.request (λ request.
-        IsDone D D.digest_of request
+        IsDone D D.digest_of request (F.holds files.now)
         (given (name_of result.file) (F.holds files.now) (R.remaining input.old))
         (W.contents out.old) (W.contents out.new)) }
 
     // At status 1 that has none.
     ensures faulty { result.status ≡ 1 → IfSome result.request (λ request.
-        IsRefused D Global D.digest_of request
+        IsRefused D Global D.digest_of request (F.holds files.now)
         (given (name_of result.file) (F.holds files.now) (R.remaining input.old))) }
     ensures usage { result.status ≡ 2 → IsNone result.request }
 
@@ -87,7 +87,7 @@ pub fn run_words<
     ensures nothing { (result.status ≡ 1) ⊎ (result.status ≡ 2)
         → Keeps (W.contents out.old) (W.contents out.new) }
     ensures beginning { IfSome result.request (λ request.
-        IsBegun D D.digest_of request
+        IsBegun D D.digest_of request (F.holds files.now)
         (given (name_of result.file) (F.holds files.now) (R.remaining input.old))
         (W.contents out.old) (W.contents out.new)) }
 
@@ -125,15 +125,16 @@ fn do_asked<
     X: Write,
 >(asked: Asked<'_>, rt: &T, alloc: Global, files: &F, input: &mut R, out: &mut W, err: &mut X) -> u8
     ensures status { result ≤ 4 }
-    ensures done { result ≡ 0 → IsDone D D.digest_of asked.entry.request
+    ensures done { result ≡ 0 → IsDone D D.digest_of asked.entry.request (F.holds files.now)
         (given (name_of asked.entry.file) (F.holds files.now) (R.remaining input.old))
         (W.contents out.old) (W.contents out.new) }
     ensures faulty { result ≡ 1 → IsRefused D Global D.digest_of asked.entry.request
+        (F.holds files.now)
         (given (name_of asked.entry.file) (F.holds files.now) (R.remaining input.old)) }
     ensures usage { (result ≡ 2) → ⊥ }
     ensures nothing { (result ≡ 1) ⊎ (result ≡ 2)
         → Keeps (W.contents out.old) (W.contents out.new) }
-    ensures beginning { IsBegun D D.digest_of asked.entry.request
+    ensures beginning { IsBegun D D.digest_of asked.entry.request (F.holds files.now)
         (given (name_of asked.entry.file) (F.holds files.now) (R.remaining input.old))
         (W.contents out.old) (W.contents out.new) }
     ensures on_file { IsSome asked.entry.file → input.new ≡ input.old }
@@ -146,7 +147,7 @@ fn do_asked<
         Some(name) => {
             do_on_file::<D, T, F, W, X>(asked.request, name, rt, alloc, files, out, err)
         }
-        None => do_request::<D, T, R, W, X>(asked.request, rt, alloc, input, out, err),
+        None => { do_request::<D, T, F, R, W, X>(asked.request, rt, alloc, files, input, out, err) }
     }
 }
 
@@ -169,44 +170,53 @@ fn do_on_file<
     err: &mut X,
 ) -> u8
     ensures status { result ≤ 4 }
-    ensures done { result ≡ 0 → IsDone D D.digest_of request.entry (F.holds files.now name.now)
-        (W.contents out.old) (W.contents out.new) }
-    ensures faulty { result ≡ 1
-        → IsRefused D Global D.digest_of request.entry (F.holds files.now name.now) }
+    ensures done { result ≡ 0 → IsDone D D.digest_of request.entry (F.holds files.now)
+        (F.holds files.now name.now) (W.contents out.old) (W.contents out.new) }
+    ensures faulty { result ≡ 1 → IsRefused D Global D.digest_of request.entry
+        (F.holds files.now) (F.holds files.now name.now) }
     ensures usage { (result ≡ 2) → ⊥ }
     ensures nothing { (result ≡ 1) ⊎ (result ≡ 2)
         → Keeps (W.contents out.old) (W.contents out.new) }
-    ensures beginning { IsBegun D D.digest_of request.entry (F.holds files.now name.now)
-        (W.contents out.old) (W.contents out.new) }
+    ensures beginning { IsBegun D D.digest_of request.entry (F.holds files.now)
+        (F.holds files.now name.now) (W.contents out.old) (W.contents out.new) }
     ensures told { HasFaultyWord request.entry → (result ≡ 1) ⊎ ((result ≡ 3) ⊎ (result ≡ 4)) }
     ensures quiet { result ≡ 0 → err.new ≡ err.old }
 {
     match files.open(name) {
-        Ok(mut file) => do_request::<D, T, F::Reader, W, X>(
-            request, rt, alloc, &mut file, out, err,
+        Ok(mut file) => do_request::<D, T, F, F::Reader, W, X>(
+            request, rt, alloc, files, &mut file, out, err,
         ),
         Err(fault) => unopened(name, fault, err),
     }
 }
 
-/// Does what is asked for, and answers the status.
+/// Does what is asked for, and answers the status. The files are those that a command's own words name.
 fn do_request<
     D: Digest + Send + Sync,
     T: Threads + Wait + RandomSource + Sync,
+    F: Files,
     R: Read,
     W: Write,
     X: Write,
->(request: Request<'_>, rt: &T, alloc: Global, input: &mut R, out: &mut W, err: &mut X) -> u8
+>(
+    request: Request<'_>,
+    rt: &T,
+    alloc: Global,
+    files: &F,
+    input: &mut R,
+    out: &mut W,
+    err: &mut X,
+) -> u8
     ensures status { result ≤ 4 }
-    ensures done { result ≡ 0 → IsDone D D.digest_of request.entry (R.remaining input.old)
-        (W.contents out.old) (W.contents out.new) }
-    ensures faulty { result ≡ 1
-        → IsRefused D Global D.digest_of request.entry (R.remaining input.old) }
+    ensures done { result ≡ 0 → IsDone D D.digest_of request.entry (F.holds files.now)
+        (R.remaining input.old) (W.contents out.old) (W.contents out.new) }
+    ensures faulty { result ≡ 1 → IsRefused D Global D.digest_of request.entry
+        (F.holds files.now) (R.remaining input.old) }
     ensures usage { (result ≡ 2) → ⊥ }
     ensures nothing { (result ≡ 1) ⊎ (result ≡ 2)
         → Keeps (W.contents out.old) (W.contents out.new) }
-    ensures beginning { IsBegun D D.digest_of request.entry (R.remaining input.old)
-        (W.contents out.old) (W.contents out.new) }
+    ensures beginning { IsBegun D D.digest_of request.entry (F.holds files.now)
+        (R.remaining input.old) (W.contents out.old) (W.contents out.new) }
     ensures faulty_word { HasFaultyWord request.entry → input.new ≡ input.old }
     ensures told { HasFaultyWord request.entry → (result ≡ 1) ⊎ (result ≡ 3) }
     ensures quiet { result ≡ 0 → err.new ≡ err.old }
@@ -223,6 +233,9 @@ fn do_request<
         }
         Request::OnExport(command) => {
             export_commands::run::<D, R, W, X>(command, alloc, input, out, err)
+        }
+        Request::OnDifference(words) => {
+            difference_commands::run_on_files::<D, F, W, X>(words, alloc, files, out, err)
         }
         Request::Run(command) => {
             run_command::run::<D, T, R, W, X>(command, rt, alloc, input, out, err)

@@ -13,23 +13,23 @@ use std::process::Abort;
 use store::{LentShard, Shard, TableKey};
 
 /// What both have.
-const FIRST: &[Step<'static>] = &[
+pub(crate) const FIRST: &[Step<'static>] = &[
     Step::Put(b"a/a", EMPTY),
     Step::Put(b"a/b", EMPTY),
     Step::Put(b"a/c", ONE),
 ];
 
 /// What the repository has beyond that: a key changes and changes back, one goes, and two come.
-const SECOND: &[Step<'static>] = &[
+pub(crate) const SECOND: &[Step<'static>] = &[
     Step::Put(b"a/b", TWO),
     Step::Delete(b"a/c"),
     Step::Put(b"a/d", ONE),
 ];
 
-const THIRD: &[Step<'static>] = &[Step::Put(b"a/b", EMPTY), Step::Put(b"a/e", TWO)];
+pub(crate) const THIRD: &[Step<'static>] = &[Step::Put(b"a/b", EMPTY), Step::Put(b"a/e", TWO)];
 
 /// A repository of this number over a shard, with these batches.
-fn opened<R: Abort>(
+pub(crate) fn opened<R: Abort>(
     rt: &R,
     alloc: Global,
     shard: &mut Shard<Sha256>,

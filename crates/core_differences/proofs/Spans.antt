@@ -5,7 +5,6 @@ use Rattle.std.specs.Prelude.{Ok}
 use Rattle.std.specs.List.{AllByRecursion}
 use Rattle.std.specs.declared.sync.Arc.{Arc}
 use Rattle.std.proofs.lemmas.Slice.Eq.{bytes_eq-Decides}
-use Rattle.spec.specs.NodeFormat.{is_key}
 use Rattle.spec.specs.Reading.{◌>>=◌, ensure}
 use Rattle.spec.specs.Tree.{Pair}
 use Rattle.spec.specs.Blocks.{ArePairs, pairs, value_of}
@@ -15,21 +14,13 @@ use Rattle.spec.proofs.RecordPairs.{lawful-pairs}
 use Rattle.spec.specs.Cid.{IsDigest}
 use Rattle.batch_laws.specs.Batch.{Change, AreKeyed}
 use Rattle.batch_laws.specs.Previous.{values}
-use Rattle.edit.specs.Batches.{are_changes, have_keys}
-use Rattle.edit.specs.Places.{are_ascending}
-use Rattle.edit.proofs.Placing.{ascends-back}
+use Rattle.key_changes.specs.Keyed.{are_changes}
+use Rattle.key_changes.proofs.Ascending.{keyed-changes}
 use Rattle.change_laws.specs.Told.{KeyChange, undone}
 use Rattle.change_laws.specs.Given.{OtherValue}
 use Rattle.change_laws.specs.Verdict.{are_told, is_same}
 use Rattle.difference.specs.Differences.{IsDifferenceOf}
 use Rattle.core_differences.specs.Spans.{AreTrue, IsShownBy, IsSpan}
-
-keys-back : (cs : List Change) → AllByRecursion (λ c. is_key c.0 ≡ true) cs → have_keys cs ≡ true
-keys-back [] h = refl
-keys-back (c ∷ cs) h = and (is_key c.0) (have_keys cs) h.0 (keys-back cs h.1)
-
-keyed-changes : (cs : List Change) → AreKeyed cs → are_changes cs ≡ true
-keyed-changes cs h = and (are_ascending cs) (have_keys cs) (ascends-back cs h.ascending) (keys-back cs h.keys)
 
 same-value : (o p : Option (List ℕ)) → o ≡ p → is_same o p ≡ true
 same-value o p e = subst (λ (q : Option (List ℕ)). is_same o q ≡ true) e (itself o)

@@ -4,7 +4,7 @@ use Rattle.std.specs.Arc.{arc_value}
 use Rattle.std.specs.declared.sync.Arc.{Arc}
 use Rattle.spec.specs.Blocks.{ClashesWithNone, nodes, pairs}
 use Rattle.spec.specs.States.{State, records, state_root}
-use Rattle.edit.specs.Batches.{are_changes}
+use Rattle.key_changes.specs.Keyed.{are_changes}
 use Rattle.change_laws.specs.Told.{KeyChange, undone}
 use Rattle.change_laws.specs.Verdict.{change_verdict}
 use Rattle.change_proofs.specs.Provings.{ShowsChanges, told_by}

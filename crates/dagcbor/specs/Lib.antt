@@ -4,3 +4,4 @@ pub mod View
 pub mod Majors
 pub mod Levels
 pub mod Refused
+pub mod Passed

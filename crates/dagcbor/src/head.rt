@@ -157,8 +157,9 @@ pub(crate) fn front(n: u64, bytes: &[u8]) -> Result<(&[u8], &[u8]), CborFault>
 
 /// The argument of a head that has to have this major type, or else there is this fault.
 pub(crate) fn head_of(major: u8, fault: CborFault, bytes: &[u8]) -> Result<(u64, &[u8]), CborFault>
-    ensures { (f : heads.CborFault) → cbor_fault_of fault ≡ Some f
+    ensures read { (f : heads.CborFault) → cbor_fault_of fault ≡ Some f
         → Gives (λ x. (x.0, x.1.now)) cbor_fault_of result (head_of major f bytes.now) }
+    ensures takes_no_memory { fault ≢ CborFault.NoMemory → result ≢ Err CborFault.NoMemory }
 {
     match bytes {
         [] => Err(CborFault::Truncated),

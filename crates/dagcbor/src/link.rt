@@ -1,5 +1,6 @@
 //! Links: tag 42 over a byte string of the byte 00 and a CID (IPLD DAG-CBOR, links).
 
+ghost use Rattle.std.specs.Prelude.{◌≢◌, Err};
 ghost use Rattle.spec.specs.Reading.{Gives};
 ghost use Rattle.spec.specs.Head as heads;
 ghost use Rattle.spec.specs.DagCbor.{Link, link_of};
@@ -21,7 +22,9 @@ pub const BEFORE_CID: u8 = 0x00;
 
 /// The CID of a link, behind the head of its tag, and the bytes after it.
 pub(crate) fn link(tag: u64, bytes: &[u8]) -> Result<(&[u8], &[u8]), CborFault>
-    ensures { Gives (λ x. (Link x.0.now, x.1.now)) cbor_fault_of result (link_of tag bytes.now) }
+    ensures read { Gives (λ x. (Link x.0.now, x.1.now)) cbor_fault_of result
+        (link_of tag bytes.now) }
+    ensures takes_no_memory { result ≢ Err CborFault.NoMemory }
 {
     if tag != LINK_TAG {
         return Err(CborFault::BadTag);

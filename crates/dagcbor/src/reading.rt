@@ -1,6 +1,6 @@
 //! Reading of values, from left to right.
 
-ghost use Rattle.std.specs.Prelude.{◌≡◌, pos, negsuc, option_map, IfOk, IfErr, IsTrue, IsSome};
+ghost use Rattle.std.specs.Prelude.{◌≡◌, ◌≢◌, Err, pos, negsuc, option_map, IfOk, IfErr, IsTrue, IsSome};
 ghost use Rattle.spec.specs.Reading.{Gives};
 ghost use Rattle.spec.specs.Head.{Array, Map};
 ghost use Rattle.spec.specs.DagCbor.{integer_of, key_of, link_of, simple_value, items_at, fields_at, content_of, value_at, read, spelling, is_lawful};
@@ -22,9 +22,13 @@ use std::alloc::Allocator;
 
 /// A key that may follow the one before it, where there is one, and the bytes after it.
 #[inline(always)]
-fn key<'a>(before: Option<&str>, bytes: &'a [u8]) -> Result<(&'a str, &'a [u8]), CborFault>
-    ensures { Gives (λ x. (x.0.now, x.1.now)) cbor_fault_of result
+pub(crate) fn key<'a>(
+    before: Option<&str>,
+    bytes: &'a [u8],
+) -> Result<(&'a str, &'a [u8]), CborFault>
+    ensures read { Gives (λ x. (x.0.now, x.1.now)) cbor_fault_of result
         (key_of (option_map (λ s. s.now) before.entry) bytes.now) }
+    ensures takes_no_memory { result ≢ Err CborFault.NoMemory }
 {
     let (n, rest) = head_of(Major::TextString as u8, CborFault::KeyNotText, bytes)?;
     let (key, rest) = text(n, rest)?;

@@ -1,5 +1,6 @@
 //! Texts.
 
+ghost use Rattle.std.specs.Prelude.{◌≢◌, Err};
 ghost use Rattle.spec.specs.Reading.{Gives};
 ghost use Rattle.spec.specs.DagCbor.{text_of};
 ghost use Rattle.dagcbor.specs.Fault.{cbor_fault_of};
@@ -10,7 +11,8 @@ use crate::head::front;
 /// A text of `n` bytes of UTF-8, and the bytes after it. Most texts are ASCII, which takes a few words of eight bytes to see.
 #[inline(always)]
 pub(crate) fn text(n: u64, bytes: &[u8]) -> Result<(&str, &[u8]), CborFault>
-    ensures { Gives (λ x. (x.0.now, x.1.now)) cbor_fault_of result (text_of n bytes.now) }
+    ensures read { Gives (λ x. (x.0.now, x.1.now)) cbor_fault_of result (text_of n bytes.now) }
+    ensures takes_no_memory { result ≢ Err CborFault.NoMemory }
 {
     let (content, rest) = front(n, bytes)?;
     if content.is_ascii() {

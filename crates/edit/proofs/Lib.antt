@@ -1,5 +1,4 @@
 mod Results
-pub mod Lists
 mod Among
 pub mod Within
 pub mod Bounds
@@ -28,7 +27,6 @@ pub mod Halting
 mod Runs
 pub mod Untouched
 pub mod Spelling
-pub mod Testing
 mod MadeKeys
 mod WholeReads
 mod OneChange

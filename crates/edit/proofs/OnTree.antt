@@ -40,25 +40,14 @@ use Rattle.edit_laws.proofs.Tops.{layer_of-top}
 use Rattle.batch_laws.proofs.OverSource.{batch-over_source}
 use Rattle.batch_laws.proofs.Previous.{previous-is_values}
 use Rattle.batch_laws.proofs.MakesFew.{batch-makes_few}
-use Rattle.edit.specs.Batches.{have_keys, are_changes, layers_of, nodes_read, IsBatchOf, IsAnswer, IsReason, of_walk}
-use Rattle.edit.specs.Places.{are_ascending}
+use Rattle.edit.specs.Batches.{layers_of, nodes_read, IsBatchOf, IsAnswer, IsReason, of_walk}
+use Rattle.key_changes.specs.Keyed.{are_ascending, are_changes, have_keys}
 use Rattle.edit.specs.Refusals.{IsRefusal}
 use Rattle.edit.specs.Tops.{IsEnded}
 use Rattle.edit.proofs.Among.{add-few}
 use Rattle.edit.proofs.Bounds.{most-shown}
 use Rattle.edit.proofs.MadeKeys.{made-has_keys}
-use Rattle.edit.proofs.Placing.{ascends}
-
--- ---- changes with keys
-
-all-keys : (cs : List Change) → have_keys cs ≡ true → AllByRecursion (λ c. is_key c.0 ≡ true) cs
-all-keys [] h = tt
-all-keys (c ∷ cs) h = let b = both (is_key c.0) (have_keys cs) h in (b.0, all-keys cs b.1)
-
-pub are-keyed : (cs : List Change) → are_changes cs ≡ true → AreKeyed cs
-are-keyed cs h =
-    let b = both (are_ascending cs) (have_keys cs) h in
-    record { ascending = ascends cs b.0; keys = all-keys cs b.1 }
+use Rattle.key_changes.proofs.Ascending.{are-keyed}
 
 -- ---- enough layers
 

@@ -16,7 +16,8 @@ use Rattle.edit.specs.Edits.{IsEditOf}
 use Rattle.lookups.specs.Steps.{layers}
 use Rattle.edit.specs.declared.outcome.Fault.{Fault}
 use Rattle.edit.specs.declared.outcome.Fault.TheVariants as walks
-use Rattle.edit.specs.Batches.{are_changes, layers_of, nodes_read, IsBatchOf, of_walk}
+use Rattle.edit.specs.Batches.{layers_of, nodes_read, IsBatchOf, of_walk}
+use Rattle.key_changes.specs.Keyed.{are_changes}
 use Rattle.edit.specs.Refusals.{IsAbsence}
 use Rattle.edit.specs.Singles.{first_value}
 

@@ -12,7 +12,9 @@ use Rattle.std.proofs.Math.Seq.{drop-cons}
 use Rattle.spec.proofs.Bools.{both}
 use Rattle.edit_laws.proofs.Orders.{after-same, after-trans, order-is}
 use Rattle.batch_laws.specs.Batch.{Change, before, at_key, after, if_less, if_greater, if_same, IsLater, AreAscending}
-use Rattle.edit.specs.Places.{is_first_before, is_greater, are_later, are_ascending, IsPlace, IsAround}
+use Rattle.edit.specs.Places.{is_first_before, IsPlace, IsAround}
+use Rattle.key_changes.specs.Keyed.{are_ascending}
+use Rattle.key_changes.proofs.Ascending.{later-all, later-than, ascends, ascends-back}
 
 -- ---- lists
 
@@ -55,11 +57,6 @@ beyond key (c ∷ cs) h =
       all_after = ap (λ o. if_greater o c (after key cs)) h.0 ∙ ap (λ ds. c ∷ ds) i.all_after;
     }
 
-pub later-than : (key k : List ℕ) (cs : List Change) → order k key ≡ Greater → AllByRecursion (IsLater k) cs
-    → AllByRecursion (IsLater key) cs
-later-than key k [] g h = tt
-later-than key k (c ∷ cs) g h = (after-trans c.0 k key h.0 g, later-than key k cs g h.1)
-
 later-same : (key k : List ℕ) (cs : List Change) → order k key ≡ Equal → AllByRecursion (IsLater k) cs
     → AllByRecursion (IsLater key) cs
 later-same key k [] g h = tt
@@ -79,33 +76,6 @@ is-less : (o : Ordering) → is_lt o ≡ true → o ≡ Less
 is-less Less h = refl
 is-less Equal h = absurd cc
 is-less Greater h = absurd cc
-
--- ---- the test
-
-pub greater-than : (o : Ordering) → is_greater o ≡ true → o ≡ Greater
-greater-than Less h = absurd cc
-greater-than Equal h = absurd cc
-greater-than Greater h = refl
-
-pub later-all : (key : List ℕ) (cs : List Change) → are_later key cs ≡ true → AllByRecursion (IsLater key) cs
-later-all key [] h = tt
-later-all key (c ∷ cs) h =
-    let b = both (is_greater (order c.0 key)) (are_later key cs) h in
-    (greater-than (order c.0 key) b.0, later-all key cs b.1)
-
-pub all-later : (key : List ℕ) (cs : List Change) → AllByRecursion (IsLater key) cs → are_later key cs ≡ true
-all-later key [] h = refl
-all-later key (c ∷ cs) h = ap (λ o. is_greater o && are_later key cs) h.0 ∙ all-later key cs h.1
-
-pub ascends : (cs : List Change) → are_ascending cs ≡ true → AreAscending cs
-ascends [] h = tt
-ascends (c ∷ cs) h =
-    let b = both (are_later c.0 cs) (are_ascending cs) h in
-    (later-all c.0 cs b.0, ascends cs b.1)
-
-pub ascends-back : (cs : List Change) → AreAscending cs → are_ascending cs ≡ true
-ascends-back [] h = refl
-ascends-back (c ∷ cs) h = ap (λ b. b && are_ascending cs) (all-later c.0 cs h.0) ∙ ascends-back cs h.1
 
 -- ---- the place
 

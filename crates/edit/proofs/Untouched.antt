@@ -23,12 +23,13 @@ use Rattle.batch_laws.specs.Written.{AllGoOn, GoesOn}
 use Rattle.edit.specs.Agenda.{Task, node_does, agenda_does, agenda_meets, size_of_node, size_of_gap, IsPutOff, IsGoneOn}
 use Rattle.edit.specs.Edges.{edge_of}
 use Rattle.edit.specs.Passing.{IsUntouched, AreUntouched, IsTaken, IsUntaken, IsPassed, IsUnpassed}
-use Rattle.edit.specs.Places.{are_ascending}
+use Rattle.key_changes.specs.Keyed.{are_ascending}
 use Rattle.edit.specs.Stops.{IsRefused}
 use Rattle.edit.proofs.Closing.{closing-rest}
 use Rattle.edit.proofs.Halting.{node-goes}
 use Rattle.edit.proofs.Making.{onto-same}
-use Rattle.edit.proofs.Placing.{beyond, later-than, ascends}
+use Rattle.edit.proofs.Placing.{beyond}
+use Rattle.key_changes.proofs.Ascending.{ascends, later-than}
 use Rattle.edit.proofs.Putting.{one-pair}
 use Rattle.edit.proofs.Runs.{part-is}
 use Rattle.edit.proofs.Stopping.{empty-keys, leads-refused}

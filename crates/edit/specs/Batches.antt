@@ -16,23 +16,13 @@ use Rattle.batch_laws.specs.Previous.{values}
 use Rattle.batch_laws.specs.Trace.{batch_read}
 use Rattle.batch_laws.specs.Within.{IsWithin, at_top}
 use Rattle.batch_laws.specs.Counts.{most_from, put_layers, layers_needed}
-use Rattle.edit.specs.Places.{are_ascending}
+use Rattle.key_changes.specs.Keyed.{are_ascending}
 use Rattle.edit.specs.Refusals.{IsRefusal}
 use Rattle.edit.specs.declared.outcome.Fault.{Fault}
 use Rattle.edit.specs.declared.outcome.Fault.TheVariants as walks
 use Rattle.edit.specs.declared.outcome.BatchEdit.{BatchEdit}
 use Rattle.edit.specs.declared.outcome.EditFault.{EditFault}
 use Rattle.edit.specs.declared.outcome.EditFault.TheVariants.{Missing, BadNode, TooDeep, NotTree, NoSuchKey, Clash, NoMemory}
-
--- ---- what a batch takes
-
-abbrev pub have_keys : List Change → Bool
-have_keys [] = true
-have_keys (c ∷ cs) = is_key c.0 && have_keys cs
-
--- whether keys have 1 to 1,024 bytes and ascend strictly
-abbrev pub are_changes : List Change → Bool
-are_changes cs = are_ascending cs && have_keys cs
 
 -- how many layers the old tree or the new one has
 abbrev pub layers_of : (List ℕ → List ℕ) → ℕ → List Change → List Pair → ℕ

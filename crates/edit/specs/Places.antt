@@ -1,28 +1,13 @@
 -- Where a key stands among changes.
-use Rattle.std.specs.Prelude.{◌≡◌, ℕ, Bool, true, false, ◌&&◌, List, [], ◌∷◌, ◌++◌, take, drop, Option}
+use Rattle.std.specs.Prelude.{◌≡◌, ℕ, Bool, true, false, List, [], ◌∷◌, ◌++◌, take, drop, Option}
 use Rattle.std.specs.Ordering.{is_lt}
-use Rattle.std.specs.declared.cmp.Ordering.{Ordering}
-use Rattle.std.specs.declared.cmp.Ordering.TheVariants.{Less, Equal, Greater}
 use Rattle.edit_laws.specs.Order.{order}
 use Rattle.batch_laws.specs.Batch.{Change, before, at_key, after}
+use Rattle.key_changes.specs.Keyed.{are_ascending}
 
 abbrev pub is_first_before : List ℕ → List Change → Bool
 is_first_before key [] = false
 is_first_before key (c ∷ cs) = is_lt (order c.0 key)
-
-abbrev pub is_greater : Ordering → Bool
-is_greater Less = false
-is_greater Equal = false
-is_greater Greater = true
-
-abbrev pub are_later : List ℕ → List Change → Bool
-are_later key [] = true
-are_later key (c ∷ cs) = is_greater (order c.0 key) && are_later key cs
-
--- whether keys ascend strictly
-abbrev pub are_ascending : List Change → Bool
-are_ascending [] = true
-are_ascending (c ∷ cs) = are_later c.0 cs && are_ascending cs
 
 -- the first so many of some changes are before a key
 pub record IsPlace (key : List ℕ) (cs : List Change) (i : ℕ) : Type 0 where

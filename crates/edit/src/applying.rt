@@ -1,6 +1,6 @@
 //! Many keys of a tree changed at once.
 
-ghost use Rattle.std.specs.Prelude.{◌≡◌, ◌≤◌, ◌+◌, ◌/◌, ◌∷◌, ◌++◌, suc, length, map, take, true, IfOk, IfErr, OnOk};
+ghost use Rattle.std.specs.Prelude.{◌≡◌, ◌≤◌, ◌+◌, ◌/◌, ◌++◌, suc, length, map, take, true, IfOk, IfErr, OnOk};
 ghost use Rattle.std.specs.Arc.{arc_value};
 ghost use Rattle.spec.specs.Blocks.{IsClashFree};
 ghost use Rattle.spec.specs.Layer.{layer as layer_of};
@@ -11,9 +11,9 @@ ghost use Rattle.edit_laws.specs.Laws.Edits.{bytes_of};
 ghost use Rattle.edit.specs.States.{log_in};
 ghost use Rattle.lookups.specs.Trees.{OfTree};
 ghost use Rattle.batch_laws.specs.Counts.{most_reads};
-ghost use Rattle.edit.specs.Batches.{are_changes as are_changes_of, nodes_read, IsBatch, IsBatchRefusal, IsAnswered, IsLack};
+ghost use Rattle.edit.specs.Batches.{nodes_read, IsBatch, IsBatchRefusal, IsAnswered, IsLack};
+ghost use Rattle.key_changes.specs.Keyed.{are_changes as are_changes_of};
 
-use crate::changes::{Change, Keyed};
 use crate::differences::{added, dropped, places_of_read};
 use crate::edge::Edge;
 use crate::hashed::hash_each;
@@ -21,51 +21,16 @@ use crate::outcome::{BatchEdit, EditFault};
 use crate::whole::{Changed, change_tree};
 use block::Block;
 use cid::{Cid, Digest};
+use key_changes::Change;
 use lookups::Source;
-use node::is_key;
 use std::alloc::Allocator;
 use std::clone::Clone;
 use std::sync::Arc;
 
-/// Whether a batch takes these changes: their keys have 1 to 1,024 bytes and ascend strictly.
-pub fn are_changes(changes: &[Change<'_>]) -> bool
-    ensures { result ≡ are_changes_of changes.now }
-{
-    are_keyed(changes)
-}
-
-/// Whether a batch takes the changes that these stand for, as [`are_changes`] does.
-pub fn are_keyed<C: Keyed>(changes: &[C]) -> bool
-    ensures { result ≡ are_changes_of (map C.change changes.now) }
-{
-    let mut left = changes.len();
-    while left > 0 {
-        left -= 1;
-        if !comes_first(&changes[left], &changes[left + 1..]) {
-            return false;
-        }
-    }
-    true
-}
-
-/// Whether a change can come before these, which a batch takes.
-fn comes_first<C: Keyed>(change: &C, others: &[C]) -> bool
-    ensures { are_changes_of (map C.change others.now) ≡ true
-        → result ≡ are_changes_of (map C.change (change.now ∷ others.now)) }
-{
-    if !is_key(change.key()) {
-        return false;
-    }
-    let [next, ..] = others else {
-        return true;
-    };
-    next.key().cmp(change.key()).is_gt()
-}
-
 /// Changes many keys of the tree with this root at once: each change gives its key a value, or takes the key away where it
 /// has none. A key that isn't there and is taken away changes nothing.
 ///
-/// The keys have 1 to 1,024 bytes and ascend strictly; [`are_changes`] is the test. Only nodes in whose range of keys a change
+/// The keys have 1 to 1,024 bytes and ascend strictly; [`are_changes`](crate::are_changes) is the test. Only nodes in whose range of keys a change
 /// lies, and their neighbours where keys go, are read, each once, and each node that changes is written once. `B` is the
 /// number of zero bits of a digest that count for one layer, at least 1 (AT Protocol repository v3, MST structure).
 ///

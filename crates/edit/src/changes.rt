@@ -2,64 +2,12 @@
 
 ghost use Rattle.std.specs.Prelude.{◌≡◌, ◌≤◌, true, false, length, drop};
 ghost use Rattle.batch_laws.specs.Counts.{most_reads, reads_of};
-ghost use Rattle.edit.specs.Places.{are_ascending, is_first_before, IsPlace, IsAround};
+ghost use Rattle.edit.specs.Places.{is_first_before, IsPlace, IsAround};
+ghost use Rattle.key_changes.specs.Keyed.{are_ascending};
 
 use crate::hashed::HashedChange;
 use cid::{Cid, Digest};
-use std::marker::Model;
-
-/// A key, and the value that it is to have, or none where it is to go.
-///
-/// A contract sees it as the pair of both.
-#[derive(Drop)]
-pub struct Change<'k> {
-    pub key: &'k [u8],
-    pub value: Option<Cid>,
-}
-
-impl<'k> Model for Change<'k> {
-    ghost use Rattle.std.specs.Prelude.{ℕ, List, Option};
-
-    ghost Value = { List ℕ × Option (List ℕ) };
-
-    ghost view = { λ c. (c.key.now, c.value) };
-}
-
-/// What changes one key: a [`Change`], or what says more of one.
-pub trait Keyed {
-    ghost use Rattle.batch_laws.specs.Batch.{Change as Pair};
-
-    /// The change of a batch that it stands for.
-    ghost change: { Self → Pair };
-
-    /// The key that it changes.
-    fn key(&self) -> &[u8]
-        ensures { result.now ≡ (change self.now).0 };
-}
-
-impl<'k> Keyed for Change<'k> {
-    ghost change = { λ c. c };
-
-    fn key(&self) -> &[u8] {
-        self.key
-    }
-}
-
-impl<'k> Change<'k> {
-    /// The key.
-    pub(crate) fn key(&self) -> &'k [u8]
-        ensures { result.now ≡ self.now.0 }
-    {
-        self.key
-    }
-
-    /// The value that it is to have.
-    pub(crate) fn value(&self) -> Option<Cid>
-        ensures { result ≡ self.now.1 }
-    {
-        self.value
-    }
-}
+use key_changes::Change;
 
 /// The changes before a key, what the one at it makes of its value, and the changes after it.
 #[derive(Drop)]

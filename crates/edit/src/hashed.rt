@@ -4,8 +4,8 @@ ghost use Rattle.std.specs.Prelude.{◌≡◌, ◌≤◌, ◌∷◌, ◌++◌, [
 ghost use Rattle.spec.specs.Layer.{layer as layer_of};
 ghost use Rattle.batch_laws.specs.Counts.{layers_for, put_layers};
 
-use crate::changes::Change;
 use cid::{Cid, Digest, layer, layer_four};
+use key_changes::Change;
 use std::alloc::{AllocError, Allocator};
 use std::marker::{Model, PhantomData};
 

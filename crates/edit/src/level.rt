@@ -7,7 +7,7 @@ ghost use Rattle.rows.specs.Drafts.{IsFaultOf, IsFaultOfAll};
 ghost use Rattle.rows.specs.Entries.{shape_at, key_behind};
 ghost use Rattle.batch_laws.specs.Links.{onto_links, complete, rows_in_shape};
 ghost use Rattle.edit.specs.Passing.{IsTaken, IsUntaken, IsNextTouched, IsNextUntouched};
-ghost use Rattle.edit.specs.Places.{are_ascending};
+ghost use Rattle.key_changes.specs.Keyed.{are_ascending};
 ghost use Rattle.edit.specs.States.{shapes_in};
 
 use crate::hashed::HashedChange;

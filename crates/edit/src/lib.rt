@@ -52,8 +52,8 @@ mod tops;
 mod walk;
 mod whole;
 
-pub use applying::{apply, are_changes, are_keyed};
-pub use changes::{Change, Keyed};
+pub use applying::apply;
+pub use key_changes::{Change, are_changes};
 pub use node::is_key;
 pub use outcome::{BatchEdit, Edit, EditFault};
 pub use previews::{BatchPreview, preview};

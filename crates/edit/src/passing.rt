@@ -3,7 +3,7 @@
 ghost use Rattle.std.specs.Prelude.{◌≡◌, ◌+◌, ℕ, List, Option, true, None, is_some, length};
 ghost use Rattle.rows.specs.Entries.{shape_at};
 ghost use Rattle.edit.specs.Passing.{IsUntouched, IsPassed};
-ghost use Rattle.edit.specs.Places.{are_ascending};
+ghost use Rattle.key_changes.specs.Keyed.{are_ascending};
 ghost use Rattle.edit.specs.States.{edge_in};
 ghost use Rattle.edit.specs.Steps.{IsPassing};
 

@@ -4,17 +4,17 @@ ghost use Rattle.std.specs.Prelude.{◌≡◌, ◌≤◌, ◌+◌, ◌/◌, suc,
 ghost use Rattle.std.specs.Arc.{arc_value};
 ghost use Rattle.edit_laws.specs.Laws.Edits.{bytes_of};
 ghost use Rattle.batch_laws.specs.Counts.{most_reads};
-ghost use Rattle.edit.specs.Batches.{are_changes as are_changes_of};
+ghost use Rattle.key_changes.specs.Keyed.{are_changes as are_changes_of};
 ghost use Rattle.edit.specs.States.{shapes_in};
 ghost use Rattle.edit.specs.Previews.{IsPreviewed, IsPreviewedTree, IsPreviewLack, IsPreviewReached, IsPreviewWant};
 
-use crate::changes::Change;
 use crate::edge::{Edge, ReadNode};
 use crate::hashed::hash_each;
 use crate::outcome::EditFault;
 use crate::whole::{Changed, change_tree};
 use block::Block;
 use cid::{Cid, Digest};
+use key_changes::Change;
 use lookups::Source;
 use std::alloc::{AllocError, Allocator, Global};
 use std::clone::Clone;

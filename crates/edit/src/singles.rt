@@ -18,12 +18,12 @@ ghost use Rattle.edit.specs.States.{log_in};
 ghost use Rattle.edit.specs.Tops.{IsEnded};
 
 use crate::applying::difference_of;
-use crate::changes::Change;
 use crate::hashed::HashedChange;
 use crate::outcome::{BatchEdit, Edit, EditFault, Fault};
 use crate::whole::{Changed, change_tree};
 use block::Block;
 use cid::{Cid, Digest};
+use key_changes::Change;
 use lookups::Source;
 use std::alloc::Allocator;
 use std::clone::Clone;

@@ -3,7 +3,7 @@
 //! What is still to come of it stands on an agenda, so that no depth of a tree takes stack.
 
 ghost use Rattle.std.specs.Prelude.{◌≡◌, ◌<◌, ◌≤◌, ◌+◌, true};
-ghost use Rattle.edit.specs.Places.{are_ascending};
+ghost use Rattle.key_changes.specs.Keyed.{are_ascending};
 
 use crate::changes::changes_around;
 use crate::edge::Edge;

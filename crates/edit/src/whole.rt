@@ -5,7 +5,7 @@ ghost use Rattle.batch_laws.specs.Counts.{most_reads};
 ghost use Rattle.edit.specs.Batches.{answer_of, most_of};
 ghost use Rattle.edit.specs.Halts.{IsReachedOn};
 ghost use Rattle.edit.specs.Changing.{HasPrevious, IsChanged, IsReadFor, IsUnchanged};
-ghost use Rattle.edit.specs.Places.{are_ascending};
+ghost use Rattle.key_changes.specs.Keyed.{are_ascending};
 
 use crate::changes::most_reads_below;
 use crate::edge::Edge;

@@ -30,7 +30,8 @@ pub fn commit_in<'f, A: Allocator>(
     places: &Places<'_, 'f, A>,
     event: &Event<'_, A>,
 ) -> Result<SignedCommit<'f>, BlocksFault>
-    ensures { Gives commit_of blocks_fault_of result (commit_where places.now (event_of event.now)) }
+    ensures { Gives commit_of blocks_fault_of result
+        (commit_where places.now (event_of event.now)) }
 {
     let Some(block) = places.find(&event.commit.to_cid()) else {
         return Err(BlocksFault::CommitMissing);

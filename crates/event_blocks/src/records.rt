@@ -12,7 +12,7 @@ use car_reader::Places;
 use cid::Cid;
 use event_times::limits::MOST_RECORD_BYTES;
 use key_changes::KeyChange;
-use record_rules::{RecordFault, test_record};
+use record_rules::test_record;
 use std::alloc::Allocator;
 
 /// Whether a record is no longer than a message may have it.
@@ -23,19 +23,17 @@ fn is_short(block: &[u8]) -> bool
 }
 
 /// Whether a block is a record.
-fn test_block<A: Allocator + Copy>(alloc: A, place: usize, block: &[u8]) -> Result<(), BlocksFault>
+fn test_block(place: usize, block: &[u8]) -> Result<(), BlocksFault>
     ensures { Gives (λ x. x) blocks_fault_of result (of_record place (record_test block.now)) }
 {
-    match test_record(alloc, block) {
+    match test_record(block) {
         Ok(()) => Ok(()),
-        Err(RecordFault::NoMemory) => Err(BlocksFault::NoMemory),
         Err(fault) => Err(BlocksFault::BadRecord(place, fault)),
     }
 }
 
 /// Whether the record that an operation leaves, if it leaves one, is there and is one that isn't too long.
-fn test_after<A: Allocator + Copy>(
-    alloc: A,
+fn test_after<A: Allocator>(
     places: &Places<'_, '_, A>,
     place: usize,
     after: &Option<Cid>,
@@ -51,7 +49,7 @@ fn test_after<A: Allocator + Copy>(
     if !is_short(block) {
         return Err(BlocksFault::RecordSize(place));
     }
-    test_block(alloc, place, block)
+    test_block(place, block)
 }
 
 /// What an operation leaves.
@@ -62,16 +60,15 @@ fn after_of<'c>(op: &'c KeyChange<'_>) -> &'c Option<Cid>
 }
 
 /// Tests that the record that each operation leaves is among the blocks, is one, and isn't too long. `BlocksFault::RecordMissing`,
-/// `RecordSize` or `BadRecord` with the first place where it isn't so, or `NoMemory`.
-pub fn test_records<A: Allocator + Copy>(
-    alloc: A,
+/// `RecordSize` or `BadRecord` with the first place where it isn't so. Takes no memory.
+pub fn test_records<A: Allocator>(
     places: &Places<'_, '_, A>,
     ops: &[KeyChange<'_>],
 ) -> Result<(), BlocksFault>
     ensures { Gives (λ x. x) blocks_fault_of result (records_test places.now 0 ops.now) }
 {
     for (place, op) in ops.iter().enumerate() {
-        test_after(alloc, places, place, after_of(op))?;
+        test_after(places, place, after_of(op))?;
     }
     Ok(())
 }

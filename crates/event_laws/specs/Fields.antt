@@ -2,7 +2,7 @@
 use Rattle.std.specs.Prelude.{ℕ, pos, negsuc, ℤ, Bool, true, false, ◌&&◌, List, codes, if◌then◌else◌, is_none, Option, Some, None}
 use Rattle.std.specs.Str.{bytes_eq}
 use Rattle.spec.specs.Cid.{is_own_cid}
-use Rattle.spec.specs.DagCbor.{Value, Null, Boolean, Integer, Bytes, Text, Items, Fields, Link, Values, NoValue, ValueThen, Entries, NoEntry, EntryThen}
+use Rattle.spec.specs.DagCbor.{Value, Null, Boolean, Integer, Bytes, Text, Items, Link, Values, NoValue, ValueThen, Entries, NoEntry, EntryThen}
 
 -- the fields that are read; others are passed over
 pub data FieldName : Type 0 where

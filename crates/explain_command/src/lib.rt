@@ -1,7 +1,7 @@
 //! The command `explain`: what a fault of the program means, and what usually causes it.
 //!
-//! - `FAULTS` has them, each with its name, and `FAULTS_OF_FILES` those of files. They are the one place of these texts:
-//!   tables of documents are made from them.
+//! - `FAULTS` has them, each with its name, and `FAULTS_OF_FILES` those of files and of records as JSON. They are the one
+//!   place of these texts: tables of documents are made from them.
 //! - `run` writes what there is to say of a name, or the names of all.
 //!
 //! A program has it by `with_words`, `command_of` and `run`.

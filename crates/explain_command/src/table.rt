@@ -3,8 +3,8 @@
 /// What there is to say of a fault: its name, as standard error or a report shows it, what it means, and what usually causes it.
 pub type Explanation = (&'static str, &'static str, &'static str);
 
-/// Each fault that the program tells, but for those of files.
-pub static FAULTS: [(&str, &str, &str); 57] = [
+/// Each fault that the program tells, but for those of files and of records as JSON.
+pub static FAULTS: [(&str, &str, &str); 59] = [
     (
         "BadLine",
         "the line has not the words that a line of this command has",
@@ -145,6 +145,16 @@ pub static FAULTS: [(&str, &str, &str); 57] = [
         "BadRev",
         "the revision is not a timestamp identifier",
         "a date or a number in place of its 13 letters; in a script a WRITE in the revision's place",
+    ),
+    (
+        "BadSig",
+        "the signature is not hexadecimal",
+        "base64 or DER in place of 128 hexadecimal digits, 0x before them, an odd number of digits",
+    ),
+    (
+        "NothingToSign",
+        "no line puts a record, so there is no commit to sign",
+        "an empty input beside --sig: a repository has its first commit by its first record",
     ),
     (
         "RevOrder",
@@ -288,8 +298,9 @@ pub static FAULTS: [(&str, &str, &str); 57] = [
     ),
 ];
 
-/// The faults of files: why one can't be opened, why a CAR file is no export of a repository, and what `records` can't write of it.
-pub static FAULTS_OF_FILES: [(&str, &str, &str); 16] = [
+/// The faults of files: why one can't be opened, why a CAR file is no export of a repository, and why two aren't compared; and those of
+/// records as JSON.
+pub static FAULTS_OF_FILES: [(&str, &str, &str); 27] = [
     (
         "Car(BadHeader)",
         "the file does not begin as a CAR with one root",
@@ -369,5 +380,60 @@ pub static FAULTS_OF_FILES: [(&str, &str, &str); 16] = [
         "NoJsonForm",
         "the record has no form as JSON",
         "a whole number of 2^53 or more, a key $link or $bytes, a CID of version 0; records without --json writes it in hexadecimal",
+    ),
+    (
+        "BadForm",
+        "the word for the form of files is none",
+        "another word than car, listing and records behind --form",
+    ),
+    (
+        "NoRecords",
+        "the file lists CIDs and has no records",
+        "changes --records or --blocks of a listing: give the export or lines of records",
+    ),
+    (
+        "BadJson(NotJson)",
+        "the text is not JSON",
+        "a comma too many, a quote left out, JSON over several lines, a record in hexadecimal; a text that isn't UTF-8",
+    ),
+    (
+        "BadJson(DoubledKey)",
+        "a key stands twice in an object",
+        "two objects put together by hand; what stands behind the name is the way to the key",
+    ),
+    (
+        "BadJson(Float)",
+        "a number has a point or an exponent",
+        "1.0 for 1, or 1e3 for 1000: the AT Protocol has whole numbers alone",
+    ),
+    (
+        "BadJson(IntegerRange)",
+        "a whole number is outside the range that each reader of JSON holds",
+        "a number of 2^53 or more, as an identifier of 64 bits: write it as a text",
+    ),
+    (
+        "BadJson(BadLink)",
+        "a link holds no CID of version 1 in base 32",
+        "a CID of version 0 (Qm..), in upper case or in base58, one that was cut off; a link that is no text",
+    ),
+    (
+        "BadJson(BadBytes)",
+        "bytes are not in base 64",
+        "the alphabet of URLs, with - and _; hexadecimal; bytes that are no text",
+    ),
+    (
+        "BadJson(BadDollar)",
+        "an object with $link or $bytes has other keys",
+        "a $type beside a $link: the link stands in an object of its own",
+    ),
+    (
+        "BadJson(TooDeep)",
+        "lists and maps lie more than 64 levels deep",
+        "a structure that refers to itself",
+    ),
+    (
+        "BadJson(NotAMap)",
+        "the value is not a map",
+        "a list, a text or a number as a record; a link or bytes in a record's place",
     ),
 ];

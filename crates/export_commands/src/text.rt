@@ -16,8 +16,8 @@ use std::io::{Read, Write};
 ///
 /// `ExportCommand::Check` is a line `DID REV ROOT COUNT`: whose repository it is, its revision, the CID of its tree's root,
 /// which its commit has as `data`, and how many records it has. `ExportCommand::Records` is a line for each record in the
-/// order of their keys, `KEY HEX`, `KEY JSON` or `KEY CID`. `ExportCommand::Commit` is the bytes that were signed, which are those of the
-/// commit without its signature, and then the signature, a line in hexadecimal each. Nothing tests a signature.
+/// order of their keys, `KEY HEX`, `KEY JSON` or `KEY CID`. `ExportCommand::Commit` is the bytes that were signed, which are
+/// those of the commit without its signature, and then the signature, a line in hexadecimal each. Nothing tests a signature.
 ///
 /// All of the input is read and checked before a byte is written. Where it is no export, the first fault is told
 /// (`ExportFault::Check`, in the order of `repository_check::CheckFault`), and nothing is written; nor is it where JSON is asked

@@ -34,8 +34,8 @@ const RECORDS: &str = "Reads a CAR file and writes the records of its repository
 
 const LONG_RECORDS: &str = "\
 Reads a CAR file, checks it as check does, and writes a line KEY HEX for each record, in the order of
-the keys: its key, a space, and its bytes in hexadecimal, as car reads them. With --json it writes lines KEY JSON, each
-record in its form as JSON, and with --cids lines KEY CID, as tree reads them; of the two --cids decides.
+the keys: its key, a space, and its bytes in hexadecimal, as car reads them. With --json it writes lines KEY JSON, as
+car --json reads them, and with --cids lines KEY CID, as tree reads them; of the two --cids decides.
 
 Exit status: 0 done, 1 the file is no export of a repository, 2 a wrong command line, 3 no memory, 4 reading or writing
 failed.";

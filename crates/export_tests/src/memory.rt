@@ -1,12 +1,13 @@
 //! Exports and proofs where memory is refused.
 
-use crate::fixtures::{
-    FIVE_NODES, ONE_RECORD_TWICE, Proof, Record, copies_of, end, file_of, opened, takes,
-};
+ghost use Rattle.std.specs.Prelude.{◌≤◌};
+
+use crate::fixtures::{FIVE_NODES, ONE_RECORD_TWICE, Proof, Record, copies_of, end, opened, takes};
+use crate::signed::SIGNATURE;
 use block::Block;
-use cid::Cid;
 use cid::digests::Toy;
-use export::{ExportFault, ProofFault, ToMemory, car, prove, verify};
+use cid::{Cid, Digest};
+use export::{ExportFault, ProofFault, ToMemory, car, prove, signed_car, verify};
 use refusing::Refusing;
 use repo::Core;
 use std::alloc::{Allocator, Global};
@@ -29,10 +30,51 @@ enum Ended {
     Wrong,
 }
 
-/// How a CAR into this memory ended. What was taken is a beginning of the file.
-fn car_end<'h>(heap: Heap<'h>, core: &Core<Toy, 2, Heap<'h>>, file: &[u8]) -> Ended {
+/// Which file of a core is written.
+#[derive(Clone, Copy)]
+enum File {
+    Unsigned,
+    Signed,
+}
+
+/// Writes a core's file of this kind, and answers with how many bytes it has; it has a commit to be signed.
+fn written<D: Digest, const B: u8, A: Allocator + Clone, M: Allocator + Copy>(
+    file: File,
+    alloc: A,
+    core: &Core<D, B, A>,
+    out: &mut ToMemory<M>,
+) -> Result<u64, ExportFault>
+    requires { 1 ≤ B }
+{
+    match file {
+        File::Unsigned => car(alloc, core, out),
+        File::Signed => {
+            let length = signed_car(alloc, core, SIGNATURE, out)?;
+            Ok(length.unwrap_or(0))
+        }
+    }
+}
+
+/// The bytes of a core's file of this kind.
+fn file_in<D: Digest, const B: u8, A: Allocator + Clone>(
+    file: File,
+    global: Global,
+    alloc: A,
+    core: &Core<D, B, A>,
+) -> Option<Vec<u8>>
+    requires { 1 ≤ B }
+{
+    let mut out = ToMemory::new(global);
+    match written(file, alloc, core, &mut out) {
+        Ok(length) if length == out.bytes().len() as u64 => Some(out.into_bytes()),
+        _ => None,
+    }
+}
+
+/// How a file into this memory ended. What was taken is a beginning of it.
+fn file_end<'h>(kind: File, heap: Heap<'h>, core: &Core<Toy, 2, Heap<'h>>, file: &[u8]) -> Ended {
     let mut out = ToMemory::new(heap);
-    let answer = car(heap, core, &mut out);
+    let answer = written(kind, heap, core, &mut out);
     if !file.starts_with(out.bytes()) {
         return Ended::Wrong;
     }
@@ -45,7 +87,8 @@ fn car_end<'h>(heap: Heap<'h>, core: &Core<Toy, 2, Heap<'h>>, file: &[u8]) -> En
 }
 
 /// How it ended where this request was refused and all memory was given back.
-fn refused_car_end<'h>(
+fn refused_file_end<'h>(
+    kind: File,
     heap: Heap<'h>,
     core: &Core<Toy, 2, Heap<'h>>,
     file: &[u8],
@@ -53,7 +96,7 @@ fn refused_car_end<'h>(
 ) -> Ended {
     let live = heap.live();
     heap.refuse(request);
-    let ended = car_end(heap, core, file);
+    let ended = file_end(kind, heap, core, file);
     heap.refuse(0);
     if heap.live() == live {
         ended
@@ -62,12 +105,17 @@ fn refused_car_end<'h>(
     }
 }
 
-/// Whether a CAR ended with both faults where each of its requests was refused in turn, before it came to its end.
-fn is_taken_at_last<'h>(heap: Heap<'h>, core: &Core<Toy, 2, Heap<'h>>, file: &[u8]) -> bool {
+/// Whether a file ended with both faults where each of its requests was refused in turn, before it came to its end.
+fn is_taken_at_last<'h>(
+    kind: File,
+    heap: Heap<'h>,
+    core: &Core<Toy, 2, Heap<'h>>,
+    file: &[u8],
+) -> bool {
     let mut had_faults = false;
     let mut had_refusals = false;
     for request in 1..200u64 {
-        match refused_car_end(heap, core, file, request) {
+        match refused_file_end(kind, heap, core, file, request) {
             Ended::Done => return had_faults && had_refusals,
             Ended::DeviceFault => had_faults = true,
             Ended::NoMemory => had_refusals = true,
@@ -156,14 +204,20 @@ fn refusals<'h>(
     None
 }
 
-/// Whether each request of the CAR of these records was refused, and it has this size.
-fn is_each_refused<R: Abort>(rt: &R, alloc: Global, records: &[Record<'_>], size: usize) -> bool {
+/// Whether each request of the file of these records was refused, and it has this size.
+fn is_each_refused<R: Abort>(
+    rt: &R,
+    alloc: Global,
+    kind: File,
+    records: &[Record<'_>],
+    size: usize,
+) -> bool {
     let heap = Refusing::new(alloc);
     let mut shard = Shard::new(&heap, 20, TableKey::known());
     let mut core = opened(rt, &heap, &mut shard);
     let filled = takes(&heap, &mut shard, &mut core, records);
-    let right = match file_of(alloc, &heap, &core) {
-        Some(file) => file.len() == size && is_taken_at_last(&heap, &core, &file),
+    let right = match file_in(kind, alloc, &heap, &core) {
+        Some(file) => file.len() == size && is_taken_at_last(kind, &heap, &core, &file),
         None => false,
     };
     end(&mut shard, core);
@@ -173,9 +227,15 @@ fn is_each_refused<R: Abort>(rt: &R, alloc: Global, records: &[Record<'_>], size
 
 #[test]
 fn each_request_of_a_car_refused(rt: HostRuntime) {
-    assert!(rt; is_each_refused(&rt, rt.alloc(), FIVE_NODES, 868));
+    assert!(rt; is_each_refused(&rt, rt.alloc(), File::Unsigned, FIVE_NODES, 868));
     // The CID of a record under two keys is noted, which takes memory.
-    assert!(rt; is_each_refused(&rt, rt.alloc(), ONE_RECORD_TWICE, 827));
+    assert!(rt; is_each_refused(&rt, rt.alloc(), File::Unsigned, ONE_RECORD_TWICE, 827));
+}
+
+#[test]
+fn each_request_of_a_signed_file_refused(rt: HostRuntime) {
+    assert!(rt; is_each_refused(&rt, rt.alloc(), File::Signed, FIVE_NODES, 938));
+    assert!(rt; is_each_refused(&rt, rt.alloc(), File::Signed, ONE_RECORD_TWICE, 897));
 }
 
 #[test]

@@ -1,19 +1,17 @@
-//! Files with a signed commit, beside those without: outputs that fail, and want of memory.
+//! Files with a signed commit, beside those without, and outputs that fail.
 
 ghost use Rattle.std.specs.Prelude.{◌≤◌};
 
-use crate::fixtures::{Checked, FIVE_NODES, ONE_RECORD_TWICE, Record, end, file_of, opened, takes};
+use crate::fixtures::{Checked, FIVE_NODES, ONE_RECORD_TWICE, end, file_of, opened, takes};
 use cid::digests::Toy;
 use cid::{Cid, Digest};
 use export::{ExportFault, ToMemory, car, signed_car};
-use refusing::Refusing;
 use repo::Core;
 use std::alloc::{Allocator, Global};
-use std::process::Abort;
 use store::{Shard, TableKey};
 
 /// A signature of 64 bytes.
-const SIGNATURE: &[u8] = &[0x5a; 64];
+pub(crate) const SIGNATURE: &[u8] = &[0x5a; 64];
 
 /// How many bytes of a file the header and the section of the unsigned commit are, of 96 bytes.
 const UNSIGNED: usize = 59 + 2 + 36 + 96;
@@ -140,86 +138,4 @@ fn the_unsigned_file_is_as_before(rt: HostRuntime) {
     assert!(rt;
         taken && right && again == Ok(before.len() as u64) && out.bytes() == before.as_slice()
     );
-}
-
-/// Memory that refuses requests.
-type Heap<'h> = &'h Refusing<Global>;
-
-/// How a call ended for which a request for memory may have been refused.
-#[derive(Clone, Copy, PartialEq, Eq)]
-enum Ended {
-    Done,
-    NoMemory,
-    DeviceFault,
-    Wrong,
-}
-
-/// How a file into this memory ended. What was taken is a beginning of the file.
-fn end_of<'h>(heap: Heap<'h>, core: &Core<Toy, 2, Heap<'h>>, file: &[u8]) -> Ended {
-    let mut out = ToMemory::new(heap);
-    let answer = signed_car(heap, core, SIGNATURE, &mut out);
-    if !file.starts_with(out.bytes()) {
-        return Ended::Wrong;
-    }
-    match answer {
-        Ok(Some(_)) if out.bytes().len() == file.len() => Ended::Done,
-        Err(ExportFault::NoMemory) => Ended::NoMemory,
-        Err(ExportFault::DeviceFault) => Ended::DeviceFault,
-        Ok(_) => Ended::Wrong,
-    }
-}
-
-/// How it ended where this request was refused and all memory was given back.
-fn refused_end<'h>(
-    heap: Heap<'h>,
-    core: &Core<Toy, 2, Heap<'h>>,
-    file: &[u8],
-    request: u64,
-) -> Ended {
-    let live = heap.live();
-    heap.refuse(request);
-    let ended = end_of(heap, core, file);
-    heap.refuse(0);
-    if heap.live() == live {
-        ended
-    } else {
-        Ended::Wrong
-    }
-}
-
-/// Whether a file ended with both faults where each of its requests was refused in turn, before it came to its end.
-fn is_taken_at_last<'h>(heap: Heap<'h>, core: &Core<Toy, 2, Heap<'h>>, file: &[u8]) -> bool {
-    let mut had_faults = false;
-    let mut had_refusals = false;
-    for request in 1..200u64 {
-        match refused_end(heap, core, file, request) {
-            Ended::Done => return had_faults && had_refusals,
-            Ended::DeviceFault => had_faults = true,
-            Ended::NoMemory => had_refusals = true,
-            Ended::Wrong => return false,
-        }
-    }
-    false
-}
-
-/// Whether each request of the signed file of these records was refused.
-fn is_each_refused<R: Abort>(rt: &R, alloc: Global, records: &[Record<'_>]) -> bool {
-    let heap = Refusing::new(alloc);
-    let mut shard = Shard::new(&heap, 20, TableKey::known());
-    let mut core = opened(rt, &heap, &mut shard);
-    let filled = takes(&heap, &mut shard, &mut core, records);
-    let right = match signed_file(alloc, &heap, &core) {
-        Some(file) => is_taken_at_last(&heap, &core, &file),
-        None => false,
-    };
-    end(&mut shard, core);
-    drop(shard);
-    filled && right && heap.live() == 0
-}
-
-#[test]
-fn each_request_of_a_signed_file_refused(rt: HostRuntime) {
-    assert!(rt; is_each_refused(&rt, rt.alloc(), FIVE_NODES));
-    // The CID of a record under two keys is noted, which takes memory.
-    assert!(rt; is_each_refused(&rt, rt.alloc(), ONE_RECORD_TWICE));
 }

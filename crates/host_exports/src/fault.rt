@@ -26,12 +26,29 @@ pub enum ProveFault {
     NoMemory,
 }
 
-/// Why there is no proof of some changes of a host's repository.
+/// Why there is no proof of what some changes make of a host's repository.
 #[derive(Clone, Copy, Debug, PartialEq, Eq, Error)]
 pub enum ProveChangeFault {
     /// There is no repository of this number.
     #[error("there is no such repository")]
     NoSuchRepository,
+    /// The repository has another root than the one before.
+    #[error("the repository has another root")]
+    OtherRoot,
+    /// Memory was refused.
+    #[error("out of memory")]
+    NoMemory,
+}
+
+/// Why there is no proof of some changes that are undone of a host's repository.
+#[derive(Clone, Copy, Debug, PartialEq, Eq, Error)]
+pub enum ProveInversionFault {
+    /// There is no repository of this number.
+    #[error("there is no such repository")]
+    NoSuchRepository,
+    /// The repository has another root than the one after.
+    #[error("the repository has another root")]
+    OtherRoot,
     /// The key of the change at this place has another value in the repository than the one told after it.
     #[error("the key of change {0} has another value")]
     OtherValue(usize),
@@ -40,16 +57,16 @@ pub enum ProveChangeFault {
     NoMemory,
 }
 
-impl From<ProvingFault> for ProveChangeFault {
+impl From<ProvingFault> for ProveInversionFault {
     ghost use Rattle.std.specs.Prelude.{◌≡◌};
     ghost use Rattle.host_exports.specs.ChangeProofs.{of_proving};
 
     ghost from_gives = { λ given fault. fault ≡ of_proving given };
 
-    fn from(fault: ProvingFault) -> ProveChangeFault {
+    fn from(fault: ProvingFault) -> ProveInversionFault {
         match fault {
-            ProvingFault::OtherValue(place) => ProveChangeFault::OtherValue(place),
-            ProvingFault::NoMemory => ProveChangeFault::NoMemory,
+            ProvingFault::OtherValue(place) => ProveInversionFault::OtherValue(place),
+            ProvingFault::NoMemory => ProveInversionFault::NoMemory,
         }
     }
 }

@@ -1,7 +1,10 @@
 //! CAR files and proofs of a host's repositories.
 //!
 //! - [`car`] writes a repository as one file.
-//! - [`prove`] gives the nodes that prove what a key holds, and [`prove_change`] those that prove which keys changed and how.
+//! - [`prove`] gives the nodes that prove what a key holds.
+//! - [`prove_change`] gives those that prove what a batch is to make of the tree, before it is applied, and [`prove_inversion`]
+//!   those that prove, after it was, which keys changed and how. Both take the root of which the caller speaks, and answer
+//!   `OtherRoot` where the repository has another one.
 //!
 //! Each is what `export` and `change_proofs` answer for one core, under the read lock of its repository (`Host::read`), and
 //! under no other lock: so it is right for some lawful list of accepted writes of this repository. It holds the lock until it
@@ -13,7 +16,9 @@
 mod change_proving;
 mod exporting;
 mod fault;
+mod inversion_proving;
 
 pub use change_proving::prove_change;
 pub use exporting::{car, prove};
-pub use fault::{CarFault, ProveChangeFault, ProveFault};
+pub use fault::{CarFault, ProveChangeFault, ProveFault, ProveInversionFault};
+pub use inversion_proving::prove_inversion;

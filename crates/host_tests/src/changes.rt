@@ -4,13 +4,17 @@ ghost use Rattle.std.specs.Prelude.{◌≡◌};
 
 use crate::seated::{Alone, open_one};
 use block::Block;
-use change_proofs::{ChangeFault, KeyChange, are_key_changes, verify_inversion_blocks};
+use change_proofs::{
+    ChangeFault, ChangeProof, KeyChange, are_key_changes, verify_change_blocks,
+    verify_inversion_blocks,
+};
 use cid::Cid;
 use cid::digests::Toy;
+use edit::{Change, are_changes};
 use host::{Host, Writer};
-use host_exports::{ProveChangeFault, prove_change};
+use host_exports::{ProveChangeFault, ProveInversionFault, prove_change, prove_inversion};
 use notices::Notice;
-use repo_fixtures::batch::{ONE, Step, TWO, batch_at};
+use repo_fixtures::batch::{EMPTY_NODE, ONE, Step, TWO, batch_at};
 use std::alloc::{AllocError, Global};
 use std::process::Abort;
 use std::sync::{Arc, Wait};
@@ -74,19 +78,20 @@ fn told<R: Wait>(
     writer.apply(rt, alloc, 1, &batch.stamp, &batch.writes).ok()
 }
 
-/// The nodes by which repository `repo` proves the second batch's changes. What are no changes is answered as if there were no
-/// memory.
+/// The nodes by which repository `repo`, with this root, proves the second batch's changes. What are no changes is answered as
+/// if there were no memory.
 fn proved<R: Wait>(
     rt: &R,
     alloc: Global,
     host: &Host<Toy, 2>,
     repo: usize,
-) -> Result<Vec<Arc<Block<Toy>>>, ProveChangeFault> {
+    after: Cid,
+) -> Result<Vec<Arc<Block<Toy>>>, ProveInversionFault> {
     let changes = changes();
     if !are_key_changes(&changes) {
-        return Err(ProveChangeFault::NoMemory);
+        return Err(ProveInversionFault::NoMemory);
     }
-    prove_change(rt, alloc, host, repo, &changes)
+    prove_inversion(rt, alloc, host, repo, after, &changes)
 }
 
 /// Why it doesn't prove them.
@@ -95,8 +100,9 @@ fn fault_of<R: Wait>(
     alloc: Global,
     host: &Host<Toy, 2>,
     repo: usize,
-) -> Option<ProveChangeFault> {
-    match proved(rt, alloc, host, repo) {
+    after: Cid,
+) -> Option<ProveInversionFault> {
+    match proved(rt, alloc, host, repo, after) {
         Ok(_) => None,
         Err(fault) => Some(fault),
     }
@@ -170,8 +176,8 @@ fn each_is_missed(alloc: Global, roots: &Roots, nodes: &[Arc<Block<Toy>>]) -> bo
     true
 }
 
-/// Whether a change that is told with another value before it leads to another root, and its place is told where the value after
-/// it is another one.
+/// Whether a change that is told with another value before it leads to another root, and its place is told where the value
+/// after it is another one.
 fn refuse_others(alloc: Global, roots: &Roots, nodes: &[Arc<Block<Toy>>]) -> bool {
     let earlier = match &shown(alloc, roots, nodes, &changes_with(TWO, TWO)) {
         Err(ChangeFault::OtherRoot) => true,
@@ -186,7 +192,7 @@ fn refuse_others(alloc: Global, roots: &Roots, nodes: &[Arc<Block<Toy>>]) -> boo
 
 /// Whether repository 1 proves the changes between two roots, with none of its nodes left out, and no others.
 fn proves<R: Wait>(rt: &R, alloc: Global, host: &Host<Toy, 2>, roots: &Roots) -> bool {
-    match proved(rt, alloc, host, 1) {
+    match proved(rt, alloc, host, 1, roots.after) {
         Ok(nodes) => {
             show(alloc, roots, &nodes)
                 && each_is_missed(alloc, roots, &nodes)
@@ -197,7 +203,8 @@ fn proves<R: Wait>(rt: &R, alloc: Global, host: &Host<Toy, 2>, roots: &Roots) ->
 }
 
 /// Whether a mirror that gets the notices of a repository's batches and its host's proof sees that the second one is right.
-/// Another repository hasn't the values that are told, and a third one isn't there.
+/// Before that batch, and in another repository, the values are other ones than those that are told, and the root is another
+/// one than that after; a third repository isn't there.
 fn is_right<R: Wait + Abort>(rt: &R, alloc: Global) -> bool {
     let opened = open_one::<Toy, 2, R>(rt, alloc, 2, 9);
     let Alone {
@@ -206,23 +213,113 @@ fn is_right<R: Wait + Abort>(rt: &R, alloc: Global) -> bool {
         feed: _,
     } = opened;
     let mut writer = host.writer(seat);
-    let first = told(rt, alloc, &mut writer, 0, FIRST);
-    let early = fault_of(rt, alloc, &host, 1);
-    let second = told(rt, alloc, &mut writer, 1, SECOND);
-    let (Some(first), Some(second)) = (first, second) else {
+    let Some(first) = told(rt, alloc, &mut writer, 0, FIRST) else {
+        return false;
+    };
+    let early = fault_of(rt, alloc, &host, 1, first.root);
+    let Some(second) = told(rt, alloc, &mut writer, 1, SECOND) else {
         return false;
     };
     let roots = Roots {
         before: first.root,
         after: second.root,
     };
-    early == Some(ProveChangeFault::OtherValue(0))
+    let none = Cid::of::<Toy>(EMPTY_NODE);
+    early == Some(ProveInversionFault::OtherValue(0))
         && proves(rt, alloc, &host, &roots)
-        && fault_of(rt, alloc, &host, 0) == Some(ProveChangeFault::OtherValue(1))
-        && fault_of(rt, alloc, &host, 2) == Some(ProveChangeFault::NoSuchRepository)
+        && fault_of(rt, alloc, &host, 1, first.root) == Some(ProveInversionFault::OtherRoot)
+        && fault_of(rt, alloc, &host, 0, none) == Some(ProveInversionFault::OtherValue(1))
+        && fault_of(rt, alloc, &host, 2, none) == Some(ProveInversionFault::NoSuchRepository)
+}
+
+/// A key that gets this record, or goes.
+fn gets(key: &'static [u8], record: Option<&'static [u8]>) -> Change<'static> {
+    Change {
+        key,
+        value: record.map(|record| Cid::of::<Toy>(record)),
+    }
+}
+
+/// What the second batch makes of repository `repo` with this root. What are no changes is answered as if there were no memory.
+fn step_of<R: Wait>(
+    rt: &R,
+    alloc: Global,
+    host: &Host<Toy, 2>,
+    repo: usize,
+    before: Cid,
+) -> Result<ChangeProof<'static, Toy>, ProveChangeFault> {
+    let batch = [
+        gets(b"a/p0", None),
+        gets(b"a/q0", Some(TWO)),
+        gets(b"a/q2", Some(TWO)),
+        gets(b"a/r1", Some(ONE)),
+    ];
+    if !are_changes(&batch) {
+        return Err(ProveChangeFault::NoMemory);
+    }
+    prove_change(rt, alloc, host, repo, before, &batch)
+}
+
+/// Why it proves no step.
+fn no_step_of<R: Wait>(
+    rt: &R,
+    alloc: Global,
+    host: &Host<Toy, 2>,
+    repo: usize,
+    before: Cid,
+) -> Option<ProveChangeFault> {
+    match step_of(rt, alloc, host, repo, before) {
+        Ok(_) => None,
+        Err(fault) => Some(fault),
+    }
+}
+
+/// Whether this proof shows the second batch's changes between two roots.
+fn is_step(alloc: Global, proof: &ChangeProof<'_, Toy>, roots: &Roots) -> bool {
+    let told = proof.changes.as_slice();
+    if !are_key_changes(told) {
+        return false;
+    }
+    let Roots { before, after } = *roots;
+    proof.after == after
+        && told.len() == 4
+        && verify_change_blocks::<Toy, 2, _>(alloc, before, after, &proof.nodes, told).is_ok()
+}
+
+/// Whether a host proves what a batch makes of a repository before it comes, and no more once it has come.
+fn is_foreseen<R: Wait + Abort>(rt: &R, alloc: Global) -> bool {
+    let opened = open_one::<Toy, 2, R>(rt, alloc, 2, 9);
+    let Alone {
+        host,
+        seat,
+        feed: _,
+    } = opened;
+    let mut writer = host.writer(seat);
+    let Some(first) = told(rt, alloc, &mut writer, 0, FIRST) else {
+        return false;
+    };
+    let step = step_of(rt, alloc, &host, 1, first.root);
+    let Some(second) = told(rt, alloc, &mut writer, 1, SECOND) else {
+        return false;
+    };
+    let Ok(step) = step else {
+        return false;
+    };
+    let roots = Roots {
+        before: first.root,
+        after: second.root,
+    };
+    is_step(alloc, &step, &roots)
+        && no_step_of(rt, alloc, &host, 1, first.root) == Some(ProveChangeFault::OtherRoot)
+        && no_step_of(rt, alloc, &host, 2, first.root) == Some(ProveChangeFault::NoSuchRepository)
 }
 
 #[test]
-fn a_host_proves_a_change(rt: HostRuntime) {
+fn a_host_proves_an_inversion(rt: HostRuntime) {
     assert!(rt; is_right(&rt, rt.alloc()));
+}
+
+#[test]
+fn a_host_proves_a_step(rt: HostRuntime) {
+    assert!(rt; is_foreseen(&rt, rt.alloc()));
 }

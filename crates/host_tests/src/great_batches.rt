@@ -14,7 +14,7 @@ use closing::Closed;
 use ended::Ended;
 use export::verify;
 use host::{Host, Limits, Opened, Version, Writer};
-use host_exports::{prove, prove_change};
+use host_exports::{prove, prove_inversion};
 use repo_fixtures::batch::{Batch, EMPTY_NODE, Step, batch_at, write_of};
 use std::alloc::{AllocError, Global};
 use std::process::Abort;
@@ -219,7 +219,7 @@ fn proves_all<R: Wait>(
         return false;
     }
     let before = Cid::of::<Toy>(EMPTY_NODE);
-    match prove_change(rt, alloc, host, 0, changes) {
+    match prove_inversion(rt, alloc, host, 0, root, changes) {
         Ok(nodes) => verify_inversion_blocks::<Toy, 2, _>(
             alloc, before, root, &nodes, changes,
         ).is_ok(),

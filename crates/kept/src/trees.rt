@@ -1,7 +1,7 @@
 //! Look-ups, walks and edits in the trees of what is kept.
 
 ghost use Rattle.std.specs.Prelude.{◌≡◌, ◌≤◌, true, IfOk};
-ghost use Rattle.edit.specs.Batches.{are_changes};
+ghost use Rattle.key_changes.specs.Keyed.{are_changes};
 ghost use Rattle.kept.specs.Trees.{OfTree, IsValue, AreListed, IsReadOnce, IsApplied, IsApplyRefusal, AreReadFor, IsReadAtMost};
 
 use crate::kept::Kept;

@@ -1,13 +1,15 @@
-//! Changes of keys, each told with what its key had before and what it has after.
+//! Changes of keys.
 //!
-//! Proofs of a change and messages of the event stream both speak of these. Whoever only names them stands on no repository.
+//! A batch says of each key what it is to have; proofs of a change and messages of the event stream tell also what it had.
+//! Whoever names changes stands on no tree and no repository.
 //!
-//! - [`KeyChange`] is a key, and the CID of its record before and after.
-//! - [`are_key_changes`] tells whether the keys ascend and have lengths that a tree takes.
+//! - [`Change`] is a key and the value that it is to have; [`KeyChange`] a key, and the CID of its record before and after.
+//! - [`are_changes`] and [`are_key_changes`] tell whether the keys ascend and have lengths that a tree takes. [`Keyed`] is what
+//!   both kinds of changes have in common, and [`are_keyed`] the test of it.
 #![tactic(auto)]
 
 mod change;
 mod keyed;
 
-pub use change::KeyChange;
-pub use keyed::are_key_changes;
+pub use change::{Change, KeyChange};
+pub use keyed::{Keyed, are_changes, are_key_changes, are_keyed};

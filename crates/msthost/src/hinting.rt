@@ -4,12 +4,12 @@ use std::io::{self, Read, Write};
 /// What the commands read.
 static READ: [(&str, &str); 10] = [
     ("tree", "lines KEY CID"),
-    ("car", "lines KEY HEX"),
-    ("prove", "lines KEY HEX"),
+    ("car", "lines KEY HEX, or KEY JSON with --json"),
+    ("prove", "lines KEY HEX, or KEY JSON with --json"),
     ("verify", "lines HEX"),
     (
         "prove-change",
-        "lines KEY HEX, an empty line, and lines put KEY HEX, create KEY HEX, update KEY HEX and delete KEY",
+        "lines KEY HEX, an empty line, and lines put KEY HEX, create KEY HEX, update KEY HEX and delete KEY, with JSON in place of HEX where --json is given",
     ),
     ("verify-change", "what prove-change writes"),
     ("check", "a CAR file"),

@@ -1,5 +1,5 @@
 -- What the option `--json` of a command says.
-use Rattle.std.specs.Prelude.{◌≡◌, ℕ, List, Some, codes}
+use Rattle.std.specs.Prelude.{◌≡◌, List, Some, codes}
 use Rattle.clap.specs.Simple.{new_rule}
 use Rattle.clap.specs.Walk.{Row, Rule, one_of}
 use Rattle.clap.specs.declared.builder.action.ArgAction.TheVariants.{SetTrue}

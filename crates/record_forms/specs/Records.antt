@@ -1,6 +1,7 @@
 -- Records as words of lines: in hexadecimal, or as JSON (the first is a choice of this project; AT Protocol data model).
-use Rattle.std.specs.Prelude.{ℕ, List, [], ◌∷◌, Option, Some, None, Result, Ok, Err, if◌then◌else◌}
+use Rattle.std.specs.Prelude.{ℕ, List, [], ◌∷◌, Option, Some, None, Result, Ok, Err, if◌then◌else◌, unwrap_or}
 use Rattle.std.specs.Str.{is_utf8}
+use Rattle.hex.specs.Hex.{encode_lower}
 use Rattle.spec.specs.DagCbor.{Value, read, spelling}
 use Rattle.console.specs.Lines.{bytes_of_hex}
 use Rattle.record_json.specs.Form.{has_form, json_of}
@@ -56,3 +57,14 @@ json_of_read (Err f) = None
 -- the one text of a record by its bytes, if it has one
 abbrev pub json_of_record : List ℕ → Option (List ℕ)
 json_of_record bytes = json_of_read (read bytes)
+
+-- ---- from a record to a word
+
+-- its text, or where it has none its bytes in hexadecimal
+abbrev pub json_or_hex : List ℕ → List ℕ
+json_or_hex bytes = unwrap_or (json_of_record bytes) (encode_lower bytes)
+
+-- the word of a record by its bytes
+abbrev pub word_of_record : Form → List ℕ → List ℕ
+word_of_record forms.Hex bytes = encode_lower bytes
+word_of_record forms.Json bytes = json_or_hex bytes

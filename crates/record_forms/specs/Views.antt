@@ -1,5 +1,5 @@
 -- What was read of a word, as the definitions see it.
-use Rattle.std.specs.Prelude.{ℕ, List, Result, Ok, Err, Vec, String, string_bytes, unwrap_or}
+use Rattle.std.specs.Prelude.{ℕ, List, Result, Ok, Err, Vec, string_bytes, unwrap_or}
 use Rattle.record_json.specs.Reading.{Fault, NotJson}
 use Rattle.record_json.specs.Kinds.{kind_of}
 use Rattle.record_json.specs.declared.fault.JsonFaultKind.{JsonFaultKind}

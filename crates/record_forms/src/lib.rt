@@ -2,6 +2,7 @@
 //!
 //! - [`record_of_word`] gives the bytes of the record that a word stands for in a [`Form`], or why it stands for none
 //!   ([`WordFault`]).
+//! - [`word_of_record`] gives the word of a record in a form, and hexadecimal where it has no JSON.
 //! - [`json_of_record`] gives the JSON of a record by its bytes, where it has one, and [`has_json`] whether it has.
 //! - [`json_option`] is a command's option `--json`, and [`form_of`] the form that its words ask for.
 //! - [`json_fault_name`] and [`JsonFaultText`] are what standard error shows of a fault of JSON.
@@ -19,4 +20,4 @@ pub use form::Form;
 pub use names::{JsonFaultText, json_fault_name};
 pub use options::{form_of, json_option};
 pub use reading::record_of_word;
-pub use writing::{has_json, json_of_record};
+pub use writing::{has_json, json_of_record, word_of_record};

@@ -9,13 +9,10 @@ pub enum RecordFault {
     /// The record has more than 1,048,576 bytes.
     #[error("the record is too long")]
     RecordSize,
-    /// The record isn't DAG-CBOR: the first fault in it.
+    /// The record isn't DAG-CBOR: the first fault in it, which is never a want of memory.
     #[error("the record is not DAG-CBOR")]
     BadRecord(CborFault),
     /// The record is DAG-CBOR, but no map (AT Protocol data model).
     #[error("the record is not a map")]
     NotAMap,
-    /// Memory was refused.
-    #[error("out of memory")]
-    NoMemory,
 }

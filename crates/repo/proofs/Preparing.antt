@@ -14,7 +14,7 @@ use Rattle.batches.specs.Values.{stamp_of, write_of, shared_writes}
 use Rattle.batches.specs.Write as Code
 use Rattle.batches.specs.declared.fault.RepoFault.{RepoFault}
 use Rattle.batches.specs.declared.stamp.Stamp.{Stamp}
-use Rattle.edit.specs.Batches.{are_changes}
+use Rattle.key_changes.specs.Keyed.{are_changes}
 use Rattle.kept.specs.Counts.{Keeping}
 use Rattle.repo.specs.Cores.{IsCore}
 use Rattle.repo.specs.Edits.{IsEditRefusal, IsTestedOn}

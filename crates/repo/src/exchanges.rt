@@ -6,7 +6,7 @@ ghost use Rattle.std.specs.Arc.{arc_value};
 ghost use Rattle.spec.specs.Commits.{commit_bytes};
 ghost use Rattle.batch_laws.specs.Collecting.{with_cids};
 ghost use Rattle.batch_laws.specs.Uses.{given, records_come};
-ghost use Rattle.edit.specs.Batches.{are_changes};
+ghost use Rattle.key_changes.specs.Keyed.{are_changes};
 ghost use Rattle.kept.specs.Trees.{OfTree};
 ghost use Rattle.batches.specs.Values.{stamp_of};
 ghost use Rattle.repo.specs.Edits.{HasSomeTree, IsEditMade, IsEditRefusal, IsExchangeMade, OnTested};

@@ -39,7 +39,7 @@ pub(crate) fn test_writes<'w, D: Digest, const B: u8, A: Allocator + Copy>(
 {
     let mut changes = Collected::new(alloc);
     for (place, write) in writes.iter().enumerate() {
-        match take_write::<D, B, A>(kept, alloc, place < room, root, &mut changes, write) {
+        match take_write::<D, B, A>(kept, place < room, root, &mut changes, write) {
             Ok(_) => {}
             Err(fault) => return Err((place, fault)),
         }
@@ -50,7 +50,6 @@ pub(crate) fn test_writes<'w, D: Digest, const B: u8, A: Allocator + Copy>(
 /// Tests one write after those whose changes these are, and puts its change to them. It answers how many blocks were read.
 fn take_write<'w, D: Digest, const B: u8, A: Allocator + Copy>(
     kept: &Kept<D, A>,
-    alloc: A,
     room: bool,
     root: Cid,
     changes: &mut Collected<'w, A>,
@@ -68,7 +67,7 @@ fn take_write<'w, D: Digest, const B: u8, A: Allocator + Copy>(
     ensures unread { IfOk result (IsUnread (changes_in changes.old)
         (write_of (arc_value write.now))) }
 {
-    match test_next::<D, B, A>(kept, alloc, room, root, changes, write) {
+    match test_next::<D, B, A>(kept, room, root, changes, write) {
         Ok(looked) => {
             changes.collect(write)?;
             Ok(looked)
@@ -81,7 +80,6 @@ fn take_write<'w, D: Digest, const B: u8, A: Allocator + Copy>(
 /// many blocks were read.
 fn test_next<D: Digest, const B: u8, A: Allocator + Copy>(
     kept: &Kept<D, A>,
-    alloc: A,
     room: bool,
     root: Cid,
     changes: &Collected<'_, A>,
@@ -100,7 +98,7 @@ fn test_next<D: Digest, const B: u8, A: Allocator + Copy>(
     }
     let found = there_next::<D, B, A>(kept, root, changes, write);
     let (there, looked) = found;
-    match test_write(alloc, there, write) {
+    match test_write(there, write) {
         Ok(()) => Ok(looked),
         Err(fault) => Err(fault),
     }

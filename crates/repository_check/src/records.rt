@@ -26,15 +26,14 @@ pub(crate) fn records_in<'f, A: Allocator + Copy>(
 {
     let mut records = Vec::with_capacity(alloc, pairs.len())?;
     for (place, (key, cid)) in pairs.iter().enumerate() {
-        let record = record_at(alloc, places, place as u64, key, cid)?;
+        let record = record_at(places, place as u64, key, cid)?;
         records.push(record)?;
     }
     Ok(records)
 }
 
 /// The bytes of the record of the pair at this place.
-fn record_at<'f, A: Allocator + Copy>(
-    alloc: A,
+fn record_at<'f, A: Allocator>(
     places: &Places<'_, 'f, A>,
     place: u64,
     key: &[u8],
@@ -49,7 +48,7 @@ fn record_at<'f, A: Allocator + Copy>(
     let Some(record) = places.find(cid) else {
         return Err(CheckFault::Record(place, RecordFault::NoRecord));
     };
-    match test_record(alloc, record) {
+    match test_record(record) {
         Ok(()) => Ok(record),
         Err(fault) => Err(fault_at(place, fault)),
     }
@@ -68,7 +67,6 @@ fn fault_at(place: u64, fault: record_rules::RecordFault) -> CheckFault
             CheckFault::Record(place, RecordFault::BadRecord(fault))
         }
         record_rules::RecordFault::NotAMap => CheckFault::Record(place, RecordFault::NotAMap),
-        record_rules::RecordFault::NoMemory => CheckFault::NoMemory,
     }
 }
 

@@ -9,7 +9,7 @@ use Rattle.console.specs.Written.{AppendsBeginning, AppendsText}
 use Rattle.console.specs.declared.fault.CommandFault.{CommandFault}
 use Rattle.console.specs.declared.fault.CommandFault.TheVariants as commands
 use Rattle.console.specs.declared.writing.WriteFault.TheVariants as writes
-use Rattle.repository_commands.specs.Faults.{command_status, text_fault_of, is_of_words, status_of, EndsEarly, IfNoText, IsNoTextAnd, TellsFaultyWord, TellsWords}
+use Rattle.repository_commands.specs.Faults.{command_status, text_fault_of, is_of_words, status_of, EndsEarly, EndsWords, IfNoText, IsNoTextAnd, TellsFaultyWord, TellsWords}
 use Rattle.repository_commands.specs.Outcomes.{HasReason, IsFaulty, IsMade, IsOutcome, Reasons, Texts}
 use Rattle.repository_commands.specs.Texts.{text_or_nothing}
 use Rattle.repository_commands.specs.declared.fault.TextFault.{TextFault}
@@ -96,6 +96,11 @@ module _ {X D A : Type 0} (view : X → List ℕ) where
   told_on old new (Ok x) r told w = absurd told
   told_on old new (Err f) r told w = subst (λ (q : Result (Unit {0}) (CommandFault (TextFault D A))). TellsFaultyWord q) (sym w.0) told
 
+  pub ended_on : (old new : Option (List ℕ)) (made : Result X (TextFault D A)) (r : Result (Unit {0}) (CommandFault (TextFault D A)))
+      → EndsWords made → IsWritten view made old new r → EndsEarly r
+  ended_on old new (Ok x) r told w = absurd told
+  ended_on old new (Err f) r told w = subst (λ (q : Result (Unit {0}) (CommandFault (TextFault D A))). EndsEarly q) (sym w.0) told
+
 -- ---- early ends
 
 -- a fault of a word ends a command early
@@ -112,6 +117,8 @@ of_words errors.NoMemory is = absurd cc
 of_words errors.ReadFailed is = absurd cc
 of_words errors.BadDid is = refl
 of_words errors.BadRev is = refl
+of_words errors.BadSig is = refl
+of_words errors.NothingToSign is = refl
 of_words (errors.Root f) is = refl
 of_words (errors.BadBefore f) is = refl
 of_words (errors.BadAfter f) is = refl

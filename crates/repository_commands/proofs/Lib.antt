@@ -3,4 +3,3 @@ pub mod Listing
 pub mod Repositories
 pub mod Endings
 pub mod Making
-pub mod Readings

@@ -5,10 +5,11 @@ use Rattle.spec.specs.Reading.{◌>>=◌, Gives, Fails}
 use Rattle.spec.specs.Cid.{cid_of_text}
 use Rattle.spec.specs.Stamps.{Stamp}
 use Rattle.console.specs.Lines.{numbered_lines}
+use Rattle.record_forms.specs.declared.form.Form.{Form}
 use Rattle.repository_commands.specs.Puts.{Given, given_in}
 use Rattle.repository_commands.specs.Faults.{Fault, text_fault_of}
 use Rattle.repository_commands.specs.Outcomes.{IsMade, Texts}
-use Rattle.repository_commands.specs.Texts.{stamp_check, key_check, car_of_given, car_text, proof_of_given, prove_text, blocks_of_lines, or_bad_root, answer_of_blocks, verify_text}
+use Rattle.repository_commands.specs.Texts.{stamp_check, signing_check, key_check, car_of_given, car_text, signed_car_of_given, signed_car_text, proof_of_given, prove_text, blocks_of_lines, or_bad_root, answer_of_blocks, verify_text}
 use Rattle.repository_commands.specs.declared.fault.TextFault.{TextFault}
 use Rattle.repository_commands.proofs.Endings.{always_known, for_known}
 
@@ -42,21 +43,30 @@ module _ {X D A : Type 0} (view : X → List ℕ) (text : Texts) (input : Option
 
 -- ---- the texts, step by step
 
-pub car_unchecked : (digest : List ℕ → List ℕ) (stamp : Stamp) (o : Option Fault) → Fails o (stamp_check stamp) → (xs : List ℕ) → Fails o (car_text digest stamp xs)
+pub car_unchecked : (digest : List ℕ → List ℕ) (form : Form) (stamp : Stamp) (o : Option Fault) → Fails o (stamp_check stamp) → (xs : List ℕ) → Fails o (car_text digest form stamp xs)
 unfolding car_text
-car_unchecked digest stamp o e xs = fails_then o (stamp_check stamp) (λ _. car_of_given digest stamp (given_in xs)) e
+car_unchecked digest form stamp o e xs = fails_then o (stamp_check stamp) (λ _. car_of_given digest stamp (given_in form xs)) e
 
-pub car_checked : (digest : List ℕ → List ℕ) (stamp : Stamp) (given : Given) (xs : List ℕ) → stamp_check stamp ≡ Ok tt → given ≡ given_in xs → car_text digest stamp xs ≡ car_of_given digest stamp given
+pub car_checked : (digest : List ℕ → List ℕ) (form : Form) (stamp : Stamp) (given : Given) (xs : List ℕ) → stamp_check stamp ≡ Ok tt → given ≡ given_in form xs → car_text digest form stamp xs ≡ car_of_given digest stamp given
 unfolding car_text
-car_checked digest stamp given xs e is = gives_then (stamp_check stamp) tt (λ _. car_of_given digest stamp (given_in xs)) e ∙ ap (car_of_given digest stamp) (sym is)
+car_checked digest form stamp given xs e is = gives_then (stamp_check stamp) tt (λ _. car_of_given digest stamp (given_in form xs)) e ∙ ap (car_of_given digest stamp) (sym is)
 
-pub prove_unchecked : (digest : List ℕ → List ℕ) (stamp : Stamp) (key : List ℕ) (o : Option Fault) → Fails o (key_check key) → (xs : List ℕ) → Fails o (prove_text digest stamp key xs)
-unfolding prove_text
-prove_unchecked digest stamp key o e xs = fails_then o (key_check key) (λ _. proof_of_given digest stamp key (given_in xs)) e
+pub signing_unchecked : (digest : List ℕ → List ℕ) (form : Form) (stamp : Stamp) (word : List ℕ) (o : Option Fault) → Fails o (signing_check stamp word) → (xs : List ℕ) → Fails o (signed_car_text digest form stamp word xs)
+unfolding signed_car_text
+signing_unchecked digest form stamp word o e xs = fails_then o (signing_check stamp word) (λ sig. signed_car_of_given digest stamp sig (given_in form xs)) e
 
-pub prove_checked : (digest : List ℕ → List ℕ) (stamp : Stamp) (key : List ℕ) (given : Given) (xs : List ℕ) → key_check key ≡ Ok tt → given ≡ given_in xs → prove_text digest stamp key xs ≡ proof_of_given digest stamp key given
+pub signing_checked : (digest : List ℕ → List ℕ) (form : Form) (stamp : Stamp) (word sig : List ℕ) (given : Given) (xs : List ℕ) → signing_check stamp word ≡ Ok sig → given ≡ given_in form xs → signed_car_text digest form stamp word xs ≡ signed_car_of_given digest stamp sig given
+unfolding signed_car_text
+signing_checked digest form stamp word sig given xs e is =
+    gives_then (signing_check stamp word) sig (λ s. signed_car_of_given digest stamp s (given_in form xs)) e ∙ ap (signed_car_of_given digest stamp sig) (sym is)
+
+pub prove_unchecked : (digest : List ℕ → List ℕ) (form : Form) (stamp : Stamp) (key : List ℕ) (o : Option Fault) → Fails o (key_check key) → (xs : List ℕ) → Fails o (prove_text digest form stamp key xs)
 unfolding prove_text
-prove_checked digest stamp key given xs e is = gives_then (key_check key) tt (λ _. proof_of_given digest stamp key (given_in xs)) e ∙ ap (proof_of_given digest stamp key) (sym is)
+prove_unchecked digest form stamp key o e xs = fails_then o (key_check key) (λ _. proof_of_given digest stamp key (given_in form xs)) e
+
+pub prove_checked : (digest : List ℕ → List ℕ) (form : Form) (stamp : Stamp) (key : List ℕ) (given : Given) (xs : List ℕ) → key_check key ≡ Ok tt → given ≡ given_in form xs → prove_text digest form stamp key xs ≡ proof_of_given digest stamp key given
+unfolding prove_text
+prove_checked digest form stamp key given xs e is = gives_then (key_check key) tt (λ _. proof_of_given digest stamp key (given_in form xs)) e ∙ ap (proof_of_given digest stamp key) (sym is)
 
 module _ (digest : List ℕ → List ℕ) (root key : List ℕ) where
   -- a faulty root, a faulty key

@@ -158,6 +158,7 @@ module _ {D A : Type 0} (digest : List ℕ → List ℕ) (s : State) (stamp : St
 module _ {D A P Q : Type 0} (digest : List ℕ → List ℕ) (s : State) (stamp : Stamp) (given : Given) (follows : P → Q) where
   line_further : (n : ℕ) (fault : LineFault D A) → IsLineFault digest s stamp given P n fault → IsLineFault digest s stamp given Q n fault
   line_further n lines.BadLine is = tt
+  line_further n (lines.BadJson kind path) is = tt
   line_further n lines.OtherValue is = absurd is
   line_further n (lines.Refused fault) is = record {
     place = is.place;
@@ -172,6 +173,8 @@ module _ {D A P Q : Type 0} (digest : List ℕ → List ℕ) (s : State) (stamp 
   further (errors.Line n fault) is = line_further n fault is
   further errors.BadDid is = tt
   further errors.BadRev is = tt
+  further errors.BadSig is = tt
+  further errors.NothingToSign is = tt
   further (errors.Root f) is = tt
   further (errors.BadBefore f) is = absurd is
   further (errors.BadAfter f) is = absurd is
@@ -196,10 +199,13 @@ module _ {D A P Q : Type 0} (digest : List ℕ → List ℕ) (s : State) (stamp 
 
 bad_line_named : {D A : Type 0} (digest : List ℕ → List ℕ) (s : State) (stamp : Stamp) (given : Given) (P : Type 0) (f : TextFault D A) → is_bad_line f ≡ true → IsRefusedLine digest s stamp given P f
 bad_line_named digest s stamp given P (errors.Line n lines.BadLine) e = tt
+bad_line_named digest s stamp given P (errors.Line n (lines.BadJson kind path)) e = tt
 bad_line_named digest s stamp given P (errors.Line n (lines.Refused f)) e = absurd cc
 bad_line_named digest s stamp given P (errors.Line n lines.OtherValue) e = absurd cc
 bad_line_named digest s stamp given P errors.BadDid e = absurd cc
 bad_line_named digest s stamp given P errors.BadRev e = absurd cc
+bad_line_named digest s stamp given P errors.BadSig e = absurd cc
+bad_line_named digest s stamp given P errors.NothingToSign e = absurd cc
 bad_line_named digest s stamp given P (errors.Root f) e = absurd cc
 bad_line_named digest s stamp given P (errors.BadBefore f) e = absurd cc
 bad_line_named digest s stamp given P (errors.BadAfter f) e = absurd cc
@@ -207,7 +213,7 @@ bad_line_named digest s stamp given P (errors.Proof f) e = absurd cc
 bad_line_named digest s stamp given P errors.OtherBefore e = absurd cc
 bad_line_named digest s stamp given P errors.OtherAfter e = absurd cc
 bad_line_named digest s stamp given P (errors.Change f) e = absurd cc
-bad_line_named digest s stamp given P errors.NoMemory e = absurd cc
+bad_line_named digest s stamp given P errors.NoMemory e = tt
 bad_line_named digest s stamp given P errors.ReadFailed e = absurd cc
 
 pub bad_line_refused : {X D A : Type 0} (digest : List ℕ → List ℕ) (s : State) (stamp : Stamp) (given : Given) (P : Type 0) (r : Result X (TextFault D A)) → IfErr r (λ e. is_bad_line e ≡ true) → IfErr r (IsRefusedLine digest s stamp given P)

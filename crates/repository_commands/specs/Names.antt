@@ -1,6 +1,6 @@
 -- The names of faults, as standard error shows them (a choice of this project): a fault inside a fault
 -- stands in parentheses, and so does the CID of the block that a fault names.
-use Rattle.std.specs.Prelude.{ℕ, List, ◌++◌, codes, decimal}
+use Rattle.std.specs.Prelude.{ℕ, List, ◌++◌, codes, decimal, string_bytes}
 use Rattle.spec.specs.Cid.{text}
 use Rattle.batches.specs.Names.{refusal_name}
 use Rattle.change_proofs.specs.declared.change_fault.ChangeFault.{ChangeFault}
@@ -11,6 +11,7 @@ use Rattle.export.specs.declared.proof_fault.ProofFault.{ProofFault}
 use Rattle.export.specs.declared.proof_fault.ProofFault.TheVariants as of_proof
 use Rattle.node.specs.declared.fault.NodeFault.{NodeFault}
 use Rattle.node.specs.declared.fault.NodeFault.TheVariants as of_node
+use Rattle.record_forms.specs.Names.{json_fault_text}
 use Rattle.repository_commands.specs.declared.fault.TextFault.{TextFault}
 use Rattle.repository_commands.specs.declared.fault.TextFault.TheVariants as of_text
 use Rattle.repository_commands.specs.declared.fault.LineFault.{LineFault}
@@ -42,6 +43,7 @@ proof_fault_name of_proof.KeyLength = codes "KeyLength"
 
 abbrev pub line_fault_name : {D A : Type 0} → LineFault D A → List ℕ
 line_fault_name of_line.BadLine = codes "BadLine"
+line_fault_name (of_line.BadJson kind path) = json_fault_text kind (string_bytes path)
 line_fault_name (of_line.Refused fault) = refusal_name fault
 line_fault_name of_line.OtherValue = codes "OtherValue"
 
@@ -61,6 +63,8 @@ of_line_number n name = codes "line " ++ (decimal n ++ (codes ": " ++ name))
 abbrev pub fault_text : {D A : Type 0} → TextFault D A → List ℕ
 fault_text of_text.BadDid = codes "BadDid"
 fault_text of_text.BadRev = codes "BadRev"
+fault_text of_text.BadSig = codes "BadSig"
+fault_text of_text.NothingToSign = codes "NothingToSign"
 fault_text (of_text.Root fault) = root_fault_name fault
 fault_text (of_text.BadBefore fault) = codes "BadBefore(" ++ (root_fault_name fault ++ codes ")")
 fault_text (of_text.BadAfter fault) = codes "BadAfter(" ++ (root_fault_name fault ++ codes ")")

@@ -5,6 +5,7 @@ use Rattle.spec.specs.States.{State}
 use Rattle.batches.specs.declared.fault.RepoFault.{RepoFault}
 use Rattle.batches.specs.declared.fault.RepoFault.TheVariants as faults
 use Rattle.repo.specs.Refusals.{IsRefusal}
+use Rattle.record_forms.specs.declared.form.Form.{Form}
 use Rattle.repository_commands.specs.Puts.{Given, given_in}
 use Rattle.repository_commands.specs.Shards.{WasFull}
 use Rattle.repository_commands.specs.Texts.{no_writes}
@@ -33,6 +34,7 @@ pub record IsRefusedAt {D A : Type 0} (digest : List ℕ → List ℕ) (s : Stat
 abbrev pub IsLineFault : {D A : Type 0} → (List ℕ → List ℕ) → State → Stamp → Given → Type 0 → ℕ
     → LineFault D A → Type 0
 IsLineFault digest s stamp given when_full n lines.BadLine = ⊤
+IsLineFault digest s stamp given when_full n (lines.BadJson kind path) = ⊤
 IsLineFault digest s stamp given when_full n lines.OtherValue = ⊥
 IsLineFault digest s stamp given when_full n (lines.Refused fault) =
     IsRefusedAt digest s stamp given when_full n fault
@@ -44,6 +46,8 @@ IsRefusedLine digest s stamp given when_full (errors.Line n fault) =
     IsLineFault digest s stamp given when_full n fault
 IsRefusedLine digest s stamp given when_full errors.BadDid = ⊤
 IsRefusedLine digest s stamp given when_full errors.BadRev = ⊤
+IsRefusedLine digest s stamp given when_full errors.BadSig = ⊤
+IsRefusedLine digest s stamp given when_full errors.NothingToSign = ⊤
 IsRefusedLine digest s stamp given when_full (errors.Root f) = ⊤
 IsRefusedLine digest s stamp given when_full (errors.Proof f) = ⊤
 IsRefusedLine digest s stamp given when_full errors.NoMemory = ⊤
@@ -52,10 +56,10 @@ IsRefusedLine digest s stamp given when_full fault = ⊥
 
 -- of the lines of an input, by a store that the command has for itself: it has answered that it's
 -- full only where a shard was
-abbrev pub IsRefusedIn : {D A : Type 0} → (List ℕ → List ℕ) → Stamp → List ℕ → TextFault D A
-    → Type 0
-IsRefusedIn digest stamp input e =
-    IsRefusedLine digest no_writes stamp (given_in input) (WasFull digest) e
+abbrev pub IsRefusedIn : {D A : Type 0} → (List ℕ → List ℕ) → Form → Stamp → List ℕ
+    → TextFault D A → Type 0
+IsRefusedIn digest form stamp input e =
+    IsRefusedLine digest no_writes stamp (given_in form input) (WasFull digest) e
 
 -- the fault of a line that is refused
 abbrev pub refused : {D A : Type 0} → ℕ → RepoFault D A → TextFault D A
@@ -68,7 +72,9 @@ is_refusal (errors.Line n (lines.Refused f)) = true
 is_refusal (errors.Change f) = true
 is_refusal fault = false
 
--- a line that is none of the command's
+-- a line that is none of the command's, or memory that was refused to what is said of one
 abbrev pub is_bad_line : {D A : Type 0} → TextFault D A → Bool
 is_bad_line (errors.Line n lines.BadLine) = true
+is_bad_line (errors.Line n (lines.BadJson kind path)) = true
+is_bad_line errors.NoMemory = true
 is_bad_line fault = false

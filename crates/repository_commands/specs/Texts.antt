@@ -11,9 +11,12 @@ use Rattle.spec.specs.Proof.{ProofFault, KeyLength, path, verified}
 use Rattle.spec.specs.Stamps.{Stamp, is_did, is_tid}
 use Rattle.spec.specs.Writes.{Write, WriteFault, batch_test}
 use Rattle.spec.specs.States.{State, fresh, after_batch, records, state_root, state_car}
+use Rattle.export_laws.specs.SignedCars.{state_signed_car}
 use Rattle.console.specs.Lines.{numbered_lines, bytes_of_hex}
 use Rattle.repository_commands.specs.Puts.{Given, given_in}
-use Rattle.repository_commands.specs.Faults.{Fault, BadDid, BadRev, OfRoot, OfProof, Line, BadLine, OfWrite}
+use Rattle.record_forms.specs.Records.{WordFault}
+use Rattle.record_forms.specs.declared.form.Form.{Form}
+use Rattle.repository_commands.specs.Faults.{Fault, BadDid, BadRev, BadSig, NothingToSign, OfRoot, OfProof, Line, BadLine, OfWrite, of_word}
 
 -- ---- the repository of some puts
 
@@ -36,9 +39,9 @@ at_its_line numbers (Ok ok) = Ok ok
 at_its_line numbers (Err f) = Err (Line (slice_index numbers f.0) (OfWrite f.1))
 
 -- and a line that is no write by its own
-abbrev pub unless_stopped : Option ℕ → Result (Unit {0}) Fault
+abbrev pub unless_stopped : Option (ℕ × WordFault) → Result (Unit {0}) Fault
 unless_stopped None = Ok tt
-unless_stopped (Some n) = Err (Line n BadLine)
+unless_stopped (Some s) = Err (Line s.0 (of_word s.1))
 
 -- the writes are tested in their order, on a repository
 abbrev pub writes_check : State → Given → Result (Unit {0}) Fault
@@ -66,10 +69,40 @@ car_of_given digest stamp given = do
   s ← state_of_given no_writes stamp given
   Ok (state_car digest 2 s)
 
-unfoldable pub car_text : (List ℕ → List ℕ) → Stamp → List ℕ → Result (List ℕ) Fault
-car_text digest stamp input = do
+unfoldable pub car_text : (List ℕ → List ℕ) → Form → Stamp → List ℕ → Result (List ℕ) Fault
+car_text digest form stamp input = do
   stamp_ok ← stamp_check stamp
-  car_of_given digest stamp (given_in input)
+  car_of_given digest stamp (given_in form input)
+
+-- ---- `car --sig`
+
+-- the signature of a word in hexadecimal, or that it is none
+abbrev pub or_bad_sig : Option (List ℕ) → Result (List ℕ) Fault
+or_bad_sig None = Err BadSig
+or_bad_sig (Some sig) = Ok sig
+
+-- the words, which are judged before the input is read: the stamp, and then the signature
+abbrev pub signing_check : Stamp → List ℕ → Result (List ℕ) Fault
+signing_check stamp word = do
+  stamp_ok ← stamp_check stamp
+  or_bad_sig (bytes_of_hex word)
+
+-- the file of a signed commit; without a batch there is no commit
+abbrev pub or_nothing_signed : Option (List ℕ) → Result (List ℕ) Fault
+or_nothing_signed None = Err NothingToSign
+or_nothing_signed (Some file) = Ok file
+
+-- the file of the repository as a server has it, with its commit signed so
+abbrev pub signed_car_of_given : (List ℕ → List ℕ) → Stamp → List ℕ → Given → Result (List ℕ) Fault
+signed_car_of_given digest stamp sig given = do
+  s ← state_of_given no_writes stamp given
+  or_nothing_signed (state_signed_car digest 2 s sig)
+
+unfoldable pub signed_car_text : (List ℕ → List ℕ) → Form → Stamp → List ℕ → List ℕ
+    → Result (List ℕ) Fault
+signed_car_text digest form stamp word input = do
+  sig ← signing_check stamp word
+  signed_car_of_given digest stamp sig (given_in form input)
 
 -- ---- `prove`
 
@@ -103,10 +136,11 @@ proof_of_given digest stamp key given = do
   p ← path_of_given digest stamp key given
   Ok (text_of_path p)
 
-unfoldable pub prove_text : (List ℕ → List ℕ) → Stamp → List ℕ → List ℕ → Result (List ℕ) Fault
-prove_text digest stamp key input = do
+unfoldable pub prove_text : (List ℕ → List ℕ) → Form → Stamp → List ℕ → List ℕ
+    → Result (List ℕ) Fault
+prove_text digest form stamp key input = do
   key_ok ← key_check key
-  proof_of_given digest stamp key (given_in input)
+  proof_of_given digest stamp key (given_in form input)
 
 -- ---- `verify`
 

@@ -1,9 +1,10 @@
 -- Which command a name and its words ask for.
-use Rattle.std.specs.Prelude.{◌≡◌, ◌≢◌, ℕ, true, List, [], ◌∷◌, Some, codes, unwrap_or}
+use Rattle.std.specs.Prelude.{◌≡◌, ◌≢◌, ℕ, true, List, [], ◌∷◌, Some, None, codes, unwrap_or}
 use Rattle.clap.specs.Simple.{App, Shape, new_rule, new_shape}
 use Rattle.clap.specs.Words.{with_subcommand}
 use Rattle.clap.specs.Walk.{Row, Rule, first_of}
 use Rattle.console.specs.FileWords.{with_file}
+use Rattle.record_forms.specs.Options.{IsFormOf, json_rule}
 use Rattle.repository_commands.specs.declared.words.RepositoryCommand.{RepositoryCommand}
 use Rattle.repository_commands.specs.declared.words.RepositoryCommand.TheVariants as commands
 
@@ -15,6 +16,10 @@ option_rule id other = record (new_rule id) {
   defaults = other ∷ [];
 }
 
+-- `--id TEXT`, which may be left out
+abbrev pub optional_rule : List ℕ → Rule
+optional_rule id = record (new_rule id) { long = Some id; value_names = 1 }
+
 -- a word that must be there
 abbrev pub required_rule : List ℕ → Rule
 required_rule id = record (new_rule id) { value_names = 1; required = true }
@@ -23,11 +28,14 @@ required_rule id = record (new_rule id) { value_names = 1; required = true }
 abbrev pub car_shape : Shape
 car_shape = record (new_shape (codes "car")) {
   rules = option_rule (codes "did") (codes "did:web:localhost")
-      ∷ option_rule (codes "rev") (codes "2222222222222") ∷ [];
+      ∷ option_rule (codes "rev") (codes "2222222222222") ∷ optional_rule (codes "sig") ∷ json_rule
+      ∷ [];
 }
 
 abbrev pub prove_shape : Shape
-prove_shape = record (new_shape (codes "prove")) { rules = required_rule (codes "key") ∷ [] }
+prove_shape = record (new_shape (codes "prove")) {
+  rules = required_rule (codes "key") ∷ json_rule ∷ [];
+}
 
 abbrev pub verify_shape : Shape
 verify_shape = record (new_shape (codes "verify")) {
@@ -44,13 +52,22 @@ abbrev pub word_or : List ℕ → List Row → List ℕ → List ℕ
 word_or other rows id = unwrap_or (first_of id rows) other
 
 -- The command is the one of this name, and has what the words say. Where there is no DID or no
--- revision, it has the program's own (a choice of this project).
+-- revision, it has the program's own (a choice of this project). With a signature it is the command that
+-- writes a signed commit.
 abbrev pub IsOfWords : List ℕ → List Row → RepositoryCommand → Type 0
-IsOfWords name rows (commands.Car did rev) = (name ≡ codes "car")
+IsOfWords name rows (commands.Car did rev form) = (name ≡ codes "car")
     × (did.now ≡ word_or (codes "did:web:localhost") rows (codes "did"))
     × (rev.now ≡ word_or (codes "2222222222222") rows (codes "rev"))
-IsOfWords name rows (commands.Prove key) = (name ≡ codes "prove")
+    × (None ≡ first_of (codes "sig") rows)
+    × IsFormOf rows form
+IsOfWords name rows (commands.SignedCar did rev sig form) = (name ≡ codes "car")
+    × (did.now ≡ word_or (codes "did:web:localhost") rows (codes "did"))
+    × (rev.now ≡ word_or (codes "2222222222222") rows (codes "rev"))
+    × (Some sig.now ≡ first_of (codes "sig") rows)
+    × IsFormOf rows form
+IsOfWords name rows (commands.Prove key form) = (name ≡ codes "prove")
     × (key.now ≡ word_or [] rows (codes "key"))
+    × IsFormOf rows form
 IsOfWords name rows (commands.Verify root key) = (name ≡ codes "verify")
     × (root.now ≡ word_or [] rows (codes "root"))
     × (key.now ≡ word_or [] rows (codes "key"))

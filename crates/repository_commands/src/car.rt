@@ -3,6 +3,7 @@ ghost use Rattle.std.specs.Prelude.{◌≡◌, List, ℕ, true, IfErr, IfOk, IfS
 ghost use Rattle.spec.specs.Reading.{Gives};
 ghost use Rattle.spec.specs.States.{state_car};
 ghost use Rattle.batches.specs.Values.{stamp_of};
+ghost use Rattle.record_forms.specs.declared.form.Form.{Form};
 ghost use Rattle.repository_commands.specs.Faults.{text_fault_of, is_of_words, TellsFaultyWord, TellsWords};
 ghost use Rattle.repository_commands.specs.Outcomes.{HasReason, IsMade, IsOutcome};
 ghost use Rattle.repository_commands.specs.Refusals.{IsRefusedIn, IsRefusedLine};
@@ -11,73 +12,78 @@ ghost use Rattle.repository_commands.specs.Texts.{car_of_given, car_text as car_
 ghost use Rattle.repository_commands.specs.Views.{given_of};
 
 use crate::fault::TextFault;
-use crate::filling::{MOST_BLOCKS, MOST_WRITES, filled};
+use crate::filling::{MOST_BLOCKS, filled};
 use crate::puts::{Puts, read_puts};
 use batches::{Stamp, is_did, is_tid};
 use cid::Digest;
 use console::{CommandFault, write_made};
 use export::ToMemory;
+use record_forms::Form;
 use repo::Core;
 use std::alloc::{AllocError, Global};
 use std::io::{Read, Write};
 use store::{LentShards, TableKey, empty_shards};
 
-/// Reads lines `KEY HEX`, puts each record under its key into one repository, all in one batch under a stamp, and writes
-/// the repository as one file (CARv1; AT Protocol repository v3, unsigned commits). Without lines there is no batch.
+/// Reads lines `KEY HEX`, or `KEY JSON` in that form, puts each record under its key into one repository, all in one batch
+/// under a stamp, and writes the repository as one file (CARv1; AT Protocol repository v3, unsigned commits). Without lines
+/// there is no batch.
 ///
 /// Lines end at LF or CR LF, and a last line needs no end. An empty line is passed over, and counted. The key is all before
-/// the first space, and the record's bytes stand after it in hexadecimal, in either case. A line of another shape is
-/// `LineFault::BadLine`; the puts before it are tried first, and where one is refused its own line is named.
+/// the first space, and the record stands after it: its bytes in hexadecimal, in either case, or its JSON. A line of another
+/// shape is `LineFault::BadLine`, and JSON that is no record `LineFault::BadJson`; the puts before it are tried first, and
+/// where one is refused its own line is named.
 ///
 /// The stamp is tested before the input is read, all of the input is read before a line is judged, and the file is made
 /// before a byte is written: only at `CommandFault::Unwritten` a beginning of it was. The faults of the text are
-/// `TextFault::BadDid` and `TextFault::BadRev`, which come first, `TextFault::Line` with `LineFault::BadLine` or the refusal
-/// of the put, `TextFault::NoMemory` and `TextFault::ReadFailed`.
+/// `TextFault::BadDid` and `TextFault::BadRev`, which come first, `TextFault::Line` with `LineFault::BadLine`,
+/// `LineFault::BadJson` or the refusal of the put, `TextFault::NoMemory` and `TextFault::ReadFailed`.
 pub fn car_text<D: Digest, R: Read, W: Write>(
     alloc: Global,
+    form: Form,
     stamp: &Stamp,
     input: &mut R,
     out: &mut W,
 ) -> Result<(), CommandFault<TextFault<D>>>
-    ensures outcome { IsOutcome (car_text_of D.digest_of (stamp_of stamp.now))
+    ensures outcome { IsOutcome (car_text_of D.digest_of form (stamp_of stamp.now))
         (R.remaining input.old) (W.contents out.old) (W.contents out.new) result }
 
     // Where a line is refused, it is so by a test, by a clash that is shown, or by a store of which a
     // shard was full.
-    ensures refused { HasReason (IsRefusedIn D.digest_of (stamp_of stamp.now))
+    ensures refused { HasReason (IsRefusedIn D.digest_of form (stamp_of stamp.now))
         (R.remaining input.old) result }
 
     // A faulty stamp is told, before the input is read.
     ensures told { IsErr (stamp_check (stamp_of stamp.now)) → TellsFaultyWord result }
     ensures unread { IsErr (stamp_check (stamp_of stamp.now)) → input.new ≡ input.old }
 {
-    write_made(car_made(alloc, stamp, input), out)
+    write_made(car_made(alloc, form, stamp, input), out)
 }
 
 /// The file of the lines of the input.
 fn car_made<D: Digest, R: Read>(
     alloc: Global,
+    form: Form,
     stamp: &Stamp,
     input: &mut R,
 ) -> Result<Vec<u8>, TextFault<D>>
-    ensures made { IsMade (λ bytes. bytes.items) (car_text_of D.digest_of (stamp_of stamp.now))
+    ensures made { IsMade (λ bytes. bytes.items) (car_text_of D.digest_of form (stamp_of stamp.now))
         (R.remaining input.old) result }
     ensures refused { IfErr result (λ e. IfSome (R.remaining input.old) (λ xs.
-        IsRefusedIn D.digest_of (stamp_of stamp.now) xs e)) }
+        IsRefusedIn D.digest_of form (stamp_of stamp.now) xs e)) }
     ensures told { IsErr (stamp_check (stamp_of stamp.now)) → TellsWords result }
     ensures unread { IsErr (stamp_check (stamp_of stamp.now)) → input.new ≡ input.old }
 {
     check_stamp::<D>(stamp)?;
-    let puts = read_puts(alloc, input)?;
+    let puts = read_puts(alloc, form, input)?;
     car_of_puts(alloc, stamp, puts)
 }
 
 /// Tests a stamp: whose repository it is, and then the revision.
-fn check_stamp<D: Digest>(stamp: &Stamp) -> Result<(), TextFault<D>>
+pub(crate) fn check_stamp<D: Digest>(stamp: &Stamp) -> Result<(), TextFault<D>>
     ensures check { Gives (λ ok. ok) text_fault_of result (stamp_check (stamp_of stamp.now)) }
     ensures words { IfErr result (λ e. is_of_words e ≡ true) }
-    ensures refused { (xs : List ℕ) →
-        IfErr result (IsRefusedIn D.digest_of (stamp_of stamp.now) xs) }
+    ensures refused { (form : Form) (xs : List ℕ) →
+        IfErr result (IsRefusedIn D.digest_of form (stamp_of stamp.now) xs) }
 {
     if !is_did(&stamp.did) {
         return Err(TextFault::BadDid);

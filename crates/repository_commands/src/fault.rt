@@ -10,6 +10,8 @@ use change_proofs::ChangeFault;
 use cid::{CidFault, Digest};
 use console::{Decimal, FAULTY, IO_FAILED, NO_MEMORY, ReadFault};
 use export::ProofFault;
+use record_forms::JsonFaultText;
+use record_json::JsonFaultKind;
 use std::alloc::{AllocError, AllocFailed, Allocator, Global};
 use std::error::Error;
 use std::fmt;
@@ -20,6 +22,12 @@ use std::fmt;
 pub enum LineFault<D: Digest, A: Allocator = Global> {
     /// It hasn't the words that a line of this command has.
     BadLine,
+    /// What stands behind its key is no record as JSON. It has this fault, the first one.
+    BadJson {
+        kind: JsonFaultKind,
+        /// The way to it from the outside: `.key` for a key of an object, `[place]` for an item of a list, counted from 0.
+        path: String<A>,
+    },
     /// The repository doesn't take its write.
     Refused(RepoFault<D, A>),
     /// The key of its change has another record in the tree after it, or none.
@@ -34,6 +42,10 @@ pub enum TextFault<D: Digest, A: Allocator = Global> {
     BadDid,
     /// The revision isn't a timestamp identifier (AT Protocol, TID). Nothing was read.
     BadRev,
+    /// The signature isn't hexadecimal, or has no digits. Nothing was read.
+    BadSig,
+    /// No line puts a record, so there is no batch, and no commit to be signed.
+    NothingToSign,
     /// The root isn't the text of a CID of a block of this host. Nothing was read.
     Root(CidFault),
     /// The root before a change isn't the text of such a CID. Nothing was read.
@@ -82,6 +94,11 @@ impl<D: Digest, A: Allocator> fmt::Display for LineFault<D, A> {
     fn fmt<W: fmt::Write>(&self, f: &mut fmt::Formatter<W>) -> fmt::Result {
         match self {
             LineFault::BadLine => f.write_str("BadLine"),
+            LineFault::BadJson { kind, path } => JsonFaultText {
+                kind: *kind,
+                path: path.as_str(),
+            }
+            .fmt(f),
             LineFault::Refused(fault) => RefusalName(fault).fmt(f),
             LineFault::OtherValue => f.write_str("OtherValue"),
         }
@@ -99,6 +116,8 @@ impl<D: Digest, A: Allocator> fmt::Display for TextFault<D, A> {
         match self {
             TextFault::BadDid => f.write_str("BadDid"),
             TextFault::BadRev => f.write_str("BadRev"),
+            TextFault::BadSig => f.write_str("BadSig"),
+            TextFault::NothingToSign => f.write_str("NothingToSign"),
             TextFault::Root(fault) => f.write_str(root_fault_name(fault)),
             TextFault::BadBefore(fault) => write!(f, "BadBefore({})", root_fault_name(fault)),
             TextFault::BadAfter(fault) => write!(f, "BadAfter({})", root_fault_name(fault)),

@@ -1,18 +1,21 @@
 //! A repository that is filled with the puts of an input.
-ghost use Rattle.std.specs.Prelude.{◌≡◌, ◌<◌, true, slice_index, IfErr, IfOk, OnOk};
+ghost use Rattle.std.specs.Prelude.{◌≡◌, ◌<◌, true, option_map, slice_index, string_bytes, IfErr, IfOk, IfSome, OnOk};
 ghost use Rattle.spec.specs.Reading.{Gives};
 ghost use Rattle.batches.specs.Values.{stamp_of, writes_of};
 ghost use Rattle.store.specs.Stores.{IsStore};
-ghost use Rattle.repository_commands.specs.Faults.{text_fault_of};
+ghost use Rattle.record_forms.specs.Views.{json_fault_of, word_fault_of};
+ghost use Rattle.repository_commands.specs.Faults.{text_fault_of, of_word, BadJson, Line};
 ghost use Rattle.repository_commands.specs.Refusals.{IsRefusedLine, is_bad_line, refused as refused_by};
 ghost use Rattle.repository_commands.specs.Texts.{no_writes, state_of, state_of_given, unless_stopped, writes_check};
-ghost use Rattle.repository_commands.specs.Views.{given_of};
+ghost use Rattle.repository_commands.specs.Views.{given_of, stop_of};
 
 use crate::fault::{LineFault, TextFault};
-use crate::puts::Puts;
+use crate::puts::{Puts, Stop};
 use batches::{RepoFault, Stamp};
 use block::Block;
 use cid::Digest;
+use record_forms::WordFault;
+use record_json::JsonFaultKind;
 use repo::Core;
 use std::alloc::{AllocError, Global};
 use std::sync::Arc;
@@ -83,7 +86,7 @@ pub fn apply_puts<D: Digest, S: BlockStore<Arc<Block<D>>, Hold<D>, StoreFault<D>
         (given_of puts.now) (0 < S.fulls store.new)) }
 {
     apply_writes::<D, S>(alloc, store, core, stamp, puts)?;
-    check_end::<D>(puts.stop)
+    check_end::<D>(&puts.stop)
 }
 
 /// Applies the writes before the line that is none, if there is one, or names the line of the first that is refused.
@@ -119,16 +122,44 @@ pub fn number_at(numbers: &[u64], place: usize) -> u64
 }
 
 /// Whether each line was a write.
-fn check_end<D: Digest>(stop: Option<u64>) -> Result<(), TextFault<D>>
-    ensures check { Gives (λ ok. ok) text_fault_of result (unless_stopped stop) }
+fn check_end<D: Digest>(stop: &Option<Stop<Global>>) -> Result<(), TextFault<D>>
+    ensures check { Gives (λ ok. ok) text_fault_of result
+        (unless_stopped (option_map stop_of stop.now)) }
     ensures line { IfErr result (λ e. is_bad_line e ≡ true) }
 {
     match stop {
         None => Ok(()),
-        Some(number) => {
-            let fault = LineFault::BadLine;
-            Err(TextFault::Line { number, fault })
-        }
+        Some(stop) => Err(fault_at(stop.number, &stop.fault)),
+    }
+}
+
+/// The fault of a line with a word that is no record.
+fn fault_at<D: Digest>(number: u64, fault: &WordFault<Global>) -> TextFault<D>
+    ensures fault { IfSome (text_fault_of result)
+        (λ f. f ≡ Line number (of_word (word_fault_of fault.now))) }
+    ensures line { is_bad_line result ≡ true }
+{
+    match fault {
+        WordFault::BadWord => TextFault::Line {
+            number,
+            fault: LineFault::BadLine,
+        },
+        WordFault::Json { kind, path } => bad_json(number, *kind, path),
+    }
+}
+
+/// The fault of a line with JSON that is no record; or that there is no memory for the way to it.
+fn bad_json<D: Digest>(number: u64, kind: JsonFaultKind, path: &String<Global>) -> TextFault<D>
+    ensures fault { IfSome (text_fault_of result)
+        (λ f. f ≡ Line number (BadJson (json_fault_of kind (string_bytes path.now)))) }
+    ensures line { is_bad_line result ≡ true }
+{
+    match path.clone() {
+        Ok(path) => TextFault::Line {
+            number,
+            fault: LineFault::BadJson { kind, path },
+        },
+        Err(_) => TextFault::NoMemory,
     }
 }
 

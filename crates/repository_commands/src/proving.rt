@@ -12,7 +12,7 @@ ghost use Rattle.repository_commands.specs.Texts.{hex_line, key_check, no_writes
 ghost use Rattle.repository_commands.specs.Views.{given_of, nodes_of};
 
 use crate::fault::TextFault;
-use crate::filling::{MOST_BLOCKS, MOST_WRITES, filled};
+use crate::filling::{MOST_BLOCKS, filled};
 use crate::puts::{Puts, read_puts};
 use batches::Stamp;
 use block::Block;
@@ -20,51 +20,54 @@ use cid::{Cid, Digest};
 use console::{CommandFault, write_made};
 use export::{ProofFault, prove};
 use node::is_key;
+use record_forms::Form;
 use std::alloc::{AllocError, Allocator, Global};
 use std::io::{Read, Write};
 use std::sync::Arc;
 use store::{LentShards, TableKey, empty_shards};
 
-/// Reads lines `KEY HEX` into one repository, as `car_text` does, and writes the proof of a key: the text of the CID of the
-/// tree's root, and then a line in hexadecimal for each node of the key's path, from the top.
+/// Reads lines `KEY HEX`, or `KEY JSON` in that form, into one repository, as `car_text` does, and writes the proof of a key:
+/// the text of the CID of the tree's root, and then a line in hexadecimal for each node of the key's path, from the top.
 ///
 /// The key has 1 to 1,024 bytes, else it is `ProofFault::KeyLength` before the input is read. The stamp is one that passes
 /// its test, as the program's own does. The other faults are those of `car_text`.
 pub fn prove_text<D: Digest, R: Read, W: Write>(
     alloc: Global,
+    form: Form,
     stamp: &Stamp,
     key: &[u8],
     input: &mut R,
     out: &mut W,
 ) -> Result<(), CommandFault<TextFault<D>>>
-    ensures outcome { IsOutcome (prove_text_of D.digest_of (stamp_of stamp.now) key.now)
+    ensures outcome { IsOutcome (prove_text_of D.digest_of form (stamp_of stamp.now) key.now)
         (R.remaining input.old) (W.contents out.old) (W.contents out.new) result }
-    ensures refused { HasReason (IsRefusedIn D.digest_of (stamp_of stamp.now))
+    ensures refused { HasReason (IsRefusedIn D.digest_of form (stamp_of stamp.now))
         (R.remaining input.old) result }
 
     // A faulty key is told, before the input is read.
     ensures told { IsErr (key_check key.now) → TellsFaultyWord result }
     ensures unread { IsErr (key_check key.now) → input.new ≡ input.old }
 {
-    write_made(proof_made(alloc, stamp, key, input), out)
+    write_made(proof_made(alloc, form, stamp, key, input), out)
 }
 
 /// The text of the proof over the lines of the input.
 fn proof_made<D: Digest, R: Read>(
     alloc: Global,
+    form: Form,
     stamp: &Stamp,
     key: &[u8],
     input: &mut R,
 ) -> Result<Vec<u8>, TextFault<D>>
     ensures made { IsMade (λ bytes. bytes.items)
-        (prove_text_of D.digest_of (stamp_of stamp.now) key.now) (R.remaining input.old) result }
+        (prove_text_of D.digest_of form (stamp_of stamp.now) key.now) (R.remaining input.old) result }
     ensures refused { IfErr result (λ e. IfSome (R.remaining input.old) (λ xs.
-        IsRefusedIn D.digest_of (stamp_of stamp.now) xs e)) }
+        IsRefusedIn D.digest_of form (stamp_of stamp.now) xs e)) }
     ensures told { IsErr (key_check key.now) → TellsWords result }
     ensures unread { IsErr (key_check key.now) → input.new ≡ input.old }
 {
     check_key::<D, Global>(key)?;
-    let puts = read_puts(alloc, input)?;
+    let puts = read_puts(alloc, form, input)?;
     proof_of_puts(alloc, stamp, key, puts)
 }
 

@@ -1,13 +1,14 @@
 //! The puts that the lines of an input give.
-ghost use Rattle.std.specs.Prelude.{◌≡◌, ◌≤◌, is_some, length, option_map, IfOk, IfSome, OnOk};
+ghost use Rattle.std.specs.Prelude.{◌≡◌, ◌≤◌, is_ok, length, IfOk, IfSome, OnOk};
 ghost use Rattle.std.specs.List.{position_or_len};
-ghost use Rattle.batches.specs.Values.{write_of};
-ghost use Rattle.console.specs.Lines.{bytes_of_hex as bytes_of, is_space};
+ghost use Rattle.console.specs.Lines.{is_space};
+ghost use Rattle.record_forms.specs.Records.{record_of_word as record_of};
 ghost use Rattle.repository_commands.specs.Puts.{given_in, nothing_given, put_of, put_of_line as put_of_line_of, taken};
-ghost use Rattle.repository_commands.specs.Views.{given_of};
+ghost use Rattle.repository_commands.specs.Views.{given_of, write_read};
 
 use batches::Write;
-use console::{ReadFault, bytes_of_hex, numbered_lines, read_all};
+use console::{ReadFault, numbered_lines, read_all};
+use record_forms::{Form, WordFault, record_of_word};
 use std::alloc::{AllocError, Allocator};
 use std::io::Read;
 
@@ -18,8 +19,17 @@ pub struct Puts<A: Allocator> {
     pub numbers: Vec<u64, A>,
     /// The writes.
     pub writes: Vec<Write<A>, A>,
-    /// The number of the line that is none, if there is one.
-    pub stop: Option<u64>,
+    /// The line that is none, if there is one.
+    pub stop: Option<Stop<A>>,
+}
+
+/// A line that is no write.
+#[derive(Drop)]
+pub struct Stop<A: Allocator> {
+    /// Its number.
+    pub number: u64,
+    /// What is wrong with it.
+    pub fault: WordFault<A>,
 }
 
 impl<A: Allocator + Copy> Puts<A> {
@@ -34,20 +44,24 @@ impl<A: Allocator + Copy> Puts<A> {
         }
     }
 
-    /// With the write of this line after the others, or with the number of a line that is none. Whether it was one.
-    pub fn take(&mut self, number: u64, write: Option<Write<A>>) -> Result<bool, AllocError>
+    /// With the write of this line after the others, or with a line that is none. Whether it was one.
+    pub fn take(
+        &mut self,
+        number: u64,
+        write: Result<Write<A>, WordFault<A>>,
+    ) -> Result<bool, AllocError>
         ensures taken { OnOk result (given_of self.new
-            ≡ taken (given_of self.old) number (option_map write_of write)) }
-        ensures going_on { IfOk result (λ more. more ≡ is_some write) }
+            ≡ taken (given_of self.old) number (write_read write)) }
+        ensures going_on { IfOk result (λ more. more ≡ is_ok write) }
     {
         match write {
-            Some(write) => {
+            Ok(write) => {
                 self.numbers.push(number)?;
                 self.writes.push(write)?;
                 Ok(true)
             }
-            None => {
-                self.stop = Some(number);
+            Err(fault) => {
+                self.stop = Some(Stop { number, fault });
                 Ok(false)
             }
         }
@@ -57,25 +71,30 @@ impl<A: Allocator + Copy> Puts<A> {
 /// The puts of all that the reader still gives. The input is let go before they are used.
 pub fn read_puts<A: Allocator + Copy, R: Read>(
     alloc: A,
+    form: Form,
     input: &mut R,
 ) -> Result<Puts<A>, ReadFault>
     ensures { IfOk result (λ puts. IfSome (R.remaining input.old)
-        (λ xs. given_of puts ≡ given_in xs)) }
+        (λ xs. given_of puts ≡ given_in form xs)) }
 {
     let bytes = read_all(alloc, input)?;
-    match puts_of_input(alloc, &bytes) {
+    match puts_of_input(alloc, form, &bytes) {
         Ok(puts) => Ok(puts),
         Err(_) => Err(ReadFault::NoMemory),
     }
 }
 
 /// The puts of the lines of an input.
-fn puts_of_input<A: Allocator + Copy>(alloc: A, input: &[u8]) -> Result<Puts<A>, AllocError>
-    ensures { IfOk result (λ puts. given_of puts ≡ given_in input.now) }
+fn puts_of_input<A: Allocator + Copy>(
+    alloc: A,
+    form: Form,
+    input: &[u8],
+) -> Result<Puts<A>, AllocError>
+    ensures { IfOk result (λ puts. given_of puts ≡ given_in form input.now) }
 {
     let mut puts = Puts::none(alloc);
     for (number, line) in numbered_lines(input) {
-        let is_put = puts.take(number, put_of_line(alloc, line)?)?;
+        let is_put = puts.take(number, put_of_line(alloc, form, line)?)?;
         if !is_put {
             return Ok(puts);
         }
@@ -83,18 +102,19 @@ fn puts_of_input<A: Allocator + Copy>(alloc: A, input: &[u8]) -> Result<Puts<A>,
     Ok(puts)
 }
 
-/// The put of a line `KEY HEX`, or `None` where it is none.
+/// The put of a line `KEY HEX` or `KEY JSON`, by the form of records, or why it is none.
 pub fn put_of_line<A: Allocator + Copy>(
     alloc: A,
+    form: Form,
     line: &[u8],
-) -> Result<Option<Write<A>>, AllocError>
-    ensures { IfOk result (λ put. option_map write_of put ≡ put_of_line_of line.now) }
+) -> Result<Result<Write<A>, WordFault<A>>, AllocError>
+    ensures { IfOk result (λ put. write_read put ≡ put_of_line_of form line.now) }
 {
     let space = space_in(line);
     if space == line.len() {
-        return Ok(None);
+        return Ok(Err(WordFault::BadWord));
     }
-    put_of_words(alloc, &line[..space], &line[space + 1..])
+    put_of_words(alloc, form, &line[..space], &line[space + 1..])
 }
 
 /// The place of the first space, or the length where there is none.
@@ -105,19 +125,20 @@ pub fn space_in(line: &[u8]) -> usize
     line.iter().position(|c| *c == b' ').unwrap_or(line.len())
 }
 
-/// The put of a key and a word in hexadecimal, or `None` where either is none.
+/// The put of a key and of the word of a record, or why they are none.
 fn put_of_words<A: Allocator + Copy>(
     alloc: A,
+    form: Form,
     key: &[u8],
     word: &[u8],
-) -> Result<Option<Write<A>>, AllocError>
-    ensures { IfOk result (λ put. option_map write_of put ≡ put_of key.now (bytes_of word.now)) }
+) -> Result<Result<Write<A>, WordFault<A>>, AllocError>
+    ensures { IfOk result (λ put. write_read put ≡ put_of key.now (record_of form word.now)) }
 {
     if key.is_empty() {
-        return Ok(None);
+        return Ok(Err(WordFault::BadWord));
     }
-    let Some(bytes) = bytes_of_hex(alloc, word)? else {
-        return Ok(None);
-    };
-    Ok(Some(Write::Put(Vec::from_slice(alloc, key)?, bytes)))
+    match record_of_word(alloc, form, word)? {
+        Ok(bytes) => Ok(Ok(Write::Put(Vec::from_slice(alloc, key)?, bytes))),
+        Err(fault) => Ok(Err(fault)),
+    }
 }

@@ -5,17 +5,19 @@ ghost use Rattle.repository_commands.specs.Commands.{own_stamp, reasons_of, stam
 ghost use Rattle.repository_commands.specs.Faults.{EndsEarly};
 ghost use Rattle.repository_commands.specs.Outcomes.{HasReason, IsFaulty, IsOutcome, IsStatusOf};
 ghost use Rattle.repository_commands.specs.Refusals.{IsRefusedIn};
-ghost use Rattle.repository_commands.specs.Texts.{car_text as car_text_of, key_check, prove_text as prove_text_of, stamp_check};
+ghost use Rattle.repository_commands.specs.Texts.{car_text as car_text_of, key_check, prove_text as prove_text_of, signed_car_text as signed_car_text_of, signing_check, stamp_check};
 
 use crate::car::car_text;
 use crate::ending::status_of;
 use crate::fault::TextFault;
 use crate::proving::prove_text;
+use crate::signing::signed_car_text;
 use crate::verifying::verify_text;
 use crate::words::{DID, REV, RepositoryCommand};
 use batches::Stamp;
 use cid::Digest;
 use console::CommandFault;
+use record_forms::Form;
 use std::alloc::{AllocError, Global};
 use std::io::{Read, Write};
 
@@ -61,8 +63,16 @@ fn write_text<D: Digest, R: Read, W: Write>(
     ensures unread { HasFaultyWord command.entry → input.new ≡ input.old }
 {
     match command {
-        RepositoryCommand::Car { did, rev } => write_car(did, rev, alloc, input, out),
-        RepositoryCommand::Prove { key } => write_proof(key, alloc, input, out),
+        RepositoryCommand::Car { did, rev, form } => {
+            write_car(did, rev, form, alloc, input, out)
+        }
+        RepositoryCommand::SignedCar {
+            did,
+            rev,
+            sig,
+            form,
+        } => write_signed_car(did, rev, sig, form, alloc, input, out),
+        RepositoryCommand::Prove { key, form } => write_proof(key, form, alloc, input, out),
         RepositoryCommand::Verify { root, key } => {
             verify_text(alloc, root.as_bytes(), key.as_bytes(), input, out)
         }
@@ -73,19 +83,46 @@ fn write_text<D: Digest, R: Read, W: Write>(
 fn write_car<D: Digest, R: Read, W: Write>(
     did: &str,
     rev: &str,
+    form: Form,
     alloc: Global,
     input: &mut R,
     out: &mut W,
 ) -> Result<(), CommandFault<TextFault<D>>>
-    ensures outcome { IsOutcome (car_text_of D.digest_of (stamp_of_words did.now rev.now))
+    ensures outcome { IsOutcome (car_text_of D.digest_of form (stamp_of_words did.now rev.now))
         (R.remaining input.old) (W.contents out.old) (W.contents out.new) result }
-    ensures reason { HasReason (IsRefusedIn D.digest_of (stamp_of_words did.now rev.now))
+    ensures reason { HasReason (IsRefusedIn D.digest_of form (stamp_of_words did.now rev.now))
         (R.remaining input.old) result }
     ensures told { IsErr (stamp_check (stamp_of_words did.now rev.now)) → EndsEarly result }
     ensures unread { IsErr (stamp_check (stamp_of_words did.now rev.now)) → input.new ≡ input.old }
 {
     match stamp_of_words(did, rev, alloc) {
-        Ok(stamp) => car_text(alloc, &stamp, input, out),
+        Ok(stamp) => car_text(alloc, form, &stamp, input, out),
+        Err(_) => Err(CommandFault::NoText(TextFault::NoMemory)),
+    }
+}
+
+/// Writes the repository of the lines, under the stamp of these words and with this signature of its commit.
+fn write_signed_car<D: Digest, R: Read, W: Write>(
+    did: &str,
+    rev: &str,
+    sig: &str,
+    form: Form,
+    alloc: Global,
+    input: &mut R,
+    out: &mut W,
+) -> Result<(), CommandFault<TextFault<D>>>
+    ensures outcome { IsOutcome
+        (signed_car_text_of D.digest_of form (stamp_of_words did.now rev.now) sig.now)
+        (R.remaining input.old) (W.contents out.old) (W.contents out.new) result }
+    ensures reason { HasReason (IsRefusedIn D.digest_of form (stamp_of_words did.now rev.now))
+        (R.remaining input.old) result }
+    ensures told { IsErr (signing_check (stamp_of_words did.now rev.now) sig.now)
+        → EndsEarly result }
+    ensures unread { IsErr (signing_check (stamp_of_words did.now rev.now) sig.now)
+        → input.new ≡ input.old }
+{
+    match stamp_of_words(did, rev, alloc) {
+        Ok(stamp) => signed_car_text(alloc, form, &stamp, sig.as_bytes(), input, out),
         Err(_) => Err(CommandFault::NoText(TextFault::NoMemory)),
     }
 }
@@ -93,19 +130,20 @@ fn write_car<D: Digest, R: Read, W: Write>(
 /// Writes the proof of a key in the repository of the lines, under the program's own stamp.
 fn write_proof<D: Digest, R: Read, W: Write>(
     key: &str,
+    form: Form,
     alloc: Global,
     input: &mut R,
     out: &mut W,
 ) -> Result<(), CommandFault<TextFault<D>>>
-    ensures outcome { IsOutcome (prove_text_of D.digest_of own_stamp key.now)
+    ensures outcome { IsOutcome (prove_text_of D.digest_of form own_stamp key.now)
         (R.remaining input.old) (W.contents out.old) (W.contents out.new) result }
-    ensures reason { HasReason (IsRefusedIn D.digest_of own_stamp)
+    ensures reason { HasReason (IsRefusedIn D.digest_of form own_stamp)
         (R.remaining input.old) result }
     ensures told { IsErr (key_check key.now) → EndsEarly result }
     ensures unread { IsErr (key_check key.now) → input.new ≡ input.old }
 {
     match stamp_of_words(DID, REV, alloc) {
-        Ok(stamp) => prove_text(alloc, &stamp, key.as_bytes(), input, out),
+        Ok(stamp) => prove_text(alloc, form, &stamp, key.as_bytes(), input, out),
         Err(_) => Err(CommandFault::NoText(TextFault::NoMemory)),
     }
 }

@@ -1,14 +1,16 @@
 //! What the commands are told on a command line.
-ghost use Rattle.std.specs.Prelude.{◌≡◌, false, IfNone, IfOk, IfSome};
+ghost use Rattle.std.specs.Prelude.{◌≡◌, false, option_map, IfNone, IfOk, IfSome};
+ghost use Rattle.clap.specs.Walk.{first_of};
 ghost use Rattle.clap.specs.Words.{app_of, found_of, rows_of, rule_of, shape_of, with_subcommand};
 ghost use Rattle.clap.specs.declared.builder.command.Command.TheViews.{out-Command as fields_of};
 ghost use Rattle.console.specs.FileWords.{with_file as with_file_of};
 ghost use Rattle.repository_commands.specs.Words.{IsOfWords, IsOtherName, word_or as word_or_of};
 ghost use Rattle.repository_commands.specs.Words.{car_shape, prove_shape, verify_shape, with_commands};
-ghost use Rattle.repository_commands.specs.Words.{option_rule, required_rule};
+ghost use Rattle.repository_commands.specs.Words.{option_rule, optional_rule, required_rule};
 
 use clap::{Arg, ArgMatches, Command};
 use console::with_file;
+use record_forms::{Form, form_of, json_option};
 use std::alloc::{AllocError, Global};
 
 /// A command on one repository, with what its words say.
@@ -20,11 +22,26 @@ pub enum RepositoryCommand<'a> {
         did: &'a str,
         /// The revision of its one batch.
         rev: &'a str,
+        /// The form of the records.
+        form: Form,
+    },
+    /// Write it as the file that a server serves, whose root is its commit with a signature.
+    SignedCar {
+        /// Whose repository it is.
+        did: &'a str,
+        /// The revision of its one batch.
+        rev: &'a str,
+        /// The signature of its commit, in hexadecimal.
+        sig: &'a str,
+        /// The form of the records.
+        form: Form,
     },
     /// Write the proof of a key in the repository of the lines of the input.
     Prove {
         /// The key.
         key: &'a str,
+        /// The form of the records.
+        form: Form,
     },
     /// Write what the blocks of the input show of a key.
     Verify {
@@ -48,9 +65,14 @@ Reads lines KEY HEX, puts each record under its key into one repository, all in 
 writes the repository as one CAR file: the commit, the nodes of the tree and the records.
 
 A key is a collection, a slash and a record key. HEX is a record in hexadecimal: one DAG-CBOR map. One space stands
-between them. Of lines with one key the last decides, and empty lines are passed over. Without lines there is no commit.
+between them. With --json the lines are KEY JSON: a record as records --json writes it, in any layout on one line. Of lines
+with one key the last decides, and empty lines are passed over. Without lines there is no commit.
 
-Exit status: 0 done, 1 a faulty line, DID or revision, 2 a wrong command line, 3 no memory, 4 reading or writing failed.";
+With --sig the file is the one that a server serves: its root is the commit with this signature, of which check, records
+and commit read what they tell. The signature isn't tested.
+
+Exit status: 0 done, 1 a faulty line, DID, revision or signature, or no line to sign, 2 a wrong command line, 3 no memory,
+4 reading or writing failed.";
 
 const CAR_EXAMPLE: &str = "\
 Example:
@@ -60,7 +82,7 @@ Example:
 const PROVE: &str = "Reads lines KEY HEX and writes the proof of a key in their tree";
 
 const LONG_PROVE: &str = "\
-Reads lines KEY HEX as car does, and writes the text of the CID of the tree's root, and then the
+Reads lines KEY HEX, or KEY JSON with --json, as car does, and writes the text of the CID of the tree's root, and then the
 nodes on the path of KEY from the top, a line in hexadecimal each. They show what the tree has under KEY, or that it has
 nothing.
 
@@ -127,14 +149,23 @@ pub fn command_of<'a>(name: &str, words: &ArgMatches<'a>) -> Option<RepositoryCo
     ensures none { IfNone result (IsOtherName name.now) }
 {
     if name == "car" {
-        return Some(RepositoryCommand::Car {
-            did: word_or(DID, words, "did"),
-            rev: word_or(REV, words, "rev"),
-        });
+        let did = word_or(DID, words, "did");
+        let rev = word_or(REV, words, "rev");
+        let form = form_of(words);
+        if let Some(sig) = word_in(words, "sig") {
+            return Some(RepositoryCommand::SignedCar {
+                did,
+                rev,
+                sig,
+                form,
+            });
+        }
+        return Some(RepositoryCommand::Car { did, rev, form });
     }
     if name == "prove" {
         return Some(RepositoryCommand::Prove {
             key: word_or("", words, "key"),
+            form: form_of(words),
         });
     }
     if name == "verify" {
@@ -144,6 +175,14 @@ pub fn command_of<'a>(name: &str, words: &ArgMatches<'a>) -> Option<RepositoryCo
         });
     }
     None
+}
+
+/// The text of the word with this id, if there is one.
+fn word_in<'a>(words: &ArgMatches<'a>, id: &str) -> Option<&'a str>
+    ensures { option_map (λ text. text.now) result
+        ≡ first_of id.now (rows_of (found_of words.now)) }
+{
+    words.get_str(id)
 }
 
 /// The text of the word with this id, or another text where there is none.
@@ -163,7 +202,14 @@ fn car_words<'a>(alloc: Global) -> Result<Command<'a>, AllocError>
         .long_about(LONG_CAR)
         .after_help(CAR_EXAMPLE)
         .arg(option(alloc, "did", "DID", DID, "Whose repository it is"))?
-        .arg(option(alloc, "rev", "REV", REV, "The revision of its commit"))
+        .arg(option(alloc, "rev", "REV", REV, "The revision of its commit"))?
+        .arg(optional(
+            alloc,
+            "sig",
+            "HEX",
+            "The signature of its commit, in hexadecimal",
+        ))?
+        .arg(json_option(alloc))
 }
 
 /// The words that `prove` takes.
@@ -175,7 +221,8 @@ fn prove_words<'a>(alloc: Global) -> Result<Command<'a>, AllocError>
         .about(PROVE)
         .long_about(LONG_PROVE)
         .after_help(PROVE_EXAMPLE)
-        .arg(required(alloc, "key", "KEY", "The key, of 1 to 1,024 bytes"))
+        .arg(required(alloc, "key", "KEY", "The key, of 1 to 1,024 bytes"))?
+        .arg(json_option(alloc))
 }
 
 /// The words that `verify` takes.
@@ -206,6 +253,14 @@ fn option<'a>(alloc: Global, id: &'a str, name: &'a str, other: &'a str, help: &
         .value_name(name)
         .default_value(other)
         .help(help)
+}
+
+/// An option that takes a text, and may be left out.
+fn optional<'a>(alloc: Global, id: &'a str, name: &'a str, help: &'a str) -> Arg<'a>
+    ensures rule { rule_of result ≡ optional_rule id.entry.now }
+    ensures local { result.global ≡ false }
+{
+    Arg::new(alloc, id).long(id).value_name(name).help(help)
 }
 
 /// A word that must be there.

@@ -49,7 +49,7 @@ module _ {D : Type 0} (digest : List ℕ → List ℕ) (s : Settings) (lines : L
 
   -- its report, where the host closed
   pub reported : (lent : List (Answer D)) (ended' : List EndedView) (cores : List State) (tables : List Table) (text : List ℕ) → AreWorked digest s h lines given ended
-      → length cores ≡ h.repos → ended' ≡ ended → IsSettled digest 2 cores tables ended' → lent ≡ given → IsTextOf digest s.workers lines lent cores tables ended' text → IsReport D digest s lines text
+      → length cores ≡ h.repos → ended' ≡ ended → IsSettled digest 2 cores tables ended' → lent ≡ given → IsTextOf digest s lines lent cores tables ended' text → IsReport D digest s lines text
   reported lent ended' cores tables text work count same settled lends made = record {
     given = given;
     cores = cores;
@@ -61,7 +61,7 @@ module _ {D : Type 0} (digest : List ℕ → List ℕ) (s : Settings) (lines : L
       repos_are = count ∙ work.host_repos;
       settled = subst (IsSettled digest 2 cores tables) same settled;
     };
-    text_of = subst (λ as'. IsTextOf digest s.workers lines as' cores tables ended text) lends (subst (λ es. IsTextOf digest s.workers lines lent cores tables es text) same made);
+    text_of = subst (λ as'. IsTextOf digest s lines as' cores tables ended text) lends (subst (λ es. IsTextOf digest s lines lent cores tables es text) same made);
   }
 
   -- and what there is where it didn't

@@ -1,7 +1,6 @@
 -- The lines of a report (a choice of this project): words with one space between each two.
 use Rattle.std.specs.Prelude.{ℕ, List, [], ◌∷◌, ◌++◌, codes, decimal, Option, Some, None}
 use Rattle.std.specs.List.{join_with_byte, flat_map}
-use Rattle.hex.specs.Hex.{encode_lower}
 use Rattle.spec.specs.Cid.{text}
 use Rattle.notices.specs.declared.notice.Notice.{Notice}
 use Rattle.host.specs.declared.fault.HostFault.{HostFault}
@@ -9,6 +8,8 @@ use Rattle.host.specs.declared.fault.HostFault.TheVariants as faults
 use Rattle.scripts.specs.declared.script.Answer.{Answer}
 use Rattle.scripts.specs.declared.script.Answer.TheVariants as answers
 use Rattle.batches.specs.Names.{refusal_name}
+use Rattle.record_forms.specs.Records.{word_of_record}
+use Rattle.record_forms.specs.declared.form.Form.{Form}
 
 -- a line of these words
 abbrev pub words_line : List (List ℕ) → List ℕ
@@ -27,20 +28,24 @@ abbrev pub refused_line : ℕ → ℕ × List ℕ → List ℕ
 refused_line number refusal =
     words_line (decimal number ∷ codes "refused" ∷ decimal refusal.0 ∷ refusal.1 ∷ [])
 
+-- a record that was found, in this form; what has no JSON stands in hexadecimal
+abbrev pub found_line : Form → ℕ → List ℕ → List ℕ
+found_line form number bytes =
+    words_line (decimal number ∷ codes "found" ∷ word_of_record form bytes ∷ [])
+
 -- of the line of this number
-abbrev pub answer_line : {D : Type 0} → ℕ → Answer D → List ℕ
-answer_line number (answers.Accepted notice) =
+abbrev pub answer_line : {D : Type 0} → Form → ℕ → Answer D → List ℕ
+answer_line form number (answers.Accepted notice) =
     words_line (decimal number ∷ codes "ok" ∷ decimal notice.number ∷ [])
-answer_line number (answers.Refused fault) = refused_line number (refusal_of fault)
-answer_line number (answers.Found record_bytes) =
-    words_line (decimal number ∷ codes "found" ∷ encode_lower record_bytes.items ∷ [])
-answer_line number answers.Absent = words_line (decimal number ∷ codes "none" ∷ [])
+answer_line form number (answers.Refused fault) = refused_line number (refusal_of fault)
+answer_line form number (answers.Found record_bytes) = found_line form number record_bytes.items
+answer_line form number answers.Absent = words_line (decimal number ∷ codes "none" ∷ [])
 
 -- of all lines of these numbers
-abbrev pub answer_lines : {D : Type 0} → List ℕ → List (Answer D) → List ℕ
-answer_lines [] given = []
-answer_lines (n ∷ ns) [] = []
-answer_lines (n ∷ ns) (a ∷ given) = answer_line n a ++ answer_lines ns given
+abbrev pub answer_lines : {D : Type 0} → Form → List ℕ → List (Answer D) → List ℕ
+answer_lines form [] given = []
+answer_lines form (n ∷ ns) [] = []
+answer_lines form (n ∷ ns) (a ∷ given) = answer_line form n a ++ answer_lines form ns given
 
 -- ---- what there is in the end
 

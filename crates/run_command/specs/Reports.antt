@@ -74,11 +74,11 @@ abbrev pub numbers_of : List Line → List ℕ
 numbers_of lines = map (λ l. l.number) lines
 
 -- what was answered, the repositories, the blocks, and what was told
-abbrev pub report_text : {D : Type 0} → ℕ → List Line → List (Answer D) → List ShownView → Counts
-    → List EndedView → List ℕ
-report_text writers lines given shown counts ended =
-    answer_lines (numbers_of lines) given ++ shown_lines 0 shown ++ block_lines counts
-    ++ told_lines writers ended
+abbrev pub report_text : {D : Type 0} → Settings → List Line → List (Answer D) → List ShownView
+    → Counts → List EndedView → List ℕ
+report_text s lines given shown counts ended =
+    answer_lines s.form (numbers_of lines) given ++ shown_lines 0 shown ++ block_lines counts
+    ++ told_lines s.workers ended
 
 -- ---- what comes of a script
 
@@ -118,15 +118,15 @@ pub record IsUnclosed (D : Type 0) (digest : List ℕ → List ℕ) (s : Setting
   pub mismatch : Mismatch
   pub uneven : IsUneven digest 2 cores tables ended mismatch
 
--- the text is that of a host that has closed, of which the headline holds
-pub record IsTextOf {D : Type 0} (digest : List ℕ → List ℕ) (writers : ℕ) (lines : List Line)
+-- the text is that of a host with these settings that has closed, of which the headline holds
+pub record IsTextOf {D : Type 0} (digest : List ℕ → List ℕ) (s : Settings) (lines : List Line)
     (given : List (Answer D)) (cores : List State) (tables : List Table) (ended : List EndedView)
     (text : List ℕ) : Type 0 where
   pub shown : List ShownView
   pub counts : Counts
   pub headline : IsHeadline digest cores tables shown
   pub counts_are : AreCounts tables counts
-  pub text_is : text ≡ report_text writers lines given shown counts ended
+  pub text_is : text ≡ report_text s lines given shown counts ended
 
 -- the text is the report of a run of these lines
 pub record IsReport (D : Type 0) (digest : List ℕ → List ℕ) (s : Settings) (lines : List Line)
@@ -136,7 +136,7 @@ pub record IsReport (D : Type 0) (digest : List ℕ → List ℕ) (s : Settings)
   pub tables : List Table
   pub ended : List EndedView
   pub run : IsRun digest s lines given cores tables ended
-  pub text_of : IsTextOf digest s.workers lines given cores tables ended text
+  pub text_of : IsTextOf digest s lines given cores tables ended text
 
 -- a text grew by the lines of the repositories, as they are shown
 pub record AddsShown (digest : List ℕ → List ℕ) (cores : List State) (tables : List Table)

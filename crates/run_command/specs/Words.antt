@@ -5,6 +5,7 @@ use Rattle.clap.specs.Walk.{Row, Rule, first_of, one_of}
 use Rattle.clap.specs.declared.builder.value_parser.ValueParser.{ValueParser}
 use Rattle.clap.specs.declared.builder.value_parser.ValueParser.TheVariants as parsers
 use Rattle.console.specs.Numbers.{IsNumberOf}
+use Rattle.record_forms.specs.Options.{IsFormOf, json_rule}
 use Rattle.run_command.specs.declared.settings.Settings.{Settings}
 
 -- `--id NUMBER`, as the parser takes it, and another one where there is none
@@ -33,7 +34,7 @@ abbrev pub run_shape : Shape
 run_shape = record (new_shape (codes "run")) {
   rules = number_rule (codes "repos") (up_to 1024) (codes "1")
       ∷ number_rule (codes "workers") (up_to 64) (codes "1")
-      ∷ number_rule (codes "queue") (up_to 65536) (codes "1024") ∷ did_rule ∷ [];
+      ∷ number_rule (codes "queue") (up_to 65536) (codes "1024") ∷ did_rule ∷ json_rule ∷ [];
 }
 
 -- the DID that the words give, or the program's own where there is none (a choice of this project)
@@ -41,10 +42,11 @@ abbrev pub did_of_words : List Row → List ℕ
 did_of_words rows = unwrap_or (first_of (codes "did") rows) (codes "did:web:localhost")
 
 -- Where the words give numbers in their ranges, or none, the settings have these: one repository and
--- one worker where there is none, and room for 1,024 notices (a choice of this project).
+-- one worker where there is none, and room for 1,024 notices (a choice of this project). Then they
+-- have the form of records too that the words ask for.
 abbrev pub HasNumbersOf : List Row → Settings → Type 0
 HasNumbersOf rows s = (repos workers queue : ℕ)
     → IsNumberOf 32 1 (one_of (codes "repos") rows) repos → (1 ≤ repos) × (repos ≤ 1024)
     → IsNumberOf 32 1 (one_of (codes "workers") rows) workers → (1 ≤ workers) × (workers ≤ 64)
     → IsNumberOf 32 1024 (one_of (codes "queue") rows) queue → (1 ≤ queue) × (queue ≤ 65536)
-    → (s.repos ≡ repos) × (s.workers ≡ workers) × (s.queue ≡ queue)
+    → (s.repos ≡ repos) × (s.workers ≡ workers) × (s.queue ≡ queue) × IsFormOf rows s.form

@@ -27,11 +27,11 @@ pub(crate) fn report_of<D: Digest, T: Wait>(
     requires repos { length closed.old.cores ≡ settings.now.repos }
     requires writers { closed.old.feed.made ≡ settings.now.workers }
     requires fresh { closed.old.feed.received ≡ [] }
-    ensures { IfOk result (λ text. IsTextOf D.digest_of settings.now.workers lines.now answers.now
+    ensures { IfOk result (λ text. IsTextOf D.digest_of settings.now lines.now answers.now
         closed.old.cores closed.old.tables closed.old.ended text.items) }
 {
     let mut text = Vec::new(alloc);
-    push_answers(&mut text, alloc, lines, answers)?;
+    push_answers(&mut text, alloc, settings.form(), lines, answers)?;
     push_shown(&mut text, settings.repos(), closed)?;
     push_counts(&mut text, alloc, closed)?;
     let left = drained(rt, alloc, closed)?;

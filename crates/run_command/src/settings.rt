@@ -1,15 +1,19 @@
-//! How many of each a run has.
+//! How many of each a run has, and how its report shows records.
 ghost use Rattle.std.specs.Prelude.{◌≡◌, ◌≤◌, ◌↔◌, IsSome, IfSome};
 ghost use Rattle.host.specs.Opening.{AreLawful};
+ghost use Rattle.record_forms.specs.declared.form.Form.TheVariants as forms;
 
 use host::Limits;
+use record_forms::Form;
 
-/// How many repositories and workers a run has, and how many notices its queue has room for.
+/// How many repositories and workers a run has, how many notices its queue has room for, and in which form its report has
+/// records.
 #[derive(Clone, Copy, PartialEq, Eq, Debug)]
 pub struct Settings {
     repos: u32,
     workers: u32,
     queue: u32,
+    form: Form,
     pub ghost least_repos: { 1 ≤ repos },
     pub ghost most_repos: { repos ≤ 1024 },
     pub ghost least_workers: { 1 ≤ workers },
@@ -26,11 +30,13 @@ const REPO_WRITES: usize = 1_048_576;
 
 impl Settings {
     /// So many repositories, 1 to 1,024, and workers, 1 to 64, with room for so many notices, 1 to 65,536; or `None` where
-    /// one of them is out of its range.
-    pub fn new(repos: u32, workers: u32, queue: u32) -> Option<Settings>
+    /// one of them is out of its range. A record that a look-up finds is reported in this form, and one without JSON in
+    /// hexadecimal.
+    pub fn new(repos: u32, workers: u32, queue: u32, form: Form) -> Option<Settings>
         ensures repos { IfSome result (λ s. s.repos ≡ repos) }
         ensures workers { IfSome result (λ s. s.workers ≡ workers) }
         ensures queue { IfSome result (λ s. s.queue ≡ queue) }
+        ensures form { IfSome result (λ s. s.form ≡ form) }
         ensures valid { IsSome result ↔ ((1 ≤ repos) × (repos ≤ 1024) × (1 ≤ workers)
             × (workers ≤ 64) × (1 ≤ queue) × (queue ≤ 65536)) }
     {
@@ -41,6 +47,7 @@ impl Settings {
             repos,
             workers,
             queue,
+            form,
         })
     }
 
@@ -57,6 +64,13 @@ impl Settings {
         ensures { result ≡ self.now.workers }
     {
         self.workers
+    }
+
+    /// The form of records in the report.
+    pub(crate) fn form(&self) -> Form
+        ensures { result ≡ self.now.form }
+    {
+        self.form
     }
 
     /// The limits of the host.
@@ -79,14 +93,16 @@ impl Settings {
 }
 
 impl Default for Settings {
-    ghost is_default = { λ s. (s.repos ≡ 1) × (s.workers ≡ 1) × (s.queue ≡ 1024) };
+    ghost is_default = { λ s. (s.repos ≡ 1) × (s.workers ≡ 1) × (s.queue ≡ 1024)
+        × (s.form ≡ forms.Hex) };
 
-    /// One repository, one worker, and room for 1,024 notices.
+    /// One repository, one worker, room for 1,024 notices, and records in hexadecimal.
     fn default() -> Settings {
         Settings {
             repos: 1,
             workers: 1,
             queue: 1024,
+            form: Form::Hex,
         }
     }
 }

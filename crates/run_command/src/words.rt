@@ -1,6 +1,6 @@
 //! What the command is told on a command line.
 ghost use Rattle.std.specs.Prelude.{◌≡◌, ◌↔◌, ℕ, codes, false, IfOk, IfSome, IsSome};
-ghost use Rattle.clap.specs.Words.{app_of, found_of, one_of, rows_of, rule_of, shape_of};
+ghost use Rattle.clap.specs.Words.{app_of, found_of, new_app, one_of, rows_of, rule_of, shape_of};
 ghost use Rattle.clap.specs.Words.{with_subcommand};
 ghost use Rattle.clap.specs.declared.builder.command.Command.TheViews.{out-Command as fields_of};
 ghost use Rattle.console.specs.FileWords.{with_file as with_file_of};
@@ -12,12 +12,13 @@ use crate::settings::Settings;
 use clap::builder::ValueParser;
 use clap::{Arg, ArgMatches, Command, value_parser};
 use console::with_file;
+use record_forms::{form_of, json_option};
 use std::alloc::{AllocError, Global};
 
 /// The command, with what its words say.
 #[derive(Clone, Copy)]
 pub struct RunCommand<'a> {
-    /// How many of each there are.
+    /// How many of each there are, and in which form the report has records.
     pub settings: Settings,
     /// The DID of all batches.
     pub did: &'a str,
@@ -37,6 +38,10 @@ have them, and the notices that each worker told, in their order.
 A line is WORKER REPO REV WRITE, or WORKER REPO REV WRITE ; WRITE .. for a batch, or WORKER REPO get KEY. A WRITE is
 put KEY HEX, create KEY HEX, update KEY HEX or delete KEY, with a record in hexadecimal: one DAG-CBOR map. One space
 stands between two words, and empty lines are passed over. That a call is refused is an answer: the status is 0.
+
+A record that a get finds stands in the report in hexadecimal. With --json it stands there as JSON (AT Protocol data model),
+which begins with {; one that has no form as JSON stands there in hexadecimal. The script's records are in hexadecimal
+with --json too.
 
 Exit status: 0 done, 1 a faulty line or DID, or a host that doesn't close, 2 a wrong command line, 3 no memory,
 4 reading or writing failed.";
@@ -64,10 +69,7 @@ fn words<'a>(alloc: Global) -> Result<Command<'a>, AllocError>
     let repos = value_parser!(u32).range(1..=1024);
     let workers = value_parser!(u32).range(1..=64);
     let queue = value_parser!(u32).range(1..=65536);
-    Command::new(alloc, "run")
-        .about(ABOUT)
-        .long_about(LONG_ABOUT)
-        .after_help(EXAMPLE)
+    described(alloc)
         .arg(number(
             alloc,
             "repos",
@@ -92,7 +94,19 @@ fn words<'a>(alloc: Global) -> Result<Command<'a>, AllocError>
             "1024",
             "How many notices the host's queue has room for",
         ))?
-        .arg(did(alloc))
+        .arg(did(alloc))?
+        .arg(json_option(alloc))
+}
+
+/// The command with what help shows of it, and without words.
+fn described<'a>(alloc: Global) -> Command<'a>
+    ensures app { app_of result ≡ new_app (codes "run") }
+    ensures local { (fields_of result).has_globals ≡ false }
+{
+    Command::new(alloc, "run")
+        .about(ABOUT)
+        .long_about(LONG_ABOUT)
+        .after_help(EXAMPLE)
 }
 
 /// An option that takes a number, and has another one where it is left out.
@@ -140,7 +154,7 @@ pub fn command_of<'a>(name: &str, words: &ArgMatches<'a>) -> Option<RunCommand<'
     let workers = number_or(1, words, "workers");
     let queue = number_or(1024, words, "queue");
     Some(RunCommand {
-        settings: Settings::new(repos, workers, queue).unwrap_or_default(),
+        settings: Settings::new(repos, workers, queue, form_of(words)).unwrap_or_default(),
         did: words.get_str("did").unwrap_or(DID),
     })
 }

@@ -9,7 +9,7 @@ use cid::Cid;
 use cid::digests::Toy;
 use export::ToMemory;
 use host::{Host, Opened, Writer};
-use host_exports::{car, prove, prove_change};
+use host_exports::{car, prove, prove_inversion};
 use repo_fixtures::batch::{EMPTY, Step, batch_at};
 use std::alloc::Global;
 use std::process::Abort;
@@ -54,8 +54,13 @@ fn is_proved<R: Wait>(rt: &R, alloc: Global, host: &Host<Toy, 2>, repo: usize) -
     if !are_key_changes(&changes) {
         return false;
     }
-    prove(rt, alloc, host, repo, KEY).is_ok()
-        && prove_change(rt, alloc, host, repo, &changes).is_ok()
+    let Ok(nodes) = prove(rt, alloc, host, repo, KEY) else {
+        return false;
+    };
+    match nodes.first() {
+        Some(top) => prove_inversion(rt, alloc, host, repo, top.cid(), &changes).is_ok(),
+        None => false,
+    }
 }
 
 /// Whether repository 0 is read and proved, and repository 1 written, read, proved and exported, once the output is in its

@@ -4,7 +4,7 @@ use Rattle.std.specs.Prelude.{Option, Some, None, Result, Ok, Err, nat_eq, if◌
 use Rattle.std.proofs.lemmas.List.{append_assoc, append-nil, drop_more}
 use Rattle.std.proofs.Math.ListN.{drop_of_length-le}
 use Rattle.batch_laws.specs.Batch.{Change}
-use Rattle.edit.specs.Batches.{are_changes}
+use Rattle.key_changes.specs.Keyed.{are_changes}
 use Rattle.change_laws.specs.Told.{KeyChange, undone}
 use Rattle.change_laws.specs.Given.{ChangeFault as GivenFault, OtherValue as HasOtherValue}
 use Rattle.sha2.specs.Sha256.{sha256}
@@ -13,10 +13,12 @@ use Rattle.spec.specs.Blocks.{pairs}
 use Rattle.spec.specs.States.{State, records}
 use Rattle.change_laws.specs.Laws.{change_path}
 use Rattle.change_proofs.specs.Provings.{AreNodes, IsUntrue, told_by}
+use Rattle.change_proofs.specs.StepProvings.{IsStepOf}
 use Rattle.change_proofs.specs.declared.proving_fault.ProvingFault.TheVariants as provings
 use Rattle.buffers.specs.Answers.{IsHanded, parts_bytes}
 use Rattle.buffers.specs.Framing.{cid_or_none_at, with_values}
-use Rattle.tizulgech.specs.Changing.{allowed, both_told, told, told_of, IsChangeOver, IsChangeVerified, IsProven, IsProvenBy, IsProvenOf, IsSpelt}
+use Rattle.tizulgech.specs.Changing.{allowed, both_told, told, told_of, proof_bytes, IsChangeOver, IsChangeVerified, IsStepProven, IsStepProvenOf, IsStepSpelt}
+use Rattle.tizulgech.specs.Inverting.{IsInversionOver, IsInversionVerified, IsProven, IsProvenBy, IsProvenOf, IsSpelt}
 
 -- one more change behind the others
 pub told_next : (whole old new : List KeyChange) (c : KeyChange) (bs rest : List Change) (i : ℕ) (b a : Change)
@@ -93,6 +95,39 @@ verified code missing place nodes before after cs n b a c is_n is_b is_a is_c h 
     (subst (λ x. IsChangeVerified code missing place (Some nodes) x a c) is_b
     (subst (λ x. IsChangeVerified code missing place (Some nodes) (Some before) x c) is_a
     (subst (λ x. IsChangeVerified code missing place (Some nodes) (Some before) (Some after) x) is_c h)))
+
+-- the same of changes that are undone
+pub inverted : (code : ℕ) (missing : List ℕ) (place : ℕ) (nodes : List (List ℕ)) (before after : List ℕ) (cs : List KeyChange)
+    (n : Option (List (List ℕ))) (b a : Option (List ℕ)) (c : Option (List KeyChange))
+    → Some nodes ≡ n → Some before ≡ b → Some after ≡ a → Some cs ≡ c → IsInversionOver code missing place nodes before after cs
+    → IsInversionVerified code missing place n b a c
+inverted code missing place nodes before after cs n b a c is_n is_b is_a is_c h =
+    subst (λ x. IsInversionVerified code missing place x b a c) is_n
+    (subst (λ x. IsInversionVerified code missing place (Some nodes) x a c) is_b
+    (subst (λ x. IsInversionVerified code missing place (Some nodes) (Some before) x c) is_a
+    (subst (λ x. IsInversionVerified code missing place (Some nodes) (Some before) (Some after) x) is_c h)))
+
+-- where the changes of a proof are there
+pub step_of : (code : ℕ) (before room : List ℕ) (size : ℕ) (s : State) (cs : List Change) (c : Option (List Change))
+    → Some cs ≡ c → IsStepProvenOf code before room size s cs → IsStepProven code before room size s c
+step_of code before room size s cs c is h = subst (IsStepProven code before room size s) is h
+
+pub no_step : (code : ℕ) (before room : List ℕ) (size : ℕ) (s : State) (c : Option (List Change)) → None ≡ c → code ≡ 252
+    → IsStepProven code before room size s c
+no_step code before room size s c is h = subst (IsStepProven code before room size s) is h
+
+-- a proof, spelt
+pub step_spelt : (s t : State) (cs : List Change) (after : List ℕ) (told : List KeyChange) (nodes : List (List ℕ)) (bytes : List ℕ)
+    → t ≡ s → IsStepOf sha256 2 cs (pairs sha256 (records t)) after told nodes → bytes ≡ proof_bytes after told nodes → IsStepSpelt s cs bytes
+step_spelt s t cs after told nodes bytes same step is = record {
+  after = after;
+  told = told;
+  nodes = nodes;
+  step = subst (λ (u : State). IsStepOf sha256 2 cs (pairs sha256 (records u)) after told nodes) same step;
+  bytes_are = is;
+}
+
+-- ---- proofs of changes that are undone
 
 -- where each key has what is told
 pub proven : (test : Result (Unit {0}) GivenFault) (code place : ℕ) (before room bytes : List ℕ) (size : ℕ) (path : List (List ℕ))

@@ -1,19 +1,16 @@
--- What is told of changes between two roots.
-use Rattle.std.specs.Prelude.{◌≡◌, ℕ, List, [], ◌∷◌, Option, Some, None, Result, Ok, Err, nat_eq, length, if◌then◌else◌}
+-- What is told of changes between two roots, and of a step from one to the next.
+use Rattle.std.specs.Prelude.{◌≡◌, ◌++◌, ℕ, List, [], ◌∷◌, map, Option, Some, None, Result, Ok, Err, nat_eq, length, if◌then◌else◌}
 use Rattle.sha2.specs.Sha256.{sha256}
 use Rattle.spec.specs.Blocks.{pairs}
 use Rattle.spec.specs.States.{State, records}
 use Rattle.batch_laws.specs.Batch.{Change}
-use Rattle.edit.specs.Batches.{are_changes}
+use Rattle.key_changes.specs.Keyed.{are_changes}
 use Rattle.change_laws.specs.Told.{KeyChange, undone}
-use Rattle.change_laws.specs.Given.{ChangeFault as GivenFault}
-use Rattle.change_laws.specs.Given as given
-use Rattle.change_laws.specs.Laws.{change_path}
-use Rattle.change_proofs.specs.Provings.{told_by}
-use Rattle.change_proofs.specs.Verdicts.{IsVerdict, IsRight, IsWhole, IsOfTree}
+use Rattle.change_proofs.specs.StepProvings.{IsStepOf}
+use Rattle.change_proofs.specs.StepVerdicts.{IsStepVerdict, IsStepRight, IsStepWhole, IsStepOfTree}
 use Rattle.change_proofs.specs.declared.change_fault.ChangeFault.{ChangeFault}
 use Rattle.change_proofs.specs.declared.change_fault.ChangeFault.TheVariants.{BlockMissing, BadNode, TooDeep, NotTree, OtherValue, OtherRoot, NoMemory}
-use Rattle.buffers.specs.Answers.{IsHanded, parts_bytes}
+use Rattle.buffers.specs.Answers.{IsHanded, parts_bytes, values_bytes}
 use Rattle.buffers.specs.Framing.{cid_or_none_at, cut}
 use Rattle.tizulgech.specs.Trees.{beside_parts}
 
@@ -53,15 +50,16 @@ IsVerdictTold code missing place (Err (OtherValue at)) = (code ≡ 33) × (place
 IsVerdictTold code missing place (Err OtherRoot) = code ≡ 34
 IsVerdictTold code missing place (Err NoMemory) = code ≡ 255
 
--- what is told is the verdict over these nodes; it is right of all pairs with the root after, whole where the nodes are given that
--- undoing reads, and says nothing against a node of a tree
+-- What is told is the verdict over these nodes of the tree before: a step that is shown leads from the root of pairs to that of
+-- these pairs with the changes done; a true one is shown where the nodes are given that doing them reads, but for want of memory;
+-- and nothing is said against a node of a tree.
 pub record IsChangeOver (code : ℕ) (missing : List ℕ) (place : ℕ) (nodes : List (List ℕ)) (before after : List ℕ)
     (cs : List KeyChange) : Type 0 where
   pub result : Result (Unit {0}) ChangeFault
-  pub verdict : IsVerdict sha256 2 before after nodes cs result
-  pub right : IsRight sha256 2 before after nodes cs result
-  pub comes : IsWhole sha256 2 before after nodes cs result
-  pub tree : IsOfTree sha256 2 before after nodes cs result
+  pub verdict : IsStepVerdict sha256 2 before after nodes cs result
+  pub right : IsStepRight sha256 2 before after nodes cs result
+  pub comes : IsStepWhole sha256 2 before after nodes cs result
+  pub tree : IsStepOfTree sha256 2 before after nodes cs result
   pub told_is : IsVerdictTold code missing place result
 
 -- 252 for arguments that are none
@@ -76,27 +74,29 @@ IsChangeVerified code missing place (Some nodes) (Some before) (Some after) (Som
 
 -- ---- proofs of a repository
 
--- the bytes spell the nodes that undoing reads, and each key has what is told after its change
-pub record IsSpelt (s : State) (cs : List KeyChange) (bytes : List ℕ) : Type 0 where
-  pub told_is : told_by (pairs sha256 (records s)) cs ≡ Ok tt
-  pub bytes_are : bytes ≡ parts_bytes (change_path sha256 2 cs (pairs sha256 (records s)))
+-- the value that each key had before its change, 36 zeros where it had none
+abbrev pub befores_bytes : List KeyChange → List ℕ
+befores_bytes cs = values_bytes (map (λ c. c.before) cs)
 
--- the nodes, where each key has what is told after its change; else 33, and the place of the first that hasn't
-abbrev pub IsProvenBy : Result (Unit {0}) GivenFault → ℕ → ℕ → List ℕ → List ℕ → ℕ → List (List ℕ) → Type 0
-IsProvenBy (Ok ok) code place before room size path = IsHanded code (parts_bytes path) before room size
-IsProvenBy (Err (given.BlockMissing c)) code place before room size path = ⊥
-IsProvenBy (Err (given.BadNode c)) code place before room size path = ⊥
-IsProvenBy (Err given.TooDeep) code place before room size path = ⊥
-IsProvenBy (Err given.NotTree) code place before room size path = ⊥
-IsProvenBy (Err (given.OtherValue at)) code place before room size path = (code ≡ 33) × (place ≡ at)
-IsProvenBy (Err given.OtherRoot) code place before room size path = ⊥
+-- how a proof is spelt: the root after, these values, and each node with its length in front
+abbrev pub proof_bytes : List ℕ → List KeyChange → List (List ℕ) → List ℕ
+proof_bytes after told nodes = after ++ befores_bytes told ++ parts_bytes nodes
 
-abbrev pub IsProvenOf : ℕ → ℕ → List ℕ → List ℕ → ℕ → State → List KeyChange → Type 0
-IsProvenOf code place before room size s cs =
-    let es = pairs sha256 (records s) in
-    IsProvenBy (told_by es cs) code place before room size (change_path sha256 2 cs es)
+-- the bytes spell what these changes make of the repository's tree, and the nodes that show it
+pub record IsStepSpelt (s : State) (cs : List Change) (bytes : List ℕ) : Type 0 where
+  pub after : List ℕ
+  pub told : List KeyChange
+  pub nodes : List (List ℕ)
+  pub step : IsStepOf sha256 2 cs (pairs sha256 (records s)) after told nodes
+  pub bytes_are : bytes ≡ proof_bytes after told nodes
+
+-- they are handed out
+pub record IsStepProvenOf (code : ℕ) (before room : List ℕ) (size : ℕ) (s : State) (cs : List Change) : Type 0 where
+  pub bytes : List ℕ
+  pub spelt : IsStepSpelt s cs bytes
+  pub handed : IsHanded code bytes before room size
 
 -- 252 for what are no changes
-abbrev pub IsProven : ℕ → ℕ → List ℕ → List ℕ → ℕ → State → Option (List KeyChange) → Type 0
-IsProven code place before room size s None = code ≡ 252
-IsProven code place before room size s (Some cs) = IsProvenOf code place before room size s cs
+abbrev pub IsStepProven : ℕ → List ℕ → List ℕ → ℕ → State → Option (List Change) → Type 0
+IsStepProven code before room size s None = code ≡ 252
+IsStepProven code before room size s (Some cs) = IsStepProvenOf code before room size s cs

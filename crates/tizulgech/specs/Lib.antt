@@ -5,6 +5,7 @@ pub mod Known
 pub mod Causes
 pub mod Below
 pub mod Changing
+pub mod Inverting
 pub mod Parting
 pub use Rattle.spec.specs.Cid
 pub use Rattle.spec.specs.Layer

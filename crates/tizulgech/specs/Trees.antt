@@ -12,7 +12,8 @@ use Rattle.spec.specs.Stamps.{Stamp}
 use Rattle.spec.specs.Writes as writes
 use Rattle.spec.specs.States.{BatchFault, after_batch, fresh, state_car, state_test}
 use Rattle.batch_laws.specs.Batch.{Change}
-use Rattle.edit.specs.Batches.{are_changes, IsBatch, IsBatchRefusal, IsAnswered, IsLack}
+use Rattle.edit.specs.Batches.{IsBatch, IsBatchRefusal, IsAnswered, IsLack}
+use Rattle.key_changes.specs.Keyed.{are_changes}
 use Rattle.edit.specs.declared.outcome.BatchEdit.{BatchEdit}
 use Rattle.edit.specs.declared.outcome.EditFault.{EditFault}
 use Rattle.edit.specs.declared.outcome.EditFault.TheVariants.{Missing, BadNode, TooDeep, NotTree, NoSuchKey, Clash, NoMemory}

@@ -3,7 +3,7 @@
 ghost use Rattle.std.specs.Prelude.{◌≡◌, length, map, true, IfOk, OnOk, IfSome, option_map, Option, Some, None, nat_eq, false, ◌++◌};
 ghost use Rattle.std.specs.Arc.{arc_value};
 ghost use Rattle.sha2.specs.Sha256.{sha256};
-ghost use Rattle.edit.specs.Batches.{are_changes as are_changes_of};
+ghost use Rattle.key_changes.specs.Keyed.{are_changes as are_changes_of};
 ghost use Rattle.buffers.specs.Answers.{blocks_bytes, IsKept};
 ghost use Rattle.buffers.specs.Framing.{cid_at, cid_or_none_at, cut, with_values};
 ghost use Rattle.tizulgech.specs.Known.{AreKnown};

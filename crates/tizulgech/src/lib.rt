@@ -6,7 +6,8 @@
 //! - `values`, `stamps` and `cids` have the calls on values: records, keys, CIDs, nodes, stamps, commits.
 //! - `edits`, `below`, `given` and `listings` have those on trees that the caller keeps by itself, over the `nodes` that it hands in.
 //! - `opening`, `staging`, `reading`, `pages`, `files`, `sections` and `proving` have those on a repository in memory, behind a handle (`owned_repo::Repository`).
-//! - `changes` has those that prove which keys changed and how, and that check such a proof.
+//! - `changes` has those that prove a step from one root to the next, and that check such a proof; `inversions` has those that undo
+//!   changes. `told_changes` reads what both are told, and tells their verdicts.
 #![tactic(auto)]
 
 mod below;
@@ -15,6 +16,7 @@ mod cids;
 mod codes;
 mod edits;
 mod files;
+mod inversions;
 mod listings;
 mod nodes;
 mod opening;
@@ -24,5 +26,6 @@ mod reading;
 mod sections;
 mod staging;
 mod stamps;
+mod told_changes;
 mod values;
 mod verifying;

@@ -1,6 +1,6 @@
 //! Proofs of the keys of a repository.
 
-ghost use Rattle.std.specs.Prelude.{◌≡◌, map, IfSome, IfOk};
+ghost use Rattle.std.specs.Prelude.{◌≡◌, ◌++◌, map, IfSome, IfOk, OnOk};
 ghost use Rattle.sha2.specs.Sha256.{sha256};
 ghost use Rattle.std.specs.Arc.{arc_value};
 ghost use Rattle.spec.specs.Blocks.{pairs};
@@ -72,8 +72,20 @@ pub(crate) fn spell_blocks(
     ensures { IfOk result (λ bytes. bytes.items ≡ parts_bytes (map arc_value blocks.now)) }
 {
     let mut bytes = Vec::new(alloc);
-    for block in blocks {
-        push_part(&mut bytes, block.bytes())?;
-    }
+    push_blocks(&mut bytes, blocks)?;
     Ok(bytes)
+}
+
+/// Puts blocks at the end, each with its length in front.
+pub(crate) fn push_blocks(
+    bytes: &mut Vec<u8>,
+    blocks: &[Arc<Block<Sha256>>],
+) -> Result<(), AllocError>
+    ensures { OnOk result (bytes.new.items
+        ≡ bytes.old.items ++ parts_bytes (map arc_value blocks.now)) }
+{
+    for block in blocks {
+        push_part(bytes, block.bytes())?;
+    }
+    Ok(())
 }

@@ -21,12 +21,12 @@ use node::{NodeView, Place};
 use std::alloc::Global;
 
 /// The number of this interface: one more whenever a call is changed or taken away.
-const VERSION: u64 = 3;
+const VERSION: u64 = 4;
 
 /// The number of this interface.
 #[unsafe(no_mangle)]
 pub extern "C" fn tizulgech_version() -> u64
-    ensures { result ≡ 3 }
+    ensures { result ≡ 4 }
 {
     VERSION
 }
@@ -56,7 +56,7 @@ pub extern "C" fn tizulgech_write_fault(
         → result ≡ write_answer there (write_at kind key.now bytes.now) }
 {
     match write_of_kind(alloc, kind, key, bytes) {
-        Ok(Some(write)) => write_tested(alloc, there, &write),
+        Ok(Some(write)) => write_tested(there, &write),
         Ok(None) => BAD,
         Err(_) => NO_MEMORY,
     }
@@ -64,11 +64,11 @@ pub extern "C" fn tizulgech_write_fault(
 
 /// The same of a write.
 #[tactic(auto, using(crate::proofs::Told::write_told))]
-fn write_tested(alloc: Global, there: bool, write: &Write) -> u8
+fn write_tested(there: bool, write: &Write) -> u8
     ensures { nat_eq result 255 ≡ false
         → result ≡ test_answer (test_when there (write_of write.now)) }
 {
-    match test_write::<Sha256, _>(alloc, there, write) {
+    match test_write::<Sha256, _>(there, write) {
         Ok(()) => DONE,
         Err(fault) => code_of_fault(&fault),
     }

@@ -1,9 +1,8 @@
 //! The lines of a report.
 ghost use Rattle.std.specs.Prelude.{◌≡◌, ◌∷◌, [], ◌++◌, codes, decimal, length, map, OnOk};
-ghost use Rattle.hex.specs.Hex.{encode_lower};
 ghost use Rattle.notices.specs.Numbering.{of as notices_of};
 ghost use Rattle.spec.specs.Cid.{text as text_of};
-ghost use Rattle.run_command.specs.Report.{answer_line, answer_lines, block_line, block_lines, notice_line, notice_lines, refusal_of, refused_line, repository_line, words_line};
+ghost use Rattle.run_command.specs.Report.{answer_line, answer_lines, block_line, block_lines, found_line, notice_line, notice_lines, refusal_of, refused_line, repository_line, words_line};
 
 use crate::script::words::push_words;
 use batches::refusal_name;
@@ -11,23 +10,25 @@ use cid::{Cid, Digest};
 use host::HostFault;
 use itoa::Buffer;
 use notices::Notice;
+use record_forms::{Form, word_of_record};
 use scripts::{Answer, Line};
 use std::alloc::{AllocError, Allocator, Global};
 
-/// Adds the answers of these lines, which are as many. Where memory is refused, to this or to the calls below, a beginning
-/// may have been added.
+/// Adds the answers of these lines, which are as many, with records in this form. Where memory is refused, to this or to the
+/// calls below, a beginning may have been added.
 pub fn push_answers<D: Digest>(
     text: &mut Vec<u8>,
     alloc: Global,
+    form: Form,
     lines: &[Line],
     answers: &[Answer<D>],
 ) -> Result<(), AllocError>
     requires { length answers.now ≡ length lines.now }
     ensures { OnOk result (text.new.items ≡ text.old.items
-        ++ answer_lines (map (λ l. l.number) lines.now) answers.now) }
+        ++ answer_lines form (map (λ l. l.number) lines.now) answers.now) }
 {
     for (line, answer) in lines.iter().zip(answers.iter()) {
-        push_answer(text, alloc, line.number, answer)?;
+        push_answer(text, alloc, form, line.number, answer)?;
     }
     Ok(())
 }
@@ -36,15 +37,16 @@ pub fn push_answers<D: Digest>(
 fn push_answer<D: Digest>(
     text: &mut Vec<u8>,
     alloc: Global,
+    form: Form,
     number: usize,
     answer: &Answer<D>,
 ) -> Result<(), AllocError>
-    ensures { OnOk result (text.new.items ≡ text.old.items ++ answer_line number answer.now) }
+    ensures { OnOk result (text.new.items ≡ text.old.items ++ answer_line form number answer.now) }
 {
     match answer {
         Answer::Accepted(notice) => push_accepted(text, number, notice.number),
         Answer::Refused(fault) => push_refused(text, number, fault),
-        Answer::Found(bytes) => push_found(text, alloc, number, bytes),
+        Answer::Found(bytes) => push_found(text, alloc, form, number, bytes),
         Answer::Absent => push_absent(text, number),
     }
 }
@@ -99,21 +101,21 @@ fn refusal<D: Digest, A: Allocator>(fault: &HostFault<D, A>) -> (usize, &'static
     }
 }
 
-/// Adds the record that was found.
+/// Adds the record that was found, in this form, and in hexadecimal where it has no JSON.
 fn push_found(
     text: &mut Vec<u8>,
     alloc: Global,
+    form: Form,
     number: usize,
     bytes: &[u8],
 ) -> Result<(), AllocError>
-    ensures { OnOk result (text.new.items ≡ text.old.items
-        ++ words_line (decimal number ∷ codes "found" ∷ encode_lower bytes.now ∷ [])) }
+    ensures { OnOk result (text.new.items ≡ text.old.items ++ found_line form number bytes.now) }
 {
-    let digits = hex::encode(alloc, bytes)?;
+    let word = word_of_record(alloc, form, bytes)?;
     let mut line = Buffer::new();
     push_words(
         text,
-        &[line.format(number).as_bytes(), b"found", digits.as_bytes()],
+        &[line.format(number).as_bytes(), b"found", word.as_slice()],
     )
 }
 

@@ -2,7 +2,7 @@ use Rattle.std.proofs.Common.{◌≡◌, ◌<◌, map, true, sym, ap, subst, ◌
 use Rattle.std.specs.Prelude.{IfErr}
 use Rattle.batch_laws.specs.Collecting.{collected}
 use Rattle.batches.specs.Values.{stamp_of, writes_of}
-use Rattle.edit.specs.Batches.{are_changes}
+use Rattle.key_changes.specs.Keyed.{are_changes}
 use Rattle.change_laws.specs.Told.{undone}
 use Rattle.change_commands.specs.Texts.{change_before, second_stamp, text_on}
 use Rattle.repository_commands.specs.Faults.{text_fault_of}

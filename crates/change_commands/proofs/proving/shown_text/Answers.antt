@@ -1,7 +1,7 @@
 use Rattle.std.proofs.Common.{◌≡◌, Ok, true, sym, ap, subst, ◌∙◌}
 use Rattle.spec.specs.Blocks.{pairs}
 use Rattle.spec.specs.States.{records}
-use Rattle.edit.specs.Batches.{are_changes}
+use Rattle.key_changes.specs.Keyed.{are_changes}
 use Rattle.change_laws.specs.Told.{undone}
 use Rattle.change_proofs.specs.Provings.{told_by}
 use Rattle.change_commands.proofs.ChangedKeys.{all-told, undone-to}

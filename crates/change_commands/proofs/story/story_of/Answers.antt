@@ -10,8 +10,8 @@ loop-line-preserved-then-is_empty c = (
   search rules,
   record {
     reading = c.loop-line.invariant.2.reading
-        ∙ ap (λ ls. story_from (story_of c.loop-line.story) (c.loop-line.number + 1) ls) c.in-Some.ensures.steps
-        ∙ story_empty (story_of c.loop-line.story) (c.loop-line.number + 1) c.in-Some.line.now c.next.new.self (sym c.is_empty.ensures ∙ c.if-is_empty.true);
+        ∙ ap (λ ls. story_from c.args.form (story_of c.loop-line.story) (c.loop-line.number + 1) ls) c.in-Some.ensures.steps
+        ∙ story_empty c.args.form (story_of c.loop-line.story) (c.loop-line.number + 1) c.in-Some.line.now c.next.new.self (sym c.is_empty.ensures ∙ c.if-is_empty.true);
     bound = omega (arith, ap length c.in-Some.ensures.steps, c.loop-line.invariant.2.bound);
   },
 )
@@ -22,8 +22,8 @@ loop-line-preserved c = (
   search rules,
   record {
     reading = c.loop-line.invariant.2.reading
-        ∙ ap (λ ls. story_from (story_of c.loop-line.story) (c.loop-line.number + 1) ls) c.in-Some.ensures.steps
-        ∙ story_on (story_of c.loop-line.story) (story_of c.take.new.self) (c.loop-line.number + 1) c.in-Some.line.now c.next.new.self (sym c.is_empty.ensures ∙ c.if-is_empty.false)
+        ∙ ap (λ ls. story_from c.args.form (story_of c.loop-line.story) (c.loop-line.number + 1) ls) c.in-Some.ensures.steps
+        ∙ story_on c.args.form (story_of c.loop-line.story) (story_of c.take.new.self) (c.loop-line.number + 1) c.in-Some.line.now c.next.new.self (sym c.is_empty.ensures ∙ c.if-is_empty.false)
         c.in_ok-is_write.ensures.taken (search rules);
     bound = omega (arith, ap length c.in-Some.ensures.steps, c.loop-line.invariant.2.bound);
   },
@@ -32,16 +32,16 @@ loop-line-preserved c = (
 pub returns-then-not-is_write : goal.returns-then-not-is_write
 returns-then-not-is_write c = sym (
     c.loop-line.invariant.2.reading
-    ∙ ap (λ ls. story_from (story_of c.loop-line.story) (c.loop-line.number + 1) ls) c.in-Some.ensures.steps
-    ∙ story_stop (story_of c.loop-line.story) (story_of c.take.new.self) (c.loop-line.number + 1) c.in-Some.line.now c.next.new.self (sym c.is_empty.ensures ∙ c.if-is_empty.false)
+    ∙ ap (λ ls. story_from c.args.form (story_of c.loop-line.story) (c.loop-line.number + 1) ls) c.in-Some.ensures.steps
+    ∙ story_stop c.args.form (story_of c.loop-line.story) (story_of c.take.new.self) (c.loop-line.number + 1) c.in-Some.line.now c.next.new.self (sym c.is_empty.ensures ∙ c.if-is_empty.false)
     c.in_ok-is_write.ensures.taken (search rules)
     )
 
 pub returns : goal.returns
 returns c = sym (
     c.loop-line.invariant.2.reading
-    ∙ ap (λ ls. story_from (story_of c.loop-line.story) (c.loop-line.number + 1) ls) c.in-None.ensures.steps.0
-    ∙ story_done (story_of c.loop-line.story) (c.loop-line.number + 1)
+    ∙ ap (λ ls. story_from c.args.form (story_of c.loop-line.story) (c.loop-line.number + 1) ls) c.in-None.ensures.steps.0
+    ∙ story_done c.args.form (story_of c.loop-line.story) (c.loop-line.number + 1)
     )
 
 pub loop-line-init : goal.loop-line-init

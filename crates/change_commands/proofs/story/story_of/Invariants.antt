@@ -8,4 +8,4 @@ abbrev pub invariant-loop-line : goal.invariant-loop-line
 invariant-loop-line l =
     goal.iterator-loop-line.can_next l.line-iterator
     × goal.iterator-loop-line.is_finite l.line-iterator
-    × StoryRemains (story_in l.fn.input) (length l.fn.input) l.number (story_of l.story) l.line-iterator
+    × StoryRemains l.form (story_in l.form l.fn.input) (length l.fn.input) l.number (story_of l.story) l.line-iterator

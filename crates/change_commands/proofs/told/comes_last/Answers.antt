@@ -5,7 +5,7 @@ use Rattle.spec.specs.NodeFormat.{is_key}
 use Rattle.edit_laws.specs.Order.{order}
 use Rattle.edit_laws.proofs.Orders.{order-is}
 use Rattle.change_laws.specs.Told.{KeyChange}
-use Rattle.edit.proofs.Testing.{gt-is}
+use Rattle.key_changes.proofs.Testing.{gt-is}
 use Rattle.change_commands.proofs.Following.{behind-last, behind-keyless}
 use Rattle.change_commands.proofs.told.comes_last.Goals as goal
 

@@ -1,5 +1,5 @@
 use Rattle.std.proofs.Common.{◌≡◌, true, length}
-use Rattle.edit.specs.Batches.{are_changes}
+use Rattle.key_changes.specs.Keyed.{are_changes}
 use Rattle.change_laws.specs.Told.{undone}
 use Rattle.console.specs.Lines.{lines}
 use Rattle.change_commands.specs.Told.{told_in}

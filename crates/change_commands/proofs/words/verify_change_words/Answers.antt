@@ -2,7 +2,7 @@ use Rattle.std.proofs.Common.{[], codes, rules}
 use Rattle.std.specs.Prelude.{IfOk}
 use Rattle.std.proofs.lemmas.Result.{IfOk-weaker}
 use Rattle.clap.specs.Words.{App, new_app}
-use Rattle.repository_commands.proofs.Readings.{ReadsAs, local, shaped, with_arg}
+use Rattle.record_forms.proofs.Arguments.{ReadsAs, local, shaped, with_arg}
 use Rattle.change_commands.specs.Words.{verify_change_shape}
 use Rattle.change_commands.proofs.words.verify_change_words.Goals as goal
 

@@ -1,7 +1,7 @@
 use Rattle.std.proofs.Common.{map, sym, ap, subst}
 use Rattle.std.specs.Arc.{arc_value}
 use Rattle.std.proofs.lemmas.Result.{err_from_is_err_and}
-use Rattle.edit.proofs.OnTree.{are-keyed}
+use Rattle.key_changes.proofs.Ascending.{are-keyed}
 use Rattle.change_proofs.specs.Verdicts.{IsWant}
 use Rattle.change_proofs.specs.StepProvings.{IsStepLack}
 use Rattle.change_proofs.proofs.ReadNodes.{err-with}

@@ -4,7 +4,7 @@ use Rattle.spec.specs.Blocks.{pairs}
 use Rattle.spec.specs.States.{records}
 use Rattle.lookups.specs.Trees.{HasTree}
 use Rattle.repo.specs.Readings.{bytes_lent}
-use Rattle.edit.proofs.OnTree.{are-keyed}
+use Rattle.key_changes.proofs.Ascending.{are-keyed}
 use Rattle.change_laws.specs.Told.{undone}
 use Rattle.change_proofs.proofs.ReadNodes.{nodes-show, told-fault}
 use Rattle.change_proofs.proofs.proving_inversions.prove_inversion.Goals as goal

@@ -1,5 +1,5 @@
 use Rattle.std.proofs.Common.{◌≡◌, true, sym, map, subst, ◌∙◌}
-use Rattle.edit.specs.Batches.{are_changes}
+use Rattle.key_changes.specs.Keyed.{are_changes}
 use Rattle.change_laws.specs.Told.{undone}
 use Rattle.change_proofs.specs.Verdicts.{IsVerdict, IsWhole, IsOfTree}
 use Rattle.change_proofs.proofs.Keys.{taken-turned}

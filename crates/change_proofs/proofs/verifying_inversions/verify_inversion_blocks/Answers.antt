@@ -2,7 +2,7 @@ use Rattle.std.proofs.Common.{ℕ, List, map, subst, ap}
 use Rattle.std.specs.Arc.{arc_value}
 use Rattle.std.specs.declared.sync.Arc.{Arc}
 use Rattle.lookups.specs.Maps.{first_of}
-use Rattle.edit.proofs.OnTree.{are-keyed}
+use Rattle.key_changes.proofs.Ascending.{are-keyed}
 use Rattle.change_laws.specs.Told.{undone}
 use Rattle.change_proofs.specs.Verdicts.{IsSaidOver}
 use Rattle.change_proofs.proofs.Judged.{verdict-is, verdict-right}

@@ -22,20 +22,25 @@ of_paths = codes "msthost" ∷ codes "tree" ∷ codes "--paths" ∷ []
 tree_is_not_help : codes "tree" ≡ codes "help" → ⊥
 tree_is_not_help e = let first : 116 ≡ 104 = ap (λ (xs : List ℕ). get_or xs 0 0) e in omega (arith, first)
 
+tree_is_not_changes : codes "tree" ≡ codes "changes" → ⊥
+tree_is_not_changes e = let first : 116 ≡ 99 = ap (λ (xs : List ℕ). get_or xs 0 0) e in omega (arith, first)
+
 only : (request : Request) → IsSomeAnd (subcommand_of msthost words) (λ c. IsNamed c.0 c.1 request)
     → (options : TreeOptions) × (request ≡ requests.Tree options) × (options.bits.number ≡ 3) × (options.keys ≡ keys.Any)
 unfolding msthost clap_on_literals words
 only (requests.Tree options) is = (options, refl, is.1 3 (search rules) (omega arith, omega arith), is.2.any refl)
 only (requests.Explain command) is = absurd (cc)
 only requests.Help is = absurd (tree_is_not_help is)
-only (requests.OnRepository (commands.Car did rev)) is = absurd (cc)
-only (requests.OnRepository (commands.Prove key)) is = absurd (cc)
+only (requests.OnRepository (commands.Car did rev form)) is = absurd (cc)
+only (requests.OnRepository (commands.SignedCar did rev sig form)) is = absurd (cc)
+only (requests.OnRepository (commands.Prove key form)) is = absurd (cc)
 only (requests.OnRepository (commands.Verify root key)) is = absurd (cc)
-only (requests.OnChange changes.Prove) is = absurd (cc)
+only (requests.OnChange (changes.Prove form)) is = absurd (cc)
 only (requests.OnChange (changes.Verify before after)) is = absurd (cc)
 only (requests.OnExport exports.Check) is = absurd (cc)
 only (requests.OnExport (exports.Records values)) is = absurd (cc)
 only (requests.OnExport exports.Commit) is = absurd (cc)
+only (requests.OnDifference words) is = absurd (tree_is_not_changes is.name_is)
 only (requests.Run command) is = absurd (cc)
 
 only_paths : (request : Request) → IsSomeAnd (subcommand_of msthost of_paths) (λ c. IsNamed c.0 c.1 request)
@@ -44,14 +49,16 @@ unfolding msthost clap_on_literals of_paths
 only_paths (requests.Tree options) is = (options, refl, is.1 2 (search rules) (omega arith, omega arith), is.2.paths refl)
 only_paths (requests.Explain command) is = absurd (cc)
 only_paths requests.Help is = absurd (tree_is_not_help is)
-only_paths (requests.OnRepository (commands.Car did rev)) is = absurd (cc)
-only_paths (requests.OnRepository (commands.Prove key)) is = absurd (cc)
+only_paths (requests.OnRepository (commands.Car did rev form)) is = absurd (cc)
+only_paths (requests.OnRepository (commands.SignedCar did rev sig form)) is = absurd (cc)
+only_paths (requests.OnRepository (commands.Prove key form)) is = absurd (cc)
 only_paths (requests.OnRepository (commands.Verify root key)) is = absurd (cc)
-only_paths (requests.OnChange changes.Prove) is = absurd (cc)
+only_paths (requests.OnChange (changes.Prove form)) is = absurd (cc)
 only_paths (requests.OnChange (changes.Verify before after)) is = absurd (cc)
 only_paths (requests.OnExport exports.Check) is = absurd (cc)
 only_paths (requests.OnExport (exports.Records values)) is = absurd (cc)
 only_paths (requests.OnExport exports.Commit) is = absurd (cc)
+only_paths (requests.OnDifference words) is = absurd (tree_is_not_changes is.name_is)
 only_paths (requests.Run command) is = absurd (cc)
 
 pub returns-clause-paths : goal.returns-clause-paths

@@ -1,5 +1,5 @@
 use Rattle.std.proofs.Common.{◌≡◌, true, rules, sym, ap, subst, ◌∙◌}
-use Rattle.edit.specs.Batches.{are_changes}
+use Rattle.key_changes.specs.Keyed.{are_changes}
 use Rattle.change_laws.specs.Told.{undone}
 use Rattle.core_differences.specs.Spans.{IsShownBy}
 use Rattle.core_differences.proofs.span.nodes_of.Goals as goal

@@ -83,7 +83,7 @@ fields-returns-in_err-key g t c =
     let l = c.loop-turn in
     let before = option_map (λ s. s.now) l.before in
     Gives-at_err _ cbor_fault_of e c.from_residual.result _ (p.1 ∙ ap Err p.2)
-    (Fails-same (cbor_fault_of e) _ _ l.invariant (fields_no_key (cbor_fault_of e) (value_at c.args.levels) before c.args.n l._turn l.rest.now l.fields.items (omega arith) (c.in_err-key.ensures)))
+    (Fails-same (cbor_fault_of e) _ _ l.invariant (fields_no_key (cbor_fault_of e) (value_at c.args.levels) before c.args.n l._turn l.rest.now l.fields.items (omega arith) c.in_err-key.ensures.read))
 
 pub fields-returns-in_err-value : goal.fields-returns-in_err-value
 fields-returns-in_err-value g t c =
@@ -93,7 +93,7 @@ fields-returns-in_err-value g t c =
     let before = option_map (λ s. s.now) l.before in
     Gives-at_err _ cbor_fault_of e c.from_residual-in_err-value.result _ (p.1 ∙ ap Err p.2)
     (Fails-same (cbor_fault_of e) _ _ l.invariant
-    (fields_fail (cbor_fault_of e) (value_at c.args.levels) before c.args.n l._turn l.rest.now c.in_ok-key.after.now c.in_ok-key.key.now l.fields.items (omega arith) c.in_ok-key.ensures (c.in_err-value.ensures)))
+    (fields_fail (cbor_fault_of e) (value_at c.args.levels) before c.args.n l._turn l.rest.now c.in_ok-key.after.now c.in_ok-key.key.now l.fields.items (omega arith) c.in_ok-key.ensures.read (c.in_err-value.ensures)))
 
 pub fields-loop-turn-preserved : goal.fields-loop-turn-preserved
 fields-loop-turn-preserved g t c =
@@ -103,7 +103,7 @@ fields-loop-turn-preserved g t c =
     let v = c.in_ok-value.value in
     let pushed : c.push.new.self.items ≡ l.fields.items ++ (m, v) ∷ [] = search rules in
     l.invariant
-    ∙ fields_more p (option_map (λ s. s.now) l.before) c.args.n l._turn l.rest.now c.in_ok-key.after.now c.in_ok-value.after.now l.fields.items (m, v) (omega arith) c.in_ok-key.ensures c.in_ok-value.ensures
+    ∙ fields_more p (option_map (λ s. s.now) l.before) c.args.n l._turn l.rest.now c.in_ok-key.after.now c.in_ok-value.after.now l.fields.items (m, v) (omega arith) c.in_ok-key.ensures.read c.in_ok-value.ensures
     ∙ ap (λ ms. behind_fields ms (fields_at p (Some m.now) (c.args.n - (l._turn + 1)) c.in_ok-value.after.now)) (sym pushed)
 
 pub fields-returns : goal.fields-returns

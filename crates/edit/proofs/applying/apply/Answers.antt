@@ -17,7 +17,8 @@ use Rattle.edit.specs.Stops.{IsCause, IsStopped}
 use Rattle.edit.specs.Tops.{IsEnded}
 use Rattle.edit.proofs.Among.{refusal-within}
 use Rattle.edit.proofs.Answering.{gone-within, answered}
-use Rattle.edit.proofs.OnTree.{are-keyed, keyed-changes, answer-reason, walk-refused, walk-reason, walk-few, tree-reads, tree-few, tree-nodes, batch-edit}
+use Rattle.edit.proofs.OnTree.{keyed-changes, answer-reason, walk-refused, walk-reason, walk-few, tree-reads, tree-few, tree-nodes, batch-edit}
+use Rattle.key_changes.proofs.Ascending.{are-keyed}
 use Rattle.edit.proofs.Results.{on_ok, if-ok-two, if-err}
 use Rattle.edit.proofs.applying.apply.Goals as goal
 

@@ -2,7 +2,7 @@ use Rattle.std.proofs.Common.{◌≡◌, ◌-◌, ℕ, List, Some, sym, ap, subs
 use Rattle.std.specs.Cmp.Lexicographic.{slice_cmp}
 use Rattle.std.specs.Ordering.{nat_cmp, is_eq}
 use Rattle.edit_laws.specs.Order.{order}
-use Rattle.edit.proofs.Lists.{head-tail}
+use Rattle.key_changes.proofs.Lists.{head-tail}
 use Rattle.edit.specs.Places.{IsAround}
 use Rattle.edit.proofs.Placing.{compared, around-at, around-gap}
 use Rattle.edit.proofs.changes.changes_around.Goals as goal

@@ -2,7 +2,7 @@ use Rattle.std.proofs.Common.{◌≡◌, ◌-◌, List, ℕ, sym, ap, ◌∙◌,
 use Rattle.std.specs.Cmp.Lexicographic.{slice_cmp}
 use Rattle.std.specs.Ordering.{nat_cmp, is_gt}
 use Rattle.edit_laws.specs.Order.{order}
-use Rattle.edit.proofs.Lists.{head-tail}
+use Rattle.key_changes.proofs.Lists.{head-tail}
 use Rattle.edit.proofs.Placing.{compared}
 use Rattle.edit.proofs.Untouched.{none-touch, first-later, is-later, low-none, not-low}
 use Rattle.edit.proofs.passing.is_untouched.Goals as goal

@@ -15,7 +15,8 @@ use Rattle.edit.specs.Halts.{IsReachedFor}
 use Rattle.edit.specs.States.{log_in, shapes_in}
 use Rattle.edit.specs.Stops.{IsCause}
 use Rattle.edit.specs.Tops.{IsEnded}
-use Rattle.edit.proofs.OnTree.{are-keyed, keyed-changes, walk-refused}
+use Rattle.edit.proofs.OnTree.{keyed-changes, walk-refused}
+use Rattle.key_changes.proofs.Ascending.{are-keyed}
 use Rattle.edit.proofs.Previewing.{preview-of, preview-tree, preview-reason, reached-here, walk-want}
 use Rattle.edit.proofs.previews.preview.Goals as goal
 

@@ -1,4 +1,4 @@
-use Rattle.std.proofs.Common.{◌∙◌, ◌≡◌, false, subst, sym}
+use Rattle.std.proofs.Common.{◌≡◌, false, subst, sym}
 use Rattle.std.specs.Prelude.{Err, string_bytes}
 use Rattle.record_forms.specs.Records.{spelled, value_of_json_text}
 use Rattle.std.specs.Str.{is_utf8}

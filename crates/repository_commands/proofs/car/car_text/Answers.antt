@@ -7,11 +7,11 @@ use Rattle.repository_commands.proofs.car.car_text.Goals as goal
 
 pub returns-clause-outcome : goal.returns-clause-outcome
 returns-clause-outcome g c =
-    outcome_of (λ bytes. bytes.items) (car_text g.D.Digest.digest_of (stamp_of c.args.stamp.now)) (g.R.Read.remaining c.args.input.now) _ _ c.car_made.result c.write_made.result c.car_made.ensures.made c.write_made.ensures
+    outcome_of (λ bytes. bytes.items) (car_text g.D.Digest.digest_of c.args.form (stamp_of c.args.stamp.now)) (g.R.Read.remaining c.args.input.now) _ _ c.car_made.result c.write_made.result c.car_made.ensures.made c.write_made.ensures
 
 pub returns-clause-refused : goal.returns-clause-refused
 returns-clause-refused g c =
-    fault_on (λ bytes. bytes.items) (λ e. IfSome (g.R.Read.remaining c.args.input.now) (λ xs. IsRefusedIn g.D.Digest.digest_of (stamp_of c.args.stamp.now) xs e)) _ _ c.car_made.result c.write_made.result c.car_made.ensures.refused c.write_made.ensures
+    fault_on (λ bytes. bytes.items) (λ e. IfSome (g.R.Read.remaining c.args.input.now) (λ xs. IsRefusedIn g.D.Digest.digest_of c.args.form (stamp_of c.args.stamp.now) xs e)) _ _ c.car_made.result c.write_made.result c.car_made.ensures.refused c.write_made.ensures
 
 pub returns-clause-told : goal.returns-clause-told
 returns-clause-told g c faulty =

@@ -8,5 +8,5 @@ abbrev pub invariant-loop-number : goal.invariant-loop-number
 invariant-loop-number g l =
     (goal.iterator-loop-number g).can_next l.number-iterator
     × (goal.iterator-loop-number g).is_finite l.number-iterator
-    × (given_in l.fn.input ≡ onto (given_of l.puts) (given_from l.number-iterator))
+    × (given_in l.form l.fn.input ≡ onto (given_of l.puts) (given_from l.form l.number-iterator))
     × ((given_of l.puts).stop ≡ None)

@@ -3,7 +3,7 @@ use Rattle.std.specs.Prelude.{IfOk}
 use Rattle.std.proofs.lemmas.Result.{IfOk-weaker}
 use Rattle.clap.specs.Words.{App, new_app}
 use Rattle.repository_commands.specs.Words.{verify_shape}
-use Rattle.repository_commands.proofs.Readings.{ReadsAs, local, shaped, with_arg}
+use Rattle.record_forms.proofs.Arguments.{ReadsAs, local, shaped, with_arg}
 use Rattle.repository_commands.proofs.words.verify_words.Goals as goal
 
 pub returns : goal.returns

@@ -7,5 +7,5 @@ use Rattle.run_command.proofs.script.report.push_answers.Given as goal
 abbrev pub invariant-loop-line : goal.invariant-loop-line
 invariant-loop-line g l =
     (length (iter_rest (zip_first l.line-iterator)) ≡ length (iter_rest (zip_second l.line-iterator)))
-    × (l.text.items ++ answer_lines (map (λ x. x.number) (iter_rest (zip_first l.line-iterator))) (iter_rest (zip_second l.line-iterator))
-    ≡ l.initial.text.items ++ answer_lines (map (λ x. x.number) l.lines) l.answers)
+    × (l.text.items ++ answer_lines l.form (map (λ x. x.number) (iter_rest (zip_first l.line-iterator))) (iter_rest (zip_second l.line-iterator))
+    ≡ l.initial.text.items ++ answer_lines l.form (map (λ x. x.number) l.lines) l.answers)

@@ -1,0 +1,15 @@
+//! Tests of the check of messages of the event stream.
+#![tactic(auto)]
+
+#[cfg(test)]
+mod faults;
+#[cfg(test)]
+mod memory;
+#[cfg(test)]
+mod messages;
+#[cfg(test)]
+mod parts;
+#[cfg(test)]
+mod sizes;
+#[cfg(test)]
+mod worked;

@@ -1,0 +1,120 @@
+//! A mirror that takes what it differs by from the repository.
+
+use crate::spans::{FIRST, SECOND, THIRD, opened};
+use change_proofs::{KeyChange, are_key_changes};
+use cid::Sha256;
+use core_differences::{Span, prove_span};
+use difference_taking::{TakingFault, take_difference};
+use repo::Core;
+use repo_fixtures::batch::{DID, EMPTY, ONE, TWO, rev_after, stamp_of};
+use repo_fixtures::cores::{counts, end};
+use repo_fixtures::ends::{Why, why_of};
+use std::alloc::{AllocError, Global};
+use store::{LentShard, Shard, TableKey};
+
+/// How a difference ended that was to be taken.
+#[derive(Clone, Copy, PartialEq, Eq)]
+enum Taken {
+    /// Then so many writes are accepted in all.
+    All(u64),
+    Missing(usize),
+    Other(usize),
+    Refused(usize, Why),
+    NoMemory,
+}
+
+/// The changes of a span, as they are taken.
+fn changes_of<'k>(alloc: Global, span: &'k Span<Sha256>) -> Result<Vec<KeyChange<'k>>, AllocError> {
+    let mut told = Vec::new(alloc);
+    for change in &span.changes {
+        told.push(KeyChange {
+            key: &change.key,
+            before: change.before,
+            after: change.after,
+        })?;
+    }
+    Ok(told)
+}
+
+/// How these changes end that the mirror takes with these records, under the timestamp identifier that comes so many after the
+/// first one.
+fn take(
+    alloc: Global,
+    shard: &mut Shard<Sha256>,
+    mirror: &mut Core<Sha256, 2>,
+    turn: u16,
+    changes: &[KeyChange<'_>],
+    records: &[&[u8]],
+) -> Taken {
+    if !are_key_changes(changes) {
+        return Taken::NoMemory;
+    }
+    let Ok(stamp) = stamp_of(alloc, DID, &rev_after(turn)) else {
+        return Taken::NoMemory;
+    };
+    let mut store = LentShard::new(shard);
+    match take_difference(alloc, &mut store, mirror, &stamp, changes, records) {
+        Ok(applied) => Taken::All(applied.number),
+        Err(TakingFault::RecordMissing(place)) => Taken::Missing(place),
+        Err(TakingFault::OtherValue(place)) => Taken::Other(place),
+        Err(TakingFault::Refused(place, fault)) => Taken::Refused(place, why_of(&fault)),
+        Err(TakingFault::NoMemory) => Taken::NoMemory,
+    }
+}
+
+/// Whether the mirror refuses what it should, and stays as it is.
+fn refuses(
+    alloc: Global,
+    shard: &mut Shard<Sha256>,
+    mirror: &mut Core<Sha256, 2>,
+    changes: &[KeyChange<'_>],
+) -> bool {
+    let (root, held) = (mirror.root(), counts(shard));
+    let lacks_a_record = take(alloc, shard, mirror, 3, changes, &[ONE, EMPTY]);
+    let at_an_old_revision = take(alloc, shard, mirror, 0, changes, &[EMPTY, ONE, TWO]);
+    let of_nothing = take(alloc, shard, mirror, 3, &[], &[ONE]);
+    lacks_a_record == Taken::Missing(2)
+        && at_an_old_revision == Taken::Refused(0, Why::RevOrder)
+        && of_nothing == Taken::Refused(0, Why::EmptyBatch)
+        && mirror.root() == root
+        && counts(shard) == held
+}
+
+/// Whether the mirror has the root of the repository once it has taken what they differ by, in one batch, and doesn't take it
+/// again.
+fn catches_up(
+    alloc: Global,
+    shard: &mut Shard<Sha256>,
+    mirror: &mut Core<Sha256, 2>,
+    core: &Core<Sha256, 2>,
+) -> bool {
+    let Ok(span) = prove_span::<Sha256, 2, Global>(alloc, mirror, core) else {
+        return false;
+    };
+    let Ok(changes) = changes_of(alloc, &span) else {
+        return false;
+    };
+    let refused = refuses(alloc, shard, mirror, &changes);
+    let taken = take(alloc, shard, mirror, 3, &changes, &[TWO, ONE, TWO, EMPTY]);
+    let root = mirror.root();
+    let again = take(alloc, shard, mirror, 4, &changes, &[ONE, TWO]);
+    refused
+        && taken == Taken::All(6)
+        && root == core.root()
+        && again == Taken::Other(0)
+        && mirror.root() == root
+}
+
+#[test]
+fn a_mirror_catches_up(rt: HostRuntime) {
+    let alloc = rt.alloc();
+    let mut shard = Shard::new(alloc, 1000, TableKey::known());
+    let mut other = Shard::new(alloc, 1000, TableKey::known());
+    let mut mirror = opened(&rt, alloc, &mut shard, 0, &[FIRST]);
+    let core = opened(&rt, alloc, &mut other, 0, &[FIRST, SECOND, THIRD]);
+    let right = catches_up(alloc, &mut shard, &mut mirror, &core);
+    end(&mut shard, mirror);
+    end(&mut other, core);
+    let left = counts(&shard);
+    assert!(rt; right && left == (0, 0));
+}

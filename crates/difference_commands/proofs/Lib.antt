@@ -1,0 +1,9 @@
+pub mod RecordLists
+pub mod Owning
+pub mod Giving
+pub mod Finding
+pub mod Ascents
+pub mod Made
+pub mod Endings
+pub mod Numbers
+pub mod CarParts

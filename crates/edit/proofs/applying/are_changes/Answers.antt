@@ -1,7 +1,0 @@
-use Rattle.std.proofs.Common.{ap, ◌∙◌}
-use Rattle.std.proofs.lemmas.List.{map-id}
-use Rattle.edit.specs.Batches.{are_changes}
-use Rattle.edit.proofs.applying.are_changes.Goals as goal
-
-pub returns : goal.returns
-returns c = c.are_keyed.ensures ∙ ap are_changes (map-id c.args.changes.now)
