@@ -19,7 +19,8 @@ use crate::value::MAX_DEPTH;
 
 /// The bytes after the head of a whole number, with a sign or without.
 fn after_integer(n: u64, bytes: &[u8]) -> Result<&[u8], CborFault>
-    ensures unsigned { Gives (λ x. x.now) cbor_fault_of result (after (integer_of pos n bytes.now)) }
+    ensures unsigned { Gives (λ x. x.now) cbor_fault_of result
+        (after (integer_of pos n bytes.now)) }
     ensures negative { Gives (λ x. x.now) cbor_fault_of result
         (after (integer_of negsuc n bytes.now)) }
     ensures takes_no_memory { result ≢ Err CborFault.NoMemory }

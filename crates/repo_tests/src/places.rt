@@ -14,7 +14,7 @@ use std::alloc::{AllocError, Global};
 use std::process::Abort;
 use store::{Shard, TableKey};
 
-/// Three writes, each of which takes memory.
+/// Three writes, of which two bring a record.
 const WRITES: [Step; 3] = [Put(b"a/b0", EMPTY), Put(b"a/c1", ONE), Delete(b"a/b0")];
 
 /// Eight writes of which each brings a record of its own, so that the core's map of blocks grows.
@@ -100,33 +100,17 @@ fn told<R: Abort>(
 
 /// Whether the core has a commit already, the batch, and where its requests are told.
 const ROWS: [(bool, &[Step<'static>], &[(usize, u64)]); 6] = [
-    (false, &REFUSED, &[(0, 14), (1, 1)]),
-    (
-        false,
-        &WRITES,
-        &[(0, 12), (1, 1), (0, 5), (1, 1), (0, 17), (2, 6), (0, 2)],
-    ),
+    (false, &REFUSED, &[(0, 14)]),
+    (false, &WRITES, &[(0, 17), (1, 1), (0, 17), (2, 6), (0, 2)]),
     (false, &EIGHT, &TOLD_OF_EIGHT_FIRST),
-    (true, &REFUSED, &[(0, 14), (1, 1)]),
-    (
-        true,
-        &WRITES,
-        &[(0, 12), (1, 1), (0, 5), (1, 1), (0, 14), (2, 6), (0, 3)],
-    ),
+    (true, &REFUSED, &[(0, 14)]),
+    (true, &WRITES, &[(0, 17), (1, 1), (0, 14), (2, 6), (0, 3)]),
     (true, &EIGHT, &TOLD_OF_EIGHT),
 ];
 
-/// Where those of the eight writes are told: the test and the record of each at its own, the commit at the last one.
-const TOLD_OF_EIGHT: [(usize, u64); 19] = [
-    (0, 29),
-    (1, 1),
-    (2, 1),
-    (3, 1),
-    (4, 1),
-    (5, 1),
-    (6, 1),
-    (7, 1),
-    (0, 7),
+/// Where those of the eight writes are told: the block of each record at its own, the commit at the last one.
+const TOLD_OF_EIGHT: [(usize, u64); 11] = [
+    (0, 35),
     (1, 1),
     (2, 1),
     (3, 1),
@@ -140,16 +124,8 @@ const TOLD_OF_EIGHT: [(usize, u64); 19] = [
 ];
 
 /// The same in a core without writes.
-const TOLD_OF_EIGHT_FIRST: [(usize, u64); 19] = [
-    (0, 29),
-    (1, 1),
-    (2, 1),
-    (3, 1),
-    (4, 1),
-    (5, 1),
-    (6, 1),
-    (7, 1),
-    (0, 7),
+const TOLD_OF_EIGHT_FIRST: [(usize, u64); 11] = [
+    (0, 35),
     (1, 1),
     (2, 1),
     (3, 1),
@@ -162,10 +138,10 @@ const TOLD_OF_EIGHT_FIRST: [(usize, u64); 19] = [
     (0, 14),
 ];
 
-/// What the test of a write takes is told at that write, and so is the block of its record; what the commit takes at the last
-/// one. All else serves the whole batch and is told at the first: copies of the writes and of the stamp, the edit, what is
-/// exchanged, and room for it in the core's lists and in its map of blocks, which grows under eight records. Over the tree that
-/// these very writes left its node stays, and so no block is made of it.
+/// What the block of a write's record takes is told at that write, and what the commit takes at the last one; the test of a
+/// write takes no memory. All else serves the whole batch and is told at the first: copies of the writes and of the stamp, the
+/// edit, what is exchanged, and room for it in the core's lists and in its map of blocks, which grows under eight records. Over
+/// the tree that these very writes left its node stays, and so no block is made of it.
 #[test]
 fn want_of_memory_is_told_at_its_write(rt: HostRuntime) {
     for (has_commit, steps, wanted) in &ROWS {
