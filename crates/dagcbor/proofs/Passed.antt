@@ -1,9 +1,9 @@
 -- The bytes after values, item by item, and whether the first value is a map.
 use Rattle.std.proofs.Common.{◌≡◌, ℕ, zero, suc, ◌+◌, ◌-◌, ◌<◌, Bool, true, false, List, length, Option, Some, None, Result, Ok, Err, refl, ap, ◌∙◌, arith}
-use Rattle.std.specs.Prelude.{pos, negsuc, ◌==◌, ◌^◌, nat_lt, ◌&&◌, drop, slice_index, if◌then◌else◌}
+use Rattle.std.specs.Prelude.{◌==◌, ◌^◌, nat_lt, ◌&&◌, drop, slice_index, if◌then◌else◌}
 use Rattle.spec.specs.Reading.{◌>>=◌, ensure, front, Fails}
 use Rattle.spec.specs.Head.{CborFault, Truncated, BadTag, BadLink, IntegerRange, Trailing, Major, UnsignedInteger, NegativeInteger, ByteString, TextString, Array, Map, Tag, SimpleValue, major_of, head_at}
-use Rattle.spec.specs.DagCbor.{Value, Null, Boolean, Values, NoValue, ValueThen, Entries, NoEntry, EntryThen, CborReader, head_of, text_of, key_of, items_at, fields_at, simple_value, content_of, value_at, read}
+use Rattle.spec.specs.DagCbor.{Value, Null, Boolean, ValueThen, EntryThen, CborReader, head_of, text_of, key_of, items_at, fields_at, content_of, value_at, read}
 use Rattle.spec.specs.Cid.{is_cid}
 use Rattle.spec.specs.Writes.{is_map}
 use Rattle.dagcbor.specs.Levels.{within}

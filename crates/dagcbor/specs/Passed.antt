@@ -2,7 +2,7 @@
 use Rattle.std.specs.Prelude.{ℕ, Bool, true, false, List, Result, Ok}
 use Rattle.spec.specs.Reading.{◌>>=◌}
 use Rattle.spec.specs.Head.{CborFault, Major, UnsignedInteger, NegativeInteger, ByteString, TextString, Array, Map, Tag, SimpleValue}
-use Rattle.spec.specs.DagCbor.{Value, read}
+use Rattle.spec.specs.DagCbor.{read}
 use Rattle.spec.specs.Writes.{is_map}
 
 -- the bytes after what was read

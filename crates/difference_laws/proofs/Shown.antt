@@ -1,5 +1,5 @@
 -- A verifier who has the nodes that come, and the old ones, sees that a difference is so.
-use Rattle.std.proofs.Common.{◌≡◌, ◌⊎◌, inl, inr, ℕ, zero, suc, ◌+◌, max, List, ◌++◌, refl, sym, ap, ◌∙◌, arith, Option}
+use Rattle.std.proofs.Common.{◌≡◌, ◌⊎◌, inl, inr, ℕ, zero, suc, max, List, ◌++◌, refl, sym, ap, ◌∙◌, arith, Option}
 use Rattle.std.specs.Prelude.{Contains}
 use Rattle.std.specs.declared.option.Option.TheVariants.{Some}
 use Rattle.spec.specs.Cid.{cid}

@@ -1,7 +1,7 @@
 -- Operations read one after the other.
-use Rattle.std.proofs.Common.{◌≡◌, ℕ, suc, ◌+◌, ◌<◌, ◌≤◌, List, [], ◌∷◌, ◌++◌, length, drop, get_or, Option, Some, None, Result, Ok, Err, refl, sym, ap, ◌∙◌, append_assoc, append-nil, arith}
+use Rattle.std.proofs.Common.{◌≡◌, ℕ, suc, ◌+◌, ◌<◌, ◌≤◌, List, [], ◌∷◌, ◌++◌, length, drop, get_or, Some, None, Result, Ok, Err, refl, sym, ap, ◌∙◌, append_assoc, append-nil, arith}
 use Rattle.std.proofs.lemmas.List.{at_drop_more, drop_all}
-use Rattle.spec.specs.DagCbor.{Value as Data, Values, NoValue, ValueThen}
+use Rattle.spec.specs.DagCbor.{ValueThen}
 use Rattle.dagcbor.specs.View.{view, view_items}
 use Rattle.dagcbor.specs.declared.value.Value.{Value}
 use Rattle.change_laws.specs.Told.{KeyChange}

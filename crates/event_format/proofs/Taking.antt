@@ -5,7 +5,7 @@ use Rattle.spec.specs.Reading.{Fails}
 use Rattle.spec.specs.Head.{CborFault}
 use Rattle.spec.specs.DagCbor.{Value, Entries}
 use Rattle.event_laws.specs.Fields.{FieldName, field, field_name}
-use Rattle.event_laws.specs.Reading.{BadField, Cbor, FormFault, or_cbor, taken, wanted}
+use Rattle.event_laws.specs.Reading.{BadField, Cbor, or_cbor, taken, wanted}
 
 module _ {A : Type 0} (kind : Option Value → Option A) (name : FieldName) (es : Entries) (o : Option Value) (n : List ℕ) where
   pub taken-some : (x : A) → n ≡ field_name name → o ≡ field n es → Some x ≡ kind o → taken kind name es ≡ Ok x

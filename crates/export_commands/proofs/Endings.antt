@@ -7,7 +7,6 @@ use Rattle.spec.specs.Exports.{IsExport, IsFirstFault}
 use Rattle.spec.specs.Exports as exports
 use Rattle.spec.specs.SignedCommits.{Commit}
 use Rattle.repository_check.specs.Views.{check_fault_of}
-use Rattle.repository_check.specs.declared.fault.CheckFault.TheVariants as checks
 use Rattle.console.proofs.Leaving.{Appends-append, Appends-kept}
 use Rattle.console.specs.Faults.{write_status}
 use Rattle.console.specs.Written.{AppendsText}

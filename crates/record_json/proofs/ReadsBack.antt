@@ -7,7 +7,7 @@ use Rattle.std.proofs.lemmas.Option.{same_Some}
 use Rattle.std.proofs.lemmas.Slice.Eq.{bytes_eq-Decides}
 use Rattle.base64.specs.Engines.{standard_no_pad_indifferent}
 use Rattle.base64.proofs.EngineFacts.{decode_of-encode_of}
-use Rattle.spec.specs.DagCbor.{Value, Null, Boolean, Integer, Bytes, Text, Items, Fields, Link, Values, NoValue, ValueThen, Entries, NoEntry, EntryThen, count_values, count_entries, is_key_below, is_next_key, fits_length, is_lawful_within, are_lawful_within, are_entries_within}
+use Rattle.spec.specs.DagCbor.{Value, Null, Boolean, Integer, Bytes, Text, Items, Fields, Link, Values, NoValue, ValueThen, Entries, NoEntry, EntryThen, count_values, count_entries, is_key_below, fits_length, is_lawful_within, are_lawful_within, are_entries_within}
 use Rattle.spec.specs.Writes.{is_map}
 use Rattle.spec.specs.Reading.{◌>>=◌}
 use Rattle.spec.proofs.Bools.{both}

@@ -1,5 +1,5 @@
 -- What a whole text means, and which trees mean maps.
-use Rattle.std.proofs.Common.{◌≡◌, ℕ, zero, suc, ◌<◌, Bool, true, false, not, cond, List, [], ◌∷◌, ◌++◌, length, get_or, Option, Some, None, Result, Ok, Err, Vec, ℤ, refl, sym, ap, subst, ◌∙◌, arith}
+use Rattle.std.proofs.Common.{◌≡◌, ℕ, zero, suc, Bool, true, false, not, cond, List, [], ◌∷◌, ◌++◌, length, get_or, Option, Some, None, Result, Ok, Err, Vec, ℤ, refl, sym, ap, subst, ◌∙◌, arith}
 use Rattle.std.specs.Borrow.{Bor}
 use Rattle.std.specs.Prelude.{option_map}
 use Rattle.std.specs.Str.{bytes_eq}
@@ -7,7 +7,7 @@ use mir.Syntax.{w64}
 use mir.Val.{SFits}
 use Rattle.std.proofs.lemmas.List.{append-nil}
 use Rattle.spec.specs.Reading.{◌>>=◌, Fails, ensure}
-use Rattle.spec.specs.DagCbor.{Value, Null, Boolean, Integer, Bytes, Text, Items, Fields, Link, Entries, Values, spelling}
+use Rattle.spec.specs.DagCbor.{Value, Null, Boolean, Integer, Bytes, Text, Items, Fields, Link, Entries, spelling}
 use Rattle.spec.specs.Writes.{is_map}
 use Rattle.json.specs.Json as json
 use Rattle.json.specs.Value.{value_view, members_view}
@@ -15,10 +15,8 @@ use Rattle.json.specs.declared.value.Value.{Value as JsonValue}
 use Rattle.std.specs.Str.Parse.{signed_digits_value}
 use Rattle.record_json.specs.LinkText.{link_of_text}
 use Rattle.record_json.specs.Form.{link_key, is_safe}
-use Rattle.record_json.specs.KeyOrder.{in_order, keys_of, doubled_key}
-use Rattle.record_json.specs.Reading.{Kind, Fault, Float, IntegerRange, BadDollar, NotAMap, here, is_numeral, without_minus, integer_of, or_bad_link, link_in, or_bad_bytes, bytes_in, has_reserved, special_of, is_map_tree, members_list, distinct, object_of, value_at, values_from, value_of_tree, or_not_json, value_of_json}
+use Rattle.record_json.specs.Reading.{Kind, Fault, Float, IntegerRange, BadDollar, NotAMap, here, is_numeral, without_minus, integer_of, or_bad_link, link_in, or_bad_bytes, bytes_in, has_reserved, special_of, is_map_tree, distinct, object_of, value_at, values_from, value_of_tree, or_not_json, value_of_json}
 use Rattle.record_json.specs.Puts.{FailsAt, PutsAt, IsFault}
-use Rattle.record_json.specs.declared.fault.JsonFaultKind.{JsonFaultKind}
 use Rattle.record_json.proofs.Trees.{mag-is_safe}
 use Rattle.record_json.proofs.Pushes.{bind-ok, object-is, first_doubled, FailsAt-then, FailsAt-here, FailsAt-same}
 

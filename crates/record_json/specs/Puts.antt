@@ -1,5 +1,5 @@
 -- What a function left that puts the spelling of what is read at the end of bytes.
-use Rattle.std.specs.Prelude.{◌≡◌, ℕ, List, ◌++◌, Option, Some, None, Result, Ok, Err, Vec, string_bytes, String}
+use Rattle.std.specs.Prelude.{◌≡◌, ℕ, List, ◌++◌, Option, Some, None, Result, Ok, Err, Vec, string_bytes}
 use Rattle.spec.specs.Reading.{Fails}
 use Rattle.spec.specs.DagCbor.{Value, spelling}
 use Rattle.record_json.specs.Reading.{Kind, Fault}

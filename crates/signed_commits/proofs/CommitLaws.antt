@@ -6,7 +6,7 @@ use Rattle.std.specs.Str.{bytes_eq}
 use Rattle.std.proofs.lemmas.Bool.{eq-eqb, eqb-true, leb-true}
 use Rattle.std.proofs.lemmas.List.{length-append}
 use Rattle.std.proofs.lemmas.Slice.Eq.{bytes_eq-Decides}
-use Rattle.spec.specs.Reading.{IsBytes, ◌>>=◌}
+use Rattle.spec.specs.Reading.{IsBytes}
 use Rattle.spec.specs.Head.{head}
 use Rattle.spec.specs.Cid.{prefix, link, is_own_cid}
 use Rattle.spec.specs.DagCbor.{string}

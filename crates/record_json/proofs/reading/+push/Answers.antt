@@ -1,12 +1,12 @@
 use Rattle.std.proofs.Common.{◌≡◌, ℕ, ◌-◌, ◌++◌, append_assoc, length, Ok, Err, refl, sym, ap, ◌∙◌, arith}
 use Rattle.std.proofs.lemmas.Result.{err_from_is_err_and}
 use Rattle.spec.specs.Head.{head}
-use Rattle.spec.specs.DagCbor.{Null, Boolean, Text, string, spelling, spelling_of_values, spelling_of_entries}
+use Rattle.spec.specs.DagCbor.{Null, Boolean, Text, string, spelling, spelling_of_values}
 use Rattle.json.specs.Value.{value_view, items_view}
 use Rattle.json.proofs.Trees.{view-Array, view-Object}
 use Rattle.record_json.specs.Kinds.{kind_of}
 use Rattle.record_json.specs.Reading.{at_key, at_place, below, value_at, values_from, integer_of}
-use Rattle.record_json.proofs.Pushes.{FailsAt-below, PutsAt-same, PutsAt-here, PutsAt-refused, view-Null, view-Bool, view-Number, view-String, count_items-view, FailsAt-deep_list, PutsAt-list, items-more, items-fail, items-end, entries-more, entries-fail, entries-end, AreSorted, FailsAt-doubled, PutsAt-special, FailsAt-deep_map, PutsAt-map}
+use Rattle.record_json.proofs.Pushes.{FailsAt-below, PutsAt-same, PutsAt-here, PutsAt-refused, view-Null, view-Bool, view-Number, view-String, count_items-view, FailsAt-deep_list, PutsAt-list, items-more, items-fail, items-end, entries-more, entries-fail, entries-end, FailsAt-doubled, PutsAt-special, FailsAt-deep_map, PutsAt-map}
 use Rattle.record_json.proofs.reading.+push.Goals as goal
 
 -- ---- a value

@@ -1,4 +1,4 @@
-use Rattle.std.proofs.Common.{◌≡◌, ◌-◌, ◌+◌, ◌^◌, ◌<◌, ◌++◌, ℕ, List, Option, None, length, take, drop, option_map, refl, ap, ◌∙◌, arith}
+use Rattle.std.proofs.Common.{◌≡◌, ◌-◌, ◌^◌, ◌<◌, ◌++◌, ℕ, List, Option, None, length, take, drop, option_map, refl, ap, ◌∙◌, arith}
 use Rattle.std.proofs.lemmas.List.{take_rest, length-drop}
 use Rattle.cid.specs.CidRef.{bytes_of}
 use Rattle.node.proofs.Relinking.{field, last-relinked}
