@@ -28,7 +28,7 @@ pub enum ChangeFault {
 
     /// The nodes that are given are of no tree with the root that is asked for first: as far as the changes come, they read more
     /// nodes than such a tree has for them, or keys don't ascend in a node that they make.
-    #[error("the blocks are no tree with the root after")]
+    #[error("the blocks are no tree with the root that they are read from")]
     NotTree,
 
     /// The key of the change at this place has another value in the tree whose nodes are given.
@@ -36,7 +36,7 @@ pub enum ChangeFault {
     OtherValue(usize),
 
     /// The changes done lead to another root than the one after, or undone to another one than the one before.
-    #[error("the changes undone lead to another root")]
+    #[error("the changes lead to another root")]
     OtherRoot,
 
     /// Memory was refused.

@@ -364,8 +364,8 @@ fn faults_of_a_change(rt: HostRuntime) {
             ChangeFault::NotTree,
             "NotTree",
             "NotTree",
-            "the blocks are no tree with the root after",
-            "the blocks are no tree with the root after",
+            "the blocks are no tree with the root that they are read from",
+            "the blocks are no tree with the root that they are read from",
         ),
         (
             ChangeFault::OtherValue(7),
@@ -378,8 +378,8 @@ fn faults_of_a_change(rt: HostRuntime) {
             ChangeFault::OtherRoot,
             "OtherRoot",
             "OtherRoot",
-            "the changes undone lead to another root",
-            "the changes undone lead to another root",
+            "the changes lead to another root",
+            "the changes lead to another root",
         ),
         (
             ChangeFault::NoMemory,

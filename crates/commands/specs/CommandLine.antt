@@ -20,7 +20,7 @@ use Rattle.repository_commands.specs.Words.{IsOfWords, car_shape, prove_shape, v
 use Rattle.change_commands.specs.Words.{prove_change_shape, verify_change_shape, IsOfWords as IsChangeOfWords}
 use Rattle.export_commands.specs.Words.{check_shape, records_shape, commit_shape, IsOfWords as IsExportOfWords}
 use Rattle.difference_commands.specs.Words.{changes_shape, IsOfWords as AreChangesOfWords}
-use Rattle.run_command.specs.Words.{HasNumbersOf, did_of_words, run_shape}
+use Rattle.run_command.specs.Words.{AreSettingsOf, did_of_words, run_shape}
 
 -- What clap reads of the program, beside its commands: it has a version and wants a command, and
 -- its `help` is one of its own.
@@ -55,7 +55,7 @@ IsNamed name rows (requests.OnChange command) = IsChangeOfWords name rows comman
 IsNamed name rows (requests.OnExport command) = IsExportOfWords name rows command
 IsNamed name rows (requests.OnDifference words) = AreChangesOfWords name rows words
 IsNamed name rows (requests.Run command) = (name ≡ codes "run")
-    × HasNumbersOf rows command.settings × (command.did.now ≡ did_of_words rows)
+    × AreSettingsOf rows command.settings × (command.did.now ≡ did_of_words rows)
 IsNamed name rows (requests.Explain command) = (name ≡ codes "explain") × HasNameOf rows command
 IsNamed name rows requests.Help = name ≡ codes "help"
 

@@ -6,6 +6,7 @@ use crate::parts::{
     LOWEST_NODE, MISNAMED, NEW, OF_A_RECORD, REV, TEXT, TEXT_SECTION, UPDATED_FROM, UPDATED_PATH,
     UPDATED_TO, VERSION,
 };
+use crate::planted::{BELOW_LAYER_0, DESCENDING, Planted};
 use car_reader::CarFault;
 use change_proofs::ChangeFault;
 use cid::CidRef;
@@ -14,6 +15,7 @@ use event_blocks::BlocksFault;
 use event_format::FormFault;
 use record_rules::RecordFault;
 use signed_commits::CommitFault;
+use std::alloc::Global;
 
 /// What is changed in the worked message, and its fault.
 const FAULTS: [(&[(usize, &[u8])], EventFault); 14] = [
@@ -104,4 +106,24 @@ fn a_record_is_no_node(rt: HostRuntime) {
     let (section, cid) = OF_A_RECORD;
     let edits = [(COMMIT_SECTION, section), (COMMIT, cid), (CAR_ROOT, cid)];
     assert!(rt; fault_of(rt.alloc(), &edits) == Some(bad_node(record)));
+}
+
+/// The fault of the worked message with these nodes and their commit.
+fn fault_over(alloc: Global, planted: &Planted) -> Option<EventFault> {
+    let edits = [
+        (BLOCKS_SIZE, planted.size),
+        (CAR_ROOT, planted.cid),
+        (COMMIT_SECTION, planted.commit),
+        (LOWEST, planted.nodes),
+        (COMMIT, planted.cid),
+    ];
+    fault_of(alloc, &edits)
+}
+
+#[test]
+fn nodes_are_no_tree(rt: HostRuntime) {
+    let deep = fault_over(rt.alloc(), &BELOW_LAYER_0);
+    assert!(rt; deep == Some(EventFault::Change(ChangeFault::TooDeep)));
+    let descending = fault_over(rt.alloc(), &DESCENDING);
+    assert!(rt; descending == Some(EventFault::Change(ChangeFault::NotTree)));
 }

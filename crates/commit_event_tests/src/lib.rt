@@ -10,6 +10,8 @@ mod messages;
 #[cfg(test)]
 mod parts;
 #[cfg(test)]
+mod planted;
+#[cfg(test)]
 mod sizes;
 #[cfg(test)]
 mod worked;

@@ -29,6 +29,13 @@ fails-told : (ds : List Placed) (p : Option given.ChangeFault) (verdict : Result
 fails-told ds None verdict h = tt
 fails-told ds (Some f) verdict h = ap (of_change ds) h
 
+-- over the same blocks
+pub verdict-over : (digest : List ℕ → List ℕ) (bits : ℕ) (before after : List ℕ) (given blocks : List (List ℕ)) (cs : List KeyChange)
+    (r : Result (Unit {0}) ChangeFault) → given ≡ blocks → IsVerdict digest bits before after given cs r
+    → IsVerdict digest bits before after blocks cs r
+verdict-over digest bits before after given blocks cs r same h =
+    subst (λ (bs : List (List ℕ)). IsVerdict digest bits before after bs cs r) same h
+
 module _ (digest : List ℕ → List ℕ) (bits : ℕ) (before after : List ℕ) (blocks : List (List ℕ)) (ops : List KeyChange) where
   pub shown-ok : (ds : List Placed) (cs : List KeyChange) → ds ≡ ordered [] (placed_from 0 ops) → cs ≡ map (λ x. x.1) ds
       → (x : Unit {0}) → IsVerdict digest bits before after blocks cs (Ok x)

@@ -11,10 +11,10 @@ ghost use Rattle.commit_events.specs.Views.{change_fault_of, event_fault_of};
 ghost use Rattle.commit_events.specs.Steps.{shown_by};
 
 use crate::fault::EventFault;
-use crate::known::verify;
+use crate::known::known_blocks;
 use crate::order::{Placed, changes_of, in_order, place_of};
 use car_reader::Section;
-use change_proofs::ChangeFault;
+use change_proofs::{ChangeFault, verify_inversion_blocks};
 use cid::{Cid, Digest};
 use key_changes::KeyChange;
 use std::alloc::Allocator;
@@ -36,7 +36,8 @@ pub(crate) fn test_changes<D: Digest, const B: u8, A: Allocator + Copy>(
 {
     let sorted = in_order(alloc, ops)?;
     let changes = changes_of(alloc, &sorted)?;
-    match verify::<D, B, A>(alloc, before, after, sections, &changes) {
+    let blocks = known_blocks::<D, A>(alloc, sections)?;
+    match verify_inversion_blocks::<D, B, A>(alloc, before, after, &blocks, &changes) {
         Ok(()) => Ok(()),
         Err(fault) => Err(told(fault, &sorted)),
     }

@@ -12,8 +12,8 @@
 //! ```
 //!
 //! `order` has the operations in the order of their keys, `single` looks for two with one key, `blocks` reads what the
-//! message's blocks hold, `known` has these as blocks whose CIDs are known, `changes` undoes the operations on them, and `checking` puts these together. What a message says and
-//! when that is true is defined in the crate `event_laws`.
+//! message's blocks hold, `known` has these as blocks whose CIDs are known, `changes` undoes the operations on them, and
+//! `checking` puts these together. What a message says and when that is true is defined in the crate `event_laws`.
 #![tactic(auto)]
 
 mod blocks;

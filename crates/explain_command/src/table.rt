@@ -243,7 +243,7 @@ pub static FAULTS: [(&str, &str, &str); 59] = [
     ),
     (
         "NotTree",
-        "the blocks are no tree with the root after",
+        "the blocks are no tree with the root that they are read from",
         "nodes that somebody made up: each is one by itself, and together they are no tree of the AT Protocol",
     ),
     (
@@ -253,7 +253,7 @@ pub static FAULTS: [(&str, &str, &str); 59] = [
     ),
     (
         "OtherRoot",
-        "the changes undone lead to another root",
+        "the changes lead to another root",
         "a change left out or one too many; another BEFORE; the roots swapped",
     ),
     (

@@ -41,11 +41,11 @@ run_shape = record (new_shape (codes "run")) {
 abbrev pub did_of_words : List Row → List ℕ
 did_of_words rows = unwrap_or (first_of (codes "did") rows) (codes "did:web:localhost")
 
--- Where the words give numbers in their ranges, or none, the settings have these: one repository and
--- one worker where there is none, and room for 1,024 notices (a choice of this project). Then they
--- have the form of records too that the words ask for.
-abbrev pub HasNumbersOf : List Row → Settings → Type 0
-HasNumbersOf rows s = (repos workers queue : ℕ)
+-- The settings are those that the words give: where these give numbers in their ranges, or none, they have these numbers, and one
+-- repository and one worker where there is none, and room for 1,024 notices (a choice of this project). Then they have the form of
+-- records too that the words ask for.
+abbrev pub AreSettingsOf : List Row → Settings → Type 0
+AreSettingsOf rows s = (repos workers queue : ℕ)
     → IsNumberOf 32 1 (one_of (codes "repos") rows) repos → (1 ≤ repos) × (repos ≤ 1024)
     → IsNumberOf 32 1 (one_of (codes "workers") rows) workers → (1 ≤ workers) × (workers ≤ 64)
     → IsNumberOf 32 1024 (one_of (codes "queue") rows) queue → (1 ≤ queue) × (queue ≤ 65536)

@@ -5,7 +5,7 @@ ghost use Rattle.clap.specs.Words.{with_subcommand};
 ghost use Rattle.clap.specs.declared.builder.command.Command.TheViews.{out-Command as fields_of};
 ghost use Rattle.console.specs.FileWords.{with_file as with_file_of};
 ghost use Rattle.console.specs.Numbers.{IsNumberOf};
-ghost use Rattle.run_command.specs.Words.{HasNumbersOf, did_of_words};
+ghost use Rattle.run_command.specs.Words.{AreSettingsOf, did_of_words};
 ghost use Rattle.run_command.specs.Words.{did_rule, number_rule, run_shape};
 
 use crate::settings::Settings;
@@ -145,7 +145,7 @@ fn did<'a>(alloc: Global) -> Arg<'a>
 pub fn command_of<'a>(name: &str, words: &ArgMatches<'a>) -> Option<RunCommand<'a>>
     ensures name { IsSome result ↔ (name.now ≡ codes "run") }
     ensures did { IfSome result (λ c. c.did.now ≡ did_of_words (rows_of (found_of words.now))) }
-    ensures settings { IfSome result (λ c. HasNumbersOf (rows_of (found_of words.now)) c.settings) }
+    ensures settings { IfSome result (λ c. AreSettingsOf (rows_of (found_of words.now)) c.settings) }
 {
     if name != "run" {
         return None;

@@ -17,8 +17,9 @@ use Rattle.change_proofs.specs.StepProvings.{IsStepOf}
 use Rattle.change_proofs.specs.declared.proving_fault.ProvingFault.TheVariants as provings
 use Rattle.buffers.specs.Answers.{IsHanded, parts_bytes}
 use Rattle.buffers.specs.Framing.{cid_or_none_at, with_values}
-use Rattle.tizulgech.specs.Changing.{allowed, both_told, told, told_of, proof_bytes, IsChangeOver, IsChangeVerified, IsStepProven, IsStepProvenOf, IsStepSpelt}
-use Rattle.tizulgech.specs.Inverting.{IsInversionOver, IsInversionVerified, IsProven, IsProvenBy, IsProvenOf, IsSpelt}
+use Rattle.tizulgech.specs.declared.verdicts.Direction.{Direction}
+use Rattle.tizulgech.specs.Changing.{allowed, both_told, told, told_of, proof_bytes, IsStepProven, IsStepProvenOf, IsStepSpelt, IsVerdictOver, IsVerified}
+use Rattle.tizulgech.specs.Inverting.{IsProven, IsProvenBy, IsProvenOf, IsSpelt}
 
 -- one more change behind the others
 pub told_next : (whole old new : List KeyChange) (c : KeyChange) (bs rest : List Change) (i : ℕ) (b a : Change)
@@ -86,26 +87,15 @@ pub not_allowed : (told : Option (List KeyChange)) (cs : List KeyChange) → Som
 not_allowed o cs e isnt = sym (ap (λ (t : Bool). if t then Some cs else None) isnt) ∙ ap allowed e
 
 -- where the arguments of a verdict are there
-pub verified : (code : ℕ) (missing : List ℕ) (place : ℕ) (nodes : List (List ℕ)) (before after : List ℕ) (cs : List KeyChange)
-    (n : Option (List (List ℕ))) (b a : Option (List ℕ)) (c : Option (List KeyChange))
-    → Some nodes ≡ n → Some before ≡ b → Some after ≡ a → Some cs ≡ c → IsChangeOver code missing place nodes before after cs
-    → IsChangeVerified code missing place n b a c
-verified code missing place nodes before after cs n b a c is_n is_b is_a is_c h =
-    subst (λ x. IsChangeVerified code missing place x b a c) is_n
-    (subst (λ x. IsChangeVerified code missing place (Some nodes) x a c) is_b
-    (subst (λ x. IsChangeVerified code missing place (Some nodes) (Some before) x c) is_a
-    (subst (λ x. IsChangeVerified code missing place (Some nodes) (Some before) (Some after) x) is_c h)))
-
--- the same of changes that are undone
-pub inverted : (code : ℕ) (missing : List ℕ) (place : ℕ) (nodes : List (List ℕ)) (before after : List ℕ) (cs : List KeyChange)
-    (n : Option (List (List ℕ))) (b a : Option (List ℕ)) (c : Option (List KeyChange))
-    → Some nodes ≡ n → Some before ≡ b → Some after ≡ a → Some cs ≡ c → IsInversionOver code missing place nodes before after cs
-    → IsInversionVerified code missing place n b a c
-inverted code missing place nodes before after cs n b a c is_n is_b is_a is_c h =
-    subst (λ x. IsInversionVerified code missing place x b a c) is_n
-    (subst (λ x. IsInversionVerified code missing place (Some nodes) x a c) is_b
-    (subst (λ x. IsInversionVerified code missing place (Some nodes) (Some before) x c) is_a
-    (subst (λ x. IsInversionVerified code missing place (Some nodes) (Some before) (Some after) x) is_c h)))
+pub verified : (direction : Direction) (code : ℕ) (missing : List ℕ) (place : ℕ) (nodes : List (List ℕ)) (before after : List ℕ)
+    (cs : List KeyChange) (n : Option (List (List ℕ))) (b a : Option (List ℕ)) (c : Option (List KeyChange))
+    → Some nodes ≡ n → Some before ≡ b → Some after ≡ a → Some cs ≡ c
+    → IsVerdictOver direction code missing place nodes before after cs → IsVerified direction code missing place n b a c
+verified direction code missing place nodes before after cs n b a c is_n is_b is_a is_c h =
+    subst (λ x. IsVerified direction code missing place x b a c) is_n
+    (subst (λ x. IsVerified direction code missing place (Some nodes) x a c) is_b
+    (subst (λ x. IsVerified direction code missing place (Some nodes) (Some before) x c) is_a
+    (subst (λ x. IsVerified direction code missing place (Some nodes) (Some before) (Some after) x) is_c h)))
 
 -- where the changes of a proof are there
 pub step_of : (code : ℕ) (before room : List ℕ) (size : ℕ) (s : State) (cs : List Change) (c : Option (List Change))

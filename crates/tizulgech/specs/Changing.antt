@@ -1,4 +1,4 @@
--- What is told of changes between two roots, and of a step from one to the next.
+-- What is told of changes between two roots, in either direction, and of what shows a step from one to the next.
 use Rattle.std.specs.Prelude.{◌≡◌, ◌++◌, ℕ, List, [], ◌∷◌, map, Option, Some, None, Result, Ok, Err, nat_eq, length, if◌then◌else◌}
 use Rattle.sha2.specs.Sha256.{sha256}
 use Rattle.spec.specs.Blocks.{pairs}
@@ -7,12 +7,15 @@ use Rattle.batch_laws.specs.Batch.{Change}
 use Rattle.key_changes.specs.Keyed.{are_changes}
 use Rattle.change_laws.specs.Told.{KeyChange, undone}
 use Rattle.change_proofs.specs.StepProvings.{IsStepOf}
+use Rattle.change_proofs.specs.Verdicts.{IsVerdict, IsRight, IsWhole, IsOfTree}
 use Rattle.change_proofs.specs.StepVerdicts.{IsStepVerdict, IsStepRight, IsStepWhole, IsStepOfTree}
 use Rattle.change_proofs.specs.declared.change_fault.ChangeFault.{ChangeFault}
 use Rattle.change_proofs.specs.declared.change_fault.ChangeFault.TheVariants.{BlockMissing, BadNode, TooDeep, NotTree, OtherValue, OtherRoot, NoMemory}
 use Rattle.buffers.specs.Answers.{IsHanded, parts_bytes, values_bytes}
 use Rattle.buffers.specs.Framing.{cid_or_none_at, cut}
 use Rattle.tizulgech.specs.Trees.{beside_parts}
+use Rattle.tizulgech.specs.declared.verdicts.Direction.{Direction}
+use Rattle.tizulgech.specs.declared.verdicts.Direction.TheVariants.{Forward, Back}
 
 -- ---- changes as they are given: keys, the value of each before the changes, and after them
 
@@ -50,27 +53,34 @@ IsVerdictTold code missing place (Err (OtherValue at)) = (code ≡ 33) × (place
 IsVerdictTold code missing place (Err OtherRoot) = code ≡ 34
 IsVerdictTold code missing place (Err NoMemory) = code ≡ 255
 
--- What is told is the verdict over these nodes of the tree before: a step that is shown leads from the root of pairs to that of
--- these pairs with the changes done; a true one is shown where the nodes are given that doing them reads, but for want of memory;
--- and nothing is said against a node of a tree.
-pub record IsChangeOver (code : ℕ) (missing : List ℕ) (place : ℕ) (nodes : List (List ℕ)) (before after : List ℕ)
-    (cs : List KeyChange) : Type 0 where
+-- What is said of changes between two roots, by some nodes. Forward, of the tree before: changes that are shown lead from the root
+-- of pairs to that of these pairs with the changes done; true ones are shown where the nodes are given that doing them reads, but
+-- for want of memory; and nothing is said against a node of a tree. Back, of the tree after: what is shown is right of all pairs
+-- with the root after, and whole where the nodes are given that undoing reads, and nothing is said against a node of a tree.
+abbrev pub IsAnswer : Direction → List (List ℕ) → List ℕ → List ℕ → List KeyChange → Result (Unit {0}) ChangeFault → Type 0
+IsAnswer Forward nodes before after cs result = IsStepVerdict sha256 2 before after nodes cs result
+    × IsStepRight sha256 2 before after nodes cs result × IsStepWhole sha256 2 before after nodes cs result
+    × IsStepOfTree sha256 2 before after nodes cs result
+IsAnswer Back nodes before after cs result = IsVerdict sha256 2 before after nodes cs result
+    × IsRight sha256 2 before after nodes cs result × IsWhole sha256 2 before after nodes cs result
+    × IsOfTree sha256 2 before after nodes cs result
+
+-- the number tells what is said
+pub record IsVerdictOver (direction : Direction) (code : ℕ) (missing : List ℕ) (place : ℕ) (nodes : List (List ℕ))
+    (before after : List ℕ) (cs : List KeyChange) : Type 0 where
   pub result : Result (Unit {0}) ChangeFault
-  pub verdict : IsStepVerdict sha256 2 before after nodes cs result
-  pub right : IsStepRight sha256 2 before after nodes cs result
-  pub comes : IsStepWhole sha256 2 before after nodes cs result
-  pub tree : IsStepOfTree sha256 2 before after nodes cs result
+  pub said : IsAnswer direction nodes before after cs result
   pub told_is : IsVerdictTold code missing place result
 
 -- 252 for arguments that are none
-abbrev pub IsChangeVerified : ℕ → List ℕ → ℕ → Option (List (List ℕ)) → Option (List ℕ) → Option (List ℕ)
+abbrev pub IsVerified : Direction → ℕ → List ℕ → ℕ → Option (List (List ℕ)) → Option (List ℕ) → Option (List ℕ)
     → Option (List KeyChange) → Type 0
-IsChangeVerified code missing place None before after cs = code ≡ 252
-IsChangeVerified code missing place (Some nodes) None after cs = code ≡ 252
-IsChangeVerified code missing place (Some nodes) (Some before) None cs = code ≡ 252
-IsChangeVerified code missing place (Some nodes) (Some before) (Some after) None = code ≡ 252
-IsChangeVerified code missing place (Some nodes) (Some before) (Some after) (Some cs) =
-    IsChangeOver code missing place nodes before after cs
+IsVerified direction code missing place None before after cs = code ≡ 252
+IsVerified direction code missing place (Some nodes) None after cs = code ≡ 252
+IsVerified direction code missing place (Some nodes) (Some before) None cs = code ≡ 252
+IsVerified direction code missing place (Some nodes) (Some before) (Some after) None = code ≡ 252
+IsVerified direction code missing place (Some nodes) (Some before) (Some after) (Some cs) =
+    IsVerdictOver direction code missing place nodes before after cs
 
 -- ---- proofs of a repository
 

@@ -1,4 +1,4 @@
--- What is told of changes that are undone.
+-- What is told of what shows changes that are undone.
 use Rattle.std.specs.Prelude.{◌≡◌, ℕ, List, Option, Some, None, Result, Ok, Err}
 use Rattle.sha2.specs.Sha256.{sha256}
 use Rattle.spec.specs.Blocks.{pairs}
@@ -8,35 +8,7 @@ use Rattle.change_laws.specs.Given.{ChangeFault as GivenFault}
 use Rattle.change_laws.specs.Given as given
 use Rattle.change_laws.specs.Laws.{change_path}
 use Rattle.change_proofs.specs.Provings.{told_by}
-use Rattle.change_proofs.specs.Verdicts.{IsVerdict, IsRight, IsWhole, IsOfTree}
-use Rattle.change_proofs.specs.declared.change_fault.ChangeFault.{ChangeFault}
 use Rattle.buffers.specs.Answers.{IsHanded, parts_bytes}
-use Rattle.tizulgech.specs.Changing.{IsVerdictTold}
-
--- ---- verdicts
-
--- What is told is the verdict over these nodes of the tree after: it is right of all pairs with the root after, whole where the
--- nodes are given that undoing reads, and says nothing against a node of a tree.
-pub record IsInversionOver (code : ℕ) (missing : List ℕ) (place : ℕ) (nodes : List (List ℕ)) (before after : List ℕ)
-    (cs : List KeyChange) : Type 0 where
-  pub result : Result (Unit {0}) ChangeFault
-  pub verdict : IsVerdict sha256 2 before after nodes cs result
-  pub right : IsRight sha256 2 before after nodes cs result
-  pub comes : IsWhole sha256 2 before after nodes cs result
-  pub tree : IsOfTree sha256 2 before after nodes cs result
-  pub told_is : IsVerdictTold code missing place result
-
--- 252 for arguments that are none
-abbrev pub IsInversionVerified : ℕ → List ℕ → ℕ → Option (List (List ℕ)) → Option (List ℕ) → Option (List ℕ)
-    → Option (List KeyChange) → Type 0
-IsInversionVerified code missing place None before after cs = code ≡ 252
-IsInversionVerified code missing place (Some nodes) None after cs = code ≡ 252
-IsInversionVerified code missing place (Some nodes) (Some before) None cs = code ≡ 252
-IsInversionVerified code missing place (Some nodes) (Some before) (Some after) None = code ≡ 252
-IsInversionVerified code missing place (Some nodes) (Some before) (Some after) (Some cs) =
-    IsInversionOver code missing place nodes before after cs
-
--- ---- proofs of a repository
 
 -- the bytes spell the nodes that undoing reads, and each key has what is told after its change
 pub record IsSpelt (s : State) (cs : List KeyChange) (bytes : List ℕ) : Type 0 where

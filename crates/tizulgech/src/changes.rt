@@ -1,100 +1,22 @@
-//! A step from one root to the next: what shows it, and whether some nodes do.
+//! What changes make of a repository's tree, and what shows it.
 
-ghost use Rattle.std.specs.Prelude.{◌≡◌, ◌++◌, length, map, true, false, nat_eq, IfOk, IfSome, OnOk};
+ghost use Rattle.std.specs.Prelude.{◌≡◌, ◌++◌, map, true, false, nat_eq, IfOk, IfSome, OnOk};
 ghost use Rattle.std.specs.Arc.{arc_value};
 ghost use Rattle.key_changes.specs.Keyed.{are_changes as are_changes_of};
-ghost use Rattle.change_laws.specs.Told.{undone as undone_of};
 ghost use Rattle.buffers.specs.Answers.{IsKept};
-ghost use Rattle.buffers.specs.Framing.{cid_at, cut};
-ghost use Rattle.tizulgech.specs.Changing.{befores_bytes, proof_bytes as proof_bytes_of, told_in, IsChangeOver, IsChangeVerified, IsStepProven, IsStepProvenOf, IsStepSpelt};
+ghost use Rattle.tizulgech.specs.Changing.{befores_bytes, proof_bytes as proof_bytes_of, IsStepProven, IsStepProvenOf, IsStepSpelt};
 ghost use Rattle.tizulgech.specs.Trees.{changes_in};
 ghost use Rattle.tizulgech.specs.Handles.{OnlyReads};
 
 use crate::codes::{BAD, CLOSED, NO_MEMORY};
 use crate::edits::changes_at;
 use crate::proving::push_blocks;
-use crate::told_changes::{tell_verdict, told_at};
-use buffers::{cid_in, hand, push_value, slices};
-use change_proofs::{ChangeProof, KeyChange, prove_change, verify_change};
-use cid::{Cid, Sha256};
+use buffers::{hand, push_value};
+use change_proofs::{ChangeProof, KeyChange, prove_change};
+use cid::Sha256;
 use edit::Change;
 use owned_repo::{OwnedRepo, Repository};
 use std::alloc::{AllocError, Global};
-
-/// Whether the tree with the root `before` becomes that with the root `after` by these changes, as nodes of the tree before
-/// show.
-///
-/// Where the root before is that of some pairs, 0 says that the root after is that of these pairs with the changes done: so it
-/// is the root of pairs again, and the next step can be verified from it.
-///
-/// A key had the value of 36 bytes at its place among `befores`, and has that among `afters`; 36 zeros stand for none. The keys
-/// have 1 to 1,024 bytes and ascend strictly. 0 where the step is shown; 2 where a node is missing, whose CID is then in
-/// `missing`; 30 where a node that is needed is none, whose CID is in `missing` too; 31 where a link stands below layer 0; 33
-/// where a key had another value in the tree before, and `place` is that of its change; 34 where the changes lead to another
-/// root; 35 where keys don't ascend in a node that would be made, or more nodes are read than of a tree; 252 for arguments that
-/// are none; 255 for want of memory.
-#[unsafe(no_mangle)]
-pub extern "C" fn tizulgech_verify_change(
-    alloc: Global,
-    nodes: &[u8],
-    node_ends: &[usize],
-    before: &[u8],
-    after: &[u8],
-    keys: &[u8],
-    key_ends: &[usize],
-    befores: &[u8],
-    afters: &[u8],
-    missing: &mut [u8],
-    place: &mut usize,
-) -> u8
-    requires { length missing.old ≡ 36 }
-    ensures verdict { nat_eq result 255 ≡ false → IsChangeVerified result missing.new place.new
-        (cut 0 node_ends.now nodes.now) (cid_at before.now) (cid_at after.now)
-        (told_in keys.now key_ends.now befores.now afters.now) }
-    ensures missing { ¬ (result ≡ 2) → ¬ (result ≡ 30) → missing.new ≡ missing.old }
-    ensures place { ¬ (result ≡ 33) → place.new ≡ place.old }
-{
-    let Ok(nodes) = slices(alloc, nodes, node_ends) else {
-        return NO_MEMORY;
-    };
-    let Some(nodes) = nodes else {
-        return BAD;
-    };
-    let Some(before) = cid_in(before) else {
-        return BAD;
-    };
-    let Some(after) = cid_in(after) else {
-        return BAD;
-    };
-    let Ok(changes) = told_at(alloc, keys, key_ends, befores, afters) else {
-        return NO_MEMORY;
-    };
-    let Some(changes) = changes else {
-        return BAD;
-    };
-    verify_over(alloc, &nodes, before, after, &changes, missing, place)
-}
-
-/// The same of changes that a verdict takes.
-fn verify_over(
-    alloc: Global,
-    nodes: &[&[u8]],
-    before: Cid,
-    after: Cid,
-    changes: &[KeyChange<'_>],
-    missing: &mut [u8],
-    place: &mut usize,
-) -> u8
-    requires changes { are_changes_of (undone_of changes.now) ≡ true }
-    requires missing { length missing.old ≡ 36 }
-    ensures verdict { nat_eq result 255 ≡ false → IsChangeOver result missing.new place.new
-        (map (λ node. node.now) nodes.now) before after changes.now }
-    ensures missing { ¬ (result ≡ 2) → ¬ (result ≡ 30) → missing.new ≡ missing.old }
-    ensures place { ¬ (result ≡ 33) → place.new ≡ place.old }
-{
-    let answer = verify_change::<Sha256, 2, _, _>(alloc, before, after, nodes, changes);
-    tell_verdict(&answer, missing, place)
-}
 
 /// What some changes make of the repository's tree as it is, and the nodes that show it: to be asked before they are applied.
 ///

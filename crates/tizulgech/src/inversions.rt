@@ -1,96 +1,22 @@
-//! Changes that are undone between two roots, as the event stream does it: what shows them, and whether some nodes do.
+//! What shows changes that are undone, as the event stream does it.
 
-ghost use Rattle.std.specs.Prelude.{◌≡◌, length, map, true, false, nat_eq, IfOk, IfErr, IfSome};
+ghost use Rattle.std.specs.Prelude.{◌≡◌, true, false, nat_eq, IfOk, IfErr, IfSome};
 ghost use Rattle.sha2.specs.Sha256.{sha256};
 ghost use Rattle.key_changes.specs.Keyed.{are_changes as are_changes_of};
 ghost use Rattle.change_laws.specs.Told.{undone as undone_of};
 ghost use Rattle.change_proofs.specs.Provings.{IsUntrue};
 ghost use Rattle.buffers.specs.Answers.{IsKept};
-ghost use Rattle.buffers.specs.Framing.{cid_at, cut};
 ghost use Rattle.tizulgech.specs.Changing.{told_in};
-ghost use Rattle.tizulgech.specs.Inverting.{IsSpelt, IsInversionOver, IsInversionVerified, IsProvenOf, IsProven};
+ghost use Rattle.tizulgech.specs.Inverting.{IsSpelt, IsProvenOf, IsProven};
 ghost use Rattle.tizulgech.specs.Handles.{OnlyReads};
 
 use crate::codes::{BAD, CLOSED, NO_MEMORY};
 use crate::proving::spell_blocks;
-use crate::told_changes::{OTHER_VALUE, tell_verdict, told_at};
-use buffers::{cid_in, hand, slices};
-use change_proofs::{KeyChange, ProvingFault, prove_inversion, verify_inversion};
-use cid::{Cid, Sha256};
+use crate::told_changes::{OTHER_VALUE, told_at};
+use buffers::hand;
+use change_proofs::{KeyChange, ProvingFault, prove_inversion};
 use owned_repo::{OwnedRepo, Repository};
 use std::alloc::Global;
-
-/// Whether these changes undone lead from the tree with the root `after` back to the root `before`, as nodes of the tree after
-/// show.
-///
-/// 0 speaks only of whatever pairs have the root after. Of a root that no pairs have it says nothing, and one can be made up
-/// that hides keys: who goes on from root to root calls `tizulgech_verify_change`. It is the operation inversion of the event
-/// stream.
-///
-/// The changes are given as `tizulgech_verify_change` takes them, and the numbers are the same, with both trees exchanged: 33
-/// where a key has another value in the tree after, and 34 where the changes undone lead to another root than the one before.
-#[unsafe(no_mangle)]
-pub extern "C" fn tizulgech_verify_inversion(
-    alloc: Global,
-    nodes: &[u8],
-    node_ends: &[usize],
-    before: &[u8],
-    after: &[u8],
-    keys: &[u8],
-    key_ends: &[usize],
-    befores: &[u8],
-    afters: &[u8],
-    missing: &mut [u8],
-    place: &mut usize,
-) -> u8
-    requires { length missing.old ≡ 36 }
-    ensures verdict { nat_eq result 255 ≡ false → IsInversionVerified result missing.new place.new
-        (cut 0 node_ends.now nodes.now) (cid_at before.now) (cid_at after.now)
-        (told_in keys.now key_ends.now befores.now afters.now) }
-    ensures missing { ¬ (result ≡ 2) → ¬ (result ≡ 30) → missing.new ≡ missing.old }
-    ensures place { ¬ (result ≡ 33) → place.new ≡ place.old }
-{
-    let Ok(nodes) = slices(alloc, nodes, node_ends) else {
-        return NO_MEMORY;
-    };
-    let Some(nodes) = nodes else {
-        return BAD;
-    };
-    let Some(before) = cid_in(before) else {
-        return BAD;
-    };
-    let Some(after) = cid_in(after) else {
-        return BAD;
-    };
-    let Ok(changes) = told_at(alloc, keys, key_ends, befores, afters) else {
-        return NO_MEMORY;
-    };
-    let Some(changes) = changes else {
-        return BAD;
-    };
-    verify_over(alloc, &nodes, before, after, &changes, missing, place)
-}
-
-/// The same of changes that a verdict takes.
-fn verify_over(
-    alloc: Global,
-    nodes: &[&[u8]],
-    before: Cid,
-    after: Cid,
-    changes: &[KeyChange<'_>],
-    missing: &mut [u8],
-    place: &mut usize,
-) -> u8
-    requires changes { are_changes_of (undone_of changes.now) ≡ true }
-    requires missing { length missing.old ≡ 36 }
-    ensures verdict { nat_eq result 255 ≡ false → IsInversionOver result missing.new place.new
-        (map (λ node. node.now) nodes.now) before after changes.now }
-    ensures missing { ¬ (result ≡ 2) → ¬ (result ≡ 30) → missing.new ≡ missing.old }
-    ensures place { ¬ (result ≡ 33) → place.new ≡ place.old }
-{
-    let answer = verify_inversion::<Sha256, 2, _, _>(alloc, before, after, nodes, changes);
-    tell_verdict(&answer, missing, place)
-}
 
 /// The nodes of the repository's tree as it is that undoing some changes reads, which led to it: each once, each with its
 /// length in eight bytes, the lowest first, in front.

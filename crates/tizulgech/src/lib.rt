@@ -6,8 +6,9 @@
 //! - `values`, `stamps` and `cids` have the calls on values: records, keys, CIDs, nodes, stamps, commits.
 //! - `edits`, `below`, `given` and `listings` have those on trees that the caller keeps by itself, over the `nodes` that it hands in.
 //! - `opening`, `staging`, `reading`, `pages`, `files`, `sections` and `proving` have those on a repository in memory, behind a handle (`owned_repo::Repository`).
-//! - `changes` has those that prove a step from one root to the next, and that check such a proof; `inversions` has those that undo
-//!   changes. `told_changes` reads what both are told, and tells their verdicts.
+//! - `verdicts` has those that check changes between two roots, done or undone; `changes` has the one that proves what changes
+//!   make of a repository, and `inversions` the one that proves changes undone. `told_changes` reads what all of them are told,
+//!   and tells verdicts.
 #![tactic(auto)]
 
 mod below;
@@ -28,4 +29,5 @@ mod staging;
 mod stamps;
 mod told_changes;
 mod values;
+mod verdicts;
 mod verifying;

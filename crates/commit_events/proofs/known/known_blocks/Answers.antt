@@ -4,7 +4,7 @@ use Rattle.std.proofs.lemmas.Simd.{map-map}
 use Rattle.car_reader.specs.Views.{section_of}
 use Rattle.car_reader.specs.declared.section.Section.{Section}
 use Rattle.commit_events.proofs.Named.{named-at}
-use Rattle.commit_events.proofs.known.blocks.Goals as goal
+use Rattle.commit_events.proofs.known.known_blocks.Goals as goal
 
 pub block-requires : goal.block-requires
 block-requires g c =
