@@ -80,7 +80,7 @@ writes-taken : {A : Type 0} (r : Result (Unit {0}) Fault) (stop : Result (Unit {
 writes-taken (Ok ok) stop x y e = refl
 writes-taken (Err f) stop x y e = absurd cc
 
-or_first : {A : Type 0} → A → Result A Fault → A
+abbrev or_first : {A : Type 0} → A → Result A Fault → A
 or_first x (Ok y) = y
 or_first x (Err f) = x
 
@@ -131,22 +131,22 @@ all-told digest s t ws = told-from digest s t 0 (collected ws)
 
 -- ---- what was told ahead of a batch is what it came to
 
-made : List ℕ → Option (List ℕ) → Option (List ℕ) → KeyChange
+abbrev made : List ℕ → Option (List ℕ) → Option (List ℕ) → KeyChange
 made key before after = record { key = key; before = before; after = after }
 
-first_key : List Change → List ℕ
+abbrev first_key : List Change → List ℕ
 first_key [] = []
 first_key (c ∷ cs) = c.0
 
-later : List Change → List Change
+abbrev later : List Change → List Change
 later [] = []
 later (c ∷ cs) = cs
 
 module _ (digest : List ℕ → List ℕ) (s t : State) where
-  Before : KeyChange → Type 0
+  abbrev Before : KeyChange → Type 0
   Before c = value_of c.key (pairs digest (records s)) ≡ c.before
 
-  After : KeyChange → Type 0
+  abbrev After : KeyChange → Type 0
   After c = value_of c.key (pairs digest (records t)) ≡ c.after
 
   one-told : (d : KeyChange) (key : List ℕ) → d.key ≡ key → Before d → After d
