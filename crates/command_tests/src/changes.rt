@@ -173,7 +173,17 @@ static UNSHOWN: [(&[&str], &[&str], &str); 22] = [
     ),
     (
         PUTTING,
-        &["E", "\n", ROOT, "\nchange a/b ", "E", " ", RECORD, "\n", EMPTY_NODE],
+        &[
+            "E",
+            "\n",
+            ROOT,
+            "\nchange a/b ",
+            "E",
+            " ",
+            RECORD,
+            "\n",
+            EMPTY_NODE,
+        ],
         "msthost: line 3: OtherValue\n",
     ),
     // The nodes of the tree after are not those that are asked for.

@@ -76,7 +76,17 @@ static UNSHOWN: [(&[&str], &[&str], &str); 11] = [
     // The value before a change is in no tree that is read: undone, another root comes out.
     (
         PUTTING,
-        &["E", "\n", ROOT, "\nchange a/b ", "E", " ", RECORD, "\n", NODE],
+        &[
+            "E",
+            "\n",
+            ROOT,
+            "\nchange a/b ",
+            "E",
+            " ",
+            RECORD,
+            "\n",
+            NODE,
+        ],
         "msthost: OtherRoot\n",
     ),
     (
