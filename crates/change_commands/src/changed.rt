@@ -47,11 +47,11 @@ pub(crate) fn changes_of<'w, D: Digest>(
     Ok(changes)
 }
 
-/// The CID of a record, where there is one.
-fn cid_of<D: Digest>(record: Option<&[u8]>) -> Option<Cid>
-    ensures { result ≡ option_map (cid_of_bytes D.digest_of) (lent record) }
+/// The CID of the record with these bytes, where there is one.
+fn cid_of<D: Digest>(bytes: Option<&[u8]>) -> Option<Cid>
+    ensures { result ≡ option_map (cid_of_bytes D.digest_of) (lent bytes) }
 {
-    match record {
+    match bytes {
         Some(bytes) => Some(Cid::of::<D>(bytes)),
         None => None,
     }

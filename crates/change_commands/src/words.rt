@@ -154,8 +154,5 @@ fn verify_change_words<'a>(alloc: Global) -> Result<Command<'a>, AllocError>
             "AFTER",
             "The text of that after, a commit's data",
         ))?
-        .arg(inversion_option(
-            alloc,
-            "Undo the changes on nodes of the tree after",
-        ))
+        .arg(inversion_option(alloc, "Undo the changes on nodes of the tree after"))
 }
