@@ -14,9 +14,8 @@ use Rattle.batch_laws.specs.Batch.{Change}
 use Rattle.batch_laws.specs.Collecting.{collected}
 use Rattle.change_laws.specs.Told.{KeyChange}
 use Rattle.change_laws.specs.Given as laws
-use Rattle.change_laws.specs.Verdict.{change_verdict}
 use Rattle.change_laws.specs.Laws.{change_path}
-use Rattle.change_proofs.specs.Verdicts.{IsOfTree, IsVerdict, IsWhole}
+use Rattle.step_laws.specs.StepLaws.{step_path}
 use Rattle.console.specs.Lines.{lines}
 use Rattle.repository_commands.specs.Faults.{Fault, Line, OfAfter, OfBefore, OfChange, OtherAfter, OtherBefore, OtherValue}
 use Rattle.repository_commands.specs.Refusals.{IsRefusedLine, is_refusal}
@@ -26,6 +25,9 @@ use Rattle.record_forms.specs.declared.form.Form.{Form}
 use Rattle.change_commands.specs.Stories.{Story, story_in}
 use Rattle.repository_commands.specs.Texts.{hex_line, no_writes, state_of_given}
 use Rattle.change_commands.specs.Told.{Told, told_in}
+use Rattle.change_commands.specs.Directions.{verdict_on, IsAnswer}
+use Rattle.change_commands.specs.declared.direction.Direction.{Direction}
+use Rattle.change_commands.specs.declared.direction.Direction.TheVariants as directions
 use Rattle.change_proofs.specs.declared.change_fault.ChangeFault.{ChangeFault}
 use Rattle.change_proofs.specs.declared.change_fault.ChangeFault.TheVariants as change_faults
 use Rattle.repository_commands.specs.declared.fault.TextFault.{TextFault}
@@ -41,15 +43,17 @@ first_stamp = record { did = codes "did:web:localhost"; rev = codes "22222222222
 abbrev pub second_stamp : Stamp
 second_stamp = record { did = codes "did:web:localhost"; rev = codes "2222222222223" }
 
--- a key with what it has in a repository, and with nothing after it
-abbrev pub change_before : (List ℕ → List ℕ) → State → Change → KeyChange
-change_before digest s c =
-    record { key = c.0; before = value_of c.0 (pairs digest (records s)); after = None }
+-- a key with what it has in one repository and in another
+abbrev pub change_between : (List ℕ → List ℕ) → State → State → Change → KeyChange
+change_between digest s t c = record {
+  key = c.0;
+  before = value_of c.0 (pairs digest (records s));
+  after = value_of c.0 (pairs digest (records t));
+}
 
--- with what its key has in a repository after it
-abbrev pub changed_to : (List ℕ → List ℕ) → State → KeyChange → KeyChange
-changed_to digest t c =
-    record { key = c.key; before = c.before; after = value_of c.key (pairs digest (records t)) }
+-- the changes of a batch that led from one repository to another: of each key of its writes, in the order of the keys
+abbrev pub changes_of_batch : (List ℕ → List ℕ) → State → State → List Write → List KeyChange
+changes_of_batch digest s t ws = map (change_between digest s t) (collected ws)
 
 -- a space and the CID of a record, or `-`
 abbrev pub value_words : Option (List ℕ) → List ℕ
@@ -67,33 +71,40 @@ abbrev pub text_of_parts : List ℕ → List ℕ → List KeyChange → List (Li
 text_of_parts before after cs nodes =
     root_line before ++ root_line after ++ flat_map change_line cs ++ flat_map hex_line nodes
 
--- of changes that led from a root to a repository, of which what their keys had is known: the nodes of the tree
--- after them that undoing reads
-abbrev pub text_to : (List ℕ → List ℕ) → List ℕ → State → List KeyChange → List ℕ
-text_to digest root t before =
-    let cs = map (changed_to digest t) before in
-    text_of_parts root (state_root digest 2 t) cs (change_path digest 2 cs (pairs digest (records t)))
+-- the nodes that show changes which led from one repository to another: those of the tree before that doing them reads, or
+-- those of the tree after that undoing them reads
+abbrev pub nodes_shown : (List ℕ → List ℕ) → Direction → State → State → List KeyChange → List (List ℕ)
+nodes_shown digest directions.Forward s t cs = step_path digest 2 cs (pairs digest (records s))
+nodes_shown digest directions.Inversion s t cs = change_path digest 2 cs (pairs digest (records t))
 
--- of a batch that led from one repository to another: its changes are those of each key of its writes, in the order
--- of the keys
-abbrev pub text_of_batch : (List ℕ → List ℕ) → State → State → List Write → List ℕ
-text_of_batch digest s t ws =
-    text_to digest (state_root digest 2 s) t (map (change_before digest s) (collected ws))
+-- the same where those of the tree before are at hand
+abbrev pub nodes_by : (List ℕ → List ℕ) → Direction → List (List ℕ) → State → List KeyChange → List (List ℕ)
+nodes_by digest directions.Forward before t cs = before
+nodes_by digest directions.Inversion before t cs = change_path digest 2 cs (pairs digest (records t))
+
+-- of changes that led from one repository to another
+abbrev pub text_to : (List ℕ → List ℕ) → Direction → State → State → List KeyChange → List ℕ
+text_to digest direction s t cs =
+    text_of_parts (state_root digest 2 s) (state_root digest 2 t) cs (nodes_shown digest direction s t cs)
+
+-- of a batch that led from one repository to another
+abbrev pub text_of_batch : (List ℕ → List ℕ) → Direction → State → State → List Write → List ℕ
+text_of_batch digest direction s t ws = text_to digest direction s t (changes_of_batch digest s t ws)
 
 -- the text for the writes of some lines on a repository
-abbrev pub text_on : (List ℕ → List ℕ) → State → Given → Result (List ℕ) Fault
-text_on digest s batch = do
+abbrev pub text_on : (List ℕ → List ℕ) → Direction → State → Given → Result (List ℕ) Fault
+text_on digest direction s batch = do
   t ← state_of_given s second_stamp batch
-  Ok (text_of_batch digest s t batch.writes)
+  Ok (text_of_batch digest direction s t batch.writes)
 
 -- the puts are one batch of a new repository, and the writes one on it
-abbrev pub text_of_story : (List ℕ → List ℕ) → Story → Result (List ℕ) Fault
-text_of_story digest story = do
+abbrev pub text_of_story : (List ℕ → List ℕ) → Direction → Story → Result (List ℕ) Fault
+text_of_story digest direction story = do
   s ← state_of_given no_writes first_stamp story.before
-  text_on digest s story.batch
+  text_on digest direction s story.batch
 
-abbrev pub prove_change_text : (List ℕ → List ℕ) → Form → List ℕ → Result (List ℕ) Fault
-prove_change_text digest form input = text_of_story digest (story_in form input)
+abbrev pub prove_change_text : (List ℕ → List ℕ) → Direction → Form → List ℕ → Result (List ℕ) Fault
+prove_change_text digest direction form input = text_of_story digest direction (story_in form input)
 
 -- where a line is refused, it is so in the one batch or in the other
 abbrev pub IsRefusedStory : {D A : Type 0} → (List ℕ → List ℕ) → Story → TextFault D A → Type 0
@@ -148,31 +159,29 @@ abbrev pub answer_of_verdict : List ℕ → Result (Unit {0}) laws.ChangeFault �
 answer_of_verdict numbers (Ok ok) = Ok shown_line
 answer_of_verdict numbers (Err f) = Err (of_change numbers f)
 
-abbrev pub answer_of_told : (List ℕ → List ℕ) → Told → Result (List ℕ) Fault
-answer_of_told digest t =
-    answer_of_verdict t.numbers (change_verdict digest 2 t.before t.after t.blocks t.changes)
+abbrev pub answer_of_told : (List ℕ → List ℕ) → Direction → Told → Result (List ℕ) Fault
+answer_of_told digest direction t =
+    answer_of_verdict t.numbers (verdict_on digest direction t.before t.after t.blocks t.changes)
 
 -- the words are judged before the input is read, its lines before its roots, and these before the changes
-abbrev pub verify_change_text : (List ℕ → List ℕ) → List ℕ → List ℕ → List ℕ → Result (List ℕ) Fault
-verify_change_text digest before after input = do
+abbrev pub verify_change_text : (List ℕ → List ℕ) → Direction → List ℕ → List ℕ → List ℕ → Result (List ℕ) Fault
+verify_change_text digest direction before after input = do
   roots ← roots_of before after
   t ← told_in (lines input)
   same ← roots_check roots t
-  answer_of_told digest t
+  answer_of_told digest direction t
 
--- what a fault of the verifier says of what is told: the verdict; that true changes are shown where the
--- nodes are given; and that nothing is said against a tree's nodes
-abbrev pub IsChangeFault : (List ℕ → List ℕ) → Told → ChangeFault → Type 0
-IsChangeFault digest t change_faults.NoMemory = ⊥
-IsChangeFault digest t f = IsVerdict digest 2 t.before t.after t.blocks t.changes (Err f)
-    × IsWhole digest 2 t.before t.after t.blocks t.changes (Err f)
-    × IsOfTree digest 2 t.before t.after t.blocks t.changes (Err f)
+-- a fault of the verifier answers for what is told
+abbrev pub IsChangeFault : (List ℕ → List ℕ) → Direction → Told → ChangeFault → Type 0
+IsChangeFault digest direction t change_faults.NoMemory = ⊥
+IsChangeFault digest direction t f =
+    IsAnswer digest direction t.before t.after t.blocks t.changes (Err f)
 
 -- what is told isn't shown, and no line is refused
-abbrev pub IsUnshownBy : {D A : Type 0} → (List ℕ → List ℕ) → Result Told Fault → TextFault D A
+abbrev pub IsUnshownBy : {D A : Type 0} → (List ℕ → List ℕ) → Direction → Result Told Fault → TextFault D A
     → Type 0
-IsUnshownBy digest (Ok t) (errors.Change f) = IsChangeFault digest t f
-IsUnshownBy digest told e = is_refusal e ≡ false
+IsUnshownBy digest direction (Ok t) (errors.Change f) = IsChangeFault digest direction t f
+IsUnshownBy digest direction told e = is_refusal e ≡ false
 
-abbrev pub IsUnshown : {D A : Type 0} → (List ℕ → List ℕ) → List ℕ → TextFault D A → Type 0
-IsUnshown digest input e = IsUnshownBy digest (told_in (lines input)) e
+abbrev pub IsUnshown : {D A : Type 0} → (List ℕ → List ℕ) → Direction → List ℕ → TextFault D A → Type 0
+IsUnshown digest direction input e = IsUnshownBy digest direction (told_in (lines input)) e

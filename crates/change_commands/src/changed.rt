@@ -1,16 +1,13 @@
-//! What a batch changes in a repository, by key.
-ghost use Rattle.std.specs.Prelude.{◌≡◌, map, IfOk};
-ghost use Rattle.spec.specs.Blocks.{pairs, value_of as value_of_key};
-ghost use Rattle.spec.specs.States.{records};
+//! What the writes of a batch change, by key.
+ghost use Rattle.std.specs.Prelude.{◌≡◌, option_map, IfOk};
+ghost use Rattle.spec.specs.Cid.{cid as cid_of_bytes};
 ghost use Rattle.batches.specs.Values.{writes_of};
-ghost use Rattle.batch_laws.specs.Collecting.{collected};
-ghost use Rattle.repo.specs.Tested.{changes_of as records_of};
-ghost use Rattle.change_commands.specs.Texts.{change_before, changed_to};
+ghost use Rattle.batch_laws.specs.Collecting.{collected, with_cids};
+ghost use Rattle.repo.specs.Tested.{changes_of as records_of, lent};
 
 use batches::Write;
-use change_proofs::KeyChange;
 use cid::{Cid, Digest};
-use repo::Core;
+use edit::Change;
 use std::alloc::{AllocError, Global};
 use std::collections::BTreeMap;
 
@@ -31,53 +28,31 @@ fn named_by<'w>(alloc: Global, writes: &'w [Write]) -> Result<Named<'w>, AllocEr
     Ok(named)
 }
 
-/// Each key that these writes name with what it has in a repository, and with nothing after it.
-pub(crate) fn changes_before<'w, D: Digest>(
+/// The changes that these writes come to, with the CIDs of their records, in the order of the keys.
+pub(crate) fn changes_of<'w, D: Digest>(
     alloc: Global,
-    core: &Core<D, 2>,
     writes: &'w [Write],
-) -> Result<Vec<KeyChange<'w>>, AllocError>
-    ensures { IfOk result (λ changes. changes.items
-        ≡ map (change_before D.digest_of core.now) (collected (writes_of writes.now))) }
+) -> Result<Vec<Change<'w>>, AllocError>
+    ensures { IfOk result (λ changes.
+        changes.items ≡ with_cids D.digest_of (collected (writes_of writes.now))) }
 {
     let named = named_by(alloc, writes)?;
     let mut changes = Vec::new(alloc);
-    for (key, _) in &named {
-        changes.push(KeyChange {
+    for (key, record) in &named {
+        changes.push(Change {
             key: *key,
-            before: value_of(core, key),
-            after: None,
+            value: cid_of::<D>(*record),
         })?;
     }
     Ok(changes)
 }
 
-/// Each of these changes with what its key has in a repository after it.
-pub(crate) fn changes_after<'w, D: Digest>(
-    alloc: Global,
-    core: &Core<D, 2>,
-    changes: &[KeyChange<'w>],
-) -> Result<Vec<KeyChange<'w>>, AllocError>
-    ensures { IfOk result (λ after. after.items
-        ≡ map (changed_to D.digest_of core.now) changes.now) }
+/// The CID of the record with these bytes, where there is one.
+fn cid_of<D: Digest>(bytes: Option<&[u8]>) -> Option<Cid>
+    ensures { result ≡ option_map (cid_of_bytes D.digest_of) (lent bytes) }
 {
-    let mut after = Vec::new(alloc);
-    for change in changes {
-        after.push(KeyChange {
-            key: change.key,
-            before: change.before,
-            after: value_of(core, change.key),
-        })?;
-    }
-    Ok(after)
-}
-
-/// The CID of a key's record, or `None` where the repository doesn't have the key.
-fn value_of<D: Digest>(core: &Core<D, 2>, key: &[u8]) -> Option<Cid>
-    ensures { result ≡ value_of_key key.now (pairs D.digest_of (records core.now)) }
-{
-    match core.get(key) {
-        Some(record) => Some(record.cid()),
+    match bytes {
+        Some(bytes) => Some(Cid::of::<D>(bytes)),
         None => None,
     }
 }

@@ -6,18 +6,22 @@
 //! - `verify_change_text` reads such a text beside two roots that are known, and writes whether it shows that the one came of
 //!   the other.
 //!
+//! Both go forward, or by [`Direction::Inversion`] back: forward the changes are done in the tree before them, and for the
+//! inversion they are undone in the tree after them.
+//!
 //! A program has them by `with_words`, `command_of` and `run`: what help shows of them, which of them a command line asks
 //! for, and its run to the exit status. Their faults are those of `repository_commands`.
 //!
 //! ```text
 //! let mut lines: &[u8] = b"\nput a/b a0";
-//! prove_change_text::<Sha256, _, _>(Global, Form::Hex, &mut lines, &mut text)?;
-//! verify_change_text::<Sha256, _, _>(Global, before, after, &mut &text[..], &mut out)?;
+//! prove_change_text::<Sha256, _, _>(Global, Direction::Forward, Form::Hex, &mut lines, &mut text)?;
+//! verify_change_text::<Sha256, _, _>(Global, Direction::Forward, before, after, &mut &text[..], &mut out)?;
 //! ```
 #![tactic(auto)]
 
 mod change_words;
 mod changed;
+mod direction;
 mod proving;
 mod roots;
 mod running;
@@ -28,6 +32,7 @@ mod verifying;
 mod words;
 mod write_lines;
 
+pub use direction::Direction;
 pub use proving::prove_change_text;
 pub use running::run;
 pub use verifying::verify_change_text;

@@ -55,9 +55,20 @@ fn write_text<D: Digest, R: Read, W: Write>(
     ensures unread { HasFaultyWord command.entry → input.new ≡ input.old }
 {
     match command {
-        ChangeCommand::Prove(form) => prove_change_text(alloc, form, input, out),
-        ChangeCommand::Verify { before, after } => {
-            verify_change_text(alloc, before.as_bytes(), after.as_bytes(), input, out)
+        ChangeCommand::Prove { direction, form } => {
+            prove_change_text(alloc, direction, form, input, out)
         }
+        ChangeCommand::Verify {
+            direction,
+            before,
+            after,
+        } => verify_change_text(
+            alloc,
+            direction,
+            before.as_bytes(),
+            after.as_bytes(),
+            input,
+            out,
+        ),
     }
 }

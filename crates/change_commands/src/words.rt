@@ -5,6 +5,7 @@ ghost use Rattle.clap.specs.declared.builder.command.Command.TheViews.{out-Comma
 ghost use Rattle.console.specs.FileWords.{with_file as with_file_of};
 ghost use Rattle.change_commands.specs.Words.{prove_change_shape, verify_change_shape, with_commands, IsOfWords, IsOtherName};
 
+use crate::direction::{Direction, direction_of, inversion_option};
 use clap::{ArgMatches, Command};
 use console::with_file;
 use record_forms::{Form, form_of, json_option};
@@ -15,10 +16,16 @@ use std::alloc::{AllocError, Global};
 #[derive(Clone, Copy)]
 pub enum ChangeCommand<'a> {
     /// Write what the batch of the input changes in the repository of the input, and the nodes that show it.
-    /// The records of the input have this form.
-    Prove(Form),
+    Prove {
+        /// Which way they show it.
+        direction: Direction,
+        /// The form of the records of the input.
+        form: Form,
+    },
     /// Write whether the text of the input shows what it tells of a change between two roots.
     Verify {
+        /// Which way.
+        direction: Direction,
         /// The text of the CID of the tree's root before the change.
         before: &'a str,
         /// The text of that after it.
@@ -32,7 +39,8 @@ const LONG_PROVE_CHANGE: &str = "\
 Reads lines KEY HEX, the records of a repository, then an empty line, and then the writes of one
 batch, lines put KEY HEX, create KEY HEX, update KEY HEX and delete KEY. It writes the text of the CID of the tree's root
 before the batch and that after it, a line each, then a line 'change KEY BEFORE AFTER' for each key of the batch, with the
-CID of its record or '-', and then the nodes that show these changes, a line in hexadecimal each. Line numbers count empty
+CID of its record or '-', and then the nodes that show these changes, a line in hexadecimal each: those of the tree before
+that doing them reads. With --inversion they are those of the tree after that undoing them reads. Line numbers count empty
 lines. Without writes behind the empty line there is no batch. With --json a record is JSON, as of car --json.
 
 Exit status: 0 done, 1 a faulty line, 2 a wrong command line, 3 no memory, 4 reading or writing failed.";
@@ -48,6 +56,11 @@ const LONG_VERIFY_CHANGE: &str = "\
 Reads what prove-change writes: two roots, changes and nodes. Where the roots are BEFORE and AFTER, and
 the nodes show that by the changes the tree with the root BEFORE became the one with AFTER, it writes 'shown'. Nothing but
 BEFORE and AFTER is trusted: take them from elsewhere, as the prevData and the data of a commit.
+
+The changes are done on nodes of the tree before. Where BEFORE is the root of some records, AFTER is that of these with the
+changes done, and the next change can be verified from it. With --inversion they are undone on nodes of the tree after, as
+prove-change --inversion writes them: the operation inversion of the event stream, which says nothing of a root AFTER that no
+records have.
 
 Exit status: 0 done, 1 a faulty word or line, other roots, or nodes that don't show it, 2 a wrong command line, 3 no memory,
 4 reading or writing failed.";
@@ -89,10 +102,14 @@ pub fn command_of<'a>(name: &str, words: &ArgMatches<'a>) -> Option<ChangeComman
     ensures none { IfNone result (IsOtherName name.now) }
 {
     if name == "prove-change" {
-        return Some(ChangeCommand::Prove(form_of(words)));
+        return Some(ChangeCommand::Prove {
+            direction: direction_of(words),
+            form: form_of(words),
+        });
     }
     if name == "verify-change" {
         return Some(ChangeCommand::Verify {
+            direction: direction_of(words),
             before: word_or("", words, "before"),
             after: word_or("", words, "after"),
         });
@@ -109,6 +126,10 @@ fn prove_change_words<'a>(alloc: Global) -> Result<Command<'a>, AllocError>
         .about(PROVE_CHANGE)
         .long_about(LONG_PROVE_CHANGE)
         .after_help(PROVE_CHANGE_EXAMPLE)
+        .arg(inversion_option(
+            alloc,
+            "Write the nodes of the tree after, for verify-change --inversion",
+        ))?
         .arg(json_option(alloc))
 }
 
@@ -132,5 +153,6 @@ fn verify_change_words<'a>(alloc: Global) -> Result<Command<'a>, AllocError>
             "after",
             "AFTER",
             "The text of that after, a commit's data",
-        ))
+        ))?
+        .arg(inversion_option(alloc, "Undo the changes on nodes of the tree after"))
 }

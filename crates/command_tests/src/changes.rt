@@ -1,4 +1,4 @@
-//! `prove-change` and `verify-change`, by their values. Roots, nodes and CIDs come from a program in another language.
+//! `prove-change` and `verify-change`, by their values, forward. Roots, nodes and CIDs come from a program in another language.
 use crate::running::{EMPTY, ends};
 use std::alloc::Global;
 use std::random::RandomSource;
@@ -17,39 +17,39 @@ const EMPTY_STAYS: &[&str] = &["msthost", "verify-change", EMPTY, EMPTY];
 const KEY_STAYS: &[&str] = &["msthost", "verify-change", ROOT, ROOT];
 
 /// The text of the root's CID of the tree of the key `a/b` with the record `a0`, its one node, and the CID of the record.
-const ROOT: &str = "bafyreihkkefvij2yxd6vkifr7342uvsineepfcevg2pduv3e4idaxosycu";
+pub(crate) const ROOT: &str = "bafyreihkkefvij2yxd6vkifr7342uvsineepfcevg2pduv3e4idaxosycu";
 
-const NODE: &str =
+pub(crate) const NODE: &str =
     "a2616581a4616b43612f626170006174f66176d82a58250001711220c19a797fa1fd590cd2e5b42d1cf5f246e29b91684e2f87404b81dc345c7a56a0616cf6";
 
-const RECORD: &str = "bafyreigbtj4x7ip5legnfznufuopl4sg4knzc2cof6duas4b3q2fy6swua";
+pub(crate) const RECORD: &str = "bafyreigbtj4x7ip5legnfznufuopl4sg4knzc2cof6duas4b3q2fy6swua";
 
 /// The node of the empty tree.
-const EMPTY_NODE: &str = "a2616580616cf6";
+pub(crate) const EMPTY_NODE: &str = "a2616580616cf6";
 
-/// The text of the change from the empty tree, of that back to it, and of none.
+/// The text of the change from the empty tree, of that back to it, and of none: with the node before.
 const PUT: &str = "\
 bafyreie5737gdxlw5i64vzichcalba3z2v5n6icifvx5xytvske7mr3hpm
 bafyreihkkefvij2yxd6vkifr7342uvsineepfcevg2pduv3e4idaxosycu
 change a/b - bafyreigbtj4x7ip5legnfznufuopl4sg4knzc2cof6duas4b3q2fy6swua
-a2616581a4616b43612f626170006174f66176d82a58250001711220c19a797fa1fd590cd2e5b42d1cf5f246e29b91684e2f87404b81dc345c7a56a0616cf6
+a2616580616cf6
 ";
 
 const DELETE: &str = "\
 bafyreihkkefvij2yxd6vkifr7342uvsineepfcevg2pduv3e4idaxosycu
 bafyreie5737gdxlw5i64vzichcalba3z2v5n6icifvx5xytvske7mr3hpm
 change a/b bafyreigbtj4x7ip5legnfznufuopl4sg4knzc2cof6duas4b3q2fy6swua -
-a2616580616cf6
+a2616581a4616b43612f626170006174f66176d82a58250001711220c19a797fa1fd590cd2e5b42d1cf5f246e29b91684e2f87404b81dc345c7a56a0616cf6
 ";
 
-const NOTHING: &str = "\
+pub(crate) const NOTHING: &str = "\
 bafyreie5737gdxlw5i64vzichcalba3z2v5n6icifvx5xytvske7mr3hpm
 bafyreie5737gdxlw5i64vzichcalba3z2v5n6icifvx5xytvske7mr3hpm
 a2616580616cf6
 ";
 
 /// A key that is put again with the record that it has, and one that comes and goes.
-const SAME: &str = "\
+pub(crate) const SAME: &str = "\
 bafyreihkkefvij2yxd6vkifr7342uvsineepfcevg2pduv3e4idaxosycu
 bafyreihkkefvij2yxd6vkifr7342uvsineepfcevg2pduv3e4idaxosycu
 change a/b bafyreigbtj4x7ip5legnfznufuopl4sg4knzc2cof6duas4b3q2fy6swua bafyreigbtj4x7ip5legnfznufuopl4sg4knzc2cof6duas4b3q2fy6swua
@@ -120,7 +120,7 @@ static UNPROVED: [(&str, &str); 20] = [
 ];
 
 /// Command lines, inputs that `verify-change` refuses, and what is told of them.
-static UNSHOWN: [(&[&str], &[&str], &str); 19] = [
+static UNSHOWN: [(&[&str], &[&str], &str); 22] = [
     (EMPTY_STAYS, &[""], "msthost: line 1: BadLine\n"),
     (EMPTY_STAYS, &["E", "\n"], "msthost: line 2: BadLine\n"),
     (EMPTY_STAYS, &["E", "\nx\n"], "msthost: line 2: BadLine\n"),
@@ -162,17 +162,44 @@ static UNSHOWN: [(&[&str], &[&str], &str); 19] = [
     ),
     (
         PUTTING,
-        &["E", "\n", ROOT, "\n", NODE],
+        &["E", "\n", ROOT, "\n", EMPTY_NODE],
+        "msthost: OtherRoot\n",
+    ),
+    // The value after a change is in no tree that is read: done, another root comes out.
+    (
+        PUTTING,
+        &["E", "\n", ROOT, "\nchange a/b - ", "E", "\n", EMPTY_NODE],
         "msthost: OtherRoot\n",
     ),
     (
         PUTTING,
-        &["E", "\n", ROOT, "\nchange a/b - ", "E", "\n", NODE],
+        &[
+            "E",
+            "\n",
+            ROOT,
+            "\nchange a/b ",
+            "E",
+            " ",
+            RECORD,
+            "\n",
+            EMPTY_NODE,
+        ],
         "msthost: line 3: OtherValue\n",
     ),
+    // The nodes of the tree after are not those that are asked for.
     (
-        &["msthost", "verify-change", EMPTY, RECORD],
-        &["E", "\n", RECORD, "\na0"],
+        PUTTING,
+        &["E", "\n", ROOT, "\nchange a/b - ", RECORD, "\n", NODE],
+        "msthost: BlockMissing(bafyreie5737gdxlw5i64vzichcalba3z2v5n6icifvx5xytvske7mr3hpm)\n",
+    ),
+    (
+        DELETING,
+        &[ROOT, "\n", "E", "\nchange a/b ", RECORD, " -\n", EMPTY_NODE],
+        "msthost: BlockMissing(bafyreihkkefvij2yxd6vkifr7342uvsineepfcevg2pduv3e4idaxosycu)\n",
+    ),
+    (
+        &["msthost", "verify-change", RECORD, EMPTY],
+        &[RECORD, "\n", "E", "\na0"],
         "msthost: BadNode(bafyreigbtj4x7ip5legnfznufuopl4sg4knzc2cof6duas4b3q2fy6swua)\n",
     ),
     (
@@ -188,7 +215,7 @@ static UNSHOWN: [(&[&str], &[&str], &str); 19] = [
 ];
 
 /// Whether a command on these texts writes this.
-fn writes<T: Threads + Wait + RandomSource + Sync>(
+pub(crate) fn writes<T: Threads + Wait + RandomSource + Sync>(
     rt: &T,
     alloc: Global,
     words: &[&str],

@@ -17,6 +17,8 @@ mod files;
 #[cfg(test)]
 mod held_files;
 #[cfg(test)]
+mod inversions;
+#[cfg(test)]
 mod json;
 #[cfg(test)]
 mod large;

@@ -52,7 +52,7 @@ fn request_of<T: Threads + Wait + RandomSource + Sync>(
         Some(Request::OnRepository(RepositoryCommand::SignedCar { .. })) => Asked::SignedCar,
         Some(Request::OnRepository(RepositoryCommand::Prove { .. })) => Asked::Prove,
         Some(Request::OnRepository(RepositoryCommand::Verify { .. })) => Asked::Verify,
-        Some(Request::OnChange(ChangeCommand::Prove(_))) => Asked::ProveChange,
+        Some(Request::OnChange(ChangeCommand::Prove { .. })) => Asked::ProveChange,
         Some(Request::OnChange(ChangeCommand::Verify { .. })) => Asked::VerifyChange,
         Some(Request::OnExport(ExportCommand::Check)) => Asked::Check,
         Some(Request::OnExport(ExportCommand::Records(Values::Bytes))) => Asked::Records,

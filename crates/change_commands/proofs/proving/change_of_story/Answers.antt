@@ -12,10 +12,11 @@ use Rattle.change_commands.proofs.proving.change_of_story.Goals as goal
 pub returns-in_err-core-clause-text : goal.returns-in_err-core-clause-text
 returns-in_err-core-clause-text g c =
     let digest = g.D.Digest.digest_of in
+    let direction = c.args.direction in
     let story = story_of c.args.story in
     let f = c.in_err-core.field-0.0 in
-    fails-on (λ bytes. bytes.items) (text_of_story digest story) c.from_residual-in_err-core.result f c.from_residual-in_err-core.ensures.1
-    (story-fails digest story (stamp_of c.in_ok-stamp.stamp) c.in_ok-stamp.ensures (text_fault_of f) c.in_err-core.ensures.state)
+    fails-on (λ bytes. bytes.items) (text_of_story digest direction story) c.from_residual-in_err-core.result f c.from_residual-in_err-core.ensures.1
+    (story-fails digest direction story (stamp_of c.in_ok-stamp.stamp) c.in_ok-stamp.ensures (text_fault_of f) c.in_err-core.ensures.state)
 
 pub returns-in_err-core-clause-refused : goal.returns-in_err-core-clause-refused
 returns-in_err-core-clause-refused g c =
@@ -29,9 +30,10 @@ returns-in_err-core-clause-refused g c =
 pub returns-clause-text : goal.returns-clause-text
 returns-clause-text g c =
     let digest = g.D.Digest.digest_of in
+    let direction = c.args.direction in
     let story = story_of c.args.story in
     subst (Gives (λ bytes. bytes.items) text_fault_of c.change_of_batch-text.result)
-    (sym (story-text digest story (stamp_of c.in_ok-stamp.stamp) c.in_ok-stamp.ensures c.in_ok-core.core c.in_ok-core.ensures.state))
+    (sym (story-text digest direction story (stamp_of c.in_ok-stamp.stamp) c.in_ok-stamp.ensures c.in_ok-core.core c.in_ok-core.ensures.state))
     c.change_of_batch-text.ensures.text
 
 pub returns-clause-refused : goal.returns-clause-refused

@@ -5,7 +5,7 @@ use Rattle.change_commands.proofs.proving.prove_change_text.Goals as goal
 
 pub returns-clause-outcome : goal.returns-clause-outcome
 returns-clause-outcome g c =
-    outcome_of (λ bytes. bytes.items) (prove_change_text g.D.Digest.digest_of c.args.form) (g.R.Read.remaining c.args.input.now) _ _ c.change_made.result c.write_made.result
+    outcome_of (λ bytes. bytes.items) (prove_change_text g.D.Digest.digest_of c.args.direction c.args.form) (g.R.Read.remaining c.args.input.now) _ _ c.change_made.result c.write_made.result
     c.change_made.ensures.made c.write_made.ensures
 
 pub returns-clause-refused : goal.returns-clause-refused

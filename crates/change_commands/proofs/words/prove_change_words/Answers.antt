@@ -10,7 +10,8 @@ pub returns : goal.returns
 returns c =
     let app : App = record { top = prove_change_shape; subs = [] } in
     let none : ReadsAs c.after_help.result (new_app (codes "prove-change")) = (search rules, search rules) in
-    let one : IfOk c.arg.result (λ r. ReadsAs r app) = IfOk-weaker c.arg.result _ _
-    (λ r adds. with_arg _ r c.json_option.result _ _ adds none c.json_option.ensures.rule c.json_option.ensures.local)
-    c.arg.ensures in
-    record { shape = shaped c.arg.result app one; local = local c.arg.result app one }
+    let one = with_arg _ _ c.inversion_option.result _ _ c.in_ok-arg.ensures none c.inversion_option.ensures.rule c.inversion_option.ensures.local in
+    let two : IfOk c.arg-2.result (λ r. ReadsAs r app) = IfOk-weaker c.arg-2.result _ _
+    (λ r adds. with_arg _ r c.json_option.result _ _ adds one c.json_option.ensures.rule c.json_option.ensures.local)
+    c.arg-2.ensures in
+    record { shape = shaped c.arg-2.result app two; local = local c.arg-2.result app two }
