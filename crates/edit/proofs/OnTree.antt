@@ -9,9 +9,8 @@ use Rattle.std.proofs.lemmas.List.Elements.{Contains-append_left, Contains-appen
 use Rattle.spec.specs.Cid.{IsDigest}
 use Rattle.spec.specs.Layer.{layer}
 use Rattle.spec.specs.Tree.{Pair, top, top_layer}
-use Rattle.spec.specs.NodeFormat.{Shape, is_key, shape, shape_bytes}
+use Rattle.spec.specs.NodeFormat.{Shape, shape, shape_bytes}
 use Rattle.spec.specs.Blocks.{ArePairs, IsClashFree, nodes, root as root_of}
-use Rattle.spec.proofs.Bools.{both}
 use Rattle.spec.proofs.PathNodes.{top_layer-le}
 use Rattle.edit_laws.specs.Changes.{AreChanges, add_of, drop_of}
 use Rattle.edit_laws.specs.Laws.Edits.{bytes_of}
@@ -19,7 +18,7 @@ use Rattle.edit_laws.specs.Sources.{shown_by}
 use Rattle.edit_laws.proofs.OverSource.{holds-top, free-source}
 use Rattle.edit_laws.proofs.ShapeBridges.{layer-shape}
 use Rattle.lookups.specs.Trees.{HasTree}
-use Rattle.batch_laws.specs.Batch.{Change, puts, changed, AreAscending, AreKeyed}
+use Rattle.batch_laws.specs.Batch.{Change, puts, changed, AreAscending}
 use Rattle.batch_laws.specs.Links.{LinkTooDeep, Log, Top, batch_from, Step, NotShown, Stop, StopsAt, Stopped}
 use Rattle.batch_laws.specs.Previous.{previous_top, values}
 use Rattle.batch_laws.specs.Trace.{batch_made, batch_read}
@@ -41,7 +40,7 @@ use Rattle.batch_laws.proofs.OverSource.{batch-over_source}
 use Rattle.batch_laws.proofs.Previous.{previous-is_values}
 use Rattle.batch_laws.proofs.MakesFew.{batch-makes_few}
 use Rattle.edit.specs.Batches.{layers_of, nodes_read, IsBatchOf, IsAnswer, IsReason, of_walk}
-use Rattle.key_changes.specs.Keyed.{are_ascending, are_changes, have_keys}
+use Rattle.key_changes.specs.Keyed.{are_changes}
 use Rattle.edit.specs.Refusals.{IsRefusal}
 use Rattle.edit.specs.Tops.{IsEnded}
 use Rattle.edit.proofs.Among.{add-few}

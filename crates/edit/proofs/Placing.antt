@@ -1,5 +1,5 @@
 -- Where a key stands among changes.
-use Rattle.std.proofs.Common.{◌≡◌, ℕ, zero, suc, ◌<◌, ◌≤◌, Bool, true, false, ◌&&◌, get_or, List, [], ◌∷◌, ◌++◌, length, take, drop, refl, sym, ap, subst, ◌∙◌, arith}
+use Rattle.std.proofs.Common.{◌≡◌, ℕ, zero, suc, ◌<◌, ◌≤◌, Bool, true, false, get_or, List, [], ◌∷◌, ◌++◌, length, take, drop, refl, sym, ap, subst, ◌∙◌, arith}
 use Rattle.std.proofs.lemmas.List.{append_assoc, append-nil}
 use Rattle.std.specs.List.{AllByRecursion}
 use Rattle.std.specs.Ordering.{is_lt, is_eq, nat_cmp}
@@ -9,12 +9,11 @@ use Rattle.std.specs.declared.cmp.Ordering.TheVariants.{Less, Equal, Greater}
 use Rattle.edit_laws.specs.Order.{order}
 use Rattle.std.specs.Cmp.Lexicographic.{slice_cmp}
 use Rattle.std.proofs.Math.Seq.{drop-cons}
-use Rattle.spec.proofs.Bools.{both}
-use Rattle.edit_laws.proofs.Orders.{after-same, after-trans, order-is}
+use Rattle.edit_laws.proofs.Orders.{after-same, order-is}
 use Rattle.batch_laws.specs.Batch.{Change, before, at_key, after, if_less, if_greater, if_same, IsLater, AreAscending}
 use Rattle.edit.specs.Places.{is_first_before, IsPlace, IsAround}
 use Rattle.key_changes.specs.Keyed.{are_ascending}
-use Rattle.key_changes.proofs.Ascending.{later-all, later-than, ascends, ascends-back}
+use Rattle.key_changes.proofs.Ascending.{later-than, ascends, ascends-back}
 
 -- ---- lists
 

@@ -1,10 +1,10 @@
 -- What a batch answers, over the pairs of the tree and over any source.
-use Rattle.std.specs.Prelude.{◌≡◌, ◌≤◌, ◌+◌, ◌-◌, ◌*◌, ⊤, ℕ, suc, max, Bool, true, ◌&&◌, List, [], ◌∷◌, ◌++◌, map, length, Option, None, Ok, IsOk, Result, IfOk, IfErr, IsSome}
+use Rattle.std.specs.Prelude.{◌≡◌, ◌≤◌, ◌+◌, ◌-◌, ◌*◌, ⊤, ℕ, suc, max, List, ◌++◌, map, length, Option, None, Ok, IsOk, Result, IfOk, IfErr, IsSome}
 use Rattle.std.specs.Arc.{arc_value}
 use Rattle.std.specs.declared.sync.Arc.{Arc}
 use Rattle.spec.specs.Tree.{Pair, top, top_layer}
 use Rattle.spec.specs.Layer.{layer as layer_of_key}
-use Rattle.spec.specs.NodeFormat.{Shape, is_key, node_bytes}
+use Rattle.spec.specs.NodeFormat.{Shape, node_bytes}
 use Rattle.spec.specs.Blocks.{IsClashFree, nodes, root as root_of}
 use Rattle.edit_laws.specs.Changes.{AreChanges, add_of, drop_of}
 use Rattle.edit_laws.specs.Laws.Edits.{bytes_of}
@@ -16,7 +16,6 @@ use Rattle.batch_laws.specs.Previous.{values}
 use Rattle.batch_laws.specs.Trace.{batch_read}
 use Rattle.batch_laws.specs.Within.{IsWithin, at_top}
 use Rattle.batch_laws.specs.Counts.{most_from, put_layers, layers_needed}
-use Rattle.key_changes.specs.Keyed.{are_ascending}
 use Rattle.edit.specs.Refusals.{IsRefusal}
 use Rattle.edit.specs.declared.outcome.Fault.{Fault}
 use Rattle.edit.specs.declared.outcome.Fault.TheVariants as walks
