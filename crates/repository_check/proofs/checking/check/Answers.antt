@@ -51,6 +51,9 @@ returns-in_err-lent-clause-fault g c =
     (pairs_of c.in_ok-pairs.pairs.items) c.in_ok-pairs.ensures.tree (check_fault_of e)
     (Fails-same (check_fault_of e) _ _ (ap (λ ps. records_from c.in_ok-places.places 0 (pairs_of ps)) (sym c.deref-2.ensures.value)) c.in_err-lent.ensures))
 
+pub tree_in-requires-sections : goal.tree_in-requires-sections
+tree_in-requires-sections g c = ?
+
 pub with_records-requires : goal.with_records-requires
 with_records-requires g c =
     as-many c.in_ok-places.places c.in_ok-pairs.pairs.items c.in_ok-lent.lent.items
