@@ -144,14 +144,7 @@ pub fn walk<
 /// Where the source has the tree, and the walk takes no more reads, the answer is that of `walk`. Else it ends with the pairs
 /// so far, and so also where a node is missing or is none, or where keys don't ascend: then a node whose pairs were given is
 /// not gone through again. `AllocError` comes where memory was refused.
-pub fn walk_in_reads<
-    'a,
-    D: Digest,
-    const B: u8,
-    T: Shows<'a>,
-    A: Allocator + Clone + 'a,
-    S: Source<T>,
->(
+pub fn walk_in_reads<'a, D: Digest, const B: u8, T: Shows<'a>, A: Allocator + Clone, S: Source<T>>(
     alloc: A,
     src: &mut S,
     root: Cid,
@@ -181,7 +174,7 @@ fn most_reads(limit: usize, most: u16) -> u128
 }
 
 /// The walk, where each way down passes `most` nodes at most, in at most so many reads.
-fn walk_within<'a, T: Shows<'a>, A: Allocator + Clone + 'a, S: Source<T>>(
+fn walk_within<'a, T: Shows<'a>, A: Allocator + Clone, S: Source<T>>(
     alloc: A,
     src: &mut S,
     root: Cid,
@@ -232,7 +225,7 @@ fn is_next<A: Allocator>(pairs: &[(Vec<u8, A>, Cid)], key: &[u8]) -> bool
 
 /// Goes down to the first pair from a link on that isn't below a key, over `most` nodes at most. Where a block is missing,
 /// or is no node, or no read is left for it, nothing is to come any more.
-fn down<'a, T: Shows<'a>, A: Allocator + Clone + 'a, S: Source<T>>(
+fn down<'a, T: Shows<'a>, A: Allocator + Clone, S: Source<T>>(
     src: &mut S,
     stack: &mut Vec<Frame<'a, A>, A>,
     link: Option<Cid>,

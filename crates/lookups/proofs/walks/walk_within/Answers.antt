@@ -62,30 +62,30 @@ loop-remaining-preserved g c =
     record {
       same = c.down.ensures.same ∙ c.loop-remaining.invariant.same;
       pairs = λ h.
-    let fits = fits-same g.T.Shows.bytes (g.S.Source.gives c.args.src.now) (g.S.Source.gives c.loop-remaining.src)
-    c.loop-remaining.invariant.same c.args.most c.args.from.now c.loop-remaining.link c.loop-remaining.left
-    (asked-fits shows c.args.from.now c.loop-remaining.remaining c.args.most c.loop-remaining.link (stacked c.loop-remaining.stack.items)
-    (g.S.Source.reads c.args.src.now) (asked_walk shows c.args.limit c.args.most c.args.from.now (Some c.args.root) [])
-    (g.S.Source.reads c.loop-remaining.src) c.args.reads c.loop-remaining.left c.loop-remaining-test.true
-    (c.loop-remaining.invariant.reads h) c.loop-remaining.invariant.bounded h.enough) in
-    let begun = down-same g.T.Shows.bytes (g.S.Source.gives c.args.src.now) (g.S.Source.gives c.loop-remaining.src)
-    c.loop-remaining.invariant.same c.args.most c.args.from.now c.loop-remaining.link (stacked c.loop-remaining.stack.items)
-    (stacked c.down.new.stack.items) (c.in_ok-down.ensures.stack fits) in
+          let fits = fits-same g.T.Shows.bytes (g.S.Source.gives c.args.src.now) (g.S.Source.gives c.loop-remaining.src)
+          c.loop-remaining.invariant.same c.args.most c.args.from.now c.loop-remaining.link c.loop-remaining.left
+          (asked-fits shows c.args.from.now c.loop-remaining.remaining c.args.most c.loop-remaining.link (stacked c.loop-remaining.stack.items)
+          (g.S.Source.reads c.args.src.now) (asked_walk shows c.args.limit c.args.most c.args.from.now (Some c.args.root) [])
+          (g.S.Source.reads c.loop-remaining.src) c.args.reads c.loop-remaining.left c.loop-remaining-test.true
+          (c.loop-remaining.invariant.reads h) c.loop-remaining.invariant.bounded h.enough) in
+          let begun = down-same g.T.Shows.bytes (g.S.Source.gives c.args.src.now) (g.S.Source.gives c.loop-remaining.src)
+          c.loop-remaining.invariant.same c.args.most c.args.from.now c.loop-remaining.link (stacked c.loop-remaining.stack.items)
+          (stacked c.down.new.stack.items) (c.in_ok-down.ensures.stack fits) in
           let split = sym (stacked-push c.pop.new.self.items c.in-Some.next) ∙ sym (ap stacked c.in-Some.ensures.items) ∙ begun in
           walk-goes shows from remaining most link old x xs (pairs_given c.loop-remaining.pairs.items)
           (pairs_given c.push.new.self.items) (walk_from shows c.args.limit most from (Some c.args.root) []) c.in_ok-link.link
           (stacked c.go_on.new.stack.items) c.loop-remaining-test.true split one c.in_ok-link.ensures.link c.in_ok-link.ensures.stack
           (c.loop-remaining.invariant.pairs h);
       reads = λ h.
-    let fits = fits-same g.T.Shows.bytes (g.S.Source.gives c.args.src.now) (g.S.Source.gives c.loop-remaining.src)
-    c.loop-remaining.invariant.same c.args.most c.args.from.now c.loop-remaining.link c.loop-remaining.left
-    (asked-fits shows c.args.from.now c.loop-remaining.remaining c.args.most c.loop-remaining.link (stacked c.loop-remaining.stack.items)
-    (g.S.Source.reads c.args.src.now) (asked_walk shows c.args.limit c.args.most c.args.from.now (Some c.args.root) [])
-    (g.S.Source.reads c.loop-remaining.src) c.args.reads c.loop-remaining.left c.loop-remaining-test.true
-    (c.loop-remaining.invariant.reads h) c.loop-remaining.invariant.bounded h.enough) in
-    let begun = down-same g.T.Shows.bytes (g.S.Source.gives c.args.src.now) (g.S.Source.gives c.loop-remaining.src)
-    c.loop-remaining.invariant.same c.args.most c.args.from.now c.loop-remaining.link (stacked c.loop-remaining.stack.items)
-    (stacked c.down.new.stack.items) (c.in_ok-down.ensures.stack fits) in
+          let fits = fits-same g.T.Shows.bytes (g.S.Source.gives c.args.src.now) (g.S.Source.gives c.loop-remaining.src)
+          c.loop-remaining.invariant.same c.args.most c.args.from.now c.loop-remaining.link c.loop-remaining.left
+          (asked-fits shows c.args.from.now c.loop-remaining.remaining c.args.most c.loop-remaining.link (stacked c.loop-remaining.stack.items)
+          (g.S.Source.reads c.args.src.now) (asked_walk shows c.args.limit c.args.most c.args.from.now (Some c.args.root) [])
+          (g.S.Source.reads c.loop-remaining.src) c.args.reads c.loop-remaining.left c.loop-remaining-test.true
+          (c.loop-remaining.invariant.reads h) c.loop-remaining.invariant.bounded h.enough) in
+          let begun = down-same g.T.Shows.bytes (g.S.Source.gives c.args.src.now) (g.S.Source.gives c.loop-remaining.src)
+          c.loop-remaining.invariant.same c.args.most c.args.from.now c.loop-remaining.link (stacked c.loop-remaining.stack.items)
+          (stacked c.down.new.stack.items) (c.in_ok-down.ensures.stack fits) in
           let split = sym (stacked-push c.pop.new.self.items c.in-Some.next) ∙ sym (ap stacked c.in-Some.ensures.items) ∙ begun in
           let asked = asked-same g.T.Shows.bytes (g.S.Source.gives c.args.src.now) (g.S.Source.gives c.loop-remaining.src)
           c.loop-remaining.invariant.same most from link (g.S.Source.reads c.loop-remaining.src) (g.S.Source.reads c.down.new.src)
