@@ -1,6 +1,6 @@
 -- A file has a section for each node of its tree, so a walk over the tree reads no more nodes than the file has sections.
-use Rattle.std.proofs.Common.{◌≡◌, ℕ, zero, suc, ◌+◌, ◌-◌, ◌^◌, ◌<◌, ◌≤◌, Bool, true, false, not, cond, List, [], ◌∷◌, ◌++◌, length, map, Option, refl, sym, ap, ◌∙◌, arith}
-use Rattle.std.specs.Prelude.{Contains, filter, take, option_map}
+use Rattle.std.proofs.Common.{Vec, ◌≡◌, ℕ, zero, suc, ◌+◌, ◌-◌, ◌^◌, ◌<◌, ◌≤◌, Bool, true, false, not, cond, List, [], ◌∷◌, ◌++◌, length, map, Option, Result, Ok, Err, refl, sym, ap, ◌∙◌, arith}
+use Rattle.std.specs.Prelude.{Contains, IfOk, filter, take, option_map}
 use Rattle.std.specs.declared.option.Option.TheVariants.{Some, None}
 use Rattle.std.specs.declared.cmp.Ordering.{Ordering}
 use Rattle.std.specs.declared.cmp.Ordering.TheVariants.{Equal}
@@ -30,7 +30,9 @@ use Rattle.edit_laws.proofs.OverSource.{free-source}
 use Rattle.edit_laws.proofs.RecordMaps.{ascending-sorted}
 use Rattle.edit_laws.proofs.WalkPairs.{IsFrom, all-from}
 use Rattle.lookups.specs.Trees.{HasTree}
-use Rattle.lookups.specs.Walks.{nodes_walked}
+use Rattle.lookups.specs.Walks.{nodes_walked, pairs_given}
+use Rattle.repository_check.specs.Parts.{AreListed}
+use Rattle.repository_check.specs.Views.{pairs_of}
 
 -- ---- how often the sections name a node
 
@@ -147,8 +149,9 @@ module _ (digest : List ℕ → List ℕ) (bits : ℕ) (fits : IsDigest digest) 
       nodes-once digest (Stands (Contains bs)) (free_shapes digest (Contains bs) (free-source digest bits (given_by ss) es is.nodes))
       (layer digest bits) es (ascending-sorted es is.pairs.sorted) (stands-top digest bits fits es is.pairs bs (λ b h. h)) c
 
-  pub few-walked : (from : List ℕ) (limit : ℕ) → length (nodes_walked digest bits from limit es) ≤ length ss
-  few-walked from limit =
+  pub few-walked : (from : List ℕ) (limit sections : ℕ) → length ss ≤ sections
+      → length (nodes_walked digest bits from limit es) ≤ sections
+  few-walked from limit sections h =
       let p = Sub (top (layer digest bits) es) in
       let i = walked-most digest bits limit from es in
       let j = size-in digest ss p found in
@@ -180,3 +183,11 @@ take-all (suc n) (e ∷ es) h = ap (λ t. e ∷ t) (take-all n es (omega arith))
 
 pub all-listed : (limit : ℕ) (es : List Pair) → length es ≤ limit → listed [] limit es ≡ es
 all-listed limit es h = ap (take limit) (all-from [] es (each-from es)) ∙ take-all limit es h
+
+pub listed-are : {A E : Type 0} (digest : List ℕ → List ℕ) (bits limit : ℕ) (ss : List Section) (root : List ℕ)
+    (r : Result (Vec (Vec ℕ A × List ℕ) A) E) → 2 ^ 64 - 1 ≤ limit
+    → ((es : List Pair) → IsTree digest bits ss root es → IfOk r (λ pairs. pairs_given pairs.items ≡ listed [] limit es))
+    → IfOk r (λ pairs. AreListed digest bits ss root (pairs_of pairs.items))
+listed-are digest bits limit ss root (Ok pairs) much h =
+    λ es is. let few = is.pairs.count in h es is ∙ all-listed limit es (omega arith)
+listed-are digest bits limit ss root (Err e) much h = tt
