@@ -14,3 +14,6 @@ returns-clause-reads g c es h few =
     let e = tree-asked _ _ g.met.D.Digest.digest_len _ _ c.args.from.now es h c.layers.result c.layers.ensures c.args.limit in
     let p = plain-enough _ _ g.met.D.Digest.digest_len _ _ c.args.from.now es h c.layers.result c.layers.ensures c.args.limit c.args.reads few in
     IfOk-weaker c.walk_within.result _ _ (λ pairs k. k ∙ ap (λ n. g.S.Source.reads c.args.src.now + n) e) (c.walk_within.ensures.reads p)
+
+pub returns-clause-most : goal.returns-clause-most
+returns-clause-most g c = c.walk_within.ensures.most
