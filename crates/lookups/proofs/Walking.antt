@@ -1,38 +1,42 @@
 -- One step of a walk, and a walk over a whole tree.
-use Rattle.std.proofs.Common.{Vec, ◌≡◌, ℕ, zero, suc, ◌+◌, ◌*◌, ◌-◌, ◌<◌, ◌≤◌, List, [], ◌∷◌, ◌++◌, length, Option, option_map, refl, sym, ap, ◌∙◌, append-nil, append_assoc, arith}
-use Rattle.std.specs.Prelude.{IfSome, IfNone}
+use Rattle.std.proofs.Common.{Vec, ◌≡◌, ℕ, zero, suc, ◌+◌, ◌*◌, ◌-◌, ◌<◌, ◌≤◌, Bool, true, List, [], ◌∷◌, ◌++◌, length, Option, option_map, refl, sym, ap, subst, ◌∙◌, append-nil, append_assoc, arith}
+use Rattle.std.specs.Prelude.{IfSome, IfNone, slice_get, take}
 use Rattle.std.specs.declared.option.Option.TheVariants.{Some, None}
 use Rattle.std.specs.declared.cmp.Ordering.{Ordering}
 use Rattle.std.specs.declared.cmp.Ordering.TheVariants.{Less, Equal, Greater}
 use Rattle.std.specs.Cmp.Lexicographic.{slice_cmp}
-use Rattle.std.specs.Ordering.{nat_cmp}
+use Rattle.std.specs.Ordering.{nat_cmp, is_lt}
 use Rattle.std.proofs.lemmas.List.{length-append, length-map, map-append}
 use Rattle.std.proofs.Math.Nat.{suc-mul}
 use Rattle.cid.specs.CidRef.{bytes_of}
 use Rattle.cid.specs.declared.cid_ref.CidRef.{CidRef}
 use Rattle.spec.specs.Cid.{IsDigest}
 use Rattle.spec.specs.Layer.{layer}
+use Rattle.spec.specs.Blocks.{listed}
 use Rattle.spec.specs.Tree.{Pair, Node, Part, Last, More, Sub, EachNode, EachUnder, top}
 use Rattle.spec.specs.NodeFormat.{Shape, LastLink, MoreLinks, first_link, part_link, shape}
 use Rattle.spec.specs.Blocks.{listed}
 use Rattle.edit_laws.specs.Order.{order}
+use Rattle.edit_laws.specs.Pairs.{Each, IsAfter, IsBefore, Ascending}
 use Rattle.edit_laws.specs.TreeEdit.{first}
-use Rattle.edit_laws.specs.Walk.{Frame, later, go_down}
+use Rattle.edit_laws.specs.Walk.{Frame, later, go_down, last_key}
 use Rattle.edit_laws.specs.Sources.{shown_by, gap, gap_at, path_from, start_shape, start_at, later_shape, down_from, next_from, walk_from, next_path, walk_path}
 use Rattle.edit_laws.specs.Laws.Walks.{IsWalk}
+use Rattle.edit_laws.proofs.EachPair.{halves}
 use Rattle.edit_laws.proofs.Orders.{order-is}
 use Rattle.edit_laws.proofs.OverSource.{holds-top}
 use Rattle.edit_laws.proofs.ShapeBridges as bridge
 use Rattle.edit_laws.proofs.SourceLaws.{IsShown, AreShown, frames, down-holds, down-shown}
-use Rattle.edit_laws.proofs.WalkPairs.{each-first_part}
+use Rattle.edit_laws.proofs.WalkPairs.{each-first_part, ascending-filter}
+use Rattle.edit_laws.proofs.RecordMaps.{ascending-sorted}
 use Rattle.edit_laws.proofs.WalkTheorems.{walk-over_source}
 use Rattle.edit_laws.proofs.LookupTheorems.{top-has_layer}
 use Rattle.rows.specs.Entries.{Reading, shape_at}
-use Rattle.lookups.specs.Steps.{layers, asked_from}
+use Rattle.lookups.specs.Steps.{layers, asked_at, asked_from}
 use Rattle.lookups.specs.Trees.{HasTree}
-use Rattle.lookups.specs.Walks.{nodes_walked, pairs_given, frame_of, stacked, asked_after, asked_walk}
+use Rattle.lookups.specs.Walks.{nodes_walked, pairs_given, frame_of, stacked, asked_after, asked_walk, is_next, IsPlain}
 use Rattle.lookups.specs.declared.walks.Frame as frame
-use Rattle.lookups.proofs.Stepping.{asked-holds}
+use Rattle.lookups.proofs.Stepping.{asked-holds, asked-most}
 
 -- ---- the stack
 
@@ -96,24 +100,35 @@ sums-end r0 a0 r a h i = omega arith
 pub sums-last : (r0 a0 r a n : ℕ) → r0 + a0 ≡ r + a → a ≡ 1 → n ≡ suc r → n ≡ r0 + a0
 sums-last r0 a0 r a n h i j = omega arith
 
-pub room-step : (r0 n0 r left n : ℕ) → r + left ≤ r0 + n0 → 0 < left → n ≡ suc r → n + (left - 1) ≤ r0 + n0
-room-step r0 n0 r left n h i j = omega arith
+pub within : (r0 a0 r a b c n0 n : ℕ) → r0 + a0 ≡ r + a → a ≡ b + c → r + n ≡ r0 + n0 → a0 ≤ n0 → b ≤ n
+within r0 a0 r a b c n0 n h e k w = omega arith
 
-pub room-end : (r0 b r a : ℕ) → r + a ≤ r0 + b → r ≤ r0 + b
-room-end r0 b r a h = omega arith
+pub one-left : (r0 a0 r a n0 n : ℕ) → r0 + a0 ≡ r + a → r + n ≡ r0 + n0 → a0 ≤ n0 → 1 ≤ a → 1 ≤ n
+one-left r0 a0 r a n0 n h k w more = omega arith
 
-products : (left most : ℕ) → 0 < left → left * most ≡ (left - 1) * most + most
-products left most h =
-    let e : suc (left - 1) ≡ left = omega arith in
-    sym (ap (λ k. k * most) e) ∙ suc-mul (left - 1) most
+-- ---- the last key, and one after it
 
-pub within-room : (n r r0 left limit most : ℕ) → n ≤ r + most → r + left * most ≤ r0 + limit * most → 0 < left
-    → n ≤ r0 + limit * most
-within-room n r r0 left limit most h k more = let e = products left most more in omega arith
+last-before : (k key : List ℕ) (es : List Pair) → order k key ≡ Less → Each (IsBefore key) es
+    → order (last_key k es) key ≡ Less
+last-before k key [] h a = h
+last-before k key (e ∷ es) h a = last-before e.0 key es a.0 a.1
 
-pub room-left : (n r r0 left limit most : ℕ) → n ≤ r + most → r + left * most ≤ r0 + limit * most → 0 < left
-    → n + (left - 1) * most ≤ r0 + limit * most
-room-left n r r0 left limit most h k more = let e = products left most more in omega arith
+next-before : (key : List ℕ) (es : List Pair) → Each (IsBefore key) es → is_next es key ≡ true
+next-before key [] h = refl
+next-before key (e ∷ es) h = ap is_lt (order-is (last_key e.0 es) key ∙ last-before e.0 key es h.0 h.1)
+
+last-got : {A : Type 0} (before : List ℕ) (p : Vec ℕ A × List ℕ) (ps : List (Vec ℕ A × List ℕ)) (x : Vec ℕ A × List ℕ)
+    → Some x ≡ slice_get (p ∷ ps) (length ps) → x.0.items ≡ last_key before (pairs_given (p ∷ ps))
+last-got before p [] x e = let same : x ≡ p = cc in ap (λ (y : Vec ℕ _ × List ℕ). y.0.items) same
+last-got before p (q ∷ qs) x e = last-got p.0.items q qs x e
+
+pub next-at : {A : Type 0} (key : List ℕ) (ps : List (Vec ℕ A × List ℕ)) (x : Vec ℕ A × List ℕ) (b : Bool)
+    → Some x ≡ slice_get ps (length ps - 1) → b ≡ is_lt (slice_cmp nat_cmp x.0.items key)
+    → b ≡ is_next (pairs_given ps) key
+next-at key [] x b e h = absurd cc
+next-at key (p ∷ ps) x b e h =
+    let n : suc (length ps) - 1 ≡ length ps = omega arith in
+    h ∙ ap (λ k. is_lt (slice_cmp nat_cmp k key)) (last-got [] p ps x (e ∙ ap (slice_get (p ∷ ps)) n))
 
 -- ---- one step down
 
@@ -139,6 +154,14 @@ module _ (shows : List ℕ → Option Shape) (from : List ℕ) where
 
   down-stops : (n : ℕ) (c : List ℕ) (stack : List (Pair × Shape)) → shows c ≡ None → DownStops n c stack
   down-stops n c stack e = rw e (refl, refl)
+
+  some-asked : (further : Option (List ℕ) → ℕ) (o : Option Shape) → 1 ≤ asked_at further from o
+  some-asked further None = omega arith
+  some-asked further (Some s) = omega arith
+
+  pub asked-some : (left : ℕ) (c : List ℕ) → 0 < left → 1 ≤ asked_from shows left from (Some c)
+  asked-some zero c h = absurd (omega arith)
+  asked-some (suc n) c h = some-asked (asked_from shows n from) (shows c)
 
   pub down-none : (n : ℕ) (stack : List (Pair × Shape)) → down_from shows n from None stack ≡ stack
   down-none zero stack = refl
@@ -242,6 +265,41 @@ module _ (shows : List ℕ → Option Shape) (from : List ℕ) where
       (asked_walk shows (left - 1) n from next rest) m k
       (e ∙ ap (λ t. asked_from shows n from l + t) (sym f)) q
 
+  -- ---- the reads suffice for the next pair, and its key is the next
+
+  pub asked-fits : (left n : ℕ) (l : Option (List ℕ)) (stack : List (Pair × Shape)) (r0 a0 r n0 m : ℕ) → 0 < left
+      → r0 + a0 ≡ r + asked_walk shows left n from l stack → r + m ≡ r0 + n0 → a0 ≤ n0 → asked_from shows n from l ≤ m
+  asked-fits left n l stack r0 a0 r n0 m more h k w =
+      let d = down_from shows n from l stack in
+      let e = (walk-left left n l stack d more refl).1 in
+      within r0 a0 r (asked_walk shows left n from l stack) (asked_from shows n from l)
+      (asked_after (asked_walk shows (left - 1) n from) d) n0 m h e k w
+
+  pub next-is : (left n : ℕ) (l : Option (List ℕ)) (stack : List (Pair × Shape)) (x : Pair × Shape)
+      (xs : List (Pair × Shape)) (ps whole : List Pair) → 0 < left → x ∷ xs ≡ down_from shows n from l stack
+      → ps ++ walk_from shows left n from l stack ≡ whole → Ascending whole → is_next ps x.0.0 ≡ true
+  next-is left n l stack x xs ps whole more h k up =
+      let rest : List Pair = walk_from shows (left - 1) n from (first_link x.1) (later_shape x.1 xs) in
+      let e : ps ++ x.0 ∷ rest ≡ whole =
+      ap (λ t. ps ++ t) (sym (walk-left left n l stack (x ∷ xs) more h).0) ∙ k in
+      next-before x.0.0 ps (halves ps x.0 rest (subst Ascending (sym e) up)).before
+
+  after-most : (b : ℕ) (further : Option (List ℕ) → List (Pair × Shape) → ℕ)
+      → ((l : Option (List ℕ)) (s : List (Pair × Shape)) → further l s ≤ b) → (d : List (Pair × Shape))
+      → asked_after further d ≤ b
+  after-most b further h [] = omega arith
+  after-most b further h (x ∷ xs) = h (first_link x.1) (later_shape x.1 xs)
+
+  pub asked-walk_most : (limit n : ℕ) (l : Option (List ℕ)) (stack : List (Pair × Shape))
+      → asked_walk shows limit n from l stack ≤ limit * n
+  asked-walk_most zero n l stack = omega arith
+  asked-walk_most (suc limit) n l stack =
+      let a = asked-most shows from n l in
+      let b = after-most (limit * n) (asked_walk shows limit n from) (asked-walk_most limit n)
+      (down_from shows n from l stack) in
+      let e = suc-mul limit n in
+      omega arith
+
 -- ---- the same source
 
 module _ {X : Type 0} (view : X → List ℕ) (was is : List ℕ → Option X) (same : is ≡ was) where
@@ -260,6 +318,13 @@ module _ {X : Type 0} (view : X → List ℕ) (was is : List ℕ → Option X) (
       → m ≡ r + asked_from (shown_by (λ c. option_map view (was c))) n from l
   asked-same n from l r m h =
       h ∙ ap (λ (f : List ℕ → Option X). r + asked_from (shown_by (λ c. option_map view (f c))) n from l) same
+
+  -- what suffices, suffices at the source as it is
+  pub fits-same : (n : ℕ) (from : List ℕ) (l : Option (List ℕ)) (m : ℕ)
+      → asked_from (shown_by (λ c. option_map view (was c))) n from l ≤ m
+      → asked_from (shown_by (λ c. option_map view (is c))) n from l ≤ m
+  fits-same n from l m h =
+      subst (λ (f : List ℕ → Option X). asked_from (shown_by (λ c. option_map view (f c))) n from l ≤ m) (sym same) h
 
 -- ---- a list without an element
 
@@ -310,6 +375,16 @@ module _ (digest : List ℕ → List ℕ) (shows : List ℕ → Option Shape) wh
       (down_from shows n from (part_link digest p) (frames digest shows stack))) (asked-holds digest shows n from p h)
       ∙ ap (λ k. length xs + k) after ∙ sym (length-append xs ys)
 
+each-take : (P : Pair → Type 0) (n : ℕ) (es : List Pair) → Each P es → Each P (take n es)
+each-take P zero es h = tt
+each-take P (suc n) [] h = tt
+each-take P (suc n) (e ∷ es) h = (h.0, each-take P n es h.1)
+
+ascending-take : (n : ℕ) (es : List Pair) → Ascending es → Ascending (take n es)
+ascending-take zero es h = tt
+ascending-take (suc n) [] h = tt
+ascending-take (suc n) (e ∷ es) h = (each-take (IsAfter e.0) n es h.0, ascending-take n es h.1)
+
 module _ (digest : List ℕ → List ℕ) (bits : ℕ) (fits : IsDigest digest) (gives : List ℕ → Option (List ℕ))
     (root from : List ℕ) (es : List Pair) (has : HasTree digest bits gives root es) (n : ℕ) (enough : n ≡ layers bits) where
   is-walk : (limit : ℕ) → IsWalk digest bits gives n limit from es
@@ -329,3 +404,27 @@ module _ (digest : List ℕ → List ℕ) (bits : ℕ) (fits : IsDigest digest) 
       (holds-top digest bits fits gives es has.pairs has.nodes) tt
       ∙ ap length ((is-walk (suc limit)).reads (omega arith))
       ∙ length-map (nodes_walked digest bits from (suc limit) es) (shape digest)
+
+  -- a walk over it in enough reads goes by its pairs
+  plain : (limit reads : ℕ) → asked_walk (shown_by gives) limit n from (Some root) [] ≤ reads
+      → IsPlain (shown_by gives) limit n from (Some root) reads
+  plain limit reads h = record {
+    ascends = subst Ascending (sym (tree-pairs limit))
+        (ascending-take limit _ (ascending-filter from es (ascending-sorted es has.pairs.sorted)));
+    enough = h;
+  }
+
+  pub plain-product : (limit reads : ℕ) → reads ≡ limit * n → IsPlain (shown_by gives) limit n from (Some root) reads
+  plain-product limit reads e =
+      let a = asked-walk_most (shown_by gives) from limit n (Some root) [] in plain limit reads (omega arith)
+
+  pub plain-enough : (limit reads : ℕ) → length (nodes_walked digest bits from limit es) ≤ reads
+      → IsPlain (shown_by gives) limit n from (Some root) reads
+  plain-enough limit reads h = let e = tree-asked limit in plain limit reads (omega arith)
+
+-- at most as many reads as were allowed
+pub most-product : (r r0 reads limit n b : ℕ) → r ≤ r0 + reads → reads ≡ limit * n → n ≡ b → r ≤ r0 + limit * b
+most-product r r0 reads limit n b h e k = let p = ap (λ m. limit * m) k in omega arith
+
+pub most-bounded : (r r0 n n0 : ℕ) → r + n ≡ r0 + n0 → r ≤ r0 + n0
+most-bounded r r0 n n0 h = omega arith

@@ -19,10 +19,16 @@ pub record HasTree (digest : List ℕ → List ℕ) (bits : ℕ) (gives : List �
 abbrev pub bytes_given : {A : Type 0} → (List ℕ → Option (Arc (List ℕ) A)) → List ℕ → Option (List ℕ)
 bytes_given gives = λ c. option_map arc_value (gives c)
 
--- P holds of whatever pairs the tree with this root has in a source
+-- P holds of whatever pairs the tree with this root has in a source of blocks
 abbrev pub OfTree : {A : Type 0} → (List ℕ → List ℕ) → ℕ → (List ℕ → Option (Arc (List ℕ) A)) → List ℕ
     → (List Pair → Type 0) → Type 0
 OfTree digest bits gives root P = (es : List Pair) → HasTree digest bits (bytes_given gives) root es → P es
+
+-- and in a source of anything, where view is the bytes of what is given
+abbrev pub OfTreeIn : {X : Type 0} → (X → List ℕ) → (List ℕ → List ℕ) → ℕ → (List ℕ → Option X) → List ℕ
+    → (List Pair → Type 0) → Type 0
+OfTreeIn view digest bits gives root P =
+    (es : List Pair) → HasTree digest bits (λ c. option_map view (gives c)) root es → P es
 
 -- the layer of the top
 abbrev pub top_layer : (List ℕ → List ℕ) → ℕ → List Pair → ℕ

@@ -1,5 +1,7 @@
 -- What a walk gives and reads, and its stack.
-use Rattle.std.specs.Prelude.{ℕ, zero, suc, ◌+◌, List, [], ◌∷◌, ◌++◌, map, Option}
+use Rattle.std.specs.Prelude.{◌≤◌, ℕ, zero, suc, ◌+◌, Bool, true, List, [], ◌∷◌, ◌++◌, map, Option}
+use Rattle.std.specs.Cmp.Lexicographic.{slice_cmp}
+use Rattle.std.specs.Ordering.{nat_cmp, is_lt}
 use Rattle.std.specs.declared.vec.Vec.{Vec}
 use Rattle.cid.specs.CidRef.{bytes_of}
 use Rattle.spec.specs.Layer.{layer}
@@ -7,7 +9,8 @@ use Rattle.spec.specs.Tree.{Pair, Node, Sub, top}
 use Rattle.spec.specs.NodeFormat.{Shape, first_link}
 use Rattle.spec.specs.Blocks.{listed}
 use Rattle.edit_laws.specs.Walk.{nodes_meeting, last_key}
-use Rattle.edit_laws.specs.Sources.{later_shape, down_from}
+use Rattle.edit_laws.specs.Pairs.{Ascending}
+use Rattle.edit_laws.specs.Sources.{later_shape, down_from, walk_from}
 use Rattle.lookups.specs.Steps.{asked_from}
 use Rattle.lookups.specs.declared.walks.Frame.{Frame}
 
@@ -43,3 +46,16 @@ abbrev pub asked_walk : (List ℕ → Option Shape) → ℕ → ℕ → List ℕ
 asked_walk shows zero n from l stack = 0
 asked_walk shows (suc limit) n from l stack =
     asked_from shows n from l + asked_after (asked_walk shows limit n from) (down_from shows n from l stack)
+
+-- ---- a walk over what may be no tree
+
+-- the key is greater than that of the last pair
+abbrev pub is_next : List Pair → List ℕ → Bool
+is_next [] key = true
+is_next (e ∷ es) key = is_lt (slice_cmp nat_cmp (last_key e.0 es) key)
+
+-- the keys ascend, and the reads suffice: a walk over a tree in enough reads is such
+pub record IsPlain (shows : List ℕ → Option Shape) (limit n : ℕ) (from : List ℕ) (l : Option (List ℕ)) (reads : ℕ)
+    : Type 0 where
+  pub ascends : Ascending (walk_from shows limit n from l [])
+  pub enough : asked_walk shows limit n from l [] ≤ reads

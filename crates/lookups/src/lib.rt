@@ -38,6 +38,6 @@ mod walks;
 
 pub use block_map::BlockMap;
 pub use lookups::{get, layers};
-pub use nodes::view_of;
+pub use nodes::{Shows, view_of};
 pub use source::{Given, Source};
-pub use walks::walk;
+pub use walks::{walk, walk_in_reads};

@@ -20,6 +20,13 @@ impl<'a, T> Given for &'a T {
     ghost seen = { λ lent. lent.now };
 }
 
+/// And so is a slice.
+impl<'a, T> Given for &'a [T] {
+    type Seen = [T; 0];
+
+    ghost seen = { λ lent. lent.now };
+}
+
 /// Blocks by CID, with a count of the reads.
 ///
 /// `T` is how a block is given: `&'a Arc<Block<D, A>, A>`, for longer than the source itself is borrowed. A contract sees the

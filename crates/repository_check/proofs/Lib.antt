@@ -1,5 +1,5 @@
 pub mod Spelled
-pub mod Listing
+pub mod FewNodes
 pub mod Trees
 pub mod Refusals
 pub mod Steps

@@ -25,7 +25,7 @@ use Rattle.scratch.specs.declared.fault.ScratchFault.{ScratchFault}
 use Rattle.scratch.specs.declared.fault.ScratchFault.TheVariants.{Clash}
 use Rattle.repository_check.specs.Parts.{IsRebuilt}
 use Rattle.repository_check.specs.Views.{pairs_of}
-use Rattle.repository_check.specs.Walk.{is_block, is_given}
+use Rattle.repository_check.specs.Given.{is_block, is_given}
 
 -- ---- blocks that a file has
 

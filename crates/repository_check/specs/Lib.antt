@@ -1,4 +1,4 @@
 -- In the order in which a newcomer reads them.
 pub mod Views
 pub mod Parts
-pub mod Walk
+pub mod Given

@@ -28,6 +28,10 @@ pub record IsRebuilt (digest : List ℕ → List ℕ) (bits : ℕ) (ss : List Se
   pub root_is : root ≡ root_of digest bits es
   pub nodes : HasNodes digest bits (given_by ss) es
 
+-- where there is a tree with this root, these are its pairs
+abbrev pub AreListed : (List ℕ → List ℕ) → ℕ → List Section → List ℕ → List Pair → Type 0
+AreListed digest bits ss root listed = (es : List Pair) → IsTree digest bits ss root es → listed ≡ es
+
 -- there is no tree with this root, and this fault says so
 pub record NoTree (digest : List ℕ → List ℕ) (bits : ℕ) (ss : List Section) (root : List ℕ)
     (f : ExportFault) : Type 0 where

@@ -45,7 +45,8 @@ pub fn check<'f, D: Digest, const B: u8, A: Allocator + Copy>(
     let car = named_car::<D, A>(alloc, file)?;
     let places = Places::new(alloc, &car.sections)?;
     let commit = commit_with(&places, &car.root.to_cid())?;
-    let pairs = tree_in::<D, B, A>(alloc, &places, &commit.root.to_cid())?;
+    let sections = car.sections.len();
+    let pairs = tree_in::<D, B, A>(alloc, &places, &commit.root.to_cid(), sections)?;
     let lent = records_in(alloc, &places, &pairs)?;
     let records = with_records(alloc, pairs, lent)?;
     Ok(Repository { commit, records })

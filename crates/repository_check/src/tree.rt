@@ -12,7 +12,7 @@ ghost use Rattle.spec.specs.Exports.{IsTree, given_by};
 ghost use Rattle.repository_check.specs.declared.fault.CheckFault.TheVariants.{NoMemory};
 ghost use Rattle.repository_check.specs.Parts.{IsTreeFault, IsRebuilt};
 ghost use Rattle.repository_check.specs.Views.{pairs_of};
-ghost use Rattle.repository_check.specs.Walk.{is_given};
+ghost use Rattle.repository_check.specs.Given.{is_given};
 
 use crate::fault::CheckFault;
 use crate::walking::{Pairs, pairs_listed};
@@ -23,19 +23,21 @@ use scratch::{Built, ScratchFault, build, is_ascending};
 use std::alloc::Allocator;
 use std::sync::Arc;
 
-/// The pairs of the tree with this root, of which the file has all nodes.
+/// The pairs of the tree with this root, of which the file has all nodes. The file has at most so many sections.
 pub(crate) fn tree_in<D: Digest, const B: u8, A: Allocator + Copy>(
     alloc: A,
     places: &Places<'_, '_, A>,
     root: &Cid,
+    sections: usize,
 ) -> Result<Pairs<A>, CheckFault>
     requires least { 1 ≤ B }
     requires most { B ≤ 8 }
+    requires sections { length places.now ≤ sections }
     ensures tree { IfOk result (λ pairs.
         IsTree D.digest_of B places.now root.now (pairs_of pairs.items)) }
     ensures fault { IfErr result (IsTreeFault D.digest_of B places.now root.now) }
 {
-    let pairs = pairs_listed(alloc, places, root, 256 / u16::from(B))?;
+    let pairs = pairs_listed::<D, B, A>(alloc, places, root, sections)?;
     if !is_ascending(&pairs) {
         return Err(CheckFault::NotTheTree);
     }

@@ -3,6 +3,8 @@
 #![tactic(auto)]
 
 #[cfg(test)]
+mod any_source;
+#[cfg(test)]
 mod edits;
 #[cfg(test)]
 mod fixtures;

@@ -1,8 +1,9 @@
-use Rattle.std.proofs.Common.{Err, sym, ap, ◌∙◌}
+use Rattle.std.proofs.Common.{Err, length, sym, ap, ◌∙◌, arith}
+use Rattle.std.proofs.lemmas.List.{length-map}
 use Rattle.std.specs.Prelude.{IfSome}
 use Rattle.std.proofs.lemmas.Result.{err_from_is_err_and}
 use Rattle.spec.specs.Exports.{IsFirstFault, records_from}
-use Rattle.car_reader.specs.Views.{car_of, sections_of}
+use Rattle.car_reader.specs.Views.{car_of, section_of, sections_of}
 use Rattle.signed_commits.specs.Views.{commit_of}
 use Rattle.repository_check.specs.Views.{check_fault_of, lent, pairs_of}
 use Rattle.repository_check.proofs.FirstFaults.{first-of_file}
@@ -50,6 +51,13 @@ returns-in_err-lent-clause-fault g c =
     sections c.in_ok-car.ensures.read (commit_of c.in_ok-commit.commit) c.in_ok-commit.ensures.read c.to_cid-2.result c.to_cid-2.ensures
     (pairs_of c.in_ok-pairs.pairs.items) c.in_ok-pairs.ensures.tree (check_fault_of e)
     (Fails-same (check_fault_of e) _ _ (ap (λ ps. records_from c.in_ok-places.places 0 (pairs_of ps)) (sym c.deref-2.ensures.value)) c.in_err-lent.ensures))
+
+pub tree_in-requires-clause-sections : goal.tree_in-requires-clause-sections
+tree_in-requires-clause-sections g c =
+    let e = ap length (c.in_ok-places.ensures ∙ ap sections_of c.deref.ensures.value) in
+    let k = length-map c.in_ok-car.car.sections.items section_of in
+    let n = c.len-sections.ensures in
+    omega (arith, e, k, n)
 
 pub with_records-requires : goal.with_records-requires
 with_records-requires g c =

@@ -1,7 +1,7 @@
 use Rattle.std.proofs.Common.{◌≡◌, drop, map}
 use Rattle.std.specs.List.{list_all}
 use Rattle.std.specs.Arc.{arc_value}
-use Rattle.repository_check.specs.Walk.{is_given}
+use Rattle.repository_check.specs.Given.{is_given}
 use Rattle.repository_check.proofs.tree.are_given.Given as goal
 
 -- all are given if those to come are

@@ -1,11 +1,10 @@
-use Rattle.std.proofs.Common.{Vec, ◌≡◌, ℕ, ◌≤◌, ◌<◌, ◌^◌, ◌/◌, true, List, length, Err, sym, ap, subst, ◌∙◌, arith, rules}
+use Rattle.std.proofs.Common.{Vec, ◌≡◌, ℕ, ◌<◌, ◌^◌, true, List, length, sym, ap, subst, ◌∙◌, arith}
 use Rattle.std.specs.List.{AllByRecursion}
-use Rattle.std.proofs.lemmas.Result.{err_from_is_err_and}
 use Rattle.spec.specs.Cid.{is_own_cid}
 use Rattle.spec.specs.NodeFormat.{is_ascending}
-use Rattle.repository_check.specs.Parts.{IsRebuilt, IsTreeFault}
-use Rattle.repository_check.specs.Views.{check_fault_of, pairs_of}
-use Rattle.repository_check.proofs.Refusals.{none-listed, not-ascending, not-rebuilt, err-is}
+use Rattle.repository_check.specs.Parts.{IsRebuilt}
+use Rattle.repository_check.specs.Views.{pairs_of}
+use Rattle.repository_check.proofs.Refusals.{not-ascending, not-rebuilt}
 use Rattle.repository_check.proofs.Trees.{ascending-pairs, is-tree}
 use Rattle.repository_check.proofs.tree.tree_in.Goals as goal
 
@@ -14,34 +13,17 @@ is_rebuilt-requires-clause-ascending g c =
     ap (λ ps. is_ascending (pairs_of ps)) (c.deref-2.ensures.value ∙ sym c.deref.ensures.value) ∙ sym c.is_ascending.ensures
     ∙ c.if-not-is_ascending.false
 
-pub returns-in_err-pairs-clause-fault : goal.returns-in_err-pairs-clause-fault
-returns-in_err-pairs-clause-fault g c =
-    let p = err_from_is_err_and c.from_residual.result c.from_residual.ensures.1 in
-    let e = c.in_err-pairs.field-0.0 in
-    let same : c.from.result ≡ g.row.B = first_of (cc, search rules) in
-    let enough : 256 / g.row.B ≤ 256 / c.from.result =
-    let q : 256 / g.row.B ≡ 256 / c.from.result = ap (λ b. 256 / b) (sym same) in omega (arith, q) in
-    err-is c.from_residual.result (IsTreeFault g.D.Digest.digest_of g.row.B c.args.places.now c.args.root.now) e (p.1 ∙ ap Err p.2)
-    (none-listed g.D.Digest.digest_of g.row.B (256 / c.from.result) g.met.D.Digest.digest_len enough c.args.places.now c.args.root.now
-    (check_fault_of e) c.in_err-pairs.ensures)
-
 pub returns-then-not-is_ascending-clause-fault : goal.returns-then-not-is_ascending-clause-fault
 returns-then-not-is_ascending-clause-fault g c =
-    let same : c.from.result ≡ g.row.B = first_of (cc, search rules) in
-    let enough : 256 / g.row.B ≤ 256 / c.from.result =
-    let q : 256 / g.row.B ≡ 256 / c.from.result = ap (λ b. 256 / b) (sym same) in omega (arith, q) in
-    not-ascending g.D.Digest.digest_of g.row.B (256 / c.from.result) g.met.D.Digest.digest_len enough c.args.places.now c.args.root.now
+    not-ascending g.D.Digest.digest_of g.row.B c.args.places.now c.args.root.now
     (pairs_of c.in_ok-pairs.pairs.items) c.is_ascending.result c.in_ok-pairs.ensures
     (c.is_ascending.ensures ∙ ap (λ ps. is_ascending (pairs_of ps)) c.deref.ensures.value) c.if-not-is_ascending.true
 
 pub returns-then-not-branch-clause-fault : goal.returns-then-not-branch-clause-fault
 returns-then-not-branch-clause-fault g c =
-    let same : c.from.result ≡ g.row.B = first_of (cc, search rules) in
-    let enough : 256 / g.row.B ≤ 256 / c.from.result =
-    let q : 256 / g.row.B ≡ 256 / c.from.result = ap (λ b. 256 / b) (sym same) in omega (arith, q) in
     let Rebuilt = λ (ps : List (Vec ℕ g.row.A.Denot × List ℕ)).
     IsRebuilt g.D.Digest.digest_of g.row.B c.args.places.now c.args.root.now (pairs_of ps) in
-    not-rebuilt g.D.Digest.digest_of g.row.B (256 / c.from.result) g.met.D.Digest.digest_len enough c.args.places.now c.args.root.now
+    not-rebuilt g.D.Digest.digest_of g.row.B c.args.places.now c.args.root.now
     (pairs_of c.in_ok-pairs.pairs.items) c.in_ok-is_rebuilt.field-0 c.in_ok-pairs.ensures
     (λ r. c.in_ok-is_rebuilt.ensures.rebuilt.1 (subst Rebuilt (sym c.deref-2.ensures.value) r)) c.if-not-branch.true
 

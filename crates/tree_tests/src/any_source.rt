@@ -1,0 +1,77 @@
+//! Walks over slices that whoever made, in so many reads.
+
+ghost use Rattle.std.specs.Prelude.{Some};
+
+use crate::fixtures::{node, value};
+use cid::{Cid, Sha256};
+use counts::Count;
+use lookups::{Source, walk_in_reads};
+use std::alloc::{AllocError, Global};
+
+/// A source that gives the same bytes whatever is asked for, so that a node with a link is linked without end.
+#[derive(Drop)]
+struct Always<'a> {
+    bytes: &'a [u8],
+    reads: u64,
+    asked: Count,
+}
+
+impl<'a> Source<&'a [u8]> for Always<'a> {
+    ghost gives = { λ always _. Some always.bytes.now };
+
+    ghost reads = { λ always. always.asked.times };
+
+    fn get(&mut self, _cid: &Cid) -> Option<&'a [u8]> {
+        self.reads = self.reads.saturating_add(1);
+        self.asked = self.asked.once_more();
+        Some(self.bytes)
+    }
+}
+
+/// Whether a walk over a node of this key with these subtrees lists so many pairs in so many reads, of those allowed.
+fn walks(
+    alloc: Global,
+    before: Option<Cid>,
+    key: &[u8],
+    after: Option<Cid>,
+    allowed: usize,
+    pairs: usize,
+    reads: u64,
+) -> Result<bool, AllocError> {
+    let bytes = node(alloc, before, key, after)?;
+    let mut always = Always {
+        bytes: &bytes,
+        reads: 0,
+        asked: Count::never(),
+    };
+    let found = walk_in_reads::<Sha256, 2, &[u8], Global, _>(
+        alloc,
+        &mut always,
+        value(),
+        b"",
+        usize::MAX,
+        allowed,
+    )?;
+    Ok(found.len() == pairs && always.reads == reads)
+}
+
+#[test]
+fn a_slice_is_walked(rt: HostRuntime) {
+    assert!(rt; walks(rt.alloc(), None, b"k", None, 1, 1, 1).expect(&rt, "memory"));
+    assert!(rt; walks(rt.alloc(), None, b"k", None, 0, 0, 0).expect(&rt, "memory"));
+}
+
+#[test]
+fn links_without_end_are_walked_to_the_last_layer_or_read(rt: HostRuntime) {
+    let next = Some(value());
+    assert!(rt; walks(rt.alloc(), next, b"k", None, 1_000, 1, 129).expect(&rt, "memory"));
+    assert!(rt; walks(rt.alloc(), next, b"", None, 1_000, 0, 129).expect(&rt, "memory"));
+    assert!(rt; walks(rt.alloc(), next, b"k", None, 10, 0, 10).expect(&rt, "memory"));
+}
+
+#[test]
+fn a_node_that_comes_again_ends_the_walk(rt: HostRuntime) {
+    let next = Some(value());
+    assert!(rt; walks(rt.alloc(), None, b"k", next, 1_000, 1, 2).expect(&rt, "memory"));
+    assert!(rt; walks(rt.alloc(), None, b"k", next, 1, 1, 1).expect(&rt, "memory"));
+}
