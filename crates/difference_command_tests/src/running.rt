@@ -71,7 +71,15 @@ fn is_told(alloc: Global, refusal: SaveFault, status: u8, told: &str) -> bool {
         refusal: Some(refusal),
         ..one_more(b"")
     };
-    ends(alloc, words(Some("blocks.car")), &files, status, "", told, 1)
+    ends(
+        alloc,
+        words(Some("blocks.car")),
+        &files,
+        status,
+        "",
+        told,
+        1,
+    )
 }
 
 #[test]
@@ -79,7 +87,14 @@ fn files_that_are_not_saved(rt: HostRuntime) {
     let alloc = rt.alloc();
     let unopened = SaveFault::Unopened;
     let unwritten = SaveFault::Unwritten;
-    assert!(rt; is_told(alloc, unopened(OpenFault::NotFound), 4, "msthost: blocks.car: not found\n"));
+    assert!(rt;
+        is_told(
+            alloc,
+            unopened(OpenFault::NotFound),
+            4,
+            "msthost: blocks.car: not found\n"
+        )
+    );
     assert!(rt;
         is_told(
             alloc,
@@ -88,9 +103,30 @@ fn files_that_are_not_saved(rt: HostRuntime) {
             "msthost: blocks.car: permission denied\n"
         )
     );
-    assert!(rt; is_told(alloc, unopened(OpenFault::NoMemory), 3, "msthost: blocks.car: no memory\n"));
-    assert!(rt; is_told(alloc, unwritten(WriteFault::Failed), 4, "msthost: blocks.car: write failed\n"));
-    assert!(rt; is_told(alloc, unwritten(WriteFault::NoMemory), 3, "msthost: blocks.car: no memory\n"));
+    assert!(rt;
+        is_told(
+            alloc,
+            unopened(OpenFault::NoMemory),
+            3,
+            "msthost: blocks.car: no memory\n"
+        )
+    );
+    assert!(rt;
+        is_told(
+            alloc,
+            unwritten(WriteFault::Failed),
+            4,
+            "msthost: blocks.car: write failed\n"
+        )
+    );
+    assert!(rt;
+        is_told(
+            alloc,
+            unwritten(WriteFault::NoMemory),
+            3,
+            "msthost: blocks.car: no memory\n"
+        )
+    );
 }
 
 #[test]
@@ -101,12 +137,32 @@ fn at_a_fault_nothing_is_saved(rt: HostRuntime) {
         ..one_more(b"")
     };
     let blocks = Some("blocks.car");
-    assert!(rt; ends(alloc, words(blocks), &files, 1, "", "msthost: new: line 1: BadLine\n", 0));
+    assert!(rt;
+        ends(
+            alloc,
+            words(blocks),
+            &files,
+            1,
+            "",
+            "msthost: new: line 1: BadLine\n",
+            0
+        )
+    );
     let absent = ChangesWords {
         new: "nowhere",
         ..words(blocks)
     };
-    assert!(rt; ends(alloc, absent, &files, 4, "", "msthost: nowhere: not found\n", 0));
+    assert!(rt;
+        ends(
+            alloc,
+            absent,
+            &files,
+            4,
+            "",
+            "msthost: nowhere: not found\n",
+            0
+        )
+    );
     let formless = ChangesWords {
         form: Some("text"),
         ..words(blocks)

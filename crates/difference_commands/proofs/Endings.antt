@@ -90,7 +90,7 @@ pub finished_whole : (lines : List ℕ) (was is last : Option (List ℕ)) (n : �
     → IsFinish lines was last n
 finished_whole lines was is last n w k so =
     let whole : Appends was last lines =
-        subst (Appends was last) (append-nil lines) (Appends-append was is last lines [] w (Appends-kept is last k)) in
+    subst (Appends was last) (append-nil lines) (Appends-append was is last lines [] w (Appends-kept is last k)) in
     record {
       one_of = ⊎_elim (λ z. inl z) (λ f. inr (inr f)) so;
       done = λ zero. whole;

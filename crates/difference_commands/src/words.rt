@@ -159,7 +159,8 @@ fn blocks_word<'a>(alloc: Global) -> Arg<'a>
     ensures rule { rule_of result ≡ blocks_rule }
     ensures local { result.global ≡ false }
 {
-    Arg::new(alloc, "blocks").long("blocks").value_name("FILE").help(
-        "Save the nodes and the records that come in this file, a CAR file",
-    )
+    Arg::new(alloc, "blocks")
+        .long("blocks")
+        .value_name("FILE")
+        .help("Save the nodes and the records that come in this file, a CAR file")
 }
