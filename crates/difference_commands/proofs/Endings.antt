@@ -144,91 +144,91 @@ not-one n so one = ⊎_elim (λ z. omega (arith, z, one)) (λ f. ⊎_elim (λ e.
 not-two : (n : ℕ) → (n ≡ 0) ⊎ ((n ≡ 3) ⊎ (n ≡ 4)) → n ≡ 2 → ⊥
 not-two n so two = ⊎_elim (λ z. omega (arith, z, two)) (λ f. ⊎_elim (λ e. omega (arith, e, two)) (λ e. omega (arith, e, two)) f) so
 
-module _ (digest : List ℕ → List ℕ) (command : ChangesCommand) where
-  -- ---- the status
+-- ---- the status
 
-  abbrev Statuses : ℕ → Type 0
-  Statuses n = (1 ≤ n) × (n ≤ 4) × ((n ≡ 2) → ⊥)
+abbrev Statuses : ℕ → Type 0
+Statuses n = (1 ≤ n) × (n ≤ 4) × ((n ≡ 2) → ⊥)
 
-  check-statuses : (o : Option exports.ExportFault) → Statuses (export.check_status o)
-  check-statuses (Some f) = (omega arith, omega arith, λ e. omega (arith, e))
-  check-statuses None = (omega arith, omega arith, λ e. omega (arith, e))
+check-statuses : (o : Option exports.ExportFault) → Statuses (export.check_status o)
+check-statuses (Some f) = (omega arith, omega arith, λ e. omega (arith, e))
+check-statuses None = (omega arith, omega arith, λ e. omega (arith, e))
 
-  export-statuses : (f : ExportFault) → Statuses (export.status_of f)
-  export-statuses (export_faults.Check f) = check-statuses (check_fault_of f)
-  export-statuses (export_faults.NoJsonForm place) = (omega arith, omega arith, λ e. omega (arith, e))
-  export-statuses export_faults.ReadFailed = (omega arith, omega arith, λ e. omega (arith, e))
+export-statuses : (f : ExportFault) → Statuses (export.status_of f)
+export-statuses (export_faults.Check f) = check-statuses (check_fault_of f)
+export-statuses (export_faults.NoJsonForm place) = (omega arith, omega arith, λ e. omega (arith, e))
+export-statuses export_faults.ReadFailed = (omega arith, omega arith, λ e. omega (arith, e))
 
-  tree-statuses : (f : TreeFault) → Statuses (tree.status_of f)
-  tree-statuses (tree_faults.Line n f) = (omega arith, omega arith, λ e. omega (arith, e))
-  tree-statuses tree_faults.Clash = (omega arith, omega arith, λ e. omega (arith, e))
-  tree-statuses tree_faults.NoMemory = (omega arith, omega arith, λ e. omega (arith, e))
-  tree-statuses tree_faults.ReadFailed = (omega arith, omega arith, λ e. omega (arith, e))
+tree-statuses : (f : TreeFault) → Statuses (tree.status_of f)
+tree-statuses (tree_faults.Line n f) = (omega arith, omega arith, λ e. omega (arith, e))
+tree-statuses tree_faults.Clash = (omega arith, omega arith, λ e. omega (arith, e))
+tree-statuses tree_faults.NoMemory = (omega arith, omega arith, λ e. omega (arith, e))
+tree-statuses tree_faults.ReadFailed = (omega arith, omega arith, λ e. omega (arith, e))
 
-  line-statuses : (o : Option lines.LineFault) → Statuses (line_status o)
-  line-statuses (Some f) = (omega arith, omega arith, λ e. omega (arith, e))
-  line-statuses None = (omega arith, omega arith, λ e. omega (arith, e))
+line-statuses : (o : Option lines.LineFault) → Statuses (line_status o)
+line-statuses (Some f) = (omega arith, omega arith, λ e. omega (arith, e))
+line-statuses None = (omega arith, omega arith, λ e. omega (arith, e))
 
-  lines-statuses : (f : LinesFault) → Statuses (lines_status f)
-  lines-statuses (lines_faults.Line n f) = line-statuses (line_fault_of f)
-  lines-statuses lines_faults.NoMemory = (omega arith, omega arith, λ e. omega (arith, e))
+lines-statuses : (f : LinesFault) → Statuses (lines_status f)
+lines-statuses (lines_faults.Line n f) = line-statuses (line_fault_of f)
+lines-statuses lines_faults.NoMemory = (omega arith, omega arith, λ e. omega (arith, e))
 
-  file-statuses : (f : FileFault) → Statuses (file_status f)
-  file-statuses (file_faults.Export f) = export-statuses f
-  file-statuses (file_faults.Listing f) = tree-statuses f
-  file-statuses (file_faults.Records f) = lines-statuses f
-  file-statuses file_faults.NoRecords = (omega arith, omega arith, λ e. omega (arith, e))
+file-statuses : (f : FileFault) → Statuses (file_status f)
+file-statuses (file_faults.Export f) = export-statuses f
+file-statuses (file_faults.Listing f) = tree-statuses f
+file-statuses (file_faults.Records f) = lines-statuses f
+file-statuses file_faults.NoRecords = (omega arith, omega arith, λ e. omega (arith, e))
 
-  read-statuses : (f : ReadFault) → Statuses (read_status f)
-  read-statuses reads.NoMemory = (omega arith, omega arith, λ e. omega (arith, e))
-  read-statuses reads.Failed = (omega arith, omega arith, λ e. omega (arith, e))
+read-statuses : (f : ReadFault) → Statuses (read_status f)
+read-statuses reads.NoMemory = (omega arith, omega arith, λ e. omega (arith, e))
+read-statuses reads.Failed = (omega arith, omega arith, λ e. omega (arith, e))
 
-  statuses : (f : ChangesFault) → Statuses (status_of f)
-  statuses (errors.Old f) = file-statuses f
-  statuses (errors.New f) = file-statuses f
-  statuses (errors.OldUnread f) = read-statuses f
-  statuses (errors.NewUnread f) = read-statuses f
-  statuses errors.Clash = (omega arith, omega arith, λ e. omega (arith, e))
-  statuses errors.NoMemory = (omega arith, omega arith, λ e. omega (arith, e))
+statuses : (f : ChangesFault) → Statuses (status_of f)
+statuses (errors.Old f) = file-statuses f
+statuses (errors.New f) = file-statuses f
+statuses (errors.OldUnread f) = read-statuses f
+statuses (errors.NewUnread f) = read-statuses f
+statuses errors.Clash = (omega arith, omega arith, λ e. omega (arith, e))
+statuses errors.NoMemory = (omega arith, omega arith, λ e. omega (arith, e))
 
-  -- a fault doesn't end well
-  pub fault_ends : (f : ChangesFault) (n : ℕ) → n ≡ status_of f → n ≡ 0 → ⊥
-  fault_ends f n so zero = omega (arith, so, zero, (statuses f).0)
+-- a fault doesn't end well
+pub fault_ends : (f : ChangesFault) (n : ℕ) → n ≡ status_of f → n ≡ 0 → ⊥
+fault_ends f n so zero = omega (arith, so, zero, (statuses f).0)
 
-  module _ (old new was is : Option (List ℕ)) where
-    -- the lines were made
-    pub finish_status : (lines : List ℕ) (sliced : Option (List ℕ)) (n : ℕ)
-        → OfInputs old new (λ xs ys. AreTextsOf digest command xs ys lines sliced) → IsFinish lines was is n
-        → IsStatusOf digest command old new was is n
-    finish_status lines sliced n of e = record {
-      one_of = ⊎_elim (λ z. omega (arith, z)) (λ f. ⊎_elim (λ three. omega (arith, three)) (λ four. omega (arith, four)) f) e.one_of;
-      done = λ zero. for_both _ _ old new (λ xs ys h. record { lines = lines; sliced = sliced; of_files = h; written = e.done zero }) of;
-      faulty = λ one. absurd (not-one n e.one_of one);
-      nothing = λ one. absurd (not-one n e.one_of one);
-      usage = λ two. not-two n e.one_of two;
-      beginning = for_both _ _ old new (λ xs ys h. inr (record { lines = lines; sliced = sliced; of_files = h; written = e.beginning })) of;
-    }
+module _ (digest : List ℕ → List ℕ) (command : ChangesCommand) (old new was : Option (List ℕ)) where
+  -- the lines were made
+  pub finish_status : (is : Option (List ℕ)) (lines : List ℕ) (sliced : Option (List ℕ)) (n : ℕ)
+      → OfInputs old new (λ xs ys. AreTextsOf digest command xs ys lines sliced) → IsFinish lines was is n
+      → IsStatusOf digest command old new was is n
+  finish_status is lines sliced n of e = record {
+    one_of = ⊎_elim (λ z. omega (arith, z)) (λ f. ⊎_elim (λ three. omega (arith, three)) (λ four. omega (arith, four)) f) e.one_of;
+    done = λ zero. for_both _ _ old new (λ xs ys h. record { lines = lines; sliced = sliced; of_files = h; written = e.done zero }) of;
+    faulty = λ one. absurd (not-one n e.one_of one);
+    nothing = λ one. absurd (not-one n e.one_of one);
+    usage = λ two. not-two n e.one_of two;
+    beginning = for_both _ _ old new (λ xs ys h. inr (record { lines = lines; sliced = sliced; of_files = h; written = e.beginning })) of;
+  }
 
-    pub fault_status : (f : ChangesFault) (n : ℕ) → OfInputs old new (λ xs ys. IsFault digest command xs ys f) → n ≡ status_of f
-        → IsStatusOf digest command old new was was n
-    fault_status f n is-fault so =
-        let s = statuses f in
-        record {
-          one_of = omega (arith, so, s.1);
-          done = λ zero. absurd (omega (arith, so, zero, s.0));
-          faulty = λ one. for_both _ _ old new (λ xs ys h. (f, h, sym so ∙ one)) is-fault;
-          nothing = λ one. keeps-itself was;
-          usage = λ two. s.2 (sym so ∙ two);
-          beginning = always_both _ old new (λ xs ys. inl (keeps-itself was));
-        }
+  pub fault_status : (f : ChangesFault) (n : ℕ) → OfInputs old new (λ xs ys. IsFault digest command xs ys f) → n ≡ status_of f
+      → IsStatusOf digest command old new was was n
+  fault_status f n is-fault so =
+      let s = statuses f in
+      record {
+        one_of = omega (arith, so, s.1);
+        done = λ zero. absurd (omega (arith, so, zero, s.0));
+        faulty = λ one. for_both _ _ old new (λ xs ys h. (f, h, sym so ∙ one)) is-fault;
+        nothing = λ one. keeps-itself was;
+        usage = λ two. s.2 (sym so ∙ two);
+        beginning = always_both _ old new (λ xs ys. inl (keeps-itself was));
+      }
 
-    -- their slice was saved, where a file is named for it and there is one
-    pub finish_saved : (lines : List ℕ) (sliced name : Option (List ℕ)) (saved : List ℕ → List ℕ → Type 0)
-        → OfInputs old new (λ xs ys. AreTextsOf digest command xs ys lines sliced) → IfSome name (λ m. IfSome sliced (saved m))
-        → IfSome name (λ m. OfInputs old new (λ xs ys. SavesSliceOf digest command xs ys (saved m)))
-    finish_saved lines sliced None saved of kept = tt
-    finish_saved lines sliced (Some m) saved of kept =
-        for_both _ _ old new (λ xs ys h. record { lines = lines; sliced = sliced; of_files = h; kept = kept }) of
+-- their slice was saved, where a file is named for it and there is one
+pub finish_saved : (digest : List ℕ → List ℕ) (command : ChangesCommand) (old new : Option (List ℕ)) (lines : List ℕ)
+    (sliced name : Option (List ℕ)) (saved : List ℕ → List ℕ → Type 0)
+    → OfInputs old new (λ xs ys. AreTextsOf digest command xs ys lines sliced) → IfSome name (λ m. IfSome sliced (saved m))
+    → IfSome name (λ m. OfInputs old new (λ xs ys. SavesSliceOf digest command xs ys (saved m)))
+finish_saved digest command old new lines sliced None saved of kept = tt
+finish_saved digest command old new lines sliced (Some m) saved of kept =
+    for_both _ _ old new (λ xs ys h. record { lines = lines; sliced = sliced; of_files = h; kept = kept }) of
 
 -- ---- files that words name
 

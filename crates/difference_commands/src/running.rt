@@ -18,7 +18,7 @@ use std::io::{Read, Write};
 /// At 0 the lines of the difference of what both say were written; at 1 the first fault of them is told, and no file was saved
 /// and nothing written. At 3 memory was refused, and at 4 reading, saving or writing failed; a file that wasn't saved is told
 /// with its name, and then nothing was written.
-#[tactic(auto, using(crate::proofs::Endings::fault_status, crate::proofs::Endings::fault_ends))]
+#[tactic(auto, using(crate::proofs::Endings::fault_ends))]
 pub fn run<D: Digest, F: Files, R: Read, S: Read, W: Write, X: Write>(
     command: ChangesCommand,
     alloc: Global,
