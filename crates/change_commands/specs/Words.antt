@@ -5,7 +5,7 @@ use Rattle.clap.specs.Words.{with_subcommand}
 use Rattle.clap.specs.Walk.{Row}
 use Rattle.console.specs.FileWords.{with_file}
 use Rattle.record_forms.specs.Options.{IsFormOf, json_rule}
-use Rattle.repository_commands.specs.Words.{required_rule, word_or}
+use Rattle.console.specs.Words.{required_rule, word_or}
 use Rattle.change_commands.specs.declared.words.ChangeCommand.{ChangeCommand}
 use Rattle.change_commands.specs.declared.words.ChangeCommand.TheVariants as commands
 
