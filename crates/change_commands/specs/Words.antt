@@ -6,9 +6,9 @@ use Rattle.clap.specs.Walk.{Row, Rule, one_of}
 use Rattle.clap.specs.declared.builder.action.ArgAction.TheVariants.{SetTrue}
 use Rattle.console.specs.FileWords.{with_file}
 use Rattle.record_forms.specs.Options.{IsFormOf, json_rule}
-use Rattle.repository_commands.specs.Words.{required_rule, word_or}
 use Rattle.change_commands.specs.declared.direction.Direction.{Direction}
 use Rattle.change_commands.specs.declared.direction.Direction.TheVariants as directions
+use Rattle.console.specs.Words.{required_rule, word_or}
 use Rattle.change_commands.specs.declared.words.ChangeCommand.{ChangeCommand}
 use Rattle.change_commands.specs.declared.words.ChangeCommand.TheVariants as commands
 

@@ -7,9 +7,8 @@ ghost use Rattle.change_commands.specs.Words.{prove_change_shape, verify_change_
 
 use crate::direction::{Direction, direction_of, inversion_option};
 use clap::{ArgMatches, Command};
-use console::with_file;
+use console::{required, with_file, word_or};
 use record_forms::{Form, form_of, json_option};
-use repository_commands::{required, word_or};
 use std::alloc::{AllocError, Global};
 
 /// A command on a change, with what its words say.

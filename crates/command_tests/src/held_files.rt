@@ -2,9 +2,9 @@
 ghost use Rattle.std.specs.Prelude.{None, Some, if◌then◌else◌};
 ghost use Rattle.std.specs.Str.{bytes_eq};
 
-use console::{Files, OpenFault};
+use console::{Files, OpenFault, SaveFault};
 
-/// One file, or none where it has no bytes. All others are refused.
+/// One file, or none where it has no bytes. All others are refused, and none is saved.
 #[derive(Clone, Copy)]
 pub(crate) struct HeldFile<'a> {
     pub(crate) name: &'a str,
@@ -30,5 +30,9 @@ impl<'a> Files for HeldFile<'a> {
         } else {
             Err(self.refusal)
         }
+    }
+
+    fn save(&self, _name: &str, _bytes: &[u8]) -> Result<(), SaveFault> {
+        Err(SaveFault::Unopened(OpenFault::Denied))
     }
 }

@@ -1,14 +1,15 @@
 //! The files that words of a command line name.
-ghost use Rattle.std.specs.Prelude.{◌≡◌, ℕ, List, IfOk, None, Option, Some};
+ghost use Rattle.std.specs.Prelude.{◌≡◌, ⊤, ℕ, List, IfOk, None, OnOk, Option, Some};
 ghost use Rattle.std.specs.IoError.{error_kind};
 ghost use Rattle.console.specs.Files.{open_fault_text, open_status};
 
+use crate::save_fault::SaveFault;
 use crate::status::{IO_FAILED, NO_MEMORY};
 use std::error::Error;
 use std::fmt;
 use std::io::{self, ErrorKind, Read};
 
-/// Where a command finds the files that its words name.
+/// Where a command finds the files that its words name, and makes those that they name for it.
 pub trait Files {
     /// What reads a file that was opened.
     type Reader: Read + Drop;
@@ -16,9 +17,19 @@ pub trait Files {
     // What the file of a name holds, where that is known. Nothing is known of the files of an operating system.
     ghost holds: { Self → List ℕ → Option (List ℕ) } = { λ _ _. None };
 
+    // What is known once bytes were saved in the file of a name. Nothing is of those of an operating system.
+    ghost saved: { Self → List ℕ → List ℕ → Type 0 } = { λ _ _ _. ⊤ };
+
     /// Opens the file of this name, to be read from its beginning.
     fn open(&self, name: &str) -> Result<Self::Reader, OpenFault>
         ensures { IfOk result (λ file. Self.Reader.remaining file ≡ holds self.now name.now) };
+
+    /// Makes a file of this name that holds these bytes and no others, whatever it held before.
+    ///
+    /// `SaveFault::Unopened` says that there is no such file to write to, and then a file that was there is as it was.
+    /// `SaveFault::Unwritten` says that writing failed: the file holds a beginning of the bytes.
+    fn save(&self, name: &str, bytes: &[u8]) -> Result<(), SaveFault>
+        ensures { OnOk result (saved self.now name.now bytes.now) };
 }
 
 /// Why a file can't be opened.

@@ -4,11 +4,14 @@
 //!   is cut into lines.
 //! - `write_whole` and `write_hex` write a run of bytes and its digits, with a word on what was written where they fail.
 //!   `Decimal` shows a number.
-//! - `Files` is where a command finds the files that its words name, and `OpenFault` says why one can't be opened.
-//!   `with_file` gives a command the word that names one, and `file_of` reads it.
+//! - `Files` is where a command finds the files that its words name, and saves what it makes in others. `OpenFault` says why
+//!   one can't be opened, and `SaveFault` why one wasn't saved.
+//! - `with_file` gives a command the word that names the file that it reads, and `file_of` reads it. `required` is a word that
+//!   must be there, and `word_or` the text of a word.
 //! - `Watched` shows how much of an input was read, where that takes long.
 //! - `DONE`, `FAULTY`, `USAGE`, `NO_MEMORY` and `IO_FAILED` are the exit statuses. `done` ends what has written its text.
-//!   `tell` says on standard error what is wrong; `no_memory`, `write_failed` and `unopened` do so and answer the status.
+//!   `tell` says on standard error what is wrong; `no_memory`, `write_failed`, `unwritten`, `unopened` and `unsaved` do so and
+//!   answer the status.
 #![tactic(auto)]
 
 mod decimal;
@@ -19,8 +22,10 @@ mod hexadecimal;
 mod numbered;
 mod progress;
 mod reading;
+mod save_fault;
 mod status;
 mod telling;
+mod words;
 mod writing;
 
 pub use decimal::Decimal;
@@ -31,6 +36,8 @@ pub use hexadecimal::bytes_of_hex;
 pub use numbered::{NumberedLines, numbered_lines};
 pub use progress::Watched;
 pub use reading::{ReadFault, read_all};
+pub use save_fault::SaveFault;
 pub use status::{DONE, FAULTY, IO_FAILED, NO_MEMORY, USAGE};
-pub use telling::{done, no_memory, tell, unopened, write_failed};
+pub use telling::{done, no_memory, tell, unopened, unsaved, unwritten, write_failed};
+pub use words::{required, word_or};
 pub use writing::{WriteFault, write_hex, write_whole};

@@ -1,10 +1,14 @@
 //! How a command ends: what standard error is told, and the exit status.
 ghost use Rattle.std.specs.Prelude.{◌≡◌, ◌⊎◌};
 ghost use Rattle.std.specs.Io.KnownBytes.{Keeps};
+ghost use Rattle.console.specs.Faults.{write_status};
 ghost use Rattle.console.specs.Files.{open_status};
+ghost use Rattle.console.specs.Saving.{save_status};
 
 use crate::files::OpenFault;
+use crate::save_fault::SaveFault;
 use crate::status::{DONE, IO_FAILED, NO_MEMORY};
+use crate::writing::WriteFault;
 use std::fmt::Display;
 use std::io::Write;
 
@@ -46,5 +50,21 @@ pub fn unopened<X: Write>(name: &str, fault: OpenFault, err: &mut X) -> u8
     ensures { result ≡ open_status fault }
 {
     let _ = writeln!(err, "msthost: {name}: {fault}");
+    fault.status()
+}
+
+/// Tells that the file of this name was not saved, and answers the status.
+pub fn unsaved<X: Write>(name: &str, fault: SaveFault, err: &mut X) -> u8
+    ensures { result ≡ save_status fault }
+{
+    let _ = writeln!(err, "msthost: {name}: {fault}");
+    fault.status()
+}
+
+/// Tells that a text wasn't written, or not all of it, and answers the status.
+pub fn unwritten<X: Write>(fault: WriteFault, err: &mut X) -> u8
+    ensures { result ≡ write_status fault }
+{
+    tell(&fault, err);
     fault.status()
 }

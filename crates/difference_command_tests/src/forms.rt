@@ -1,5 +1,5 @@
 //! Files of each form, and what is written of them.
-use crate::told::{A0, CIDS, RECORDS, in_form, writes};
+use crate::told::{A0, CIDS, RECORDS, in_form, tells};
 use difference_commands::Form;
 use std::alloc::{AllocError, Global};
 use std::test::Fail;
@@ -33,7 +33,7 @@ fn each_form_beside_each(rt: HostRuntime) -> Result<(), Fail> {
     let files = [export.as_slice(), listing.as_slice(), lines];
     for old in files {
         for new in files {
-            assert!(rt; writes(alloc, CIDS, old, new, b""));
+            assert!(rt; tells(alloc, CIDS, old, new, b""));
         }
     }
     Ok(())
@@ -45,12 +45,12 @@ fn what_comes_and_goes(rt: HostRuntime) -> Result<(), Fail> {
     let export = hex::decode(alloc, EXPORT)?;
     let listing = listing(alloc, "a/c")?;
     let comes = format!(in alloc; "change a/b {A0} -\nchange a/c - {A0}\n")?;
-    assert!(rt; writes(alloc, CIDS, &export, &listing, comes.as_bytes()));
+    assert!(rt; tells(alloc, CIDS, &export, &listing, comes.as_bytes()));
     let goes = format!(in alloc; "change a/b - {A0}\nchange a/c {A0} -\n")?;
-    assert!(rt; writes(alloc, CIDS, &listing, &export, goes.as_bytes()));
+    assert!(rt; tells(alloc, CIDS, &listing, &export, goes.as_bytes()));
     let all = format!(in alloc; "change a/b {A0} -\n")?;
-    assert!(rt; writes(alloc, CIDS, &export, b"", all.as_bytes()));
-    assert!(rt; writes(alloc, CIDS, b"", b"\n\n", b""));
+    assert!(rt; tells(alloc, CIDS, &export, b"", all.as_bytes()));
+    assert!(rt; tells(alloc, CIDS, b"", b"\n\n", b""));
     Ok(())
 }
 
@@ -59,8 +59,8 @@ fn records_beside_their_cids(rt: HostRuntime) -> Result<(), Fail> {
     let alloc = rt.alloc();
     let export = hex::decode(alloc, EXPORT)?;
     let text = format!(in alloc; "change a/b {A0} - a0 -\nchange a/c - {A0} - a0\n")?;
-    assert!(rt; writes(alloc, RECORDS, &export, b"a/c a0", text.as_bytes()));
-    assert!(rt; writes(alloc, RECORDS, &export, b"a/b a0", b""));
+    assert!(rt; tells(alloc, RECORDS, &export, b"a/c a0", text.as_bytes()));
+    assert!(rt; tells(alloc, RECORDS, &export, b"a/b a0", b""));
     Ok(())
 }
 
@@ -69,10 +69,10 @@ fn a_form_that_is_told(rt: HostRuntime) -> Result<(), Fail> {
     let alloc = rt.alloc();
     let export = hex::decode(alloc, EXPORT)?;
     let listing = listing(alloc, "a/b")?;
-    assert!(rt; writes(alloc, in_form(Form::Car), &export, &export, b""));
-    assert!(rt; writes(alloc, in_form(Form::Listing), &listing, &listing, b""));
-    assert!(rt; writes(alloc, in_form(Form::Records), b"a/b a0", b"a/b a0", b""));
-    assert!(rt; !writes(alloc, in_form(Form::Car), &listing, &listing, b""));
-    assert!(rt; !writes(alloc, in_form(Form::Records), &listing, &listing, b""));
+    assert!(rt; tells(alloc, in_form(Form::Car), &export, &export, b""));
+    assert!(rt; tells(alloc, in_form(Form::Listing), &listing, &listing, b""));
+    assert!(rt; tells(alloc, in_form(Form::Records), b"a/b a0", b"a/b a0", b""));
+    assert!(rt; !tells(alloc, in_form(Form::Car), &listing, &listing, b""));
+    assert!(rt; !tells(alloc, in_form(Form::Records), &listing, &listing, b""));
     Ok(())
 }

@@ -1,5 +1,5 @@
 //! Two files of many keys.
-use crate::told::{A0, A161610A, CIDS, writes};
+use crate::told::{A0, A161610A, CIDS, tells};
 use std::alloc::Global;
 use std::test::Fail;
 
@@ -20,7 +20,7 @@ fn one_of_2000_keys_has_another_record(rt: HostRuntime) -> Result<(), Fail> {
     let old = lines_of_many(alloc, "a0")?;
     let new = lines_of_many(alloc, "a161610a")?;
     let line = format!(in alloc; "change a/1234 {A0} {A161610A}\n")?;
-    assert!(rt; writes(alloc, CIDS, &old, &new, line.as_bytes()));
-    assert!(rt; writes(alloc, CIDS, &new, &new, b""));
+    assert!(rt; tells(alloc, CIDS, &old, &new, line.as_bytes()));
+    assert!(rt; tells(alloc, CIDS, &new, &new, b""));
     Ok(())
 }

@@ -1,7 +1,6 @@
 //! What the command tells of two files.
 use cid::Sha256;
-use console::CommandFault;
-use difference_commands::{ChangesCommand, ChangesFault, Form, Values, changes_text};
+use difference_commands::{ChangesCommand, ChangesFault, Form, Values, texts_of};
 use std::alloc::Global;
 
 /// The CID of the record `a0`.
@@ -11,6 +10,7 @@ pub(crate) const A0: &str = "bafyreigbtj4x7ip5legnfznufuopl4sg4knzc2cof6duas4b3q
 pub(crate) const CIDS: ChangesCommand = ChangesCommand {
     form: None,
     values: Values::Cids,
+    blocks: false,
 };
 
 /// That of the record `a161610a`.
@@ -20,12 +20,14 @@ pub(crate) const A161610A: &str = "bafyreieq4xe7qrqdnvlccc7djhv4zs6nbtcoq4m7w4ns
 pub(crate) const RECORDS: ChangesCommand = ChangesCommand {
     form: None,
     values: Values::Records,
+    blocks: false,
 };
 
-/// The command that writes the blocks that come.
+/// The command that tells CIDs, and makes a slice of the blocks that come.
 pub(crate) const BLOCKS: ChangesCommand = ChangesCommand {
     form: None,
-    values: Values::Blocks,
+    values: Values::Cids,
+    blocks: true,
 };
 
 /// The command that reads both files in a form.
@@ -33,34 +35,41 @@ pub(crate) fn in_form(form: Form) -> ChangesCommand {
     ChangesCommand {
         form: Some(form),
         values: Values::Cids,
+        blocks: false,
     }
 }
 
-/// Whether the command writes this text of two files.
-pub(crate) fn writes(
+/// Whether the command tells these lines of two files, and makes no slice.
+pub(crate) fn tells(
     alloc: Global,
     command: ChangesCommand,
     old: &[u8],
     new: &[u8],
-    text: &[u8],
+    lines: &[u8],
 ) -> bool {
-    let mut out = Vec::new(alloc);
-    match changes_text::<Sha256, Global, Vec<u8>>(command, alloc, old, new, &mut out) {
-        Ok(()) => out.as_slice() == text,
+    match texts_of::<Sha256, Global>(command, alloc, old, new) {
+        Ok(told) => told.lines.as_slice() == lines && told.slice.is_none(),
         Err(_) => false,
     }
 }
 
-/// The fault of two files, where nothing was written.
+/// Whether this slice comes between two files.
+pub(crate) fn comes(alloc: Global, old: &[u8], new: &[u8], slice: &[u8]) -> bool {
+    match texts_of::<Sha256, Global>(BLOCKS, alloc, old, new) {
+        Ok(told) => match &told.slice {
+            Some(bytes) => bytes.as_slice() == slice,
+            None => false,
+        },
+        Err(_) => false,
+    }
+}
+
+/// The fault of two files.
 pub(crate) fn fault_of(
     alloc: Global,
     command: ChangesCommand,
     old: &[u8],
     new: &[u8],
 ) -> Option<ChangesFault> {
-    let mut out = Vec::new(alloc);
-    match changes_text::<Sha256, Global, Vec<u8>>(command, alloc, old, new, &mut out) {
-        Err(CommandFault::NoText(fault)) if out.is_empty() => Some(fault),
-        _ => None,
-    }
+    texts_of::<Sha256, Global>(command, alloc, old, new).err()
 }

@@ -25,7 +25,7 @@ use Rattle.difference_commands.specs.Views.{Records}
 use Rattle.difference_commands.specs.Files.{Says}
 use Rattle.difference_commands.specs.declared.command.Form.{Form}
 use Rattle.difference_commands.specs.declared.command.Form.TheVariants as forms
-use Rattle.difference_commands.specs.declared.command.Values.{Values}
+use Rattle.difference_commands.specs.declared.command.ChangesCommand.{ChangesCommand}
 
 -- ---- records that lines leave
 
@@ -98,7 +98,7 @@ records-ascend digest input m made =
 
 -- ---- in each form
 
-pub says-ascending : (digest : List ℕ → List ℕ) (asked : Values) (form : Form) (file : List ℕ) (es : List Pair) (m : Records)
+pub says-ascending : (digest : List ℕ → List ℕ) (asked : ChangesCommand) (form : Form) (file : List ℕ) (es : List Pair) (m : Records)
     → Says digest asked form file es m → is_ascending es ≡ true
 says-ascending digest asked forms.Car file es m s =
     ap is_ascending s.1 ∙ pairs-ascend (pairs digest m) s.0.1.pairs_are

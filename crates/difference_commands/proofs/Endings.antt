@@ -1,15 +1,17 @@
 -- How the command ends on two inputs, to the status.
-use Rattle.std.proofs.Common.{◌≡◌, ◌⊎◌, ⊎_elim, inl, inr, ℕ, List, [], Some, None, refl, sym, subst, arith}
-use Rattle.std.specs.Prelude.{◌≤◌, Option, Result, Ok, Err, IfErr, IfSome}
+use Rattle.std.proofs.Common.{◌≡◌, ◌⊎◌, ⊎_elim, inl, inr, ℕ, List, [], Some, None, refl, sym, subst, ◌∙◌, arith}
+use Rattle.std.specs.Prelude.{◌≤◌, Option, option_map, Result, Ok, Err, IfErr, IfOk, IfSome}
 use Rattle.std.proofs.lemmas.List.{append-nil}
 use Rattle.std.specs.Io.KnownBytes.{Appends, Keeps}
-use Rattle.console.proofs.Leaving.{Appends-append, Appends-kept}
+use Rattle.console.proofs.Leaving.{Appends-append, Appends-kept, Appends-nil}
 use Rattle.console.specs.Faults.{read_status, write_status}
 use Rattle.console.specs.Files.{open_status}
+use Rattle.console.specs.Saving.{save_status}
+use Rattle.console.specs.Written.{AppendsBeginning}
+use Rattle.console.specs.declared.save_fault.SaveFault.{SaveFault}
+use Rattle.console.specs.declared.save_fault.SaveFault.TheVariants as saves
 use Rattle.console.specs.declared.files.OpenFault.{OpenFault}
 use Rattle.console.specs.declared.files.OpenFault.TheVariants as opens
-use Rattle.console.specs.declared.fault.CommandFault.{CommandFault}
-use Rattle.console.specs.declared.fault.CommandFault.TheVariants as ends
 use Rattle.console.specs.declared.reading.ReadFault.{ReadFault}
 use Rattle.console.specs.declared.reading.ReadFault.TheVariants as reads
 use Rattle.console.specs.declared.writing.WriteFault.{WriteFault}
@@ -23,8 +25,8 @@ use Rattle.tree_command.specs.Fault as tree
 use Rattle.tree_command.specs.declared.fault.TreeFault.{TreeFault}
 use Rattle.tree_command.specs.declared.fault.TreeFault.TheVariants as tree_faults
 use Rattle.difference_commands.specs.RecordLines as lines
-use Rattle.difference_commands.specs.Faults.{command_status, file_status, line_fault_of, line_status, lines_status, status_of}
-use Rattle.difference_commands.specs.Outcomes.{AppendsTextOf, BeginsTextOf, IsBegunBy, IsEnd, IsEndOf, IsOutcome, IsStatusOf, KeepsWithoutText, OfInputs}
+use Rattle.difference_commands.specs.Faults.{file_status, line_fault_of, line_status, lines_status, status_of}
+use Rattle.difference_commands.specs.Outcomes.{AreTextsOf, IsBegunBy, IsEndOf, IsFault, IsFinish, IsSavedBy, IsStatusOf, OfInputs, SavesSliceOf}
 use Rattle.difference_commands.specs.declared.command.ChangesCommand.{ChangesCommand}
 use Rattle.difference_commands.specs.declared.fault.ChangesFault.{ChangesFault}
 use Rattle.difference_commands.specs.declared.fault.ChangesFault.TheVariants as errors
@@ -32,6 +34,7 @@ use Rattle.difference_commands.specs.declared.lines_fault.LinesFault.{LinesFault
 use Rattle.difference_commands.specs.declared.lines_fault.LinesFault.TheVariants as lines_faults
 use Rattle.difference_commands.specs.declared.file_fault.FileFault.{FileFault}
 use Rattle.difference_commands.specs.declared.file_fault.FileFault.TheVariants as file_faults
+use Rattle.difference_commands.specs.declared.told.Told.{Told}
 
 -- ---- what is said of inputs that may be known
 
@@ -58,168 +61,193 @@ known-both P None p a b e f h = tt
 known-both P (Some xs) None a b e f h = tt
 known-both P (Some xs) (Some ys) a b e f h = subst (λ (x : List ℕ). P x ys) e (subst (λ (y : List ℕ). P a y) f h)
 
-module _ (digest : List ℕ → List ℕ) (command : ChangesCommand) where
-  -- ---- files that were read
+-- ---- what is told of inputs that were read
 
-  kept : (xs ys : List ℕ) (was is : Option (List ℕ)) (r : Result (Unit {0}) (CommandFault ChangesFault)) → IsOutcome digest command xs ys was is r
-      → IfErr r (KeepsWithoutText was is)
-  kept xs ys was is (Ok done) h = tt
-  kept xs ys was is (Err (ends.NoText f)) h = keeps-same was is h.1
-  kept xs ys was is (Err (ends.Unwritten f)) h = tt
+module _ {A : Type 0} (digest : List ℕ → List ℕ) (command : ChangesCommand) (old new : Option (List ℕ)) where
+  pub texts_known : (xs ys : List ℕ) (r : Result (Told A) ChangesFault) → IfSome old (λ x. xs ≡ x) → IfSome new (λ y. ys ≡ y)
+      → IfOk r (λ t. AreTextsOf digest command xs ys t.lines.items (option_map (λ bytes. bytes.items) t.slice))
+      → IfOk r (λ t. OfInputs old new (λ a b. AreTextsOf digest command a b t.lines.items (option_map (λ bytes. bytes.items) t.slice)))
+  texts_known xs ys (Ok t) e f h =
+      known-both (λ a b. AreTextsOf digest command a b t.lines.items (option_map (λ bytes. bytes.items) t.slice)) old new xs ys e f h
+  texts_known xs ys (Err fault) e f h = tt
 
-  pub end-of-files : (old new was is : Option (List ℕ)) (xs ys : List ℕ) (r : Result (Unit {0}) (CommandFault ChangesFault))
-      → IfSome old (λ x. xs ≡ x) → IfSome new (λ y. ys ≡ y) → IsOutcome digest command xs ys was is r → IsEnd digest command old new was is r
-  end-of-files old new was is xs ys r e f h = record {
-    of_files = known-both (λ a b. IsOutcome digest command a b was is r) old new xs ys e f h;
-    nothing = kept xs ys was is r h;
-  }
+  pub fault_known : (xs ys : List ℕ) (r : Result (Told A) ChangesFault) → IfSome old (λ x. xs ≡ x) → IfSome new (λ y. ys ≡ y)
+      → IfErr r (IsFault digest command xs ys) → IfErr r (λ fault. OfInputs old new (λ a b. IsFault digest command a b fault))
+  fault_known xs ys (Ok t) e f h = tt
+  fault_known xs ys (Err fault) e f h = known-both (λ a b. IsFault digest command a b fault) old new xs ys e f h
 
+module _ (digest : List ℕ → List ℕ) (command : ChangesCommand) (old new : Option (List ℕ)) (f : ReadFault) where
   -- one of them can't be read
-  pub end-unread-old : (old new was : Option (List ℕ)) (f : ReadFault)
-      → IsEnd digest command old new was was (Err (ends.NoText (errors.OldUnread f)))
-  end-unread-old old new was f = record {
-    of_files = always_both (λ a b. IsOutcome digest command a b was was (Err (ends.NoText (errors.OldUnread f)))) old new (λ a b. (tt, refl));
-    nothing = keeps-itself was;
+  pub unread_old : OfInputs old new (λ a b. IsFault digest command a b (errors.OldUnread f))
+  unread_old = always_both (λ a b. IsFault digest command a b (errors.OldUnread f)) old new (λ a b. tt)
+
+  pub unread_new : OfInputs old new (λ a b. IsFault digest command a b (errors.NewUnread f))
+  unread_new = always_both (λ a b. IsFault digest command a b (errors.NewUnread f)) old new (λ a b. tt)
+
+-- ---- lines that were made
+
+pub finished_whole : (lines : List ℕ) (was is last : Option (List ℕ)) (n : ℕ) → Appends was is lines → Keeps is last → (n ≡ 0) ⊎ (n ≡ 4)
+    → IsFinish lines was last n
+finished_whole lines was is last n w k so =
+    let whole : Appends was last lines =
+    subst (Appends was last) (append-nil lines) (Appends-append was is last lines [] w (Appends-kept is last k)) in
+    record {
+      one_of = ⊎_elim (λ z. inl z) (λ f. inr (inr f)) so;
+      done = λ zero. whole;
+      beginning = (lines, [], sym (append-nil lines), whole);
+    }
+
+write-statuses : (w : WriteFault) → (write_status w ≡ 3) ⊎ (write_status w ≡ 4)
+write-statuses writes.NoMemory = inl refl
+write-statuses writes.Failed = inr refl
+
+open-statuses : (f : OpenFault) → (open_status f ≡ 3) ⊎ (open_status f ≡ 4)
+open-statuses opens.NotFound = inr refl
+open-statuses opens.Denied = inr refl
+open-statuses opens.Directory = inr refl
+open-statuses opens.NoMemory = inl refl
+open-statuses opens.Failed = inr refl
+
+save-statuses : (f : SaveFault) → (save_status f ≡ 3) ⊎ (save_status f ≡ 4)
+save-statuses (saves.Unopened f) = open-statuses f
+save-statuses (saves.Unwritten w) = write-statuses w
+
+not-done : (n s : ℕ) → n ≡ s → (s ≡ 3) ⊎ (s ≡ 4) → n ≡ 0 → ⊥
+not-done n s so three zero = ⊎_elim (λ e. omega (arith, so, e, zero)) (λ e. omega (arith, so, e, zero)) three
+
+unfinished : (lines : List ℕ) (was is : Option (List ℕ)) (n s : ℕ) → n ≡ s → (s ≡ 3) ⊎ (s ≡ 4) → AppendsBeginning was is lines
+    → IsFinish lines was is n
+unfinished lines was is n s so three begun = record {
+  one_of = inr (⊎_elim (λ e. inl (so ∙ e)) (λ e. inr (so ∙ e)) three);
+  done = λ zero. absurd (not-done n s so three zero);
+  beginning = begun;
+}
+
+pub finished_cut : (lines : List ℕ) (was is : Option (List ℕ)) (w : WriteFault) (n : ℕ) → AppendsBeginning was is lines → n ≡ write_status w
+    → IsFinish lines was is n
+finished_cut lines was is w n begun so = unfinished lines was is n (write_status w) so (write-statuses w) begun
+
+pub finished_unsaved : (lines : List ℕ) (was : Option (List ℕ)) (f : SaveFault) (n : ℕ) → n ≡ save_status f → IsFinish lines was was n
+finished_unsaved lines was f n so =
+    unfinished lines was was n (save_status f) so (save-statuses f) ([], lines, refl, Appends-nil was)
+
+pub unwritten_ends : (w : WriteFault) (n : ℕ) → n ≡ write_status w → n ≡ 0 → ⊥
+unwritten_ends w n so zero = not-done n (write_status w) so (write-statuses w) zero
+
+pub unsaved_ends : (f : SaveFault) (n : ℕ) → n ≡ save_status f → n ≡ 0 → ⊥
+unsaved_ends f n so zero = not-done n (save_status f) so (save-statuses f) zero
+
+-- it is none that says something of the files or the words
+not-one : (n : ℕ) → (n ≡ 0) ⊎ ((n ≡ 3) ⊎ (n ≡ 4)) → n ≡ 1 → ⊥
+not-one n so one = ⊎_elim (λ z. omega (arith, z, one)) (λ f. ⊎_elim (λ e. omega (arith, e, one)) (λ e. omega (arith, e, one)) f) so
+
+not-two : (n : ℕ) → (n ≡ 0) ⊎ ((n ≡ 3) ⊎ (n ≡ 4)) → n ≡ 2 → ⊥
+not-two n so two = ⊎_elim (λ z. omega (arith, z, two)) (λ f. ⊎_elim (λ e. omega (arith, e, two)) (λ e. omega (arith, e, two)) f) so
+
+-- ---- the status
+
+abbrev Statuses : ℕ → Type 0
+Statuses n = (1 ≤ n) × (n ≤ 4) × ((n ≡ 2) → ⊥)
+
+check-statuses : (o : Option exports.ExportFault) → Statuses (export.check_status o)
+check-statuses (Some f) = (omega arith, omega arith, λ e. omega (arith, e))
+check-statuses None = (omega arith, omega arith, λ e. omega (arith, e))
+
+export-statuses : (f : ExportFault) → Statuses (export.status_of f)
+export-statuses (export_faults.Check f) = check-statuses (check_fault_of f)
+export-statuses (export_faults.NoJsonForm place) = (omega arith, omega arith, λ e. omega (arith, e))
+export-statuses export_faults.ReadFailed = (omega arith, omega arith, λ e. omega (arith, e))
+
+tree-statuses : (f : TreeFault) → Statuses (tree.status_of f)
+tree-statuses (tree_faults.Line n f) = (omega arith, omega arith, λ e. omega (arith, e))
+tree-statuses tree_faults.Clash = (omega arith, omega arith, λ e. omega (arith, e))
+tree-statuses tree_faults.NoMemory = (omega arith, omega arith, λ e. omega (arith, e))
+tree-statuses tree_faults.ReadFailed = (omega arith, omega arith, λ e. omega (arith, e))
+
+line-statuses : (o : Option lines.LineFault) → Statuses (line_status o)
+line-statuses (Some f) = (omega arith, omega arith, λ e. omega (arith, e))
+line-statuses None = (omega arith, omega arith, λ e. omega (arith, e))
+
+lines-statuses : (f : LinesFault) → Statuses (lines_status f)
+lines-statuses (lines_faults.Line n f) = line-statuses (line_fault_of f)
+lines-statuses lines_faults.NoMemory = (omega arith, omega arith, λ e. omega (arith, e))
+
+file-statuses : (f : FileFault) → Statuses (file_status f)
+file-statuses (file_faults.Export f) = export-statuses f
+file-statuses (file_faults.Listing f) = tree-statuses f
+file-statuses (file_faults.Records f) = lines-statuses f
+file-statuses file_faults.NoRecords = (omega arith, omega arith, λ e. omega (arith, e))
+
+read-statuses : (f : ReadFault) → Statuses (read_status f)
+read-statuses reads.NoMemory = (omega arith, omega arith, λ e. omega (arith, e))
+read-statuses reads.Failed = (omega arith, omega arith, λ e. omega (arith, e))
+
+statuses : (f : ChangesFault) → Statuses (status_of f)
+statuses (errors.Old f) = file-statuses f
+statuses (errors.New f) = file-statuses f
+statuses (errors.OldUnread f) = read-statuses f
+statuses (errors.NewUnread f) = read-statuses f
+statuses errors.Clash = (omega arith, omega arith, λ e. omega (arith, e))
+statuses errors.NoMemory = (omega arith, omega arith, λ e. omega (arith, e))
+
+-- a fault doesn't end well
+pub fault_ends : (f : ChangesFault) (n : ℕ) → n ≡ status_of f → n ≡ 0 → ⊥
+fault_ends f n so zero = omega (arith, so, zero, (statuses f).0)
+
+module _ (digest : List ℕ → List ℕ) (command : ChangesCommand) (old new was : Option (List ℕ)) where
+  -- the lines were made
+  pub finish_status : (is : Option (List ℕ)) (lines : List ℕ) (sliced : Option (List ℕ)) (n : ℕ)
+      → OfInputs old new (λ xs ys. AreTextsOf digest command xs ys lines sliced) → IsFinish lines was is n
+      → IsStatusOf digest command old new was is n
+  finish_status is lines sliced n of e = record {
+    one_of = ⊎_elim (λ z. omega (arith, z)) (λ f. ⊎_elim (λ three. omega (arith, three)) (λ four. omega (arith, four)) f) e.one_of;
+    done = λ zero. for_both _ _ old new (λ xs ys h. record { lines = lines; sliced = sliced; of_files = h; written = e.done zero }) of;
+    faulty = λ one. absurd (not-one n e.one_of one);
+    nothing = λ one. absurd (not-one n e.one_of one);
+    usage = λ two. not-two n e.one_of two;
+    beginning = for_both _ _ old new (λ xs ys h. inr (record { lines = lines; sliced = sliced; of_files = h; written = e.beginning })) of;
   }
 
-  pub end-unread-new : (old new was : Option (List ℕ)) (f : ReadFault)
-      → IsEnd digest command old new was was (Err (ends.NoText (errors.NewUnread f)))
-  end-unread-new old new was f = record {
-    of_files = always_both (λ a b. IsOutcome digest command a b was was (Err (ends.NoText (errors.NewUnread f)))) old new (λ a b. (tt, refl));
-    nothing = keeps-itself was;
-  }
+  pub fault_status : (f : ChangesFault) (n : ℕ) → OfInputs old new (λ xs ys. IsFault digest command xs ys f) → n ≡ status_of f
+      → IsStatusOf digest command old new was was n
+  fault_status f n is-fault so =
+      let s = statuses f in
+      record {
+        one_of = omega (arith, so, s.1);
+        done = λ zero. absurd (omega (arith, so, zero, s.0));
+        faulty = λ one. for_both _ _ old new (λ xs ys h. (f, h, sym so ∙ one)) is-fault;
+        nothing = λ one. keeps-itself was;
+        usage = λ two. s.2 (sym so ∙ two);
+        beginning = always_both _ old new (λ xs ys. inl (keeps-itself was));
+      }
 
-  -- ---- the status
-
-  written-on : (xs ys : List ℕ) (a b c : Option (List ℕ)) → AppendsTextOf digest command xs ys a b → Keeps b c → AppendsTextOf digest command xs ys a c
-  written-on xs ys a b c p k = record {
-    text = p.text;
-    of_files = p.of_files;
-    written = subst (Appends a c) (append-nil p.text) (Appends-append a b c p.text [] p.written (Appends-kept b c k));
-  }
-
-  whole : (xs ys : List ℕ) (a b : Option (List ℕ)) → AppendsTextOf digest command xs ys a b → BeginsTextOf digest command xs ys a b
-  whole xs ys a b p = record { text = p.text; of_files = p.of_files; written = (p.text, [], sym (append-nil p.text), p.written) }
-
-  abbrev Statuses : ℕ → Type 0
-  Statuses n = (1 ≤ n) × (n ≤ 4) × ((n ≡ 2) → ⊥)
-
-  check-statuses : (o : Option exports.ExportFault) → Statuses (export.check_status o)
-  check-statuses (Some f) = (omega arith, omega arith, λ e. omega (arith, e))
-  check-statuses None = (omega arith, omega arith, λ e. omega (arith, e))
-
-  export-statuses : (f : ExportFault) → Statuses (export.status_of f)
-  export-statuses (export_faults.Check f) = check-statuses (check_fault_of f)
-  export-statuses (export_faults.NoJsonForm place) = (omega arith, omega arith, λ e. omega (arith, e))
-  export-statuses export_faults.ReadFailed = (omega arith, omega arith, λ e. omega (arith, e))
-
-  tree-statuses : (f : TreeFault) → Statuses (tree.status_of f)
-  tree-statuses (tree_faults.Line n f) = (omega arith, omega arith, λ e. omega (arith, e))
-  tree-statuses tree_faults.Clash = (omega arith, omega arith, λ e. omega (arith, e))
-  tree-statuses tree_faults.NoMemory = (omega arith, omega arith, λ e. omega (arith, e))
-  tree-statuses tree_faults.ReadFailed = (omega arith, omega arith, λ e. omega (arith, e))
-
-  line-statuses : (o : Option lines.LineFault) → Statuses (line_status o)
-  line-statuses (Some f) = (omega arith, omega arith, λ e. omega (arith, e))
-  line-statuses None = (omega arith, omega arith, λ e. omega (arith, e))
-
-  lines-statuses : (f : LinesFault) → Statuses (lines_status f)
-  lines-statuses (lines_faults.Line n f) = line-statuses (line_fault_of f)
-  lines-statuses lines_faults.NoMemory = (omega arith, omega arith, λ e. omega (arith, e))
-
-  file-statuses : (f : FileFault) → Statuses (file_status f)
-  file-statuses (file_faults.Export f) = export-statuses f
-  file-statuses (file_faults.Listing f) = tree-statuses f
-  file-statuses (file_faults.Records f) = lines-statuses f
-  file-statuses file_faults.NoRecords = (omega arith, omega arith, λ e. omega (arith, e))
-
-  read-statuses : (f : ReadFault) → Statuses (read_status f)
-  read-statuses reads.NoMemory = (omega arith, omega arith, λ e. omega (arith, e))
-  read-statuses reads.Failed = (omega arith, omega arith, λ e. omega (arith, e))
-
-  statuses : (f : ChangesFault) → Statuses (status_of f)
-  statuses (errors.Old f) = file-statuses f
-  statuses (errors.New f) = file-statuses f
-  statuses (errors.OldUnread f) = read-statuses f
-  statuses (errors.NewUnread f) = read-statuses f
-  statuses errors.Clash = (omega arith, omega arith, λ e. omega (arith, e))
-  statuses errors.NoMemory = (omega arith, omega arith, λ e. omega (arith, e))
-
-  write-statuses : (w : WriteFault) → (3 ≤ write_status w) × (write_status w ≤ 4)
-  write-statuses writes.NoMemory = (omega arith, omega arith)
-  write-statuses writes.Failed = (omega arith, omega arith)
-
-  module _ (old new was is : Option (List ℕ)) where
-    -- the text was written, and reached the writer's end or not
-    pub done-status : (last : Option (List ℕ)) (n : ℕ) → IsEnd digest command old new was is (Ok tt) → Keeps is last → (n ≡ 0) ⊎ (n ≡ 4)
-        → IsStatusOf digest command old new was last n
-    done-status last n end stays so =
-        let wrote = for_both _ _ old new (λ xs ys w. written-on xs ys was is last w stays) end.of_files in
-        record {
-          one_of = ⊎_elim (λ z. omega arith) (λ f. omega arith) so;
-          done = λ zero. wrote;
-          faulty = λ one. absurd (⊎_elim (λ z. omega arith) (λ f. omega arith) so);
-          nothing = λ one. absurd (⊎_elim (λ z. omega arith) (λ f. omega arith) so);
-          usage = λ two. ⊎_elim (λ z. omega arith) (λ f. omega arith) so;
-          beginning = for_both _ _ old new (λ xs ys w. inr (whole xs ys was last w)) wrote;
-        }
-
-    failed-with : (e : CommandFault ChangesFault) → IsEnd digest command old new was is (Err e) → IsStatusOf digest command old new was is (command_status e)
-    failed-with (ends.NoText f) end =
-        let s = statuses f in
-        record {
-          one_of = s.1;
-          done = λ zero. absurd (omega (arith, zero, s.0));
-          faulty = λ one. for_both _ _ old new (λ xs ys p. (f, p.0, one)) end.of_files;
-          nothing = λ one. end.nothing;
-          usage = s.2;
-          beginning = always_both _ old new (λ xs ys. inl end.nothing);
-        }
-    failed-with (ends.Unwritten w) end =
-        let s = write-statuses w in
-        record {
-          one_of = s.1;
-          done = λ zero. absurd (omega (arith, zero, s.0));
-          faulty = λ one. absurd (omega (arith, one, s.0));
-          nothing = λ one. absurd (omega (arith, one, s.0));
-          usage = λ two. omega (arith, two, s.0);
-          beginning = for_both _ _ old new (λ xs ys p. inr p) end.of_files;
-        }
-
-    pub failed-status : (e : CommandFault ChangesFault) (n : ℕ) → IsEnd digest command old new was is (Err e) → n ≡ command_status e
-        → IsStatusOf digest command old new was is n
-    failed-status e n end so = subst (IsStatusOf digest command old new was is) (sym so) (failed-with e end)
+-- their slice was saved, where a file is named for it and there is one
+pub finish_saved : (digest : List ℕ → List ℕ) (command : ChangesCommand) (old new : Option (List ℕ)) (lines : List ℕ)
+    (sliced name : Option (List ℕ)) (saved : List ℕ → List ℕ → Type 0)
+    → OfInputs old new (λ xs ys. AreTextsOf digest command xs ys lines sliced) → IfSome name (λ m. IfSome sliced (saved m))
+    → IfSome name (λ m. OfInputs old new (λ xs ys. SavesSliceOf digest command xs ys (saved m)))
+finish_saved digest command old new lines sliced None saved of kept = tt
+finish_saved digest command old new lines sliced (Some m) saved of kept =
+    for_both _ _ old new (λ xs ys h. record { lines = lines; sliced = sliced; of_files = h; kept = kept }) of
 
 -- ---- files that words name
 
-open-statuses : (f : OpenFault) → (3 ≤ open_status f) × (open_status f ≤ 4)
-open-statuses opens.NotFound = (omega arith, omega arith)
-open-statuses opens.Denied = (omega arith, omega arith)
-open-statuses opens.Directory = (omega arith, omega arith)
-open-statuses opens.NoMemory = (omega arith, omega arith)
-open-statuses opens.Failed = (omega arith, omega arith)
-
 -- a file that can't be opened doesn't end well
 pub unopened_ends : (f : OpenFault) (n : ℕ) → n ≡ open_status f → n ≡ 0 → ⊥
-unopened_ends f n so zero = omega (arith, so, zero, (open-statuses f).0)
-
-unopened-with : (digest : List ℕ → List ℕ) (command : ChangesCommand) (old new was : Option (List ℕ)) (f : OpenFault)
-    → IsStatusOf digest command old new was was (open_status f)
-unopened-with digest command old new was f =
-    let s = open-statuses f in
-    record {
-      one_of = s.1;
-      done = λ zero. absurd (omega (arith, zero, s.0));
-      faulty = λ one. absurd (omega (arith, one, s.0));
-      nothing = λ one. absurd (omega (arith, one, s.0));
-      usage = λ two. omega (arith, two, s.0);
-      beginning = always_both _ old new (λ xs ys. inl (keeps-itself was));
-    }
+unopened_ends f n so zero = not-done n (open_status f) so (open-statuses f) zero
 
 pub unopened_status : (digest : List ℕ → List ℕ) (command : ChangesCommand) (old new was : Option (List ℕ)) (f : OpenFault) (n : ℕ)
     → n ≡ open_status f → IsStatusOf digest command old new was was n
 unopened_status digest command old new was f n so =
-    subst (IsStatusOf digest command old new was was) (sym so) (unopened-with digest command old new was f)
+    let such : (n ≡ 0) ⊎ ((n ≡ 3) ⊎ (n ≡ 4)) = inr (⊎_elim (λ e. inl (so ∙ e)) (λ e. inr (so ∙ e)) (open-statuses f)) in
+    record {
+      one_of = ⊎_elim (λ z. omega (arith, z)) (λ g. ⊎_elim (λ three. omega (arith, three)) (λ four. omega (arith, four)) g) such;
+      done = λ zero. absurd (unopened_ends f n so zero);
+      faulty = λ one. absurd (not-one n such one);
+      nothing = λ one. absurd (not-one n such one);
+      usage = λ two. not-two n such two;
+      beginning = always_both _ old new (λ xs ys. inl (keeps-itself was));
+    }
 
 -- the words have a form, and what came of the files came of them
 end-with : (digest : List ℕ → List ℕ) (command : ChangesCommand) (old new was is : Option (List ℕ)) (n : ℕ)
@@ -258,3 +286,15 @@ end_formless digest asked old new was n so one =
 pub begun_by_nothing : (digest : List ℕ → List ℕ) (asked : Option ChangesCommand) (old new was : Option (List ℕ)) → IsBegunBy digest asked old new was was
 begun_by_nothing digest None old new was = keeps-itself was
 begun_by_nothing digest (Some command) old new was = always_both _ old new (λ xs ys. inl (keeps-itself was))
+
+-- ---- the file that they name for blocks
+
+pub saved_by_words : (digest : List ℕ → List ℕ) (asked : Option ChangesCommand) (command : ChangesCommand) (old new name : Option (List ℕ))
+    (saved : List ℕ → List ℕ → Type 0) → Some command ≡ asked
+    → IfSome name (λ n. OfInputs old new (λ xs ys. SavesSliceOf digest command xs ys (saved n)))
+    → IsSavedBy digest asked old new name saved
+saved_by_words digest asked command old new name saved so s = subst (λ (o : Option ChangesCommand). IsSavedBy digest o old new name saved) so s
+
+pub saved_formless : (digest : List ℕ → List ℕ) (asked : Option ChangesCommand) (old new name : Option (List ℕ))
+    (saved : List ℕ → List ℕ → Type 0) → None ≡ asked → IsSavedBy digest asked old new name saved
+saved_formless digest asked old new name saved so = subst (λ (o : Option ChangesCommand). IsSavedBy digest o old new name saved) so tt

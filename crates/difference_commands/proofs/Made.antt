@@ -1,54 +1,44 @@
--- How a text of two files is made, and how it is written.
-use Rattle.std.proofs.Common.{◌≡◌, ℕ, List, ◌++◌, map, refl, sym, ap, subst, ◌∙◌}
+-- What is told of two files, from what was compared of them.
+use Rattle.std.proofs.Common.{◌≡◌, ℕ, List, map, sym, ap, subst, ◌∙◌}
 use Rattle.std.specs.Arc.{arc_value}
-use Rattle.std.specs.List.{flat_map}
-use Rattle.std.specs.Prelude.{Option, Result, Ok, Err, IfErr, IfOk, IsErrAnd}
+use Rattle.std.specs.Prelude.{Option, option_map, Result, Ok, Err, IfErr, IfOk, IsErrAnd}
 use Rattle.difference.specs.Differences.{IsDifferenceOf}
 use Rattle.difference.specs.Merged.{told}
-use Rattle.difference.specs.declared.outcome.KeyDifference.{KeyDifference}
-use Rattle.spec.specs.Blocks.{IsClashFree, nodes, root}
+use Rattle.spec.specs.Blocks.{root}
 use Rattle.spec.specs.Tree.{Pair}
-use Rattle.console.specs.Faults.{IsWritten}
-use Rattle.console.specs.declared.fault.CommandFault.{CommandFault}
-use Rattle.console.specs.declared.fault.CommandFault.TheVariants as ends
-use Rattle.std.specs.declared.vec.Vec.{Vec}
 use Rattle.difference_commands.specs.Files.{IsContents, said_commit, said_pairs, said_records}
 use Rattle.difference_commands.specs.Faults.{of_trees}
 use Rattle.difference_commands.specs.Forms.{form_of}
 use Rattle.difference_commands.specs.Slices.{coming}
-use Rattle.difference_commands.specs.Texts.{Coming, change_line, change_line_with, changes_text, slice}
-use Rattle.difference_commands.specs.declared.command.Values.{Values}
-use Rattle.difference_commands.specs.declared.command.Values.TheVariants as values
+use Rattle.difference_commands.specs.Texts.{Coming, lines_text, slice_if}
 use Rattle.difference_commands.specs.Trees.{IsClashBetween}
 use Rattle.difference_commands.specs.Views.{Entry, Records, pairs_in, records_in}
+use Rattle.difference_commands.specs.declared.told.Told.{Told}
 use Rattle.difference_commands.specs.declared.trees.Compared.{Compared}
 use Rattle.difference_commands.specs.declared.trees.TreesFault.{TreesFault}
 use Rattle.difference_commands.specs.declared.trees.TreesFault.TheVariants as trees_faults
-use Rattle.difference_commands.specs.Outcomes.{IsFault, IsFaultBetween, IsOutcome, IsTextBetween, IsTextOf}
+use Rattle.difference_commands.specs.Outcomes.{AreTexts, AreTextsBetween, AreTextsOf, IsFault, IsFaultBetween}
 use Rattle.difference_commands.specs.declared.command.ChangesCommand.{ChangesCommand}
 use Rattle.difference_commands.specs.declared.contents.Contents.{Contents}
 use Rattle.difference_commands.specs.declared.fault.ChangesFault.{ChangesFault}
 use Rattle.difference_commands.specs.declared.fault.ChangesFault.TheVariants as errors
 
 module _ {A : Type 0} (digest : List ℕ → List ℕ) (command : ChangesCommand) (old new : List ℕ) (before after : Contents A)
-    (old_is : IsContents digest command.values (form_of command.form old) old before)
-    (new_is : IsContents digest command.values (form_of command.form new) new after) where
-  -- the text of what was read of the files is theirs
-  pub text-of : (text : List ℕ) → IsTextBetween digest command.values before after text → IsTextOf digest command old new text
-  text-of text t = record {
+    (old_is : IsContents digest command (form_of command.form old) old before)
+    (new_is : IsContents digest command (form_of command.form new) new after) where
+  -- what is told of what was read of the files is told of these
+  pub texts-of : (lines : List ℕ) (sliced : Option (List ℕ)) → AreTextsBetween digest command before after lines sliced
+      → AreTextsOf digest command old new lines sliced
+  texts-of lines sliced t = record {
     before = said_pairs digest before;
     old_records = said_records before;
     old_says = old_is.says;
     after = said_pairs digest after;
     new_records = said_records after;
     new_says = new_is.says;
-    changes = t.changes;
-    differ = t.differ;
-    come = record { commit = said_commit after; root = root digest 2 (said_pairs digest after); nodes = t.nodes };
+    commit = said_commit after;
     commit_is = new_is.commit;
-    root_is = refl;
-    nodes_are = t.nodes_are;
-    is = t.is;
+    texts = t;
   }
 
   pub clash-of : (fault : ChangesFault) → IsFaultBetween digest (said_pairs digest before) (said_pairs digest after) fault
@@ -68,95 +58,67 @@ module _ {A : Type 0} (digest : List ℕ → List ℕ) (command : ChangesCommand
   }
   clash-of errors.NoMemory h = tt
 
--- a text that was made is written, or a beginning of it; and where none was made nothing is
-pub written : {A : Type 0} (digest : List ℕ → List ℕ) (command : ChangesCommand) (old new : List ℕ) (was is : Option (List ℕ))
-    (made : Result (Vec ℕ A) ChangesFault) (r : Result (Unit {0}) (CommandFault ChangesFault))
-    → IfOk made (λ text. IsTextOf digest command old new text.items) → IfErr made (IsFault digest command old new)
-    → IsWritten (λ bytes. bytes.items) made was is r → IsOutcome digest command old new was is r
-written digest command old new was is (Ok text) (Ok done) of_files fault w = record { text = text.items; of_files = of_files; written = w }
-written digest command old new was is (Ok text) (Err (ends.NoText f)) of_files fault w = absurd w
-written digest command old new was is (Ok text) (Err (ends.Unwritten f)) of_files fault w =
-    record { text = text.items; of_files = of_files; written = w }
-written digest command old new was is (Err f) r of_files fault w =
-    subst (λ (x : Result (Unit {0}) (CommandFault ChangesFault)). IsOutcome digest command old new was is x) (sym w.0) (fault, w.1)
-
 -- ---- what the two trees come to
 
-module _ {A : Type 0} (digest : List ℕ → List ℕ) (before after : Contents A) (old new : List Entry)
-    (old_pairs : pairs_in old ≡ said_pairs digest before) (new_pairs : pairs_in new ≡ said_pairs digest after) where
+module _ (digest : List ℕ → List ℕ) (es fs : List Pair) where
   -- a fault of both trees
-  fault-between : (f : TreesFault) → IsClashBetween digest (pairs_in old) (pairs_in new) f
-      → IsFaultBetween digest (said_pairs digest before) (said_pairs digest after) (of_trees f)
-  fault-between trees_faults.Clash h =
-      subst (λ (es : List Pair). ¬ IsClashFree digest (nodes digest 2 es ++ nodes digest 2 (said_pairs digest after))) old_pairs
-      (subst (λ (fs : List Pair). ¬ IsClashFree digest (nodes digest 2 (pairs_in old) ++ nodes digest 2 fs)) new_pairs h)
+  fault-between : (f : TreesFault) → IsClashBetween digest es fs f → IsFaultBetween digest es fs (of_trees f)
+  fault-between trees_faults.Clash h = h
   fault-between trees_faults.NoMemory h = tt
 
   pub handed-on : {T : Type 0} (f : TreesFault) (r : Result T ChangesFault) → IsErrAnd r (λ x. x ≡ of_trees f)
-      → IsClashBetween digest (pairs_in old) (pairs_in new) f
-      → IfErr r (IsFaultBetween digest (said_pairs digest before) (said_pairs digest after))
+      → IsClashBetween digest es fs f → IfErr r (IsFaultBetween digest es fs)
   handed-on f (Ok x) e h = tt
-  handed-on f (Err x) e h =
-      subst (IsFaultBetween digest (said_pairs digest before) (said_pairs digest after)) (sym e) (fault-between f h)
+  handed-on f (Err x) e h = subst (IsFaultBetween digest es fs) (sym e) (fault-between f h)
 
-module _ {D A : Type 0} (digest : List ℕ → List ℕ) (asked : Values) (before after : Contents A) (old new : List Entry)
-    (old_pairs : pairs_in old ≡ said_pairs digest before) (old_records : records_in old ≡ said_records before)
-    (new_pairs : pairs_in new ≡ said_pairs digest after) (new_records : records_in new ≡ said_records after)
+-- what is told of what was compared is told of the entries
+module _ {D A : Type 0} (digest : List ℕ → List ℕ) (command : ChangesCommand) (commit : Option (List ℕ)) (old new : List Entry)
     (compared : Compared D A)
     (differ : IsDifferenceOf digest 2 (pairs_in old) (pairs_in new)
     (told compared.found.changes.items) (map arc_value compared.found.come.items) compared.found.go.items)
     (root_is : compared.root ≡ root digest 2 (pairs_in new)) where
-  differ-said : IsDifferenceOf digest 2 (said_pairs digest before) (said_pairs digest after)
-      (told compared.found.changes.items) (map arc_value compared.found.come.items) compared.found.go.items
-  differ-said =
-      subst (λ (es : List Pair). IsDifferenceOf digest 2 es (said_pairs digest after)
-      (told compared.found.changes.items) (map arc_value compared.found.come.items) compared.found.go.items) old_pairs
-      (subst (λ (fs : List Pair). IsDifferenceOf digest 2 (pairs_in old) fs
-      (told compared.found.changes.items) (map arc_value compared.found.come.items) compared.found.go.items) new_pairs differ)
-
   abbrev coming-at : List ℕ → Coming
-  coming-at r = record { commit = said_commit after; root = r; nodes = map arc_value compared.found.come.items }
+  coming-at r = record { commit = commit; root = r; nodes = map arc_value compared.found.come.items }
 
-  -- a text that is told of what was compared is told of what was said
-  between : (text : List ℕ)
-      → text ≡ changes_text digest asked (coming (said_commit after) compared) (records_in old) (records_in new) (told compared.found.changes.items)
-      → IsTextBetween digest asked before after text
-  between text is =
-      let cs = told compared.found.changes.items in
-      let came = differ-said in
-      record {
-        changes = cs;
-        differ = came.differ;
-        nodes = map arc_value compared.found.come.items;
-        nodes_are = record { are = came.come_is; once = came.come_once };
-        is = is ∙ ap (λ (r : List ℕ). changes_text digest asked (coming-at r) (records_in old) (records_in new) cs) (root_is ∙ ap (root digest 2) new_pairs)
-            ∙ ap (λ (rs : Records). changes_text digest asked (coming-at (root digest 2 (said_pairs digest after))) rs (records_in new) cs) old_records
-            ∙ ap (λ (rs : Records). changes_text digest asked (coming-at (root digest 2 (said_pairs digest after))) (said_records before) rs cs) new_records;
-      }
+  pub of-compared : (lines : List ℕ) (sliced : Option (List ℕ))
+      → lines ≡ lines_text command.values (records_in old) (records_in new) (told compared.found.changes.items)
+      → sliced ≡ slice_if command.blocks digest (coming commit compared) (records_in new) (told compared.found.changes.items)
+      → AreTexts digest command commit (pairs_in old) (pairs_in new) (records_in old) (records_in new) lines sliced
+  of-compared lines sliced lines-are slice-is = record {
+    changes = told compared.found.changes.items;
+    differ = differ.differ;
+    nodes = map arc_value compared.found.come.items;
+    nodes_are = record { are = differ.come_is; once = differ.come_once };
+    lines_are = lines-are;
+    slice_is = slice-is
+        ∙ ap (λ (r : List ℕ). slice_if command.blocks digest (coming-at r) (records_in new) (told compared.found.changes.items)) root_is;
+  }
 
-  -- as each value asks for it
-  as-asked : (v : Values) → asked ≡ v → (text : List ℕ)
-      → text ≡ changes_text digest v (coming (said_commit after) compared) (records_in old) (records_in new) (told compared.found.changes.items)
-      → IsTextBetween digest asked before after text
-  as-asked v so text is =
-      between text (is ∙ ap (λ (w : Values). changes_text digest w (coming (said_commit after) compared) (records_in old) (records_in new) (told compared.found.changes.items)) (sym so))
+-- ---- of what both files say, whose entries these are
 
-  pub between-cids : asked ≡ values.Cids → (cs : List (KeyDifference A)) → cs ≡ compared.found.changes.items → (text : List ℕ)
-      → text ≡ flat_map change_line (told cs) → IsTextBetween digest asked before after text
-  between-cids so cs same text is = as-asked values.Cids so text (is ∙ ap (λ (ds : List (KeyDifference A)). flat_map change_line (told ds)) same)
+module _ {A : Type 0} (digest : List ℕ → List ℕ) (command : ChangesCommand) (before after : Contents A) (old new : List Entry)
+    (old_pairs : pairs_in old ≡ said_pairs digest before) (old_records : records_in old ≡ said_records before)
+    (new_pairs : pairs_in new ≡ said_pairs digest after) (new_records : records_in new ≡ said_records after) where
+  between : (lines : List ℕ) (sliced : Option (List ℕ))
+      → AreTexts digest command (said_commit after) (pairs_in old) (pairs_in new) (records_in old) (records_in new) lines sliced
+      → AreTextsBetween digest command before after lines sliced
+  between lines sliced t =
+      let commit = said_commit after in
+      subst (λ (rs : Records). AreTexts digest command commit (said_pairs digest before) (said_pairs digest after) (said_records before) rs lines sliced) new_records
+      (subst (λ (rs : Records). AreTexts digest command commit (said_pairs digest before) (said_pairs digest after) rs (records_in new) lines sliced) old_records
+      (subst (λ (fs : List Pair). AreTexts digest command commit (said_pairs digest before) fs (records_in old) (records_in new) lines sliced) new_pairs
+      (subst (λ (es : List Pair). AreTexts digest command commit es (pairs_in new) (records_in old) (records_in new) lines sliced) old_pairs t)))
 
-  pub between-records : asked ≡ values.Records → (cs : List (KeyDifference A)) → cs ≡ compared.found.changes.items
-      → (xs ys : List Entry) → xs ≡ old → ys ≡ new → (text : List ℕ)
-      → text ≡ flat_map (change_line_with (records_in xs) (records_in ys)) (told cs) → IsTextBetween digest asked before after text
-  between-records so cs same xs ys e f text is =
-      as-asked values.Records so text
-      (is ∙ ap (λ (ds : List (KeyDifference A)). flat_map (change_line_with (records_in xs) (records_in ys)) (told ds)) same
-      ∙ ap (λ (zs : List Entry). flat_map (change_line_with (records_in zs) (records_in ys)) (told compared.found.changes.items)) e
-      ∙ ap (λ (zs : List Entry). flat_map (change_line_with (records_in old) (records_in zs)) (told compared.found.changes.items)) f)
+  pub texts-between : {B : Type 0} (r : Result (Told B) ChangesFault)
+      → IfOk r (λ t. AreTexts digest command (said_commit after) (pairs_in old) (pairs_in new) (records_in old) (records_in new)
+      t.lines.items (option_map (λ bytes. bytes.items) t.slice))
+      → IfOk r (λ t. AreTextsBetween digest command before after t.lines.items (option_map (λ bytes. bytes.items) t.slice))
+  texts-between (Ok t) h = between t.lines.items (option_map (λ bytes. bytes.items) t.slice) h
+  texts-between (Err f) h = tt
 
-  pub between-blocks : asked ≡ values.Blocks → (ys : List Entry) → ys ≡ new → (text : List ℕ)
-      → text ≡ slice digest (coming (said_commit after) compared) (records_in ys) (told compared.found.changes.items)
-      → IsTextBetween digest asked before after text
-  between-blocks so ys f text is =
-      as-asked values.Blocks so text
-      (is ∙ ap (λ (zs : List Entry). slice digest (coming (said_commit after) compared) (records_in zs) (told compared.found.changes.items)) f)
+  pub fault-said : {T : Type 0} (r : Result T ChangesFault) → IfErr r (IsFaultBetween digest (pairs_in old) (pairs_in new))
+      → IfErr r (IsFaultBetween digest (said_pairs digest before) (said_pairs digest after))
+  fault-said (Ok x) h = tt
+  fault-said (Err f) h =
+      subst (λ (es : List Pair). IsFaultBetween digest es (said_pairs digest after) f) old_pairs
+      (subst (λ (fs : List Pair). IsFaultBetween digest (pairs_in old) fs f) new_pairs h)

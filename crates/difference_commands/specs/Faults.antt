@@ -4,9 +4,7 @@ use Rattle.spec.specs.Writes as writes
 use Rattle.record_rules.specs.Faults.{record_fault_of}
 use Rattle.export_commands.specs.Faults as export
 use Rattle.tree_command.specs.Fault as tree
-use Rattle.console.specs.Faults.{read_status, write_status}
-use Rattle.console.specs.declared.fault.CommandFault.{CommandFault}
-use Rattle.console.specs.declared.fault.CommandFault.TheVariants as ends
+use Rattle.console.specs.Faults.{read_status}
 use Rattle.difference_commands.specs.RecordLines as lines
 use Rattle.difference_commands.specs.declared.line_fault.LineFault.{LineFault}
 use Rattle.difference_commands.specs.declared.line_fault.LineFault.TheVariants as line_faults
@@ -58,8 +56,3 @@ status_of (faults.OldUnread f) = read_status f
 status_of (faults.NewUnread f) = read_status f
 status_of faults.Clash = 1
 status_of faults.NoMemory = 3
-
--- the status that the command ends with
-abbrev pub command_status : CommandFault ChangesFault → ℕ
-command_status (ends.NoText f) = status_of f
-command_status (ends.Unwritten f) = write_status f

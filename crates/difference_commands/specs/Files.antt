@@ -15,6 +15,7 @@ use Rattle.tree_command.specs.declared.keys.Keys.TheVariants as keys
 use Rattle.difference_commands.specs.RecordLines.{map_of_records}
 use Rattle.difference_commands.specs.Views.{Records, keyed}
 use Rattle.difference_commands.specs.Faults.{lines_fault_of}
+use Rattle.difference_commands.specs.declared.command.ChangesCommand.{ChangesCommand}
 use Rattle.difference_commands.specs.declared.command.Form.{Form}
 use Rattle.difference_commands.specs.declared.command.Form.TheVariants as forms
 use Rattle.difference_commands.specs.declared.command.Values.{Values}
@@ -28,15 +29,17 @@ use Rattle.difference_commands.specs.declared.file_fault.FileFault.TheVariants a
 abbrev pub without_records : List Pair → Records
 without_records es = map (λ e. (e.0, [])) es
 
--- the records themselves are told, and not their CIDs alone
-abbrev pub needs_records : Values → Bool
-needs_records values.Cids = false
-needs_records values.Records = true
-needs_records values.Blocks = true
+-- the records themselves are told, or come as blocks, and not their CIDs alone
+abbrev pub needs_records_for : Bool → Values → Bool
+needs_records_for blocks values.Cids = blocks
+needs_records_for blocks values.Records = true
+
+abbrev pub needs_records : ChangesCommand → Bool
+needs_records command = needs_records_for command.blocks command.values
 
 -- A file of this form says these pairs and these records: a CAR is the export of a repository with these records; the lines of a
--- listing leave the pairs, and it says nothing where records are asked for; lines of records leave these.
-abbrev pub Says : (List ℕ → List ℕ) → Values → Form → List ℕ → List Pair → Records → Type 0
+-- listing leave the pairs, and it says nothing where records are needed; lines of records leave these.
+abbrev pub Says : (List ℕ → List ℕ) → ChangesCommand → Form → List ℕ → List Pair → Records → Type 0
 Says digest asked forms.Car file es m = ((c : Commit) × IsExport digest 2 file c m) × (es ≡ pairs digest m)
 Says digest asked forms.Listing file es m =
     (needs_records asked ≡ false) × (map_of_input keys.Paths file ≡ Ok es) × (m ≡ without_records es)
@@ -49,8 +52,8 @@ IsCommitOf digest forms.Listing file m commit = commit ≡ None
 IsCommitOf digest forms.Records file m commit = commit ≡ None
 
 -- Why it says nothing: it is a CAR with this first fault, as `check` tells it; a listing whose first faulty line is told, or of
--- which records are asked for; or lines of records of which the first faulty one is told. Of a want of memory nothing is said.
-abbrev pub IsFileFault : (List ℕ → List ℕ) → Values → Form → List ℕ → FileFault → Type 0
+-- which records are needed; or lines of records of which the first faulty one is told. Of a want of memory nothing is said.
+abbrev pub IsFileFault : (List ℕ → List ℕ) → ChangesCommand → Form → List ℕ → FileFault → Type 0
 IsFileFault digest asked form file (errors.Export f) = (form ≡ forms.Car) × IsFaultOf digest exports.Check file f
 IsFileFault digest asked form file (errors.Listing f) =
     (form ≡ forms.Listing) × Fails (tree_fault_of f) (map_of_input keys.Paths file)
@@ -75,7 +78,7 @@ said_commit (contents.Export found) = Some (signed_bytes (commit_of found.commit
 said_commit (contents.Listing ps) = None
 said_commit (contents.Records rs) = None
 
-pub record IsContents {A : Type 0} (digest : List ℕ → List ℕ) (asked : Values) (form : Form) (file : List ℕ) (c : Contents A)
+pub record IsContents {A : Type 0} (digest : List ℕ → List ℕ) (asked : ChangesCommand) (form : Form) (file : List ℕ) (c : Contents A)
     : Type 0 where
   pub says : Says digest asked form file (said_pairs digest c) (said_records c)
   pub commit : IsCommitOf digest form file (said_records c) (said_commit c)

@@ -1,5 +1,6 @@
--- What is told of changes (a choice of this project): lines, those of `prove-change` or with the records beside; or blocks.
-use Rattle.std.specs.Prelude.{ℕ, List, [], ◌∷◌, ◌++◌, codes, Option, Some, None}
+-- What is told of changes (a choice of this project): lines, those of `prove-change` or with the records beside; and the blocks that
+-- come by them.
+use Rattle.std.specs.Prelude.{ℕ, Bool, true, false, List, [], ◌∷◌, ◌++◌, codes, Option, Some, None}
 use Rattle.std.specs.List.{flat_map}
 use Rattle.hex.specs.Hex.{encode_lower}
 use Rattle.spec.specs.Car.{header, section}
@@ -57,8 +58,12 @@ abbrev pub slice : (List ℕ → List ℕ) → Coming → Records → List KeyCh
 slice digest come new cs =
     beginning digest come.commit come.root ++ (flat_map (section digest) come.nodes ++ record_sections digest new cs)
 
--- what is told of changes between these records
-abbrev pub changes_text : (List ℕ → List ℕ) → Values → Coming → Records → Records → List KeyChange → List ℕ
-changes_text digest values.Cids come old new cs = flat_map change_line cs
-changes_text digest values.Records come old new cs = flat_map (change_line_with old new) cs
-changes_text digest values.Blocks come old new cs = slice digest come new cs
+-- the lines of changes between these records
+abbrev pub lines_text : Values → Records → Records → List KeyChange → List ℕ
+lines_text values.Cids old new cs = flat_map change_line cs
+lines_text values.Records old new cs = flat_map (change_line_with old new) cs
+
+-- the slice, where blocks are wanted
+abbrev pub slice_if : Bool → (List ℕ → List ℕ) → Coming → Records → List KeyChange → Option (List ℕ)
+slice_if false digest come new cs = None
+slice_if true digest come new cs = Some (slice digest come new cs)

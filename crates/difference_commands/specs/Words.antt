@@ -1,19 +1,16 @@
 -- What the words of the command say.
-use Rattle.std.specs.Prelude.{◌≡◌, ◌≢◌, ℕ, true, List, [], ◌∷◌, Option, Some, None, option_map, unwrap_or, codes, if◌then◌else◌}
+use Rattle.std.specs.Prelude.{◌≡◌, ◌≢◌, ℕ, List, [], ◌∷◌, Option, Some, None, option_map, is_some, codes, if◌then◌else◌}
 use Rattle.std.specs.Str.{bytes_eq}
 use Rattle.clap.specs.Simple.{Shape, new_rule, new_shape}
 use Rattle.clap.specs.Walk.{Row, Rule, first_of, one_of}
 use Rattle.clap.specs.declared.builder.action.ArgAction.TheVariants.{SetTrue}
+use Rattle.console.specs.Words.{required_rule, word_or}
 use Rattle.difference_commands.specs.declared.command.ChangesCommand.{ChangesCommand}
 use Rattle.difference_commands.specs.declared.command.Form.{Form}
 use Rattle.difference_commands.specs.declared.command.Form.TheVariants as forms
 use Rattle.difference_commands.specs.declared.command.Values.{Values}
 use Rattle.difference_commands.specs.declared.command.Values.TheVariants as values
 use Rattle.difference_commands.specs.declared.words.ChangesWords.{ChangesWords}
-
--- a word that must be there
-abbrev pub required_rule : List ℕ → Rule
-required_rule id = record (new_rule id) { value_names = 1; required = true }
 
 -- `--form FORM`
 abbrev pub form_rule : Rule
@@ -23,9 +20,9 @@ form_rule = record (new_rule (codes "form")) { long = Some (codes "form"); value
 abbrev pub records_rule : Rule
 records_rule = record (new_rule (codes "records")) { long = Some (codes "records"); action = Some SetTrue }
 
--- `--blocks`: there or not
+-- `--blocks FILE`
 abbrev pub blocks_rule : Rule
-blocks_rule = record (new_rule (codes "blocks")) { long = Some (codes "blocks"); action = Some SetTrue }
+blocks_rule = record (new_rule (codes "blocks")) { long = Some (codes "blocks"); value_names = 1 }
 
 -- what clap reads of the command (`--help` comes with each)
 abbrev pub changes_shape : Shape
@@ -33,17 +30,10 @@ changes_shape = record (new_shape (codes "changes")) {
   rules = required_rule (codes "old") ∷ required_rule (codes "new") ∷ form_rule ∷ records_rule ∷ blocks_rule ∷ [];
 }
 
--- the text of the word with this id, or another text where there is none
-abbrev pub word_or : List ℕ → List Row → List ℕ → List ℕ
-word_or other rows id = unwrap_or (first_of id rows) other
-
--- where `--blocks` is among the words blocks are asked for, else with `--records` records, and else CIDs alone
+-- where `--records` is among the words records are asked for, and else CIDs alone
 pub record AreValuesOf (rows : List Row) (asked : Values) : Type 0 where
-  pub blocks : one_of (codes "blocks") rows ≡ Some (codes "true") → asked ≡ values.Blocks
-  pub records : one_of (codes "blocks") rows ≡ Some (codes "false")
-      → one_of (codes "records") rows ≡ Some (codes "true") → asked ≡ values.Records
-  pub cids : one_of (codes "blocks") rows ≡ Some (codes "false")
-      → one_of (codes "records") rows ≡ Some (codes "false") → asked ≡ values.Cids
+  pub records : one_of (codes "records") rows ≡ Some (codes "true") → asked ≡ values.Records
+  pub cids : one_of (codes "records") rows ≡ Some (codes "false") → asked ≡ values.Cids
 
 -- the words have what the rows say
 pub record IsOfWords (name : List ℕ) (rows : List Row) (words : ChangesWords) : Type 0 where
@@ -52,6 +42,7 @@ pub record IsOfWords (name : List ℕ) (rows : List Row) (words : ChangesWords) 
   pub new : words.new.now ≡ word_or [] rows (codes "new")
   pub form : option_map (λ word. word.now) words.form ≡ first_of (codes "form") rows
   pub values : AreValuesOf rows words.values
+  pub blocks : option_map (λ word. word.now) words.blocks ≡ first_of (codes "blocks") rows
 
 -- it is another command
 abbrev pub IsOtherName : List ℕ → Type 0
@@ -72,7 +63,7 @@ form_of_word (Some word) = form_named word
 
 -- the command of words with this form
 abbrev pub in_form : ChangesWords → Option Form → ChangesCommand
-in_form words form = record { form = form; values = words.values }
+in_form words form = record { form = form; values = words.values; blocks = is_some words.blocks }
 
 -- the command that the words ask for, or nothing where the word for the form is none
 abbrev pub command_of : ChangesWords → Option ChangesCommand

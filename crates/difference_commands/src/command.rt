@@ -11,15 +11,13 @@ pub enum Form {
     Records,
 }
 
-/// What is told of the changes.
+/// What the line of a change tells.
 #[derive(Clone, Copy, PartialEq, Eq, Debug)]
 pub enum Values {
-    /// A line for each, with the CIDs of the records before and after it.
+    /// The CIDs of the records before and after it.
     Cids,
     /// The same, and the bytes of both records.
     Records,
-    /// No lines: the blocks that come by them, as a slice of a CAR file.
-    Blocks,
 }
 
 /// The command `changes`, with what its words say.
@@ -27,6 +25,8 @@ pub enum Values {
 pub struct ChangesCommand {
     /// The form of both files, or `None` where that of each is found out by what it begins with.
     pub form: Option<Form>,
-    /// What is told of the changes.
+    /// What the line of a change tells.
     pub values: Values,
+    /// Whether the blocks that come by the changes are wanted too, as a slice of a CAR file.
+    pub blocks: bool,
 }

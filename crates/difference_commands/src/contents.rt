@@ -31,27 +31,26 @@ pub(crate) fn contents_of<'f, D: Digest, A: Allocator + Copy>(
     alloc: A,
     file: &'f [u8],
 ) -> Result<Contents<'f, A>, FileFault>
-    ensures contents { IfOk result (IsContents D.digest_of command.values
+    ensures contents { IfOk result (IsContents D.digest_of command
         (form_of_file command.form file.now) file.now) }
-    ensures fault { IfErr result (IsFileFault D.digest_of command.values
+    ensures fault { IfErr result (IsFileFault D.digest_of command
         (form_of_file command.form file.now) file.now) }
 {
-    let values = command.values;
     match form_of(command.form, file) {
-        Form::Car => contents_of_car::<D, A>(values, alloc, file),
-        Form::Listing => contents_of_listing::<D, A>(values, alloc, file),
-        Form::Records => contents_of_records::<D, A>(values, alloc, file),
+        Form::Car => contents_of_car::<D, A>(command, alloc, file),
+        Form::Listing => contents_of_listing::<D, A>(command, alloc, file),
+        Form::Records => contents_of_records::<D, A>(command, alloc, file),
     }
 }
 
 /// What a CAR file says.
 fn contents_of_car<'f, D: Digest, A: Allocator + Copy>(
-    values: Values,
+    command: ChangesCommand,
     alloc: A,
     file: &'f [u8],
 ) -> Result<Contents<'f, A>, FileFault>
-    ensures contents { IfOk result (IsContents D.digest_of values forms.Car file.now) }
-    ensures fault { IfErr result (IsFileFault D.digest_of values forms.Car file.now) }
+    ensures contents { IfOk result (IsContents D.digest_of command forms.Car file.now) }
+    ensures fault { IfErr result (IsFileFault D.digest_of command forms.Car file.now) }
 {
     match check::<D, 2, A>(alloc, file) {
         Ok(found) => Ok(Contents::Export(found)),
@@ -61,14 +60,14 @@ fn contents_of_car<'f, D: Digest, A: Allocator + Copy>(
 
 /// What lines `KEY CID` say, where no records are asked for.
 fn contents_of_listing<'f, D: Digest, A: Allocator + Copy>(
-    values: Values,
+    command: ChangesCommand,
     alloc: A,
     file: &'f [u8],
 ) -> Result<Contents<'f, A>, FileFault>
-    ensures contents { IfOk result (IsContents D.digest_of values forms.Listing file.now) }
-    ensures fault { IfErr result (IsFileFault D.digest_of values forms.Listing file.now) }
+    ensures contents { IfOk result (IsContents D.digest_of command forms.Listing file.now) }
+    ensures fault { IfErr result (IsFileFault D.digest_of command forms.Listing file.now) }
 {
-    if needs_records(values) {
+    if needs_records(command) {
         return Err(FileFault::NoRecords);
     }
     match map_of_input(Keys::Paths, alloc, file) {
@@ -79,12 +78,12 @@ fn contents_of_listing<'f, D: Digest, A: Allocator + Copy>(
 
 /// What lines `KEY HEX` say.
 fn contents_of_records<'f, D: Digest, A: Allocator + Copy>(
-    values: Values,
+    command: ChangesCommand,
     alloc: A,
     file: &'f [u8],
 ) -> Result<Contents<'f, A>, FileFault>
-    ensures contents { IfOk result (IsContents D.digest_of values forms.Records file.now) }
-    ensures fault { IfErr result (IsFileFault D.digest_of values forms.Records file.now) }
+    ensures contents { IfOk result (IsContents D.digest_of command forms.Records file.now) }
+    ensures fault { IfErr result (IsFileFault D.digest_of command forms.Records file.now) }
 {
     match map_of_records(alloc, file) {
         Ok(records) => Ok(Contents::Records(records)),
@@ -92,13 +91,13 @@ fn contents_of_records<'f, D: Digest, A: Allocator + Copy>(
     }
 }
 
-/// Whether the records themselves are told, and not their CIDs alone.
-fn needs_records(values: Values) -> bool
-    ensures { result ≡ needs_records_of values }
+/// Whether the records themselves are told, or come as blocks, and not their CIDs alone.
+fn needs_records(command: ChangesCommand) -> bool
+    ensures { result ≡ needs_records_of command }
 {
-    match values {
-        Values::Cids => false,
-        Values::Records | Values::Blocks => true,
+    match command.values {
+        Values::Cids => command.blocks,
+        Values::Records => true,
     }
 }
 

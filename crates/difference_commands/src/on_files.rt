@@ -1,6 +1,6 @@
 //! The command on the two files that its words name.
-ghost use Rattle.std.specs.Prelude.{◌≡◌, None};
-ghost use Rattle.difference_commands.specs.Outcomes.{IsEndOf, IsStatusOf};
+ghost use Rattle.std.specs.Prelude.{◌≡◌, None, IfSome, option_map};
+ghost use Rattle.difference_commands.specs.Outcomes.{IsEndOf, IsSavedBy, IsStatusOf, OfInputs, SavesSliceOf};
 ghost use Rattle.difference_commands.specs.Words.{command_of};
 
 use crate::command::ChangesCommand;
@@ -15,8 +15,8 @@ use std::io::{Read, Write};
 ///
 /// A word that is no form's is told as `BadForm`, at status 1, before a file is opened. The old file is opened before the new
 /// one, and both before one is read; one that can't be opened is told with its name, at status 3 or 4. Then the command ends as
-/// of `run`.
-#[tactic(auto, using(crate::proofs::Endings::end_of_status, crate::proofs::Endings::end_formless))]
+/// of `run`; the file that the words name for blocks may be one of these two.
+#[tactic(auto, using(crate::proofs::Endings::end_of_status, crate::proofs::Endings::end_formless, crate::proofs::Endings::saved_by_words, crate::proofs::Endings::saved_formless))]
 pub fn run_on_files<D: Digest, F: Files, W: Write, X: Write>(
     words: ChangesWords<'_>,
     alloc: Global,
@@ -27,13 +27,14 @@ pub fn run_on_files<D: Digest, F: Files, W: Write, X: Write>(
     ensures status { IsEndOf D.digest_of (command_of words.entry)
         (F.holds files.now words.entry.old.now) (F.holds files.now words.entry.new.now)
         (W.contents out.old) (W.contents out.new) result }
+    ensures saved { result ≡ 0 → IsSavedBy D.digest_of (command_of words.entry)
+        (F.holds files.now words.entry.old.now) (F.holds files.now words.entry.new.now)
+        (option_map (λ name. name.now) words.entry.blocks) (F.saved files.now) }
     ensures told { command_of words.entry ≡ None → result ≡ 1 }
     ensures quiet { result ≡ 0 → err.new ≡ err.old }
 {
     match words.command() {
-        Some(command) => {
-            run_on_both::<D, F, W, X>(command, words.old, words.new, alloc, files, out, err)
-        }
+        Some(command) => run_on_both::<D, F, W, X>(command, &words, alloc, files, out, err),
         None => bad_form(err),
     }
 }
@@ -46,48 +47,63 @@ fn bad_form<X: Write>(err: &mut X) -> u8
     FAULTY
 }
 
-/// Does the command on the files of these names, the old one first.
+/// Does the command on the files that the words name, the old one first.
 #[tactic(auto, using(crate::proofs::Endings::unopened_status, crate::proofs::Endings::unopened_ends))]
 fn run_on_both<D: Digest, F: Files, W: Write, X: Write>(
     command: ChangesCommand,
-    old: &str,
-    new: &str,
+    words: &ChangesWords<'_>,
     alloc: Global,
     files: &F,
     out: &mut W,
     err: &mut X,
 ) -> u8
     ensures status { IsStatusOf D.digest_of command
-        (F.holds files.now old.now) (F.holds files.now new.now)
+        (F.holds files.now words.now.old.now) (F.holds files.now words.now.new.now)
         (W.contents out.old) (W.contents out.new) result }
+    ensures saved { result ≡ 0 → IfSome (option_map (λ name. name.now) words.now.blocks)
+        (λ name. OfInputs
+        (F.holds files.now words.now.old.now) (F.holds files.now words.now.new.now)
+        (λ xs ys. SavesSliceOf D.digest_of command xs ys (F.saved files.now name))) }
     ensures quiet { result ≡ 0 → err.new ≡ err.old }
 {
-    match files.open(old) {
+    match files.open(words.old) {
         Ok(mut file) => {
-            run_on_new::<D, F, F::Reader, W, X>(command, &mut file, new, alloc, files, out, err)
+            run_on_new::<D, F, F::Reader, W, X>(command, &mut file, words, alloc, files, out, err)
         }
-        Err(fault) => unopened(old, fault, err),
+        Err(fault) => unopened(words.old, fault, err),
     }
 }
 
-/// Does the command on an old file that is open, and on the new one of this name.
+/// Does the command on an old file that is open, and on the new one that the words name.
 #[tactic(auto, using(crate::proofs::Endings::unopened_status, crate::proofs::Endings::unopened_ends))]
 fn run_on_new<D: Digest, F: Files, R: Read, W: Write, X: Write>(
     command: ChangesCommand,
     old: &mut R,
-    new: &str,
+    words: &ChangesWords<'_>,
     alloc: Global,
     files: &F,
     out: &mut W,
     err: &mut X,
 ) -> u8
     ensures status { IsStatusOf D.digest_of command
-        (R.remaining old.old) (F.holds files.now new.now)
+        (R.remaining old.old) (F.holds files.now words.now.new.now)
         (W.contents out.old) (W.contents out.new) result }
+    ensures saved { result ≡ 0 → IfSome (option_map (λ name. name.now) words.now.blocks)
+        (λ name. OfInputs (R.remaining old.old) (F.holds files.now words.now.new.now)
+        (λ xs ys. SavesSliceOf D.digest_of command xs ys (F.saved files.now name))) }
     ensures quiet { result ≡ 0 → err.new ≡ err.old }
 {
-    match files.open(new) {
-        Ok(mut file) => run::<D, R, F::Reader, W, X>(command, alloc, old, &mut file, out, err),
-        Err(fault) => unopened(new, fault, err),
+    match files.open(words.new) {
+        Ok(mut file) => run::<D, F, R, F::Reader, W, X>(
+            command,
+            alloc,
+            old,
+            &mut file,
+            files,
+            words.blocks,
+            out,
+            err,
+        ),
+        Err(fault) => unopened(words.new, fault, err),
     }
 }

@@ -3,10 +3,11 @@ ghost use Rattle.std.specs.Prelude.{◌≡◌, false, IfNone, IfOk, IfSome, opti
 ghost use Rattle.clap.specs.Words.{app_of, found_of, rows_of, rule_of, shape_of, with_subcommand};
 ghost use Rattle.clap.specs.declared.builder.command.Command.TheViews.{out-Command as fields_of};
 ghost use Rattle.difference_commands.specs.Words.{AreValuesOf, IsOfWords, IsOtherName, changes_shape, command_of, form_of_word as form_of_word_of};
-ghost use Rattle.difference_commands.specs.Words.{form_rule, blocks_rule, records_rule, required_rule, word_or as word_or_of};
+ghost use Rattle.difference_commands.specs.Words.{form_rule, blocks_rule, records_rule};
 
 use crate::command::{ChangesCommand, Form, Values};
 use clap::{Arg, ArgAction, ArgMatches, Command};
+use console::{required, word_or};
 use std::alloc::{AllocError, Global};
 
 /// What the words of the command say.
@@ -18,8 +19,10 @@ pub struct ChangesWords<'a> {
     pub new: &'a str,
     /// The form of both, or none where it is to be found out.
     pub form: Option<&'a str>,
-    /// What is told of the changes.
+    /// What the line of a change tells.
     pub values: Values,
+    /// Where the blocks that come are saved, or none where they aren't wanted.
+    pub blocks: Option<&'a str>,
 }
 
 const ABOUT: &str = "Reads two files and writes what their repositories differ by";
@@ -30,9 +33,9 @@ lines KEY HEX, as car reads them. It writes a line 'change KEY BEFORE AFTER' for
 both, in the order of the keys, with the CID of its record in the old file and in the new one, or '-' where the key isn't
 there. With --records two words more stand on each line, the bytes of both records in hexadecimal, or '-'.
 
-With --blocks it writes a CAR file in place of lines: the nodes of the new tree that the old one lacks, and the records of the
-keys that differ, for who has the old repository. Its root is the commit of the new file, which is its first block, where that
-is a CAR, and else the root of the new tree.
+With --blocks it makes a CAR file beside the lines, for who has the old repository: the nodes of the new tree that the old one
+lacks, and the records of the keys that differ. Its root is the commit of the new file, which is its first block, where that is
+a CAR, and else the root of the new tree. A file of that name is written over, once both files are read and without a fault.
 
 A file is a CAR where its second byte is 0xa2; else the first line decides, which is KEY CID where 'bafy' stands behind its
 first space. With --form both are read as it says.
@@ -64,6 +67,7 @@ pub fn words_of<'a>(name: &str, words: &ArgMatches<'a>) -> Option<ChangesWords<'
             new: word_or("", words, "new"),
             form: words.get_str("form"),
             values: values_of(words),
+            blocks: words.get_str("blocks"),
         });
     }
     None
@@ -78,6 +82,7 @@ impl<'a> ChangesWords<'a> {
         Some(ChangesCommand {
             form,
             values: self.values,
+            blocks: self.blocks.is_some(),
         })
     }
 }
@@ -101,20 +106,10 @@ fn form_of_word(word: Option<&str>) -> Option<Option<Form>>
     None
 }
 
-/// The text of the word with this id, or another text where there is none.
-fn word_or<'a>(other: &'a str, words: &ArgMatches<'a>, id: &str) -> &'a str
-    ensures { result.now ≡ word_or_of other.now (rows_of (found_of words.now)) id.now }
-{
-    words.get_str(id).unwrap_or(other)
-}
-
-/// What these words ask for. Where both options are there it is the blocks.
+/// What these words ask for.
 fn values_of(words: &ArgMatches) -> Values
     ensures { AreValuesOf (rows_of (found_of words.now)) result }
 {
-    if words.get_flag("blocks") {
-        return Values::Blocks;
-    }
     if words.get_flag("records") {
         Values::Records
     } else {
@@ -136,17 +131,6 @@ fn changes_words<'a>(alloc: Global) -> Result<Command<'a>, AllocError>
         .arg(form_word(alloc))?
         .arg(records_word(alloc))?
         .arg(blocks_word(alloc))
-}
-
-/// A word that must be there.
-fn required<'a>(alloc: Global, id: &'a str, name: &'a str, help: &'a str) -> Arg<'a>
-    ensures rule { rule_of result ≡ required_rule id.entry.now }
-    ensures local { result.global ≡ false }
-{
-    Arg::new(alloc, id)
-        .value_name(name)
-        .required(true)
-        .help(help)
 }
 
 /// The option for the form.
@@ -177,6 +161,6 @@ fn blocks_word<'a>(alloc: Global) -> Arg<'a>
 {
     Arg::new(alloc, "blocks")
         .long("blocks")
-        .action(ArgAction::SetTrue)
-        .help("Write a CAR file of the nodes and the records that come")
+        .value_name("FILE")
+        .help("Save the nodes and the records that come in this file, a CAR file")
 }

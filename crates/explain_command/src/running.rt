@@ -1,12 +1,11 @@
 //! The run of `explain`, to the exit status.
 ghost use Rattle.std.specs.Prelude.{◌≡◌};
-ghost use Rattle.console.specs.Faults.{write_status};
 ghost use Rattle.explain_command.specs.Ends.{IsStatusOf};
 ghost use Rattle.explain_command.specs.Explained.{explanation, word_of};
 
 use crate::text::explanation_of;
 use crate::words::ExplainCommand;
-use console::{FAULTY, WriteFault, done, no_memory, tell, write_whole};
+use console::{FAULTY, done, no_memory, tell, unwritten, write_whole};
 use std::alloc::Global;
 use std::io::Write;
 
@@ -45,12 +44,4 @@ fn unknown<X: Write>(err: &mut X) -> u8
         err,
     );
     FAULTY
-}
-
-/// Tells that the text wasn't written, and answers the status.
-fn unwritten<X: Write>(fault: WriteFault, err: &mut X) -> u8
-    ensures { result ≡ write_status fault }
-{
-    tell(&fault, err);
-    fault.status()
 }

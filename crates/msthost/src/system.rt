@@ -1,6 +1,6 @@
 //! The files of the operating system, and its standard input.
 use crate::hinting::{Hinting, what_is_read};
-use console::{Files, OpenFault, Watched};
+use console::{Files, OpenFault, SaveFault, Watched, write_whole};
 use std::fs::File;
 use std::io::{self, ErrorKind, IsTerminal, Read, Stderr, Stdin};
 
@@ -40,6 +40,13 @@ impl<'a> Files for SystemFiles<'a> {
         match opened(self.rt, name) {
             Ok(file) => Ok(Watched::new(Source::File(file), progress(self.rt), self.rt)),
             Err(error) => Err(OpenFault::of(&error)),
+        }
+    }
+
+    fn save(&self, name: &str, bytes: &[u8]) -> Result<(), SaveFault> {
+        match File::create(self.rt, name) {
+            Ok(mut file) => Ok(write_whole(&mut file, bytes)?),
+            Err(error) => Err(SaveFault::Unopened(OpenFault::of(&error))),
         }
     }
 }

@@ -1,9 +1,10 @@
 -- Which command a name and its words ask for.
-use Rattle.std.specs.Prelude.{◌≡◌, ◌≢◌, ℕ, true, List, [], ◌∷◌, Some, None, codes, unwrap_or}
+use Rattle.std.specs.Prelude.{◌≡◌, ◌≢◌, ℕ, List, [], ◌∷◌, Some, None, codes}
 use Rattle.clap.specs.Simple.{App, Shape, new_rule, new_shape}
 use Rattle.clap.specs.Words.{with_subcommand}
 use Rattle.clap.specs.Walk.{Row, Rule, first_of}
 use Rattle.console.specs.FileWords.{with_file}
+use Rattle.console.specs.Words.{required_rule, word_or}
 use Rattle.record_forms.specs.Options.{IsFormOf, json_rule}
 use Rattle.repository_commands.specs.declared.words.RepositoryCommand.{RepositoryCommand}
 use Rattle.repository_commands.specs.declared.words.RepositoryCommand.TheVariants as commands
@@ -19,10 +20,6 @@ option_rule id other = record (new_rule id) {
 -- `--id TEXT`, which may be left out
 abbrev pub optional_rule : List ℕ → Rule
 optional_rule id = record (new_rule id) { long = Some id; value_names = 1 }
-
--- a word that must be there
-abbrev pub required_rule : List ℕ → Rule
-required_rule id = record (new_rule id) { value_names = 1; required = true }
 
 -- what clap reads of each command (`--help` comes with each)
 abbrev pub car_shape : Shape
@@ -46,10 +43,6 @@ verify_shape = record (new_shape (codes "verify")) {
 abbrev pub with_commands : App → App
 with_commands app = with_subcommand (with_subcommand (with_subcommand app (with_file car_shape))
     (with_file prove_shape)) (with_file verify_shape)
-
--- the text of the word with this id, or another text where there is none
-abbrev pub word_or : List ℕ → List Row → List ℕ → List ℕ
-word_or other rows id = unwrap_or (first_of id rows) other
 
 -- The command is the one of this name, and has what the words say. Where there is no DID or no
 -- revision, it has the program's own (a choice of this project). With a signature it is the command that

@@ -45,4 +45,4 @@ pub use puts::{Puts, Stop, put_of_line, space_in};
 pub use running::{run, stamp_of_words};
 pub use signing::signed_car_text;
 pub use verifying::verify_text;
-pub use words::{DID, REV, RepositoryCommand, command_of, required, with_words, word_or};
+pub use words::{DID, REV, RepositoryCommand, command_of, with_words};

@@ -4,12 +4,12 @@ ghost use Rattle.clap.specs.Walk.{first_of};
 ghost use Rattle.clap.specs.Words.{app_of, found_of, rows_of, rule_of, shape_of, with_subcommand};
 ghost use Rattle.clap.specs.declared.builder.command.Command.TheViews.{out-Command as fields_of};
 ghost use Rattle.console.specs.FileWords.{with_file as with_file_of};
-ghost use Rattle.repository_commands.specs.Words.{IsOfWords, IsOtherName, word_or as word_or_of};
+ghost use Rattle.repository_commands.specs.Words.{IsOfWords, IsOtherName};
 ghost use Rattle.repository_commands.specs.Words.{car_shape, prove_shape, verify_shape, with_commands};
-ghost use Rattle.repository_commands.specs.Words.{option_rule, optional_rule, required_rule};
+ghost use Rattle.repository_commands.specs.Words.{option_rule, optional_rule};
 
 use clap::{Arg, ArgMatches, Command};
-use console::with_file;
+use console::{required, with_file, word_or};
 use record_forms::{Form, form_of, json_option};
 use std::alloc::{AllocError, Global};
 
@@ -185,13 +185,6 @@ fn word_in<'a>(words: &ArgMatches<'a>, id: &str) -> Option<&'a str>
     words.get_str(id)
 }
 
-/// The text of the word with this id, or another text where there is none.
-pub fn word_or<'a>(other: &'a str, words: &ArgMatches<'a>, id: &str) -> &'a str
-    ensures { result.now ≡ word_or_of other.now (rows_of (found_of words.now)) id.now }
-{
-    words.get_str(id).unwrap_or(other)
-}
-
 /// The words that `car` takes, with what help shows of them.
 fn car_words<'a>(alloc: Global) -> Result<Command<'a>, AllocError>
     ensures shape { IfOk result (λ r. shape_of r ≡ car_shape) }
@@ -261,15 +254,4 @@ fn optional<'a>(alloc: Global, id: &'a str, name: &'a str, help: &'a str) -> Arg
     ensures local { result.global ≡ false }
 {
     Arg::new(alloc, id).long(id).value_name(name).help(help)
-}
-
-/// A word that must be there.
-pub fn required<'a>(alloc: Global, id: &'a str, name: &'a str, help: &'a str) -> Arg<'a>
-    ensures rule { rule_of result ≡ required_rule id.entry.now }
-    ensures local { result.global ≡ false }
-{
-    Arg::new(alloc, id)
-        .value_name(name)
-        .required(true)
-        .help(help)
 }

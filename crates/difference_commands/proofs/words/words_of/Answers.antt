@@ -12,4 +12,6 @@ returns-then-eq-clause-words c = record {
   form = subst (λ text. option_map (λ word. word.now) c.get_str.result ≡ text)
       (first_value-rows (found_of c.args.words.now) (codes "form")) (search rules);
   values = c.values_of.ensures;
+  blocks = subst (λ text. option_map (λ word. word.now) c.get_str-then-eq.result ≡ text)
+      (first_value-rows (found_of c.args.words.now) (codes "blocks")) (search rules);
 }

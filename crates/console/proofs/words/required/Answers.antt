@@ -1,5 +1,5 @@
 use Rattle.std.proofs.Common.{rules}
-use Rattle.difference_commands.proofs.words.required.Goals as goal
+use Rattle.console.proofs.words.required.Goals as goal
 
 pub returns-clause-rule : goal.returns-clause-rule
 returns-clause-rule c = search rules
