@@ -1,6 +1,6 @@
 //! What the blocks of a message hold.
 
-ghost use Rattle.std.specs.Prelude.{◌≡◌, true, IfOk};
+ghost use Rattle.std.specs.Prelude.{◌≡◌, true, IfErr, IfOk};
 ghost use Rattle.spec.specs.Reading.{Gives};
 ghost use Rattle.spec.specs.CarReading.{are_named};
 ghost use Rattle.cid.specs.CidRef.{bytes_of};
@@ -9,7 +9,7 @@ ghost use Rattle.signed_commits.specs.Views.{commit_of};
 ghost use Rattle.event_laws.specs.Verdict.{sections_of as sections_in};
 ghost use Rattle.event_format.specs.Views.{event_of};
 ghost use Rattle.event_blocks.specs.Views.{blocks_fault_of};
-ghost use Rattle.commit_events.specs.Views.{event_fault_of};
+ghost use Rattle.commit_events.specs.Views.{event_fault_of, HasNoWant};
 ghost use Rattle.commit_events.specs.Steps.{told_commit};
 
 use crate::fault::EventFault;
@@ -27,6 +27,7 @@ pub(crate) fn sections<'a, D: Digest, A: Allocator + Copy>(
 ) -> Result<Vec<Section<'a>, A>, EventFault>
     ensures read { Gives (λ ss. sections_of ss.items) event_fault_of result
         (sections_in D.digest_of (bytes_of event.now.commit) event.now.blocks.now) }
+    ensures plain { IfErr result HasNoWant }
     ensures named { IfOk result (λ ss. are_named D.digest_of (sections_of ss.items) ≡ true) }
 {
     match read_blocks::<D, A>(alloc, event.commit, event.blocks) {
@@ -42,8 +43,9 @@ pub(crate) fn commit<'a, A: Allocator + Copy>(
     event: &Event<'_, A>,
     sections: &[Section<'a>],
 ) -> Result<SignedCommit<'a>, EventFault>
-    ensures { Gives commit_of event_fault_of result
+    ensures read { Gives commit_of event_fault_of result
         (told_commit (sections_of sections.now) (event_of event.now)) }
+    ensures plain { IfErr result HasNoWant }
 {
     match among(alloc, event, sections) {
         Ok(commit) => Ok(commit),

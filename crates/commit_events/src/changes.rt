@@ -1,13 +1,13 @@
 //! Whether the blocks of a message show its operations.
 
-ghost use Rattle.std.specs.Prelude.{◌≡◌, ◌≤◌, [], option_map, true};
+ghost use Rattle.std.specs.Prelude.{◌≡◌, ◌≤◌, [], option_map, true, IfErr};
 ghost use Rattle.spec.specs.Reading.{Gives};
 ghost use Rattle.spec.specs.CarReading.{are_named, blocks_of};
 ghost use Rattle.key_changes.specs.Keyed.{are_changes};
 ghost use Rattle.car_reader.specs.Views.{sections_of};
 ghost use Rattle.change_laws.specs.Told.{undone};
 ghost use Rattle.event_laws.specs.Verdict.{as_event_fault, ordered_ops};
-ghost use Rattle.commit_events.specs.Views.{change_fault_of, event_fault_of};
+ghost use Rattle.commit_events.specs.Views.{change_fault_of, event_fault_of, HasNoWant};
 ghost use Rattle.commit_events.specs.Steps.{shown_by};
 
 use crate::fault::EventFault;
@@ -31,8 +31,9 @@ pub(crate) fn test_changes<D: Digest, const B: u8, A: Allocator + Copy>(
     requires least { 1 ≤ B }
     requires changes { are_changes (undone (ordered_ops ops.now)) ≡ true }
     requires named { are_named D.digest_of (sections_of sections.now) ≡ true }
-    ensures { Gives (λ x. x) event_fault_of result
+    ensures shown { Gives (λ x. x) event_fault_of result
         (shown_by D.digest_of B before after (blocks_of (sections_of sections.now)) ops.now) }
+    ensures plain { IfErr result HasNoWant }
 {
     let sorted = in_order(alloc, ops)?;
     let changes = changes_of(alloc, &sorted)?;
@@ -45,8 +46,9 @@ pub(crate) fn test_changes<D: Digest, const B: u8, A: Allocator + Copy>(
 
 /// What is to be said of a message whose operations, in the order of their keys, aren't shown.
 fn told(fault: ChangeFault, sorted: &[Placed<'_>]) -> EventFault
-    ensures { event_fault_of result
+    ensures fault { event_fault_of result
         ≡ option_map (as_event_fault sorted.now) (change_fault_of fault) }
+    ensures plain { HasNoWant result }
 {
     match fault {
         ChangeFault::NoMemory => EventFault::NoMemory,

@@ -1,6 +1,6 @@
 //! The check of a whole message.
 
-ghost use Rattle.std.specs.Prelude.{◌≡◌, ◌≤◌, true, IfOk};
+ghost use Rattle.std.specs.Prelude.{◌≡◌, ◌≤◌, true, IfErr, IfOk};
 ghost use Rattle.std.specs.Str.{bytes_eq};
 ghost use Rattle.spec.specs.Reading.{Gives};
 ghost use Rattle.spec.specs.CarReading.{are_named};
@@ -12,7 +12,7 @@ ghost use Rattle.signed_commits.specs.Views.{commit_of};
 ghost use Rattle.event_laws.specs.Reading.{read_event as reading};
 ghost use Rattle.event_laws.specs.Verdict.{commit_verdict, of_form, ordered_ops};
 ghost use Rattle.event_format.specs.Views.{event_of};
-ghost use Rattle.commit_events.specs.Views.{checked_of, event_fault_of};
+ghost use Rattle.commit_events.specs.Views.{checked_of, event_fault_of, HasNoWant};
 ghost use Rattle.commit_events.specs.Steps.{IsTrue, event_verdict, shown_commit, single_event as single};
 
 use crate::blocks::{commit, sections};
@@ -46,6 +46,9 @@ pub fn check_commit<'a, D: Digest, const B: u8, A: Allocator + Copy>(
     ensures verdict { Gives checked_of event_fault_of result
         (commit_verdict D.digest_of B previous message.now) }
 
+    // A want of memory is never told within another fault.
+    ensures plain { IfErr result HasNoWant }
+
     // What is taken is true of the pairs of each tree with the commit's root.
     ensures taken { IfOk result (λ c. IsTrue D.digest_of B previous (checked_of c)) }
 {
@@ -60,8 +63,9 @@ fn judged<'a, D: Digest, const B: u8, A: Allocator + Copy>(
     message: &'a [u8],
 ) -> Result<CheckedCommit<'a, A>, EventFault>
     requires least { 1 ≤ B }
-    ensures { Gives checked_of event_fault_of result
+    ensures verdict { Gives checked_of event_fault_of result
         (event_verdict D.digest_of B previous message.now) }
+    ensures plain { IfErr result HasNoWant }
 {
     let event = single_event(alloc, message)?;
     if !is_after(&event, &previous) {
@@ -85,6 +89,7 @@ fn single_event<'a, A: Allocator + Copy>(
     message: &'a [u8],
 ) -> Result<Event<'a, A>, EventFault>
     ensures read { Gives event_of event_fault_of result (single message.now) }
+    ensures plain { IfErr result HasNoWant }
     ensures keyed { IfOk result (λ e. are_changes (undone (ordered_ops e.ops.items)) ≡ true) }
 {
     let event = event(alloc, message)?;
@@ -96,7 +101,8 @@ fn single_event<'a, A: Allocator + Copy>(
 
 /// What a message says.
 fn event<'a, A: Allocator + Copy>(alloc: A, message: &'a [u8]) -> Result<Event<'a, A>, EventFault>
-    ensures { Gives event_of event_fault_of result (of_form (reading message.now)) }
+    ensures read { Gives event_of event_fault_of result (of_form (reading message.now)) }
+    ensures plain { IfErr result HasNoWant }
 {
     match read_event(alloc, message) {
         Ok(event) => Ok(event),
@@ -130,8 +136,9 @@ fn commit_shown<'a, D: Digest, const B: u8, A: Allocator + Copy>(
     requires least { 1 ≤ B }
     requires changes { are_changes (undone (ordered_ops event.now.ops.items)) ≡ true }
     requires named { are_named D.digest_of (sections_of sections.now) ≡ true }
-    ensures { Gives commit_of event_fault_of result (shown_commit D.digest_of B previous
+    ensures shown { Gives commit_of event_fault_of result (shown_commit D.digest_of B previous
         (sections_of sections.now) (event_of event.now)) }
+    ensures plain { IfErr result HasNoWant }
 {
     match commit(alloc, event, sections) {
         Ok(commit) => {

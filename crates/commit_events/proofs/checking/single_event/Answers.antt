@@ -6,5 +6,5 @@ use Rattle.commit_events.proofs.checking.single_event.Goals as goal
 
 pub returns-clause-keyed : goal.returns-clause-keyed
 returns-clause-keyed g c =
-    keyed-read c.args.message.now (event_of c.in_ok-event.event) c.in_ok-event.ensures
+    keyed-read c.args.message.now (event_of c.in_ok-event.event) c.in_ok-event.ensures.read
     (sym (ap (doubled_after [] 0) c.deref.ensures.value) ∙ sym c.doubled.ensures ∙ c.in-None.is)
