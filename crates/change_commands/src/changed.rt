@@ -49,7 +49,7 @@ pub(crate) fn changes_of<'w, D: Digest>(
 
 /// The CID of the record with these bytes, where there is one.
 fn cid_of<D: Digest>(bytes: Option<&[u8]>) -> Option<Cid>
-    ensures { result ≡ option_map (cid_of_bytes D.digest_of) (lent bytes) }
+    ensures { result ≡ option_map (cid_of_bytes D.digest_of) (lent bytes.entry) }
 {
     match bytes {
         Some(bytes) => Some(Cid::of::<D>(bytes)),

@@ -162,9 +162,9 @@ fn shown_text<D: Digest>(
 ) -> Result<Vec<u8>, AllocError>
     requires keyed { are_changes_of (undone proof.changes.items) ≡ true }
     requires told { told_by (pairs D.digest_of (records core.now)) proof.changes.items ≡ Ok tt }
-    ensures { IfOk result (λ text. text.items ≡ text_of_parts root.now proof.after
-        proof.changes.items (nodes_by D.digest_of direction (map arc_value proof.nodes.items)
-        core.now proof.changes.items)) }
+    ensures { IfOk result (λ text. text.items ≡ text_of_parts root.now proof.entry.after
+        proof.entry.changes.items (nodes_by D.digest_of direction
+        (map arc_value proof.entry.nodes.items) core.now proof.entry.changes.items)) }
 {
     let ChangeProof {
         after,
