@@ -14,7 +14,7 @@ use Rattle.spec.specs.Writes.{Write, WriteFault, batch_test, leaves}
 use Rattle.spec.specs.States.{State, records}
 use Rattle.edit_laws.specs.Order.{order}
 use Rattle.edit_laws.specs.Staged.{records_after}
-use Rattle.batch_laws.specs.Batch.{Change, AreKeyed, changed}
+use Rattle.batch_laws.specs.Batch.{Change, changed}
 use Rattle.batch_laws.specs.Collecting.{collected, with_cids}
 use Rattle.batch_laws.specs.Previous.{values}
 use Rattle.batch_laws.proofs.WritesAtOnce.{collected-are_keyed, passed-have_keys}
