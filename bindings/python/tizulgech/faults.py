@@ -1,0 +1,77 @@
+"""Why a call is refused: the header's numbers, its name of each, what each says, and the exception that has them."""
+from __future__ import annotations
+
+from typing import Dict, Mapping, Optional, Tuple
+
+# Of each number the header's name, and what it says.
+Names = Mapping[int, Tuple[str, str]]
+
+FAULTS: Dict[int, Tuple[str, str]] = {
+    1: ("TRUNCATED", "the bytes end within a value"),
+    2: ("LONG_HEAD", "a head is longer than it needs to be"),
+    3: ("INDEFINITE", "an indefinite length"),
+    4: ("BAD_TAG", "a tag that isn't 42"),
+    5: ("BAD_LINK", "a link that is no CID"),
+    6: ("KEY_NOT_TEXT", "a key of a map that isn't text"),
+    7: ("KEY_ORDER", "keys of a map that are out of order or stand twice"),
+    8: ("BAD_UTF8", "text that isn't UTF-8"),
+    9: ("FLOAT", "a floating-point number"),
+    10: ("SIMPLE", "a simple value"),
+    11: ("INTEGER_RANGE", "an integer outside of 64 bits with sign"),
+    12: ("TOO_DEEP", "values that are nested too deep"),
+    13: ("TRAILING", "bytes after the value"),
+    20: ("BAD_KEY", "the key is not that of a record"),
+    21: ("NOT_A_MAP", "the record is not a map"),
+    22: ("RECORD_SIZE", "the record is too long"),
+    23: ("KEY_EXISTS", "the key is there already"),
+    24: ("NONE", "there is no such key"),
+    25: ("WRITES_FULL", "the repository takes no more writes"),
+    26: ("EMPTY_BATCH", "the batch is empty"),
+    27: ("BAD_DID", "the DID is not one"),
+    28: ("BAD_REV", "the revision is not a timestamp identifier"),
+    29: ("REV_ORDER", "the revision is not after the last one"),
+    30: ("BAD_NODE", "a block is no node"),
+    31: ("TOO_MANY_NODES", "the path is longer than any tree is deep"),
+    32: ("NOT_BUILT", "a repository doesn't take these records"),
+    33: ("OTHER_VALUE", "a key has another value"),
+    34: ("OTHER_ROOT", "the changes lead to another root"),
+    35: ("NOT_TREE", "the nodes aren't a tree's"),
+    249: ("OPEN", "the repository is open already"),
+    250: ("CLOSED", "the repository is closed"),
+    251: ("SMALL", "the room is too small"),
+    252: ("BAD", "an argument that is none"),
+    253: ("CLASH", "two blocks clash"),
+    254: ("FULL", "the store is full"),
+    255: ("NO_MEMORY", "out of memory"),
+}
+# Those that say something else of the text of a CID, and of a tree.
+FAULTS_OF_CIDS = {
+    1: ("CID_LENGTH", "the text doesn't have 59 letters"),
+    2: ("CID_PREFIX", "the text doesn't begin with b"),
+    3: ("CID_LETTER", "a letter that base32 doesn't have"),
+    4: ("CID_BITS", "bits behind the last byte"),
+    5: ("CID_PROFILE", "not a CIDv1 of DAG-CBOR with SHA-256"),
+}
+FAULTS_OF_TREES = {
+    1: ("BELOW", "the key is below another node"),
+    2: ("MISSING", "a block of the path is missing"),
+    3: ("NOT_ASCENDING", "the keys don't ascend"),
+    20: ("BAD_KEY", "a key has no bytes or more than 1,024"),
+}
+
+
+class Fault(Exception):
+    """A call was refused, and nothing was changed by it.
+
+    `number` and `name` say why, as the header has them; `place` is the place in a batch, or in a list of changes, of what was refused, from 0 on,
+    and 0 where there is none. Its text is a sentence.
+    """
+
+    number: int
+    name: str
+    place: int
+
+    def __init__(self, number: int, place: int = 0, names: Names = FAULTS, sentence: Optional[str] = None) -> None:
+        name, own = names.get(number) or FAULTS.get(number, ("", f"number {number}"))
+        super().__init__(sentence or own)
+        self.number, self.name, self.place = number, name, place
