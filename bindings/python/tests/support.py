@@ -2,6 +2,7 @@
 import hashlib
 import importlib.util
 import os
+import sys
 import threading
 
 import tizulgech as t
@@ -49,9 +50,13 @@ def node_of(left, key, right):
 
 
 def together(works):
-    """Does all of these at once, each on a thread of its own."""
-    threads = [threading.Thread(target=it) for it in works]
-    for it in threads:
-        it.start()
-    for it in threads:
-        it.join()
+    """Does all of these at once, each on a thread of its own, and turns from one to another as often as can be."""
+    interval, threads = sys.getswitchinterval(), [threading.Thread(target=it) for it in works]
+    sys.setswitchinterval(1e-5)
+    try:
+        for it in threads:
+            it.start()
+        for it in threads:
+            it.join()
+    finally:
+        sys.setswitchinterval(interval)

@@ -1,5 +1,6 @@
 """Threads that share a repository, and that have one each."""
 import itertools
+import sys
 import threading
 import time
 import unittest
@@ -167,30 +168,32 @@ class Threads(unittest.TestCase):
             self.assertEqual(repository.get("a.b.c/d"), b"\xa0")
 
     def test_goes_on(self):
-        """A call of one repository doesn't keep another waiting: the interpreter goes on meanwhile."""
-        records = [(key(it), record(it)) for it in range(20_000)]
-        turns, ended = [], threading.Event()
+        """While a call is under way other threads go on, though the interpreter takes itself from none."""
+        records = sorted((key(it), record(it)) for it in range(5000))
+        turns, ended, filled, meanwhile = [], threading.Event(), t._library.filled, []
 
         def other():
             with t.Repository(10) as repository:
                 while not ended.is_set():
-                    repository.root
-                    turns.append(1)
-
-        thread = threading.Thread(target=other)
-        thread.start()
-        # some calls of which each takes a while, from where on all is in the library
-        filled, inside = t._library.filled, []
+                    turns.append(repository.root)
 
         def measured(*given, **named):
             before = len(turns)
             try:
                 return filled(*given, **named)
             finally:
-                inside.append(len(turns) - before)
+                meanwhile.append(len(turns) - before)
 
-        with mock.patch.object(t._library, "filled", measured):
-            t.listing_car(DID, tid(1), sorted(records))
-        ended.set()
-        thread.join()
-        self.assertGreater(inside[0], 0)
+        interval, thread = sys.getswitchinterval(), threading.Thread(target=other)
+        sys.setswitchinterval(1000)
+        try:
+            thread.start()
+            with mock.patch.object(t._library, "filled", measured):
+                # one call is enough, but for a machine that has no time for the other thread
+                while not any(meanwhile) and len(meanwhile) < 50:
+                    t.listing_car(DID, tid(1), records)
+        finally:
+            sys.setswitchinterval(interval)
+            ended.set()
+            thread.join()
+        self.assertTrue(any(meanwhile))
