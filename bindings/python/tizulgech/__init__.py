@@ -8,8 +8,8 @@
         proof = repository.prove(write.key)
     assert tizulgech.verify(applied.root, proof, write.key) == tizulgech.Cid.of(b"\\xa0")
 
-A repository in memory: Repository, the writes Put, Create, Update and Delete, what a batch leaves, Applied, and Changed. What they are tested by:
-check_write, record_fault, check_stamp, is_did, is_tid, is_repository_key.
+A repository in memory: Repository, its writes, each a Write that Put, Create, Update or Delete makes, Applied, what a batch leaves, and Changed.
+What a batch is tested by: check_write, record_fault, check_stamp, is_did, is_tid, is_repository_key.
 
 A tree whose nodes a program keeps elsewhere: tree_apply, tree_get, tree_path, Edit, links, EMPTY_NODE, Missing, BadNode.
 
