@@ -1,5 +1,6 @@
 """README.md, `help`, and the types of all public names."""
 import inspect
+import pickle
 import pydoc
 import re
 import typing
@@ -56,13 +57,19 @@ class Documents(unittest.TestCase):
         self.assertNotRegex(shown, r"\bctypes\.\w+\(|_library\b.*=|site-packages/.*/tests")
 
     def test_faults(self):
-        """Each fault has a name and a sentence, and none of a list has another's."""
+        """Each fault has the header's number and name and a sentence, none of a list has another's, and another process is told the same."""
         for names in (t.FAULTS, t.FAULTS_OF_CIDS, t.FAULTS_OF_TREES):
             self.assertEqual(len({name for name, _ in names.values()}), len(names))
             for number, (name, sentence) in names.items():
                 fault = t.Fault(number, 7, names)
                 self.assertEqual((fault.number, fault.name, fault.place, str(fault)), (number, name, 7, sentence))
                 self.assertTrue(sentence)
+                again = pickle.loads(pickle.dumps(fault))
+                self.assertEqual((type(again), vars(again), str(again)), (t.Fault, vars(fault), sentence))
+        for of in (t.Missing, t.BadNode):
+            fault = of(t.Cid.of(b""))
+            again = pickle.loads(pickle.dumps(fault))
+            self.assertEqual((type(again), vars(again), str(again)), (of, vars(fault), str(fault)))
         header = read("bindings/c/tizulgech.h")
         declared = {(name, int(number)) for name, number in re.findall(r"TIZULGECH_(\w+) = (\d+)", header)} - {("DONE", 0)}
         self.assertEqual({(name, number) for names in (t.FAULTS, t.FAULTS_OF_CIDS, t.FAULTS_OF_TREES) for number, (name, _) in names.items()}, declared)

@@ -1,4 +1,5 @@
 """Threads that share a repository, and that have one each."""
+import contextlib
 import itertools
 import sys
 import threading
@@ -75,7 +76,7 @@ class Threads(unittest.TestCase):
         self.assertEqual(roots, [wanted] * 4)
 
     def test_one_at_a_time(self):
-        """However many threads call one repository, one call is under way, and each answer is that of a state that it had."""
+        """However many threads call one repository, one call at a time is under way, and each has what it wrote."""
         call, under_way, most, faults = t._library.call, [], [], []
         rev, order = itertools.count(1), threading.Lock()
 
@@ -102,7 +103,11 @@ class Threads(unittest.TestCase):
                     if t.Cid.of(proof[0]) == root:
                         self.assertEqual(t.verify(root, proof, mine), t.Cid.of(record(turn)))
                     self.assertRaises(t.Fault, repository.apply, DID, "1", [t.Delete(mine)])
-                    self.assertTrue(repository and repository.number and repository.commit and repository.list(most=3))
+                    self.assertTrue(repository and repository.number and repository.commit and repository.list(most=3) and repository.car())
+                    repository.prove_change({mine: None}), repository.prove_inversion([(mine, None, t.Cid.of(record(turn)))])
+                    for parts in (repository.car_sections, lambda: repository.car_parts(10_000), lambda: iter(repository)) if turn % 10 == 0 else ():
+                        with contextlib.suppress(t.Changed):
+                            list(parts())
             except BaseException as it:
                 faults.append(it)
 
@@ -130,6 +135,7 @@ class Threads(unittest.TestCase):
 
         repository = t.Repository(10)
         repository.apply(DID, tid(1), [t.Put("a.b.c/d", b"\xa0")])
+        self.addCleanup(go_on.set)
         with mock.patch.object(t._library, "call", waiting):
             threads = [threading.Thread(target=lambda: answers.append(repository.get("a.b.c/d")))]
             threads[0].start()
@@ -185,12 +191,13 @@ class Threads(unittest.TestCase):
                 meanwhile.append(len(turns) - before)
 
         interval, thread = sys.getswitchinterval(), threading.Thread(target=other)
-        sys.setswitchinterval(1000)
+        sys.setswitchinterval(5)
         try:
             thread.start()
             with mock.patch.object(t._library, "filled", measured):
                 # one call is enough, but for a machine that has no time for the other thread
-                while not any(meanwhile) and len(meanwhile) < 50:
+                begun = time.monotonic()
+                while not any(meanwhile) and time.monotonic() < begun + 2:
                     t.listing_car(DID, tid(1), records)
         finally:
             sys.setswitchinterval(interval)

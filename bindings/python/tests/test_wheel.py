@@ -30,6 +30,7 @@ class Wheel(unittest.TestCase):
         self.assertRegex(os.path.basename(path), rf"^tizulgech-{re.escape(version)}-py3-none-linux_\w+\.whl$")
         with zipfile.ZipFile(path) as wheel:
             self.assertIsNone(wheel.testzip())
+            self.assertEqual({(it.date_time, it.external_attr >> 16) for it in wheel.infolist()}, {((1980, 1, 1, 0, 0, 0), 0o100644)})
             files = {it: wheel.read(it) for it in wheel.namelist()}
         about = f"tizulgech-{version}.dist-info"
         sources = {f"tizulgech/{it}" for it in os.listdir(os.path.join(ROOT, "bindings/python/tizulgech")) if it.endswith(".py")}

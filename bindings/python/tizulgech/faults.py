@@ -1,7 +1,7 @@
 """Why a call is refused: the header's numbers, its name of each, what each says, and the exception that has them."""
 from __future__ import annotations
 
-from typing import Dict, Mapping, Optional, Tuple
+from typing import Any, Dict, Mapping, Optional, Tuple, Type
 
 # Of each number the header's name, and what it says.
 Names = Mapping[int, Tuple[str, str]]
@@ -75,3 +75,12 @@ class Fault(Exception):
         name, own = names.get(number) or FAULTS.get(number, ("", f"number {number}"))
         super().__init__(sentence or own)
         self.number, self.name, self.place = number, name, place
+
+    def __reduce__(self) -> Tuple[Any, ...]:
+        # So that another process is told the same.
+        return _again, (type(self), str(self)), dict(vars(self))
+
+
+def _again(kind: Type[Fault], sentence: str) -> Fault:
+    """A fault with this sentence, which has nothing else yet."""
+    return kind.__new__(kind, sentence)
