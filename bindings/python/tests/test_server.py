@@ -21,10 +21,10 @@ class ServerTest(unittest.TestCase):
         self.thread.join()
         self.server.server_close()
 
-    def ask(self, method, path, content=b""):
+    def ask(self, method, path, content=b"", headers={}):
         connection = http.client.HTTPConnection(*self.server.server_address, timeout=60)
         try:
-            connection.request(method, f"/{path}", content)
+            connection.request(method, f"/{path}", content, headers)
             answer = connection.getresponse()
             return answer.status, answer.read()
         finally:
@@ -59,10 +59,23 @@ class ServerTest(unittest.TestCase):
         self.assertEqual((len(kept), repository.number), (CLIENTS * TURNS // 2, CLIENTS * TURNS * 3 // 2))
         self.assertEqual((repository.root, [(it.decode(), value) for it, value in repository]), (t.tree_root(sorted(kept.items()))[0], sorted(kept.items())))
 
+    def test_refused(self):
+        """What is refused, with the name of its fault: nothing is changed by it."""
+        root = self.server.repository.root
+        for method, path, content, answer in (
+            ("GET", key(1), b"", (404, b"NONE")), ("DELETE", key(1), b"", (404, b"NONE")), ("PUT", "a", b"\xa0", (400, b"BAD_KEY")), ("PUT", key(1), b"", (400, b"TRUNCATED")),
+            ("PUT", key(1), b"\x01", (400, b"NOT_A_MAP")),
+        ):
+            self.assertEqual(self.ask(method, path, content), answer)
+        for length in ("-1", "x", str(1 << 40)):
+            self.assertEqual(self.ask("PUT", key(1), None, {"Content-Length": length}), (413, b"RECORD_SIZE"))
+        self.assertEqual(self.server.repository.root, root)
+
     def test_closed(self):
-        """One that is closed beneath its server is told to whoever asks for a write."""
+        """One that is closed beneath its server is told to whoever asks."""
         self.server.repository.close()
-        self.assertEqual(self.ask("PUT", key(1), record(1)), (503, b"CLOSED"))
+        for method, path in (("PUT", key(1)), ("DELETE", key(1)), ("GET", key(1)), ("GET", f"{key(1)}?proof")):
+            self.assertEqual(self.ask(method, path, record(1)), (503, b"CLOSED"))
 
 
 if __name__ == "__main__":
