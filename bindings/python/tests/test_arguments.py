@@ -64,6 +64,7 @@ class Arguments(unittest.TestCase):
                 lambda it: repository.get(it),
                 lambda it: repository.list(it),
                 lambda it: repository.list("", it),
+                lambda it: next(repository.pairs(it)),
                 lambda it: repository.prove(it),
                 lambda it: repository.prove_change({"a": it}),
                 lambda it: repository.prove_inversion([("a", it, None)]),

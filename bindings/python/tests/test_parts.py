@@ -11,7 +11,7 @@ class Parts(unittest.TestCase):
         """Parts that were read one after another are of one state, or the reader is told."""
         with t.Repository(10_000) as repository:
             repository.apply(DID, tid(1), [t.Put(key(it), record(it)) for it in range(600)])
-            for turn, parts in enumerate((lambda: repository.car_parts(1000), repository.car_sections, lambda: iter(repository))):
+            for turn, parts in enumerate((lambda: repository.car_parts(1000), repository.car_sections, lambda: iter(repository), repository.pairs)):
                 read = parts()
                 next(read)
                 # reading is no batch, and neither is one that is refused

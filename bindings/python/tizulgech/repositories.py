@@ -38,8 +38,8 @@ class Repository:
     meanwhile. A call from a handler of a signal that comes into a call of the same repository raises a RuntimeError and does nothing. In the
     forked child of a process with threads it isn't called.
 
-    Iterating gives its pairs, each a key and its record's CID, in the order of the keys. Between two parts of that, of `car_parts` and of
-    `car_sections` no lock is held: they raise `Changed` where a batch came in between.
+    Iterating gives its pairs, each a key and its record's CID, in the order of the keys. Between two parts of that, of `pairs`, of `car_parts` and
+    of `car_sections` no lock is held: they raise `Changed` where a batch came in between.
     """
 
     def __init__(self, limit: int) -> None:
@@ -127,11 +127,15 @@ class Repository:
         """The first keys from one on, so many at most, each with its record's CID."""
         return Reader(self._filled("list", **{"from": text_of(start)}, most=number_of(most))).pairs()
 
-    def __iter__(self) -> Iterator[Tuple[bytes, Cid]]:
-        begun, start = self.number, b""
-        while pairs := Reader(self._part(begun, "entries", first=24_576, **{"from": start}, most=512)).pairs():
+    def pairs(self, start: Text = b"") -> Iterator[Tuple[bytes, Cid]]:
+        """All keys from one on, each with its record's CID, read page by page."""
+        begun, after = self.number, text_of(start)
+        while pairs := Reader(self._part(begun, "entries", first=24_576, **{"from": after}, most=512)).pairs():
             yield from pairs
-            start = pairs[-1][0] + b"\0"
+            after = pairs[-1][0] + b"\0"
+
+    def __iter__(self) -> Iterator[Tuple[bytes, Cid]]:
+        return self.pairs()
 
     def _part(self, begun: int, name: str, **given: Any) -> bytes:
         """The answer of a call, where so many writes are accepted as were when its first part was read."""
@@ -175,8 +179,14 @@ class Repository:
             self._answered("car_length", length=length)
             return _library.filled("car", length.value, repository=self._raw)
 
+    def car_length(self) -> int:
+        """How many bytes that file has; none of them is made."""
+        length = _library.count()
+        self._told("car_length", length=length)
+        return length.value
+
     def car_parts(self, length: int = 1 << 20) -> Iterator[bytes]:
-        """The same in parts of so many bytes. Each costs the way through all that is before it."""
+        """The same in parts of so many bytes, of which one at least. Each costs the way through all that is before it."""
         length, start, begun = max(number_of(length), 1), 0, self.number
         while part := self._part(begun, "car_part", first=length, **{"from": start}):
             yield part
