@@ -11,7 +11,7 @@ import unittest
 
 from lib.exports import NAMES
 from lib.files import ROOT, bytes_of, text_of, write
-from lib.made_exports import KINDS
+from lib.made_exports import KINDS, SLOW
 from lib.manuals import faults_of, files_of, helps_of
 from lib.model import Ended, tree
 from lib.programs import Outcome
@@ -128,6 +128,14 @@ class ByModelTest(unittest.TestCase):
             with contextlib.redirect_stdout(io.StringIO()) as said:
                 self.assertFalse(rounds.export(random.Random(1), bytes_of("examples/export.car")))
             os.remove(said.getvalue().splitlines()[0].rpartition(" < ")[2])
+
+    def test_files_that_are_made_to_be_slow(self) -> None:
+        said = ran("baseline", "slow", "200", "1", "--program", self.program)
+        self.assertRegex(said.stdout, r"\Ausual: \d+ bytes, .*\n(links|long) .*: \d+ bytes, .*, ratio ", said.stderr)
+        self.assertEqual(len(said.stdout.splitlines()), 1 + len(SLOW))
+        wrong = program(f"{self.room}/wrong", "#!/bin/sh\necho msthost: Misnamed >&2\nexit 1\n")
+        said = ran("baseline", "slow", "20", "1", "--program", wrong)
+        self.assertEqual((said.returncode, said.stderr), (1, "tools/baseline: it is to be Car(BadHeader), and not msthost: Misnamed\n"))
 
     def test_a_fault_may_be_explained(self) -> None:
         is_told = command("compare-runs").is_told
