@@ -72,7 +72,9 @@ export class Repository {
   }
   /** The first keys from one on, each with its record's CID. */
   async list(from = '', most = 256) {
-    return pairsOf((await this.#called(most > PAGE, 'list', from, most, 0)).bytes)
+    // Room for most lists: where it is too small all is made once more.
+    const room = most > PAGE ? 96 * Math.min(Number(most), 4096) : 0
+    return pairsOf((await this.#called(most > PAGE, 'list', from, most, room)).bytes)
   }
   /** Its pairs of a key and its record's CID, from a key on. It is of one moment: where a batch comes between two pages it rejects with
    * CHANGED. */

@@ -91,7 +91,7 @@ test('wrong values of the package', async () => {
       () => t.verify(EMPTY, [it], 'a'), () => t.verify(EMPTY, [], it), () => t.treeRoot([[it, EMPTY]]), () => t.listingCar(stamp(1), [['a', it]]), () => t.listingCar(stamp(1), [[it, put.record]]),
       () => t.verifyChange(EMPTY, EMPTY, [it], []), () => t.verifyInversion(EMPTY, EMPTY, [it], []), () => t.tree.get(() => t.EMPTY_NODE, EMPTY, it),
     ]
-    for (const [at, call] of calls.entries()) assert.equal(await code(call), 'ERR_INVALID_ARG_TYPE', `${at} of ${String(it)}`)
+    for (const [at, call] of calls.entries()) assert.equal(await code(call), 'ERR_INVALID_ARG_TYPE', `${at} of ${typeof it}`)
     assert.match(`${await code(() => t.verify(it, [], 'a'))}`, /ERR_INVALID_ARG_TYPE|CID_/)
     assert.match(`${await code(() => t.treeRoot([['a', it]]))}`, /ERR_INVALID_ARG_TYPE|CID_/)
     if (it !== null) assert.match(`${await code(() => one.proveChange([['a', it]]))}`, /ERR_INVALID_ARG_TYPE|CID_/)
