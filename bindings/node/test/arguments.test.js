@@ -130,7 +130,7 @@ test('bytes of any kind of buffer', async () => {
   assert.deepEqual([t.isKey('\u00e9'.repeat(512)), t.isKey('\u00e9'.repeat(513))], [true, false])
   assert.equal(t.keyLayer('x'.repeat(3_000_000)), t.keyLayer(Buffer.alloc(3_000_000, 'x')))
   // what a call on another thread was given it keeps, whatever becomes of it
-  const block = new Uint8Array(1 << 20).fill(7), waiting = t.cidsOf([block, block]), own = t.cidOf(block)
+  const block = new Uint8Array(1 << 20).fill(7), own = t.cidOf(block), waiting = t.cidsOf([block, block])
   block.fill(8)
   structuredClone(block.buffer, { transfer: [block.buffer] })
   for (const cid of await waiting) assert(cid.equals(own))

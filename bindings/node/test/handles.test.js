@@ -29,7 +29,7 @@ test('repositories of the addon, and what it keeps of them', async () => {
   assert.equal((await waiting)[0], 0)
   assert.equal(native.number(left), 250)
   // a call on another thread has bytes of its own
-  const block = new Uint8Array(1 << 22).fill(7), found = native.later.cid(block), own = t.cidOf(block).bytes
+  const block = new Uint8Array(1 << 22).fill(7), own = t.cidOf(block).bytes, found = native.later.cid(block)
   block.fill(8)
   assert.deepEqual(new Uint8Array((await found)[1], 0, 36), own)
 })

@@ -2,7 +2,7 @@
 import assert from 'node:assert/strict'
 import test from 'node:test'
 import * as t from 'tizulgech'
-import { Random, all, code, fails, key, puts, record, sorted, stamp, texts, whole } from './common.js'
+import { Random, all, code, fails, hex, key, puts, record, sorted, stamp, texts, whole } from './common.js'
 
 const cidsOf = pairs => pairs.map(({ key, cid }) => [key, `${cid}`])
 
@@ -71,6 +71,18 @@ test('a repository of nothing', async () => {
   const file = Buffer.from(await one.car())
   assert(file.equals(await whole(one.carParts())) && file.equals(await whole(one.carSections())))
   one[Symbol.dispose ?? Symbol.for('Symbol.dispose')]?.()
+})
+
+test('records that have no room in the buffer of answers', async () => {
+  const one = t.Repository.open(10), large = size => Buffer.concat([hex('a1616b5a'), Buffer.from(size.toString(16).padStart(8, '0'), 'hex'), Buffer.alloc(size, 7)])
+  for (const [n, size] of [65_400, 65_401, 200_000, 1_048_000].entries()) {
+    const record = large(size)
+    await one.apply(stamp(n + 1), [{ action: 'put', key: 'a.b.c/d', record }])
+    assert(record.equals(one.get('a.b.c/d')))
+    const file = Buffer.from(await one.car())
+    for (const parts of [one.carParts(), one.carParts(65_536), one.carSections()]) assert(file.equals(await whole(parts)))
+  }
+  one.close()
 })
 
 test('one call at a time', async () => {
