@@ -74,8 +74,9 @@ test('a repository of nothing', async () => {
 })
 
 test('records that have no room in the buffer of answers', async () => {
-  const one = t.Repository.open(10), large = size => Buffer.concat([hex('a1616b5a'), Buffer.from(size.toString(16).padStart(8, '0'), 'hex'), Buffer.alloc(size, 7)])
-  for (const [n, size] of [65_400, 65_401, 200_000, 1_048_000].entries()) {
+  const one = t.Repository.open(10), head = size => size < 65_536 ? `59${size.toString(16)}` : `5a${size.toString(16).padStart(8, '0')}`
+  const large = size => Buffer.concat([hex(`a1616b${head(size)}`), Buffer.alloc(size, 7)])
+  for (const [n, size] of [65_402, 65_403, 200_000, 1_048_000].entries()) {
     const record = large(size)
     await one.apply(stamp(n + 1), [{ action: 'put', key: 'a.b.c/d', record }])
     assert(record.equals(one.get('a.b.c/d')))
