@@ -1,4 +1,5 @@
 /** A repository in memory. */
+import { setImmediate } from 'node:timers/promises'
 import { MANY, called, cidAt, filled, firstCid, firstNumber, isLong, native, numberOf, packed } from './native.js'
 import { Reader, made, raw } from './cids.js'
 import { Wanted, told } from './changes.js'
@@ -76,8 +77,8 @@ export class Repository {
     const room = most > PAGE ? 96 * Math.min(Number(most), 4096) : 0
     return pairsOf((await this.#called(most > PAGE, 'list', from, most, room)).bytes)
   }
-  /** Its pairs of a key and its record's CID, from a key on. It is of one moment: where a batch comes between two pages it rejects with
-   * CHANGED. */
+  /** Its pairs of a key and its record's CID, from a key on, in pages between which other work has its turn. It is of one moment: where a
+   * batch comes between two pages it rejects with CHANGED. */
   async *entries(from = '') {
     const batches = this.#batches
     for (;;) {
@@ -85,6 +86,7 @@ export class Repository {
       if (!pairs.length) return
       yield* pairs
       from = `${pairs.at(-1).key}\0`
+      await setImmediate()
     }
   }
   [Symbol.asyncIterator]() { return this.entries() }
@@ -121,7 +123,8 @@ export class Repository {
       for (let at = 0; at < bytes.length; at += most) yield bytes.subarray(at, at + most)
     }
   }
-  /** The same in parts of which each is made once, on the thread of JavaScript: the header, and a section for each block. */
+  /** The same in parts of which each is made once, on the thread of JavaScript, where other work has its turn now and then: the header, and a
+   * section for each block. */
   async *carSections() {
     const batches = this.#batches, commit = this.commit, left = [{ isNode: true, cid: this.root }], seen = new Set()
     if (commit) left.push({ isNode: false, cid: commit })
@@ -133,6 +136,7 @@ export class Repository {
       if (isNode) left.push(...links(nodeIn(bytes)).reverse())
       if (!seen.has(text)) yield bytes
       seen.add(text)
+      if (seen.size % PAGE === 0) await setImmediate()
     }
   }
 
