@@ -218,3 +218,30 @@ class VersionTest(unittest.TestCase):
                 write(f"{room}/{place.path}", place.example.replace("{}", "1.2.3"))
             write(f"{room}/VERSION", "one\n")
             self.assertEqual(len(version.faults_in(room)), 1)
+
+
+class DeclarationsTest(unittest.TestCase):
+    """What is declared to Node is compared: a wrong line, number or name is told."""
+
+    CHANGED = (
+        ("addon/calls.def", "B(4), B(5), C(0)", "B(5), B(4), C(0)"),
+        ("addon/calls.def", '"kfbb"', '"nfbb"'),
+        ("addon/calls.def", "CALL(links, ", "CALL(other, "),
+        ("addon/calls.c", "tizulgech_clear(R)", "0"),
+        ("lib/tree.js", "'below'", "'links'"),
+        ("lib/faults.js", "34: ['OTHER_ROOT'", "36: ['OTHER_ROOT'"),
+        ("lib/faults.js", "  35: [", "  // 35: ["),
+        ("lib/faults.js", "NONE = 24", "NONE = 25"),
+        ("index.d.ts", " | 'NOT_BUILT'", ""),
+        ("index.d.ts", "'CLOSED'", "'CLOSED' | 'SMALL'"),
+    )
+
+    def test_of_node(self) -> None:
+        declarations = command("library-declarations")
+        wanted, (numbers, _) = declarations.exports(), declarations.answers(declarations.library())
+        told = lambda files: [*declarations.node_otherwise(wanted, files), *declarations.codes_otherwise(numbers, files)]
+        files = declarations.node_files()
+        self.assertEqual(told(files), [])
+        for path, old, new in self.CHANGED:
+            self.assertIn(old, files[path])
+            self.assertTrue(told({**files, path: files[path].replace(old, new)}), (path, old))
