@@ -72,7 +72,7 @@ module _ (digest : List ℕ → List ℕ) where
   given-case b true o p e = refl
   given-case b false o p e = e
 
-  given-at : (c : List ℕ) (bs : List (List ℕ)) → block_with c (sections_of bs) ≡ block_at digest c bs
+  pub given-at : (c : List ℕ) (bs : List (List ℕ)) → block_with c (sections_of bs) ≡ block_at digest c bs
   given-at c [] = refl
   given-at c (b ∷ bs) = given-case b (bytes_eq (cid digest b) c) (section_with c (sections_of bs)) (block_at digest c bs) (given-at c bs)
 
@@ -100,7 +100,7 @@ module _ (digest : List ℕ → List ℕ) where
       (filter-at c (λ d. not (bytes_eq (cid digest b) (cid digest d))) xs
       (λ d h. ap not (ap (bytes_eq (cid digest b)) ((bytes_eq-Decides (cid digest d) c).0 h) ∙ e)) ∙ i)
 
-  firsts-at : (c : List ℕ) (bs : List (List ℕ)) → block_at digest c (firsts (cid digest) bs) ≡ block_at digest c bs
+  pub firsts-at : (c : List ℕ) (bs : List (List ℕ)) → block_at digest c (firsts (cid digest) bs) ≡ block_at digest c bs
   firsts-at c [] = refl
   firsts-at c (b ∷ bs) = firsts-case c b (firsts (cid digest) bs) bs (bytes_eq (cid digest b) c) refl (firsts-at c bs)
 
