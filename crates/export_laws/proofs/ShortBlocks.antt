@@ -46,7 +46,7 @@ head-short m n =
     (first-and (32 * m + 26) (to_be_bytes w32 n) 4 refl (omega arith))
     (first-and (32 * m + 27) (to_be_bytes w64 n) 8 refl (omega arith)))))
 
-own-length : (c : List ℕ) → is_own_cid c ≡ true → length c ≡ 36
+pub own-length : (c : List ℕ) → is_own_cid c ≡ true → length c ≡ 36
 own-length c own = eqb-true (length c) 36 (both (eqb (length c) 36) (bytes_eq (take 4 c) prefix) own).0
 
 five-more : (a b c d e : ℕ) (xs : List ℕ) → length xs ≡ 36 → length (a ∷ b ∷ c ∷ d ∷ e ∷ xs) ≤ 41

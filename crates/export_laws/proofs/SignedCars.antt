@@ -40,15 +40,15 @@ module _ (digest : List ℕ → List ℕ) where
 
   -- ---- the sections of some blocks
 
-  spelled-each : (bs : List (List ℕ)) → flat_map (section digest) bs ≡ flat_map section_bytes (sections_of bs)
+  pub spelled-each : (bs : List (List ℕ)) → flat_map (section digest) bs ≡ flat_map section_bytes (sections_of bs)
   spelled-each [] = refl
   spelled-each (b ∷ bs) = ap (λ (x : List ℕ). section digest b ++ x) (spelled-each bs)
 
-  named-each : (bs : List (List ℕ)) → are_named digest (sections_of bs) ≡ true
+  pub named-each : (bs : List (List ℕ)) → are_named digest (sections_of bs) ≡ true
   named-each [] = refl
   named-each (b ∷ bs) = and _ _ ((bytes_eq-Decides (cid digest b) (cid digest b)).1 refl) (named-each bs)
 
-  are-sections : IsDigest digest → (bs : List (List ℕ)) → AllByRecursion Short bs → AllByRecursion IsSection (sections_of bs)
+  pub are-sections : IsDigest digest → (bs : List (List ℕ)) → AllByRecursion Short bs → AllByRecursion IsSection (sections_of bs)
   are-sections fits [] all = tt
   are-sections fits (b ∷ bs) all = (record { own = own-cid digest b fits; short = all.0 }, are-sections fits bs all.1)
 
