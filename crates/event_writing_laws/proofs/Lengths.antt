@@ -1,5 +1,5 @@
 -- A message within the other bounds is within that of its bytes.
-use Rattle.std.proofs.Common.{◌≡◌, ℕ, suc, ◌+◌, ◌*◌, ◌<◌, ◌≤◌, Bool, true, false, cond, ◌&&◌, leb, List, [], ◌∷◌, ◌++◌, length, take, drop, refl, Option, Ok, arith}
+use Rattle.std.proofs.Common.{◌≡◌, ℕ, ◌+◌, ◌*◌, ◌≤◌, Bool, true, false, cond, ◌&&◌, leb, List, [], ◌∷◌, ◌++◌, length, take, drop, Option, Ok, arith}
 use Rattle.std.specs.Prelude.{codes, pos}
 use Rattle.std.specs.List.{AllByRecursion}
 use Rattle.std.specs.Str.{bytes_eq}
@@ -8,7 +8,7 @@ use Rattle.std.proofs.lemmas.Bool.{leb-true}
 use Rattle.std.proofs.lemmas.List.{length-append}
 use Rattle.spec.specs.Cid.{is_own_cid}
 use Rattle.spec.specs.Head.{head}
-use Rattle.spec.specs.DagCbor.{Value, Null, Boolean, Integer, Bytes, Text, Items, Fields, Link, NoValue, Values, Entries, NoEntry, EntryThen, count_entries, count_values, spelling, spelling_of_entries, spelling_of_values, string}
+use Rattle.spec.specs.DagCbor.{Value, Boolean, Integer, Bytes, Text, Items, Fields, Link, NoValue, Values, Entries, NoEntry, EntryThen, count_entries, count_values, spelling, spelling_of_entries, spelling_of_values, string}
 use Rattle.spec.specs.Keys.{is_repository_key}
 use Rattle.spec.specs.NodeFormat.{is_own_cid_or_none}
 use Rattle.spec.specs.Stamps.{is_did, is_tid}
