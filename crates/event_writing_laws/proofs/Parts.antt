@@ -1,5 +1,5 @@
 -- What was tested where there is a message, and what it so is.
-use Rattle.std.proofs.Common.{◌≡◌, ℕ, suc, ◌^◌, ◌<◌, ◌≤◌, Bool, true, false, cond, List, [], ◌∷◌, length, refl, sym, ap, subst, ◌∙◌, Option, Result, Ok}
+use Rattle.std.proofs.Common.{◌≡◌, ℕ, suc, ◌^◌, ◌<◌, ◌≤◌, Bool, true, false, cond, List, [], ◌∷◌, length, refl, sym, ap, subst, ◌∙◌, Option, Result, Ok, Err}
 use Rattle.std.specs.Prelude.{nat_le, nat_lt}
 use Rattle.std.specs.List.{AllByRecursion}
 use Rattle.std.specs.declared.option.Option.TheVariants.{Some, None}
@@ -12,16 +12,16 @@ use Rattle.spec.specs.Tree.{Pair}
 use Rattle.spec.specs.Blocks.{value_of}
 use Rattle.spec.specs.Keys.{is_repository_key}
 use Rattle.spec.specs.NodeFormat.{is_own_cid_or_none}
-use Rattle.spec.specs.Stamps.{Stamp, is_next_rev, is_tid}
+use Rattle.spec.specs.Stamps.{Stamp}
 use Rattle.spec.proofs.Taking.{bind_ok, ensure_ok}
 use Rattle.change_laws.specs.Told.{KeyChange}
 use Rattle.event_times.specs.Limits.{most_ops, most_blocks_bytes}
 use Rattle.event_times.specs.Times.{is_time}
 use Rattle.event_laws.specs.Ops.{is_op, ops_of}
 use Rattle.event_laws.specs.Events.{Event}
-use Rattle.event_laws.specs.Reading as reading
+use Rattle.event_laws.specs.Reading.{FormFault, BadOp, BadTime, BlocksSize, TooManyOps, since_test}
 use Rattle.event_reading_laws.specs.Laws.{IsOp}
-use Rattle.event_writing_laws.specs.Telling.{Told, UntoldFault, BadPath, BadSeq, BadSince, BadTime, BlocksSize, RevOrder, TooManyOps, paths_test, since_test, sizes_test, told_ops, told_test}
+use Rattle.event_writing_laws.specs.Telling.{Told, UntoldFault, BadSeq, OfForm, of_form, paths_test, sizes_test, told_ops, told_test}
 use Rattle.event_writing_laws.specs.Messages.{commit_over, event_of, file_of, left_test, short_file, stamped_event}
 use Rattle.event_writing_laws.proofs.Left.{ensured}
 
@@ -33,22 +33,22 @@ same-ok x y e = cc
 pub record IsBeside (told : Told) (rev : List ℕ) : Type 0 where
   pub seq : told.seq < 2 ^ 63
   pub time : is_time told.time ≡ true
-  pub since : reading.since_test told.since rev ≡ Ok tt
+  pub since : since_test told.since rev ≡ Ok tt
 
-since-same : (o : Option (List ℕ)) (rev : List ℕ) (x : Unit {0}) → since_test o rev ≡ Ok x → reading.since_test o rev ≡ Ok tt
-since-same None rev x e = refl
-since-same (Some s) rev x e =
-    let a = ensure_ok (is_tid s) BadSince _ x e in
-    let b = ensured (is_next_rev (Some s) rev) RevOrder x a.1 in
-    ap (λ (t : Bool). ensure t reading.BadSince >>= (λ (y : Unit {0}). ensure (is_next_rev (Some s) rev) reading.RevOrder)) a.0
-    ∙ ap (λ (t : Bool). ensure t reading.RevOrder) b
+was-form : {A : Type 0} (r : Result A FormFault) (x : A) → of_form r ≡ Ok x → r ≡ Ok x
+was-form (Ok y) x e = cc
+was-form (Err f) x e = absurd cc
 
 pub is-beside : (told : Told) (rev : List ℕ) (x : Unit {0}) → told_test told rev ≡ Ok x → IsBeside told rev
 unfolding told_test
 is-beside told rev x e =
     let a = ensure_ok (nat_lt told.seq (2 ^ 63)) BadSeq _ x e in
-    let b = ensure_ok (is_time told.time) BadTime _ x a.1 in
-    record { seq = ltb-true told.seq (2 ^ 63) a.0; time = b.0; since = since-same told.since rev x b.1 }
+    let b = bind_ok (of_form (since_test told.since rev)) _ x a.1 in
+    record {
+      seq = ltb-true told.seq (2 ^ 63) a.0;
+      time = ensured (is_time told.time) (OfForm BadTime) x b.2;
+      since = was-form (since_test told.since rev) b.0 b.1;
+    }
 
 -- ---- operations
 
@@ -60,7 +60,7 @@ pub record AreOps (cs ops : List KeyChange) : Type 0 where
 pub are-ops : (cs ops : List KeyChange) → told_ops cs ≡ Ok ops → AreOps cs ops
 unfolding told_ops
 are-ops cs ops e =
-    let a = ensure_ok (nat_le (length (ops_of cs)) most_ops) TooManyOps _ ops e in
+    let a = ensure_ok (nat_le (length (ops_of cs)) most_ops) (OfForm TooManyOps) _ ops e in
     let b = bind_ok (paths_test 0 (ops_of cs)) (λ x. Ok (ops_of cs)) ops a.1 in
     record {
       few = leb-true (length (ops_of cs)) most_ops a.0;
@@ -85,7 +85,7 @@ pub are-lawful : (old new : List Pair) (place : ℕ) (cs : List KeyChange) → A
     → AllByRecursion IsOp cs
 are-lawful old new place [] o n p i b a = tt
 are-lawful old new place (c ∷ cs) o n p i b a =
-    let e = ensure_ok (is_repository_key c.key) (BadPath place) (λ x. paths_test (suc place) cs) tt p in (
+    let e = ensure_ok (is_repository_key c.key) (OfForm (BadOp place)) (λ x. paths_test (suc place) cs) tt p in (
       record {
         key = e.0;
         op = i.0;
@@ -114,7 +114,7 @@ pub record IsShort (file small : List ℕ) : Type 0 where
 is-short : (file small : List ℕ) → short_file file ≡ Ok small → IsShort file small
 unfolding short_file
 is-short file small e =
-    let a = ensure_ok (nat_le (length file) most_blocks_bytes) BlocksSize _ small e in
+    let a = ensure_ok (nat_le (length file) most_blocks_bytes) (OfForm BlocksSize) _ small e in
     record { short = leb-true (length file) most_blocks_bytes a.0; is = same-ok {E = UntoldFault} file small a.1 }
 
 sizes-left : (digest : List ℕ → List ℕ) (m : List (List ℕ × List ℕ)) (ops : List KeyChange) (x : Unit {0})

@@ -15,7 +15,8 @@ use Rattle.change_laws.specs.Verdict.{are_told}
 use Rattle.change_laws.specs.Laws.{change_path}
 use Rattle.event_times.specs.Limits.{most_blocks_bytes}
 use Rattle.event_laws.specs.Events.{Event, event_bytes}
-use Rattle.event_writing_laws.specs.Telling.{Told, UntoldFault, BlocksSize, of_values, or_no_batch, sizes_test, told_ops, told_test}
+use Rattle.event_laws.specs.Reading.{BlocksSize}
+use Rattle.event_writing_laws.specs.Telling.{Told, UntoldFault, OfForm, of_values, or_no_batch, sizes_test, told_ops, told_test}
 
 -- the records that stand under the keys of operations, in their order: a key that went has none
 abbrev pub records_left : List (List ℕ × List ℕ) → List KeyChange → List (List ℕ)
@@ -58,7 +59,7 @@ left_test digest m ops = do
 -- a file that isn't too long
 unfoldable pub short_file : List ℕ → Result (List ℕ) UntoldFault
 short_file file = do
-  short ← ensure (nat_le (length file) most_blocks_bytes) BlocksSize
+  short ← ensure (nat_le (length file) most_blocks_bytes) (OfForm BlocksSize)
   Ok file
 
 -- the message of a batch with this stamp that left these records, and before which the tree had this root
