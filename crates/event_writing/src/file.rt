@@ -1,13 +1,13 @@
 //! The CAR file of a message.
 
-ghost use Rattle.std.specs.Prelude.{◌≡◌, ◌≤◌, ◌∷◌, [], map, true, IfErr, OnOk};
+ghost use Rattle.std.specs.Prelude.{◌≡◌, ◌≤◌, ◌∷◌, [], length, map, true, IfErr, OnOk};
 ghost use Rattle.std.specs.Arc.{arc_value};
-ghost use Rattle.std.specs.List.{cons_option};
 ghost use Rattle.spec.specs.Reading.{Gives};
 ghost use Rattle.spec.specs.Blocks.{record_at};
 ghost use Rattle.spec.specs.States.{records};
 ghost use Rattle.key_changes.specs.Keyed.{are_changes};
 ghost use Rattle.change_laws.specs.Told.{undone};
+ghost use Rattle.event_times.specs.Limits.{most_blocks_bytes};
 ghost use Rattle.event_writing_laws.specs.Messages.{records_left};
 ghost use Rattle.event_writing.specs.Views.{untold_fault_of};
 ghost use Rattle.event_writing.specs.Steps.{left_file as file_left};
@@ -31,6 +31,7 @@ fn put<D: Digest, A: Allocator + Clone>(
     block: &Block<D, A>,
 ) -> Result<(), UntoldFault>
     ensures put { OnOk result (ArePut D.digest_of (block.now ∷ []) file.old file.new) }
+    ensures short { OnOk result (length file.new.bytes ≤ most_blocks_bytes) }
     ensures fault { IfErr result (IsTooLong D.digest_of (block.now ∷ []) file.old) }
 {
     file.push::<D>(&block.cid(), block.bytes())?;
@@ -45,7 +46,9 @@ fn put_nodes<D: Digest, A: Allocator + Clone>(
     file: &mut CarWriter<A>,
     nodes: &[Arc<Block<D, A>, A>],
 ) -> Result<(), UntoldFault>
+    requires short { length file.old.bytes ≤ most_blocks_bytes }
     ensures put { OnOk result (ArePut D.digest_of (map arc_value nodes.now) file.old file.new) }
+    ensures short { OnOk result (length file.new.bytes ≤ most_blocks_bytes) }
     ensures fault { IfErr result (IsTooLong D.digest_of (map arc_value nodes.now) file.old) }
 {
     for node in nodes {
@@ -60,8 +63,10 @@ fn put_record<D: Digest, const B: u8, A: Allocator + Clone>(
     core: &Core<D, B, A>,
     op: &KeyChange<'_>,
 ) -> Result<(), UntoldFault>
+    requires short { length file.old.bytes ≤ most_blocks_bytes }
     ensures put { OnOk result (ArePut D.digest_of (record_at (records core.now) op.now.key)
         file.old file.new) }
+    ensures short { OnOk result (length file.new.bytes ≤ most_blocks_bytes) }
     ensures fault { IfErr result (IsTooLong D.digest_of
         (record_at (records core.now) op.now.key) file.old) }
 {
@@ -77,8 +82,10 @@ fn put_records<D: Digest, const B: u8, A: Allocator + Clone>(
     core: &Core<D, B, A>,
     ops: &[KeyChange<'_>],
 ) -> Result<(), UntoldFault>
+    requires short { length file.old.bytes ≤ most_blocks_bytes }
     ensures put { OnOk result (ArePut D.digest_of (records_left (records core.now) ops.now)
         file.old file.new) }
+    ensures short { OnOk result (length file.new.bytes ≤ most_blocks_bytes) }
     ensures fault { IfErr result (IsTooLong D.digest_of
         (records_left (records core.now) ops.now) file.old) }
 {

@@ -13,7 +13,7 @@ ghost use Rattle.change_laws.specs.Verdict.{are_told};
 ghost use Rattle.event_times.specs.Limits.{most_record_bytes};
 ghost use Rattle.event_writing_laws.specs.Telling.{left_size, of_values, size_test, sizes_test};
 ghost use Rattle.event_writing_laws.specs.Messages.{left_test};
-ghost use Rattle.event_writing.specs.Views.{untold_fault_of};
+ghost use Rattle.event_writing.specs.Views.{untold_as, untold_fault_of};
 
 use crate::fault::UntoldFault;
 use block::Block;
@@ -29,7 +29,9 @@ use std::sync::Arc;
 pub(crate) type Nodes<D, A> = Vec<Arc<Block<D, A>, A>, A>;
 
 /// Why nodes aren't proved, as a fault of the message.
-fn untold(fault: ProvingFault) -> UntoldFault {
+fn untold(fault: ProvingFault) -> UntoldFault
+    ensures { result ≡ untold_as fault }
+{
     match fault {
         ProvingFault::OtherValue(place) => UntoldFault::OtherValue(place),
         ProvingFault::NoMemory => UntoldFault::NoMemory,
@@ -44,7 +46,7 @@ fn shown<D: Digest, const B: u8, A: Allocator + Copy>(
 ) -> Result<Nodes<D, A>, UntoldFault>
     requires least { 1 ≤ B }
     requires changes { are_changes (undone ops.now) ≡ true }
-    ensures told { Gives (λ _. tt) untold_fault_of result (of_values
+    ensures told { Gives (λ nodes. tt) untold_fault_of result (of_values
         (are_told 0 (values (undone ops.now) (pairs D.digest_of (records core.now))) ops.now)) }
     ensures nodes { IfOk result (λ nodes. map arc_value nodes.items
         ≡ change_path D.digest_of B ops.now (pairs D.digest_of (records core.now))) }
@@ -102,7 +104,7 @@ pub(crate) fn nodes_left<D: Digest, const B: u8, A: Allocator + Copy>(
 ) -> Result<Nodes<D, A>, UntoldFault>
     requires least { 1 ≤ B }
     requires changes { are_changes (undone ops.now) ≡ true }
-    ensures told { Gives (λ _. tt) untold_fault_of result
+    ensures told { Gives (λ nodes. tt) untold_fault_of result
         (left_test D.digest_of (records core.now) ops.now) }
     ensures nodes { IfOk result (λ nodes. map arc_value nodes.items
         ≡ change_path D.digest_of B ops.now (pairs D.digest_of (records core.now))) }
