@@ -1,9 +1,23 @@
 -- Operations tested one after the other.
-use Rattle.std.proofs.Common.{◌≡◌, ℕ, suc, ◌+◌, ◌<◌, ◌≤◌, List, ◌∷◌, length, drop, get_or, Option, Some, None, Result, Ok, sym, ap, ◌∙◌, arith}
+use Rattle.std.proofs.Common.{◌≡◌, ℕ, suc, ◌+◌, ◌<◌, ◌≤◌, List, ◌∷◌, length, drop, get_or, Option, Some, None, Result, Ok, Err, sym, ap, ◌∙◌, arith}
 use Rattle.std.proofs.lemmas.List.{at_drop_more, drop_all}
-use Rattle.spec.specs.Reading.{◌>>=◌, Fails}
+use Rattle.std.specs.Prelude.{IfErr}
+use Rattle.spec.specs.Reading.{◌>>=◌, Fails, Gives}
 use Rattle.change_laws.specs.Told.{KeyChange}
 use Rattle.event_writing_laws.specs.Telling.{UntoldFault, each_test}
+use Rattle.event_writing.specs.Views.{untold_fault_of}
+use Rattle.event_writing.specs.declared.fault.UntoldFault.{UntoldFault as Untold}
+
+-- ---- a fault that is handed on
+
+pub gives-err : {X Y : Type 0} (view : X → Y) (e : Untold) (r : Result X Untold) (read : Result Y UntoldFault) → r ≡ Err e
+    → Fails (untold_fault_of e) read → Gives view untold_fault_of r read
+gives-err view e r read is h = rw is h
+
+pub if-err : {X : Type 0} (P : Untold → Type 0) (e : Untold) (r : Result X Untold) → r ≡ Err e → P e → IfErr r P
+if-err P e r is h = rw is h
+
+-- ---- operations
 
 abbrev pub Test : Type 0
 Test = ℕ → KeyChange → Result (Unit {0}) UntoldFault

@@ -5,13 +5,13 @@ use Rattle.std.specs.declared.option.Option.TheVariants.{Some, None}
 use Rattle.spec.specs.Reading.{◌>>=◌, Gives}
 use Rattle.spec.specs.Cid.{IsDigest, cid}
 use Rattle.spec.specs.Blocks.{root}
-use Rattle.spec.specs.Stamps.{Stamp}
+use Rattle.spec.specs.Stamps.{Stamp, Stamped, last, stamp_of}
 use Rattle.spec.specs.States.{State, IsLawful, last_stamp, records}
 use Rattle.batch_laws.specs.Batch.{AreKeyed}
 use Rattle.change_laws.specs.Told.{KeyChange, undone}
 use Rattle.event_laws.specs.Events.{Event, event_bytes}
 use Rattle.event_laws.specs.Verdict.{commit_verdict}
-use Rattle.event_writing_laws.specs.Telling.{Told, UntoldFault as Untold, or_no_batch, told_ops, told_test}
+use Rattle.event_writing_laws.specs.Telling.{Told, UntoldFault as Untold, NoBatch, or_no_batch, told_ops, told_test}
 use Rattle.event_writing_laws.specs.Messages.{batch_event, batch_message, commit_over, event_of, file_of, left_test, short_file, stamped_event}
 use Rattle.event_writing_laws.specs.Laws.{checked_batch}
 use Rattle.event_writing_laws.proofs.Taken.{written-is_taken}
@@ -61,6 +61,31 @@ message-is digest bits s before cs told =
     rebound (or_no_batch (last_stamp s)) (λ stamp. stamped_event digest bits (records s) stamp before cs told)
     (λ (e : Event). Ok (event_bytes e)) (λ stamp. stamped_message digest bits (records s) stamp before cs told)
     (of-stamp digest bits (records s) before cs told)
+
+-- of a batch with this stamp, and before the first one
+pub message-stamped : (digest : List ℕ → List ℕ) (bits : ℕ) (s : State) (before : List ℕ) (cs : List KeyChange) (told : Told)
+    (ss : List Stamped) (stamp : Stamp) → ss ≡ s.stamps → ◌≡◌ {A = Option Stamp} (Some stamp) (stamp_of (last ss))
+    → batch_message digest bits s before cs told ≡ stamped_message digest bits (records s) stamp before cs told
+message-stamped digest bits s before cs told ss stamp same is =
+    message-is digest bits s before cs told
+    ∙ ap (λ (o : Option Stamp). or_no_batch o >>= (λ x. stamped_message digest bits (records s) x before cs told))
+    (ap (λ (xs : List Stamped). stamp_of (last xs)) (sym same) ∙ sym is)
+
+pub message-none : (digest : List ℕ → List ℕ) (bits : ℕ) (s : State) (before : List ℕ) (cs : List KeyChange) (told : Told)
+    (ss : List Stamped) → ss ≡ s.stamps → ◌≡◌ {A = Option Stamp} None (stamp_of (last ss))
+    → batch_message digest bits s before cs told ≡ Err NoBatch
+message-none digest bits s before cs told ss same is =
+    message-is digest bits s before cs told
+    ∙ ap (λ (o : Option Stamp). or_no_batch o >>= (λ x. stamped_message digest bits (records s) x before cs told))
+    (ap (λ (xs : List Stamped). stamp_of (last xs)) (sym same) ∙ sym is)
+
+pub gives-stamped : {T E : Type 0} (digest : List ℕ → List ℕ) (bits : ℕ) (s : State) (before : List ℕ) (cs : List KeyChange)
+    (told : Told) (ss : List Stamped) (stamp : Stamp) → ss ≡ s.stamps → ◌≡◌ {A = Option Stamp} (Some stamp) (stamp_of (last ss))
+    → (view : T → List ℕ) (fault : E → Option Untold) (r : Result T E)
+    → Gives view fault r (stamped_message digest bits (records s) stamp before cs told)
+    → Gives view fault r (batch_message digest bits s before cs told)
+gives-stamped digest bits s before cs told ss stamp same is view fault r h =
+    subst (λ (m : Result (List ℕ) Untold). Gives view fault r m) (sym (message-stamped digest bits s before cs told ss stamp same is)) h
 
 -- ---- what is written is taken
 

@@ -50,7 +50,7 @@ pub(crate) fn message<'m, A: Allocator>(
     before: &'m Cid,
 ) -> Result<Vec<u8, A>, AllocError>
     ensures { IfOk result (λ message. message.items ≡ event_bytes (event_of (told_of told.now)
-        (stamp_of stamp.now) commit.now file.now ops.items before.now)) }
+        (stamp_of stamp.now) commit.now file.now ops.entry.items before.now)) }
 {
     let event = Event {
         seq: told.seq,

@@ -35,12 +35,12 @@ use std::alloc::Allocator;
 ///
 /// `B` is the number of zero bits of a digest that count for one layer, 2 in the AT Protocol. `key_changes::are_key_changes` is
 /// the test of what it takes.
-pub fn commit_event<D: Digest, const B: u8, A: Allocator + Copy>(
+pub fn commit_event<'m, D: Digest, const B: u8, A: Allocator + Copy>(
     alloc: A,
-    core: &Core<D, B, A>,
+    core: &'m Core<D, B, A>,
     before: Cid,
-    changes: &[KeyChange<'_>],
-    told: &Told<'_>,
+    changes: &[KeyChange<'m>],
+    told: &Told<'m>,
 ) -> Result<Vec<u8, A>, UntoldFault>
     requires least { 1 ≤ B }
     requires changes { are_changes (undone changes.now) ≡ true }
@@ -61,13 +61,13 @@ pub fn commit_event<D: Digest, const B: u8, A: Allocator + Copy>(
 
 /// The message of a batch with this stamp.
 #[tactic(auto, unfolding(crate::specs::Steps::stamped_message))]
-fn stamped_message<D: Digest, const B: u8, A: Allocator + Copy>(
+fn stamped_message<'m, D: Digest, const B: u8, A: Allocator + Copy>(
     alloc: A,
     core: &Core<D, B, A>,
-    stamp: &Stamp<A>,
-    before: &Cid,
-    changes: &[KeyChange<'_>],
-    told: &Told<'_>,
+    stamp: &'m Stamp<A>,
+    before: &'m Cid,
+    changes: &[KeyChange<'m>],
+    told: &Told<'m>,
 ) -> Result<Vec<u8, A>, UntoldFault>
     requires least { 1 ≤ B }
     requires changes { are_changes (undone changes.now) ≡ true }

@@ -1,11 +1,12 @@
 -- What a batch left, and the file of it.
-use Rattle.std.proofs.Common.{◌≡◌, ℕ, ◌≤◌, List, [], ◌∷◌, ◌++◌, length, map, Option, Result, Ok, Err, refl, sym, ap, subst, ◌∙◌, append-nil, append_assoc}
+use Rattle.std.proofs.Common.{◌≡◌, ℕ, ◌+◌, ◌<◌, ◌≤◌, List, [], ◌∷◌, ◌++◌, length, drop, get_or, map, Option, Result, Ok, Err, refl, sym, ap, subst, ◌∙◌, append-nil, append_assoc}
 use Rattle.std.specs.Prelude.{option_map}
 use Rattle.std.specs.List.{cons_option}
 use Rattle.std.specs.declared.option.Option.TheVariants.{Some, None}
 use Rattle.spec.specs.Reading.{◌>>=◌, Fails, Gives}
 use Rattle.spec.specs.Cid.{cid}
-use Rattle.spec.specs.Blocks.{pairs}
+use Rattle.std.proofs.lemmas.List.{at_drop_more, drop_all}
+use Rattle.spec.specs.Blocks.{pairs, record_at}
 use Rattle.spec.specs.Car.{car_of}
 use Rattle.spec.specs.States.{State, records}
 use Rattle.batch_laws.specs.Previous.{values}
@@ -25,6 +26,16 @@ use Rattle.event_writing.specs.Steps.{left_file}
 use Rattle.event_writing.specs.Putting.{ArePut, IsTooLong}
 use Rattle.event_writing.specs.declared.fault.UntoldFault.{UntoldFault}
 use Rattle.event_writing.proofs.Puts.{long-fails, short-is}
+
+-- the records from a place on
+pub next-left : (m : List (List ℕ × List ℕ)) (ops : List KeyChange) (i : ℕ) (c : KeyChange) → i < length ops → c ≡ get_or ops i c
+    → records_left m (drop i ops) ≡ record_at m c.key ++ records_left m (drop (i + 1) ops)
+next-left m ops i c lt is =
+    at_drop_more (λ (xs : List KeyChange). records_left m xs) ops i c lt
+    ∙ ap (λ (y : KeyChange). records_left m (y ∷ drop (i + 1) ops)) (sym is)
+
+pub none-left : (m : List (List ℕ × List ℕ)) (ops : List KeyChange) (i : ℕ) → length ops ≤ i → records_left m (drop i ops) ≡ []
+none-left m ops i all = ap (λ (xs : List KeyChange). records_left m xs) (drop_all i ops all)
 
 -- what a proof's fault says is what is said of the values
 pub values-fail : (digest : List ℕ → List ℕ) (s : State) (ops : List KeyChange) (fault : ProvingFault) (untold : UntoldFault)
