@@ -3,4 +3,5 @@ pub mod EachOp
 pub mod Puts
 pub mod LeftFile
 pub mod LastStamps
+pub mod SameMessage
 pub mod WholeMessage

@@ -15,7 +15,7 @@ use Rattle.event_writing_laws.specs.Telling.{Told, UntoldFault as Untold, NoBatc
 use Rattle.event_writing_laws.specs.Messages.{batch_event, batch_message, commit_over, event_of, file_of, left_test, short_file, stamped_event}
 use Rattle.event_writing_laws.specs.Laws.{checked_batch}
 use Rattle.event_writing_laws.proofs.Taken.{written-is_taken}
-use Rattle.event_writing.specs.Steps.{IsTaken, left_file, stamped_message}
+use Rattle.event_writing.specs.Steps.{IsTaken, left_file, message_with, stamped_message}
 
 -- ---- steps in a row
 
@@ -39,8 +39,8 @@ module _ (digest : List ℕ → List ℕ) (bits : ℕ) (m : List (List ℕ × Li
 
     of-file : (ops : List KeyChange)
         → ((left_test digest m ops >>= (λ x. short_file (file_of digest bits block m ops) >>= (λ file. Ok (with_file ops file)))) >>= spelled)
-        ≡ (left_file digest bits m block ops >>= (λ file. Ok (event_bytes (with_file ops file))))
-    unfolding left_file
+        ≡ message_with digest bits m stamp block before ops told
+    unfolding left_file message_with
     of-file ops =
         rebound (left_test digest m ops) (λ x. short_file (file_of digest bits block m ops) >>= (λ file. Ok (with_file ops file))) spelled
         (λ x. short_file (file_of digest bits block m ops) >>= (λ file. Ok (event_bytes (with_file ops file))))
@@ -61,6 +61,33 @@ message-is digest bits s before cs told =
     rebound (or_no_batch (last_stamp s)) (λ stamp. stamped_event digest bits (records s) stamp before cs told)
     (λ (e : Event). Ok (event_bytes e)) (λ stamp. stamped_message digest bits (records s) stamp before cs told)
     (of-stamp digest bits (records s) before cs told)
+
+-- the message of a file that was made
+pub with-made : (digest : List ℕ → List ℕ) (bits : ℕ) (m : List (List ℕ × List ℕ)) (stamp : Stamp) (commit before : List ℕ)
+    (ops : List KeyChange) (told : Told) (file file2 named bytes : List ℕ) → left_file digest bits m commit ops ≡ Ok file
+    → named ≡ cid digest commit → file2 ≡ file → bytes ≡ event_bytes (event_of told stamp named file2 ops before)
+    → message_with digest bits m stamp commit before ops told ≡ Ok bytes
+unfolding message_with
+with-made digest bits m stamp commit before ops told file file2 named bytes is n f b =
+    ap (λ (r : Result (List ℕ) Untold). r >>= (λ (x : List ℕ). Ok (event_bytes (event_of told stamp (cid digest commit) x ops before)))) is
+    ∙ ap (λ (x : List ℕ). Ok x) (sym (b ∙ ap (λ (x : List ℕ). event_bytes (event_of told stamp x file2 ops before)) n
+    ∙ ap (λ (x : List ℕ). event_bytes (event_of told stamp (cid digest commit) x ops before)) f))
+
+-- what is said of a message, once what stands beside it and its operations were tested
+pub tested-gives : {T E : Type 0} (digest : List ℕ → List ℕ) (bits : ℕ) (m : List (List ℕ × List ℕ)) (stamp : Stamp) (before : List ℕ)
+    (cs ops ops2 : List KeyChange) (told : Told) (rev : List ℕ) (x : Unit {0}) → rev ≡ stamp.rev → told_test told rev ≡ Ok x
+    → told_ops cs ≡ Ok ops → ops2 ≡ ops → (view : T → List ℕ) (fault : E → Option Untold) (r : Result T E)
+    → Gives view fault r (message_with digest bits m stamp (commit_over digest bits stamp told.sig m) before ops2 told)
+    → Gives view fault r (stamped_message digest bits m stamp before cs told)
+unfolding stamped_message
+tested-gives digest bits m stamp before cs ops ops2 told rev x same tested made are view fault r h =
+    let commit = commit_over digest bits stamp told.sig m in
+    let is : stamped_message digest bits m stamp before cs told ≡ message_with digest bits m stamp commit before ops2 told =
+    ap (λ (t : Result (Unit {0}) Untold). t >>= (λ y. told_ops cs >>= (λ os. message_with digest bits m stamp commit before os told)))
+    (ap (told_test told) (sym same) ∙ tested)
+    ∙ ap (λ (t : Result (List KeyChange) Untold). t >>= (λ os. message_with digest bits m stamp commit before os told)) made
+    ∙ ap (λ (os : List KeyChange). message_with digest bits m stamp commit before os told) (sym are) in
+    subst (λ (t : Result (List ℕ) Untold). Gives view fault r t) (sym is) h
 
 -- of a batch with this stamp, and before the first one
 pub message-stamped : (digest : List ℕ → List ℕ) (bits : ℕ) (s : State) (before : List ℕ) (cs : List KeyChange) (told : Told)

@@ -19,14 +19,20 @@ left_file digest bits m commit ops = do
   left ← left_test digest m ops
   short_file (file_of digest bits commit m ops)
 
+-- the bytes of the message with this commit
+unfoldable pub message_with : (List ℕ → List ℕ) → ℕ → List (List ℕ × List ℕ) → Stamp → List ℕ → List ℕ → List KeyChange → Told
+    → Result (List ℕ) UntoldFault
+message_with digest bits m stamp commit before ops told = do
+  file ← left_file digest bits m commit ops
+  Ok (event_bytes (event_of told stamp (cid digest commit) file ops before))
+
 -- the bytes of the message of a batch with this stamp
 unfoldable pub stamped_message : (List ℕ → List ℕ) → ℕ → List (List ℕ × List ℕ) → Stamp → List ℕ → List KeyChange → Told
     → Result (List ℕ) UntoldFault
 stamped_message digest bits m stamp before cs told = do
   beside ← told_test told stamp.rev
   ops ← told_ops cs
-  file ← left_file digest bits m (commit_over digest bits stamp told.sig m) ops
-  Ok (event_bytes (event_of told stamp (cid digest (commit_over digest bits stamp told.sig m)) file ops before))
+  message_with digest bits m stamp (commit_over digest bits stamp told.sig m) before ops told
 
 -- whoever knows the root before takes a message, and reads it as it was written
 abbrev pub IsTaken : (List ℕ → List ℕ) → ℕ → State → List ℕ → List KeyChange → Told → List ℕ → Type 0

@@ -1,7 +1,9 @@
 //! The operations of a message.
 
-ghost use Rattle.std.specs.Prelude.{◌≡◌, length, nat_le, IfOk};
+ghost use Rattle.std.specs.Prelude.{◌≡◌, length, nat_le, true, IfOk};
 ghost use Rattle.spec.specs.Reading.{Gives};
+ghost use Rattle.key_changes.specs.Keyed.{are_changes};
+ghost use Rattle.change_laws.specs.Told.{undone};
 ghost use Rattle.event_times.specs.Limits.{most_ops};
 ghost use Rattle.event_laws.specs.Ops.{is_op as is_op_of, ops_of as ops_in};
 ghost use Rattle.event_writing_laws.specs.Telling.{path_test, paths_test, told_ops as ops_told};
@@ -82,7 +84,9 @@ pub(crate) fn told_ops<'k, A: Allocator>(
     alloc: A,
     changes: &[KeyChange<'k>],
 ) -> Result<Vec<KeyChange<'k>, A>, UntoldFault>
-    ensures { Gives (λ ops. ops.items) untold_fault_of result (ops_told changes.now) }
+    requires { are_changes (undone changes.now) ≡ true }
+    ensures told { Gives (λ ops. ops.items) untold_fault_of result (ops_told changes.now) }
+    ensures changes { IfOk result (λ ops. are_changes (undone ops.items) ≡ true) }
 {
     let ops = ops_of(alloc, changes)?;
     if !are_few(&ops) {

@@ -23,6 +23,25 @@ pub struct Told<'t> {
     pub sig: &'t [u8],
 }
 
+impl<'t> Told<'t> {
+    /// When it is sent.
+    pub(crate) fn time(&self) -> &[u8]
+        ensures { result.now ≡ self.now.time.now }
+    {
+        self.time
+    }
+
+    /// The revision of the batch before, if there was one.
+    pub(crate) fn since(&self) -> Option<&[u8]>
+        ensures { option_map (λ s. s.now) result ≡ option_map (λ s. s.now) self.now.since }
+    {
+        match self.since {
+            Some(since) => Some(since),
+            None => None,
+        }
+    }
+}
+
 /// Whether this can be the number of a message: DAG-CBOR's numbers have 63 bits and a sign.
 fn is_seq(seq: u64) -> bool
     ensures { result ≡ nat_lt seq (2 ^ 63) }

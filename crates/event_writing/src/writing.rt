@@ -7,9 +7,9 @@ ghost use Rattle.spec.specs.States.{records};
 ghost use Rattle.key_changes.specs.Keyed.{are_changes};
 ghost use Rattle.change_laws.specs.Told.{undone};
 ghost use Rattle.batches.specs.Values.{stamp_of, stamps_of};
-ghost use Rattle.event_writing_laws.specs.Messages.{batch_message};
+ghost use Rattle.event_writing_laws.specs.Messages.{batch_message, commit_over};
 ghost use Rattle.event_writing.specs.Views.{told_of, untold_fault_of};
-ghost use Rattle.event_writing.specs.Steps.{IsTaken, stamped_message as message_stamped};
+ghost use Rattle.event_writing.specs.Steps.{IsTaken, message_with as message_with_commit, stamped_message as message_stamped};
 
 use crate::fault::UntoldFault;
 use crate::file::left_file;
@@ -17,6 +17,7 @@ use crate::message::{message, signed_block};
 use crate::ops::told_ops;
 use crate::told::{Told, test_told};
 use batches::Stamp;
+use block::Block;
 use cid::{Cid, Digest};
 use key_changes::KeyChange;
 use repo::Core;
@@ -35,12 +36,12 @@ use std::alloc::Allocator;
 ///
 /// `B` is the number of zero bits of a digest that count for one layer, 2 in the AT Protocol. `key_changes::are_key_changes` is
 /// the test of what it takes.
-pub fn commit_event<'m, D: Digest, const B: u8, A: Allocator + Copy>(
+pub fn commit_event<D: Digest, const B: u8, A: Allocator + Copy>(
     alloc: A,
-    core: &'m Core<D, B, A>,
+    core: &Core<D, B, A>,
     before: Cid,
-    changes: &[KeyChange<'m>],
-    told: &Told<'m>,
+    changes: &[KeyChange<'_>],
+    told: &Told<'_>,
 ) -> Result<Vec<u8, A>, UntoldFault>
     requires least { 1 ≤ B }
     requires changes { are_changes (undone changes.now) ≡ true }
@@ -61,13 +62,13 @@ pub fn commit_event<'m, D: Digest, const B: u8, A: Allocator + Copy>(
 
 /// The message of a batch with this stamp.
 #[tactic(auto, unfolding(crate::specs::Steps::stamped_message))]
-fn stamped_message<'m, D: Digest, const B: u8, A: Allocator + Copy>(
+fn stamped_message<D: Digest, const B: u8, A: Allocator + Copy>(
     alloc: A,
     core: &Core<D, B, A>,
-    stamp: &'m Stamp<A>,
-    before: &'m Cid,
-    changes: &[KeyChange<'m>],
-    told: &Told<'m>,
+    stamp: &Stamp<A>,
+    before: &Cid,
+    changes: &[KeyChange<'_>],
+    told: &Told<'_>,
 ) -> Result<Vec<u8, A>, UntoldFault>
     requires least { 1 ≤ B }
     requires changes { are_changes (undone changes.now) ≡ true }
@@ -77,9 +78,48 @@ fn stamped_message<'m, D: Digest, const B: u8, A: Allocator + Copy>(
 {
     test_told(told, &stamp.rev)?;
     let ops = told_ops(alloc, changes)?;
+    signed_message::<D, B, A>(alloc, core, stamp, before, &ops, told)
+}
+
+/// The message of a batch with this stamp and these operations.
+fn signed_message<D: Digest, const B: u8, A: Allocator + Copy>(
+    alloc: A,
+    core: &Core<D, B, A>,
+    stamp: &Stamp<A>,
+    before: &Cid,
+    ops: &[KeyChange<'_>],
+    told: &Told<'_>,
+) -> Result<Vec<u8, A>, UntoldFault>
+    requires least { 1 ≤ B }
+    requires changes { are_changes (undone ops.now) ≡ true }
+    ensures { let m = records core.now in let stamp = stamp_of stamp.now in
+        let told = told_of told.now in
+        Gives (λ message. message.items) untold_fault_of result (message_with_commit D.digest_of B
+        m stamp (commit_over D.digest_of B stamp told.sig m) before.now ops.now told) }
+{
     let root = core.root();
     let commit = signed_block::<D, A>(alloc, stamp, &root, told.sig)?;
-    let file = left_file::<D, B, A>(alloc, core, &commit, &ops)?;
+    message_with::<D, B, A>(alloc, core, stamp, &commit, before, ops, told)
+}
+
+/// The message with this commit.
+#[tactic(auto, unfolding(crate::specs::Steps::message_with))]
+fn message_with<D: Digest, const B: u8, A: Allocator + Copy>(
+    alloc: A,
+    core: &Core<D, B, A>,
+    stamp: &Stamp<A>,
+    commit: &Block<D, A>,
+    before: &Cid,
+    ops: &[KeyChange<'_>],
+    told: &Told<'_>,
+) -> Result<Vec<u8, A>, UntoldFault>
+    requires least { 1 ≤ B }
+    requires changes { are_changes (undone ops.now) ≡ true }
+    ensures { Gives (λ message. message.items) untold_fault_of result
+        (message_with_commit D.digest_of B (records core.now) (stamp_of stamp.now) commit.now
+        before.now ops.now (told_of told.now)) }
+{
+    let file = left_file::<D, B, A>(alloc, core, commit, ops)?;
     let bytes = message(alloc, told, stamp, &commit.cid(), &file, ops, before)?;
     Ok(bytes)
 }
