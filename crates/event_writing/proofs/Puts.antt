@@ -34,9 +34,11 @@ more-than m n k a b = omega arith
 
 pub too-long : (digest : List ℕ → List ℕ) (b : List ℕ) (old new : Written) → IsPut digest b old new
     → most_blocks_bytes < length new.bytes → IsTooLong digest (b ∷ []) old (errors.Form forms.BlocksSize)
-too-long digest b old new put long =
-    (refl, λ rest. subst (λ (f : List ℕ). most_blocks_bytes < length f) (put rest)
-    (more-than most_blocks_bytes (length new.bytes) (length (file_with digest new rest)) long (file-grows digest new rest)))
+too-long digest b old new put long = (
+  refl,
+  λ rest. subst (λ (f : List ℕ). most_blocks_bytes < length f) (put rest)
+      (more-than most_blocks_bytes (length new.bytes) (length (file_with digest new rest)) long (file-grows digest new rest)),
+)
 
 -- ---- some blocks, and then what is left
 

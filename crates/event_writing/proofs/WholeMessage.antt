@@ -2,7 +2,7 @@
 use Rattle.std.proofs.Common.{◌≡◌, ℕ, List, Option, Result, Ok, Err, refl, sym, ap, subst, ◌∙◌}
 use Rattle.std.specs.Prelude.{IfOk}
 use Rattle.std.specs.declared.option.Option.TheVariants.{Some, None}
-use Rattle.spec.specs.Reading.{◌>>=◌, Gives}
+use Rattle.spec.specs.Reading.{◌>>=◌, Fails, Gives}
 use Rattle.spec.specs.Cid.{IsDigest, cid}
 use Rattle.spec.specs.Blocks.{root}
 use Rattle.spec.specs.Stamps.{Stamp, Stamped, last, stamp_of}
@@ -88,6 +88,18 @@ tested-gives digest bits m stamp before cs ops ops2 told rev x same tested made 
     ∙ ap (λ (t : Result (List KeyChange) Untold). t >>= (λ os. message_with digest bits m stamp commit before os told)) made
     ∙ ap (λ (os : List KeyChange). message_with digest bits m stamp commit before os told) (sym are) in
     subst (λ (t : Result (List ℕ) Untold). Gives view fault r t) (sym is) h
+
+-- or where its operations can't be told
+pub ops-fail : (digest : List ℕ → List ℕ) (bits : ℕ) (m : List (List ℕ × List ℕ)) (stamp : Stamp) (before : List ℕ)
+    (cs : List KeyChange) (told : Told) (rev : List ℕ) (x : Unit {0}) (o : Option Untold) → rev ≡ stamp.rev
+    → told_test told rev ≡ Ok x → Fails o (told_ops cs) → Fails o (stamped_message digest bits m stamp before cs told)
+unfolding stamped_message
+ops-fail digest bits m stamp before cs told rev x None same tested h = tt
+ops-fail digest bits m stamp before cs told rev x (Some f) same tested h =
+    let commit = commit_over digest bits stamp told.sig m in
+    ap (λ (t : Result (Unit {0}) Untold). t >>= (λ y. told_ops cs >>= (λ os. message_with digest bits m stamp commit before os told)))
+    (ap (told_test told) (sym same) ∙ tested)
+    ∙ ap (λ (t : Result (List KeyChange) Untold). t >>= (λ os. message_with digest bits m stamp commit before os told)) h
 
 -- of a batch with this stamp, and before the first one
 pub message-stamped : (digest : List ℕ → List ℕ) (bits : ℕ) (s : State) (before : List ℕ) (cs : List KeyChange) (told : Told)

@@ -42,25 +42,27 @@ fn telling<'t>(seq: u64, time: &'t [u8], since: &'t [u8]) -> Told<'t> {
 /// Whether each fault of what is told beside the batch comes.
 fn beside(alloc: Global, core: &Posts<Global>) -> bool {
     let time = told().time;
-    is_untold(alloc, core, &telling(1 << 63, time, SINCE), UntoldFault::BadSeq)
-        && is_untold(
-            alloc,
-            core,
-            &telling(1, time, b"3jzfcijpj2y2"),
-            UntoldFault::Form(FormFault::BadSince),
-        )
-        && is_untold(
-            alloc,
-            core,
-            &telling(1, time, b"3jzfcijpj2z2a"),
-            UntoldFault::Form(FormFault::RevOrder),
-        )
-        && is_untold(
-            alloc,
-            core,
-            &telling(1, b"2024-01-01T00:00:00.000", SINCE),
-            UntoldFault::Form(FormFault::BadTime),
-        )
+    is_untold(
+        alloc,
+        core,
+        &telling(1 << 63, time, SINCE),
+        UntoldFault::BadSeq,
+    ) && is_untold(
+        alloc,
+        core,
+        &telling(1, time, b"3jzfcijpj2y2"),
+        UntoldFault::Form(FormFault::BadSince),
+    ) && is_untold(
+        alloc,
+        core,
+        &telling(1, time, b"3jzfcijpj2z2a"),
+        UntoldFault::Form(FormFault::RevOrder),
+    ) && is_untold(
+        alloc,
+        core,
+        &telling(1, b"2024-01-01T00:00:00.000", SINCE),
+        UntoldFault::Form(FormFault::BadTime),
+    )
 }
 
 /// Whether changes of the worked batch have this fault.
@@ -86,8 +88,12 @@ fn of_changes(alloc: Global, core: &Posts<Global>) -> bool {
         change(b"posts/11", Some(B), None),
         change(b"posts/12", Some(C), Some(D)),
     ];
-    are_untold(alloc, core, &no_path, UntoldFault::Form(FormFault::BadOp(2)))
-        && are_untold(alloc, core, &other, UntoldFault::OtherValue(1))
+    are_untold(
+        alloc,
+        core,
+        &no_path,
+        UntoldFault::Form(FormFault::BadOp(2)),
+    ) && are_untold(alloc, core, &other, UntoldFault::OtherValue(1))
 }
 
 /// Keys of three digits in their order.
@@ -95,7 +101,17 @@ fn keys(alloc: Global, count: u8) -> Result<Vec<[u8; 9]>, AllocError> {
     let mut keys = Vec::new(alloc);
     for number in 0..count {
         let [a, b, c] = [number / 100, number / 10 % 10, number % 10];
-        keys.push([b'p', b'o', b's', b't', b's', b'/', b'0' + a, b'0' + b, b'0' + c])?;
+        keys.push([
+            b'p',
+            b'o',
+            b's',
+            b't',
+            b's',
+            b'/',
+            b'0' + a,
+            b'0' + b,
+            b'0' + c,
+        ])?;
     }
     Ok(keys)
 }

@@ -13,10 +13,15 @@ use store::{LentShard, Shard, TableKey};
 
 /// Records.
 pub(crate) const A: &[u8] = b"\xa2\x64text\x61A\x65$type\x72app.bsky.feed.post";
+
 pub(crate) const B: &[u8] = b"\xa2\x64text\x61B\x65$type\x72app.bsky.feed.post";
+
 pub(crate) const C: &[u8] = b"\xa2\x64text\x61C\x65$type\x72app.bsky.feed.post";
+
 pub(crate) const D: &[u8] = b"\xa2\x64text\x61D\x65$type\x72app.bsky.feed.post";
+
 pub(crate) const E: &[u8] = b"\xa2\x64text\x61E\x65$type\x72app.bsky.feed.post";
+
 pub(crate) const F: &[u8] = b"\xa2\x64text\x61F\x65$type\x72app.bsky.feed.post";
 
 /// Whose repository it is.
@@ -24,13 +29,15 @@ const DID: &[u8] = b"did:plc:ewvi7nxzyoun6zhxrhs64oiz";
 
 /// The revisions of the batches.
 pub(crate) const SINCE: &[u8] = b"3jzfcijpj2y2a";
+
 const REV: &[u8] = b"3jzfcijpj2z2a";
 
 /// When messages are sent.
 pub(crate) const TIME: &[u8] = b"2024-01-01T00:00:00.000Z";
 
 /// A signature, which nothing tests.
-pub(crate) const SIG: &[u8] = b"\x00\x01\x02\x03\x04\x05\x06\x07\x08\x09\x0a\x0b\x0c\x0d\x0e\x0f\x10\x11\x12\x13\x14\x15\x16\x17\
+pub(crate) const SIG: &[u8] =
+    b"\x00\x01\x02\x03\x04\x05\x06\x07\x08\x09\x0a\x0b\x0c\x0d\x0e\x0f\x10\x11\x12\x13\x14\x15\x16\x17\
     \x18\x19\x1a\x1b\x1c\x1d\x1e\x1f\x20!\x22#$%&'()*+,-./0123456789:;<=>?";
 
 /// The batch before.

@@ -1,6 +1,7 @@
 //! Long records and files.
 
 use crate::fixtures::{Posts, change, opened, shard, told, written};
+use cid::Sha256;
 use event_format::FormFault;
 use event_writing::UntoldFault;
 use repo_fixtures::batch::{Step, batch_at};
@@ -8,7 +9,6 @@ use repo_fixtures::cores::{apply_made, end};
 use repo_fixtures::ends::Ended;
 use std::alloc::{AllocError, Global};
 use store::Shard;
-use cid::Sha256;
 
 /// A record of eleven bytes more than these zeros: a map with a byte string.
 fn record(alloc: Global, zeros: u32) -> Result<Vec<u8>, AllocError> {

@@ -12,7 +12,11 @@ use std::alloc::Global;
 type Heap<'h> = &'h Refusing<Global>;
 
 /// How many bytes the worked message has.
-fn length_of<'h>(heap: Heap<'h>, core: &Posts<Heap<'h>>, before: Cid) -> Result<usize, UntoldFault> {
+fn length_of<'h>(
+    heap: Heap<'h>,
+    core: &Posts<Heap<'h>>,
+    before: Cid,
+) -> Result<usize, UntoldFault> {
     match written(heap, core, before, &changes(), &told()) {
         Ok(message) => Ok(message.len()),
         Err(fault) => Err(fault),

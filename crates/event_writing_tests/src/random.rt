@@ -15,9 +15,26 @@ use store::Shard;
 
 /// The keys, in their order.
 static KEYS: [&[u8]; 20] = [
-    b"likes/1", b"likes/2", b"likes/3", b"likes/4", b"likes/5", b"likes/6", b"likes/7", b"posts/10",
-    b"posts/11", b"posts/12", b"posts/13", b"posts/14", b"posts/15", b"posts/16", b"posts/17",
-    b"posts/18", b"posts/19", b"posts/20", b"posts/21", b"posts/22",
+    b"likes/1",
+    b"likes/2",
+    b"likes/3",
+    b"likes/4",
+    b"likes/5",
+    b"likes/6",
+    b"likes/7",
+    b"posts/10",
+    b"posts/11",
+    b"posts/12",
+    b"posts/13",
+    b"posts/14",
+    b"posts/15",
+    b"posts/16",
+    b"posts/17",
+    b"posts/18",
+    b"posts/19",
+    b"posts/20",
+    b"posts/21",
+    b"posts/22",
 ];
 
 /// Numbers that look random, the same in each run.
@@ -81,11 +98,7 @@ fn cid_at(core: &Posts<Global>, key: &[u8]) -> Option<Cid> {
 }
 
 /// A random batch: each key is taken away, or gets one of three records, in one turn of three.
-fn turn_of(
-    alloc: Global,
-    core: &Posts<Global>,
-    numbers: &mut Numbers,
-) -> Result<Turn, AllocError> {
+fn turn_of(alloc: Global, core: &Posts<Global>, numbers: &mut Numbers) -> Result<Turn, AllocError> {
     let mut turn = Turn {
         steps: Vec::new(alloc),
         changes: Vec::new(alloc),
