@@ -1,9 +1,7 @@
 -- What a batch left, and the file of it.
-use Rattle.std.proofs.Common.{◌≡◌, ℕ, ◌+◌, ◌<◌, ◌≤◌, List, [], ◌∷◌, ◌++◌, length, drop, get_or, map, Option, Result, Ok, Err, refl, sym, ap, subst, ◌∙◌, append-nil, append_assoc}
-use Rattle.std.specs.Prelude.{option_map}
-use Rattle.std.specs.List.{cons_option}
+use Rattle.std.proofs.Common.{◌≡◌, ℕ, ◌+◌, ◌<◌, ◌≤◌, List, [], ◌∷◌, ◌++◌, length, drop, get_or, Option, Result, Ok, sym, ap, subst, ◌∙◌, append-nil}
 use Rattle.std.specs.declared.option.Option.TheVariants.{Some, None}
-use Rattle.spec.specs.Reading.{◌>>=◌, Fails, Gives}
+use Rattle.spec.specs.Reading.{◌>>=◌, Fails}
 use Rattle.spec.specs.Cid.{cid}
 use Rattle.std.proofs.lemmas.List.{at_drop_more, drop_all}
 use Rattle.spec.specs.Blocks.{pairs, record_at}
@@ -20,7 +18,7 @@ use Rattle.car_writing.specs.Once.{Written, file_with}
 use Rattle.car_writing.proofs.Putting.{file-ended}
 use Rattle.event_times.specs.Limits.{most_blocks_bytes}
 use Rattle.event_writing_laws.specs.Telling.{UntoldFault as Untold, of_values}
-use Rattle.event_writing_laws.specs.Messages.{file_of, left_test, records_left, short_file, told_blocks}
+use Rattle.event_writing_laws.specs.Messages.{file_of, left_test, records_left, short_file}
 use Rattle.event_writing.specs.Views.{untold_as, untold_fault_of}
 use Rattle.event_writing.specs.Steps.{left_file}
 use Rattle.event_writing.specs.Putting.{ArePut, IsTooLong}

@@ -13,7 +13,6 @@ use Rattle.event_laws.specs.Events.{Event, event_bytes}
 use Rattle.event_laws.specs.Verdict.{commit_verdict}
 use Rattle.event_writing_laws.specs.Telling.{Told, UntoldFault as Untold, NoBatch, or_no_batch, told_ops, told_test}
 use Rattle.event_writing_laws.specs.Messages.{batch_event, batch_message, commit_over, event_of, file_of, left_test, short_file, stamped_event}
-use Rattle.event_writing_laws.specs.Laws.{checked_batch}
 use Rattle.event_writing_laws.proofs.Taken.{written-is_taken}
 use Rattle.event_writing.specs.Steps.{IsTaken, left_file, message_with, stamped_message}
 

@@ -1,5 +1,5 @@
 -- Blocks that are put into a file, one after the other.
-use Rattle.std.specs.Prelude.{◌≡◌, ◌<◌, ⊤, ℕ, List, [], ◌∷◌, ◌++◌, length}
+use Rattle.std.specs.Prelude.{◌≡◌, ◌<◌, ⊤, ℕ, List, ◌++◌, length}
 use Rattle.car_writing.specs.Once.{Written, file_with}
 use Rattle.event_times.specs.Limits.{most_blocks_bytes}
 use Rattle.event_format.specs.declared.fault.FormFault.TheVariants as forms

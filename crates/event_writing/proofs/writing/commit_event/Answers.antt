@@ -1,4 +1,3 @@
-use Rattle.std.proofs.Common.{◌≡◌, sym, ap, ◌∙◌}
 use Rattle.batches.specs.Values.{stamp_of, stamps_of}
 use Rattle.key_changes.proofs.Ascending.{are-keyed}
 use Rattle.change_laws.specs.Told.{undone}
