@@ -14,9 +14,8 @@ use store::Shard;
 fn record(alloc: Global, zeros: u32) -> Result<Vec<u8>, AllocError> {
     let mut out = Vec::from_slice(alloc, b"\xa1\x64zero\x5a")?;
     out.extend_from_slice(&zeros.to_be_bytes())?;
-    for _zero in 0..zeros {
-        out.push(0)?;
-    }
+    let all = vec![in alloc; 0u8; zeros as usize]?;
+    out.extend_from_slice(&all)?;
     Ok(out)
 }
 

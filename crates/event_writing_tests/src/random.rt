@@ -97,7 +97,8 @@ fn cid_at(core: &Posts<Global>, key: &[u8]) -> Option<Cid> {
     }
 }
 
-/// A random batch: each key is taken away, or gets one of three records, in one turn of three.
+/// A random batch: each key is taken away, or gets one of three records, in four turns of thirty. Where none is, the first key gets
+/// one.
 fn turn_of(alloc: Global, core: &Posts<Global>, numbers: &mut Numbers) -> Result<Turn, AllocError> {
     let mut turn = Turn {
         steps: Vec::new(alloc),
@@ -105,13 +106,16 @@ fn turn_of(alloc: Global, core: &Posts<Global>, numbers: &mut Numbers) -> Result
     };
     for key in &KEYS {
         let before = cid_at(core, key);
-        match numbers.below(12) {
+        match numbers.below(30) {
             0 => turn.take(before, key, Some(A))?,
             1 => turn.take(before, key, Some(B))?,
             2 => turn.take(before, key, Some(C))?,
             3 => turn.take(before, key, None)?,
             _ => {}
         }
+    }
+    if turn.steps.is_empty() {
+        turn.take(cid_at(core, KEYS[0]), KEYS[0], Some(A))?;
     }
     Ok(turn)
 }
@@ -175,9 +179,6 @@ fn goes_on(
     let Ok(turn) = turn_of(alloc, core, numbers) else {
         return false;
     };
-    if turn.steps.is_empty() {
-        return true;
-    }
     let before = core.root();
     let batch = batch_at(alloc, number.saturating_add(1), &turn.steps);
     match apply_made(alloc, shard, core, batch) {
