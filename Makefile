@@ -12,7 +12,7 @@ help:
 	@echo 'make install-library PREFIX=..  puts it, its header and its pkg-config file below PREFIX'
 	@echo 'make test              the gate: every proof, must-fail edit, test and program, from nothing, and make test-library'
 	@echo 'make test-tools        the tests of tools/, in some seconds'
-	@echo 'make test-library      proves and builds the library, and tries it from Rust, C, C++, Python and Go'
+	@echo 'make test-library      proves and builds the library, and tries it from Rust, C, C++, Python, Go and Node'
 	@echo 'make check             every crate, quickly, over what earlier checks kept'
 	@echo 'make edits             the wrong bodies that the gate does not try, before a release; CRATE=name: of one crate'
 	@echo 'make answers CRATE=name  writes out the answers that the must-fail edits of a crate break, over what make check kept'

@@ -464,3 +464,61 @@ def usual_export(pick: Random, count: int) -> bytes:
     tree = Tree(dict(zip(usual_keys(pick, count), records)), records)
     commit = commit_bytes(b"did:plc:usual", 13 * b"3", pick.randbytes(64), tree.root, None)
     return car_of(cid_of(commit), [commit, *tree.order])
+
+
+# Files that are made to be slow: none of them is the export of a repository.
+
+
+def row(key: bytes, same: int, below: bytes | None) -> bytes:
+    """The entry of a key that has so many bytes in common with the one before, over this node."""
+    return b"\xa4" + text(b"k") + data_of(key[same:]) + text(b"p") + head(0, same) + text(b"t") + link(below) + text(b"v") + link(cid_of(b""))
+
+
+def node_of(rows: list[bytes], left: bytes | None) -> bytes:
+    return b"\xa2" + text(b"e") + head(4, len(rows)) + b"".join(rows) + text(b"l") + link(left)
+
+
+def many_rows(count: int, below: bytes | None, before: bytes) -> list[bytes]:
+    """So many entries over one node, whose keys begin with these bytes."""
+    keys = [before + b"%07d" % at for at in range(count)]
+    return [row(key, len(before) + next(n for n in range(7) if old[-7:][n] != key[-7:][n]) if old else 0, below) for old, key in zip([b"", *keys], keys)]
+
+
+def chain_of(length: int) -> list[bytes]:
+    """So many nodes without keys, each but the first over the one before."""
+    nodes = [node_of([], None)]
+    while len(nodes) < length:
+        nodes.append(node_of([], cid_of(nodes[-1])))
+    return nodes
+
+
+def links_to_a_chain(count: int) -> list[bytes]:
+    """So many links to one chain of 127 nodes without keys, in one node."""
+    chain = chain_of(127)
+    return [node_of(many_rows(count, cid_of(chain[-1]), b"a/"), None), *chain]
+
+
+def links_and_small_blocks(count: int) -> list[bytes]:
+    """The same beside so many blocks of no byte, since a check makes as many reads as a file has sections."""
+    return [*links_to_a_chain(count), *count * [b""]]
+
+
+def links_to_a_long_node(count: int) -> list[bytes]:
+    """So many links to one long node, of a tenth as many keys, which come before all others."""
+    long = node_of(many_rows(count // 10, None, b"a/"), None)
+    return [node_of(many_rows(count, cid_of(long), b"b/"), cid_of(long)), long]
+
+
+def long_keys(count: int) -> list[bytes]:
+    """So many keys of 1,024 bytes, of which a node spells the last alone, in one node."""
+    return [node_of(many_rows(count, None, 1017 * b"k"), None)]
+
+
+SLOW: list[Callable[[int], list[bytes]]] = [links_to_a_chain, links_and_small_blocks, links_to_a_long_node, long_keys]
+
+
+def slow_export(blocks: list[bytes]) -> bytes:
+    """The file of a commit over the first of these blocks, with a section for each, also where one stands there several times."""
+    commit = commit_bytes(b"did:plc:slow", 13 * b"3", bytes(64), cid_of(blocks[0]), None)
+    file = car_of(cid_of(commit), [commit])
+    return file + b"".join(varint(36 + len(it)) + cid_of(it) + it for it in blocks)

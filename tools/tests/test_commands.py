@@ -11,7 +11,7 @@ import unittest
 
 from lib.exports import NAMES
 from lib.files import ROOT, bytes_of, text_of, write
-from lib.made_exports import KINDS
+from lib.made_exports import KINDS, SLOW
 from lib.manuals import faults_of, files_of, helps_of
 from lib.model import Ended, tree
 from lib.programs import Outcome
@@ -129,6 +129,14 @@ class ByModelTest(unittest.TestCase):
                 self.assertFalse(rounds.export(random.Random(1), bytes_of("examples/export.car")))
             os.remove(said.getvalue().splitlines()[0].rpartition(" < ")[2])
 
+    def test_files_that_are_made_to_be_slow(self) -> None:
+        said = ran("baseline", "slow", "200", "1", "--program", self.program)
+        self.assertRegex(said.stdout, r"\Ausual: \d+ bytes, .*\n(links|long) .*: \d+ bytes, .*, ratio ", said.stderr)
+        self.assertEqual(len(said.stdout.splitlines()), 1 + len(SLOW))
+        wrong = program(f"{self.room}/wrong", "#!/bin/sh\necho msthost: Misnamed >&2\nexit 1\n")
+        said = ran("baseline", "slow", "20", "1", "--program", wrong)
+        self.assertEqual((said.returncode, said.stderr), (1, "tools/baseline: it is to be Car(BadHeader), and not msthost: Misnamed\n"))
+
     def test_a_fault_may_be_explained(self) -> None:
         is_told = command("compare-runs").is_told
         wanted = b"msthost: line 1: BadLine\n"
@@ -210,3 +218,30 @@ class VersionTest(unittest.TestCase):
                 write(f"{room}/{place.path}", place.example.replace("{}", "1.2.3"))
             write(f"{room}/VERSION", "one\n")
             self.assertEqual(len(version.faults_in(room)), 1)
+
+
+class DeclarationsTest(unittest.TestCase):
+    """What is declared to Node is compared: a wrong line, number or name is told."""
+
+    CHANGED = (
+        ("addon/calls.def", "B(4), B(5), C(0)", "B(5), B(4), C(0)"),
+        ("addon/calls.def", '"kfbb"', '"nfbb"'),
+        ("addon/calls.def", "CALL(links, ", "CALL(other, "),
+        ("addon/calls.c", "tizulgech_clear(R)", "0"),
+        ("lib/tree.js", "'below'", "'links'"),
+        ("lib/faults.js", "34: ['OTHER_ROOT'", "36: ['OTHER_ROOT'"),
+        ("lib/faults.js", "  35: [", "  // 35: ["),
+        ("lib/faults.js", "NONE = 24", "NONE = 25"),
+        ("index.d.ts", " | 'NOT_BUILT'", ""),
+        ("index.d.ts", "'CLOSED'", "'CLOSED' | 'SMALL'"),
+    )
+
+    def test_of_node(self) -> None:
+        declarations = command("library-declarations")
+        wanted, (numbers, _) = declarations.exports(), declarations.answers(declarations.library())
+        told = lambda files: [*declarations.node_otherwise(wanted, files), *declarations.codes_otherwise(numbers, files)]
+        files = declarations.node_files()
+        self.assertEqual(told(files), [])
+        for path, old, new in self.CHANGED:
+            self.assertIn(old, files[path])
+            self.assertTrue(told({**files, path: files[path].replace(old, new)}), (path, old))

@@ -12,7 +12,7 @@ import unittest
 
 from lib import commands, copies, crates, edits, exports, model, times
 from lib.files import ROOT, bytes_of, text_of, write
-from lib.made_exports import KINDS, made_export, usual_export
+from lib.made_exports import KINDS, SLOW, made_export, slow_export, usual_export
 from lib.made_input import made_puts, made_script, two_listings
 from lib.progress import Progress, told
 from lib.trees import SHARED, Faulty, Tree, drawn, shared_by, side_by_side
@@ -156,6 +156,13 @@ class ExportsTest(unittest.TestCase):
         found = exports.export_in(usual_export(random.Random(1), 50))
         self.assertEqual([len(record) for _, _, record in found.records], 50 * [288])
         self.assertEqual(len({key for key, _, _ in found.records}), 50)
+
+    def test_slow_exports(self) -> None:
+        for make in SLOW:
+            blocks = make(300)
+            with self.assertRaisesRegex(model.Fault, "^NotTheTree$"):
+                exports.export_in(slow_export(blocks))
+            self.assertEqual([len(exports.node_in(it).entries) for it in blocks if it][0], 300)
 
     def test_two_listings(self) -> None:
         for keys, changes in ((1, 1), (40, 7), (40, 40), (3, 9), (5, 0)):

@@ -1,10 +1,11 @@
 //! A mirror that takes what it differs by from the repository.
 
 use crate::spans::{FIRST, SECOND, THIRD, opened};
-use change_proofs::{KeyChange, are_key_changes};
-use cid::Sha256;
+use change_proofs::{KeyChange, are_key_changes, prove_change};
+use cid::{Cid, Sha256};
 use core_differences::{Span, prove_span};
 use difference_taking::{TakingFault, take_difference};
+use key_changes::{Change, are_changes};
 use repo::Core;
 use repo_fixtures::batch::{DID, EMPTY, ONE, TWO, rev_after, stamp_of};
 use repo_fixtures::cores::{counts, end};
@@ -117,4 +118,70 @@ fn a_mirror_catches_up(rt: HostRuntime) {
     end(&mut other, core);
     let left = counts(&shard);
     assert!(rt; right && left == (0, 0));
+}
+
+/// The root that a repository would have with these changes done.
+fn root_with(alloc: Global, core: &Core<Sha256, 2>, changes: &[KeyChange<'_>]) -> Option<Cid> {
+    let mut done = Vec::new(alloc);
+    for change in changes {
+        let change = Change {
+            key: change.key,
+            value: change.after,
+        };
+        done.push(change).ok()?;
+    }
+    if !are_changes(&done) {
+        return None;
+    }
+    let proof = prove_change::<Sha256, 2, Global>(alloc, core, &done).ok()?;
+    Some(proof.after)
+}
+
+/// Whether a mirror sees by the root that a change was left out, before it takes the others and after.
+fn sees_what_is_left_out(
+    alloc: Global,
+    shard: &mut Shard<Sha256>,
+    mirror: &mut Core<Sha256, 2>,
+    core: &Core<Sha256, 2>,
+) -> bool {
+    let Ok(span) = prove_span::<Sha256, 2, Global>(alloc, mirror, core) else {
+        return false;
+    };
+    let Ok(changes) = changes_of(alloc, &span) else {
+        return false;
+    };
+    let [first, second, _] = changes.as_slice() else {
+        return false;
+    };
+    let before = mirror.root();
+    let with_all = root_with(alloc, mirror, &changes);
+    let with_two = root_with(alloc, mirror, &[*first, *second]);
+    let stayed = mirror.root() == before;
+    let taken = take(
+        alloc,
+        shard,
+        mirror,
+        3,
+        &[*first, *second],
+        &[TWO, ONE, EMPTY],
+    );
+    with_all == Some(core.root())
+        && with_two.is_some()
+        && with_two != with_all
+        && stayed
+        && taken == Taken::All(5)
+        && Some(mirror.root()) == with_two
+}
+
+#[test]
+fn a_mirror_sees_what_is_left_out(rt: HostRuntime) {
+    let alloc = rt.alloc();
+    let mut shard = Shard::new(alloc, 1000, TableKey::known());
+    let mut other = Shard::new(alloc, 1000, TableKey::known());
+    let mut mirror = opened(&rt, alloc, &mut shard, 0, &[FIRST]);
+    let core = opened(&rt, alloc, &mut other, 0, &[FIRST, SECOND, THIRD]);
+    let right = sees_what_is_left_out(alloc, &mut shard, &mut mirror, &core);
+    end(&mut shard, mirror);
+    end(&mut other, core);
+    assert!(rt; right);
 }

@@ -19,7 +19,7 @@ use Rattle.edit_laws.proofs.BlockSources.{blocks-source}
 use Rattle.lookups.specs.Maps.{Lending, first_of}
 use Rattle.lookups.specs.Trees.{HasTree, bytes_given}
 use Rattle.scratch.specs.declared.tree.Built.{Built}
-use Rattle.repository_check.specs.Walk.{is_block}
+use Rattle.repository_check.specs.Given.{is_block}
 use Rattle.difference.specs.Differences.{OfTrees}
 use Rattle.difference.specs.declared.outcome.Difference.{Difference}
 use Rattle.difference_commands.specs.Trees.{IsBuiltOf, IsClashAmong, IsClashBetween, is_given}

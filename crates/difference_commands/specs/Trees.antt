@@ -7,7 +7,7 @@ use Rattle.spec.specs.Cid.{cid}
 use Rattle.spec.specs.Tree.{Pair}
 use Rattle.spec.specs.Blocks.{ArePairs, IsClashFree, nodes, root}
 use Rattle.scratch.specs.declared.tree.Built.{Built}
-use Rattle.repository_check.specs.Walk.{is_block}
+use Rattle.repository_check.specs.Given.{is_block}
 use Rattle.difference_commands.specs.declared.trees.TreesFault.{TreesFault}
 use Rattle.difference_commands.specs.declared.trees.TreesFault.TheVariants as errors
 

@@ -99,7 +99,7 @@ fn are_right<D: Digest, const B: u8>(alloc: Global, seed: u64) -> bool
     let mut numbers = Numbers::of(seed);
     for turn in 0..40u8 {
         let dense = [10, 60, 140, 255][usize::from(turn % 4)];
-        let often = [0, 8, 60, 255][usize::from(turn / 4 % 4)];
+        let often = [4, 20, 90, 255][usize::from(turn / 4 % 4)];
         let Ok(all) = random_keys(alloc, &mut numbers, dense, often) else {
             return false;
         };
@@ -133,4 +133,31 @@ fn sha256(rt: HostRuntime) {
 #[test]
 fn empty_trees(rt: HostRuntime) {
     assert!(rt; is_right::<Toy, 2>(rt.alloc(), &[]));
+}
+
+/// The key at a place, with these values.
+fn known(place: u8, before: u8, after: u8) -> Known {
+    Known {
+        place,
+        before,
+        after,
+    }
+}
+
+#[test]
+fn one_empty_tree(rt: HostRuntime) {
+    let comes = [known(1, 0, 1), known(7, 0, 2)];
+    let goes = [known(1, 1, 0), known(7, 2, 0)];
+    assert!(rt; is_right::<Toy, 2>(rt.alloc(), &comes) && is_right::<Toy, 2>(rt.alloc(), &goes));
+}
+
+/// Between two keys that stay each other key comes, and goes, so that the two trees differ in height wherever its layer is higher.
+#[test]
+fn each_key_comes_and_goes(rt: HostRuntime) {
+    let alloc = rt.alloc();
+    for place in 1..95u8 {
+        let comes = [known(0, 1, 1), known(place, 0, 1), known(95, 1, 1)];
+        let goes = [known(0, 1, 1), known(place, 1, 0), known(95, 1, 1)];
+        assert!(rt; is_right::<Toy, 1>(alloc, &comes) && is_right::<Toy, 1>(alloc, &goes));
+    }
 }

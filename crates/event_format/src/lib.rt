@@ -24,4 +24,5 @@ pub use event::{Event, HEADER};
 pub use fault::{Field, FormFault};
 pub use ops::action_of;
 pub use reading::read_event;
+pub use said::test_since;
 pub use writing::write_event;

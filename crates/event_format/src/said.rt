@@ -86,7 +86,7 @@ fn is_small(blocks: &[u8]) -> bool
 }
 
 /// Whether a revision is after the one before, if there was one.
-fn test_since(since: Option<&[u8]>, rev: &[u8]) -> Result<(), FormFault>
+pub fn test_since(since: Option<&[u8]>, rev: &[u8]) -> Result<(), FormFault>
     ensures { Gives (λ x. x) form_fault_of result
         (since_test (option_map (λ s. s.now) since.entry) rev.now) }
 {

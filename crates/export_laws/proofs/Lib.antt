@@ -1,7 +1,7 @@
-mod OfOne
+pub mod OfOne
 mod NoOrder
-mod LeftRecords
-mod ShortBlocks
-mod LastStamps
-mod SignedCars
+pub mod LeftRecords
+pub mod ShortBlocks
+pub mod LastStamps
+pub mod SignedCars
 mod NoFault

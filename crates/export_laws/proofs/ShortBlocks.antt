@@ -37,7 +37,7 @@ short-if false xs ys a b = b
 first-and : (b : ℕ) (xs : List ℕ) (n : ℕ) → length xs ≡ n → n ≤ 8 → length (b ∷ xs) ≤ 9
 first-and b xs n e le = omega arith
 
-head-short : (m n : ℕ) → length (head m n) ≤ 9
+pub head-short : (m n : ℕ) → length (head m n) ≤ 9
 head-short m n =
     short-if (nat_lt n 24) ((32 * m + n) ∷ []) _ (first-and (32 * m + n) [] 0 refl (omega arith))
     (short-if (nat_lt n (2 ^ 8)) ((32 * m + 24) ∷ to_be_bytes w8 n) _ (first-and (32 * m + 24) (to_be_bytes w8 n) 1 refl (omega arith))
@@ -46,13 +46,13 @@ head-short m n =
     (first-and (32 * m + 26) (to_be_bytes w32 n) 4 refl (omega arith))
     (first-and (32 * m + 27) (to_be_bytes w64 n) 8 refl (omega arith)))))
 
-own-length : (c : List ℕ) → is_own_cid c ≡ true → length c ≡ 36
+pub own-length : (c : List ℕ) → is_own_cid c ≡ true → length c ≡ 36
 own-length c own = eqb-true (length c) 36 (both (eqb (length c) 36) (bytes_eq (take 4 c) prefix) own).0
 
 five-more : (a b c d e : ℕ) (xs : List ℕ) → length xs ≡ 36 → length (a ∷ b ∷ c ∷ d ∷ e ∷ xs) ≤ 41
 five-more a b c d e xs h = omega arith
 
-link-short : (c : List ℕ) → is_own_cid c ≡ true → length (link c) ≤ 41
+pub link-short : (c : List ℕ) → is_own_cid c ≡ true → length (link c) ≤ 41
 link-short c own = five-more 0xd8 0x2a 0x58 0x25 0x00 c (own-length c own)
 
 link_or_null-short : (o : Option (List ℕ)) → is_own_cid_or_none o ≡ true → length (link_or_null o) ≤ 41
@@ -203,18 +203,18 @@ record-short b h = leb-true (length b) 1048576 (ensure_ok (nat_le (length b) 104
 
 -- ---- commits
 
-did-short : (d : List ℕ) → is_did d ≡ true → length d ≤ 2048
+pub did-short : (d : List ℕ) → is_did d ≡ true → length d ≤ 2048
 did-short d h =
     let a = both (leb (length d) 2048 && bytes_eq (take 4 d) (codes "did:") && is_method_name (before_first is_colon (drop 4 d))) _ h in
     let b = both (leb (length d) 2048 && bytes_eq (take 4 d) (codes "did:")) _ a.0 in
     leb-true (length d) 2048 (both (leb (length d) 2048) _ b.0).0
 
-rev-length : (r : List ℕ) → is_tid r ≡ true → length r ≡ 13
+pub rev-length : (r : List ℕ) → is_tid r ≡ true → length r ≡ 13
 rev-length r h =
     let letters = list_all (is_one_of (codes "234567abcdefghijklmnopqrstuvwxyz")) r in
     eqb-true (length r) 13 (both (eqb (length r) 13) letters (both (eqb (length r) 13 && letters) _ h).0).0
 
-string-short : (m n : ℕ) (bytes : List ℕ) → length bytes ≤ n → length (string m bytes) ≤ n + 9
+pub string-short : (m n : ℕ) (bytes : List ℕ) → length bytes ≤ n → length (string m bytes) ≤ n + 9
 string-short m n bytes h =
     let e = length-append (head m (length bytes)) bytes in
     let k = head-short m (length bytes) in

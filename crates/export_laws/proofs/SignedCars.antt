@@ -40,15 +40,15 @@ module _ (digest : List ℕ → List ℕ) where
 
   -- ---- the sections of some blocks
 
-  spelled-each : (bs : List (List ℕ)) → flat_map (section digest) bs ≡ flat_map section_bytes (sections_of bs)
+  pub spelled-each : (bs : List (List ℕ)) → flat_map (section digest) bs ≡ flat_map section_bytes (sections_of bs)
   spelled-each [] = refl
   spelled-each (b ∷ bs) = ap (λ (x : List ℕ). section digest b ++ x) (spelled-each bs)
 
-  named-each : (bs : List (List ℕ)) → are_named digest (sections_of bs) ≡ true
+  pub named-each : (bs : List (List ℕ)) → are_named digest (sections_of bs) ≡ true
   named-each [] = refl
   named-each (b ∷ bs) = and _ _ ((bytes_eq-Decides (cid digest b) (cid digest b)).1 refl) (named-each bs)
 
-  are-sections : IsDigest digest → (bs : List (List ℕ)) → AllByRecursion Short bs → AllByRecursion IsSection (sections_of bs)
+  pub are-sections : IsDigest digest → (bs : List (List ℕ)) → AllByRecursion Short bs → AllByRecursion IsSection (sections_of bs)
   are-sections fits [] all = tt
   are-sections fits (b ∷ bs) all = (record { own = own-cid digest b fits; short = all.0 }, are-sections fits bs all.1)
 
@@ -72,7 +72,7 @@ module _ (digest : List ℕ → List ℕ) where
   given-case b true o p e = refl
   given-case b false o p e = e
 
-  given-at : (c : List ℕ) (bs : List (List ℕ)) → block_with c (sections_of bs) ≡ block_at digest c bs
+  pub given-at : (c : List ℕ) (bs : List (List ℕ)) → block_with c (sections_of bs) ≡ block_at digest c bs
   given-at c [] = refl
   given-at c (b ∷ bs) = given-case b (bytes_eq (cid digest b) c) (section_with c (sections_of bs)) (block_at digest c bs) (given-at c bs)
 
@@ -100,7 +100,7 @@ module _ (digest : List ℕ → List ℕ) where
       (filter-at c (λ d. not (bytes_eq (cid digest b) (cid digest d))) xs
       (λ d h. ap not (ap (bytes_eq (cid digest b)) ((bytes_eq-Decides (cid digest d) c).0 h) ∙ e)) ∙ i)
 
-  firsts-at : (c : List ℕ) (bs : List (List ℕ)) → block_at digest c (firsts (cid digest) bs) ≡ block_at digest c bs
+  pub firsts-at : (c : List ℕ) (bs : List (List ℕ)) → block_at digest c (firsts (cid digest) bs) ≡ block_at digest c bs
   firsts-at c [] = refl
   firsts-at c (b ∷ bs) = firsts-case c b (firsts (cid digest) bs) bs (bytes_eq (cid digest b) c) refl (firsts-at c bs)
 

@@ -61,17 +61,37 @@ fn a_slice_is_walked(rt: HostRuntime) {
     assert!(rt; walks(rt.alloc(), None, b"k", None, 0, 0, 0).expect(&rt, "memory"));
 }
 
+/// Whether the walk over a node with a link before its pair is as `walks` says.
+fn walks_before(
+    alloc: Global,
+    key: &[u8],
+    allowed: usize,
+    pairs: usize,
+    reads: u64,
+) -> Result<bool, AllocError> {
+    walks(alloc, Some(value()), key, None, allowed, pairs, reads)
+}
+
 #[test]
 fn links_without_end_are_walked_to_the_last_layer_or_read(rt: HostRuntime) {
-    let next = Some(value());
-    assert!(rt; walks(rt.alloc(), next, b"k", None, 1_000, 1, 129).expect(&rt, "memory"));
-    assert!(rt; walks(rt.alloc(), next, b"", None, 1_000, 0, 129).expect(&rt, "memory"));
-    assert!(rt; walks(rt.alloc(), next, b"k", None, 10, 0, 10).expect(&rt, "memory"));
+    assert!(rt; walks_before(rt.alloc(), b"k", 1_000, 1, 129).expect(&rt, "memory"));
+    assert!(rt; walks_before(rt.alloc(), b"", 1_000, 0, 129).expect(&rt, "memory"));
+    assert!(rt; walks_before(rt.alloc(), b"k", 10, 0, 10).expect(&rt, "memory"));
+}
+
+/// Whether the walk over a node with a link behind its pair is as `walks` says.
+fn walks_behind(
+    alloc: Global,
+    key: &[u8],
+    allowed: usize,
+    pairs: usize,
+    reads: u64,
+) -> Result<bool, AllocError> {
+    walks(alloc, None, key, Some(value()), allowed, pairs, reads)
 }
 
 #[test]
 fn a_node_that_comes_again_ends_the_walk(rt: HostRuntime) {
-    let next = Some(value());
-    assert!(rt; walks(rt.alloc(), None, b"k", next, 1_000, 1, 2).expect(&rt, "memory"));
-    assert!(rt; walks(rt.alloc(), None, b"k", next, 1, 1, 1).expect(&rt, "memory"));
+    assert!(rt; walks_behind(rt.alloc(), b"k", 1_000, 1, 2).expect(&rt, "memory"));
+    assert!(rt; walks_behind(rt.alloc(), b"k", 1, 1, 1).expect(&rt, "memory"));
 }

@@ -1,0 +1,159 @@
+declare global {
+  interface SymbolConstructor { readonly dispose: unique symbol }
+}
+
+/** Text goes as UTF-8; half of a surrogate pair is refused. */
+export type Bytes = string | Uint8Array
+export type CidLike = Cid | string | Uint8Array | { readonly bytes: Uint8Array }
+
+/** The number of the library's interface for which the package is written. */
+export const VERSION: 4
+/** The one node of the tree of no keys. */
+export const EMPTY_NODE: Uint8Array
+
+/** A CID as the AT Protocol has it for blocks: CIDv1, DAG-CBOR, SHA-256. It doesn't change. */
+export class Cid {
+  constructor(bytes: Uint8Array)
+  /** A CID from one, its text, its bytes, or whatever else has `bytes`, as the class CID of multiformats. */
+  static from(it: CidLike): Cid
+  static parse(text: string): Cid
+  /** A copy of its 36 bytes. */
+  get bytes(): Uint8Array
+  equals(other: unknown): boolean
+  toString(): string
+  toJSON(): string
+}
+
+type RecordCode = 'TRUNCATED' | 'LONG_HEAD' | 'INDEFINITE' | 'BAD_TAG' | 'BAD_LINK' | 'KEY_NOT_TEXT' | 'KEY_ORDER' | 'BAD_UTF8' | 'FLOAT' | 'SIMPLE' | 'INTEGER_RANGE' | 'TOO_DEEP' | 'TRAILING'
+type CidCode = 'CID_LENGTH' | 'CID_PREFIX' | 'CID_LETTER' | 'CID_BITS' | 'CID_PROFILE'
+type BatchCode = RecordCode | 'BAD_KEY' | 'NOT_A_MAP' | 'RECORD_SIZE' | 'KEY_EXISTS' | 'NONE' | 'WRITES_FULL' | 'EMPTY_BATCH' | 'BAD_DID' | 'BAD_REV' | 'REV_ORDER'
+type TreeCode = 'MISSING' | 'NOT_ASCENDING' | 'BAD_KEY' | 'BAD_NODE' | 'TOO_MANY_NODES' | 'NOT_BUILT' | 'OTHER_VALUE' | 'OTHER_ROOT' | 'NOT_TREE'
+type RepositoryCode = 'CLOSED' | 'BUSY' | 'CHANGED'
+type AnyCode = 'BAD' | 'CLASH' | 'FULL' | 'NO_MEMORY'
+
+/** A call was refused: `code` as the header names it, `number` as it numbers it. */
+export class TizulgechError<Code extends string = string> extends Error {
+  constructor(number: number)
+  readonly code: Code
+  readonly number: number
+}
+/** Bytes are no record. */
+export class RecordError extends TizulgechError<RecordCode | AnyCode> {}
+/** A text, or bytes, are no CID of this profile. */
+export class CidError extends TizulgechError<CidCode> {}
+/** A batch, a write or a stamp was refused. */
+export class BatchError extends TizulgechError<BatchCode | AnyCode> {
+  /** The place of the refused write, from 0. */
+  readonly place?: number
+}
+/** Nodes or pairs show nothing, or there is no edit or no file. */
+export class TreeError extends TizulgechError<TreeCode | AnyCode> {
+  /** The CID of the node, for MISSING and BAD_NODE of a tree's own nodes and of changes. */
+  readonly cid?: Cid
+  /** The place of the change, for OTHER_VALUE. */
+  readonly place?: number
+}
+/** A repository is closed, busy, or wasn't opened, or has changed while it was read in parts. */
+export class RepositoryError extends TizulgechError<RepositoryCode | AnyCode> {}
+
+export function keyLayer(key: Bytes): number
+export function isKey(key: Bytes): boolean
+export function isRepositoryKey(key: Bytes): boolean
+export function isDid(did: Bytes): boolean
+export function isTid(rev: Bytes): boolean
+/** The key of a record: its collection, a slash and its record key. */
+export function formatDataKey(collection: string, rkey: string): string
+export function parseDataKey(key: string): { collection: string; rkey: string }
+
+export function cidOf(block: Uint8Array): Cid
+export function cidsOf(blocks: Iterable<Uint8Array>): Promise<Cid[]>
+/** Throws a RecordError unless the bytes are one value in DAG-CBOR. */
+export function checkRecord(record: Uint8Array): void
+
+export interface Stamp { did: Bytes; rev: Bytes }
+export type At = { key: Bytes } | { collection: string; rkey: string }
+/** The record is DAG-CBOR. */
+export type Write = ({ action: 'put' | 'create' | 'update'; record: Uint8Array } | { action: 'delete' }) & At
+/** Throws the fault of a write, by whether there is a record under its key. */
+export function checkWrite(write: Write, there: boolean): void
+/** Throws the fault of a stamp after the revision of the batch before; '' where there was none. */
+export function checkStamp(before: Bytes, stamp: Stamp): void
+/** The bytes of the unsigned commit of a stamp over the root of a tree: what a host signs. */
+export function commitBytes(stamp: Stamp, root: CidLike): Uint8Array
+
+/** The root and the number of nodes of the tree of these pairs, whose keys ascend. */
+export function treeRoot(pairs: Iterable<readonly [Bytes, CidLike]>): Promise<{ root: Cid; nodes: number }>
+/** The CAR file of a repository whose one batch puts these records, each a key and its bytes, under this stamp. */
+export function listingCar(stamp: Stamp, records: Iterable<readonly [Bytes, Uint8Array]>): Promise<Uint8Array>
+/** What stands below a node, in the order of a CAR file. */
+export function links(node: Uint8Array): { isNode: boolean; cid: Cid }[]
+
+/** What the tree with this root has under a key, as the nodes of a proof show: its value's CID, or null where it has none. */
+export function verify(root: CidLike, proof: Iterable<Uint8Array>, key: Bytes): Promise<Cid | null>
+
+/** What a key had and what it has: null where that is nothing. */
+export interface Change { key: Bytes; prev: CidLike | null; cid: CidLike | null }
+/** The same as the library told it. */
+export interface KeyChange { key: Bytes; prev: Cid | null; cid: Cid | null }
+/** Rejects unless the tree with the root before becomes that with the root after by these changes, as nodes of the tree before show; their
+ * keys ascend. Who goes on from root to root begins with the empty tree's, or with one that it computed, and verifies step by step. */
+export function verifyChange(before: CidLike, after: CidLike, nodes: Iterable<Uint8Array>, changes: Iterable<Change>): Promise<void>
+/** Rejects unless these changes undone lead from the tree with the root after back to the root before, as nodes of the tree after show: the
+ * operation inversion of the event stream. Of a root that no records have it says nothing: nobody goes on from a root after by it. */
+export function verifyInversion(before: CidLike, after: CidLike, nodes: Iterable<Uint8Array>, changes: Iterable<Change>): Promise<void>
+
+export type GetNode = (cid: Cid) => Uint8Array | null | undefined | Promise<Uint8Array | null | undefined>
+/** What keys are to have, in any order: each gets a value, or goes where that is null. */
+export type Changes = Iterable<readonly [Bytes, CidLike | null]> | Record<string, CidLike | null>
+/** What changes do to the set of a tree's nodes: `newBlocks` is to be inserted, `removedCids` to be removed. */
+export interface Edit {
+  root: Cid
+  newBlocks: { cid: Cid; bytes: Uint8Array }[]
+  removedCids: Cid[]
+  /** The changes by the order of the keys' bytes, each with what its key had. */
+  changes: KeyChange[]
+}
+export const tree: {
+  /** The nodes from a root down to a key, which are its proof, and its value or null. */
+  path(get: GetNode, root: CidLike, key: Bytes): Promise<{ path: Uint8Array[]; value: Cid | null }>
+  get(get: GetNode, root: CidLike, key: Bytes): Promise<Cid | null>
+  apply(get: GetNode, root: CidLike, changes: Changes): Promise<Edit>
+}
+
+/** The root after a batch, the root before it, and the CID of its commit. */
+export interface Applied { root: Cid; previous: Cid; commit: Cid }
+/** What changes make of a repository, and what shows it: what verifyChange takes. */
+export interface ChangeProof { after: Cid; changes: KeyChange[]; nodes: Uint8Array[] }
+export interface Pair { key: string; cid: Cid }
+/** A repository in memory. One call has it at a time: any other is refused with the code BUSY. */
+export class Repository {
+  private constructor()
+  /** Opens one that takes so many writes, 1 to 1,048,576. */
+  static open(limit: number | bigint): Repository
+  close(): void
+  [Symbol.dispose](): void
+  /** Accepts all writes of a batch, in order, or none of them. */
+  apply(stamp: Stamp, writes: Iterable<Write>): Promise<Applied>
+  /** The record of a key, or null. */
+  get(key: Bytes): Uint8Array | null
+  /** The first keys from one on: 256, or `most`. */
+  list(from?: Bytes, most?: number): Promise<Pair[]>
+  /** All of them from one on, in pages. */
+  entries(from?: Bytes): AsyncGenerator<Pair, void, undefined>
+  [Symbol.asyncIterator](): AsyncGenerator<Pair, void, undefined>
+  get root(): Cid
+  get commit(): Cid | null
+  /** How many writes are accepted. */
+  get number(): number
+  carLength(): Promise<number>
+  /** The repository as one file (CARv1), whole, in parts of so many bytes, or a block at a time. */
+  car(): Promise<Uint8Array>
+  carParts(length?: number): AsyncGenerator<Uint8Array, void, undefined>
+  carSections(): AsyncGenerator<Uint8Array, void, undefined>
+  /** The proof of a key: the nodes of its path, from the top. */
+  prove(key: Bytes): Uint8Array[]
+  /** What changes make of the repository as it is, and what shows it: ask before they are applied. */
+  proveChange(changes: Changes): Promise<ChangeProof>
+  /** The nodes that show that changes, whose keys ascend, undone lead back from the repository as it is. */
+  proveInversion(changes: Iterable<Change>): Promise<Uint8Array[]>
+}

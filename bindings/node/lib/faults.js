@@ -1,0 +1,94 @@
+/** The numbers that calls answer: the header's name of each and what it says, and an error for each kind of call. */
+
+export const NONE = 24, BAD_NODE = 30, OTHER_VALUE = 33, MISSING = 2, BELOW = 1, TOO_MANY_NODES = 31, BAD_KEY = 20
+export const CLOSED = 250, BUSY = 256, CHANGED = 257
+
+export const OF_RECORDS = {
+  1: ['TRUNCATED', 'the bytes end within a value'],
+  2: ['LONG_HEAD', 'a head is longer than it needs to be'],
+  3: ['INDEFINITE', 'an indefinite length'],
+  4: ['BAD_TAG', "a tag that isn't 42"],
+  5: ['BAD_LINK', 'a link that is no CID'],
+  6: ['KEY_NOT_TEXT', "a key of a map that isn't text"],
+  7: ['KEY_ORDER', 'keys of a map that are out of order or stand twice'],
+  8: ['BAD_UTF8', "text that isn't UTF-8"],
+  9: ['FLOAT', 'a floating-point number'],
+  10: ['SIMPLE', 'a simple value'],
+  11: ['INTEGER_RANGE', 'an integer outside of 64 bits with sign'],
+  12: ['TOO_DEEP', 'values that are nested too deep'],
+  13: ['TRAILING', 'bytes after the value'],
+}
+export const OF_CIDS = {
+  1: ['CID_LENGTH', "the text doesn't have 59 letters"],
+  2: ['CID_PREFIX', "the text doesn't begin with b"],
+  3: ['CID_LETTER', "a letter that base32 doesn't have"],
+  4: ['CID_BITS', 'bits behind the last byte'],
+  5: ['CID_PROFILE', 'not a CIDv1 of DAG-CBOR with SHA-256'],
+}
+export const OF_TREES = {
+  1: ['BELOW', 'the key is below another node'],
+  2: ['MISSING', "a node that is needed isn't there"],
+  3: ['NOT_ASCENDING', "the keys don't ascend"],
+  20: ['BAD_KEY', 'a key has no bytes or more than 1,024'],
+}
+const OF_ALL = {
+  20: ['BAD_KEY', 'the key is not that of a record'],
+  21: ['NOT_A_MAP', 'the record is not a map'],
+  22: ['RECORD_SIZE', 'the record is too long'],
+  23: ['KEY_EXISTS', 'the key is there already'],
+  24: ['NONE', 'there is no such key'],
+  25: ['WRITES_FULL', 'the repository takes no more writes'],
+  26: ['EMPTY_BATCH', 'the batch is empty'],
+  27: ['BAD_DID', 'the DID is not one'],
+  28: ['BAD_REV', 'the revision is not a timestamp identifier'],
+  29: ['REV_ORDER', 'the revision is not after the last one'],
+  30: ['BAD_NODE', 'a block is no node, or not the one of its CID'],
+  31: ['TOO_MANY_NODES', 'the path is longer than any tree is deep'],
+  32: ['NOT_BUILT', "a repository doesn't take these records"],
+  33: ['OTHER_VALUE', 'a key has another value'],
+  34: ['OTHER_ROOT', 'the changes lead to another root'],
+  35: ['NOT_TREE', "the nodes aren't a tree's"],
+  249: ['OPEN', 'the repository is open already'],
+  250: ['CLOSED', 'the repository is closed'],
+  251: ['SMALL', 'the room is too small'],
+  252: ['BAD', 'an argument that is none'],
+  253: ['CLASH', 'two blocks clash'],
+  254: ['FULL', 'the store is full'],
+  255: ['NO_MEMORY', 'out of memory'],
+  // the package's own, behind those of a byte
+  256: ['BUSY', 'another call has the repository'],
+  257: ['CHANGED', 'a batch came between two parts of the repository'],
+}
+
+const sentence = (text, { cid, place, what = 'change' }) => {
+  if (cid) return `${text}: ${cid}`
+  return place === undefined ? text : `${what} ${place}: ${text}`
+}
+
+/** A call was refused. */
+export class TizulgechError extends Error {
+  constructor(number, table = OF_ALL, more = {}) {
+    const [code, text] = table[number] ?? OF_ALL[number] ?? [`NUMBER_${number}`, `number ${number}`]
+    super(sentence(text, more))
+    this.number = number
+    this.code = code
+    if (more.place !== undefined) this.place = more.place
+    if (more.cid) this.cid = more.cid
+  }
+  get name() { return this.constructor.name }
+}
+/** Bytes are no record. */
+export class RecordError extends TizulgechError {}
+/** A text, or bytes, are no CID of this profile. */
+export class CidError extends TizulgechError {}
+/** A batch, a write or a stamp was refused: `place` is that of the write. */
+export class BatchError extends TizulgechError {}
+/** Nodes or pairs show nothing, or there is no edit: `cid` is that of a node, `place` that of a change. */
+export class TreeError extends TizulgechError {}
+/** A repository is closed, busy, or wasn't opened. */
+export class RepositoryError extends TizulgechError {}
+
+const isOfRepository = number => number === CLOSED || number === BUSY || number === CHANGED
+export const repositoryFault = (number, Kind = TizulgechError, table, more) => isOfRepository(number) ? new RepositoryError(number) : new Kind(number, table, more)
+export const batchFault = (number, more) => repositoryFault(number, BatchError, number < BAD_KEY ? OF_RECORDS : undefined, more)
+export const treeFault = (number, more) => repositoryFault(number, TreeError, OF_TREES, more)

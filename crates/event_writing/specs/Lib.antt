@@ -1,0 +1,5 @@
+-- In the order in which a newcomer reads them: what code's values stand for; a message in the steps of the code; blocks that are
+-- put into a file.
+pub mod Views
+pub mod Steps
+pub mod Putting
