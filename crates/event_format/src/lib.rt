@@ -4,7 +4,7 @@
 //! - [`read_event`] takes a message's bytes and tests all that needs no blocks. What it says is lent from them. It names the
 //!   first fault, [`FormFault`].
 //! - [`write_event`] spells an event.
-//! - [`action_of`] is what an operation is called.
+//! - [`action_of`] is what an operation is called. [`test_since`] tests a revision by the one before.
 //!
 //! The bounds of a message stand in `event_times::limits`.
 #![tactic(auto)]

@@ -85,7 +85,8 @@ fn is_small(blocks: &[u8]) -> bool
     blocks.len() <= MOST_BLOCKS_BYTES
 }
 
-/// Whether a revision is after the one before, if there was one.
+/// Whether a revision is after the one before, if there was one: else `FormFault::BadSince` or `FormFault::RevOrder`. Takes no
+/// memory.
 pub fn test_since(since: Option<&[u8]>, rev: &[u8]) -> Result<(), FormFault>
     ensures { Gives (λ x. x) form_fault_of result
         (since_test (option_map (λ s. s.now) since.entry) rev.now) }
