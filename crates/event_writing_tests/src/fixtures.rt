@@ -1,6 +1,8 @@
 //! The worked batch.
 
-use cid::{Cid, Sha256};
+ghost use Rattle.std.specs.Prelude.{◌≤◌};
+
+use cid::{Cid, Digest, Sha256};
 use event_writing::{Told, UntoldFault, commit_event};
 use key_changes::{KeyChange, are_key_changes};
 use repo::Core;
@@ -60,11 +62,14 @@ const SECOND: [Step<'static>; 4] = [
 pub(crate) type Posts<M> = Core<Sha256, 2, M>;
 
 /// One without writes over a shard.
-pub(crate) fn opened<R: Abort, M: Allocator + Copy>(
+pub(crate) fn opened<R: Abort, G: Digest, const BITS: u8, M: Allocator + Copy>(
     rt: &R,
     alloc: M,
-    shard: &mut Shard<Sha256, M>,
-) -> Posts<M> {
+    shard: &mut Shard<G, M>,
+) -> Core<G, BITS, M>
+    requires least { 1 ≤ BITS }
+    requires most { BITS ≤ 8 }
+{
     Core::open(alloc, &mut LentShard::new(shard), 0, 10_000).expect(rt, "a core")
 }
 
@@ -74,10 +79,10 @@ pub(crate) fn shard<M: Allocator + Copy>(alloc: M) -> Shard<Sha256, M> {
 }
 
 /// The root before the worked batch, where the repository takes it and the one before it.
-pub(crate) fn filled<M: Allocator + Copy>(
+pub(crate) fn filled<G: Digest, const BITS: u8, M: Allocator + Copy>(
     alloc: M,
-    shard: &mut Shard<Sha256, M>,
-    core: &mut Posts<M>,
+    shard: &mut Shard<G, M>,
+    core: &mut Core<G, BITS, M>,
 ) -> Option<Cid> {
     let first = apply_made(alloc, shard, core, stamped(alloc, DID, SINCE, &FIRST));
     let before = core.root();
@@ -131,15 +136,17 @@ pub(crate) fn told() -> Told<'static> {
 }
 
 /// The message of a repository's last batch. What are no changes is answered as if there were no memory.
-pub(crate) fn written<M: Allocator + Copy>(
+pub(crate) fn written<G: Digest, const BITS: u8, M: Allocator + Copy>(
     alloc: M,
-    core: &Posts<M>,
+    core: &Core<G, BITS, M>,
     before: Cid,
     changes: &[KeyChange<'_>],
     told: &Told<'_>,
-) -> Result<Vec<u8, M>, UntoldFault> {
+) -> Result<Vec<u8, M>, UntoldFault>
+    requires { 1 ≤ BITS }
+{
     if are_key_changes(changes) {
-        commit_event::<Sha256, 2, M>(alloc, core, before, changes, told)
+        commit_event::<G, BITS, M>(alloc, core, before, changes, told)
     } else {
         Err(UntoldFault::NoMemory)
     }
