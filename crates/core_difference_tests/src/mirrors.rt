@@ -150,21 +150,15 @@ fn sees_what_is_left_out(
     let Ok(changes) = changes_of(alloc, &span) else {
         return false;
     };
-    let [first, second, _] = changes.as_slice() else {
+    if changes.len() != 3 {
         return false;
-    };
+    }
+    let some = &changes[..2];
     let before = mirror.root();
     let with_all = root_with(alloc, mirror, &changes);
-    let with_two = root_with(alloc, mirror, &[*first, *second]);
+    let with_two = root_with(alloc, mirror, some);
     let stayed = mirror.root() == before;
-    let taken = take(
-        alloc,
-        shard,
-        mirror,
-        3,
-        &[*first, *second],
-        &[TWO, ONE, EMPTY],
-    );
+    let taken = take(alloc, shard, mirror, 3, some, &[TWO, ONE, EMPTY]);
     with_all == Some(core.root())
         && with_two.is_some()
         && with_two != with_all
