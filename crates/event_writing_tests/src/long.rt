@@ -10,7 +10,7 @@ use repo_fixtures::ends::Ended;
 use std::alloc::{AllocError, Global};
 use store::Shard;
 
-/// A record of eleven bytes more than these zeros: a map with a byte string.
+/// A record of eleven bytes more than these zeros, which are 65,536 or more: a map with a byte string.
 fn record(alloc: Global, zeros: u32) -> Result<Vec<u8>, AllocError> {
     let mut out = Vec::from_slice(alloc, b"\xa1\x64zero\x5a")?;
     out.extend_from_slice(&zeros.to_be_bytes())?;
@@ -65,7 +65,7 @@ fn long_records(rt: HostRuntime) {
     let alloc = rt.alloc();
     let mut shard = shard(alloc);
     let mut core = opened(&rt, alloc, &mut shard);
-    let record_too_long = of_zeros(alloc, &mut shard, &mut core, 1, 10, 999_990);
+    let record_too_long = of_zeros(alloc, &mut shard, &mut core, 1, 70_000, 999_990);
     let file_too_long = of_zeros(alloc, &mut shard, &mut core, 2, 999_989, 999_988);
     let short_enough = of_zeros(alloc, &mut shard, &mut core, 3, 999_989, 999_000);
     end(&mut shard, core);

@@ -1,4 +1,4 @@
-//! Proofs of changes that a host gives, before the batch that makes them and after it, checked as a mirror does.
+//! Proofs of changes that a host gives, checked as a mirror does.
 
 ghost use Rattle.std.specs.Prelude.{◌≡◌};
 
@@ -34,15 +34,6 @@ const SECOND: &[Step<'static>] = &[
     Step::Update(b"a/q2", TWO),
 ];
 
-/// Which way changes are proved.
-#[derive(Clone, Copy)]
-enum Direction {
-    /// Done, by nodes of the tree before.
-    Forward,
-    /// Undone, by nodes of the tree after.
-    Back,
-}
-
 /// A change from one record to another.
 fn change(
     key: &'static [u8],
@@ -71,14 +62,6 @@ fn changes() -> [KeyChange<'static>; 4] {
     changes_with(ONE, TWO)
 }
 
-/// A change done.
-fn done(change: &KeyChange<'static>) -> Change<'static> {
-    Change {
-        key: change.key,
-        value: change.after,
-    }
-}
-
 /// The notice of a batch of these steps in repository 1.
 fn told<R: Wait>(
     rt: &R,
@@ -95,123 +78,33 @@ fn told<R: Wait>(
     writer.apply(rt, alloc, 1, &batch.stamp, &batch.writes).ok()
 }
 
-/// Why a host proves no step, as it says it of an inversion.
-fn fault_of_step(fault: ProveChangeFault) -> ProveInversionFault {
-    match fault {
-        ProveChangeFault::NoSuchRepository => ProveInversionFault::NoSuchRepository,
-        ProveChangeFault::OtherRoot => ProveInversionFault::OtherRoot,
-        ProveChangeFault::NoMemory => ProveInversionFault::NoMemory,
-    }
-}
-
-/// What the second batch makes of a repository with this root, and what shows it. What are no changes is answered as if there
-/// were no memory.
-fn step<R: Wait>(
-    rt: &R,
-    alloc: Global,
-    host: &Host<Toy, 2>,
-    repo: usize,
-    before: Cid,
-) -> Result<ChangeProof<'static, Toy>, ProveInversionFault> {
-    let [one, two, three, four] = &changes();
-    let batch = [done(one), done(two), done(three), done(four)];
-    if !are_changes(&batch) {
-        return Err(ProveInversionFault::NoMemory);
-    }
-    match prove_change(rt, alloc, host, repo, before, &batch) {
-        Ok(proof) => Ok(proof),
-        Err(fault) => Err(fault_of_step(fault)),
-    }
-}
-
-/// The second batch, and what shows in a repository with this root that it led there.
-fn inversion<R: Wait>(
+/// The nodes by which repository `repo`, with this root, proves the second batch's changes. What are no changes is answered as
+/// if there were no memory.
+fn proved<R: Wait>(
     rt: &R,
     alloc: Global,
     host: &Host<Toy, 2>,
     repo: usize,
     after: Cid,
-) -> Result<ChangeProof<'static, Toy>, ProveInversionFault> {
-    let changes = Vec::from_array(alloc, changes()).map_err(|_| ProveInversionFault::NoMemory)?;
+) -> Result<Vec<Arc<Block<Toy>>>, ProveInversionFault> {
+    let changes = changes();
     if !are_key_changes(&changes) {
         return Err(ProveInversionFault::NoMemory);
     }
-    let nodes = prove_inversion(rt, alloc, host, repo, after, &changes)?;
-    Ok(ChangeProof {
-        after,
-        changes,
-        nodes,
-    })
+    prove_inversion(rt, alloc, host, repo, after, &changes)
 }
 
-/// The proof of the second batch that a repository with this root gives.
-fn proved<R: Wait>(
-    rt: &R,
-    alloc: Global,
-    host: &Host<Toy, 2>,
-    direction: Direction,
-    repo: usize,
-    root: Cid,
-) -> Result<ChangeProof<'static, Toy>, ProveInversionFault> {
-    match direction {
-        Direction::Forward => step(rt, alloc, host, repo, root),
-        Direction::Back => inversion(rt, alloc, host, repo, root),
-    }
-}
-
-/// Why an answer is none, if it is.
-fn fault_in(
-    answer: &Result<ChangeProof<'_, Toy>, ProveInversionFault>,
-) -> Option<ProveInversionFault> {
-    match answer {
-        Ok(_) => None,
-        Err(fault) => Some(*fault),
-    }
-}
-
-/// Why a repository with this root gives none.
+/// Why it doesn't prove them.
 fn fault_of<R: Wait>(
     rt: &R,
     alloc: Global,
     host: &Host<Toy, 2>,
-    direction: Direction,
     repo: usize,
-    root: Cid,
+    after: Cid,
 ) -> Option<ProveInversionFault> {
-    fault_in(&proved(rt, alloc, host, direction, repo, root))
-}
-
-/// The fault where a repository has another root.
-const OTHER_ROOT: Option<ProveInversionFault> = Some(ProveInversionFault::OtherRoot);
-
-/// The fault where there is no repository.
-const NO_REPOSITORY: Option<ProveInversionFault> = Some(ProveInversionFault::NoSuchRepository);
-
-/// Why a repository without the second batch gives none: it can do the changes and not undo them, as a key has another value.
-fn stale(direction: Direction, place: usize) -> Option<ProveInversionFault> {
-    match direction {
-        Direction::Forward => None,
-        Direction::Back => Some(ProveInversionFault::OtherValue(place)),
-    }
-}
-
-/// Whether two changes are the same.
-fn is_same(one: &KeyChange<'_>, other: &KeyChange<'_>) -> bool {
-    one.key == other.key && one.before == other.before && one.after == other.after
-}
-
-/// Whether a proof tells the second batch's changes, and leads to this root.
-fn is_told(proof: &ChangeProof<'_, Toy>, after: Cid) -> bool {
-    let [one, two, three, four] = &changes();
-    match proof.changes.as_slice() {
-        [a, b, c, d] => {
-            proof.after == after
-                && is_same(a, one)
-                && is_same(b, two)
-                && is_same(c, three)
-                && is_same(d, four)
-        }
-        _ => false,
+    match proved(rt, alloc, host, repo, after) {
+        Ok(_) => None,
+        Err(fault) => Some(fault),
     }
 }
 
@@ -225,7 +118,6 @@ struct Roots {
 /// What these nodes show of changes between two roots. What are no changes is answered as if there were no memory.
 fn shown(
     alloc: Global,
-    direction: Direction,
     roots: &Roots,
     nodes: &[Arc<Block<Toy>>],
     changes: &[KeyChange<'_>],
@@ -233,15 +125,7 @@ fn shown(
     if !are_key_changes(changes) {
         return Err(ChangeFault::NoMemory);
     }
-    let Roots { before, after } = *roots;
-    match direction {
-        Direction::Forward => {
-            verify_change_blocks::<Toy, 2, _>(alloc, before, after, nodes, changes)
-        }
-        Direction::Back => {
-            verify_inversion_blocks::<Toy, 2, _>(alloc, before, after, nodes, changes)
-        }
-    }
+    verify_inversion_blocks::<Toy, 2, _>(alloc, roots.before, roots.after, nodes, changes)
 }
 
 /// The nodes but for the one of this CID, each behind a stranger's block.
@@ -261,95 +145,67 @@ fn without(
     Ok(others)
 }
 
-/// How many nodes the second batch reads, done and undone: undone it doesn't open the node of `a/r0`, which nothing parts.
-fn node_count(direction: Direction) -> usize {
-    match direction {
-        Direction::Forward => 5,
-        Direction::Back => 4,
-    }
-}
-
-/// Whether so many nodes show the changes, and do so among blocks of strangers.
-fn show(alloc: Global, direction: Direction, roots: &Roots, nodes: &[Arc<Block<Toy>>]) -> bool {
+/// Whether four nodes show the changes, and do so among blocks of strangers.
+fn show(alloc: Global, roots: &Roots, nodes: &[Arc<Block<Toy>>]) -> bool {
     let Ok(more) = without(alloc, nodes, None) else {
         return false;
     };
-    nodes.len() == node_count(direction)
-        && shown(alloc, direction, roots, nodes, &changes()).is_ok()
-        && shown(alloc, direction, roots, &more, &changes()).is_ok()
+    nodes.len() == 4
+        && shown(alloc, roots, nodes, &changes()).is_ok()
+        && shown(alloc, roots, &more, &changes()).is_ok()
 }
 
 /// Whether the node of this CID is told as missing where it is left out.
-fn is_missed(
-    alloc: Global,
-    direction: Direction,
-    roots: &Roots,
-    nodes: &[Arc<Block<Toy>>],
-    cid: Cid,
-) -> bool {
+fn is_missed(alloc: Global, roots: &Roots, nodes: &[Arc<Block<Toy>>], cid: Cid) -> bool {
     let Ok(fewer) = without(alloc, nodes, Some(cid)) else {
         return false;
     };
-    shown(alloc, direction, roots, &fewer, &changes()) == Err(ChangeFault::BlockMissing(cid))
+    match &shown(alloc, roots, &fewer, &changes()) {
+        Err(ChangeFault::BlockMissing(missing)) => *missing == cid,
+        _ => false,
+    }
 }
 
 /// Whether each of them is.
-fn each_is_missed(
-    alloc: Global,
-    direction: Direction,
-    roots: &Roots,
-    nodes: &[Arc<Block<Toy>>],
-) -> bool {
+fn each_is_missed(alloc: Global, roots: &Roots, nodes: &[Arc<Block<Toy>>]) -> bool {
     for node in nodes {
-        if !is_missed(alloc, direction, roots, nodes, node.cid()) {
+        if !is_missed(alloc, roots, nodes, node.cid()) {
             return false;
         }
     }
     true
 }
 
-/// Whether the place of a change is told where another value of its key is told in the tree whose nodes these are, and a change
-/// with another value in the other tree leads to another root.
-fn refuse_others(
-    alloc: Global,
-    direction: Direction,
-    roots: &Roots,
-    nodes: &[Arc<Block<Toy>>],
-) -> bool {
-    let before = shown(alloc, direction, roots, nodes, &changes_with(TWO, TWO));
-    let after = shown(alloc, direction, roots, nodes, &changes_with(ONE, ONE));
-    let (here, there) = match direction {
-        Direction::Forward => (before, after),
-        Direction::Back => (after, before),
+/// Whether a change that is told with another value before it leads to another root, and its place is told where the value
+/// after it is another one.
+fn refuse_others(alloc: Global, roots: &Roots, nodes: &[Arc<Block<Toy>>]) -> bool {
+    let earlier = match &shown(alloc, roots, nodes, &changes_with(TWO, TWO)) {
+        Err(ChangeFault::OtherRoot) => true,
+        _ => false,
     };
-    here == Err(ChangeFault::OtherValue(2)) && there == Err(ChangeFault::OtherRoot)
+    let later = match &shown(alloc, roots, nodes, &changes_with(ONE, ONE)) {
+        Err(ChangeFault::OtherValue(place)) => *place == 2,
+        _ => false,
+    };
+    earlier && later
 }
 
-/// Whether a proof shows the second batch's changes between two roots, with none of its nodes left out, and no others.
-fn shows(alloc: Global, direction: Direction, roots: &Roots, proof: &ChangeProof<'_, Toy>) -> bool {
-    is_told(proof, roots.after)
-        && show(alloc, direction, roots, &proof.nodes)
-        && each_is_missed(alloc, direction, roots, &proof.nodes)
-        && refuse_others(alloc, direction, roots, &proof.nodes)
-}
-
-/// Whether a host's answer is such a proof.
-fn is_proof(
-    alloc: Global,
-    direction: Direction,
-    roots: &Roots,
-    answer: &Result<ChangeProof<'_, Toy>, ProveInversionFault>,
-) -> bool {
-    match answer {
-        Ok(proof) => shows(alloc, direction, roots, proof),
+/// Whether repository 1 proves the changes between two roots, with none of its nodes left out, and no others.
+fn proves<R: Wait>(rt: &R, alloc: Global, host: &Host<Toy, 2>, roots: &Roots) -> bool {
+    match proved(rt, alloc, host, 1, roots.after) {
+        Ok(nodes) => {
+            show(alloc, roots, &nodes)
+                && each_is_missed(alloc, roots, &nodes)
+                && refuse_others(alloc, roots, &nodes)
+        }
         Err(_) => false,
     }
 }
 
-/// Whether a mirror that gets the notices of a repository's batches and its host's proof sees that the second one is right. A
-/// step is asked for before that batch, an inversion after it. Then the root isn't that before any more; in another repository
-/// the values are other ones than those that are told, and a third repository isn't there.
-fn is_right<R: Wait + Abort>(rt: &R, alloc: Global, direction: Direction) -> bool {
+/// Whether a mirror that gets the notices of a repository's batches and its host's proof sees that the second one is right.
+/// Before that batch, and in another repository, the values are other ones than those that are told, and the root is another
+/// one than that after; a third repository isn't there.
+fn is_right<R: Wait + Abort>(rt: &R, alloc: Global) -> bool {
     let opened = open_one::<Toy, 2, R>(rt, alloc, 2, 9);
     let Alone {
         host,
@@ -360,33 +216,110 @@ fn is_right<R: Wait + Abort>(rt: &R, alloc: Global, direction: Direction) -> boo
     let Some(first) = told(rt, alloc, &mut writer, 0, FIRST) else {
         return false;
     };
-    let early = proved(rt, alloc, &host, direction, 1, first.root);
+    let early = fault_of(rt, alloc, &host, 1, first.root);
     let Some(second) = told(rt, alloc, &mut writer, 1, SECOND) else {
         return false;
     };
-    let late = proved(rt, alloc, &host, direction, 1, second.root);
     let roots = Roots {
         before: first.root,
         after: second.root,
     };
     let none = Cid::of::<Toy>(EMPTY_NODE);
-    let proof = match direction {
-        Direction::Forward => &early,
-        Direction::Back => &late,
+    early == Some(ProveInversionFault::OtherValue(0))
+        && proves(rt, alloc, &host, &roots)
+        && fault_of(rt, alloc, &host, 1, first.root) == Some(ProveInversionFault::OtherRoot)
+        && fault_of(rt, alloc, &host, 0, none) == Some(ProveInversionFault::OtherValue(1))
+        && fault_of(rt, alloc, &host, 2, none) == Some(ProveInversionFault::NoSuchRepository)
+}
+
+/// A key that gets this record, or goes.
+fn gets(key: &'static [u8], record: Option<&'static [u8]>) -> Change<'static> {
+    Change {
+        key,
+        value: record.map(|record| Cid::of::<Toy>(record)),
+    }
+}
+
+/// What the second batch makes of repository `repo` with this root. What are no changes is answered as if there were no memory.
+fn step_of<R: Wait>(
+    rt: &R,
+    alloc: Global,
+    host: &Host<Toy, 2>,
+    repo: usize,
+    before: Cid,
+) -> Result<ChangeProof<'static, Toy>, ProveChangeFault> {
+    let batch = [
+        gets(b"a/p0", None),
+        gets(b"a/q0", Some(TWO)),
+        gets(b"a/q2", Some(TWO)),
+        gets(b"a/r1", Some(ONE)),
+    ];
+    if !are_changes(&batch) {
+        return Err(ProveChangeFault::NoMemory);
+    }
+    prove_change(rt, alloc, host, repo, before, &batch)
+}
+
+/// Why it proves no step.
+fn no_step_of<R: Wait>(
+    rt: &R,
+    alloc: Global,
+    host: &Host<Toy, 2>,
+    repo: usize,
+    before: Cid,
+) -> Option<ProveChangeFault> {
+    match step_of(rt, alloc, host, repo, before) {
+        Ok(_) => None,
+        Err(fault) => Some(fault),
+    }
+}
+
+/// Whether this proof shows the second batch's changes between two roots.
+fn is_step(alloc: Global, proof: &ChangeProof<'_, Toy>, roots: &Roots) -> bool {
+    let told = proof.changes.as_slice();
+    if !are_key_changes(told) {
+        return false;
+    }
+    let Roots { before, after } = *roots;
+    proof.after == after
+        && told.len() == 4
+        && verify_change_blocks::<Toy, 2, _>(alloc, before, after, &proof.nodes, told).is_ok()
+}
+
+/// Whether a host proves what a batch makes of a repository before it comes, and no more once it has come.
+fn is_foreseen<R: Wait + Abort>(rt: &R, alloc: Global) -> bool {
+    let opened = open_one::<Toy, 2, R>(rt, alloc, 2, 9);
+    let Alone {
+        host,
+        seat,
+        feed: _,
+    } = opened;
+    let mut writer = host.writer(seat);
+    let Some(first) = told(rt, alloc, &mut writer, 0, FIRST) else {
+        return false;
     };
-    fault_in(&early) == stale(direction, 0)
-        && is_proof(alloc, direction, &roots, proof)
-        && fault_of(rt, alloc, &host, direction, 1, first.root) == OTHER_ROOT
-        && fault_of(rt, alloc, &host, direction, 0, none) == stale(direction, 1)
-        && fault_of(rt, alloc, &host, direction, 2, none) == NO_REPOSITORY
+    let step = step_of(rt, alloc, &host, 1, first.root);
+    let Some(second) = told(rt, alloc, &mut writer, 1, SECOND) else {
+        return false;
+    };
+    let Ok(step) = step else {
+        return false;
+    };
+    let roots = Roots {
+        before: first.root,
+        after: second.root,
+    };
+    is_step(alloc, &step, &roots)
+        && no_step_of(rt, alloc, &host, 1, first.root) == Some(ProveChangeFault::OtherRoot)
+        && no_step_of(rt, alloc, &host, 2, first.root) == Some(ProveChangeFault::NoSuchRepository)
 }
 
 #[test]
 fn a_host_proves_an_inversion(rt: HostRuntime) {
-    assert!(rt; is_right(&rt, rt.alloc(), Direction::Back));
+    assert!(rt; is_right(&rt, rt.alloc()));
 }
 
 #[test]
 fn a_host_proves_a_step(rt: HostRuntime) {
-    assert!(rt; is_right(&rt, rt.alloc(), Direction::Forward));
+    assert!(rt; is_foreseen(&rt, rt.alloc()));
 }
