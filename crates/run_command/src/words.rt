@@ -145,7 +145,8 @@ fn did<'a>(alloc: Global) -> Arg<'a>
 pub fn command_of<'a>(name: &str, words: &ArgMatches<'a>) -> Option<RunCommand<'a>>
     ensures name { IsSome result ↔ (name.now ≡ codes "run") }
     ensures did { IfSome result (λ c. c.did.now ≡ did_of_words (rows_of (found_of words.now))) }
-    ensures settings { IfSome result (λ c. AreSettingsOf (rows_of (found_of words.now)) c.settings) }
+    ensures settings { IfSome result (λ c.
+        AreSettingsOf (rows_of (found_of words.now)) c.settings) }
 {
     if name != "run" {
         return None;

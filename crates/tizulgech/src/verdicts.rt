@@ -196,7 +196,8 @@ fn verdict(
     changes: &[KeyChange<'_>],
 ) -> Result<(), ChangeFault>
     requires { are_changes_of (undone_of changes.now) ≡ true }
-    ensures { IsAnswer direction (map (λ node. node.now) nodes.now) before after changes.now result }
+    ensures { IsAnswer direction (map (λ node. node.now) nodes.now) before after changes.now
+        result }
 {
     match direction {
         Direction::Forward => {
