@@ -6,7 +6,7 @@ use Rattle.std.specs.Prelude.{MatchOption}
 use Rattle.std.specs.BTreeSet.{BTreeSet}
 use Rattle.spec.specs.Reading.{◌>>=◌}
 use Rattle.spec.specs.NodeFormat.{Shape}
-use Rattle.difference_laws.specs.Lines.{Opened, Side, Stop, NotShown, both_opened, compared, compared_at, level, levels, links_in, opened, opened_when, repeats, shared_when, side_at, side_of, side_without, tested, without}
+use Rattle.difference_laws.specs.Lines.{Opened, Side, Stop, NotShown, both_opened, compared, compared_at, level, levels, links_in, opened, repeats, shared_when, side_at, side_of, side_without, tested, without}
 use Rattle.difference_laws.specs.Lines as lines
 use Rattle.difference.specs.Sides.{HasLinks, IsBegun, IsLackAt, IsStopped, waiting}
 use Rattle.difference.specs.declared.faults.DifferenceFault.{DifferenceFault}

@@ -17,7 +17,7 @@ use Rattle.edit_laws.proofs.Lists.{count-append, filter-fewer, filter-out, has-n
 use Rattle.edit_laws.proofs.Orders.{order-equal}
 use Rattle.spec.specs.Reading.{◌>>=◌}
 use Rattle.spec.specs.NodeFormat.{Shape, LastLink, MoreLinks}
-use Rattle.difference_laws.specs.Lines.{Opened, Side, Stop, NotShown, both_opened, compared, compared_at, level, levels, link_without, links_in, opened, opened_last, opened_row, opened_when, repeats, shared_when, side_at, side_of, side_without, spliced, tested, unless, within, without}
+use Rattle.difference_laws.specs.Lines.{Opened, Side, Stop, NotShown, both_opened, compared, compared_at, level, levels, link_without, links_in, opened, opened_last, opened_row, opened_when, repeats, shared_when, side_at, side_of, spliced, tested, unless, within, without}
 use Rattle.difference_laws.specs.Lines as lines
 use Rattle.batch_laws.specs.Links.{Rows, onto_links}
 use Rattle.difference.specs.declared.line.Row.{Row}

@@ -27,7 +27,7 @@ use Rattle.difference_laws.proofs.Compared.{trees-compared}
 use Rattle.difference.specs.Differences.{IsWant}
 use Rattle.difference.specs.declared.faults.DifferenceFault.{DifferenceFault}
 use Rattle.difference.specs.declared.faults.DifferenceFault.TheVariants.{BlockMissing, BadNode, TooDeep, NotTree, NoMemory}
-use Rattle.difference_laws.specs.Lines.{Opened, Side, Stop, NotShown, both_opened, compared, compared_at, level, levels, links_in, opened, opened_last, opened_row, opened_when, repeats, shared_when, side_at, side_of, side_without, spliced, tested, within}
+use Rattle.difference_laws.specs.Lines.{Opened, Side, Stop, NotShown, both_opened, compared, compared_at, level, levels, links_in, opened, opened_last, opened_row, opened_when, repeats, shared_when, side_at, side_of, spliced, tested, within}
 use Rattle.difference_laws.specs.Lines as lines
 use Rattle.difference.specs.Missing.{AreOfOneTree, IsOfOneTree, IsOtherStop, Place, both_links, further, links_when, needed_at, needed_from, needed_in, needed_last, lacked, missing_of, reached}
 use Rattle.difference.proofs.Needing.{first_stop, level-stop, levels-end, or_next, stop-same, stop_of}

@@ -1,9 +1,8 @@
 //! The pairs from a key on.
 
-ghost use Rattle.std.specs.Prelude.{◌≡◌, suc, option_map, ℕ, List, Option, IfOk, IfSome, OnOk, ◌≤◌, ◌+◌, ◌*◌, [], Some, length};
+ghost use Rattle.std.specs.Prelude.{◌≡◌, suc, option_map, ℕ, List, Option, IfOk, OnOk, ◌≤◌, ◌+◌, ◌*◌, [], Some, length};
 ghost use Rattle.cid.specs.CidRef.{bytes_of};
 ghost use Rattle.edit_laws.specs.Sources.{start_shape, later_shape, down_from, walk_from};
-ghost use Rattle.edit_laws.specs.Pairs.{Ascending};
 ghost use Rattle.lookups.specs.Walks.{IsPlain, stacked, nodes_walked, pairs_given, asked_walk, is_next};
 ghost use Rattle.rows.specs.Entries.{shape_at, shape_of};
 ghost use Rattle.spec.specs.NodeFormat.{first_link};

@@ -1,9 +1,8 @@
 -- A file has a section for each node of its tree, so a walk over the tree reads no more nodes than the file has sections.
-use Rattle.std.proofs.Common.{Vec, ◌≡◌, ℕ, zero, suc, ◌+◌, ◌-◌, ◌^◌, ◌<◌, ◌≤◌, Bool, true, false, not, cond, List, [], ◌∷◌, ◌++◌, length, map, Option, Result, Ok, Err, refl, sym, ap, ◌∙◌, arith}
+use Rattle.std.proofs.Common.{Vec, ◌≡◌, ℕ, zero, suc, ◌+◌, ◌-◌, ◌^◌, ◌<◌, ◌≤◌, Bool, true, false, not, cond, List, [], ◌∷◌, length, map, Option, Result, Ok, Err, refl, ap, ◌∙◌, arith}
 use Rattle.std.specs.Prelude.{Contains, IfOk, filter, take, option_map}
 use Rattle.std.specs.declared.option.Option.TheVariants.{Some, None}
 use Rattle.std.specs.declared.cmp.Ordering.{Ordering}
-use Rattle.std.specs.declared.cmp.Ordering.TheVariants.{Equal}
 use Rattle.std.specs.Cmp.Lexicographic.{slice_cmp}
 use Rattle.std.specs.Ordering.{nat_cmp, is_lt}
 use Rattle.std.specs.Str.{bytes_eq}
@@ -13,7 +12,7 @@ use Rattle.spec.specs.Cid.{IsDigest, cid}
 use Rattle.spec.specs.Layer.{layer}
 use Rattle.spec.specs.Tree.{Pair, Node, Part, Last, More, Nothing, Sub, EachNode, EachUnder, top}
 use Rattle.spec.specs.NodeFormat.{shape, shape_bytes, shape_cid}
-use Rattle.spec.specs.Blocks.{ArePairs, is_from, listed, nodes}
+use Rattle.spec.specs.Blocks.{listed, nodes}
 use Rattle.spec.specs.CarReading.{Section, block_with, section_with}
 use Rattle.spec.specs.Exports.{IsTree, given_by}
 use Rattle.spec.proofs.RootLaws.{stands-top}
@@ -23,7 +22,7 @@ use Rattle.edit_laws.specs.Changes.{marked, one_if_equal}
 use Rattle.edit_laws.specs.Order.{order}
 use Rattle.edit_laws.specs.Pairs.{Each}
 use Rattle.edit_laws.specs.Trace.{size, size_under, weight, weight_under}
-use Rattle.edit_laws.specs.Walk.{Ranged, ranged_in, ranged_under, meets, last_key, nodes_meeting}
+use Rattle.edit_laws.specs.Walk.{Ranged, ranged_in, ranged_under, meets, last_key}
 use Rattle.edit_laws.proofs.NodesOnce.{nodes-once}
 use Rattle.edit_laws.proofs.Orders.{order-same}
 use Rattle.edit_laws.proofs.OverSource.{free-source}

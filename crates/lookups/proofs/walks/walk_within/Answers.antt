@@ -1,6 +1,6 @@
 use Rattle.std.proofs.Common.{◌≡◌, [], ◌∷◌, true, length, Some, sym, ap, ◌∙◌, refl, option_map, arith}
 use Rattle.edit_laws.specs.Sources.{shown_by, walk_from}
-use Rattle.lookups.specs.Walks.{pairs_given, frame_of, stacked, asked_walk, is_next, IsPlain}
+use Rattle.lookups.specs.Walks.{pairs_given, frame_of, stacked, asked_walk, is_next}
 use Rattle.lookups.proofs.Walking.{stacked-push, most-bounded, sums-end, walk-zero, asked-walk_zero, walk-ends, asked-ends, walk-goes, asked-goes, asked-fits, next-is, down-same, asked-same, fits-same, empty, given-more}
 use Rattle.lookups.proofs.walks.walk_within.Goals as goal
 
