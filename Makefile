@@ -50,6 +50,7 @@ test: test-tools
 	@tools/crate-tables --compare
 	@tools/fault-table --compare
 	@tools/library-declarations
+	@tools/binding-cases --compare
 	@tools/test-tools --whole
 	@rt ci
 	@tools/test-program
