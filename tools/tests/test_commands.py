@@ -1,6 +1,7 @@
 """The commands: what each says of a faulty word, a missing file and an empty input, and what it does on something small."""
 
 import contextlib
+import glob
 import io
 import json
 import os
@@ -14,7 +15,7 @@ import unittest
 import unittest.mock
 
 from lib.exports import NAMES
-from lib.files import ROOT, bytes_of, text_of, write
+from lib.files import ROOT, bytes_of, read, text_of, write
 from lib.made_exports import KINDS, SLOW
 from lib.manuals import faults_of, files_of, helps_of
 from lib.model import Ended, tree
@@ -269,6 +270,20 @@ class CasesTest(unittest.TestCase):
         cases = command("binding-cases")
         table = json.loads(cases.made())
         self.assertEqual((table["faults"]["KEY_EXISTS"], table["calls"][0]["fault"]), (23, "TRUNCATED"))
+
+
+    SOURCES = {"Rust": "rust/src/*.rs", "Python": "python/tizulgech/*.py", "Node": "node/index.d.ts", "Go": "go/*.go"}
+
+    def test_names(self) -> None:
+        """The table of names has each call of the header once, and names that each binding has."""
+        _, *rows = [line.strip("|").split("|") for line in text_of("bindings/README.md").splitlines() if line.startswith("| ")]
+        columns = [re.findall(r"`([\w.:]+)`", "".join(column)) for column in zip(*rows)]
+        declared = command("library-declarations").exports()
+        self.assertEqual(sorted(f"tizulgech_{it}" for it in columns[0]), sorted(declared))
+        for names, (language, pattern) in zip(columns[1:], self.SOURCES.items()):
+            sources = "".join(map(read, glob.glob(f"{ROOT}/bindings/{pattern}")))
+            for name in names:
+                self.assertRegex(sources, rf"\b{re.split('[.:]+', name)[-1]}\b", language)
 
 
 class PackagesTest(unittest.TestCase):
