@@ -1,6 +1,6 @@
 # The two commands: `make demo` shows the program at work, `make test` is the gate.
 
-.PHONY: demo build install library install-library test test-tools test-library check edits answers plant bench gate-times pictures clean help
+.PHONY: demo build install library install-library dist test test-tools test-library check edits answers plant bench gate-times pictures clean help
 
 PREFIX ?= /usr/local
 
@@ -8,8 +8,9 @@ help:
 	@echo 'make demo              msthost at work on the examples: at once without proofs, and then proved'
 	@echo 'make build             proves msthost with all that it stands on, and builds target/msthost'
 	@echo 'make install PREFIX=.. puts target/msthost, its manual page and what shells complete of it below PREFIX'
-	@echo 'make library           proves the library for programs in other languages, and builds it into target/library'
-	@echo 'make install-library PREFIX=..  puts it, its header and its pkg-config file below PREFIX'
+	@echo 'make library           proves the library for programs in C, Rust, Python, Node and Go, and builds it into target/library'
+	@echo 'make install-library PREFIX=..  puts it, its header, its pkg-config file and the bindings below PREFIX'
+	@echo 'make dist              one archive of program, library and bindings for Linux on x86-64, in target/dist'
 	@echo 'make test              the gate: every proof, must-fail edit, test and program, from nothing, and make test-library'
 	@echo 'make test-tools        the tests of tools/, in some seconds'
 	@echo 'make test-library      proves and builds the library, and tries it from Rust, C, C++, Python, Go and Node'
@@ -35,7 +36,10 @@ library:
 	@tools/library
 
 install-library: library
-	@tools/library --install $(PREFIX)
+	@tools/install-library $(PREFIX)
+
+dist: build library
+	@tools/dist
 
 test: test-tools
 	@tools/version
@@ -46,11 +50,13 @@ test: test-tools
 	@tools/crate-tables --compare
 	@tools/fault-table --compare
 	@tools/library-declarations
+	@tools/binding-cases --compare
 	@tools/test-tools --whole
 	@rt ci
 	@tools/test-program
 	@tools/test-library
 	@tools/test-installed
+	@tools/test-dist
 
 test-tools:
 	@tools/test-tools

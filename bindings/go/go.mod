@@ -1,3 +1,3 @@
-module tizulgech.example/go
+module tizulgech.example/tizulgech
 
 go 1.19

@@ -1,20 +1,27 @@
 """The commands: what each says of a faulty word, a missing file and an empty input, and what it does on something small."""
 
 import contextlib
+import glob
 import io
+import json
 import os
 import random
+import re
 import shutil
 import subprocess
+import tarfile
 import tempfile
 import unittest
+import unittest.mock
 
 from lib.exports import NAMES
-from lib.files import ROOT, bytes_of, text_of, write
+from lib.files import ROOT, bytes_of, read, text_of, write
 from lib.made_exports import KINDS, SLOW
 from lib.manuals import faults_of, files_of, helps_of
 from lib.model import Ended, tree
+from lib.packages import BINDINGS, TIME, archive_of, put, sums_of
 from lib.programs import Outcome
+from lib.shown_parts import NEEDED, README, WANTED, around, parts_of
 from tests.model_program import answer
 from tests.support import command, program, ran
 
@@ -245,3 +252,74 @@ class DeclarationsTest(unittest.TestCase):
         for path, old, new in self.CHANGED:
             self.assertIn(old, files[path])
             self.assertTrue(told({**files, path: files[path].replace(old, new)}), (path, old))
+
+    def test_of_go(self) -> None:
+        declarations = command("library-declarations")
+        wanted, (numbers, _) = declarations.exports(), declarations.answers(declarations.library())
+        files = declarations.go_files()
+        self.assertEqual([*declarations.go_otherwise(wanted, numbers, files)], [])
+        for path, old, new in (("faults.go", 'add(34, "OTHER_ROOT"', 'add(36, "OTHER_ROOT"'), ("faults.go", '"NOT_TREE"', '"NO_TREE"'), ("trees.go", "C.tizulgech_below(", "C.tizulgech_links(")):
+            self.assertIn(old, files[path])
+            self.assertTrue([*declarations.go_otherwise(wanted, numbers, {**files, path: files[path].replace(old, new)})], (path, old))
+
+
+class CasesTest(unittest.TestCase):
+    def test_table(self) -> None:
+        """The table is what the model says, and each fault stands in it."""
+        self.assertEqual(ran("binding-cases", "--compare").returncode, 0)
+        cases = command("binding-cases")
+        table = json.loads(cases.made())
+        self.assertEqual((table["faults"]["KEY_EXISTS"], table["calls"][0]["fault"]), (23, "TRUNCATED"))
+
+
+    SOURCES = {"Rust": "rust/src/*.rs", "Python": "python/tizulgech/*.py", "Node": "node/index.d.ts", "Go": "go/*.go"}
+
+    def test_names(self) -> None:
+        """The table of names has each call of the header once, and names that each binding has."""
+        _, *rows = [line.strip("|").split("|") for line in text_of("bindings/README.md").splitlines() if line.startswith("| ")]
+        columns = [re.findall(r"`([\w.:]+)`", "".join(column)) for column in zip(*rows)]
+        declared = command("library-declarations").exports()
+        self.assertEqual(sorted(f"tizulgech_{it}" for it in columns[0]), sorted(declared))
+        for names, (language, pattern) in zip(columns[1:], self.SOURCES.items()):
+            sources = "".join(map(read, glob.glob(f"{ROOT}/bindings/{pattern}")))
+            for name in names:
+                self.assertRegex(sources, rf"\b{re.split('[.:]+', name)[-1]}\b", language)
+
+
+class PackagesTest(unittest.TestCase):
+    FILES = {"b/two": b"2", "b/a/one": b"1", "bin/run": b"#!/bin/sh\n"}
+
+    def test_archive(self) -> None:
+        """It is sorted, of one time and of nobody, whatever the order in which its files come."""
+        packed = archive_of(self.FILES)
+        self.assertEqual(packed, archive_of(dict(reversed(self.FILES.items()))))
+        with tarfile.open(fileobj=io.BytesIO(packed)) as it:
+            found = [(one.name, one.mode, one.uid, one.gid, one.uname, one.mtime, one.isdir()) for one in it]
+            self.assertEqual(it.extractfile("b/a/one").read(), b"1")  # type: ignore[union-attr]
+        alike = (0, 0, "", TIME)
+        wanted = [("b", 0o755, True), ("b/a", 0o755, True), ("b/a/one", 0o644, False), ("b/two", 0o644, False), ("bin", 0o755, True), ("bin/run", 0o755, False)]
+        self.assertEqual(found, [(name, mode, *alike, is_folder) for name, mode, is_folder in wanted])
+
+    def test_sums(self) -> None:
+        with tempfile.TemporaryDirectory() as room:
+            with contextlib.redirect_stdout(io.StringIO()) as said:
+                put(room, {**self.FILES, "SHA256SUMS": sums_of(self.FILES)})
+            self.assertEqual(said.getvalue().split(), [f"{room}/{it}" for it in (*self.FILES, "SHA256SUMS")])
+            seen = subprocess.run(["sha256sum", "--check", "--quiet", "SHA256SUMS"], cwd=room, capture_output=True, text=True)
+            self.assertEqual((seen.returncode, seen.stdout), (0, ""))
+            self.assertTrue(os.access(f"{room}/bin/run", os.X_OK))
+
+    def test_readme(self) -> None:
+        """The archive's README shows each part that is tried, and has no other files than the archive."""
+        parts = parts_of(text_of(README))
+        self.assertEqual([[*parts], [*NEEDED]], [[*WANTED], [*WANTED]])
+        for name in re.findall(rf"{BINDINGS}/(\w+)", "".join(parts.values())):
+            self.assertTrue(os.path.isdir(f"{ROOT}/bindings/{name}"), name)
+
+    def test_apart(self) -> None:
+        with tempfile.TemporaryDirectory() as room:
+            write(f"{room}/rt", "")
+            with unittest.mock.patch.dict(os.environ, {"TIZULGECH_LIB_DIR": "x", "MAKEFLAGS": "x", "PATH": f"{room}:{ROOT}/tools"}):
+                found = around("/home/of/nobody")
+        self.assertFalse({"TIZULGECH_LIB_DIR", "MAKEFLAGS"} & {*found})
+        self.assertEqual((found["HOME"], found["PATH"]), ("/home/of/nobody", f"{ROOT}/tools"))

@@ -1,6 +1,6 @@
 /** Keys of trees and of repositories, DIDs and revisions. */
 import { native } from './native.js'
-import { BAD_KEY, BatchError, OF_TREES, TreeError } from './faults.js'
+import { BAD_KEY, BatchError } from './faults.js'
 import { wrong } from './given.js'
 
 /** The layer of a key in a tree. */
@@ -24,9 +24,9 @@ export function parseDataKey(key) {
   return { collection, rkey }
 }
 
-/** The bytes of a key of a tree. */
+/** The bytes of a key of a tree; whether a tree may have it is said by the call that is given it. */
 export function keyBytes(key) {
-  // The addon sees that it is a key and UTF-8.
-  if (!isKey(key)) throw new TreeError(BAD_KEY, OF_TREES)
+  // The addon sees that it is bytes or UTF-8.
+  native.is_key(key)
   return Buffer.from(key)
 }

@@ -81,7 +81,7 @@ test('of a repository that a call has, or that has changed', async () => {
 test('of trees and listings', async () => {
   const root = t.Cid.parse(EMPTY)
   await fails(() => t.tree.apply(() => t.EMPTY_NODE, EMPTY, [['a', root], ['a', root]]), t.TreeError, 'BAD')
-  await fails(() => t.tree.apply(() => t.EMPTY_NODE, EMPTY, { '': root }), t.TreeError, 'BAD_KEY')
+  await fails(() => t.tree.apply(() => t.EMPTY_NODE, EMPTY, { '': root }), t.TreeError, 'BAD')
   await fails(() => t.tree.apply(() => null, EMPTY, { a: root }), t.TreeError, 'MISSING', { cid: root })
   await fails(() => t.treeRoot([['b', root], ['a', root]]), t.TreeError, 'NOT_ASCENDING')
   await fails(() => t.verify(root, [], 'a'), t.TreeError, 'MISSING')

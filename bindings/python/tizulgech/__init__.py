@@ -9,13 +9,13 @@
     assert tizulgech.verify(applied.root, proof, write.key) == tizulgech.Cid.of(b"\\xa0")
 
 A repository in memory: Repository, its writes, each a Write that Put, Create, Update or Delete makes, Applied, what a batch leaves, and Changed.
-What a batch is tested by: check_write, record_fault, check_stamp, is_did, is_tid, is_repository_key.
+What a batch is tested by: check_write, check_record, record_fault, check_stamp, is_did, is_tid, is_repository_key.
 
 A tree whose nodes a program keeps elsewhere: tree_apply, tree_get, tree_path, Edit, links, EMPTY_NODE, Missing, BadNode.
 
 Proofs: verify for single keys; verify_change, verify_inversion and ChangeProof for what a batch changed.
 
-The rest: Cid; commit_bytes, what is signed; tree_root and listing_car, from scratch; layer and is_key.
+The rest: Cid and BadCid; commit_bytes, what is signed; tree_root and listing_car, from scratch; layer and is_key.
 
 A key, a DID and a revision are text or bytes; a record, a node and a block are bytes; a `bytearray` or a `memoryview` is bytes too. Anything else
 raises a TypeError, and a number, a write or a CID out of its range a ValueError. What a call refuses raises a Fault, whose number and name are
@@ -31,7 +31,7 @@ from ._declared import VERSION
 from ._library import version
 from .changes import ChangeProof, Told, verify_change, verify_inversion
 from .cids import Cid
-from .faults import FAULTS, FAULTS_OF_CIDS, FAULTS_OF_TREES, Fault
+from .faults import FAULTS, FAULTS_OF_CIDS, FAULTS_OF_TREES, BadCid, Fault
 from .keys import is_key, is_repository_key, layer
 from .listings import listing_car, tree_root
 from .nodes import EMPTY_NODE, BadNode, Missing, Nodes, links
@@ -39,13 +39,13 @@ from .proofs import verify
 from .repositories import Applied, Changed, Repository
 from .stamps import check_stamp, commit_bytes, is_did, is_tid
 from .trees import Edit, tree_apply, tree_get, tree_path
-from .writes import Create, Delete, Put, Update, Write, check_write, record_fault
+from .writes import Create, Delete, Put, Update, Write, check_record, check_write, record_fault
 
 __version__ = "0.3.0"
 
 __all__ = [
-    "Applied", "BadNode", "Bytes", "ChangeProof", "Changed", "Cid", "Create", "Delete", "EMPTY_NODE", "Edit", "FAULTS", "FAULTS_OF_CIDS",
-    "FAULTS_OF_TREES", "Fault", "Missing", "Nodes", "Put", "Repository", "Text", "Told", "Update", "VERSION", "Write", "check_stamp", "check_write",
-    "commit_bytes", "is_did", "is_key", "is_repository_key", "is_tid", "layer", "links", "listing_car", "record_fault", "tree_apply", "tree_get",
+    "Applied", "BadCid", "BadNode", "Bytes", "ChangeProof", "Changed", "Cid", "Create", "Delete", "EMPTY_NODE", "Edit", "FAULTS", "FAULTS_OF_CIDS",
+    "FAULTS_OF_TREES", "Fault", "Missing", "Nodes", "Put", "Repository", "Text", "Told", "Update", "VERSION", "Write", "check_record", "check_stamp",
+    "check_write", "commit_bytes", "is_did", "is_key", "is_repository_key", "is_tid", "layer", "links", "listing_car", "record_fault", "tree_apply", "tree_get",
     "tree_path", "tree_root", "verify", "verify_change", "verify_inversion", "version",
 ]

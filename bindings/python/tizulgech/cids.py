@@ -7,14 +7,14 @@ from typing import List, Optional, Sequence
 
 from . import _library
 from ._arguments import Bytes, Text, bytes_of, joined, text_of
-from .faults import FAULTS_OF_CIDS
+from .faults import BadCid
 
 
 @dataclass(frozen=True, order=True)
 class Cid:
     """A CID as the AT Protocol has it for blocks: CIDv1, DAG-CBOR, SHA-256.
 
-    `bytes` are its 36 bytes, by which it is compared and ordered; `str` gives its text of 59 letters. Other bytes raise a ValueError.
+    `bytes` are its 36 bytes, by which it is compared and ordered; `str` gives its text of 59 letters. Other bytes raise a `BadCid`.
     """
 
     bytes: bytes
@@ -22,7 +22,7 @@ class Cid:
     def __post_init__(self) -> None:
         own = bytes_of(self.bytes)
         if len(own) != 36 or own[:4] != b"\x01\x71\x12\x20":
-            raise ValueError("these bytes are no CIDv1 of DAG-CBOR with SHA-256")
+            raise BadCid(5, "these bytes are")
         object.__setattr__(self, "bytes", own)
 
     @staticmethod
@@ -41,11 +41,11 @@ class Cid:
 
     @staticmethod
     def parse(text: Text) -> Cid:
-        """The one with this text; a ValueError says why there is none."""
+        """The one with this text; a `BadCid` says why there is none."""
         out = _library.room()
         number = _library.call("cid_from_text", text=text_of(text), out=out)
         if number:
-            raise ValueError(f"{text!r} is no CID: {FAULTS_OF_CIDS[number][1]}")
+            raise BadCid(number, f"{text!r} is")
         return Cid(out.raw)
 
     def __str__(self) -> str:

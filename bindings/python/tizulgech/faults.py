@@ -81,6 +81,13 @@ class Fault(Exception):
         return _again, (type(self), str(self)), dict(vars(self))
 
 
+class BadCid(Fault, ValueError):
+    """A text, or bytes, are no CID: CID_LENGTH, CID_PREFIX, CID_LETTER, CID_BITS or CID_PROFILE. It is a ValueError too."""
+
+    def __init__(self, number: int, what: str) -> None:
+        super().__init__(number, names=FAULTS_OF_CIDS, sentence=f"{what} no CID: {FAULTS_OF_CIDS[number][1]}")
+
+
 def _again(kind: Type[Fault], sentence: str) -> Fault:
     """A fault with this sentence, which has nothing else yet."""
     return kind.__new__(kind, sentence)

@@ -61,6 +61,13 @@ def record_fault(block: Bytes) -> int:
     return _library.call("record_fault", bytes=bytes_of(block))
 
 
+def check_record(block: Bytes) -> None:
+    """Raises the first fault of bytes that are to be one value in DAG-CBOR: TRUNCATED to TRAILING."""
+    number = record_fault(block)
+    if number:
+        raise Fault(number)
+
+
 def write_of(write: object) -> Tuple[int, bytes, bytes]:
     """A write as the library takes it."""
     if isinstance(write, Write):

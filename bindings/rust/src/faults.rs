@@ -2,8 +2,56 @@
 use crate::values::Cid;
 use std::{error::Error, fmt};
 
+/// The header's names of numbers, without `TIZULGECH_`.
+type Names = &'static [(u8, &'static str)];
+
+const OF_ALL: Names = &[
+    (1, "TRUNCATED"),
+    (2, "LONG_HEAD"),
+    (3, "INDEFINITE"),
+    (4, "BAD_TAG"),
+    (5, "BAD_LINK"),
+    (6, "KEY_NOT_TEXT"),
+    (7, "KEY_ORDER"),
+    (8, "BAD_UTF8"),
+    (9, "FLOAT"),
+    (10, "SIMPLE"),
+    (11, "INTEGER_RANGE"),
+    (12, "TOO_DEEP"),
+    (13, "TRAILING"),
+    (20, "BAD_KEY"),
+    (21, "NOT_A_MAP"),
+    (22, "RECORD_SIZE"),
+    (23, "KEY_EXISTS"),
+    (24, "NONE"),
+    (25, "WRITES_FULL"),
+    (26, "EMPTY_BATCH"),
+    (27, "BAD_DID"),
+    (28, "BAD_REV"),
+    (29, "REV_ORDER"),
+    (30, "BAD_NODE"),
+    (31, "TOO_MANY_NODES"),
+    (32, "NOT_BUILT"),
+    (33, "OTHER_VALUE"),
+    (34, "OTHER_ROOT"),
+    (35, "NOT_TREE"),
+    (252, "BAD"),
+    (253, "CLASH"),
+    (254, "FULL"),
+    (255, "NO_MEMORY"),
+];
+/// Those that say something else of the text of a CID, and of a tree.
+const OF_CIDS: Names = &[(1, "CID_LENGTH"), (2, "CID_PREFIX"), (3, "CID_LETTER"), (4, "CID_BITS"), (5, "CID_PROFILE")];
+const OF_TREES: Names = &[(2, "MISSING"), (3, "NOT_ASCENDING")];
+
+/// The name of a number in a list, or else among those of all calls.
+fn name_in(names: Names, number: u8) -> &'static str {
+    let found = names.iter().chain(OF_ALL).find(|(own, _)| *own == number);
+    found.map_or("", |(_, name)| name)
+}
+
 macro_rules! faults {
-    ($(#[$doc:meta])* $name:ident { $($variant:ident = $number:literal $text:literal,)* }) => {
+    ($(#[$doc:meta])* $name:ident { $($variant:ident = $number:literal $text:literal,)* } named by $names:ident) => {
         $(#[$doc])*
         #[derive(Clone, Copy, Debug, PartialEq, Eq, Hash)]
         #[non_exhaustive]
@@ -11,6 +59,16 @@ macro_rules! faults {
         impl $name {
             pub(crate) fn of(number: u8) -> $name {
                 match number { $($number => $name::$variant,)* number => unreachable!("number {number}") }
+            }
+
+            /// The number that the C header has for it.
+            pub fn number(&self) -> u8 {
+                match self { $($name::$variant => $number,)* }
+            }
+
+            /// The name that the C header has for it, without `TIZULGECH_`.
+            pub fn name(&self) -> &'static str {
+                name_in($names, self.number())
             }
         }
         impl fmt::Display for $name {
@@ -39,7 +97,7 @@ faults! {
         TooDeep = 12 "values that are nested too deep",
         Trailing = 13 "bytes after the value",
         NoMemory = 255 "out of memory",
-    }
+    } named by OF_ALL
 }
 faults! {
     /// Why text is no CID of this profile.
@@ -49,7 +107,7 @@ faults! {
         BadLetter = 3 "a letter that base32 doesn't have",
         BadBits = 4 "bits behind the last byte",
         NotThisProfile = 5 "not a CIDv1 of DAG-CBOR with SHA-256",
-    }
+    } named by OF_CIDS
 }
 faults! {
     /// Why a stamp isn't taken.
@@ -57,7 +115,7 @@ faults! {
         BadDid = 27 "the DID is not one",
         BadRev = 28 "the revision is not a timestamp identifier",
         RevOrder = 29 "the revision is not after the last one",
-    }
+    } named by OF_ALL
 }
 faults! {
     /// Why there is no root or no file of a listing.
@@ -68,7 +126,7 @@ faults! {
         Clash = 253 "two blocks clash",
         StoreFull = 254 "the store is full",
         NoMemory = 255 "out of memory",
-    }
+    } named by OF_TREES
 }
 faults! {
     /// Why blocks prove nothing of a key.
@@ -78,14 +136,14 @@ faults! {
         BadNode = 30 "a block of the path is no node",
         TooDeep = 31 "the path is longer than any tree is deep",
         NoMemory = 255 "out of memory",
-    }
+    } named by OF_TREES
 }
 faults! {
     /// Why nothing stands below some bytes.
     NodeFault {
         BadNode = 30 "a block is no node",
         NoMemory = 255 "out of memory",
-    }
+    } named by OF_TREES
 }
 /// Why blocks don't show some changes.
 ///
@@ -124,6 +182,25 @@ impl ChangeFault {
             252 => BadKeys,
             _ => NoMemory,
         }
+    }
+
+    /// The number that the C header has for it.
+    pub fn number(&self) -> u8 {
+        match self {
+            ChangeFault::Missing(_) => 2,
+            ChangeFault::BadNode(_) => 30,
+            ChangeFault::TooDeep => 31,
+            ChangeFault::OtherValue(_) => 33,
+            ChangeFault::OtherRoot => 34,
+            ChangeFault::NotTree => 35,
+            ChangeFault::BadKeys => 252,
+            ChangeFault::NoMemory => 255,
+        }
+    }
+
+    /// The name that the C header has for it, without `TIZULGECH_`.
+    pub fn name(&self) -> &'static str {
+        name_in(OF_TREES, self.number())
     }
 }
 
@@ -164,6 +241,20 @@ impl ProvingFault {
             252 => BadKeys,
             _ => NoMemory,
         }
+    }
+
+    /// The number that the C header has for it.
+    pub fn number(&self) -> u8 {
+        match self {
+            ProvingFault::OtherValue(_) => 33,
+            ProvingFault::BadKeys => 252,
+            ProvingFault::NoMemory => 255,
+        }
+    }
+
+    /// The name that the C header has for it, without `TIZULGECH_`.
+    pub fn name(&self) -> &'static str {
+        name_in(OF_TREES, self.number())
     }
 }
 
@@ -213,6 +304,25 @@ impl<E> EditError<E> {
             _ => NoMemory,
         }
     }
+
+    /// The number that the C header has for it; none for the fault of whoever gives the nodes.
+    pub fn number(&self) -> Option<u8> {
+        Some(match self {
+            EditError::Missing(_) => 2,
+            EditError::BadNode(_) => 30,
+            EditError::TooDeep => 31,
+            EditError::NotTree => 35,
+            EditError::BadKeys => 252,
+            EditError::Clash => 253,
+            EditError::NoMemory => 255,
+            EditError::Source(_) => return None,
+        })
+    }
+
+    /// The name that the C header has for it, without `TIZULGECH_`; none for the fault of whoever gives the nodes.
+    pub fn name(&self) -> Option<&'static str> {
+        self.number().map(|number| name_in(OF_TREES, number))
+    }
 }
 
 impl<E: fmt::Display> fmt::Display for EditError<E> {
@@ -258,6 +368,21 @@ pub enum OpenError {
     Limit,
     /// Memory was refused.
     NoMemory,
+}
+
+impl OpenError {
+    /// The number that the C header has for it.
+    pub fn number(&self) -> u8 {
+        match self {
+            OpenError::Limit => 252,
+            OpenError::NoMemory => 255,
+        }
+    }
+
+    /// The name that the C header has for it, without `TIZULGECH_`.
+    pub fn name(&self) -> &'static str {
+        name_in(OF_ALL, self.number())
+    }
 }
 
 impl fmt::Display for OpenError {
@@ -332,6 +457,31 @@ impl BatchFault {
             255 => NoMemory,
             number => BadRecord(RecordFault::of(number)),
         }
+    }
+
+    /// The number that the C header has for it.
+    pub fn number(&self) -> u8 {
+        match self {
+            BatchFault::BadRecord(fault) => fault.number(),
+            BatchFault::BadKey => 20,
+            BatchFault::NotAMap => 21,
+            BatchFault::RecordSize => 22,
+            BatchFault::KeyExists => 23,
+            BatchFault::NoSuchKey => 24,
+            BatchFault::WritesFull => 25,
+            BatchFault::EmptyBatch => 26,
+            BatchFault::BadDid => 27,
+            BatchFault::BadRev => 28,
+            BatchFault::RevOrder => 29,
+            BatchFault::Clash => 253,
+            BatchFault::StoreFull => 254,
+            BatchFault::NoMemory => 255,
+        }
+    }
+
+    /// The name that the C header has for it, without `TIZULGECH_`.
+    pub fn name(&self) -> &'static str {
+        name_in(OF_ALL, self.number())
     }
 }
 

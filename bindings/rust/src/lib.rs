@@ -21,10 +21,20 @@
 //! # Ok::<(), Box<dyn std::error::Error>>(())
 //! ```
 //!
+//! What a call refuses is an enum, whose `number` and `name` are those of the C header:
+//!
+//! ```
+//! use tizulgech::{CidFault, RecordFault, check_record};
+//!
+//! let fault = check_record(b"").unwrap_err();
+//! assert_eq!((fault, fault.number(), fault.name()), (RecordFault::Truncated, 1, "TRUNCATED"));
+//! assert_eq!((CidFault::BadLength.number(), CidFault::BadLength.name()), (1, "CID_LENGTH"));
+//! ```
+//!
 //! # What is proved, and what is trusted
 //!
 //! What is proved ends at the calls of the C interface: each has a contract, which is proved of its code together with its
-//! safety and its end. Of this crate nothing is proved: 1,700 lines of code, which tests try call by call.
+//! safety and its end. Of this crate nothing is proved: 1,800 lines of code, which tests try call by call.
 //! Trusted are:
 //!
 //! - that the declarations in `sys` are those of the library, and pass on what they are given in its order (a script of the

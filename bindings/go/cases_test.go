@@ -1,0 +1,463 @@
+package tizulgech
+
+import (
+	"bytes"
+	"encoding/hex"
+	"encoding/json"
+	"errors"
+	"io"
+	"os"
+	"reflect"
+	"regexp"
+	"sort"
+	"strconv"
+	"strings"
+	"testing"
+)
+
+// The table of calls and answers that the tests of all bindings read.
+type table struct {
+	Faults       map[string]int
+	Calls        []item
+	Repositories []struct {
+		Name  string
+		Limit int
+		Fault string
+		Steps []item
+	}
+}
+
+// A case: a call, what it is given, and its answer or its fault.
+type item struct {
+	Call, Fault   string
+	Place         *int
+	Cid           *string
+	Answer        any
+	Bytes, Block  string
+	Blocks, Proof []string
+	Write         []string
+	Writes        [][]string
+	There         bool
+	Key, Text     string
+	Did, Rev      string
+	Before, After string
+	Root, Start   string
+	Node          string
+	Most          int
+	Pairs         [][2]string
+	Records       [][2]string
+	// A list of texts, or an object from CIDs to them; a list of three, or an object from keys to CIDs.
+	Nodes, Changes json.RawMessage
+}
+
+func tableOf(t *testing.T) (found table) {
+	t.Helper()
+	text, err := os.ReadFile("../cases.json")
+	if err != nil {
+		t.Fatal(err)
+	}
+	if err := json.Unmarshal(text, &found); err != nil {
+		t.Fatal(err)
+	}
+	return found
+}
+
+var times = regexp.MustCompile(`^(.+)\*(\d+)$`)
+
+// Text of the table, in which x*n stands for n times x.
+func whole(text string) string {
+	found := times.FindStringSubmatch(text)
+	if found == nil {
+		return text
+	}
+	count, err := strconv.Atoi(found[2])
+	must(err)
+	return strings.Repeat(found[1], count)
+}
+
+func must(err error) {
+	if err != nil {
+		panic(err)
+	}
+}
+
+func data(text string) []byte {
+	found, err := hex.DecodeString(whole(text))
+	must(err)
+	return found
+}
+
+func allData(texts []string) [][]byte {
+	found := make([][]byte, len(texts))
+	for place, text := range texts {
+		found[place] = data(text)
+	}
+	return found
+}
+
+func cidIn(text string) Cid {
+	cid, err := ParseCid(text)
+	must(err)
+	return cid
+}
+
+func valueIn(text *string) Cid {
+	if text == nil {
+		return Cid{}
+	}
+	return cidIn(*text)
+}
+
+func writeIn(words []string) Write {
+	switch words[0] {
+	case "put":
+		return Put(words[1], data(words[2]))
+	case "create":
+		return Create(words[1], data(words[2]))
+	case "update":
+		return Update(words[1], data(words[2]))
+	}
+	return Delete(words[1])
+}
+
+func (it item) stamp() Stamp {
+	return Stamp{Did: it.Did, Rev: it.Rev}
+}
+
+// The nodes of a proof.
+func (it item) given() [][]byte {
+	var found []string
+	must(json.Unmarshal(it.Nodes, &found))
+	return allData(found)
+}
+
+// The nodes of a host.
+func (it item) host() Nodes {
+	var found map[string]string
+	must(json.Unmarshal(it.Nodes, &found))
+	return func(cid Cid) ([]byte, error) {
+		if node, ok := found[cid.String()]; ok {
+			return data(node), nil
+		}
+		return nil, nil
+	}
+}
+
+func (it item) told() []KeyChange {
+	var found [][3]*string
+	must(json.Unmarshal(it.Changes, &found))
+	changes := make([]KeyChange, len(found))
+	for place, it := range found {
+		changes[place] = KeyChange{*it[0], valueIn(it[1]), valueIn(it[2])}
+	}
+	return changes
+}
+
+func (it item) wanted() map[string]Cid {
+	var found map[string]*string
+	must(json.Unmarshal(it.Changes, &found))
+	changes := map[string]Cid{}
+	for key, value := range found {
+		changes[key] = valueIn(value)
+	}
+	return changes
+}
+
+// What is answered, as JSON has it.
+
+type object = map[string]any
+
+func valueOf(cid Cid) any {
+	if cid.IsNone() {
+		return nil
+	}
+	return cid.String()
+}
+
+func hexesOf(blocks [][]byte) []any {
+	found := []any{}
+	for _, block := range blocks {
+		found = append(found, hex.EncodeToString(block))
+	}
+	return found
+}
+
+func pairsOf(pairs []Pair) []any {
+	found := []any{}
+	for _, pair := range pairs {
+		found = append(found, []any{pair.Key, pair.Cid.String()})
+	}
+	return found
+}
+
+func editWith(edit *Edit) any {
+	add, drop, previous := []any{}, []any{}, []any{}
+	sort.Slice(edit.Add, func(one, other int) bool { return edit.Add[one].Cid.String() < edit.Add[other].Cid.String() })
+	for _, node := range edit.Add {
+		add = append(add, []any{node.Cid.String(), hex.EncodeToString(node.Bytes)})
+	}
+	sort.Slice(edit.Drop, func(one, other int) bool { return edit.Drop[one].String() < edit.Drop[other].String() })
+	for _, cid := range edit.Drop {
+		drop = append(drop, cid.String())
+	}
+	for _, change := range ordered(edit.Previous) {
+		previous = append(previous, []any{change.key, valueOf(change.value)})
+	}
+	return object{"root": edit.Root.String(), "add": add, "drop": drop, "previous": previous}
+}
+
+// Each call of the table, by the header's name of it.
+var calls = map[string]func(it item) (any, error){
+	"record_fault":      func(it item) (any, error) { return nil, CheckRecord(data(it.Bytes)) },
+	"write_fault":       func(it item) (any, error) { return nil, CheckWrite(writeIn(it.Write), it.There) },
+	"layer":             func(it item) (any, error) { return float64(Layer(it.Key)), nil },
+	"is_key":            func(it item) (any, error) { return IsKey(whole(it.Key)), nil },
+	"is_repository_key": func(it item) (any, error) { return IsRepositoryKey(it.Key), nil },
+	"is_did":            func(it item) (any, error) { return IsDid(it.Did), nil },
+	"is_tid":            func(it item) (any, error) { return IsTid(it.Rev), nil },
+	"cid":               func(it item) (any, error) { return CidOf(data(it.Block)).String(), nil },
+	"cids": func(it item) (any, error) {
+		cids, err := CidsOf(allData(it.Blocks))
+		found := []any{}
+		for _, cid := range cids {
+			found = append(found, cid.String())
+		}
+		return found, err
+	},
+	"cid_text": func(it item) (any, error) {
+		cid, err := CidFrom(data(it.Bytes))
+		return cid.String(), err
+	},
+	"cid_from_text": func(it item) (any, error) {
+		cid, err := ParseCid(it.Text)
+		return hex.EncodeToString(cid[:]), err
+	},
+	"stamp_fault": func(it item) (any, error) { return nil, CheckStamp(it.Before, it.stamp()) },
+	"commit_bytes": func(it item) (any, error) {
+		found, err := CommitBytes(it.stamp(), cidIn(it.Root))
+		return hex.EncodeToString(found), err
+	},
+	"tree_root": func(it item) (any, error) {
+		var pairs []Pair
+		for _, pair := range it.Pairs {
+			pairs = append(pairs, Pair{pair[0], cidIn(pair[1])})
+		}
+		root, nodes, err := TreeRoot(pairs)
+		return []any{root.String(), float64(nodes)}, err
+	},
+	"listing_car": func(it item) (any, error) {
+		var records []Record
+		for _, record := range it.Records {
+			records = append(records, Record{record[0], data(record[1])})
+		}
+		found, err := ListingCar(it.stamp(), records)
+		return hex.EncodeToString(found), err
+	},
+	"links": func(it item) (any, error) {
+		links, err := Links(data(it.Node))
+		found := []any{}
+		for _, link := range links {
+			found = append(found, []any{link.IsNode, link.Cid.String()})
+		}
+		return found, err
+	},
+	"verify": func(it item) (any, error) {
+		value, err := Verify(cidIn(it.Root), allData(it.Proof), it.Key)
+		return valueOf(value), err
+	},
+	"verify_change": func(it item) (any, error) {
+		return nil, VerifyChange(cidIn(it.Before), cidIn(it.After), it.given(), it.told())
+	},
+	"verify_inversion": func(it item) (any, error) {
+		return nil, VerifyInversion(cidIn(it.Before), cidIn(it.After), it.given(), it.told())
+	},
+	"tree_get": func(it item) (any, error) {
+		value, err := TreeGet(it.host(), cidIn(it.Root), it.Key)
+		return valueOf(value), err
+	},
+	"tree_path": func(it item) (any, error) {
+		path, value, err := TreePath(it.host(), cidIn(it.Root), it.Key)
+		return object{"path": hexesOf(path), "value": valueOf(value)}, err
+	},
+	"tree_apply": func(it item) (any, error) {
+		edit, err := TreeApply(it.host(), cidIn(it.Root), it.wanted())
+		if err != nil {
+			return nil, err
+		}
+		return editWith(edit), nil
+	},
+}
+
+// Each step of a repository.
+var steps = map[string]func(r *Repository, it item) (any, error){
+	"apply": func(r *Repository, it item) (any, error) {
+		var writes []Write
+		for _, words := range it.Writes {
+			writes = append(writes, writeIn(words))
+		}
+		applied, err := r.Apply(it.stamp(), writes)
+		if err != nil {
+			return nil, err
+		}
+		return object{"root": applied.Root.String(), "previous": applied.Previous.String(), "commit": applied.Commit.String()}, nil
+	},
+	"close": func(r *Repository, it item) (any, error) { return nil, r.Close() },
+	"root": func(r *Repository, it item) (any, error) {
+		root, err := r.Root()
+		return valueOf(root), err
+	},
+	"commit": func(r *Repository, it item) (any, error) {
+		commit, err := r.Commit()
+		return valueOf(commit), err
+	},
+	"number": func(r *Repository, it item) (any, error) {
+		number, err := r.Number()
+		return float64(number), err
+	},
+	"get": func(r *Repository, it item) (any, error) {
+		found, err := r.Get(it.Key)
+		if found == nil {
+			return nil, err
+		}
+		return hex.EncodeToString(found), err
+	},
+	"list": func(r *Repository, it item) (any, error) {
+		pairs, err := r.List(it.Start, it.Most)
+		return pairsOf(pairs), err
+	},
+	"pairs": func(r *Repository, it item) (any, error) {
+		var pairs []Pair
+		err := r.Pairs(it.Start, func(pair Pair) error {
+			pairs = append(pairs, pair)
+			return nil
+		})
+		return pairsOf(pairs), err
+	},
+	"car": func(r *Repository, it item) (any, error) {
+		found, err := r.Car()
+		if err != nil {
+			return nil, err
+		}
+		return hex.EncodeToString(found), isRead(r, found)
+	},
+	"car_length": func(r *Repository, it item) (any, error) {
+		length, err := r.CarLength()
+		return float64(length), err
+	},
+	"prove": func(r *Repository, it item) (any, error) {
+		nodes, err := r.Prove(it.Key)
+		return hexesOf(nodes), err
+	},
+	"prove_change": func(r *Repository, it item) (any, error) {
+		proof, err := r.ProveChange(it.wanted())
+		if err != nil {
+			return nil, err
+		}
+		changes := []any{}
+		for _, change := range proof.Changes {
+			changes = append(changes, []any{change.Key, valueOf(change.Before), valueOf(change.After)})
+		}
+		return object{"after": proof.After.String(), "changes": changes, "nodes": hexesOf(proof.Nodes)}, nil
+	},
+	"prove_inversion": func(r *Repository, it item) (any, error) {
+		nodes, err := r.ProveInversion(it.told())
+		return hexesOf(nodes), err
+	},
+}
+
+// That a repository's file is this one, in whichever way it is read.
+func isRead(r *Repository, file []byte) error {
+	var written bytes.Buffer
+	count, err := r.WriteCar(&written)
+	must(err)
+	read, err := io.ReadAll(r.CarReader())
+	must(err)
+	var parts []byte
+	for {
+		var part [100]byte
+		count, err := r.CarPart(uint64(len(parts)), part[:])
+		must(err)
+		if count == 0 {
+			break
+		}
+		parts = append(parts, part[:count]...)
+	}
+	if count != int64(len(file)) || !bytes.Equal(written.Bytes(), file) || !bytes.Equal(read, file) || !bytes.Equal(parts, file) {
+		return errors.New("the file is another one in parts")
+	}
+	return nil
+}
+
+// That a call answers what the case says, or is refused as it says.
+func see(t *testing.T, of table, it item, answer any, err error) {
+	t.Helper()
+	var fault *Fault
+	switch {
+	case err == nil && it.Fault == "":
+		if !reflect.DeepEqual(answer, it.Answer) {
+			t.Errorf("%s: %v and not %v", it.Call, answer, it.Answer)
+		}
+	case !errors.As(err, &fault) || fault.Name != it.Fault || fault.Number != of.Faults[fault.Name]:
+		t.Errorf("%s: %v and not %s", it.Call, err, it.Fault)
+	case it.Place != nil && fault.Place != *it.Place:
+		t.Errorf("%s: %s at place %d and not %d", it.Call, fault.Name, fault.Place, *it.Place)
+	case it.Cid != nil && fault.Cid.String() != *it.Cid:
+		t.Errorf("%s: %s of %s and not %s", it.Call, fault.Name, fault.Cid, *it.Cid)
+	}
+}
+
+func TestCalls(t *testing.T) {
+	of, seen := tableOf(t), map[string]bool{}
+	for _, it := range of.Calls {
+		call := calls[it.Call]
+		if call == nil {
+			t.Fatalf("no call %s", it.Call)
+		}
+		seen[it.Call] = true
+		answer, err := call(it)
+		see(t, of, it, answer, err)
+	}
+	if len(seen) != len(calls) {
+		t.Errorf("%d of %d calls were seen", len(seen), len(calls))
+	}
+}
+
+func TestRepositories(t *testing.T) {
+	of, seen := tableOf(t), map[string]bool{}
+	for _, hosted := range of.Repositories {
+		repository, err := Open(hosted.Limit)
+		if hosted.Fault != "" {
+			see(t, of, item{Call: hosted.Name, Fault: hosted.Fault}, nil, err)
+			continue
+		}
+		must(err)
+		for _, it := range hosted.Steps {
+			step := steps[it.Call]
+			if step == nil {
+				t.Fatalf("no step %s", it.Call)
+			}
+			seen[it.Call] = true
+			answer, err := step(repository, it)
+			see(t, of, it, answer, err)
+		}
+		must(repository.Close())
+	}
+	if len(seen) != len(steps) {
+		t.Errorf("%d of %d steps were seen", len(seen), len(steps))
+	}
+}
+
+func TestFaults(t *testing.T) {
+	of, named := tableOf(t), map[string]int{}
+	for _, faults := range []faults{ofAll, ofCids, ofTrees} {
+		for number, fault := range faults {
+			if int(number) != fault.Number {
+				t.Errorf("%s stands under %d", fault.Name, number)
+			}
+			named[fault.Name] = fault.Number
+		}
+	}
+	if !reflect.DeepEqual(named, of.Faults) {
+		t.Errorf("%v and not %v", named, of.Faults)
+	}
+}

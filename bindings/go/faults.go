@@ -1,0 +1,133 @@
+package tizulgech
+
+import "fmt"
+
+// A Fault says why a call was refused; nothing is changed by such a call.
+//
+// errors.Is tells by its name which fault it is, as errors.Is(err, tizulgech.ErrKeyExists), and errors.As gives the rest of it.
+type Fault struct {
+	// Number and Name are those of the C header.
+	Number int
+	Name   string
+	// Place is that of the write in its batch, or of the change, from 0 on; 0 where there is none.
+	Place int
+	// Cid is that of the node which is missing or is none; the zero Cid where no node is meant.
+	Cid Cid
+
+	sentence string
+}
+
+// Error is a sentence.
+func (f *Fault) Error() string {
+	switch {
+	case f.Cid != (Cid{}):
+		return fmt.Sprintf("%s: %s", f.sentence, f.Cid)
+	case f.Place > 0:
+		return fmt.Sprintf("at place %d: %s", f.Place, f.sentence)
+	}
+	return f.sentence
+}
+
+// Is says whether both have one name.
+func (f *Fault) Is(target error) bool {
+	other, ok := target.(*Fault)
+	return ok && f.Name == other.Name
+}
+
+// The faults of a kind of call, by their numbers.
+type faults map[uint8]*Fault
+
+func (of faults) add(number uint8, name, sentence string) *Fault {
+	of[number] = &Fault{Number: int(number), Name: name, sentence: sentence}
+	return of[number]
+}
+
+// What a call answered, as an error: nil for 0.
+func (of faults) fault(number uint8) error {
+	if number == 0 {
+		return nil
+	}
+	return of.with(number, 0, Cid{})
+}
+
+// The same with a place and a CID.
+func (of faults) with(number uint8, place int, cid Cid) error {
+	found, ok := of[number]
+	if !ok {
+		found, ok = ofAll[number]
+	}
+	if !ok {
+		found = &Fault{Number: int(number), sentence: fmt.Sprintf("number %d", number)}
+	}
+	told := *found
+	told.Place, told.Cid = place, cid
+	return &told
+}
+
+// Some numbers say something else of the text of a CID, and of a tree.
+var ofAll, ofCids, ofTrees = faults{}, faults{}, faults{}
+
+// Of a record, which is DAG-CBOR: the first fault.
+var (
+	ErrTruncated    = ofAll.add(1, "TRUNCATED", "the bytes end within a value")
+	ErrLongHead     = ofAll.add(2, "LONG_HEAD", "a head is longer than it needs to be")
+	ErrIndefinite   = ofAll.add(3, "INDEFINITE", "an indefinite length")
+	ErrBadTag       = ofAll.add(4, "BAD_TAG", "a tag that isn't 42")
+	ErrBadLink      = ofAll.add(5, "BAD_LINK", "a link that is no CID")
+	ErrKeyNotText   = ofAll.add(6, "KEY_NOT_TEXT", "a key of a map that isn't text")
+	ErrKeyOrder     = ofAll.add(7, "KEY_ORDER", "keys of a map that are out of order or stand twice")
+	ErrBadUTF8      = ofAll.add(8, "BAD_UTF8", "text that isn't UTF-8")
+	ErrFloat        = ofAll.add(9, "FLOAT", "a floating-point number")
+	ErrSimple       = ofAll.add(10, "SIMPLE", "a simple value")
+	ErrIntegerRange = ofAll.add(11, "INTEGER_RANGE", "an integer outside of 64 bits with sign")
+	ErrTooDeep      = ofAll.add(12, "TOO_DEEP", "values that are nested too deep")
+	ErrTrailing     = ofAll.add(13, "TRAILING", "bytes after the value")
+)
+
+// Of a batch, and of a repository.
+var (
+	ErrBadKey     = ofAll.add(20, "BAD_KEY", "the key is not that of a record")
+	ErrNotAMap    = ofAll.add(21, "NOT_A_MAP", "the record is not a map")
+	ErrRecordSize = ofAll.add(22, "RECORD_SIZE", "the record is too long")
+	ErrKeyExists  = ofAll.add(23, "KEY_EXISTS", "the key is there already")
+	ErrNone       = ofAll.add(24, "NONE", "there is no such key")
+	ErrWritesFull = ofAll.add(25, "WRITES_FULL", "the repository takes no more writes")
+	ErrEmptyBatch = ofAll.add(26, "EMPTY_BATCH", "the batch is empty")
+	ErrBadDid     = ofAll.add(27, "BAD_DID", "the DID is not one")
+	ErrBadRev     = ofAll.add(28, "BAD_REV", "the revision is not a timestamp identifier")
+	ErrRevOrder   = ofAll.add(29, "REV_ORDER", "the revision is not after the last one")
+	ErrOpen       = ofAll.add(249, "OPEN", "the repository is open already")
+	ErrClosed     = ofAll.add(250, "CLOSED", "the repository is closed")
+)
+
+// Of nodes, listings and changes.
+var (
+	ErrBadNode      = ofAll.add(30, "BAD_NODE", "a block is no node, or not the one of its CID")
+	ErrTooManyNodes = ofAll.add(31, "TOO_MANY_NODES", "the path is longer than any tree is deep")
+	ErrNotBuilt     = ofAll.add(32, "NOT_BUILT", "a repository doesn't take these records")
+	ErrOtherValue   = ofAll.add(33, "OTHER_VALUE", "a key has another value")
+	ErrOtherRoot    = ofAll.add(34, "OTHER_ROOT", "the changes lead to another root")
+	ErrNotTree      = ofAll.add(35, "NOT_TREE", "the nodes aren't a tree's")
+	ErrBelow        = ofTrees.add(1, "BELOW", "the key is below another node")
+	ErrMissing      = ofTrees.add(2, "MISSING", "a node that is needed isn't there")
+	ErrNotAscending = ofTrees.add(3, "NOT_ASCENDING", "the keys don't ascend")
+	errTreeKey      = ofTrees.add(20, "BAD_KEY", "a key has no bytes or more than 1,024")
+)
+
+// Of the text of a CID, or of its bytes.
+var (
+	ErrCidLength  = ofCids.add(1, "CID_LENGTH", "the text doesn't have 59 letters")
+	ErrCidPrefix  = ofCids.add(2, "CID_PREFIX", "the text doesn't begin with b")
+	ErrCidLetter  = ofCids.add(3, "CID_LETTER", "a letter that base32 doesn't have")
+	ErrCidBits    = ofCids.add(4, "CID_BITS", "bits behind the last byte")
+	ErrCidProfile = ofCids.add(5, "CID_PROFILE", "not a CIDv1 of DAG-CBOR with SHA-256")
+)
+
+// Of any call.
+var (
+	ErrSmall    = ofAll.add(251, "SMALL", "the room is too small")
+	ErrBad      = ofAll.add(252, "BAD", "an argument that is none")
+	ErrClash    = ofAll.add(253, "CLASH", "two blocks clash")
+	ErrFull     = ofAll.add(254, "FULL", "the store is full")
+	ErrNoMemory = ofAll.add(255, "NO_MEMORY", "out of memory")
+)
