@@ -21,6 +21,15 @@ use Rattle.run_command.specs.declared.settings.Settings.{Settings}
 use Rattle.run_command.specs.declared.fault.RunFault.{RunFault}
 use Rattle.run_command.specs.declared.fault.RunFault.TheVariants as errors
 
+-- a fault of the host is none of a line, nor of the DID
+no_line : (f : RunFault) → IsOfHost f → run_fault_of f ≡ None
+no_line f (inl e) = ap run_fault_of e
+no_line f (inr e) = ap run_fault_of e
+
+no_word : (f : RunFault) → IsOfHost f → f ≡ errors.BadDid → ⊥
+no_word f (inl e) b = let g : errors.NoMemory ≡ errors.BadDid = sym e ∙ b in absurd cc
+no_word f (inr e) b = let g : errors.Uneven ≡ errors.BadDid = sym e ∙ b in absurd cc
+
 module _ (D : Type 0) (digest : List ℕ → List ℕ) (s : Settings) (did : List ℕ) where
   -- ---- a report that was made, and what was written of it
 
@@ -32,14 +41,6 @@ module _ (D : Type 0) (digest : List ℕ → List ℕ) (s : Settings) (did : Lis
       report = for_known _ _ input (λ xs e. (lines, e, subst (λ ls. IsReport D digest s ls text.items) same h)) script;
     }
     reported (Err f) h = tt
-
-    no_line : (f : RunFault) → IsOfHost f → run_fault_of f ≡ None
-    no_line f (inl e) = ap run_fault_of e
-    no_line f (inr e) = ap run_fault_of e
-
-    no_word : (f : RunFault) → IsOfHost f → f ≡ errors.BadDid → ⊥
-    no_word f (inl e) b = let g : errors.NoMemory ≡ errors.BadDid = sym e ∙ b in absurd cc
-    no_word f (inr e) b = let g : errors.Uneven ≡ errors.BadDid = sym e ∙ b in absurd cc
 
     pub unreported : (r : Result (Vec ℕ A) RunFault) → (r ≡ Err errors.Uneven → IsUnclosed D digest s lent) → IfErr r IsOfHost → IfErr r (IsUnreported D digest s did input)
     unreported (Ok text) unclosed kind = tt
