@@ -1,6 +1,6 @@
 //! Tests of records as JSON: worked texts, written and read, values without a form, texts that are no records, records, large
-//! values, want of memory. The texts come from a program in another language, and not from what is tested; others are those
-//! that the AT Protocol publishes on its data model (`published`).
+//! values, want of memory. The texts come from a program in another language, and not from what is tested; others are on what
+//! the AT Protocol publishes on its data model (`published`).
 #![tactic(auto)]
 
 #[cfg(test)]

@@ -1,4 +1,6 @@
-//! What the AT Protocol publishes on its data model: values with their identifiers, valid values, and values that aren't.
+//! What the AT Protocol publishes on its data model: values with their identifiers, and texts like its valid and its invalid
+//! ones. That the values are the published ones is seen by their identifiers. The texts have none: they were written from
+//! memory, so what each tests is published, and its letters may differ.
 
 use crate::texts::{is_map, is_read, is_refused, is_text_of};
 use cid::{Cid, Sha256};
@@ -113,8 +115,8 @@ fn published_values(rt: HostRuntime) {
     }
 }
 
-/// Texts of valid records, members in the order in which they are published: two of `data-model-valid.json`, and those of a
-/// link and of bytes on the data model's page. Their bytes are those that a program in another language makes of them.
+/// Texts of valid records: as two of `data-model-valid.json`, and as those of a link and of bytes on the data model's page.
+/// Their bytes are those that a program in another language makes of them.
 const VALID: [(&str, &[u8]); 4] = [
     (
         r#"{"$type":"com.example.blah","a":123,"b":"blah"}"#,
@@ -145,9 +147,9 @@ fn published_valid_records(rt: HostRuntime) {
     }
 }
 
-/// Texts that are refused, with the fault and the way to it: those of `data-model-invalid.json` that are for the data model
-/// to judge, and two of the badly formed value of `ipld-vectors.ts`. The last is one of `data-model-valid.json`, which takes
-/// a number with a point where it is whole: here no number has a point.
+/// Texts that are refused, with the fault and the way to it: as those of `data-model-invalid.json` that are for the data model
+/// to judge, and as two parts of the badly formed value of `ipld-vectors.ts`. The last is as one of `data-model-valid.json`,
+/// which takes a number with a point where it is whole: here no number has a point.
 const REFUSED: [(&str, JsonFaultKind, &str); 10] = [
     (r#""blah""#, JsonFaultKind::NotAMap, ""),
     (

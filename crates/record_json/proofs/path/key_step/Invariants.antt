@@ -4,6 +4,6 @@ use Rattle.record_json.specs.Reading.{shown}
 use Rattle.record_json.proofs.path.key_step.Given as goal
 
 abbrev pub invariant-loop-byte : goal.invariant-loop-byte
-invariant-loop-byte l =
+invariant-loop-byte g l =
     string_bytes l.step ++ flat_map shown (drop l.byte-index l.key)
     ≡ string_bytes l.initial.step ++ flat_map shown l.key
