@@ -48,9 +48,6 @@ pub fn check<'f, D: Digest, const B: u8, A: Allocator + Copy>(
     let sections = car.sections.len();
     let pairs = tree_in::<D, B, A>(alloc, &places, &commit.root.to_cid(), sections)?;
     let lent = records_in(alloc, &places, &pairs)?;
-    // The tables of the sections go before the records have theirs.
-    drop(places);
-    drop(car);
     let records = with_records(alloc, pairs, lent)?;
     Ok(Repository { commit, records })
 }
