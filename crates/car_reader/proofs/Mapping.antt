@@ -1,25 +1,25 @@
 -- The places of sections by their CIDs.
-use Rattle.std.proofs.Common.{◌≡◌, ℕ, suc, ◌-◌, ◌<◌, Bool, true, false, cond, List, ◌∷◌, length, get_or, drop, nat_eq, ltb, Option, sym, ap, ◌∙◌, subst, arith, refl, []}
+use Rattle.std.proofs.Common.{◌≡◌, ℕ, suc, ◌-◌, ◌<◌, Bool, true, false, cond, List, ◌∷◌, length, get_or, drop, ltb, Option, sym, ap, ◌∙◌, subst, arith, refl, []}
 use Rattle.std.specs.Prelude.{option_and_then, option_map, slice_get}
 use Rattle.std.specs.declared.option.Option.TheVariants.{Some, None}
 use Rattle.std.specs.Prelude.{is_some, IfSome}
 use Rattle.std.specs.Borrow.{Bor}
 use Rattle.std.proofs.lemmas.Bool.{ltb-true, ltb-false}
 use Rattle.spec.specs.CarReading as reading
-use Rattle.std.specs.Cmp.Lexicographic.{pointwise}
 use Rattle.std.specs.Str.{bytes_eq}
 use Rattle.std.proofs.lemmas.Option.{slice_get-get_or, slice_get_past}
 use Rattle.std.proofs.Math.Seq.{drop-cons}
 use Rattle.cid.specs.CidRef.{bytes_of}
 use Rattle.car_reader.specs.Views.{section_of, sections_of}
 use Rattle.car_reader.specs.declared.section.Section.{Section}
-use Rattle.car_reader.specs.Maps.{first_with}
+use Rattle.cid.specs.declared.cid_ref.CidRef.{CidRef}
+use Rattle.car_reader.specs.Maps.{first_with, is_same}
 use Rattle.spec.specs.CarReading.{section_with}
 
 module _ (ss : List Section) where
   -- each CID has the place of its first section from a place on
-  abbrev pub Sees : ℕ → (List ℕ → Option ℕ) → Type 0
-  Sees n place_of = (c : List ℕ) → option_and_then (slice_get ss) (place_of c) ≡ first_with c (drop n ss)
+  abbrev pub Sees : ℕ → (CidRef → Option ℕ) → Type 0
+  Sees n place_of = (c : CidRef) → option_and_then (slice_get ss) (place_of c) ≡ first_with (bytes_of c) (drop n ss)
 
   found : (n : ℕ) (x : Section) (c : List ℕ) (later : Option ℕ) (b : Bool)
       → slice_get ss n ≡ Some x
@@ -29,22 +29,22 @@ module _ (ss : List Section) where
   found n x c later false h i = i
 
   -- the next section to the front is put under its CID
-  Sees-more : (n : ℕ) (x : Section) (k : List ℕ) (old new : List ℕ → Option ℕ) → n < length ss
-      → x ≡ get_or ss n x → k ≡ bytes_of x.cid
-      → ((q : List ℕ) → new q ≡ cond (pointwise nat_eq k q) (Some n) (old q))
+  Sees-more : (n : ℕ) (x : Section) (k : CidRef) (old new : CidRef → Option ℕ) → n < length ss
+      → x ≡ get_or ss n x → k ≡ x.cid
+      → ((q : CidRef) → new q ≡ cond (is_same k q) (Some n) (old q))
       → Sees (suc n) old → Sees n new
   Sees-more n x k old new below is key puts sees c =
       let first : drop n ss ≡ x ∷ drop (suc n) ss
       = drop-cons ss n x below ∙ ap (λ t. t ∷ drop (suc n) ss) (sym is) in
-      ap (option_and_then (slice_get ss)) (puts c ∙ ap (λ (t : List ℕ). cond (pointwise nat_eq t c) (Some n) (old c)) key)
-      ∙ found n x c (old c) (bytes_eq (bytes_of x.cid) c)
+      ap (option_and_then (slice_get ss)) (puts c ∙ ap (λ (t : CidRef). cond (is_same t c) (Some n) (old c)) key)
+      ∙ found n x (bytes_of c) (old c) (is_same x.cid c)
       (slice_get-get_or ss n x below ∙ ap (λ t. Some t) (sym is)) (sees c)
-      ∙ sym (ap (first_with c) first)
+      ∙ sym (ap (first_with (bytes_of c)) first)
 
-  pub Sees-left : (n : ℕ) (x : Section) (k : List ℕ) (old new : List ℕ → Option ℕ) → 0 < n
+  pub Sees-left : (n : ℕ) (x : Section) (k : CidRef) (old new : CidRef → Option ℕ) → 0 < n
       → n - 1 < length ss
-      → x ≡ get_or ss (n - 1) x → k ≡ bytes_of x.cid
-      → ((q : List ℕ) → new q ≡ cond (pointwise nat_eq k q) (Some (n - 1)) (old q))
+      → x ≡ get_or ss (n - 1) x → k ≡ x.cid
+      → ((q : CidRef) → new q ≡ cond (is_same k q) (Some (n - 1)) (old q))
       → Sees n old → Sees (n - 1) new
   Sees-left n x k old new more below is key puts sees =
       let e : n ≡ suc (n - 1) = omega arith in

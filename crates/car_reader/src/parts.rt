@@ -1,24 +1,16 @@
 //! The parts of a file read from the front, each with the bytes after it (CARv1).
 
-ghost use Rattle.std.specs.Prelude.{◌<◌, ◌≤◌, length, IfOk, Some};
+ghost use Rattle.std.specs.Prelude.{◌≡◌, ◌<◌, ◌≤◌, length, option_map, ok_or, IfOk};
 ghost use Rattle.spec.specs.Reading.{Gives, front};
 ghost use Rattle.cid.specs.CidRef.{bytes_of};
 ghost use Rattle.spec.specs.CarReading as reading;
-ghost use Rattle.spec.specs.CarReading.{expected, cid_at, header_at, section_at};
+ghost use Rattle.spec.specs.CarReading.{cid_at, header_at, section_at};
 ghost use Rattle.car_reader.specs.Views.{car_fault_of, section_of};
 
 use crate::fault::CarFault;
 use crate::section::Section;
 use cid::CidRef;
 use dagcbor::varint;
-
-/// These very bytes.
-fn expected<'a>(these: &[u8], bytes: &'a [u8]) -> Result<&'a [u8], CarFault>
-    ensures { Gives (λ rest. rest.now) car_fault_of result
-        (expected reading.BadHeader these.now bytes.now) }
-{
-    bytes.strip_prefix(these).ok_or(CarFault::BadHeader)
-}
 
 /// The first `n` bytes.
 fn front(n: u64, bytes: &[u8]) -> Result<(&[u8], &[u8]), CarFault>
@@ -32,33 +24,18 @@ fn front(n: u64, bytes: &[u8]) -> Result<(&[u8], &[u8]), CarFault>
     Ok(bytes.split_at(n as usize))
 }
 
-/// The CID of the root, in the header.
-fn root_cid(bytes: &[u8]) -> Result<(CidRef<'_>, &[u8]), CarFault>
-    ensures { Gives (λ x. (bytes_of x.0, x.1.now)) car_fault_of result
-        (cid_at reading.BadHeader bytes.now) }
+/// The CID at the front, of 36 bytes, and those after it; or none where no CID of a block stands there.
+fn cid(bytes: &[u8]) -> Option<(CidRef<'_>, &[u8])>
+    ensures { (fault : reading.CarFault)
+        → ok_or (option_map (λ x. (bytes_of x.0, x.1.now)) result) fault ≡ cid_at fault bytes.now }
 {
     if bytes.len() < 36 {
-        return Err(CarFault::BadHeader);
+        return None;
     }
     let (cid, rest) = bytes.split_at(36);
     match CidRef::from_bytes(cid) {
-        Some(cid) => Ok((cid, rest)),
-        None => Err(CarFault::BadHeader),
-    }
-}
-
-/// The CID of a section.
-fn section_cid(bytes: &[u8]) -> Result<(CidRef<'_>, &[u8]), CarFault>
-    ensures { Gives (λ x. (bytes_of x.0, x.1.now)) car_fault_of result
-        (cid_at reading.BadCid bytes.now) }
-{
-    if bytes.len() < 36 {
-        return Err(CarFault::BadCid);
-    }
-    let (cid, rest) = bytes.split_at(36);
-    match CidRef::from_bytes(cid) {
-        Some(cid) => Ok((cid, rest)),
-        None => Err(CarFault::BadCid),
+        Some(cid) => Some((cid, rest)),
+        None => None,
     }
 }
 
@@ -73,9 +50,9 @@ const BEHIND_ROOT: &[u8] = b"\x67version\x01";
 pub(crate) fn header(file: &[u8]) -> Result<(CidRef<'_>, &[u8]), CarFault>
     ensures { Gives (λ x. (bytes_of x.0, x.1.now)) car_fault_of result (header_at file.now) }
 {
-    let rest = expected(BEFORE_ROOT, file)?;
-    let (root, rest) = root_cid(rest)?;
-    let rest = expected(BEHIND_ROOT, rest)?;
+    let rest = file.strip_prefix(BEFORE_ROOT).ok_or(CarFault::BadHeader)?;
+    let (root, rest) = cid(rest).ok_or(CarFault::BadHeader)?;
+    let rest = rest.strip_prefix(BEHIND_ROOT).ok_or(CarFault::BadHeader)?;
     Ok((root, rest))
 }
 
@@ -90,6 +67,6 @@ pub(crate) fn section(bytes: &[u8]) -> Result<(Section<'_>, &[u8]), CarFault>
         return Err(CarFault::BadLength);
     };
     let (body, rest) = front(length, rest)?;
-    let (cid, block) = section_cid(body)?;
+    let (cid, block) = cid(body).ok_or(CarFault::BadCid)?;
     Ok((Section { cid, block }, rest))
 }

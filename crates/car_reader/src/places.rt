@@ -4,7 +4,7 @@ ghost use Rattle.std.specs.Prelude.{◌≡◌, IfOk, option_map};
 ghost use Rattle.car_reader.specs.Views.{sections_of};
 
 use crate::section::Section;
-use cid::Cid;
+use cid::{Cid, CidRef};
 use std::alloc::{AllocError, Allocator, Global};
 use std::collections::HashMap;
 use std::hash::{BuildHasherDefault, FoldHasher};
@@ -17,7 +17,7 @@ use std::marker::Model;
 #[derive(Drop)]
 pub struct Places<'s, 'a, A: Allocator = Global> {
     sections: &'s [Section<'a>],
-    places: HashMap<Cid, usize, BuildHasherDefault<FoldHasher>, A>,
+    places: HashMap<CidRef<'a>, usize, BuildHasherDefault<FoldHasher>, A>,
 }
 
 impl<'s, 'a, A: Allocator> Model for Places<'s, 'a, A> {
@@ -42,7 +42,7 @@ impl<'s, 'a, A: Allocator + Clone> Places<'s, 'a, A> {
         let mut remaining = sections.len();
         while remaining > 0 {
             remaining -= 1;
-            places.insert(sections[remaining].cid.to_cid(), remaining)?;
+            places.insert(sections[remaining].cid, remaining)?;
         }
         Ok(Places { sections, places })
     }
@@ -66,7 +66,7 @@ impl<'s, 'a, A: Allocator> Places<'s, 'a, A> {
     fn section(&self, cid: &Cid) -> Option<&'s Section<'a>>
         ensures { option_map (λ s. section_of s.now) result ≡ section_with cid.now self.now }
     {
-        let place = *self.places.get(cid)?;
+        let place = *self.places.get(&CidRef::from(cid))?;
         self.sections.get(place)
     }
 }

@@ -1,10 +1,11 @@
 //! Texts that are no records: the first fault, and the way to it.
 
+use crate::texts::is_refused;
 use record_json::{JsonFaultKind, dag_cbor_of};
 use std::alloc::Global;
 
 /// Texts, with their first fault and the way to it.
-const FAULTS: [(&str, JsonFaultKind, &str); 20] = [
+const FAULTS: [(&str, JsonFaultKind, &str); 27] = [
     ("", JsonFaultKind::NotJson, ""),
     ("{", JsonFaultKind::NotJson, ""),
     ("{\"a\":1}x", JsonFaultKind::NotJson, ""),
@@ -37,20 +38,32 @@ const FAULTS: [(&str, JsonFaultKind, &str); 20] = [
         JsonFaultKind::BadDollar,
         ".a",
     ),
+    // What of a key isn't a graphic character of ASCII, or is a sign of a way, stands as `%` and two digits.
+    ("{\"a\":{\"\":1.5}}", JsonFaultKind::Float, ".a."),
+    ("{\"x\\u0000y\":1.5}", JsonFaultKind::Float, ".x%00y"),
+    ("{\"\\u001b[2J\":1.5}", JsonFaultKind::Float, ".%1B%5B2J"),
+    ("{\"a b\":[1.5]}", JsonFaultKind::Float, ".a%20b[0]"),
+    (
+        "{\"a.b\":{\"c]\":1.5}}",
+        JsonFaultKind::Float,
+        ".a%2Eb.c%5D",
+    ),
+    (
+        "{\"100%\":1,\"100%\":1}",
+        JsonFaultKind::DoubledKey,
+        ".100%25",
+    ),
+    (
+        "{\"\u{e9}\u{9b}\u{7f}~\":1.5}",
+        JsonFaultKind::Float,
+        ".%C3%A9%C2%9B%7F~",
+    ),
     // In the order of DAG-CBOR, the key that is shorter first.
     (r#"{"aa":1.5,"b":1e1}"#, JsonFaultKind::Float, ".b"),
     ("[]", JsonFaultKind::NotAMap, ""),
     (r#"{"$bytes":"AA"}"#, JsonFaultKind::NotAMap, ""),
     ("null", JsonFaultKind::NotAMap, ""),
 ];
-
-/// Whether a text has this fault, at this place.
-fn is_refused(alloc: Global, text: &str, kind: JsonFaultKind, path: &str) -> bool {
-    match dag_cbor_of(alloc, text) {
-        Ok(_) => false,
-        Err(fault) => fault.kind == kind && fault.path.as_str() == path,
-    }
-}
 
 #[test]
 fn the_first_fault_and_its_place(rt: HostRuntime) {

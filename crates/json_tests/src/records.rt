@@ -1,49 +1,7 @@
-//! Records of the AT Protocol, with their texts.
+//! Records as they stand in repositories, with their texts.
 
-use crate::texts::{Row, assert_texts, is_text_of};
+use crate::texts::is_text_of;
 use std::alloc::Global;
-
-/// The records of the AT Protocol's interoperability tests on the data model (`data-model-fixtures.json`), their members in
-/// the order of DAG-CBOR and their bytes without padding.
-const PUBLISHED: [Row; 2] = [
-    (
-        b"\xa7\x64bool\xf5\x64null\xf6\x65array\x83\x63abc\x63def\x63ghi\
-            \x66object\xa4\x63arr\x83\x63abc\x63def\x63ghi\x64bool\xf5\x66number\x18\x7b\
-            \x66string\x63abc\x66string\x63abc\x67integer\x18\x7b\x67unicode\x78\x2fa~\
-            \xc3\xb6\xc3\xb1\xc2\xa9\xe2\xbd\x98\xe2\x98\x8e\xf0\x93\x8b\x93\xf0\x9f\x98\x80\
-            \xf0\x9f\x91\xa8\xe2\x80\x8d\xf0\x9f\x91\xa9\xe2\x80\x8d\
-            \xf0\x9f\x91\xa7\xe2\x80\x8d\xf0\x9f\x91\xa7",
-        concat!(
-            r#"{"bool":true,"null":null,"array":["abc","def","ghi"],"#,
-            r#""object":{"arr":["abc","def","ghi"],"bool":true,"number":123,"string":"abc"},"#,
-            r#""string":"abc","integer":123,"unicode":"a~"#,
-            "\u{f6}\u{f1}\u{a9}\u{2f58}\u{260e}\u{132d3}\u{1f600}",
-            "\u{1f468}\u{200d}\u{1f469}\u{200d}\u{1f467}\u{200d}\u{1f467}\"}",
-        ),
-    ),
-    (
-        b"\xa3\x61a\xd8\x2a\x58\x25\x00\x01\x71\x12\x20\
-            \x65\x06\x2a\x5a\x5a\x00\xfc\x16\xd7\x3c\x69\x44\x23\x7c\xcb\xc1\
-            \x5b\x1c\x4a\x72\x34\x48\x93\x36\x89\x1d\x09\x17\x41\xa2\x39\xd0\x61b\x58\x20\
-            \x9c\x51\x11\x8e\xf2\xcb\x8b\x0f\x6a\x9b\x8e\x49\xae\xa1\xfd\x41\
-            \x3c\xf2\x0b\x62\xee\xd5\x76\xf8\x9d\xee\xbe\xb0\x1a\xc2\xcc\x8d\x61c\xa4\
-            \x63ref\xd8\x2a\x58\x25\x00\x01\x55\x12\x20\
-            \x42\x58\xcf\xff\x78\xf6\x13\x69\x76\x97\x56\x3f\x92\x6c\x91\xe5\
-            \xd3\x57\x4d\x2e\xa2\x5a\xe7\xed\x92\xd6\xeb\xfc\x23\xa3\x88\x9e\x64size\x19\x27\x10\
-            \x65$type\x64blob\x68mimeType\x6aimage/jpeg",
-        concat!(
-            r#"{"a":{"$link":"bafyreidfayvfuwqa7qlnopdjiqrxzs6blmoeu4rujcjtnci5beludirz2a"},"#,
-            r#""b":{"$bytes":"nFERjvLLiw9qm45JrqH9QTzyC2Lu1Xb4ne6+sBrCzI0"},"#,
-            r#""c":{"ref":{"$link":"bafkreiccldh766hwcnuxnf2wh6jgzepf2nlu2lvcllt63eww5p6chi4ity"},"#,
-            r#""size":10000,"$type":"blob","mimeType":"image/jpeg"}}"#,
-        ),
-    ),
-];
-
-#[test]
-fn published_records(rt: HostRuntime) {
-    assert_texts(&rt, rt.alloc(), &PUBLISHED);
-}
 
 /// A post with a mention, a link and a picture.
 const POST: &[u8] = b"\xa6\x64text\x78\x2bHello @ann.example, trees: example.com \xf0\x9f\x8c\xb3\

@@ -1,7 +1,7 @@
 //! The text of a value, by the bytes that spell the value.
 
 use dagcbor::read;
-use record_json::{dag_cbor_of, has_form, json_of};
+use record_json::{JsonFaultKind, dag_cbor_of, has_form, json_of};
 use std::alloc::{AllocError, Global};
 use std::process::Abort;
 
@@ -35,8 +35,16 @@ pub fn is_read(alloc: Global, text: &str, bytes: &[u8]) -> bool {
     }
 }
 
+/// Whether a text has this fault, at this place.
+pub fn is_refused(alloc: Global, text: &str, kind: JsonFaultKind, path: &str) -> bool {
+    match dag_cbor_of(alloc, text) {
+        Ok(_) => false,
+        Err(fault) => fault.kind == kind && fault.path.as_str() == path,
+    }
+}
+
 /// Whether a value of these bytes is a map.
-fn is_map(bytes: &[u8]) -> bool {
+pub fn is_map(bytes: &[u8]) -> bool {
     match bytes.first() {
         Some(head) => (0xa0..=0xbf).contains(head),
         None => false,

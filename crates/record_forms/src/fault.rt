@@ -12,7 +12,7 @@ pub enum WordFault<A: Allocator = Global> {
     /// It has this fault as JSON, the first one.
     Json {
         kind: JsonFaultKind,
-        /// The way to it from the outside: `.key` for a key of an object, `[place]` for an item of a list, counted from 0.
+        /// The way to it from the outside, as `record_json::JsonFault` has it: graphic characters of ASCII alone.
         path: String<A>,
     },
 }

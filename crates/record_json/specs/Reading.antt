@@ -2,9 +2,10 @@
 --
 -- The order of the faults is a choice of this project: first whether the text is JSON at all; then from the outside in, and in the order of keys in DAG-CBOR;
 -- whether the whole is a map comes last.
-use Rattle.std.specs.Prelude.{ℕ, zero, suc, Bool, false, ◌&&◌, ◌||◌, not, List, [], ◌∷◌, ◌++◌, length, drop, decimal, nat_lt, if◌then◌else◌, Option, Some, None, Result, Ok, Err}
+use Rattle.std.specs.Prelude.{ℕ, zero, suc, ◌/◌, ◌%◌, ◌==◌, Bool, true, false, ◌&&◌, ◌||◌, not, List, [], ◌∷◌, ◌++◌, length, drop, decimal, nat_lt, if◌then◌else◌, Option, Some, None, Result, Ok, Err}
 use Rattle.std.specs.Char.{is_ascii_digit}
-use Rattle.std.specs.List.{list_all}
+use Rattle.std.specs.List.{flat_map, list_all}
+use Rattle.std.specs.Fmt.{digit_glyph}
 use Rattle.std.specs.Str.{bytes_eq}
 use Rattle.std.specs.Str.Parse.{starts_with_minus, signed_digits_value}
 use Rattle.base64.specs.Engines.{standard_no_pad_indifferent}
@@ -36,9 +37,17 @@ pub record Fault : Type 0 where
   pub kind : Kind
   pub path : List ℕ
 
+-- a graphic character of ASCII, but for `%`, `.`, `[` and `]`
+abbrev pub is_plain : ℕ → Bool
+is_plain x = nat_lt 32 x && nat_lt x 127 && not (x == 37) && not (x == 46) && not (x == 91) && not (x == 93)
+
+-- what a way shows for a byte of a key: the byte, or `%` and its two hexadecimal digits (RFC 3986, section 2.1)
+abbrev pub shown : ℕ → List ℕ
+shown x = if is_plain x then x ∷ [] else 37 ∷ digit_glyph true (x / 16) ∷ digit_glyph true (x % 16) ∷ []
+
 -- a step to the value of a key, `.key`
 abbrev pub at_key : List ℕ → List ℕ
-at_key k = 46 ∷ k
+at_key k = 46 ∷ flat_map shown k
 
 -- a step to an item by its place from 0, `[place]`
 abbrev pub at_place : ℕ → List ℕ

@@ -63,7 +63,8 @@ impl<T: Drop> From<AllocFailed<T>> for JsonFaultKind {
 #[error("{path}: {kind}")]
 pub struct JsonFault<A: Allocator = Global> {
     pub kind: JsonFaultKind,
-    /// The way to it from the outside: `.key` for a key of an object, `[place]` for an item of a list, counted from 0.
+    /// The way to it from the outside: `.key` for a key of an object, `[place]` for an item of a list, counted from 0. Of a key
+    /// each byte that isn't a graphic character of ASCII, or is `%`, `.`, `[` or `]`, is `%` and two hexadecimal digits.
     /// It is empty where the fault is that of the whole text.
     pub path: String<A>,
 }

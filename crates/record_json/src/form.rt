@@ -1,6 +1,6 @@
 //! Which values have a JSON form.
 
-ghost use Rattle.std.specs.Prelude.{◌≡◌, IsTrue};
+ghost use Rattle.std.specs.Prelude.{◌≡◌};
 ghost use Rattle.spec.specs.Cid.{is_version_1};
 ghost use Rattle.spec.specs.DagCbor.{is_lawful};
 ghost use Rattle.dagcbor.specs.View.{view, view_items, view_fields};

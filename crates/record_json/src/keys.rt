@@ -1,9 +1,8 @@
 //! The order of keys in DAG-CBOR.
 
-ghost use Rattle.std.specs.Prelude.{◌≡◌, map, IsPermutation, IsSorted, IfOk, option_map};
+ghost use Rattle.std.specs.Prelude.{◌≡◌, map, IsPermutation, IfOk, option_map};
 ghost use Rattle.std.specs.List.Sorted.{IsSortedBy};
 ghost use Rattle.std.specs.Ordering.{is_lt};
-ghost use Rattle.json.specs.Value.{value_view};
 ghost use Rattle.record_json.specs.KeyOrder.{key_cmp, doubled_key};
 
 use json::Value;

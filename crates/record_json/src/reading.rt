@@ -193,7 +193,7 @@ fn push_object<'a, A: Allocator + Copy>(
 {
     let sorted = in_order(alloc, members)?;
     if let Some(key) = doubled_key(&sorted) {
-        put_key(path, key)?;
+        put_key(alloc, path, key)?;
         return Err(JsonFaultKind::DoubledKey);
     }
     if has_reserved(members) {
@@ -243,7 +243,7 @@ fn push_member<'a, A: Allocator + Copy>(
     match push_value(alloc, out, path, levels, &member.1) {
         Ok(()) => Ok(()),
         Err(kind) => {
-            put_key(path, member.0)?;
+            put_key(alloc, path, member.0)?;
             Err(kind)
         }
     }

@@ -1,6 +1,6 @@
 //! The sections of a file and its commit.
 
-ghost use Rattle.std.specs.Prelude.{◌≡◌, ◌<◌, ◌^◌, length, IfOk};
+ghost use Rattle.std.specs.Prelude.{◌<◌, ◌^◌, length, IfOk};
 ghost use Rattle.spec.specs.Reading.{Gives, IsBytes};
 ghost use Rattle.spec.specs.Exports.{named_file, commit_with};
 ghost use Rattle.car_reader.specs.Views.{car_of};
