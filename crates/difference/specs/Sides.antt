@@ -12,7 +12,7 @@ use Rattle.edit_laws.specs.Changes.{has_cid}
 use Rattle.edit_laws.specs.ShapeEdit.{last_link}
 use Rattle.batch_laws.specs.Links.{Rows, rows_in_shape, onto_links}
 use Rattle.rows.specs.Drafts.{shape_in}
-use Rattle.difference_laws.specs.Lines.{Opened, Stop, NotShown, Side, link_without, without, within, opened}
+use Rattle.difference_laws.specs.Lines.{Stop, NotShown, link_without, within, opened}
 use Rattle.difference_laws.specs.Lines as lines
 use Rattle.difference.specs.declared.line.Row.{Row}
 use Rattle.difference.specs.declared.line.Line.{Line}
