@@ -9,10 +9,8 @@ use Rattle.spec.specs.Reading.{◌>>=◌, ensure}
 use Rattle.spec.specs.Tree.{Pair}
 use Rattle.spec.specs.Blocks.{ArePairs, pairs, value_of}
 use Rattle.spec.specs.States.{IsLawful, State, records}
-use Rattle.spec.proofs.Bools.{and}
 use Rattle.spec.proofs.RecordPairs.{lawful-pairs}
 use Rattle.spec.specs.Cid.{IsDigest}
-use Rattle.batch_laws.specs.Batch.{Change}
 use Rattle.batch_laws.specs.Previous.{values}
 use Rattle.key_changes.proofs.Ascending.{keyed-changes}
 use Rattle.change_laws.specs.Told.{KeyChange, undone}

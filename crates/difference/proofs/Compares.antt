@@ -27,7 +27,7 @@ use Rattle.lookups.specs.Steps.{nodes_given}
 use Rattle.lookups.specs.Trees.{HasTree, bytes_given}
 use Rattle.batch_laws.specs.Batch.{AreKeyed}
 use Rattle.change_laws.specs.Told.{KeyChange, undone}
-use Rattle.difference_laws.specs.Lines.{Side, Stop, NotShown, both_opened, compared, compared_at, level, levels, links_in, opened, opened_when, pairs_of, shared_when, side_at, unless}
+use Rattle.difference_laws.specs.Lines.{Side, Stop, NotShown, both_opened, compared, compared_at, level, levels, links_in, opened_when, pairs_of, shared_when, side_at, unless}
 use Rattle.difference_laws.specs.Lines as lines
 use Rattle.difference_laws.specs.Laws.{AreReal, AreUnshared, HaveCompared, IsDifference, blocks_read}
 use Rattle.difference_laws.proofs.Compared.{trees-compared}

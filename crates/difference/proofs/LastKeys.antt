@@ -17,8 +17,10 @@ use Rattle.edit_laws.proofs.Orders.{order-equal, turned, turned_back, after-tran
 use Rattle.change_laws.specs.Told.{KeyChange}
 use Rattle.difference_laws.specs.Laws.{IsDifference, front}
 use Rattle.difference_laws.proofs.Merging.{merges-in_front}
-use Rattle.difference.specs.Merged.{AreLast, HasLast, IsLastOf, pair_of, pairs_in, told, told_of}
+use Rattle.difference.specs.Keys.{key_in}
+use Rattle.difference.specs.Merged.{AreLast, HasLast, IsLastOf, greatest_of, pair_of, pairs_in, told, told_of}
 use Rattle.difference.specs.declared.line.Row.{Row}
+use Rattle.difference.specs.declared.merging.Greatest.{Greatest}
 use Rattle.difference.specs.declared.outcome.KeyDifference.{KeyDifference}
 
 -- ---- keys that ascend
@@ -38,14 +40,14 @@ module _ {A : Type 0} (r : Row A) where
   comes-alone (x ∷ rs) h = absurd (omega arith)
 
   comes-case : (rs : List (Row A)) (x : Row A) (b : Bool) → 1 ≤ length rs → x ≡ get_or rs 0 x
-      → b ≡ is_gt (order x.key.items r.key.items) → Ascending (pairs_in rs) → IsTrue b ↔ Ascending (pairs_in (r ∷ rs))
+      → b ≡ is_gt (order (key_in x.key) (key_in r.key)) → Ascending (pairs_in rs) → IsTrue b ↔ Ascending (pairs_in (r ∷ rs))
   comes-case [] x b l is h a = absurd (omega arith)
   comes-case (y ∷ rs) x b l is h a =
-      first-case (pair_of r) (pair_of y) (pairs_in rs) (order y.key.items r.key.items) b refl
-      (h ∙ ap (λ z. is_gt (order z.key.items r.key.items)) is) a
+      first-case (pair_of r) (pair_of y) (pairs_in rs) (order (key_in y.key) (key_in r.key)) b refl
+      (h ∙ ap (λ z. is_gt (order (key_in z.key) (key_in r.key))) is) a
 
   pub comes-first : (rs : List (Row A)) (x : Row A) (b : Bool) → 1 ≤ length rs → x ≡ get_or rs 0 x
-      → b ≡ is_gt (order x.key.items r.key.items) → Ascending (pairs_in rs) → IsTrue b ↔ Ascending (pairs_in (r ∷ rs))
+      → b ≡ is_gt (order (key_in x.key) (key_in r.key)) → Ascending (pairs_in rs) → IsTrue b ↔ Ascending (pairs_in (r ∷ rs))
   comes-first = comes-case
 
 asc-drop : {A : Type 0} (rs : List (Row A)) (i : ℕ) → Ascending (pairs_in rs) → Ascending (pairs_in (drop i rs))
@@ -126,12 +128,12 @@ has-both m n Equal h k = (h, k)
 has-both m n Greater h k = h
 
 pub last-both : {A : Type 0} (rs ss : List (Row A)) (x y : Row A) (o : Ordering) → 0 < length rs → 0 < length ss
-    → x ≡ get_or rs (length rs - 1) x → y ≡ get_or ss (length ss - 1) y → o ≡ order x.key.items y.key.items
+    → x ≡ get_or rs (length rs - 1) x → y ≡ get_or ss (length ss - 1) y → o ≡ order (key_in x.key) (key_in y.key)
     → AreLast (pairs_in rs) (pairs_in ss) o
 last-both rs ss x y o l m p q h = record {
   has = has-both (length (pairs_in rs)) (length (pairs_in ss)) o (longer pair_of rs l) (longer pair_of ss m);
   is = λ xs ys e f u v. (ap (λ a. order a.0 f.0) (last-is rs x xs e p u)
-      ∙ ap (λ b. order x.key.items b.0) (last-is ss y ys f q v) ∙ sym h);
+      ∙ ap (λ b. order (key_in x.key) b.0) (last-is ss y ys f q v) ∙ sym h);
 }
 
 -- ---- the last key goes
@@ -324,6 +326,14 @@ merged-all old new cs m =
 pub told-more : {A : Type 0} (cs : List (KeyDifference A)) (c : KeyDifference A)
     → told (reverse (cs ++ (c ∷ []))) ≡ told_of c ∷ told (reverse cs)
 told-more cs c = ap told (reverse-append cs (c ∷ []))
+
+pub same-change : {A : Type 0} (l : Greatest A) (c : KeyDifference A) → c.key.items ≡ key_in l.key → c.before ≡ l.before
+    → c.after ≡ l.after → told_of c ≡ greatest_of l
+same-change l c p q r = λ i. record { key = p i; before = q i; after = r i }
+
+pub told-next : {A : Type 0} (cs : List (KeyDifference A)) (l : Greatest A) (c : KeyDifference A) → told_of c ≡ greatest_of l
+    → told (reverse (cs ++ (c ∷ []))) ≡ greatest_of l ∷ told (reverse cs)
+told-next cs l c same = told-more cs c ∙ ap (λ k. k ∷ told (reverse cs)) same
 
 pub at-order : {A : Type 0} (rs ss us vs : List (Row A)) (o p : Ordering) → AreLast (pairs_in rs) (pairs_in ss) o → rs ≡ us
     → ss ≡ vs → o ≡ p → AreLast (pairs_in us) (pairs_in vs) p

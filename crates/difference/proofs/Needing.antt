@@ -20,6 +20,7 @@ use Rattle.spec.specs.NodeFormat.{Shape, LastLink, MoreLinks}
 use Rattle.difference_laws.specs.Lines.{Opened, Side, Stop, NotShown, both_opened, compared, compared_at, level, levels, link_without, links_in, opened, opened_last, opened_row, opened_when, repeats, shared_when, side_at, side_of, spliced, tested, unless, within, without}
 use Rattle.difference_laws.specs.Lines as lines
 use Rattle.batch_laws.specs.Links.{Rows, onto_links}
+use Rattle.difference.specs.Keys.{key_in}
 use Rattle.difference.specs.declared.line.Row.{Row}
 use Rattle.difference.specs.Sides.{HasLinks, IsStopped, links_among, row_of, rows_of, rows_without, shapes_in}
 use Rattle.rows.specs.Drafts.{shape_in}
@@ -420,7 +421,7 @@ module _ {B : Type 0} (cids : List (List ℕ)) (rs : List (Row B)) where
       q ∙ ap (λ l. (old ++ links_of (rows_without cids (rows_of (take i rs)))) ++ cons_option l []) at
       ∙ append_assoc old (links_of (rows_without cids (rows_of (take i rs)))) (cons_option (link_without cids x.link) [])
       ∙ ap (λ z. old ++ z)
-      (sym (links-append (rows_without cids (rows_of (take i rs))) ((link_without cids x.link, (x.key.items, x.value)) ∷ []))
+      (sym (links-append (rows_without cids (rows_of (take i rs))) ((link_without cids x.link, (key_in x.key, x.value)) ∷ []))
       ∙ ap links_of (sym (rows-without-append cids (rows_of (take i rs)) (row_of x ∷ []))
       ∙ ap (rows_without cids) (sym (rows-more rs i x short is))))
 

@@ -24,6 +24,7 @@ use Rattle.rows.specs.Entries.{shape_of}
 use Rattle.lookups.specs.Nodes.{IsNodeOf}
 use Rattle.lookups.specs.Steps.{nodes_given}
 use Rattle.difference_laws.specs.Lines.{Opened, Side, NotShown, link_without, without, unless, spliced, within, opened_last, opened_row, opened}
+use Rattle.difference.specs.Keys.{key_in}
 use Rattle.difference.specs.Sides.{AreOpened, AreStopped, HasLinks, IsBegun, IsSpread, IsLackAt, IsStopped, IsTop, line_of, row_of, rows_of, rows_without, shapes_in, top_after}
 use Rattle.difference.specs.declared.line.Row.{Row}
 use Rattle.difference.specs.declared.line.Line.{Line}
@@ -214,25 +215,25 @@ module _ {A B : Type 0} (gives : List ℕ → Option A) (shows : List ℕ → Op
     (so_far : (r : Shape) → whole r
     ≡ within (onto_links acc) (opened shows (onto_links (rows_without cids (rows_of rs)) r) read)) where
   at-row : (r : Shape) → whole r ≡ within (onto_links acc)
-      (opened shows (MoreLinks link (x.key.items, x.value) (onto_links (rows_without cids (rows_of ss)) r)) read)
+      (opened shows (MoreLinks link (key_in x.key, x.value) (onto_links (rows_without cids (rows_of ss)) r)) read)
   at-row r =
       so_far r
       ∙ ap (λ (z : List (Row B)). within (onto_links acc) (opened shows (onto_links (rows_without cids (rows_of z)) r) read)) next
       ∙ ap (λ l. within (onto_links acc)
-      (opened shows (MoreLinks l (x.key.items, x.value) (onto_links (rows_without cids (rows_of ss)) r)) read)) (sym is)
+      (opened shows (MoreLinks l (key_in x.key, x.value) (onto_links (rows_without cids (rows_of ss)) r)) read)) (sym is)
 
   pub row-step : (acc1 acc2 : Rows) (read1 : List Shape) (last : Option (List ℕ)) → IsSpread shows link acc acc1 read read1 last
-      → acc2 ≡ acc1 ++ ((last, (x.key.items, x.value)) ∷ []) → (r : Shape) → whole r
+      → acc2 ≡ acc1 ++ ((last, (key_in x.key, x.value)) ∷ []) → (r : Shape) → whole r
       ≡ within (onto_links acc2) (opened shows (onto_links (rows_without cids (rows_of ss)) r) read1)
   row-step acc1 acc2 read1 last s q r =
       at-row r
-      ∙ row-came shows link (x.key.items, x.value) (onto_links (rows_without cids (rows_of ss)) r) acc acc1 acc2 read read1 last s q
+      ∙ row-came shows link (key_in x.key, x.value) (onto_links (rows_without cids (rows_of ss)) r) acc acc1 acc2 read read1 last s q
 
   pub row-stops : (fault : DifferenceFault) → IsLackAt gives shows link fault → (r : Shape) → IsStopped gives (whole r) fault
   row-stops fault lack r =
       stopped-within gives (whole r) (within (onto_links acc)
-      (opened shows (MoreLinks link (x.key.items, x.value) (onto_links (rows_without cids (rows_of ss)) r)) read)) fault (at-row r)
-      (row-lacks gives shows link (x.key.items, x.value) (onto_links (rows_without cids (rows_of ss)) r) acc read fault lack)
+      (opened shows (MoreLinks link (key_in x.key, x.value) (onto_links (rows_without cids (rows_of ss)) r)) read)) fault (at-row r)
+      (row-lacks gives shows link (key_in x.key, x.value) (onto_links (rows_without cids (rows_of ss)) r) acc read fault lack)
 
 pub rows-end : {A : Type 0} (rs ss : List (Row A)) (r : Row A) → rs ≡ ss ++ (r ∷ []) → rows_of rs ≡ rows_of ss ++ (row_of r ∷ [])
 rows-end rs ss r q = ap rows_of q ∙ map-append row_of ss (r ∷ [])

@@ -7,13 +7,15 @@ use Rattle.edit_laws.specs.Order.{order}
 use Rattle.edit_laws.specs.Pairs.{Each, IsBefore, Ascending}
 use Rattle.change_laws.specs.Told.{KeyChange}
 use Rattle.difference_laws.specs.Laws.{front}
+use Rattle.difference.specs.Keys.{key_in}
 use Rattle.difference.specs.declared.line.Row.{Row}
+use Rattle.difference.specs.declared.merging.Greatest.{Greatest}
 use Rattle.difference.specs.declared.outcome.KeyDifference.{KeyDifference}
 use Rattle.difference.specs.declared.faults.DifferenceFault.{DifferenceFault}
 use Rattle.difference.specs.declared.faults.DifferenceFault.TheVariants.{BlockMissing, BadNode, TooDeep, NotTree, NoMemory}
 
 abbrev pub pair_of : {A : Type 0} → Row A → Pair
-pair_of r = (r.key.items, r.value)
+pair_of r = (key_in r.key, r.value)
 
 -- the pairs of some rows
 abbrev pub pairs_in : {A : Type 0} → List (Row A) → List Pair
@@ -22,6 +24,10 @@ pairs_in rs = map pair_of rs
 -- the changes of the code
 abbrev pub told_of : {A : Type 0} → KeyDifference A → KeyChange
 told_of c = record { key = c.key.items; before = c.before; after = c.after }
+
+-- the greatest key and what two lists have of it
+abbrev pub greatest_of : {A : Type 0} → Greatest A → KeyChange
+greatest_of l = record { key = key_in l.key; before = l.before; after = l.after }
 
 abbrev pub told : {A : Type 0} → List (KeyDifference A) → List KeyChange
 told cs = map told_of cs

@@ -12,8 +12,9 @@ use Rattle.edit_laws.specs.Changes.{has_cid}
 use Rattle.edit_laws.specs.ShapeEdit.{last_link}
 use Rattle.batch_laws.specs.Links.{Rows, rows_in_shape, onto_links}
 use Rattle.rows.specs.Drafts.{shape_in}
-use Rattle.difference_laws.specs.Lines.{Opened, Stop, NotShown, Side, link_without, without, within, opened}
+use Rattle.difference_laws.specs.Lines.{Stop, NotShown, link_without, within, opened}
 use Rattle.difference_laws.specs.Lines as lines
+use Rattle.difference.specs.Keys.{key_in}
 use Rattle.difference.specs.declared.line.Row.{Row}
 use Rattle.difference.specs.declared.line.Line.{Line}
 use Rattle.difference.specs.declared.faults.DifferenceFault.{DifferenceFault}
@@ -22,7 +23,7 @@ use Rattle.difference.specs.declared.faults.DifferenceFault.TheVariants.{BlockMi
 -- ---- lines
 
 abbrev pub row_of : {A : Type 0} → Row A → Option (List ℕ) × Pair
-row_of r = (r.link, (r.key.items, r.value))
+row_of r = (r.link, (key_in r.key, r.value))
 
 abbrev pub rows_of : {A : Type 0} → List (Row A) → Rows
 rows_of rs = map row_of rs

@@ -9,6 +9,7 @@
 
 mod comparing;
 mod faults;
+mod keys;
 mod lacking;
 pub mod laws;
 mod line;

@@ -5,6 +5,7 @@ ghost use Rattle.spec.specs.NodeFormat.{LastLink};
 ghost use Rattle.difference_laws.specs.Lines.{link_without, links_in, repeats};
 ghost use Rattle.difference.specs.Sides.{HasLinks, IsNoted, line_of};
 
+use crate::keys::Key;
 use cid::Cid;
 use std::alloc::{AllocError, Allocator};
 use std::clone::Clone;
@@ -14,7 +15,7 @@ use std::collections::BTreeSet;
 #[derive(Drop)]
 pub(crate) struct Row<A: Allocator> {
     pub(crate) link: Option<Cid>,
-    pub(crate) key: Vec<u8, A>,
+    pub(crate) key: Key<A>,
     pub(crate) value: Cid,
 }
 

@@ -3,14 +3,24 @@
 ghost use Rattle.std.specs.Prelude.{◌≡◌, ◌↔◌, ◌+◌, ◌<◌, ◌∷◌, [], length, IsTrue, IfSome, IfNone, IfOk, IfErr};
 ghost use Rattle.edit_laws.specs.Pairs.{Ascending};
 ghost use Rattle.difference_laws.specs.Laws.{IsDifference};
-ghost use Rattle.difference.specs.Merged.{AreLast, IsLastOf, IsUnsorted, pairs_in, told, told_of};
+ghost use Rattle.difference.specs.Merged.{AreLast, IsLastOf, IsUnsorted, greatest_of, pairs_in, told};
 
 use crate::faults::DifferenceFault;
+use crate::keys::Key;
 use crate::line::Row;
 use crate::outcome::KeyDifference;
+use cid::Cid;
 use std::alloc::Allocator;
 use std::clone::Clone;
 use std::cmp::Ordering;
+
+/// The greatest key of two lists, with what each has of it.
+#[derive(Drop)]
+struct Greatest<A: Allocator> {
+    key: Key<A>,
+    before: Option<Cid>,
+    after: Option<Cid>,
+}
 
 /// The pairs whose keys differ between two lists, in the order of the keys; `NotTree` where keys don't ascend.
 pub(crate) fn merged<A: Allocator + Clone>(
@@ -27,24 +37,26 @@ pub(crate) fn merged<A: Allocator + Clone>(
     if !is_ascending(&old) || !is_ascending(&new) {
         return Err(DifferenceFault::NotTree);
     }
-    let mut changes = Vec::new(alloc);
+    let mut changes = Vec::new(alloc.clone()?);
     let mut old = old;
     let mut new = new;
-    'rows: while let Some(change) = take_last(&mut old, &mut new) {
-        if is_kept(&change) {
+    'rows: while let Some(last) = take_last(&mut old, &mut new) {
+        if is_kept(&last) {
             continue;
         }
-        changes.push(change)?;
+        let Greatest { key, before, after } = last;
+        let key = key.into_vec(alloc.clone()?)?;
+        changes.push(KeyDifference { key, before, after })?;
     }
     changes.reverse();
     Ok(changes)
 }
 
 /// Whether a key has the same in both.
-fn is_kept<A: Allocator>(change: &KeyDifference<A>) -> bool
-    ensures { IsTrue result ↔ (change.now.before ≡ change.now.after) }
+fn is_kept<A: Allocator>(last: &Greatest<A>) -> bool
+    ensures { IsTrue result ↔ (last.now.before ≡ last.now.after) }
 {
-    match (change.before, change.after) {
+    match (last.before, last.after) {
         (None, None) => true,
         (None, Some(_)) => false,
         (Some(_), None) => false,
@@ -56,11 +68,11 @@ fn is_kept<A: Allocator>(change: &KeyDifference<A>) -> bool
 fn take_last<A: Allocator>(
     old: &mut Vec<Row<A>, A>,
     new: &mut Vec<Row<A>, A>,
-) -> Option<KeyDifference<A>>
-    ensures last { IfSome result (λ change.
+) -> Option<Greatest<A>>
+    ensures last { IfSome result (λ last.
         IsLastOf (pairs_in old.old.items) (pairs_in new.old.items)
-        (pairs_in old.new.items) (pairs_in new.new.items) (told_of change)) }
-    ensures less { IfSome result (λ change. length old.new.items + length new.new.items
+        (pairs_in old.new.items) (pairs_in new.new.items) (greatest_of last)) }
+    ensures less { IfSome result (λ last. length old.new.items + length new.new.items
         < length old.old.items + length new.old.items) }
     ensures old_empty { IfNone result (old.old.items ≡ []) }
     ensures new_empty { IfNone result (new.old.items ≡ []) }
@@ -68,7 +80,7 @@ fn take_last<A: Allocator>(
     match last_order(old, new)? {
         Ordering::Less => {
             let row = new.pop()?;
-            Some(KeyDifference {
+            Some(Greatest {
                 key: row.key,
                 before: None,
                 after: Some(row.value),
@@ -77,7 +89,7 @@ fn take_last<A: Allocator>(
         Ordering::Equal => {
             let row = old.pop()?;
             let other = new.pop()?;
-            Some(KeyDifference {
+            Some(Greatest {
                 key: row.key,
                 before: Some(row.value),
                 after: Some(other.value),
@@ -85,7 +97,7 @@ fn take_last<A: Allocator>(
         }
         Ordering::Greater => {
             let row = old.pop()?;
-            Some(KeyDifference {
+            Some(Greatest {
                 key: row.key,
                 before: Some(row.value),
                 after: None,
@@ -110,7 +122,7 @@ fn last_order<A: Allocator>(old: &[Row<A>], new: &[Row<A>]) -> Option<Ordering>
     let [.., y] = new else {
         return Some(Ordering::Greater);
     };
-    Some(x.key.as_slice().cmp(y.key.as_slice()))
+    Some(x.key.bytes().cmp(y.key.bytes()))
 }
 
 /// Whether keys ascend strictly.
@@ -135,5 +147,5 @@ fn comes_first<A: Allocator>(row: &Row<A>, others: &[Row<A>]) -> bool
     let [next, ..] = others else {
         return true;
     };
-    next.key.as_slice().cmp(row.key.as_slice()).is_gt()
+    next.key.bytes().cmp(row.key.bytes()).is_gt()
 }

@@ -12,6 +12,7 @@ ghost use Rattle.difference.specs.Sides.{AreOpened, AreStopped, IsBegun, IsLackA
 ghost use Rattle.difference.specs.Starts.{IsStart, side_in};
 
 use crate::faults::DifferenceFault;
+use crate::keys::Key;
 use crate::line::{Line, Links, Row, unless};
 use crate::read_nodes::ReadNode;
 use block::Block;
@@ -118,7 +119,7 @@ impl<'a, D: Digest + 'a, A: Allocator + Clone + 'a> Side<'a, D, A> {
                 return Ok(link);
             };
             let value = value.to_cid();
-            let key = Vec::from_slice(self.alloc()?, entries.key())?;
+            let key = Key::of(self.alloc()?, entries.key())?;
             self.line.rows.push(Row { link, key, value })?;
         }
     }
@@ -212,7 +213,8 @@ impl<'a, D: Digest + 'a, A: Allocator + Clone + 'a> Side<'a, D, A> {
             + length (links_in (without shared.now.keys (line_of self.old.line))) }
         ensures same { S.gives src.new ≡ S.gives src.old }
     {
-        let empty = Vec::new(self.alloc()?);
+        let room = self.line.rows.len().saturating_mul(2);
+        let empty = Vec::with_capacity(self.alloc()?, room)?;
         let rows = mem::replace(&mut self.line.rows, empty);
         self.open_rows(src, rows, shared)?;
         let last = self.line.last;

@@ -1,7 +1,6 @@
 //! The lines of the changes between two files.
-ghost use Rattle.std.specs.Prelude.{◌≡◌, ◌++◌, ◌∷◌, [], true, IfOk, OnOk, option_map};
+ghost use Rattle.std.specs.Prelude.{◌≡◌, ◌++◌, true, IfOk, OnOk, option_map};
 ghost use Rattle.std.specs.List.{flat_map};
-ghost use Rattle.hex.specs.Hex.{encode_lower};
 ghost use Rattle.spec.specs.Blocks.{value_of};
 ghost use Rattle.spec.specs.NodeFormat.{is_ascending};
 ghost use Rattle.difference.specs.Merged.{told, told_of};
@@ -13,7 +12,6 @@ use cid::Cid;
 use console::push_value;
 use difference::KeyDifference;
 use std::alloc::{AllocError, Allocator};
-use std::cmp::Ordering;
 
 /// The lines of these changes.
 pub(crate) fn lines_of<A: Allocator + Copy>(

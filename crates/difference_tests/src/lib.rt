@@ -7,6 +7,8 @@ mod fetching;
 #[cfg(test)]
 mod fixtures;
 #[cfg(test)]
+mod key_lengths;
+#[cfg(test)]
 mod lacking;
 #[cfg(test)]
 mod large;

@@ -51,10 +51,18 @@ pub returns-in_err-old_side-clause-unread : goal.returns-in_err-old_side-clause-
 returns-in_err-old_side-clause-unread g c = λ e. (let other : c.args.old ≢ c.args.new = search rules in absurd (other e))
 
 pub returns-clause-equal : goal.returns-clause-equal
-returns-clause-equal g c = λ e. (let other : c.args.old ≢ c.args.new = search rules in absurd (other e))
+returns-clause-equal g c = λ e.
+    let is = c.eq.ensures in
+    let no = c.if-eq.false in
+    let other : c.args.old ≢ c.args.new = search rules in
+    absurd (other e)
 
 pub returns-clause-unread : goal.returns-clause-unread
-returns-clause-unread g c = λ e. (let other : c.args.old ≢ c.args.new = search rules in absurd (other e))
+returns-clause-unread g c = λ e.
+    let is = c.eq.ensures in
+    let no = c.if-eq.false in
+    let other : c.args.old ≢ c.args.new = search rules in
+    absurd (other e)
 
 pub returns-clause-compared : goal.returns-clause-compared
 returns-clause-compared g c = λ es fs h k.
