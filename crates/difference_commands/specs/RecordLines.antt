@@ -1,6 +1,7 @@
 -- Lines `KEY HEX`, each a record under its key (a choice of this project).
 use Rattle.std.specs.Prelude.{ℕ, List, [], ◌∷◌, Option, Some, None, Result, Ok, Err}
 use Rattle.std.specs.List.{before_first, after_first}
+use Rattle.spec.specs.Reading.{◌>>=◌}
 use Rattle.spec.specs.Writes.{WriteFault, Put, write_test}
 use Rattle.console.specs.Lines.{numbered_lines, is_space, bytes_of_hex}
 use Rattle.tree_command.specs.TreeText.{last_of_each_key}
