@@ -66,9 +66,14 @@ mod file;
 mod left;
 mod message;
 mod ops;
+mod stamps;
+mod sync_told;
+mod syncing;
 mod told;
 mod writing;
 
 pub use fault::UntoldFault;
+pub use sync_told::SyncTold;
+pub use syncing::sync_event;
 pub use told::Told;
 pub use writing::commit_event;
