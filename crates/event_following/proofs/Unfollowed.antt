@@ -23,7 +23,8 @@ use Rattle.commit_events.specs.Views.{event_fault_of, HasNoWant}
 use Rattle.commit_events.specs.declared.fault.EventFault.{EventFault}
 use Rattle.commit_events.specs.declared.fault.EventFault.TheVariants as events
 use Rattle.event_following.specs.Following.{stamp_in}
-use Rattle.event_following.specs.Refusals.{AtPlace, IsUnfollowed, WithMessage, fulls_after_fault, refused_as, unread_as}
+use Rattle.event_following.specs.Refusals.{AtPlace, HasRecords, IsUnfollowed, WithMessage, fulls_after_fault, refused_as, unread_as}
+use Rattle.event_following.proofs.Records.{none-missing}
 use Rattle.event_following.specs.declared.fault.FollowingFault.{FollowingFault}
 use Rattle.event_following.specs.declared.fault.FollowingFault.TheVariants as followings
 
@@ -75,6 +76,15 @@ module _ {D A : Type 0} (digest : List ℕ → List ℕ) (bits : ℕ) (s : State
     refused-is ds same fault told e h =
         subst (λ (f : FollowingFault D A). IsUnfollowed digest bits s message full fuller f)
         (ap (λ (xs : List Placed). refused_as xs fault) (sym same) ∙ sym e) (refused-so fault h)
+
+    -- no record is missing
+    pub has-records : (fault : TakingFault D A)
+        → IsRefused digest bits s (stamp_in x.event) (blocks_of x.sections) (ordered_ops x.event.ops) full fuller fault
+        → HasRecords fault
+    has-records (takings.RecordMissing i) h = none-missing digest (state_root digest bits s) message x read i h
+    has-records (takings.OtherValue i) h = tt
+    has-records (takings.Refused i fault) h = tt
+    has-records takings.NoMemory h = tt
 
     -- the operations lead to another root
     pub other-root : (t : Bool)

@@ -64,7 +64,12 @@ abbrev pub unread_as : {D A : Type 0} → EventFault → FollowingFault D A
 unread_as events.NoMemory = followings.NoMemory
 unread_as fault = followings.Message fault
 
--- what a refusal of the batch is here, whose writes are those of these operations; a record for each was found before
+-- no record is missing
+abbrev pub HasRecords : {D A : Type 0} → TakingFault D A → Type 0
+HasRecords (takings.RecordMissing i) = ⊥
+HasRecords fault = ⊤
+
+-- what a refusal of the batch is here, whose writes are those of these operations, where no record is missing
 abbrev pub refused_as : {D A : Type 0} → List Placed → TakingFault D A → FollowingFault D A
 refused_as sorted (takings.RecordMissing i) = followings.NoMemory
 refused_as sorted (takings.OtherValue i) = followings.OtherValue (place_of sorted i)

@@ -10,7 +10,7 @@ ghost use Rattle.repo.specs.Readings.{has_block};
 ghost use Rattle.event_format.specs.Views.{event_of};
 ghost use Rattle.commit_events.specs.Views.{checked_of};
 ghost use Rattle.event_following.specs.Following.{IsFollowed, stamp_in};
-ghost use Rattle.event_following.specs.Refusals.{IsUnfollowed, fulls_after_following, refused_as, unread_as};
+ghost use Rattle.event_following.specs.Refusals.{HasRecords, IsUnfollowed, fulls_after_following, refused_as, unread_as};
 
 use crate::fault::FollowingFault;
 use crate::leading::{lead_to, root_named};
@@ -123,6 +123,7 @@ fn refused<D: Digest, A: Allocator>(
     fault: TakingFault<D, A>,
     sorted: &[Placed<'_>],
 ) -> FollowingFault<D, A>
+    requires { HasRecords fault }
     ensures { result ≡ refused_as sorted.now fault }
 {
     match fault {
@@ -130,6 +131,7 @@ fn refused<D: Digest, A: Allocator>(
         TakingFault::Refused(place, fault) => {
             FollowingFault::Refused(place_of(sorted, place), fault)
         }
-        TakingFault::RecordMissing(_) | TakingFault::NoMemory => FollowingFault::NoMemory,
+        TakingFault::NoMemory => FollowingFault::NoMemory,
+        TakingFault::RecordMissing(_) => unreachable!(),
     }
 }

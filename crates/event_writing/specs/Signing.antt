@@ -1,5 +1,6 @@
 -- A batch that is accepted signed, with its message, and why it isn't.
-use Rattle.std.specs.Prelude.{◌≡◌, ⊤, ℕ, suc, cond, List, ◌++◌, Option, Some, None, Result, Ok, Err}
+use Rattle.std.specs.Prelude.{◌≡◌, ⊤, ℕ, suc, cond, List, ◌++◌, Result, Ok, Err}
+use Rattle.spec.specs.Reading.{Fails}
 use Rattle.spec.specs.Blocks.{IsClashFree, nodes, pairs}
 use Rattle.spec.specs.Stamps.{Stamp}
 use Rattle.spec.specs.Writes.{Write}
@@ -14,6 +15,7 @@ use Rattle.event_writing_laws.specs.Signed.{batch_changes, signed_event, signed_
 use Rattle.batches.specs.declared.fault.RepoFault.{RepoFault}
 use Rattle.batches.specs.declared.fault.RepoFault.TheVariants as faults
 use Rattle.repo.specs.Fulls.{is_full}
+use Rattle.repo.specs.Prepared.{Prepared}
 use Rattle.repo.specs.Refusals.{IsRefusal}
 use Rattle.event_writing.specs.Views.{untold_fault_of}
 use Rattle.event_writing.specs.declared.fault.UntoldFault.{UntoldFault}
@@ -26,10 +28,11 @@ abbrev pub IsNoWant : {D A : Type 0} → RepoFault D A → Type 0 → Type 0
 IsNoWant faults.NoMemory P = ⊥
 IsNoWant fault P = P
 
--- this fault is the definition's, and no want of memory
-abbrev pub IsFaultOf : {A : Type 0} → Option telling.UntoldFault → Result A telling.UntoldFault → Type 0
-IsFaultOf None read = ⊥
-IsFaultOf (Some f) read = read ≡ Err f
+-- the fault that the message has, which is no want of memory
+abbrev pub IsUntold : UntoldFault → Result (List ℕ) telling.UntoldFault → Type 0
+IsUntold errors.NoMemory read = ⊥
+IsUntold (errors.Form forms.NoMemory) read = ⊥
+IsUntold fault read = Fails (untold_fault_of fault) read
 
 -- The root before is another one; where it isn't, the batch is refused, or passes and can't be told; or memory is wanted.
 abbrev pub IsUnsigned : {D A : Type 0} → (List ℕ → List ℕ) → ℕ → State → List ℕ → Stamp → List Write → Told → ℕ → ℕ
@@ -40,8 +43,13 @@ IsUnsigned digest bits s previous stamp batch told full fuller (signings.Refused
     × IsRefusal digest bits s stamp batch full fuller (place, fault))
 IsUnsigned digest bits s previous stamp batch told full fuller (signings.Untold fault) =
     (previous ≡ state_root digest bits s) × (state_test s stamp batch ≡ Ok tt)
-    × IsFaultOf (untold_fault_of fault) (signed_message digest bits s stamp batch told)
+    × IsUntold fault (signed_message digest bits s stamp batch told)
 IsUnsigned digest bits s previous stamp batch told full fuller signings.NoMemory = ⊤
+
+-- of a batch that was prepared, before the store is asked
+abbrev pub IsPreparedFault : {D A : Type 0} → (List ℕ → List ℕ) → ℕ → Prepared → Told → SigningFault D A → Type 0
+IsPreparedFault digest bits p told fault =
+    (full : ℕ) → IsUnsigned digest bits p.before (state_root digest bits p.before) p.stamp p.writes told full full fault
 
 -- how often a store has answered that it's full: once more just where the batch is refused so
 abbrev pub fulls_after_fault : {D A : Type 0} → ℕ → SigningFault D A → ℕ
