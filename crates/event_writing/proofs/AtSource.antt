@@ -57,6 +57,12 @@ pub lent-given : {X A : Type 0} (view : X → Arc (List ℕ) A) (lent : Option X
 lent-given view None given e = ap (λ (o : Option (Arc _ _)). cons_option (option_map arc_value o) []) e
 lent-given view (Some x) given e = ap (λ (o : Option (Arc _ _)). cons_option (option_map arc_value o) []) e
 
+-- under a CID, where there is one
+pub lent-at : {X A : Type 0} (view : X → Arc (List ℕ) A) (lent : Option X) (gives : List ℕ → Option (Arc (List ℕ) A))
+    (cid : Option (List ℕ)) (c : List ℕ) → cid ≡ Some c → option_map view lent ≡ gives c
+    → cons_option (option_map (λ x. arc_value (view x)) lent) [] ≡ record_given gives cid
+lent-at view lent gives cid c is e = lent-given view lent (gives c) e ∙ ap (record_given gives) (sym is)
+
 found-case : (e : List ℕ × List ℕ) (m : Records) (b : List ℕ) (t : Bool) (o : Option (List ℕ))
     → (o ≡ Some b → Contains (record_blocks m) b) → cond t (Some e.1) o ≡ Some b → Contains (record_blocks (e ∷ m)) b
 found-case e m b true o i h =

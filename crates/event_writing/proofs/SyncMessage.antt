@@ -40,11 +40,11 @@ module _ (digest : List ℕ → List ℕ) (bits : ℕ) (m : List (List ℕ × Li
       subst (λ (t : Result (List ℕ) Untold). Gives view fault r t) (sym is) h
 
 -- the message of a file that was made
-pub sync-made : (digest : List ℕ → List ℕ) (stamp : Stamp) (commit : List ℕ) (told : SyncTold) (file file2 bytes : List ℕ)
-    → short_commit_file (commit_file digest commit) ≡ Ok file → file2 ≡ file → bytes ≡ sync_bytes (sync_of told stamp file2)
-    → sync_with digest stamp commit told ≡ Ok bytes
+pub sync-made : (digest : List ℕ → List ℕ) (stamp : Stamp) (block : List ℕ) (told : SyncTold) (file file2 bytes : List ℕ)
+    → short_commit_file (commit_file digest block) ≡ Ok file → file2 ≡ file → bytes ≡ sync_bytes (sync_of told stamp file2)
+    → sync_with digest stamp block told ≡ Ok bytes
 unfolding sync_with
-sync-made digest stamp commit told file file2 bytes is f b =
+sync-made digest stamp block told file file2 bytes is f b =
     ap (λ (r : Result (List ℕ) Untold). r >>= (λ (x : List ℕ). Ok (sync_bytes (sync_of told stamp x)))) is
     ∙ ap (λ (x : List ℕ). Ok x) (sym (b ∙ ap (λ (x : List ℕ). sync_bytes (sync_of told stamp x)) f))
 

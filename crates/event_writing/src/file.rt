@@ -55,21 +55,21 @@ fn put_nodes<D: Digest, A: Allocator + Clone>(
     Ok(())
 }
 
-/// Puts the record with this CID, if there is one.
+/// Puts the record that an operation leaves, if it leaves one.
 fn put_record<'a, D: Digest + 'a, A: Allocator + Clone + 'a, S: Source<&'a Arc<Block<D, A>, A>>>(
     file: &mut CarWriter<A>,
     src: &mut S,
-    cid: &Option<Cid>,
+    op: &KeyChange<'_>,
 ) -> Result<(), UntoldFault>
     requires short { length file.old.bytes ≤ most_blocks_bytes }
-    ensures put { OnOk result (ArePut D.digest_of (record_given (S.gives src.old) cid.now)
+    ensures put { OnOk result (ArePut D.digest_of (record_given (S.gives src.old) op.now.after)
         file.old file.new) }
     ensures short { OnOk result (length file.new.bytes ≤ most_blocks_bytes) }
     ensures fault { IfErr result (IsTooLong D.digest_of
-        (record_given (S.gives src.old) cid.now) file.old) }
+        (record_given (S.gives src.old) op.now.after) file.old) }
     ensures same { S.gives src.new ≡ S.gives src.old }
 {
-    match record_of::<D, A, S>(src, cid) {
+    match record_of::<D, A, S>(src, &op.after) {
         Some(record) => put(file, record),
         None => Ok(()),
     }
@@ -95,7 +95,7 @@ fn put_records<
     ensures same { S.gives src.new ≡ S.gives src.old }
 {
     for op in ops {
-        put_record::<D, A, S>(file, src, &op.after)?;
+        put_record::<D, A, S>(file, src, op)?;
     }
     Ok(())
 }

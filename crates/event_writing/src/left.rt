@@ -77,7 +77,7 @@ pub(crate) fn record_of<
     src: &mut S,
     cid: &Option<Cid>,
 ) -> Option<&'a Arc<Block<D, A>, A>>
-    ensures found { cons_option (option_map (λ record. arc_value record.now) result) []
+    ensures found { cons_option (option_map (λ block. arc_value block.now) result) []
         ≡ record_given (S.gives src.old) cid.now }
     ensures same { S.gives src.new ≡ S.gives src.old }
 {

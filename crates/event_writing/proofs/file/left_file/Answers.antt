@@ -1,4 +1,4 @@
-use Rattle.std.proofs.Common.{◌≡◌, List, ℕ, map, sym, ap, subst, ◌∙◌, Err}
+use Rattle.std.proofs.Common.{◌≡◌, List, ℕ, map, ap, subst, ◌∙◌, Err}
 use Rattle.std.specs.Arc.{arc_value}
 use Rattle.std.proofs.lemmas.Result.{err_from_is_err_and}
 use Rattle.spec.specs.Cid.{cid}
@@ -21,9 +21,9 @@ begun digest w root commit e h bs = h bs ∙ ap (λ (r : List ℕ). car_of diges
 
 pub returns-in_err-nodes-clause-file : goal.returns-in_err-nodes-clause-file
 returns-in_err-nodes-clause-file g c =
-    let p = err_from_is_err_and c.from_residual-in_err-nodes.result c.from_residual-in_err-nodes.ensures.1 in
+    let p = err_from_is_err_and c.from_residual.result c.from_residual.ensures.1 in
     let e = c.in_err-nodes.field-0.0 in
-    λ m has. gives-err _ e c.from_residual-in_err-nodes.result _ (p.1 ∙ ap Err p.2)
+    λ m has. gives-err _ e c.from_residual.result _ (p.1 ∙ ap Err p.2)
     (test-fails g.D.Digest.digest_of g.row.B m c.args.commit.now c.args.ops.now (untold_fault_of e) (c.in_err-nodes.ensures.told m has))
 
 pub returns-in_err-put-clause-file : goal.returns-in_err-put-clause-file

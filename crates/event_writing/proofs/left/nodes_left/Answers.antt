@@ -10,10 +10,10 @@ use Rattle.event_writing.proofs.left.nodes_left.Goals as goal
 
 pub returns-in_err-nodes-clause-told : goal.returns-in_err-nodes-clause-told
 returns-in_err-nodes-clause-told g c =
-    let p = err_from_is_err_and c.from_residual-in_err-nodes.result c.from_residual-in_err-nodes.ensures.1 in
+    let p = err_from_is_err_and c.from_residual.result c.from_residual.ensures.1 in
     let e = c.in_err-nodes.field-0.0 in
     let digest = g.D.Digest.digest_of in
-    λ m has. gives-err _ e c.from_residual-in_err-nodes.result _ (p.1 ∙ ap Err p.2)
+    λ m has. gives-err _ e c.from_residual.result _ (p.1 ∙ ap Err p.2)
     (values-left digest m c.args.ops.now (untold_fault_of e) (c.in_err-nodes.ensures.told (pairs digest m) has.tree))
 
 pub returns-in_err-test_sizes-clause-told : goal.returns-in_err-test_sizes-clause-told

@@ -9,6 +9,6 @@ returns-in-Ok-clause-told g c = λ es has. ap of_values (c.in-Ok.ensures.proof e
 pub returns-in-Ok-clause-nodes : goal.returns-in-Ok-clause-nodes
 returns-in-Ok-clause-nodes g c = λ es has. (c.in-Ok.ensures.proof es has).nodes_are
 
-pub returns-clause-told : goal.returns-clause-told
-returns-clause-told g c = λ es has.
+pub returns-in-Err-clause-told : goal.returns-in-Err-clause-told
+returns-in-Err-clause-told g c = λ es has.
     values-fail es c.args.ops.now c.in-Err.fault c.untold.result c.untold.ensures (c.in-Err.ensures.fault es has)

@@ -1,4 +1,4 @@
-use Rattle.std.proofs.Common.{◌<◌, length, ap, sym, subst, ◌∙◌, Err, arith, List, ℕ, Option, Result}
+use Rattle.std.proofs.Common.{◌<◌, length, ap, sym, subst, ◌∙◌, Err, arith}
 use Rattle.std.proofs.lemmas.Result.{err_from_is_err_and}
 use Rattle.spec.specs.Reading.{Fails}
 use Rattle.event_writing.specs.Views.{untold_fault_of}

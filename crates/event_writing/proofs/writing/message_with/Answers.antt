@@ -8,9 +8,9 @@ use Rattle.event_writing.proofs.writing.message_with.Goals as goal
 
 pub returns-in_err-file : goal.returns-in_err-file
 returns-in_err-file g c =
-    let p = err_from_is_err_and c.from_residual-in_err-file.result c.from_residual-in_err-file.ensures.1 in
+    let p = err_from_is_err_and c.from_residual.result c.from_residual.ensures.1 in
     let e = c.in_err-file.field-0.0 in
-    λ m has. gives-err _ e c.from_residual-in_err-file.result _ (p.1 ∙ ap Err p.2)
+    λ m has. gives-err _ e c.from_residual.result _ (p.1 ∙ ap Err p.2)
     (file-fails g.D.Digest.digest_of g.row.B m (stamp_of c.args.stamp.now) c.args.commit.now c.args.before.now c.args.ops.now
     (told_of c.args.told.now) (untold_fault_of e) (c.in_err-file.ensures.file m has))
 

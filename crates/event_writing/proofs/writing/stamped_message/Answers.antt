@@ -1,4 +1,4 @@
-use Rattle.std.proofs.Common.{◌≡◌, List, true, sym, ap, subst, ◌∙◌, Err, rules}
+use Rattle.std.proofs.Common.{◌≡◌, List, true, refl, sym, ap, subst, ◌∙◌, Err}
 use Rattle.std.proofs.lemmas.Result.{err_from_is_err_and}
 use Rattle.batches.specs.Values.{stamp_of}
 use Rattle.key_changes.specs.Keyed.{are_changes}
@@ -10,9 +10,9 @@ use Rattle.event_writing.proofs.writing.stamped_message.Goals as goal
 
 pub returns-in_err-test_told : goal.returns-in_err-test_told
 returns-in_err-test_told g c =
-    let p = err_from_is_err_and c.from_residual-in_err-test_told.result c.from_residual-in_err-test_told.ensures.1 in
+    let p = err_from_is_err_and c.from_residual.result c.from_residual.ensures.1 in
     let e = c.in_err-test_told.field-0.0 in
-    λ m has. gives-err _ e c.from_residual-in_err-test_told.result _ (p.1 ∙ ap Err p.2)
+    λ m has. gives-err _ e c.from_residual.result _ (p.1 ∙ ap Err p.2)
     (told-fails g.D.Digest.digest_of g.row.B m (stamp_of c.args.stamp.now) c.args.before.now
     c.args.changes.now (told_of c.args.told.now) c.deref.result.now (untold_fault_of e) c.deref.ensures.value c.in_err-test_told.ensures)
 
@@ -26,8 +26,8 @@ returns-in_err-ops g c =
     c.deref.ensures.value c.in_ok-test_told.ensures c.in_err-ops.ensures.told)
 
 pub signed_message-requires : goal.signed_message-requires
-signed_message-requires g c = (
-  search (c.requires-raw, rules),
+signed_message-requires g c = λ k. (
+  (refl, tt),
   (
     c.requires.least,
     subst (λ (xs : List KeyChange). are_changes (undone xs) ≡ true) (sym c.deref-2.ensures.value) c.in_ok-ops.ensures.changes,
