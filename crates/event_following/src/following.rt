@@ -1,11 +1,15 @@
 //! A message, followed.
 
-ghost use Rattle.std.specs.Prelude.{◌≡◌, ◌≤◌, [], true, IfErr, IfOk, OnErr};
+ghost use Rattle.std.specs.Prelude.{◌≡◌, ◌≤◌, [], true, IfErr, IfOk, OnErr, OnOk};
 ghost use Rattle.spec.specs.CarReading.{blocks_of};
-ghost use Rattle.spec.specs.States.{IsLawful};
 ghost use Rattle.store.specs.Stores.{IsStore};
 ghost use Rattle.batches.specs.Values.{stamp_of};
 ghost use Rattle.kept.specs.Entering.{Enters};
+ghost use Rattle.key_changes.specs.Keyed.{are_changes};
+ghost use Rattle.change_laws.specs.Told.{undone};
+ghost use Rattle.event_laws.specs.Verdict.{ordered, placed_from};
+ghost use Rattle.difference_taking.specs.Refusals.{IsRefused, fulls_after_taking};
+ghost use Rattle.difference_taking.specs.Taking.{DifferOnlyBy, IsTaken};
 ghost use Rattle.repo.specs.Readings.{has_block};
 ghost use Rattle.event_format.specs.Views.{event_of};
 ghost use Rattle.commit_events.specs.Views.{checked_of};
@@ -20,6 +24,7 @@ use cid::Digest;
 use commit_events::{CheckedCommit, EventFault, Placed, changes_of, in_order, place_of, read_commit};
 use difference_taking::{TakingFault, take_difference};
 use event_format::Event;
+use key_changes::KeyChange;
 use repo::{Applied, Core};
 use std::alloc::{AllocError, Allocator};
 use std::sync::Arc;
@@ -82,16 +87,59 @@ pub fn check_and_apply<
         Ok(checked) => checked,
         Err(fault) => return Err(unread(fault)),
     };
-    let sorted = in_order(alloc, &checked.event.ops)?;
+    let sorted = sorted_ops(alloc, &checked.event)?;
     let changes = changes_of(alloc, &sorted)?;
-    if !lead_to::<D, B, A>(alloc, core, &changes, &root_named(&checked.commit))? {
+    let leads = lead_to::<D, B, A>(alloc, core, &changes, &root_named(&checked.commit))?;
+    if !leads {
         return Err(FollowingFault::OtherRoot);
     }
-    let stamp = stamp_of_event(alloc, &checked.event)?;
-    match take_difference(alloc, store, core, &stamp, &changes, &checked.sections) {
+    match taken(alloc, store, core, &checked, &changes) {
         Ok(applied) => Ok(Followed { checked, applied }),
         Err(fault) => Err(refused(fault, &sorted)),
     }
+}
+
+/// The operations of a message in the order of their keys.
+fn sorted_ops<'a, A: Allocator + Copy>(
+    alloc: A,
+    event: &Event<'a, A>,
+) -> Result<Vec<Placed<'a>, A>, AllocError>
+    ensures { IfOk result (λ sorted. sorted.items
+        ≡ ordered [] (placed_from 0 (event_of event.now).ops)) }
+{
+    in_order(alloc, &event.ops)
+}
+
+/// Makes the changes of a message one batch, and applies it.
+fn taken<
+    D: Digest,
+    const B: u8,
+    A: Allocator + Copy,
+    S: BlockStore<Arc<Block<D, A>, A>, Hold<D, A>, StoreFault<D, A>>,
+>(
+    alloc: A,
+    store: &mut S,
+    core: &mut Core<D, B, A>,
+    checked: &CheckedCommit<'_, A>,
+    changes: &[KeyChange<'_>],
+) -> Result<Applied, TakingFault<D, A>>
+    requires store { IsStore D.digest_of S.BlockStore }
+    requires changes { are_changes (undone changes.now) ≡ true }
+    ensures taken { IfOk result (IsTaken D.digest_of B core.old core.new
+        (stamp_in (checked_of checked.now).event) (blocks_of (checked_of checked.now).sections)
+        changes.now) }
+    ensures differ { OnOk result (DifferOnlyBy D.digest_of core.old core.new changes.now) }
+    ensures fault { IfErr result (IsRefused D.digest_of B core.old
+        (stamp_in (checked_of checked.now).event) (blocks_of (checked_of checked.now).sections)
+        changes.now (S.fulls store.old) (S.fulls store.new)) }
+    ensures unchanged { OnErr result (core.new ≡ core.old) }
+    ensures counted { S.fulls store.new ≡ fulls_after_taking (S.fulls store.old) result }
+    ensures entered { Enters D.digest_of S.BlockStore core.old.me
+        (has_block D.digest_of B core.old) (has_block D.digest_of B core.new)
+        store.old store.new }
+{
+    let stamp = stamp_of_event(alloc, &checked.event)?;
+    take_difference(alloc, store, core, &stamp, changes, &checked.sections)
 }
 
 /// The stamp of a message's batch.
