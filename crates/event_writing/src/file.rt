@@ -76,12 +76,7 @@ fn put_record<'a, D: Digest + 'a, A: Allocator + Clone + 'a, S: Source<&'a Arc<B
 }
 
 /// Puts the records that operations leave.
-fn put_records<
-    'a,
-    D: Digest + 'a,
-    A: Allocator + Clone + 'a,
-    S: Source<&'a Arc<Block<D, A>, A>>,
->(
+fn put_records<'a, D: Digest + 'a, A: Allocator + Clone + 'a, S: Source<&'a Arc<Block<D, A>, A>>>(
     file: &mut CarWriter<A>,
     src: &mut S,
     ops: &[KeyChange<'_>],

@@ -47,12 +47,7 @@ fn shown<
     const B: u8,
     A: Allocator + Copy + 'a,
     S: Source<&'a Arc<Block<D, A>, A>>,
->(
-    alloc: A,
-    src: &mut S,
-    root: Cid,
-    ops: &[KeyChange<'_>],
-) -> Result<Nodes<D, A>, UntoldFault>
+>(alloc: A, src: &mut S, root: Cid, ops: &[KeyChange<'_>]) -> Result<Nodes<D, A>, UntoldFault>
     requires least { 1 ≤ B }
     requires changes { are_changes (undone ops.now) ≡ true }
     ensures told { OfTree D.digest_of B (S.gives src.old) root (λ es. Gives (λ nodes. tt)
@@ -68,12 +63,7 @@ fn shown<
 }
 
 /// The record with this CID, if there is one.
-pub(crate) fn record_of<
-    'a,
-    D: Digest + 'a,
-    A: Allocator + 'a,
-    S: Source<&'a Arc<Block<D, A>, A>>,
->(
+pub(crate) fn record_of<'a, D: Digest + 'a, A: Allocator + 'a, S: Source<&'a Arc<Block<D, A>, A>>>(
     src: &mut S,
     cid: &Option<Cid>,
 ) -> Option<&'a Arc<Block<D, A>, A>>
@@ -136,12 +126,7 @@ pub(crate) fn nodes_left<
     const B: u8,
     A: Allocator + Copy + 'a,
     S: Source<&'a Arc<Block<D, A>, A>>,
->(
-    alloc: A,
-    src: &mut S,
-    root: Cid,
-    ops: &[KeyChange<'_>],
-) -> Result<Nodes<D, A>, UntoldFault>
+>(alloc: A, src: &mut S, root: Cid, ops: &[KeyChange<'_>]) -> Result<Nodes<D, A>, UntoldFault>
     requires least { 1 ≤ B }
     requires changes { are_changes (undone ops.now) ≡ true }
     ensures told { OfRecords D.digest_of B (S.gives src.old) root (λ m. Gives (λ nodes. tt)
