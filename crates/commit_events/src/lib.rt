@@ -11,8 +11,8 @@
 //! root = checked.commit.root.to_cid();
 //! ```
 //!
-//! [`read_commit`] does the same but for the operations themselves, for who has the repository and does them; [`in_order`] has these
-//! in the order of their keys.
+//! [`read_commit`] does the same but for the operations themselves, for who has the repository and does them; [`in_order`] has
+//! these in the order of their keys.
 //!
 //! `order` has the operations in the order of their keys, `single` looks for two with one key, `blocks` reads what the
 //! message's blocks hold, `known` has these as blocks whose CIDs are known, `changes` undoes the operations on them, and

@@ -1,6 +1,6 @@
 //! The form of messages `#commit` and `#sync` of the event stream `com.atproto.sync.subscribeRepos` (AT Protocol, event streams,
-//! sync 1.1): two values of DAG-CBOR, of which the first is [`HEADER`] or [`SYNC_HEADER`]. The second says what a batch changed, or
-//! in which state a repository is.
+//! sync 1.1): two values of DAG-CBOR, of which the first is [`HEADER`] or [`SYNC_HEADER`]. The second says what a batch
+//! changed, or in which state a repository is.
 //!
 //! - [`read_event`] takes a message's bytes and tests all that needs no blocks. What it says is lent from them. It names the
 //!   first fault, [`FormFault`].

@@ -1,5 +1,5 @@
 -- What the message of a state says.
-use Rattle.std.proofs.Common.{◌≡◌, ℕ, ◌+◌, ◌^◌, ◌<◌, ◌≤◌, Bool, true, List, [], ◌∷◌, length, refl, sym, ap, subst, ◌∙◌, Option, Result, Ok, arith}
+use Rattle.std.proofs.Common.{◌≡◌, ℕ, ◌^◌, ◌<◌, ◌≤◌, true, List, [], ◌∷◌, length, refl, sym, ap, subst, ◌∙◌, Option, Result, Ok, arith}
 use Rattle.std.specs.Prelude.{nat_le, nat_lt, pos}
 use Rattle.std.specs.declared.option.Option.TheVariants.{Some}
 use Rattle.std.specs.Str.{is_utf8, chars}
@@ -9,7 +9,7 @@ use Rattle.spec.specs.Reading.{◌>>=◌}
 use Rattle.spec.specs.Cid.{IsDigest, cid}
 use Rattle.spec.specs.DagCbor.{Fields, Integer, Text, fits_length, is_lawful, is_lawful_within}
 use Rattle.spec.specs.Stamps.{Stamp}
-use Rattle.spec.specs.SignedCommits.{Commit, IsCommit}
+use Rattle.spec.specs.SignedCommits.{Commit}
 use Rattle.spec.specs.States.{State, IsLawful, last_stamp, records}
 use Rattle.spec.proofs.Bools.{and}
 use Rattle.spec.proofs.DagCborLaws.{read-spelling}
