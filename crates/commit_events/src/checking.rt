@@ -13,6 +13,7 @@ ghost use Rattle.event_laws.specs.Reading.{read_event as reading};
 ghost use Rattle.event_laws.specs.Verdict.{commit_verdict, of_form, ordered_ops};
 ghost use Rattle.event_format.specs.Views.{event_of};
 ghost use Rattle.commit_events.specs.Views.{checked_of, event_fault_of, HasNoWant};
+ghost use Rattle.commit_events.specs.Reading.{told_message};
 ghost use Rattle.commit_events.specs.Steps.{IsTrue, event_verdict, shown_commit, single_event as single};
 
 use crate::blocks::{commit, sections};
@@ -73,6 +74,36 @@ fn judged<'a, D: Digest, const B: u8, A: Allocator + Copy>(
     }
     let sections = sections::<D, A>(alloc, &event)?;
     match commit_shown::<D, B, A>(alloc, previous, &event, &sections) {
+        Ok(commit) => Ok(CheckedCommit {
+            event,
+            commit,
+            sections,
+        }),
+        Err(fault) => Err(fault),
+    }
+}
+
+/// What a message says of a repository that had the root `previous` before, or its first fault, as `check_commit` names it, but
+/// for `EventFault::Change`: whether its operations lead from that root to its commit's isn't looked at. It is for who has the
+/// repository, and sees that by doing them.
+#[tactic(auto, unfolding(crate::specs::Reading::told_message))]
+pub fn read_commit<'a, D: Digest, A: Allocator + Copy>(
+    alloc: A,
+    previous: Cid,
+    message: &'a [u8],
+) -> Result<CheckedCommit<'a, A>, EventFault>
+    ensures read { Gives checked_of event_fault_of result
+        (told_message D.digest_of previous message.now) }
+    ensures plain { IfErr result HasNoWant }
+    ensures keyed { IfOk result
+        (λ c. are_changes (undone (ordered_ops c.event.ops.items)) ≡ true) }
+{
+    let event = single_event(alloc, message)?;
+    if !is_after(&event, &previous) {
+        return Err(EventFault::OtherPrevious);
+    }
+    let sections = sections::<D, A>(alloc, &event)?;
+    match commit(alloc, &event, &sections) {
         Ok(commit) => Ok(CheckedCommit {
             event,
             commit,

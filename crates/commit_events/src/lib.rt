@@ -11,6 +11,9 @@
 //! root = checked.commit.root.to_cid();
 //! ```
 //!
+//! [`read_commit`] does the same but for the operations themselves, for who has the repository and does them; [`in_order`] has
+//! these in the order of their keys.
+//!
 //! `order` has the operations in the order of their keys, `single` looks for two with one key, `blocks` reads what the
 //! message's blocks hold, `known` has these as blocks whose CIDs are known, `changes` undoes the operations on them, and
 //! `checking` puts these together. What a message says and when that is true is defined in the crate `event_laws`.
@@ -26,5 +29,6 @@ mod order;
 mod single;
 
 pub use checked::CheckedCommit;
-pub use checking::check_commit;
+pub use checking::{check_commit, read_commit};
 pub use fault::EventFault;
+pub use order::{Placed, changes_of, in_order, place_of};

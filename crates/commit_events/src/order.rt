@@ -14,7 +14,7 @@ use std::marker::Model;
 ///
 /// A contract sees it as the pair of both.
 #[derive(Drop)]
-pub(crate) struct Placed<'k> {
+pub struct Placed<'k> {
     place: usize,
     op: KeyChange<'k>,
 }
@@ -76,8 +76,8 @@ fn place_among(sorted: &[Placed<'_>], key: &[u8]) -> usize
 }
 
 /// The operations in the order of their keys, each with its place; those of one key in the order of their places. A message has
-/// few enough of them that each can be put into its place.
-pub(crate) fn in_order<'k, A: Allocator>(
+/// few enough of them that each can be put into its place. `AllocError` comes where memory was refused.
+pub fn in_order<'k, A: Allocator>(
     alloc: A,
     ops: &[KeyChange<'k>],
 ) -> Result<Vec<Placed<'k>, A>, AllocError>
@@ -97,8 +97,8 @@ pub(crate) fn in_order<'k, A: Allocator>(
     Ok(sorted)
 }
 
-/// The operations alone.
-pub(crate) fn changes_of<'k, A: Allocator>(
+/// The operations alone, in their order. `AllocError` comes where memory was refused.
+pub fn changes_of<'k, A: Allocator>(
     alloc: A,
     sorted: &[Placed<'k>],
 ) -> Result<Vec<KeyChange<'k>, A>, AllocError>
@@ -112,7 +112,7 @@ pub(crate) fn changes_of<'k, A: Allocator>(
 }
 
 /// The place in the message of the operation at a place in the order of the keys, or 0 where there is none.
-pub(crate) fn place_of(sorted: &[Placed<'_>], place: usize) -> usize
+pub fn place_of(sorted: &[Placed<'_>], place: usize) -> usize
     ensures { result ≡ place_in sorted.now place }
 {
     match sorted.get(place) {

@@ -39,6 +39,13 @@ pub five : (v0 v1 v2 v3 v4 v5 a b c d e : List ℕ) → v1 ≡ v0 ++ a → v2 �
 five v0 v1 v2 v3 v4 v5 a b c d e e1 e2 e3 e4 e5 =
     let is : v5 ≡ ((((v0 ++ a) ++ b) ++ c) ++ d) ++ e = cc in is ∙ joined_five v0 a b c d e
 
+-- five fields and no more
+pub last_five : (v0 v1 v2 v3 v4 v5 a b c d e : List ℕ) → v1 ≡ v0 ++ a → v2 ≡ v1 ++ b → v3 ≡ v2 ++ c → v4 ≡ v3 ++ d → v5 ≡ v4 ++ e
+    → v5 ≡ v0 ++ (a ++ (b ++ (c ++ (d ++ (e ++ [])))))
+last_five v0 v1 v2 v3 v4 v5 a b c d e e1 e2 e3 e4 e5 =
+    five v0 v1 v2 v3 v4 v5 a b c d e e1 e2 e3 e4 e5
+    ∙ ap (λ x. v0 ++ (a ++ (b ++ (c ++ (d ++ x))))) (sym (append-nil e))
+
 -- ---- operations
 
 pub count-ops : (cs : List KeyChange) → count_values (values_of_ops cs) ≡ length cs

@@ -66,7 +66,7 @@ fn push_last<A: Allocator>(out: &mut Vec<u8, A>, event: &Event<'_, A>) -> Result
 }
 
 /// Puts the field seq.
-fn push_seq_field<A: Allocator>(out: &mut Vec<u8, A>, seq: u64) -> Result<(), AllocError>
+pub(crate) fn push_seq_field<A: Allocator>(out: &mut Vec<u8, A>, seq: u64) -> Result<(), AllocError>
     ensures { OnOk result (out.new.items ≡ out.old.items
         ++ (string 3 (codes "seq") ++ spelling (Integer (pos seq)))) }
 {

@@ -1,19 +1,18 @@
 -- What a batch left, and the file of it.
-use Rattle.std.proofs.Common.{◌≡◌, ℕ, ◌+◌, ◌<◌, ◌≤◌, List, [], ◌∷◌, ◌++◌, length, drop, get_or, Option, Result, Ok, sym, ap, subst, ◌∙◌, append-nil}
+use Rattle.std.proofs.Common.{◌≡◌, ℕ, ◌≤◌, List, [], ◌∷◌, ◌++◌, length, Option, Result, Ok, sym, ap, subst, ◌∙◌, append-nil}
 use Rattle.std.specs.declared.option.Option.TheVariants.{Some, None}
 use Rattle.spec.specs.Reading.{◌>>=◌, Fails}
 use Rattle.spec.specs.Cid.{cid}
-use Rattle.std.proofs.lemmas.List.{at_drop_more, drop_all}
-use Rattle.spec.specs.Blocks.{pairs, record_at}
+use Rattle.spec.specs.Tree.{Pair}
+use Rattle.spec.specs.Blocks.{pairs}
 use Rattle.spec.specs.Car.{car_of}
-use Rattle.spec.specs.States.{State, records}
 use Rattle.batch_laws.specs.Previous.{values}
 use Rattle.change_laws.specs.Told.{KeyChange, undone}
 use Rattle.change_laws.specs.Laws.{change_path}
 use Rattle.change_laws.specs.Verdict.{are_told}
-use Rattle.change_proofs.specs.Provings.{IsUntrue}
-use Rattle.change_proofs.specs.declared.proving_fault.ProvingFault.{ProvingFault}
-use Rattle.change_proofs.specs.declared.proving_fault.ProvingFault.TheVariants as provings
+use Rattle.change_proofs.specs.Provings.{IsFaultOf}
+use Rattle.change_proofs.specs.declared.change_fault.ChangeFault.{ChangeFault}
+use Rattle.change_proofs.specs.declared.change_fault.ChangeFault.TheVariants as changes
 use Rattle.car_writing.specs.Once.{Written, file_with}
 use Rattle.car_writing.proofs.Putting.{file-ended}
 use Rattle.event_times.specs.Limits.{most_blocks_bytes}
@@ -25,31 +24,32 @@ use Rattle.event_writing.specs.Putting.{ArePut, IsTooLong}
 use Rattle.event_writing.specs.declared.fault.UntoldFault.{UntoldFault}
 use Rattle.event_writing.proofs.Puts.{long-fails, short-is}
 
--- the records from a place on
-pub next-left : (m : List (List ℕ × List ℕ)) (ops : List KeyChange) (i : ℕ) (c : KeyChange) → i < length ops → c ≡ get_or ops i c
-    → records_left m (drop i ops) ≡ record_at m c.key ++ records_left m (drop (i + 1) ops)
-next-left m ops i c lt is =
-    at_drop_more (λ (xs : List KeyChange). records_left m xs) ops i c lt
-    ∙ ap (λ (y : KeyChange). records_left m (y ∷ drop (i + 1) ops)) (sym is)
-
-pub none-left : (m : List (List ℕ × List ℕ)) (ops : List KeyChange) (i : ℕ) → length ops ≤ i → records_left m (drop i ops) ≡ []
-none-left m ops i all = ap (λ (xs : List KeyChange). records_left m xs) (drop_all i ops all)
-
 -- what a proof's fault says is what is said of the values
-pub values-fail : (digest : List ℕ → List ℕ) (s : State) (ops : List KeyChange) (fault : ProvingFault) (untold : UntoldFault)
-    → untold ≡ untold_as fault → IsUntrue digest s ops fault
-    → Fails (untold_fault_of untold) (of_values (are_told 0 (values (undone ops) (pairs digest (records s))) ops))
-values-fail digest s ops (provings.OtherValue place) untold e h =
-    subst (λ (x : UntoldFault). Fails (untold_fault_of x) (of_values (are_told 0 (values (undone ops) (pairs digest (records s))) ops))) (sym e)
-    (ap of_values h)
-values-fail digest s ops provings.NoMemory untold e h =
-    subst (λ (x : UntoldFault). Fails (untold_fault_of x) (of_values (are_told 0 (values (undone ops) (pairs digest (records s))) ops))) (sym e) tt
+pub values-fail : (es : List Pair) (ops : List KeyChange) (fault : ChangeFault) (untold : UntoldFault)
+    → untold ≡ untold_as fault → IsFaultOf es ops fault
+    → Fails (untold_fault_of untold) (of_values (are_told 0 (values (undone ops) es) ops))
+values-fail es ops (changes.BlockMissing c) untold e h = absurd h
+values-fail es ops (changes.BadNode c) untold e h = absurd h
+values-fail es ops changes.TooDeep untold e h = absurd h
+values-fail es ops changes.NotTree untold e h = absurd h
+values-fail es ops (changes.OtherValue place) untold e h =
+    subst (λ (x : UntoldFault). Fails (untold_fault_of x) (of_values (are_told 0 (values (undone ops) es) ops))) (sym e) (ap of_values h)
+values-fail es ops changes.OtherRoot untold e h = absurd h
+values-fail es ops changes.NoMemory untold e h =
+    subst (λ (x : UntoldFault). Fails (untold_fault_of x) (of_values (are_told 0 (values (undone ops) es) ops))) (sym e) tt
 
 -- a step that went well, and then one that doesn't
 then-fails : {A : Type 0} (r : Result (Unit {0}) Untold) (next : Result A Untold) (o : Option Untold) (x : Unit {0}) → r ≡ Ok x
     → Fails o next → Fails o (r >>= (λ y. next))
 then-fails r next None x e h = tt
 then-fails r next (Some f) x e h = ap (λ (t : Result (Unit {0}) Untold). t >>= (λ y. next)) e ∙ h
+
+pub test-fails : (digest : List ℕ → List ℕ) (bits : ℕ) (m : List (List ℕ × List ℕ)) (commit : List ℕ) (ops : List KeyChange)
+    (o : Option Untold) → Fails o (left_test digest m ops) → Fails o (left_file digest bits m commit ops)
+unfolding left_file
+test-fails digest bits m commit ops None h = tt
+test-fails digest bits m commit ops (Some f) h =
+    ap (λ (t : Result (Unit {0}) Untold). t >>= (λ y. short_file (file_of digest bits commit m ops))) h
 
 -- ---- the file of blocks that are put one after the other
 

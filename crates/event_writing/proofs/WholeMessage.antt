@@ -19,7 +19,7 @@ use Rattle.event_writing.specs.Steps.{IsTaken, left_file, message_with, stamped_
 -- ---- steps in a row
 
 module _ {A B C : Type 0} where
-  rebound : (r : Result A Untold) (f : A → Result B Untold) (g : B → Result C Untold) (h : A → Result C Untold)
+  pub rebound : (r : Result A Untold) (f : A → Result B Untold) (g : B → Result C Untold) (h : A → Result C Untold)
       → ((x : A) → (f x >>= g) ≡ h x) → ((r >>= f) >>= g) ≡ (r >>= h)
   rebound (Ok x) f g h e = e x
   rebound (Err d) f g h e = refl
@@ -72,6 +72,15 @@ with-made digest bits m stamp commit before ops told file file2 named bytes is n
     ∙ ap (λ (x : List ℕ). Ok x) (sym (b ∙ ap (λ (x : List ℕ). event_bytes (event_of told stamp x file2 ops before)) n
     ∙ ap (λ (x : List ℕ). event_bytes (event_of told stamp (cid digest commit) x ops before)) f))
 
+-- or where there is no file
+pub file-fails : (digest : List ℕ → List ℕ) (bits : ℕ) (m : List (List ℕ × List ℕ)) (stamp : Stamp) (commit before : List ℕ)
+    (ops : List KeyChange) (told : Told) (o : Option Untold) → Fails o (left_file digest bits m commit ops)
+    → Fails o (message_with digest bits m stamp commit before ops told)
+unfolding message_with
+file-fails digest bits m stamp commit before ops told None h = tt
+file-fails digest bits m stamp commit before ops told (Some f) h =
+    ap (λ (r : Result (List ℕ) Untold). r >>= (λ (x : List ℕ). Ok (event_bytes (event_of told stamp (cid digest commit) x ops before)))) h
+
 -- what is said of a message, once what stands beside it and its operations were tested
 pub tested-gives : {T E : Type 0} (digest : List ℕ → List ℕ) (bits : ℕ) (m : List (List ℕ × List ℕ)) (stamp : Stamp) (before : List ℕ)
     (cs ops ops2 : List KeyChange) (told : Told) (rev : List ℕ) (x : Unit {0}) → rev ≡ stamp.rev → told_test told rev ≡ Ok x
@@ -87,6 +96,17 @@ tested-gives digest bits m stamp before cs ops ops2 told rev x same tested made 
     ∙ ap (λ (t : Result (List KeyChange) Untold). t >>= (λ os. message_with digest bits m stamp commit before os told)) made
     ∙ ap (λ (os : List KeyChange). message_with digest bits m stamp commit before os told) (sym are) in
     subst (λ (t : Result (List ℕ) Untold). Gives view fault r t) (sym is) h
+
+-- or where what stands beside it can't be told
+pub told-fails : (digest : List ℕ → List ℕ) (bits : ℕ) (m : List (List ℕ × List ℕ)) (stamp : Stamp) (before : List ℕ)
+    (cs : List KeyChange) (told : Told) (rev : List ℕ) (o : Option Untold) → rev ≡ stamp.rev → Fails o (told_test told rev)
+    → Fails o (stamped_message digest bits m stamp before cs told)
+unfolding stamped_message
+told-fails digest bits m stamp before cs told rev None same h = tt
+told-fails digest bits m stamp before cs told rev (Some f) same h =
+    let commit = commit_over digest bits stamp told.sig m in
+    ap (λ (t : Result (Unit {0}) Untold). t >>= (λ y. told_ops cs >>= (λ os. message_with digest bits m stamp commit before os told)))
+    (ap (told_test told) (sym same) ∙ h)
 
 -- or where its operations can't be told
 pub ops-fail : (digest : List ℕ → List ℕ) (bits : ℕ) (m : List (List ℕ × List ℕ)) (stamp : Stamp) (before : List ℕ)

@@ -3,8 +3,8 @@ use Rattle.std.specs.Prelude.{Option, Some, None, option_map}
 use Rattle.change_laws.specs.Given as given
 use Rattle.event_format.specs.Views.{form_fault_of}
 use Rattle.event_writing_laws.specs.Telling as telling
-use Rattle.change_proofs.specs.declared.proving_fault.ProvingFault.{ProvingFault}
-use Rattle.change_proofs.specs.declared.proving_fault.ProvingFault.TheVariants as provings
+use Rattle.change_proofs.specs.declared.change_fault.ChangeFault.{ChangeFault}
+use Rattle.change_proofs.specs.declared.change_fault.ChangeFault.TheVariants as changes
 use Rattle.event_writing.specs.declared.told.Told.{Told}
 use Rattle.event_writing.specs.declared.fault.UntoldFault.{UntoldFault}
 use Rattle.event_writing.specs.declared.fault.UntoldFault.TheVariants as errors
@@ -20,7 +20,12 @@ untold_fault_of (errors.OtherValue place) = Some (telling.NotShown (given.OtherV
 untold_fault_of (errors.RecordSize place) = Some (telling.RecordSize place)
 untold_fault_of errors.NoMemory = None
 
--- what a fault of a proof is to a message
-abbrev pub untold_as : ProvingFault → UntoldFault
-untold_as (provings.OtherValue place) = errors.OtherValue place
-untold_as provings.NoMemory = errors.NoMemory
+-- what a fault of a proof is to a message: over all blocks of a repository the others don't come
+abbrev pub untold_as : ChangeFault → UntoldFault
+untold_as (changes.BlockMissing c) = errors.NoMemory
+untold_as (changes.BadNode c) = errors.NoMemory
+untold_as changes.TooDeep = errors.NoMemory
+untold_as changes.NotTree = errors.NoMemory
+untold_as (changes.OtherValue place) = errors.OtherValue place
+untold_as changes.OtherRoot = errors.NoMemory
+untold_as changes.NoMemory = errors.NoMemory

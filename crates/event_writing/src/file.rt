@@ -3,25 +3,23 @@
 ghost use Rattle.std.specs.Prelude.{◌≡◌, ◌≤◌, ◌∷◌, [], length, map, true, IfErr, OnOk};
 ghost use Rattle.std.specs.Arc.{arc_value};
 ghost use Rattle.spec.specs.Reading.{Gives};
-ghost use Rattle.spec.specs.Blocks.{record_at};
-ghost use Rattle.spec.specs.States.{records};
 ghost use Rattle.key_changes.specs.Keyed.{are_changes};
 ghost use Rattle.change_laws.specs.Told.{undone};
 ghost use Rattle.event_times.specs.Limits.{most_blocks_bytes};
-ghost use Rattle.event_writing_laws.specs.Messages.{records_left};
 ghost use Rattle.event_writing.specs.Views.{untold_fault_of};
 ghost use Rattle.event_writing.specs.Steps.{left_file as file_left};
 ghost use Rattle.event_writing.specs.Putting.{ArePut, IsTooLong};
+ghost use Rattle.event_writing.specs.Sources.{OfRecords, record_given, records_given};
 
 use crate::fault::UntoldFault;
-use crate::left::nodes_left;
+use crate::left::{nodes_left, record_of};
 use block::Block;
 use car_writing::CarWriter;
-use cid::Digest;
+use cid::{Cid, Digest};
 use event_format::FormFault;
 use event_times::limits::MOST_BLOCKS_BYTES;
 use key_changes::KeyChange;
-use repo::Core;
+use lookups::Source;
 use std::alloc::Allocator;
 use std::sync::Arc;
 
@@ -57,61 +55,70 @@ fn put_nodes<D: Digest, A: Allocator + Clone>(
     Ok(())
 }
 
-/// Puts the record of a key, if there is one.
-fn put_record<D: Digest, const B: u8, A: Allocator + Clone>(
+/// Puts the record that an operation leaves, if it leaves one.
+fn put_record<'a, D: Digest + 'a, A: Allocator + Clone + 'a, S: Source<&'a Arc<Block<D, A>, A>>>(
     file: &mut CarWriter<A>,
-    core: &Core<D, B, A>,
+    src: &mut S,
     op: &KeyChange<'_>,
 ) -> Result<(), UntoldFault>
     requires short { length file.old.bytes ≤ most_blocks_bytes }
-    ensures put { OnOk result (ArePut D.digest_of (record_at (records core.now) op.now.key)
+    ensures put { OnOk result (ArePut D.digest_of (record_given (S.gives src.old) op.now.after)
         file.old file.new) }
     ensures short { OnOk result (length file.new.bytes ≤ most_blocks_bytes) }
     ensures fault { IfErr result (IsTooLong D.digest_of
-        (record_at (records core.now) op.now.key) file.old) }
+        (record_given (S.gives src.old) op.now.after) file.old) }
+    ensures same { S.gives src.new ≡ S.gives src.old }
 {
-    match core.get(op.key) {
+    match record_of::<D, A, S>(src, &op.after) {
         Some(record) => put(file, record),
         None => Ok(()),
     }
 }
 
 /// Puts the records that operations leave.
-fn put_records<D: Digest, const B: u8, A: Allocator + Clone>(
+fn put_records<'a, D: Digest + 'a, A: Allocator + Clone + 'a, S: Source<&'a Arc<Block<D, A>, A>>>(
     file: &mut CarWriter<A>,
-    core: &Core<D, B, A>,
+    src: &mut S,
     ops: &[KeyChange<'_>],
 ) -> Result<(), UntoldFault>
     requires short { length file.old.bytes ≤ most_blocks_bytes }
-    ensures put { OnOk result (ArePut D.digest_of (records_left (records core.now) ops.now)
+    ensures put { OnOk result (ArePut D.digest_of (records_given (S.gives src.old) ops.now)
         file.old file.new) }
     ensures short { OnOk result (length file.new.bytes ≤ most_blocks_bytes) }
     ensures fault { IfErr result (IsTooLong D.digest_of
-        (records_left (records core.now) ops.now) file.old) }
+        (records_given (S.gives src.old) ops.now) file.old) }
+    ensures same { S.gives src.new ≡ S.gives src.old }
 {
     for op in ops {
-        put_record(file, core, op)?;
+        put_record::<D, A, S>(file, src, op)?;
     }
     Ok(())
 }
 
 /// The file of a message: the commit, the nodes that undoing the operations reads, and the records that they leave.
-#[tactic(auto, unfolding(crate::specs::Steps::left_file))]
-pub(crate) fn left_file<D: Digest, const B: u8, A: Allocator + Copy>(
+pub(crate) fn left_file<
+    'a,
+    D: Digest + 'a,
+    const B: u8,
+    A: Allocator + Copy + 'a,
+    S: Source<&'a Arc<Block<D, A>, A>>,
+>(
     alloc: A,
-    core: &Core<D, B, A>,
+    src: &mut S,
+    root: Cid,
     commit: &Block<D, A>,
     ops: &[KeyChange<'_>],
 ) -> Result<Vec<u8, A>, UntoldFault>
     requires least { 1 ≤ B }
     requires changes { are_changes (undone ops.now) ≡ true }
-    ensures { Gives (λ file. file.items) untold_fault_of result
-        (file_left D.digest_of B (records core.now) commit.now ops.now) }
+    ensures file { OfRecords D.digest_of B (S.gives src.old) root (λ m. Gives (λ file. file.items)
+        untold_fault_of result (file_left D.digest_of B m commit.now ops.now)) }
+    ensures same { S.gives src.new ≡ S.gives src.old }
 {
-    let nodes = nodes_left::<D, B, A>(alloc, core, ops)?;
+    let nodes = nodes_left::<D, B, A, S>(alloc, src, root, ops)?;
     let mut file = CarWriter::new(alloc, &commit.cid())?;
     put(&mut file, commit)?;
     put_nodes(&mut file, &nodes)?;
-    put_records(&mut file, core, ops)?;
+    put_records::<D, A, S>(&mut file, src, ops)?;
     Ok(file.into_bytes())
 }

@@ -1,59 +1,79 @@
-//! What a batch left in a repository: values, nodes and records.
+//! What a batch leaves in a repository: values, nodes and records, as a source of its blocks gives them.
 
-ghost use Rattle.std.specs.Prelude.{◌≡◌, ◌≤◌, length, map, nat_le, option_map, true, IfOk};
+ghost use Rattle.std.specs.Prelude.{◌≡◌, ◌≤◌, [], length, map, nat_le, option_map, true, IfOk};
+ghost use Rattle.std.specs.List.{cons_option};
 ghost use Rattle.std.specs.Arc.{arc_value};
 ghost use Rattle.spec.specs.Reading.{Gives};
-ghost use Rattle.spec.specs.Blocks.{pairs, record_at};
-ghost use Rattle.spec.specs.States.{records};
+ghost use Rattle.spec.specs.Blocks.{pairs};
 ghost use Rattle.key_changes.specs.Keyed.{are_changes};
+ghost use Rattle.lookups.specs.Trees.{OfTree};
 ghost use Rattle.batch_laws.specs.Previous.{values};
 ghost use Rattle.change_laws.specs.Told.{undone};
 ghost use Rattle.change_laws.specs.Laws.{change_path};
 ghost use Rattle.change_laws.specs.Verdict.{are_told};
 ghost use Rattle.event_times.specs.Limits.{most_record_bytes};
-ghost use Rattle.event_writing_laws.specs.Telling.{left_size, of_values, size_test, sizes_test};
+ghost use Rattle.event_writing_laws.specs.Telling.{of_values};
 ghost use Rattle.event_writing_laws.specs.Messages.{left_test};
 ghost use Rattle.event_writing.specs.Views.{untold_as, untold_fault_of};
+ghost use Rattle.event_writing.specs.Sources.{OfRecords, given_size, record_given, sizes_given};
 
 use crate::fault::UntoldFault;
 use block::Block;
-use change_proofs::{ProvingFault, prove_inversion};
-use cid::Digest;
+use change_proofs::{ChangeFault, prove_inversion_over};
+use cid::{Cid, Digest};
 use event_times::limits::MOST_RECORD_BYTES;
 use key_changes::KeyChange;
-use repo::Core;
+use lookups::Source;
 use std::alloc::Allocator;
 use std::sync::Arc;
 
-/// The nodes of a repository's tree, shared with it.
+/// Nodes of a repository's tree, shared with it.
 pub(crate) type Nodes<D, A> = Vec<Arc<Block<D, A>, A>, A>;
 
-/// Why nodes aren't proved, as a fault of the message.
-fn untold(fault: ProvingFault) -> UntoldFault
+/// Why nodes aren't proved, as a fault of the message. Over all blocks of a repository the other faults don't come.
+fn untold(fault: ChangeFault) -> UntoldFault
     ensures { result ≡ untold_as fault }
 {
     match fault {
-        ProvingFault::OtherValue(place) => UntoldFault::OtherValue(place),
-        ProvingFault::NoMemory => UntoldFault::NoMemory,
+        ChangeFault::OtherValue(place) => UntoldFault::OtherValue(place),
+        _ => UntoldFault::NoMemory,
     }
 }
 
 /// The nodes that undoing operations reads, where each key has the value that is told after its operation.
-fn shown<D: Digest, const B: u8, A: Allocator + Copy>(
-    alloc: A,
-    core: &Core<D, B, A>,
-    ops: &[KeyChange<'_>],
-) -> Result<Nodes<D, A>, UntoldFault>
+fn shown<
+    'a,
+    D: Digest + 'a,
+    const B: u8,
+    A: Allocator + Copy + 'a,
+    S: Source<&'a Arc<Block<D, A>, A>>,
+>(alloc: A, src: &mut S, root: Cid, ops: &[KeyChange<'_>]) -> Result<Nodes<D, A>, UntoldFault>
     requires least { 1 ≤ B }
     requires changes { are_changes (undone ops.now) ≡ true }
-    ensures told { Gives (λ nodes. tt) untold_fault_of result (of_values
-        (are_told 0 (values (undone ops.now) (pairs D.digest_of (records core.now))) ops.now)) }
-    ensures nodes { IfOk result (λ nodes. map arc_value nodes.items
-        ≡ change_path D.digest_of B ops.now (pairs D.digest_of (records core.now))) }
+    ensures told { OfTree D.digest_of B (S.gives src.old) root (λ es. Gives (λ nodes. tt)
+        untold_fault_of result (of_values (are_told 0 (values (undone ops.now) es) ops.now))) }
+    ensures nodes { OfTree D.digest_of B (S.gives src.old) root (λ es. IfOk result (λ nodes.
+        map arc_value nodes.items ≡ change_path D.digest_of B ops.now es)) }
+    ensures same { S.gives src.new ≡ S.gives src.old }
 {
-    match prove_inversion::<D, B, A>(alloc, core, ops) {
+    match prove_inversion_over::<D, B, A, S>(alloc, src, root, ops) {
         Ok(nodes) => Ok(nodes),
         Err(fault) => Err(untold(fault)),
+    }
+}
+
+/// The record with this CID, if there is one.
+pub(crate) fn record_of<'a, D: Digest + 'a, A: Allocator + 'a, S: Source<&'a Arc<Block<D, A>, A>>>(
+    src: &mut S,
+    cid: &Option<Cid>,
+) -> Option<&'a Arc<Block<D, A>, A>>
+    ensures found { cons_option (option_map (λ block. arc_value block.now) result) []
+        ≡ record_given (S.gives src.old) cid.now }
+    ensures same { S.gives src.new ≡ S.gives src.old }
+{
+    match cid {
+        Some(cid) => src.get(cid),
+        None => None,
     }
 }
 
@@ -65,14 +85,16 @@ fn is_short(record: &[u8]) -> bool
 }
 
 /// Whether the record that an operation leaves, if it leaves one, isn't too long.
-fn test_size<D: Digest, const B: u8, A: Allocator>(
-    core: &Core<D, B, A>,
+fn test_size<'a, D: Digest + 'a, A: Allocator + 'a, S: Source<&'a Arc<Block<D, A>, A>>>(
+    src: &mut S,
     place: usize,
     op: &KeyChange<'_>,
 ) -> Result<(), UntoldFault>
-    ensures { Gives (λ x. x) untold_fault_of result (left_size (records core.now) place op.now) }
+    ensures test { Gives (λ x. x) untold_fault_of result
+        (given_size (S.gives src.old) place op.now) }
+    ensures same { S.gives src.new ≡ S.gives src.old }
 {
-    let Some(record) = core.get(op.key) else {
+    let Some(record) = record_of::<D, A, S>(src, &op.after) else {
         return Ok(());
     };
     if is_short(record.bytes()) {
@@ -83,33 +105,37 @@ fn test_size<D: Digest, const B: u8, A: Allocator>(
 }
 
 /// Whether no operation leaves a record that is too long.
-fn test_sizes<D: Digest, const B: u8, A: Allocator>(
-    core: &Core<D, B, A>,
+fn test_sizes<'a, D: Digest + 'a, A: Allocator + 'a, S: Source<&'a Arc<Block<D, A>, A>>>(
+    src: &mut S,
     ops: &[KeyChange<'_>],
 ) -> Result<(), UntoldFault>
-    ensures { Gives (λ x. x) untold_fault_of result (sizes_test (records core.now) 0 ops.now) }
+    ensures test { Gives (λ x. x) untold_fault_of result
+        (sizes_given (S.gives src.old) 0 ops.now) }
+    ensures same { S.gives src.new ≡ S.gives src.old }
 {
     for (place, op) in ops.iter().enumerate() {
-        test_size(core, place, op)?;
+        test_size::<D, A, S>(src, place, op)?;
     }
     Ok(())
 }
 
 /// The nodes that undoing operations reads, where each key has the value that is told and no record is too long.
-#[tactic(auto, unfolding(event_writing_laws::specs::Messages::left_test))]
-pub(crate) fn nodes_left<D: Digest, const B: u8, A: Allocator + Copy>(
-    alloc: A,
-    core: &Core<D, B, A>,
-    ops: &[KeyChange<'_>],
-) -> Result<Nodes<D, A>, UntoldFault>
+pub(crate) fn nodes_left<
+    'a,
+    D: Digest + 'a,
+    const B: u8,
+    A: Allocator + Copy + 'a,
+    S: Source<&'a Arc<Block<D, A>, A>>,
+>(alloc: A, src: &mut S, root: Cid, ops: &[KeyChange<'_>]) -> Result<Nodes<D, A>, UntoldFault>
     requires least { 1 ≤ B }
     requires changes { are_changes (undone ops.now) ≡ true }
-    ensures told { Gives (λ nodes. tt) untold_fault_of result
-        (left_test D.digest_of (records core.now) ops.now) }
-    ensures nodes { IfOk result (λ nodes. map arc_value nodes.items
-        ≡ change_path D.digest_of B ops.now (pairs D.digest_of (records core.now))) }
+    ensures told { OfRecords D.digest_of B (S.gives src.old) root (λ m. Gives (λ nodes. tt)
+        untold_fault_of result (left_test D.digest_of m ops.now)) }
+    ensures nodes { OfRecords D.digest_of B (S.gives src.old) root (λ m. IfOk result (λ nodes.
+        map arc_value nodes.items ≡ change_path D.digest_of B ops.now (pairs D.digest_of m))) }
+    ensures same { S.gives src.new ≡ S.gives src.old }
 {
-    let nodes = shown::<D, B, A>(alloc, core, ops)?;
-    test_sizes(core, ops)?;
+    let nodes = shown::<D, B, A, S>(alloc, src, root, ops)?;
+    test_sizes::<D, A, S>(src, ops)?;
     Ok(nodes)
 }

@@ -1,9 +1,12 @@
-//! The messages `#commit` that a host sends of its repositories' batches (AT Protocol, event streams, sync 1.1).
+//! The messages that a host sends of its repositories (AT Protocol, event streams, sync 1.1): `#commit` of their batches, and
+//! `#sync` of their states.
 //!
 //! - [`commit_event`] writes the message of a repository's last batch: what each key had and has, the root before, and a CAR
 //!   file of the signed commit, the nodes that undoing the changes reads, and the records that came. It is taken by whoever
 //!   knows the root before (`commit_events::check_commit`).
-//! - [`Told`] is what a message tells beside the batch. [`UntoldFault`] says why a batch can't be told.
+//! - [`sync_event`] writes the message of a repository as it is: whose it is, its revision, and the signed commit. A host
+//!   sends it where a batch can't be told.
+//! - [`Told`] and [`SyncTold`] are what a message tells beside the batch or the state. [`UntoldFault`] says why there is none.
 //!
 //! ```rust
 //! use batches::{Stamp, Write};
@@ -66,9 +69,14 @@ mod file;
 mod left;
 mod message;
 mod ops;
+mod stamps;
+mod sync_told;
+mod syncing;
 mod told;
 mod writing;
 
 pub use fault::UntoldFault;
+pub use sync_told::SyncTold;
+pub use syncing::sync_event;
 pub use told::Told;
 pub use writing::commit_event;

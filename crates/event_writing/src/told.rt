@@ -43,7 +43,7 @@ impl<'t> Told<'t> {
 }
 
 /// Whether this can be the number of a message: DAG-CBOR's numbers have 63 bits and a sign.
-fn is_seq(seq: u64) -> bool
+pub(crate) fn is_seq(seq: u64) -> bool
     ensures { result ≡ nat_lt seq (2 ^ 63) }
 {
     seq < 0x8000_0000_0000_0000

@@ -7,3 +7,4 @@ pub mod Given
 pub mod Left
 pub mod Parts
 pub mod Taken
+pub mod SyncSays

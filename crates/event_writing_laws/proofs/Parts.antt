@@ -6,7 +6,6 @@ use Rattle.std.specs.declared.option.Option.TheVariants.{Some}
 use Rattle.std.specs.Cmp.Lexicographic.{slice_cmp}
 use Rattle.std.specs.Ordering.{nat_cmp, eq_by_cmp}
 use Rattle.std.proofs.lemmas.Bool.{leb-true, ltb-true}
-use Rattle.spec.specs.Reading.{◌>>=◌, ensure}
 use Rattle.spec.specs.Cid.{cid, is_own_cid}
 use Rattle.spec.specs.Tree.{Pair}
 use Rattle.spec.specs.Blocks.{value_of}

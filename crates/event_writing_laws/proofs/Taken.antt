@@ -45,7 +45,7 @@ few-writes : (n limit : ℕ) → n ≤ limit → limit ≤ 1048576 → n < 2 ^ 6
 few-writes n limit a b = omega arith
 
 -- a commit has at least the bytes of its signature
-sig-within : (c : Commit) → length c.sig ≤ length (signed_bytes c)
+pub sig-within : (c : Commit) → length c.sig ≤ length (signed_bytes c)
 unfolding signed_bytes
 sig-within c =
     let last = last_fields c.root c.prev in
@@ -61,7 +61,7 @@ sig-within c =
     let h = length-append (head 2 (length c.sig)) c.sig in
     omega (arith, a, b, d, e, f, g, h)
 
-short-sig : (sig block : ℕ) → sig ≤ block → 36 + block < 2 ^ 63 → sig < 2 ^ 63
+pub short-sig : (sig block : ℕ) → sig ≤ block → 36 + block < 2 ^ 63 → sig < 2 ^ 63
 short-sig sig block a b = omega arith
 
 module _ (digest : List ℕ → List ℕ) (bits : ℕ) (fits : IsDigest digest) (s : State) (lawful : IsLawful s) (stamp : Stamp)

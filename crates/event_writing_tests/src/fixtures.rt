@@ -27,12 +27,12 @@ pub(crate) const E: &[u8] = b"\xa2\x64text\x61E\x65$type\x72app.bsky.feed.post";
 pub(crate) const F: &[u8] = b"\xa2\x64text\x61F\x65$type\x72app.bsky.feed.post";
 
 /// Whose repository it is.
-const DID: &[u8] = b"did:plc:ewvi7nxzyoun6zhxrhs64oiz";
+pub(crate) const DID: &[u8] = b"did:plc:ewvi7nxzyoun6zhxrhs64oiz";
 
 /// The revisions of the batches.
 pub(crate) const SINCE: &[u8] = b"3jzfcijpj2y2a";
 
-const REV: &[u8] = b"3jzfcijpj2z2a";
+pub(crate) const REV: &[u8] = b"3jzfcijpj2z2a";
 
 /// When messages are sent.
 pub(crate) const TIME: &[u8] = b"2024-01-01T00:00:00.000Z";
@@ -43,7 +43,7 @@ pub(crate) const SIG: &[u8] =
     \x18\x19\x1a\x1b\x1c\x1d\x1e\x1f\x20!\x22#$%&'()*+,-./0123456789:;<=>?";
 
 /// The batch before.
-const FIRST: [Step<'static>; 4] = [
+pub(crate) const FIRST: [Step<'static>; 4] = [
     Step::Create(b"posts/11", B),
     Step::Create(b"posts/12", D),
     Step::Create(b"posts/14", E),
@@ -51,7 +51,7 @@ const FIRST: [Step<'static>; 4] = [
 ];
 
 /// The worked batch. The record of `posts/14` is put again.
-const SECOND: [Step<'static>; 4] = [
+pub(crate) const SECOND: [Step<'static>; 4] = [
     Step::Update(b"posts/12", C),
     Step::Create(b"posts/10", A),
     Step::Delete(b"posts/11"),

@@ -14,6 +14,10 @@ mod memory;
 #[cfg(test)]
 mod random;
 #[cfg(test)]
+mod sync;
+#[cfg(test)]
+mod sync_bytes;
+#[cfg(test)]
 mod worked;
 #[cfg(test)]
 mod worked_bytes;

@@ -1,7 +1,6 @@
 use Rattle.std.proofs.Common.{List, ℕ, ap, subst, ◌∙◌}
 use Rattle.spec.specs.Reading.{Gives}
 use Rattle.spec.specs.SignedCommits.{signed_bytes}
-use Rattle.spec.specs.States.{records}
 use Rattle.export_laws.specs.SignedCars.{signed_commit}
 use Rattle.batches.specs.Values.{stamp_of}
 use Rattle.event_writing.specs.Views.{told_of, untold_fault_of}
@@ -12,7 +11,7 @@ pub returns : goal.returns
 returns g c =
     let stamp = stamp_of c.args.stamp.now in
     let told = told_of c.args.told.now in
-    subst (λ (b : List ℕ). Gives (λ m. m.items) untold_fault_of c.message_with.result
-    (message_with g.D.Digest.digest_of g.row.B (records c.args.core.now) stamp b c.args.before.now c.args.ops.now told))
-    (c.in_ok-commit.ensures ∙ ap (λ (r : List ℕ). signed_bytes (signed_commit stamp r told.sig)) c.root-root.ensures.value)
-    c.message_with.ensures
+    λ m has. subst (λ (b : List ℕ). Gives (λ x. x.items) untold_fault_of c.message_with.result
+    (message_with g.D.Digest.digest_of g.row.B m stamp b c.args.before.now c.args.ops.now told))
+    (c.in_ok-commit.ensures ∙ ap (λ (r : List ℕ). signed_bytes (signed_commit stamp r told.sig)) has.tree.root_is)
+    (c.message_with.ensures m has)
