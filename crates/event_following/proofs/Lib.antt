@@ -1,4 +1,4 @@
--- In the order in which they are best read: that no record is missing; what a refusal is; what is followed.
+-- In the order in which they are best read: that no record is missing; what a refusal is; where operations lead.
 pub mod Records
 pub mod Unfollowed
-pub mod Followed
+pub mod Roots
