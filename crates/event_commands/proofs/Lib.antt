@@ -1,0 +1,4 @@
+pub mod Endings
+mod Making
+mod Streams
+mod Batches
