@@ -8,7 +8,7 @@ help:
 	@echo 'make demo              msthost at work on the examples: at once without proofs, and then proved'
 	@echo 'make build             proves msthost with all that it stands on, and builds target/msthost'
 	@echo 'make install PREFIX=.. puts target/msthost, its manual page and what shells complete of it below PREFIX'
-	@echo 'make library           proves the library for programs in C, Rust and Python, and builds it into target/library'
+	@echo 'make library           proves the library for programs in other languages, and builds it into target/library'
 	@echo 'make install-library PREFIX=..  puts it, its header and its pkg-config file below PREFIX'
 	@echo 'make test              the gate: every proof, must-fail edit, test and program, from nothing, and make test-library'
 	@echo 'make test-tools        the tests of tools/, in some seconds'

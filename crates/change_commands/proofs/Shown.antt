@@ -8,7 +8,7 @@ use Rattle.repository_commands.specs.Faults.{Fault}
 use Rattle.repository_commands.specs.Refusals.{is_refusal}
 use Rattle.repository_commands.specs.declared.fault.TextFault.{TextFault}
 use Rattle.repository_commands.specs.declared.fault.TextFault.TheVariants as errors
-use Rattle.repository_commands.proofs.Endings.{always_known, for_known}
+use Rattle.console.proofs.Known.{always_known, for_known}
 use Rattle.repository_commands.proofs.Making.{passed}
 use Rattle.change_commands.specs.Directions.{IsAnswer}
 use Rattle.change_commands.specs.declared.direction.Direction.{Direction}

@@ -1,11 +1,11 @@
 -- What the commands on a change write for an input, or why nothing (the forms of the texts are a choice of
 -- this project).
 use Rattle.std.specs.Prelude.{◌≡◌, ◌⊎◌, ℕ, false, List, [], ◌∷◌, ◌++◌, map, codes, slice_index}
-use Rattle.std.specs.Prelude.{Option, Some, None, Result, Ok, Err}
+use Rattle.std.specs.Prelude.{Result, Ok, Err}
 use Rattle.std.specs.List.{flat_map}
 use Rattle.std.specs.Str.{bytes_eq}
 use Rattle.spec.specs.Reading.{◌>>=◌, ensure}
-use Rattle.spec.specs.Cid.{CidFault, text, cid_of_text}
+use Rattle.spec.specs.Cid.{CidFault, cid_of_text}
 use Rattle.spec.specs.Blocks.{pairs, value_of}
 use Rattle.spec.specs.Stamps.{Stamp}
 use Rattle.spec.specs.Writes.{Write}
@@ -17,13 +17,14 @@ use Rattle.change_laws.specs.Given as laws
 use Rattle.change_laws.specs.Laws.{change_path}
 use Rattle.step_laws.specs.StepLaws.{step_path}
 use Rattle.console.specs.Lines.{lines}
+use Rattle.console.specs.Values.{value_words}
 use Rattle.repository_commands.specs.Faults.{Fault, Line, OfAfter, OfBefore, OfChange, OtherAfter, OtherBefore, OtherValue}
 use Rattle.repository_commands.specs.Refusals.{IsRefusedLine, is_refusal}
 use Rattle.repository_commands.specs.Shards.{WasFull}
 use Rattle.repository_commands.specs.Puts.{Given}
 use Rattle.record_forms.specs.declared.form.Form.{Form}
 use Rattle.change_commands.specs.Stories.{Story, story_in}
-use Rattle.repository_commands.specs.Texts.{hex_line, no_writes, state_of_given}
+use Rattle.repository_commands.specs.Texts.{hex_line, no_writes, root_line, state_of_given}
 use Rattle.change_commands.specs.Told.{Told, told_in}
 use Rattle.change_commands.specs.Directions.{verdict_on, IsAnswer}
 use Rattle.change_commands.specs.declared.direction.Direction.{Direction}
@@ -55,16 +56,8 @@ change_between digest s t c = record {
 abbrev pub changes_of_batch : (List ℕ → List ℕ) → State → State → List Write → List KeyChange
 changes_of_batch digest s t ws = map (change_between digest s t) (collected ws)
 
--- a space and the CID of a record, or `-`
-abbrev pub value_words : Option (List ℕ) → List ℕ
-value_words None = codes " -"
-value_words (Some c) = codes " " ++ text c
-
 abbrev pub change_line : KeyChange → List ℕ
 change_line c = codes "change " ++ c.key ++ value_words c.before ++ value_words c.after ++ (10 ∷ [])
-
-abbrev pub root_line : List ℕ → List ℕ
-root_line root = text root ++ (10 ∷ [])
 
 -- both roots, the changes, and the nodes
 abbrev pub text_of_parts : List ℕ → List ℕ → List KeyChange → List (List ℕ) → List ℕ

@@ -2,12 +2,13 @@
 ghost use Rattle.std.specs.Prelude.{◌≡◌, ◌++◌, map, IfOk, OnOk};
 ghost use Rattle.std.specs.Arc.{arc_value};
 ghost use Rattle.std.specs.List.{flat_map};
-ghost use Rattle.change_commands.specs.Texts.{change_line, root_line, text_of_parts, value_words};
+ghost use Rattle.change_commands.specs.Texts.{change_line, text_of_parts};
 
 use block::Block;
 use change_proofs::KeyChange;
 use cid::{Cid, Digest};
-use repository_commands::push_lines;
+use console::push_value;
+use repository_commands::{push_lines, push_root};
 use std::alloc::{AllocError, Global};
 use std::sync::Arc;
 
@@ -30,15 +31,6 @@ pub(crate) fn text_of<D: Digest>(
     Ok(text)
 }
 
-/// Puts the line of a root at the end.
-fn push_root(text: &mut Vec<u8>, root: &Cid) -> Result<(), AllocError>
-    ensures { OnOk result (text.new.items ≡ text.old.items ++ root_line root.now) }
-{
-    text.extend_from_slice(&root.text())?;
-    text.push(b'\n')?;
-    Ok(())
-}
-
 /// Puts the lines of some changes at the end.
 fn push_changes(text: &mut Vec<u8>, changes: &[KeyChange<'_>]) -> Result<(), AllocError>
     ensures { OnOk result
@@ -59,19 +51,5 @@ fn push_change(text: &mut Vec<u8>, change: &KeyChange<'_>) -> Result<(), AllocEr
     push_value(text, &change.before)?;
     push_value(text, &change.after)?;
     text.push(b'\n')?;
-    Ok(())
-}
-
-/// Puts a space and the CID of a record at the end, or `-` where there is none.
-fn push_value(text: &mut Vec<u8>, value: &Option<Cid>) -> Result<(), AllocError>
-    ensures { OnOk result (text.new.items ≡ text.old.items ++ value_words value.now) }
-{
-    match value {
-        Some(cid) => {
-            text.push(b' ')?;
-            text.extend_from_slice(&cid.text())?;
-        }
-        None => text.extend_from_slice(b" -")?,
-    }
     Ok(())
 }

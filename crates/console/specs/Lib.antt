@@ -4,5 +4,6 @@ pub mod Files
 pub mod Lines
 pub mod Numbers
 pub mod Saving
+pub mod Values
 pub mod Words
 pub mod Written

@@ -3,7 +3,7 @@
 //! - `read_all` reads all of an input, `bytes_of_hex` the bytes of a word in hexadecimal. `specs/Lines` says how an input
 //!   is cut into lines.
 //! - `write_whole` and `write_hex` write a run of bytes and its digits, with a word on what was written where they fail.
-//!   `Decimal` shows a number.
+//!   `Decimal` shows a number, and `push_value` puts the word of a record's CID into a line.
 //! - `Files` is where a command finds the files that its words name, and saves what it makes in others. `OpenFault` says why
 //!   one can't be opened, and `SaveFault` why one wasn't saved.
 //! - `with_file` gives a command the word that names the file that it reads, and `file_of` reads it. `required` is a word that
@@ -25,6 +25,7 @@ mod reading;
 mod save_fault;
 mod status;
 mod telling;
+mod values;
 mod words;
 mod writing;
 
@@ -39,5 +40,6 @@ pub use reading::{ReadFault, read_all};
 pub use save_fault::SaveFault;
 pub use status::{DONE, FAULTY, IO_FAILED, NO_MEMORY, USAGE};
 pub use telling::{done, no_memory, tell, unopened, unsaved, unwritten, write_failed};
+pub use values::push_value;
 pub use words::{required, word_or};
 pub use writing::{WriteFault, write_hex, write_whole};

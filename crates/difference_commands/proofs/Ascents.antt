@@ -21,7 +21,7 @@ use Rattle.tree_command.specs.declared.keys.Keys.TheVariants as keys
 use Rattle.tree_command.proofs.LastLines.{is_sorted-last_of_each_key}
 use Rattle.tree_command.proofs.LeftPairs.{all-fold, ascending-left}
 use Rattle.difference_commands.specs.RecordLines.{LineFault, LinesFault, at_line, map_of_records, of_write, or_bad_line, record_of_line, records_of_lines, words_of_line}
-use Rattle.difference_commands.specs.Views.{Records}
+use Rattle.export_commands.specs.Texts.{Records}
 use Rattle.difference_commands.specs.Files.{Says}
 use Rattle.difference_commands.specs.declared.command.Form.{Form}
 use Rattle.difference_commands.specs.declared.command.Form.TheVariants as forms

@@ -3,6 +3,7 @@ use Rattle.std.proofs.Common.{◌≡◌, ◌⊎◌, ⊎_elim, inl, inr, ℕ, Lis
 use Rattle.std.specs.Prelude.{◌≤◌, Option, option_map, Result, Ok, Err, IfErr, IfOk, IfSome}
 use Rattle.std.proofs.lemmas.List.{append-nil}
 use Rattle.std.specs.Io.KnownBytes.{Appends, Keeps}
+use Rattle.console.proofs.Known.{keeps-itself}
 use Rattle.console.proofs.Leaving.{Appends-append, Appends-kept, Appends-nil}
 use Rattle.console.specs.Faults.{read_status, write_status}
 use Rattle.console.specs.Files.{open_status}
@@ -47,13 +48,6 @@ always_both : (P : List ℕ → List ℕ → Type 0) (o p : Option (List ℕ)) �
 always_both P None p f = tt
 always_both P (Some xs) None f = tt
 always_both P (Some xs) (Some ys) f = f xs ys
-
-keeps-itself : (o : Option (List ℕ)) → Keeps o o
-keeps-itself None = tt
-keeps-itself (Some xs) = refl
-
-keeps-same : (was is : Option (List ℕ)) → is ≡ was → Keeps was is
-keeps-same was is e = subst (Keeps was) (sym e) (keeps-itself was)
 
 known-both : (P : List ℕ → List ℕ → Type 0) (o p : Option (List ℕ)) (a b : List ℕ) → IfSome o (λ xs. a ≡ xs) → IfSome p (λ ys. b ≡ ys)
     → P a b → OfInputs o p P

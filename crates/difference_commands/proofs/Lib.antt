@@ -5,5 +5,3 @@ pub mod Finding
 pub mod Ascents
 pub mod Made
 pub mod Endings
-pub mod Numbers
-pub mod CarParts

@@ -12,7 +12,8 @@ use Rattle.difference_commands.specs.Forms.{form_of}
 use Rattle.difference_commands.specs.Slices.{coming}
 use Rattle.difference_commands.specs.Texts.{Coming, lines_text, slice_if}
 use Rattle.difference_commands.specs.Trees.{IsClashBetween}
-use Rattle.difference_commands.specs.Views.{Entry, Records, pairs_in, records_in}
+use Rattle.export_commands.specs.Texts.{Records}
+use Rattle.difference_commands.specs.Views.{Entry, pairs_in, records_in}
 use Rattle.difference_commands.specs.declared.told.Told.{Told}
 use Rattle.difference_commands.specs.declared.trees.Compared.{Compared}
 use Rattle.difference_commands.specs.declared.trees.TreesFault.{TreesFault}

@@ -3,7 +3,7 @@ use Rattle.std.proofs.Common.{◌≡◌, ℕ, List, [], ◌∷◌, ◌++◌, ref
 use Rattle.std.specs.Prelude.{Option, Some, None, Result, Ok, Err, option_map}
 use Rattle.std.proofs.lemmas.List.{append-nil}
 use Rattle.spec.specs.Reading.{◌>>=◌, Fails}
-use Rattle.difference_commands.specs.Views.{Records}
+use Rattle.export_commands.specs.Texts.{Records}
 use Rattle.difference_commands.specs.RecordLines.{LineFault, LinesFault, Line, at_line, record_of_line, records_of_lines}
 
 abbrev pub Reading : Type 0

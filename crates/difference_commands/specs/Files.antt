@@ -13,7 +13,8 @@ use Rattle.tree_command.specs.Fault.{tree_fault_of}
 use Rattle.tree_command.specs.TreeText.{map_of_input}
 use Rattle.tree_command.specs.declared.keys.Keys.TheVariants as keys
 use Rattle.difference_commands.specs.RecordLines.{map_of_records}
-use Rattle.difference_commands.specs.Views.{Records, keyed}
+use Rattle.export_commands.specs.Texts.{Records}
+use Rattle.difference_commands.specs.Views.{keyed}
 use Rattle.difference_commands.specs.Faults.{lines_fault_of}
 use Rattle.difference_commands.specs.declared.command.ChangesCommand.{ChangesCommand}
 use Rattle.difference_commands.specs.declared.command.Form.{Form}

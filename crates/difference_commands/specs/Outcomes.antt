@@ -9,7 +9,7 @@ use Rattle.console.specs.Written.{AppendsBeginning}
 use Rattle.difference_commands.specs.Faults.{status_of}
 use Rattle.difference_commands.specs.Files.{IsCommitOf, IsFileFault, Says, said_commit, said_pairs, said_records}
 use Rattle.difference_commands.specs.Forms.{form_of}
-use Rattle.difference_commands.specs.Views.{Records}
+use Rattle.export_commands.specs.Texts.{Records}
 use Rattle.difference_commands.specs.Texts.{lines_text, slice_if}
 use Rattle.difference_commands.specs.Trees.{AreComing}
 use Rattle.difference_commands.specs.declared.command.ChangesCommand.{ChangesCommand}

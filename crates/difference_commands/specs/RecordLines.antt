@@ -5,7 +5,7 @@ use Rattle.spec.specs.Reading.{◌>>=◌}
 use Rattle.spec.specs.Writes.{WriteFault, Put, write_test}
 use Rattle.console.specs.Lines.{numbered_lines, is_space, bytes_of_hex}
 use Rattle.tree_command.specs.TreeText.{last_of_each_key}
-use Rattle.difference_commands.specs.Views.{Records}
+use Rattle.export_commands.specs.Texts.{Records}
 
 -- what is wrong with a line: it has no key or no record, or a put of the record isn't taken
 pub data LineFault : Type 0 where

@@ -4,17 +4,13 @@ use Rattle.std.specs.Prelude.{ℕ, Bool, true, false, List, [], ◌∷◌, ◌++
 use Rattle.std.specs.List.{flat_map}
 use Rattle.hex.specs.Hex.{encode_lower}
 use Rattle.spec.specs.Car.{header, section}
-use Rattle.spec.specs.Cid.{cid, text}
+use Rattle.spec.specs.Cid.{cid}
 use Rattle.spec.specs.Blocks.{value_of}
 use Rattle.change_laws.specs.Told.{KeyChange}
-use Rattle.difference_commands.specs.Views.{Records}
+use Rattle.console.specs.Values.{value_words}
+use Rattle.export_commands.specs.Texts.{Records}
 use Rattle.difference_commands.specs.declared.command.Values.{Values}
 use Rattle.difference_commands.specs.declared.command.Values.TheVariants as values
-
--- a space and the CID of a record, or `-`
-abbrev pub value_words : Option (List ℕ) → List ℕ
-value_words None = codes " -"
-value_words (Some c) = codes " " ++ text c
 
 -- a space and the bytes of a record in hexadecimal, or `-`
 abbrev pub record_words : Option (List ℕ) → List ℕ

@@ -2,10 +2,7 @@
 use Rattle.std.specs.Prelude.{ℕ, List, map}
 use Rattle.std.specs.declared.vec.Vec.{Vec}
 use Rattle.spec.specs.Tree.{Pair}
-
--- records, each under its key
-abbrev pub Records : Type 0
-Records = List (List ℕ × List ℕ)
+use Rattle.export_commands.specs.Texts.{Records}
 
 -- a key that is lent, and a record
 abbrev pub keyed_one : {A : Type 0} → List ℕ × Vec ℕ A → List ℕ × List ℕ

@@ -31,7 +31,6 @@ mod on_files;
 mod record_line;
 mod record_map;
 mod running;
-mod sections;
 mod slice;
 mod text;
 mod told;

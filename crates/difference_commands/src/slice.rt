@@ -10,10 +10,10 @@ ghost use Rattle.difference_commands.specs.Texts.{beginning, record_section, rec
 ghost use Rattle.difference_commands.specs.Views.{pairs_in, records_in};
 
 use crate::entry::Entry;
-use crate::sections::{push_header, push_section};
 use crate::text::record_of;
 use crate::trees::Compared;
 use block::Block;
+use car_writing::{push_header, push_section};
 use cid::{Cid, Digest};
 use difference::KeyDifference;
 use std::alloc::{AllocError, Allocator};

@@ -5,11 +5,12 @@ ghost use Rattle.hex.specs.Hex.{encode_lower};
 ghost use Rattle.spec.specs.Blocks.{value_of};
 ghost use Rattle.spec.specs.NodeFormat.{is_ascending};
 ghost use Rattle.difference.specs.Merged.{told, told_of};
-ghost use Rattle.difference_commands.specs.Texts.{change_line, change_line_with, change_words, record_words, value_words};
+ghost use Rattle.difference_commands.specs.Texts.{change_line, change_line_with, change_words, record_words};
 ghost use Rattle.difference_commands.specs.Views.{pairs_in, records_in};
 
 use crate::entry::Entry;
 use cid::Cid;
+use console::push_value;
 use difference::KeyDifference;
 use std::alloc::{AllocError, Allocator};
 use std::cmp::Ordering;
@@ -93,20 +94,6 @@ fn push_words<A: Allocator>(
     text.extend_from_slice(&change.key)?;
     push_value(text, &change.before)?;
     push_value(text, &change.after)
-}
-
-/// Puts a space and the CID of a record at the end, or `-` where there is none.
-fn push_value<A: Allocator>(text: &mut Vec<u8, A>, value: &Option<Cid>) -> Result<(), AllocError>
-    ensures { OnOk result (text.new.items ≡ text.old.items ++ value_words value.now) }
-{
-    match value {
-        Some(cid) => {
-            text.push(b' ')?;
-            text.extend_from_slice(&cid.text())?;
-        }
-        None => text.extend_from_slice(b" -")?,
-    }
-    Ok(())
 }
 
 /// Puts a space and the bytes of a record in hexadecimal at the end, or `-` where there is none.

@@ -7,36 +7,17 @@ use Rattle.spec.specs.Exports.{IsExport, IsFirstFault}
 use Rattle.spec.specs.Exports as exports
 use Rattle.spec.specs.SignedCommits.{Commit}
 use Rattle.repository_check.specs.Views.{check_fault_of}
+use Rattle.console.proofs.Known.{always_known, for_known, keeps-same, write-statuses}
 use Rattle.console.proofs.Leaving.{Appends-append, Appends-kept}
-use Rattle.console.specs.Faults.{write_status}
 use Rattle.console.specs.Written.{AppendsText}
 use Rattle.console.specs.declared.fault.CommandFault.{CommandFault}
 use Rattle.console.specs.declared.fault.CommandFault.TheVariants as ends
-use Rattle.console.specs.declared.writing.WriteFault.{WriteFault}
-use Rattle.console.specs.declared.writing.WriteFault.TheVariants as writes
 use Rattle.export_commands.specs.declared.command.ExportCommand.{ExportCommand}
 use Rattle.export_commands.specs.declared.fault.ExportFault.{ExportFault}
 use Rattle.export_commands.specs.declared.fault.ExportFault.TheVariants as errors
 use Rattle.export_commands.specs.Faults.{check_status, command_status, status_of}
 use Rattle.export_commands.specs.Outcomes.{AppendsTextOf, BeginsText, BeginsTextOf, HasFault, IsFaultOf, IsOutcome, IsOutcomeOf, IsStatusOf, IsTextOf, IsTold, IsUntold, KeepsWithoutText}
 use Rattle.export_commands.specs.Texts.{Records, export_text}
-
--- ---- what is said of an input that may be known
-
-for_known : (P Q : List ℕ → Type 0) (o : Option (List ℕ)) → ((xs : List ℕ) → P xs → Q xs) → IfSome o P → IfSome o Q
-for_known P Q None f p = tt
-for_known P Q (Some xs) f p = f xs p
-
-always_known : (P : List ℕ → Type 0) (o : Option (List ℕ)) → ((xs : List ℕ) → P xs) → IfSome o P
-always_known P None f = tt
-always_known P (Some xs) f = f xs
-
-keeps-same : (old new : Option (List ℕ)) → new ≡ old → Keeps old new
-keeps-same old new e = subst (Keeps old) (sym e) (same old)
-  where
-    same : (o : Option (List ℕ)) → Keeps o o
-    same None = tt
-    same (Some xs) = refl
 
 module _ (digest : List ℕ → List ℕ) (command : ExportCommand) where
   -- ---- a file that is an export
@@ -117,10 +98,6 @@ module _ (digest : List ℕ → List ℕ) (command : ExportCommand) where
     statuses (errors.Check f) = check-statuses (check_fault_of f)
     statuses (errors.NoJsonForm place) = (omega arith, omega arith, λ e. omega (arith, e))
     statuses errors.ReadFailed = (omega arith, omega arith, λ e. omega (arith, e))
-
-    write-statuses : (w : WriteFault) → (3 ≤ write_status w) × (write_status w ≤ 4)
-    write-statuses writes.NoMemory = (omega arith, omega arith)
-    write-statuses writes.Failed = (omega arith, omega arith)
 
     first : (file : List ℕ) (o : Option exports.ExportFault) → IfSome o (IsFirstFault digest 2 file) → check_status o ≡ 1 → HasFault digest command file
     first file (Some f) p one = inl (f, p)

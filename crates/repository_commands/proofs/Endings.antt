@@ -1,8 +1,8 @@
--- What is said of an input that may be known, and how a command ends without memory.
-use Rattle.std.proofs.Common.{◌≡◌, ◌∙◌, ⊎_elim, arith, ℕ, List, [], Some, None, refl, sym, subst, inl, inr, ap, true}
+-- How a command ends, without memory too.
+use Rattle.std.proofs.Common.{◌≡◌, ◌∙◌, ⊎_elim, arith, ℕ, List, [], refl, sym, subst, inl, inr, ap, true}
 use Rattle.std.specs.Prelude.{◌⊎◌, Option, Result, Ok, Err, is_ok, IfErr, IfSome, OnOk}
-use Rattle.std.specs.Io.KnownBytes.{Keeps}
 use Rattle.spec.specs.Reading.{Fails}
+use Rattle.console.proofs.Known.{always_known, for_known, keeps-itself}
 use Rattle.console.proofs.Leaving.{Appends-nil}
 use Rattle.console.specs.Faults.{IsWritten}
 use Rattle.console.specs.Written.{AppendsBeginning, AppendsText}
@@ -15,25 +15,13 @@ use Rattle.repository_commands.specs.Texts.{text_or_nothing}
 use Rattle.repository_commands.specs.declared.fault.TextFault.{TextFault}
 use Rattle.repository_commands.specs.declared.fault.TextFault.TheVariants as errors
 
-pub for_known : (P Q : List ℕ → Type 0) (o : Option (List ℕ)) → ((xs : List ℕ) → P xs → Q xs) → IfSome o P → IfSome o Q
-for_known P Q None f p = tt
-for_known P Q (Some xs) f p = f xs p
-
-pub always_known : (P : List ℕ → Type 0) (o : Option (List ℕ)) → ((xs : List ℕ) → P xs) → IfSome o P
-always_known P None f = tt
-always_known P (Some xs) f = f xs
-
-Keeps-same : (o : Option (List ℕ)) → Keeps o o
-Keeps-same None = tt
-Keeps-same (Some xs) = refl
-
 -- memory was refused before anything was written
 pub without_memory : {D A : Type 0} (text : Texts) (input old : Option (List ℕ)) → IsOutcome {D = D} {A = A} text input old old (Err (commands.NoText errors.NoMemory))
 without_memory text input old = record {
   written = tt;
   fault = always_known _ input (λ xs. tt);
   write_failed = tt;
-  nothing = Keeps-same old;
+  nothing = keeps-itself old;
   beginning = always_known _ input (λ xs. ([], _, refl, Appends-nil old));
 }
 
@@ -59,7 +47,7 @@ module _ {X D A : Type 0} (view : X → List ℕ) where
     written = tt;
     fault = fails;
     write_failed = tt;
-    nothing = Keeps-same old;
+    nothing = keeps-itself old;
     beginning = always_known _ input (λ xs. ([], _, refl, Appends-nil old));
   }
 

@@ -11,7 +11,7 @@ use Rattle.repository_commands.specs.Faults.{Fault, text_fault_of}
 use Rattle.repository_commands.specs.Outcomes.{IsMade, Texts}
 use Rattle.repository_commands.specs.Texts.{stamp_check, signing_check, key_check, car_of_given, car_text, signed_car_of_given, signed_car_text, proof_of_given, prove_text, blocks_of_lines, or_bad_root, answer_of_blocks, verify_text}
 use Rattle.repository_commands.specs.declared.fault.TextFault.{TextFault}
-use Rattle.repository_commands.proofs.Endings.{always_known, for_known}
+use Rattle.console.proofs.Known.{always_known, for_known}
 
 -- ---- one step of a reading
 

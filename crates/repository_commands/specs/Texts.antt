@@ -123,9 +123,13 @@ path_of_given digest stamp key given = do
 abbrev pub hex_line : List ℕ → List ℕ
 hex_line block = encode_lower block ++ (10 ∷ [])
 
--- the root's CID, and then a line for each node
+-- the line of a root
+abbrev pub root_line : List ℕ → List ℕ
+root_line root = text root ++ (10 ∷ [])
+
+-- the root's line, and then a line for each node
 abbrev pub text_of_path : Path → List ℕ
-text_of_path p = text p.0 ++ (10 ∷ []) ++ flat_map hex_line p.1
+text_of_path p = root_line p.0 ++ flat_map hex_line p.1
 
 -- a key has 1 to 1,024 bytes
 abbrev pub key_check : List ℕ → Result (Unit {0}) Fault

@@ -11,7 +11,7 @@
 //! for, and its run to the exit status.
 //!
 //! What other commands on repositories need is public too: `Puts` of lines, `filled` and `apply_puts`, which put them into a
-//! repository, `push_lines` of its blocks, `status_of` for the end, and words of a command line.
+//! repository, `push_root` and `push_lines` of its blocks, `status_of` for the end, and words of a command line.
 //!
 //! ```text
 //! let mut lines: &[u8] = b"a/b a0";
@@ -40,7 +40,7 @@ pub use car::car_text;
 pub use ending::status_of;
 pub use fault::{LineFault, TextFault};
 pub use filling::{MOST_BLOCKS, apply_puts, filled, number_at};
-pub use proving::{prove_text, push_lines};
+pub use proving::{prove_text, push_lines, push_root};
 pub use puts::{Puts, Stop, put_of_line, space_in};
 pub use running::{run, stamp_of_words};
 pub use signing::signed_car_text;

@@ -8,7 +8,7 @@ ghost use Rattle.repository_commands.specs.Faults.{text_fault_of, is_of_words, T
 ghost use Rattle.repository_commands.specs.Outcomes.{HasReason, IsMade, IsOutcome};
 ghost use Rattle.repository_commands.specs.Refusals.{IsRefusedIn, IsRefusedLine, is_refusal};
 ghost use Rattle.repository_commands.specs.Shards.{WasFull};
-ghost use Rattle.repository_commands.specs.Texts.{hex_line, key_check, no_writes, path_of_given, proof_of_given, prove_text as prove_text_of, text_of_path};
+ghost use Rattle.repository_commands.specs.Texts.{hex_line, key_check, no_writes, path_of_given, proof_of_given, prove_text as prove_text_of, root_line, text_of_path};
 ghost use Rattle.repository_commands.specs.Views.{given_of, nodes_of};
 
 use crate::fault::TextFault;
@@ -135,10 +135,18 @@ fn text_of<D: Digest>(alloc: Global, path: &PathNodes<D>) -> Result<Vec<u8>, All
     ensures { IfOk result (λ bytes. bytes.items ≡ text_of_path (nodes_of path.now)) }
 {
     let mut text = Vec::new(alloc);
-    text.extend_from_slice(&path.root.text())?;
-    text.push(b'\n')?;
+    push_root(&mut text, &path.root)?;
     push_lines(alloc, &mut text, &path.nodes)?;
     Ok(text)
+}
+
+/// Puts the line of a root at the end: the text of its CID. `AllocError` comes where memory was refused.
+pub fn push_root(text: &mut Vec<u8>, root: &Cid) -> Result<(), AllocError>
+    ensures { OnOk result (text.new.items ≡ text.old.items ++ root_line root.now) }
+{
+    text.extend_from_slice(&root.text())?;
+    text.push(b'\n')?;
+    Ok(())
 }
 
 /// Puts a line for each block at the end.

@@ -1,24 +1,8 @@
--- Adding to a text piece by piece: what it is, and what is left to add, make the whole.
-use Rattle.std.proofs.Common.{◌≡◌, ℕ, ◌+◌, ◌-◌, ◌<◌, ◌≤◌, List, [], ◌∷◌, ◌++◌, length, map, take, drop, get_or, arith, sym, ap, ◌∙◌, append_assoc, add-one}
+-- Adding words to a text, with one space between each two.
+use Rattle.std.proofs.Common.{◌≡◌, ℕ, ◌-◌, ◌≤◌, List, [], ◌∷◌, ◌++◌, length, map, take, drop, get_or, arith, ap, ◌∙◌, append_assoc}
 use Rattle.std.specs.Prelude.{Result, Ok, Err, OnOk}
 use Rattle.std.specs.List.{flat_map, join_with_byte}
-use Rattle.std.proofs.lemmas.List.{append-nil, at_drop_all, take_all}
-use Rattle.std.proofs.Math.Seq.{drop-cons}
-
-module _ {X : Type 0} (f : X → List ℕ) (xs : List X) (whole t : List ℕ) (i : ℕ) where
-  abbrev pub Left : List ℕ → ℕ → Type 0
-  Left u j = u ++ flat_map f (drop j xs) ≡ whole
-
-  pub pushed : (u : List ℕ) (d : X) → Left t i → i < length xs → u ≡ t ++ f (get_or xs i d) → Left u (i + 1)
-  pushed u d left lt e =
-      ap (λ z. z ++ flat_map f (drop (i + 1) xs)) e
-      ∙ append_assoc t (f (get_or xs i d)) (flat_map f (drop (i + 1) xs))
-      ∙ ap (λ j. t ++ (f (get_or xs i d) ++ flat_map f (drop j xs))) (add-one i)
-      ∙ ap (λ ys. t ++ flat_map f ys) (sym (drop-cons xs i d lt))
-      ∙ left
-
-  pub pushed-all : Left t i → length xs ≤ i → t ≡ whole
-  pushed-all left le = sym (append-nil t) ∙ ap (λ z. t ++ z) (sym (at_drop_all (flat_map f) xs i le)) ∙ left
+use Rattle.std.proofs.lemmas.List.{append-nil, take_all}
 
 -- words in a row are the first of them, and each other one after a space
 joined : {X : Type 0} (f : X → List ℕ) (x : X) (xs : List X) → f x ++ flat_map (λ y. 32 ∷ f y) xs ≡ join_with_byte 32 (map f (x ∷ xs))

@@ -1,12 +1,12 @@
 -- A script: lines that say which worker calls what in which repository (a choice of this project).
-use Rattle.std.specs.Prelude.{ℕ, ◌+◌, ◌-◌, ◌*◌, ◌^◌, ◌==◌, length, Bool, ◌&&◌, List, [], ◌∷◌, ◌++◌, codes, nat_lt, nat_le}
+use Rattle.std.specs.Prelude.{ℕ, ◌+◌, ◌-◌, ◌*◌, ◌^◌, ◌==◌, length, Bool, ◌&&◌, List, [], ◌∷◌, codes, nat_lt, nat_le}
 use Rattle.std.specs.Prelude.{Option, Some, None, Result, Ok, Err, if◌then◌else◌}
 use Rattle.std.specs.List.{list_any, slice_split}
 use Rattle.std.specs.Str.{bytes_eq}
 use Rattle.spec.specs.Reading.{◌>>=◌}
 use Rattle.spec.specs.Stamps.{Stamp}
 use Rattle.spec.specs.Writes.{Write, Put, Create, Update, Delete}
-use Rattle.console.specs.Lines.{lines, is_space, bytes_of_hex}
+use Rattle.console.specs.Lines.{numbered_lines, is_space, bytes_of_hex}
 
 -- ---- the tokens of a line
 
@@ -77,11 +77,9 @@ pub data Call : Type 0 where
 abbrev pub get_of : List ℕ → List ℕ → Option Call
 get_of word key = if bytes_eq word (codes "get") then Some (Get key) else None
 
-abbrev pub stamp_of : List ℕ → List ℕ → Stamp
-stamp_of did rev = record { did = did; rev = rev }
-
 abbrev pub batch_of : List ℕ → List ℕ → List (List ℕ) → Option Call
-batch_of did rev ts = and_then (writes_of ts) (λ ws. Some (Apply (stamp_of did rev) ws))
+batch_of did rev ts =
+    and_then (writes_of ts) (λ ws. Some (Apply (record { did = did; rev = rev }) ws))
 
 -- `get KEY`, or `REV WRITE`, or `REV WRITE ; WRITE ..`
 abbrev pub call_of : List ℕ → List (List ℕ) → Option Call
@@ -122,23 +120,18 @@ line_of workers did number l =
 -- ---- a script
 
 -- the line, or the number of the faulty one
-abbrev pub or_faulty : ℕ → Option ScriptLine → Result (List ScriptLine) ℕ
+abbrev pub or_faulty : ℕ → Option ScriptLine → Result ScriptLine ℕ
 or_faulty number None = Err number
-or_faulty number (Some line) = Ok (line ∷ [])
+or_faulty number (Some line) = Ok line
 
--- an empty line is passed over
-abbrev pub lines_on_line : ℕ → List ℕ → ℕ → List ℕ → Result (List ScriptLine) ℕ
-lines_on_line workers did number [] = Ok []
-lines_on_line workers did number (c ∷ l) = or_faulty number (line_of workers did number (c ∷ l))
+-- the lines in their order, or the number of the first faulty one
+unfoldable pub script_of_lines : ℕ → List ℕ → List (ℕ × List ℕ) → Result (List ScriptLine) ℕ
+script_of_lines workers did [] = Ok []
+script_of_lines workers did (l ∷ ls) = do
+  one ← or_faulty l.0 (line_of workers did l.0 l.1)
+  more ← script_of_lines workers did ls
+  Ok (one ∷ more)
 
--- the lines in their order, of which the first has this number, or the number of the first faulty one
-unfoldable pub script_from : ℕ → List ℕ → ℕ → List (List ℕ) → Result (List ScriptLine) ℕ
-script_from workers did number [] = Ok []
-script_from workers did number (l ∷ ls) = do
-  one ← lines_on_line workers did number l
-  more ← script_from workers did (number + 1) ls
-  Ok (one ++ more)
-
--- the lines of an input, for so many workers, whose batches have this DID
+-- the lines of an input, for so many workers, whose batches have this DID; an empty line is passed over
 abbrev pub script_in : ℕ → List ℕ → List ℕ → Result (List ScriptLine) ℕ
-script_in workers did input = script_from workers did 1 (lines input)
+script_in workers did input = script_of_lines workers did (numbered_lines input)

@@ -1,35 +1,31 @@
 //! Why there is no report.
 ghost use Rattle.std.specs.Prelude.{◌≡◌, ◌≤◌};
-ghost use Rattle.run_command.specs.Faults.{of_read, of_script, of_write, status_of};
+ghost use Rattle.run_command.specs.Faults.{of_read, of_script, status_of};
 ghost use Rattle.run_command.specs.declared.fault.RunFault.TheVariants as errors;
 
 use crate::script::ScriptFault;
-use console::{Decimal, FAULTY, IO_FAILED, NO_MEMORY, ReadFault, WriteFault};
+use console::{Decimal, FAULTY, IO_FAILED, NO_MEMORY, ReadFault};
 use std::alloc::AllocError;
 use thiserror::Error;
 
-/// Why there is no report, or not all of it. Standard error shows these names, which are this repository's own.
+/// Why there is no report. Nothing was written. Standard error shows these names, which are this repository's own.
 #[derive(Clone, Copy, PartialEq, Eq, Debug, Error)]
 pub enum RunFault {
     /// The DID isn't one (W3C DID Core, DID syntax), or has more than 2,048 bytes. Nothing was read.
     #[error("BadDid")]
     BadDid,
-    /// The line of this number, from 1, is the first that is no line of a script. Empty lines count. Nothing was done and
-    /// nothing written.
+    /// The line of this number, from 1, is the first that is no line of a script. Empty lines count. Nothing was done.
     #[error("line {line}: BadScript", line = Decimal(*.0 as u64))]
     BadScript(usize),
-    /// The host didn't close. Nothing was written.
+    /// The host didn't close.
     #[error("Uneven")]
     Uneven,
-    /// An allocation was refused. A beginning of the report may have been written.
+    /// An allocation was refused.
     #[error("no memory")]
     NoMemory,
-    /// The input can't be read, or no random numbers can be had. Nothing was written.
+    /// The input can't be read, or no random numbers can be had.
     #[error("read failed")]
     ReadFailed,
-    /// The report can't be written. A beginning of it may have been written.
-    #[error("write failed")]
-    WriteFailed,
 }
 
 impl RunFault {
@@ -41,7 +37,7 @@ impl RunFault {
         match self {
             RunFault::BadDid | RunFault::BadScript(_) | RunFault::Uneven => FAULTY,
             RunFault::NoMemory => NO_MEMORY,
-            RunFault::ReadFailed | RunFault::WriteFailed => IO_FAILED,
+            RunFault::ReadFailed => IO_FAILED,
         }
     }
 }
@@ -72,17 +68,6 @@ impl From<ScriptFault> for RunFault {
         match fault {
             ScriptFault::BadScript(number) => RunFault::BadScript(number),
             ScriptFault::NoMemory => RunFault::NoMemory,
-        }
-    }
-}
-
-impl From<WriteFault> for RunFault {
-    ghost from_gives = { λ f e. e ≡ of_write f };
-
-    fn from(fault: WriteFault) -> RunFault {
-        match fault {
-            WriteFault::NoMemory => RunFault::NoMemory,
-            WriteFault::Failed => RunFault::WriteFailed,
         }
     }
 }

@@ -1,13 +1,14 @@
 //! The run of the command, to the exit status.
 ghost use Rattle.std.specs.Prelude.{◌≡◌, false};
 ghost use Rattle.spec.specs.Stamps.{is_did};
+ghost use Rattle.run_command.specs.Faults.{end_status};
 ghost use Rattle.run_command.specs.Outcomes.{IsStatusAfter, IsStatusOf};
 
 use crate::fault::RunFault;
 use crate::text::run_text;
 use crate::words::RunCommand;
 use cid::Digest;
-use console::{done, tell};
+use console::{CommandFault, done, tell};
 use std::alloc::Global;
 use std::io::{Read, Write};
 use std::random::RandomSource;
@@ -39,15 +40,27 @@ pub fn run<
 
 /// The exit status of a run that ended so: what was written reaches the writer's end, and a fault is told on standard
 /// error.
-fn status_of<W: Write, X: Write>(ended: Result<(), RunFault>, out: &mut W, err: &mut X) -> u8
+fn status_of<W: Write, X: Write>(
+    ended: Result<(), CommandFault<RunFault>>,
+    out: &mut W,
+    err: &mut X,
+) -> u8
     ensures status { IsStatusAfter ended (W.contents out.old) (W.contents out.new) result }
     ensures quiet { result ≡ 0 → err.new ≡ err.old }
 {
     match ended {
         Ok(()) => done(out, err),
-        Err(fault) => {
-            tell(&fault, err);
-            fault.status()
-        }
+        Err(fault) => failed(&fault, err),
+    }
+}
+
+/// Tells a fault, and answers its status.
+fn failed<X: Write>(fault: &CommandFault<RunFault>, err: &mut X) -> u8
+    ensures { result ≡ end_status fault.now }
+{
+    tell(fault, err);
+    match fault {
+        CommandFault::NoText(fault) => fault.status(),
+        CommandFault::Unwritten(fault) => fault.status(),
     }
 }

@@ -1,11 +1,11 @@
 //! The command: a script is read, run, and its report written.
-ghost use Rattle.std.specs.Prelude.{◌≡◌, ◌<◌, true, false, Err, All, IfErr, IfOk, IfSome, OnOk};
+ghost use Rattle.std.specs.Prelude.{◌≡◌, ◌<◌, true, false, All, IfErr, IfOk, IfSome, OnOk};
 ghost use Rattle.spec.specs.Reading.{Gives};
 ghost use Rattle.spec.specs.Stamps.{is_did as is_did_of};
 ghost use Rattle.run_command.specs.Script.{script_in};
 ghost use Rattle.run_command.specs.Views.{view_of_lines};
 ghost use Rattle.run_command.specs.Faults.{run_fault_of, IsOfScript};
-ghost use Rattle.run_command.specs.Outcomes.{IsOutcome};
+ghost use Rattle.run_command.specs.Outcomes.{IsOutcome, IsReported, IsUnreported};
 
 use crate::fault::RunFault;
 use crate::hosting::report_of_lines;
@@ -13,7 +13,7 @@ use crate::script::script_of;
 use crate::settings::Settings;
 use batches::is_did;
 use cid::Digest;
-use console::{read_all, write_whole};
+use console::{CommandFault, read_all, write_made};
 use scripts::Line;
 use std::alloc::Global;
 use std::io::{Read, Write};
@@ -33,11 +33,11 @@ use store::TableKey;
 /// so.
 ///
 /// The DID is that of all batches, and is tested before the input is read. All of the script is read and judged before a
-/// line of it is done, and the host has closed before a byte is written: only at `RunFault::NoMemory` and
-/// `RunFault::WriteFailed` a beginning of the report was written.
+/// line of it is done, and the host has closed before a byte is written: where there is no report (`CommandFault::NoText`)
+/// nothing was written, and where writing failed (`CommandFault::Unwritten`) a beginning of it.
 ///
 /// `RunFault::BadDid` comes before the input is read, `RunFault::BadScript` names the first faulty line, and
-/// `RunFault::Uneven` says that the host didn't close; at these and at `RunFault::ReadFailed` nothing was written.
+/// `RunFault::Uneven` says that the host didn't close.
 pub fn run_text<
     D: Digest + Send + Sync,
     T: Threads + Wait + RandomSource + Sync,
@@ -50,19 +50,35 @@ pub fn run_text<
     did: &[u8],
     input: &mut R,
     out: &mut W,
-) -> Result<(), RunFault>
+) -> Result<(), CommandFault<RunFault>>
     ensures outcome { IsOutcome D D.digest_of settings.now did.now (R.remaining input.old)
         (W.contents out.old) (W.contents out.new) result }
 
     // A faulty DID is told before the input is read.
     ensures unread { is_did_of did.now ≡ false → input.new ≡ input.old }
 {
+    let made = report_made::<D, T, R>(rt, alloc, settings, did, input);
+    write_made(made, out)
+}
+
+/// The report of a run of the script that a reader still gives.
+fn report_made<D: Digest + Send + Sync, T: Threads + Wait + RandomSource + Sync, R: Read>(
+    rt: &T,
+    alloc: Global,
+    settings: &Settings,
+    did: &[u8],
+    input: &mut R,
+) -> Result<Vec<u8>, RunFault>
+    ensures report { IfOk result (λ text. IsReported D D.digest_of settings.now did.now
+        (R.remaining input.old) text.items) }
+    ensures fault { IfErr result (IsUnreported D D.digest_of settings.now did.now
+        (R.remaining input.old)) }
+    ensures unread { is_did_of did.now ≡ false → input.new ≡ input.old }
+{
     check_did(did)?;
     let lines = read_script(alloc, settings, did, input)?;
     let key = drawn_key(rt)?;
-    let text = report_of_lines::<D, T>(rt, alloc, key, settings, &lines)?;
-    write_whole(out, &text)?;
-    Ok(())
+    report_of_lines::<D, T>(rt, alloc, key, settings, &lines)
 }
 
 /// The key of the host's tables, drawn at random.

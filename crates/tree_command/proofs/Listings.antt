@@ -9,13 +9,12 @@ use Rattle.spec.specs.Tree.{Pair}
 use Rattle.spec.specs.Blocks.{IsClashFree, nodes, root, firsts}
 use Rattle.spec.specs.Laws.Clashes.{HasClash}
 use Rattle.spec.proofs.BlockLaws.{test-from_IsClashFree, test-from_HasClash}
+use Rattle.console.proofs.Known.{always_known, for_known, keeps-same, write-statuses}
 use Rattle.console.proofs.Leaving.{Appends-append, Appends-kept}
 use Rattle.console.specs.Written.{AppendsBeginning, AppendsText}
-use Rattle.console.specs.Faults.{IsWritten, write_status}
+use Rattle.console.specs.Faults.{IsWritten}
 use Rattle.console.specs.declared.fault.CommandFault.{CommandFault}
 use Rattle.console.specs.declared.fault.CommandFault.TheVariants as ends
-use Rattle.console.specs.declared.writing.WriteFault.{WriteFault}
-use Rattle.console.specs.declared.writing.WriteFault.TheVariants as writes
 use Rattle.tree_command.specs.declared.fault.TreeFault.{TreeFault as GivenFault}
 use Rattle.tree_command.specs.declared.fault.TreeFault.TheVariants as errors
 use Rattle.scratch.specs.declared.tree.Built.{Built}
@@ -52,24 +51,7 @@ unfolding tree_text
 text-failed taken digest bits None input e = tt
 text-failed taken digest bits (Some f) input e = ap (λ (r : Result (List ℕ × List (List ℕ)) TreeFault). r >>= (λ t. Ok (text_of_tree digest t))) e
 
--- ---- what is said of an input that may be known
-
-for_known : (P Q : List ℕ → Type 0) (o : Option (List ℕ)) → ((xs : List ℕ) → P xs → Q xs) → IfSome o P → IfSome o Q
-for_known P Q None f p = tt
-for_known P Q (Some xs) f p = f xs p
-
-always_known : (P : List ℕ → Type 0) (o : Option (List ℕ)) → ((xs : List ℕ) → P xs) → IfSome o P
-always_known P None f = tt
-always_known P (Some xs) f = f xs
-
 -- ---- how a listing ends
-
-keeps-same : (old new : Option (List ℕ)) → new ≡ old → Keeps old new
-keeps-same old new e = subst (Keeps old) (sym e) (same old)
-  where
-    same : (o : Option (List ℕ)) → Keeps o o
-    same None = tt
-    same (Some xs) = refl
 
 wrote-text : (old new : Option (List ℕ)) (r : Result (List ℕ) TreeFault) (t : List ℕ) → r ≡ Ok t → Appends old new t → AppendsText old new r
 wrote-text old new r t e p = rw e p
@@ -145,10 +127,6 @@ module _ (text : Texts) (input left old new : Option (List ℕ)) where
   statuses errors.Clash = (omega arith, omega arith, λ e. omega (arith, e))
   statuses errors.NoMemory = (omega arith, omega arith, λ e. omega (arith, e))
   statuses errors.ReadFailed = (omega arith, omega arith, λ e. omega (arith, e))
-
-  write-statuses : (f : WriteFault) → (3 ≤ write_status f) × (write_status f ≤ 4)
-  write-statuses writes.NoMemory = (omega arith, omega arith)
-  write-statuses writes.Failed = (omega arith, omega arith)
 
   failed-with : (e : CommandFault GivenFault) → IsOutcome text input left old new (Err e) → IsStatusOf text input old new (end_status e)
   failed-with (ends.NoText f) outcome =

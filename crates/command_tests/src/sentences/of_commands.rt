@@ -182,12 +182,6 @@ fn faults_of_a_run(rt: HostRuntime) {
             "read failed",
             "the input can't be read",
         ),
-        (
-            RunFault::WriteFailed,
-            "write failed",
-            "write failed",
-            "the output can't be written",
-        ),
     ];
     for (fault, told, name, meaning) in &rows {
         let named = format!(in rt.alloc(); "{fault}").expect(&rt, "memory");
@@ -221,11 +215,18 @@ fn faults_of_reading_and_writing(rt: HostRuntime) {
         assert!(rt; told.as_str() == *name, "{told}");
     }
     let writes = [
-        (WriteFault::NoMemory, "no memory"),
-        (WriteFault::Failed, "write failed"),
+        (WriteFault::NoMemory, "no memory", "memory was refused"),
+        (
+            WriteFault::Failed,
+            "write failed",
+            "the output can't be written",
+        ),
     ];
-    for (fault, name) in &writes {
+    for (fault, name, meaning) in &writes {
         let told = format!(in rt.alloc(); "{fault}").expect(&rt, "memory");
-        assert!(rt; told.as_str() == *name, "{told}");
+        assert!(rt;
+            told.as_str() == *name && is_explained(*name, *meaning),
+            "{told}"
+        );
     }
 }

@@ -6,7 +6,7 @@ ghost use Rattle.run_command.specs.Views.{script_fault_of, view_of_lines};
 ghost use Rattle.run_command.specs.declared.script.lines.ScriptFault.TheVariants as faults;
 
 use crate::script::line::line_of;
-use bstr::ByteSlice;
+use console::numbered_lines;
 use scripts::Line;
 use std::alloc::{AllocError, AllocFailed, Global};
 use thiserror::Error;
@@ -53,15 +53,10 @@ pub fn script_of(
     ensures workers { IfOk result (λ lines. All (λ l. l.worker < workers) lines.items) }
 {
     let mut lines = Vec::new(alloc);
-    let mut number = 0;
-    for line in text.lines() {
-        number += 1;
-        if line.is_empty() {
-            continue;
-        }
-        match line_of(alloc, workers, did, number, line)? {
+    for (number, line) in numbered_lines(text) {
+        match line_of(alloc, workers, did, number as usize, line)? {
             Some(line) => lines.push(line)?,
-            None => return Err(ScriptFault::BadScript(number)),
+            None => return Err(ScriptFault::BadScript(number as usize)),
         }
     }
     Ok(lines)

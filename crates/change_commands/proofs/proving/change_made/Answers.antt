@@ -2,7 +2,7 @@ use Rattle.std.proofs.Common.{◌≡◌, ℕ, List, Option, Ok, Err, subst}
 use Rattle.std.specs.Prelude.{Result, IfErr, IfSome}
 use Rattle.record_forms.specs.declared.form.Form.{Form}
 use Rattle.repository_commands.specs.declared.fault.TextFault.{TextFault}
-use Rattle.repository_commands.proofs.Endings.{for_known}
+use Rattle.console.proofs.Known.{for_known}
 use Rattle.change_commands.specs.Stories.{Story, story_in}
 use Rattle.change_commands.specs.Texts.{IsRefusedStory, IsUnproved}
 use Rattle.change_commands.specs.Views.{story_of}

@@ -3,7 +3,7 @@ use Rattle.std.specs.Prelude.{Ok}
 use Rattle.spec.specs.Reading.{Fails, Gives}
 use Rattle.console.specs.Lines.{lines}
 use Rattle.repository_commands.specs.Faults.{text_fault_of}
-use Rattle.repository_commands.proofs.Endings.{for_known}
+use Rattle.console.proofs.Known.{for_known}
 use Rattle.repository_commands.proofs.Making.{made_by_fault, made_by_input, made_of}
 use Rattle.change_commands.specs.Told.{told_in}
 use Rattle.change_commands.specs.Texts.{verify_change_text}

@@ -1,6 +1,6 @@
 use Rattle.std.proofs.Common.{[], ◌++◌}
 use Rattle.explain_command.specs.Explained.{explained, said, texts_of, word_of}
-use Rattle.explain_command.proofs.Pushing.{Left}
+use Rattle.console.proofs.Pushing.{Left}
 use Rattle.explain_command.proofs.text.push_all.Given as goal
 
 abbrev pub invariant-loop-fault : goal.invariant-loop-fault

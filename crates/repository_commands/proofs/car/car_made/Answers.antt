@@ -7,7 +7,7 @@ use Rattle.repository_commands.specs.Puts.{given_in}
 use Rattle.repository_commands.specs.Refusals.{IsRefusedIn}
 use Rattle.repository_commands.specs.Texts.{car_text}
 use Rattle.repository_commands.specs.Views.{given_of}
-use Rattle.repository_commands.proofs.Endings.{always_known}
+use Rattle.console.proofs.Known.{always_known}
 use Rattle.repository_commands.proofs.Making.{made_by_fault, made_of, car_unchecked, car_checked, passed}
 use Rattle.repository_commands.proofs.car.car_made.Goals as goal
 

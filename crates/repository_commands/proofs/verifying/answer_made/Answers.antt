@@ -4,7 +4,7 @@ use Rattle.console.specs.Lines.{numbered_lines}
 use Rattle.repository_commands.specs.Faults.{text_fault_of}
 use Rattle.repository_commands.specs.Texts.{blocks_of_lines, verify_text}
 use Rattle.repository_commands.specs.Views.{blocks_of}
-use Rattle.repository_commands.proofs.Endings.{for_known}
+use Rattle.console.proofs.Known.{for_known}
 use Rattle.repository_commands.proofs.Making.{made_by_fault, made_by_input, made_of, verify_unrooted, verify_unkeyed, verify_unlined, verify_lined}
 use Rattle.repository_commands.proofs.verifying.answer_made.Goals as goal
 

@@ -1,6 +1,6 @@
 use Rattle.std.proofs.Common.{[], ◌++◌}
 use Rattle.run_command.specs.Report.{block_line, block_lines}
-use Rattle.run_command.proofs.Pushing.{Left}
+use Rattle.console.proofs.Pushing.{Left}
 use Rattle.run_command.proofs.script.report.push_blocks.Given as goal
 
 abbrev pub invariant-loop-cid : goal.invariant-loop-cid

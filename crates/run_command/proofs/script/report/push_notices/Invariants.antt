@@ -1,6 +1,6 @@
 use Rattle.std.proofs.Common.{[], ◌++◌}
 use Rattle.run_command.specs.Report.{notice_line, notice_lines}
-use Rattle.run_command.proofs.Pushing.{Left}
+use Rattle.console.proofs.Pushing.{Left}
 use Rattle.run_command.proofs.script.report.push_notices.Given as goal
 
 abbrev pub invariant-loop-notice : goal.invariant-loop-notice

@@ -1,6 +1,6 @@
 use Rattle.std.proofs.Common.{[], ◌∷◌, ◌++◌}
 use Rattle.std.specs.List.{flat_map}
-use Rattle.run_command.proofs.Pushing.{Left}
+use Rattle.console.proofs.Pushing.{Left}
 use Rattle.run_command.proofs.script.words.push_others.Given as goal
 
 abbrev pub invariant-loop-word : goal.invariant-loop-word
