@@ -43,8 +43,8 @@ msthost = record {
   top = program_shape;
   subs = with_file tree_shape ∷ with_file car_shape ∷ with_file prove_shape ∷ with_file verify_shape
       ∷ with_file prove_change_shape ∷ with_file verify_change_shape ∷ with_file commit_event_shape
-      ∷ with_file check_event_shape ∷ with_file check_shape ∷ with_file records_shape ∷ with_file commit_shape ∷ changes_shape ∷ with_file run_shape
-      ∷ explain_shape ∷ help_shape ∷ [];
+      ∷ with_file check_event_shape ∷ with_file check_shape ∷ with_file records_shape
+      ∷ with_file commit_shape ∷ changes_shape ∷ with_file run_shape ∷ explain_shape ∷ help_shape ∷ [];
 }
 
 -- the request is the one of this name, with what the command's own words say
@@ -83,7 +83,8 @@ name_of = option_map (λ name. name.now)
 abbrev pub IsCommandName : Text → Type 0
 IsCommandName name = Any (λ x. x ≡ name) (codes "tree" ∷ codes "car" ∷ codes "prove" ∷ codes "verify"
     ∷ codes "prove-change" ∷ codes "verify-change" ∷ codes "commit-event" ∷ codes "check-event"
-    ∷ codes "check" ∷ codes "records" ∷ codes "commit" ∷ codes "changes" ∷ codes "run" ∷ codes "explain" ∷ codes "help" ∷ [])
+    ∷ codes "check" ∷ codes "records" ∷ codes "commit" ∷ codes "changes" ∷ codes "run" ∷ codes "explain"
+    ∷ codes "help" ∷ [])
 
 -- an answer of this kind is help or the version
 abbrev pub is_shown : ErrorKind → Bool

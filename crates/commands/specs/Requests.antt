@@ -11,7 +11,7 @@ use Rattle.repository_commands.specs.Commands.{HasFaultyWord as IsFaultyCommand,
 use Rattle.repository_commands.specs.Outcomes.{IsFaulty as IsFaultyOn}
 use Rattle.repository_commands.specs.Texts.{text_or_nothing as repository_text_or_nothing}
 use Rattle.change_commands.specs.Commands.{HasFaultyWord as IsFaultyChange, reasons_of as change_reasons_of, texts_of as change_texts_of}
-use Rattle.event_commands.specs.Commands.{HasFaultyWord as HasFaultyEventWord, texts_of as event_texts_of}
+use Rattle.event_commands.specs.Commands.{HasFaultyWord as HasFaultyEventWord, reasons_of as event_reasons_of, texts_of as event_texts_of}
 use Rattle.event_commands.specs.Outcomes.{IsFaulty as AreFaultyMessages}
 use Rattle.event_commands.specs.Texts.{text_or_nothing as event_text_or_nothing}
 use Rattle.export_commands.specs.Outcomes.{AppendsTextOf, BeginsTextOf, HasFault}
@@ -25,8 +25,9 @@ Holding = List ℕ → Option (List ℕ)
 
 -- What was asked for is done, with files of names, on an input that is known or not, and with a writer's
 -- known contents before and after: the listing of the tree, the text of a command on one repository, on a
--- change of one or on messages, what a command tells of the repository that the input is the export of, what two files
--- differ by, or the report of a run of the script that the input is; or what there is to say of a fault.
+-- change of one or on messages, what a command tells of the repository that the input is the export of,
+-- what two files differ by, or the report of a run of the script that the input is; or what there is to say
+-- of a fault.
 -- What help shows is said nowhere.
 abbrev pub IsDone : (D : Type 0) → (List ℕ → List ℕ) → Request → Holding → Option (List ℕ)
     → Option (List ℕ) → Option (List ℕ) → Type 0
@@ -60,7 +61,7 @@ IsRefused D A digest (requests.OnRepository command) holds input =
 IsRefused D A digest (requests.OnChange command) holds input =
     IsFaultyOn {D = D} {A = A} (change_texts_of digest command) (change_reasons_of digest command) input
 IsRefused D A digest (requests.OnMessages command) holds input =
-    AreFaultyMessages {D = D} (event_texts_of digest command) input
+    AreFaultyMessages {D = D} (event_texts_of digest command) (event_reasons_of digest command) input
 IsRefused D A digest (requests.OnExport command) holds input = IfSome input (HasFault digest command)
 IsRefused D A digest (requests.OnDifference words) holds input =
     IsRefusedBy digest (command_of words) (holds words.old.now) (holds words.new.now)

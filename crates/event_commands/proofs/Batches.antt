@@ -1,6 +1,6 @@
 -- The message of a batch, from what came of the two batches.
 use Rattle.std.proofs.Common.{◌≡◌, ◌∙◌, ℕ, true, false, List, [], ◌∷◌, refl, sym, ap, subst}
-use Rattle.std.specs.Prelude.{Option, codes, option_map, Result, Ok, Err}
+use Rattle.std.specs.Prelude.{Option, option_map, Result, Ok, Err}
 use Rattle.spec.specs.Reading.{◌>>=◌, ensure, Fails}
 use Rattle.spec.specs.Stamps.{Stamp}
 use Rattle.spec.specs.States.{State, state_root}
@@ -9,12 +9,11 @@ use Rattle.event_writing_laws.specs.Telling as telling
 use Rattle.event_writing_laws.specs.Messages.{batch_message}
 use Rattle.change_commands.specs.Stories.{Story}
 use Rattle.change_commands.specs.Texts.{changes_of_batch}
-use Rattle.repository_commands.specs.Commands.{stamp_of_words}
 use Rattle.repository_commands.specs.Faults as texts
 use Rattle.repository_commands.specs.Puts.{Given}
 use Rattle.repository_commands.specs.Texts.{no_writes, state_of_given}
 use Rattle.event_commands.specs.Faults.{Fault, OfBatch, OfText}
-use Rattle.event_commands.specs.Texts.{Words, event_of_story, event_on, has_writes, of_batch, with_signature}
+use Rattle.event_commands.specs.Texts.{Words, event_of_story, batch_stamp, first_stamp, event_on, has_writes, of_batch, with_signature}
 use Rattle.event_commands.proofs.Making.{text_fails, text_gives}
 
 module _ (digest : List ℕ → List ℕ) (s : State) (stamp : Stamp) (batch : Given) (told : telling.Told) where
@@ -44,14 +43,14 @@ module _ (digest : List ℕ → List ℕ) (s : State) (stamp : Stamp) (batch : G
 
 module _ (digest : List ℕ → List ℕ) (w : Words) (sig : List ℕ) (story : Story) where
   abbrev on : State → Result (List ℕ) Fault
-  on s = event_on digest s (stamp_of_words w.did w.rev) story.batch (with_signature w sig)
+  on s = event_on digest s (batch_stamp w) story.batch (with_signature w sig)
 
-  pub story_fails : (stamp : Stamp) → stamp ≡ (stamp_of_words w.did (codes "2222222222222")) → (o : Option texts.Fault)
+  pub story_fails : (stamp : Stamp) → stamp ≡ (first_stamp w) → (o : Option texts.Fault)
       → Fails o (state_of_given no_writes stamp story.before) → Fails (option_map OfText o) (event_of_story digest w sig story)
   story_fails stamp es o e =
-      text_fails o (state_of_given no_writes (stamp_of_words w.did (codes "2222222222222")) story.before) on (subst (λ x. Fails o (state_of_given no_writes x story.before)) es e)
+      text_fails o (state_of_given no_writes (first_stamp w) story.before) on (subst (λ x. Fails o (state_of_given no_writes x story.before)) es e)
 
-  pub story_told : (stamp : Stamp) → stamp ≡ (stamp_of_words w.did (codes "2222222222222")) → (s : State) → state_of_given no_writes stamp story.before ≡ Ok s
+  pub story_told : (stamp : Stamp) → stamp ≡ (first_stamp w) → (s : State) → state_of_given no_writes stamp story.before ≡ Ok s
       → event_of_story digest w sig story ≡ on s
   story_told stamp es s e =
-      text_gives (state_of_given no_writes (stamp_of_words w.did (codes "2222222222222")) story.before) s on (subst (λ x. state_of_given no_writes x story.before ≡ Ok s) es e)
+      text_gives (state_of_given no_writes (first_stamp w) story.before) s on (subst (λ x. state_of_given no_writes x story.before ≡ Ok s) es e)

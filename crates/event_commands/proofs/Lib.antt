@@ -2,3 +2,4 @@ pub mod Endings
 mod Making
 mod Streams
 mod Batches
+mod Refusals

@@ -4,7 +4,7 @@ use Rattle.std.specs.Prelude.{Option, option_map, Result, Ok, Err, IfSome, IsErr
 use Rattle.spec.specs.Reading.{◌>>=◌, Gives, Fails}
 use Rattle.record_forms.specs.declared.form.Form.{Form}
 use Rattle.repository_commands.specs.Faults as texts
-use Rattle.repository_commands.proofs.Endings.{always_known, for_known}
+use Rattle.console.proofs.Known.{always_known, for_known}
 use Rattle.repository_commands.proofs.Making.{fails_then, gives_then, passed}
 use Rattle.change_commands.specs.Stories.{Story, story_in}
 use Rattle.event_commands.specs.Faults.{Fault, OfText, message_fault_of}

@@ -38,9 +38,19 @@ pub record IsStatusOf (text : Texts) (input old new : Option (List ℕ)) (status
   pub usage : (status ≡ 2) → ⊥
   pub beginning : IfSome input (λ xs. AppendsBeginning old new (text_or_nothing (text xs)))
 
+-- what is to hold of an input and of the fault of its text
+abbrev pub Reasons : Type 0 → Type 1
+Reasons D = List ℕ → MessageFault D → Type 0
+
+-- that holds of the text's fault, where there is one and the input is known
+abbrev pub HasReason : {D : Type 0} → Reasons D → Option (List ℕ)
+    → Result (Unit {0}) (CommandFault (MessageFault D)) → Type 0
+HasReason Is input result = IfErr result (λ e. IfNoText e (λ f. IfSome input (λ xs. Is xs f)))
+
 -- A fault that ends with status 1, as neither memory nor a device does: it is the one that the text of
--- the input has, if the definitions name it.
-pub record IsFaulty {D : Type 0} (text : Texts) (input : Option (List ℕ)) : Type 0 where
+-- the input has, if the definitions name it; and there is a reason for it.
+pub record IsFaulty {D : Type 0} (text : Texts) (Is : Reasons D) (input : Option (List ℕ)) : Type 0 where
   pub fault : MessageFault D
   pub status : status_of fault ≡ 1
   pub of_text : IfSome input (λ xs. Fails (message_fault_of fault) (text xs))
+  pub reason : IfSome input (λ xs. Is xs fault)

@@ -49,9 +49,16 @@ pub record Words : Type 0 where
   pub time : List ℕ
   pub sig : List ℕ
 
+-- the stamps of the records before and of the batch: those are put under the first revision that there is (a choice of this project)
+abbrev pub first_stamp : Words → Stamp
+first_stamp w = stamp_of_words w.did (codes "2222222222222")
+
+abbrev pub batch_stamp : Words → Stamp
+batch_stamp w = stamp_of_words w.did w.rev
+
 -- the words that are judged before the input is read: the DID, the revision, and the signature, which they give
 abbrev pub signature_of : Words → Result (List ℕ) Fault
-signature_of w = of_text (signing_check (stamp_of_words w.did w.rev) w.sig)
+signature_of w = of_text (signing_check (batch_stamp w) w.sig)
 
 abbrev pub with_signature : Words → List ℕ → telling.Told
 with_signature w sig = record { seq = w.seq; time = w.time; since = w.since; sig = sig }
@@ -67,12 +74,11 @@ event_on digest s stamp batch told = do
   some ← ensure (has_writes batch.writes) (OfBatch telling.NoBatch)
   of_batch (batch_message digest 2 t (state_root digest 2 s) (changes_of_batch digest s t batch.writes) told)
 
--- the puts are one batch of a new repository, under the first revision that there is (a choice of this project), and the writes one
--- on it
+-- the puts are one batch of a new repository, and the writes one on it
 abbrev pub event_of_story : (List ℕ → List ℕ) → Words → List ℕ → Story → Result (List ℕ) Fault
 event_of_story digest w sig story = do
-  s ← of_text (state_of_given no_writes (stamp_of_words w.did (codes "2222222222222")) story.before)
-  event_on digest s (stamp_of_words w.did w.rev) story.batch (with_signature w sig)
+  s ← of_text (state_of_given no_writes (first_stamp w) story.before)
+  event_on digest s (batch_stamp w) story.batch (with_signature w sig)
 
 unfoldable pub commit_event_text : (List ℕ → List ℕ) → Form → Words → List ℕ → Result (List ℕ) Fault
 commit_event_text digest form w input = do

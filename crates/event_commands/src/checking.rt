@@ -2,7 +2,8 @@
 ghost use Rattle.std.specs.Prelude.{◌≡◌, IfErr, IsErr};
 ghost use Rattle.spec.specs.Reading.{Gives};
 ghost use Rattle.event_commands.specs.Faults.{message_fault_of, EndsAtWords, EndsEarly, EndsWords};
-ghost use Rattle.event_commands.specs.Outcomes.{IsMade, IsOutcome};
+ghost use Rattle.event_commands.specs.Outcomes.{HasReason, IsMade, IsOutcome};
+ghost use Rattle.event_commands.specs.Refusals.{IsOfNoLine};
 ghost use Rattle.event_commands.specs.Texts.{check_event_text as check_event_text_of, lines_of_stream, root_of_word, told_next};
 
 use crate::fault::MessageFault;
@@ -33,6 +34,9 @@ pub fn check_event_text<D: Digest, R: Read, W: Write>(
     ensures outcome { IsOutcome (check_event_text_of D.digest_of form previous.now)
         (R.remaining input.old) (W.contents out.old) (W.contents out.new) result }
 
+    // No line is refused, as of the commands that read lines.
+    ensures lineless { HasReason (λ xs e. IsOfNoLine e) (R.remaining input.old) result }
+
     // A faulty root is told, before the input is read.
     ensures told { IsErr (root_of_word previous.now) → EndsEarly result }
     ensures unread { IsErr (root_of_word previous.now) → input.new ≡ input.old }
@@ -49,6 +53,7 @@ fn lines_made<D: Digest, R: Read>(
 ) -> Result<Vec<u8>, MessageFault<D>>
     ensures made { IsMade (λ bytes. bytes.items) (check_event_text_of D.digest_of form previous.now)
         (R.remaining input.old) result }
+    ensures lineless { IfErr result (λ e. IsOfNoLine e) }
     ensures told { IsErr (root_of_word previous.now) → EndsWords result }
     ensures unread { IsErr (root_of_word previous.now) → input.new ≡ input.old }
 {
@@ -61,6 +66,7 @@ fn lines_made<D: Digest, R: Read>(
 fn root_of<D: Digest>(word: &[u8]) -> Result<Cid, MessageFault<D>>
     ensures root { Gives (λ cid. cid) message_fault_of result (root_of_word word.now) }
     ensures words { IfErr result EndsAtWords }
+    ensures lineless { IfErr result (λ e. IsOfNoLine e) }
 {
     match Cid::from_text(word) {
         Ok(cid) => Ok(cid),
@@ -75,8 +81,9 @@ fn lines_of<D: Digest>(
     previous: Cid,
     stream: &[u8],
 ) -> Result<Vec<u8>, MessageFault<D>>
-    ensures { Gives (λ bytes. bytes.items) message_fault_of result
+    ensures lines { Gives (λ bytes. bytes.items) message_fault_of result
         (lines_of_stream D.digest_of form previous stream.now) }
+    ensures lineless { IfErr result (λ e. IsOfNoLine e) }
 {
     let mut text = Vec::new(alloc);
     let mut root = previous;
@@ -101,8 +108,9 @@ fn push_lines<D: Digest>(
     message: &[u8],
     text: &mut Vec<u8>,
 ) -> Result<Cid, MessageFault<D>>
-    ensures { Gives (λ after. (text.new.items, after)) message_fault_of result
+    ensures lines { Gives (λ after. (text.new.items, after)) message_fault_of result
         (told_next D.digest_of form text.old.items number root message.now) }
+    ensures lineless { IfErr result (λ e. IsOfNoLine e) }
 {
     match check_commit::<D, 2, Global>(alloc, root, message) {
         Ok(checked) => {

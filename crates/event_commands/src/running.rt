@@ -1,8 +1,8 @@
 //! The run of a command on messages, to the exit status.
 ghost use Rattle.std.specs.Prelude.{◌≡◌, ◌⊎◌, List, ℕ, Option, IfErr, OnOk};
-ghost use Rattle.event_commands.specs.Commands.{texts_of, HasFaultyWord};
+ghost use Rattle.event_commands.specs.Commands.{reasons_of, texts_of, HasFaultyWord};
 ghost use Rattle.event_commands.specs.Faults.{command_status, EndsEarly};
-ghost use Rattle.event_commands.specs.Outcomes.{IsFaulty, IsOutcome, IsStatusOf, Texts};
+ghost use Rattle.event_commands.specs.Outcomes.{HasReason, IsFaulty, IsOutcome, IsStatusOf, Texts};
 
 use crate::checking::check_event_text;
 use crate::command::EventCommand;
@@ -27,9 +27,9 @@ pub fn run<D: Digest, R: Read, W: Write, X: Write>(
     ensures status { IsStatusOf (texts_of D.digest_of command.entry) (R.remaining input.old)
         (W.contents out.old) (W.contents out.new) result }
 
-    // Where there is a fault of a word, of the input, or of what comes of it.
+    // Where there is a fault of a word, of the input, or of what comes of it, or a line is refused.
     ensures faulty { result ≡ 1 → IsFaulty {D = D} (texts_of D.digest_of command.entry)
-        (R.remaining input.old) }
+        (reasons_of D.digest_of command.entry) (R.remaining input.old) }
 
     // A faulty word is told, before the input is read, and nothing is told where all went well.
     ensures told { HasFaultyWord command.entry → (result ≡ 1) ⊎ (result ≡ 3) }
@@ -49,6 +49,8 @@ fn write_text<D: Digest, R: Read, W: Write>(
 ) -> Result<(), CommandFault<MessageFault<D>>>
     ensures outcome { IsOutcome (texts_of D.digest_of command.entry) (R.remaining input.old)
         (W.contents out.old) (W.contents out.new) result }
+    ensures reason { HasReason (reasons_of D.digest_of command.entry)
+        (R.remaining input.old) result }
     ensures told { HasFaultyWord command.entry → EndsEarly result }
     ensures unread { HasFaultyWord command.entry → input.new ≡ input.old }
 {

@@ -1,6 +1,6 @@
 //! What the commands are told on a command line.
-ghost use Rattle.std.specs.Prelude.{◌≡◌, false, option_map, IfNone, IfOk, IfSome};
-ghost use Rattle.clap.specs.Words.{app_of, first_of, found_of, rows_of, rule_of, shape_of, with_subcommand};
+ghost use Rattle.std.specs.Prelude.{◌≡◌, codes, false, option_map, IfNone, IfOk, IfSome};
+ghost use Rattle.clap.specs.Words.{app_of, first_of, found_of, new_app, rows_of, rule_of, shape_of, with_subcommand};
 ghost use Rattle.clap.specs.declared.builder.command.Command.TheViews.{out-Command as fields_of};
 ghost use Rattle.console.specs.FileWords.{with_file as with_file_of};
 ghost use Rattle.record_forms.specs.Options.{json_rule};
@@ -128,10 +128,7 @@ fn commit_event_words<'a>(alloc: Global) -> Result<Command<'a>, AllocError>
     ensures shape { IfOk result (λ r. shape_of r ≡ commit_event_shape) }
     ensures local { IfOk result (λ r. (fields_of r).has_globals ≡ false) }
 {
-    Command::new(alloc, "commit-event")
-        .about(COMMIT_EVENT)
-        .long_about(LONG_COMMIT_EVENT)
-        .after_help(COMMIT_EVENT_EXAMPLE)
+    bare_commit_event(alloc)
         .arg(required(alloc, "did", "DID", "Whose repository it is"))?
         .arg(required(alloc, "rev", "REV", "The revision of the batch"))?
         .arg(optional(
@@ -149,6 +146,17 @@ fn commit_event_words<'a>(alloc: Global) -> Result<Command<'a>, AllocError>
             "The signature of the commit, in hexadecimal",
         ))?
         .arg(json_option(alloc))
+}
+
+/// The command `commit-event` before its words, with what help shows of it.
+fn bare_commit_event<'a>(alloc: Global) -> Command<'a>
+    ensures app { app_of result ≡ new_app (codes "commit-event") }
+    ensures local { (fields_of result).has_globals ≡ false }
+{
+    Command::new(alloc, "commit-event")
+        .about(COMMIT_EVENT)
+        .long_about(LONG_COMMIT_EVENT)
+        .after_help(COMMIT_EVENT_EXAMPLE)
 }
 
 /// The words that `check-event` takes.

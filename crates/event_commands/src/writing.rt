@@ -1,5 +1,5 @@
 //! The command `commit-event`: the message of a batch.
-ghost use Rattle.std.specs.Prelude.{◌≡◌, option_map, true, IfErr, IsErr};
+ghost use Rattle.std.specs.Prelude.{◌≡◌, ◌<◌, option_map, true, IfErr, IfSome, IsErr};
 ghost use Rattle.spec.specs.Reading.{Gives};
 ghost use Rattle.batches.specs.Values.{stamp_of};
 ghost use Rattle.key_changes.specs.Keyed.{are_changes};
@@ -10,7 +10,8 @@ ghost use Rattle.event_writing_laws.specs.Messages.{batch_message};
 ghost use Rattle.change_commands.specs.Views.{story_of};
 ghost use Rattle.repository_commands.specs.Views.{given_of};
 ghost use Rattle.event_commands.specs.Faults.{message_fault_of, EndsAtWords, EndsEarly, EndsWords};
-ghost use Rattle.event_commands.specs.Outcomes.{IsMade, IsOutcome};
+ghost use Rattle.event_commands.specs.Outcomes.{HasReason, IsMade, IsOutcome};
+ghost use Rattle.event_commands.specs.Refusals.{IsOfNoLine, IsRefusedBy, IsRefusedStory, IsUntold};
 ghost use Rattle.event_commands.specs.Texts.{commit_event_text as commit_event_text_of, event_of_story as event_of_story_of, event_on, has_writes as has_writes_of, of_batch, signature_of, with_signature};
 ghost use Rattle.event_commands.specs.Views.{words_of};
 
@@ -49,6 +50,10 @@ pub fn commit_event_text<D: Digest, R: Read, W: Write>(
     ensures outcome { IsOutcome (commit_event_text_of D.digest_of form (words_of words.now))
         (R.remaining input.old) (W.contents out.old) (W.contents out.new) result }
 
+    // Where a line is refused, it is so by a test, by a clash that is shown, or by a full store.
+    ensures refused { HasReason (IsUntold D.digest_of form (words_of words.now))
+        (R.remaining input.old) result }
+
     // A faulty word is told, or memory was refused to it, before the input is read.
     ensures told { IsErr (signature_of (words_of words.now)) → EndsEarly result }
     ensures unread { IsErr (signature_of (words_of words.now)) → input.new ≡ input.old }
@@ -65,6 +70,8 @@ fn event_made<D: Digest, R: Read>(
 ) -> Result<Vec<u8>, MessageFault<D>>
     ensures made { IsMade (λ bytes. bytes.items)
         (commit_event_text_of D.digest_of form (words_of words.now)) (R.remaining input.old) result }
+    ensures refused { IfErr result (λ e. IfSome (R.remaining input.old) (λ xs.
+        IsUntold D.digest_of form (words_of words.now) xs e)) }
     ensures told { IsErr (signature_of (words_of words.now)) → EndsWords result }
     ensures unread { IsErr (signature_of (words_of words.now)) → input.new ≡ input.old }
 {
@@ -81,6 +88,7 @@ fn signature_in<D: Digest>(
     ensures check { Gives (λ bytes. bytes.items) message_fault_of result
         (signature_of (words_of words.now)) }
     ensures words { IfErr result EndsAtWords }
+    ensures lineless { IfErr result (λ e. IsOfNoLine e) }
 {
     if !is_did(words.did.as_bytes()) {
         return Err(MessageFault::Text(TextFault::BadDid));
@@ -101,8 +109,10 @@ fn event_of_story<D: Digest>(
     sig: &[u8],
     story: Story,
 ) -> Result<Vec<u8>, MessageFault<D>>
-    ensures { Gives (λ bytes. bytes.items) message_fault_of result
+    ensures message { Gives (λ bytes. bytes.items) message_fault_of result
         (event_of_story_of D.digest_of (words_of words.now) sig.now (story_of story)) }
+    ensures refused { IfErr result (IsRefusedStory D.digest_of (words_of words.now)
+        (story_of story)) }
 {
     let Story { before, batch, .. } = story;
     let first = stamp_of_words(words.did, REV, alloc)?;
@@ -154,8 +164,10 @@ fn event_of_batch<D: Digest, S: BlockStore<Arc<Block<D>>, Hold<D>, StoreFault<D>
     told: &Told<'_>,
 ) -> Result<Vec<u8>, MessageFault<D>>
     requires store { IsStore D.digest_of S.BlockStore }
-    ensures { Gives (λ bytes. bytes.items) message_fault_of result (event_on D.digest_of core.old
-        (stamp_of stamp.now) (given_of batch.now) (told_of told.now)) }
+    ensures message { Gives (λ bytes. bytes.items) message_fault_of result (event_on D.digest_of
+        core.old (stamp_of stamp.now) (given_of batch.now) (told_of told.now)) }
+    ensures refused { IfErr result (IsRefusedBy D.digest_of core.old (stamp_of stamp.now)
+        (given_of batch.now) (0 < S.fulls store.new)) }
 {
     let root = core.root();
     let ahead = proof_ahead(alloc, core, &batch.writes)?;
@@ -178,7 +190,7 @@ fn event_of_batch<D: Digest, S: BlockStore<Arc<Block<D>>, Hold<D>, StoreFault<D>
 fn has_writes(batch: &Puts<Global>) -> bool
     ensures { result ≡ has_writes_of (given_of batch.now).writes }
 {
-    !batch.writes.is_empty()
+    !batch.writes.as_slice().is_empty()
 }
 
 /// The message of a repository's last batch, which led there from this root by these changes.
@@ -190,8 +202,9 @@ fn told_event<D: Digest>(
     told: &Told<'_>,
 ) -> Result<Vec<u8>, MessageFault<D>>
     requires keyed { are_changes (undone changes.now) ≡ true }
-    ensures { Gives (λ bytes. bytes.items) message_fault_of result (of_batch
+    ensures message { Gives (λ bytes. bytes.items) message_fault_of result (of_batch
         (batch_message D.digest_of 2 core.now before changes.now (told_of told.now))) }
+    ensures lineless { IfErr result (λ e. IsOfNoLine e) }
 {
     match commit_event::<D, 2, Global>(alloc, core, before, changes, told) {
         Ok(message) => Ok(message),

@@ -1,4 +1,4 @@
-use Rattle.std.proofs.Common.{[], codes, rules}
+use Rattle.std.proofs.Common.{[], codes}
 use Rattle.std.specs.Prelude.{IfOk}
 use Rattle.std.proofs.lemmas.Result.{IfOk-weaker}
 use Rattle.clap.specs.Words.{App, new_app}
@@ -9,7 +9,7 @@ use Rattle.event_commands.proofs.words.commit_event_words.Goals as goal
 pub returns : goal.returns
 returns c =
     let app : App = record { top = commit_event_shape; subs = [] } in
-    let none : ReadsAs c.after_help.result (new_app (codes "commit-event")) = (search rules, search rules) in
+    let none : ReadsAs c.bare_commit_event.result (new_app (codes "commit-event")) = (c.bare_commit_event.ensures.app, c.bare_commit_event.ensures.local) in
     let one = with_arg _ _ c.required.result _ _ c.in_ok-arg.ensures none c.required.ensures.rule c.required.ensures.local in
     let two = with_arg _ _ c.required-2.result _ _ c.in_ok-arg-2.ensures one c.required-2.ensures.rule c.required-2.ensures.local in
     let three = with_arg _ _ c.optional.result _ _ c.in_ok-arg-3.ensures two c.optional.ensures.rule c.optional.ensures.local in

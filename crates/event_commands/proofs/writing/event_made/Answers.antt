@@ -5,6 +5,7 @@ use Rattle.change_commands.specs.Views.{story_of}
 use Rattle.event_commands.specs.Faults.{message_fault_of}
 use Rattle.event_commands.specs.Texts.{commit_event_text}
 use Rattle.event_commands.specs.Views.{words_of}
+use Rattle.event_commands.proofs.Refusals.{untold_of_no_line, untold_of_story}
 use Rattle.event_commands.proofs.Making.{made_by_fault, made_of, signed, unsigned}
 use Rattle.event_commands.proofs.writing.event_made.Goals as goal
 
@@ -23,4 +24,14 @@ returns-clause-made g c =
     let story = story_of c.in_ok-story.story in
     made_of (λ v. v.items) (commit_event_text digest c.args.form w) (g.R.Read.remaining c.args.input.now) c.event_of_story.result (λ xs. story ≡ story_in c.args.form xs) c.in_ok-story.ensures
     (λ xs e. subst (Gives (λ v. v.items) message_fault_of c.event_of_story.result)
-    (sym (signed digest c.args.form w c.deref.result.now story xs (c.in_ok-sig.ensures.check ∙ ap (λ s. Ok s) (sym c.deref.ensures.value)) e)) c.event_of_story.ensures)
+    (sym (signed digest c.args.form w c.deref.result.now story xs (c.in_ok-sig.ensures.check ∙ ap (λ s. Ok s) (sym c.deref.ensures.value)) e)) c.event_of_story.ensures.message)
+
+pub returns-in_err-sig-clause-refused : goal.returns-in_err-sig-clause-refused
+returns-in_err-sig-clause-refused g c =
+    untold_of_no_line g.D.Digest.digest_of c.args.form (words_of c.args.words.now) (g.R.Read.remaining c.args.input.now) c.from_residual.result c.in_err-sig.field-0.0
+    c.from_residual.ensures.1 c.in_err-sig.ensures.lineless
+
+pub returns-clause-refused : goal.returns-clause-refused
+returns-clause-refused g c =
+    untold_of_story g.D.Digest.digest_of c.args.form (words_of c.args.words.now) (g.R.Read.remaining c.args.input.now) (story_of c.in_ok-story.story) c.event_of_story.result
+    c.in_ok-story.ensures c.event_of_story.ensures.refused

@@ -6,4 +6,4 @@ use Rattle.event_commands.proofs.writing.has_writes.Goals as goal
 
 pub returns : goal.returns
 returns c =
-    ap not (c.is_empty.ensures ∙ ap (λ n. n == 0) (sym (length-map c.args.batch.now.writes.items write_of)))
+    ap not (c.is_empty.ensures ∙ ap (λ ws. length ws == 0) c.as_slice.ensures.value ∙ ap (λ n. n == 0) (sym (length-map c.args.batch.now.writes.items write_of)))
