@@ -82,8 +82,11 @@ module _ (digest : List ℕ → List ℕ) (w : Words) (story : Story) where
   pub refused_after : {X D : Type 0} (s : State) (first stamp : Stamp) (r : Result X (MessageFault D)) → first ≡ first_stamp w → stamp ≡ batch_stamp w
       → state_of_given no_writes first story.before ≡ Ok s → IfErr r (IsRefusedBy digest s stamp story.batch (WasFull digest)) → IfErr r (IsRefusedStory digest w story)
   refused_after s first stamp (Ok x) ef es e is = tt
-  refused_after s first stamp (Err f) ef es e is = inr (s, subst (λ x. state_of_given no_writes x story.before ≡ Ok s) ef e,
-      subst (λ x. IsRefusedBy digest s x story.batch (WasFull digest) f) es is)
+  refused_after s first stamp (Err f) ef es e is = inr (
+    s,
+    subst (λ x. state_of_given no_writes x story.before ≡ Ok s) ef e,
+    subst (λ x. IsRefusedBy digest s x story.batch (WasFull digest) f) es is,
+  )
 
   pub never_refused : {D : Type 0} (e : MessageFault D) → IsOfNoLine e → IsRefusedStory digest w story e
   never_refused e is = inl (lineless digest no_writes (first_stamp w) story.before (WasFull digest) e is)

@@ -1,5 +1,5 @@
 -- A stream is told message by message.
-use Rattle.std.proofs.Common.{◌≡◌, ◌∙◌, ◌+◌, ◌-◌, ◌<◌, ℕ, zero, suc, List, [], ◌∷◌, length, Some, None, refl, sym, ap, ap₂, subst, arith}
+use Rattle.std.proofs.Common.{◌≡◌, ◌∙◌, ◌+◌, ◌-◌, ◌<◌, ◌==◌, eqb-true, Bool, true, false, ℕ, zero, suc, List, [], ◌∷◌, length, Some, None, refl, sym, ap, ap₂, subst, arith}
 use Rattle.std.specs.Prelude.{◌++◌, Option, option_map, Result, Ok, Err}
 use Rattle.spec.specs.Reading.{◌>>=◌, Fails}
 use Rattle.record_forms.specs.declared.form.Form.{Form}
@@ -63,3 +63,12 @@ module _ (digest : List ℕ → List ℕ) (form : Form) where
 pub fails_same : {A : Type 0} (o : Option Fault) (one other : Result A Fault) → one ≡ other → Fails o other → Fails o one
 fails_same None one other e fails = tt
 fails_same (Some f) one other e fails = e ∙ fails
+
+-- ---- whether something is left
+
+pub none_of : (n : ℕ) (empty : Bool) → empty ≡ (n == 0) → empty ≡ true → n ≡ 0
+none_of n empty is so = eqb-true _ _ (sym is ∙ so)
+
+pub some_of : (n : ℕ) (empty : Bool) → empty ≡ (n == 0) → empty ≡ false → 0 < n
+some_of zero empty is not_so = absurd cc
+some_of (suc n) empty is not_so = omega arith

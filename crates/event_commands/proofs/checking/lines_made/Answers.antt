@@ -19,4 +19,4 @@ returns-clause-made g c =
     let word = c.args.previous.now in
     made_of (λ v. v.items) (check_event_text digest c.args.form word) (g.R.Read.remaining c.args.input.now) c.lines_of.result (λ xs. c.in_ok-stream.stream.items ≡ xs) c.in_ok-stream.ensures.bytes
     (λ xs e. subst (Gives (λ v. v.items) message_fault_of c.lines_of.result)
-    (sym (rooted digest c.args.form word c.in_ok-root.root c.deref.result.now xs c.in_ok-root.ensures.root (c.deref.ensures.value ∙ e))) c.lines_of.ensures)
+    (sym (rooted digest c.args.form word c.in_ok-root.root c.deref.result.now xs c.in_ok-root.ensures.root (c.deref.ensures.value ∙ e))) c.lines_of.ensures.lines)

@@ -6,7 +6,7 @@ use Rattle.repository_commands.proofs.Making.{passed}
 use Rattle.event_commands.specs.Faults.{message_fault_of}
 use Rattle.event_commands.specs.Refusals.{IsOfNoLine}
 use Rattle.event_commands.specs.Texts.{lines_of_stream, told_from}
-use Rattle.event_commands.proofs.Streams.{fails_same, none_more, nothing_left, told_on, untold}
+use Rattle.event_commands.proofs.Streams.{fails_same, none_more, none_of, nothing_left, some_of, told_on, untold}
 use Rattle.event_commands.proofs.checking.lines_of.Goals as goal
 
 pub loop-turn-init : goal.loop-turn-init
@@ -22,7 +22,7 @@ loop-turn-init g c =
 pub returns-then-is_empty-clause-lines : goal.returns-then-is_empty-clause-lines
 returns-then-is_empty-clause-lines g c =
     let l = c.loop-turn in
-    l.invariant ∙ nothing_left g.D.Digest.digest_of c.args.form l.text.items _ _ l.root l.rest.now (omega arith)
+    l.invariant ∙ nothing_left g.D.Digest.digest_of c.args.form l.text.items _ _ l.root l.rest.now (none_of (length l.rest.now) c.is_empty.result c.is_empty.ensures c.if-is_empty.true)
 
 pub returns-in_err-root-clause-lines : goal.returns-in_err-root-clause-lines
 returns-in_err-root-clause-lines g c =
@@ -33,15 +33,15 @@ returns-in_err-root-clause-lines g c =
     let stream = c.args.stream.now in
     subst (λ r. Gives (λ bytes. bytes.items) message_fault_of r (lines_of_stream digest c.args.form c.args.previous stream)) (sym (p.1 ∙ ap Err p.2))
     (fails_same (message_fault_of f) _ _ l.invariant
-    (untold digest c.args.form l.text.items (length stream) l.turn l.root l.rest.now c.first_frame.result.0.now c.first_frame.result.1.now (omega arith) (omega arith)
-    c.first_frame.ensures (message_fault_of f) c.in_err-root.ensures.lines))
+    (untold digest c.args.form l.text.items (length stream) l.turn l.root l.rest.now c.first_frame.result.0.now c.first_frame.result.1.now (omega arith)
+    (some_of (length l.rest.now) c.is_empty.result c.is_empty.ensures c.if-is_empty.false) c.first_frame.ensures (message_fault_of f) c.in_err-root.ensures.lines))
 
 pub loop-turn-preserved : goal.loop-turn-preserved
 loop-turn-preserved g c =
     let l = c.loop-turn in
     l.invariant
     ∙ told_on g.D.Digest.digest_of c.args.form l.text.items (length c.args.stream.now) l.turn l.root l.rest.now c.first_frame.result.0.now c.first_frame.result.1.now
-    (omega arith) (omega arith) c.first_frame.ensures c.push_lines.new.text.items c.in_ok-root.root c.in_ok-root.ensures.lines
+    (omega arith) (some_of (length l.rest.now) c.is_empty.result c.is_empty.ensures c.if-is_empty.false) c.first_frame.ensures c.push_lines.new.text.items c.in_ok-root.root c.in_ok-root.ensures.lines
 
 pub returns-clause-lines : goal.returns-clause-lines
 returns-clause-lines g c =

@@ -22,8 +22,8 @@ returns-in-Ok-clause-message g c =
     (subst (λ told. Gives (λ bytes. bytes.items) message_fault_of c.event_of_batch-event.result (event_on digest c.in-Ok.core (stamp_of c.in_ok-stamp.stamp) story.batch told)) c.told_in-told.ensures
     c.event_of_batch-event.ensures.message))
 
-pub returns-in-Err-clause-message : goal.returns-in-Err-clause-message
-returns-in-Err-clause-message g c =
+pub returns-clause-message : goal.returns-clause-message
+returns-clause-message g c =
     story_fails g.D.Digest.digest_of (words_of c.args.words.now) c.args.sig.now (story_of c.args.story) (stamp_of c.in_ok-first.first) c.in_ok-first.ensures
     (text_fault_of c.in-Err.fault) c.in-Err.ensures.state
 
@@ -36,7 +36,7 @@ returns-in-Ok-clause-refused g c =
     (all_further digest c.in-Ok.core (stamp_of c.in_ok-stamp.stamp) story.batch (c.event_of_batch-event.new.store.full (omega arith)) c.event_of_batch-event.result
     c.event_of_batch-event.ensures.refused)
 
-pub returns-in-Err-clause-refused : goal.returns-in-Err-clause-refused
-returns-in-Err-clause-refused g c =
+pub returns-clause-refused : goal.returns-clause-refused
+returns-clause-refused g c =
     refused_before g.D.Digest.digest_of (words_of c.args.words.now) (story_of c.args.story) (stamp_of c.in_ok-first.first) c.in_ok-first.ensures
     (c.filled.new.store.full (omega arith)) (errors.Text c.in-Err.fault) c.in-Err.ensures.refused
