@@ -27,8 +27,8 @@ none-seen o P e h = subst (λ q. IfNone q P) e h
 both : (b : Bool) → b ≡ true → b ≡ false → ⊥
 both b p q = absurd (cc (p, q))
 
-pub told_event-requires-clause-keyed : goal.told_event-requires-clause-keyed
-told_event-requires-clause-keyed g c =
+pub told_event-requires : goal.told_event-requires
+told_event-requires g c =
     let digest = g.D.Digest.digest_of in
     let s = c.args.core.now in
     let t = c.apply_puts.new.core in
@@ -40,8 +40,10 @@ told_event-requires-clause-keyed g c =
     (some-seen c.in_ok-ahead.ahead p (λ q. IsStepOf digest 2 (with_cids digest (collected (writes_of c.deref.result.now))) (pairs digest (records s)) q.after q.changes.items (map arc_value q.nodes.items)) c.in-Some.is c.in_ok-ahead.ensures.proof) in
     let state = c.in-Ok.ensures.state in
     let is = pairs-taken digest s t stamp batch state in
-    subst (λ cs. are_changes (undone cs) ≡ true) (sym (c.deref-in-Some.ensures.value ∙ ahead-told digest s t batch.writes is p.after p.changes.items nodes step))
-    (batch-keyed digest g.met.D.Digest.digest_len s t batch (taken-writes s t stamp batch state))
+    record {
+      keyed = subst (λ cs. are_changes (undone cs) ≡ true) (sym (c.deref-in-Some.ensures.value ∙ ahead-told digest s t batch.writes is p.after p.changes.items nodes step))
+          (batch-keyed digest g.met.D.Digest.digest_len s t batch (taken-writes s t stamp batch state));
+    }
 
 pub unreachable-requires : goal.unreachable-requires
 unreachable-requires g c =
