@@ -19,7 +19,7 @@ pub(crate) struct Use<D: Digest, A: Allocator> {
 }
 
 /// Shows that another block is held under the CID of the block that came.
-fn collision<D: Digest, A: Allocator>(
+pub(crate) fn collision<D: Digest, A: Allocator>(
     came: &Arc<Block<D, A>, A>,
     held: &Arc<Block<D, A>, A>,
 ) -> StoreFault<D, A>
