@@ -11,6 +11,8 @@ mod SharedRecords
 pub mod Growing
 pub mod Preparing
 pub mod Applying
+pub mod Prepared
+pub mod LendingAfter
 pub mod Fresh
 pub mod Listing
 pub mod Lending

@@ -1,5 +1,5 @@
 -- The edit of a batch that passed its tests, and what is exchanged for it.
-use Rattle.std.specs.Prelude.{◌≡◌, ⊤, ℕ, List, ◌++◌, map as each, take, Option, Ok}
+use Rattle.std.specs.Prelude.{◌≡◌, ◌≤◌, ⊤, ℕ, List, ◌++◌, map as each, length, take, Option, Ok}
 use Rattle.std.specs.Arc.{arc_value}
 use Rattle.spec.specs.Tree.{Pair}
 use Rattle.spec.specs.Blocks.{IsClashIn, nodes}
@@ -71,5 +71,7 @@ pub record IsExchangeMade {D A : Type 0} (digest : List ℕ → List ℕ) (bits 
   pub exchange : IsExchangeOf digest bits s stamp batch x.root x.commit
       (take x.nodes (each arc_value x.come.items)) (each arc_value x.come.items)
       (take x.gone x.go.items) x.go.items
+  pub nodes_within : x.nodes ≤ length x.come.items
+  pub gone_within : x.gone ≤ length x.go.items
   pub read_is : each arc_value x.read.items ≡ nodes_read_for digest bits s batch
   pub values_are : x.values.items ≡ values_before digest s batch
