@@ -1,7 +1,8 @@
 -- Blocks in front of the kept ones, each alone under its CID: together they have what is kept once these have come.
 use Rattle.std.proofs.Common.{◌≡◌, ℕ, zero, suc, true, false, cond, List, [], ◌∷◌, ◌++◌, map as each, refl, sym, ap, subst, ◌∙◌, arith, inl, inr, Option, None}
 use Rattle.std.specs.declared.option.Option.TheVariants.{Some}
-use Rattle.std.specs.Prelude.{Bool, Contains, IfSome, IsSome, option_map, option_or}
+use Rattle.std.specs.Prelude.{Bool, Contains, IfSome, option_map}
+use Rattle.std.specs.Option.{option_or}
 use Rattle.std.specs.Arc.{arc_value}
 use Rattle.std.specs.FinMap as map
 use Rattle.std.specs.Str.{bytes_eq}
@@ -19,6 +20,10 @@ use Rattle.kept.specs.Counts.{Counts, HasNoOther, HaveNoOther, bytes_at, gained}
 use Rattle.kept.specs.Fronts.{in_front}
 use Rattle.kept.specs.Gains.{IsGained}
 use Rattle.kept.proofs.Gains.{alone-from, gained-beside, gained-is}
+
+only : (x b : List ℕ) → Contains (x ∷ []) b → x ≡ b
+only x b (zero, lt, is) = is
+only x b (suc i, lt, is) = absurd (omega (arith, lt))
 
 -- ---- the first block with a CID
 
@@ -60,9 +65,15 @@ not-found digest (x ∷ xs) c h b i e = by (bytes_eq (cid digest x) c) refl (λ 
         → cond t (Some x) (block_at digest c xs) ≡ None → ⊥
     by true s further is = absurd cc
     by false s further is = elim (Contains-append_cases (x ∷ []) xs b i) [
-      | inl one ↦ let same : x ≡ b = one.1.1 in let yes = (bytes_eq-Decides (cid digest x) c).1 (ap (cid digest) same ∙ e) in absurd cc
+      | inl one ↦ let yes = (bytes_eq-Decides (cid digest x) c).1 (ap (cid digest) (only x b one) ∙ e) in absurd cc
       | inr later ↦ further is later
     ]
+
+-- so the first block that a list gives for a CID has it
+pub first-named : {A : Type 0} (digest : List ℕ → List ℕ) (bs : List (Arc (List ℕ) A)) (c : List ℕ) (x : Arc (List ℕ) A)
+    → first_of digest bs c ≡ Some x → cid digest (arc_value x) ≡ c
+first-named digest bs c x h =
+    (found digest (each arc_value bs) c (arc_value x) (sym (first-is digest bs c) ∙ ap (option_map arc_value) h)).named
 
 -- ---- blocks that are alone
 
@@ -110,17 +121,13 @@ pub alone-more : {A : Type 0} (digest : List ℕ → List ℕ) (gives : List ℕ
 alone-more digest gives m bs x h same none = record {
   same = λ b i. elim (Contains-append_cases bs (x ∷ []) b i) [
     | inl first ↦ h.same b first
-    | inr last ↦ subst (IsGivenSame digest gives) (only b last) same
+    | inr last ↦ subst (IsGivenSame digest gives) (only x b last) same
   ];
   no_other = λ b i. elim (Contains-append_cases bs (x ∷ []) b i) [
     | inl first ↦ h.no_other b first
-    | inr last ↦ subst (HasNoOther digest m) (only b last) none
+    | inr last ↦ subst (HasNoOther digest m) (only x b last) none
   ];
 }
-  where
-    only : (b : List ℕ) → Contains (x ∷ []) b → x ≡ b
-    only b (zero, lt, is) = is
-    only b (suc i, lt, is) = absurd (omega (arith, lt))
 
 pub alone-none : {A : Type 0} (digest : List ℕ → List ℕ) (gives : List ℕ → Option (Arc (List ℕ) A)) (m : Counts) → AreAlone digest gives m []
 alone-none digest gives m = record { same = λ b i. absurd (none b i); no_other = λ b i. absurd (none b i) }

@@ -1,5 +1,6 @@
 -- Blocks in front of the kept ones, as a source.
-use Rattle.std.specs.Prelude.{ℕ, List, Option, option_map, option_or}
+use Rattle.std.specs.Prelude.{ℕ, List, Option, option_map}
+use Rattle.std.specs.Option.{option_or}
 use Rattle.std.specs.Arc.{arc_value}
 use Rattle.std.specs.declared.sync.Arc.{Arc}
 use Rattle.edit_laws.specs.Sources.{Extends}

@@ -13,7 +13,7 @@ ghost use Rattle.kept.specs.Uses.{at, counted, AreNamed, AreUses, lowered_in, Is
 ghost use Rattle.kept.specs.Faults.{IsNotFull, IsRefusalOfOne};
 ghost use Rattle.kept.specs.Entering.{Enters, Follows, has_entry, no_block};
 
-use crate::kept_use::{Use, collision};
+use crate::kept_use::Use;
 use block::Block;
 use cid::{Cid, Digest};
 use std::alloc::{AllocError, AllocFailed, Allocator};
@@ -88,13 +88,10 @@ impl<D: Digest, A: Allocator> UseMap<D, A> {
         ensures fault { IfErr result (IsRefusalOf D.digest_of (arc_value block.now)) }
         ensures not_full { IfErr result IsNotFull }
     {
-        let Some(held) = self.blocks.get(&block.cid()) else {
+        let Some(held) = self.get(&block.cid()) else {
             return Ok(());
         };
-        if held.hold.block().bytes() != block.bytes() {
-            return Err(collision(block, held.hold.block()));
-        }
-        Ok(())
+        held.test_same(block)
     }
 
     /// Counts one use less of the block with this CID, where there is one. A block without a use is given back. It takes no

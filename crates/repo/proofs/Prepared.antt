@@ -1,9 +1,9 @@
 -- A batch that was prepared: what it tells.
-use Rattle.std.proofs.Common.{◌≡◌, ◌≤◌, ◌-◌, ◌+◌, ◌&&◌, ℕ, suc, true, List, [], ◌∷◌, ◌++◌, map as each, length, get_or, take, drop, refl, sym, ap, subst, ◌∙◌, arith, Option, Bool}
+use Rattle.std.proofs.Common.{◌≡◌, ◌≤◌, ◌-◌, ◌+◌, ◌&&◌, ℕ, suc, true, List, [], ◌∷◌, ◌++◌, map as each, length, get_or, take, drop, refl, sym, ap, subst, ◌∙◌, arith, inl, inr, ◌⊎◌, Option}
 use Rattle.std.specs.Arc.{arc_value}
 use Rattle.std.specs.declared.sync.Arc.{Arc}
 use Rattle.std.proofs.Math.Seq.{take-append_seam}
-use Rattle.std.proofs.lemmas.List.{append_assoc, append_cancel_left, drop-map, length-append, length-drop, length-map, take-append-drop, take-map}
+use Rattle.std.proofs.lemmas.List.{append-nil, append_assoc, append_cancel_left, drop-map, length-append, length-drop, length-map, take-append-drop, take-map}
 use Rattle.spec.specs.Cid.{IsDigest}
 use Rattle.spec.specs.Tree.{Pair}
 use Rattle.spec.specs.Blocks.{nodes, value_of}
@@ -11,15 +11,16 @@ use Rattle.spec.specs.Commits.{commit_bytes}
 use Rattle.spec.specs.States.{state_root}
 use Rattle.spec.proofs.StateLaws.{batch-keeps_state}
 use Rattle.batch_laws.specs.Batch.{Change}
+use Rattle.batch_laws.specs.Previous.{values}
 use Rattle.batch_laws.specs.Collecting.{collected}
 use Rattle.batch_laws.specs.Staged.{new_pairs}
 use Rattle.batch_laws.specs.Uses.{records_come}
-use Rattle.change_laws.specs.Told.{undone}
+use Rattle.change_laws.specs.Told.{KeyChange, undone}
 use Rattle.edit_laws.specs.Order.{order}
 use Rattle.key_changes.specs.Keyed.{are_ascending, are_changes, are_later, have_keys, is_greater}
 use Rattle.spec.specs.NodeFormat.{is_key}
 use Rattle.repo.specs.Edits.{IsExchangeMade}
-use Rattle.repo.specs.Prepared.{Prepared, IsPassed, IsPreparedBatch, AreAdded, AreDropped, AreNodesAdded, AreNodesDropped, changes_for, commit_after, keys_changed, keys_told, nodes_before, pairs_before, pairs_after, state_after}
+use Rattle.repo.specs.Prepared.{Prepared, IsPassed, IsPreparedBatch, AreAdded, AreDropped, AreNodesAdded, AreNodesDropped, changes_for, commit_after, key_told, keys_changed, keys_told, keys_with, nodes_before, pairs_before, pairs_after, state_after}
 use Rattle.repo.specs.declared.exchanges.Exchange.{Exchange}
 use Rattle.repo.proofs.Changing.{batch-changes}
 use Rattle.repo.proofs.Exchanging.{pairs-changed_after, root-after}
@@ -72,7 +73,22 @@ first-within xs ys zs n e =
     let b = length-append xs ys in
     omega (arith, a, b, e)
 
--- ---- changes that are told have the keys of the changes
+-- ---- changes that are told
+
+-- all are told where none of either list is left
+pub all-told : (told whole : List KeyChange) (cs : List Change) (vs : List (Option (List ℕ))) → (cs ≡ []) ⊎ (vs ≡ [])
+    → told ++ keys_with cs vs ≡ whole → told ≡ whole
+all-told told whole [] vs e h = sym (append-nil told) ∙ h
+all-told told whole (c ∷ cs) [] e h = sym (append-nil told) ∙ h
+all-told told whole (c ∷ cs) (v ∷ vs) (inl e) h = absurd cc
+all-told told whole (c ∷ cs) (v ∷ vs) (inr e) h = absurd cc
+
+-- with what their keys have among some pairs
+pub told-values : (cs : List Change) (es : List Pair) → keys_with cs (values cs es) ≡ keys_told cs es
+told-values [] es = refl
+told-values (c ∷ cs) es = ap (λ (ks : List KeyChange). key_told c (value_of c.0 es) ∷ ks) (told-values cs es)
+
+-- they have the keys of the changes
 
 told-later : (key : List ℕ) (cs : List Change) (es : List Pair) → are_later key (undone (keys_told cs es)) ≡ are_later key cs
 told-later key [] es = refl

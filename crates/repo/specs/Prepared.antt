@@ -1,5 +1,5 @@
 -- A batch that passed its tests on a repository, and isn't accepted yet.
-use Rattle.std.specs.Prelude.{◌≡◌, ◌↔◌, ◌≤◌, Contains, ℕ, List, map, Ok, Option}
+use Rattle.std.specs.Prelude.{◌≡◌, ◌↔◌, ◌≤◌, Contains, ℕ, List, [], ◌∷◌, map, Ok, Option}
 use Rattle.spec.specs.Cid.{cid}
 use Rattle.spec.specs.Blocks.{nodes, pairs, value_of}
 use Rattle.spec.specs.Commits.{commit_bytes}
@@ -90,6 +90,12 @@ AreNodesDropped digest bits p drop = AreDropped digest (nodes digest bits (pairs
     (nodes digest bits (pairs_after digest p)) drop
 
 -- ---- what the code has of it
+
+-- changes with what their keys had before, one for each
+abbrev pub keys_with : List Change → List (Option (List ℕ)) → List KeyChange
+keys_with [] vs = []
+keys_with (c ∷ cs) [] = []
+keys_with (c ∷ cs) (v ∷ vs) = key_told c v ∷ keys_with cs vs
 
 -- the root before, and what it exchanges
 pub record IsPreparedBatch {D A : Type 0} (digest : List ℕ → List ℕ) (bits : ℕ) (p : Prepared)

@@ -8,10 +8,9 @@ ghost use Rattle.spec.specs.Cid.{cid as cid_of};
 ghost use Rattle.batch_laws.specs.Batch.{at_key, with_change};
 ghost use Rattle.batch_laws.specs.Collecting.{change_of, collected as collected_of, with_cids};
 ghost use Rattle.batch_laws.specs.Uses.{records_come};
-ghost use Rattle.batch_laws.specs.Previous.{values as values_of};
 ghost use Rattle.batches.specs.Values.{shared_writes, write_of};
 ghost use Rattle.block.specs.Bytes.{shared_record};
-ghost use Rattle.repo.specs.Prepared.{key_told, keys_told};
+ghost use Rattle.repo.specs.Prepared.{key_told, keys_with};
 ghost use Rattle.repo.specs.Tested.{changes_in};
 
 use batches::Write;
@@ -126,7 +125,7 @@ fn next_cid<D: Digest, A: Allocator>(
 }
 
 /// What these writes change.
-pub(crate) fn collected<'w, A: Allocator + Copy>(
+pub(crate) fn collect_all<'w, A: Allocator + Copy>(
     alloc: A,
     writes: &'w [Arc<Write<A>, A>],
 ) -> Result<Collected<'w, A>, AllocError>
@@ -145,8 +144,7 @@ pub(crate) fn told_changes<'k, A: Allocator>(
     changes: &[Change<'k>],
     before: &[Option<Cid>],
 ) -> Result<Vec<KeyChange<'k>, A>, AllocError>
-    ensures { (es : List (List ℕ × List ℕ)) → before.now ≡ values_of changes.now es
-        → IfOk result (λ told. told.items ≡ keys_told changes.now es) }
+    ensures { IfOk result (λ told. told.items ≡ keys_with changes.now before.now) }
 {
     let mut told = Vec::with_capacity(alloc, changes.len())?;
     for (change, value) in changes.iter().zip(before.iter()) {

@@ -12,7 +12,7 @@ ghost use Rattle.key_changes.specs.Keyed.{are_changes};
 ghost use Rattle.batches.specs.Values.{stamp_of, shared_writes};
 ghost use Rattle.repo.specs.Prepared.{AreNodesAdded, AreNodesDropped, IsPassed, changes_for, commit_after, keys_changed, nodes_before, pairs_before, state_after};
 
-use crate::changes::{collected, told_changes};
+use crate::changes::{collect_all, told_changes};
 use crate::copies::Copies;
 use crate::cores::Core;
 use crate::exchanges::Exchange;
@@ -147,7 +147,7 @@ impl<D: Digest, const B: u8, A: Allocator + Copy> PreparedBatch<D, B, A> {
         ensures keyed { IfOk result (λ changes. are_changes (undone changes.items) ≡ true) }
         ensures passed { IsPassed self.now }
     {
-        let writes = collected(alloc, &self.copies.writes)?;
+        let writes = collect_all(alloc, &self.copies.writes)?;
         let changes = writes.for_edit::<D>(alloc, self.records())?;
         told_changes(alloc, &changes, &self.exchange.values)
     }
