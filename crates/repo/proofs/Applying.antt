@@ -4,7 +4,8 @@ use Rattle.std.specs.declared.option.Option.TheVariants.{Some}
 use Rattle.spec.specs.Cid.{IsDigest}
 use Rattle.spec.specs.Blocks.{IsClashFree}
 use Rattle.spec.specs.Stamps.{Stamp}
-use Rattle.spec.specs.States.{State, after_batch}
+use Rattle.spec.specs.States.{State, after_batch, state_test}
+use Rattle.std.specs.Prelude.{IfErr, OnOk, Result, Ok, Err}
 use Rattle.spec.specs.Writes.{Write}
 use Rattle.store.specs.Stores.{fulls_after_fault}
 use Rattle.store.specs.declared.fault.StoreFault.{StoreFault}
@@ -18,6 +19,7 @@ use Rattle.repo.specs.Cores.{IsCore}
 use Rattle.repo.specs.Exchanging.{IsExchangeOf}
 use Rattle.repo.specs.Fulls.{is_full}
 use Rattle.repo.specs.Refusals.{IsOther, IsRefusal, IsRefusalBy, IsStagedBatch, IsStoreRefusal, IsTestRefusal}
+use Rattle.repo.specs.Prepared.{Prepared, IsPassed, prepared_of}
 use Rattle.repo.specs.Wants.{placed}
 use Rattle.repo.proofs.Exchanging.{exchanged-staged, has-passed}
 use Rattle.repo.proofs.Keeping.{core-after}
@@ -122,3 +124,18 @@ refused-after {D} {A} digest bits s stamp batch full fuller e h = by e.1 h.other
     by faults.BadDid o = absurd o
     by faults.BadRev o = absurd o
     by faults.RevOrder o = absurd o
+
+-- ---- a batch that was prepared and then accepted or refused
+
+pub accepted-passes : {T E : Type 0} (r : Result T E) (p : Prepared) (s : State) (stamp : Stamp) (batch : List Write)
+    → p ≡ prepared_of s stamp batch → IsPassed p → OnOk r (state_test s stamp batch ≡ Ok tt)
+accepted-passes (Ok x) p s stamp batch e h = (subst IsPassed e h).passes
+accepted-passes (Err f) p s stamp batch e h = tt
+
+pub refused-batch : {T D A : Type 0} (digest : List ℕ → List ℕ) (bits : ℕ) (r : Result T (ℕ × RepoFault D A)) (p : Prepared) (s : State)
+    (stamp : Stamp) (batch : List Write) → p ≡ prepared_of s stamp batch → (full fuller : ℕ)
+    → IfErr r (IsStoreRefusal digest bits s p.stamp p.writes full fuller) → IfErr r (IsRefusal digest bits s stamp batch full fuller)
+refused-batch digest bits (Ok x) p s stamp batch e full fuller h = tt
+refused-batch {D = D} {A = A} digest bits (Err f) p s stamp batch e full fuller h =
+    refused-after digest bits s stamp batch full fuller f
+    (subst (λ (q : Prepared). IsStoreRefusal digest bits s q.stamp q.writes full fuller f) e h)

@@ -319,6 +319,7 @@ impl<D: Digest, const B: u8, A: Allocator + Copy> Core<D, B, A> {
     {
         // the writes are copied before they are tested, so that one map by key serves their tests, the blocks of their records
         // and the edit
+        let (kept, root, before) = (&self.kept, self.root, self.commit);
         if writes.is_empty() {
             return Err((0, RepoFault::EmptyBatch));
         }
@@ -331,7 +332,6 @@ impl<D: Digest, const B: u8, A: Allocator + Copy> Core<D, B, A> {
         };
         let room = room_for(self.limit, &self.accepted);
         let shared = copies.writes.as_slice();
-        let (kept, root, before) = (&self.kept, self.root, self.commit);
         let made = {
             let changes = test_writes::<D, B, A>(kept, alloc, room, root, shared)?;
             exchange_of::<D, B, A>(kept, alloc, root, before, stamp, &changes, shared)

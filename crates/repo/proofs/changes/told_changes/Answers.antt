@@ -3,7 +3,7 @@ use Rattle.std.specs.Prelude.{None}
 use Rattle.std.specs.Iterator.Adapters.{zip_first, zip_second}
 use Rattle.std.specs.Slice.Iter.{iter_rest}
 use Rattle.std.proofs.lemmas.Slice.Zip.{either_empty_from_Zip}
-use Rattle.repo.proofs.Prepared.{all-told}
+use Rattle.repo.proofs.Telling.{all-told}
 use Rattle.repo.proofs.changes.told_changes.Goals as goal
 
 pub returns : goal.returns

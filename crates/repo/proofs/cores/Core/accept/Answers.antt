@@ -1,4 +1,4 @@
-use Rattle.std.proofs.Common.{suc, cond, ◌++◌, ◌∷◌, [], ◌∙◌, ℕ, List, length, map, take, refl, sym, ap, subst, arith}
+use Rattle.std.proofs.Common.{suc, cond, ◌-◌, ◌++◌, ◌∷◌, [], ◌∙◌, ℕ, List, length, map, take, refl, sym, ap, subst, arith}
 use Rattle.std.specs.Arc.{arc_value}
 use Rattle.std.proofs.lemmas.List.{length-map}
 use Rattle.spec.specs.States.{State, after_batch, state_root}
@@ -10,6 +10,7 @@ use Rattle.repo.specs.Edits.{IsExchangeMade}
 use Rattle.repo.specs.Fulls.{is_full}
 use Rattle.repo.specs.Prepared.{Prepared, IsPreparedBatch}
 use Rattle.repo.specs.Views.{state_view}
+use Rattle.repo.specs.Wants.{placed}
 use Rattle.batches.specs.declared.fault.RepoFault.{RepoFault}
 use Rattle.repo.proofs.Applying.{asked, room-refused, store-refused, taken}
 use Rattle.repo.proofs.Entering.{core_entered}
@@ -61,7 +62,8 @@ returns-in-Err-clause-fault g c =
     store-refused dig g.row.B c.args.self.now p.stamp p.writes x.root x.commit _ (map arc_value x.come.items) _ x.go.items made.exchange
     full last (length c.prepared.inside.copies.writes.items) c.in-Err.fault c.from.result _
     (sym (as-many c.prepared.inside.copies.writes.items p.writes (ap (λ (q : Prepared). q.writes) c.prepared.view_is)))
-    c.in-Err.ensures.fault c.from.ensures c.in-Err.ensures.fulls c.placed.ensures
+    c.in-Err.ensures.fault c.from.ensures c.in-Err.ensures.fulls
+    (c.placed.ensures ∙ ap (λ (n : ℕ). placed (n - 1) c.from.result) c.len-last.ensures)
 
 pub returns-in-Err-clause-counted : goal.returns-in-Err-clause-counted
 returns-in-Err-clause-counted g c =

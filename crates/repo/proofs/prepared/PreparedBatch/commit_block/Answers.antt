@@ -1,6 +1,6 @@
 use Rattle.std.proofs.Common.{subst}
 use Rattle.repo.specs.Prepared.{Prepared, IsPreparedBatch}
-use Rattle.repo.proofs.Prepared.{commit-last, is-passed}
+use Rattle.repo.proofs.Telling.{commit-last, is-passed}
 use Rattle.repo.proofs.prepared.PreparedBatch.commit_block.Goals as goal
 
 pub returns-clause-value : goal.returns-clause-value

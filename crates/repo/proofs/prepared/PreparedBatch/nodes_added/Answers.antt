@@ -3,7 +3,7 @@ use Rattle.std.specs.Arc.{arc_value}
 use Rattle.std.proofs.lemmas.List.{take-map}
 use Rattle.repo.specs.Prepared.{AreNodesAdded}
 use Rattle.repo.specs.Prepared.{Prepared, IsPreparedBatch}
-use Rattle.repo.proofs.Prepared.{added, is-passed}
+use Rattle.repo.proofs.Telling.{added, is-passed}
 use Rattle.repo.proofs.prepared.PreparedBatch.nodes_added.Goals as goal
 
 pub returns-clause-value : goal.returns-clause-value

@@ -1,6 +1,6 @@
 use Rattle.std.proofs.Common.{subst}
 use Rattle.repo.specs.Prepared.{Prepared, IsPreparedBatch}
-use Rattle.repo.proofs.Prepared.{is-passed}
+use Rattle.repo.proofs.Telling.{is-passed}
 use Rattle.repo.proofs.prepared.PreparedBatch.previous.Goals as goal
 
 pub returns-clause-value : goal.returns-clause-value

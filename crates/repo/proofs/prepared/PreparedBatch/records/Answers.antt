@@ -1,6 +1,6 @@
 use Rattle.std.proofs.Common.{subst, refl}
 use Rattle.repo.specs.Prepared.{Prepared, IsPreparedBatch}
-use Rattle.repo.proofs.Prepared.{records-between, is-passed}
+use Rattle.repo.proofs.Telling.{records-between, is-passed}
 use Rattle.repo.proofs.prepared.PreparedBatch.records.Goals as goal
 
 pub returns-clause-value : goal.returns-clause-value

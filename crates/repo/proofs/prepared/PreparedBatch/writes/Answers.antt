@@ -1,7 +1,7 @@
 use Rattle.std.proofs.Common.{ap, subst, ◌∙◌}
 use Rattle.batches.specs.Values.{shared_writes}
 use Rattle.repo.specs.Prepared.{Prepared, IsPreparedBatch}
-use Rattle.repo.proofs.Prepared.{is-passed}
+use Rattle.repo.proofs.Telling.{is-passed}
 use Rattle.repo.proofs.prepared.PreparedBatch.writes.Goals as goal
 
 pub returns-clause-value : goal.returns-clause-value

@@ -37,7 +37,9 @@ last-is f (a ∷ []) [] z x h e = ap f e ∙ head
     head = cc
 last-is f (a ∷ []) (y ∷ ys) z x h e = let l = ap length h in let b = length-append ys (z ∷ []) in absurd (omega (arith, l, b))
 last-is f (a ∷ b ∷ xs) [] z x h e = let l = ap length h in absurd (omega (arith, l))
-last-is f (a ∷ b ∷ xs) (y ∷ ys) z x h e = last-is f (b ∷ xs) ys z x (ap (drop 1) h) e
+last-is f (a ∷ b ∷ xs) (y ∷ ys) z x h e =
+    let less : length (a ∷ b ∷ xs) - 1 ≡ suc (length (b ∷ xs) - 1) = omega arith in
+    last-is f (b ∷ xs) ys z x (ap (drop 1) h) (e ∙ ap (λ n. get_or (a ∷ b ∷ xs) n x) less)
 
 pub some-there : {X Y : Type 0} (f : X → Y) (xs : List X) (ys : List Y) (z : Y) → each f xs ≡ ys ++ z ∷ [] → 1 ≤ length xs
 some-there f xs ys z h =
