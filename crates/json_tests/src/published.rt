@@ -1,13 +1,14 @@
 //! What the AT Protocol publishes on its data model: values with their identifiers, and texts like its valid and its invalid
-//! ones. That the values are the published ones is seen by their identifiers. The texts have none: they were written from
-//! memory, so what each tests is published, and its letters may differ.
+//! ones. The first two values have the identifiers that are published, letter for letter. Those of the other two were reckoned
+//! from their JSON by a program in another language: README.md says how far they are known. The texts have none: they were
+//! written from memory, so what each tests is published, and its letters may differ.
 
 use crate::texts::{is_map, is_read, is_refused, is_text_of};
 use cid::{Cid, Sha256};
 use record_json::JsonFaultKind;
 use std::alloc::Global;
 
-/// A value's bytes, their identifier as it is published, and its text, with its members in the order of DAG-CBOR.
+/// A value's bytes, their identifier, and its text, with its members in the order of DAG-CBOR.
 struct Published {
     bytes: &'static [u8],
     cid: &'static str,
