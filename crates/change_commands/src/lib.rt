@@ -12,6 +12,9 @@
 //! A program has them by `with_words`, `command_of` and `run`: what help shows of them, which of them a command line asks
 //! for, and its run to the exit status. Their faults are those of `repository_commands`.
 //!
+//! What other commands on a batch need is public too: `read_story` reads an input as `prove_change_text` does, and `proof_ahead`
+//! says what writes make of a repository.
+//!
 //! ```text
 //! let mut lines: &[u8] = b"\nput a/b a0";
 //! prove_change_text::<Sha256, _, _>(Global, Direction::Forward, Form::Hex, &mut lines, &mut text)?;
@@ -33,7 +36,8 @@ mod words;
 mod write_lines;
 
 pub use direction::Direction;
-pub use proving::prove_change_text;
+pub use proving::{proof_ahead, prove_change_text};
 pub use running::run;
+pub use story::{Story, read_story};
 pub use verifying::verify_change_text;
 pub use words::{ChangeCommand, command_of, with_words};

@@ -133,7 +133,7 @@ fn change_of_batch<D: Digest, S: BlockStore<Arc<Block<D>>, Hold<D>, StoreFault<D
 }
 
 /// What these writes make of a repository, and the nodes that show it; or `None` where they name a key that no tree takes.
-fn proof_ahead<'w, D: Digest>(
+pub fn proof_ahead<'w, D: Digest>(
     alloc: Global,
     core: &Core<D, 2>,
     writes: &'w [RepositoryWrite],

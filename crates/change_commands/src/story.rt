@@ -15,13 +15,13 @@ use std::io::Read;
 
 /// The puts of a repository and the writes of a batch, up to the first line that is none.
 #[derive(Drop)]
-pub(crate) struct Story {
+pub struct Story {
     /// The puts, before the first empty line.
-    pub(crate) before: Puts<Global>,
+    pub before: Puts<Global>,
     /// The writes, behind it.
-    pub(crate) batch: Puts<Global>,
+    pub batch: Puts<Global>,
     /// Whether there was an empty line.
-    pub(crate) is_parted: bool,
+    pub is_parted: bool,
 }
 
 impl Story {
@@ -59,11 +59,7 @@ impl Story {
 }
 
 /// What all that the reader still gives says. The input is let go before it is used.
-pub(crate) fn read_story<R: Read>(
-    alloc: Global,
-    form: Form,
-    input: &mut R,
-) -> Result<Story, ReadFault>
+pub fn read_story<R: Read>(alloc: Global, form: Form, input: &mut R) -> Result<Story, ReadFault>
     ensures { IfOk result (λ story. IfSome (R.remaining input.old)
         (λ xs. view_of_story story ≡ story_in form xs)) }
 {

@@ -1,7 +1,7 @@
 //! What `explain` writes, and which names it has.
 use crate::running::{ends, run};
 use bstr::ByteSlice;
-use explain_command::{FAULTS, FAULTS_OF_FILES};
+use explain_command::{FAULTS, FAULTS_OF_FILES, FAULTS_OF_MESSAGES};
 use std::alloc::Global;
 use std::random::RandomSource;
 use std::sync::Wait;
@@ -72,6 +72,11 @@ fn are_explained<T: Threads + Wait + RandomSource + Sync>(rt: &T, alloc: Global)
         }
     }
     for (name, _, causes) in &FAULTS_OF_FILES {
+        if lines.next() != Some(name.as_bytes()) || !is_explained(rt, alloc, name, causes) {
+            return false;
+        }
+    }
+    for (name, _, causes) in &FAULTS_OF_MESSAGES {
         if lines.next() != Some(name.as_bytes()) || !is_explained(rt, alloc, name, causes) {
             return false;
         }

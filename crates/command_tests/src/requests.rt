@@ -4,6 +4,7 @@ use crate::running::EMPTY;
 use change_commands::ChangeCommand;
 use cid::Sha256;
 use commands::{Request, run_words};
+use event_commands::EventCommand;
 use export_commands::{ExportCommand, Values};
 use repository_commands::RepositoryCommand;
 use std::alloc::Global;
@@ -22,6 +23,8 @@ enum Asked {
     Verify,
     ProveChange,
     VerifyChange,
+    CommitEvent,
+    CheckEvent,
     Check,
     Records,
     Json,
@@ -54,6 +57,8 @@ fn request_of<T: Threads + Wait + RandomSource + Sync>(
         Some(Request::OnRepository(RepositoryCommand::Verify { .. })) => Asked::Verify,
         Some(Request::OnChange(ChangeCommand::Prove { .. })) => Asked::ProveChange,
         Some(Request::OnChange(ChangeCommand::Verify { .. })) => Asked::VerifyChange,
+        Some(Request::OnMessages(EventCommand::Commit { .. })) => Asked::CommitEvent,
+        Some(Request::OnMessages(EventCommand::Check { .. })) => Asked::CheckEvent,
         Some(Request::OnExport(ExportCommand::Check)) => Asked::Check,
         Some(Request::OnExport(ExportCommand::Records(Values::Bytes))) => Asked::Records,
         Some(Request::OnExport(ExportCommand::Records(Values::Json))) => Asked::Json,
@@ -66,7 +71,7 @@ fn request_of<T: Threads + Wait + RandomSource + Sync>(
     }
 }
 
-static ROWS: [(&[&str], Asked); 20] = [
+static ROWS: [(&[&str], Asked); 22] = [
     (&["msthost", "tree"], Asked::Tree),
     (&["msthost", "car"], Asked::Car),
     (&["msthost", "car", "--sig", "00"], Asked::SignedCar),
@@ -77,6 +82,22 @@ static ROWS: [(&[&str], Asked); 20] = [
         &["msthost", "verify-change", EMPTY, EMPTY],
         Asked::VerifyChange,
     ),
+    (
+        &[
+            "msthost",
+            "commit-event",
+            "--seq",
+            "1",
+            "--time",
+            "2026-11-30T12:00:00Z",
+            "--sig",
+            "00",
+            "did:web:a.example",
+            "3jzfcijpj2z2a",
+        ],
+        Asked::CommitEvent,
+    ),
+    (&["msthost", "check-event", EMPTY], Asked::CheckEvent),
     (&["msthost", "check"], Asked::Check),
     (&["msthost", "records"], Asked::Records),
     (&["msthost", "records", "--json"], Asked::Json),

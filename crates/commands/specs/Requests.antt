@@ -11,6 +11,9 @@ use Rattle.repository_commands.specs.Commands.{HasFaultyWord as IsFaultyCommand,
 use Rattle.repository_commands.specs.Outcomes.{IsFaulty as IsFaultyOn}
 use Rattle.repository_commands.specs.Texts.{text_or_nothing as repository_text_or_nothing}
 use Rattle.change_commands.specs.Commands.{HasFaultyWord as IsFaultyChange, reasons_of as change_reasons_of, texts_of as change_texts_of}
+use Rattle.event_commands.specs.Commands.{HasFaultyWord as HasFaultyEventWord, reasons_of as event_reasons_of, texts_of as event_texts_of}
+use Rattle.event_commands.specs.Outcomes.{IsFaulty as AreFaultyMessages}
+use Rattle.event_commands.specs.Texts.{text_or_nothing as event_text_or_nothing}
 use Rattle.export_commands.specs.Outcomes.{AppendsTextOf, BeginsTextOf, HasFault}
 use Rattle.difference_commands.specs.Outcomes.{IsBegunBy, IsDoneBy, IsRefusedBy}
 use Rattle.difference_commands.specs.Words.{command_of}
@@ -21,9 +24,10 @@ abbrev pub Holding : Type 0
 Holding = List ℕ → Option (List ℕ)
 
 -- What was asked for is done, with files of names, on an input that is known or not, and with a writer's
--- known contents before and after: the listing of the tree, the text of a command on one repository or on a
--- change of one, what a command tells of the repository that the input is the export of, what two files
--- differ by, or the report of a run of the script that the input is; or what there is to say of a fault.
+-- known contents before and after: the listing of the tree, the text of a command on one repository, on a
+-- change of one or on messages, what a command tells of the repository that the input is the export of,
+-- what two files differ by, or the report of a run of the script that the input is; or what there is to say
+-- of a fault.
 -- What help shows is said nowhere.
 abbrev pub IsDone : (D : Type 0) → (List ℕ → List ℕ) → Request → Holding → Option (List ℕ)
     → Option (List ℕ) → Option (List ℕ) → Type 0
@@ -33,6 +37,8 @@ IsDone D digest (requests.OnRepository command) holds input old new =
     IfSome input (λ xs. AppendsText old new (texts_of digest command xs))
 IsDone D digest (requests.OnChange command) holds input old new =
     IfSome input (λ xs. AppendsText old new (change_texts_of digest command xs))
+IsDone D digest (requests.OnMessages command) holds input old new =
+    IfSome input (λ xs. AppendsText old new (event_texts_of digest command xs))
 IsDone D digest (requests.OnExport command) holds input old new =
     IfSome input (λ file. AppendsTextOf digest command file old new)
 IsDone D digest (requests.OnDifference words) holds input old new =
@@ -54,6 +60,8 @@ IsRefused D A digest (requests.OnRepository command) holds input =
     IsFaultyOn {D = D} {A = A} (texts_of digest command) (reasons_of digest command) input
 IsRefused D A digest (requests.OnChange command) holds input =
     IsFaultyOn {D = D} {A = A} (change_texts_of digest command) (change_reasons_of digest command) input
+IsRefused D A digest (requests.OnMessages command) holds input =
+    AreFaultyMessages {D = D} (event_texts_of digest command) (event_reasons_of digest command) input
 IsRefused D A digest (requests.OnExport command) holds input = IfSome input (HasFault digest command)
 IsRefused D A digest (requests.OnDifference words) holds input =
     IsRefusedBy digest (command_of words) (holds words.old.now) (holds words.new.now)
@@ -71,6 +79,8 @@ IsBegun D digest (requests.OnRepository command) holds input old new = IfSome in
     AppendsBeginning old new (repository_text_or_nothing (texts_of digest command xs)))
 IsBegun D digest (requests.OnChange command) holds input old new = IfSome input (λ xs.
     AppendsBeginning old new (repository_text_or_nothing (change_texts_of digest command xs)))
+IsBegun D digest (requests.OnMessages command) holds input old new = IfSome input (λ xs.
+    AppendsBeginning old new (event_text_or_nothing (event_texts_of digest command xs)))
 IsBegun D digest (requests.OnExport command) holds input old new = IfSome input (λ file.
     Keeps old new ⊎ BeginsTextOf digest command file old new)
 IsBegun D digest (requests.OnDifference words) holds input old new =
@@ -87,6 +97,7 @@ abbrev pub HasFaultyWord : Request → Type 0
 HasFaultyWord (requests.Tree options) = ⊥
 HasFaultyWord (requests.OnRepository command) = IsFaultyCommand command
 HasFaultyWord (requests.OnChange command) = IsFaultyChange command
+HasFaultyWord (requests.OnMessages command) = HasFaultyEventWord command
 HasFaultyWord (requests.OnExport command) = ⊥
 HasFaultyWord (requests.OnDifference words) = command_of words ≡ None
 HasFaultyWord (requests.Run command) = is_did command.did.now ≡ false

@@ -11,6 +11,7 @@ use change_commands::ChangeCommand;
 use clap::{ArgMatches, Command, Error};
 use console::file_of;
 use difference_commands::ChangesWords;
+use event_commands::EventCommand;
 use explain_command::ExplainCommand;
 use export_commands::ExportCommand;
 use repository_commands::RepositoryCommand;
@@ -27,6 +28,8 @@ pub enum Request<'a> {
     OnRepository(RepositoryCommand<'a>),
     /// Do a command on a change of one repository.
     OnChange(ChangeCommand<'a>),
+    /// Do a command on messages of the event stream.
+    OnMessages(EventCommand<'a>),
     /// Do a command on a file that is the export of a repository.
     OnExport(ExportCommand),
     /// Tell what the two files differ by that its words name.
@@ -91,6 +94,9 @@ fn request_by<'a>(name: &str, words: &ArgMatches<'a>) -> Request<'a>
     if let Some(command) = change_commands::command_of(name, words) {
         return Request::OnChange(command);
     }
+    if let Some(command) = event_commands::command_of(name, words) {
+        return Request::OnMessages(command);
+    }
     if let Some(command) = export_commands::command_of(name, words) {
         return Request::OnExport(command);
     }
@@ -122,6 +128,7 @@ fn command<'a>(alloc: Global) -> Result<Command<'a>, AllocError>
     let program = tree_command::with_words(alloc, program)?;
     let program = repository_commands::with_words(alloc, program)?;
     let program = change_commands::with_words(alloc, program)?;
+    let program = event_commands::with_words(alloc, program)?;
     let program = export_commands::with_words(alloc, program)?;
     let program = difference_commands::with_words(alloc, program)?;
     let program = run_command::with_words(alloc, program)?;

@@ -231,6 +231,9 @@ fn do_request<
         Request::OnChange(command) => {
             change_commands::run::<D, R, W, X>(command, alloc, input, out, err)
         }
+        Request::OnMessages(command) => {
+            event_commands::run::<D, R, W, X>(command, alloc, input, out, err)
+        }
         Request::OnExport(command) => {
             export_commands::run::<D, R, W, X>(command, alloc, input, out, err)
         }

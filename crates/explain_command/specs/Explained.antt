@@ -3,7 +3,7 @@ use Rattle.std.specs.Prelude.{ℕ, List, [], ◌∷◌, ◌++◌, codes, Option,
 use Rattle.std.specs.Borrow.{Bor}
 use Rattle.std.specs.List.{flat_map}
 use Rattle.std.specs.Str.{bytes_eq}
-use Rattle.explain_command.specs.declared.table.TheConstants.{FAULTS, FAULTS_OF_FILES}
+use Rattle.explain_command.specs.declared.table.TheConstants.{FAULTS, FAULTS_OF_FILES, FAULTS_OF_MESSAGES}
 
 -- the text of a word, if there is one
 abbrev pub word_of : Option (Bor (List ℕ)) → Option (List ℕ)
@@ -33,13 +33,16 @@ texts_of e = (e.0.now, e.1.now, e.2.now)
 abbrev pub explained : List (Bor (List ℕ) × Bor (List ℕ) × Bor (List ℕ)) → Option (List ℕ) → List ℕ
 explained faults name = flat_map (λ e. said name (texts_of e)) faults
 
--- of the faults that aren't those of a file, and of these
+-- of the faults that are none of a file or of a message, of those of files, and of those of messages
 unfoldable pub explanation_of_common : Option (List ℕ) → List ℕ
 explanation_of_common name = flat_map (λ e. said name (e.0.now, e.1.now, e.2.now)) FAULTS
 
 unfoldable pub explanation_of_files : Option (List ℕ) → List ℕ
 explanation_of_files name = flat_map (λ e. said name (e.0.now, e.1.now, e.2.now)) FAULTS_OF_FILES
 
+unfoldable pub explanation_of_messages : Option (List ℕ) → List ℕ
+explanation_of_messages name = flat_map (λ e. said name (e.0.now, e.1.now, e.2.now)) FAULTS_OF_MESSAGES
+
 -- of all faults of the program
 unfoldable pub explanation : Option (List ℕ) → List ℕ
-explanation name = explanation_of_common name ++ explanation_of_files name
+explanation name = explanation_of_common name ++ (explanation_of_files name ++ explanation_of_messages name)

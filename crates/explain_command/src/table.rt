@@ -3,7 +3,7 @@
 /// What there is to say of a fault: its name, as standard error or a report shows it, what it means, and what usually causes it.
 pub type Explanation = (&'static str, &'static str, &'static str);
 
-/// Each fault that the program tells, but for those of files and of records as JSON.
+/// Each fault that the program tells, but for those of files, of records as JSON and of messages.
 pub static FAULTS: [(&str, &str, &str); 59] = [
     (
         "BadLine",
@@ -435,5 +435,105 @@ pub static FAULTS_OF_FILES: [(&str, &str, &str); 27] = [
         "BadJson(NotAMap)",
         "the value is not a map",
         "a list, a text or a number as a record; a link or bytes in a record's place",
+    ),
+];
+
+/// The faults of messages of the event stream that no other command has.
+pub static FAULTS_OF_MESSAGES: [(&str, &str, &str); 20] = [
+    (
+        "MessageSize",
+        "the message is too long",
+        "more than 5,000,000 bytes; several messages of which one has no end, so that all that is left is one",
+    ),
+    (
+        "NotCommit",
+        "no message #commit",
+        "a frame of another kind, as #sync, #identity, #account or an error; a file that isn't of messages, as a CAR file; messages in hexadecimal",
+    ),
+    (
+        "Cbor",
+        "the message is not DAG-CBOR",
+        "what stands in parentheses says why: a file that was cut off or changed on its way; an encoder that isn't strict",
+    ),
+    (
+        "BadField",
+        "a field is missing or of another kind",
+        "the field stands in parentheses; a message from before sync 1.1, which has no prevData; a first batch whose prevData was left out",
+    ),
+    ("Rebase", "a rebase", "a message from before sync 1.1"),
+    (
+        "TooBig",
+        "the message does not hold all",
+        "a message from before sync 1.1, whose blocks are to be fetched",
+    ),
+    (
+        "TooManyOps",
+        "too many operations",
+        "a batch that changes more than 200 keys: of it a #sync tells",
+    ),
+    (
+        "BlocksSize",
+        "the blocks have too many bytes",
+        "a batch whose commit, nodes and records have more than 2,000,000 bytes",
+    ),
+    (
+        "BadSince",
+        "the revision before is no timestamp identifier",
+        "a date or a number in place of its 13 letters",
+    ),
+    (
+        "BadTime",
+        "the time is none",
+        "a date without a time, or a time without its zone: 2026-11-30T12:00:00Z",
+    ),
+    (
+        "BadOp",
+        "the operation is none",
+        "a key without a collection; an update that leaves the record that there was; a create with a prev",
+    ),
+    (
+        "DoubledPath",
+        "the operation has the path of another",
+        "two writes of one key in a batch, which the server told one by one",
+    ),
+    (
+        "OtherPrevious",
+        "the repository had another root before",
+        "a message that is missing before this one, or one that is given twice; a commit's CID in place of its data",
+    ),
+    (
+        "NotTheRoot",
+        "the root of the blocks is not the commit",
+        "blocks of another message",
+    ),
+    (
+        "CommitMissing",
+        "the commit is not among the blocks",
+        "blocks that were left out",
+    ),
+    (
+        "OtherDid",
+        "the commit is of another repository",
+        "blocks of another repository's message",
+    ),
+    (
+        "OtherRev",
+        "the commit has another revision",
+        "blocks of another message of this repository",
+    ),
+    (
+        "RecordMissing",
+        "the record of the operation is missing",
+        "blocks that were left out to make the message smaller",
+    ),
+    (
+        "NoBatch",
+        "the repository has no batch",
+        "no writes behind the empty line, or no empty line before them",
+    ),
+    (
+        "BadSeq",
+        "the number is none of the stream",
+        "--seq of 2^63 or more",
     ),
 ];

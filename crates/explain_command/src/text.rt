@@ -1,8 +1,8 @@
 //! What there is to say of a fault.
 ghost use Rattle.std.specs.Prelude.{◌≡◌, ◌++◌, IfOk, OnOk};
-ghost use Rattle.explain_command.specs.Explained.{explained as explained_of, explanation, explanation_of_common, explanation_of_files, line_of_name, paragraph, said, texts_of, word_of};
+ghost use Rattle.explain_command.specs.Explained.{explained as explained_of, explanation, explanation_of_common, explanation_of_files, explanation_of_messages, line_of_name, paragraph, said, texts_of, word_of};
 
-use crate::table::{Explanation, FAULTS, FAULTS_OF_FILES};
+use crate::table::{Explanation, FAULTS, FAULTS_OF_FILES, FAULTS_OF_MESSAGES};
 use std::alloc::{AllocError, Global};
 
 /// What there is to say of the program's faults of this name, or each name on a line where none is given. Of a name that no
@@ -14,10 +14,11 @@ pub(crate) fn explanation_of(alloc: Global, name: Option<&str>) -> Result<Vec<u8
     let mut text = Vec::new(alloc);
     push_common(&mut text, name)?;
     push_of_files(&mut text, name)?;
+    push_of_messages(&mut text, name)?;
     Ok(text)
 }
 
-/// Adds what there is to say of the faults that aren't those of a file.
+/// Adds what there is to say of the faults that are none of a file or of a message.
 #[tactic(auto, unfolding(crate::specs::Explained::explanation_of_common))]
 fn push_common(text: &mut Vec<u8>, name: Option<&str>) -> Result<(), AllocError>
     ensures { OnOk result (text.new.items ≡ text.old.items
@@ -33,6 +34,15 @@ fn push_of_files(text: &mut Vec<u8>, name: Option<&str>) -> Result<(), AllocErro
         ++ explanation_of_files (word_of name.entry)) }
 {
     push_all(text, &FAULTS_OF_FILES, name)
+}
+
+/// Adds what there is to say of the faults of messages.
+#[tactic(auto, unfolding(crate::specs::Explained::explanation_of_messages))]
+fn push_of_messages(text: &mut Vec<u8>, name: Option<&str>) -> Result<(), AllocError>
+    ensures { OnOk result (text.new.items ≡ text.old.items
+        ++ explanation_of_messages (word_of name.entry)) }
+{
+    push_all(text, &FAULTS_OF_MESSAGES, name)
 }
 
 /// Adds what there is to say of each of these under the name.

@@ -5,6 +5,7 @@ use Rattle.console.specs.FileWords.{with_file}
 use Rattle.tree_command.specs.Words.{tree_shape}
 use Rattle.repository_commands.specs.Words.{with_commands}
 use Rattle.change_commands.specs.Words.{with_commands as with_change_commands}
+use Rattle.event_commands.specs.Words.{with_commands as with_event_commands}
 use Rattle.export_commands.specs.Words.{with_commands as with_export_commands}
 use Rattle.difference_commands.specs.Words.{changes_shape}
 use Rattle.explain_command.specs.Words.{explain_shape}
@@ -22,9 +23,10 @@ returns c =
     ∙ ap with_commands one in
     let three = c.in_ok-program-3.ensures
     ∙ ap with_change_commands two in
-    let four = c.in_ok-program-4.ensures ∙ ap with_export_commands three in
-    let five = c.in_ok-program-5.ensures ∙ ap (λ a. with_subcommand a changes_shape) four in
-    let six = c.in_ok-program-6.ensures ∙ ap (λ a. with_subcommand a (with_file run_shape)) five in
-    let seven = c.in_ok-program-7.ensures ∙ ap (λ a. with_subcommand a explain_shape) six in
+    let four = c.in_ok-program-4.ensures ∙ ap with_event_commands three in
+    let five = c.in_ok-program-5.ensures ∙ ap with_export_commands four in
+    let six = c.in_ok-program-6.ensures ∙ ap (λ a. with_subcommand a changes_shape) five in
+    let seven = c.in_ok-program-7.ensures ∙ ap (λ a. with_subcommand a (with_file run_shape)) six in
+    let eight = c.in_ok-program-8.ensures ∙ ap (λ a. with_subcommand a explain_shape) seven in
     IfOk-weaker c.subcommand.result _ _
-    (λ r adds. adds.shape c.help.ensures.local ∙ ap₂ with_subcommand seven c.help.ensures.shape) c.subcommand.ensures
+    (λ r adds. adds.shape c.help.ensures.local ∙ ap₂ with_subcommand eight c.help.ensures.shape) c.subcommand.ensures

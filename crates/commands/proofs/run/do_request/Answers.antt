@@ -15,3 +15,6 @@ returns-in-OnRepository-clause-faulty_word g c = search rules
 
 pub returns-in-OnChange-clause-faulty_word : goal.returns-in-OnChange-clause-faulty_word
 returns-in-OnChange-clause-faulty_word g c = search rules
+
+pub returns-in-OnMessages-clause-faulty_word : goal.returns-in-OnMessages-clause-faulty_word
+returns-in-OnMessages-clause-faulty_word g c = search rules

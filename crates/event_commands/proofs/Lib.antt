@@ -1,0 +1,5 @@
+pub mod Endings
+mod Making
+mod Streams
+mod Batches
+mod Refusals
