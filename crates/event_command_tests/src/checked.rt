@@ -1,5 +1,5 @@
 //! Messages that are checked.
-use crate::message::{EMPTY, LINE, MESSAGE};
+use crate::message::{EMPTY, LINE, MESSAGE, SYNC};
 use crate::running::{ends, is_untrue};
 use event_commands::EventCommand;
 use record_forms::Form;
@@ -39,6 +39,21 @@ fn the_root_goes_on_from_message_to_message(rt: HostRuntime) -> Result<(), Fail>
     let mut twice = message.clone()?;
     twice.extend_from_slice(&message)?;
     assert!(rt; is_untrue(alloc, EMPTY, &twice, "msthost: message 2: OtherPrevious\n"));
+    Ok(())
+}
+
+#[test]
+fn a_message_of_a_state_is_none_of_a_batch(rt: HostRuntime) -> Result<(), Fail> {
+    let alloc = rt.alloc();
+    let message = hex::decode(alloc, MESSAGE)?;
+    let sync = hex::decode(alloc, SYNC)?;
+    let mut before = sync.clone()?;
+    before.extend_from_slice(&message)?;
+    assert!(rt; is_untrue(alloc, EMPTY, &before, "msthost: message 1: NotCommit\n"));
+    let mut between = message.clone()?;
+    between.extend_from_slice(&sync)?;
+    between.extend_from_slice(&message)?;
+    assert!(rt; is_untrue(alloc, EMPTY, &between, "msthost: message 2: NotCommit\n"));
     Ok(())
 }
 
