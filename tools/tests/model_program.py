@@ -2,7 +2,7 @@
 
 import sys
 
-from lib import exports, model
+from lib import exports, messages, model
 
 HELP = """\
 Computes and checks repositories.
@@ -72,6 +72,8 @@ def answer(words: list[str], data: bytes) -> model.Ended:
         return model.prove(data, words[1].encode())
     if words[0] in ("check", "records", "commit"):
         return exports.answer(words, data)
+    if words[0] == "check-event":
+        return messages.answer(model.cid_in(words[1]), data)
     if words[0] == "verify":
         return verified(data, words[1], words[2].encode())
     return model.run(int(named["--repos"]), int(named["--workers"]), data, did)
