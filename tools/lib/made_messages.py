@@ -9,19 +9,12 @@ from collections.abc import Callable
 from random import Random
 
 from lib.exports import commit_bytes
-from lib.made_exports import FAULTY, OF_PIECES, OF_SECTIONS, Branch, Sections, branch_of, field, misnamed, other_cid
+from lib.made_exports import FAULTY, OF_PIECES, OF_SECTIONS, Branch, Sections, Spelled, branch_of, field, misnamed, other_cid
 from lib.made_input import made_keys, made_map, made_rev
-from lib.messages import FIELDS, HEADER, Op
+from lib.messages import FIELDS, HEADER, Op, Told, fields_of, message_bytes, op_bytes
 from lib.model import Tree, car_of, cid_of, data_of, head, layer, link, text, varint
 
 CLOCK = 1 << 55
-
-
-def op_bytes(op: Op) -> bytes:
-    """An operation, as a message has it."""
-    action = b"create" if not op.before else b"delete" if not op.after else b"update"
-    before = text(b"prev") + link(op.before) if op.before else b""
-    return head(5, 4 if op.before else 3) + text(b"cid") + link(op.after) + text(b"path") + text(op.key) + before + text(b"action") + text(action)
 
 
 def way_to(branch: Branch, key: bytes) -> list[Branch]:
@@ -35,23 +28,26 @@ def way_to(branch: Branch, key: bytes) -> list[Branch]:
     return [branch, *(way_to(below, key) if below else [])]
 
 
+def made_telling(pick: Random) -> Told:
+    now = CLOCK + pick.randrange(1 << 20)
+    since = pick.choice([made_rev(now - pick.randrange(1, 1 << 20)), None])
+    seq, time = pick.choice([0, 1, pick.getrandbits(40), 2**63 - 1]), b"2026-11-30T12:00:00" + pick.choice([b"Z", b".123Z", b"+00:00", b"-03:30"])
+    return Told(b"did:plc:" + made_rev(pick.getrandbits(60)), made_rev(now), since, seq, time, pick.randbytes(64))
+
+
 class Draft:
     """A batch on a repository, and what its message says of it."""
 
     def __init__(self, pick: Random) -> None:
-        now = CLOCK + pick.randrange(1 << 20)
-        self.did = b"did:plc:" + made_rev(pick.getrandbits(60))
-        self.rev, self.since = made_rev(now), pick.choice([made_rev(now - pick.randrange(1, 1 << 20)), None])
-        self.seq, self.time = pick.choice([0, 1, pick.getrandbits(40), 2**63 - 1]), b"2026-11-30T12:00:00" + pick.choice([b"Z", b".123Z", b"+00:00", b"-00:00"])
-        self.sig: bytes | None = pick.randbytes(64)
+        self.told = made_telling(pick)
         self.leaves, self.records = dict[bytes, bytes](), dict[bytes, bytes]()
         keys = made_keys(pick, pick.choice([1, 3, 8, 30]))
         for key in pick.sample(keys, pick.randrange(len(keys))):
             self.leaves[key] = cid_of(self.with_record(made_map(pick)))
         self.before = Tree(self.leaves, {})
         self.ops = self.made_ops(pick, keys)
-        self.did_of_commit, self.rev_of_commit = self.did, self.rev
-        self.turned_commit = self.turned = bytes
+        self.did_of_commit, self.rev_of_commit, self.sig = self.told.did, self.told.rev, self.told.sig
+        self.turned_commit: Spelled = bytes
         self.fields: dict[str, bytes] = {}
         self.listed: list[bytes] | None = None
         self.plant()
@@ -97,23 +93,7 @@ class Draft:
 
     def message(self, commit: bytes, file: bytes) -> bytes:
         ops = list(map(op_bytes, self.ops)) if self.listed is None else self.listed
-        said = {
-            "ops": head(4, len(ops)) + b"".join(ops),
-            "rev": text(self.rev),
-            "seq": head(0, self.seq),
-            "repo": text(self.did),
-            "time": text(self.time),
-            "blobs": b"\x80",
-            "since": text(self.since) if self.since is not None else b"\xf6",
-            "blocks": data_of(file),
-            "commit": link(commit),
-            "rebase": b"\xf4",
-            "tooBig": b"\xf4",
-            "prevData": link(self.before.root),
-        } | self.fields
-        # (a field of no bytes is left out)
-        fields = sorted(((name.encode(), value) for name, value in said.items() if value), key=lambda it: (len(it[0]), it[0]))
-        return HEADER + head(5, len(fields)) + b"".join(text(name) + value for name, value in fields)
+        return message_bytes(fields_of(self.told, ops, self.before.root, commit, file) | self.fields)
 
 
 # Ways to spoil a draft.
@@ -173,20 +153,23 @@ def long_message(pick: Random, it: Draft) -> None:
 
 
 def bad_did(pick: Random, it: Draft) -> None:
-    it.did = pick.choice([b"", b"did:", b"did:web", b"did:web:", b"did:Web:x", b"did:web:x:", b"web:x:y", b"did:web:\xc3\xa9", b"did:web:" + 2041 * b"a"])
+    it.told = it.told._replace(did=pick.choice([b"", b"did:", b"did:web", b"did:web:", b"did:Web:x", b"did:web:x:", b"web:x:y", b"did:web:\xc3\xa9", b"did:web:" + 2041 * b"a"]))
 
 
 def bad_rev(pick: Random, it: Draft) -> None:
-    it.rev = pick.choice([b"", it.rev[1:], it.rev + b"2", b"z" + it.rev[1:], it.rev[:-1] + b"1", it.rev.upper()])
+    rev = it.told.rev
+    it.told = it.told._replace(rev=pick.choice([b"", rev[1:], rev + b"2", b"z" + rev[1:], rev[:-1] + b"1", rev.upper()]))
 
 
 def bad_since(pick: Random, it: Draft) -> None:
-    it.since = pick.choice([b"", it.rev[1:], b"z" + it.rev[1:], it.rev.upper(), it.rev, b"j" + it.rev[1:], it.rev[:-1] + b"z"])
+    rev = it.told.rev
+    it.told = it.told._replace(since=pick.choice([b"", rev[1:], b"z" + rev[1:], rev.upper(), rev, b"j" + rev[1:], rev[:-1] + b"z"]))
 
 
 def bad_time(pick: Random, it: Draft) -> None:
-    it.time = pick.choice([b"", b"2026-11-30", b"2026-11-30T12:00:00", b"2026-11-30T12:00:00.Z", b"2026-11-30 12:00:00Z", b"2026-11-30T12:00:00z", b"2026-11-30T12:00:00+01:00", b"2026-11-30T12:00:00+0100",
-                           b"2026-11-30T12:00:00." + 43 * b"1" + b"Z", b"2026-11-30T12:00:00." + 44 * b"1" + b"Z", b"9999-99-99T99:99:99Z", b"noon"])
+    zones = [b"", b"Z", b"z", b".Z", b".1", b"+02:00", b"+0200", b"+2:00", b"." + 43 * b"1" + b"Z", b"." + 44 * b"1" + b"Z", b"Z "]
+    others = [b"", b"noon", b"2026-11-30", b"2026-11-30 12:00:00Z", b"2026-11-30T12:00Z", b"99999-99-99T99:99:99Z"]
+    it.told = it.told._replace(time=pick.choice([b"2026-11-30T12:00:00" + pick.choice(zones), pick.choice(others)]))
 
 
 def bad_op(pick: Random, it: Draft) -> None:
@@ -214,11 +197,11 @@ def other_previous(pick: Random, it: Draft) -> None:
 
 
 def did_of_commit(pick: Random, it: Draft) -> None:
-    it.did_of_commit = pick.choice([b"did:web:other", it.did + b"2", b"x", b""])
+    it.did_of_commit = pick.choice([b"did:web:other", it.told.did + b"2", b"x", b""])
 
 
 def rev_of_commit(pick: Random, it: Draft) -> None:
-    it.rev_of_commit = pick.choice([made_rev(CLOCK), it.rev[:-1] + b"z", it.rev[1:], b""])
+    it.rev_of_commit = pick.choice([made_rev(CLOCK), it.told.rev[:-1] + b"z", it.told.rev[1:], b""])
 
 
 def other_commit(pick: Random, it: Draft) -> None:
@@ -348,6 +331,26 @@ def made_file(pick: Random, draft: Draft, kinds: list[object]) -> tuple[bytes, b
     for change in (it for it in OF_PIECES if it in kinds and len(pieces) > 1):
         change(pick, pieces)
     return root, b"".join(pieces)
+
+
+def made_batch(pick: Random) -> tuple[list[bytes], list[bytes], Draft]:
+    """Lines of a repository's records, and of the writes of a batch on it, and what is to be told of it. Some keys are written
+    twice, and some have what they had before."""
+    draft = Draft(pick)
+    changed = {op.key: op for op in draft.ops}
+    before = {key: cid for key, cid in draft.leaves.items() if key not in changed} | {op.key: op.before for op in draft.ops if op.before}
+    same = [key for key in before if key not in changed and pick.randrange(4) == 0]
+    writes = [b"put %s %s" % (key, draft.records[before[key]].hex().encode()) for key in same]
+    for op in draft.ops:
+        twice = pick.randrange(4) == 0
+        if twice:
+            writes.append(b"put %s a0" % op.key)
+        if op.after:
+            kind = pick.choice([b"put", b"update" if op.before or twice else b"create"])
+            writes.append(b"%s %s %s" % (kind, op.key, draft.records[op.after].hex().encode()))
+        else:
+            writes.append(b"delete " + op.key)
+    return [b"%s %s" % (key, draft.records[cid].hex().encode()) for key, cid in before.items()], writes, draft
 
 
 def made_message(pick: Random, number: int) -> tuple[bytes, bytes]:

@@ -9,8 +9,8 @@ import re
 from collections.abc import Callable
 from typing import Any, NamedTuple
 
-from lib.exports import OF_CBOR, Node, Walk, commit_in, is_did, is_own_cid, node_in, sections_of
-from lib.model import Ended, Fault, Reader, Tree, cid_of, fault_of_record, is_key, is_tid, refused, text, text_of
+from lib.exports import OF_CBOR, Node, Walk, commit_bytes, commit_in, is_did, is_own_cid, node_in, sections_of
+from lib.model import Ended, Fault, Reader, Tree, car_of, cid_of, data_of, fault_of_record, head, is_key, is_tid, link, refused, text, text_of
 
 MOST_MESSAGE, MOST_OPS, MOST_BLOCKS, MOST_RECORD, MOST_TIME = 5_000_000, 200, 2_000_000, 1_000_000, 64
 HEADER = b"\xa2" + text(b"t") + text(b"#commit") + text(b"op") + b"\x01"
@@ -32,6 +32,17 @@ class Op(NamedTuple):
     after: bytes | None
 
 
+class Told(NamedTuple):
+    """What a message says beside its operations, its root before and its blocks."""
+
+    did: bytes
+    rev: bytes
+    since: bytes | None
+    seq: int
+    time: bytes
+    sig: bytes | None
+
+
 class Message(NamedTuple):
     """What is told of a message that is true."""
 
@@ -51,6 +62,56 @@ class Link(bytes):
 
 class Absent:
     """What a field has that isn't there."""
+
+
+# What a message is.
+
+
+def op_bytes(op: Op) -> bytes:
+    action = b"create" if not op.before else b"delete" if not op.after else b"update"
+    before = text(b"prev") + link(op.before) if op.before else b""
+    return head(5, 4 if op.before else 3) + text(b"cid") + link(op.after) + text(b"path") + text(op.key) + before + text(b"action") + text(action)
+
+
+def fields_of(told: Told, ops: list[bytes], before: bytes, commit: bytes, file: bytes) -> dict[str, bytes]:
+    """The fields of a message, with its operations as it has them, the root before, the CID of its commit, and its CAR file."""
+    return {
+        "ops": head(4, len(ops)) + b"".join(ops),
+        "rev": text(told.rev),
+        "seq": head(0, told.seq),
+        "repo": text(told.did),
+        "time": text(told.time),
+        "blobs": b"\x80",
+        "since": b"\xf6" if told.since is None else text(told.since),
+        "blocks": data_of(file),
+        "commit": link(commit),
+        "rebase": b"\xf4",
+        "tooBig": b"\xf4",
+        "prevData": link(before),
+    }
+
+
+def message_bytes(fields: dict[str, bytes]) -> bytes:
+    """A message of these fields, of which one without bytes is left out."""
+    found = sorted(((name.encode(), value) for name, value in fields.items() if value), key=lambda it: (len(it[0]), it[0]))
+    return HEADER + head(5, len(found)) + b"".join(text(name) + value for name, value in found)
+
+
+def is_message_of(message: bytes, told: Told, ops: list[Op], old: Tree, new: Tree, records: dict[bytes, bytes]) -> bool:
+    """Whether a message tells of these operations, which lead from the one tree to the other: its file has the signed commit, some
+    nodes of the tree after with each that the tree before hasn't, and the records that came. Which others there are is not looked
+    at, nor the order of the nodes."""
+    commit = commit_bytes(told.did, told.rev, told.sig, new.root, None)
+    came = [*dict.fromkeys(records[op.after] for op in ops if op.after)]
+    _, sections = sections_of(event_in(message)[0]["blocks"])
+    nodes = [block for _, block in sections[1 : len(sections) - len(came)]]
+    if not {*new.order} - {*old.order} <= {*nodes} <= {*new.order}:
+        return False
+    file = car_of(cid_of(commit), [commit, *nodes, *came])
+    return message == message_bytes(fields_of(told, list(map(op_bytes, ops)), old.root, cid_of(commit), file))
+
+
+# What bytes say as a message, and whether it is true.
 
 
 def frame_end(stream: bytes) -> int:
