@@ -103,7 +103,10 @@ def is_message_of(message: bytes, told: Told, ops: list[Op], old: Tree, new: Tre
     at, nor the order of the nodes."""
     commit = commit_bytes(told.did, told.rev, told.sig, new.root, None)
     came = [*dict.fromkeys(records[op.after] for op in ops if op.after)]
-    _, sections = sections_of(event_in(message)[0]["blocks"])
+    try:
+        _, sections = sections_of(event_in(message)[0]["blocks"])
+    except Fault:
+        return False
     nodes = [block for _, block in sections[1 : len(sections) - len(came)]]
     if not {*new.order} - {*old.order} <= {*nodes} <= {*new.order}:
         return False
