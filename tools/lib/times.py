@@ -80,14 +80,16 @@ def table(run: Run, order: Iterable[str]) -> str:
     return "\n".join(rows) + "\n"
 
 
-def told(run: Run) -> str:
-    """Which run the table is of, in a line."""
+def told(run: Run, order: Iterable[str] = ()) -> str:
+    """Which run the table is of, in a line, and which of these crates have not been measured."""
     about = run.about
     if not about:
         return "No run of the gate has been measured.\n"
     line = f"Measured on commit `{about['commit']}`, {about['date']}, {about['kit']}, {about['machine']}: {about['said']}, in {about['took']}."
     others = sum(it.commit != about["commit"] for it in run.crates.values())
-    return line + (f" Those of {others} crates are of other runs." if others else "") + "\n"
+    line += f" Those of {others} crates are of other runs." if others else ""
+    lacking = ", ".join(f"`{it}`" for it in order if it not in run.crates)
+    return line + (f" Not measured so far: {lacking}." if lacking else "") + "\n"
 
 
 def edits_of(names: Iterable[str]) -> dict[str, int]:

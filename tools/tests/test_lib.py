@@ -230,6 +230,7 @@ class TimesTest(unittest.TestCase):
         self.assertIn("| `low` | 1.0 |  | 2.0 | 3.0 | 3 |\n", table)
         self.assertIn("| **in all** | 3.0 | 1.0 | 2.0 | 6.0 | 3 |\n", table)
         self.assertIn("Those of 1 crates are of other runs.", times.told(run))
+        self.assertTrue(times.told(run, ["low", "other", "top"]).endswith("Not measured so far: `other`.\n"))
 
     def test_own_file(self) -> None:
         run, known = times.read_run(), crates.read_crates()
