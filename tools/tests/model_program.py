@@ -2,7 +2,7 @@
 
 import sys
 
-from lib import exports, messages, model
+from lib import exports, model
 
 HELP = """\
 Computes and checks repositories.
@@ -61,29 +61,6 @@ def entries(node: bytes) -> list[tuple[bytes, bytes]]:
     return [*zip(found.keys, found.values)]
 
 
-def message(words: list[str], data: bytes) -> model.Ended:
-    """The message of a batch behind an empty line, with all nodes of the tree after it."""
-    named, (did, rev) = dict(zip(words[1:-2:2], words[2:-2:2])), (word.encode() for word in words[-2:])
-    since = named["--since"].encode() if "--since" in named else None
-    told = messages.Told(did, rev, since, int(named["--seq"]), named["--time"].encode(), bytes.fromhex(named["--sig"]))
-    lines = data.split(b"\n")
-    at = lines.index(b"")
-    puts, writes = ([it for it in map(model.write_of, (line.split(b" ") for line in part if line)) if it] for part in ([b"put " + line for line in lines[:at]], lines[at:]))
-    if not writes:
-        return model.refused("NoBatch")
-    repository = model.Repository()
-    repository.apply(did, b"2222222222222", puts)
-    before, old = repository.leaves, repository.tree()
-    repository.apply(did, rev, writes)
-    new, keys = repository.tree(), sorted({write.key for write in writes})
-    ops = [it for it in (messages.Op(key, before.get(key), repository.leaves.get(key)) for key in keys) if it.before != it.after]
-    commit = exports.commit_bytes(did, rev, told.sig, new.root, None)
-    nodes = model.Tree(repository.leaves, {}).order
-    file = model.car_of(model.cid_of(commit), [commit, *nodes, *(repository.records[it.after] for it in ops if it.after)])
-    fields = messages.fields_of(told, list(map(messages.op_bytes, ops)), old.root, model.cid_of(commit), file)
-    return model.Ended(0, messages.message_bytes(fields), b"")
-
-
 def answer(words: list[str], data: bytes) -> model.Ended:
     named = dict(zip(words[1::2], words[2::2]))
     did = named.get("--did", "did:web:localhost").encode()
@@ -95,10 +72,6 @@ def answer(words: list[str], data: bytes) -> model.Ended:
         return model.prove(data, words[1].encode())
     if words[0] in ("check", "records", "commit"):
         return exports.answer(words, data)
-    if words[0] == "commit-event":
-        return message(words, data)
-    if words[0] == "check-event":
-        return messages.answer(model.cid_in(words[1]), data)
     if words[0] == "verify":
         return verified(data, words[1], words[2].encode())
     return model.run(int(named["--repos"]), int(named["--workers"]), data, did)

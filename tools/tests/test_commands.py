@@ -14,7 +14,6 @@ import tempfile
 import unittest
 import unittest.mock
 
-from lib import made_messages, messages
 from lib.exports import NAMES
 from lib.files import ROOT, bytes_of, read, text_of, write
 from lib.made_exports import KINDS, SLOW
@@ -119,17 +118,16 @@ class ByModelTest(unittest.TestCase):
         self.program = program(f"{self.room}/model")
 
     def test_compare_runs(self) -> None:
-        said = ran("compare-runs", self.program, "2", "--exports", "2", "--messages", "2")
-        wanted = ["4 exports: none 2, Commit(BadDid) 2", "4 messages: none 4", "2 rounds, 0 wrong"]
-        self.assertEqual((said.returncode, said.stdout.splitlines()[-3:]), (0, wanted), said.stdout)
+        said = ran("compare-runs", self.program, "2", "--exports", "2")
+        self.assertEqual((said.returncode, said.stdout.splitlines()[-2:]), (0, ["4 exports: none 2, Commit(BadDid) 2", "2 rounds, 0 wrong"]), said.stdout)
         wrong = program(f"{self.room}/wrong", "#!/bin/sh\nexit 0\n")
-        said = ran("compare-runs", wrong, "1", "--exports", "2", "--messages", "2", around={"TMPDIR": self.room})
+        said = ran("compare-runs", wrong, "1", "--exports", "2", around={"TMPDIR": self.room})
         self.assertEqual((said.returncode, said.stdout.splitlines()[-1]), (1, "1 rounds, 1 wrong"))
 
     def test_exports_of_all_kinds(self) -> None:
         compared = command("compare-runs")
         compared.outcome = lambda program, words, given: Outcome(*answer(words, given))  # type: ignore[attr-defined]
-        rounds = compared.Rounds("", len(KINDS), 0)
+        rounds = compared.Rounds("", len(KINDS))
         self.assertTrue(rounds.round(random.Random(1)))
         self.assertEqual({*rounds.reached}, {"none", *NAMES})
         for found in (answer(["check"], b""), Ended(0, b"", b"")):
@@ -137,18 +135,6 @@ class ByModelTest(unittest.TestCase):
             with contextlib.redirect_stdout(io.StringIO()) as said:
                 self.assertFalse(rounds.export(random.Random(1), bytes_of("examples/export.car")))
             os.remove(said.getvalue().splitlines()[0].rpartition(" < ")[2])
-
-    def test_messages_of_all_kinds(self) -> None:
-        compared = command("compare-runs")
-        compared.outcome = lambda program, words, given: Outcome(*answer(words, given))  # type: ignore[attr-defined]
-        rounds, pick = compared.Rounds("", 0, 0), random.Random(1)
-        for number in 8 * [*range(len(made_messages.KINDS))]:
-            self.assertTrue(rounds.message(*made_messages.made_message(pick, number)))
-        self.assertEqual({*rounds.reached_of_messages}, {"none", *messages.NAMES})
-        compared.outcome = lambda program, words, given: Outcome(*Ended(0, b"", b""))  # type: ignore[attr-defined]
-        with contextlib.redirect_stdout(io.StringIO()) as said:
-            self.assertFalse(rounds.message(b"", bytes_of("examples/messages.bin")))
-        os.remove(said.getvalue().splitlines()[0].rpartition(" < ")[2])
 
     def test_files_that_are_made_to_be_slow(self) -> None:
         said = ran("baseline", "slow", "200", "1", "--program", self.program)
