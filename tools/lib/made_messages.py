@@ -14,7 +14,8 @@ from lib.exports import commit_bytes
 from lib.inversions import Undoing
 from lib.made_exports import FAULTY, OF_PIECES, OF_SECTIONS, Branch, Draft, Sections, field, turn_of
 from lib.made_input import made_keys, made_map, made_rev
-from lib.messages import HEADER, KINDS_OF_FIELDS, MOST_BYTES, MOST_BYTES_OF_BLOCKS, MOST_BYTES_OF_RECORD, Event, Op, Words, fields_of_event, fields_of_op, map_of, ops_between
+from lib.messages import (HEADER, KINDS_OF_FIELDS, MOST_BYTES, MOST_BYTES_OF_BLOCKS, MOST_BYTES_OF_RECORD, Event, Op, Words, fields_of_event, fields_of_op, map_of,
+                          ops_between, value_in)
 from lib.model import Repository, Write, car_of, cid_of, data_of, head, link, text, text_of, varint
 
 # Histories.
@@ -342,9 +343,9 @@ def put_beside(branch: Branch, at: int, left: Branch | None, right: Branch | Non
 
 def crossed(pick: Random, it: Message) -> None:
     """Branches beside a key that came are exchanged, or are one, so that keys don't ascend where it goes."""
-    branch = pick.choice([one for one in it.tree.all() if one.below()] or [it.tree])
-    if branch.rows:
-        at = pick.randrange(len(branch.rows))
+    places = [(branch, at) for branch in it.tree.all() for at in range(len(branch.rows))]
+    if places:
+        branch, at = pick.choice([place for place in places if all(beside(*place))] or places)
         left, right = beside(branch, at)
         put_beside(branch, at, *pick.choice([(right, left), (left or right, right or left)]))
         key, value, _ = branch.rows[at]
@@ -400,9 +401,10 @@ OTHER_KINDS = [
 
 def faulty_field(name: bytes) -> Callable[[Random, Parts], None]:
     """A field is missing, or of another kind."""
+    faulty = [it for it in OTHER_KINDS if not KINDS_OF_FIELDS[name](value_in(it))]
 
     def spoilt(pick: Random, it: Parts) -> None:
-        it.fields[name] = pick.choice([b"", *OTHER_KINDS])
+        it.fields[name] = pick.choice([b"", *faulty])
 
     return spoilt
 
@@ -567,7 +569,7 @@ def kinds_of(pick: Random, number: int) -> list[Callable[..., object]]:
     if number < len(KINDS):
         return [KINDS[number]]
     if pick.random() < 0.2:
-        return [*pick.choices(OF_TREES, k=pick.randrange(1, 3)), fitted]
+        return [*pick.choices([*OF_TREES, *(3 * [crossed])], k=pick.randrange(1, 3)), fitted]
     return pick.choices(USUAL, k=pick.choice([0, 1, 1, 1, 2, 3]))
 
 
@@ -577,7 +579,7 @@ def made_stream(pick: Random, number: int) -> Stream:
     found = [spoilt(pick, history.step(), [], False) for _ in range(before)]
     found.append(spoilt(pick, history.step(), kinds, not before))
     found += [spoilt(pick, history.step(), [], False) for _ in range(pick.choice([0, 0, 0, 1]))]
-    if pick.random() < 0.05:
+    if number >= len(KINDS) and pick.random() < 0.05:
         # A message comes twice, or is missing, or comes too early.
         at = pick.randrange(len(found))
         found[at : at + 2] = pick.choice([[*found[at : at + 1], *found[at : at + 2]], found[at : at + 1], found[at : at + 2][::-1]])
