@@ -149,8 +149,8 @@ class ComparedTest(unittest.TestCase):
     def test_of_all_kinds(self) -> None:
         compared = command("compare-runs")
         compared.outcome = lambda program, words, given: Outcome(*answer(words, given))  # type: ignore[attr-defined]
-        rounds = compared.Rounds("", 0, 500)
-        self.assertTrue(rounds.streams(random.Random(1)))
+        rounds = compared.Rounds("", 0, 350)
+        self.assertTrue(rounds.streams(random.Random(1)) and rounds.streams(random.Random(2)))
         self.assertEqual({*messages.NAMES} - {*rounds.of_messages}, set())
         self.assertEqual({*messages.UNTOLD} - {*rounds.of_batches}, set())
 
