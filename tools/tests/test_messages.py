@@ -130,6 +130,13 @@ class MessagesTest(unittest.TestCase):
                              (b"\ndelete a/b\nx", "line 2: NoSuchKey"), (b"\nput a/b a0\nput a/b  a0", "line 3: BadLine"), (b"put a/b a0", "line 1: BadLine"), (b"", "NoBatch")):
             self.assertEqual(told(lines), fault)
 
+    def test_each_fault_that_is_explained(self) -> None:
+        """What the program explains of messages comes of messages or of batches."""
+        table = text_of("crates/explain_command/src/table.rt").partition("FAULTS_OF_MESSAGES")[2]
+        explained = {name for name, *_ in command("fault-table").faults_of(table)}
+        reached = {it.removeprefix("operation: ").partition("(")[0] for it in (*messages.NAMES, *messages.UNTOLD)}
+        self.assertTrue({"Cbor", "BadOp", "NoBatch"} <= explained <= reached, explained - reached)
+
     def test_the_same_by_their_seed(self) -> None:
         for number in (0, 20, len(made_messages.KINDS)):
             made = [made_messages.made_stream(random.Random(seed), number) for seed in (3, 3, 4)]
