@@ -383,11 +383,10 @@ def line_in(line: bytes, is_behind: bool) -> Write | None:
     return None if record is None or not key else Write(b"put", key, record)
 
 
-def applied(it: Repository, writes: list[tuple[int, Write | None]]) -> str | None:
+def applied(it: Repository, rev: bytes, writes: list[tuple[int, Write | None]]) -> str | None:
     """Applies the writes of numbered lines as one batch, or names the first line at fault, of which the last may be none."""
     batch = [write for _, write in writes if write]
-    it.rev = b""
-    found = it.apply(b"", FIRST_REV, batch) if batch else None
+    found = it.apply(b"", rev, batch) if batch else None
     if found:
         return f"line {writes[found[0]][0]}: {found[1]}"
     return next((f"line {number}: BadLine" for number, write in writes if not write), None)
@@ -411,11 +410,10 @@ def commit_event(words: Words, data: bytes) -> Ended:
         if not write:
             break
     old, new = Repository(), Repository()
-    for it, batches in ((old, parts[:1]), (new, parts)):
-        for batch in batches:
-            fault = applied(it, batch)
-            if fault:
-                return refused(fault)
+    for it, rev, batch in ((old, FIRST_REV, parts[0]), (new, FIRST_REV, parts[0]), (new, words.rev, parts[1])):
+        fault = applied(it, rev, batch)
+        if fault:
+            return refused(fault)
     if not parts[1]:
         return refused("NoBatch")
     try:

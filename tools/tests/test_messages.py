@@ -129,6 +129,8 @@ class MessagesTest(unittest.TestCase):
                              (b"a/b 80", "line 1: NotAMap"), (b"a/b a1\na/b", "line 1: BadRecord(Truncated)"), (b"\na/b a0", "line 2: BadLine"), (b"a/b a0\n\n\n", "NoBatch"),
                              (b"\ndelete a/b\nx", "line 2: NoSuchKey"), (b"\nput a/b a0\nput a/b  a0", "line 3: BadLine"), (b"put a/b a0", "line 1: BadLine"), (b"", "NoBatch")):
             self.assertEqual(told(lines), fault)
+        words = words._replace(rev=messages.FIRST_REV)
+        self.assertEqual([told(lines) for lines in (b"a/b a0\n\nput a/b a0", b"\nput a/b a0")], ["line 3: RevOrder", ""])
 
     def test_each_fault_that_is_explained(self) -> None:
         """What the program explains of messages comes of messages or of batches."""
