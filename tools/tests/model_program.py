@@ -2,7 +2,7 @@
 
 import sys
 
-from lib import exports, model
+from lib import exports, messages, model
 
 HELP = """\
 Computes and checks repositories.
@@ -72,6 +72,12 @@ def answer(words: list[str], data: bytes) -> model.Ended:
         return model.prove(data, words[1].encode())
     if words[0] in ("check", "records", "commit"):
         return exports.answer(words, data)
+    if words[0] == "check-event":
+        return messages.check_event(words[-1].encode(), data, "--json" in words)
+    if words[0] == "commit-event":
+        since = named["--since"].encode() if "--since" in named else None
+        told = messages.Words(words[-2].encode(), words[-1].encode(), since, int(named["--seq"]), named["--time"].encode(), named["--sig"].encode())
+        return messages.commit_event(told, data)
     if words[0] == "verify":
         return verified(data, words[1], words[2].encode())
     return model.run(int(named["--repos"]), int(named["--workers"]), data, did)

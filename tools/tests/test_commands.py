@@ -118,16 +118,16 @@ class ByModelTest(unittest.TestCase):
         self.program = program(f"{self.room}/model")
 
     def test_compare_runs(self) -> None:
-        said = ran("compare-runs", self.program, "2", "--exports", "2")
+        said = ran("compare-runs", self.program, "2", "--exports", "2", "--messages", "0")
         self.assertEqual((said.returncode, said.stdout.splitlines()[-2:]), (0, ["4 exports: none 2, Commit(BadDid) 2", "2 rounds, 0 wrong"]), said.stdout)
         wrong = program(f"{self.room}/wrong", "#!/bin/sh\nexit 0\n")
-        said = ran("compare-runs", wrong, "1", "--exports", "2", around={"TMPDIR": self.room})
+        said = ran("compare-runs", wrong, "1", "--exports", "2", "--messages", "0", around={"TMPDIR": self.room})
         self.assertEqual((said.returncode, said.stdout.splitlines()[-1]), (1, "1 rounds, 1 wrong"))
 
     def test_exports_of_all_kinds(self) -> None:
         compared = command("compare-runs")
         compared.outcome = lambda program, words, given: Outcome(*answer(words, given))  # type: ignore[attr-defined]
-        rounds = compared.Rounds("", len(KINDS))
+        rounds = compared.Rounds("", len(KINDS), 0)
         self.assertTrue(rounds.round(random.Random(1)))
         self.assertEqual({*rounds.reached}, {"none", *NAMES})
         for found in (answer(["check"], b""), Ended(0, b"", b"")):
