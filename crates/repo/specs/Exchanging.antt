@@ -10,7 +10,7 @@ use Rattle.spec.specs.States.{State, state_test, state_commit}
 use Rattle.edit_laws.specs.Changes.{AreChanges}
 use Rattle.batch_laws.specs.Previous.{values}
 use Rattle.batch_laws.specs.Collecting.{collected, with_cids}
-use Rattle.batch_laws.specs.Uses.{given, records_come}
+use Rattle.batch_laws.specs.Uses.{present_values, records_come}
 use Rattle.batch_laws.specs.Staged.{old_pairs, new_pairs}
 
 -- A batch on a state is taken, and one edit made its root and its changes. The nodes that the edit
@@ -27,5 +27,5 @@ pub record IsExchangeOf (digest : List ℕ → List ℕ) (bits : ℕ) (s : State
       (nodes digest bits (new_pairs digest s batch)) read add drop
   pub come_is : come ≡ (add ++ records_come (collected batch)) ++ commit_bytes stamp root ∷ []
   pub commit_is : commit ≡ cid digest (commit_bytes stamp root)
-  pub go_is : go ≡ (drop ++ given (values (with_cids digest (collected batch))
+  pub go_is : go ≡ (drop ++ present_values (values (with_cids digest (collected batch))
       (old_pairs digest s))) ++ cons_option (state_commit digest bits s) []
