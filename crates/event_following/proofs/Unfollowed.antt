@@ -3,11 +3,8 @@ use Rattle.std.proofs.Common.{◌≡◌, ℕ, Bool, true, false, List, [], refl,
 use Rattle.std.specs.Str.{bytes_eq}
 use Rattle.std.proofs.lemmas.Slice.Eq.{bytes_eq-Decides}
 use Rattle.spec.specs.Reading.{Fails}
-use Rattle.spec.specs.Blocks.{pairs, root as root_of}
 use Rattle.spec.specs.CarReading.{blocks_of}
-use Rattle.spec.specs.States.{State, records, state_root}
-use Rattle.batch_laws.specs.Batch.{changed}
-use Rattle.step_laws.specs.Turned.{done}
+use Rattle.spec.specs.States.{State, state_root}
 use Rattle.event_laws.specs.Verdict as verdict
 use Rattle.event_laws.specs.Verdict.{Checked, Placed, ordered, ordered_ops, placed_from}
 use Rattle.batches.specs.declared.fault.RepoFault.{RepoFault}
@@ -22,8 +19,8 @@ use Rattle.commit_events.specs.Reading.{told_message}
 use Rattle.commit_events.specs.Views.{event_fault_of, HasNoWant}
 use Rattle.commit_events.specs.declared.fault.EventFault.{EventFault}
 use Rattle.commit_events.specs.declared.fault.EventFault.TheVariants as events
-use Rattle.event_following.specs.Following.{stamp_in}
-use Rattle.event_following.specs.Refusals.{AtPlace, HasRecords, IsUnfollowed, WithMessage, fulls_after_fault, refused_as, unread_as}
+use Rattle.event_following.specs.Following.{led_to, stamp_in}
+use Rattle.event_following.specs.Refusals.{AtPlace, HasRecords, IsUnfollowed, WithStep, fulls_after_fault, refused_as, unread_as}
 use Rattle.event_following.proofs.Records.{none-missing}
 use Rattle.event_following.specs.declared.fault.FollowingFault.{FollowingFault}
 use Rattle.event_following.specs.declared.fault.FollowingFault.TheVariants as followings
@@ -33,49 +30,51 @@ module _ {D A : Type 0} (digest : List ℕ → List ℕ) (bits : ℕ) (s : State
     abbrev sorted : List Placed
     sorted = ordered [] (placed_from 0 x.event.ops)
 
-    -- the batch is refused at one of its writes
-    at-place : (i : ℕ) (fault : RepoFault D A)
-        → WithBatch digest (blocks_of x.sections) (ordered_ops x.event.ops) (λ batch. (had_in digest s (ordered_ops x.event.ops) ≡ Ok tt)
-        × IsRefusal digest bits s (stamp_in x.event) batch full fuller (i, fault))
-        → WithMessage digest bits s message (λ y. AtPlace y.event.ops (verdict.place_of sorted i)
-        (λ j. WithBatch digest (blocks_of y.sections) (ordered_ops y.event.ops)
-        (λ batch. (had_in digest s (ordered_ops y.event.ops) ≡ Ok tt)
-        × IsRefusal digest bits s (stamp_in y.event) batch full fuller (j, fault))))
-    at-place i fault h = record { told = x; read = read; holds = record { sorted = i; place_is = refl; holds = h } }
+    module _ (leads : led_to digest bits s x.event ≡ x.commit.root) where
+      -- the batch is refused at one of its writes
+      at-place : (i : ℕ) (fault : RepoFault D A)
+          → WithBatch digest (blocks_of x.sections) (ordered_ops x.event.ops) (λ batch. (had_in digest s (ordered_ops x.event.ops) ≡ Ok tt)
+          × IsRefusal digest bits s (stamp_in x.event) batch full fuller (i, fault))
+          → WithStep digest bits s message (λ y. AtPlace y.event.ops (verdict.place_of sorted i)
+          (λ j. WithBatch digest (blocks_of y.sections) (ordered_ops y.event.ops)
+          (λ batch. (had_in digest s (ordered_ops y.event.ops) ≡ Ok tt)
+          × IsRefusal digest bits s (stamp_in y.event) batch full fuller (j, fault))))
+      at-place i fault h =
+          record { told = x; read = read; holds = (leads, record { sorted = i; place_is = refl; holds = h }) }
 
-    batch-refused : (i : ℕ) (fault : RepoFault D A)
-        → IsRefused digest bits s (stamp_in x.event) (blocks_of x.sections) (ordered_ops x.event.ops) full fuller (takings.Refused i fault)
-        → IsUnfollowed digest bits s message full fuller (refused_as sorted (takings.Refused i fault))
-    batch-refused i (faults.Collision pair) h = at-place i (faults.Collision pair) h
-    batch-refused i faults.StoreFull h = at-place i faults.StoreFull h
-    batch-refused i faults.NoMemory h = h
-    batch-refused i faults.BadKey h = at-place i faults.BadKey h
-    batch-refused i (faults.BadRecord f) h = at-place i (faults.BadRecord f) h
-    batch-refused i faults.NotAMap h = at-place i faults.NotAMap h
-    batch-refused i faults.RecordSize h = at-place i faults.RecordSize h
-    batch-refused i faults.KeyExists h = at-place i faults.KeyExists h
-    batch-refused i faults.NoSuchKey h = at-place i faults.NoSuchKey h
-    batch-refused i faults.WritesFull h = at-place i faults.WritesFull h
-    batch-refused i faults.EmptyBatch h = at-place i faults.EmptyBatch h
-    batch-refused i faults.BadDid h = at-place i faults.BadDid h
-    batch-refused i faults.BadRev h = at-place i faults.BadRev h
-    batch-refused i faults.RevOrder h = at-place i faults.RevOrder h
+      batch-refused : (i : ℕ) (fault : RepoFault D A)
+          → IsRefused digest bits s (stamp_in x.event) (blocks_of x.sections) (ordered_ops x.event.ops) full fuller (takings.Refused i fault)
+          → IsUnfollowed digest bits s message full fuller (refused_as sorted (takings.Refused i fault))
+      batch-refused i (faults.Collision pair) h = at-place i (faults.Collision pair) h
+      batch-refused i faults.StoreFull h = at-place i faults.StoreFull h
+      batch-refused i faults.NoMemory h = h
+      batch-refused i faults.BadKey h = at-place i faults.BadKey h
+      batch-refused i (faults.BadRecord f) h = at-place i (faults.BadRecord f) h
+      batch-refused i faults.NotAMap h = at-place i faults.NotAMap h
+      batch-refused i faults.RecordSize h = at-place i faults.RecordSize h
+      batch-refused i faults.KeyExists h = at-place i faults.KeyExists h
+      batch-refused i faults.NoSuchKey h = at-place i faults.NoSuchKey h
+      batch-refused i faults.WritesFull h = at-place i faults.WritesFull h
+      batch-refused i faults.EmptyBatch h = at-place i faults.EmptyBatch h
+      batch-refused i faults.BadDid h = at-place i faults.BadDid h
+      batch-refused i faults.BadRev h = at-place i faults.BadRev h
+      batch-refused i faults.RevOrder h = at-place i faults.RevOrder h
 
-    refused-so : (fault : TakingFault D A)
-        → IsRefused digest bits s (stamp_in x.event) (blocks_of x.sections) (ordered_ops x.event.ops) full fuller fault
-        → IsUnfollowed digest bits s message full fuller (refused_as sorted fault)
-    refused-so (takings.RecordMissing i) h = tt
-    refused-so (takings.OtherValue i) h =
-        record { told = x; read = read; holds = record { sorted = i; place_is = refl; holds = h.holds } }
-    refused-so (takings.Refused i fault) h = batch-refused i fault h
-    refused-so takings.NoMemory h = tt
+      refused-so : (fault : TakingFault D A)
+          → IsRefused digest bits s (stamp_in x.event) (blocks_of x.sections) (ordered_ops x.event.ops) full fuller fault
+          → IsUnfollowed digest bits s message full fuller (refused_as sorted fault)
+      refused-so (takings.RecordMissing i) h = tt
+      refused-so (takings.OtherValue i) h =
+          record { told = x; read = read; holds = (leads, record { sorted = i; place_is = refl; holds = h.holds }) }
+      refused-so (takings.Refused i fault) h = batch-refused i fault h
+      refused-so takings.NoMemory h = tt
 
-    pub refused-is : (ds : List Placed) → ds ≡ sorted → (fault : TakingFault D A) (told : FollowingFault D A) → told ≡ refused_as ds fault
-        → IsRefused digest bits s (stamp_in x.event) (blocks_of x.sections) (ordered_ops x.event.ops) full fuller fault
-        → IsUnfollowed digest bits s message full fuller told
-    refused-is ds same fault told e h =
-        subst (λ (f : FollowingFault D A). IsUnfollowed digest bits s message full fuller f)
-        (ap (λ (xs : List Placed). refused_as xs fault) (sym same) ∙ sym e) (refused-so fault h)
+      pub refused-is : (ds : List Placed) → ds ≡ sorted → (fault : TakingFault D A) (told : FollowingFault D A) → told ≡ refused_as ds fault
+          → IsRefused digest bits s (stamp_in x.event) (blocks_of x.sections) (ordered_ops x.event.ops) full fuller fault
+          → IsUnfollowed digest bits s message full fuller told
+      refused-is ds same fault told e h =
+          subst (λ (f : FollowingFault D A). IsUnfollowed digest bits s message full fuller f)
+          (ap (λ (xs : List Placed). refused_as xs fault) (sym same) ∙ sym e) (refused-so fault h)
 
     -- no record is missing
     pub has-records : (fault : TakingFault D A)
@@ -88,7 +87,7 @@ module _ {D A : Type 0} (digest : List ℕ → List ℕ) (bits : ℕ) (s : State
 
     -- the operations lead to another root
     pub other-root : (t : Bool)
-        → t ≡ bytes_eq (root_of digest bits (changed (done (ordered_ops x.event.ops)) (pairs digest (records s)))) x.commit.root
+        → t ≡ bytes_eq (led_to digest bits s x.event) x.commit.root
         → t ≡ false → IsUnfollowed digest bits s message full fuller (followings.OtherRoot {D} {A})
     other-root t e f = record {
       told = x;

@@ -1,13 +1,10 @@
 -- Why a repository doesn't follow a message.
 use Rattle.std.specs.Prelude.{◌≡◌, ⊤, ℕ, suc, cond, List, [], Result, Ok, Err}
 use Rattle.spec.specs.Reading.{Fails}
-use Rattle.spec.specs.Blocks.{pairs, root as root_of}
 use Rattle.spec.specs.CarReading.{blocks_of}
-use Rattle.spec.specs.States.{State, records, state_root}
-use Rattle.batch_laws.specs.Batch.{changed}
+use Rattle.spec.specs.States.{State, state_root}
 use Rattle.change_laws.specs.Given.{OtherValue as HasOtherValue}
 use Rattle.change_laws.specs.Told.{KeyChange}
-use Rattle.step_laws.specs.Turned.{done}
 use Rattle.event_laws.specs.Verdict as verdict
 use Rattle.event_laws.specs.Verdict.{Checked, Placed, ordered, ordered_ops, place_of, placed_from}
 use Rattle.batches.specs.declared.fault.RepoFault.{RepoFault}
@@ -21,7 +18,7 @@ use Rattle.commit_events.specs.Reading.{told_message}
 use Rattle.commit_events.specs.Views.{event_fault_of, HasNoWant}
 use Rattle.commit_events.specs.declared.fault.EventFault.{EventFault}
 use Rattle.commit_events.specs.declared.fault.EventFault.TheVariants as events
-use Rattle.event_following.specs.Following.{stamp_in}
+use Rattle.event_following.specs.Following.{led_to, stamp_in}
 use Rattle.event_following.specs.declared.fault.FollowingFault.{FollowingFault}
 use Rattle.event_following.specs.declared.fault.FollowingFault.TheVariants as followings
 
@@ -37,23 +34,28 @@ pub record WithMessage (digest : List ℕ → List ℕ) (bits : ℕ) (s : State)
   pub read : told_message digest (state_root digest bits s) message ≡ Ok told
   pub holds : P told
 
+-- the same, where its operations lead to the root that its commit names
+abbrev pub WithStep : (List ℕ → List ℕ) → ℕ → State → List ℕ → (Checked → Type 0) → Type 0
+WithStep digest bits s message P =
+    WithMessage digest bits s message (λ x. (led_to digest bits s x.event ≡ x.commit.root) × P x)
+
 -- P holds of the place, in the order of the keys, of the operation that stands at a place in the message
 pub record AtPlace (ops : List KeyChange) (place : ℕ) (P : ℕ → Type 0) : Type 0 where
   pub sorted : ℕ
   pub place_is : place ≡ place_of (ordered [] (placed_from 0 ops)) sorted
   pub holds : P sorted
 
--- The message isn't one of the repository, or not whole; its operations lead to another root than the commit's; a key had another
--- value than is told before; the batch is refused; or memory is wanted.
+-- The first of these: the message isn't one of the repository, or not whole; its operations lead to another root than the
+-- commit's; a key had another value than is told before; the batch is refused. Or memory is wanted.
 abbrev pub IsUnfollowed : {D A : Type 0} → (List ℕ → List ℕ) → ℕ → State → List ℕ → ℕ → ℕ → FollowingFault D A → Type 0
 IsUnfollowed digest bits s message full fuller (followings.Message fault) =
     IsMessageFault fault (told_message digest (state_root digest bits s) message)
-IsUnfollowed digest bits s message full fuller followings.OtherRoot = WithMessage digest bits s message
-    (λ x. ¬ (root_of digest bits (changed (done (ordered_ops x.event.ops)) (pairs digest (records s))) ≡ x.commit.root))
-IsUnfollowed digest bits s message full fuller (followings.OtherValue place) = WithMessage digest bits s message
+IsUnfollowed digest bits s message full fuller followings.OtherRoot =
+    WithMessage digest bits s message (λ x. ¬ (led_to digest bits s x.event ≡ x.commit.root))
+IsUnfollowed digest bits s message full fuller (followings.OtherValue place) = WithStep digest bits s message
     (λ x. AtPlace x.event.ops place (λ i. had_in digest s (ordered_ops x.event.ops) ≡ Err (HasOtherValue i)))
 IsUnfollowed digest bits s message full fuller (followings.Refused place fault) = IsNoWant fault
-    (WithMessage digest bits s message (λ x. AtPlace x.event.ops place
+    (WithStep digest bits s message (λ x. AtPlace x.event.ops place
     (λ i. WithBatch digest (blocks_of x.sections) (ordered_ops x.event.ops)
     (λ batch. (had_in digest s (ordered_ops x.event.ops) ≡ Ok tt)
     × IsRefusal digest bits s (stamp_in x.event) batch full fuller (i, fault)))))

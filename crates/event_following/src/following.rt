@@ -21,7 +21,9 @@ use crate::leading::{lead_to, root_named};
 use batches::Stamp;
 use block::Block;
 use cid::Digest;
-use commit_events::{CheckedCommit, EventFault, Placed, changes_of, in_order, place_of, read_commit};
+use commit_events::{
+    CheckedCommit, EventFault, Placed, changes_of, in_order, place_of, read_commit,
+};
 use difference_taking::{TakingFault, take_difference};
 use event_format::Event;
 use key_changes::KeyChange;

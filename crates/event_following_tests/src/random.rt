@@ -132,7 +132,14 @@ fn all_go_on(
 ) -> bool {
     let mut numbers = Numbers { state: 20_240_102 };
     for number in 1..count {
-        if !goes_on(alloc, (&mut *own, &mut *other), core, mirror, &mut numbers, number) {
+        if !goes_on(
+            alloc,
+            (&mut *own, &mut *other),
+            core,
+            mirror,
+            &mut numbers,
+            number,
+        ) {
             return false;
         }
     }

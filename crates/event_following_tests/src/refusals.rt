@@ -7,7 +7,8 @@ use event_blocks::BlocksFault;
 use event_following::FollowingFault;
 use refusing::Refusing;
 use repo_fixtures::batch::Step;
-use repo_fixtures::cores::end;
+use repo_fixtures::cores::{apply_steps, end};
+use repo_fixtures::ends::Ended;
 use std::alloc::{AllocError, Allocator, Global};
 use store::Shard;
 
@@ -19,6 +20,7 @@ enum End {
     OtherRoot,
     OtherValue(usize),
     WritesFull(usize),
+    RevOrder(usize),
     Refused,
     NoMemory,
     /// It isn't, and the mirror is another one than before.
@@ -41,6 +43,7 @@ fn end_of<M: Allocator + Copy>(
         Err(FollowingFault::OtherRoot) => End::OtherRoot,
         Err(FollowingFault::OtherValue(place)) => End::OtherValue(place),
         Err(FollowingFault::Refused(place, RepoFault::WritesFull)) => End::WritesFull(place),
+        Err(FollowingFault::Refused(place, RepoFault::RevOrder)) => End::RevOrder(place),
         Err(FollowingFault::Refused(_, _)) => End::Refused,
         Err(FollowingFault::NoMemory) => End::NoMemory,
     }
@@ -58,7 +61,10 @@ fn messages<M: Allocator + Copy>(
         core,
         1,
         &[Step::Create(b"posts/10", A), Step::Create(b"posts/11", B)],
-        &[change(b"posts/10", None, Some(A)), change(b"posts/11", None, Some(B))],
+        &[
+            change(b"posts/10", None, Some(A)),
+            change(b"posts/11", None, Some(B)),
+        ],
     )?;
     let second = message_of(
         alloc,
@@ -66,13 +72,21 @@ fn messages<M: Allocator + Copy>(
         core,
         2,
         &[Step::Update(b"posts/10", B), Step::Delete(b"posts/11")],
-        &[change(b"posts/10", Some(A), Some(B)), change(b"posts/11", Some(B), None)],
+        &[
+            change(b"posts/10", Some(A), Some(B)),
+            change(b"posts/11", Some(B), None),
+        ],
     )?;
     Some((first, second))
 }
 
 /// The message with the byte so far behind the first place of these bytes one higher or one lower.
-fn spoilt(alloc: Global, message: &[u8], bytes: &[u8], behind: usize) -> Result<Vec<u8>, AllocError> {
+fn spoilt(
+    alloc: Global,
+    message: &[u8],
+    bytes: &[u8],
+    behind: usize,
+) -> Result<Vec<u8>, AllocError> {
     let mut out = Vec::from_slice(alloc, message)?;
     let Some(place) = message.windows(bytes.len()).position(|part| part == bytes) else {
         return Ok(out);
@@ -109,13 +123,14 @@ fn in_turn(
     let misnamed = End::Message(EventFault::Blocks(BlocksFault::Misnamed));
     end_of(alloc, shard, mirror, second) == End::Message(EventFault::OtherPrevious)
         // a path
-        && end_of_spoilt(alloc, shard, mirror, first, b"posts/11", 7) == End::OtherRoot
+        && end_of_spoilt(alloc, shard, mirror, first, b"posts/11", 6) == End::OtherRoot
         // a record
         && end_of_spoilt(alloc, shard, mirror, first, A, 6) == misnamed
         && end_of(alloc, shard, mirror, first) == End::Followed
         && end_of(alloc, shard, mirror, first) == End::Message(EventFault::OtherPrevious)
         // the record that the second operation tells before it
-        && end_of_spoilt(alloc, shard, mirror, second, b"posts/11\x64prev", 20) == End::OtherValue(1)
+        && end_of_spoilt(alloc, shard, mirror, second, b"posts/11\x64prev", 30)
+            == End::OtherValue(1)
         && end_of(alloc, shard, mirror, second) == End::Followed
 }
 
@@ -145,6 +160,33 @@ fn a_full_mirror(rt: HostRuntime) {
             end_of(alloc, &mut other, &mut mirror, &first) == End::Followed
                 && end_of(alloc, &mut other, &mut mirror, &second) == End::WritesFull(1)
         }
+        None => false,
+    };
+    end(&mut own, core);
+    end(&mut other, mirror);
+    assert!(rt; right);
+}
+
+/// Whether a mirror takes a batch and one that undoes it, both later than the message of these bytes, and then refuses that.
+fn refuses_earlier(
+    alloc: Global,
+    shard: &mut Shard<cid::Sha256>,
+    mirror: &mut Posts<Global>,
+    message: &[u8],
+) -> bool {
+    apply_steps(alloc, shard, mirror, 8, &[Step::Create(b"posts/12", A)]) == Ended::Accepted(1)
+        && apply_steps(alloc, shard, mirror, 9, &[Step::Delete(b"posts/12")]) == Ended::Accepted(2)
+        && end_of(alloc, shard, mirror, message) == End::RevOrder(0)
+}
+
+#[test]
+fn a_later_mirror(rt: HostRuntime) {
+    let alloc = rt.alloc();
+    let (mut own, mut other) = (shard(alloc), shard(alloc));
+    let mut core = opened(&rt, alloc, &mut own, 100);
+    let mut mirror = opened(&rt, alloc, &mut other, 100);
+    let right = match messages(alloc, &mut own, &mut core) {
+        Some((first, _)) => refuses_earlier(alloc, &mut other, &mut mirror, &first),
         None => false,
     };
     end(&mut own, core);
