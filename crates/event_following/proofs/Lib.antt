@@ -1,4 +1,4 @@
--- In the order in which they are best read: that no record is missing; what a refusal is; where operations lead.
+-- In the order in which they are best read: what is done; that no record is missing; what a refusal is.
+pub mod Steps
 pub mod Records
 pub mod Unfollowed
-pub mod Roots
