@@ -15,7 +15,7 @@ use Rattle.batches.specs.declared.fault.RepoFault.{RepoFault}
 use Rattle.batches.specs.declared.fault.RepoFault.TheVariants as faults
 use Rattle.repo.specs.Refusals.{IsRefusal}
 use Rattle.difference_taking.specs.Refusals as taking
-use Rattle.difference_taking.specs.Refusals.{IsNoWant, IsRefused, WithBatch}
+use Rattle.difference_taking.specs.Refusals.{IsRefused, WithBatch}
 use Rattle.difference_taking.specs.Taking.{had_in}
 use Rattle.difference_taking.specs.declared.fault.TakingFault.{TakingFault}
 use Rattle.difference_taking.specs.declared.fault.TakingFault.TheVariants as takings

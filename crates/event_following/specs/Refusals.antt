@@ -7,7 +7,6 @@ use Rattle.change_laws.specs.Given.{OtherValue as HasOtherValue}
 use Rattle.change_laws.specs.Told.{KeyChange}
 use Rattle.event_laws.specs.Verdict as verdict
 use Rattle.event_laws.specs.Verdict.{Checked, Placed, ordered, ordered_ops, place_of, placed_from}
-use Rattle.batches.specs.declared.fault.RepoFault.{RepoFault}
 use Rattle.repo.specs.Fulls.{is_full}
 use Rattle.repo.specs.Refusals.{IsRefusal}
 use Rattle.difference_taking.specs.Refusals.{IsNoWant, WithBatch}
