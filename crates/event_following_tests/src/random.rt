@@ -66,7 +66,8 @@ impl Turn {
             Some(record) => self.steps.push(Step::Put(key, record))?,
             None => self.steps.push(Step::Delete(key))?,
         }
-        self.changes.push(KeyChange { key, before, after })
+        self.changes.push(KeyChange { key, before, after })?;
+        Ok(())
     }
 }
 

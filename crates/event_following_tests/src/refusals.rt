@@ -37,13 +37,13 @@ fn end_of<M: Allocator + Copy>(
     let Some(answer) = followed(alloc, shard, mirror, message) else {
         return End::Wrong;
     };
-    match answer {
+    match &answer {
         Ok(_) => End::Followed,
-        Err(FollowingFault::Message(fault)) => End::Message(fault),
+        Err(FollowingFault::Message(fault)) => End::Message(*fault),
         Err(FollowingFault::OtherRoot) => End::OtherRoot,
-        Err(FollowingFault::OtherValue(place)) => End::OtherValue(place),
-        Err(FollowingFault::Refused(place, RepoFault::WritesFull)) => End::WritesFull(place),
-        Err(FollowingFault::Refused(place, RepoFault::RevOrder)) => End::RevOrder(place),
+        Err(FollowingFault::OtherValue(place)) => End::OtherValue(*place),
+        Err(FollowingFault::Refused(place, RepoFault::WritesFull)) => End::WritesFull(*place),
+        Err(FollowingFault::Refused(place, RepoFault::RevOrder)) => End::RevOrder(*place),
         Err(FollowingFault::Refused(_, _)) => End::Refused,
         Err(FollowingFault::NoMemory) => End::NoMemory,
     }
@@ -186,7 +186,7 @@ fn a_later_mirror(rt: HostRuntime) {
     let mut core = opened(&rt, alloc, &mut own, 100);
     let mut mirror = opened(&rt, alloc, &mut other, 100);
     let right = match messages(alloc, &mut own, &mut core) {
-        Some((first, _)) => refuses_earlier(alloc, &mut other, &mut mirror, &first),
+        Some((first, _second)) => refuses_earlier(alloc, &mut other, &mut mirror, &first),
         None => false,
     };
     end(&mut own, core);
@@ -225,7 +225,7 @@ fn each_want_of_memory(rt: HostRuntime) {
         let mut core = opened(&rt, &heap, &mut own, 100);
         let mut mirror = opened(&rt, &heap, &mut other, 100);
         let right = match messages(&heap, &mut own, &mut core) {
-            Some((first, _)) => tells_each(&heap, &mut other, &mut mirror, &first),
+            Some((first, _second)) => tells_each(&heap, &mut other, &mut mirror, &first),
             None => false,
         };
         end(&mut own, core);
