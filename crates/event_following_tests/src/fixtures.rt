@@ -28,12 +28,14 @@ pub(crate) fn shard<M: Allocator + Copy>(alloc: M) -> Shard<Sha256, M> {
 }
 
 /// A repository without writes over a shard, which may have so many.
-pub(crate) fn opened<R: Abort, M: Allocator + Copy>(
+pub(crate) fn opened<R: Abort, G: Digest, const BITS: u8, M: Allocator + Copy>(
     rt: &R,
     alloc: M,
-    shard: &mut Shard<Sha256, M>,
+    shard: &mut Shard<G, M>,
     limit: usize,
-) -> Posts<M>
+) -> Core<G, BITS, M>
+    requires bits { 1 ≤ BITS }
+    requires few { BITS ≤ 8 }
     requires least { 1 ≤ limit }
     requires most { limit ≤ 1048576 }
 {
@@ -62,21 +64,20 @@ pub(crate) fn value_of(record: Option<&[u8]>) -> Option<Cid> {
 }
 
 /// The message of a batch, which is accepted; none where it isn't, or can't be told.
-pub(crate) fn message_of<M: Allocator + Copy>(
+pub(crate) fn message_of<G: Digest, const BITS: u8, M: Allocator + Copy>(
     alloc: M,
-    shard: &mut Shard<Sha256, M>,
-    core: &mut Posts<M>,
+    shard: &mut Shard<G, M>,
+    core: &mut Core<G, BITS, M>,
     turn: u16,
     steps: &[Step<'_>],
     changes: &[KeyChange<'_>],
-) -> Option<Vec<u8, M>> {
+) -> Option<Vec<u8, M>>
+    requires { 1 ≤ BITS }
+{
     let before = core.root();
     let Ended::Accepted(_) = apply_made(alloc, shard, core, batch_at(alloc, turn, steps)) else {
         return None;
     };
-    if !are_key_changes(changes) {
-        return None;
-    }
     let since = rev_after(turn.saturating_sub(1));
     let told = Told {
         seq: u64::from(turn),
@@ -84,19 +85,37 @@ pub(crate) fn message_of<M: Allocator + Copy>(
         since: Some(&since),
         sig: &[7; 64],
     };
-    match commit_event::<Sha256, 2, M>(alloc, core, before, changes, &told) {
+    written(alloc, core, before, changes, &told)
+}
+
+/// The message of a repository's last batch, which led there from this root by these changes.
+fn written<G: Digest, const BITS: u8, M: Allocator + Copy>(
+    alloc: M,
+    core: &Core<G, BITS, M>,
+    before: Cid,
+    changes: &[KeyChange<'_>],
+    told: &Told<'_>,
+) -> Option<Vec<u8, M>>
+    requires { 1 ≤ BITS }
+{
+    if !are_key_changes(changes) {
+        return None;
+    }
+    match commit_event::<G, BITS, M>(alloc, core, before, changes, told) {
         Ok(message) => Some(message),
         Err(_) => None,
     }
 }
 
 /// The root after a message that is followed, or why it isn't; a refusal that doesn't leave all as it was is none.
-pub(crate) fn followed<M: Allocator + Copy>(
+pub(crate) fn followed<G: Digest, const BITS: u8, M: Allocator + Copy>(
     alloc: M,
-    shard: &mut Shard<Sha256, M>,
-    mirror: &mut Posts<M>,
+    shard: &mut Shard<G, M>,
+    mirror: &mut Core<G, BITS, M>,
     message: &[u8],
-) -> Option<Result<Cid, FollowingFault<Sha256, M>>> {
+) -> Option<Result<Cid, FollowingFault<G, M>>>
+    requires { 1 ≤ BITS }
+{
     let (root, number) = (mirror.root(), mirror.number());
     let mut store = LentShard::new(shard);
     match check_and_apply(alloc, &mut store, mirror, message) {

@@ -1,11 +1,15 @@
 //! Messages that aren't followed.
 
+ghost use Rattle.std.specs.Prelude.{◌<◌, ◌≤◌, length};
+
 use crate::fixtures::{A, B, Posts, change, followed, message_of, opened, shard};
 use batches::RepoFault;
+use cid::{Digest, Sha256};
 use commit_events::EventFault;
 use event_blocks::BlocksFault;
 use event_following::FollowingFault;
 use refusing::Refusing;
+use repo::Core;
 use repo_fixtures::batch::Step;
 use repo_fixtures::cores::{apply_steps, end};
 use repo_fixtures::ends::Ended;
@@ -28,12 +32,14 @@ enum End {
 }
 
 /// How a message ends.
-fn end_of<M: Allocator + Copy>(
+fn end_of<G: Digest, const BITS: u8, M: Allocator + Copy>(
     alloc: M,
-    shard: &mut Shard<cid::Sha256, M>,
-    mirror: &mut Posts<M>,
+    shard: &mut Shard<G, M>,
+    mirror: &mut Core<G, BITS, M>,
     message: &[u8],
-) -> End {
+) -> End
+    requires { 1 ≤ BITS }
+{
     let Some(answer) = followed(alloc, shard, mirror, message) else {
         return End::Wrong;
     };
@@ -50,11 +56,13 @@ fn end_of<M: Allocator + Copy>(
 }
 
 /// The messages of a batch that creates two records, and of one that updates the first and deletes the second.
-fn messages<M: Allocator + Copy>(
+fn messages<G: Digest, const BITS: u8, M: Allocator + Copy>(
     alloc: M,
-    shard: &mut Shard<cid::Sha256, M>,
-    core: &mut Posts<M>,
-) -> Option<(Vec<u8, M>, Vec<u8, M>)> {
+    shard: &mut Shard<G, M>,
+    core: &mut Core<G, BITS, M>,
+) -> Option<(Vec<u8, M>, Vec<u8, M>)>
+    requires { 1 ≤ BITS }
+{
     let first = message_of(
         alloc,
         shard,
@@ -81,12 +89,9 @@ fn messages<M: Allocator + Copy>(
 }
 
 /// The message with the byte so far behind the first place of these bytes one higher or one lower.
-fn spoilt(
-    alloc: Global,
-    message: &[u8],
-    bytes: &[u8],
-    behind: usize,
-) -> Result<Vec<u8>, AllocError> {
+fn spoilt(alloc: Global, message: &[u8], bytes: &[u8], behind: usize) -> Result<Vec<u8>, AllocError>
+    requires { 0 < length bytes.now }
+{
     let mut out = Vec::from_slice(alloc, message)?;
     let Some(place) = message.windows(bytes.len()).position(|part| part == bytes) else {
         return Ok(out);
@@ -100,12 +105,14 @@ fn spoilt(
 /// How a spoilt message ends.
 fn end_of_spoilt(
     alloc: Global,
-    shard: &mut Shard<cid::Sha256>,
+    shard: &mut Shard<Sha256>,
     mirror: &mut Posts<Global>,
     message: &[u8],
     bytes: &[u8],
     behind: usize,
-) -> End {
+) -> End
+    requires { 0 < length bytes.now }
+{
     match spoilt(alloc, message, bytes, behind) {
         Ok(message) => end_of(alloc, shard, mirror, &message),
         Err(_) => End::NoMemory,
@@ -115,7 +122,7 @@ fn end_of_spoilt(
 /// Whether each message ends as it should: one behind a gap, the first, spoilt ones, the first again, and the second.
 fn in_turn(
     alloc: Global,
-    shard: &mut Shard<cid::Sha256>,
+    shard: &mut Shard<Sha256>,
     mirror: &mut Posts<Global>,
     first: &[u8],
     second: &[u8],
@@ -138,8 +145,8 @@ fn in_turn(
 fn each_refusal(rt: HostRuntime) {
     let alloc = rt.alloc();
     let (mut own, mut other) = (shard(alloc), shard(alloc));
-    let mut core = opened(&rt, alloc, &mut own, 100);
-    let mut mirror = opened(&rt, alloc, &mut other, 100);
+    let mut core: Posts<_> = opened(&rt, alloc, &mut own, 100);
+    let mut mirror: Posts<_> = opened(&rt, alloc, &mut other, 100);
     let right = match messages(alloc, &mut own, &mut core) {
         Some((first, second)) => in_turn(alloc, &mut other, &mut mirror, &first, &second),
         None => false,
@@ -153,8 +160,8 @@ fn each_refusal(rt: HostRuntime) {
 fn a_full_mirror(rt: HostRuntime) {
     let alloc = rt.alloc();
     let (mut own, mut other) = (shard(alloc), shard(alloc));
-    let mut core = opened(&rt, alloc, &mut own, 100);
-    let mut mirror = opened(&rt, alloc, &mut other, 3);
+    let mut core: Posts<_> = opened(&rt, alloc, &mut own, 100);
+    let mut mirror: Posts<_> = opened(&rt, alloc, &mut other, 3);
     let right = match messages(alloc, &mut own, &mut core) {
         Some((first, second)) => {
             end_of(alloc, &mut other, &mut mirror, &first) == End::Followed
@@ -170,7 +177,7 @@ fn a_full_mirror(rt: HostRuntime) {
 /// Whether a mirror takes a batch and one that undoes it, both later than the message of these bytes, and then refuses that.
 fn refuses_earlier(
     alloc: Global,
-    shard: &mut Shard<cid::Sha256>,
+    shard: &mut Shard<Sha256>,
     mirror: &mut Posts<Global>,
     message: &[u8],
 ) -> bool {
@@ -183,8 +190,8 @@ fn refuses_earlier(
 fn a_later_mirror(rt: HostRuntime) {
     let alloc = rt.alloc();
     let (mut own, mut other) = (shard(alloc), shard(alloc));
-    let mut core = opened(&rt, alloc, &mut own, 100);
-    let mut mirror = opened(&rt, alloc, &mut other, 100);
+    let mut core: Posts<_> = opened(&rt, alloc, &mut own, 100);
+    let mut mirror: Posts<_> = opened(&rt, alloc, &mut other, 100);
     let right = match messages(alloc, &mut own, &mut core) {
         Some((first, _second)) => refuses_earlier(alloc, &mut other, &mut mirror, &first),
         None => false,
@@ -198,12 +205,14 @@ fn a_later_mirror(rt: HostRuntime) {
 type Heap<'h> = &'h Refusing<Global>;
 
 /// Whether each request that is refused is told and leaves the mirror as it was, up to the message that is followed.
-fn tells_each<'h>(
+fn tells_each<'h, G: Digest, const BITS: u8>(
     heap: Heap<'h>,
-    shard: &mut Shard<cid::Sha256, Heap<'h>>,
-    mirror: &mut Posts<Heap<'h>>,
+    shard: &mut Shard<G, Heap<'h>>,
+    mirror: &mut Core<G, BITS, Heap<'h>>,
     message: &[u8],
-) -> bool {
+) -> bool
+    requires { 1 ≤ BITS }
+{
     for number in 1..5_000u64 {
         heap.refuse(number);
         let end = end_of(heap, shard, mirror, message);
@@ -222,8 +231,8 @@ fn each_want_of_memory(rt: HostRuntime) {
     let heap = Refusing::new(rt.alloc());
     let right = {
         let (mut own, mut other) = (shard(&heap), shard(&heap));
-        let mut core = opened(&rt, &heap, &mut own, 100);
-        let mut mirror = opened(&rt, &heap, &mut other, 100);
+        let mut core: Posts<_> = opened(&rt, &heap, &mut own, 100);
+        let mut mirror: Posts<_> = opened(&rt, &heap, &mut other, 100);
         let right = match messages(&heap, &mut own, &mut core) {
             Some((first, _second)) => tells_each(&heap, &mut other, &mut mirror, &first),
             None => false,
