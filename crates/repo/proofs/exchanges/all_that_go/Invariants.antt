@@ -1,6 +1,6 @@
-use Rattle.std.proofs.Common.{◌≡◌, ◌++◌}
+use Rattle.std.proofs.Common.{◌≡◌, ◌++◌, take}
 use Rattle.batch_laws.specs.Uses.{given}
 use Rattle.repo.proofs.exchanges.all_that_go.Given as goal
 
 abbrev pub invariant-loop-record : goal.invariant-loop-record
-invariant-loop-record g l = l.all.items ++ given l.record-iterator.rest.items ≡ l.fn.nodes.items ++ given l.fn.records.items
+invariant-loop-record g l = l.all.items ≡ l.fn.nodes.items ++ given (take l.record-index l.records)

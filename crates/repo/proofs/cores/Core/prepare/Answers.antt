@@ -1,18 +1,21 @@
 use Rattle.std.proofs.Common.{◌≡◌, ◌+◌, ◌∙◌, List, length, sym, ap, subst, arith}
 use Rattle.std.proofs.lemmas.List.{length-map}
 use Rattle.std.proofs.lemmas.Result.{err_from_is_err_and}
-use Rattle.spec.specs.Stamps.{last, rev_of}
+use Rattle.spec.specs.Stamps.{Stamp, last, rev_of}
 use Rattle.spec.specs.States.{State}
 use Rattle.spec.specs.Writes.{Write}
 use Rattle.batch_laws.specs.Staged.{old_pairs}
 use Rattle.batches.specs.Values.{write_of, writes_of, shared_writes, stamp_of, stamps_of}
 use Rattle.repo.specs.Cores.{IsCore}
+use Rattle.repo.specs.Edits.{IsExchangeMade}
+use Rattle.repo.specs.Prepared.{IsPassed, IsPreparedBatch, prepared_of}
 use Rattle.repo.specs.Tested.{IsFailedWrite}
 use Rattle.repo.proofs.FailedWrites.{failed-write}
 use Rattle.repo.proofs.Keeping.{core-tested, core-tree}
 use Rattle.repo.proofs.Preparing.{as-many, changes-keyed, exchange-unmade, tested-on}
 use Rattle.repo.proofs.Stamping.{not-zero, stamp-refused}
-use Rattle.repo.proofs.cores.Core.prepared.Goals as goal
+use Rattle.repo.proofs.Telling.{is-passed}
+use Rattle.repo.proofs.cores.Core.prepare.Goals as goal
 
 pub returns-in-Err-clause-fault : goal.returns-in-Err-clause-fault
 returns-in-Err-clause-fault g c = λ full.
@@ -92,8 +95,8 @@ returns-in-Err-made-clause-fault g c =
     (c.in_ok-changes.ensures.passed s start) c.in_ok-changes.changes c.in_ok-changes.ensures.changes
     c.in-Err-made.refusal (c.in-Err-made.ensures.fault (old_pairs dig s) tree) c.in-Err-made.ensures.place
 
-pub returns-in-Ok-made-clause-exchange : goal.returns-in-Ok-made-clause-exchange
-returns-in-Ok-made-clause-exchange g c =
+pub invariant_of-result : goal.invariant_of-result
+invariant_of-result g c =
     let dig = g.D.Digest.digest_of in
     let old = c.self.inside in
     let s = c.args.self.now in
@@ -106,6 +109,40 @@ returns-in-Ok-made-clause-exchange g c =
     let n = length-map c.args.writes.now write_of in
     let h = not-zero (length c.args.writes.now) (sym c.is_empty.ensures ∙ c.if-is_empty.false) in
     let same = ap (λ xs. shared_writes xs) c.as_slice-shared.ensures.value ∙ c.in-Ok-copies_of.ensures.writes in
-    c.in-Ok-made.ensures.exchange s batch
+    let copies = c.in-Ok-copies_of.copies in
+    let x = c.in-Ok-made.exchange in
+    let made = c.in-Ok-made.ensures.exchange s batch
     (tested-on dig g.row.B s old.root old.commit old.kept is c.args.stamp.now _ rev c.in-Ok.ensures.passed c.as_slice-shared.result.now batch same (omega (arith, n, h))
-    (c.in_ok-changes.ensures.passed s start) c.in_ok-changes.changes c.in_ok-changes.ensures.changes)
+    (c.in_ok-changes.ensures.passed s start) c.in_ok-changes.changes c.in_ok-changes.ensures.changes) in
+    let told = subst (λ (ws : List Write). IsExchangeMade dig g.row.B s (stamp_of copies.stamp) ws x) (sym c.in-Ok-copies_of.ensures.writes)
+    (subst (λ (st : Stamp). IsExchangeMade dig g.row.B s st batch x) (sym c.in-Ok-copies_of.ensures.stamp) made) in
+    let ready : IsPreparedBatch dig g.row.B (prepared_of s (stamp_of copies.stamp) (shared_writes copies.writes.items)) old.root x =
+    record { lawful = is.lawful; previous_is = is.root_is; made = told } in
+    subst (λ (t : State). IsPreparedBatch dig g.row.B (prepared_of t (stamp_of copies.stamp) (shared_writes copies.writes.items)) old.root x)
+    (sym c.of.ensures) ready
+
+pub returns-in-Ok-made-clause-passed : goal.returns-in-Ok-made-clause-passed
+returns-in-Ok-made-clause-passed g c =
+    let dig = g.D.Digest.digest_of in
+    let old = c.self.inside in
+    let s = c.args.self.now in
+    let batch = writes_of c.args.writes.now in
+    let is = subst (λ (x : State). IsCore dig g.row.B x old.root old.commit old.kept) c.self.view_is c.self.invariant in
+    let start = core-tested dig g.row.B s old.root old.commit old.kept is g.met.D.Digest.digest_len c.room_for-room.result
+    (subst (λ (x : State). length x.accepted + c.room_for-room.result ≡ x.limit) c.self.view_is
+    (ap (λ xs. length (shared_writes xs) + c.room_for-room.result) (sym c.deref-2.ensures.value) ∙ c.room_for-room.ensures)) in
+    let rev = c.last_rev.ensures ∙ ap (λ xs. rev_of (last (stamps_of xs))) c.deref.ensures.value ∙ ap (λ (x : State). rev_of (last x.stamps)) c.self.view_is in
+    let n = length-map c.args.writes.now write_of in
+    let h = not-zero (length c.args.writes.now) (sym c.is_empty.ensures ∙ c.if-is_empty.false) in
+    let same = ap (λ xs. shared_writes xs) c.as_slice-shared.ensures.value ∙ c.in-Ok-copies_of.ensures.writes in
+    let copies = c.in-Ok-copies_of.copies in
+    let x = c.in-Ok-made.exchange in
+    let made = c.in-Ok-made.ensures.exchange s batch
+    (tested-on dig g.row.B s old.root old.commit old.kept is c.args.stamp.now _ rev c.in-Ok.ensures.passed c.as_slice-shared.result.now batch same (omega (arith, n, h))
+    (c.in_ok-changes.ensures.passed s start) c.in_ok-changes.changes c.in_ok-changes.ensures.changes) in
+    let told = subst (λ (ws : List Write). IsExchangeMade dig g.row.B s (stamp_of copies.stamp) ws x) (sym c.in-Ok-copies_of.ensures.writes)
+    (subst (λ (st : Stamp). IsExchangeMade dig g.row.B s st batch x) (sym c.in-Ok-copies_of.ensures.stamp) made) in
+    let ready : IsPreparedBatch dig g.row.B (prepared_of s (stamp_of copies.stamp) (shared_writes copies.writes.items)) old.root x =
+    record { lawful = is.lawful; previous_is = is.root_is; made = told } in
+    subst (λ (t : State). IsPassed (prepared_of t (stamp_of copies.stamp) (shared_writes copies.writes.items))) (sym c.of.ensures)
+    (is-passed dig g.row.B (prepared_of s (stamp_of copies.stamp) (shared_writes copies.writes.items)) old.root x ready)
