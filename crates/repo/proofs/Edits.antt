@@ -11,7 +11,7 @@ use Rattle.spec.specs.Writes.{Write}
 use Rattle.batch_laws.specs.Batch.{Change, changed}
 use Rattle.batch_laws.specs.Collecting.{collected, with_cids}
 use Rattle.batch_laws.specs.Previous.{values}
-use Rattle.batch_laws.specs.Uses.{given, records_come}
+use Rattle.batch_laws.specs.Uses.{present_values, records_come}
 use Rattle.batches.specs.Values.{stamp_of}
 use Rattle.batches.specs.declared.stamp.Stamp.{Stamp}
 use Rattle.edit.specs.Refusals.{IsRefusal}
@@ -37,7 +37,7 @@ module _ {A : Type 0} (digest : List ℕ → List ℕ) (bits : ℕ) (s : State) 
       → IsEditMade digest bits (with_cids digest (changes_in changes)) (pairs digest (records s)) edit
       → came ≡ records_come (changes_in changes) → block ≡ commit_bytes (stamp_of stamp) edit.root → commit ≡ cid digest block
       → come ≡ (each arc_value edit.add.items ++ came) ++ block ∷ []
-      → go ≡ (edit.drop.items ++ given edit.previous.items) ++ cons_option last []
+      → go ≡ (edit.drop.items ++ present_values edit.previous.items) ++ cons_option last []
       → IsExchangeOf digest bits s (stamp_of stamp) batch edit.root commit (each arc_value edit.add.items) come edit.drop.items go
   exchange-made edit came block commit come go h r b n x y =
       let cs = with_cids digest (collected batch) in
@@ -50,8 +50,8 @@ module _ {A : Type 0} (digest : List ℕ → List ℕ) (bits : ℕ) (s : State) 
         come_is = x ∙ ap (λ (bs : List (List ℕ)). (each arc_value edit.add.items ++ bs) ++ block ∷ []) (r ∙ ap records_come on.changes_are)
             ∙ ap (λ (z : List ℕ). (each arc_value edit.add.items ++ records_come (collected batch)) ++ z ∷ []) b;
         commit_is = n ∙ ap (cid digest) b;
-        go_is = y ∙ ap (λ (os : List (Option (List ℕ))). (edit.drop.items ++ given os) ++ cons_option last []) made.previous_is
-            ∙ ap (λ (o : Option (List ℕ)). (edit.drop.items ++ given (values cs (pairs digest (records s)))) ++ cons_option o []) on.commit_is;
+        go_is = y ∙ ap (λ (os : List (Option (List ℕ))). (edit.drop.items ++ present_values os) ++ cons_option last []) made.previous_is
+            ∙ ap (λ (o : Option (List ℕ)). (edit.drop.items ++ present_values (values cs (pairs digest (records s)))) ++ cons_option o []) on.commit_is;
       }
 
 -- two nodes that clash, as a fault here

@@ -35,7 +35,7 @@ use Rattle.edit_laws.proofs.Writing.{commit-uses}
 use Rattle.batch_laws.specs.Batch.{Change, changed}
 use Rattle.batch_laws.specs.Previous.{values}
 use Rattle.batch_laws.specs.Collecting.{collected, with_cids}
-use Rattle.batch_laws.specs.Uses.{given, records_come, cids_gone}
+use Rattle.batch_laws.specs.Uses.{present_values, records_come, cids_gone}
 use Rattle.batch_laws.specs.Laws.Collecting.{AreCollected}
 use Rattle.batch_laws.specs.Laws.Uses.{HasRewritten}
 use Rattle.batch_laws.proofs.ChangedUses.{changes-keep_uses}
@@ -212,14 +212,14 @@ module _ (digest : List ℕ → List ℕ) (bits : ℕ) (fits : IsDigest digest) 
       ∙ count-map_append (cid digest) c (add ++ records_come cs) new
       ∙ ap (λ n. n + uses digest c new) (count-map_append (cid digest) c add (records_come cs))
 
-  gone-count : (c : List ℕ) → count c (given (values (with_cids digest cs) (pairs digest (records s)))) ≡ count c (cids_gone digest cs (records s))
-  gone-count c = ap (λ os. count c (given os)) (values-by_keys digest cs (pairs digest (records s)))
+  gone-count : (c : List ℕ) → count c (present_values (values (with_cids digest cs) (pairs digest (records s)))) ≡ count c (cids_gone digest cs (records s))
+  gone-count c = ap (λ os. count c (present_values os)) (values-by_keys digest cs (pairs digest (records s)))
 
   go-count : (c : List ℕ) → count c go ≡ (count c drop + count c (cids_gone digest cs (records s))) + uses digest c old
   go-count c =
       ap (count c) is.go_is
-      ∙ count-append c (drop ++ given (values (with_cids digest cs) (pairs digest (records s)))) (cons_option (state_commit digest bits s) [])
-      ∙ ap (λ n. n + count c (cons_option (state_commit digest bits s) [])) (count-append c drop (given (values (with_cids digest cs) (pairs digest (records s)))))
+      ∙ count-append c (drop ++ present_values (values (with_cids digest cs) (pairs digest (records s)))) (cons_option (state_commit digest bits s) [])
+      ∙ ap (λ n. n + count c (cons_option (state_commit digest bits s) [])) (count-append c drop (present_values (values (with_cids digest cs) (pairs digest (records s)))))
       ∙ ap (λ n. (count c drop + n) + count c (cons_option (state_commit digest bits s) [])) (gone-count c)
       ∙ ap (λ n. (count c drop + count c (cids_gone digest cs (records s))) + n) (old-count digest c (state_root digest bits s) (last_stamp s))
 

@@ -10,7 +10,7 @@ use Rattle.spec.specs.States.{State, state_test, state_commit}
 use Rattle.edit_laws.specs.Changes.{AreChanges}
 use Rattle.batch_laws.specs.Previous.{values}
 use Rattle.batch_laws.specs.Collecting.{collected, with_cids}
-use Rattle.batch_laws.specs.Uses.{given, records_come}
+use Rattle.batch_laws.specs.Uses.{present_values, records_come}
 use Rattle.batch_laws.specs.Staged.{old_pairs, new_pairs}
 use Rattle.edit.specs.Batches.{nodes_read}
 
@@ -35,4 +35,4 @@ pub record IsExchangeOf (digest : List ℕ → List ℕ) (bits : ℕ) (s : State
   pub come_is : come ≡ (add ++ records_come (collected batch)) ++ commit_bytes stamp root ∷ []
   pub commit_is : commit ≡ cid digest (commit_bytes stamp root)
   pub go_is : go
-      ≡ (drop ++ given (values_before digest s batch)) ++ cons_option (state_commit digest bits s) []
+      ≡ (drop ++ present_values (values_before digest s batch)) ++ cons_option (state_commit digest bits s) []

@@ -5,7 +5,7 @@ ghost use Rattle.std.specs.List.{cons_option};
 ghost use Rattle.std.specs.Arc.{arc_value};
 ghost use Rattle.spec.specs.Commits.{commit_bytes};
 ghost use Rattle.batch_laws.specs.Collecting.{with_cids};
-ghost use Rattle.batch_laws.specs.Uses.{given, records_come};
+ghost use Rattle.batch_laws.specs.Uses.{present_values, records_come};
 ghost use Rattle.key_changes.specs.Keyed.{are_changes};
 ghost use Rattle.kept.specs.Trees.{OfTree};
 ghost use Rattle.batches.specs.Values.{stamp_of};
@@ -192,7 +192,7 @@ fn all_that_go<A: Allocator>(
     commit: Option<Cid>,
 ) -> Result<Vec<Cid, A>, AllocError>
     ensures { IfOk result (λ all.
-        all.items ≡ (nodes.items ++ given records.now) ++ cons_option commit []) }
+        all.items ≡ (nodes.items ++ present_values records.now) ++ cons_option commit []) }
 {
     let mut all = nodes;
     for record in records {
