@@ -29,7 +29,7 @@ use Rattle.edit_laws.proofs.Using.{here_or_not, edit-uses}
 use Rattle.batch_laws.specs.Batch.{Change, if_same, at_key, changed, change_by, one_by_one, AreAscending}
 use Rattle.batch_laws.specs.Previous.{values}
 use Rattle.batch_laws.specs.Collecting.{value_after}
-use Rattle.batch_laws.specs.Uses.{given, records_come, cids_gone}
+use Rattle.batch_laws.specs.Uses.{present_values, records_come, cids_gone}
 use Rattle.batch_laws.specs.Laws.Uses.{ValuesBalance, IsRewritten, ChangesKeepUses, RecordsCome}
 use Rattle.batch_laws.proofs.OneByOne.{AllLater, changed-one_by_one, later-at, later-same}
 use Rattle.batch_laws.proofs.Collected.{ascending-change, ascending-changed}
@@ -65,19 +65,19 @@ module _ (mark : List ℕ → List ℕ) (x : List ℕ) where
   one-even key (Some v) es s = rw (find-is key es s) (count-put mark x (key, v) es)
 
   even-one_by_one : (cs : List Change) (es : List Pair) → AreAscending cs → Ascending es
-      → marks (record_blocks (one_by_one cs es)) + marks (given (values cs es))
+      → marks (record_blocks (one_by_one cs es)) + marks (present_values (values cs es))
       ≡ marks (record_blocks es) + marks (records_come cs)
   even-one_by_one [] es a s = refl
   even-one_by_one (c ∷ cs) es a s =
       let later = even-one_by_one cs (change_by c.0 c.1 es) a.1 (ascending-change c.0 c.1 es s) in
       let one = one-even c.0 c.1 es s in
-      let same = ap (λ os. marks (given os)) (values-later c.0 c.1 cs es a.0 s) in
-      let old = marks-option (value_of c.0 es) (given (values cs es)) in
+      let same = ap (λ os. marks (present_values os)) (values-later c.0 c.1 cs es a.0 s) in
+      let old = marks-option (value_of c.0 es) (present_values (values cs es)) in
       let new = marks-option c.1 (records_come cs) in
       omega arith
 
   pub even : (cs : List Change) (es : List Pair) → AreAscending cs → Ascending es
-      → marks (record_blocks (changed cs es)) + marks (given (values cs es))
+      → marks (record_blocks (changed cs es)) + marks (present_values (values cs es))
       ≡ marks (record_blocks es) + marks (records_come cs)
   even cs es a s = rw (changed-one_by_one cs es a) (even-one_by_one cs es a s)
 

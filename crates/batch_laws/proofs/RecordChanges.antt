@@ -16,7 +16,7 @@ use Rattle.batch_laws.specs.Batch.{Change, changed, change_by, one_by_one, AreAs
 use Rattle.batch_laws.specs.Batch.{change_first, with_change}
 use Rattle.batch_laws.specs.Previous.{values}
 use Rattle.batch_laws.specs.Collecting.{with_cid, with_cids}
-use Rattle.batch_laws.specs.Uses.{given}
+use Rattle.batch_laws.specs.Uses.{present_values}
 use Rattle.batch_laws.specs.Laws.Collecting.{PairsAreChanged}
 use Rattle.batch_laws.specs.Laws.Uses.{ValuesAreByKeys}
 use Rattle.batch_laws.proofs.OneByOne.{changed-one_by_one}
@@ -133,11 +133,11 @@ module _ (digest : List ℕ → List ℕ) where
 
   -- the CIDs of records that go are the values that go with the pairs
   pub cids-given : (cs : List Change) (m : List Pair)
-      → map (cid digest) (given (values cs m)) ≡ given (values cs (pairs digest m))
+      → map (cid digest) (present_values (values cs m)) ≡ present_values (values cs (pairs digest m))
   cids-given [] m = refl
   cids-given (c ∷ cs) m =
-      map-option _ (given (values cs m)) ∙ ap (cons_option _) (cids-given cs m)
-      ∙ ap (λ o. cons_option o (given (values cs (pairs digest m)))) (sym (value-record digest m c.0).0)
+      map-option _ (present_values (values cs m)) ∙ ap (cons_option _) (cids-given cs m)
+      ∙ ap (λ o. cons_option o (present_values (values cs (pairs digest m)))) (sym (value-record digest m c.0).0)
 
 pub pairs-are_changed : PairsAreChanged
 pairs-are_changed digest cs m a = (ascending-cids digest cs a, pairs-changed digest cs m a)

@@ -53,7 +53,7 @@ pub fn prove_inversion<D: Digest, const B: u8, A: Allocator + Clone>(
     let mut lender = core.lender();
     match prove_inversion_over::<D, B, A, Lender<'_, D, A>>(alloc, &mut lender, root, changes) {
         Ok(nodes) => Ok(nodes),
-        Err(fault) => Err(told(fault)),
+        Err(fault) => Err(proving_fault(fault)),
     }
 }
 
@@ -108,7 +108,7 @@ fn told_nodes<D: Digest, A: Allocator>(
 }
 
 /// What a fault over a source is where the source has a tree.
-fn told(fault: ChangeFault) -> ProvingFault
+fn proving_fault(fault: ChangeFault) -> ProvingFault
     ensures { result ≡ proving_fault_of fault }
 {
     match fault {

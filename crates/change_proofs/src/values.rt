@@ -1,11 +1,11 @@
 //! What the changed keys have in a tree.
 
 ghost use Rattle.std.specs.Prelude.{◌≡◌};
-ghost use Rattle.change_laws.specs.Verdict.{are_told, is_same as is_same_of};
+ghost use Rattle.change_laws.specs.Verdict.{are_told};
 ghost use Rattle.change_proofs.specs.Verdicts.{told_of};
 
 use cid::Cid;
-use key_changes::KeyChange;
+use key_changes::{KeyChange, is_same};
 
 /// The place of the first change after which another value is told than the one that its key has, or `None`. There is a value
 /// for each of the changes.
@@ -27,15 +27,4 @@ pub(crate) fn first_other(values: &[Option<Cid>], changes: &[KeyChange<'_>]) -> 
         place += 1;
     }
     None
-}
-
-/// Whether two values are the same.
-fn is_same(value: Option<Cid>, told: Option<Cid>) -> bool
-    ensures { result ≡ is_same_of value told }
-{
-    match (value, told) {
-        (None, None) => true,
-        (Some(value), Some(told)) => value == told,
-        _ => false,
-    }
 }

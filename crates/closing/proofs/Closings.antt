@@ -12,7 +12,7 @@ use Rattle.notices.specs.Numbering.{of}
 use Rattle.notices.specs.Rule.{account}
 use Rattle.notices.specs.Views.{QueueId, FeedView, first_sent, received_one, HaveAllJoined, IsAllReceived}
 use Rattle.closing.specs.Counts.{count_in}
-use Rattle.ended.specs.Ending.{EndedView, account_of, joined_all, kept_by, told, told_by}
+use Rattle.ended.specs.Ending.{EndedView, account_of, joined_all, kept_by, notices_told, told_by}
 use Rattle.closing.specs.Settling.{IsSettled, IsUneven, IsClosed, ClosedView, IsAllTold}
 use Rattle.closing.specs.declared.mismatch.Mismatch.{Mismatch}
 
@@ -62,7 +62,7 @@ told_whole (e ∷ es) writer sent h = step (nat_eq e.pass.writer writer) (told_w
     step : (b : Bool)
         → (filter (λ (a : Account). nat_eq a.writer writer) (map account_of es) ≡ account writer sent ∷ [] → sent ++ kept_by es writer ≡ told_by es writer)
         → cond b (account_of e ∷ filter (λ (a : Account). nat_eq a.writer writer) (map account_of es)) (filter (λ (a : Account). nat_eq a.writer writer) (map account_of es)) ≡ account writer sent ∷ []
-        → sent ++ cond b e.kept (kept_by es writer) ≡ cond b (told e.pass e.kept) (told_by es writer)
+        → sent ++ cond b e.kept (kept_by es writer) ≡ cond b (notices_told e.pass e.kept) (told_by es writer)
     step true rest h = ap (λ l. l ++ e.kept) (sym (ap first_sent h))
     step false rest h = rest h
 

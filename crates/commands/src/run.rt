@@ -3,7 +3,7 @@ ghost use Rattle.std.specs.Prelude.{◌≡◌, ◌≢◌, ◌≤◌, ◌⊎◌, 
 ghost use Rattle.std.specs.Io.KnownBytes.{Keeps};
 ghost use Rattle.clap.specs.Walk.{texts};
 ghost use Rattle.clap.specs.Words.{fault_of, kind_of};
-ghost use Rattle.console.specs.Files.{given};
+ghost use Rattle.console.specs.Files.{file_or_input};
 ghost use Rattle.commands.specs.CommandLine.{EndsWithout, IsAskedBy, IsEndOf, file_of_words};
 ghost use Rattle.commands.specs.CommandLine.{is_shown, msthost, name_of};
 ghost use Rattle.commands.specs.Requests.{EndsFaultyWord, HasFaultyWord, IsBegun, IsDone, IsRefused};
@@ -73,13 +73,13 @@ pub fn run_words<
     // holds, or of the input where they name none.
     ensures done { result.status ≡ 0 → IfSome result.request (λ request.
         IsDone D D.digest_of request (F.holds files.now)
-        (given (name_of result.file) (F.holds files.now) (R.remaining input.old))
+        (file_or_input (name_of result.file) (F.holds files.now) (R.remaining input.old))
         (W.contents out.old) (W.contents out.new)) }
 
     // At status 1 that has none.
     ensures faulty { result.status ≡ 1 → IfSome result.request (λ request.
         IsRefused D Global D.digest_of request (F.holds files.now)
-        (given (name_of result.file) (F.holds files.now) (R.remaining input.old))) }
+        (file_or_input (name_of result.file) (F.holds files.now) (R.remaining input.old))) }
     ensures usage { result.status ≡ 2 → IsNone result.request }
 
     // A faulty line or word, what comes of them, and a wrong command line write nothing, and at each
@@ -88,7 +88,7 @@ pub fn run_words<
         → Keeps (W.contents out.old) (W.contents out.new) }
     ensures beginning { IfSome result.request (λ request.
         IsBegun D D.digest_of request (F.holds files.now)
-        (given (name_of result.file) (F.holds files.now) (R.remaining input.old))
+        (file_or_input (name_of result.file) (F.holds files.now) (R.remaining input.old))
         (W.contents out.old) (W.contents out.new)) }
 
     // Without a request the input isn't read, nor where the words name a file, nor where a word of the
@@ -126,16 +126,16 @@ fn do_asked<
 >(asked: Asked<'_>, rt: &T, alloc: Global, files: &F, input: &mut R, out: &mut W, err: &mut X) -> u8
     ensures status { result ≤ 4 }
     ensures done { result ≡ 0 → IsDone D D.digest_of asked.entry.request (F.holds files.now)
-        (given (name_of asked.entry.file) (F.holds files.now) (R.remaining input.old))
+        (file_or_input (name_of asked.entry.file) (F.holds files.now) (R.remaining input.old))
         (W.contents out.old) (W.contents out.new) }
     ensures faulty { result ≡ 1 → IsRefused D Global D.digest_of asked.entry.request
         (F.holds files.now)
-        (given (name_of asked.entry.file) (F.holds files.now) (R.remaining input.old)) }
+        (file_or_input (name_of asked.entry.file) (F.holds files.now) (R.remaining input.old)) }
     ensures usage { (result ≡ 2) → ⊥ }
     ensures nothing { (result ≡ 1) ⊎ (result ≡ 2)
         → Keeps (W.contents out.old) (W.contents out.new) }
     ensures beginning { IsBegun D D.digest_of asked.entry.request (F.holds files.now)
-        (given (name_of asked.entry.file) (F.holds files.now) (R.remaining input.old))
+        (file_or_input (name_of asked.entry.file) (F.holds files.now) (R.remaining input.old))
         (W.contents out.old) (W.contents out.new) }
     ensures on_file { IsSome asked.entry.file → input.new ≡ input.old }
     ensures faulty_word { HasFaultyWord asked.entry.request → input.new ≡ input.old }

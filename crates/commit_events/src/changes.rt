@@ -40,12 +40,12 @@ pub(crate) fn test_changes<D: Digest, const B: u8, A: Allocator + Copy>(
     let blocks = known_blocks::<D, A>(alloc, sections)?;
     match verify_inversion_blocks::<D, B, A>(alloc, before, after, &blocks, &changes) {
         Ok(()) => Ok(()),
-        Err(fault) => Err(told(fault, &sorted)),
+        Err(fault) => Err(event_fault(fault, &sorted)),
     }
 }
 
 /// What is to be said of a message whose operations, in the order of their keys, aren't shown.
-fn told(fault: ChangeFault, sorted: &[Placed<'_>]) -> EventFault
+fn event_fault(fault: ChangeFault, sorted: &[Placed<'_>]) -> EventFault
     ensures fault { event_fault_of result
         ≡ option_map (as_event_fault sorted.now) (change_fault_of fault) }
     ensures plain { HasNoWant result }

@@ -18,6 +18,6 @@ open_status _ = 4
 
 -- What a command reads where its words name this file, or none: what the file holds, as far as that is
 -- known, and else the input.
-abbrev pub given : Option (List ℕ) → (List ℕ → Option (List ℕ)) → Option (List ℕ) → Option (List ℕ)
-given None holds input = input
-given (Some name) holds input = holds name
+abbrev pub file_or_input : Option (List ℕ) → (List ℕ → Option (List ℕ)) → Option (List ℕ) → Option (List ℕ)
+file_or_input None holds input = input
+file_or_input (Some name) holds input = holds name

@@ -2,7 +2,7 @@
 
 ghost use Rattle.std.specs.Prelude.{◌≡◌, ◌≤◌, IfOk, IfErr};
 ghost use Rattle.difference.specs.Differences.{IsWant};
-ghost use Rattle.difference.specs.Merged.{told, told_of};
+ghost use Rattle.difference.specs.Merged.{changes_told, told_of};
 ghost use Rattle.core_differences.specs.Between.{AreApart};
 ghost use Rattle.core_differences.specs.Spans.{AreTrue, IsShownBy, IsSpan};
 
@@ -40,7 +40,7 @@ pub fn prove_span<D: Digest, const B: u8, A: Allocator + Clone>(
     requires least { 1 ≤ B }
     ensures span { AreApart D.digest_of B old.now new.now
         → IfOk result (λ span. IsSpan D.digest_of B old.now new.now
-        (told span.changes.items) span.nodes.items) }
+        (changes_told span.changes.items) span.nodes.items) }
     ensures fault { AreApart D.digest_of B old.now new.now → IfErr result IsWant }
 {
     let found = match difference::<D, B, A>(alloc.clone()?, old, new) {
@@ -64,8 +64,8 @@ fn nodes_of<D: Digest, const B: u8, A: Allocator + Clone>(
 ) -> Result<Vec<Arc<Block<D, A>, A>, A>, DifferenceFault>
     requires least { 1 ≤ B }
     ensures nodes { IfOk result
-        (λ nodes. IsShownBy D.digest_of B core.now (told changes.now) nodes.items) }
-    ensures fault { AreTrue D.digest_of core.now (told changes.now) → IfErr result IsWant }
+        (λ nodes. IsShownBy D.digest_of B core.now (changes_told changes.now) nodes.items) }
+    ensures fault { AreTrue D.digest_of core.now (changes_told changes.now) → IfErr result IsWant }
 {
     let told = key_changes(alloc.clone()?, changes)?;
     if !are_key_changes(&told) {
@@ -83,7 +83,7 @@ fn key_changes<'k, A: Allocator>(
     alloc: A,
     changes: &'k [KeyDifference<A>],
 ) -> Result<Vec<KeyChange<'k>, A>, AllocError>
-    ensures { IfOk result (λ all. all.items ≡ told changes.now) }
+    ensures { IfOk result (λ all. all.items ≡ changes_told changes.now) }
 {
     let mut all = Vec::with_capacity(alloc, changes.len())?;
     for change in changes {

@@ -32,7 +32,7 @@ use Rattle.difference_laws.specs.Lines as lines
 use Rattle.difference_laws.specs.Laws.{AreReal, AreUnshared, HaveCompared, IsDifference, blocks_read}
 use Rattle.difference_laws.proofs.Compared.{trees-compared}
 use Rattle.difference.specs.Differences.{AreTold, EndsAt, IsDifferenceOf, IsReason, IsTold, IsUnended, IsWant}
-use Rattle.difference.specs.Merged.{told}
+use Rattle.difference.specs.Merged.{changes_told}
 use Rattle.difference.specs.Sides.{IsStopped}
 use Rattle.difference.specs.declared.outcome.Difference.{Difference}
 use Rattle.difference.specs.declared.outcome.KeyDifference.{KeyDifference}
@@ -330,24 +330,24 @@ module _ {D A : Type 0} (digest : List ℕ → List ℕ) (bits : ℕ) (fits : Is
     (gives : List ℕ → Option (Arc (List ℕ) A)) (old new : List ℕ) (d : Difference D A) where
   pub equal-told : old ≡ new → d.changes.items ≡ [] → d.come.items ≡ [] → d.go.items ≡ [] → (es fs : List Pair)
       → HasTree digest bits (bytes_given gives) old es → HasTree digest bits (bytes_given gives) new fs
-      → IsDifferenceOf digest bits es fs (told d.changes.items) (map arc_value d.come.items) d.go.items
+      → IsDifferenceOf digest bits es fs (changes_told d.changes.items) (map arc_value d.come.items) d.go.items
   equal-told same p q r es fs has_es has_fs =
-      subst (λ z. IsDifferenceOf digest bits es fs (told d.changes.items) (map arc_value d.come.items) z) (sym r)
-      (subst (λ (z : List (Arc (List ℕ) A)). IsDifferenceOf digest bits es fs (told d.changes.items) (map arc_value z) []) (sym q)
-      (subst (λ (z : List (KeyDifference A)). IsDifferenceOf digest bits es fs (told z) [] []) (sym p)
+      subst (λ z. IsDifferenceOf digest bits es fs (changes_told d.changes.items) (map arc_value d.come.items) z) (sym r)
+      (subst (λ (z : List (Arc (List ℕ) A)). IsDifferenceOf digest bits es fs (changes_told d.changes.items) (map arc_value z) []) (sym q)
+      (subst (λ (z : List (KeyDifference A)). IsDifferenceOf digest bits es fs (changes_told z) [] []) (sym p)
       (equal-trees digest bits fits gives old new same es fs has_es has_fs)))
 
   pub told-is : (a b : Side) → compared (nodes_given gives) (layer digest bits) old new ≡ Ok (a, b)
-      → AreTold digest a b (told d.changes.items) (map arc_value d.come.items) d.go.items
+      → AreTold digest a b (changes_told d.changes.items) (map arc_value d.come.items) d.go.items
       → IsTold digest (compared (nodes_given gives) (layer digest bits) old new) d
   told-is a b e t = record { old = a; new = b; is = e; holds = t }
 
   pub told-of-trees : (a b : Side) → compared (nodes_given gives) (layer digest bits) old new ≡ Ok (a, b)
-      → AreTold digest a b (told d.changes.items) (map arc_value d.come.items) d.go.items → (es fs : List Pair)
+      → AreTold digest a b (changes_told d.changes.items) (map arc_value d.come.items) d.go.items → (es fs : List Pair)
       → HasTree digest bits (bytes_given gives) old es → HasTree digest bits (bytes_given gives) new fs
-      → IsDifferenceOf digest bits es fs (told d.changes.items) (map arc_value d.come.items) d.go.items
+      → IsDifferenceOf digest bits es fs (changes_told d.changes.items) (map arc_value d.come.items) d.go.items
   told-of-trees a b e t es fs has_es has_fs =
-      told-trees digest bits fits gives old new es fs has_es has_fs (told d.changes.items) (map arc_value d.come.items) d.go.items
+      told-trees digest bits fits gives old new es fs has_es has_fs (changes_told d.changes.items) (map arc_value d.come.items) d.go.items
       (told-is a b e t)
 
 pub asked-in-all : (r r0 x y p q m n : ℕ) → r ≡ r0 + (x + y) → x ≡ max 1 p → y ≡ max 1 q → m ≡ q → n ≡ p

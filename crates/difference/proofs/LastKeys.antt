@@ -18,7 +18,7 @@ use Rattle.change_laws.specs.Told.{KeyChange}
 use Rattle.difference_laws.specs.Laws.{IsDifference, front}
 use Rattle.difference_laws.proofs.Merging.{merges-in_front}
 use Rattle.difference.specs.Keys.{key_in}
-use Rattle.difference.specs.Merged.{AreLast, HasLast, IsLastOf, greatest_of, pair_of, pairs_in, told, told_of}
+use Rattle.difference.specs.Merged.{AreLast, HasLast, IsLastOf, greatest_of, pair_of, pairs_in, changes_told, told_of}
 use Rattle.difference.specs.declared.line.Row.{Row}
 use Rattle.difference.specs.declared.merging.Greatest.{Greatest}
 use Rattle.difference.specs.declared.outcome.KeyDifference.{KeyDifference}
@@ -324,16 +324,16 @@ merged-all old new cs m =
     subst (λ z. IsDifference cs old z) (sym m.new_is) (subst (λ z. IsDifference cs z m.new_done) (sym m.old_is) m.is)
 
 pub told-more : {A : Type 0} (cs : List (KeyDifference A)) (c : KeyDifference A)
-    → told (reverse (cs ++ (c ∷ []))) ≡ told_of c ∷ told (reverse cs)
-told-more cs c = ap told (reverse-append cs (c ∷ []))
+    → changes_told (reverse (cs ++ (c ∷ []))) ≡ told_of c ∷ changes_told (reverse cs)
+told-more cs c = ap changes_told (reverse-append cs (c ∷ []))
 
 pub same-change : {A : Type 0} (l : Greatest A) (c : KeyDifference A) → c.key.items ≡ key_in l.key → c.before ≡ l.before
     → c.after ≡ l.after → told_of c ≡ greatest_of l
 same-change l c p q r = λ i. record { key = p i; before = q i; after = r i }
 
 pub told-next : {A : Type 0} (cs : List (KeyDifference A)) (l : Greatest A) (c : KeyDifference A) → told_of c ≡ greatest_of l
-    → told (reverse (cs ++ (c ∷ []))) ≡ greatest_of l ∷ told (reverse cs)
-told-next cs l c same = told-more cs c ∙ ap (λ k. k ∷ told (reverse cs)) same
+    → changes_told (reverse (cs ++ (c ∷ []))) ≡ greatest_of l ∷ changes_told (reverse cs)
+told-next cs l c same = told-more cs c ∙ ap (λ k. k ∷ changes_told (reverse cs)) same
 
 pub at-order : {A : Type 0} (rs ss us vs : List (Row A)) (o p : Ordering) → AreLast (pairs_in rs) (pairs_in ss) o → rs ≡ us
     → ss ≡ vs → o ≡ p → AreLast (pairs_in us) (pairs_in vs) p

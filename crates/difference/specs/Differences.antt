@@ -15,7 +15,7 @@ use Rattle.change_laws.specs.Told.{KeyChange, undone}
 use Rattle.difference_laws.specs.Lines.{Side, Stop, NotShown, links_in, pairs_of, compared}
 use Rattle.difference_laws.specs.Lines as lines
 use Rattle.difference_laws.specs.Laws.{IsDifference, blocks_read}
-use Rattle.difference.specs.Merged.{told}
+use Rattle.difference.specs.Merged.{changes_told}
 use Rattle.difference.specs.declared.outcome.Difference.{Difference}
 use Rattle.difference.specs.declared.faults.DifferenceFault.{DifferenceFault}
 use Rattle.difference.specs.declared.faults.DifferenceFault.TheVariants.{BlockMissing, BadNode, TooDeep, NotTree, NoMemory}
@@ -81,7 +81,7 @@ pub record EndsAt (step : Result (Side × Side) Stop) (P : Side → Side → Typ
 -- both trees opened come to what is told
 abbrev pub IsTold : {D A : Type 0} → (List ℕ → List ℕ) → Result (Side × Side) Stop → Difference D A → Type 0
 IsTold digest step d =
-    EndsAt step (λ a b. AreTold digest a b (told d.changes.items) (map arc_value d.come.items) d.go.items)
+    EndsAt step (λ a b. AreTold digest a b (changes_told d.changes.items) (map arc_value d.come.items) d.go.items)
 
 -- Why there is no difference: the source lacks just the block at which opening stops, or gives one that is no node; a link
 -- stands below layer 0; a link stands twice on one layer, or keys don't ascend; or memory was wanted.
@@ -105,7 +105,7 @@ module _ {D A : Type 0} (digest : List ℕ → List ℕ) (bits : ℕ) (gives : L
   -- of two trees it is the difference
   abbrev pub IsCompared : Type 0
   IsCompared = OfTrees digest bits gives old new (λ es fs. IfOk result (λ d.
-      IsDifferenceOf digest bits es fs (told d.changes.items) (map arc_value d.come.items) d.go.items))
+      IsDifferenceOf digest bits es fs (changes_told d.changes.items) (map arc_value d.come.items) d.go.items))
 
   -- over any source it is what opening comes to, or the reason why that stops
   abbrev pub IsOpened : Type 0

@@ -29,8 +29,8 @@ told_of c = record { key = c.key.items; before = c.before; after = c.after }
 abbrev pub greatest_of : {A : Type 0} → Greatest A → KeyChange
 greatest_of l = record { key = key_in l.key; before = l.before; after = l.after }
 
-abbrev pub told : {A : Type 0} → List (KeyDifference A) → List KeyChange
-told cs = map told_of cs
+abbrev pub changes_told : {A : Type 0} → List (KeyDifference A) → List KeyChange
+changes_told cs = map told_of cs
 
 -- the list with the greater last key has one, and both have where they are the same
 abbrev pub HasLast : ℕ → ℕ → Ordering → Type 0

@@ -9,7 +9,7 @@ ghost use Rattle.lookups.specs.Steps.{nodes_given};
 ghost use Rattle.difference_laws.specs.Lines.{compared, level};
 ghost use Rattle.difference.specs.Sides.{IsStopped, shapes_in};
 ghost use Rattle.difference.specs.Starts.{HasBegun, asked_by, side_in};
-ghost use Rattle.difference.specs.Merged.{told};
+ghost use Rattle.difference.specs.Merged.{changes_told};
 ghost use Rattle.difference.specs.Missing.{IfMissing, most_read, needed_by, needed_last};
 ghost use Rattle.difference.specs.Differences.{AreTold, IsCompared, IsLack, IsNoFault, IsNothing, IsOpened, IsUnended, asked_for};
 
@@ -183,7 +183,7 @@ fn tell<D: Digest, A: Allocator + Clone>(
     new: Side<'_, D, A>,
 ) -> Result<Difference<D, A>, DifferenceFault>
     ensures told { IfOk result (λ d. AreTold D.digest_of (side_in old.entry) (side_in new.entry)
-        (told d.changes.items) (map arc_value d.come.items) d.go.items) }
+        (changes_told d.changes.items) (map arc_value d.come.items) d.go.items) }
     ensures lengths { IfOk result (λ d. (length d.come.items ≡ length new.entry.read.items)
         × (length d.go.items ≡ length old.entry.read.items)) }
     ensures fault { IfErr result (IsUnended (side_in old.entry) (side_in new.entry)) }

@@ -3,7 +3,7 @@
 ghost use Rattle.std.specs.Prelude.{◌≡◌, ◌↔◌, ◌+◌, ◌<◌, ◌∷◌, [], length, IsTrue, IfSome, IfNone, IfOk, IfErr};
 ghost use Rattle.edit_laws.specs.Pairs.{Ascending};
 ghost use Rattle.difference_laws.specs.Laws.{IsDifference};
-ghost use Rattle.difference.specs.Merged.{AreLast, IsLastOf, IsUnsorted, greatest_of, pairs_in, told};
+ghost use Rattle.difference.specs.Merged.{AreLast, IsLastOf, IsUnsorted, greatest_of, pairs_in, changes_told};
 
 use crate::faults::DifferenceFault;
 use crate::keys::Key;
@@ -28,7 +28,7 @@ pub(crate) fn merged<A: Allocator + Clone>(
     old: Vec<Row<A>, A>,
     new: Vec<Row<A>, A>,
 ) -> Result<Vec<KeyDifference<A>, A>, DifferenceFault>
-    ensures changes { IfOk result (λ changes. IsDifference (told changes.items)
+    ensures changes { IfOk result (λ changes. IsDifference (changes_told changes.items)
         (pairs_in old.items) (pairs_in new.items)) }
     ensures ascending { IfOk result (λ changes. Ascending (pairs_in old.items)
         × Ascending (pairs_in new.items)) }

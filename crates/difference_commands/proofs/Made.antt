@@ -3,7 +3,7 @@ use Rattle.std.proofs.Common.{◌≡◌, ℕ, List, map, sym, ap, subst, ◌∙�
 use Rattle.std.specs.Arc.{arc_value}
 use Rattle.std.specs.Prelude.{Option, option_map, Result, Ok, Err, IfErr, IfOk, IsErrAnd}
 use Rattle.difference.specs.Differences.{IsDifferenceOf}
-use Rattle.difference.specs.Merged.{told}
+use Rattle.difference.specs.Merged.{changes_told}
 use Rattle.spec.specs.Blocks.{root}
 use Rattle.spec.specs.Tree.{Pair}
 use Rattle.difference_commands.specs.Files.{IsContents, said_commit, said_pairs, said_records}
@@ -76,23 +76,23 @@ module _ (digest : List ℕ → List ℕ) (es fs : List Pair) where
 module _ {D A : Type 0} (digest : List ℕ → List ℕ) (command : ChangesCommand) (commit : Option (List ℕ)) (old new : List Entry)
     (compared : Compared D A)
     (differ : IsDifferenceOf digest 2 (pairs_in old) (pairs_in new)
-    (told compared.found.changes.items) (map arc_value compared.found.come.items) compared.found.go.items)
+    (changes_told compared.found.changes.items) (map arc_value compared.found.come.items) compared.found.go.items)
     (root_is : compared.root ≡ root digest 2 (pairs_in new)) where
   abbrev coming-at : List ℕ → Coming
   coming-at r = record { commit = commit; root = r; nodes = map arc_value compared.found.come.items }
 
   pub of-compared : (lines : List ℕ) (sliced : Option (List ℕ))
-      → lines ≡ lines_text command.values (records_in old) (records_in new) (told compared.found.changes.items)
-      → sliced ≡ slice_if command.blocks digest (coming commit compared) (records_in new) (told compared.found.changes.items)
+      → lines ≡ lines_text command.values (records_in old) (records_in new) (changes_told compared.found.changes.items)
+      → sliced ≡ slice_if command.blocks digest (coming commit compared) (records_in new) (changes_told compared.found.changes.items)
       → AreTexts digest command commit (pairs_in old) (pairs_in new) (records_in old) (records_in new) lines sliced
   of-compared lines sliced lines-are slice-is = record {
-    changes = told compared.found.changes.items;
+    changes = changes_told compared.found.changes.items;
     differ = differ.differ;
     nodes = map arc_value compared.found.come.items;
     nodes_are = record { are = differ.come_is; once = differ.come_once };
     lines_are = lines-are;
     slice_is = slice-is
-        ∙ ap (λ (r : List ℕ). slice_if command.blocks digest (coming-at r) (records_in new) (told compared.found.changes.items)) root_is;
+        ∙ ap (λ (r : List ℕ). slice_if command.blocks digest (coming-at r) (records_in new) (changes_told compared.found.changes.items)) root_is;
   }
 
 -- ---- of what both files say, whose entries these are

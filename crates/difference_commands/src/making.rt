@@ -1,7 +1,7 @@
 //! What is told of two files.
 ghost use Rattle.std.specs.Prelude.{◌≡◌, true, IfOk, IfErr, option_map};
 ghost use Rattle.spec.specs.NodeFormat.{is_ascending};
-ghost use Rattle.difference.specs.Merged.{told};
+ghost use Rattle.difference.specs.Merged.{changes_told};
 ghost use Rattle.difference_commands.specs.Files.{said_commit, said_pairs};
 ghost use Rattle.difference_commands.specs.Slices.{coming};
 ghost use Rattle.difference_commands.specs.Texts.{lines_text, slice_if};
@@ -109,10 +109,10 @@ fn told_of<D: Digest, A: Allocator + Copy>(
     requires old { is_ascending (pairs_in old.now) ≡ true }
     requires new { is_ascending (pairs_in new.now) ≡ true }
     ensures lines { IfOk result (λ t. t.lines.items ≡ lines_text command.values
-        (records_in old.now) (records_in new.now) (told compared.now.found.changes.items)) }
+        (records_in old.now) (records_in new.now) (changes_told compared.now.found.changes.items)) }
     ensures slice { IfOk result (λ t. option_map (λ bytes. bytes.items) t.slice
         ≡ slice_if command.blocks D.digest_of (coming (said_commit after.now) compared.now)
-        (records_in new.now) (told compared.now.found.changes.items)) }
+        (records_in new.now) (changes_told compared.now.found.changes.items)) }
 {
     let lines = lines_told(command.values, alloc, &compared.found.changes, old, new)?;
     let slice = slice_told::<D, A>(command.blocks, alloc, after, compared, new)?;
@@ -130,7 +130,7 @@ fn lines_told<A: Allocator + Copy>(
     requires old { is_ascending (pairs_in old.now) ≡ true }
     requires new { is_ascending (pairs_in new.now) ≡ true }
     ensures { IfOk result (λ text. text.items
-        ≡ lines_text values (records_in old.now) (records_in new.now) (told changes.now)) }
+        ≡ lines_text values (records_in old.now) (records_in new.now) (changes_told changes.now)) }
 {
     match values {
         Values::Cids => lines_of(alloc, changes),
@@ -149,7 +149,7 @@ fn slice_told<D: Digest, A: Allocator + Copy>(
     requires { is_ascending (pairs_in new.now) ≡ true }
     ensures { IfOk result (λ slice. option_map (λ bytes. bytes.items) slice
         ≡ slice_if blocks D.digest_of (coming (said_commit contents.now) compared.now)
-        (records_in new.now) (told compared.now.found.changes.items)) }
+        (records_in new.now) (changes_told compared.now.found.changes.items)) }
 {
     if !blocks {
         return Ok(None);

@@ -4,7 +4,7 @@ ghost use Rattle.std.specs.Arc.{arc_value};
 ghost use Rattle.std.specs.List.{flat_map};
 ghost use Rattle.spec.specs.Car.{section};
 ghost use Rattle.spec.specs.NodeFormat.{is_ascending};
-ghost use Rattle.difference.specs.Merged.{told};
+ghost use Rattle.difference.specs.Merged.{changes_told};
 ghost use Rattle.difference_commands.specs.Slices.{coming};
 ghost use Rattle.difference_commands.specs.Texts.{beginning, record_section, record_sections, slice};
 ghost use Rattle.difference_commands.specs.Views.{pairs_in, records_in};
@@ -30,7 +30,7 @@ pub(crate) fn slice_of<D: Digest, A: Allocator + Copy>(
     requires { is_ascending (pairs_in new.now) ≡ true }
     ensures { IfOk result (λ bytes. bytes.items ≡ slice D.digest_of
         (coming (option_map (λ bytes. bytes.items) commit.now) compared.now) (records_in new.now)
-        (told compared.now.found.changes.items)) }
+        (changes_told compared.now.found.changes.items)) }
 {
     let mut out = Vec::new(alloc);
     push_beginning::<D, A>(&mut out, commit, &compared.root)?;
@@ -80,7 +80,7 @@ fn push_records<D: Digest, A: Allocator>(
 ) -> Result<(), AllocError>
     requires { is_ascending (pairs_in new.now) ≡ true }
     ensures { OnOk result (out.new.items ≡ out.old.items
-        ++ record_sections D.digest_of (records_in new.now) (told changes.now)) }
+        ++ record_sections D.digest_of (records_in new.now) (changes_told changes.now)) }
 {
     for change in changes {
         push_record_section::<D, A>(out, record_of(new, &change.key))?;

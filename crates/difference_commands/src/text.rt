@@ -3,7 +3,7 @@ ghost use Rattle.std.specs.Prelude.{◌≡◌, ◌++◌, true, IfOk, OnOk, optio
 ghost use Rattle.std.specs.List.{flat_map};
 ghost use Rattle.spec.specs.Blocks.{value_of};
 ghost use Rattle.spec.specs.NodeFormat.{is_ascending};
-ghost use Rattle.difference.specs.Merged.{told, told_of};
+ghost use Rattle.difference.specs.Merged.{changes_told, told_of};
 ghost use Rattle.difference_commands.specs.Texts.{change_line, change_line_with, change_words, record_words};
 ghost use Rattle.difference_commands.specs.Views.{pairs_in, records_in};
 
@@ -18,7 +18,7 @@ pub(crate) fn lines_of<A: Allocator + Copy>(
     alloc: A,
     changes: &[KeyDifference<A>],
 ) -> Result<Vec<u8, A>, AllocError>
-    ensures { IfOk result (λ text. text.items ≡ flat_map change_line (told changes.now)) }
+    ensures { IfOk result (λ text. text.items ≡ flat_map change_line (changes_told changes.now)) }
 {
     let mut text = Vec::new(alloc);
     push_changes(&mut text, changes)?;
@@ -35,7 +35,7 @@ pub(crate) fn lines_with_records<A: Allocator + Copy>(
     requires old { is_ascending (pairs_in old.now) ≡ true }
     requires new { is_ascending (pairs_in new.now) ≡ true }
     ensures { IfOk result (λ text. text.items ≡ flat_map
-        (change_line_with (records_in old.now) (records_in new.now)) (told changes.now)) }
+        (change_line_with (records_in old.now) (records_in new.now)) (changes_told changes.now)) }
 {
     let mut text = Vec::new(alloc);
     push_changes_with(alloc, &mut text, changes, old, new)?;
@@ -48,7 +48,7 @@ fn push_changes<A: Allocator>(
     changes: &[KeyDifference<A>],
 ) -> Result<(), AllocError>
     ensures { OnOk result
-        (text.new.items ≡ text.old.items ++ flat_map change_line (told changes.now)) }
+        (text.new.items ≡ text.old.items ++ flat_map change_line (changes_told changes.now)) }
 {
     for change in changes {
         push_words(text, change)?;
@@ -69,7 +69,7 @@ fn push_changes_with<A: Allocator + Copy>(
     requires new { is_ascending (pairs_in new.now) ≡ true }
     ensures { OnOk result (text.new.items ≡ text.old.items
         ++ flat_map (change_line_with (records_in old.now) (records_in new.now))
-        (told changes.now)) }
+        (changes_told changes.now)) }
 {
     for change in changes {
         push_words(text, change)?;

@@ -10,7 +10,7 @@ ghost use Rattle.spec.specs.Tree.{Pair};
 ghost use Rattle.lookups.specs.Maps.{first_of};
 ghost use Rattle.lookups.specs.Trees.{bytes_given};
 ghost use Rattle.difference.specs.Differences.{IsDifferenceOf, OfTrees};
-ghost use Rattle.difference.specs.Merged.{told};
+ghost use Rattle.difference.specs.Merged.{changes_told};
 ghost use Rattle.difference_commands.specs.Trees.{IsBuiltOf, IsClashAmong, IsClashBetween, is_given};
 ghost use Rattle.difference_commands.specs.Views.{pairs_in};
 ghost use Rattle.difference_commands.specs.declared.trees.TreesFault.TheVariants as faults;
@@ -58,7 +58,7 @@ pub(crate) fn difference_of<D: Digest, A: Allocator + Copy>(
     requires new { is_ascending_of (pairs_in new.now) ≡ true }
     ensures difference { IfOk result (λ c. IsDifferenceOf D.digest_of 2
         (pairs_in old.now) (pairs_in new.now)
-        (told c.found.changes.items) (map arc_value c.found.come.items) c.found.go.items) }
+        (changes_told c.found.changes.items) (map arc_value c.found.come.items) c.found.go.items) }
     ensures root { IfOk result (λ c. c.root ≡ root D.digest_of 2 (pairs_in new.now)) }
     ensures fault { IfErr result
         (IsClashBetween D.digest_of (pairs_in old.now) (pairs_in new.now)) }
@@ -106,7 +106,7 @@ fn compare_trees<D: Digest, A: Allocator + Copy>(
 ) -> Result<Difference<D, A>, TreesFault>
     ensures difference { (es fs : List Pair) → IsBuiltOf D.digest_of es before
         → IsBuiltOf D.digest_of fs after → IfOk result (λ d. IsDifferenceOf D.digest_of 2 es fs
-        (told d.changes.items) (map arc_value d.come.items) d.go.items) }
+        (changes_told d.changes.items) (map arc_value d.come.items) d.go.items) }
     ensures fault { (es fs : List Pair) → IsBuiltOf D.digest_of es before
         → IsBuiltOf D.digest_of fs after → IfErr result (IsClashBetween D.digest_of es fs) }
 {
@@ -130,7 +130,7 @@ fn compare_blocks<D: Digest, A: Allocator + Copy>(
 ) -> Result<Difference<D, A>, TreesFault>
     ensures difference { OfTrees D.digest_of 2 (first_of D.digest_of blocks.now) old new
         (λ es fs. IfOk result (λ d. IsDifferenceOf D.digest_of 2 es fs
-        (told d.changes.items) (map arc_value d.come.items) d.go.items)) }
+        (changes_told d.changes.items) (map arc_value d.come.items) d.go.items)) }
     ensures given { OnOk result (HasBlocks D.digest_of
         (bytes_given (first_of D.digest_of blocks.now)) (map arc_value blocks.now)) }
     ensures fault { IfErr result (IsClashAmong D.digest_of (map arc_value blocks.now)) }

@@ -3,11 +3,10 @@
 ghost use Rattle.std.specs.Prelude.{◌≡◌};
 ghost use Rattle.spec.specs.Blocks.{pairs, value_of as value_of_key};
 ghost use Rattle.spec.specs.States.{records};
-ghost use Rattle.change_laws.specs.Verdict.{is_same as is_same_of};
 ghost use Rattle.difference_taking.specs.Taking.{had_but, had_in};
 
 use cid::{Cid, Digest};
-use key_changes::KeyChange;
+use key_changes::{KeyChange, is_same};
 use repo::Core;
 use std::alloc::Allocator;
 
@@ -34,16 +33,5 @@ fn value_of<D: Digest, const B: u8, A: Allocator>(core: &Core<D, B, A>, key: &[u
     match core.get(key) {
         Some(record) => Some(record.cid()),
         None => None,
-    }
-}
-
-/// Whether two values are the same.
-fn is_same(value: Option<Cid>, told: Option<Cid>) -> bool
-    ensures { result ≡ is_same_of value told }
-{
-    match (value, told) {
-        (None, None) => true,
-        (Some(value), Some(told)) => value == told,
-        _ => false,
     }
 }

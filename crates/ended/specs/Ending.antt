@@ -13,8 +13,8 @@ pub record EndedView : Type 0 where
   pub seen : List ℕ
 
 -- the notices of a writer's accepted calls, in order: those that it sent, and those that it kept
-abbrev pub told : PassView → List Notice → List Notice
-told pass kept = pass.sent ++ kept
+abbrev pub notices_told : PassView → List Notice → List Notice
+notices_told pass kept = pass.sent ++ kept
 
 -- the writer is one at this queue, and has a number of accepted writes for each of so many repositories
 pub record IsEndedAt (queue_id : QueueId) (repos : ℕ) (e : EndedView) : Type 0 where
@@ -45,4 +45,4 @@ kept_by (e ∷ es) writer = if e.pass.writer == writer then e.kept else kept_by 
 abbrev pub told_by : List EndedView → ℕ → List Notice
 told_by [] writer = []
 told_by (e ∷ es) writer =
-    if e.pass.writer == writer then told e.pass e.kept else told_by es writer
+    if e.pass.writer == writer then notices_told e.pass e.kept else told_by es writer

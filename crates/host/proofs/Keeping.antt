@@ -5,7 +5,7 @@ use Rattle.notices.specs.declared.notice.Notice.{Notice}
 use Rattle.notices.specs.Numbering.{NumberedFrom}
 use Rattle.notices.specs.Views.{PassView, SenderView, WasFull, sent_one, refused_once}
 use Rattle.std.proofs.Common.{ℕ}
-use Rattle.ended.specs.Ending.{told}
+use Rattle.ended.specs.Ending.{notices_told}
 use Rattle.host.specs.Views.{IsOrderly}
 
 -- one more has the next number
@@ -29,7 +29,7 @@ orderly_rest pass n rest h = record {
   numbered = subst (λ k. NumberedFrom k rest) (let e = length-append pass.sent (n ∷ []) in omega arith) h.numbered.1;
 }
 
-pub told_rest : (pass : PassView) (n : Notice) (rest : List Notice) → told (sent_one pass n) rest ≡ told pass (n ∷ rest)
+pub told_rest : (pass : PassView) (n : Notice) (rest : List Notice) → notices_told (sent_one pass n) rest ≡ notices_told pass (n ∷ rest)
 told_rest pass n rest = append_assoc pass.sent (n ∷ []) rest
 
 -- a queue that gave a notice back was full, and has counted that once

@@ -6,7 +6,7 @@ use Rattle.batches.specs.declared.stamp.Stamp.{Stamp}
 use Rattle.batches.specs.Write.{Write}
 use Rattle.notices.specs.Views.{WasFull}
 use Rattle.notices.specs.declared.notice.Notice.{Notice}
-use Rattle.ended.specs.Ending.{told}
+use Rattle.ended.specs.Ending.{notices_told}
 use Rattle.host.specs.declared.fault.HostFault.{HostFault}
 use Rattle.host.specs.declared.fault.HostFault.TheVariants as faults
 use Rattle.host.specs.Views.{HostView, WriterView, with_seen}
@@ -14,7 +14,7 @@ use Rattle.host.specs.Seeing.{IsAcceptance, IsRefusedSo, IsFound, IsListed, want
 
 -- the notices of a writer's accepted calls, in order
 abbrev pub told_by_writer : WriterView → List Notice
-told_by_writer w = told w.pass w.kept
+told_by_writer w = notices_told w.pass w.kept
 
 -- the number of the last accepted call is the greatest one
 abbrev pub HasNoNumber : WriterView → Type 0

@@ -1,13 +1,12 @@
 -- What is left of a node that is read pair by pair.
 use Rattle.std.specs.Prelude.{◌≡◌, ◌≤◌, ◌+◌, ◌-◌, ⊤, ℕ, suc, true, List, [], ◌∷◌, ◌++◌, length, take, drop, Option, Some, None}
 use Rattle.spec.specs.Tree.{Pair}
-use Rattle.spec.specs.NodeFormat.{Shape, LastLink, MoreLinks, first_link, are_keys_after}
+use Rattle.spec.specs.NodeFormat.{Shape, LastLink, MoreLinks, are_keys_after}
 use Rattle.node.specs.Contents.{Contents, last_key}
 use Rattle.node.specs.Gaps.{GapIn, rows_behind}
 use Rattle.node.specs.Rows.{Row}
 use Rattle.node.specs.Search.{gap_at}
 use Rattle.edit_laws.specs.Sources.{shape_from}
-use Rattle.rows.specs.Drafts.{onto}
 use Rattle.rows.specs.OldNodes.{linked, first_rows}
 
 -- the key of the pair before, the empty one before the first pair; the pairs that were read, and how many of them stand before
@@ -108,7 +107,3 @@ part_of from to rows = drop from (take to rows)
 -- the same of a node
 abbrev pub rows_between : ℕ → ℕ → Contents → List (Option (List ℕ) × Pair)
 rows_between from to node = linked (gap_at from node.left node.entries) (take (to - from) (drop from node.entries))
-
--- the link behind the first so many pairs of a node that is read
-abbrev pub link_behind : ℕ → Reading → Option (List ℕ)
-link_behind to r = first_link (onto (drop to r.passed) r.rest)

@@ -18,28 +18,28 @@ use Rattle.change_proofs.specs.declared.proving_fault.ProvingFault.TheVariants a
 use Rattle.buffers.specs.Answers.{IsHanded, parts_bytes}
 use Rattle.buffers.specs.Framing.{cid_or_none_at, with_values}
 use Rattle.tizulgech.specs.declared.verdicts.Direction.{Direction}
-use Rattle.tizulgech.specs.Changing.{allowed, both_told, told, told_of, proof_bytes, IsStepProven, IsStepProvenOf, IsStepSpelt, IsVerdictOver, IsVerified}
+use Rattle.tizulgech.specs.Changing.{allowed, both_told, paired_changes, told_of, proof_bytes, IsStepProven, IsStepProvenOf, IsStepSpelt, IsVerdictOver, IsVerified}
 use Rattle.tizulgech.specs.Inverting.{IsProven, IsProvenBy, IsProvenOf, IsSpelt}
 
 -- one more change behind the others
 pub told_next : (whole old new : List KeyChange) (c : KeyChange) (bs rest : List Change) (i : ℕ) (b a : Change)
     → i < length bs → i < length rest → new ≡ old ++ c ∷ []
     → c ≡ record { key = (slice_index_or bs i b).0; before = (slice_index_or bs i b).1; after = (slice_index_or rest i a).1 }
-    → whole ≡ old ++ told (drop i bs) (drop i rest) → whole ≡ new ++ told (drop (i + 1) bs) (drop (i + 1) rest)
+    → whole ≡ old ++ paired_changes (drop i bs) (drop i rest) → whole ≡ new ++ paired_changes (drop (i + 1) bs) (drop (i + 1) rest)
 told_next whole old new c bs rest i b a in_bs in_rest put is inv =
     let one : KeyChange = record { key = (slice_index_or bs i b).0; before = (slice_index_or bs i b).1; after = (slice_index_or rest i a).1 } in
-    let more : List KeyChange = told (drop (i + 1) bs) (drop (i + 1) rest) in
-    inv ∙ ap (λ (xs : List Change). old ++ told xs (drop i rest)) (drop_more bs i b in_bs)
-    ∙ ap (λ (ys : List Change). old ++ told (slice_index_or bs i b ∷ drop (i + 1) bs) ys) (drop_more rest i a in_rest)
+    let more : List KeyChange = paired_changes (drop (i + 1) bs) (drop (i + 1) rest) in
+    inv ∙ ap (λ (xs : List Change). old ++ paired_changes xs (drop i rest)) (drop_more bs i b in_bs)
+    ∙ ap (λ (ys : List Change). old ++ paired_changes (slice_index_or bs i b ∷ drop (i + 1) bs) ys) (drop_more rest i a in_rest)
     ∙ sym (append_assoc old (one ∷ []) more)
     ∙ ap (λ (x : KeyChange). (old ++ x ∷ []) ++ more) (sym is)
     ∙ ap (λ (front : List KeyChange). front ++ more) (sym put)
 
 -- where there are no more
 pub told_done : (whole old : List KeyChange) (bs rest : List Change) (i : ℕ) → length bs ≤ i
-    → whole ≡ old ++ told (drop i bs) (drop i rest) → old ≡ whole
+    → whole ≡ old ++ paired_changes (drop i bs) (drop i rest) → old ≡ whole
 told_done whole old bs rest i past inv =
-    sym (inv ∙ ap (λ (xs : List Change). old ++ told xs (drop i rest)) (drop_of_length-le bs past) ∙ append-nil old)
+    sym (inv ∙ ap (λ (xs : List Change). old ++ paired_changes xs (drop i rest)) (drop_of_length-le bs past) ∙ append-nil old)
 
 -- ---- where keys, or values beside them, are none
 
@@ -62,16 +62,16 @@ pub uneven : (keys : Option (List (List ℕ))) (parts : List (List ℕ)) (before
     → Some bs ≡ with_values cid_or_none_at parts befores → Some rest ≡ with_values cid_or_none_at parts afters
     → nat_eq (length bs) (length rest) ≡ false → None ≡ both_told keys befores afters
 uneven keys parts befores afters bs rest e b a n =
-    sym (ap (λ (t : Bool). if t then Some (told bs rest) else None) n)
+    sym (ap (λ (t : Bool). if t then Some (paired_changes bs rest) else None) n)
     ∙ ap (told_of (Some bs)) a ∙ ap (λ (x : Option (List Change)). told_of x (with_values cid_or_none_at parts afters)) b
     ∙ ap (λ (k : Option (List (List ℕ))). both_told k befores afters) e
 
 pub even : (keys : Option (List (List ℕ))) (parts : List (List ℕ)) (befores afters : List ℕ) (bs rest : List Change) (cs : List KeyChange)
     → Some parts ≡ keys
     → Some bs ≡ with_values cid_or_none_at parts befores → Some rest ≡ with_values cid_or_none_at parts afters
-    → nat_eq (length bs) (length rest) ≡ true → cs ≡ told bs rest → Some cs ≡ both_told keys befores afters
+    → nat_eq (length bs) (length rest) ≡ true → cs ≡ paired_changes bs rest → Some cs ≡ both_told keys befores afters
 even keys parts befores afters bs rest cs e b a n is =
-    ap Some is ∙ sym (ap (λ (t : Bool). if t then Some (told bs rest) else None) n)
+    ap Some is ∙ sym (ap (λ (t : Bool). if t then Some (paired_changes bs rest) else None) n)
     ∙ ap (told_of (Some bs)) a ∙ ap (λ (x : Option (List Change)). told_of x (with_values cid_or_none_at parts afters)) b
     ∙ ap (λ (k : Option (List (List ℕ))). both_told k befores afters) e
 

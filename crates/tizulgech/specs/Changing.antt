@@ -19,15 +19,15 @@ use Rattle.tizulgech.specs.declared.verdicts.Direction.TheVariants.{Forward, Bac
 
 -- ---- changes as they are given: keys, the value of each before the changes, and after them
 
-abbrev pub told : List Change → List Change → List KeyChange
-told [] afters = []
-told (b ∷ bs) [] = []
-told (b ∷ bs) (a ∷ rest) = record { key = b.0; before = b.1; after = a.1 } ∷ told bs rest
+abbrev pub paired_changes : List Change → List Change → List KeyChange
+paired_changes [] afters = []
+paired_changes (b ∷ bs) [] = []
+paired_changes (b ∷ bs) (a ∷ rest) = record { key = b.0; before = b.1; after = a.1 } ∷ paired_changes bs rest
 
 abbrev pub told_of : Option (List Change) → Option (List Change) → Option (List KeyChange)
 told_of None afters = None
 told_of (Some bs) None = None
-told_of (Some bs) (Some rest) = if nat_eq (length bs) (length rest) then Some (told bs rest) else None
+told_of (Some bs) (Some rest) = if nat_eq (length bs) (length rest) then Some (paired_changes bs rest) else None
 
 abbrev pub both_told : Option (List (List ℕ)) → List ℕ → List ℕ → Option (List KeyChange)
 both_told keys befores afters = told_of (beside_parts cid_or_none_at keys befores) (beside_parts cid_or_none_at keys afters)

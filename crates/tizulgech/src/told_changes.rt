@@ -4,7 +4,7 @@ ghost use Rattle.std.specs.Prelude.{◌≡◌, length, true, option_map, IfOk, I
 ghost use Rattle.key_changes.specs.Keyed.{are_changes as are_changes_of};
 ghost use Rattle.change_laws.specs.Told.{undone as undone_of};
 ghost use Rattle.buffers.specs.Framing.{cut};
-ghost use Rattle.tizulgech.specs.Changing.{both_told, told, told_in, IsVerdictTold};
+ghost use Rattle.tizulgech.specs.Changing.{both_told, paired_changes, told_in, IsVerdictTold};
 
 use crate::codes::{BAD_NODE, MISSING, NO_MEMORY, NOT_TREE, TOO_DEEP, tell_node};
 use crate::edits::changes_of;
@@ -99,7 +99,7 @@ fn key_changes<'k>(
     afters: &[Change<'k>],
 ) -> Result<Vec<KeyChange<'k>>, AllocError>
     requires { length befores.now ≡ length afters.now }
-    ensures { IfOk result (λ changes. changes.items ≡ told befores.now afters.now) }
+    ensures { IfOk result (λ changes. changes.items ≡ paired_changes befores.now afters.now) }
 {
     let mut changes = Vec::with_capacity(alloc, befores.len())?;
     let mut place = 0;

@@ -13,14 +13,14 @@ use Rattle.edit_laws.specs.Uses.{uses}
 use Rattle.batch_laws.specs.Batch.{Change, changed, AreAscending}
 use Rattle.batch_laws.specs.Previous.{values}
 use Rattle.batch_laws.specs.Collecting.{with_cids}
-use Rattle.batch_laws.specs.Uses.{given, records_come, cids_gone}
+use Rattle.batch_laws.specs.Uses.{present_values, records_come, cids_gone}
 
 -- the values of changed pairs, with the old ones of the changed keys, are the values of the pairs
 -- with those that the changes bring: each as often
 abbrev pub ValuesBalance : Type 0
 ValuesBalance = (cs : List Change) (es : List Pair) → AreAscending cs
     → is_sorted (slice_cmp nat_cmp) es ≡ true → (mark : List ℕ → List ℕ) (c : List ℕ)
-    → count c (map mark (record_blocks (changed cs es))) + count c (map mark (given (values cs es)))
+    → count c (map mark (record_blocks (changed cs es))) + count c (map mark (present_values (values cs es)))
     ≡ count c (map mark (record_blocks es)) + count c (map mark (records_come cs))
 
 -- changes at once of a repository whose blocks a source has: another source has what the first one

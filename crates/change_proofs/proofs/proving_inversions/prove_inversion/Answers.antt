@@ -32,7 +32,7 @@ pub returns-in-Err-clause-fault : goal.returns-in-Err-clause-fault
 returns-in-Err-clause-fault g c =
     let digest = g.D.Digest.digest_of in
     let es = pairs digest (records c.args.core.now) in
-    told-fault digest c.args.core.now c.args.changes.now c.in-Err.fault c.told.result c.told.ensures
+    told-fault digest c.args.core.now c.args.changes.now c.in-Err.fault c.proving_fault.result c.proving_fault.ensures
     (c.in-Err.ensures.fault es
     (subst (λ (root : List ℕ). HasTree digest g.row.B (bytes_lent c.lender-lender.result.blocks.now) root es)
     (sym c.root-root.ensures.value) c.lender-lender.ensures.tree))

@@ -25,8 +25,8 @@ returns-clause-shown g c =
     shown-fails g.D.Digest.digest_of g.row.B c.args.before c.args.after blocks c.args.ops.now c.in_ok-sorted.sorted.items
     c.deref-3.result.now c.in_ok-sorted.ensures
     (c.deref-3.ensures.value ∙ c.in_ok-changes.ensures ∙ ap (λ (ds : List Placed). map (λ x. x.1) ds) c.deref.ensures.value)
-    c.in-Err.fault (event_fault_of c.told.result)
-    (c.told.ensures.fault ∙ ap (λ (ds : List Placed). option_map (as_event_fault ds) (change_fault_of c.in-Err.fault))
+    c.in-Err.fault (event_fault_of c.event_fault.result)
+    (c.event_fault.ensures.fault ∙ ap (λ (ds : List Placed). option_map (as_event_fault ds) (change_fault_of c.in-Err.fault))
     c.deref-in-Err.ensures.value)
     (verdict-over g.D.Digest.digest_of g.row.B c.args.before c.args.after (map arc_value c.deref-2.result.now) blocks
     c.deref-3.result.now (Err c.in-Err.fault) (ap (map arc_value) c.deref-2.ensures.value ∙ c.in_ok-blocks.ensures)

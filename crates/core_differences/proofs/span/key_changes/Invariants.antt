@@ -1,6 +1,6 @@
 use Rattle.std.proofs.Common.{◌≡◌, take}
-use Rattle.difference.specs.Merged.{told}
+use Rattle.difference.specs.Merged.{changes_told}
 use Rattle.core_differences.proofs.span.key_changes.Given as goal
 
 abbrev pub invariant-loop-change : goal.invariant-loop-change
-invariant-loop-change g l = l.all.items ≡ told (take l.change-index l.changes)
+invariant-loop-change g l = l.all.items ≡ changes_told (take l.change-index l.changes)

@@ -5,7 +5,7 @@ use Rattle.spec.specs.Layer.{layer}
 use Rattle.lookups.specs.Steps.{nodes_given}
 use Rattle.difference_laws.specs.Lines.{compared}
 use Rattle.difference.specs.Differences.{AreTold, IsDifferenceOf, IsReason, IsTold, IsUnended, IsWant, asked_for}
-use Rattle.difference.specs.Merged.{told}
+use Rattle.difference.specs.Merged.{changes_told}
 use Rattle.difference.specs.Sides.{rows_of}
 use Rattle.difference.specs.Starts.{asked_by, side_in}
 use Rattle.difference.proofs.Compares.{asked-in-all, equal-told, stopped-reason, stopped-trees, told-is, told-of-trees, unended-reason, unended-trees}
@@ -69,8 +69,8 @@ returns-clause-compared g c = λ es fs h k.
     let digest = g.D.Digest.digest_of in
     let a = side_in c.in_ok-old_side.old_side in
     let b = side_in c.in_ok-old_side.new_side in
-    IfOk-weaker c.tell.result (λ d. AreTold digest a b (told d.changes.items) (map arc_value d.come.items) d.go.items)
-    (λ d. IsDifferenceOf digest g.row.B es fs (told d.changes.items) (map arc_value d.come.items) d.go.items)
+    IfOk-weaker c.tell.result (λ d. AreTold digest a b (changes_told d.changes.items) (map arc_value d.come.items) d.go.items)
+    (λ d. IsDifferenceOf digest g.row.B es fs (changes_told d.changes.items) (map arc_value d.come.items) d.go.items)
     (λ d t. told-of-trees digest g.row.B g.met.D.Digest.digest_len (g.S.Source.gives c.args.src.now) c.args.old c.args.new d a b
     c.in_ok-old_side.ensures.opened t es fs h k) c.tell.ensures.told
 
@@ -80,7 +80,7 @@ returns-clause-opened g c = λ n.
     let gives = g.S.Source.gives c.args.src.now in
     let a = side_in c.in_ok-old_side.old_side in
     let b = side_in c.in_ok-old_side.new_side in
-    IfOk-weaker c.tell.result (λ d. AreTold digest a b (told d.changes.items) (map arc_value d.come.items) d.go.items)
+    IfOk-weaker c.tell.result (λ d. AreTold digest a b (changes_told d.changes.items) (map arc_value d.come.items) d.go.items)
     (λ d. IsTold digest (compared (nodes_given gives) (layer digest g.row.B) c.args.old c.args.new) d)
     (λ d t. told-is digest g.row.B g.met.D.Digest.digest_len gives c.args.old c.args.new d a b c.in_ok-old_side.ensures.opened t)
     c.tell.ensures.told

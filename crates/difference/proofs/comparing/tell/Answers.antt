@@ -5,7 +5,7 @@ use Rattle.spec.specs.NodeFormat.{shape_bytes}
 use Rattle.edit_laws.specs.Pairs.{Ascending}
 use Rattle.difference_laws.specs.Lines.{links_in, pairs_of}
 use Rattle.difference_laws.specs.Laws.{IsDifference}
-use Rattle.difference.specs.Merged.{pairs_in, told}
+use Rattle.difference.specs.Merged.{pairs_in, changes_told}
 use Rattle.difference.specs.Sides.{line_of, shapes_in}
 use Rattle.difference.specs.Starts.{side_in}
 use Rattle.difference.proofs.Outcomes.{come-length, go-length, left-none, pairs-line, right-none, unsorted-end}
@@ -47,8 +47,8 @@ returns-clause-told g c =
       new_ends = c.has_no_links-2.ensures.0 c.if-not-has_no_links-2.false;
       old_ascends = subst Ascending olds c.in_ok-changes.ensures.ascending.0;
       new_ascends = subst Ascending news c.in_ok-changes.ensures.ascending.1;
-      differ = subst (λ z. IsDifference (told c.in_ok-changes.changes.items) (pairs_of (line_of old.line)) z) news
-          (subst (λ z. IsDifference (told c.in_ok-changes.changes.items) z (pairs_in new.line.rows.items)) olds
+      differ = subst (λ z. IsDifference (changes_told c.in_ok-changes.changes.items) (pairs_of (line_of old.line)) z) news
+          (subst (λ z. IsDifference (changes_told c.in_ok-changes.changes.items) z (pairs_in new.line.rows.items)) olds
           c.in_ok-changes.ensures.changes);
       come_are = c.in_ok-come.ensures ∙ ap (λ (z : List _). map shape_bytes (shapes_in z)) c.deref-2.ensures.value;
       go_are = c.in_ok-go.ensures

@@ -2,7 +2,7 @@ use Rattle.std.proofs.Common.{◌≡◌, ◌∷◌, ◌++◌, [], List, Option, 
 use Rattle.std.specs.Prelude.{Some, option_to_list}
 use Rattle.notices.specs.declared.notice.Notice.{Notice}
 use Rattle.notices.specs.Views.{SenderView, with_sent}
-use Rattle.ended.specs.Ending.{told}
+use Rattle.ended.specs.Ending.{notices_told}
 use Rattle.host.specs.Views.{IsOrderly, IsWriting}
 use Rattle.host.proofs.Keeping.{orderly_rest, told_rest, given_back}
 use Rattle.host.proofs.writer.Writer.flush.Goals as goal
@@ -19,7 +19,7 @@ loop-first-preserved g c =
     let held = c.loop-first.invariant in
     let w = held.writing in
     record {
-      told = ap (λ (s : SenderView). told s.pass rest) sent ∙ told_rest was.sender.pass n rest ∙ ap (told was.sender.pass) (sym cons) ∙ held.told;
+      told = ap (λ (s : SenderView). notices_told s.pass rest) sent ∙ told_rest was.sender.pass n rest ∙ ap (notices_told was.sender.pass) (sym cons) ∙ held.told;
       writing = subst (λ (s : SenderView). IsWriting was.host.now was.hosts.now s rest was.last was.seen.items) (sym sent) (record {
         lent = w.lent;
         queue = w.queue;

@@ -1,11 +1,11 @@
 use Rattle.std.proofs.Common.{◌≡◌, length}
-use Rattle.ended.specs.Ending.{told}
+use Rattle.ended.specs.Ending.{notices_told}
 use Rattle.host.specs.Views.{IsWriting}
 use Rattle.host.proofs.writer.Writer.flush.Given as goal
 
 abbrev pub invariant-loop-first : goal.invariant-loop-first
 invariant-loop-first g l = record {
-  told : told l.self-inside.sender.pass l.self-inside.kept.items ≡ told l.fn.self.pass l.fn.self.kept;
+  told : notices_told l.self-inside.sender.pass l.self-inside.kept.items ≡ notices_told l.fn.self.pass l.fn.self.kept;
   writing : IsWriting l.self-inside.host.now l.self-inside.hosts.now l.self-inside.sender l.self-inside.kept.items l.self-inside.last l.self-inside.seen.items;
   refused : l.self-inside.sender.refused ≡ l.fn.self.refused;
   host : l.self-inside.host.now ≡ l.fn.self.host;
