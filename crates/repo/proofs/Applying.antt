@@ -4,7 +4,7 @@ use Rattle.std.specs.declared.option.Option.TheVariants.{Some}
 use Rattle.spec.specs.Cid.{IsDigest}
 use Rattle.spec.specs.Blocks.{IsClashFree}
 use Rattle.spec.specs.Stamps.{Stamp}
-use Rattle.spec.specs.States.{State, after_batch, state_test}
+use Rattle.spec.specs.States.{State, after_batch}
 use Rattle.std.specs.Prelude.{IfErr, OnOk, Result, Ok, Err}
 use Rattle.spec.specs.Writes.{Write}
 use Rattle.store.specs.Stores.{fulls_after_fault}
@@ -19,7 +19,7 @@ use Rattle.repo.specs.Cores.{IsCore}
 use Rattle.repo.specs.Exchanging.{IsExchangeOf}
 use Rattle.repo.specs.Fulls.{is_full}
 use Rattle.repo.specs.Refusals.{IsOther, IsRefusal, IsRefusalBy, IsStagedBatch, IsStoreRefusal, IsTestRefusal}
-use Rattle.repo.specs.Prepared.{Prepared, IsPassed, prepared_of}
+use Rattle.repo.specs.Prepared.{Prepared, prepared_of}
 use Rattle.repo.specs.Wants.{placed}
 use Rattle.repo.proofs.Exchanging.{exchanged-staged, has-passed}
 use Rattle.repo.proofs.Keeping.{core-after}
@@ -125,12 +125,23 @@ refused-after {D} {A} digest bits s stamp batch full fuller e h = by e.1 h.other
     by faults.BadRev o = absurd o
     by faults.RevOrder o = absurd o
 
--- ---- a batch that was prepared and then accepted or refused
+-- ---- a batch that was tested and then accepted or refused
 
-pub accepted-passes : {T E : Type 0} (r : Result T E) (p : Prepared) (s : State) (stamp : Stamp) (batch : List Write)
-    → p ≡ prepared_of s stamp batch → IsPassed p → OnOk r (state_test s stamp batch ≡ Ok tt)
-accepted-passes (Ok x) p s stamp batch e h = (subst IsPassed e h).passes
-accepted-passes (Err f) p s stamp batch e h = tt
+-- what is known of the batch is known where it is accepted
+pub accepted-passes : {T E P : Type 0} (r : Result T E) → P → OnOk r P
+accepted-passes (Ok x) h = h
+accepted-passes (Err f) h = tt
+
+pub prepared-is : (s t : State) (stamp other : Stamp) (batch writes : List Write) → s ≡ t → stamp ≡ other → batch ≡ writes
+    → prepared_of s stamp batch ≡ prepared_of t other writes
+prepared-is s t stamp other batch writes e f h = λ i. prepared_of (e i) (f i) (h i)
+
+-- the store's refusal of a batch is that of one with the same stamp and writes
+pub refused-as : {T D A : Type 0} (digest : List ℕ → List ℕ) (bits : ℕ) (s : State) (full fuller : ℕ) (r : Result T (ℕ × RepoFault D A)) (p q : Prepared)
+    → p ≡ q → IfErr r (IsStoreRefusal digest bits s p.stamp p.writes full fuller) → IfErr r (IsStoreRefusal digest bits s q.stamp q.writes full fuller)
+refused-as digest bits s full fuller (Ok x) p q e h = tt
+refused-as {D = D} {A = A} digest bits s full fuller (Err f) p q e h =
+    subst (λ (b : Prepared). IsStoreRefusal {D = D} {A = A} digest bits s b.stamp b.writes full fuller f) e h
 
 pub refused-batch : {T D A : Type 0} (digest : List ℕ → List ℕ) (bits : ℕ) (r : Result T (ℕ × RepoFault D A)) (p : Prepared) (s : State)
     (stamp : Stamp) (batch : List Write) → p ≡ prepared_of s stamp batch → (full fuller : ℕ)

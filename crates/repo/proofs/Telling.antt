@@ -9,10 +9,11 @@ use Rattle.spec.specs.Tree.{Pair}
 use Rattle.spec.specs.Blocks.{nodes, value_of}
 use Rattle.spec.specs.Commits.{commit_bytes}
 use Rattle.spec.specs.States.{state_root}
+use Rattle.spec.specs.Writes.{Write}
 use Rattle.spec.proofs.StateLaws.{batch-keeps_state}
 use Rattle.batch_laws.specs.Batch.{Change}
 use Rattle.batch_laws.specs.Previous.{values}
-use Rattle.batch_laws.specs.Collecting.{collected}
+use Rattle.batch_laws.specs.Collecting.{collected, with_cids}
 use Rattle.batch_laws.specs.Staged.{new_pairs}
 use Rattle.batch_laws.specs.Uses.{records_come}
 use Rattle.change_laws.specs.Told.{KeyChange, undone}
@@ -172,6 +173,14 @@ module _ {D A : Type 0} (digest : List ℕ → List ℕ) (bits : ℕ) (p : Prepa
       let g = length-drop x.nodes (each arc_value x.come.items) in
       let h = is.made.nodes_within in
       omega (arith, a, b, c, d, e, f, g, h)
+
+  -- what its keys had, with what they have, are the changes that it tells
+  pub changes-told : (ws : List Write) (cs : List Change) (vs : List (Option (List ℕ))) → ws ≡ p.writes → cs ≡ with_cids digest (collected ws)
+      → vs ≡ x.values.items → keys_with cs vs ≡ keys_changed digest p
+  changes-told ws cs vs w c v =
+      ap (λ (ds : List Change). keys_with ds vs) (c ∙ ap (λ (us : List Write). with_cids digest (collected us)) w)
+      ∙ ap (λ (os : List (Option (List ℕ))). keys_with (changes_for digest p) os) (v ∙ is.made.values_are)
+      ∙ told-values (changes_for digest p) (pairs_before digest p)
 
   pub changes-keyed : IsDigest digest → are_changes (undone (keys_changed digest p)) ≡ true
   changes-keyed fits =

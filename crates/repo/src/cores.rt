@@ -12,6 +12,7 @@ ghost use Rattle.kept.specs.Entering.{Enters, no_block};
 ghost use Rattle.repo.specs.Fulls.{fulls_after_batch, fulls_after_step};
 ghost use Rattle.repo.specs.Readings.{AreBlocksOnce, CountsBlocks, LendsBlocks, LendsTree, has_block, pairs_from, record_at, state_block};
 ghost use Rattle.repo.specs.BlockFaults.{IsBlockFault};
+ghost use Rattle.repo.specs.Edits.{IsExchangeMade};
 ghost use Rattle.repo.specs.LendingAfter.{LendsBlocksAfter, LendsTreeAfter};
 ghost use Rattle.repo.specs.Prepared.{IsPassed, prepared_of, state_after};
 ghost use Rattle.repo.specs.Refusals.{IsRefusal, IsApplied, IsOpenRefusal, IsStoreRefusal, IsTestRefusal};
@@ -20,7 +21,7 @@ ghost use Rattle.store.specs.Stores.{IsStore};
 
 use crate::applied::Applied;
 use crate::copies::{copies_of, grow, make_room};
-use crate::exchanges::{exchange_of, placed};
+use crate::exchanges::{TestedBatch, exchange_of, placed};
 use crate::opening::empty_node;
 use crate::prepared::PreparedBatch;
 use crate::write_tests::test_writes;
@@ -294,8 +295,8 @@ impl<D: Digest, const B: u8, A: Allocator + Copy> Core<D, B, A> {
             (has_block D.digest_of B self.old) (has_block D.digest_of B self.new)
             store.old store.new }
     {
-        let prepared = self.prepare(alloc, stamp, writes)?;
-        self.accept(store, prepared)
+        let batch = self.tested(alloc, stamp, writes)?;
+        self.exchange(store, batch)
     }
 
     /// Tests a batch, and makes what it exchanges and tells, all of which the caller then has before it is accepted. The
@@ -317,8 +318,37 @@ impl<D: Digest, const B: u8, A: Allocator + Copy> Core<D, B, A> {
             (stamp_of stamp.now) (writes_of writes.now)) }
         ensures lawful { IsLawful self.now }
     {
-        // the writes are copied before they are tested, so that one map by key serves their tests, the blocks of their records
-        // and the edit
+        let previous = self.root;
+        let tested = self.tested(alloc, stamp, writes)?;
+        let TestedBatch { copies, exchange } = tested;
+        Ok(PreparedBatch {
+            before: Snapshot::of(self),
+            previous,
+            copies,
+            exchange,
+        })
+    }
+
+    /// A batch that its tests let through: the copies of it that are to be kept, and what it exchanges; or the place and the
+    /// fault by which it's refused before the store is asked.
+    ///
+    /// No writes come first, then the stamp, then write by write. The writes are copied before they are tested, so one map by
+    /// key serves their tests, the blocks of their records and the edit.
+    fn tested(
+        &self,
+        alloc: A,
+        stamp: &Stamp<A>,
+        writes: &[Write<A>],
+    ) -> Result<TestedBatch<D, A>, (usize, RepoFault<D, A>)>
+        ensures writes { IfOk result (λ batch.
+            shared_writes batch.copies.writes.items ≡ writes_of writes.now) }
+        ensures stamp { IfOk result (λ batch. stamp_of batch.copies.stamp ≡ stamp_of stamp.now) }
+        ensures exchange { IfOk result (λ batch. IsExchangeMade D.digest_of B self.now
+            (stamp_of stamp.now) (writes_of writes.now) batch.exchange) }
+        ensures fault { IfErr result (IsTestRefusal D.digest_of B self.now
+            (stamp_of stamp.now) (writes_of writes.now)) }
+        ensures lawful { IsLawful self.now }
+    {
         let (kept, root, before) = (&self.kept, self.root, self.commit);
         if writes.is_empty() {
             return Err((0, RepoFault::EmptyBatch));
@@ -337,12 +367,7 @@ impl<D: Digest, const B: u8, A: Allocator + Copy> Core<D, B, A> {
             exchange_of::<D, B, A>(kept, alloc, root, before, stamp, &changes, shared)
         };
         match made {
-            Ok(exchange) => Ok(PreparedBatch {
-                before: Snapshot::of(self),
-                previous: root,
-                copies,
-                exchange,
-            }),
+            Ok(exchange) => Ok(TestedBatch { copies, exchange }),
             Err(refusal) => Err(refusal),
         }
     }
@@ -374,10 +399,37 @@ impl<D: Digest, const B: u8, A: Allocator + Copy> Core<D, B, A> {
     {
         let PreparedBatch {
             before: _,
-            previous,
+            previous: _,
             copies,
             exchange,
         } = prepared;
+        self.exchange(store, TestedBatch { copies, exchange })
+    }
+
+    /// Accepts a batch that its tests let through: makes room for the copies of it, and exchanges what it exchanges.
+    fn exchange<S: BlockStore<Arc<Block<D, A>, A>, Hold<D, A>, StoreFault<D, A>>>(
+        &mut self,
+        store: &mut S,
+        batch: TestedBatch<D, A>,
+    ) -> Result<Applied, (usize, RepoFault<D, A>)>
+        requires store { IsStore D.digest_of S.BlockStore }
+        requires made { IsExchangeMade D.digest_of B self.old (stamp_of batch.copies.stamp)
+            (shared_writes batch.copies.writes.items) batch.exchange }
+        ensures lawful { IsLawful self.old }
+        ensures still_lawful { IsLawful self.new }
+        ensures accepted { OnOk result (self.new ≡ after_batch self.old
+            (stamp_of batch.copies.stamp) (shared_writes batch.copies.writes.items)) }
+        ensures applied { IfOk result (IsApplied D.digest_of B self.old self.new) }
+        ensures unchanged { OnErr result (self.new ≡ self.old) }
+        ensures fault { IfErr result (IsStoreRefusal D.digest_of B self.old
+            (stamp_of batch.copies.stamp) (shared_writes batch.copies.writes.items)
+            (S.fulls store.old) (S.fulls store.new)) }
+        ensures counted { S.fulls store.new ≡ fulls_after_batch (S.fulls store.old) result }
+        ensures entered { Enters D.digest_of S.BlockStore self.old.me
+            (has_block D.digest_of B self.old) (has_block D.digest_of B self.new)
+            store.old store.new }
+    {
+        let TestedBatch { copies, exchange } = batch;
         let last = copies.writes.len() - 1;
         let Ok(()) = make_room(&mut self.accepted, &mut self.stamps, copies.writes.len()) else {
             return Err((0, RepoFault::NoMemory));
@@ -388,6 +440,7 @@ impl<D: Digest, const B: u8, A: Allocator + Copy> Core<D, B, A> {
         }
 
         let number = grow(&mut self.accepted, &mut self.stamps, copies);
+        let previous = self.root;
         self.root = exchange.root;
         self.commit = Some(exchange.commit);
         Ok(Applied {

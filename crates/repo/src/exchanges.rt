@@ -14,6 +14,7 @@ ghost use Rattle.repo.specs.Wants.{IsPlaced, placed};
 ghost use Rattle.repo.specs.Tested.{changes_in};
 
 use crate::changes::Collected;
+use crate::copies::Copies;
 use crate::records::blocks_of_records;
 use batches::{RepoFault, Stamp, Write, commit_bytes};
 use block::Block;
@@ -40,6 +41,13 @@ pub(crate) struct Exchange<D: Digest, A: Allocator> {
     pub(crate) read: Vec<Arc<Block<D, A>, A>, A>,
     /// The CIDs of the records that the changed keys had, in the order of the keys.
     pub(crate) values: Vec<Option<Cid>, A>,
+}
+
+/// A batch that passed its tests: the copies of it that are kept, and what it exchanges.
+#[derive(Drop)]
+pub(crate) struct TestedBatch<D: Digest, A: Allocator> {
+    pub(crate) copies: Copies<A>,
+    pub(crate) exchange: Exchange<D, A>,
 }
 
 /// What a batch that passed its tests exchanges over the tree with this root and the commit before, by what its writes change.

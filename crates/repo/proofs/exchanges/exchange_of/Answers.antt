@@ -35,7 +35,8 @@ returns-clause-exchange g c = λ s batch on.
     let last = cons_option c.args.before [] in
     let all = map arc_value come.items in
     let added = map arc_value edit.add.items in
-    let nodes_is = c.len-nodes.ensures ∙ sym (length-map edit.add.items arc_value) in
+    let nodes_is = c.len-nodes.ensures ∙ edit.add.ok.0 ∙ sym (length-map edit.add.items arc_value) in
+    let gone_many = c.len-gone.ensures ∙ edit.drop.ok.0 in
     let come_is = c.in-Ok-all_that_come.ensures in
     let changes_are = on.changes_are in
     record {
@@ -43,9 +44,9 @@ returns-clause-exchange g c = λ s batch on.
           (take gone go.items) go.items)
           (sym (ap (take nodes) come_is ∙ first-taken added brought (block ∷ []) nodes nodes_is))
           (subst (λ (ds : List (List ℕ)). IsExchangeOf dig g.row.B s (stamp_of c.args.stamp.now) batch edit.root c.cid-commit.result added all ds go.items)
-          (sym (ap (take gone) gone_is ∙ first-taken edit.drop.items (present_values edit.previous.items) last gone c.len-gone.ensures)) made);
+          (sym (ap (take gone) gone_is ∙ first-taken edit.drop.items (present_values edit.previous.items) last gone gone_many)) made);
       nodes_within = subst (λ (n : ℕ). nodes ≤ n) (sym (ap length come_is) ∙ length-map come.items arc_value) (first-within added brought (block ∷ []) nodes nodes_is);
-      gone_within = subst (λ (n : ℕ). gone ≤ n) (sym (ap length gone_is)) (first-within edit.drop.items (present_values edit.previous.items) last gone c.len-gone.ensures);
+      gone_within = subst (λ (n : ℕ). gone ≤ n) (sym (ap length gone_is)) (first-within edit.drop.items (present_values edit.previous.items) last gone gone_many);
       read_is = c.in-Ok-edit_for.ensures.nodes (pairs dig (records s)) tree
           ∙ ap (λ (cs : List Change). nodes_read dig g.row.B (with_cids dig cs) (pairs dig (records s))) changes_are;
       values_are = of.previous_is ∙ ap (λ (cs : List Change). values (with_cids dig cs) (pairs dig (records s))) changes_are;

@@ -1,146 +1,31 @@
-use Rattle.std.proofs.Common.{suc, cond, ◌-◌, ◌++◌, ◌∷◌, [], ◌∙◌, ℕ, List, length, map, take, refl, sym, ap, subst, arith}
-use Rattle.std.specs.Arc.{arc_value}
-use Rattle.std.proofs.lemmas.List.{length-map}
-use Rattle.spec.specs.States.{State, after_batch, state_root}
-use Rattle.kept.specs.Counts.{Keeping, exchanged}
-use Rattle.kept.proofs.Entering.{kept_stays}
-use Rattle.batches.specs.Values.{write_of, shared_writes, stamp_of, stamps_of}
-use Rattle.repo.specs.Cores.{IsCore}
+use Rattle.std.proofs.Common.{rules, ap, subst, sym, ◌∙◌}
+use Rattle.std.proofs.lemmas.Result.{on_ok_weaker}
+use Rattle.spec.specs.States.{State}
+use Rattle.batches.specs.Values.{shared_writes, stamp_of}
 use Rattle.repo.specs.Edits.{IsExchangeMade}
-use Rattle.repo.specs.Fulls.{is_full}
-use Rattle.repo.specs.Prepared.{Prepared, IsPreparedBatch}
-use Rattle.repo.specs.Views.{state_view}
-use Rattle.repo.specs.Wants.{placed}
-use Rattle.batches.specs.declared.fault.RepoFault.{RepoFault}
-use Rattle.repo.proofs.Applying.{asked, room-refused, store-refused, taken}
-use Rattle.repo.proofs.Entering.{core_entered}
-use Rattle.repo.proofs.Exchanging.{has-passed}
-use Rattle.repo.proofs.Growing.{state-after, state-same, applied-after}
-use Rattle.repo.proofs.Keeping.{core-same}
-use Rattle.repo.proofs.Preparing.{as-many}
+use Rattle.repo.specs.Prepared.{Prepared, prepared_of, state_after}
+use Rattle.repo.proofs.Applying.{refused-as}
 use Rattle.repo.proofs.cores.Core.accept.Goals as goal
 
-pub overflow_sub-last : goal.overflow_sub-last
-overflow_sub-last g c =
-    let x = c.prepared.inside.exchange in
-    let p = c.args.prepared in
-    let ready = subst (λ (q : Prepared). IsPreparedBatch g.D.Digest.digest_of g.row.B q c.prepared.inside.previous x) c.prepared.view_is c.prepared.invariant in
-    let some = (has-passed p.before p.stamp p.writes ready.made.exchange.passes).some in
-    let n = as-many c.prepared.inside.copies.writes.items p.writes (ap (λ (q : Prepared). q.writes) c.prepared.view_is) in
-    omega (arith, some, n)
+pub exchange-requires : goal.exchange-requires
+exchange-requires g c =
+    let stamp = stamp_of c.prepared.inside.copies.stamp in
+    let batch = shared_writes c.prepared.inside.copies.writes.items in
+    let now = ap (λ (q : Prepared). q.before) c.prepared.view_is ∙ c.requires.same in
+    (search rules, (c.requires.store,
+    subst (λ (t : State). IsExchangeMade g.D.Digest.digest_of g.row.B t stamp batch c.prepared.inside.exchange) now c.prepared.invariant.made))
 
-pub returns-in_default-clause-fault : goal.returns-in_default-clause-fault
-returns-in_default-clause-fault g c =
-    let dig = g.D.Digest.digest_of in
-    let x = c.prepared.inside.exchange in
-    let p = c.args.prepared in
-    let ready = subst (λ (q : Prepared). IsPreparedBatch dig g.row.B q c.prepared.inside.previous x) c.prepared.view_is c.prepared.invariant in
-    let made = subst (λ (s : State). IsExchangeMade dig g.row.B s p.stamp p.writes x) c.requires.same ready.made in
-    room-refused dig g.row.B c.args.self.now p.stamp p.writes x.root x.commit _ _ _ _ made.exchange _ _ (g.S.BlockStore.fulls c.args.store.now)
+pub returns-clause-accepted : goal.returns-clause-accepted
+returns-clause-accepted g c =
+    let stamp = stamp_of c.prepared.inside.copies.stamp in
+    let batch = shared_writes c.prepared.inside.copies.writes.items in
+    let now = ap (λ (q : Prepared). q.before) c.prepared.view_is ∙ c.requires.same in
+    let same = ap (λ (t : State). prepared_of t stamp batch) (sym now) ∙ c.prepared.view_is in
+    on_ok_weaker c.exchange.result (λ e. e ∙ ap (λ (q : Prepared). state_after q) same) c.exchange.ensures.accepted
 
-pub returns-in_default-clause-entered : goal.returns-in_default-clause-entered
-returns-in_default-clause-entered g c =
-    let dig = g.D.Digest.digest_of in
-    let old = c.self.inside in
-    let s = state_view old.kept.me old.limit old.accepted.items old.stamps.items in
-    let room = c.make_room.ensures in
-    core_entered dig g.row.B g.S.BlockStore c.args.self.now s _ old.root old.root old.commit old.commit old.kept old.kept
-    c.args.store.now c.args.store.now c.self.view_is refl c.self.invariant refl
-    (core-same dig g.row.B s _ old.root old.commit old.kept old.kept c.self.invariant refl
-    (state-same old.kept.me old.kept.me old.limit old.accepted.items c.make_room.new.accepted.items old.stamps.items c.make_room.new.stamps.items refl room.same_writes room.same_stamps))
-    (kept_stays dig g.S.BlockStore old.kept c.args.store.now)
-
-pub returns-in-Err-clause-fault : goal.returns-in-Err-clause-fault
-returns-in-Err-clause-fault g c =
-    let dig = g.D.Digest.digest_of in
-    let x = c.prepared.inside.exchange in
-    let p = c.args.prepared in
-    let ready = subst (λ (q : Prepared). IsPreparedBatch dig g.row.B q c.prepared.inside.previous x) c.prepared.view_is c.prepared.invariant in
-    let made = subst (λ (s : State). IsExchangeMade dig g.row.B s p.stamp p.writes x) c.requires.same ready.made in
-    let full = g.S.BlockStore.fulls c.args.store.now in
-    let last = g.S.BlockStore.fulls c.exchange.new.store in
-    store-refused dig g.row.B c.args.self.now p.stamp p.writes x.root x.commit _ (map arc_value x.come.items) _ x.go.items made.exchange
-    full last (length c.prepared.inside.copies.writes.items) c.in-Err.fault c.from.result _
-    (sym (as-many c.prepared.inside.copies.writes.items p.writes (ap (λ (q : Prepared). q.writes) c.prepared.view_is)))
-    c.in-Err.ensures.fault c.from.ensures c.in-Err.ensures.fulls
-    (c.placed.ensures ∙ ap (λ (n : ℕ). placed (n - 1) c.from.result) c.len-last.ensures)
-
-pub returns-in-Err-clause-counted : goal.returns-in-Err-clause-counted
-returns-in-Err-clause-counted g c =
-    let full = g.S.BlockStore.fulls c.args.store.now in
-    asked full (g.S.BlockStore.fulls c.exchange.new.store) c.in-Err.fault c.from.result c.from.ensures c.in-Err.ensures.fulls
-    ∙ ap (λ (e : ℕ × RepoFault g.row.D.Denot g.row.A.Denot). cond (is_full e.1) (suc full) full) (sym c.placed.ensures)
-
-pub returns-in-Err-clause-entered : goal.returns-in-Err-clause-entered
-returns-in-Err-clause-entered g c =
-    let dig = g.D.Digest.digest_of in
-    let old = c.self.inside in
-    let s = state_view old.kept.me old.limit old.accepted.items old.stamps.items in
-    let room = c.make_room.ensures in
-    let same = c.in-Err.ensures.unchanged in
-    core_entered dig g.row.B g.S.BlockStore c.args.self.now s _ old.root old.root old.commit old.commit old.kept c.exchange.new.self
-    c.args.store.now c.exchange.new.store c.self.view_is refl c.self.invariant refl
-    (core-same dig g.row.B s _ old.root old.commit old.kept c.exchange.new.self c.self.invariant same
-    (state-same old.kept.me c.exchange.new.self.me old.limit old.accepted.items c.make_room.new.accepted.items old.stamps.items c.make_room.new.stamps.items (ap (λ (k : Keeping). k.me) same) room.same_writes room.same_stamps))
-    c.in-Err.ensures.entered
-
-pub invariant_of-self-2 : goal.invariant_of-self-2
-invariant_of-self-2 g c =
-    let dig = g.D.Digest.digest_of in
-    let old = c.self.inside in
-    let s = c.args.self.now in
-    let is = subst (λ (t : State). IsCore dig g.row.B t old.root old.commit old.kept) c.self.view_is c.self.invariant in
-    let x = c.prepared.inside.exchange in
-    let p = c.args.prepared in
-    let ready = subst (λ (q : Prepared). IsPreparedBatch dig g.row.B q c.prepared.inside.previous x) c.prepared.view_is c.prepared.invariant in
-    let made = subst (λ (t : State). IsExchangeMade dig g.row.B t p.stamp p.writes x) c.requires.same ready.made in
-    let copies = c.prepared.inside.copies in
-    let come = map arc_value x.come.items in
-    let done = c.in-Ok-exchange.ensures in
-    let room = c.make_room.ensures in
-    let grown = c.grow-number.ensures in
-    let now = c.grow-number.new in
-    let after = state-after old.kept.me c.exchange.new.self.me old.limit old.accepted.items now.accepted.items old.stamps.items now.stamps.items (shared_writes copies.writes.items) p.writes (stamp_of copies.stamp) p.stamp
-    (ap (λ (k : Keeping). k.me) done.exchanged)
-    (grown.writes ∙ ap (λ xs. shared_writes xs ++ shared_writes copies.writes.items) room.same_writes) (ap (λ (q : Prepared). q.writes) c.prepared.view_is)
-    (grown.stamps ∙ ap (λ xs. stamps_of xs ++ (stamp_of copies.stamp, length now.accepted.items) ∷ []) room.same_stamps) (ap (λ (q : Prepared). q.stamp) c.prepared.view_is) in
-    (taken dig g.row.B s old.root old.commit old.kept is g.met.D.Digest.digest_len _ c.exchange.new.self p.stamp p.writes x.root x.commit _ come _ x.go.items made.exchange
-    (done.exchanged ∙ ap (λ (cs : List (List ℕ)). exchanged dig old.kept come cs) c.deref.ensures.value) done.no_other done.clash_free
-    (after ∙ ap (λ (t : State). after_batch t p.stamp p.writes) c.self.view_is)).core
-
-pub returns : goal.returns
-returns g c =
-    let dig = g.D.Digest.digest_of in
-    let old = c.self.inside in
-    let s = c.args.self.now in
-    let is = subst (λ (t : State). IsCore dig g.row.B t old.root old.commit old.kept) c.self.view_is c.self.invariant in
-    let x = c.prepared.inside.exchange in
-    let p = c.args.prepared in
-    let ready = subst (λ (q : Prepared). IsPreparedBatch dig g.row.B q c.prepared.inside.previous x) c.prepared.view_is c.prepared.invariant in
-    let made = subst (λ (t : State). IsExchangeMade dig g.row.B t p.stamp p.writes x) c.requires.same ready.made in
-    let copies = c.prepared.inside.copies in
-    let come = map arc_value x.come.items in
-    let done = c.in-Ok-exchange.ensures in
-    let room = c.make_room.ensures in
-    let grown = c.grow-number.ensures in
-    let now = c.grow-number.new in
-    let after = state-after old.kept.me c.exchange.new.self.me old.limit old.accepted.items now.accepted.items old.stamps.items now.stamps.items (shared_writes copies.writes.items) p.writes (stamp_of copies.stamp) p.stamp
-    (ap (λ (k : Keeping). k.me) done.exchanged)
-    (grown.writes ∙ ap (λ xs. shared_writes xs ++ shared_writes copies.writes.items) room.same_writes) (ap (λ (q : Prepared). q.writes) c.prepared.view_is)
-    (grown.stamps ∙ ap (λ xs. stamps_of xs ++ (stamp_of copies.stamp, length now.accepted.items) ∷ []) room.same_stamps) (ap (λ (q : Prepared). q.stamp) c.prepared.view_is) in
-    let took = taken dig g.row.B s old.root old.commit old.kept is g.met.D.Digest.digest_len _ c.exchange.new.self p.stamp p.writes x.root x.commit _ come _ x.go.items made.exchange
-    (done.exchanged ∙ ap (λ (cs : List (List ℕ)). exchanged dig old.kept come cs) c.deref.ensures.value) done.no_other done.clash_free
-    (after ∙ ap (λ (t : State). after_batch t p.stamp p.writes) c.self.view_is) in
-    record {
-      lawful = is.lawful;
-      still_lawful = took.core.lawful;
-      accepted = took.state ∙ ap (λ (t : State). after_batch t p.stamp p.writes) (sym c.requires.same);
-      applied = applied-after dig g.row.B s _ p.stamp p.writes c.grow-number.result x.root c.prepared.inside.previous x.commit c.exchange.new.self.uses took.state took.staged
-          (ready.previous_is ∙ ap (state_root dig g.row.B) c.requires.same)
-          (grown.number ∙ sym (length-map now.accepted.items (λ w. write_of (arc_value w))));
-      unchanged = tt;
-      fault = tt;
-      counted = done.fulls;
-      entered = core_entered dig g.row.B g.S.BlockStore s s _ old.root x.root old.commit _ old.kept c.exchange.new.self
-          c.args.store.now c.exchange.new.store refl (ap (λ (t : State). t.me) c.self.view_is) is refl took.core done.entered;
-    }
+pub returns-clause-fault : goal.returns-clause-fault
+returns-clause-fault g c =
+    let stamp = stamp_of c.prepared.inside.copies.stamp in
+    let batch = shared_writes c.prepared.inside.copies.writes.items in
+    refused-as g.D.Digest.digest_of g.row.B c.args.self.now _ _ c.exchange.result (prepared_of c.prepared.inside.before.value stamp batch) c.args.prepared
+    c.prepared.view_is c.exchange.ensures.fault
