@@ -1,6 +1,7 @@
 -- A batch that was prepared: what it tells.
 use Rattle.std.proofs.Common.{◌≡◌, ◌≤◌, ◌-◌, ◌+◌, ◌&&◌, ℕ, suc, true, List, [], ◌∷◌, ◌++◌, map as each, length, get_or, take, drop, refl, sym, ap, subst, ◌∙◌, arith, inl, inr, ◌⊎◌, Option}
 use Rattle.std.specs.Arc.{arc_value}
+use Rattle.std.specs.Prelude.{IfOk, Result, Ok, Err}
 use Rattle.std.specs.declared.sync.Arc.{Arc}
 use Rattle.std.proofs.Math.Seq.{take-append_seam}
 use Rattle.std.proofs.lemmas.List.{append-nil, append_assoc, append_cancel_left, drop-map, length-append, length-drop, length-map, take-append-drop, take-map}
@@ -111,6 +112,18 @@ told-changes : (cs : List Change) (es : List Pair) → are_changes (undone (keys
 told-changes cs es =
     ap (λ t. t && have_keys (undone (keys_told cs es))) (told-ascending cs es)
     ∙ ap (λ t. are_ascending cs && t) (told-keys cs es)
+
+-- of an answer that has these, or others that are the same
+
+pub told-as : {V E : Type 0} (r : Result V E) (told : V → List KeyChange) (ks ls : List KeyChange)
+    → IfOk r (λ v. told v ≡ ks) → ks ≡ ls → IfOk r (λ v. told v ≡ ls)
+told-as (Ok v) told ks ls h e = h ∙ e
+told-as (Err f) told ks ls h e = tt
+
+pub told-keyed : {V E : Type 0} (r : Result V E) (told : V → List KeyChange) (ks : List KeyChange)
+    → IfOk r (λ v. told v ≡ ks) → are_changes (undone ks) ≡ true → IfOk r (λ v. are_changes (undone (told v)) ≡ true)
+told-keyed (Ok v) told ks h e = ap (λ ls. are_changes (undone ls)) h ∙ e
+told-keyed (Err f) told ks h e = tt
 
 -- ---- what it tells
 
