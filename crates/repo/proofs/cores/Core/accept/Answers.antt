@@ -11,9 +11,13 @@ pub exchange-requires : goal.exchange-requires
 exchange-requires g c =
     let stamp = stamp_of c.prepared.inside.copies.stamp in
     let batch = shared_writes c.prepared.inside.copies.writes.items in
-    let now = ap (λ (q : Prepared). q.before) c.prepared.view_is ∙ c.requires.same in
-    (search rules, (c.requires.store,
-    subst (λ (t : State). IsExchangeMade g.D.Digest.digest_of g.row.B t stamp batch c.prepared.inside.exchange) now c.prepared.invariant.made))
+    let now = ap (λ (q : Prepared). q.before) c.prepared.view_is ∙ c.requires.same in (
+      search rules,
+      (
+        c.requires.store,
+        subst (λ (t : State). IsExchangeMade g.D.Digest.digest_of g.row.B t stamp batch c.prepared.inside.exchange) now c.prepared.invariant.made,
+      ),
+    )
 
 pub returns-clause-accepted : goal.returns-clause-accepted
 returns-clause-accepted g c =

@@ -26,10 +26,14 @@ exchange-requires g c =
     let s = c.args.self.now in
     let copies = c.in_ok-batch.batch.copies in
     let x = c.in_ok-batch.batch.exchange in
-    let made = c.in_ok-batch.ensures in
-    (search rules, (c.requires.store,
-    subst (λ (ws : List Write). IsExchangeMade dig g.row.B s (stamp_of copies.stamp) ws x) (sym made.writes)
-    (subst (λ (st : Stamp). IsExchangeMade dig g.row.B s st (writes_of c.args.writes.now) x) (sym made.stamp) made.exchange)))
+    let made = c.in_ok-batch.ensures in (
+      search rules,
+      (
+        c.requires.store,
+        subst (λ (ws : List Write). IsExchangeMade dig g.row.B s (stamp_of copies.stamp) ws x) (sym made.writes)
+            (subst (λ (st : Stamp). IsExchangeMade dig g.row.B s st (writes_of c.args.writes.now) x) (sym made.stamp) made.exchange),
+      ),
+    )
 
 pub returns-clause-accepted : goal.returns-clause-accepted
 returns-clause-accepted g c =
