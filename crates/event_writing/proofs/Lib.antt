@@ -9,3 +9,5 @@ pub mod LastStamps
 pub mod SameMessage
 pub mod WholeMessage
 pub mod SyncMessage
+pub mod Signed
+pub mod Refused

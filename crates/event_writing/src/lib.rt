@@ -69,6 +69,8 @@ mod file;
 mod left;
 mod message;
 mod ops;
+mod signing;
+mod signing_fault;
 mod stamps;
 mod sync_told;
 mod syncing;
@@ -76,6 +78,8 @@ mod told;
 mod writing;
 
 pub use fault::UntoldFault;
+pub use signing::{Signed, apply_signed};
+pub use signing_fault::SigningFault;
 pub use sync_told::SyncTold;
 pub use syncing::sync_event;
 pub use told::Told;
