@@ -1,7 +1,6 @@
 //! The commit and the bytes of a message.
 
 ghost use Rattle.std.specs.Prelude.{◌≡◌, IfOk};
-ghost use Rattle.spec.specs.Stamps.{Stamp as Stamped};
 ghost use Rattle.spec.specs.SignedCommits.{signed_bytes};
 ghost use Rattle.export_laws.specs.SignedCars.{signed_commit};
 ghost use Rattle.event_laws.specs.Events.{event_bytes};

@@ -79,7 +79,8 @@ fn write_signed<'a, D: Digest + 'a, const B: u8, A: Allocator + Clone + 'a, W: O
     requires marked { AreMarked D.digest_of (may_repeat D.digest_of B core.now)
         (found_in src.now.blocks.now) }
     ensures taken { Takes (W.taken out.old) (W.taken out.new) result
-        (car_over D.digest_of commit.now (blocks_met (bytes_in src.old.blocks.now) most None root)) }
+        (car_over D.digest_of commit.now
+        (blocks_met (bytes_in src.old.blocks.now) most None root)) }
     ensures length { IfOk result (λ count. count ≡ capped (length
         (car_over D.digest_of commit.now
         (blocks_met (bytes_in src.old.blocks.now) most None root)))) }
