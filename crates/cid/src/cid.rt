@@ -130,7 +130,8 @@ pub(crate) fn has_own_prefix(bytes: &[u8; 36]) -> bool
 impl TryFrom<[u8; 36]> for Cid {
     type Error = CidFault;
 
-    ghost try_from_gives = { λ bytes r. r ≡ (if is_own_cid bytes then Ok bytes else Err NotThisProfile) };
+    ghost try_from_gives = { λ bytes r.
+        r ≡ (if is_own_cid bytes then Ok bytes else Err NotThisProfile) };
 
     fn try_from(bytes: [u8; 36]) -> Result<Cid, CidFault> {
         Cid::from_bytes(bytes).ok_or(CidFault::NotThisProfile)
