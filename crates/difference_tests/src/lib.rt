@@ -7,6 +7,8 @@ mod fetching;
 #[cfg(test)]
 mod fixtures;
 #[cfg(test)]
+mod high_layers;
+#[cfg(test)]
 mod key_lengths;
 #[cfg(test)]
 mod lacking;
@@ -16,6 +18,8 @@ mod large;
 mod layered;
 #[cfg(test)]
 mod made_up;
+#[cfg(test)]
+mod memory;
 #[cfg(test)]
 mod plain;
 #[cfg(test)]

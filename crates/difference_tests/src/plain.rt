@@ -89,6 +89,11 @@ fn reads_of<D: Digest>(found: &Difference<D>, trees: &Trees<D>) -> u64 {
     (found.come.len().max(1) as u64).saturating_add(found.go.len().max(1) as u64)
 }
 
+/// Whether the nodes that come and go are those that one tree alone has, after so many reads.
+pub(crate) fn are_nodes_of<D: Digest>(found: &Difference<D>, reads: u64, trees: &Trees<D>) -> bool {
+    is_come(&found.come, trees) && is_go(&found.go, trees) && reads == reads_of(found, trees)
+}
+
 /// Whether this is the difference of two trees, after so many reads.
 pub(crate) fn is_difference_of<D: Digest>(
     found: &Difference<D>,
@@ -96,8 +101,5 @@ pub(crate) fn is_difference_of<D: Digest>(
     all: &[Known],
     trees: &Trees<D>,
 ) -> bool {
-    are_changes_of(&found.changes, all)
-        && is_come(&found.come, trees)
-        && is_go(&found.go, trees)
-        && reads == reads_of(found, trees)
+    are_changes_of(&found.changes, all) && are_nodes_of(found, reads, trees)
 }
