@@ -54,6 +54,7 @@ fn as_batch(alloc: Global, edit: Edit<Toy>) -> Result<BatchEdit<Toy>, AllocError
         add,
         drop,
         previous,
+        read,
     } = edit;
     let mut values = Vec::new(alloc);
     values.push(previous)?;
@@ -62,6 +63,7 @@ fn as_batch(alloc: Global, edit: Edit<Toy>) -> Result<BatchEdit<Toy>, AllocError
         add,
         drop,
         previous: values,
+        read,
     })
 }
 

@@ -10,7 +10,7 @@ use Rattle.edit_laws.specs.Changes.{add_of, drop_of}
 use Rattle.edit_laws.specs.Laws.Edits.{bytes_of}
 use Rattle.batch_laws.specs.Links.{Log, Top, Step}
 use Rattle.edit.specs.Tops.{IsEnded}
-use Rattle.edit.specs.Batches.{IsAnswer}
+use Rattle.edit.specs.Batches.{AreReadFor, IsAnswer}
 use Rattle.edit.specs.declared.outcome.BatchEdit.{BatchEdit}
 
 module _ (digest : List ℕ → List ℕ) (answer : Step Top) (root : List ℕ) (gone : ℕ) (now : Log)
@@ -66,3 +66,15 @@ module _ (digest : List ℕ → List ℕ) (answer : Step Top) (root : List ℕ) 
       subst (λ top. IsAnswer digest answer top (map arc_value edit.add.items) edit.drop.items) (sym is)
       (is-answer (map arc_value edit.add.items) edit.drop.items added dropped free all_free)
   answered (Err fault) is added dropped free all_free = tt
+
+  -- and of the nodes that were read
+  pub read-for : {D A E : Type 0} (r : Result (BatchEdit D A) E) → IfOk r (λ edit. edit.root ≡ root)
+      → IfOk r (λ edit. map arc_value edit.read.items ≡ bytes_of now.read)
+      → IfOk r (λ edit. AreReadFor answer edit.root (map arc_value edit.read.items))
+  read-for (Ok edit) is read = record {
+    left = ended.left;
+    log = ended.next;
+    is = subst (λ (top : List ℕ). answer ≡ Ok ((top, ended.left), ended.next)) (sym is) ended.is;
+    read_is = read ∙ read-is;
+  }
+  read-for (Err fault) is read = tt

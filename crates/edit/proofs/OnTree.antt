@@ -267,6 +267,9 @@ module _ (digest : List ℕ → List ℕ) (bits : ℕ) (fits : IsDigest digest) 
     all-read : now.read ≡ is-batch.log.read ++ is-batch.left
     all-read = ended.read ∙ ap (λ (x : Top × Log). x.1.read ++ x.0.1) same
 
+    pub tree-bytes : bytes_of now.read ≡ nodes_read digest bits cs es
+    tree-bytes = ap bytes_of all-read ∙ read-bytes
+
     pub tree-reads : length now.read ≡ length (nodes_read digest bits cs es)
     tree-reads =
         ap length all-read

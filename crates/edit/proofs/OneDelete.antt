@@ -35,7 +35,7 @@ use Rattle.batch_laws.specs.Within.{at_top}
 use Rattle.edit.specs.Stops.{IsCause}
 use Rattle.edit.specs.Tops.{IsEnded}
 use Rattle.edit.proofs.OneChange.{low-key, edit-of_batch}
-use Rattle.edit.proofs.OnTree.{answers, read-bytes, met-values, lawful-pairs, walk-refused, walk-few, tree-reads, tree-few, tree-nodes, batch-edit}
+use Rattle.edit.proofs.OnTree.{answers, read-bytes, met-values, lawful-pairs, walk-refused, walk-few, tree-bytes, tree-reads, tree-few, tree-nodes, batch-edit}
 use Rattle.edit.proofs.WholeReads.{whole-path, whole-seam, whole-chain, first-shown}
 
 -- the change
@@ -143,6 +143,11 @@ module _ (digest : List ℕ → List ℕ) (bits : ℕ) (fits : IsDigest digest) 
         → length now.read ≡ length (delete_nodes digest bits es key)
     delete-counts root' gone now ended =
         tree-reads digest bits fits gives root (deleting key) es has root' gone now ended ∙ ap length delete-nodes
+
+    pub delete-path : (root' : List ℕ) (gone : ℕ) (now : Log) → IsEnded tree_answer root' gone now
+        → bytes_of now.read ≡ delete_nodes digest bits es key
+    delete-path root' gone now ended =
+        tree-bytes digest bits fits gives root (deleting key) es has root' gone now ended ∙ delete-nodes
 
   -- why there is none
   pub delete-refused : {A : Type 0} (D B P : Type 0) (given : List ℕ → Option A) (fault : Fault)

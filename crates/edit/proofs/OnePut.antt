@@ -33,7 +33,7 @@ use Rattle.batch_laws.specs.Within.{at_top}
 use Rattle.edit.specs.Stops.{IsCause}
 use Rattle.edit.specs.Tops.{IsEnded}
 use Rattle.edit.proofs.OneChange.{are-one, low-key, edit-of_batch}
-use Rattle.edit.proofs.OnTree.{is-batch, answers, read-bytes, keyed-changes, walk-refused, walk-few, tree-reads, tree-few, tree-nodes, batch-edit}
+use Rattle.edit.proofs.OnTree.{is-batch, answers, read-bytes, keyed-changes, walk-refused, walk-few, tree-bytes, tree-reads, tree-few, tree-nodes, batch-edit}
 use Rattle.edit.proofs.WholeReads.{whole-path}
 
 -- the change
@@ -117,6 +117,9 @@ module _ (digest : List ℕ → List ℕ) (bits : ℕ) (fits : IsDigest digest) 
     pub put-counts : length now.read ≡ length (path digest bits es key)
     put-counts =
         tree-reads digest bits fits gives root (putting key value) es has root' gone now ended ∙ ap length put-reads
+
+    pub put-path : bytes_of now.read ≡ path digest bits es key
+    put-path = tree-bytes digest bits fits gives root (putting key value) es has root' gone now ended ∙ put-reads
 
     pub ended-few : length now.read ≤ suc (top_layer digest bits es)
     ended-few =

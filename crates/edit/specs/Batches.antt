@@ -65,6 +65,12 @@ abbrev pub IsBatch : {D A : Type 0} → (List ℕ → List ℕ) → ℕ → (Lis
 IsBatch digest bits gives root cs result = OfTree digest bits gives root (λ es. IfOk result (λ edit.
     IsBatchOf digest bits cs es edit.root (map arc_value edit.add.items) edit.drop.items edit.previous.items))
 
+-- and it has the nodes that its changes read, each once, in the order in which they are read
+abbrev pub HasNodes : {D A : Type 0} → (List ℕ → List ℕ) → ℕ → (List ℕ → Option (Arc (List ℕ) A)) → List ℕ
+    → List Change → Result (BatchEdit D A) (EditFault D A) → Type 0
+HasNodes digest bits gives root cs result = OfTree digest bits gives root (λ es. IfOk result (λ edit.
+    map arc_value edit.read.items ≡ nodes_read digest bits cs es))
+
 -- it is refused as nodes of the tree before and after clash, or memory was wanted
 abbrev pub IsBatchRefusal : {D A : Type 0} → (List ℕ → List ℕ) → ℕ → (List ℕ → Option (Arc (List ℕ) A)) → List ℕ
     → List Change → Result (BatchEdit D A) (EditFault D A) → Type 0
@@ -98,6 +104,19 @@ abbrev pub IsAnswered : {D A : Type 0} → (List ℕ → List ℕ) → ℕ → (
     → List Change → Result (BatchEdit D A) (EditFault D A) → Type 0
 IsAnswered digest bits gives root cs result = IfOk result (λ edit.
     IsAnswer digest (answer_of digest bits gives cs root) edit.root (map arc_value edit.add.items) edit.drop.items)
+
+-- these are the nodes that an answer has read
+pub record AreReadFor (answer : Step Top) (root : List ℕ) (read : List (List ℕ)) : Type 0 where
+  pub left : List Shape
+  pub log : Log
+  pub is : answer ≡ Ok ((root, left), log)
+  pub read_is : read ≡ bytes_of (log.read ++ left)
+
+-- the edit has them
+abbrev pub HasNodesOver : {D A : Type 0} → (List ℕ → List ℕ) → ℕ → (List ℕ → Option (Arc (List ℕ) A)) → List ℕ
+    → List Change → Result (BatchEdit D A) (EditFault D A) → Type 0
+HasNodesOver digest bits gives root cs result = IfOk result (λ edit.
+    AreReadFor (answer_of digest bits gives cs root) edit.root (map arc_value edit.read.items))
 
 -- and how many nodes may be read for it: the root, and as many as the changes read at most below a top of its layer
 abbrev pub most_of : {A : Type 0} → (List ℕ → List ℕ) → ℕ → (List ℕ → Option (Arc (List ℕ) A)) → List Change

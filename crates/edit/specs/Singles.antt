@@ -12,7 +12,7 @@ use Rattle.lookups.specs.Trees.{OfTree}
 use Rattle.edit.specs.declared.outcome.Edit.{Edit}
 use Rattle.edit.specs.declared.outcome.EditFault.{EditFault}
 use Rattle.edit.specs.Batches.{answer_of, most_of, IsReason}
-use Rattle.edit.specs.Deletes.{IsDeleteOf}
+use Rattle.edit.specs.Deletes.{IsDeleteOf, nodes_read}
 use Rattle.edit.specs.Edits.{IsEditOf}
 use Rattle.edit.specs.Refusals.{IsRefusal}
 
@@ -30,6 +30,12 @@ IsPut digest bits gives root key value result = OfTree digest bits gives root (�
     IsEditOf digest bits es (with_key es key value) key (path digest bits es key) edit.root
     (map arc_value edit.add.items) edit.drop.items edit.previous))
 
+-- and it has the nodes of the key's path, each once, from the top
+abbrev pub HasPath : {D A : Type 0} → (List ℕ → List ℕ) → ℕ → (List ℕ → Option (Arc (List ℕ) A)) → List ℕ → List ℕ
+    → Result (Edit D A) (EditFault D A) → Type 0
+HasPath digest bits gives root key result = OfTree digest bits gives root (λ es. IfOk result (λ edit.
+    map arc_value edit.read.items ≡ path digest bits es key))
+
 -- it is refused as nodes of the tree before and after clash, or memory was wanted
 abbrev pub IsPutRefusal : {D A : Type 0} → (List ℕ → List ℕ) → ℕ → (List ℕ → Option (Arc (List ℕ) A)) → List ℕ
     → List ℕ → List ℕ → Result (Edit D A) (EditFault D A) → Type 0
@@ -41,6 +47,12 @@ abbrev pub IsDelete : {D A : Type 0} → (List ℕ → List ℕ) → ℕ → (Li
     → Result (Edit D A) (EditFault D A) → Type 0
 IsDelete digest bits gives root key result = OfTree digest bits gives root (λ es. IfOk result (λ edit.
     IsDeleteOf digest bits es key edit.root (map arc_value edit.add.items) edit.drop.items edit.previous))
+
+-- and it has the nodes that a delete reads, each once, in the order in which they are read
+abbrev pub HasDeletePath : {D A : Type 0} → (List ℕ → List ℕ) → ℕ → (List ℕ → Option (Arc (List ℕ) A)) → List ℕ
+    → List ℕ → Result (Edit D A) (EditFault D A) → Type 0
+HasDeletePath digest bits gives root key result = OfTree digest bits gives root (λ es. IfOk result (λ edit.
+    map arc_value edit.read.items ≡ nodes_read digest bits es key))
 
 -- it is refused as the tree doesn't have the key, nodes of the tree before and after clash, or memory was wanted
 abbrev pub IsDeleteRefusal : {D A : Type 0} → (List ℕ → List ℕ) → ℕ → (List ℕ → Option (Arc (List ℕ) A)) → List ℕ

@@ -11,13 +11,14 @@ ghost use Rattle.edit_laws.specs.Laws.Edits.{bytes_of};
 ghost use Rattle.edit.specs.States.{log_in};
 ghost use Rattle.lookups.specs.Trees.{OfTree};
 ghost use Rattle.batch_laws.specs.Counts.{most_reads};
-ghost use Rattle.edit.specs.Batches.{nodes_read, IsBatch, IsBatchRefusal, IsAnswered, IsLack};
+ghost use Rattle.edit.specs.Batches.{nodes_read, IsBatch, IsBatchRefusal, IsAnswered, IsLack, HasNodes, HasNodesOver};
 ghost use Rattle.key_changes.specs.Keyed.{are_changes as are_changes_of};
 
 use crate::differences::{added, dropped, places_of_read};
 use crate::edge::Edge;
 use crate::hashed::hash_each;
 use crate::outcome::{BatchEdit, EditFault};
+use crate::previews::shared;
 use crate::whole::{Changed, change_tree};
 use block::Block;
 use cid::{Cid, Digest};
@@ -61,6 +62,8 @@ pub fn apply<
     ensures edit { IsBatch D.digest_of B (S.gives src.old) root changes.now result }
     ensures fault { IsBatchRefusal D.digest_of B (S.gives src.old) root changes.now result }
     ensures answer { IsAnswered D.digest_of B (S.gives src.old) root changes.now result }
+    ensures nodes { HasNodes D.digest_of B (S.gives src.old) root changes.now result }
+    ensures nodes_over { HasNodesOver D.digest_of B (S.gives src.old) root changes.now result }
     ensures lack { IsLack D.digest_of B (S.gives src.old) root changes.now result }
     ensures reads { OfTree D.digest_of B (S.gives src.old) root (λ es. OnOk result
         (S.reads src.new ≡ S.reads src.old + length (nodes_read D.digest_of B changes.now es))) }
@@ -82,6 +85,8 @@ pub(crate) fn difference_of<D: Digest, A: Allocator + Clone>(
     requires { changed.gone ≤ length changed.edge.read.items }
     ensures root { IfOk result (λ edit. edit.root ≡ changed.entry.root) }
     ensures previous { IfOk result (λ edit. edit.previous.items ≡ changed.entry.previous.items) }
+    ensures read { IfOk result (λ edit.
+        map arc_value edit.read.items ≡ bytes_of (log_in changed.entry.edge).read) }
     ensures add { IfOk result (λ edit. map arc_value edit.add.items ≡ add_of D.digest_of
         (bytes_of (log_in changed.entry.edge).read) (bytes_of (log_in changed.entry.edge).made)) }
     ensures drop { IfOk result (λ edit. edit.drop.items ≡ drop_of D.digest_of
@@ -106,11 +111,13 @@ pub(crate) fn difference_of<D: Digest, A: Allocator + Clone>(
     let old = places_of_read(alloc.clone()?, &read)?;
     let made = made.into_blocks();
     let drop = dropped(alloc.clone()?, &made, &read[..gone])?;
-    let add = added(alloc, &read, &old, made)?;
+    let add = added(alloc.clone()?, &read, &old, made)?;
+    let read = shared(alloc, &read)?;
     Ok(BatchEdit {
         root,
         add,
         drop,
         previous,
+        read,
     })
 }

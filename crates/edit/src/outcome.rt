@@ -26,6 +26,8 @@ pub struct BatchEdit<D: Digest, A: Allocator = Global> {
     pub drop: Vec<Cid, A>,
     /// The value that the key of each change had before, in the order of the changes.
     pub previous: Vec<Option<Cid>, A>,
+    /// The nodes of the tree before that were read, each once, in the order in which they were read, shared with the source.
+    pub read: Vec<Arc<Block<D, A>, A>, A>,
 }
 
 /// What the change of one key does: a [`BatchEdit`] of one change.
@@ -40,6 +42,8 @@ pub struct Edit<D: Digest, A: Allocator = Global> {
     pub drop: Vec<Cid, A>,
     /// The value that the key had before.
     pub previous: Option<Cid>,
+    /// The nodes of the tree before that were read, as in a [`BatchEdit`].
+    pub read: Vec<Arc<Block<D, A>, A>, A>,
 }
 
 /// Why a tree was not changed. Nothing is left behind then.

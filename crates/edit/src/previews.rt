@@ -79,7 +79,7 @@ pub fn preview<
 }
 
 /// The blocks of nodes that were read, shared.
-fn shared<D: Digest, A: Allocator>(
+pub(crate) fn shared<D: Digest, A: Allocator>(
     alloc: A,
     read: &[ReadNode<'_, D, A>],
 ) -> Result<Vec<Arc<Block<D, A>, A>, A>, AllocError>

@@ -13,7 +13,7 @@ ghost use Rattle.batch_laws.specs.Counts.{most_reads};
 ghost use Rattle.batch_laws.specs.Links.{Top, Step};
 ghost use Rattle.edit.specs.Batches.{IsAnswer};
 ghost use Rattle.edit.specs.Refusals.{IsRefusal, IsMissing};
-ghost use Rattle.edit.specs.Singles.{first_value, IsPut, IsPutRefusal, IsPutLack, IsDelete, IsDeleteRefusal, IsDeleteLack};
+ghost use Rattle.edit.specs.Singles.{first_value, HasPath, HasDeletePath, IsPut, IsPutRefusal, IsPutLack, IsDelete, IsDeleteRefusal, IsDeleteLack};
 ghost use Rattle.edit.specs.States.{log_in};
 ghost use Rattle.edit.specs.Tops.{IsEnded};
 
@@ -51,6 +51,7 @@ pub fn put<
     requires least { 1 ≤ B }
     requires key { is_key key.now ≡ true }
     ensures edit { IsPut D.digest_of B (S.gives src.old) root key.now value result }
+    ensures nodes { HasPath D.digest_of B (S.gives src.old) root key.now result }
     ensures fault { IsPutRefusal D.digest_of B (S.gives src.old) root key.now value result }
     ensures lack { IsPutLack D.digest_of B (S.gives src.old) root key.now value result }
     ensures missing { ¬ IsWholePath (nodes_given (S.gives src.old)) (layers B) key.now (Some root)
@@ -88,6 +89,7 @@ pub fn delete<
 >(alloc: A, src: &mut S, root: Cid, key: &[u8]) -> Result<Edit<D, A>, EditFault<D, A>>
     requires least { 1 ≤ B }
     ensures edit { IsDelete D.digest_of B (S.gives src.old) root key.now result }
+    ensures nodes { HasDeletePath D.digest_of B (S.gives src.old) root key.now result }
     ensures fault { IsDeleteRefusal D.digest_of B (S.gives src.old) root key.now result }
     ensures lack { IsDeleteLack D.digest_of B (S.gives src.old) root key.now result }
     ensures missing { ¬ CanReadDelete (nodes_given (S.gives src.old)) (layers B) key.now root
@@ -159,6 +161,8 @@ fn edit_of<D: Digest, A: Allocator + Clone>(
         (map arc_value edit.add.items) edit.drop.items) }
     ensures previous { IfOk result (λ edit.
         edit.previous ≡ first_value changed.entry.previous.items) }
+    ensures read { IfOk result (λ edit.
+        map arc_value edit.read.items ≡ bytes_of (log_in changed.entry.edge).read) }
     ensures fault { IfErr result (IsRefusal D.digest_of (bytes_of (log_in changed.entry.edge).made
         ++ bytes_of (log_in changed.entry.edge).read) ⊥) }
 {
@@ -168,6 +172,7 @@ fn edit_of<D: Digest, A: Allocator + Clone>(
         add,
         drop,
         previous,
+        read,
     } = edit;
     let previous = value_before(&previous);
     Ok(Edit {
@@ -175,5 +180,6 @@ fn edit_of<D: Digest, A: Allocator + Clone>(
         add,
         drop,
         previous,
+        read,
     })
 }

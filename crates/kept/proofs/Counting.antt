@@ -113,6 +113,12 @@ module _ {D A : Type 0} where
   raised_no_other digest me es fs bytes h p e =
       no_other_in (at es (cid_of digest bytes)) bytes h.no_other p (sym (get_counted es (cid_of digest bytes)) ∙ e)
 
+  -- where what is kept under the CID of these bytes has them, no other block stands there
+  pub counted_no_other : (digest : List ℕ → List ℕ) (es : Uses D A) (bytes : List ℕ)
+      → ((v : Use D A) → at es (cid_of digest bytes) ≡ Some v → arc_value v.hold.0 ≡ bytes) → HasNoOther digest (counted es) bytes
+  counted_no_other digest es bytes h p e =
+      no_other_in (at es (cid_of digest bytes)) bytes h p (sym (get_counted es (cid_of digest bytes)) ∙ e)
+
   -- ---- one use less
 
   cond_counted : (w o : Option (Use D A)) (x : Option (List ℕ × ℕ)) (b : Bool) → count_in w ≡ x

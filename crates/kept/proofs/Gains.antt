@@ -7,7 +7,7 @@ use Rattle.std.specs.declared.cmp.Ordering.TheVariants.{Less, Equal, Greater}
 use Rattle.std.specs.Ordering.{nat_cmp, is_eq}
 use Rattle.std.specs.Cmp.Lexicographic.{slice_cmp, nat_list_cmp_total}
 use Rattle.std.specs.FinMap as map
-use Rattle.std.proofs.lemmas.List.Elements.{Contains-append_cases}
+use Rattle.std.proofs.lemmas.List.Elements.{Contains-append_cases, Contains-append_right}
 use Rattle.spec.specs.Cid.{cid}
 use Rattle.spec.specs.Blocks.{IsClashFree}
 use Rattle.edit_laws.specs.Order.{order}
@@ -268,6 +268,17 @@ last-taken_back digest m bs b used h =
     let last = alone-last digest m bs b h in
     ap (λ (k : Counts). lowered k (cid digest b)) (gained-more digest m bs b)
     ∙ taken_back digest (gained digest m bs) b ((gained-is digest m bs last.0).used used) last.1
+
+-- what stands under the CID of none of the blocks that come stays
+pub gained-beside : (digest : List ℕ → List ℕ) (m : Counts) (bs : List (List ℕ)) (c : List ℕ) → ((b : List ℕ) → Contains bs b → cid digest b ≡ c → ⊥)
+    → map.get (gained digest m bs) c ≡ map.get m c
+gained-beside digest m [] c none = refl
+gained-beside digest m (b ∷ bs) c none =
+    gained-beside digest (raised digest m b) bs c (λ x i. none x (Contains-append_right (b ∷ []) bs x i))
+    ∙ elim (tell c (cid digest b)) [
+      | inl s ↦ absurd (none b (0, omega arith, refl) (sym s))
+      | inr a ↦ raised-beside digest m b c a
+    ]
 
 -- ---- no other block under the CIDs of those that come
 

@@ -1,6 +1,7 @@
 pub mod Entries
 pub mod Counting
 pub mod Gains
+pub mod Fronting
 pub mod Exchanging
 pub mod Outcomes
 pub mod Keepings

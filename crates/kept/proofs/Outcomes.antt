@@ -8,3 +8,7 @@ on_ok_two (Err e) f p q = tt
 pub on_err_known : {T E : Type 0} {P : Type 0} (r : Result T E) → P → OnErr r P
 on_err_known (Ok x) p = tt
 on_err_known (Err e) p = p
+
+pub on_ok_known : {T E : Type 0} {P Q : Type 0} (r : Result T E) → OnOk r P → (P → Q) → OnOk r Q
+on_ok_known (Ok x) p f = f p
+on_ok_known (Err e) p f = tt

@@ -43,6 +43,12 @@ IsApplied digest bits m root cs result = OfTree digest bits m root (λ es. IfOk 
     IsBatchOf digest bits cs es made.0.root
     (each arc_value made.0.add.items) made.0.drop.items made.0.previous.items))
 
+-- and it has the nodes that these changes read, each once, in the order in which they are read
+abbrev pub HasNodes : {D A : Type 0} → (List ℕ → List ℕ) → ℕ → Counts → List ℕ → List Change
+    → Result (BatchEdit D A × Count) (EditFault D A) → Type 0
+HasNodes digest bits m root cs result = OfTree digest bits m root (λ es. IfOk result (λ made.
+    each arc_value made.0.read.items ≡ nodes_read digest bits cs es))
+
 -- it is refused as nodes of the tree before and after clash, or memory was wanted
 abbrev pub IsApplyRefusal : {D A : Type 0} → (List ℕ → List ℕ) → ℕ → Counts → List ℕ → List Change
     → Result (BatchEdit D A × Count) (EditFault D A) → Type 0

@@ -97,6 +97,10 @@ pub record IsUse {D A : Type 0} (digest : List ℕ → List ℕ) (me : ℕ) (c :
 abbrev pub AreUses : {D A : Type 0} → (List ℕ → List ℕ) → ℕ → (List ℕ → Option (Use D A)) → Type 0
 AreUses digest me f = (q : List ℕ) (u : Use _ _) → f q ≡ Some u → IsUse digest me q u
 
+-- each use stands under the CID of its block
+abbrev pub AreNamed : {D A : Type 0} → (List ℕ → List ℕ) → Uses D A → Type 0
+AreNamed digest m = (c : List ℕ) (u : Use _ _) → at m c ≡ Some u → c ≡ cid_of digest (arc_value u.hold.0)
+
 -- what a core's map always is: its number is below 1,024, and each entry is one of its uses
 pub record IsKept {D A : Type 0} (digest : List ℕ → List ℕ) (me : ℕ) (m : Uses D A) : Type 0 where
   pub small : me < 1024

@@ -1,22 +1,29 @@
 //! What a core keeps.
 
-ghost use Rattle.std.specs.Prelude.{◌≡◌, ◌<◌, map, option_map, IfErr, OnOk, OnErr};
+ghost use Rattle.std.specs.Prelude.{◌≡◌, ◌<◌, map, option_map, IfOk, IfErr, OnOk, OnErr};
 ghost use Rattle.std.specs.Arc.{arc_value};
 ghost use Rattle.std.specs.List.Sorted.{IsPermutation};
 ghost use Rattle.spec.specs.Blocks.{IsClashFree};
+ghost use Rattle.lookups.specs.Maps.{first_of};
+ghost use Rattle.store.specs.Faults.{IsRefusalOf};
 ghost use Rattle.store.specs.Stores.{IsStore, fulls_after};
-ghost use Rattle.kept.specs.Counts.{HaveNoOther, count_at, bytes_at, blocks_of, none_kept, exchanged};
-ghost use Rattle.kept.specs.Uses.{used_blocks, HasAll, HasUses};
-ghost use Rattle.kept.specs.Faults.{IsRefusalOfOne};
+ghost use Rattle.kept.specs.Counts.{HaveNoOther, count_at, bytes_at, blocks_of, gained, none_kept, exchanged};
+ghost use Rattle.kept.specs.Uses.{counted, used_blocks, AreNamed, HasAll, HasUses};
+ghost use Rattle.kept.specs.Alone.{AreAlone, IsGivenSame};
+ghost use Rattle.kept.specs.Faults.{IsNotFull, IsRefusalOfOne};
+ghost use Rattle.kept.specs.Fronts.{LendsAll};
 ghost use Rattle.kept.specs.Leaving.{is_held};
 ghost use Rattle.kept.specs.Entering.{Enters, EntersKept, no_block};
 
 use crate::blocks::Blocks;
+use crate::kept_use::collision;
 use crate::lender::Lender;
+use crate::lender_with::LenderWith;
 use crate::use_map::UseMap;
 use block::Block;
 use cid::{Cid, Digest};
 use counts::Count;
+use lookups::{BlockMap, Source};
 use std::alloc::{Allocator, Global};
 use std::marker::Model;
 use std::sync::Arc;
@@ -120,6 +127,34 @@ impl<D: Digest, A: Allocator> Kept<D, A> {
 }
 
 impl<D: Digest, A: Allocator + Clone> Kept<D, A> {
+    /// The blocks as a source that wasn't asked for any so far, with others in front that are to come: what is kept once these
+    /// have come, and what is kept now. Nothing is acquired.
+    ///
+    /// `StoreFault::Collision` shows a block that is to come and another one under its CID, which is to come too or is kept, and
+    /// `StoreFault::NoMemory` comes where memory was refused. It is no other fault.
+    pub fn lender_with<'a>(
+        &'a self,
+        alloc: A,
+        come: &'a [Arc<Block<D, A>, A>],
+    ) -> Result<LenderWith<'a, D, A>, StoreFault<D, A>>
+        ensures blocks { IfOk result (λ lender. LendsAll D.digest_of lender
+            (gained D.digest_of self.now.uses (map arc_value come.now))) }
+        ensures no_other { OnOk result
+            (HaveNoOther D.digest_of self.now.uses (map arc_value come.now)) }
+        ensures clash_free { OnOk result (IsClashFree D.digest_of (map arc_value come.now)) }
+        ensures asked { IfOk result (λ lender. lender.asked.times ≡ 0) }
+        ensures fault { IfErr result (IsRefusalOfOne D.digest_of (map arc_value come.now)) }
+        ensures not_full { IfErr result IsNotFull }
+    {
+        let mut front = BlockMap::new(alloc, come)?;
+        test_alone(&self.blocks, &mut front, come)?;
+        Ok(LenderWith {
+            come: front,
+            kept: self.lender(),
+            asked: Count::never(),
+        })
+    }
+
     /// Counts one use more of each block that comes, in their order, and then one use less of the block with each of the CIDs
     /// that go, where there is one. What isn't held is acquired, and a block without a use is given back. A block may come
     /// several times, and go several times.
@@ -149,4 +184,47 @@ impl<D: Digest, A: Allocator + Clone> Kept<D, A> {
         self.blocks.lose(store, go);
         Ok(())
     }
+}
+
+/// Tests of each of some blocks that no other one has its CID, of those in front and of those that are kept: a collision shows
+/// two.
+fn test_alone<'a, D: Digest, A: Allocator + Clone>(
+    kept: &UseMap<D, A>,
+    front: &mut BlockMap<'a, D, A>,
+    come: &[Arc<Block<D, A>, A>],
+) -> Result<(), StoreFault<D, A>>
+    requires { AreNamed D.digest_of kept.now }
+    ensures alone { OnOk result (AreAlone D.digest_of (first_of D.digest_of front.old.blocks)
+        (counted kept.now) (map arc_value come.now)) }
+    ensures fault { IfErr result (IsRefusalOfOne D.digest_of (map arc_value come.now)) }
+    ensures not_full { IfErr result IsNotFull }
+    ensures gives { first_of D.digest_of front.new.blocks
+        ≡ first_of D.digest_of front.old.blocks }
+{
+    for block in come {
+        test_first(front, block)?;
+        kept.test_other(block)?;
+    }
+    Ok(())
+}
+
+/// Tests that the first of some blocks with the CID of a block, where there is one, is the same: a collision shows the two.
+fn test_first<'a, D: Digest, A: Allocator + Clone>(
+    blocks: &mut BlockMap<'a, D, A>,
+    block: &Arc<Block<D, A>, A>,
+) -> Result<(), StoreFault<D, A>>
+    ensures same { OnOk result (IsGivenSame D.digest_of
+        (first_of D.digest_of blocks.old.blocks) (arc_value block.now)) }
+    ensures fault { IfErr result (IsRefusalOf D.digest_of (arc_value block.now)) }
+    ensures not_full { IfErr result IsNotFull }
+    ensures gives { first_of D.digest_of blocks.new.blocks
+        ≡ first_of D.digest_of blocks.old.blocks }
+{
+    let Some(first) = blocks.get(&block.cid()) else {
+        return Ok(());
+    };
+    if first.bytes() != block.bytes() {
+        return Err(collision(block, first));
+    }
+    Ok(())
 }

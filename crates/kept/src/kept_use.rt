@@ -19,7 +19,7 @@ pub(crate) struct Use<D: Digest, A: Allocator> {
 }
 
 /// Shows that another block is held under the CID of the block that came.
-fn collision<D: Digest, A: Allocator>(
+pub(crate) fn collision<D: Digest, A: Allocator>(
     came: &Arc<Block<D, A>, A>,
     held: &Arc<Block<D, A>, A>,
 ) -> StoreFault<D, A>
@@ -35,6 +35,19 @@ fn collision<D: Digest, A: Allocator>(
 }
 
 impl<D: Digest, A: Allocator> Use<D, A> {
+    /// Tests that a block with its CID is the same: another one is a collision.
+    pub(crate) fn test_same(&self, block: &Arc<Block<D, A>, A>) -> Result<(), StoreFault<D, A>>
+        requires { HaveOneCid D.digest_of (arc_value block.now) (arc_value self.now.hold.0) }
+        ensures same_bytes { OnOk result (arc_value self.now.hold.0 ≡ arc_value block.now) }
+        ensures fault { IfErr result (IsRefusalOf D.digest_of (arc_value block.now)) }
+        ensures not_full { IfErr result IsNotFull }
+    {
+        if self.hold.block().bytes() != block.bytes() {
+            return Err(collision(block, self.hold.block()));
+        }
+        Ok(())
+    }
+
     /// Counts one use more of the same block. Another block with its CID is a collision.
     pub(crate) fn raise(&mut self, block: &Arc<Block<D, A>, A>) -> Result<(), StoreFault<D, A>>
         requires { HaveOneCid D.digest_of (arc_value block.now) (arc_value self.old.hold.0) }
@@ -44,9 +57,7 @@ impl<D: Digest, A: Allocator> Use<D, A> {
         ensures fault { IfErr result (IsRefusalOf D.digest_of (arc_value block.now)) }
         ensures not_full { IfErr result IsNotFull }
     {
-        if self.hold.block().bytes() != block.bytes() {
-            return Err(collision(block, self.hold.block()));
-        }
+        self.test_same(block)?;
         // Each use has a key or a node in memory, so there is always a greater number.
         let Some(uses) = self.uses.checked_add(1) else {
             return Err(StoreFault::NoMemory);

@@ -2,7 +2,7 @@
 
 ghost use Rattle.std.specs.Prelude.{◌≡◌, ◌≤◌, true, IfOk};
 ghost use Rattle.key_changes.specs.Keyed.{are_changes};
-ghost use Rattle.kept.specs.Trees.{OfTree, IsValue, AreListed, IsReadOnce, IsApplied, IsApplyRefusal, AreReadFor, IsReadAtMost};
+ghost use Rattle.kept.specs.Trees.{OfTree, IsValue, AreListed, IsReadOnce, IsApplied, HasNodes, IsApplyRefusal, AreReadFor, IsReadAtMost};
 
 use crate::kept::Kept;
 use cid::{Cid, Digest};
@@ -61,6 +61,7 @@ pub fn apply_over<'a, D: Digest + 'a, const B: u8, A: Allocator + Clone + 'a>(
     requires least { 1 ≤ B }
     requires changes { are_changes changes.now ≡ true }
     ensures edit { IsApplied D.digest_of B kept.now.uses root changes.now result }
+    ensures nodes { HasNodes D.digest_of B kept.now.uses root changes.now result }
     ensures reads { IfOk result
         (λ made. AreReadFor D.digest_of B kept.now.uses root changes.now made.1) }
     ensures most { IfOk result

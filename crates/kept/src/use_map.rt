@@ -8,9 +8,9 @@ ghost use Rattle.std.specs.Map.{keys_of};
 ghost use Rattle.std.specs.FinMap as map;
 ghost use Rattle.store.specs.Faults.{IsRefusalOf};
 ghost use Rattle.store.specs.Stores.{IsStore, fulls_after};
-ghost use Rattle.kept.specs.Counts.{Counts, AllUsed, ComeAlone, gained, lost};
-ghost use Rattle.kept.specs.Uses.{at, counted, AreUses, lowered_in, IsChanged, IsRaisedIn, IsTaken};
-ghost use Rattle.kept.specs.Faults.{IsRefusalOfOne};
+ghost use Rattle.kept.specs.Counts.{Counts, AllUsed, ComeAlone, HasNoOther, gained, lost};
+ghost use Rattle.kept.specs.Uses.{at, counted, AreNamed, AreUses, lowered_in, IsChanged, IsRaisedIn, IsTaken};
+ghost use Rattle.kept.specs.Faults.{IsNotFull, IsRefusalOfOne};
 ghost use Rattle.kept.specs.Entering.{Enters, Follows, has_entry, no_block};
 
 use crate::kept_use::Use;
@@ -78,6 +78,20 @@ impl<D: Digest, A: Allocator> UseMap<D, A> {
         ensures distinct { IsDistinct (pointwise nat_eq) (keys_of result) }
     {
         self.blocks.iter()
+    }
+
+    /// Tests that no other block is kept under the CID of a block: a collision shows the two.
+    pub(crate) fn test_other(&self, block: &Arc<Block<D, A>, A>) -> Result<(), StoreFault<D, A>>
+        requires { AreNamed D.digest_of self.now }
+        ensures none { OnOk result
+            (HasNoOther D.digest_of (counted self.now) (arc_value block.now)) }
+        ensures fault { IfErr result (IsRefusalOf D.digest_of (arc_value block.now)) }
+        ensures not_full { IfErr result IsNotFull }
+    {
+        let Some(held) = self.get(&block.cid()) else {
+            return Ok(());
+        };
+        held.test_same(block)
     }
 
     /// Counts one use less of the block with this CID, where there is one. A block without a use is given back. It takes no

@@ -5,23 +5,25 @@ use Rattle.spec.specs.Cid.{IsDigest}
 use Rattle.spec.specs.Blocks.{IsClashFree}
 use Rattle.spec.specs.Stamps.{Stamp}
 use Rattle.spec.specs.States.{State, after_batch}
+use Rattle.std.specs.Prelude.{IfErr, OnOk, Result, Ok, Err}
 use Rattle.spec.specs.Writes.{Write}
 use Rattle.store.specs.Stores.{fulls_after_fault}
 use Rattle.store.specs.declared.fault.StoreFault.{StoreFault}
 use Rattle.store.specs.declared.fault.StoreFault.TheVariants as stores
 use Rattle.kept.specs.Counts.{Keeping, HaveNoOther, exchanged}
 use Rattle.kept.specs.Faults.{IsRefusalOfOne}
-use Rattle.batches.specs.Tests.{of_store}
+use Rattle.batches.specs.Tests.{of_store, test_fault}
 use Rattle.batches.specs.declared.fault.RepoFault.{RepoFault}
 use Rattle.batches.specs.declared.fault.RepoFault.TheVariants as faults
 use Rattle.repo.specs.Cores.{IsCore}
 use Rattle.repo.specs.Exchanging.{IsExchangeOf}
 use Rattle.repo.specs.Fulls.{is_full}
-use Rattle.repo.specs.Refusals.{IsRefusal, IsStagedBatch, IsTestRefusal}
+use Rattle.repo.specs.Refusals.{IsOther, IsRefusal, IsRefusalBy, IsStagedBatch, IsStoreRefusal, IsTestRefusal}
+use Rattle.repo.specs.Prepared.{Prepared, prepared_of}
 use Rattle.repo.specs.Wants.{placed}
-use Rattle.repo.proofs.Exchanging.{exchanged-staged}
+use Rattle.repo.proofs.Exchanging.{exchanged-staged, has-passed}
 use Rattle.repo.proofs.Keeping.{core-after}
-use Rattle.repo.proofs.LastPlace.{exchange-refused}
+use Rattle.repo.proofs.LastPlace.{exchange-refused, passes-before}
 
 -- ---- taken
 
@@ -34,13 +36,13 @@ pub record IsTaken (digest : List ℕ → List ℕ) (bits : ℕ) (s t : State) (
 
 module _ (digest : List ℕ → List ℕ) (bits : ℕ) (s : State) (root : List ℕ) (commit : Option (List ℕ)) (k : Keeping)
     (is : IsCore digest bits s root commit k) where
-  pub taken : IsDigest digest → (t : State) (n : Keeping) (stamp : Stamp) (batch : List Write) (next made : List ℕ) (come go : List (List ℕ))
-      → IsExchangeOf digest bits s stamp batch next made come go → n ≡ exchanged digest k come go → HaveNoOther digest k.uses come → IsClashFree digest come
+  pub taken : IsDigest digest → (t : State) (n : Keeping) (stamp : Stamp) (batch : List Write) (next made : List ℕ) (add come drop go : List (List ℕ))
+      → IsExchangeOf digest bits s stamp batch next made add come drop go → n ≡ exchanged digest k come go → HaveNoOther digest k.uses come → IsClashFree digest come
       → t ≡ after_batch s stamp batch → IsTaken digest bits s t stamp batch next made n
-  taken fits t n stamp batch next made come go x e none free after =
+  taken fits t n stamp batch next made add come drop go x e none free after =
       let staged : IsStagedBatch digest bits s stamp batch next made n.uses =
       subst (λ (l : Keeping). IsStagedBatch digest bits s stamp batch next made l.uses) (sym e)
-      (exchanged-staged digest bits fits s stamp batch next made come go k is.lawful is.kept x none free) in
+      (exchanged-staged digest bits fits s stamp batch next made add come drop go k is.lawful is.kept x none free) in
       record {
         state = after;
         staged = staged;
@@ -82,13 +84,69 @@ pub asked : {D A : Type 0} (full last : ℕ) (fault : StoreFault D A) (here : Re
 asked {D} {A} full last fault here e l = l ∙ told full fault ∙ ap (λ (f : RepoFault D A). cond (is_full f) (suc full) full) (sym e)
 
 module _ (digest : List ℕ → List ℕ) (bits : ℕ) (s : State) (stamp : Stamp) (batch : List Write) (root commit : List ℕ)
-    (come go : List (List ℕ)) (is : IsExchangeOf digest bits s stamp batch root commit come go) where
+    (add come drop go : List (List ℕ)) (is : IsExchangeOf digest bits s stamp batch root commit add come drop go) where
   -- a refusal of the store, at its place
-  pub store-refused : {D A : Type 0} (full last n : ℕ) (fault : StoreFault D A) (here : RepoFault D A) → length batch ≡ n
-      → IsRefusalOfOne digest come fault → here ≡ of_store fault → last ≡ fulls_after_fault full fault
-      → IsRefusal digest bits s stamp batch full last (placed (n - 1) here)
-  store-refused {D} {A} full last n fault here e h f l =
-      subst (λ (r : RepoFault D A). IsRefusal digest bits s stamp batch full last (placed (n - 1) r)) (sym f)
-      (subst (λ (m : ℕ). IsRefusal digest bits s stamp batch full m (placed (n - 1) (of_store fault))) (sym l)
-      (subst (λ (m : ℕ). IsRefusal digest bits s stamp batch full (fulls_after_fault full fault) (placed (m - 1) (of_store fault))) e
-      (exchange-refused digest bits s stamp batch root commit come go is full fault h)))
+  pub store-refused : {D A : Type 0} (full last n : ℕ) (fault : StoreFault D A) (here : RepoFault D A) (e : ℕ × RepoFault D A) → length batch ≡ n
+      → IsRefusalOfOne digest come fault → here ≡ of_store fault → last ≡ fulls_after_fault full fault → e ≡ placed (n - 1) here
+      → IsStoreRefusal digest bits s stamp batch full last e
+  store-refused {D} {A} full last n fault here e k h f l p =
+      let at : e ≡ placed (length batch - 1) (of_store fault) =
+      p ∙ ap (λ (m : ℕ). placed (m - 1) here) (sym k) ∙ ap (λ (r : RepoFault D A). placed (length batch - 1) r) f in
+      subst (λ (x : ℕ × RepoFault D A). IsStoreRefusal digest bits s stamp batch full last x) (sym at)
+      (subst (λ (m : ℕ). IsStoreRefusal digest bits s stamp batch full m (placed (length batch - 1) (of_store fault))) (sym l)
+      (record { other = exchange-refused digest bits s stamp batch root commit add come drop go is full fault h; place = refl }))
+
+  -- want of room, at the first write
+  pub room-refused : (D A : Type 0) (full : ℕ) → IsStoreRefusal {D = D} {A = A} digest bits s stamp batch full full (0, faults.NoMemory)
+  room-refused D A full = record {
+    other = passes-before s stamp batch is.passes 0 (let some = (has-passed s stamp batch is.passes).some in omega (arith, some));
+    place = refl;
+  }
+
+-- what the store refuses is refused
+pub refused-after : {D A : Type 0} (digest : List ℕ → List ℕ) (bits : ℕ) (s : State) (stamp : Stamp) (batch : List Write) (full fuller : ℕ) (e : ℕ × RepoFault D A)
+    → IsStoreRefusal digest bits s stamp batch full fuller e → IsRefusal digest bits s stamp batch full fuller e
+refused-after {D} {A} digest bits s stamp batch full fuller e h = by e.1 h.other
+  where
+    by : (fault : RepoFault D A) → IsOther digest bits s stamp batch full fuller e.0 fault
+        → IsRefusalBy digest bits s stamp batch full fuller e.0 fault (test_fault fault)
+    by (faults.Collision pair) o = o
+    by faults.StoreFull o = o
+    by faults.NoMemory o = o
+    by (faults.BadRecord f) o = absurd o
+    by faults.BadKey o = absurd o
+    by faults.NotAMap o = absurd o
+    by faults.RecordSize o = absurd o
+    by faults.KeyExists o = absurd o
+    by faults.NoSuchKey o = absurd o
+    by faults.WritesFull o = absurd o
+    by faults.EmptyBatch o = absurd o
+    by faults.BadDid o = absurd o
+    by faults.BadRev o = absurd o
+    by faults.RevOrder o = absurd o
+
+-- ---- a batch that was tested and then accepted or refused
+
+-- what is known of the batch is known where it is accepted
+pub accepted-passes : {T E P : Type 0} (r : Result T E) → P → OnOk r P
+accepted-passes (Ok x) h = h
+accepted-passes (Err f) h = tt
+
+pub prepared-is : (s t : State) (stamp other : Stamp) (batch writes : List Write) → s ≡ t → stamp ≡ other → batch ≡ writes
+    → prepared_of s stamp batch ≡ prepared_of t other writes
+prepared-is s t stamp other batch writes e f h = λ i. prepared_of (e i) (f i) (h i)
+
+-- the store's refusal of a batch is that of one with the same stamp and writes
+pub refused-as : {T D A : Type 0} (digest : List ℕ → List ℕ) (bits : ℕ) (s : State) (full fuller : ℕ) (r : Result T (ℕ × RepoFault D A)) (p q : Prepared)
+    → p ≡ q → IfErr r (IsStoreRefusal digest bits s p.stamp p.writes full fuller) → IfErr r (IsStoreRefusal digest bits s q.stamp q.writes full fuller)
+refused-as digest bits s full fuller (Ok x) p q e h = tt
+refused-as {D = D} {A = A} digest bits s full fuller (Err f) p q e h =
+    subst (λ (b : Prepared). IsStoreRefusal {D = D} {A = A} digest bits s b.stamp b.writes full fuller f) e h
+
+pub refused-batch : {T D A : Type 0} (digest : List ℕ → List ℕ) (bits : ℕ) (r : Result T (ℕ × RepoFault D A)) (p : Prepared) (s : State)
+    (stamp : Stamp) (batch : List Write) → p ≡ prepared_of s stamp batch → (full fuller : ℕ)
+    → IfErr r (IsStoreRefusal digest bits s p.stamp p.writes full fuller) → IfErr r (IsRefusal digest bits s stamp batch full fuller)
+refused-batch digest bits (Ok x) p s stamp batch e full fuller h = tt
+refused-batch {D = D} {A = A} digest bits (Err f) p s stamp batch e full fuller h =
+    refused-after digest bits s stamp batch full fuller f
+    (subst (λ (q : Prepared). IsStoreRefusal digest bits s q.stamp q.writes full fuller f) e h)

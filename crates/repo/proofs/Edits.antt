@@ -14,7 +14,6 @@ use Rattle.batch_laws.specs.Previous.{values}
 use Rattle.batch_laws.specs.Uses.{present_values, records_come}
 use Rattle.batches.specs.Values.{stamp_of}
 use Rattle.batches.specs.declared.stamp.Stamp.{Stamp}
-use Rattle.edit.specs.Batches.{nodes_read}
 use Rattle.edit.specs.Refusals.{IsRefusal}
 use Rattle.edit.specs.declared.outcome.BatchEdit.{BatchEdit}
 use Rattle.edit.specs.declared.outcome.EditFault.{EditFault}
@@ -39,15 +38,12 @@ module _ {A : Type 0} (digest : List ℕ → List ℕ) (bits : ℕ) (s : State) 
       → came ≡ records_come (changes_in changes) → block ≡ commit_bytes (stamp_of stamp) edit.root → commit ≡ cid digest block
       → come ≡ (each arc_value edit.add.items ++ came) ++ block ∷ []
       → go ≡ (edit.drop.items ++ present_values edit.previous.items) ++ cons_option last []
-      → IsExchangeOf digest bits s (stamp_of stamp) batch edit.root commit come go
+      → IsExchangeOf digest bits s (stamp_of stamp) batch edit.root commit (each arc_value edit.add.items) come edit.drop.items go
   exchange-made edit came block commit come go h r b n x y =
       let cs = with_cids digest (collected batch) in
       let made : IsEditMade digest bits cs (pairs digest (records s)) edit =
       subst (λ (c : List Change). IsEditMade digest bits (with_cids digest c) (pairs digest (records s)) edit) on.changes_are h in
       record {
-        read = nodes_read digest bits cs (pairs digest (records s));
-        add = each arc_value edit.add.items;
-        drop = edit.drop.items;
         passes = on.passes;
         root_is = made.root_is;
         changes = made.changes;

@@ -45,7 +45,7 @@ use Rattle.kept.specs.Counts.{Counts, Keeping, HaveNoOther, bytes_at, count_of, 
 use Rattle.kept.specs.Gains.{IsGained, IsLost}
 use Rattle.kept.proofs.Gains.{alone-from, gained-is, lost-is}
 use Rattle.repo.specs.Keeping.{AreKept}
-use Rattle.repo.specs.Exchanging.{IsExchangeOf}
+use Rattle.repo.specs.Exchanging.{IsExchangeOf, nodes_read_for}
 use Rattle.repo.specs.Refusals.{IsStagedBatch}
 
 -- ---- a batch that passes
@@ -147,11 +147,17 @@ old-count : (digest : List ℕ → List ℕ) (c root : List ℕ) (o : Option Sta
 old-count digest c root None = refl
 old-count digest c root (Some stamp) = refl
 
+-- the root after a batch
+pub root-after : (digest : List ℕ → List ℕ) (bits : ℕ) (s : State) (stamp : Stamp) (batch : List Write) (root commit : List ℕ)
+    (add come drop go : List (List ℕ)) → IsExchangeOf digest bits s stamp batch root commit add come drop go
+    → root ≡ state_root digest bits (after_batch s stamp batch)
+root-after digest bits s stamp batch root commit add come drop go is = is.root_is ∙ ap (root_of digest bits) (pairs-changed_after digest s batch)
+
 -- ---- a batch's blocks come, and then those go that it takes away
 
 module _ (digest : List ℕ → List ℕ) (bits : ℕ) (fits : IsDigest digest) (s : State) (stamp : Stamp) (batch : List Write)
-    (root commit : List ℕ) (come go : List (List ℕ)) (k l m : Counts) (lawful : IsLawful s)
-    (kept : AreKept digest (state_blocks digest bits s) k) (is : IsExchangeOf digest bits s stamp batch root commit come go)
+    (root commit : List ℕ) (add come drop go : List (List ℕ)) (k l m : Counts) (lawful : IsLawful s)
+    (kept : AreKept digest (state_blocks digest bits s) k) (is : IsExchangeOf digest bits s stamp batch root commit add come drop go)
     (gained : IsGained digest come k l) (lost : IsLost go l m) where
   abbrev cs : List Change
   cs = collected batch
@@ -177,50 +183,50 @@ module _ (digest : List ℕ → List ℕ) (bits : ℕ) (fits : IsDigest digest) 
   pairs-are : changed (with_cids digest cs) (pairs digest (records s)) ≡ pairs digest after
   pairs-are = sym (pairs-changed digest cs (records s) all.ascending)
 
-  has-come : (b : List ℕ) → Contains ((is.add ++ records_come cs) ++ new) b → bytes_at l (cid digest b) ≡ Some b
+  has-come : (b : List ℕ) → Contains ((add ++ records_come cs) ++ new) b → bytes_at l (cid digest b) ≡ Some b
   has-come b h = gained.has b (subst (λ bs. Contains bs b) (sym is.come_is) h)
 
-  written : HasRewritten digest bits old (records s) cs (bytes_at l) is.add is.drop
-  written = changes-keep_uses digest bits fits old (records s) cs (bytes_at k) (bytes_at l) is.read is.add is.drop (record {
+  written : HasRewritten digest bits old (records s) cs (bytes_at l) add drop
+  written = changes-keep_uses digest bits fits old (records s) cs (bytes_at k) (bytes_at l) (nodes_read_for digest bits s batch) add drop (record {
     before = kept.has;
     sorted = sorted-records s;
     ascending = all.ascending;
     old_pairs = pairs-before digest fits s lawful;
     new_pairs = subst (λ n. ArePairs (pairs digest n)) records-are (pairs-after digest fits s batch lawful passed);
     changes = subst (λ (es : List Pair). AreChanges digest (nodes digest bits (pairs digest (records s))) (nodes digest bits es)
-        is.read is.add is.drop) pairs-are is.changes;
+        (nodes_read_for digest bits s batch) add drop) pairs-are is.changes;
     extends = gained.extends;
-    has_add = λ b h. has-come b (Contains-append_left (is.add ++ records_come cs) new b (Contains-append_left is.add (records_come cs) b h));
-    has_records = λ b h. has-come b (Contains-append_left (is.add ++ records_come cs) new b (Contains-append_right is.add (records_come cs) b h));
+    has_add = λ b h. has-come b (Contains-append_left (add ++ records_come cs) new b (Contains-append_left add (records_come cs) b h));
+    has_records = λ b h. has-come b (Contains-append_left (add ++ records_come cs) new b (Contains-append_right add (records_come cs) b h));
   })
 
   committed : HasBlocks digest (bytes_at l) (blocks digest bits new after)
       × ((c : List ℕ) → uses digest c (blocks digest bits new after) + uses digest c old ≡ uses digest c (blocks digest bits old after) + uses digest c new)
   committed =
       commit-uses digest bits old new after (bytes_at l) (subst (λ n. is_sorted (slice_cmp nat_cmp) n ≡ true) records-are (sorted-after s batch))
-      written.after (λ b h. has-come b (Contains-append_right (is.add ++ records_come cs) new b h))
+      written.after (λ b h. has-come b (Contains-append_right (add ++ records_come cs) new b h))
 
-  come-count : (c : List ℕ) → uses digest c come ≡ (uses digest c is.add + uses digest c (records_come cs)) + uses digest c new
+  come-count : (c : List ℕ) → uses digest c come ≡ (uses digest c add + uses digest c (records_come cs)) + uses digest c new
   come-count c =
       ap (uses digest c) is.come_is
-      ∙ count-map_append (cid digest) c (is.add ++ records_come cs) new
-      ∙ ap (λ n. n + uses digest c new) (count-map_append (cid digest) c is.add (records_come cs))
+      ∙ count-map_append (cid digest) c (add ++ records_come cs) new
+      ∙ ap (λ n. n + uses digest c new) (count-map_append (cid digest) c add (records_come cs))
 
   gone-count : (c : List ℕ) → count c (present_values (values (with_cids digest cs) (pairs digest (records s)))) ≡ count c (cids_gone digest cs (records s))
   gone-count c = ap (λ os. count c (present_values os)) (values-by_keys digest cs (pairs digest (records s)))
 
-  go-count : (c : List ℕ) → count c go ≡ (count c is.drop + count c (cids_gone digest cs (records s))) + uses digest c old
+  go-count : (c : List ℕ) → count c go ≡ (count c drop + count c (cids_gone digest cs (records s))) + uses digest c old
   go-count c =
       ap (count c) is.go_is
-      ∙ count-append c (is.drop ++ present_values (values (with_cids digest cs) (pairs digest (records s)))) (cons_option (state_commit digest bits s) [])
-      ∙ ap (λ n. n + count c (cons_option (state_commit digest bits s) [])) (count-append c is.drop (present_values (values (with_cids digest cs) (pairs digest (records s)))))
-      ∙ ap (λ n. (count c is.drop + n) + count c (cons_option (state_commit digest bits s) [])) (gone-count c)
-      ∙ ap (λ n. (count c is.drop + count c (cids_gone digest cs (records s))) + n) (old-count digest c (state_root digest bits s) (last_stamp s))
+      ∙ count-append c (drop ++ present_values (values (with_cids digest cs) (pairs digest (records s)))) (cons_option (state_commit digest bits s) [])
+      ∙ ap (λ n. n + count c (cons_option (state_commit digest bits s) [])) (count-append c drop (present_values (values (with_cids digest cs) (pairs digest (records s)))))
+      ∙ ap (λ n. (count c drop + n) + count c (cons_option (state_commit digest bits s) [])) (gone-count c)
+      ∙ ap (λ n. (count c drop + count c (cids_gone digest cs (records s))) + n) (old-count digest c (state_root digest bits s) (last_stamp s))
 
   even : (c : List ℕ) → count_at k c + uses digest c come ≡ uses digest c (blocks digest bits new after) + count c go
   even c =
       goes (count_at k c) (uses digest c come) (count c go) (uses digest c (blocks digest bits old (records s)))
-      (uses digest c (blocks digest bits old after)) (uses digest c (blocks digest bits new after)) (uses digest c is.add) (count c is.drop)
+      (uses digest c (blocks digest bits old after)) (uses digest c (blocks digest bits new after)) (uses digest c add) (count c drop)
       (uses digest c (records_come cs)) (count c (cids_gone digest cs (records s))) (uses digest c new) (uses digest c old)
       (kept.counted c) (come-count c) (go-count c) (written.balance c) (committed.1 c)
 
@@ -231,7 +237,7 @@ module _ (digest : List ℕ → List ℕ) (bits : ℕ) (fits : IsDigest digest) 
       (lost.counted c less)
 
   root-is : root ≡ state_root digest bits (after_batch s stamp batch)
-  root-is = is.root_is ∙ ap (root_of digest bits) (pairs-changed_after digest s batch)
+  root-is = root-after digest bits s stamp batch root commit add come drop go is
 
   pushed : last (after_batch s stamp batch).stamps ≡ Some (stamp, length (s.accepted ++ batch))
   pushed = last-push s.stamps (stamp, length (s.accepted ++ batch))
@@ -259,9 +265,9 @@ module _ (digest : List ℕ → List ℕ) (bits : ℕ) (fits : IsDigest digest) 
 
 -- so it is after kept's own exchange
 pub exchanged-staged : (digest : List ℕ → List ℕ) (bits : ℕ) → IsDigest digest → (s : State) (stamp : Stamp) (batch : List Write)
-    (root commit : List ℕ) (come go : List (List ℕ)) (k : Keeping) → IsLawful s → AreKept digest (state_blocks digest bits s) k.uses
-    → IsExchangeOf digest bits s stamp batch root commit come go → HaveNoOther digest k.uses come → IsClashFree digest come
+    (root commit : List ℕ) (add come drop go : List (List ℕ)) (k : Keeping) → IsLawful s → AreKept digest (state_blocks digest bits s) k.uses
+    → IsExchangeOf digest bits s stamp batch root commit add come drop go → HaveNoOther digest k.uses come → IsClashFree digest come
     → IsStagedBatch digest bits s stamp batch root commit (exchanged digest k come go).uses
-exchanged-staged digest bits fits s stamp batch root commit come go k lawful kept is none free =
-    staged-whole digest bits fits s stamp batch root commit come go k.uses (gained digest k.uses come) (exchanged digest k come go).uses lawful kept is
+exchanged-staged digest bits fits s stamp batch root commit add come drop go k lawful kept is none free =
+    staged-whole digest bits fits s stamp batch root commit add come drop go k.uses (gained digest k.uses come) (exchanged digest k come go).uses lawful kept is
     (gained-is digest k.uses come (alone-from digest k.uses come none free)) (lost-is (gained digest k.uses come) go)

@@ -1,5 +1,5 @@
 -- What is refused at the last write of a batch that passed its tests: its blocks.
-use Rattle.std.proofs.Common.{◌≡◌, ◌+◌, ◌-◌, ◌<◌, ◌≤◌, ℕ, zero, suc, true, eqb, List, [], ◌∷◌, ◌++◌, length, take, drop, refl, sym, ap, subst, ◌∙◌, arith, inl, inr, Ok, cond}
+use Rattle.std.proofs.Common.{◌≡◌, ◌+◌, ◌-◌, ◌<◌, ◌≤◌, ℕ, zero, suc, true, eqb, List, [], ◌∷◌, ◌++◌, length, take, drop, refl, sym, ap, subst, ◌∙◌, arith, inl, inr, Ok, Option, cond}
 use Rattle.std.specs.declared.option.Option.TheVariants.{Some}
 use Rattle.std.specs.Prelude.{Contains}
 use Rattle.std.proofs.lemmas.Bool.{eq-eqb}
@@ -8,11 +8,12 @@ use Rattle.std.proofs.lemmas.List.Elements.{Contains-append_cases}
 use Rattle.spec.specs.Tree.{Pair}
 use Rattle.spec.specs.Blocks.{IsClashIn, blocks, nodes, record_blocks, root as root_of, repository_root}
 use Rattle.spec.specs.Writes.{Write, batch_test}
-use Rattle.spec.specs.Stamps.{Stamp}
+use Rattle.spec.specs.Stamps.{Stamp, Stamped, stamp_of}
 use Rattle.spec.specs.Commits.{commit_bytes, commit_blocks}
-use Rattle.spec.specs.States.{State, records, state_blocks, state_test}
+use Rattle.spec.specs.States.{State, after_batch, records, state_blocks, state_root, state_test}
 use Rattle.spec.proofs.BatchLaws.{EachPasses-from_test, test-from_EachPasses}
 use Rattle.spec.proofs.RepositoryBlocks.{node-in, record-in, further-in}
+use Rattle.spec.proofs.StampLaws.{last-push}
 use Rattle.edit_laws.specs.Staged.{records_after, old_commit}
 use Rattle.edit_laws.proofs.BlockSources.{source-free, clash-new}
 use Rattle.edit_laws.proofs.StagedBatches.{staged-passes}
@@ -33,8 +34,8 @@ use Rattle.repo.specs.Edits.{IsEditRefusal}
 use Rattle.repo.specs.Exchanging.{IsExchangeOf}
 use Rattle.repo.specs.Keeping.{AreKept}
 use Rattle.repo.specs.BlockFaults.{IsClashAt}
-use Rattle.repo.specs.Wants.{placed, IsPlacedBy}
-use Rattle.repo.specs.Refusals.{PassesTo, PassesBefore, IsRefusal, IsTestRefusal, blocks_shown}
+use Rattle.repo.specs.Wants.{place_for, IsPlacedBy}
+use Rattle.repo.specs.Refusals.{PassesTo, PassesBefore, IsOther, IsTestRefusal, blocks_shown}
 use Rattle.repo.proofs.Exchanging.{HasPassed, has-passed, sorted-after, sorted-records, records-changed, pairs-changed_after}
 
 take-all : {X : Type 0} (xs : List X) (n : ℕ) → length xs ≤ n → take n xs ≡ xs
@@ -98,6 +99,13 @@ module _ (s : State) (stamp : Stamp) (batch : List Write) (passes : state_test s
 
     shown : (b : List ℕ) → Contains (blocks digest bits commit after) b → Contains (blocks_shown digest bits s stamp batch (length batch - 1)) b
     shown b h = subst (λ bs. Contains bs b) (sym last-blocks) h
+
+    -- and those of the state after it
+    pub blocks-after : blocks_shown digest bits s stamp batch (length batch - 1) ≡ state_blocks digest bits (after_batch s stamp batch)
+    blocks-after =
+        last-blocks
+        ∙ ap (λ (o : Option Stamped). blocks digest bits (commit_blocks (stamp_of o) (state_root digest bits (after_batch s stamp batch))) (records_after s batch))
+        (sym (last-push s.stamps (stamp, length (s.accepted ++ batch))))
 
     -- the nodes of the tree after it are shown
     pub nodes-shown : (b : List ℕ) → Contains (nodes digest bits (new_pairs digest s batch)) b
@@ -167,10 +175,10 @@ module _ (digest : List ℕ → List ℕ) (bits : ℕ) (s : State) (stamp : Stam
 -- ---- refused where its blocks are exchanged
 
 module _ (digest : List ℕ → List ℕ) (bits : ℕ) (s : State) (stamp : Stamp) (batch : List Write) (root commit : List ℕ)
-    (come go : List (List ℕ)) (is : IsExchangeOf digest bits s stamp batch root commit come go) where
-  added-shown : (b : List ℕ) → Contains (is.add ++ records_come (collected batch)) b
+    (add come drop go : List (List ℕ)) (is : IsExchangeOf digest bits s stamp batch root commit add come drop go) where
+  added-shown : (b : List ℕ) → Contains (add ++ records_come (collected batch)) b
       → Contains (blocks_shown digest bits s stamp batch (length batch - 1)) b
-  added-shown b h = elim (Contains-append_cases is.add (records_come (collected batch)) b h) [
+  added-shown b h = elim (Contains-append_cases add (records_come (collected batch)) b h) [
     | inl node ↦ nodes-shown s stamp batch is.passes digest bits b (is.changes.fresh b node).0
     | inr one ↦ records-shown s stamp batch is.passes digest bits b one
   ]
@@ -178,14 +186,14 @@ module _ (digest : List ℕ → List ℕ) (bits : ℕ) (s : State) (stamp : Stam
   -- each block that comes is shown
   pub come-shown : (b : List ℕ) → Contains come b → Contains (blocks_shown digest bits s stamp batch (length batch - 1)) b
   come-shown b h =
-      elim (Contains-append_cases (is.add ++ records_come (collected batch)) (commit_bytes stamp root ∷ []) b
+      elim (Contains-append_cases (add ++ records_come (collected batch)) (commit_bytes stamp root ∷ []) b
       (subst (λ bs. Contains bs b) is.come_is h)) [
         | inl first ↦ added-shown b first
         | inr last ↦ commit-shown s stamp batch is.passes digest bits root b is.root_is last
       ]
 
   pub exchange-refused : {D A : Type 0} (full : ℕ) (fault : StoreFault D A) → IsRefusalOfOne digest come fault
-      → IsRefusal digest bits s stamp batch full (fulls_after_fault full fault) (placed (length batch - 1) (of_store fault))
+      → IsOther digest bits s stamp batch full (fulls_after_fault full fault) (place_for (length batch - 1) (of_store fault)) (of_store fault)
   exchange-refused full (stores.Collision pair) h =
       (last-passes s stamp batch is.passes, record { clash = h.1; here = inl (come-shown pair.0 h.0) })
   exchange-refused full stores.Full h = (last-passes s stamp batch is.passes, omega arith)

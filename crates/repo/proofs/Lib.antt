@@ -8,9 +8,12 @@ pub mod Changing
 pub mod Keeping
 pub mod Edits
 mod SharedRecords
+mod Values
 pub mod Growing
 pub mod Preparing
 pub mod Applying
+pub mod Telling
+pub mod LendingAfter
 pub mod Fresh
 pub mod Listing
 pub mod Lending

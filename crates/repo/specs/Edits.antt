@@ -1,5 +1,5 @@
 -- The edit of a batch that passed its tests, and what is exchanged for it.
-use Rattle.std.specs.Prelude.{◌≡◌, ⊤, ℕ, List, ◌++◌, map as each, Option, Ok}
+use Rattle.std.specs.Prelude.{◌≡◌, ◌≤◌, ⊤, ℕ, List, ◌++◌, map as each, length, take, Option, Ok}
 use Rattle.std.specs.Arc.{arc_value}
 use Rattle.spec.specs.Tree.{Pair}
 use Rattle.spec.specs.Blocks.{IsClashIn, nodes}
@@ -8,7 +8,7 @@ use Rattle.spec.specs.Writes.{Write}
 use Rattle.spec.specs.States.{State, IsLawful, state_test, state_root, state_blocks, state_commit}
 use Rattle.batch_laws.specs.Batch.{Change, changed}
 use Rattle.batch_laws.specs.Collecting.{collected}
-use Rattle.edit.specs.Batches.{IsBatchOf}
+use Rattle.edit.specs.Batches.{IsBatchOf, nodes_read}
 use Rattle.edit.specs.declared.outcome.BatchEdit.{BatchEdit}
 use Rattle.kept.specs.Counts.{Counts}
 use Rattle.kept.specs.Trees.{OfTree}
@@ -16,7 +16,7 @@ use Rattle.batches.specs.Values.{stamp_of}
 use Rattle.batches.specs.declared.stamp.Stamp.{Stamp}
 use Rattle.batches.specs.declared.fault.RepoFault.{RepoFault}
 use Rattle.batches.specs.declared.fault.RepoFault.TheVariants as faults
-use Rattle.repo.specs.Exchanging.{IsExchangeOf}
+use Rattle.repo.specs.Exchanging.{IsExchangeOf, nodes_read_for, values_before}
 use Rattle.repo.specs.Keeping.{AreKept}
 use Rattle.repo.specs.Tested.{changes_in}
 use Rattle.repo.specs.declared.changes.Collected.{Collected}
@@ -31,6 +31,11 @@ abbrev pub IsEditMade : {D A : Type 0} → (List ℕ → List ℕ) → ℕ → L
     → BatchEdit D A → Type 0
 IsEditMade digest bits cs es edit = IsBatchOf digest bits cs es edit.root
     (each arc_value edit.add.items) edit.drop.items edit.previous.items
+
+-- and it has the nodes that they read
+abbrev pub HasNodes : {D A : Type 0} → (List ℕ → List ℕ) → ℕ → List Change → List Pair
+    → BatchEdit D A → Type 0
+HasNodes digest bits cs es edit = each arc_value edit.read.items ≡ nodes_read digest bits cs es
 
 -- it isn't made: two nodes of the tree before or after clash, or memory was wanted
 abbrev pub IsEditRefusal : {D A : Type 0} → (List ℕ → List ℕ) → ℕ → List Change → List Pair
@@ -60,8 +65,13 @@ abbrev pub OnTested : {A : Type 0} → (List ℕ → List ℕ) → ℕ → List 
 OnTested digest bits root commit stamp changes m P = (s : State) (batch : List Write)
     → IsTestedOn digest bits s batch root commit stamp changes m → P s batch
 
--- what a batch on a state exchanges
-abbrev pub IsExchangeMade : {D A : Type 0} → (List ℕ → List ℕ) → ℕ → State → stamps.Stamp
-    → List Write → Exchange D A → Type 0
-IsExchangeMade digest bits s stamp batch x = IsExchangeOf digest bits s stamp batch
-    x.root x.commit (each arc_value x.come.items) x.go.items
+-- what a batch on a state exchanges: nodes come first, and go first
+pub record IsExchangeMade {D A : Type 0} (digest : List ℕ → List ℕ) (bits : ℕ) (s : State)
+    (stamp : stamps.Stamp) (batch : List Write) (x : Exchange D A) : Type 0 where
+  pub exchange : IsExchangeOf digest bits s stamp batch x.root x.commit
+      (take x.nodes (each arc_value x.come.items)) (each arc_value x.come.items)
+      (take x.gone x.go.items) x.go.items
+  pub nodes_within : x.nodes ≤ length x.come.items
+  pub gone_within : x.gone ≤ length x.go.items
+  pub read_is : each arc_value x.read.items ≡ nodes_read_for digest bits s batch
+  pub values_are : x.values.items ≡ values_before digest s batch

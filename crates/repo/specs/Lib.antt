@@ -9,3 +9,5 @@ pub mod Tested
 pub mod Exchanging
 pub mod Edits
 pub mod Wants
+pub mod Prepared
+pub mod LendingAfter

@@ -1,5 +1,5 @@
 -- When a batch is refused.
-use Rattle.std.specs.Prelude.{◌≡◌, ℕ, ◌+◌, ◌<◌, ◌++◌, ◌==◌, if◌then◌else◌, List, []}
+use Rattle.std.specs.Prelude.{◌≡◌, ℕ, ◌+◌, ◌-◌, ◌<◌, ◌++◌, ◌==◌, if◌then◌else◌, List, []}
 use Rattle.std.specs.Prelude.{take, length, Option, Some, None, Result, Ok, Err}
 use Rattle.spec.specs.Blocks.{blocks, repository_root}
 use Rattle.spec.specs.Stamps.{Stamp}
@@ -11,6 +11,7 @@ use Rattle.kept.specs.Counts.{Counts}
 use Rattle.repo.specs.Keeping.{AreKept}
 use Rattle.batches.specs.Tests.{test_fault}
 use Rattle.repo.specs.BlockFaults.{IsBlockFault, IsClashAt}
+use Rattle.repo.specs.Wants.{placed}
 use Rattle.repo.specs.declared.applied.Applied.{Applied}
 use Rattle.batches.specs.declared.fault.RepoFault.{RepoFault}
 use Rattle.batches.specs.declared.fault.RepoFault.TheVariants as faults
@@ -96,6 +97,13 @@ pub record IsStagedBatch (digest : List ℕ → List ℕ) (bits : ℕ) (s : Stat
   pub root_is : root ≡ state_root digest bits (after_batch s stamp batch)
   pub commit_is : Some commit ≡ state_commit digest bits (after_batch s stamp batch)
   pub kept : AreKept digest (state_blocks digest bits (after_batch s stamp batch)) m
+
+-- The store refuses a batch that passed its tests, or memory was wanted: at its last write, and at
+-- the first one for want of memory.
+pub record IsStoreRefusal {D A : Type 0} (digest : List ℕ → List ℕ) (bits : ℕ) (s : State)
+    (stamp : Stamp) (batch : List Write) (full fuller : ℕ) (e : ℕ × RepoFault D A) : Type 0 where
+  pub other : IsOther digest bits s stamp batch full fuller e.0 e.1
+  pub place : e ≡ placed (length batch - 1) e.1
 
 -- a test refuses it, or memory was wanted: the store wasn't asked
 abbrev pub IsTestRefusal : {D A : Type 0} → (List ℕ → List ℕ) → ℕ → State → Stamp → List Write

@@ -6,16 +6,18 @@ ghost use Rattle.std.specs.List.{cons_option};
 ghost use Rattle.std.specs.Slice.Iter.{iter_rest};
 ghost use Rattle.spec.specs.Cid.{cid as cid_of};
 ghost use Rattle.batch_laws.specs.Batch.{at_key, with_change};
-ghost use Rattle.batch_laws.specs.Collecting.{change_of, with_cids};
+ghost use Rattle.batch_laws.specs.Collecting.{change_of, collected as collected_of, with_cids};
 ghost use Rattle.batch_laws.specs.Uses.{records_come};
-ghost use Rattle.batches.specs.Values.{write_of};
+ghost use Rattle.batches.specs.Values.{shared_writes, write_of};
 ghost use Rattle.block.specs.Bytes.{shared_record};
+ghost use Rattle.repo.specs.Prepared.{key_told, keys_with};
 ghost use Rattle.repo.specs.Tested.{changes_in};
 
 use batches::Write;
 use block::Block;
 use cid::{Cid, Digest};
 use edit::Change;
+use key_changes::KeyChange;
 use std::alloc::{AllocError, Allocator};
 use std::collections::BTreeMap;
 use std::slice::Iter;
@@ -120,4 +122,44 @@ fn next_cid<D: Digest, A: Allocator>(
         return None;
     }
     Some(left.next()?.cid())
+}
+
+/// What these writes change.
+pub(crate) fn collect_all<'w, A: Allocator + Copy>(
+    alloc: A,
+    writes: &'w [Arc<Write<A>, A>],
+) -> Result<Collected<'w, A>, AllocError>
+    ensures { IfOk result (λ all. changes_in all ≡ collected_of (shared_writes writes.now)) }
+{
+    let mut changes = Collected::new(alloc);
+    for write in writes {
+        changes.collect(write)?;
+    }
+    Ok(changes)
+}
+
+/// Changes with the values that their keys had before.
+pub(crate) fn told_changes<'k, A: Allocator>(
+    alloc: A,
+    changes: &[Change<'k>],
+    before: &[Option<Cid>],
+) -> Result<Vec<KeyChange<'k>, A>, AllocError>
+    ensures { IfOk result (λ told. told.items ≡ keys_with changes.now before.now) }
+{
+    let mut told = Vec::with_capacity(alloc, changes.len())?;
+    for (change, value) in changes.iter().zip(before.iter()) {
+        told.push(told_change(change, *value))?;
+    }
+    Ok(told)
+}
+
+/// A change with the value that its key had before.
+fn told_change<'k>(change: &Change<'k>, before: Option<Cid>) -> KeyChange<'k>
+    ensures { result ≡ key_told change.now before }
+{
+    KeyChange {
+        key: change.key,
+        before,
+        after: change.value,
+    }
 }

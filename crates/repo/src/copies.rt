@@ -12,7 +12,7 @@ use std::sync::Arc;
 #[derive(Drop)]
 pub(crate) struct Copies<A: Allocator> {
     pub(crate) writes: Vec<Arc<Write<A>, A>, A>,
-    stamp: Stamp<A>,
+    pub(crate) stamp: Stamp<A>,
 }
 
 /// The copies of these.

@@ -11,22 +11,27 @@ ghost use Rattle.kept.specs.Uses.{used_blocks};
 ghost use Rattle.kept.specs.Entering.{Enters, no_block};
 ghost use Rattle.repo.specs.Fulls.{fulls_after_batch, fulls_after_step};
 ghost use Rattle.repo.specs.Readings.{AreBlocksOnce, CountsBlocks, LendsBlocks, LendsTree, has_block, pairs_from, record_at, state_block};
+ghost use Rattle.repo.specs.BlockFaults.{IsBlockFault};
 ghost use Rattle.repo.specs.Edits.{IsExchangeMade};
-ghost use Rattle.repo.specs.Refusals.{IsRefusal, IsApplied, IsOpenRefusal, IsTestRefusal};
+ghost use Rattle.repo.specs.LendingAfter.{LendsBlocksAfter, LendsTreeAfter};
+ghost use Rattle.repo.specs.Prepared.{IsPassed, prepared_of, state_after};
+ghost use Rattle.repo.specs.Refusals.{IsRefusal, IsApplied, IsOpenRefusal, IsStoreRefusal, IsTestRefusal};
 ghost use Rattle.batches.specs.Values.{stamp_of, stamps_of, writes_of, shared_writes};
 ghost use Rattle.store.specs.Stores.{IsStore};
 
 use crate::applied::Applied;
 use crate::copies::{copies_of, grow, make_room};
-use crate::exchanges::{Prepared, exchange_of, placed};
+use crate::exchanges::{TestedBatch, exchange_of, placed};
 use crate::opening::empty_node;
+use crate::prepared::PreparedBatch;
 use crate::write_tests::test_writes;
 use batches::{RepoFault, Stamp, Write, test_stamp};
 use block::Block;
 use cid::{Cid, Digest};
-use kept::{Blocks, Kept, Lender, value_at};
+use kept::{Blocks, Kept, Lender, LenderWith, value_at};
 use std::alloc::{AllocError, Allocator, Global};
 use std::marker::Model;
+use std::snapshot::Snapshot;
 use std::sync::Arc;
 use store::{BlockStore, Hold, StoreFault};
 
@@ -290,9 +295,142 @@ impl<D: Digest, const B: u8, A: Allocator + Copy> Core<D, B, A> {
             (has_block D.digest_of B self.old) (has_block D.digest_of B self.new)
             store.old store.new }
     {
-        let prepared = self.prepared(alloc, stamp, writes)?;
-        let Prepared { copies, exchange } = prepared;
-        let last = writes.len() - 1;
+        let batch = self.tested(alloc, stamp, writes)?;
+        self.exchange(store, batch)
+    }
+
+    /// Tests a batch, and makes what it exchanges and tells, all of which the caller then has before it is accepted. The
+    /// repository stays as it is.
+    ///
+    /// It is refused as [`apply`](Core::apply) refuses it before the store is asked: by the tests in the same order, at the same
+    /// places; by `RepoFault::Collision`, which shows two nodes of the trees before and after that clash; and by
+    /// `RepoFault::NoMemory`.
+    pub fn prepare(
+        &self,
+        alloc: A,
+        stamp: &Stamp<A>,
+        writes: &[Write<A>],
+    ) -> Result<PreparedBatch<D, B, A>, (usize, RepoFault<D, A>)>
+        ensures prepared { IfOk result (λ prepared. prepared
+            ≡ prepared_of self.now (stamp_of stamp.now) (writes_of writes.now)) }
+        ensures passed { IfOk result IsPassed }
+        ensures fault { IfErr result (IsTestRefusal D.digest_of B self.now
+            (stamp_of stamp.now) (writes_of writes.now)) }
+        ensures lawful { IsLawful self.now }
+    {
+        let previous = self.root;
+        let tested = self.tested(alloc, stamp, writes)?;
+        let TestedBatch { copies, exchange } = tested;
+        Ok(PreparedBatch {
+            before: Snapshot::of(self),
+            previous,
+            copies,
+            exchange,
+        })
+    }
+
+    /// A batch that its tests let through: the copies of it that are to be kept, and what it exchanges; or the place and the
+    /// fault by which it's refused before the store is asked.
+    ///
+    /// No writes come first, then the stamp, then write by write. The writes are copied before they are tested, so one map by
+    /// key serves their tests, the blocks of their records and the edit.
+    fn tested(
+        &self,
+        alloc: A,
+        stamp: &Stamp<A>,
+        writes: &[Write<A>],
+    ) -> Result<TestedBatch<D, A>, (usize, RepoFault<D, A>)>
+        ensures writes { IfOk result (λ batch.
+            shared_writes batch.copies.writes.items ≡ writes_of writes.now) }
+        ensures stamp { IfOk result (λ batch. stamp_of batch.copies.stamp ≡ stamp_of stamp.now) }
+        ensures exchange { IfOk result (λ batch. IsExchangeMade D.digest_of B self.now
+            (stamp_of stamp.now) (writes_of writes.now) batch.exchange) }
+        ensures fault { IfErr result (IsTestRefusal D.digest_of B self.now
+            (stamp_of stamp.now) (writes_of writes.now)) }
+        ensures lawful { IsLawful self.now }
+    {
+        let (kept, root, before) = (&self.kept, self.root, self.commit);
+        if writes.is_empty() {
+            return Err((0, RepoFault::EmptyBatch));
+        }
+        match test_stamp::<D, A>(last_rev(&self.stamps), stamp) {
+            Ok(()) => {}
+            Err(fault) => return Err((0, fault)),
+        }
+        let Ok(copies) = copies_of(alloc, stamp, writes) else {
+            return Err((0, RepoFault::NoMemory));
+        };
+        let room = room_for(self.limit, &self.accepted);
+        let shared = copies.writes.as_slice();
+        let made = {
+            let changes = test_writes::<D, B, A>(kept, alloc, room, root, shared)?;
+            exchange_of::<D, B, A>(kept, alloc, root, before, stamp, &changes, shared)
+        };
+        match made {
+            Ok(exchange) => Ok(TestedBatch { copies, exchange }),
+            Err(refusal) => Err(refusal),
+        }
+    }
+
+    /// Accepts a batch that was prepared on the repository as it is now.
+    ///
+    /// Room for its writes is made, and all its blocks are held, or none: `RepoFault::Collision` shows two blocks that clash, of
+    /// which one is of the repository after it, and `RepoFault::StoreFull` says that the store answered so, both at the last
+    /// write; `RepoFault::NoMemory` comes where memory was refused, at the first one. All is then as before, but the prepared
+    /// batch is gone.
+    pub fn accept<S: BlockStore<Arc<Block<D, A>, A>, Hold<D, A>, StoreFault<D, A>>>(
+        &mut self,
+        store: &mut S,
+        prepared: PreparedBatch<D, B, A>,
+    ) -> Result<Applied, (usize, RepoFault<D, A>)>
+        requires store { IsStore D.digest_of S.BlockStore }
+        requires same { prepared.before ≡ self.old }
+        ensures lawful { IsLawful self.old }
+        ensures still_lawful { IsLawful self.new }
+        ensures accepted { OnOk result (self.new ≡ state_after prepared) }
+        ensures applied { IfOk result (IsApplied D.digest_of B self.old self.new) }
+        ensures unchanged { OnErr result (self.new ≡ self.old) }
+        ensures fault { IfErr result (IsStoreRefusal D.digest_of B self.old
+            prepared.stamp prepared.writes (S.fulls store.old) (S.fulls store.new)) }
+        ensures counted { S.fulls store.new ≡ fulls_after_batch (S.fulls store.old) result }
+        ensures entered { Enters D.digest_of S.BlockStore self.old.me
+            (has_block D.digest_of B self.old) (has_block D.digest_of B self.new)
+            store.old store.new }
+    {
+        let PreparedBatch {
+            before: _,
+            previous: _,
+            copies,
+            exchange,
+        } = prepared;
+        self.exchange(store, TestedBatch { copies, exchange })
+    }
+
+    /// Accepts a batch that its tests let through: makes room for the copies of it, and exchanges what it exchanges.
+    fn exchange<S: BlockStore<Arc<Block<D, A>, A>, Hold<D, A>, StoreFault<D, A>>>(
+        &mut self,
+        store: &mut S,
+        batch: TestedBatch<D, A>,
+    ) -> Result<Applied, (usize, RepoFault<D, A>)>
+        requires store { IsStore D.digest_of S.BlockStore }
+        requires made { IsExchangeMade D.digest_of B self.old (stamp_of batch.copies.stamp)
+            (shared_writes batch.copies.writes.items) batch.exchange }
+        ensures lawful { IsLawful self.old }
+        ensures still_lawful { IsLawful self.new }
+        ensures accepted { OnOk result (self.new ≡ after_batch self.old
+            (stamp_of batch.copies.stamp) (shared_writes batch.copies.writes.items)) }
+        ensures applied { IfOk result (IsApplied D.digest_of B self.old self.new) }
+        ensures unchanged { OnErr result (self.new ≡ self.old) }
+        ensures fault { IfErr result (IsStoreRefusal D.digest_of B self.old
+            (stamp_of batch.copies.stamp) (shared_writes batch.copies.writes.items)
+            (S.fulls store.old) (S.fulls store.new)) }
+        ensures counted { S.fulls store.new ≡ fulls_after_batch (S.fulls store.old) result }
+        ensures entered { Enters D.digest_of S.BlockStore self.old.me
+            (has_block D.digest_of B self.old) (has_block D.digest_of B self.new)
+            store.old store.new }
+    {
+        let TestedBatch { copies, exchange } = batch;
+        let last = copies.writes.len() - 1;
         let Ok(()) = make_room(&mut self.accepted, &mut self.stamps, copies.writes.len()) else {
             return Err((0, RepoFault::NoMemory));
         };
@@ -313,45 +451,28 @@ impl<D: Digest, const B: u8, A: Allocator + Copy> Core<D, B, A> {
         })
     }
 
-    /// A batch that its tests let through: the copies of it that are to be kept, and what it exchanges; or the place and the
-    /// fault by which it's refused before the store is asked.
+    /// The blocks of the repository as it will be with a batch that was prepared on it as it is now, as a source that wasn't
+    /// asked for any so far: those that come in front of those that are there. So proofs, exports and messages of the repository
+    /// after the batch are made before it is accepted. Nothing is held.
     ///
-    /// No writes come first, then the stamp, then write by write. The writes are copied before they are tested, so one map by
-    /// key serves their tests, the blocks of their records and the edit.
-    fn prepared(
-        &self,
+    /// `RepoFault::Collision` shows two blocks that clash, of which one is of the repository after the batch, and
+    /// `RepoFault::NoMemory` comes where memory was refused. It is no other fault.
+    pub fn lender_with<'a>(
+        &'a self,
         alloc: A,
-        stamp: &Stamp<A>,
-        writes: &[Write<A>],
-    ) -> Result<Prepared<D, A>, (usize, RepoFault<D, A>)>
-        ensures writes { IfOk result (λ made.
-            shared_writes made.copies.writes.items ≡ writes_of writes.now) }
-        ensures stamp { IfOk result (λ made. stamp_of made.copies.stamp ≡ stamp_of stamp.now) }
-        ensures exchange { IfOk result (λ made. IsExchangeMade D.digest_of B self.now
-            (stamp_of stamp.now) (writes_of writes.now) made.exchange) }
-        ensures fault { IfErr result (IsTestRefusal D.digest_of B self.now
-            (stamp_of stamp.now) (writes_of writes.now)) }
+        prepared: &'a PreparedBatch<D, B, A>,
+    ) -> Result<LenderWith<'a, D, A>, RepoFault<D, A>>
+        requires same { prepared.now.before ≡ self.now }
+        ensures blocks { IfOk result (LendsBlocksAfter D.digest_of B prepared.now) }
+        ensures tree { IfOk result (LendsTreeAfter D.digest_of B prepared.now) }
+        ensures asked { IfOk result (λ lender. lender.asked.times ≡ 0) }
+        ensures fault { IfErr result (IsBlockFault D.digest_of
+            (state_blocks D.digest_of B (state_after prepared.now)) 0 0) }
+        ensures passed { IsPassed prepared.now }
     {
-        if writes.is_empty() {
-            return Err((0, RepoFault::EmptyBatch));
-        }
-        match test_stamp::<D, A>(last_rev(&self.stamps), stamp) {
-            Ok(()) => {}
-            Err(fault) => return Err((0, fault)),
-        }
-        let Ok(copies) = copies_of(alloc, stamp, writes) else {
-            return Err((0, RepoFault::NoMemory));
-        };
-        let room = room_for(self.limit, &self.accepted);
-        let shared = copies.writes.as_slice();
-        let (kept, root, before) = (&self.kept, self.root, self.commit);
-        let made = {
-            let changes = test_writes::<D, B, A>(kept, alloc, room, root, shared)?;
-            exchange_of::<D, B, A>(kept, alloc, root, before, stamp, &changes, shared)
-        };
-        match made {
-            Ok(exchange) => Ok(Prepared { copies, exchange }),
-            Err(refusal) => Err(refusal),
+        match self.kept.lender_with(alloc, &prepared.exchange.come) {
+            Ok(lender) => Ok(lender),
+            Err(fault) => Err(RepoFault::from(fault)),
         }
     }
 }

@@ -9,7 +9,7 @@ ghost use Rattle.batch_laws.specs.Uses.{present_values, records_come};
 ghost use Rattle.key_changes.specs.Keyed.{are_changes};
 ghost use Rattle.kept.specs.Trees.{OfTree};
 ghost use Rattle.batches.specs.Values.{stamp_of};
-ghost use Rattle.repo.specs.Edits.{HasSomeTree, IsEditMade, IsEditRefusal, IsExchangeMade, OnTested};
+ghost use Rattle.repo.specs.Edits.{HasNodes, HasSomeTree, IsEditMade, IsEditRefusal, IsExchangeMade, OnTested};
 ghost use Rattle.repo.specs.Wants.{IsPlaced, placed};
 ghost use Rattle.repo.specs.Tested.{changes_in};
 
@@ -24,18 +24,28 @@ use kept::{Kept, apply_over};
 use std::alloc::{AllocError, Allocator};
 use std::sync::Arc;
 
-/// The root after a batch, the CID of its commit, the blocks that come, and the CIDs of those that go.
+/// What a batch exchanges, and what its edit read for that.
 #[derive(Drop)]
 pub(crate) struct Exchange<D: Digest, A: Allocator> {
+    /// The root after it.
     pub(crate) root: Cid,
+    /// The CID of its commit.
     pub(crate) commit: Cid,
+    /// The blocks that come: first so many nodes, then the records, and the commit last.
     pub(crate) come: Vec<Arc<Block<D, A>, A>, A>,
+    pub(crate) nodes: usize,
+    /// The CIDs of those that go: first so many of nodes, then those of records, and the commit's last.
     pub(crate) go: Vec<Cid, A>,
+    pub(crate) gone: usize,
+    /// The nodes that the edit read.
+    pub(crate) read: Vec<Arc<Block<D, A>, A>, A>,
+    /// The CIDs of the records that the changed keys had, in the order of the keys.
+    pub(crate) values: Vec<Option<Cid>, A>,
 }
 
 /// A batch that passed its tests: the copies of it that are kept, and what it exchanges.
 #[derive(Drop)]
-pub(crate) struct Prepared<D: Digest, A: Allocator> {
+pub(crate) struct TestedBatch<D: Digest, A: Allocator> {
     pub(crate) copies: Copies<A>,
     pub(crate) exchange: Exchange<D, A>,
 }
@@ -83,18 +93,25 @@ pub(crate) fn exchange_of<D: Digest, const B: u8, A: Allocator + Copy>(
         add,
         drop,
         previous,
+        read,
     } = edit;
+    let nodes = add.len();
+    let gone = drop.len();
     let Ok(come) = all_that_come(add, records, block) else {
         return Err((0, RepoFault::NoMemory));
     };
-    let Ok(go) = all_that_go(drop, previous, before) else {
+    let Ok(go) = all_that_go(drop, &previous, before) else {
         return Err((0, RepoFault::NoMemory));
     };
     Ok(Exchange {
         root,
         commit,
         come,
+        nodes,
         go,
+        gone,
+        read,
+        values: previous,
     })
 }
 
@@ -126,6 +143,8 @@ fn edit_for<D: Digest, const B: u8, A: Allocator + Copy>(
     requires records { map arc_value records.now ≡ records_come (changes_in changes.now) }
     ensures edit { OfTree D.digest_of B kept.now.uses root (λ es. IfOk result
         (IsEditMade D.digest_of B (with_cids D.digest_of (changes_in changes.now)) es)) }
+    ensures nodes { OfTree D.digest_of B kept.now.uses root (λ es. IfOk result
+        (HasNodes D.digest_of B (with_cids D.digest_of (changes_in changes.now)) es)) }
     ensures fault { OfTree D.digest_of B kept.now.uses root (λ es. IfErr result
         (IsEditRefusal D.digest_of B (with_cids D.digest_of (changes_in changes.now)) es)) }
 {
@@ -177,15 +196,15 @@ fn all_that_come<D: Digest, A: Allocator>(
 /// The nodes, and after them the records and the commit where there were any before.
 fn all_that_go<A: Allocator>(
     nodes: Vec<Cid, A>,
-    records: Vec<Option<Cid>, A>,
+    records: &[Option<Cid>],
     commit: Option<Cid>,
 ) -> Result<Vec<Cid, A>, AllocError>
     ensures { IfOk result (λ all.
-        all.items ≡ (nodes.items ++ present_values records.items) ++ cons_option commit []) }
+        all.items ≡ (nodes.items ++ present_values records.now) ++ cons_option commit []) }
 {
     let mut all = nodes;
     for record in records {
-        push_some(&mut all, record)?;
+        push_some(&mut all, *record)?;
     }
     push_some(&mut all, commit)?;
     Ok(all)

@@ -1,4 +1,4 @@
-//! Tests of repositories: worked examples, random batches, want of memory.
+//! Tests of repositories: worked examples, random batches, batches in two steps, want of memory.
 #![tactic(auto)]
 
 #[cfg(test)]
@@ -15,6 +15,8 @@ mod opening;
 mod orders;
 #[cfg(test)]
 mod places;
+#[cfg(test)]
+mod prepared;
 #[cfg(test)]
 mod random_batches;
 #[cfg(test)]

@@ -101,10 +101,10 @@ fn told<R: Abort>(
 /// Whether the core has a commit already, the batch, and where its requests are told.
 const ROWS: [(bool, &[Step<'static>], &[(usize, u64)]); 6] = [
     (false, &REFUSED, &[(0, 14)]),
-    (false, &WRITES, &[(0, 17), (1, 1), (0, 17), (2, 6), (0, 2)]),
+    (false, &WRITES, &[(0, 17), (1, 1), (0, 18), (2, 6), (0, 2)]),
     (false, &EIGHT, &TOLD_OF_EIGHT_FIRST),
     (true, &REFUSED, &[(0, 14)]),
-    (true, &WRITES, &[(0, 17), (1, 1), (0, 14), (2, 6), (0, 3)]),
+    (true, &WRITES, &[(0, 17), (1, 1), (0, 15), (2, 6), (0, 3)]),
     (true, &EIGHT, &TOLD_OF_EIGHT),
 ];
 
@@ -118,7 +118,7 @@ const TOLD_OF_EIGHT: [(usize, u64); 11] = [
     (5, 1),
     (6, 1),
     (7, 1),
-    (0, 27),
+    (0, 28),
     (7, 6),
     (0, 13),
 ];
@@ -133,7 +133,7 @@ const TOLD_OF_EIGHT_FIRST: [(usize, u64); 11] = [
     (5, 1),
     (6, 1),
     (7, 1),
-    (0, 19),
+    (0, 20),
     (7, 6),
     (0, 14),
 ];

@@ -16,10 +16,10 @@ use Rattle.batch_laws.specs.Within.{at_top}
 use Rattle.edit.specs.Stops.{IsCause, IsStopped}
 use Rattle.edit.specs.Tops.{IsEnded}
 use Rattle.edit.proofs.Among.{refusal-within}
-use Rattle.edit.proofs.Answering.{gone-within, answered}
-use Rattle.edit.proofs.OnTree.{keyed-changes, answer-reason, walk-refused, walk-reason, walk-few, tree-reads, tree-few, tree-nodes, batch-edit}
+use Rattle.edit.proofs.Answering.{gone-within, answered, read-for}
+use Rattle.edit.proofs.OnTree.{keyed-changes, answer-reason, walk-refused, walk-reason, walk-few, tree-bytes, tree-reads, tree-few, tree-nodes, batch-edit}
 use Rattle.key_changes.proofs.Ascending.{are-keyed}
-use Rattle.edit.proofs.Results.{on_ok, if-ok-two, if-err}
+use Rattle.edit.proofs.Results.{on_ok, if-ok, if-ok-two, if-err}
 use Rattle.edit.proofs.applying.apply.Goals as goal
 
 pub returns-in_err-changed-clause-fault : goal.returns-in_err-changed-clause-fault
@@ -152,3 +152,25 @@ returns-clause-edit g c es h =
     (answered digest _ n.root n.gone (log_in n.edge) ended c.difference_of.result c.difference_of.ensures.root
     c.difference_of.ensures.add c.difference_of.ensures.drop c.difference_of.ensures.free c.difference_of.ensures.all_free)
     c.difference_of.ensures.previous
+
+pub returns-clause-nodes : goal.returns-clause-nodes
+returns-clause-nodes g c es h =
+    let digest = g.D.Digest.digest_of in
+    let gives = g.S.Source.gives c.args.src.now in
+    let n = c.in_ok-changed.changed in
+    let ended = subst (λ cs. IsEnded (answer_of digest g.row.B gives cs c.args.root) n.root n.gone (log_in n.edge))
+    (c.deref.ensures.value ∙ c.in_ok-hashed.ensures) c.in_ok-changed.ensures.changed in
+    if-ok c.difference_of.result
+    (λ edit is. is ∙ tree-bytes digest g.row.B g.met.D.Digest.digest_len (bytes_given gives) c.args.root c.args.changes.now es h
+    n.root n.gone (log_in n.edge) ended)
+    c.difference_of.ensures.read
+
+pub returns-clause-nodes_over : goal.returns-clause-nodes_over
+returns-clause-nodes_over g c =
+    let digest = g.D.Digest.digest_of in
+    let gives = g.S.Source.gives c.args.src.now in
+    let n = c.in_ok-changed.changed in
+    let ended = subst (λ cs. IsEnded (answer_of digest g.row.B gives cs c.args.root) n.root n.gone (log_in n.edge))
+    (c.deref.ensures.value ∙ c.in_ok-hashed.ensures) c.in_ok-changed.ensures.changed in
+    read-for digest _ n.root n.gone (log_in n.edge) ended c.difference_of.result c.difference_of.ensures.root
+    c.difference_of.ensures.read

@@ -62,3 +62,7 @@ returns-clause-all_free g c =
     (subst (λ ys. IsClashFree digest (map arc_value ys)
     → IsClashFree digest (map arc_value c.into_blocks-made.result.items ++ map arc_value ys))
     c.deref-4.ensures.value c.in_ok-add.ensures.made))
+
+pub returns-clause-read : goal.returns-clause-read
+returns-clause-read g c =
+    c.in_ok-read.ensures ∙ ap (λ ys. bytes_of (shapes_in ys)) c.deref-5.ensures.value

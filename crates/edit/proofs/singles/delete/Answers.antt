@@ -14,9 +14,9 @@ use Rattle.edit.specs.Singles.{first_value, IsAbsent}
 use Rattle.edit.specs.States.{log_in}
 use Rattle.edit.proofs.Among.{refusal-within}
 use Rattle.edit.proofs.Answering.{gone-within}
-use Rattle.edit.proofs.Results.{on_ok, if-ok-two, if-err}
+use Rattle.edit.proofs.Results.{on_ok, if-ok, if-ok-two, if-err}
 use Rattle.edit.proofs.OneChange.{walk-absence}
-use Rattle.edit.proofs.OneDelete.{deleting, can-read, is-absent, value-met, delete-edit, delete-refused, stopped-few, delete-counts, ended-few, delete-blocks}
+use Rattle.edit.proofs.OneDelete.{deleting, can-read, is-absent, value-met, delete-edit, delete-refused, stopped-few, delete-counts, delete-path, ended-few, delete-blocks}
 use Rattle.edit.proofs.OnTree.{walk-reason, answer-reason}
 use Rattle.edit.proofs.singles.delete.Goals as goal
 
@@ -162,3 +162,18 @@ returns-clause-layers g c es h =
     let m = length-map n.edge.read.items (λ b. shape_in (arc_value b)) in
     let r = c.in_ok-changed.ensures.counted in
     omega (arith, f, m, r)
+
+pub returns-clause-nodes : goal.returns-clause-nodes
+returns-clause-nodes g c es h =
+    let n = c.in_ok-changed.changed in
+    let some : first_value n.previous.items ≡ Some c.in-Some.field-0 =
+    sym (c.value_before.ensures ∙ ap first_value c.deref.ensures.value) ∙ c.in-Some.is in
+    let there : value_of c.args.key.now es ≡ Some c.in-Some.field-0 =
+    sym (value-met g.D.Digest.digest_of g.row.B g.met.D.Digest.digest_len (bytes_given (g.S.Source.gives c.args.src.now))
+    c.args.root c.args.key.now es h n.previous.items c.in_ok-changed.ensures.previous)
+    ∙ some in
+    if-ok c.edit_of.result
+    (λ e is. is ∙ delete-path g.D.Digest.digest_of g.row.B g.met.D.Digest.digest_len
+    (bytes_given (g.S.Source.gives c.args.src.now)) c.args.root c.args.key.now es h _ there n.root n.gone (log_in n.edge)
+    c.in_ok-changed.ensures.changed)
+    c.edit_of.ensures.read

@@ -12,9 +12,9 @@ use Rattle.edit.specs.Refusals.{IsRefusal, IsAbsence}
 use Rattle.edit.specs.States.{log_in}
 use Rattle.edit.proofs.Among.{refusal-within}
 use Rattle.edit.proofs.Answering.{gone-within}
-use Rattle.edit.proofs.Results.{on_ok, if-ok-two, if-err}
+use Rattle.edit.proofs.Results.{on_ok, if-ok, if-ok-two, if-err}
 use Rattle.edit.proofs.OneChange.{walk-absence}
-use Rattle.edit.proofs.OnePut.{putting, put-whole, put-edit, put-refused, stopped-few, put-counts, ended-few, put-nodes}
+use Rattle.edit.proofs.OnePut.{putting, put-whole, put-edit, put-refused, stopped-few, put-counts, put-path, ended-few, put-nodes}
 use Rattle.edit.proofs.OnTree.{walk-reason, answer-reason}
 use Rattle.edit.proofs.singles.put.Goals as goal
 
@@ -111,3 +111,12 @@ returns-clause-layers g c es h =
     let m = length-map n.edge.read.items (λ b. shape_in (arc_value b)) in
     let r = c.in_ok-changed.ensures.counted in
     omega (arith, f, m, r)
+
+pub returns-clause-nodes : goal.returns-clause-nodes
+returns-clause-nodes g c es h =
+    let n = c.in_ok-changed.changed in
+    if-ok c.edit_of.result
+    (λ e is. is ∙ put-path g.D.Digest.digest_of g.row.B g.met.D.Digest.digest_len
+    (bytes_given (g.S.Source.gives c.args.src.now)) c.args.root c.args.key.now c.args.value es h n.root n.gone (log_in n.edge)
+    c.in_ok-changed.ensures.changed)
+    c.edit_of.ensures.read

@@ -36,3 +36,9 @@ returns-in_err-edit-clause-fault g c es h =
     (c.in_err-edit.ensures.fault es
     (lent_tree g.D.Digest.digest_of g.row.B (bytes_at c.args.kept.now.uses) (λ q. option_map arc_value (lent c.lender-source.result.blocks.now q))
     c.args.root es c.lender-source.ensures.blocks h))
+
+pub returns-clause-nodes : goal.returns-clause-nodes
+returns-clause-nodes g c es h =
+    c.in_ok-edit.ensures.nodes es
+    (lent_tree g.D.Digest.digest_of g.row.B (bytes_at c.args.kept.now.uses) (λ q. option_map arc_value (lent c.lender-source.result.blocks.now q))
+    c.args.root es c.lender-source.ensures.blocks h)

@@ -12,7 +12,7 @@ use Rattle.repo.proofs.FailedWrites.{failed-write}
 use Rattle.repo.proofs.Keeping.{core-tested, core-tree}
 use Rattle.repo.proofs.Preparing.{as-many, changes-keyed, exchange-unmade, tested-on}
 use Rattle.repo.proofs.Stamping.{not-zero, stamp-refused}
-use Rattle.repo.proofs.cores.Core.prepared.Goals as goal
+use Rattle.repo.proofs.cores.Core.tested.Goals as goal
 
 pub returns-in-Err-clause-fault : goal.returns-in-Err-clause-fault
 returns-in-Err-clause-fault g c = λ full.
