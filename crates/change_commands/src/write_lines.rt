@@ -8,8 +8,8 @@ ghost use Rattle.repository_commands.specs.Views.{write_read};
 ghost use Rattle.change_commands.specs.Stories.{delete_of as delete_of_key, record_write as record_write_of, write_by as write_by_of, write_of_line as write_of_line_of};
 
 use batches::Write;
+use console::space_in;
 use record_forms::{Form, WordFault, record_of_word};
-use repository_commands::space_in;
 use std::alloc::{AllocError, Global};
 
 /// A line, cut at its first space.

@@ -3,7 +3,6 @@
 use crate::fixtures::{Blocks, Both, add_others, two_trees, value, verified};
 use change_proofs::{ChangeFault, KeyChange};
 use cid::Cid;
-use cid::digests::Toy;
 use std::alloc::{AllocError, Global};
 
 /// The block that is told as missing, if one is.

@@ -24,10 +24,10 @@ use std::sync::Arc;
 /// `Ok` speaks only of whatever pairs have the root after; of a root that no pairs have it says nothing, and one can be made up
 /// that hides keys. Who goes on from root to root takes [`verify_change`](crate::verify_change).
 ///
-/// It is the operation inversion of the event stream. The answer is the verdict of `change_laws`, whatever blocks are given; `ChangeFault::NoMemory` alone, where memory was
-/// refused, says nothing of them. Where they are all or some of a tree's, with the CID of none of its nodes on other bytes,
-/// `ChangeFault::BadNode`, `ChangeFault::TooDeep` and `ChangeFault::NotTree` don't come, and `ChangeFault::BlockMissing` has the
-/// CID of a node of it.
+/// It is the operation inversion of the event stream. The answer is the verdict of `change_laws`, whatever blocks are given;
+/// `ChangeFault::NoMemory` alone, where memory was refused, says nothing of them. Where they are all or some of a tree's, with
+/// the CID of none of its nodes on other bytes, `ChangeFault::BadNode`, `ChangeFault::TooDeep` and `ChangeFault::NotTree` don't
+/// come, and `ChangeFault::BlockMissing` has the CID of a node of it.
 ///
 /// [`are_key_changes`](crate::are_key_changes) is the test of what it takes.
 pub fn verify_inversion<D: Digest, const B: u8, A: Allocator + Clone, K: AsSlice<u8>>(

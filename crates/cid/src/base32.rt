@@ -82,7 +82,8 @@ fn letter(bits: u64) -> u8
 pub(crate) fn bytes(letters: &[u8]) -> Option<[u8; 36]>
     requires { length letters.now ≡ 58 }
     ensures { result ≡ (if list_all (λ v. nat_lt v 32) (map value_of letters.now)
-        then Some (map (eight_bits_of (map value_of letters.now)) (range_with_len 0 36)) else None) }
+        then Some (map (eight_bits_of (map value_of letters.now)) (range_with_len 0 36))
+        else None) }
 {
     let mut bytes = [0; 36];
     for group in 0..7 {

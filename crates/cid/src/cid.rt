@@ -4,7 +4,7 @@ ghost use Rattle.std.specs.Str.{bytes_eq};
 ghost use Rattle.std.specs.Hash as fed;
 ghost use Rattle.std.specs.Cmp.Lexicographic.{slice_cmp, nat_list_cmp_total, texts_po, texts_ties};
 ghost use Rattle.std.specs.Ordering.{nat_cmp};
-ghost use Rattle.std.specs.Cmp.Rules.{comparing, hashing};
+ghost use Rattle.std.specs.Cmp.Rules.{hashing};
 ghost use Rattle.std.proofs.Common.{rules};
 ghost use Rattle.spec.specs.Cid.{cid as cid_of, prefix, is_own_cid, text as text_of, cid_of_text};
 ghost use Rattle.spec.specs.Reading.{Gives, IsBytes};
@@ -130,7 +130,8 @@ pub(crate) fn has_own_prefix(bytes: &[u8; 36]) -> bool
 impl TryFrom<[u8; 36]> for Cid {
     type Error = CidFault;
 
-    ghost try_from_gives = { λ bytes r. r ≡ (if is_own_cid bytes then Ok bytes else Err NotThisProfile) };
+    ghost try_from_gives = { λ bytes r.
+        r ≡ (if is_own_cid bytes then Ok bytes else Err NotThisProfile) };
 
     fn try_from(bytes: [u8; 36]) -> Result<Cid, CidFault> {
         Cid::from_bytes(bytes).ok_or(CidFault::NotThisProfile)

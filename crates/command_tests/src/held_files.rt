@@ -22,7 +22,8 @@ pub(crate) const NO_FILES: HeldFile<'static> = HeldFile {
 impl<'a> Files for HeldFile<'a> {
     type Reader = &'a [u8];
 
-    ghost holds = { λ file name. if bytes_eq name file.name.now then Some file.bytes.now else None };
+    ghost holds = { λ file name.
+        if bytes_eq name file.name.now then Some file.bytes.now else None };
 
     fn open(&self, name: &str) -> Result<&'a [u8], OpenFault> {
         if name == self.name {

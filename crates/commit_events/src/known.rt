@@ -1,6 +1,6 @@
 //! The blocks of sections, whose CIDs are known.
 
-ghost use Rattle.std.specs.Prelude.{◌≡◌, ◌≤◌, map, true, IfOk};
+ghost use Rattle.std.specs.Prelude.{◌≡◌, map, true, IfOk};
 ghost use Rattle.std.specs.Arc.{arc_value};
 ghost use Rattle.spec.specs.CarReading.{are_named, blocks_of, is_named};
 ghost use Rattle.car_reader.specs.Views.{section_of, sections_of};

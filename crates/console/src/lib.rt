@@ -1,7 +1,7 @@
 //! What the commands of a program share: their input, their output, and what they say at the end.
 //!
-//! - `read_all` reads all of an input, `bytes_of_hex` the bytes of a word in hexadecimal. `specs/Lines` says how an input
-//!   is cut into lines.
+//! - `read_all` reads all of an input, `bytes_of_hex` the bytes of a word in hexadecimal, and `space_in` finds the end of a
+//!   line's first word. `specs/Lines` says how an input is cut into lines.
 //! - `write_whole` and `write_hex` write a run of bytes and its digits, with a word on what was written where they fail.
 //!   `Decimal` shows a number, and `push_value` puts the word of a record's CID into a line.
 //! - `Files` is where a command finds the files that its words name, and saves what it makes in others. `OpenFault` says why
@@ -23,6 +23,7 @@ mod numbered;
 mod progress;
 mod reading;
 mod save_fault;
+mod spaces;
 mod status;
 mod telling;
 mod values;
@@ -38,6 +39,7 @@ pub use numbered::{NumberedLines, numbered_lines};
 pub use progress::Watched;
 pub use reading::{ReadFault, read_all};
 pub use save_fault::SaveFault;
+pub use spaces::space_in;
 pub use status::{DONE, FAULTY, IO_FAILED, NO_MEMORY, USAGE};
 pub use telling::{done, no_memory, tell, unopened, unsaved, unwritten, write_failed};
 pub use values::push_value;

@@ -2,7 +2,6 @@
 
 ghost use Rattle.std.specs.Prelude.{◌≢◌, Err};
 ghost use Rattle.spec.specs.Reading.{Gives};
-ghost use Rattle.spec.specs.Head as heads;
 ghost use Rattle.spec.specs.DagCbor.{Link, link_of};
 ghost use Rattle.dagcbor.specs.Fault.{cbor_fault_of};
 

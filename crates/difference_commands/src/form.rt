@@ -1,11 +1,11 @@
 //! In which form a file is.
-ghost use Rattle.std.specs.Prelude.{◌≡◌, ◌≤◌, length};
-ghost use Rattle.std.specs.List.{after_first, position_or_len};
+ghost use Rattle.std.specs.Prelude.{◌≡◌};
+ghost use Rattle.std.specs.List.{after_first};
 ghost use Rattle.console.specs.Lines.{is_space};
 ghost use Rattle.difference_commands.specs.Forms.{begins_car as begins_car_of, begins_cid as begins_cid_of, form_found as form_found_of, form_of as form_of_file, is_pair_line as is_pair_line_of};
 
 use crate::command::Form;
-use console::numbered_lines;
+use console::{numbered_lines, space_in};
 
 /// The form that is asked for, or the one that the file begins as.
 pub(crate) fn form_of(asked: Option<Form>, file: &[u8]) -> Form
@@ -56,14 +56,6 @@ fn after_space(line: &[u8]) -> &[u8]
         return &[];
     }
     &line[space + 1..]
-}
-
-/// The place of the first space, or the length where there is none.
-pub(crate) fn space_in(line: &[u8]) -> usize
-    ensures place { result ≡ position_or_len is_space line.now }
-    ensures within { result ≤ length line.now }
-{
-    line.iter().position(|c| *c == b' ').unwrap_or(line.len())
 }
 
 /// Whether a word begins as the text of each CID does, and no hexadecimal.

@@ -6,9 +6,8 @@ ghost use Rattle.console.specs.Lines.{bytes_of_hex as bytes_of};
 ghost use Rattle.difference_commands.specs.Faults.{line_fault_of};
 ghost use Rattle.difference_commands.specs.RecordLines.{keyed_bytes, of_write, record_of_line as record_of_line_of, words_of_line as words_of_line_of};
 
-use crate::form::space_in;
 use crate::line_fault::LineFault;
-use console::bytes_of_hex;
+use console::{bytes_of_hex, space_in};
 use record_rules::{is_repository_key, test_record};
 use std::alloc::{AllocError, Allocator};
 

@@ -13,7 +13,7 @@ ghost use Rattle.edit.specs.States.{shapes_in};
 use crate::hashed::HashedChange;
 use crate::passing::{Ahead, is_untouched};
 use block::Block;
-use cid::{Cid, CidRef, Digest};
+use cid::{Cid, Digest};
 use rows::{DraftFault, KeyedEntries, Made, Writer, to_cid};
 use std::alloc::Allocator;
 use std::clone::Clone;

@@ -5,7 +5,6 @@ pub mod EachOp
 pub mod Puts
 pub mod AtSource
 pub mod LeftFile
-pub mod LastStamps
 pub mod SameMessage
 pub mod WholeMessage
 pub mod SyncMessage

@@ -69,7 +69,6 @@ mod file;
 mod left;
 mod message;
 mod ops;
-mod stamps;
 mod sync_told;
 mod syncing;
 mod told;

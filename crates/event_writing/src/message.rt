@@ -1,9 +1,6 @@
 //! The commit and the bytes of a message.
 
 ghost use Rattle.std.specs.Prelude.{◌≡◌, IfOk};
-ghost use Rattle.spec.specs.Stamps.{Stamp as Stamped};
-ghost use Rattle.spec.specs.SignedCommits.{signed_bytes};
-ghost use Rattle.export_laws.specs.SignedCars.{signed_commit};
 ghost use Rattle.event_laws.specs.Events.{event_bytes};
 ghost use Rattle.event_writing_laws.specs.Messages.{event_of};
 ghost use Rattle.batches.specs.Values.{stamp_of};
@@ -11,33 +8,10 @@ ghost use Rattle.event_writing.specs.Views.{told_of};
 
 use crate::told::Told;
 use batches::Stamp;
-use block::Block;
-use cid::{Cid, CidRef, Digest};
+use cid::{Cid, CidRef};
 use event_format::{Event, write_event};
 use key_changes::KeyChange;
-use signed_commits::SignedCommit;
 use std::alloc::{AllocError, Allocator};
-
-/// The block of the commit of a stamp over a root, with this signature. It names no commit before it.
-pub(crate) fn signed_block<'c, D: Digest, A: Allocator>(
-    alloc: A,
-    stamp: &'c Stamp<A>,
-    root: &'c Cid,
-    signature: &'c [u8],
-) -> Result<Block<D, A>, AllocError>
-    ensures { IfOk result (λ block. block
-        ≡ signed_bytes (signed_commit (stamp_of stamp.now) root.now signature.now)) }
-{
-    let commit = SignedCommit {
-        did: &stamp.did,
-        rev: &stamp.rev,
-        sig: signature,
-        root: CidRef::from(root),
-        prev: None,
-    };
-    let bytes = commit.signed_bytes(alloc)?;
-    Ok(Block::of(bytes))
-}
 
 /// An operation again, whose key is lent from it.
 fn lent<'m>(op: &'m KeyChange<'_>) -> KeyChange<'m>

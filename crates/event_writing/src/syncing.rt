@@ -10,10 +10,8 @@ ghost use Rattle.event_writing.specs.Views.{untold_fault_of};
 ghost use Rattle.event_writing.specs.Syncing.{sync_stamped, sync_told_of, sync_with as sync_with_commit};
 
 use crate::fault::UntoldFault;
-use crate::message::signed_block;
-use crate::stamps::last_stamp;
 use crate::sync_told::{SyncTold, test_sync};
-use batches::Stamp;
+use batches::{Stamp, last_stamp, signed_block};
 use block::Block;
 use car_writing::{push_header, push_section};
 use cid::Digest;

@@ -12,11 +12,10 @@ ghost use Rattle.event_writing.specs.Steps.{IsTaken, message_with as message_wit
 
 use crate::fault::UntoldFault;
 use crate::file::left_file;
-use crate::message::{message, signed_block};
+use crate::message::message;
 use crate::ops::told_ops;
-use crate::stamps::last_stamp;
 use crate::told::{Told, test_told};
-use batches::Stamp;
+use batches::{Stamp, last_stamp, signed_block};
 use block::Block;
 use cid::{Cid, Digest};
 use kept::Lender;

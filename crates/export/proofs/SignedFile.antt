@@ -1,19 +1,16 @@
 -- The file of a signed commit: its header, the section of the commit, and those of the blocks of a tree.
-use Rattle.std.proofs.Common.{◌≡◌, ℕ, zero, suc, ◌+◌, ◌-◌, ◌^◌, Bool, List, [], ◌∷◌, ◌++◌, length, map, Option, option_map, Result, min, refl, sym, ap, subst, ◌∙◌}
-use Rattle.std.specs.Prelude.{IsErr, slice_get, IfOk}
+use Rattle.std.proofs.Common.{◌≡◌, ℕ, ◌+◌, ◌-◌, ◌^◌, Bool, List, [], ◌++◌, length, map, Option, option_map, Result, min, refl, sym, ap, subst, ◌∙◌}
+use Rattle.std.specs.Prelude.{IsErr}
 use Rattle.std.specs.declared.option.Option.TheVariants.{Some, None}
 use Rattle.std.specs.List.{flat_map}
-use Rattle.std.proofs.lemmas.List.{length-append, length-map}
+use Rattle.std.proofs.lemmas.List.{length-append}
 use Rattle.spec.specs.Cid.{cid, IsDigest}
 use Rattle.spec.specs.Blocks.{blocks, firsts, pairs}
 use Rattle.spec.specs.Car.{header, section}
 use Rattle.spec.specs.Sources.{HasBlocks}
 use Rattle.spec.specs.SignedCommits.{signed_bytes}
 use Rattle.spec.specs.Stamps as stamps
-use Rattle.spec.specs.Stamps.{last, stamp_of as stamp_in}
 use Rattle.spec.specs.States.{State, last_stamp, records, state_blocks, state_commit, state_root}
-use Rattle.batches.specs.Values.{stamp_of, stamps_of}
-use Rattle.batches.specs.declared.stamp.Stamp.{Stamp}
 use Rattle.lookups.specs.Steps.{layers}
 use Rattle.lookups.specs.Trees.{HasTree}
 use Rattle.export_laws.specs.SignedCars.{car_over, signed_commit, state_signed_car}
@@ -27,26 +24,6 @@ use Rattle.export.proofs.Leaving.{stops-first, stops-second, stops-third, takes-
 use Rattle.export.proofs.Sectioned.{met-due}
 use Rattle.export.proofs.Singles.{single-later}
 use Rattle.export.proofs.WholeFile.{sum-of}
-
--- ---- the last stamp
-
-get-map : {X Y : Type 0} (f : X → Y) (xs : List X) (i : ℕ) → slice_get (map f xs) i ≡ option_map f (slice_get xs i)
-get-map f [] i = refl
-get-map f (x ∷ xs) zero = refl
-get-map f (x ∷ xs) (suc i) = get-map f xs i
-
-last-map : {X Y : Type 0} (f : X → Y) (xs : List X) → last (map f xs) ≡ option_map f (last xs)
-last-map f xs = ap (λ n. slice_get (map f xs) (n - 1)) (length-map xs f) ∙ get-map f xs (length xs - 1)
-
-module _ {A : Type 0} (ss : List (Stamp A × ℕ)) where
-  pub some-stamp : (x : Stamp A × ℕ) → ◌≡◌ {A = Option (Stamp A × ℕ)} (Some x) (last ss)
-      → ◌≡◌ {A = Option stamps.Stamp} (Some (stamp_of x.0)) (stamp_in (last (stamps_of ss)))
-  some-stamp x e =
-      ap (λ o. stamp_in (option_map (λ s. (stamp_of s.0, s.1)) o)) e ∙ sym (ap stamp_in (last-map (λ s. (stamp_of s.0, s.1)) ss))
-
-  pub no-stamp : ◌≡◌ {A = Option (Stamp A × ℕ)} None (last ss) → ◌≡◌ {A = Option stamps.Stamp} None (stamp_in (last (stamps_of ss)))
-  no-stamp e =
-      ap (λ o. stamp_in (option_map (λ s. (stamp_of s.0, s.1)) o)) e ∙ sym (ap stamp_in (last-map (λ s. (stamp_of s.0, s.1)) ss))
 
 -- ---- part by part
 

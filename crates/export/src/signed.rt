@@ -1,10 +1,7 @@
 //! CAR files whose root is a signed commit.
 
-ghost use Rattle.std.specs.Prelude.{◌≡◌, ◌≤◌, None, length, option_map, IfOk};
-ghost use Rattle.spec.specs.SignedCommits.{signed_bytes};
-ghost use Rattle.spec.specs.Stamps.{last, stamp_of as stamp_in};
-ghost use Rattle.batches.specs.Values.{stamp_of, stamps_of};
-ghost use Rattle.export_laws.specs.SignedCars.{car_over, signed_commit};
+ghost use Rattle.std.specs.Prelude.{◌≡◌, ◌≤◌, None, length, IfOk};
+ghost use Rattle.export_laws.specs.SignedCars.{car_over};
 ghost use Rattle.export.specs.Exports.{signed_length, TakesSignedCar};
 ghost use Rattle.export.specs.Founds.{bytes_in, found_in, may_repeat, AreMarked};
 ghost use Rattle.export.specs.Once.{capped, AreSingle};
@@ -17,14 +14,13 @@ use crate::out::Out;
 use crate::sections::{write_header, write_section};
 use crate::seen::Seen;
 use crate::walk::Walk;
-use batches::Stamp;
+use batches::{last_stamp, signed_block};
 use block::Block;
-use cid::{Cid, CidRef, Digest};
+use cid::{Cid, Digest};
 use kept::Lender;
 use lookups::layers;
 use repo::Core;
-use signed_commits::SignedCommit;
-use std::alloc::{AllocError, Allocator};
+use std::alloc::Allocator;
 
 /// Writes a repository as the file that a server serves (AT Protocol, `com.atproto.sync.getRepo`; CARv1): its root is the last
 /// batch's commit with this signature, which names no commit before it. Answers how many bytes that are (`u64::MAX` where they
@@ -79,7 +75,8 @@ fn write_signed<'a, D: Digest + 'a, const B: u8, A: Allocator + Clone + 'a, W: O
     requires marked { AreMarked D.digest_of (may_repeat D.digest_of B core.now)
         (found_in src.now.blocks.now) }
     ensures taken { Takes (W.taken out.old) (W.taken out.new) result
-        (car_over D.digest_of commit.now (blocks_met (bytes_in src.old.blocks.now) most None root)) }
+        (car_over D.digest_of commit.now
+        (blocks_met (bytes_in src.old.blocks.now) most None root)) }
     ensures length { IfOk result (λ count. count ≡ capped (length
         (car_over D.digest_of commit.now
         (blocks_met (bytes_in src.old.blocks.now) most None root)))) }
@@ -92,36 +89,4 @@ fn write_signed<'a, D: Digest + 'a, const B: u8, A: Allocator + Clone + 'a, W: O
     let others = write_blocks(core, src, walk, &mut seen, out)?;
     let sections = first.saturating_add(others);
     Ok(header.saturating_add(sections))
-}
-
-/// The block of the commit of a stamp over a root, with this signature.
-fn signed_block<'c, D: Digest, A: Allocator>(
-    alloc: A,
-    stamp: &'c Stamp<A>,
-    root: &'c Cid,
-    signature: &'c [u8],
-) -> Result<Block<D, A>, AllocError>
-    ensures { IfOk result (λ block. block
-        ≡ signed_bytes (signed_commit (stamp_of stamp.now) root.now signature.now)) }
-{
-    let commit = SignedCommit {
-        did: &stamp.did,
-        rev: &stamp.rev,
-        sig: signature,
-        root: CidRef::from(root),
-        prev: None,
-    };
-    let bytes = commit.signed_bytes(alloc)?;
-    Ok(Block::of(bytes))
-}
-
-/// The last batch's stamp, or `None` before the first one.
-fn last_stamp<A: Allocator>(stamps: &[(Stamp<A>, u64)]) -> Option<&Stamp<A>>
-    ensures { option_map (λ stamp. stamp_of stamp.now) result
-        ≡ stamp_in (last (stamps_of stamps.now)) }
-{
-    match stamps.last() {
-        Some((stamp, _)) => Some(stamp),
-        None => None,
-    }
 }

@@ -27,7 +27,11 @@ impl<W: Write> Model for ToWriter<W> {
 
     ghost Value = { Writing W };
 
-    ghost view = { λ w. record { writer = w.writer; taken = w.taken.bytes; failures = w.failures.times } };
+    ghost view = { λ w. record {
+      writer = w.writer;
+      taken = w.taken.bytes;
+      failures = w.failures.times;
+    } };
 
     ghost invariant = { λ w. Holds (λ v. W.contents v) w.writer w.taken.bytes };
 }

@@ -2,7 +2,7 @@
 ghost use Rattle.std.specs.Prelude.{◌≡◌, ◌<◌, []};
 
 use crate::writer::{Pushed, Writer, notice};
-use notices::{Feed, Notice, Queue, SendPass};
+use notices::{Feed, Queue, SendPass};
 use std::alloc::{AllocError, Global};
 use std::sync::Wait;
 use std::test::Fail;

@@ -55,7 +55,8 @@ impl BlockStore<Arc<Block<Sha256>>, Hold<Sha256>, StoreFault<Sha256>> for OwnSha
 
     ghost fulls = { λ s. s.fulls.times };
 
-    ghost answers = { λ s b core r t. IsAnswer sha256 (arc_value b) core s.fulls.times r t.fulls.times };
+    ghost answers = { λ s b core r t.
+        IsAnswer sha256 (arc_value b) core s.fulls.times r t.fulls.times };
 
     ghost makes = { λ s b core r t. ⊤ };
 

@@ -1,137 +1,20 @@
--- The text of a CID of any length: it is UTF-8, and names that CID. Five bytes are eight letters: position by position it is shown
--- which bits of which bytes a letter has, and which bits of which letters a byte has.
-use Rattle.std.proofs.Common.{◌≡◌, ℕ, zero, suc, ◌+◌, ◌-◌, ◌*◌, ◌/◌, ◌%◌, ◌^◌, ◌<◌, ◌≤◌, Bool, true, cond, ◌&&◌, eqb, ltb, List, [], ◌∷◌, length, get_or, map, Some, None, refl, sym, ap, subst, ◌∙◌, arith, inl, inr}
+-- The text of a CID of any length: it is UTF-8, and names that CID. Which bits of which bytes a letter has, and which bits of
+-- which letters a byte has, is shown in `spec`, position by position.
+use Rattle.std.proofs.Common.{◌≡◌, ℕ, zero, suc, ◌+◌, ◌-◌, ◌*◌, ◌/◌, ◌%◌, ◌^◌, ◌<◌, ◌≤◌, true, cond, ◌&&◌, ltb, List, [], ◌∷◌, length, get_or, map, Some, None, refl, sym, ap, ◌∙◌, arith, inl, inr}
 use Rattle.std.specs.Str.{IsAscii, IsUtf8}
-use Rattle.std.specs.List.{list_all, range_with_len}
+use Rattle.std.specs.List.{range_with_len}
 use Rattle.std.specs.Str.{bytes_eq}
 use Rattle.std.proofs.Math.Nat.{zero-div}
-use Rattle.std.proofs.lemmas.Bool.{cases_lt, ltb-true, eqb-true}
+use Rattle.std.proofs.lemmas.Bool.{cases_lt, ltb-true}
 use Rattle.std.proofs.lemmas.List.{get_or-map, get_or_past, length-map}
-use Rattle.std.proofs.lemmas.List.FromFn.{get_or-map-range_with_len, length-map-range_with_len, get_or-range_with_len, length-range_with_len}
-use Rattle.std.proofs.lemmas.List.Sums.{AllPass-from_list_all}
+use Rattle.std.proofs.lemmas.List.FromFn.{get_or-map-range_with_len, length-map-range_with_len}
 use Rattle.std.proofs.lemmas.Grind.{same_number_lists}
 use Rattle.std.proofs.lemmas.Slice.Eq.{bytes_eq-Decides}
 use Rattle.std.proofs.lemmas.Str.{IsUtf8-from_ascii}
 use Rattle.spec.specs.Reading.{IsBytes}
 use Rattle.spec.specs.Cid.{alphabet, five_bits, letter, base32, text, eight_bits, letter_value, letter_values, is_version_1}
+use Rattle.spec.proofs.CidTexts.{byte, AreFive, five_0, five_1, five_2, five_3, five_4, five_5, five_6, five_7, eight_0, eight_1, eight_2, eight_3, eight_4, checked, value_of_letter, place_5}
 use Rattle.record_json.specs.LinkText.{bytes_of_letters, link_of_text}
-
-abbrev byte : List ℕ → ℕ → ℕ
-byte bytes i = get_or bytes i 0
-
--- ---- the bits of a letter
-
--- five bits from a place on, in two bytes
-five-from : (bytes : List ℕ) (i a b r : ℕ) → 5 * i / 8 ≡ a → 5 * i / 8 + 1 ≡ b → 5 * i % 8 ≡ r → five_bits bytes i ≡ (byte bytes a * 256 + byte bytes b) / 2 ^ (11 - r) % 32
-five-from bytes i a b r ea eb er = λ k. (byte bytes (ea k) * 256 + byte bytes (eb k)) / 2 ^ (11 - er k) % 32
-
-module _ (bytes : List ℕ) (fits : IsBytes bytes) where
-  five_0 : (q : ℕ) → five_bits bytes (8 * q) ≡ byte bytes (5 * q) / 8
-  five_0 q =
-      let x = fits (5 * q) in
-      let y = fits (5 * q + 1) in
-      five-from bytes (8 * q) (5 * q) (5 * q + 1) 0 (omega arith) (omega arith) (omega arith) ∙ omega arith
-
-  five_1 : (q : ℕ) → five_bits bytes (8 * q + 1) ≡ byte bytes (5 * q) % 8 * 4 + byte bytes (5 * q + 1) / 64
-  five_1 q =
-      let x = fits (5 * q) in
-      let y = fits (5 * q + 1) in
-      five-from bytes (8 * q + 1) (5 * q) (5 * q + 1) 5 (omega arith) (omega arith) (omega arith) ∙ omega arith
-
-  five_2 : (q : ℕ) → five_bits bytes (8 * q + 2) ≡ byte bytes (5 * q + 1) / 2 % 32
-  five_2 q =
-      let x = fits (5 * q + 1) in
-      let y = fits (5 * q + 2) in
-      five-from bytes (8 * q + 2) (5 * q + 1) (5 * q + 2) 2 (omega arith) (omega arith) (omega arith) ∙ omega arith
-
-  five_3 : (q : ℕ) → five_bits bytes (8 * q + 3) ≡ byte bytes (5 * q + 1) % 2 * 16 + byte bytes (5 * q + 2) / 16
-  five_3 q =
-      let x = fits (5 * q + 1) in
-      let y = fits (5 * q + 2) in
-      five-from bytes (8 * q + 3) (5 * q + 1) (5 * q + 2) 7 (omega arith) (omega arith) (omega arith) ∙ omega arith
-
-  five_4 : (q : ℕ) → five_bits bytes (8 * q + 4) ≡ byte bytes (5 * q + 2) % 16 * 2 + byte bytes (5 * q + 3) / 128
-  five_4 q =
-      let x = fits (5 * q + 2) in
-      let y = fits (5 * q + 3) in
-      five-from bytes (8 * q + 4) (5 * q + 2) (5 * q + 3) 4 (omega arith) (omega arith) (omega arith) ∙ omega arith
-
-  five_5 : (q : ℕ) → five_bits bytes (8 * q + 5) ≡ byte bytes (5 * q + 3) / 4 % 32
-  five_5 q =
-      let x = fits (5 * q + 3) in
-      let y = fits (5 * q + 4) in
-      five-from bytes (8 * q + 5) (5 * q + 3) (5 * q + 4) 1 (omega arith) (omega arith) (omega arith) ∙ omega arith
-
-  five_6 : (q : ℕ) → five_bits bytes (8 * q + 6) ≡ byte bytes (5 * q + 3) % 4 * 8 + byte bytes (5 * q + 4) / 32
-  five_6 q =
-      let x = fits (5 * q + 3) in
-      let y = fits (5 * q + 4) in
-      five-from bytes (8 * q + 6) (5 * q + 3) (5 * q + 4) 6 (omega arith) (omega arith) (omega arith) ∙ omega arith
-
-  five_7 : (q : ℕ) → five_bits bytes (8 * q + 7) ≡ byte bytes (5 * q + 4) % 32
-  five_7 q =
-      let x = fits (5 * q + 4) in
-      let y = fits (5 * q + 5) in
-      five-from bytes (8 * q + 7) (5 * q + 4) (5 * q + 5) 3 (omega arith) (omega arith) (omega arith) ∙ omega arith
-
--- ---- the bits of a byte
-
--- eight bits from a place on, in three letters' values
-eight-from : (values : List ℕ) (j a b c r : ℕ) → 8 * j / 5 ≡ a → 8 * j / 5 + 1 ≡ b → 8 * j / 5 + 2 ≡ c → 8 * j % 5 ≡ r
-    → eight_bits values j ≡ (byte values a * 1024 + byte values b * 32 + byte values c) / 2 ^ (7 - r) % 256
-eight-from values j a b c r ea eb ec er = λ k. (byte values (ea k) * 1024 + byte values (eb k) * 32 + byte values (ec k)) / 2 ^ (7 - er k) % 256
-
-abbrev AreFive : List ℕ → Type 0
-AreFive values = (i : ℕ) → byte values i < 32
-
-module _ (values : List ℕ) (fits : AreFive values) where
-  eight_0 : (q : ℕ) → eight_bits values (5 * q) ≡ byte values (8 * q) * 8 + byte values (8 * q + 1) / 4
-  eight_0 q =
-      let x = fits (8 * q) in
-      let y = fits (8 * q + 1) in
-      let z = fits (8 * q + 2) in
-      eight-from values (5 * q) (8 * q) (8 * q + 1) (8 * q + 2) 0 (omega arith) (omega arith) (omega arith) (omega arith) ∙ omega arith
-
-  eight_1 : (q : ℕ) → eight_bits values (5 * q + 1) ≡ byte values (8 * q + 1) % 4 * 64 + byte values (8 * q + 2) * 2 + byte values (8 * q + 3) / 16
-  eight_1 q =
-      let x = fits (8 * q + 1) in
-      let y = fits (8 * q + 2) in
-      let z = fits (8 * q + 3) in
-      eight-from values (5 * q + 1) (8 * q + 1) (8 * q + 2) (8 * q + 3) 3 (omega arith) (omega arith) (omega arith) (omega arith) ∙ omega arith
-
-  eight_2 : (q : ℕ) → eight_bits values (5 * q + 2) ≡ byte values (8 * q + 3) % 16 * 16 + byte values (8 * q + 4) / 2
-  eight_2 q =
-      let x = fits (8 * q + 3) in
-      let y = fits (8 * q + 4) in
-      let z = fits (8 * q + 5) in
-      eight-from values (5 * q + 2) (8 * q + 3) (8 * q + 4) (8 * q + 5) 1 (omega arith) (omega arith) (omega arith) (omega arith) ∙ omega arith
-
-  eight_3 : (q : ℕ) → eight_bits values (5 * q + 3) ≡ byte values (8 * q + 4) % 2 * 128 + byte values (8 * q + 5) * 4 + byte values (8 * q + 6) / 8
-  eight_3 q =
-      let x = fits (8 * q + 4) in
-      let y = fits (8 * q + 5) in
-      let z = fits (8 * q + 6) in
-      eight-from values (5 * q + 3) (8 * q + 4) (8 * q + 5) (8 * q + 6) 4 (omega arith) (omega arith) (omega arith) (omega arith) ∙ omega arith
-
-  eight_4 : (q : ℕ) → eight_bits values (5 * q + 4) ≡ byte values (8 * q + 6) % 8 * 32 + byte values (8 * q + 7)
-  eight_4 q =
-      let x = fits (8 * q + 6) in
-      let y = fits (8 * q + 7) in
-      let z = fits (8 * q + 8) in
-      eight-from values (5 * q + 4) (8 * q + 6) (8 * q + 7) (8 * q + 8) 2 (omega arith) (omega arith) (omega arith) (omega arith) ∙ omega arith
-
--- ---- the alphabet, letter by letter
-
--- what a test shows of each of n numbers from a on
-checked : (p : ℕ → Bool) (a n : ℕ) → list_all p (range_with_len a n) ≡ true → (x : ℕ) → a ≤ x → x < a + n → p x ≡ true
-checked p a n h x le lt =
-    let within : x - a < n = omega arith in
-    let back : a + (x - a) ≡ x = omega arith in
-    let same : get_or (range_with_len a n) (x - a) 0 ≡ x = get_or-range_with_len a n (x - a) 0 within ∙ back in
-    subst (λ (y : ℕ). p y ≡ true) same (AllPass-from_list_all p (range_with_len a n) h (x - a) 0 (omega (arith, length-range_with_len a n)))
-
-value_of_letter : (x : ℕ) → x < 32 → letter_value (get_or alphabet x 0) ≡ x
-value_of_letter x lt = eqb-true (letter_value (get_or alphabet x 0)) x (checked (λ d. eqb (letter_value (get_or alphabet d 0)) d) 0 32 refl x (omega arith) (omega arith))
 
 -- ---- UTF-8
 
@@ -153,16 +36,6 @@ IsUtf8-text c =
     IsUtf8-from_ascii (text c) (IsAscii-cons 98 _ (omega arith) (IsAscii-map (letter c) letters _))
 
 -- ---- from a CID's text
-
--- a place among the bytes, by its group
-record Place (width i : ℕ) : Type 0 where
-  group : ℕ
-  within : ℕ
-  small : within < width
-  is : i ≡ width * group + within
-
-place_5 : (i : ℕ) → Place 5 i
-place_5 i = record { group = i / 5; within = i % 5; small = omega arith; is = omega arith }
 
 -- letters' values that are the bits of these bytes, also behind the last
 abbrev AreBitsOf : List ℕ → List ℕ → Type 0

@@ -41,7 +41,7 @@ pub use ending::status_of;
 pub use fault::{LineFault, TextFault};
 pub use filling::{MOST_BLOCKS, apply_puts, filled, number_at};
 pub use proving::{prove_text, push_lines, push_root};
-pub use puts::{Puts, Stop, put_of_line, space_in};
+pub use puts::{Puts, Stop, put_of_line};
 pub use running::{run, stamp_of_words};
 pub use signing::signed_car_text;
 pub use verifying::verify_text;

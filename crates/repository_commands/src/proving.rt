@@ -60,7 +60,8 @@ fn proof_made<D: Digest, R: Read>(
     input: &mut R,
 ) -> Result<Vec<u8>, TextFault<D>>
     ensures made { IsMade (λ bytes. bytes.items)
-        (prove_text_of D.digest_of form (stamp_of stamp.now) key.now) (R.remaining input.old) result }
+        (prove_text_of D.digest_of form (stamp_of stamp.now) key.now)
+        (R.remaining input.old) result }
     ensures refused { IfErr result (λ e. IfSome (R.remaining input.old) (λ xs.
         IsRefusedIn D.digest_of form (stamp_of stamp.now) xs e)) }
     ensures told { IsErr (key_check key.now) → TellsWords result }

@@ -1,13 +1,11 @@
 //! The puts that the lines of an input give.
-ghost use Rattle.std.specs.Prelude.{◌≡◌, ◌≤◌, is_ok, length, IfOk, IfSome, OnOk};
-ghost use Rattle.std.specs.List.{position_or_len};
-ghost use Rattle.console.specs.Lines.{is_space};
+ghost use Rattle.std.specs.Prelude.{◌≡◌, is_ok, IfOk, IfSome, OnOk};
 ghost use Rattle.record_forms.specs.Records.{record_of_word as record_of};
 ghost use Rattle.repository_commands.specs.Puts.{given_in, nothing_given, put_of, put_of_line as put_of_line_of, taken};
 ghost use Rattle.repository_commands.specs.Views.{given_of, write_read};
 
 use batches::Write;
-use console::{ReadFault, numbered_lines, read_all};
+use console::{ReadFault, numbered_lines, read_all, space_in};
 use record_forms::{Form, WordFault, record_of_word};
 use std::alloc::{AllocError, Allocator};
 use std::io::Read;
@@ -115,14 +113,6 @@ pub fn put_of_line<A: Allocator + Copy>(
         return Ok(Err(WordFault::BadWord));
     }
     put_of_words(alloc, form, &line[..space], &line[space + 1..])
-}
-
-/// The place of the first space, or the length where there is none.
-pub fn space_in(line: &[u8]) -> usize
-    ensures place { result ≡ position_or_len is_space line.now }
-    ensures within { result ≤ length line.now }
-{
-    line.iter().position(|c| *c == b' ').unwrap_or(line.len())
 }
 
 /// The put of a key and of the word of a record, or why they are none.

@@ -3,7 +3,7 @@
 ghost use Rattle.std.specs.Prelude.{◌≤◌, ◌<◌};
 
 use crate::closes::{Ran, limits, run};
-use crate::tables::{Doing, Row, line_of};
+use crate::tables::{Doing, line_of};
 use batches::{Write, commit_bytes};
 use cid::digests::Toy;
 use cid::{Cid, Digest};

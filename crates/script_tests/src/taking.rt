@@ -143,7 +143,8 @@ fn are_all_told<R: Threads + Wait + Abort + Sync>(
             requires { (All (IsSeatOf lent.now) seats.items)
                 × (All (λ l. l.worker < length seats.items) lines.now) }
             ensures { IfOk result (λ r. (length r.ended.items ≡ length seats.items)
-                × (All (IsEndedAt lent.entry.now.queue.queue_id lent.entry.now.repos) r.ended.items)) }
+                × (All (IsEndedAt lent.entry.now.queue.queue_id lent.entry.now.repos)
+                r.ended.items)) }
         { work(rt, alloc, lent, seats, lines, is_done) },
         move || -> (Feed, Counted)
             requires { feed.queue_id ≡ lent.now.queue.queue_id }

@@ -53,7 +53,8 @@ fn initial() -> [u32x4; 8]
 fn absorb(state: &mut [u32x4; 8], a: &[u8], b: &[u8], c: &[u8], d: &[u8], i: usize)
     ensures { let message = one_of a.now b.now c.now d.now in
         (j : ℕ) → j < 4 → i < block_count (message j)
-        → lane j state.old ≡ hash_at (message j) i → lane j state.new ≡ hash_at (message j) (i + 1) }
+        → lane j state.old ≡ hash_at (message j) i
+        → lane j state.new ≡ hash_at (message j) (i + 1) }
 {
     let blocks = [
         padded_block(a, i),

@@ -1,4 +1,3 @@
 pub mod Spelling
 pub mod CommitLaws
-pub mod Texts
 pub mod Values

@@ -10,7 +10,7 @@ use Rattle.spec.specs.SignedCommits.{Commit, IsCommit, value_of_link, value_of_s
 use Rattle.spec.specs.Laws.SignedCommits.{CommitIsDagCbor}
 use Rattle.spec.proofs.Bools.{both, and}
 use Rattle.spec.proofs.NodeValues.{spelling-link, lawful-link}
-use Rattle.signed_commits.proofs.Texts.{did-lawful, rev-lawful}
+use Rattle.spec.proofs.CommitLaws.{did-lawful, rev-lawful}
 
 own-length : (c : List ℕ) → is_own_cid c ≡ true → length c ≡ 36
 own-length c own = eqb-true (length c) 36 (both (eqb (length c) 36) (bytes_eq (take 4 c) prefix) own).0

@@ -13,7 +13,7 @@ use Rattle.spec.specs.Cid.{prefix, is_own_cid, alphabet, five_bits, letter, base
 use Rattle.spec.proofs.Bools.{both, and}
 use Rattle.spec.proofs.Taking.{ensure_ok, ok_is}
 
-abbrev byte : List ℕ → ℕ → ℕ
+abbrev pub byte : List ℕ → ℕ → ℕ
 byte bytes i = get_or bytes i 0
 
 -- ---- the bits of a letter
@@ -23,49 +23,49 @@ five-from : (bytes : List ℕ) (i a b r : ℕ) → 5 * i / 8 ≡ a → 5 * i / 8
 five-from bytes i a b r ea eb er = λ k. (byte bytes (ea k) * 256 + byte bytes (eb k)) / 2 ^ (11 - er k) % 32
 
 module _ (bytes : List ℕ) (fits : IsBytes bytes) where
-  five_0 : (q : ℕ) → five_bits bytes (8 * q) ≡ byte bytes (5 * q) / 8
+  pub five_0 : (q : ℕ) → five_bits bytes (8 * q) ≡ byte bytes (5 * q) / 8
   five_0 q =
       let x = fits (5 * q) in
       let y = fits (5 * q + 1) in
       five-from bytes (8 * q) (5 * q) (5 * q + 1) 0 (omega arith) (omega arith) (omega arith) ∙ omega arith
 
-  five_1 : (q : ℕ) → five_bits bytes (8 * q + 1) ≡ byte bytes (5 * q) % 8 * 4 + byte bytes (5 * q + 1) / 64
+  pub five_1 : (q : ℕ) → five_bits bytes (8 * q + 1) ≡ byte bytes (5 * q) % 8 * 4 + byte bytes (5 * q + 1) / 64
   five_1 q =
       let x = fits (5 * q) in
       let y = fits (5 * q + 1) in
       five-from bytes (8 * q + 1) (5 * q) (5 * q + 1) 5 (omega arith) (omega arith) (omega arith) ∙ omega arith
 
-  five_2 : (q : ℕ) → five_bits bytes (8 * q + 2) ≡ byte bytes (5 * q + 1) / 2 % 32
+  pub five_2 : (q : ℕ) → five_bits bytes (8 * q + 2) ≡ byte bytes (5 * q + 1) / 2 % 32
   five_2 q =
       let x = fits (5 * q + 1) in
       let y = fits (5 * q + 2) in
       five-from bytes (8 * q + 2) (5 * q + 1) (5 * q + 2) 2 (omega arith) (omega arith) (omega arith) ∙ omega arith
 
-  five_3 : (q : ℕ) → five_bits bytes (8 * q + 3) ≡ byte bytes (5 * q + 1) % 2 * 16 + byte bytes (5 * q + 2) / 16
+  pub five_3 : (q : ℕ) → five_bits bytes (8 * q + 3) ≡ byte bytes (5 * q + 1) % 2 * 16 + byte bytes (5 * q + 2) / 16
   five_3 q =
       let x = fits (5 * q + 1) in
       let y = fits (5 * q + 2) in
       five-from bytes (8 * q + 3) (5 * q + 1) (5 * q + 2) 7 (omega arith) (omega arith) (omega arith) ∙ omega arith
 
-  five_4 : (q : ℕ) → five_bits bytes (8 * q + 4) ≡ byte bytes (5 * q + 2) % 16 * 2 + byte bytes (5 * q + 3) / 128
+  pub five_4 : (q : ℕ) → five_bits bytes (8 * q + 4) ≡ byte bytes (5 * q + 2) % 16 * 2 + byte bytes (5 * q + 3) / 128
   five_4 q =
       let x = fits (5 * q + 2) in
       let y = fits (5 * q + 3) in
       five-from bytes (8 * q + 4) (5 * q + 2) (5 * q + 3) 4 (omega arith) (omega arith) (omega arith) ∙ omega arith
 
-  five_5 : (q : ℕ) → five_bits bytes (8 * q + 5) ≡ byte bytes (5 * q + 3) / 4 % 32
+  pub five_5 : (q : ℕ) → five_bits bytes (8 * q + 5) ≡ byte bytes (5 * q + 3) / 4 % 32
   five_5 q =
       let x = fits (5 * q + 3) in
       let y = fits (5 * q + 4) in
       five-from bytes (8 * q + 5) (5 * q + 3) (5 * q + 4) 1 (omega arith) (omega arith) (omega arith) ∙ omega arith
 
-  five_6 : (q : ℕ) → five_bits bytes (8 * q + 6) ≡ byte bytes (5 * q + 3) % 4 * 8 + byte bytes (5 * q + 4) / 32
+  pub five_6 : (q : ℕ) → five_bits bytes (8 * q + 6) ≡ byte bytes (5 * q + 3) % 4 * 8 + byte bytes (5 * q + 4) / 32
   five_6 q =
       let x = fits (5 * q + 3) in
       let y = fits (5 * q + 4) in
       five-from bytes (8 * q + 6) (5 * q + 3) (5 * q + 4) 6 (omega arith) (omega arith) (omega arith) ∙ omega arith
 
-  five_7 : (q : ℕ) → five_bits bytes (8 * q + 7) ≡ byte bytes (5 * q + 4) % 32
+  pub five_7 : (q : ℕ) → five_bits bytes (8 * q + 7) ≡ byte bytes (5 * q + 4) % 32
   five_7 q =
       let x = fits (5 * q + 4) in
       let y = fits (5 * q + 5) in
@@ -78,39 +78,39 @@ eight-from : (values : List ℕ) (j a b c r : ℕ) → 8 * j / 5 ≡ a → 8 * j
     → eight_bits values j ≡ (byte values a * 1024 + byte values b * 32 + byte values c) / 2 ^ (7 - r) % 256
 eight-from values j a b c r ea eb ec er = λ k. (byte values (ea k) * 1024 + byte values (eb k) * 32 + byte values (ec k)) / 2 ^ (7 - er k) % 256
 
-abbrev AreFive : List ℕ → Type 0
+abbrev pub AreFive : List ℕ → Type 0
 AreFive values = (i : ℕ) → byte values i < 32
 
 module _ (values : List ℕ) (fits : AreFive values) where
-  eight_0 : (q : ℕ) → eight_bits values (5 * q) ≡ byte values (8 * q) * 8 + byte values (8 * q + 1) / 4
+  pub eight_0 : (q : ℕ) → eight_bits values (5 * q) ≡ byte values (8 * q) * 8 + byte values (8 * q + 1) / 4
   eight_0 q =
       let x = fits (8 * q) in
       let y = fits (8 * q + 1) in
       let z = fits (8 * q + 2) in
       eight-from values (5 * q) (8 * q) (8 * q + 1) (8 * q + 2) 0 (omega arith) (omega arith) (omega arith) (omega arith) ∙ omega arith
 
-  eight_1 : (q : ℕ) → eight_bits values (5 * q + 1) ≡ byte values (8 * q + 1) % 4 * 64 + byte values (8 * q + 2) * 2 + byte values (8 * q + 3) / 16
+  pub eight_1 : (q : ℕ) → eight_bits values (5 * q + 1) ≡ byte values (8 * q + 1) % 4 * 64 + byte values (8 * q + 2) * 2 + byte values (8 * q + 3) / 16
   eight_1 q =
       let x = fits (8 * q + 1) in
       let y = fits (8 * q + 2) in
       let z = fits (8 * q + 3) in
       eight-from values (5 * q + 1) (8 * q + 1) (8 * q + 2) (8 * q + 3) 3 (omega arith) (omega arith) (omega arith) (omega arith) ∙ omega arith
 
-  eight_2 : (q : ℕ) → eight_bits values (5 * q + 2) ≡ byte values (8 * q + 3) % 16 * 16 + byte values (8 * q + 4) / 2
+  pub eight_2 : (q : ℕ) → eight_bits values (5 * q + 2) ≡ byte values (8 * q + 3) % 16 * 16 + byte values (8 * q + 4) / 2
   eight_2 q =
       let x = fits (8 * q + 3) in
       let y = fits (8 * q + 4) in
       let z = fits (8 * q + 5) in
       eight-from values (5 * q + 2) (8 * q + 3) (8 * q + 4) (8 * q + 5) 1 (omega arith) (omega arith) (omega arith) (omega arith) ∙ omega arith
 
-  eight_3 : (q : ℕ) → eight_bits values (5 * q + 3) ≡ byte values (8 * q + 4) % 2 * 128 + byte values (8 * q + 5) * 4 + byte values (8 * q + 6) / 8
+  pub eight_3 : (q : ℕ) → eight_bits values (5 * q + 3) ≡ byte values (8 * q + 4) % 2 * 128 + byte values (8 * q + 5) * 4 + byte values (8 * q + 6) / 8
   eight_3 q =
       let x = fits (8 * q + 4) in
       let y = fits (8 * q + 5) in
       let z = fits (8 * q + 6) in
       eight-from values (5 * q + 3) (8 * q + 4) (8 * q + 5) (8 * q + 6) 4 (omega arith) (omega arith) (omega arith) (omega arith) ∙ omega arith
 
-  eight_4 : (q : ℕ) → eight_bits values (5 * q + 4) ≡ byte values (8 * q + 6) % 8 * 32 + byte values (8 * q + 7)
+  pub eight_4 : (q : ℕ) → eight_bits values (5 * q + 4) ≡ byte values (8 * q + 6) % 8 * 32 + byte values (8 * q + 7)
   eight_4 q =
       let x = fits (8 * q + 6) in
       let y = fits (8 * q + 7) in
@@ -120,14 +120,14 @@ module _ (values : List ℕ) (fits : AreFive values) where
 -- ---- the alphabet, letter by letter
 
 -- what a test shows of each of n numbers from a on
-checked : (p : ℕ → Bool) (a n : ℕ) → list_all p (range_with_len a n) ≡ true → (x : ℕ) → a ≤ x → x < a + n → p x ≡ true
+pub checked : (p : ℕ → Bool) (a n : ℕ) → list_all p (range_with_len a n) ≡ true → (x : ℕ) → a ≤ x → x < a + n → p x ≡ true
 checked p a n h x le lt =
     let within : x - a < n = omega arith in
     let back : a + (x - a) ≡ x = omega arith in
     let same : get_or (range_with_len a n) (x - a) 0 ≡ x = get_or-range_with_len a n (x - a) 0 within ∙ back in
     subst (λ (y : ℕ). p y ≡ true) same (AllPass-from_list_all p (range_with_len a n) h (x - a) 0 (omega (arith, length-range_with_len a n)))
 
-value_of_letter : (x : ℕ) → x < 32 → letter_value (get_or alphabet x 0) ≡ x
+pub value_of_letter : (x : ℕ) → x < 32 → letter_value (get_or alphabet x 0) ≡ x
 value_of_letter x lt = eqb-true (letter_value (get_or alphabet x 0)) x (checked (λ d. eqb (letter_value (get_or alphabet d 0)) d) 0 32 refl x (omega arith) (omega arith))
 
 small_letter : (c : ℕ) → 96 < c → c < 123 → get_or alphabet (c - 97) 0 ≡ c
@@ -148,13 +148,13 @@ letter_of_value c lt = by_case (ltb 96 c && ltb c 123) (ltb 49 c && ltb c 56) re
 -- ---- from a CID's text
 
 -- a place among the letters, and among the bytes, by its group
-record Place (width i : ℕ) : Type 0 where
-  group : ℕ
-  within : ℕ
-  small : within < width
-  is : i ≡ width * group + within
+pub record Place (width i : ℕ) : Type 0 where
+  pub group : ℕ
+  pub within : ℕ
+  pub small : within < width
+  pub is : i ≡ width * group + within
 
-place_5 : (i : ℕ) → Place 5 i
+pub place_5 : (i : ℕ) → Place 5 i
 place_5 i = record { group = i / 5; within = i % 5; small = omega arith; is = omega arith }
 
 place_8 : (i : ℕ) → Place 8 i

@@ -109,13 +109,13 @@ text-lawful levels bs short ascii =
     and (fits_length bs) (is_utf8 bs) (lt-ltb (length bs) (2 ^ 64) (omega arith))
     (is_utf8-from_IsUtf8 bs (IsUtf8-from_ascii bs ascii))
 
-did-lawful : (d : List ℕ) → is_did d ≡ true → is_lawful_within 63 (Text d) ≡ true
+pub did-lawful : (d : List ℕ) → is_did d ≡ true → is_lawful_within 63 (Text d) ≡ true
 did-lawful d h =
     let a = both (leb (length d) 2048 && bytes_eq (take 4 d) (codes "did:") && is_method_name (before_first is_colon (drop 4 d))) _ h in
     let b = both (leb (length d) 2048 && bytes_eq (take 4 d) (codes "did:")) _ a.0 in
     text-lawful 63 d (leb-true (length d) 2048 (both (leb (length d) 2048) _ b.0).0) (did-ascii d h)
 
-rev-lawful : (r : List ℕ) → is_tid r ≡ true → is_lawful_within 63 (Text r) ≡ true
+pub rev-lawful : (r : List ℕ) → is_tid r ≡ true → is_lawful_within 63 (Text r) ≡ true
 rev-lawful r h =
     let letters = list_all (is_one_of (codes "234567abcdefghijklmnopqrstuvwxyz")) r in
     let long = eqb-true (length r) 13 (both (eqb (length r) 13) letters (both (eqb (length r) 13 && letters) _ h).0).0 in

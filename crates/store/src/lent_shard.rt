@@ -48,11 +48,14 @@ impl<'a, D: Digest, A: Allocator + Clone> BlockStore<
 
     ghost fulls = { λ s. s.fulls.times };
 
-    ghost answers = { λ s b core r t. IsAnswer D.digest_of (arc_value b) core s.fulls.times r t.fulls.times };
+    ghost answers = { λ s b core r t.
+        IsAnswer D.digest_of (arc_value b) core s.fulls.times r t.fulls.times };
 
-    ghost makes = { λ s b core r t. IsMade D.digest_of (arc_value b) core s.shard.now r t.shard.now };
+    ghost makes = { λ s b core r t.
+        IsMade D.digest_of (arc_value b) core s.shard.now r t.shard.now };
 
-    ghost leaves = { λ s h t. t.shard.now ≡ left s.shard.now (cid_of D.digest_of (arc_value h.0)) h.1 };
+    ghost leaves = { λ s h t.
+        t.shard.now ≡ left s.shard.now (cid_of D.digest_of (arc_value h.0)) h.1 };
 
     fn acquire(
         &mut self,

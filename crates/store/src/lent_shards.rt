@@ -57,9 +57,11 @@ impl<'a, D: Digest, const LIMIT: usize, A: Allocator + Clone> BlockStore<
 
     ghost fulls = { λ s. s.fulls.times };
 
-    ghost answers = { λ s b core r t. IsAnswer D.digest_of (arc_value b) core s.fulls.times r t.fulls.times };
+    ghost answers = { λ s b core r t.
+        IsAnswer D.digest_of (arc_value b) core s.fulls.times r t.fulls.times };
 
-    ghost makes = { λ s b core r t. IsMadeIn D.digest_of (arc_value b) core s.shards.now r t.shards.now };
+    ghost makes = { λ s b core r t.
+        IsMadeIn D.digest_of (arc_value b) core s.shards.now r t.shards.now };
 
     ghost leaves = { λ s h t. t.shards.now ≡ left_in D.digest_of s.shards.now h };
 

@@ -46,10 +46,12 @@ impl<'a, R: Wait, D: Digest, A: Allocator + Clone> BlockStore<
 
     ghost fulls = { λ s. s.fulls.times };
 
-    ghost answers = { λ s b core r t. IsAnswer D.digest_of (arc_value b) core s.fulls.times r t.fulls.times };
+    ghost answers = { λ s b core r t.
+        IsAnswer D.digest_of (arc_value b) core s.fulls.times r t.fulls.times };
 
     // What becomes of a table behind its lock has no place in a contract.
-    ghost makes = { λ s b core r t. IsAnswer D.digest_of (arc_value b) core s.fulls.times r t.fulls.times };
+    ghost makes = { λ s b core r t.
+        IsAnswer D.digest_of (arc_value b) core s.fulls.times r t.fulls.times };
 
     ghost leaves = { λ s h t. t.fulls.times ≡ s.fulls.times };
 

@@ -1,6 +1,5 @@
 ghost use Rattle.std.specs.Prelude.{◌≡◌, ◌<◌, ◌≤◌, None, IfOk, IfErr, OnOk, OnErr};
 ghost use Rattle.std.specs.Arc.{arc_value};
-ghost use Rattle.std.specs.FinMap as map;
 ghost use Rattle.std.specs.FinSet as set;
 ghost use Rattle.spec.specs.Cid.{cid as cid_of};
 ghost use Rattle.store.specs.Table.{empty_table, entered, entry_at, left, HasNoOther, cores_at, IsListing, IsLawful};
@@ -32,7 +31,8 @@ pub use hold::Hold;
 /// reserved with each entry that comes, so a core that comes to a held block wants no memory. A set of one ends.
 ///
 /// A contract sees it as a finite map from CIDs to bytes and sets of cores, beside its limit and the key under which the
-/// table hashes CIDs. Each entry stands under the CID of its bytes and has at least one core: this is a rule of this repository, no standard has it.
+/// table hashes CIDs. Each entry stands under the CID of its bytes and has at least one core: this is a rule of this
+/// repository, no standard has it.
 #[derive(Drop)]
 pub struct Shard<D: Digest, A: Allocator = Global> {
     sets: Slab<Cores, A>,
@@ -49,7 +49,8 @@ impl<D: Digest, A: Allocator> Model for Shard<D, A> {
 
     ghost coded = { table_code };
 
-    ghost view = { λ s. table_view (held_in s.sets.slots s.table.entries) s.limit (hasher_of s.table) };
+    ghost view = { λ s. table_view (held_in s.sets.slots s.table.entries) s.limit
+        (hasher_of s.table) };
 
     ghost invariant = { λ s. IsSound D.digest_of s.table.entries s.sets s.limit };
 }

@@ -47,7 +47,8 @@ pub extern "C" fn tizulgech_car_head(
 /// The same of a repository.
 fn head_told(alloc: Global, repo: &OwnedRepo, out: &mut [u8], size: &mut usize) -> u8
     ensures answer { IsHandedOr255 result
-        (header (car_root (state_commit sha256 2 repo.now.state) (state_root sha256 2 repo.now.state)))
+        (header (car_root (state_commit sha256 2 repo.now.state)
+        (state_root sha256 2 repo.now.state)))
         out.old out.new size.new }
     ensures kept { IsKept result out.old out.new size.old size.new }
 {

@@ -7,7 +7,7 @@ use Rattle.std.proofs.lemmas.Bool.{ltb-false}
 use Rattle.std.proofs.lemmas.List.Sums.{prefix_len-le-length}
 use Rattle.std.specs.Prelude.{not}
 use Rattle.console.specs.Lines.{is_space}
-use Rattle.repository_commands.proofs.puts.space_in.Goals as goal
+use Rattle.console.proofs.spaces.space_in.Goals as goal
 
 place : (p n : ℕ) (t : Bool) → ltb p n ≡ t → p ≤ n → unwrap_or (cond t (Some p) None) n ≡ p
 place p n true e l = refl

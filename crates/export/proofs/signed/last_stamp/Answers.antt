@@ -1,5 +1,0 @@
-use Rattle.export.proofs.SignedFile.{some-stamp}
-use Rattle.export.proofs.signed.last_stamp.Goals as goal
-
-pub returns-in-Some : goal.returns-in-Some
-returns-in-Some g c = some-stamp c.args.stamps.now c.in-Some.field-0.now c.in-Some.ensures.value
