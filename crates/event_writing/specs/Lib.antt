@@ -5,3 +5,4 @@ pub mod Steps
 pub mod Putting
 pub mod Sources
 pub mod Syncing
+pub mod Signing

@@ -69,12 +69,16 @@ mod file;
 mod left;
 mod message;
 mod ops;
+mod signing;
+mod signing_fault;
 mod sync_told;
 mod syncing;
 mod told;
 mod writing;
 
 pub use fault::UntoldFault;
+pub use signing::{Signed, apply_signed};
+pub use signing_fault::SigningFault;
 pub use sync_told::SyncTold;
 pub use syncing::sync_event;
 pub use told::Told;

@@ -3,7 +3,7 @@
 //!
 //! The definitions stand in `specs/`, to be read in this order: `Telling` says what a host tells beside a batch, and why it can't
 //! tell it; `Messages` what the message of a repository's last batch says, and its bytes; `Laws` what a reader makes of it;
-//! `Syncs` the message `#sync` of a state, and `SyncLaws` what it says.
+//! `Signed` the message of a batch that isn't accepted yet; `Syncs` the message `#sync` of a state, and `SyncLaws` what it says.
 //! The functions here are laws of them, and do nothing when they are called.
 #![tactic(auto)]
 

@@ -14,6 +14,8 @@ mod memory;
 #[cfg(test)]
 mod random;
 #[cfg(test)]
+mod signed;
+#[cfg(test)]
 mod sync;
 #[cfg(test)]
 mod sync_bytes;

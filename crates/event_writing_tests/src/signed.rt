@@ -1,0 +1,179 @@
+//! Batches that are accepted signed.
+
+ghost use Rattle.std.specs.Prelude.{◌≤◌};
+
+use crate::fixtures::{
+    A, DID, FIRST, Posts, REV, SECOND, SINCE, opened, shard, told,
+};
+use crate::worked_bytes::WORKED;
+use batches::RepoFault;
+use cid::{Cid, Digest, Sha256};
+use event_format::FormFault;
+use event_writing::{SigningFault, Told, UntoldFault, apply_signed};
+use refusing::Refusing;
+use repo::Core;
+use repo_fixtures::batch::{Batch, Step, stamped};
+use repo_fixtures::cores::{apply_made, end};
+use std::alloc::{AllocError, Allocator, Global};
+use store::{LentShard, Shard};
+
+/// How a batch ends.
+#[derive(Clone, Copy, PartialEq, Eq)]
+enum End {
+    /// It is accepted, so many writes are there then, and the message is the worked one or another.
+    Accepted(u64, bool),
+    RootMoved,
+    KeyExists(usize),
+    Refused,
+    Untold(UntoldFault),
+    NoMemory,
+    Unmade,
+}
+
+/// How a batch that is accepted signed over a root ends.
+fn end_of<M: Allocator + Copy, G: Digest, const BITS: u8>(
+    alloc: M,
+    shard: &mut Shard<G, M>,
+    core: &mut Core<G, BITS, M>,
+    previous: Cid,
+    batch: Result<Batch<M>, AllocError>,
+    told: &Told<'_>,
+) -> End
+    requires { 1 ≤ BITS }
+{
+    let Ok(batch) = batch else {
+        return End::Unmade;
+    };
+    let mut store = LentShard::new(shard);
+    match apply_signed(alloc, &mut store, core, previous, &batch.stamp, &batch.writes, told) {
+        Ok(signed) => End::Accepted(signed.applied.number, signed.message.as_slice() == WORKED),
+        Err(SigningFault::RootMoved) => End::RootMoved,
+        Err(SigningFault::Refused(place, RepoFault::KeyExists)) => End::KeyExists(place),
+        Err(SigningFault::Refused(_, _)) => End::Refused,
+        Err(SigningFault::Untold(fault)) => End::Untold(fault),
+        Err(SigningFault::NoMemory) => End::NoMemory,
+    }
+}
+
+/// How a batch of these steps ends that is signed over a root.
+fn end_of_steps(
+    alloc: Global,
+    shard: &mut Shard<Sha256>,
+    core: &mut Posts<Global>,
+    previous: Cid,
+    steps: &[Step<'_>],
+    told: &Told<'_>,
+) -> End {
+    end_of(alloc, shard, core, previous, stamped(alloc, DID, REV, steps), told)
+}
+
+/// Whether a batch that ends so leaves the repository as it was.
+fn is_left(alloc: Global, shard: &mut Shard<Sha256>, core: &mut Posts<Global>, wanted: End, steps: &[Step<'_>], told: &Told<'_>) -> bool {
+    let (root, number) = (core.root(), core.number());
+    end_of_steps(alloc, shard, core, root, steps, told) == wanted
+        && core.root() == root
+        && core.number() == number
+}
+
+/// A record of eleven bytes more than these zeros, which are 65,536 or more: a map with a byte string.
+fn record(alloc: Global, zeros: u32) -> Result<Vec<u8>, AllocError> {
+    let mut out = Vec::from_slice(alloc, b"\xa1\x64zero\x5a")?;
+    out.extend_from_slice(&zeros.to_be_bytes())?;
+    let all = vec![in alloc; 0u8; zeros as usize]?;
+    out.extend_from_slice(&all)?;
+    Ok(out)
+}
+
+/// Whether a record that can't be told is refused before its batch is accepted.
+fn long_is_left(alloc: Global, shard: &mut Shard<Sha256>, core: &mut Posts<Global>) -> bool {
+    let Ok(record) = record(alloc, 999_990) else {
+        return false;
+    };
+    let steps = [Step::Create(b"posts/10", A), Step::Create(b"posts/16", &record)];
+    is_left(alloc, shard, core, End::Untold(UntoldFault::RecordSize(1)), &steps, &told())
+}
+
+/// Whether each refusal leaves the repository as it was.
+fn refusals(alloc: Global, shard: &mut Shard<Sha256>, core: &mut Posts<Global>) -> bool {
+    let mut no_time = told();
+    no_time.time = b"";
+    let twice = [Step::Create(b"posts/10", A), Step::Create(b"posts/11", A)];
+    is_left(alloc, shard, core, End::KeyExists(1), &twice, &told())
+        && is_left(
+            alloc,
+            shard,
+            core,
+            End::Untold(UntoldFault::Form(FormFault::BadTime)),
+            &SECOND,
+            &no_time,
+        )
+        && is_left(alloc, shard, core, End::Refused, &[], &told())
+        && long_is_left(alloc, shard, core)
+}
+
+/// Whether the batch before the worked one is accepted.
+fn begins<M: Allocator + Copy, G: Digest, const BITS: u8>(
+    alloc: M,
+    shard: &mut Shard<G, M>,
+    core: &mut Core<G, BITS, M>,
+) -> bool {
+    matches!(
+        apply_made(alloc, shard, core, stamped(alloc, DID, SINCE, &FIRST)),
+        repo_fixtures::ends::Ended::Accepted(4)
+    )
+}
+
+#[test]
+fn the_worked_batch_signed(rt: HostRuntime) {
+    let alloc = rt.alloc();
+    let mut shard = shard(alloc);
+    let mut core = opened(&rt, alloc, &mut shard);
+    let empty = core.root();
+    let right = begins(alloc, &mut shard, &mut core) && refusals(alloc, &mut shard, &mut core);
+    let before = core.root();
+    let moved = end_of_steps(alloc, &mut shard, &mut core, empty, &SECOND, &told());
+    let signed = end_of_steps(alloc, &mut shard, &mut core, before, &SECOND, &told());
+    let late = end_of_steps(alloc, &mut shard, &mut core, before, &SECOND, &told());
+    end(&mut shard, core);
+    assert!(rt; right && moved == End::RootMoved && late == End::RootMoved);
+    assert!(rt; signed == End::Accepted(8, true));
+}
+
+/// Memory that refuses requests.
+type Heap<'h> = &'h Refusing<Global>;
+
+/// The end of the worked batch, where the request of this number is refused, and whether the repository is as it was.
+fn tried<'h>(heap: Heap<'h>, shard: &mut Shard<Sha256, Heap<'h>>, core: &mut Posts<Heap<'h>>, number: u64) -> (End, bool) {
+    let batch = stamped(heap, DID, REV, &SECOND);
+    let root = core.root();
+    heap.refuse(number);
+    let end = end_of(heap, shard, core, root, batch, &told());
+    heap.refuse(0);
+    (end, core.root() == root)
+}
+
+/// Whether each request that is refused is told and leaves the repository as it was, up to the batch that is accepted.
+fn tells_each<'h>(heap: Heap<'h>, shard: &mut Shard<Sha256, Heap<'h>>, core: &mut Posts<Heap<'h>>) -> bool {
+    for number in 1..5_000u64 {
+        match tried(heap, shard, core, number) {
+            (End::NoMemory, true) => {}
+            (End::Accepted(8, true), false) => return number > 50,
+            _ => return false,
+        }
+    }
+    false
+}
+
+#[test]
+fn refuses_each_want_of_memory(rt: HostRuntime) {
+    let heap = Refusing::new(rt.alloc());
+    let right = {
+        let mut shard = shard(&heap);
+        let mut core = opened(&rt, &heap, &mut shard);
+        let begun = begins(&heap, &mut shard, &mut core);
+        let right = begun && tells_each(&heap, &mut shard, &mut core);
+        end(&mut shard, core);
+        right
+    };
+    assert!(rt; right);
+}
