@@ -9,3 +9,5 @@ mod Handing
 mod Knowing
 mod Causes
 mod Going
+mod Signing
+mod Messages

@@ -7,6 +7,8 @@ pub mod Below
 pub mod Changing
 pub mod Inverting
 pub mod Parting
+pub mod Signing
+pub mod Messages
 pub use Rattle.spec.specs.Cid
 pub use Rattle.spec.specs.Layer
 pub use Rattle.spec.specs.States

@@ -9,22 +9,30 @@
 //! - `verdicts` has those that check changes between two roots, done or undone; `changes` has the one that proves what changes
 //!   make of a repository, and `inversions` the one that proves changes undone. `told_changes` reads what all of them are told,
 //!   and tells verdicts.
+//! - `signed`, `file_parts` and `revisions` have those for signed commits; `checking` has the check of a message `#commit`, which
+//!   `messages` spells and `message_faults` numbers.
 #![tactic(auto)]
 
 mod below;
 mod changes;
+mod checking;
 mod cids;
 mod codes;
 mod edits;
+mod file_parts;
 mod files;
 mod inversions;
 mod listings;
+mod message_faults;
+mod messages;
 mod nodes;
 mod opening;
 mod pages;
 mod proving;
 mod reading;
+mod revisions;
 mod sections;
+mod signed;
 mod staging;
 mod stamps;
 mod told_changes;
