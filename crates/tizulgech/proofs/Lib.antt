@@ -11,3 +11,5 @@ mod Causes
 mod Going
 mod Signing
 mod Messages
+mod Previews
+mod SignedBatches

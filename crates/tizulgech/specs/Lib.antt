@@ -9,6 +9,7 @@ pub mod Inverting
 pub mod Parting
 pub mod Signing
 pub mod Messages
+pub mod SignedBatches
 pub use Rattle.spec.specs.Cid
 pub use Rattle.spec.specs.Layer
 pub use Rattle.spec.specs.States

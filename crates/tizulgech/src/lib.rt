@@ -9,8 +9,8 @@
 //! - `verdicts` has those that check changes between two roots, done or undone; `changes` has the one that proves what changes
 //!   make of a repository, and `inversions` the one that proves changes undone. `told_changes` reads what all of them are told,
 //!   and tells verdicts.
-//! - `signed`, `file_parts` and `revisions` have those for signed commits; `checking` has the check of a message `#commit`, which
-//!   `messages` spells and `message_faults` numbers.
+//! - `signed`, `file_parts` and `revisions` have those for signed commits; `previews` and `signing` those for a batch that is signed
+//!   before it is accepted; `checking` has the check of a message `#commit`, which `messages` spells and `message_faults` numbers.
 #![tactic(auto)]
 
 mod below;
@@ -28,11 +28,13 @@ mod messages;
 mod nodes;
 mod opening;
 mod pages;
+mod previews;
 mod proving;
 mod reading;
 mod revisions;
 mod sections;
 mod signed;
+mod signing;
 mod staging;
 mod stamps;
 mod told_changes;

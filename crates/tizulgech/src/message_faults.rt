@@ -1,6 +1,6 @@
 //! The numbers of why a message isn't taken, each with a place, or 0.
 
-ghost use Rattle.std.specs.Prelude.{◌≡◌, option_map, length};
+ghost use Rattle.std.specs.Prelude.{◌≡◌, false, length, nat_eq, option_map};
 ghost use Rattle.event_laws.specs.Reading.{Cbor};
 ghost use Rattle.event_laws.specs.Verdict.{OfCar, OfCommit, BadRecord};
 ghost use Rattle.event_format.specs.Views.{form_fault_of, name_of};
@@ -49,7 +49,10 @@ fn place_of_field(field: Field) -> usize
 
 /// The number of a fault of DAG-CBOR in a message, in place of a place.
 fn cbor_told(fault: CborFault) -> (u8, usize)
-    ensures { result ≡ told_or_want form_told_of (option_map Cbor (cbor_fault_of fault)) }
+    ensures told { result ≡ told_or_want form_told_of (option_map Cbor (cbor_fault_of fault)) }
+    ensures no_clash { nat_eq result.0 253 ≡ false }
+    ensures not_full { nat_eq result.0 254 ≡ false }
+    ensures refused { nat_eq result.0 0 ≡ false }
 {
     match fault {
         CborFault::NoMemory => (NO_MEMORY, 0),
@@ -59,7 +62,10 @@ fn cbor_told(fault: CborFault) -> (u8, usize)
 
 /// Why bytes are no message.
 pub(crate) fn form_told(fault: FormFault) -> (u8, usize)
-    ensures { result ≡ told_or_want form_told_of (form_fault_of fault) }
+    ensures told { result ≡ told_or_want form_told_of (form_fault_of fault) }
+    ensures no_clash { nat_eq result.0 253 ≡ false }
+    ensures not_full { nat_eq result.0 254 ≡ false }
+    ensures refused { nat_eq result.0 0 ≡ false }
 {
     match fault {
         FormFault::MessageSize => (107, 0),

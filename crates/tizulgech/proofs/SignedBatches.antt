@@ -1,0 +1,239 @@
+-- What is told of a batch that is accepted signed.
+use Rattle.std.proofs.Common.{◌≡◌, ◌≤◌, ◌<◌, ◌∙◌, ℕ, List, Bool, true, false, refl, sym, ap, subst, arith}
+use Rattle.std.specs.Prelude.{nat_eq, length, option_map, Option, Some, None, Result, Ok, Err}
+use Rattle.std.specs.Str.{bytes_eq}
+use Rattle.sha2.specs.Sha256.{sha256}
+use Rattle.spec.specs.Reading.{◌>>=◌, ensure, Fails}
+use Rattle.spec.specs.Stamps.{Stamp}
+use Rattle.spec.specs.Writes.{Write}
+use Rattle.spec.specs.States.{State, BatchFault, state_root, state_test}
+use Rattle.store.specs.Shards.{WasFull}
+use Rattle.event_laws.specs.Reading as forms
+use Rattle.event_format.specs.declared.fault.FormFault.TheVariants as given_forms
+use Rattle.event_writing_laws.specs.Signed.{signed_message}
+use Rattle.event_writing_laws.specs.Telling as telling
+use Rattle.event_writing_laws.specs.Telling.{Told}
+use Rattle.batches.specs.declared.fault.RepoFault.{RepoFault}
+use Rattle.batches.specs.declared.fault.RepoFault.TheVariants as faults
+use Rattle.repo.specs.Fulls.{is_full}
+use Rattle.repo.specs.Prepared.{Prepared, IsPassed, prepared_of}
+use Rattle.repo.specs.Refusals.{IsOther, IsRefusal, IsStoreRefusal, IsTestRefusal}
+use Rattle.event_writing.specs.Signing.{IsNoWant, IsPreparedFault, IsUntold}
+use Rattle.event_writing.specs.Views.{untold_fault_of}
+use Rattle.event_writing.specs.declared.fault.UntoldFault.{UntoldFault}
+use Rattle.event_writing.specs.declared.fault.UntoldFault.TheVariants as untolds
+use Rattle.event_writing.specs.declared.signing_fault.SigningFault as signings
+use Rattle.event_writing.specs.declared.signing_fault.SigningFault.TheVariants as errors
+use Rattle.buffers.specs.Answers.{IsHanded}
+use Rattle.owned_repo.specs.Owning.{Owned}
+use Rattle.tizulgech.specs.Causes.{HasCause}
+use Rattle.tizulgech.specs.Numbers.{IsTested, fault_number, is_other}
+use Rattle.tizulgech.specs.Messages.{form_told, told_or_want}
+use Rattle.tizulgech.specs.SignedBatches.{SigningFault, RootMoved, OfBatch, OfMessage, of_batch, of_message, signing, signing_code, signing_told, untold_told, IsNoLimit, IsSigned}
+use Rattle.tizulgech.proofs.Causes.{batch_cause, no_limit, told_cause}
+use Rattle.tizulgech.proofs.Previews.{never-0, never-full, tested_code}
+use Rattle.tizulgech.proofs.Told.{batch_told}
+
+-- a fault of a form within one of a message
+pub form_in_untold : (told : ℕ × ℕ) (f : Option forms.FormFault) → told ≡ told_or_want form_told f
+    → told ≡ told_or_want untold_told (option_map telling.OfForm f)
+form_in_untold told None e = e
+form_in_untold told (Some f) e = e
+
+-- ---- bytes that have room, and such that haven't
+
+module _ (code : ℕ) (bytes before room : List ℕ) (size : ℕ) (h : IsHanded code bytes before room size) where
+  pub handed_small : length before < length bytes → code ≡ 251
+  handed_small small = (h.small (λ done. omega (arith, small, h.room_is done))).0
+
+  pub handed_whole : length bytes ≤ length before → code ≡ 0
+  handed_whole room = by (nat_eq code 0) refl
+    where
+      by : (b : Bool) → nat_eq code 0 ≡ b → code ≡ 0
+      by true e = omega (arith, e)
+      by false e = absurd (let small = h.small (λ done. omega (arith, e, done)) in omega (arith, room, small.1.0))
+
+-- ---- a store that refuses
+
+module _ (s : State) (stamp : Stamp) (batch : List Write) (full fuller : ℕ) where
+  other-told : {D A : Type 0} (place : ℕ) (fault : RepoFault D A) → IsOther sha256 2 s stamp batch full fuller place fault
+      → is_other (fault_number fault) ≡ true
+  other-told place (faults.Collision pair) h = refl
+  other-told place faults.StoreFull h = refl
+  other-told place faults.NoMemory h = refl
+  other-told place faults.BadKey h = absurd h
+  other-told place faults.NotAMap h = absurd h
+  other-told place faults.RecordSize h = absurd h
+  other-told place faults.KeyExists h = absurd h
+  other-told place faults.NoSuchKey h = absurd h
+  other-told place faults.WritesFull h = absurd h
+  other-told place faults.EmptyBatch h = absurd h
+  other-told place faults.BadDid h = absurd h
+  other-told place faults.BadRev h = absurd h
+  other-told place faults.RevOrder h = absurd h
+  other-told place (faults.BadRecord f) h = absurd h
+
+  other-cause : {D A : Type 0} (place : ℕ) (fault : RepoFault D A) → IsOther sha256 2 s stamp batch full fuller place fault
+      → (is_full fault ≡ true → WasFull sha256 1048576) → HasCause (fault_number fault)
+  other-cause place (faults.Collision pair) h f =
+      record { clash = λ _. record { pair = pair; clash = h.1.clash }; full = λ e. absurd (omega (arith, e)) }
+  other-cause place faults.StoreFull h f = record { clash = λ e. absurd (omega (arith, e)); full = λ _. f refl }
+  other-cause place faults.NoMemory h f = no_limit 255 refl refl
+  other-cause place faults.BadKey h f = absurd h
+  other-cause place faults.NotAMap h f = absurd h
+  other-cause place faults.RecordSize h f = absurd h
+  other-cause place faults.KeyExists h f = absurd h
+  other-cause place faults.NoSuchKey h f = absurd h
+  other-cause place faults.WritesFull h f = absurd h
+  other-cause place faults.EmptyBatch h f = absurd h
+  other-cause place faults.BadDid h f = absurd h
+  other-cause place faults.BadRev h f = absurd h
+  other-cause place faults.RevOrder h f = absurd h
+  other-cause place (faults.BadRecord e) h f = absurd h
+
+  module _ {D A : Type 0} (place : ℕ) (fault : RepoFault D A) (refusal : IsStoreRefusal sha256 2 s stamp batch full fuller (place, fault))
+      (code : ℕ) (is : code ≡ fault_number fault) where
+    pub store_other : {P : Type 0} → is_other code ≡ false → P
+    store_other other =
+        let both : true ≡ false = sym (other-told place fault refusal.other) ∙ subst (λ (n : ℕ). is_other n ≡ false) is other in absurd cc
+
+    pub store_cause : (is_full fault ≡ true → WasFull sha256 1048576) → HasCause code
+    store_cause was_full = told_cause code (fault_number fault) is (other-cause place fault refusal.other was_full)
+
+-- ---- what is said of a message
+
+module _ (code place : ℕ) (before room : List ℕ) (size : ℕ) where
+  -- nothing is said where no test tells the number
+  unsaid : (r : Result (List ℕ) SigningFault) → is_other code ≡ true → IsSigned code place r before room size
+  unsaid (Ok m) e = λ other. absurd (let both : true ≡ false = sym e ∙ other in cc)
+  unsaid (Err f) e = λ other. absurd (let both : true ≡ false = sym e ∙ other in cc)
+
+  is-other : (number : ℕ) → is_other number ≡ true → code ≡ number → is_other code ≡ true
+  is-other number e is = subst (λ (n : ℕ). is_other n ≡ true) (sym is) e
+
+  pub message_signed : (message : List ℕ) (r : Result (List ℕ) telling.UntoldFault) → r ≡ Ok message
+      → (is_other code ≡ false → IsHanded code message before room size) → IsSigned code place (of_message r) before room size
+  message_signed message r is handed =
+      subst (λ (x : Result (List ℕ) telling.UntoldFault). IsSigned code place (of_message x) before room size) (sym is) handed
+
+  -- a batch that can't be told
+  fails : (fault : UntoldFault) (r : Result (List ℕ) telling.UntoldFault) → IsUntold fault r → Fails (untold_fault_of fault) r
+  fails untolds.NoMemory r h = absurd h
+  fails (untolds.Form given_forms.NoMemory) r h = absurd h
+  fails untolds.NoBatch r h = h
+  fails untolds.BadSeq r h = h
+  fails (untolds.OtherValue p) r h = h
+  fails (untolds.RecordSize p) r h = h
+  fails (untolds.Form given_forms.MessageSize) r h = h
+  fails (untolds.Form given_forms.NotCommit) r h = h
+  fails (untolds.Form given_forms.NotAMap) r h = h
+  fails (untolds.Form given_forms.Rebase) r h = h
+  fails (untolds.Form given_forms.TooBig) r h = h
+  fails (untolds.Form given_forms.TooManyOps) r h = h
+  fails (untolds.Form given_forms.BlocksSize) r h = h
+  fails (untolds.Form given_forms.BadDid) r h = h
+  fails (untolds.Form given_forms.BadRev) r h = h
+  fails (untolds.Form given_forms.BadSince) r h = h
+  fails (untolds.Form given_forms.RevOrder) r h = h
+  fails (untolds.Form given_forms.BadTime) r h = h
+  fails (untolds.Form (given_forms.Cbor f)) r h = h
+  fails (untolds.Form (given_forms.BadField f)) r h = h
+  fails (untolds.Form (given_forms.BadOp p)) r h = h
+
+  untold : (fault : Option telling.UntoldFault) (r : Result (List ℕ) telling.UntoldFault) → Fails fault r
+      → (code, place) ≡ told_or_want untold_told fault → IsSigned code place (of_message r) before room size
+  untold None r h told = unsaid (of_message r) (is-other 255 refl (ap (λ (x : ℕ × ℕ). x.0) told))
+  untold (Some f) r h told =
+      subst (λ (x : Result (List ℕ) telling.UntoldFault). IsSigned code place (of_message x) before room size) (sym h) (λ _. told)
+
+  module _ (p : Prepared) (passed : IsPassed p) (beside : Told) where
+    message : Result (List ℕ) telling.UntoldFault
+    message = signed_message sha256 2 p.before p.stamp p.writes beside
+
+    -- a refusal of what passed its test is one that no test tells
+    refused : {D A : Type 0} (at : ℕ) (fault : RepoFault D A) → IsRefusal sha256 2 p.before p.stamp p.writes 0 0 (at, fault)
+        → (code, place) ≡ (fault_number fault, at) → IsSigned code place (of_message message) before room size
+    refused at fault refusal told = by (is_other code) refl
+      where
+        number : code ≡ fault_number fault
+        number = ap (λ (x : ℕ × ℕ). x.0) told
+        by : (b : Bool) → is_other code ≡ b → IsSigned code place (of_message message) before room size
+        by true e = unsaid (of_message message) e
+        by false e = absurd (never-0 fault
+            (let t = subst (λ (x : Result (Unit {0}) (ℕ × BatchFault)). IsTested (fault_number fault, at) x) passed.passes (batch_told {X = Unit {0}} p.before p.stamp p.writes 0 0 (Err (at, fault)) tt refusal) in
+            ap (λ (x : ℕ × ℕ). x.0) (t (subst (λ (n : ℕ). is_other n ≡ false) number e))))
+
+    no-want : {D A : Type 0} {P : Type 0} (fault : RepoFault D A) → IsNoWant fault P → P
+    no-want faults.NoMemory h = absurd h
+    no-want (faults.Collision pair) h = h
+    no-want faults.StoreFull h = h
+    no-want (faults.BadRecord f) h = h
+    no-want faults.BadKey h = h
+    no-want faults.NotAMap h = h
+    no-want faults.RecordSize h = h
+    no-want faults.KeyExists h = h
+    no-want faults.NoSuchKey h = h
+    no-want faults.WritesFull h = h
+    no-want faults.EmptyBatch h = h
+    no-want faults.BadDid h = h
+    no-want faults.BadRev h = h
+    no-want faults.RevOrder h = h
+
+    module _ {D A : Type 0} where
+      pub prepared_fault : (fault : signings.SigningFault D A) → IsPreparedFault sha256 2 p beside fault → (code, place) ≡ signing_code fault
+          → IsSigned code place (of_message message) before room size
+      prepared_fault errors.RootMoved h told = absurd (h 0 refl)
+      prepared_fault (errors.Refused at fault) h told = refused at fault (no-want fault (h 0)).1 told
+      prepared_fault (errors.Untold fault) h told = untold (untold_fault_of fault) message (fails fault message (h 0).1.1) told
+      prepared_fault errors.NoMemory h told = unsaid (of_message message) (is-other 255 refl (ap (λ (x : ℕ × ℕ). x.0) told))
+
+      pub prepared_cause : (fault : signings.SigningFault D A) → IsPreparedFault sha256 2 p beside fault → (code, place) ≡ signing_code fault
+          → IsNoLimit fault code → HasCause code
+      prepared_cause errors.RootMoved h told n = no_limit code n.0 n.1
+      prepared_cause (errors.Refused at fault) h told n =
+          let refusal = (no-want fault (h 0)).1 in
+          told_cause code (fault_number fault) (ap (λ (x : ℕ × ℕ). x.0) told)
+          (batch_cause {X = Unit {0}} p.before p.stamp p.writes 0 0 (Err (at, fault)) refusal (never-full p.before p.stamp p.writes at fault refusal))
+      prepared_cause (errors.Untold fault) h told n = no_limit code n.0 n.1
+      prepared_cause errors.NoMemory h told n = no_limit code n.0 n.1
+
+  -- ---- over the root that was signed over
+
+  module _ (o : Owned) (previous : List ℕ) (stamp : Stamp) (beside : Told) where
+    -- after the root
+    rest : Result (List ℕ) SigningFault
+    rest = of_batch (state_test o.state stamp o.pending) >>= λ y. of_message (signed_message sha256 2 o.state stamp o.pending beside)
+
+    after : (b : Bool) → bytes_eq (state_root sha256 2 o.state) previous ≡ b
+        → IsSigned code place (ensure b RootMoved >>= λ x. rest) before room size
+        → IsSigned code place (signing o previous stamp beside) before room size
+    after b e h = subst (λ (b : Bool). IsSigned code place (ensure b RootMoved >>= λ x. rest) before room size) (sym e) h
+
+    pub root_moved : bytes_eq (state_root sha256 2 o.state) previous ≡ false → code ≡ 130 → place ≡ 0
+        → IsSigned code place (signing o previous stamp beside) before room size
+    root_moved e c q = after false e (λ other. subst (λ (n : ℕ). (n, place) ≡ (130, 0)) (sym c) (ap (λ (n : ℕ). (130, n)) q))
+
+    by_test : (test : Result (Unit {0}) (ℕ × BatchFault)) (then : Result (List ℕ) SigningFault) → IsTested (code, place) test → (code ≡ 0 → ⊥)
+        → IsSigned code place (of_batch test >>= λ y. then) before room size
+    by_test (Err f) then t never = t
+    by_test (Ok ok) then t never = by (is_other code) refl
+      where
+        by : (b : Bool) → is_other code ≡ b → IsSigned code place then before room size
+        by true e = unsaid then e
+        by false e = absurd (never (ap (λ (x : ℕ × ℕ). x.0) (t e)))
+
+    pub batch_refused : {D A : Type 0} (fault : RepoFault D A) → bytes_eq (state_root sha256 2 o.state) previous ≡ true
+        → code ≡ fault_number fault → IsTestRefusal sha256 2 o.state stamp o.pending (place, fault)
+        → IsSigned code place (signing o previous stamp beside) before room size
+    batch_refused fault e is refusal = after true e
+        (by_test (state_test o.state stamp o.pending) (of_message (signed_message sha256 2 o.state stamp o.pending beside))
+        (tested_code o.state stamp o.pending place fault refusal code is) (λ done. never-0 fault (sym is ∙ done)))
+
+    pub batch_signed : (p : Prepared) → bytes_eq (state_root sha256 2 o.state) previous ≡ true → p ≡ prepared_of o.state stamp o.pending
+        → IsPassed p → IsSigned code place (of_message (signed_message sha256 2 p.before p.stamp p.writes beside)) before room size
+        → IsSigned code place (signing o previous stamp beside) before room size
+    batch_signed p e is passed h = after true e
+        (subst (λ (test : Result (Unit {0}) (ℕ × BatchFault)).
+            IsSigned code place (of_batch test >>= λ y. of_message (signed_message sha256 2 o.state stamp o.pending beside)) before room size)
+        (sym (subst IsPassed is passed).passes)
+        (subst (λ (q : Prepared). IsSigned code place (of_message (signed_message sha256 2 q.before q.stamp q.writes beside)) before room size) is h))
