@@ -69,6 +69,7 @@ mod file;
 mod left;
 mod message;
 mod ops;
+mod prepared;
 mod signing;
 mod signing_fault;
 mod sync_told;
@@ -77,6 +78,7 @@ mod told;
 mod writing;
 
 pub use fault::UntoldFault;
+pub use prepared::prepared_event;
 pub use signing::{Signed, apply_signed};
 pub use signing_fault::SigningFault;
 pub use sync_told::SyncTold;
