@@ -9,7 +9,7 @@ mod Handing
 mod Knowing
 mod Causes
 mod Going
-mod Signing
-mod Messages
-mod Previews
+mod CommitNumbers
+mod EventNumbers
+mod Tested
 mod SignedBatches

@@ -6,7 +6,7 @@ use Rattle.sha2.specs.Sha256.{sha256}
 use Rattle.spec.specs.Reading.{◌>>=◌, ensure, Fails}
 use Rattle.spec.specs.Stamps.{Stamp}
 use Rattle.spec.specs.Writes.{Write}
-use Rattle.spec.specs.States.{State, BatchFault, state_root, state_test}
+use Rattle.spec.specs.States.{State, BatchFault, state_blocks, state_root, state_test}
 use Rattle.store.specs.Shards.{WasFull}
 use Rattle.event_laws.specs.Reading as forms
 use Rattle.event_format.specs.declared.fault.FormFault.TheVariants as given_forms
@@ -16,8 +16,9 @@ use Rattle.event_writing_laws.specs.Telling.{Told}
 use Rattle.batches.specs.declared.fault.RepoFault.{RepoFault}
 use Rattle.batches.specs.declared.fault.RepoFault.TheVariants as faults
 use Rattle.repo.specs.Fulls.{is_full}
-use Rattle.repo.specs.Prepared.{Prepared, IsPassed, prepared_of}
-use Rattle.repo.specs.Refusals.{IsOther, IsRefusal, IsStoreRefusal, IsTestRefusal}
+use Rattle.repo.specs.BlockFaults.{IsBlockFault}
+use Rattle.repo.specs.Prepared.{Prepared, IsPassed, prepared_of, state_after}
+use Rattle.repo.specs.Refusals.{IsOther, IsStoreRefusal, IsTestRefusal}
 use Rattle.event_writing.specs.Signing.{IsNoWant, IsPreparedFault, IsUntold}
 use Rattle.event_writing.specs.Views.{untold_fault_of}
 use Rattle.event_writing.specs.declared.fault.UntoldFault.{UntoldFault}
@@ -30,9 +31,8 @@ use Rattle.tizulgech.specs.Causes.{HasCause}
 use Rattle.tizulgech.specs.Numbers.{IsTested, fault_number, is_other}
 use Rattle.tizulgech.specs.Messages.{form_told, told_or_want}
 use Rattle.tizulgech.specs.SignedBatches.{SigningFault, RootMoved, OfBatch, OfMessage, of_batch, of_message, signing, signing_code, signing_told, untold_told, IsNoLimit, IsSigned}
-use Rattle.tizulgech.proofs.Causes.{batch_cause, no_limit, told_cause}
-use Rattle.tizulgech.proofs.Previews.{never-0, never-full, tested_code}
-use Rattle.tizulgech.proofs.Told.{batch_told}
+use Rattle.tizulgech.proofs.Causes.{no_limit, told_cause}
+use Rattle.tizulgech.proofs.Tested.{never-0, tested_code}
 
 -- a fault of a form within one of a message
 pub form_in_untold : (told : ℕ × ℕ) (f : Option forms.FormFault) → told ≡ told_or_want form_told f
@@ -146,54 +146,60 @@ module _ (code place : ℕ) (before room : List ℕ) (size : ℕ) where
   untold (Some f) r h told =
       subst (λ (x : Result (List ℕ) telling.UntoldFault). IsSigned code place (of_message x) before room size) (sym h) (λ _. told)
 
-  module _ (p : Prepared) (passed : IsPassed p) (beside : Told) where
+  module _ (p : Prepared) (beside : Told) where
     message : Result (List ℕ) telling.UntoldFault
     message = signed_message sha256 2 p.before p.stamp p.writes beside
 
-    -- a refusal of what passed its test is one that no test tells
-    refused : {D A : Type 0} (at : ℕ) (fault : RepoFault D A) → IsRefusal sha256 2 p.before p.stamp p.writes 0 0 (at, fault)
-        → (code, place) ≡ (fault_number fault, at) → IsSigned code place (of_message message) before room size
-    refused at fault refusal told = by (is_other code) refl
-      where
-        number : code ≡ fault_number fault
-        number = ap (λ (x : ℕ × ℕ). x.0) told
-        by : (b : Bool) → is_other code ≡ b → IsSigned code place (of_message message) before room size
-        by true e = unsaid (of_message message) e
-        by false e = absurd (never-0 fault
-            (let t = subst (λ (x : Result (Unit {0}) (ℕ × BatchFault)). IsTested (fault_number fault, at) x) passed.passes (batch_told {X = Unit {0}} p.before p.stamp p.writes 0 0 (Err (at, fault)) tt refusal) in
-            ap (λ (x : ℕ × ℕ). x.0) (t (subst (λ (n : ℕ). is_other n ≡ false) number e))))
+    -- a refusal of what passed its test is one of the blocks
+    blocks-other : {D A : Type 0} {P : Type 0} (bs : List (List ℕ)) (fault : RepoFault D A) → IsNoWant fault (P × IsBlockFault sha256 bs 0 0 fault)
+        → is_other (fault_number fault) ≡ true
+    blocks-other bs faults.NoMemory h = refl
+    blocks-other bs (faults.Collision pair) h = refl
+    blocks-other bs faults.StoreFull h = refl
+    blocks-other bs (faults.BadRecord f) h = absurd h.1
+    blocks-other bs faults.BadKey h = absurd h.1
+    blocks-other bs faults.NotAMap h = absurd h.1
+    blocks-other bs faults.RecordSize h = absurd h.1
+    blocks-other bs faults.KeyExists h = absurd h.1
+    blocks-other bs faults.NoSuchKey h = absurd h.1
+    blocks-other bs faults.WritesFull h = absurd h.1
+    blocks-other bs faults.EmptyBatch h = absurd h.1
+    blocks-other bs faults.BadDid h = absurd h.1
+    blocks-other bs faults.BadRev h = absurd h.1
+    blocks-other bs faults.RevOrder h = absurd h.1
 
-    no-want : {D A : Type 0} {P : Type 0} (fault : RepoFault D A) → IsNoWant fault P → P
-    no-want faults.NoMemory h = absurd h
-    no-want (faults.Collision pair) h = h
-    no-want faults.StoreFull h = h
-    no-want (faults.BadRecord f) h = h
-    no-want faults.BadKey h = h
-    no-want faults.NotAMap h = h
-    no-want faults.RecordSize h = h
-    no-want faults.KeyExists h = h
-    no-want faults.NoSuchKey h = h
-    no-want faults.WritesFull h = h
-    no-want faults.EmptyBatch h = h
-    no-want faults.BadDid h = h
-    no-want faults.BadRev h = h
-    no-want faults.RevOrder h = h
+    blocks-cause : {D A : Type 0} {P : Type 0} (bs : List (List ℕ)) (fault : RepoFault D A) → IsNoWant fault (P × IsBlockFault sha256 bs 0 0 fault)
+        → HasCause (fault_number fault)
+    blocks-cause bs faults.NoMemory h = no_limit 255 refl refl
+    blocks-cause bs (faults.Collision pair) h =
+        record { clash = λ _. record { pair = pair; clash = h.1.clash }; full = λ e. absurd (omega (arith, e)) }
+    blocks-cause bs faults.StoreFull h = absurd (omega (arith, h.1))
+    blocks-cause bs (faults.BadRecord f) h = absurd h.1
+    blocks-cause bs faults.BadKey h = absurd h.1
+    blocks-cause bs faults.NotAMap h = absurd h.1
+    blocks-cause bs faults.RecordSize h = absurd h.1
+    blocks-cause bs faults.KeyExists h = absurd h.1
+    blocks-cause bs faults.NoSuchKey h = absurd h.1
+    blocks-cause bs faults.WritesFull h = absurd h.1
+    blocks-cause bs faults.EmptyBatch h = absurd h.1
+    blocks-cause bs faults.BadDid h = absurd h.1
+    blocks-cause bs faults.BadRev h = absurd h.1
+    blocks-cause bs faults.RevOrder h = absurd h.1
 
     module _ {D A : Type 0} where
       pub prepared_fault : (fault : signings.SigningFault D A) → IsPreparedFault sha256 2 p beside fault → (code, place) ≡ signing_code fault
           → IsSigned code place (of_message message) before room size
-      prepared_fault errors.RootMoved h told = absurd (h 0 refl)
-      prepared_fault (errors.Refused at fault) h told = refused at fault (no-want fault (h 0)).1 told
-      prepared_fault (errors.Untold fault) h told = untold (untold_fault_of fault) message (fails fault message (h 0).1.1) told
+      prepared_fault errors.RootMoved h told = absurd h
+      prepared_fault (errors.Refused at fault) h told =
+          unsaid (of_message message) (is-other (fault_number fault) (blocks-other (state_blocks sha256 2 (state_after p)) fault h) (ap (λ (x : ℕ × ℕ). x.0) told))
+      prepared_fault (errors.Untold fault) h told = untold (untold_fault_of fault) message (fails fault message h) told
       prepared_fault errors.NoMemory h told = unsaid (of_message message) (is-other 255 refl (ap (λ (x : ℕ × ℕ). x.0) told))
 
       pub prepared_cause : (fault : signings.SigningFault D A) → IsPreparedFault sha256 2 p beside fault → (code, place) ≡ signing_code fault
           → IsNoLimit fault code → HasCause code
       prepared_cause errors.RootMoved h told n = no_limit code n.0 n.1
       prepared_cause (errors.Refused at fault) h told n =
-          let refusal = (no-want fault (h 0)).1 in
-          told_cause code (fault_number fault) (ap (λ (x : ℕ × ℕ). x.0) told)
-          (batch_cause {X = Unit {0}} p.before p.stamp p.writes 0 0 (Err (at, fault)) refusal (never-full p.before p.stamp p.writes at fault refusal))
+          told_cause code (fault_number fault) (ap (λ (x : ℕ × ℕ). x.0) told) (blocks-cause (state_blocks sha256 2 (state_after p)) fault h)
       prepared_cause (errors.Untold fault) h told n = no_limit code n.0 n.1
       prepared_cause errors.NoMemory h told n = no_limit code n.0 n.1
 
@@ -211,7 +217,7 @@ module _ (code place : ℕ) (before room : List ℕ) (size : ℕ) where
 
     pub root_moved : bytes_eq (state_root sha256 2 o.state) previous ≡ false → code ≡ 130 → place ≡ 0
         → IsSigned code place (signing o previous stamp beside) before room size
-    root_moved e c q = after false e (λ other. subst (λ (n : ℕ). (n, place) ≡ (130, 0)) (sym c) (ap (λ (n : ℕ). (130, n)) q))
+    root_moved e c q = after false e (λ other. subst (λ (n : ℕ). ◌≡◌ {A = ℕ × ℕ} (n, place) (130, 0)) (sym c) (ap (λ (n : ℕ). (130, n)) q))
 
     by_test : (test : Result (Unit {0}) (ℕ × BatchFault)) (then : Result (List ℕ) SigningFault) → IsTested (code, place) test → (code ≡ 0 → ⊥)
         → IsSigned code place (of_batch test >>= λ y. then) before room size

@@ -14,7 +14,7 @@ use Rattle.owned_repo.specs.Owning.{Owned}
 use Rattle.event_writing.specs.Views.{untold_fault_of}
 use Rattle.event_writing.specs.declared.signing_fault.SigningFault as signings
 use Rattle.event_writing.specs.declared.signing_fault.SigningFault.TheVariants as errors
-use Rattle.tizulgech.specs.Numbers.{batch_number, fault_number, is_other}
+use Rattle.tizulgech.specs.Numbers.{batch_number, fault_number, is_other, tested}
 use Rattle.tizulgech.specs.Messages.{change_told, changes_spelt, form_told, told_or_want}
 
 -- ---- a batch before it is accepted
@@ -28,7 +28,7 @@ prepared_spelt p =
 -- bytes where a test passes; else the number and the place of the first fault
 abbrev pub IsTestedThen : ℕ → ℕ → Result (Unit {0}) (ℕ × BatchFault) → List ℕ → List ℕ → List ℕ → ℕ → Type 0
 IsTestedThen code place (Ok ok) bytes before room size = is_other code ≡ false → IsHanded code bytes before room size
-IsTestedThen code place (Err f) bytes before room size = is_other code ≡ false → (code, place) ≡ (batch_number f.1, f.0)
+IsTestedThen code place (Err f) bytes before room size = is_other code ≡ false → (code, place) ≡ tested (Err f)
 
 -- of the writes that wait, under a stamp
 abbrev pub IsPreviewed : ℕ → ℕ → Owned → Stamp → List ℕ → List ℕ → ℕ → Type 0

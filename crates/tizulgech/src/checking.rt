@@ -46,7 +46,7 @@ pub extern "C" fn tizulgech_check_commit(
 }
 
 /// The same of a root.
-#[tactic(auto, using(crate::proofs::Messages::fault_checked, crate::proofs::Messages::true_checked))]
+#[tactic(auto, using(crate::proofs::EventNumbers::fault_checked, crate::proofs::EventNumbers::true_checked))]
 fn checked(
     alloc: Global,
     previous: Cid,

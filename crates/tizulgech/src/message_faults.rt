@@ -154,7 +154,7 @@ fn change_told(fault: &ChangeFault) -> (u8, usize)
 }
 
 /// Why a message isn't taken.
-#[tactic(auto, using(crate::proofs::Messages::form_in_event, crate::proofs::Messages::change_in_event))]
+#[tactic(auto, using(crate::proofs::EventNumbers::form_in_event, crate::proofs::EventNumbers::change_in_event))]
 fn event_told(fault: &EventFault) -> (u8, usize)
     ensures { result ≡ told_or_want event_told_of (event_fault_of fault.now) }
 {

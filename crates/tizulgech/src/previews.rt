@@ -68,7 +68,7 @@ fn preview_told(
 }
 
 /// The same under a stamp.
-#[tactic(auto, using(crate::proofs::Previews::refused_preview, crate::proofs::Previews::passed_preview, crate::proofs::Causes::handed_cause))]
+#[tactic(auto, using(crate::proofs::Tested::refused_preview, crate::proofs::Tested::passed_preview, crate::proofs::Causes::handed_cause))]
 fn stamped_preview(
     alloc: Global,
     repo: &OwnedRepo,

@@ -67,7 +67,7 @@ fn signed_bytes<'c>(
 /// zeros, the signature and the bytes that were signed; 100 where the bytes are none, 101 for its DID, 102 for its revision;
 /// 251; 255. Nothing tests the signature.
 #[unsafe(no_mangle)]
-#[tactic(auto, using(crate::proofs::Signing::commit_told))]
+#[tactic(auto, using(crate::proofs::CommitNumbers::commit_told))]
 pub extern "C" fn tizulgech_read_commit(
     alloc: Global,
     bytes: &[u8],

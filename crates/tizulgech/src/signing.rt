@@ -5,7 +5,6 @@ ghost use Rattle.std.specs.Str.{bytes_eq};
 ghost use Rattle.spec.specs.States.{state_root};
 ghost use Rattle.sha2.specs.Sha256.{sha256};
 ghost use Rattle.batches.specs.Values.{stamp_of};
-ghost use Rattle.repo.specs.Prepared.{IsPassed};
 ghost use Rattle.event_writing_laws.specs.Signed.{signed_message};
 ghost use Rattle.event_writing.specs.Views.{told_of, untold_fault_of};
 ghost use Rattle.buffers.specs.Answers.{IsHanded, IsKept};
@@ -23,7 +22,7 @@ use crate::told_changes::OTHER_VALUE;
 use batches::Stamp;
 use buffers::{cid_in, hand};
 use cid::{Cid, Sha256};
-use event_writing::{SigningFault, Told, UntoldFault, prepared_message};
+use event_writing::{SigningFault, Told, UntoldFault, prepared_event};
 use owned_repo::{OwnedRepo, Repository};
 use repo::PreparedBatch;
 use std::alloc::Global;
@@ -120,7 +119,7 @@ fn signed_over(
 }
 
 /// The same of a root, under a stamp.
-#[tactic(auto, using(crate::proofs::SignedBatches::root_moved, crate::proofs::SignedBatches::batch_refused, crate::proofs::SignedBatches::batch_signed, crate::proofs::Previews::test_cause, crate::proofs::Previews::never_done))]
+#[tactic(auto, using(crate::proofs::SignedBatches::root_moved, crate::proofs::SignedBatches::batch_refused, crate::proofs::SignedBatches::batch_signed, crate::proofs::Tested::test_cause, crate::proofs::Tested::never_done))]
 fn signed_stamped(
     alloc: Global,
     repo: &mut OwnedRepo,
@@ -172,7 +171,6 @@ fn signed_prepared(
 ) -> u8
     requires same { prepared.before ≡ repo.old.state }
     requires waiting { prepared.writes ≡ repo.old.pending }
-    requires passed { IsPassed prepared }
     ensures answer { IsSigned result place.new (of_message (signed_message sha256 2
         prepared.before prepared.stamp prepared.writes (told_of told.now)))
         out.old out.new size.new }
@@ -181,14 +179,14 @@ fn signed_prepared(
     ensures kept { IsKept result out.old out.new size.old size.new }
     ensures cause { HasCause result }
 {
-    match prepared_message::<Sha256, 2, Global>(alloc, repo.core(), &prepared, told) {
+    match prepared_event(alloc, repo.core(), &prepared, told) {
         Ok(message) => accept_handed(alloc, repo, prepared, &message, out, size),
         Err(fault) => tell_signing(&fault, place),
     }
 }
 
 /// Accepts a batch where its message has room, and hands that out.
-#[tactic(auto, using(crate::proofs::SignedBatches::store_other, crate::proofs::SignedBatches::store_cause, crate::proofs::Previews::never_done))]
+#[tactic(auto, using(crate::proofs::SignedBatches::store_other, crate::proofs::SignedBatches::store_cause, crate::proofs::Tested::never_done))]
 fn accept_handed(
     alloc: Global,
     repo: &mut OwnedRepo,
@@ -238,7 +236,7 @@ fn hand_whole(bytes: &[u8], room: &mut [u8], size: &mut usize) -> u8
 }
 
 /// Why a batch that was prepared isn't accepted: the number, and the place.
-#[tactic(auto, using(crate::proofs::Previews::never_done))]
+#[tactic(auto, using(crate::proofs::Tested::never_done))]
 fn tell_signing(fault: &SigningFault<Sha256>, place: &mut usize) -> u8
     ensures told { (result, place.new) ≡ signing_code fault.now }
     ensures plain { IsNoLimit fault.now result }

@@ -54,7 +54,7 @@ pub never_done : {D A : Type 0} {P : Type 0} (code : ℕ) (fault : RepoFault D A
 never_done code fault is done = absurd (never-0 fault (sym is ∙ done))
 
 -- a store that wasn't asked hasn't answered that it's full
-pub never-full : {D A : Type 0} (s : State) (stamp : Stamp) (batch : List Write) (place : ℕ) (fault : RepoFault D A)
+never-full : {D A : Type 0} (s : State) (stamp : Stamp) (batch : List Write) (place : ℕ) (fault : RepoFault D A)
     → IsRefusal sha256 2 s stamp batch 0 0 (place, fault) → is_full fault ≡ true → WasFull sha256 1048576
 never-full s stamp batch place faults.StoreFull h e = absurd (omega (arith, h.1))
 never-full s stamp batch place faults.BadKey h e = absurd cc

@@ -42,11 +42,11 @@ module _ (code place : ℕ) (was missing before room : List ℕ) (size : ℕ) wh
       subst (λ (a : Result Checked events.EventFault). IsChecked code place was missing before room size a) (sym g) (λ _. (told, node))
 
   -- a fault of the code
-  pub fault_checked : {A : Type 0} (fault : EventFault) (answer : Result Checked events.EventFault)
-      → Gives {X = CheckedCommit A} checked_of event_fault_of (Err fault) answer
+  pub fault_checked : {X : Type 0} (view : X → Checked) (fault : EventFault) (answer : Result Checked events.EventFault)
+      → Gives view event_fault_of (Err fault) answer
       → (code, place) ≡ told_or_want event_told (event_fault_of fault) → missing ≡ node_or_want (event_fault_of fault) was
       → IsChecked code place was missing before room size answer
-  fault_checked fault answer g told node = by_fault (event_fault_of fault) answer g told node
+  fault_checked view fault answer g told node = by_fault (event_fault_of fault) answer g told node
 
   -- a message that is true
   pub true_checked : {A : Type 0} (c : CheckedCommit A) (answer : Result Checked events.EventFault)
