@@ -4,6 +4,8 @@
 //! - [`tree`] changes a tree whose nodes stand elsewhere, as in a database.
 //! - [`ChangeProof`] shows which keys changed from one root to the next to whoever knows the first, step by step; [`InversionProof`]
 //!   undoes changes, as the event stream's operation inversion does.
+//! - [`SignedCommit`] is written and read; [`Repository::preview`] and [`Repository::apply_signed`] accept a batch whose commit is
+//!   signed, with its message, and [`check_commit`] checks any message `#commit` of the event stream.
 //! - [`Cid`], [`check_record`], [`check_write`], [`check_stamp`], [`commit_bytes`], [`tree_root`], [`listing_car`] and [`Proof`] need no state.
 //!
 //! ```
@@ -52,8 +54,10 @@
 #![deny(unsafe_op_in_unsafe_fn)]
 
 mod changes;
+mod commits;
 mod faults;
 mod framing;
+mod messages;
 mod repository;
 #[allow(missing_docs)]
 mod sys;
@@ -61,10 +65,12 @@ pub mod tree;
 mod values;
 
 pub use changes::{ChangeProof, InversionProof, KeyChange, ProvenChange};
+pub use commits::{SignedCommit, file_head, file_section};
 pub use faults::{
-    BatchError, BatchFault, ChangeFault, CidFault, NoMemory, NodeFault, OpenError, ProofFault, ProvingFault, RecordFault,
-    StampFault, TreeFault,
+    BatchError, BatchFault, ChangeFault, CidFault, CommitFault, MessageError, MessageFault, NoMemory, NodeFault, OpenError,
+    ProofFault, ProvingFault, RecordFault, SigningError, SigningFault, StampFault, TreeFault,
 };
+pub use messages::{CheckedCommit, Operation, Preview, Told, check_commit};
 pub use repository::{Applied, CarParts, Pairs, Repository, Stamp, Write};
 pub use values::{
     Cid, Proof, VERSION, check_record, check_stamp, check_write, commit_bytes, is_did, is_key, is_repository_key, is_tid, layer,

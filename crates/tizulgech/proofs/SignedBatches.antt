@@ -1,5 +1,5 @@
 -- What is told of a batch that is accepted signed.
-use Rattle.std.proofs.Common.{◌≡◌, ◌≤◌, ◌<◌, ◌∙◌, ℕ, List, Bool, true, false, refl, sym, ap, subst, arith}
+use Rattle.std.proofs.Common.{◌≡◌, ◌≤◌, ◌<◌, ◌+◌, ◌∙◌, ℕ, zero, suc, List, Bool, true, false, refl, sym, ap, subst, arith}
 use Rattle.std.specs.Prelude.{nat_eq, length, option_map, Option, Some, None, Result, Ok, Err}
 use Rattle.std.specs.Str.{bytes_eq}
 use Rattle.sha2.specs.Sha256.{sha256}
@@ -42,16 +42,13 @@ form_in_untold told (Some f) e = e
 
 -- ---- bytes that have room, and such that haven't
 
-module _ (code : ℕ) (bytes before room : List ℕ) (size : ℕ) (h : IsHanded code bytes before room size) where
-  pub handed_small : length before < length bytes → code ≡ 251
-  handed_small small = (h.small (λ done. omega (arith, small, h.room_is done))).0
+module _ (bytes before room : List ℕ) (size : ℕ) where
+  pub handed_small : (code : ℕ) → IsHanded code bytes before room size → length before < length bytes → code ≡ 251
+  handed_small code h small = (h.small (λ done. omega (arith, small, h.room_is done))).0
 
-  pub handed_whole : length bytes ≤ length before → code ≡ 0
-  handed_whole room = by (nat_eq code 0) refl
-    where
-      by : (b : Bool) → nat_eq code 0 ≡ b → code ≡ 0
-      by true e = omega (arith, e)
-      by false e = absurd (let small = h.small (λ done. omega (arith, e, done)) in omega (arith, room, small.1.0))
+  pub handed_whole : (code : ℕ) → IsHanded code bytes before room size → length bytes ≤ length before → code ≡ 0
+  handed_whole zero h room = refl
+  handed_whole (suc n) h room = absurd (let small = h.small (λ done. omega (arith, done)) in omega (arith, room, small.1))
 
 -- ---- a store that refuses
 
@@ -147,51 +144,51 @@ module _ (code place : ℕ) (before room : List ℕ) (size : ℕ) where
       subst (λ (x : Result (List ℕ) telling.UntoldFault). IsSigned code place (of_message x) before room size) (sym h) (λ _. told)
 
   module _ (p : Prepared) (beside : Told) where
-    message : Result (List ℕ) telling.UntoldFault
+    abbrev message : Result (List ℕ) telling.UntoldFault
     message = signed_message sha256 2 p.before p.stamp p.writes beside
 
     -- a refusal of what passed its test is one of the blocks
-    blocks-other : {D A : Type 0} {P : Type 0} (bs : List (List ℕ)) (fault : RepoFault D A) → IsNoWant fault (P × IsBlockFault sha256 bs 0 0 fault)
+    blocks-other : {D A : Type 0} (P : Type 0) (bs : List (List ℕ)) (fault : RepoFault D A) → IsNoWant fault (P × IsBlockFault sha256 bs 0 0 fault)
         → is_other (fault_number fault) ≡ true
-    blocks-other bs faults.NoMemory h = refl
-    blocks-other bs (faults.Collision pair) h = refl
-    blocks-other bs faults.StoreFull h = refl
-    blocks-other bs (faults.BadRecord f) h = absurd h.1
-    blocks-other bs faults.BadKey h = absurd h.1
-    blocks-other bs faults.NotAMap h = absurd h.1
-    blocks-other bs faults.RecordSize h = absurd h.1
-    blocks-other bs faults.KeyExists h = absurd h.1
-    blocks-other bs faults.NoSuchKey h = absurd h.1
-    blocks-other bs faults.WritesFull h = absurd h.1
-    blocks-other bs faults.EmptyBatch h = absurd h.1
-    blocks-other bs faults.BadDid h = absurd h.1
-    blocks-other bs faults.BadRev h = absurd h.1
-    blocks-other bs faults.RevOrder h = absurd h.1
+    blocks-other P bs faults.NoMemory h = refl
+    blocks-other P bs (faults.Collision pair) h = refl
+    blocks-other P bs faults.StoreFull h = refl
+    blocks-other P bs (faults.BadRecord f) h = absurd h.1
+    blocks-other P bs faults.BadKey h = absurd h.1
+    blocks-other P bs faults.NotAMap h = absurd h.1
+    blocks-other P bs faults.RecordSize h = absurd h.1
+    blocks-other P bs faults.KeyExists h = absurd h.1
+    blocks-other P bs faults.NoSuchKey h = absurd h.1
+    blocks-other P bs faults.WritesFull h = absurd h.1
+    blocks-other P bs faults.EmptyBatch h = absurd h.1
+    blocks-other P bs faults.BadDid h = absurd h.1
+    blocks-other P bs faults.BadRev h = absurd h.1
+    blocks-other P bs faults.RevOrder h = absurd h.1
 
-    blocks-cause : {D A : Type 0} {P : Type 0} (bs : List (List ℕ)) (fault : RepoFault D A) → IsNoWant fault (P × IsBlockFault sha256 bs 0 0 fault)
+    blocks-cause : {D A : Type 0} (P : Type 0) (bs : List (List ℕ)) (fault : RepoFault D A) → IsNoWant fault (P × IsBlockFault sha256 bs 0 0 fault)
         → HasCause (fault_number fault)
-    blocks-cause bs faults.NoMemory h = no_limit 255 refl refl
-    blocks-cause bs (faults.Collision pair) h =
+    blocks-cause P bs faults.NoMemory h = no_limit 255 refl refl
+    blocks-cause P bs (faults.Collision pair) h =
         record { clash = λ _. record { pair = pair; clash = h.1.clash }; full = λ e. absurd (omega (arith, e)) }
-    blocks-cause bs faults.StoreFull h = absurd (omega (arith, h.1))
-    blocks-cause bs (faults.BadRecord f) h = absurd h.1
-    blocks-cause bs faults.BadKey h = absurd h.1
-    blocks-cause bs faults.NotAMap h = absurd h.1
-    blocks-cause bs faults.RecordSize h = absurd h.1
-    blocks-cause bs faults.KeyExists h = absurd h.1
-    blocks-cause bs faults.NoSuchKey h = absurd h.1
-    blocks-cause bs faults.WritesFull h = absurd h.1
-    blocks-cause bs faults.EmptyBatch h = absurd h.1
-    blocks-cause bs faults.BadDid h = absurd h.1
-    blocks-cause bs faults.BadRev h = absurd h.1
-    blocks-cause bs faults.RevOrder h = absurd h.1
+    blocks-cause P bs faults.StoreFull h = absurd (omega (arith, h.1))
+    blocks-cause P bs (faults.BadRecord f) h = absurd h.1
+    blocks-cause P bs faults.BadKey h = absurd h.1
+    blocks-cause P bs faults.NotAMap h = absurd h.1
+    blocks-cause P bs faults.RecordSize h = absurd h.1
+    blocks-cause P bs faults.KeyExists h = absurd h.1
+    blocks-cause P bs faults.NoSuchKey h = absurd h.1
+    blocks-cause P bs faults.WritesFull h = absurd h.1
+    blocks-cause P bs faults.EmptyBatch h = absurd h.1
+    blocks-cause P bs faults.BadDid h = absurd h.1
+    blocks-cause P bs faults.BadRev h = absurd h.1
+    blocks-cause P bs faults.RevOrder h = absurd h.1
 
     module _ {D A : Type 0} where
       pub prepared_fault : (fault : signings.SigningFault D A) → IsPreparedFault sha256 2 p beside fault → (code, place) ≡ signing_code fault
           → IsSigned code place (of_message message) before room size
       prepared_fault errors.RootMoved h told = absurd h
       prepared_fault (errors.Refused at fault) h told =
-          unsaid (of_message message) (is-other (fault_number fault) (blocks-other (state_blocks sha256 2 (state_after p)) fault h) (ap (λ (x : ℕ × ℕ). x.0) told))
+          unsaid (of_message message) (is-other (fault_number fault) (blocks-other (at + 1 ≡ length p.writes) (state_blocks sha256 2 (state_after p)) fault h) (ap (λ (x : ℕ × ℕ). x.0) told))
       prepared_fault (errors.Untold fault) h told = untold (untold_fault_of fault) message (fails fault message h) told
       prepared_fault errors.NoMemory h told = unsaid (of_message message) (is-other 255 refl (ap (λ (x : ℕ × ℕ). x.0) told))
 
@@ -199,7 +196,7 @@ module _ (code place : ℕ) (before room : List ℕ) (size : ℕ) where
           → IsNoLimit fault code → HasCause code
       prepared_cause errors.RootMoved h told n = no_limit code n.0 n.1
       prepared_cause (errors.Refused at fault) h told n =
-          told_cause code (fault_number fault) (ap (λ (x : ℕ × ℕ). x.0) told) (blocks-cause (state_blocks sha256 2 (state_after p)) fault h)
+          told_cause code (fault_number fault) (ap (λ (x : ℕ × ℕ). x.0) told) (blocks-cause (at + 1 ≡ length p.writes) (state_blocks sha256 2 (state_after p)) fault h)
       prepared_cause (errors.Untold fault) h told n = no_limit code n.0 n.1
       prepared_cause errors.NoMemory h told n = no_limit code n.0 n.1
 
@@ -207,7 +204,7 @@ module _ (code place : ℕ) (before room : List ℕ) (size : ℕ) where
 
   module _ (o : Owned) (previous : List ℕ) (stamp : Stamp) (beside : Told) where
     -- after the root
-    rest : Result (List ℕ) SigningFault
+    abbrev rest : Result (List ℕ) SigningFault
     rest = of_batch (state_test o.state stamp o.pending) >>= λ y. of_message (signed_message sha256 2 o.state stamp o.pending beside)
 
     after : (b : Bool) → bytes_eq (state_root sha256 2 o.state) previous ≡ b

@@ -1,6 +1,7 @@
 //! The numbers of why a message isn't taken, each with a place, or 0.
 
 ghost use Rattle.std.specs.Prelude.{◌≡◌, false, length, nat_eq, option_map};
+ghost use Rattle.spec.specs.Writes.{BadRecord as NoRecord};
 ghost use Rattle.event_laws.specs.Reading.{Cbor};
 ghost use Rattle.event_laws.specs.Verdict.{OfCar, OfCommit, BadRecord};
 ghost use Rattle.event_format.specs.Views.{form_fault_of, name_of};
@@ -26,6 +27,8 @@ use signed_commits::CommitFault;
 
 /// What follows the header of a message isn't one value of DAG-CBOR.
 const MESSAGE_CBOR: u8 = 109;
+/// A node that is needed isn't in a message.
+const NODE_MISSING: u8 = 129;
 
 /// The place of a field of a message in the order of DAG-CBOR.
 fn place_of_field(field: Field) -> usize
@@ -113,9 +116,19 @@ fn record_told(place: usize, fault: RecordFault) -> (u8, usize)
 {
     match fault {
         RecordFault::RecordSize => (22, place),
-        RecordFault::BadRecord(CborFault::NoMemory) => (NO_MEMORY, 0),
-        RecordFault::BadRecord(fault) => (fault_of_record(fault), place),
+        RecordFault::BadRecord(fault) => bytes_told(place, fault),
         RecordFault::NotAMap => (21, place),
+    }
+}
+
+/// Why the record of the operation at a place isn't DAG-CBOR.
+fn bytes_told(place: usize, fault: CborFault) -> (u8, usize)
+    ensures { result ≡ told_or_want event_told_of
+        (option_map (BadRecord place) (option_map NoRecord (cbor_fault_of fault))) }
+{
+    match fault {
+        CborFault::NoMemory => (NO_MEMORY, 0),
+        fault => (fault_of_record(fault), place),
     }
 }
 
@@ -143,7 +156,7 @@ fn change_told(fault: &ChangeFault) -> (u8, usize)
     ensures { result ≡ told_or_want change_told_of (change_fault_of fault.now) }
 {
     match fault {
-        ChangeFault::BlockMissing(_) => (129, 0),
+        ChangeFault::BlockMissing(_) => (NODE_MISSING, 0),
         ChangeFault::BadNode(_) => (BAD_NODE, 0),
         ChangeFault::TooDeep => (TOO_DEEP, 0),
         ChangeFault::NotTree => (NOT_TREE, 0),

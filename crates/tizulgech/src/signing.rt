@@ -119,7 +119,7 @@ fn signed_over(
 }
 
 /// The same of a root, under a stamp.
-#[tactic(auto, using(crate::proofs::SignedBatches::root_moved, crate::proofs::SignedBatches::batch_refused, crate::proofs::SignedBatches::batch_signed, crate::proofs::Tested::test_cause, crate::proofs::Tested::never_done))]
+#[tactic(auto, using(crate::proofs::SignedBatches::root_moved, crate::proofs::SignedBatches::batch_refused, crate::proofs::SignedBatches::batch_signed, crate::proofs::Tested::never_done))]
 fn signed_stamped(
     alloc: Global,
     repo: &mut OwnedRepo,
@@ -159,7 +159,7 @@ fn has_root(repo: &OwnedRepo, root: &Cid) -> bool
 }
 
 /// The same of a batch that was prepared on the repository as it is.
-#[tactic(auto, using(crate::proofs::SignedBatches::message_signed, crate::proofs::SignedBatches::prepared_fault, crate::proofs::SignedBatches::prepared_cause))]
+#[tactic(auto, using(crate::proofs::SignedBatches::message_signed))]
 fn signed_prepared(
     alloc: Global,
     repo: &mut OwnedRepo,
