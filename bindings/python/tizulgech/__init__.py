@@ -13,6 +13,9 @@ What a batch is tested by: check_write, check_record, record_fault, check_stamp,
 
 A tree whose nodes a program keeps elsewhere: tree_apply, tree_get, tree_path, Edit, links, EMPTY_NODE, Missing, BadNode.
 
+Signed commits: signed_commit, read_commit, SignedCommit; file_head and file_section, parts of a file that a host puts together. A batch whose
+commit is signed: Repository.preview and Repository.apply_signed, Preview. Messages of the event stream: check_commit, CheckedCommit, BadMessage.
+
 Proofs: verify for single keys; verify_change, verify_inversion and ChangeProof for what a batch changed.
 
 The rest: Cid and BadCid; commit_bytes, what is signed; tree_root and listing_car, from scratch; layer and is_key.
@@ -31,9 +34,11 @@ from ._declared import VERSION
 from ._library import version
 from .changes import ChangeProof, Told, verify_change, verify_inversion
 from .cids import Cid
+from .commits import SignedCommit, file_head, file_section, read_commit, signed_commit
 from .faults import FAULTS, FAULTS_OF_CIDS, FAULTS_OF_TREES, BadCid, Fault
 from .keys import is_key, is_repository_key, layer
 from .listings import listing_car, tree_root
+from .messages import BadMessage, CheckedCommit, Operation, Preview, check_commit
 from .nodes import EMPTY_NODE, BadNode, Missing, Nodes, links
 from .proofs import verify
 from .repositories import Applied, Changed, Repository
@@ -44,8 +49,9 @@ from .writes import Create, Delete, Put, Update, Write, check_record, check_writ
 __version__ = "0.3.0"
 
 __all__ = [
-    "Applied", "BadCid", "BadNode", "Bytes", "ChangeProof", "Changed", "Cid", "Create", "Delete", "EMPTY_NODE", "Edit", "FAULTS", "FAULTS_OF_CIDS",
-    "FAULTS_OF_TREES", "Fault", "Missing", "Nodes", "Put", "Repository", "Text", "Told", "Update", "VERSION", "Write", "check_record", "check_stamp",
-    "check_write", "commit_bytes", "is_did", "is_key", "is_repository_key", "is_tid", "layer", "links", "listing_car", "record_fault", "tree_apply", "tree_get",
-    "tree_path", "tree_root", "verify", "verify_change", "verify_inversion", "version",
+    "Applied", "BadCid", "BadMessage", "BadNode", "Bytes", "ChangeProof", "Changed", "CheckedCommit", "Cid", "Create", "Delete", "EMPTY_NODE", "Edit",
+    "FAULTS", "FAULTS_OF_CIDS", "FAULTS_OF_TREES", "Fault", "Missing", "Nodes", "Operation", "Preview", "Put", "Repository", "SignedCommit", "Text",
+    "Told", "Update", "VERSION", "Write", "check_commit", "check_record", "check_stamp", "check_write", "commit_bytes", "file_head", "file_section",
+    "is_did", "is_key", "is_repository_key", "is_tid", "layer", "links", "listing_car", "read_commit", "record_fault", "signed_commit", "tree_apply",
+    "tree_get", "tree_path", "tree_root", "verify", "verify_change", "verify_inversion", "version",
 ]
