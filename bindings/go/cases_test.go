@@ -251,7 +251,7 @@ func checkedWith(it CheckedCommit) any {
 
 // The file of an account without records.
 func (it item) emptyAccount() ([]byte, error) {
-	root := CidOf(EmptyNode())
+	root := CidOf([]byte(EmptyNode))
 	signed, err := SignedCommitBytes(it.stamp(), root, data(it.Sig))
 	if err != nil {
 		return nil, err
@@ -260,7 +260,7 @@ func (it item) emptyAccount() ([]byte, error) {
 	must(err)
 	first, err := FileSection(CidOf(signed), signed)
 	must(err)
-	second, err := FileSection(root, EmptyNode())
+	second, err := FileSection(root, []byte(EmptyNode))
 	return append(append(head, first...), second...), err
 }
 
