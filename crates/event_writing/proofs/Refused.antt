@@ -29,7 +29,7 @@ use Rattle.event_writing.specs.declared.fault.UntoldFault.{UntoldFault}
 use Rattle.event_writing.specs.declared.fault.UntoldFault.TheVariants as errors
 use Rattle.event_writing.specs.declared.signing_fault.SigningFault.{SigningFault}
 use Rattle.event_writing.specs.declared.signing_fault.SigningFault.TheVariants as signings
-use Rattle.event_writing.proofs.Signed.{last-after}
+use Rattle.event_writing.proofs.TakenSigned.{last-after}
 use Rattle.event_writing.proofs.WholeMessage.{message-is}
 
 -- ---- the blocks at the last write are those of the repository after
