@@ -58,14 +58,22 @@ fn request_of<T: Threads + Wait + RandomSource + Sync>(
         Some(Request::OnRepository(RepositoryCommand::Verify { .. })) => Asked::Verify,
         Some(Request::OnChange(ChangeCommand::Prove { .. })) => Asked::ProveChange,
         Some(Request::OnChange(ChangeCommand::Verify { .. })) => Asked::VerifyChange,
-        Some(Request::OnMessages(EventCommand::Write {
-            subject: Subject::Batch,
-            ..
-        })) => Asked::CommitEvent,
-        Some(Request::OnMessages(EventCommand::Write {
-            subject: Subject::State,
-            ..
-        })) => Asked::SyncEvent,
+        Some(
+            Request::OnMessages(
+                EventCommand::Write {
+                    subject: Subject::Batch,
+                    ..
+                },
+            ),
+        ) => Asked::CommitEvent,
+        Some(
+            Request::OnMessages(
+                EventCommand::Write {
+                    subject: Subject::State,
+                    ..
+                },
+            ),
+        ) => Asked::SyncEvent,
         Some(Request::OnMessages(EventCommand::Check { .. })) => Asked::CheckEvent,
         Some(Request::OnExport(ExportCommand::Check)) => Asked::Check,
         Some(Request::OnExport(ExportCommand::Records(Values::Bytes))) => Asked::Records,

@@ -26,9 +26,25 @@ fn a_message_of_a_state_is_that_of_another_program(rt: HostRuntime) -> Result<()
     let beside = words_of_state();
     assert!(rt; is_written(alloc, Subject::State, beside, b"a/b a0", &message));
     assert!(rt; is_written(alloc, Subject::State, beside, b"\nput a/b a0\n", &message));
-    assert!(rt; is_written(alloc, Subject::State, beside, b"a/c a0\n\nput a/b a0\ndelete a/c\n", &message));
+    assert!(rt;
+        is_written(
+            alloc,
+            Subject::State,
+            beside,
+            b"a/c a0\n\nput a/b a0\ndelete a/c\n",
+            &message
+        )
+    );
     assert!(rt; has_none(alloc, Subject::State, beside, b"", "msthost: NoBatch\n"));
-    assert!(rt; has_none(alloc, Subject::State, beside, b"a/b", "msthost: line 1: BadLine\n"));
+    assert!(rt;
+        has_none(
+            alloc,
+            Subject::State,
+            beside,
+            b"a/b",
+            "msthost: line 1: BadLine\n"
+        )
+    );
     Ok(())
 }
 

@@ -55,9 +55,11 @@ fn write_text<D: Digest, R: Read, W: Write>(
     ensures unread { HasFaultyWord command.entry → input.new ≡ input.old }
 {
     match command {
-        EventCommand::Write { subject, words, form } => {
-            event_text(alloc, subject, form, &words, input, out)
-        }
+        EventCommand::Write {
+            subject,
+            words,
+            form,
+        } => { event_text(alloc, subject, form, &words, input, out) }
         EventCommand::Check { previous, form } => {
             check_event_text(alloc, form, previous.as_bytes(), input, out)
         }

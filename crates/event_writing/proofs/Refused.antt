@@ -1,9 +1,11 @@
 -- A batch that isn't accepted signed, or can't be told.
 use Rattle.std.proofs.Common.{◌≡◌, ℕ, ◌+◌, ◌<◌, true, cond, eqb, List, [], length, take, refl, sym, ap, subst, ◌∙◌, Option, Result, Ok, Err, suc, arith}
-use Rattle.std.specs.Prelude.{is_ok}
+use Rattle.std.specs.Prelude.{is_ok, not, Bool, false}
+use Rattle.std.specs.Str.{bytes_eq}
 use Rattle.std.specs.declared.option.Option.TheVariants.{Some}
 use Rattle.std.proofs.lemmas.Bool.{eq-eqb}
 use Rattle.std.proofs.lemmas.List.{take_all}
+use Rattle.std.proofs.lemmas.Slice.Eq.{bytes_eq-Decides}
 use Rattle.spec.specs.Reading.{◌>>=◌, Fails}
 use Rattle.spec.specs.Blocks.{blocks, repository_root}
 use Rattle.spec.specs.Commits.{commit_blocks}
@@ -22,14 +24,14 @@ use Rattle.event_writing_laws.specs.Telling as telling
 use Rattle.event_writing_laws.specs.Telling.{Told}
 use Rattle.event_writing_laws.specs.Signed.{batch_changes, signed_message}
 use Rattle.event_format.specs.declared.fault.FormFault.TheVariants as forms
-use Rattle.event_writing.specs.Signing.{IsPreparedFault, IsUnsigned, IsUntold, fulls_after_fault, refused_as, unsigned_as}
+use Rattle.event_writing.specs.Signing.{IsPreparedFault, IsSignedTaken, IsUnsigned, IsUntold, fulls_after_fault, refused_as, unsigned_as}
 use Rattle.event_writing.specs.Steps.{stamped_message}
 use Rattle.event_writing.specs.Views.{untold_fault_of}
 use Rattle.event_writing.specs.declared.fault.UntoldFault.{UntoldFault}
 use Rattle.event_writing.specs.declared.fault.UntoldFault.TheVariants as errors
 use Rattle.event_writing.specs.declared.signing_fault.SigningFault.{SigningFault}
 use Rattle.event_writing.specs.declared.signing_fault.SigningFault.TheVariants as signings
-use Rattle.event_writing.proofs.Signed.{last-after}
+use Rattle.event_writing.proofs.TakenSigned.{last-after}
 use Rattle.event_writing.proofs.WholeMessage.{message-is}
 
 -- ---- the blocks at the last write are those of the repository after
@@ -69,6 +71,49 @@ module _ (digest : List ℕ → List ℕ) (bits : ℕ) (s : State) (stamp : Stam
 
 -- ---- a batch that was prepared
 
+abbrev message : (List ℕ → List ℕ) → ℕ → Prepared → Told → Result (List ℕ) telling.UntoldFault
+message digest bits p told = signed_message digest bits p.before p.stamp p.writes told
+
+-- its message in the steps in which it is written
+pub steps-are : (digest : List ℕ → List ℕ) (bits : ℕ) (p : Prepared) (told : Told) (stamp : Stamp) (before : List ℕ) (cs : List KeyChange)
+    → stamp ≡ p.stamp → before ≡ state_root digest bits p.before → cs ≡ batch_changes digest p.before p.writes
+    → message digest bits p told ≡ stamped_message digest bits (records (state_after p)) stamp before cs told
+steps-are digest bits p told stamp before cs one two three =
+    message-is digest bits (state_after p) (state_root digest bits p.before) (batch_changes digest p.before p.writes) told
+    ∙ ap (λ (o : Option Stamp). telling.or_no_batch o >>= (λ x. stamped_message digest bits (records (state_after p)) x (state_root digest bits p.before) (batch_changes digest p.before p.writes) told))
+    (last-after p.before p.stamp p.writes)
+    ∙ ap (λ (x : Stamp). stamped_message digest bits (records (state_after p)) x (state_root digest bits p.before) (batch_changes digest p.before p.writes) told) (sym one)
+    ∙ ap (λ (x : List ℕ). stamped_message digest bits (records (state_after p)) stamp x (batch_changes digest p.before p.writes) told) (sym two)
+    ∙ ap (λ (x : List KeyChange). stamped_message digest bits (records (state_after p)) stamp before x told) (sym three)
+
+pub untold-steps : {X : Type 0} (o : Option telling.UntoldFault) {whole steps : Result X telling.UntoldFault} → whole ≡ steps → Fails o steps → Fails o whole
+untold-steps o e h = subst (λ r. Fails o r) (sym e) h
+
+module _ (digest : List ℕ → List ℕ) (bits : ℕ) (p : Prepared) (told : Told) where
+  untold-so : (D A : Type 0) (fault : UntoldFault) → Fails (untold_fault_of fault) (message digest bits p told)
+      → IsPreparedFault {D = D} {A = A} digest bits p told (unsigned_as fault)
+  untold-so D A errors.NoBatch h = h
+  untold-so D A errors.BadSeq h = h
+  untold-so D A (errors.Form forms.MessageSize) h = h
+  untold-so D A (errors.Form forms.NotCommit) h = h
+  untold-so D A (errors.Form (forms.Cbor f)) h = h
+  untold-so D A (errors.Form forms.NotAMap) h = h
+  untold-so D A (errors.Form (forms.BadField f)) h = h
+  untold-so D A (errors.Form forms.Rebase) h = h
+  untold-so D A (errors.Form forms.TooBig) h = h
+  untold-so D A (errors.Form forms.TooManyOps) h = h
+  untold-so D A (errors.Form forms.BlocksSize) h = h
+  untold-so D A (errors.Form forms.BadDid) h = h
+  untold-so D A (errors.Form forms.BadRev) h = h
+  untold-so D A (errors.Form forms.BadSince) h = h
+  untold-so D A (errors.Form forms.RevOrder) h = h
+  untold-so D A (errors.Form forms.BadTime) h = h
+  untold-so D A (errors.Form (forms.BadOp place)) h = h
+  untold-so D A (errors.Form forms.NoMemory) h = tt
+  untold-so D A (errors.OtherValue place) h = h
+  untold-so D A (errors.RecordSize place) h = h
+  untold-so D A errors.NoMemory h = tt
+
 module _ {D A : Type 0} (digest : List ℕ → List ℕ) (bits : ℕ) (p : Prepared) (told : Told) where
   clash-here : (last : ℕ) → last + 1 ≡ length p.writes → (fault : RepoFault D A)
       → IsBlockFault digest (state_blocks digest bits (state_after p)) 0 0 fault
@@ -97,48 +142,10 @@ module _ {D A : Type 0} (digest : List ℕ → List ℕ) (bits : ℕ) (p : Prepa
   pub want-told : (signing : SigningFault D A) → signing ≡ signings.NoMemory → IsPreparedFault digest bits p told signing
   want-told signing e = subst (λ (f : SigningFault D A). IsPreparedFault digest bits p told f) (sym e) tt
 
-  abbrev message : Result (List ℕ) telling.UntoldFault
-  message = signed_message digest bits p.before p.stamp p.writes told
-
-  untold-so : (fault : UntoldFault) → Fails (untold_fault_of fault) message → IsPreparedFault digest bits p told (unsigned_as {D} {A} fault)
-  untold-so errors.NoBatch h = h
-  untold-so errors.BadSeq h = h
-  untold-so (errors.Form forms.MessageSize) h = h
-  untold-so (errors.Form forms.NotCommit) h = h
-  untold-so (errors.Form (forms.Cbor f)) h = h
-  untold-so (errors.Form forms.NotAMap) h = h
-  untold-so (errors.Form (forms.BadField f)) h = h
-  untold-so (errors.Form forms.Rebase) h = h
-  untold-so (errors.Form forms.TooBig) h = h
-  untold-so (errors.Form forms.TooManyOps) h = h
-  untold-so (errors.Form forms.BlocksSize) h = h
-  untold-so (errors.Form forms.BadDid) h = h
-  untold-so (errors.Form forms.BadRev) h = h
-  untold-so (errors.Form forms.BadSince) h = h
-  untold-so (errors.Form forms.RevOrder) h = h
-  untold-so (errors.Form forms.BadTime) h = h
-  untold-so (errors.Form (forms.BadOp place)) h = h
-  untold-so (errors.Form forms.NoMemory) h = tt
-  untold-so (errors.OtherValue place) h = h
-  untold-so (errors.RecordSize place) h = h
-  untold-so errors.NoMemory h = tt
-
   pub untold-told : (fault : UntoldFault) (signing : SigningFault D A) → signing ≡ unsigned_as fault
-      → Fails (untold_fault_of fault) message → IsPreparedFault digest bits p told signing
+      → Fails (untold_fault_of fault) (message digest bits p told) → IsPreparedFault digest bits p told signing
   untold-told fault signing e h =
-      subst (λ (f : SigningFault D A). IsPreparedFault digest bits p told f) (sym e) (untold-so fault h)
-
-  -- the message in the steps in which it is written
-  pub steps-are : (stamp : Stamp) (before : List ℕ) (cs : List KeyChange) → stamp ≡ p.stamp → before ≡ state_root digest bits p.before
-      → cs ≡ batch_changes digest p.before p.writes
-      → message ≡ stamped_message digest bits (records (state_after p)) stamp before cs told
-  steps-are stamp before cs one two three =
-      message-is digest bits (state_after p) (state_root digest bits p.before) (batch_changes digest p.before p.writes) told
-      ∙ ap (λ (o : Option Stamp). telling.or_no_batch o >>= (λ x. stamped_message digest bits (records (state_after p)) x (state_root digest bits p.before) (batch_changes digest p.before p.writes) told))
-      (last-after p.before p.stamp p.writes)
-      ∙ ap (λ (x : Stamp). stamped_message digest bits (records (state_after p)) x (state_root digest bits p.before) (batch_changes digest p.before p.writes) told) (sym one)
-      ∙ ap (λ (x : List ℕ). stamped_message digest bits (records (state_after p)) stamp x (batch_changes digest p.before p.writes) told) (sym two)
-      ∙ ap (λ (x : List KeyChange). stamped_message digest bits (records (state_after p)) stamp before x told) (sym three)
+      subst (λ (f : SigningFault D A). IsPreparedFault digest bits p told f) (sym e) (untold-so digest bits p told D A fault h)
 
 -- ---- a batch that is refused, or can't be told
 
@@ -170,7 +177,7 @@ module _ {D A : Type 0} (digest : List ℕ → List ℕ) (bits : ℕ) (s : State
         subst (λ (f : SigningFault D A). IsUnsigned digest bits s previous stamp batch told full full f) (sym e) (tests-refuse place fault (h full))
 
     unasked-so : (place : ℕ) (fault : RepoFault D A) → IsRefusal digest bits s stamp batch full full (place, fault)
-        → full ≡ fulls_after_fault {D} {A} full (refused_as place fault)
+        → full ≡ fulls_after_fault full (refused_as place fault)
     unasked-so place (faults.Collision pair) h = refl
     unasked-so place faults.StoreFull h = let never = h.1 in absurd (omega arith)
     unasked-so place faults.NoMemory h = refl
@@ -192,10 +199,7 @@ module _ {D A : Type 0} (digest : List ℕ → List ℕ) (bits : ℕ) (s : State
         unasked-so place fault (h full) ∙ ap (λ (f : SigningFault D A). fulls_after_fault full f) (sym e)
 
     -- its message
-    abbrev prepared : Prepared
-    prepared = prepared_of s stamp batch
-
-    message-refuses : IsPassed prepared → (signing : SigningFault D A) → IsPreparedFault digest bits prepared told signing
+    message-refuses : IsPassed (prepared_of s stamp batch) → (signing : SigningFault D A) → IsPreparedFault digest bits (prepared_of s stamp batch) told signing
         → IsUnsigned digest bits s previous stamp batch told full full signing
     message-refuses passed signings.RootMoved h = absurd h
     message-refuses passed (signings.Refused place (faults.Collision pair)) h = (
@@ -222,13 +226,13 @@ module _ {D A : Type 0} (digest : List ℕ → List ℕ) (bits : ℕ) (s : State
     message-refuses passed (signings.Untold fault) h = (same, passed.passes, h)
     message-refuses passed signings.NoMemory h = tt
 
-    pub message-refused : (p : Prepared) → p ≡ prepared → IsPassed p → (signing : SigningFault D A)
+    pub message-refused : (p : Prepared) → p ≡ prepared_of s stamp batch → IsPassed p → (signing : SigningFault D A)
         → IsPreparedFault digest bits p told signing → IsUnsigned digest bits s previous stamp batch told full full signing
     message-refused p is passed signing h =
         message-refuses (subst IsPassed is passed) signing
         (subst (λ (q : Prepared). IsPreparedFault digest bits q told signing) is h)
 
-    message-unasked : (signing : SigningFault D A) → IsPreparedFault digest bits prepared told signing → full ≡ fulls_after_fault full signing
+    message-unasked : (signing : SigningFault D A) → IsPreparedFault digest bits (prepared_of s stamp batch) told signing → full ≡ fulls_after_fault full signing
     message-unasked signings.RootMoved h = refl
     message-unasked (signings.Refused place (faults.Collision pair)) h = refl
     message-unasked (signings.Refused place faults.StoreFull) h = let never = h.1 in absurd (omega arith)
@@ -247,7 +251,7 @@ module _ {D A : Type 0} (digest : List ℕ → List ℕ) (bits : ℕ) (s : State
     message-unasked (signings.Untold fault) h = refl
     message-unasked signings.NoMemory h = refl
 
-    pub unasked-message : (p : Prepared) → p ≡ prepared → (signing : SigningFault D A) → IsPreparedFault digest bits p told signing
+    pub unasked-message : (p : Prepared) → p ≡ prepared_of s stamp batch → (signing : SigningFault D A) → IsPreparedFault digest bits p told signing
         → full ≡ fulls_after_fault full signing
     unasked-message p is signing h = message-unasked signing (subst (λ (q : Prepared). IsPreparedFault digest bits q told signing) is h)
 
@@ -297,3 +301,31 @@ pub asked : {D A : Type 0} (n fuller place : ℕ) (fault : RepoFault D A) (signi
     → fuller ≡ cond (is_full fault) (suc n) n → fuller ≡ fulls_after_fault n signing
 asked n fuller place fault signing e h =
     h ∙ asked-so n place fault ∙ ap (λ (f : SigningFault _ _). fulls_after_fault n f) (sym e)
+
+-- ---- whether the root is the one before
+
+moved-so : (t : Bool) → t ≡ true → true ≡ not t → ⊥
+moved-so true e h = absurd cc
+moved-so false e h = absurd cc
+
+stays-so : (t : Bool) → false ≡ not t → t ≡ true
+stays-so true h = refl
+stays-so false h = absurd cc
+
+pub root-moved : (root previous : List ℕ) (t : Bool) → t ≡ not (bytes_eq root previous) → t ≡ true → previous ≡ root → ⊥
+root-moved root previous t e h same = moved-so (bytes_eq root previous) ((bytes_eq-Decides root previous).1 (sym same)) (sym h ∙ e)
+
+pub root-stays : (digest : List ℕ → List ℕ) (bits : ℕ) (s : State) (root previous : List ℕ) → root ≡ state_root digest bits s
+    → (t : Bool) → t ≡ not (bytes_eq root previous) → t ≡ false → previous ≡ state_root digest bits s
+root-stays digest bits s root previous is t e h =
+    sym ((bytes_eq-Decides root previous).0 (stays-so (bytes_eq root previous) (sym h ∙ e))) ∙ is
+
+-- ---- what is said of a batch that was prepared is said of the batch
+
+module _ (digest : List ℕ → List ℕ) (bits : ℕ) (s : State) (stamp : Stamp) (batch : List Write) (told : Told) (p : Prepared)
+    (is : p ≡ prepared_of s stamp batch) (made : List ℕ) where
+  pub signed-of : signed_message digest bits p.before p.stamp p.writes told ≡ Ok made → signed_message digest bits s stamp batch told ≡ Ok made
+  signed-of h = subst (λ (q : Prepared). signed_message digest bits q.before q.stamp q.writes told ≡ Ok made) is h
+
+  pub taken-of : IsSignedTaken digest bits p.before p.stamp p.writes told made → IsSignedTaken digest bits s stamp batch told made
+  taken-of h = subst (λ (q : Prepared). IsSignedTaken digest bits q.before q.stamp q.writes told made) is h

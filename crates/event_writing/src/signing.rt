@@ -17,7 +17,8 @@ use crate::told::Told;
 use batches::{Stamp, Write};
 use block::Block;
 use cid::{Cid, Digest};
-use repo::{Applied, Core};
+use fitting::fits_in_memory;
+use repo::{Applied, Core, PreparedBatch};
 use std::alloc::{Allocator, Global};
 use std::sync::Arc;
 use store::{BlockStore, Hold, StoreFault};
@@ -92,6 +93,9 @@ pub fn apply_signed<
 {
     if core.root() != previous {
         return Err(SigningFault::RootMoved);
+    }
+    if !fits_in_memory::<PreparedBatch<D, B, A>>() {
+        return Err(SigningFault::NoMemory);
     }
     let prepared = match core.prepare(alloc, stamp, writes) {
         Ok(prepared) => prepared,
