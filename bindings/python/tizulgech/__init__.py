@@ -14,7 +14,8 @@ What a batch is tested by: check_write, check_record, record_fault, check_stamp,
 A tree whose nodes a program keeps elsewhere: tree_apply, tree_get, tree_path, Edit, links, EMPTY_NODE, Missing, BadNode.
 
 Signed commits: signed_commit, read_commit, SignedCommit; file_head and file_section, parts of a file that a host puts together. A batch whose
-commit is signed: Repository.preview and Repository.apply_signed, Preview. Messages of the event stream: check_commit, CheckedCommit, BadMessage.
+commit is signed: Repository.preview and Repository.apply_signed, Preview. Messages of the event stream: check_commit, CheckedCommit, each
+Operation of it, BadMessage.
 
 Proofs: verify for single keys; verify_change, verify_inversion and ChangeProof for what a batch changed.
 
