@@ -28,6 +28,7 @@ fn digit(letter: u8) -> u64
 }
 
 /// The letters of a number, the highest first.
+#[tactic(auto, unfolding(crate::specs::Tids::letters))]
 pub(crate) fn letters(number: u64) -> [u8; 13]
     ensures { result ≡ letters_of number }
 {
