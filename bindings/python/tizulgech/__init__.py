@@ -9,7 +9,8 @@
     assert tizulgech.verify(applied.root, proof, write.key) == tizulgech.Cid.of(b"\\xa0")
 
 A repository in memory: Repository, its writes, each a Write that Put, Create, Update or Delete makes, Applied, what a batch leaves, and Changed.
-What a batch is tested by: check_write, check_record, record_fault, check_stamp, is_did, is_tid, is_repository_key.
+What a batch is tested by: check_write, check_record, record_fault, check_stamp, is_did, is_tid, is_repository_key; next_tid, the next revision by a
+clock.
 
 A tree whose nodes a program keeps elsewhere: tree_apply, tree_get, tree_path, Edit, links, EMPTY_NODE, Missing, BadNode.
 
@@ -43,7 +44,7 @@ from .messages import BadMessage, CheckedCommit, Operation, Preview, check_commi
 from .nodes import EMPTY_NODE, BadNode, Missing, Nodes, links
 from .proofs import verify
 from .repositories import Applied, Changed, Repository
-from .stamps import check_stamp, commit_bytes, is_did, is_tid
+from .stamps import check_stamp, commit_bytes, is_did, is_tid, next_tid
 from .trees import Edit, tree_apply, tree_get, tree_path
 from .writes import Create, Delete, Put, Update, Write, check_record, check_write, record_fault
 
@@ -53,6 +54,6 @@ __all__ = [
     "Applied", "BadCid", "BadMessage", "BadNode", "Bytes", "ChangeProof", "Changed", "CheckedCommit", "Cid", "Create", "Delete", "EMPTY_NODE", "Edit",
     "FAULTS", "FAULTS_OF_CIDS", "FAULTS_OF_TREES", "Fault", "Missing", "Nodes", "Operation", "Preview", "Put", "Repository", "SignedCommit", "Text",
     "Told", "Update", "VERSION", "Write", "check_commit", "check_record", "check_stamp", "check_write", "commit_bytes", "file_head", "file_section",
-    "is_did", "is_key", "is_repository_key", "is_tid", "layer", "links", "listing_car", "read_commit", "record_fault", "signed_commit", "tree_apply",
-    "tree_get", "tree_path", "tree_root", "verify", "verify_change", "verify_inversion", "version",
+    "is_did", "is_key", "is_repository_key", "is_tid", "layer", "links", "listing_car", "next_tid", "read_commit", "record_fault", "signed_commit",
+    "tree_apply", "tree_get", "tree_path", "tree_root", "verify", "verify_change", "verify_inversion", "version",
 ]

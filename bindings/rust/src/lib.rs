@@ -68,11 +68,11 @@ pub use changes::{ChangeProof, InversionProof, KeyChange, ProvenChange};
 pub use commits::{SignedCommit, file_head, file_section};
 pub use faults::{
     BatchError, BatchFault, ChangeFault, CidFault, CommitFault, MessageError, MessageFault, NoMemory, NodeFault, OpenError,
-    ProofFault, ProvingFault, RecordFault, SigningError, SigningFault, StampFault, TreeFault,
+    ProofFault, ProvingFault, RecordFault, SigningError, SigningFault, StampFault, TidFault, TreeFault,
 };
 pub use messages::{CheckedCommit, Operation, Preview, Told, check_commit};
 pub use repository::{Applied, CarParts, Pairs, Repository, Stamp, Write};
 pub use values::{
     Cid, Proof, VERSION, check_record, check_stamp, check_write, commit_bytes, is_did, is_key, is_repository_key, is_tid, layer,
-    listing_car, tree_root, version,
+    listing_car, next_tid, tree_root, version,
 };
