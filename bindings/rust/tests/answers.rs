@@ -420,7 +420,9 @@ fn commits(seen: &mut Seen) {
     for (last, clock, room) in [("", 7, 13), ("", 7, 12), ("", 1024, 13), ("1", 7, 13), ("bzzzzzzzzzzzz", 7, 13)] {
         seen.see("next_tid", sys::next_tid(last.as_bytes(), 1, clock, &mut vec![0; room], size));
     }
-    for (bytes, room) in [(own(DID, &rev), 900), (own(DID, &rev), 1), (vec![], 900), (own("did:", &rev), 900), (own(DID, "1"), 900)] {
+    for (bytes, room) in
+        [(own(DID, &rev), 900), (own(DID, &rev), 1), (vec![], 900), (own("did:", &rev), 900), (own(DID, "1"), 900)]
+    {
         seen.see("read_commit", sys::read_commit(&bytes, &mut vec![0; room], size));
     }
 }
@@ -477,7 +479,8 @@ fn signed(seen: &mut Seen) {
     // what no message tells
     let (did, rev) = (DID.as_bytes(), tid(2));
     let mut apply = |handle: &mut Handle, previous: &sys::Cid, seq: u64, time: &[u8], since: &[u8], room: usize| {
-        let number = handle.apply_signed(previous, did, rev.as_bytes(), &[7; 64], seq, time, since, &mut 0, &mut vec![0; room], &mut 0);
+        let number =
+            handle.apply_signed(previous, did, rev.as_bytes(), &[7; 64], seq, time, since, &mut 0, &mut vec![0; room], &mut 0);
         seen.see("apply_signed", number)
     };
     for at in 0..201 {

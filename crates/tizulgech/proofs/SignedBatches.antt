@@ -237,6 +237,6 @@ module _ (code place : ℕ) (before room : List ℕ) (size : ℕ) where
         → IsSigned code place (signing o previous stamp beside) before room size
     batch_signed p e is passed h = after true e
         (subst (λ (test : Result (Unit {0}) (ℕ × BatchFault)).
-            IsSigned code place (of_batch test >>= λ y. of_message (signed_message sha256 2 o.state stamp o.pending beside)) before room size)
+        IsSigned code place (of_batch test >>= λ y. of_message (signed_message sha256 2 o.state stamp o.pending beside)) before room size)
         (sym (subst IsPassed is passed).passes)
         (subst (λ (q : Prepared). IsSigned code place (of_message (signed_message sha256 2 q.before q.stamp q.writes beside)) before room size) is h))

@@ -73,7 +73,9 @@ pub extern "C" fn tizulgech_apply_signed(
         since: some_rev(since),
         sig,
     };
-    let code = signed_over(alloc, &mut repo, previous, did, rev, &told, place, out, size);
+    let code = signed_over(
+        alloc, &mut repo, previous, did, rev, &told, place, out, size,
+    );
     *repository = Repository::opened(repo);
     code
 }
