@@ -1,8 +1,8 @@
 //! The next timestamp identifier.
 
-ghost use Rattle.std.specs.Prelude.{◌≡◌, ◌<◌, ◌^◌, option_map};
+ghost use Rattle.std.specs.Prelude.{◌≡◌, ◌<◌, ◌^◌, true, option_map, IfOk};
 ghost use Rattle.spec.specs.Reading.{Gives};
-ghost use Rattle.spec.specs.Stamps.{is_next_rev};
+ghost use Rattle.spec.specs.Stamps.{is_next_rev, is_tid as is_tid_of};
 ghost use Rattle.tids.specs.Tids.{following as following_of, last_number as last_number_of, next_micros as next_micros_of, next_tid as next_of, passes as passes_of};
 ghost use Rattle.tids.specs.Views.{tid_fault_of};
 
@@ -19,8 +19,11 @@ use record_rules::is_tid;
 /// clock's number more than 10, and `TidFault::NoneAfter` where none of 53 bits is after the last one.
 #[tactic(auto, unfolding(crate::specs::Tids::next_tid))]
 pub fn next_tid(last: Option<&[u8]>, micros: u64, clock: u64) -> Result<[u8; 13], TidFault>
-    ensures { Gives (λ letters. letters) tid_fault_of result
+    ensures next { Gives (λ letters. letters) tid_fault_of result
         (next_of (option_map (λ last. last.now) last.entry) micros clock) }
+
+    // What is answered is one.
+    ensures own { IfOk result (λ letters. is_tid_of letters ≡ true) }
 {
     passes(last)?;
     if micros >= 0x20_0000_0000_0000 || clock >= 1024 {
@@ -31,11 +34,12 @@ pub fn next_tid(last: Option<&[u8]>, micros: u64, clock: u64) -> Result<[u8; 13]
 }
 
 /// That at some microseconds, where it is after the last one.
-#[tactic(auto, unfolding(crate::specs::Tids::following))]
+#[tactic(auto, unfolding(crate::specs::Tids::following), using(crate::proofs::OwnLetters::letters_are))]
 fn following(last: Option<&[u8]>, micros: u64, clock: u64) -> Result<[u8; 13], TidFault>
     requires clock { clock < 1024 }
-    ensures { Gives (λ letters. letters) tid_fault_of result
+    ensures next { Gives (λ letters. letters) tid_fault_of result
         (following_of (option_map (λ last. last.now) last.entry) micros clock) }
+    ensures own { IfOk result (λ letters. is_tid_of letters ≡ true) }
 {
     if micros >= 0x20_0000_0000_0000 {
         return Err(TidFault::NoneAfter);
