@@ -1,6 +1,6 @@
 //! The letters of numbers: base32-sortable (AT Protocol, TID).
 
-ghost use Rattle.std.specs.Prelude.{◌≡◌, ◌<◌, ◌≤◌};
+ghost use Rattle.std.specs.Prelude.{◌≡◌, ◌<◌};
 ghost use Rattle.tids.specs.Tids.{digit as digit_of, letter as letter_of, letters as letters_of, number_from as number_after};
 
 /// The letter of five bits.

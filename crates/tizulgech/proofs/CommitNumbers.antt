@@ -1,5 +1,5 @@
 -- What is told of a commit that is read, or of the next timestamp identifier, is told of those that are defined.
-use Rattle.std.proofs.Common.{◌≡◌, ℕ, List, sym, subst}
+use Rattle.std.proofs.Common.{ℕ, List, sym, subst}
 use Rattle.std.specs.Prelude.{Result, Ok, Err}
 use Rattle.spec.specs.Reading.{Gives}
 use Rattle.spec.specs.SignedCommits as commits

@@ -1,6 +1,6 @@
 -- What is told of a batch that is accepted signed.
 use Rattle.std.proofs.Common.{◌≡◌, ◌≤◌, ◌<◌, ◌+◌, ◌∙◌, ℕ, zero, suc, List, Bool, true, false, refl, sym, ap, subst, arith}
-use Rattle.std.specs.Prelude.{nat_eq, length, option_map, Option, Some, None, Result, Ok, Err}
+use Rattle.std.specs.Prelude.{length, option_map, Option, Some, None, Result, Ok, Err}
 use Rattle.std.specs.Str.{bytes_eq}
 use Rattle.sha2.specs.Sha256.{sha256}
 use Rattle.spec.specs.Reading.{◌>>=◌, ensure, Fails}
@@ -30,7 +30,7 @@ use Rattle.owned_repo.specs.Owning.{Owned}
 use Rattle.tizulgech.specs.Causes.{HasCause}
 use Rattle.tizulgech.specs.Numbers.{IsTested, fault_number, is_other}
 use Rattle.tizulgech.specs.Messages.{form_told, told_or_want}
-use Rattle.tizulgech.specs.SignedBatches.{SigningFault, RootMoved, OfBatch, OfMessage, of_batch, of_message, signing, signing_code, signing_told, untold_told, IsNoLimit, IsSigned}
+use Rattle.tizulgech.specs.SignedBatches.{SigningFault, RootMoved, of_batch, of_message, signing, signing_code, untold_told, IsNoLimit, IsSigned}
 use Rattle.tizulgech.proofs.Causes.{no_limit, told_cause}
 use Rattle.tizulgech.proofs.Tested.{never-0, tested_code}
 
