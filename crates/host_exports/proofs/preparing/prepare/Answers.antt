@@ -13,7 +13,7 @@ read-requires g c =
     (fits, (c.fits_in_memory.ensures.core, subst (λ n. c.args.repo < n) c.repos.ensures.repos c.if-repo-repos.false))
 
 pub prepared_in-requires : goal.prepared_in-requires
-prepared_in-requires g c = c.fits_in_memory.ensures.core
+prepared_in-requires g c = (c.fits_in_memory.ensures.core, search rules)
 
 pub returns-clause-prepared : goal.returns-clause-prepared
 returns-clause-prepared g c =
