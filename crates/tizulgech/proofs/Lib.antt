@@ -9,3 +9,6 @@ mod Handing
 mod Knowing
 mod Causes
 mod Going
+mod Listing
+mod Texts
+mod Hosting

@@ -7,6 +7,9 @@ pub mod Below
 pub mod Changing
 pub mod Inverting
 pub mod Parting
+pub mod NodeEntries
+pub mod HostedChanges
+pub mod RecordTexts
 pub use Rattle.spec.specs.Cid
 pub use Rattle.spec.specs.Layer
 pub use Rattle.spec.specs.States
