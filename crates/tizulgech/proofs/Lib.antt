@@ -12,3 +12,4 @@ mod Going
 mod Listing
 mod Texts
 mod Hosting
+mod Checking

@@ -10,6 +10,7 @@ pub mod Parting
 pub mod NodeEntries
 pub mod HostedChanges
 pub mod RecordTexts
+pub mod Checked
 pub use Rattle.spec.specs.Cid
 pub use Rattle.spec.specs.Layer
 pub use Rattle.spec.specs.States

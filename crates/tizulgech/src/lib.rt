@@ -13,6 +13,7 @@
 
 mod below;
 mod changes;
+mod checked_files;
 mod cids;
 mod codes;
 mod edits;
