@@ -19,7 +19,7 @@ use Rattle.repository_check.specs.declared.fault.CheckFault.TheVariants as fault
 use Rattle.repository_check.specs.Views.{check_fault_of, keyed_record}
 use Rattle.repository_check.specs.declared.repository.Record.{Record}
 use Rattle.buffers.specs.Answers.{IsHanded}
-use Rattle.tizulgech.specs.Checked.{check_code, export_bytes, export_number, place_after, tells_record, IsChecked, IsPlaceOf}
+use Rattle.tizulgech.specs.Checked.{check_code, export_bytes, export_number, place_after, tells_record, IsChecked, IsNoExport, IsPlaceOf}
 use Rattle.tizulgech.specs.Numbers.{IsHandedOr255}
 
 -- an export
@@ -33,43 +33,46 @@ export_checked code place before room size file c rs count is many h p = record 
 }
 
 -- its first fault
-told : (code place : ℕ) (before room : List ℕ) (size : ℕ) (file : List ℕ) (f : ExportFault) → IsFirstFault sha256 2 file f → code ≡ export_number f
-    → IsPlaceOf f place → IsChecked code place before room size file
-told code place before room size file f h is at = record { result = Err f; is = h; told = (is, at) }
+told : (code place : ℕ) (file : List ℕ) (f : ExportFault) → IsFirstFault sha256 2 file f → code ≡ export_number f → IsPlaceOf f place
+    → IsNoExport code place file
+told code place file f h is at = record { fault = f; first = h; number_is = is; place_is = at }
 
-module _ (code place was : ℕ) (before room : List ℕ) (size : ℕ) (file : List ℕ) where
-  pub fault_checked : (e : CheckFault) → IfSome (check_fault_of e) (IsFirstFault sha256 2 file) → code ≡ check_code e → place ≡ place_after e was
-      → nat_eq code 255 ≡ false → IsChecked code place before room size file
-  fault_checked (faults.Car car_faults.BadHeader) h is p n = told code place before room size file (OfCar cars.BadHeader) h is tt
-  fault_checked (faults.Car car_faults.BadLength) h is p n = told code place before room size file (OfCar cars.BadLength) h is tt
-  fault_checked (faults.Car car_faults.Truncated) h is p n = told code place before room size file (OfCar cars.Truncated) h is tt
-  fault_checked (faults.Car car_faults.BadCid) h is p n = told code place before room size file (OfCar cars.BadCid) h is tt
-  fault_checked (faults.Car car_faults.NoMemory) h is p n = let no : nat_eq 255 255 ≡ false = subst (λ (k : ℕ). nat_eq k 255 ≡ false) is n in absurd cc
-  fault_checked faults.Misnamed h is p n = told code place before room size file Misnamed h is tt
-  fault_checked faults.NoCommit h is p n = told code place before room size file NoCommit h is tt
-  fault_checked (faults.Commit commit_faults.NotACommit) h is p n = told code place before room size file (OfCommit commits.NotACommit) h is tt
-  fault_checked (faults.Commit commit_faults.BadDid) h is p n = told code place before room size file (OfCommit commits.BadDid) h is tt
-  fault_checked (faults.Commit commit_faults.BadRev) h is p n = told code place before room size file (OfCommit commits.BadRev) h is tt
-  fault_checked faults.NotTheTree h is p n = told code place before room size file NotTheTree h is tt
-  fault_checked (faults.Record at record_faults.BadKey) h is p n = told code place before room size file (OfRecord at (exports.OfTest writes.BadKey)) h is p
-  fault_checked (faults.Record at record_faults.NoRecord) h is p n = told code place before room size file (OfRecord at exports.NoRecord) h is p
-  fault_checked (faults.Record at record_faults.RecordSize) h is p n = told code place before room size file (OfRecord at (exports.OfTest writes.RecordSize)) h is p
-  fault_checked (faults.Record at (record_faults.BadRecord errors.Truncated)) h is p n = told code place before room size file (OfRecord at (exports.OfTest (writes.BadRecord cbor.Truncated))) h is p
-  fault_checked (faults.Record at (record_faults.BadRecord errors.LongHead)) h is p n = told code place before room size file (OfRecord at (exports.OfTest (writes.BadRecord cbor.LongHead))) h is p
-  fault_checked (faults.Record at (record_faults.BadRecord errors.Indefinite)) h is p n = told code place before room size file (OfRecord at (exports.OfTest (writes.BadRecord cbor.Indefinite))) h is p
-  fault_checked (faults.Record at (record_faults.BadRecord errors.BadTag)) h is p n = told code place before room size file (OfRecord at (exports.OfTest (writes.BadRecord cbor.BadTag))) h is p
-  fault_checked (faults.Record at (record_faults.BadRecord errors.BadLink)) h is p n = told code place before room size file (OfRecord at (exports.OfTest (writes.BadRecord cbor.BadLink))) h is p
-  fault_checked (faults.Record at (record_faults.BadRecord errors.KeyNotText)) h is p n = told code place before room size file (OfRecord at (exports.OfTest (writes.BadRecord cbor.KeyNotText))) h is p
-  fault_checked (faults.Record at (record_faults.BadRecord errors.KeyOrder)) h is p n = told code place before room size file (OfRecord at (exports.OfTest (writes.BadRecord cbor.KeyOrder))) h is p
-  fault_checked (faults.Record at (record_faults.BadRecord errors.BadUtf8)) h is p n = told code place before room size file (OfRecord at (exports.OfTest (writes.BadRecord cbor.BadUtf8))) h is p
-  fault_checked (faults.Record at (record_faults.BadRecord errors.Float)) h is p n = told code place before room size file (OfRecord at (exports.OfTest (writes.BadRecord cbor.Float))) h is p
-  fault_checked (faults.Record at (record_faults.BadRecord errors.Simple)) h is p n = told code place before room size file (OfRecord at (exports.OfTest (writes.BadRecord cbor.Simple))) h is p
-  fault_checked (faults.Record at (record_faults.BadRecord errors.IntegerRange)) h is p n = told code place before room size file (OfRecord at (exports.OfTest (writes.BadRecord cbor.IntegerRange))) h is p
-  fault_checked (faults.Record at (record_faults.BadRecord errors.TooDeep)) h is p n = told code place before room size file (OfRecord at (exports.OfTest (writes.BadRecord cbor.TooDeep))) h is p
-  fault_checked (faults.Record at (record_faults.BadRecord errors.Trailing)) h is p n = told code place before room size file (OfRecord at (exports.OfTest (writes.BadRecord cbor.Trailing))) h is p
-  fault_checked (faults.Record at (record_faults.BadRecord errors.NoMemory)) h is p n = let no : nat_eq 255 255 ≡ false = subst (λ (k : ℕ). nat_eq k 255 ≡ false) is n in absurd cc
-  fault_checked (faults.Record at record_faults.NotAMap) h is p n = told code place before room size file (OfRecord at (exports.OfTest writes.NotAMap)) h is p
-  fault_checked faults.NoMemory h is p n = let no : nat_eq 255 255 ≡ false = subst (λ (k : ℕ). nat_eq k 255 ≡ false) is n in absurd cc
+module _ (code place was : ℕ) (file : List ℕ) where
+  pub no_export : (e : CheckFault) → IfSome (check_fault_of e) (IsFirstFault sha256 2 file) → code ≡ check_code e → place ≡ place_after e was
+      → nat_eq code 255 ≡ false → IsNoExport code place file
+  no_export (faults.Car car_faults.BadHeader) h is p n = told code place file (OfCar cars.BadHeader) h is tt
+  no_export (faults.Car car_faults.BadLength) h is p n = told code place file (OfCar cars.BadLength) h is tt
+  no_export (faults.Car car_faults.Truncated) h is p n = told code place file (OfCar cars.Truncated) h is tt
+  no_export (faults.Car car_faults.BadCid) h is p n = told code place file (OfCar cars.BadCid) h is tt
+  no_export (faults.Car car_faults.NoMemory) h is p n = let no : nat_eq 255 255 ≡ false = subst (λ (k : ℕ). nat_eq k 255 ≡ false) is n in absurd cc
+  no_export faults.Misnamed h is p n = told code place file Misnamed h is tt
+  no_export faults.NoCommit h is p n = told code place file NoCommit h is tt
+  no_export (faults.Commit commit_faults.NotACommit) h is p n = told code place file (OfCommit commits.NotACommit) h is tt
+  no_export (faults.Commit commit_faults.BadDid) h is p n = told code place file (OfCommit commits.BadDid) h is tt
+  no_export (faults.Commit commit_faults.BadRev) h is p n = told code place file (OfCommit commits.BadRev) h is tt
+  no_export faults.NotTheTree h is p n = told code place file NotTheTree h is tt
+  no_export (faults.Record at record_faults.BadKey) h is p n = told code place file (OfRecord at (exports.OfTest writes.BadKey)) h is p
+  no_export (faults.Record at record_faults.NoRecord) h is p n = told code place file (OfRecord at exports.NoRecord) h is p
+  no_export (faults.Record at record_faults.RecordSize) h is p n = told code place file (OfRecord at (exports.OfTest writes.RecordSize)) h is p
+  no_export (faults.Record at (record_faults.BadRecord errors.Truncated)) h is p n = told code place file (OfRecord at (exports.OfTest (writes.BadRecord cbor.Truncated))) h is p
+  no_export (faults.Record at (record_faults.BadRecord errors.LongHead)) h is p n = told code place file (OfRecord at (exports.OfTest (writes.BadRecord cbor.LongHead))) h is p
+  no_export (faults.Record at (record_faults.BadRecord errors.Indefinite)) h is p n = told code place file (OfRecord at (exports.OfTest (writes.BadRecord cbor.Indefinite))) h is p
+  no_export (faults.Record at (record_faults.BadRecord errors.BadTag)) h is p n = told code place file (OfRecord at (exports.OfTest (writes.BadRecord cbor.BadTag))) h is p
+  no_export (faults.Record at (record_faults.BadRecord errors.BadLink)) h is p n = told code place file (OfRecord at (exports.OfTest (writes.BadRecord cbor.BadLink))) h is p
+  no_export (faults.Record at (record_faults.BadRecord errors.KeyNotText)) h is p n = told code place file (OfRecord at (exports.OfTest (writes.BadRecord cbor.KeyNotText))) h is p
+  no_export (faults.Record at (record_faults.BadRecord errors.KeyOrder)) h is p n = told code place file (OfRecord at (exports.OfTest (writes.BadRecord cbor.KeyOrder))) h is p
+  no_export (faults.Record at (record_faults.BadRecord errors.BadUtf8)) h is p n = told code place file (OfRecord at (exports.OfTest (writes.BadRecord cbor.BadUtf8))) h is p
+  no_export (faults.Record at (record_faults.BadRecord errors.Float)) h is p n = told code place file (OfRecord at (exports.OfTest (writes.BadRecord cbor.Float))) h is p
+  no_export (faults.Record at (record_faults.BadRecord errors.Simple)) h is p n = told code place file (OfRecord at (exports.OfTest (writes.BadRecord cbor.Simple))) h is p
+  no_export (faults.Record at (record_faults.BadRecord errors.IntegerRange)) h is p n = told code place file (OfRecord at (exports.OfTest (writes.BadRecord cbor.IntegerRange))) h is p
+  no_export (faults.Record at (record_faults.BadRecord errors.TooDeep)) h is p n = told code place file (OfRecord at (exports.OfTest (writes.BadRecord cbor.TooDeep))) h is p
+  no_export (faults.Record at (record_faults.BadRecord errors.Trailing)) h is p n = told code place file (OfRecord at (exports.OfTest (writes.BadRecord cbor.Trailing))) h is p
+  no_export (faults.Record at (record_faults.BadRecord errors.NoMemory)) h is p n = let no : nat_eq 255 255 ≡ false = subst (λ (k : ℕ). nat_eq k 255 ≡ false) is n in absurd cc
+  no_export (faults.Record at record_faults.NotAMap) h is p n = told code place file (OfRecord at (exports.OfTest writes.NotAMap)) h is p
+  no_export faults.NoMemory h is p n = let no : nat_eq 255 255 ≡ false = subst (λ (k : ℕ). nat_eq k 255 ≡ false) is n in absurd cc
+
+  pub fault_checked : (before room : List ℕ) (size : ℕ) → IsNoExport code place file → IsChecked code place before room size file
+  fault_checked before room size h = record { result = Err h.fault; is = h.first; told = (h.number_is, h.place_is) }
 
 -- the place is written with the numbers of a record alone
 pub place_kept : (e : CheckFault) (code place was : ℕ) → code ≡ check_code e → place ≡ place_after e was → tells_record code ≡ false → place ≡ was

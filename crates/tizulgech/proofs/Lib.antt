@@ -13,3 +13,4 @@ mod Listing
 mod Texts
 mod Hosting
 mod Checking
+mod FromFiles

@@ -112,6 +112,13 @@ abbrev pub IsCheckTold : ℕ → ℕ → List ℕ → List ℕ → ℕ → Resul
 IsCheckTold code place before room size (Ok r) = IsHanded code (export_bytes r.0 (length r.1)) before room size
 IsCheckTold code place before room size (Err f) = (code ≡ export_number f) × IsPlaceOf f place
 
+-- it is none: the number is that of its first fault, and the place that of its record
+pub record IsNoExport (code place : ℕ) (file : List ℕ) : Type 0 where
+  pub fault : ExportFault
+  pub first : IsFirstFault sha256 2 file fault
+  pub number_is : code ≡ export_number fault
+  pub place_is : IsPlaceOf fault place
+
 pub record IsChecked (code place : ℕ) (before room : List ℕ) (size : ℕ) (file : List ℕ) : Type 0 where
   pub result : Result (Commit × List (List ℕ × List ℕ)) ExportFault
   pub is : IsCheckOf file result

@@ -11,6 +11,7 @@ pub mod NodeEntries
 pub mod HostedChanges
 pub mod RecordTexts
 pub mod Checked
+pub mod Opened
 pub use Rattle.spec.specs.Cid
 pub use Rattle.spec.specs.Layer
 pub use Rattle.spec.specs.States

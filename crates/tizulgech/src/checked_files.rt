@@ -79,7 +79,7 @@ fn export_bytes(
 }
 
 /// The number of a fault of a file, with the place of a record.
-fn tell_check(fault: CheckFault, place: &mut usize) -> u8
+pub(crate) fn tell_check(fault: CheckFault, place: &mut usize) -> u8
     ensures number { result ≡ check_code fault }
     ensures place { place.new ≡ place_after fault place.old }
 {

@@ -24,6 +24,7 @@ mod listings;
 mod node_entries;
 mod nodes;
 mod opening;
+mod opening_files;
 mod pages;
 mod proving;
 mod reading;
