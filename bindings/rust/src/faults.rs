@@ -215,9 +215,10 @@ pub enum RecordJsonFault {
 
 impl RecordJsonFault {
     pub(crate) fn of(number: u8) -> RecordJsonFault {
+        use RecordJsonFault::*;
         match number {
-            69 => RecordJsonFault::NoForm,
-            number => RecordJsonFault::BadRecord(RecordFault::of(number)),
+            69 => NoForm,
+            number => BadRecord(RecordFault::of(number)),
         }
     }
 
