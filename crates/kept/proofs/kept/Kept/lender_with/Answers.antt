@@ -29,13 +29,3 @@ returns-clause-clash_free g c =
     (subst (λ (k : Keeping). AreAlone dig (first_of dig come) k.uses (map arc_value come)) c.self.view_is
     (subst (λ (m : Lending (Arc (List ℕ) g.row.A.Denot)). AreAlone dig (first_of dig m.blocks) (counted c.self.inside.blocks) (map arc_value come))
     c.in_ok-front.ensures c.in_ok-test_alone.ensures.alone))
-
-pub returns-clause-no_other : goal.returns-clause-no_other
-returns-clause-no_other g c =
-    let dig = g.D.Digest.digest_of in
-    let come = c.args.come.now in
-    let alone : AreAlone dig (first_of dig come) c.args.self.now.uses (map arc_value come) =
-        subst (λ (k : Keeping). AreAlone dig (first_of dig come) k.uses (map arc_value come)) c.self.view_is
-        (subst (λ (m : Lending (Arc (List ℕ) g.row.A.Denot)). AreAlone dig (first_of dig m.blocks) (counted c.self.inside.blocks) (map arc_value come))
-        c.in_ok-front.ensures c.in_ok-test_alone.ensures.alone) in
-    alone.no_other
