@@ -125,13 +125,8 @@ var (
 
 // Of signed commits, of messages, and of batches that are signed.
 var (
-	ErrNotACommit        = ofAll.add(100, "NOT_A_COMMIT", "the bytes are not those of a signed commit")
 	ErrCommitDid         = ofAll.add(101, "COMMIT_DID", "the DID of the commit is not one")
 	ErrCommitRev         = ofAll.add(102, "COMMIT_REV", "the revision of the commit is not a timestamp identifier")
-	ErrCarHeader         = ofAll.add(103, "CAR_HEADER", "the file does not begin as a CAR with one root")
-	ErrCarLength         = ofAll.add(104, "CAR_LENGTH", "the length of a section is not a number in its shortest form")
-	ErrCarTruncated      = ofAll.add(105, "CAR_TRUNCATED", "the file ends within a section")
-	ErrCarCid            = ofAll.add(106, "CAR_CID", "a section does not begin with a CID of a block")
 	ErrMessageSize       = ofAll.add(107, "MESSAGE_SIZE", "the message is too long")
 	ErrNotAMessage       = ofAll.add(108, "NOT_A_MESSAGE", "no message #commit")
 	ErrMessageCbor       = ofAll.add(109, "MESSAGE_CBOR", "the message is not DAG-CBOR")
@@ -148,7 +143,6 @@ var (
 	ErrDoubledPath       = ofAll.add(120, "DOUBLED_PATH", "an operation has the path of another")
 	ErrOtherPrevious     = ofAll.add(121, "OTHER_PREVIOUS", "the repository had another root before")
 	ErrNotTheRoot        = ofAll.add(122, "NOT_THE_ROOT", "the root of the blocks is not the commit")
-	ErrMisnamed          = ofAll.add(123, "MISNAMED", "a block has another CID")
 	ErrCommitMissing     = ofAll.add(124, "COMMIT_MISSING", "the commit is not among the blocks")
 	ErrOtherDid          = ofAll.add(125, "OTHER_DID", "the commit is of another repository")
 	ErrOtherRev          = ofAll.add(126, "OTHER_REV", "the commit has another revision")
@@ -158,6 +152,29 @@ var (
 	ErrRootMoved         = ofAll.add(130, "ROOT_MOVED", "the repository has another root than was signed over")
 	ErrBadSeq            = ofAll.add(131, "BAD_SEQ", "the number is none of the stream")
 	ErrNoBatch           = ofAll.add(132, "NO_BATCH", "the repository has no batch")
+)
+
+// Of records as JSON, and of files.
+var (
+	ErrNotJSON      = ofAll.add(60, "NOT_JSON", "the text is not JSON")
+	ErrDoubledKey   = ofAll.add(61, "DOUBLED_KEY", "a key stands twice in an object")
+	ErrJSONFloat    = ofAll.add(62, "JSON_FLOAT", "a number has a point or an exponent")
+	ErrJSONRange    = ofAll.add(63, "JSON_RANGE", "a whole number is outside of -(2^53 - 1) to 2^53 - 1")
+	ErrJSONLink     = ofAll.add(64, "JSON_LINK", "a link holds no CID of version 1 in base 32")
+	ErrJSONBytes    = ofAll.add(65, "JSON_BYTES", "bytes are not in base 64")
+	ErrJSONDollar   = ofAll.add(66, "JSON_DOLLAR", "an object with $link or $bytes has other keys")
+	ErrJSONDepth    = ofAll.add(67, "JSON_DEPTH", "lists and maps lie more than 64 levels deep")
+	ErrJSONNotAMap  = ofAll.add(68, "JSON_NOT_A_MAP", "the value is not a map")
+	ErrNoJSONForm   = ofAll.add(69, "NO_JSON_FORM", "the record has no JSON form")
+	ErrCARHeader    = ofAll.add(70, "CAR_HEADER", "the file does not begin as a CAR with one root")
+	ErrCARLength    = ofAll.add(71, "CAR_LENGTH", "the length of a section is not a number in its shortest form")
+	ErrCARTruncated = ofAll.add(72, "CAR_TRUNCATED", "the file ends within a section")
+	ErrCARCid       = ofAll.add(73, "CAR_CID", "a section does not begin with a CID of a block")
+	ErrMisnamed     = ofAll.add(74, "MISNAMED", "the CID of a section is not that of its block")
+	ErrNoCommit     = ofAll.add(75, "NO_COMMIT", "the root is not in the file")
+	ErrNotACommit   = ofAll.add(76, "NOT_A_COMMIT", "the root is not a signed commit")
+	ErrNotTheTree   = ofAll.add(77, "NOT_THE_TREE", "the file does not have a whole tree under its commit")
+	ErrNoRecord     = ofAll.add(78, "NO_RECORD", "the record is not in the file")
 )
 
 // Of any call.

@@ -31,11 +31,13 @@ type TreeCode = 'MISSING' | 'NOT_ASCENDING' | 'BAD_KEY' | 'BAD_NODE' | 'TOO_MANY
 type CommitCode = 'NOT_A_COMMIT' | 'COMMIT_DID' | 'COMMIT_REV'
 type MessageCode = RecordCode | CommitCode | 'NOT_A_MAP' | 'RECORD_SIZE' | 'BAD_DID' | 'BAD_REV' | 'BAD_NODE' | 'TOO_MANY_NODES' | 'OTHER_VALUE' | 'OTHER_ROOT' | 'NOT_TREE' | 'CAR_HEADER' | 'CAR_LENGTH' | 'CAR_TRUNCATED' | 'CAR_CID' | 'MESSAGE_SIZE' | 'NOT_A_MESSAGE' | 'MESSAGE_CBOR' | 'MESSAGE_NOT_A_MAP' | 'BAD_FIELD' | 'REBASE' | 'TOO_BIG' | 'TOO_MANY_OPS' | 'BLOCKS_SIZE' | 'BAD_SINCE' | 'SINCE_ORDER' | 'BAD_TIME' | 'BAD_OP' | 'DOUBLED_PATH' | 'OTHER_PREVIOUS' | 'NOT_THE_ROOT' | 'MISNAMED' | 'COMMIT_MISSING' | 'OTHER_DID' | 'OTHER_REV' | 'RECORD_MISSING' | 'MESSAGE_RECORD_SIZE' | 'NODE_MISSING'
 type SigningCode = BatchCode | 'TOO_MANY_OPS' | 'BLOCKS_SIZE' | 'BAD_SINCE' | 'SINCE_ORDER' | 'BAD_TIME' | 'BAD_OP' | 'OTHER_VALUE' | 'MESSAGE_RECORD_SIZE' | 'ROOT_MOVED' | 'BAD_SEQ' | 'NO_BATCH'
+type JsonCode = 'NOT_JSON' | 'DOUBLED_KEY' | 'JSON_FLOAT' | 'JSON_RANGE' | 'JSON_LINK' | 'JSON_BYTES' | 'JSON_DOLLAR' | 'JSON_DEPTH' | 'JSON_NOT_A_MAP' | 'NO_JSON_FORM'
+type FileCode = 'CAR_HEADER' | 'CAR_LENGTH' | 'CAR_TRUNCATED' | 'CAR_CID' | 'MISNAMED' | 'NO_COMMIT' | 'NOT_A_COMMIT' | 'NOT_THE_TREE' | 'NO_RECORD'
 type RepositoryCode = 'CLOSED' | 'BUSY' | 'CHANGED'
 type AnyCode = 'BAD' | 'CLASH' | 'FULL' | 'NO_MEMORY'
 
 /** A call was refused: `code` as the header names it, `number` as it numbers it. */
-export class TizulgechError<Code extends string = string> extends Error {
+export class TizulgechError<Code extends string = string | JsonCode | FileCode> extends Error {
   constructor(number: number)
   readonly code: Code
   readonly number: number

@@ -157,7 +157,9 @@ test('the codes are those of the header, and each was seen', () => {
   const named = Array.from(table.matchAll(/TIZULGECH_(\w+) = (\d+)/g), ([, name, number]) => [name, Number(number)])
   const own = readFileSync(new URL('../lib/faults.js', import.meta.url), 'utf8')
   for (const [name, number] of named) assert(name === 'DONE' || own.includes(`${number}: ['${name}'`), name)
-  // Those that are no faults to whoever calls from here, those that want a clash, a full store or no memory, and one that no accepted batch has.
-  const unseen = named.map(([name]) => name).filter(name => !seen.has(name))
+  // Those of calls that the package doesn't make so far; those that are no faults to whoever calls from here, those that want a clash, a full store
+  // or no memory, and one that no accepted batch has.
+  const notYet = name => name.includes('JSON') || ['DOUBLED_KEY', 'NO_COMMIT', 'NOT_THE_TREE', 'NO_RECORD'].includes(name)
+  const unseen = named.map(([name]) => name).filter(name => !seen.has(name) && !notYet(name))
   assert.deepEqual(unseen.sort(), ['BELOW', 'CLASH', 'DONE', 'FULL', 'NO_BATCH', 'NO_MEMORY', 'OPEN', 'SMALL'])
 })

@@ -6,6 +6,8 @@
 //!   undoes changes, as the event stream's operation inversion does.
 //! - [`SignedCommit`] is written and read; [`Repository::preview`] and [`Repository::apply_signed`] accept a batch whose commit is
 //!   signed, with its message, and [`check_commit`] checks any message `#commit` of the event stream.
+//! - [`record_json`] and [`json_record`] are records as JSON, [`link_text`] the text of a blob's CID, and [`check_car`] tells whose
+//!   repository a file is the export of.
 //! - [`Cid`], [`check_record`], [`check_write`], [`check_stamp`], [`commit_bytes`], [`tree_root`], [`listing_car`] and [`Proof`] need no state.
 //!
 //! ```
@@ -36,7 +38,7 @@
 //! # What is proved, and what is trusted
 //!
 //! What is proved ends at the calls of the C interface: each has a contract, which is proved of its code together with its
-//! safety and its end. Of this crate nothing is proved: 1,800 lines of code, which tests try call by call.
+//! safety and its end. Of this crate nothing is proved: 2,400 lines of code, which tests try call by call.
 //! Trusted are:
 //!
 //! - that the declarations in `sys` are those of the library, and pass on what they are given in its order (a script of the
@@ -58,6 +60,7 @@ mod commits;
 mod faults;
 mod framing;
 mod messages;
+mod records;
 mod repository;
 #[allow(missing_docs)]
 mod sys;
@@ -67,10 +70,12 @@ mod values;
 pub use changes::{ChangeProof, InversionProof, KeyChange, ProvenChange};
 pub use commits::{SignedCommit, file_head, file_section};
 pub use faults::{
-    BatchError, BatchFault, ChangeFault, CidFault, CommitFault, MessageError, MessageFault, NoMemory, NodeFault, OpenError,
-    ProofFault, ProvingFault, RecordFault, SigningError, SigningFault, StampFault, TidFault, TreeFault,
+    BatchError, BatchFault, ChangeFault, CheckError, CheckFault, CidFault, CommitFault, JsonError, JsonFault, LinkFault,
+    MessageError, MessageFault, NoMemory, NodeFault, OpenError, ProofFault, ProvingFault, RecordFault, RecordJsonFault,
+    SigningError, SigningFault, StampFault, TidFault, TreeFault,
 };
 pub use messages::{CheckedCommit, Operation, Preview, Told, check_commit};
+pub use records::{Export, check_car, json_record, link_from_text, link_text, record_json};
 pub use repository::{Applied, CarParts, Pairs, Repository, Stamp, Write};
 pub use values::{
     Cid, Proof, VERSION, check_record, check_stamp, check_write, commit_bytes, is_did, is_key, is_repository_key, is_tid, layer,

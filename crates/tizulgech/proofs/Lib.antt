@@ -13,3 +13,8 @@ mod CommitNumbers
 mod EventNumbers
 mod Tested
 mod SignedBatches
+mod Listing
+mod Texts
+mod Hosting
+mod Checking
+mod FromFiles

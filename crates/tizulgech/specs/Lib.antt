@@ -10,6 +10,11 @@ pub mod Parting
 pub mod Signing
 pub mod Messages
 pub mod SignedBatches
+pub mod NodeEntries
+pub mod HostedChanges
+pub mod RecordTexts
+pub mod Checked
+pub mod Opened
 pub use Rattle.spec.specs.Cid
 pub use Rattle.spec.specs.Layer
 pub use Rattle.spec.specs.States

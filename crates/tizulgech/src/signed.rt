@@ -16,6 +16,11 @@ use cid::{Cid, CidRef};
 use signed_commits::{CommitFault, SignedCommit, read_commit};
 use std::alloc::{AllocError, Global};
 
+/// The DID of a commit isn't one.
+const COMMIT_DID: u8 = 101;
+/// The revision of a commit isn't a timestamp identifier.
+const COMMIT_REV: u8 = 102;
+
 /// The bytes of the signed commit of a stamp, which isn't tested, over the root of a tree (AT Protocol repository v3, commit
 /// objects): the block that a repository's file begins with and a message names. 0; 251; 252 for a root that is no CID; 255.
 #[unsafe(no_mangle)]
@@ -64,7 +69,7 @@ fn signed_bytes<'c>(
 }
 
 /// What the signed commit of these bytes says: 0 and whose repository it is, the revision, the root, the commit before or
-/// zeros, the signature and the bytes that were signed; 100 where the bytes are none, 101 for its DID, 102 for its revision;
+/// zeros, the signature and the bytes that were signed; 76 where the bytes are none, 101 for its DID, 102 for its revision;
 /// 251; 255. Nothing tests the signature.
 #[unsafe(no_mangle)]
 #[tactic(auto, using(crate::proofs::CommitNumbers::commit_told))]
@@ -102,9 +107,9 @@ pub(crate) fn code_of_commit(fault: CommitFault) -> u8
     ensures { result ≡ commit_code fault }
 {
     match fault {
-        CommitFault::NotACommit => 100,
-        CommitFault::BadDid => 101,
-        CommitFault::BadRev => 102,
+        CommitFault::NotACommit => 76,
+        CommitFault::BadDid => COMMIT_DID,
+        CommitFault::BadRev => COMMIT_REV,
     }
 }
 
