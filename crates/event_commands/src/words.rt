@@ -141,7 +141,7 @@ pub fn command_of<'a>(name: &str, words: &ArgMatches<'a>) -> Option<EventCommand
 
 /// What the words tell, with this revision before.
 fn event_words<'a>(words: &ArgMatches<'a>, since: Option<&'a str>) -> EventWords<'a>
-    ensures { AreEventWords (rows_of (found_of words.now)) (option_map (λ s. s.now) since) result }
+    ensures { AreEventWords (rows_of (found_of words.now)) (option_map (λ s. s.now) since.entry) result }
 {
     EventWords {
         did: word_or("", words, "did"),
