@@ -191,7 +191,7 @@ fn sync_event_words<'a>(alloc: Global) -> Result<Command<'a>, AllocError>
 
 /// The command that writes a message, with the words that both have.
 fn told_words<'a>(alloc: Global, subject: Subject) -> Result<Command<'a>, AllocError>
-    ensures reads { IfOk result (λ r. (app_of r ≡ alone (told_shape subject))
+    ensures { IfOk result (λ r. (app_of r ≡ alone (told_shape subject))
         × ((fields_of r).has_globals ≡ false)) }
 {
     bare_event(alloc, subject)
