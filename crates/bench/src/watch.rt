@@ -43,6 +43,16 @@ impl Meter {
         }
     }
 
+    /// How many nanoseconds a meter tells of nothing, on average, as it takes time to read it.
+    pub fn of_nothing<R: CpuClock>(rt: &R) -> u128 {
+        let mut sum = 0u128;
+        for _ in 0..1_000 {
+            let meter = Meter::start(rt);
+            sum = sum.saturating_add(meter.nanos(rt));
+        }
+        sum / 1_000
+    }
+
     /// How many nanoseconds it took since then, or the greatest number of them where the system doesn't tell.
     pub fn nanos<R: CpuClock>(&self, rt: &R) -> u128 {
         let Some(start) = self.start else {

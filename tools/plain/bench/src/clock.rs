@@ -25,3 +25,8 @@ pub fn timed<T>(job: impl FnOnce() -> T) -> (T, u64) {
     let made = job();
     (made, now() - start)
 }
+
+/// How many nanoseconds `timed` tells of nothing, on average, as it takes time to read the clock.
+pub fn of_nothing() -> u64 {
+    (0..1_000).map(|_| timed(|| ()).1).sum::<u64>() / 1_000
+}

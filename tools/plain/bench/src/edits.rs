@@ -145,6 +145,7 @@ pub fn run(count: usize, rounds: usize) {
         root = desk.tree.root;
     }
     turns.iter().for_each(Turn::print);
+    println!("the last root is {}", cid::text(&root));
     for size in [1, 10, 100, 1_000, 10_000] {
         let mut turn = Turn::of("put", size);
         for _ in 0..rounds {
@@ -153,5 +154,4 @@ pub fn run(count: usize, rounds: usize) {
         }
         turn.print();
     }
-    println!("the last root is {}", cid::text(&root));
 }

@@ -12,6 +12,7 @@ mod clock;
 mod commit;
 mod edits;
 mod events;
+mod exports;
 mod made;
 mod messages;
 mod node;
@@ -21,17 +22,24 @@ mod repository;
 #[path = "../../export/src/sha256.rs"]
 mod sha256;
 mod shards;
+mod trees;
 
-use std::env;
+use std::{env, io};
 
-fn main() {
+const USAGE: &str = "usage: bench-baseline build|get|edit|apply|export|messages WORD.., as bench";
+
+fn main() -> io::Result<()> {
     let words: Vec<String> = env::args().skip(1).collect();
-    let words: Vec<&str> = words.iter().map(String::as_str).collect();
-    let number = |word: &str| word.parse::<usize>().expect("a number");
-    match words[..] {
-        ["edit", count, rounds] => edits::run(number(count), number(rounds)),
-        ["apply", count, size, rounds] => repositories::run(number(count), number(size), number(rounds)),
-        ["messages", count, rounds] => messages::run(number(count), number(rounds)),
-        _ => panic!("usage: bench-baseline edit COUNT ROUNDS"),
+    let (name, rest) = words.split_first().expect(USAGE);
+    let numbers: Vec<usize> = rest.iter().map(|word| word.parse().expect(USAGE)).collect();
+    match (&name[..], &numbers[..]) {
+        ("build", [rounds]) => trees::run_build(*rounds)?,
+        ("get", [count, rounds]) => trees::run_get(*count, *rounds),
+        ("edit", [count, rounds]) => edits::run(*count, *rounds),
+        ("apply", [count, size, rounds]) => repositories::run(*count, *size, *rounds),
+        ("export", [count, rounds]) => exports::run(*count, *rounds),
+        ("messages", [count, rounds]) => messages::run(*count, *rounds),
+        _ => panic!("{USAGE}"),
     }
+    Ok(())
 }
