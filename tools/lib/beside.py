@@ -25,23 +25,23 @@ class Figure:
     line: str
     scale: int = 1
     aim: float | None = None
-    hashing: str = r".* (\d+) its hashing alone"
+    hashing: str | None = r".* (\d+) its hashing alone"
 
     def of(self, text: str) -> int | None:
         found = re.search(f"^{self.line}", text, re.M)
         return self.scale * int(found[1]) if found else None
 
     def hashing_of(self, text: str) -> int | None:
-        found = re.search(f"^{self.line}{self.hashing}", text, re.M)
+        found = re.search(f"^{self.line}{self.hashing}", text, re.M) if self.hashing else None
         return self.scale * int(found[2]) if found else None
 
 
 @dataclass(frozen=True)
 class Job:
-    """Words of `bench`, with the counts before the rounds, its input, the name of the plain program, which takes the same words, what
-    both must write alike, and the figures."""
+    """A job of `bench`, its counts and its rounds, the name of the plain program, which takes the same words, what both must write
+    alike, the figures, the input, if there is one, of so many lines as the first count says, and what it is of."""
 
-    words: tuple[str, ...]
+    word: str
     counts: tuple[int, ...]
     rounds: int
     plain: str
@@ -51,12 +51,13 @@ class Job:
     about: str = ""
 
     @property
-    def told(self) -> list[str]:
-        return [*self.words, *map(str, self.counts if not self.given else ()), str(self.rounds)]
+    def name(self) -> str:
+        return "-".join([self.word, *map(str, self.counts[1:])])
 
     @property
-    def command(self) -> str:
-        return f'make bench ARGS="{" ".join(self.told)}"'
+    def told(self) -> list[str]:
+        """The words that both programs are given; the count of a job with an input is that of its lines."""
+        return [self.word, *map(str, () if self.given else self.counts), str(self.rounds)]
 
     def smaller(self, by: int) -> "Job":
         """The same job with counts that are so many times smaller, and one round."""
@@ -86,7 +87,7 @@ class Measured:
         own, hashing, plain = self.own or 0, self.hashing, self.plain or 0
         of_hashing = [shown(hashing), ratio(own, hashing)] if hashing else ["", ""]
         aim = f"{self.figure.aim:g}" if self.figure.aim else ""
-        return [self.figure.name, f"`{self.job.command}`", shown(own), *of_hashing, shown(plain), ratio(own, plain), aim, self.job.about]
+        return [self.figure.name, f'`make bench ARGS="--only {self.job.name}"`', shown(own), *of_hashing, shown(plain), ratio(own, plain), aim, self.job.about]
 
     def line(self) -> str:
         """In a line, for who waits for it."""
@@ -140,45 +141,52 @@ def measure(job: Job, bench: str, plain: str, turns: int) -> list[Measured]:
     return measured
 
 
-KEYS, WRITES = r"^\d+ keys, .* \d+ a batch$|^the last commit is .*$", r"(\d+) ns a write at the least"
-EDITS = r"^.* at once: \d+ edits, \d+ blocks read, \d+ added, \d+ dropped|^the last root is .*$"
+TREE, LOOK_UP = r"\d+ keys, \d+ nodes, (\d+) microseconds", r".* (\d+) ns a look-up at the least"
+EDIT, WRITE = r" at once: .* (\d+) ns an edit at the least", r": (\d+) ns a write at the least"
+CAR, PROOF = r"\d+ keys, a CAR of \d+ bytes, (\d+) microseconds", r"\d+ proofs of \d+ nodes, each (\d+) ns to prove"
+VERDICT, DIGESTS = r"\d+ proofs of \d+ nodes, each \d+ ns to prove and (\d+) ns to verify at the least", r", (\d+) ns its digests alone"
+WRITTEN, CHECKED = r"a message: (\d+) ns to write", r"a message: \d+ ns to write, (\d+) ns to check"
+COMPARED = r"\d+ changes, \d+ nodes come, \d+ go, \d+ reads, (\d+) ns at the least"
+
+SAME_EDITS = r"^.* at once: \d+ edits, \d+ blocks read, \d+ added, \d+ dropped|^the last root is .*$"
+SAME_WRITES = r"^\d+ keys, .* \d+ a batch$|^the last commit is .*$"
+SAME_EXPORT = r"^\d+ keys, a CAR of \d+ bytes|^\d+ proofs of \d+ nodes"
 # All messages are taken.
-IN_ALL = r"^\d+ keys, (\d+) messages of \d+ bytes in all, \1 taken, .*$"
+SAME_MESSAGES = r"^\d+ keys, (\d+) messages of \d+ bytes in all, \1 taken, .*$"
+
+
+def listings(count: int) -> bytes:
+    return two_listings(Random(7), count, 100)
+
+
 JOBS = (
-    Job(("build",), (100_000,), 15, "bench", r"^\d+ keys, \d+ nodes", (Figure("a tree from scratch", r"\d+ keys, \d+ nodes, (\d+) microseconds", 1_000, 0.8),), listing, "100,000 keys"),
-    Job(("get",), (100_000,), 20, "bench", r"^.* reads in all", (Figure("a look-up", r".* (\d+) ns a look-up", aim=1.2),), about="100,000 keys"),
+    Job("build", (100_000,), 15, "bench", r"^\d+ keys, \d+ nodes", (Figure("a tree from scratch", TREE, 1_000, 0.8),), listing, "100,000 keys"),
+    Job("get", (100_000,), 20, "bench", r"^.* reads in all", (Figure("a look-up", LOOK_UP, aim=1.2),), None, "100,000 keys"),
     Job(
-        ("edit",), (10_000,), 3, "bench", EDITS,
-        (
-            Figure("a put", r"put, 1 at once: .* (\d+) ns an edit at the least", aim=1.1),
-            Figure("a delete", r"delete of a first key, 1 at once: .* (\d+) ns an edit at the least", aim=1.1),
-            Figure("a put, a hundred at once", r"put, 100 at once: .* (\d+) ns an edit at the least"),
-        ),
-        about="10,000 keys, the table of nodes an ordered map",
-    ),
-    Job(("apply",), (10_000, 1), 3, "bench", KEYS, (Figure("a put in a repository", f"put: {WRITES}", aim=1.2), Figure("a delete there", f"delete: {WRITES}", aim=1.2)),
-        about="10,000 keys, a commit a write; the plain program goes along the path of the key"),
-    Job(("apply",), (10_000, 100), 5, "bench", KEYS, (Figure("a put there, a hundred a batch", f"put: {WRITES}", aim=1.2),), about="10,000 keys"),
-    Job(
-        ("export",), (100_000,), 5, "bench", r"^\d+ keys, a CAR of \d+ bytes|^\d+ proofs of \d+ nodes",
-        (
-            Figure("a repository's CAR", r"\d+ keys, a CAR of \d+ bytes, (\d+) microseconds", 1_000, 1.3),
-            Figure("a proof of a key", r"\d+ proofs of \d+ nodes, each (\d+) ns to prove", aim=1.5),
-            Figure("verifying a key", r"\d+ proofs of \d+ nodes, each \d+ ns to prove and (\d+) ns to verify", aim=1.3, hashing=r" at the least, (\d+) ns its digests alone"),
-        ),
-        about="100,000 keys with records of 288 bytes",
+        "edit", (10_000,), 3, "bench", SAME_EDITS,
+        (Figure("a put", f"put, 1{EDIT}", aim=1.1), Figure("a delete", f"delete of a first key, 1{EDIT}", aim=1.1),
+         Figure("a put, a hundred at once", f"put, 100{EDIT}")),
+        None, "10,000 keys, the table of nodes an ordered map",
     ),
     Job(
-        ("messages",), (100_000,), 3, "bench", IN_ALL,
-        (
-            Figure("a message of one put written", r"a message: (\d+) ns to write", aim=1.3, hashing=r", \d+ ns to check, (\d+) ns to hash"),
-            Figure("a message of one put checked", r"a message: \d+ ns to write, (\d+) ns to check", aim=1.2, hashing=r", (\d+) ns to hash"),
-        ),
-        about="into 100,000 keys; its hashing is that of all its bytes",
+        "apply", (10_000, 1), 3, "bench", SAME_WRITES,
+        (Figure("a put in a repository", f"put{WRITE}", aim=1.2), Figure("a delete there", f"delete{WRITE}", aim=1.2)),
+        None, "10,000 keys, a commit a write; the plain program goes along the path of the key",
+    ),
+    Job("apply", (10_000, 100), 5, "bench", SAME_WRITES, (Figure("a put there, a hundred a batch", f"put{WRITE}", aim=1.2),), None, "10,000 keys"),
+    Job(
+        "export", (100_000,), 5, "bench", SAME_EXPORT,
+        (Figure("a repository's CAR", CAR, 1_000, 1.3), Figure("a proof of a key", PROOF, aim=1.5), Figure("verifying a key", VERDICT, 1, 1.3, DIGESTS)),
+        None, "100,000 keys with records of 288 bytes",
     ),
     Job(
-        ("difference",), (10_000,), 20, "difference", r"^\d+ changes, \d+ nodes come, \d+ go",
-        (Figure("the difference of two trees", r"\d+ changes, .* (\d+) ns at the least", aim=1),), lambda count: two_listings(Random(7), count, 100), "10,000 keys, 100 changes",
+        "messages", (100_000,), 3, "bench", SAME_MESSAGES,
+        (Figure("a message of one put written", WRITTEN, 1, 1.3, None), Figure("a message of one put checked", CHECKED, 1, 1.2, r", (\d+) ns to hash")),
+        None, "into 100,000 keys; the hashing is that of all bytes of the message",
+    ),
+    Job(
+        "difference", (10_000,), 20, "difference", r"^\d+ changes, \d+ nodes come, \d+ go", (Figure("the difference of two trees", COMPARED, aim=1),),
+        listings, "10,000 keys, 100 changes",
     ),
 )
-MESSAGES = next(it for it in JOBS if it.words == ("messages",))
+MESSAGES = next(it for it in JOBS if it.word == "messages")

@@ -121,8 +121,36 @@ fn push_op(out: &mut Vec<u8>, op: &Op<'_>) {
     push_text(out, op.action().expect("a change"));
 }
 
+/// How the nodes are found that undoing reads.
+#[derive(Clone, Copy)]
+pub enum Undoing {
+    /// They are read, and nothing is made.
+    Read,
+    /// The put is undone, and each node that this makes is hashed.
+    Whole,
+}
+
+type Nodes<'r> = Vec<(Cid, &'r [u8])>;
+
+impl Undoing {
+    /// The value of a key, and the nodes that deleting it reads.
+    fn nodes<'r>(self, repository: &'r Repository<'_>, key: &[u8]) -> Result<Option<(Cid, Nodes<'r>)>, Fault> {
+        match self {
+            Undoing::Read => paths::read_by_delete(&repository.blocks, &repository.tree.root, key),
+            Undoing::Whole => {
+                let Some((_, edit)) = paths::delete(&repository.blocks, repository.tree, key)? else {
+                    return Ok(None);
+                };
+                let nodes = edit.read.iter().map(|cid| Ok((*cid, repository.blocks.node(cid)?)));
+                Ok(edit.previous.zip(nodes.collect::<Result<_, Fault>>().ok()))
+            }
+        }
+    }
+}
+
 /// The message of a repository's last batch, of one change, which led to it from this root.
-pub fn written(repository: &Repository<'_>, before: &Cid, op: &Op<'_>, told: &Told<'_>) -> Result<Vec<u8>, Fault> {
+#[inline(never)]
+pub fn written(repository: &Repository<'_>, before: &Cid, op: &Op<'_>, told: &Told<'_>, undoing: Undoing) -> Result<Vec<u8>, Fault> {
     let stamp = repository.stamps.last().ok_or("NoBatch")?;
     if told.seq >= 1 << 63 {
         return Err("BadSeq");
@@ -140,7 +168,7 @@ pub fn written(repository: &Repository<'_>, before: &Cid, op: &Op<'_>, told: &To
     for op in ops {
         // Who takes a message undoes a put by a delete; no message of another change is made here.
         let after = op.after.ok_or("NotAPut")?;
-        let (value, nodes) = paths::read_by_delete(&repository.blocks, root, op.key)?.ok_or("OtherValue")?;
+        let (value, nodes) = undoing.nodes(repository, op.key)?.ok_or("OtherValue")?;
         if value != after {
             return Err("OtherValue");
         }
@@ -358,6 +386,7 @@ impl Given<'_> {
 }
 
 /// The root after a message that is true of the repository that had this root before; its fault else.
+#[inline(never)]
 pub fn checked(previous: &Cid, message: &[u8]) -> Result<Cid, Fault> {
     if message.len() > MOST_BYTES {
         return Err("MessageSize");

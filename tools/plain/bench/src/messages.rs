@@ -2,7 +2,7 @@
 
 use crate::cid::{self, Cid};
 use crate::clock::{of_nothing, timed};
-use crate::events::{Op, Told, checked, written};
+use crate::events::{Op, Told, Undoing, checked, written};
 use crate::made::{Plan, tid};
 use crate::repositories::Desk;
 use crate::shards::Shards;
@@ -13,12 +13,12 @@ struct Seen {
     bytes: usize,
     taken: usize,
     chain: Cid,
-    took: [u64; 3],
+    took: [u64; 4],
 }
 
 /// Each key of a plan is put by a batch of its own, and the message of it written, checked and hashed.
 fn round(desk: &mut Desk<'_, '_>) -> Seen {
-    let mut seen = Seen { messages: 0, bytes: 0, taken: 0, chain: cid::of(b""), took: [0; 3] };
+    let mut seen = Seen { messages: 0, bytes: 0, taken: 0, chain: cid::of(b""), took: [0; 4] };
     let plan = desk.plan;
     for place in &plan.new {
         let (key, value) = &plan.pairs[*place];
@@ -28,14 +28,16 @@ fn round(desk: &mut Desk<'_, '_>) -> Seen {
         desk.apply_all(batches);
         let op = Op { key, before: None, after: Some(*value) };
         let told = Told { seq: desk.last, time: b"2026-12-01T00:00:00Z", since: Some(&since), sig: &[7; 64] };
-        let (message, to_write) = timed(|| written(&desk.repository, &before, &op, &told).expect("a message"));
+        let (message, to_write) = timed(|| written(&desk.repository, &before, &op, &told, Undoing::Read).expect("a message"));
+        let (same, to_undo) = timed(|| written(&desk.repository, &before, &op, &told, Undoing::Whole));
+        assert!(same.as_deref() == Ok(&message[..]));
         let (verdict, to_check) = timed(|| checked(&before, &message));
         let (digest, to_hash) = timed(|| cid::of(&message));
         seen.messages += 1;
         seen.bytes += message.len();
         seen.taken += usize::from(verdict == Ok(desk.repository.tree.root));
         seen.chain = cid::of(&[seen.chain, digest].concat());
-        for (sum, nanos) in seen.took.iter_mut().zip([to_write, to_check, to_hash]) {
+        for (sum, nanos) in seen.took.iter_mut().zip([to_write, to_check, to_hash, to_undo]) {
             *sum += nanos;
         }
     }
@@ -47,7 +49,7 @@ pub fn run(count: usize, rounds: usize) {
     let shards = Shards::new(1_048_576);
     let mut desk = Desk::open(&shards, &plan);
     desk.change_all(&plan.first, true);
-    let (mut last, mut least, nothing) = (None, [u64::MAX; 3], of_nothing());
+    let (mut last, mut least, nothing) = (None, [u64::MAX; 4], of_nothing());
     for _ in 0..rounds {
         let seen = round(&mut desk);
         desk.change_all(&plan.new, false);
@@ -59,7 +61,8 @@ pub fn run(count: usize, rounds: usize) {
     let Some(Seen { messages, bytes, taken, chain, .. }) = last else {
         return println!("no rounds");
     };
-    let [to_write, to_check, to_hash] = least.map(|nanos| nanos / (messages as u64).max(1));
+    let [to_write, to_check, to_hash, to_undo] = least.map(|nanos| nanos / (messages as u64).max(1));
     println!("{count} keys, {messages} messages of {bytes} bytes in all, {taken} taken, {}", cid::text(&chain));
     println!("a message: {to_write} ns to write, {to_check} ns to check, {to_hash} ns to hash, at the least");
+    println!("{to_undo} ns to write where the put is undone whole");
 }

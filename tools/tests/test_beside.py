@@ -1,0 +1,103 @@
+"""The jobs of the measurements beside a plain program, with programs that write what they are told to."""
+
+import os
+import tempfile
+import unittest
+from collections.abc import Callable
+from dataclasses import replace
+
+from lib.beside import HEADS, JOBS, MESSAGES, Job, Measured, listing, measure, shown, table
+from lib.commands import Stop
+from lib.files import read, text_of, write
+from tests.support import command, program
+
+CHAIN = "bafyreigbtj4x7ip5legnfznufuopl4sg4knzc2cof6duas4b3q2fy6swua"
+
+
+def of_messages(taken: int, to_write: int, to_check: int) -> str:
+    line = f"a message: {to_write} ns to write, {to_check} ns to check, 2000 ns to hash, at the least"
+    return f"100 keys, 25 messages of 900 bytes in all, {taken} taken, {CHAIN}\n{line}\n"
+
+
+class BesideTest(unittest.TestCase):
+    def setUp(self) -> None:
+        room = tempfile.TemporaryDirectory()
+        self.addCleanup(room.cleanup)
+        self.room = room.name
+
+    def saying(self, *texts: str) -> str:
+        """A program that writes these texts, one at each call."""
+        path = f"{self.room}/{len(os.listdir(self.room))}"
+        for at, text in enumerate(texts):
+            write(f"{path}-{at}", text)
+        count = f'at=$(cat {path}-count 2>/dev/null || echo 0); echo $((at + 1)) > {path}-count'
+        return program(path, f"#!/bin/sh\n{count}\nprintf '%s\\n' \"$@\" > {path}-words\ncat > {path}-given\ncat {path}-$at\n")
+
+    def measured(self, job: Job, own: list[str], plain: list[str]) -> list[Measured]:
+        return measure(job, self.saying(*own), self.saying(*plain), len(own))
+
+    def test_the_least_of_all_turns(self) -> None:
+        own = [of_messages(25, 500, 6000), of_messages(25, 400, 8000)]
+        written, checked = self.measured(MESSAGES, own, [of_messages(25, 200, 5000), of_messages(25, 250, 4000)])
+        self.assertEqual((written.own, written.hashing, written.plain, written.turns), (400, None, 200, 2))
+        self.assertEqual((checked.own, checked.hashing, checked.plain), (6000, 2000, 4000))
+        self.assertEqual(checked.line(), "a message of one put checked: 6.0 µs; its hashing alone 2.0 µs, ratio 3.00; plain 4.0 µs, ratio 1.50")
+        self.assertEqual(written.line(), "a message of one put written: 400 ns; plain 200 ns, ratio 2.00")
+
+    def test_both_write_the_same(self) -> None:
+        good = of_messages(25, 500, 6000)
+        for own, plain in ((good, good.replace(CHAIN, CHAIN[::-1])), (of_messages(24, 1, 1), good), (of_messages(24, 1, 1), of_messages(24, 1, 1)), ("refused\n", "refused\n")):
+            with self.assertRaisesRegex(Stop, r"\Amessages 100000 3: the plain program says "):
+                self.measured(MESSAGES, [own], [plain])
+
+    def test_a_line_that_lacks(self) -> None:
+        good = of_messages(25, 500, 6000)
+        with self.assertRaisesRegex(Stop, "the line of a message of one put written isn't there"):
+            self.measured(MESSAGES, [good.partition("\n")[0]], [good])
+
+    def test_own_hashing(self) -> None:
+        writes = "100 keys, 25 writes, 1 a batch\nput: {0} ns a write at the least{1}\ndelete: {0} ns a write at the least{1}\nthe last commit is x\n"
+        job = next(it for it in JOBS if it.name == "apply-1")
+        put, delete = self.measured(job, [writes.format(50, ", 30 by edit alone, 20 its hashing alone")], [writes.format(40, "")])
+        self.assertEqual((put.own, put.hashing, put.plain), (50, 20, 40))
+        self.assertEqual(delete.line(), "a delete there: 50 ns; its hashing alone 20 ns, ratio 2.50; plain 40 ns, ratio 1.25")
+
+    def test_an_input(self) -> None:
+        job = replace(next(it for it in JOBS if it.word == "build"), counts=(20,), rounds=1)
+        text = "20 keys, 7 nodes, 30 microseconds, 20 its hashing alone\n"
+        (built,) = self.measured(job, [text], [text])
+        self.assertEqual((built.own, built.hashing), (30_000, 20_000))
+        words, given = (sorted(it for it in os.listdir(self.room) if it.endswith(end)) for end in ("-words", "-given"))
+        self.assertEqual({read(f"{self.room}/{it}") for it in words}, {"build\n1\n"})
+        self.assertEqual({read(f"{self.room}/{it}") for it in given}, {listing(20).decode()})
+
+    def test_each_job_stands_alone(self) -> None:
+        self.assertEqual(len({it.name for it in JOBS}), len(JOBS))
+        for job in JOBS:
+            small = job.smaller(100)
+            self.assertEqual((small.rounds, len(small.counts)), (1, len(job.counts)))
+            self.assertTrue(all(one <= other for one, other in zip(small.counts, job.counts)), job.name)
+
+    def test_table(self) -> None:
+        self.assertEqual([shown(it) for it in (999, 1_000, 999_949, 2_500_000)], ["999 ns", "1.0 µs", "999.9 µs", "2.5 ms"])
+        found = self.measured(MESSAGES, [of_messages(25, 400, 6000)], [of_messages(25, 200, 5000)])
+        head, rule, *rows = table(found).splitlines()
+        self.assertEqual((head, rule.count("---")), (f"| {' | '.join(HEADS)} |", len(HEADS)))
+        self.assertEqual(rows[0].split(" | ")[1:3], ['`make bench ARGS="--only messages"`', "400 ns"])
+        self.assertEqual({it.count("|") for it in (head, rule, *rows)}, {len(HEADS) + 1})
+
+
+class BenchTest(unittest.TestCase):
+    def with_part(self) -> Callable[[str, str], str]:
+        found: Callable[[str, str], str] = command("bench").with_part
+        return found
+
+    def test_the_page_has_a_place_for_the_table(self) -> None:
+        page = text_of("docs/PERFORMANCE.md")
+        again = self.with_part()(page, "another\n")
+        self.assertIn("<!-- made by tools/bench -->\nanother\n<!-- end -->\n", again)
+        self.assertEqual(again.partition("<!-- made")[0], page.partition("<!-- made")[0])
+
+    def test_a_page_without_one(self) -> None:
+        with self.assertRaisesRegex(Stop, "the lines between which the table stands are gone"):
+            self.with_part()("a page\n", "a table\n")
