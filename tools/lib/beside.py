@@ -1,9 +1,12 @@
 """The jobs of `bench` beside those of a plain program that does the same: what both are given, what both must tell alike, and the
-times in what they write. Each is run in turns, and what counts is the least of all turns.
+times in what they write. Each is run in turns, and what counts is the least of all turns. Instructions are counted by valgrind, in
+the calls that a job is about: those of two rounds without those of one, so that what comes before them falls out.
 """
 
 import os
 import re
+import shutil
+import subprocess
 import tempfile
 from collections.abc import Callable, Iterable
 from dataclasses import dataclass, field, replace
@@ -37,9 +40,26 @@ class Figure:
 
 
 @dataclass(frozen=True)
+class Calls:
+    """What instructions are counted of: the calls by their names in both programs, and a pattern of how many things they did in a round,
+    and how often each; one thing where there is no pattern."""
+
+    name: str
+    own: str
+    plain: str
+    number: str = ""
+    times: int = 1
+
+    def of_round(self, text: str) -> int:
+        found = re.search(self.number, text, re.M) if self.number else None
+        return max(int(found[1]) * self.times if found else 1, 1)
+
+
+@dataclass(frozen=True)
 class Job:
     """A job of `bench`, its counts and its rounds, the name of the plain program, which takes the same words, what both must write
-    alike, the figures, the input, if there is one, of so many lines as the first count says, and what it is of."""
+    alike, the figures, the input, if there is one, of so many lines as the first count says, what it is of, and the calls of which the
+    instructions are counted, with 10,000 keys."""
 
     word: str
     counts: tuple[int, ...]
@@ -49,6 +69,7 @@ class Job:
     figures: tuple[Figure, ...]
     given: Callable[[int], bytes] | None = None
     about: str = ""
+    calls: tuple[Calls, ...] = ()
 
     @property
     def name(self) -> str:
@@ -110,6 +131,26 @@ def table(measured: Iterable[Measured]) -> str:
     return "".join(f"| {' | '.join(row)} |\n".replace("|  |", "| |").replace("|  |", "| |") for row in rows)
 
 
+@dataclass(frozen=True)
+class Counted:
+    """Instructions for each thing that calls did, of the job and of the plain program."""
+
+    calls: Calls
+    own: int
+    plain: int
+
+    def cells(self) -> list[str]:
+        return [self.calls.name, f"{self.own:,}", f"{self.plain:,}", ratio(self.own, self.plain)]
+
+    def line(self) -> str:
+        return f"{self.calls.name}: {self.own:,} instructions; plain {self.plain:,}, ratio {ratio(self.own, self.plain)}"
+
+
+def table_of_counted(counted: Iterable[Counted]) -> str:
+    rows = [["Job", "Instructions", "Plain program", "Ratio"], ["---"] * 4, *(it.cells() for it in counted)]
+    return "".join(f"| {' | '.join(row)} |\n" for row in rows)
+
+
 def listing(count: int) -> bytes:
     """Lines of so many keys and CIDs, in no order."""
     pick = Random(7)
@@ -141,6 +182,38 @@ def measure(job: Job, bench: str, plain: str, turns: int) -> list[Measured]:
     return measured
 
 
+def instructions(calls: str, words: list[str], given: str) -> tuple[int, str]:
+    """How many instructions a program takes in these calls, and what it writes."""
+    if not shutil.which("valgrind"):
+        raise Stop("it needs valgrind: on Debian, apt-get install valgrind", 2)
+    flags = ["--tool=callgrind", "--callgrind-out-file=/dev/null", "--collect-atstart=no", f"--toggle-collect={calls}"]
+    with open(given, "rb") as source:
+        ran = subprocess.run(["valgrind", *flags, *words], stdin=source, capture_output=True, text=True)
+    found = re.search(r"Collected : (\d+)", ran.stderr)
+    if ran.returncode or not found:
+        raise Stop(f"valgrind {' '.join(words)} ends with status {ran.returncode}")
+    return int(found[1]), ran.stdout
+
+
+def counted(job: Job, bench: str, plain: str) -> list[Counted]:
+    """Counts the instructions of a job's calls in both programs, with at most 10,000 keys."""
+    made, job = [], replace(job, counts=tuple(min(it, 10_000) for it in job.counts))
+    with tempfile.NamedTemporaryFile(prefix="given-") as file:
+        if job.given:
+            Path(file.name).write_bytes(job.given(job.counts[0]))
+        given = file.name if job.given else os.devnull
+        for calls in job.calls:
+            each = []
+            for program, name, own in ((bench, calls.own, True), (plain, calls.plain, False)):
+                some = [replace(job, rounds=rounds).told for rounds in (1, 2)]
+                (one, text), (two, _) = (instructions(name, [program, *(words if own or job.plain == "bench" else words[1:])], given) for words in some)
+                if two <= one:
+                    raise Stop(f"{job.name}: there are no calls of {name}")
+                each.append((two - one) // calls.of_round(text))
+            made.append(Counted(calls, each[0], each[1]))
+    return made
+
+
 TREE, LOOK_UP = r"\d+ keys, \d+ nodes, (\d+) microseconds", r".* (\d+) ns a look-up at the least"
 EDIT, WRITE = r" at once: .* (\d+) ns an edit at the least", r": (\d+) ns a write at the least"
 CAR, PROOF = r"\d+ keys, a CAR of \d+ bytes, (\d+) microseconds", r"\d+ proofs of \d+ nodes, each (\d+) ns to prove"
@@ -161,19 +234,25 @@ def listings(count: int) -> bytes:
 
 JOBS = (
     Job("build", (100_000,), 15, "bench", r"^\d+ keys, \d+ nodes", (Figure("a tree from scratch", TREE, 1_000, 0.8),), listing, "100,000 keys"),
-    Job("get", (100_000,), 20, "bench", r"^.* reads in all", (Figure("a look-up", LOOK_UP, aim=1.2),), None, "100,000 keys"),
+    Job("get", (100_000,), 20, "bench", r"^.* reads in all", (Figure("a look-up", LOOK_UP, aim=1.2),), None, "100,000 keys, the table of nodes an ordered map",
+        (Calls("a look-up", "bench::look_ups::count*", "*trees::looked_up*", r"\d+ of (\d+) found"),)),
     Job(
         "edit", (10_000,), 3, "bench", SAME_EDITS,
         (Figure("a put", f"put, 1{EDIT}", aim=1.1), Figure("a delete", f"delete of a first key, 1{EDIT}", aim=1.1),
          Figure("a put, a hundred at once", f"put, 100{EDIT}")),
         None, "10,000 keys, the table of nodes an ordered map",
+        (Calls("a put or a delete", "bench::edits::Tree::time*", "*Desk::one_by_one*", r"^put, 1 at once: (\d+) edits", 3),),
     ),
     Job(
         "apply", (10_000, 1), 3, "bench", SAME_WRITES,
         (Figure("a put in a repository", f"put{WRITE}", aim=1.2), Figure("a delete there", f"delete{WRITE}", aim=1.2)),
         None, "10,000 keys, a commit a write; the plain program goes along the path of the key",
+        (Calls("a put or a delete in a repository", "bench::desks::Desk::apply_all*", "*Desk::apply_all*", r"(\d+) writes", 2),),
     ),
-    Job("apply", (10_000, 100), 5, "bench", SAME_WRITES, (Figure("a put there, a hundred a batch", f"put{WRITE}", aim=1.2),), None, "10,000 keys"),
+    Job(
+        "apply", (10_000, 100), 5, "bench", SAME_WRITES, (Figure("a put there, a hundred a batch", f"put{WRITE}", aim=1.2),), None, "10,000 keys",
+        (Calls("the same, a hundred a batch", "bench::desks::Desk::apply_all*", "*Desk::apply_all*", r"(\d+) writes", 2),),
+    ),
     Job(
         "export", (100_000,), 5, "bench", SAME_EXPORT,
         (Figure("a repository's CAR", CAR, 1_000, 1.3), Figure("a proof of a key", PROOF, aim=1.5), Figure("verifying a key", VERDICT, 1, 1.3, DIGESTS)),
@@ -183,10 +262,13 @@ JOBS = (
         "messages", (100_000,), 3, "bench", SAME_MESSAGES,
         (Figure("a message of one put written", WRITTEN, 1, 1.3, None), Figure("a message of one put checked", CHECKED, 1, 1.2, r", (\d+) ns to hash")),
         None, "into 100,000 keys; the hashing is that of all bytes of the message",
+        (Calls("a message of one put written", "bench::messages::written*", "*events::written*", r"(\d+) messages"),
+         Calls("a message of one put checked", "bench::messages::leads_to*", "*events::checked*", r"(\d+) messages")),
     ),
     Job(
         "difference", (10_000,), 20, "difference", r"^\d+ changes, \d+ nodes come, \d+ go", (Figure("the difference of two trees", COMPARED, aim=1),),
         listings, "10,000 keys, 100 changes",
+        (Calls("the difference of two trees", "bench::differences::compare*", "difference_baseline::compare*"),),
     ),
 )
 MESSAGES = next(it for it in JOBS if it.word == "messages")

@@ -3,10 +3,10 @@
 import os
 import tempfile
 import unittest
-from collections.abc import Callable
+import unittest.mock
 from dataclasses import replace
 
-from lib.beside import HEADS, JOBS, MESSAGES, Job, Measured, listing, measure, shown, table
+from lib.beside import HEADS, JOBS, MESSAGES, Calls, Job, Measured, counted, listing, measure, shown, table, table_of_counted
 from lib.commands import Stop
 from lib.files import read, text_of, write
 from tests.support import command, program
@@ -87,17 +87,38 @@ class BesideTest(unittest.TestCase):
         self.assertEqual({it.count("|") for it in (head, rule, *rows)}, {len(HEADS) + 1})
 
 
-class BenchTest(unittest.TestCase):
-    def with_part(self) -> Callable[[str, str], str]:
-        found: Callable[[str, str], str] = command("bench").with_part
-        return found
+    def counted(self, job: Job, counts: str) -> list[str]:
+        """What is told of instructions where valgrind counts as this text of a shell says."""
+        program(f"{self.room}/valgrind", f"#!/bin/sh\nfor it; do last=$it; done\nshift 4\n\"$@\"\n{counts}\n")
+        texts = [of_messages(25, 500, 6000)] * 4
+        with unittest.mock.patch.dict(os.environ, {"PATH": f"{self.room}:{os.environ['PATH']}"}):
+            return [it.line() for it in counted(job, self.saying(*texts), self.saying(*texts))]
 
-    def test_the_page_has_a_place_for_the_table(self) -> None:
-        page = text_of("docs/PERFORMANCE.md")
-        again = self.with_part()(page, "another\n")
-        self.assertIn("<!-- made by tools/bench -->\nanother\n<!-- end -->\n", again)
-        self.assertEqual(again.partition("<!-- made")[0], page.partition("<!-- made")[0])
+    def test_instructions(self) -> None:
+        lines = self.counted(MESSAGES, 'echo "==7== Collected : $((last * 2500 + 100000))" >&2')
+        self.assertEqual(lines, [f"a message of one put {it}: 100 instructions; plain 100, ratio 1.00" for it in ("written", "checked")])
+        calls = Calls("a thing", "a", "b", r"(\d+) messages", 2)
+        self.assertEqual((calls.of_round("7 messages"), replace(calls, number="").of_round("7 messages")), (14, 1))
+
+    def test_calls_that_are_not_there(self) -> None:
+        with self.assertRaisesRegex(Stop, r"\Amessages: there are no calls of bench::messages::written\*\Z"):
+            self.counted(MESSAGES, 'echo "==7== Collected : 0" >&2')
+        with self.assertRaisesRegex(Stop, r"\Avalgrind .* ends with status 3\Z"):
+            self.counted(MESSAGES, "exit 3")
+
+    def test_table_of_instructions(self) -> None:
+        head, rule, *rows = table_of_counted([]).splitlines()
+        self.assertEqual((head.count("|"), rule.count("|"), rows), (5, 5, []))
+
+
+class BenchTest(unittest.TestCase):
+    def test_the_page_has_places_for_the_tables(self) -> None:
+        page, bench = text_of("docs/PERFORMANCE.md"), command("bench")
+        for begin in (bench.TIMES, bench.INSTRUCTIONS):
+            again = bench.with_part(page, begin, "another\n")
+            self.assertIn(f"{begin}another\n<!-- end -->\n", again)
+            self.assertEqual(again.partition(begin)[0], page.partition(begin)[0])
 
     def test_a_page_without_one(self) -> None:
         with self.assertRaisesRegex(Stop, "the lines between which the table stands are gone"):
-            self.with_part()("a page\n", "a table\n")
+            command("bench").with_part("a page\n", "a line\n", "a table\n")

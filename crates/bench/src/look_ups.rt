@@ -45,7 +45,9 @@ pub fn measure<R: CpuClock>(
     Some(measured)
 }
 
-/// Looks up the pairs at these places, and counts those that have their values.
+/// Looks up the pairs at these places, and counts those that have their values. It is a call of its own, so that its instructions
+/// can be counted.
+#[inline(never)]
 fn count(
     map: &mut BlockMap<'_, Sha256>,
     root: Cid,

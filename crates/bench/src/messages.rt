@@ -9,6 +9,7 @@ use cid::{Cid, Sha256};
 use commit_events::check_commit;
 use event_writing::{Told, commit_event};
 use key_changes::{KeyChange, are_key_changes};
+use repo::Core;
 use std::alloc::{AllocError, Global};
 use std::sync::Wait;
 use std::time::CpuClock;
@@ -78,7 +79,7 @@ impl Messages {
             after: Some(*value),
         }];
         let (before, since) = (desk.core.root(), made::letters(desk.last));
-        if !are_key_changes(&changes) || !desk.change_all(alloc, plan, Change::Put, &[place]) {
+        if !desk.change_all(alloc, plan, Change::Put, &[place]) {
             return None;
         }
         let told = Told {
@@ -88,14 +89,10 @@ impl Messages {
             sig: &[7; 64],
         };
         let meter = Meter::start(rt);
-        let written = commit_event::<Sha256, 2, _>(alloc, desk.core, before, &changes, &told);
+        let written = written(alloc, desk.core, before, &changes, &told);
         self.write = self.write.saturating_add(meter.nanos(rt));
-        match written {
-            Ok(message) => self
-                .check(rt, alloc, before, desk.core.root(), &message)
-                .ok(),
-            Err(_) => None,
-        }
+        self.check(rt, alloc, before, desk.core.root(), &written?)
+            .ok()
     }
 
     /// Checks a message from this root to that, and hashes it.
@@ -123,7 +120,23 @@ impl Messages {
     }
 }
 
-/// Whether a message is taken from this root, and leads to that.
+/// The message of a batch, if there is one. It is a call of its own, so that its instructions can be counted.
+#[inline(never)]
+fn written(
+    alloc: Global,
+    core: &Core<Sha256, 2>,
+    before: Cid,
+    changes: &[KeyChange<'_>],
+    told: &Told<'_>,
+) -> Option<Vec<u8>> {
+    if !are_key_changes(changes) {
+        return None;
+    }
+    commit_event::<Sha256, 2, _>(alloc, core, before, changes, told).ok()
+}
+
+/// Whether a message is taken from this root, and leads to that. It is a call of its own, so that its instructions can be counted.
+#[inline(never)]
 fn leads_to(alloc: Global, before: Cid, after: Cid, message: &[u8]) -> bool {
     match check_commit::<Sha256, 2, _>(alloc, before, message) {
         Ok(checked) => checked.commit.root.to_cid() == after,

@@ -8,7 +8,7 @@ use crate::made::Plan;
 use crate::paths::{self, Source, Tree};
 use std::collections::BTreeMap;
 
-type Nodes = BTreeMap<Cid, Box<[u8]>>;
+pub type Nodes = BTreeMap<Cid, Box<[u8]>>;
 
 impl Source for Nodes {
     fn node(&self, cid: &Cid) -> Result<&[u8], &'static str> {
@@ -62,6 +62,7 @@ impl Desk {
     }
 
     /// Puts or deletes the pairs at these places, one by one.
+    #[inline(never)]
     fn one_by_one(&mut self, plan: &Plan, places: &[usize], is_put: bool) -> Done {
         let mut done = Done::default();
         for place in places {
@@ -81,6 +82,7 @@ impl Desk {
     }
 
     /// Puts the pairs at these places, so many at once.
+    #[inline(never)]
     fn at_once(&mut self, plan: &Plan, places: &[usize], size: usize) -> Done {
         let mut done = Done::default();
         for some in places.chunks(size) {

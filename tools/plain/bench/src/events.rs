@@ -123,7 +123,7 @@ fn push_op(out: &mut Vec<u8>, op: &Op<'_>) {
 
 /// How the nodes are found that undoing reads.
 #[derive(Clone, Copy)]
-pub enum Undoing {
+enum Undoing {
     /// They are read, and nothing is made.
     Read,
     /// The put is undone, and each node that this makes is hashed.
@@ -150,7 +150,18 @@ impl Undoing {
 
 /// The message of a repository's last batch, of one change, which led to it from this root.
 #[inline(never)]
-pub fn written(repository: &Repository<'_>, before: &Cid, op: &Op<'_>, told: &Told<'_>, undoing: Undoing) -> Result<Vec<u8>, Fault> {
+pub fn written(repository: &Repository<'_>, before: &Cid, op: &Op<'_>, told: &Told<'_>) -> Result<Vec<u8>, Fault> {
+    message(repository, before, op, told, Undoing::Read)
+}
+
+/// The same, by undoing the change whole.
+#[inline(never)]
+pub fn undone_and_written(repository: &Repository<'_>, before: &Cid, op: &Op<'_>, told: &Told<'_>) -> Result<Vec<u8>, Fault> {
+    message(repository, before, op, told, Undoing::Whole)
+}
+
+#[inline(always)]
+fn message(repository: &Repository<'_>, before: &Cid, op: &Op<'_>, told: &Told<'_>, undoing: Undoing) -> Result<Vec<u8>, Fault> {
     let stamp = repository.stamps.last().ok_or("NoBatch")?;
     if told.seq >= 1 << 63 {
         return Err("BadSeq");

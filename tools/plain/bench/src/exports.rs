@@ -18,8 +18,9 @@ struct Car<'a> {
 }
 
 impl Car<'_> {
-    fn push(&mut self, cid: &Cid, block: &[u8]) {
-        if self.seen.insert(*cid) {
+    /// A block that is used once comes once.
+    fn push(&mut self, cid: &Cid, block: &[u8], uses: u32) {
+        if uses < 2 || self.seen.insert(*cid) {
             let mut length = 36 + block.len();
             while length >= 128 {
                 self.out.push(length as u8 | 128);
@@ -33,14 +34,15 @@ impl Car<'_> {
 
     fn below(&mut self, node: &Cid) {
         let repository = self.repository;
-        let block = repository.blocks.node(node).expect("a node of the tree");
-        self.push(node, block);
+        let (block, uses) = repository.blocks.used(node).expect("a node of the tree");
+        self.push(node, block, uses);
         if let Some(left) = left(block) {
             self.below(&left);
         }
         for entry in entries(block) {
             let value = entry.value(block);
-            self.push(&value, repository.blocks.get(&value).expect("a record of the repository"));
+            let (record, uses) = repository.blocks.used(&value).expect("a record of the repository");
+            self.push(&value, record, uses);
             if let Some(tree) = entry.tree(block) {
                 self.below(&tree);
             }
@@ -55,9 +57,8 @@ fn car(repository: &Repository<'_>, mut out: Vec<u8>) -> Vec<u8> {
     out.extend_from_slice(b"\x3a\xa2\x65roots\x81\xd8\x2a\x58\x25\x00");
     out.extend_from_slice(&commit);
     out.extend_from_slice(b"\x67version\x01");
-    let seen = HashSet::with_capacity_and_hasher(repository.blocks.len(), BuildHasherDefault::default());
-    let mut car = Car { repository, out, seen };
-    car.push(&commit, repository.blocks.get(&commit).expect("the commit"));
+    let mut car = Car { repository, out, seen: HashSet::default() };
+    car.push(&commit, repository.blocks.get(&commit).expect("the commit"), 1);
     car.below(&repository.tree.root);
     car.out
 }

@@ -2,7 +2,7 @@
 
 use crate::cid::{self, Cid};
 use crate::clock::{of_nothing, timed};
-use crate::events::{Op, Told, Undoing, checked, written};
+use crate::events::{Op, Told, checked, undone_and_written, written};
 use crate::made::{Plan, tid};
 use crate::repositories::Desk;
 use crate::shards::Shards;
@@ -28,8 +28,8 @@ fn round(desk: &mut Desk<'_, '_>) -> Seen {
         desk.apply_all(batches);
         let op = Op { key, before: None, after: Some(*value) };
         let told = Told { seq: desk.last, time: b"2026-12-01T00:00:00Z", since: Some(&since), sig: &[7; 64] };
-        let (message, to_write) = timed(|| written(&desk.repository, &before, &op, &told, Undoing::Read).expect("a message"));
-        let (same, to_undo) = timed(|| written(&desk.repository, &before, &op, &told, Undoing::Whole));
+        let (message, to_write) = timed(|| written(&desk.repository, &before, &op, &told).expect("a message"));
+        let (same, to_undo) = timed(|| undone_and_written(&desk.repository, &before, &op, &told));
         assert!(same.as_deref() == Ok(&message[..]));
         let (verdict, to_check) = timed(|| checked(&before, &message));
         let (digest, to_hash) = timed(|| cid::of(&message));

@@ -29,6 +29,7 @@ impl<'s, 'p> Desk<'s, 'p> {
         places.chunks(size).map(batch).collect()
     }
 
+    #[inline(never)]
     pub fn apply_all(&mut self, batches: Vec<(Stamp, Vec<Write>)>) {
         for (stamp, writes) in batches {
             self.repository.apply(stamp, writes).expect("a lawful batch");

@@ -43,8 +43,9 @@ impl Blocks {
         self.0.get(cid).map(|(block, _)| block)
     }
 
-    pub fn len(&self) -> usize {
-        self.0.len()
+    /// A block, and how often the repository uses it.
+    pub fn used(&self, cid: &Cid) -> Option<(&Block, u32)> {
+        self.0.get(cid).map(|(block, uses)| (block, *uses))
     }
 }
 

@@ -1,22 +1,14 @@
-//! `build ROUNDS` and `get COUNT ROUNDS`: the tree of a listing, and look-ups in a tree in memory.
+//! `build ROUNDS` and `get COUNT ROUNDS`: the tree of a listing, and look-ups in a tree in memory, whose nodes stand in an ordered map.
 
 use crate::build::build;
-use crate::cid::{self, Cid, OfDigest};
+use crate::cid::{self, Cid};
 use crate::clock::timed;
+use crate::edits::Nodes;
 use crate::made::{in_no_order, keys};
-use crate::paths::{Source, get};
-use std::collections::HashMap;
-use std::hash::BuildHasherDefault;
+use crate::paths::get;
 use std::io::{self, Read};
 
 type Pairs = Vec<(Vec<u8>, Cid)>;
-type Nodes = HashMap<Cid, Box<[u8]>, BuildHasherDefault<OfDigest>>;
-
-impl Source for Nodes {
-    fn node(&self, cid: &Cid) -> Result<&[u8], &'static str> {
-        self.get(cid).map(|block| &**block).ok_or("BlockMissing")
-    }
-}
 
 fn cid_in(text: &str) -> Option<Cid> {
     let (mut bits, mut count, mut bytes) = (0u32, 0, Vec::new());
@@ -71,6 +63,16 @@ pub fn run_build(rounds: usize) -> io::Result<()> {
     Ok(())
 }
 
+/// Looks up the pairs at these places; how many have their values, and how many nodes were read.
+#[inline(never)]
+fn looked_up(nodes: &Nodes, root: &Cid, pairs: &Pairs, places: &[usize]) -> (usize, usize) {
+    places.iter().fold((0, 0), |(found, reads), place| {
+        let (key, value) = &pairs[*place];
+        let (there, read) = get(nodes, root, key).expect("a tree");
+        (found + usize::from(there == Some(*value)), reads + read)
+    })
+}
+
 pub fn run_get(count: usize, rounds: usize) {
     let pairs: Pairs = keys(count).into_iter().map(|key| (key.clone(), cid::of(&key))).collect();
     let (root, made) = built(&pairs);
@@ -78,14 +80,9 @@ pub fn run_get(count: usize, rounds: usize) {
     let places: Vec<usize> = in_no_order(count).into_iter().take(10_000).collect();
     let (mut found, mut reads, mut least) = (0, 0, u64::MAX);
     for _ in 0..rounds {
-        let mut look_up = |place: &usize| {
-            let (key, value) = &pairs[*place];
-            let (there, read) = get(&nodes, &root, key).expect("a tree");
-            reads += read;
-            there == Some(*value)
-        };
-        let (those, nanos) = timed(|| places.iter().filter(|place| look_up(place)).count());
-        found = those;
+        let ((there, read), nanos) = timed(|| looked_up(&nodes, &root, &pairs, &places));
+        found = there;
+        reads += read;
         least = least.min(nanos);
     }
     let each = least / (places.len() as u64).max(1);
