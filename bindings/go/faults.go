@@ -123,6 +123,29 @@ var (
 	ErrCidProfile = ofCids.add(5, "CID_PROFILE", "not a CIDv1 of DAG-CBOR with SHA-256")
 )
 
+// Of records as JSON, and of files.
+var (
+	ErrNotJSON      = ofAll.add(60, "NOT_JSON", "the text is not JSON")
+	ErrDoubledKey   = ofAll.add(61, "DOUBLED_KEY", "a key stands twice in an object")
+	ErrJSONFloat    = ofAll.add(62, "JSON_FLOAT", "a number has a point or an exponent")
+	ErrJSONRange    = ofAll.add(63, "JSON_RANGE", "a whole number is outside of -(2^53 - 1) to 2^53 - 1")
+	ErrJSONLink     = ofAll.add(64, "JSON_LINK", "a link holds no CID of version 1 in base 32")
+	ErrJSONBytes    = ofAll.add(65, "JSON_BYTES", "bytes are not in base 64")
+	ErrJSONDollar   = ofAll.add(66, "JSON_DOLLAR", "an object with $link or $bytes has other keys")
+	ErrJSONDepth    = ofAll.add(67, "JSON_DEPTH", "lists and maps lie more than 64 levels deep")
+	ErrJSONNotAMap  = ofAll.add(68, "JSON_NOT_A_MAP", "the value is not a map")
+	ErrNoJSONForm   = ofAll.add(69, "NO_JSON_FORM", "the record has no JSON form")
+	ErrCARHeader    = ofAll.add(70, "CAR_HEADER", "the file does not begin as a CAR with one root")
+	ErrCARLength    = ofAll.add(71, "CAR_LENGTH", "the length of a section is not a number in its shortest form")
+	ErrCARTruncated = ofAll.add(72, "CAR_TRUNCATED", "the file ends within a section")
+	ErrCARCid       = ofAll.add(73, "CAR_CID", "a section does not begin with a CID of a block")
+	ErrMisnamed     = ofAll.add(74, "MISNAMED", "the CID of a section is not that of its block")
+	ErrNoCommit     = ofAll.add(75, "NO_COMMIT", "the root is not in the file")
+	ErrNotACommit   = ofAll.add(76, "NOT_A_COMMIT", "the root is not a signed commit")
+	ErrNotTheTree   = ofAll.add(77, "NOT_THE_TREE", "the file does not have a whole tree under its commit")
+	ErrNoRecord     = ofAll.add(78, "NO_RECORD", "the record is not in the file")
+)
+
 // Of any call.
 var (
 	ErrSmall    = ofAll.add(251, "SMALL", "the room is too small")

@@ -28,11 +28,13 @@ type RecordCode = 'TRUNCATED' | 'LONG_HEAD' | 'INDEFINITE' | 'BAD_TAG' | 'BAD_LI
 type CidCode = 'CID_LENGTH' | 'CID_PREFIX' | 'CID_LETTER' | 'CID_BITS' | 'CID_PROFILE'
 type BatchCode = RecordCode | 'BAD_KEY' | 'NOT_A_MAP' | 'RECORD_SIZE' | 'KEY_EXISTS' | 'NONE' | 'WRITES_FULL' | 'EMPTY_BATCH' | 'BAD_DID' | 'BAD_REV' | 'REV_ORDER'
 type TreeCode = 'MISSING' | 'NOT_ASCENDING' | 'BAD_KEY' | 'BAD_NODE' | 'TOO_MANY_NODES' | 'NOT_BUILT' | 'OTHER_VALUE' | 'OTHER_ROOT' | 'NOT_TREE'
+type JsonCode = 'NOT_JSON' | 'DOUBLED_KEY' | 'JSON_FLOAT' | 'JSON_RANGE' | 'JSON_LINK' | 'JSON_BYTES' | 'JSON_DOLLAR' | 'JSON_DEPTH' | 'JSON_NOT_A_MAP' | 'NO_JSON_FORM'
+type FileCode = 'CAR_HEADER' | 'CAR_LENGTH' | 'CAR_TRUNCATED' | 'CAR_CID' | 'MISNAMED' | 'NO_COMMIT' | 'NOT_A_COMMIT' | 'NOT_THE_TREE' | 'NO_RECORD'
 type RepositoryCode = 'CLOSED' | 'BUSY' | 'CHANGED'
 type AnyCode = 'BAD' | 'CLASH' | 'FULL' | 'NO_MEMORY'
 
 /** A call was refused: `code` as the header names it, `number` as it numbers it. */
-export class TizulgechError<Code extends string = string> extends Error {
+export class TizulgechError<Code extends string = string | JsonCode | FileCode> extends Error {
   constructor(number: number)
   readonly code: Code
   readonly number: number
@@ -154,6 +156,7 @@ export class Repository {
   prove(key: Bytes): Uint8Array[]
   /** What changes make of the repository as it is, and what shows it: ask before they are applied. */
   proveChange(changes: Changes): Promise<ChangeProof>
-  /** The nodes that show that changes, whose keys ascend, undone lead back from the repository as it is. */
+  /** The nodes that show that changes, whose keys ascend, undone lead back from the repository as it is. To who doesn't know that some records
+   * have the root after they say nothing: `proveChange` shows a step. */
   proveInversion(changes: Iterable<Change>): Promise<Uint8Array[]>
 }

@@ -36,6 +36,25 @@ FAULTS: Dict[int, Tuple[str, str]] = {
     33: ("OTHER_VALUE", "a key has another value"),
     34: ("OTHER_ROOT", "the changes lead to another root"),
     35: ("NOT_TREE", "the nodes aren't a tree's"),
+    60: ("NOT_JSON", "the text is not JSON"),
+    61: ("DOUBLED_KEY", "a key stands twice in an object"),
+    62: ("JSON_FLOAT", "a number has a point or an exponent"),
+    63: ("JSON_RANGE", "a whole number is outside of -(2^53 - 1) to 2^53 - 1"),
+    64: ("JSON_LINK", "a link holds no CID of version 1 in base 32"),
+    65: ("JSON_BYTES", "bytes are not in base 64"),
+    66: ("JSON_DOLLAR", "an object with $link or $bytes has other keys"),
+    67: ("JSON_DEPTH", "lists and maps lie more than 64 levels deep"),
+    68: ("JSON_NOT_A_MAP", "the value is not a map"),
+    69: ("NO_JSON_FORM", "the record has no JSON form"),
+    70: ("CAR_HEADER", "the file does not begin as a CAR with one root"),
+    71: ("CAR_LENGTH", "the length of a section is not a number in its shortest form"),
+    72: ("CAR_TRUNCATED", "the file ends within a section"),
+    73: ("CAR_CID", "a section does not begin with a CID of a block"),
+    74: ("MISNAMED", "the CID of a section is not that of its block"),
+    75: ("NO_COMMIT", "the root is not in the file"),
+    76: ("NOT_A_COMMIT", "the root is not a signed commit"),
+    77: ("NOT_THE_TREE", "the file does not have a whole tree under its commit"),
+    78: ("NO_RECORD", "the record is not in the file"),
     249: ("OPEN", "the repository is open already"),
     250: ("CLOSED", "the repository is closed"),
     251: ("SMALL", "the room is too small"),
@@ -79,6 +98,17 @@ class Fault(Exception):
     def __reduce__(self) -> Tuple[Any, ...]:
         # So that another process is told the same.
         return _again, (type(self), str(self)), dict(vars(self))
+
+
+class BadJson(Fault, ValueError):
+    """A text is no record as JSON: NOT_JSON to JSON_NOT_A_MAP. `path` is the way to the first fault, `.key` and `[place]`, and empty where the whole
+    text is faulty. It is a ValueError too."""
+
+    path: str
+
+    def __init__(self, number: int, path: str) -> None:
+        super().__init__(number, sentence=f"{path}: {FAULTS[number][1]}" if path else None)
+        self.path = path
 
 
 class BadCid(Fault, ValueError):

@@ -9,3 +9,8 @@ mod Handing
 mod Knowing
 mod Causes
 mod Going
+mod Listing
+mod Texts
+mod Hosting
+mod Checking
+mod FromFiles
