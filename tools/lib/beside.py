@@ -22,17 +22,21 @@ from lib.plain_programs import ratio, said
 @dataclass(frozen=True)
 class Figure:
     """A time in what a job writes: what it is of, the pattern of its line with the number in it, and how many nanoseconds each is.
-    Where the job tells what its own hashing takes alone that stands behind it."""
+    Where the job tells what its own hashing takes alone that stands behind it. The plain program may have another line."""
 
     name: str
     line: str
     scale: int = 1
     aim: float | None = None
     hashing: str | None = r".* (\d+) its hashing alone"
+    other: str | None = None
 
     def of(self, text: str) -> int | None:
         found = re.search(f"^{self.line}", text, re.M)
         return self.scale * int(found[1]) if found else None
+
+    def of_plain(self, text: str) -> int | None:
+        return replace(self, line=self.other or self.line).of(text)
 
     def hashing_of(self, text: str) -> int | None:
         found = re.search(f"^{self.line}{self.hashing}", text, re.M) if self.hashing else None
@@ -97,7 +101,7 @@ class Measured:
     turns: int = field(default=0)
 
     def take(self, own: str, plain: str) -> None:
-        for name, found in (("own", self.figure.of(own)), ("hashing", self.figure.hashing_of(own)), ("plain", self.figure.of(plain))):
+        for name, found in (("own", self.figure.of(own)), ("hashing", self.figure.hashing_of(own)), ("plain", self.figure.of_plain(plain))):
             before = getattr(self, name)
             setattr(self, name, found if before is None else before if found is None else min(found, before))
         if self.own is None or self.plain is None:
@@ -126,9 +130,14 @@ def shown(nanos: int) -> str:
     return f"{nanos / 1e3:.1f} µs" if nanos < 1_000_000 else f"{nanos / 1e6:.1f} ms"
 
 
+def as_table(heads: list[str], rows: Iterable[list[str]]) -> str:
+    """As Markdown."""
+    lines = ["".join(f"| {it} " if it else "| " for it in row) + "|" for row in (heads, *rows)]
+    return "\n".join([lines[0], "|" + "---|" * len(heads), *lines[1:]]) + "\n"
+
+
 def table(measured: Iterable[Measured]) -> str:
-    rows = [HEADS, ["---"] * len(HEADS), *(it.cells() for it in measured)]
-    return "".join(f"| {' | '.join(row)} |\n".replace("|  |", "| |").replace("|  |", "| |") for row in rows)
+    return as_table(HEADS, (it.cells() for it in measured))
 
 
 @dataclass(frozen=True)
@@ -147,8 +156,7 @@ class Counted:
 
 
 def table_of_counted(counted: Iterable[Counted]) -> str:
-    rows = [["Job", "Instructions", "Plain program", "Ratio"], ["---"] * 4, *(it.cells() for it in counted)]
-    return "".join(f"| {' | '.join(row)} |\n" for row in rows)
+    return as_table(["Job", "Instructions", "Plain program", "Ratio"], (it.cells() for it in counted))
 
 
 def listing(count: int) -> bytes:
@@ -219,6 +227,7 @@ EDIT, WRITE = r" at once: .* (\d+) ns an edit at the least", r": (\d+) ns a writ
 CAR, PROOF = r"\d+ keys, a CAR of \d+ bytes, (\d+) microseconds", r"\d+ proofs of \d+ nodes, each (\d+) ns to prove"
 VERDICT, DIGESTS = r"\d+ proofs of \d+ nodes, each \d+ ns to prove and (\d+) ns to verify at the least", r", (\d+) ns its digests alone"
 WRITTEN, CHECKED = r"a message: (\d+) ns to write", r"a message: \d+ ns to write, (\d+) ns to check"
+UNDONE = r"(\d+) ns to write where the put is undone whole"
 COMPARED = r"\d+ changes, \d+ nodes come, \d+ go, \d+ reads, (\d+) ns at the least"
 
 SAME_EDITS = r"^.* at once: \d+ edits, \d+ blocks read, \d+ added, \d+ dropped|^the last root is .*$"
@@ -260,7 +269,8 @@ JOBS = (
     ),
     Job(
         "messages", (100_000,), 3, "bench", SAME_MESSAGES,
-        (Figure("a message of one put written", WRITTEN, 1, 1.3, None), Figure("a message of one put checked", CHECKED, 1, 1.2, r", (\d+) ns to hash")),
+        (Figure("a message of one put written", WRITTEN, 1, 1.3, None), Figure("the same, beside undoing the put whole", WRITTEN, 1, None, None, UNDONE),
+         Figure("a message of one put checked", CHECKED, 1, 1.2, r", (\d+) ns to hash")),
         None, "into 100,000 keys; the hashing is that of all bytes of the message",
         (Calls("a message of one put written", "bench::messages::written*", "*events::written*", r"(\d+) messages"),
          Calls("a message of one put checked", "bench::messages::leads_to*", "*events::checked*", r"(\d+) messages")),

@@ -16,7 +16,7 @@ CHAIN = "bafyreigbtj4x7ip5legnfznufuopl4sg4knzc2cof6duas4b3q2fy6swua"
 
 def of_messages(taken: int, to_write: int, to_check: int) -> str:
     line = f"a message: {to_write} ns to write, {to_check} ns to check, 2000 ns to hash, at the least"
-    return f"100 keys, 25 messages of 900 bytes in all, {taken} taken, {CHAIN}\n{line}\n"
+    return f"100 keys, 25 messages of 900 bytes in all, {taken} taken, {CHAIN}\n{line}\n300 ns to write where the put is undone whole\n"
 
 
 class BesideTest(unittest.TestCase):
@@ -38,11 +38,12 @@ class BesideTest(unittest.TestCase):
 
     def test_the_least_of_all_turns(self) -> None:
         own = [of_messages(25, 500, 6000), of_messages(25, 400, 8000)]
-        written, checked = self.measured(MESSAGES, own, [of_messages(25, 200, 5000), of_messages(25, 250, 4000)])
+        written, beside, checked = self.measured(MESSAGES, own, [of_messages(25, 200, 5000), of_messages(25, 250, 4000)])
         self.assertEqual((written.own, written.hashing, written.plain, written.turns), (400, None, 200, 2))
         self.assertEqual((checked.own, checked.hashing, checked.plain), (6000, 2000, 4000))
         self.assertEqual(checked.line(), "a message of one put checked: 6.0 µs; its hashing alone 2.0 µs, ratio 3.00; plain 4.0 µs, ratio 1.50")
         self.assertEqual(written.line(), "a message of one put written: 400 ns; plain 200 ns, ratio 2.00")
+        self.assertEqual(beside.line(), "the same, beside undoing the put whole: 400 ns; plain 300 ns, ratio 1.33")
 
     def test_both_write_the_same(self) -> None:
         good = of_messages(25, 500, 6000)
