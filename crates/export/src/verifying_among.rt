@@ -33,13 +33,7 @@ pub fn verify_among<D: Digest, const B: u8, K: AsSlice<u8>, A: Allocator + Clone
         return Ok(Err(ProofFault::KeyLength));
     }
     let cids = cids_of::<D, K, A>(alloc, blocks)?;
-    Ok(value_among::<D, K>(
-        blocks,
-        &cids,
-        *root,
-        key,
-        layers::<B>(),
-    ))
+    Ok(value_among::<D, K>(blocks, &cids, *root, key, layers::<B>()))
 }
 
 /// The CIDs of the blocks, in their order.

@@ -41,13 +41,7 @@ pub extern "C" fn tizulgech_verify(
 
 /// The same of a list of blocks.
 #[tactic(auto, using(crate::proofs::Told::proof_told))]
-fn verify_parts(
-    alloc: Global,
-    root: &Cid,
-    blocks: &[&[u8]],
-    key: &[u8],
-    value: &mut [u8],
-) -> u8
+fn verify_parts(alloc: Global, root: &Cid, blocks: &[&[u8]], key: &[u8], value: &mut [u8]) -> u8
     requires { length value.old ≡ 36 }
     ensures answer { nat_eq result 255 ≡ false → IsProof result value.new
         (verified sha256 2 root.now (map (λ block. block.now) blocks.now) key.now) }
