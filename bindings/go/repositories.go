@@ -205,7 +205,8 @@ func (r *Repository) ProveChange(changes map[string]Cid) (*ChangeProof, error) {
 }
 
 // ProveInversion is the nodes that show that changes undone lead back from the repository as it is; the keys ascend. That each key has what is
-// told is looked at, else ErrOtherValue has its place; of what it had this repository knows nothing.
+// told is looked at, else ErrOtherValue has its place; of what it had this repository knows nothing. To who doesn't know that some records
+// have the root after they say nothing: ProveChange shows a step.
 func (r *Repository) ProveInversion(changes []KeyChange) ([][]byte, error) {
 	told := toldOf(changes)
 	var place C.size_t

@@ -156,6 +156,7 @@ export class Repository {
   prove(key: Bytes): Uint8Array[]
   /** What changes make of the repository as it is, and what shows it: ask before they are applied. */
   proveChange(changes: Changes): Promise<ChangeProof>
-  /** The nodes that show that changes, whose keys ascend, undone lead back from the repository as it is. */
+  /** The nodes that show that changes, whose keys ascend, undone lead back from the repository as it is. To who doesn't know that some records
+   * have the root after they say nothing: `proveChange` shows a step. */
   proveInversion(changes: Iterable<Change>): Promise<Uint8Array[]>
 }

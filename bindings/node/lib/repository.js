@@ -153,7 +153,8 @@ export class Repository {
     return { after: reader.cid(), changes: wanted.told(reader), nodes: reader.parts() }
   }
   /** The nodes that show that changes undone lead back from the repository as it is: each a key, what it had and what it has; the keys ascend.
-   * That each key has what is told is looked at; of what it had this repository knows nothing. */
+   * That each key has what is told is looked at; of what it had this repository knows nothing. To who doesn't know that some records have the
+   * root after they say nothing: `proveChange` shows a step. */
   async proveInversion(changes) {
     const given = told(changes), count = given[0].length
     const answer = await called(count > MANY, 'prove_inversion', this.#id, ...given, roomForProof(count))

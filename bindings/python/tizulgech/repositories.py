@@ -246,7 +246,7 @@ class Repository:
     def prove_inversion(self, changes: Told) -> Sequence[bytes]:
         """The nodes that show that changes undone lead back from the repository as it is: each a key, what it had and what it has; the keys
         ascend. That each key has what is told is looked at, else a `Fault` OTHER_VALUE has its place; of what it had this repository knows
-        nothing."""
+        nothing. To who doesn't know that some records have the root after they say nothing: `prove_change` shows a step."""
         place, told = _library.size(), told_of(changes)
         try:
             return Reader(self._filled("prove_inversion", first=_room_for_proof(len(changes)), place=place, **told)).parts()

@@ -293,7 +293,8 @@ impl Repository {
 
     /// The proof that some changes, whose keys ascend strictly, undone lead back from the repository as it is. Whoever has it and
     /// both roots can see that they do; that each key had before what is told is for them to see, as this repository knows nothing
-    /// of it.
+    /// of it. To who doesn't know that some records have the root after it says nothing: [`prove_change`](Self::prove_change) shows
+    /// a step.
     pub fn prove_inversion(&self, changes: &[KeyChange<'_>]) -> Result<InversionProof, ProvingFault> {
         let (told, mut place) = (Told::of(changes), 0);
         let bytes =

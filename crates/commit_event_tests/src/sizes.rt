@@ -2,8 +2,9 @@
 
 use crate::messages::{check, fault_of, message_with};
 use crate::parts::{
-    BLOCKS_SIZE, CREATED, CREATED_SECTION, LONG, LONG_FRONT, LONG_SIZE, PARTS, TEXT_SECTION,
+    BLOCKS_SIZE, CREATED, CREATED_SECTION, LONG, LONG_FRONT, LONG_SIZE, TEXT_SECTION,
 };
+use cid::{Cid, Sha256};
 use commit_events::EventFault;
 use event_blocks::BlocksFault;
 use std::alloc::{AllocError, Global};
@@ -41,17 +42,20 @@ fn a_record_one_byte_too_long(rt: HostRuntime) {
     assert!(rt; has_long_record(rt.alloc(), EventFault::Blocks(BlocksFault::RecordSize(1))));
 }
 
-/// The section of the text, so many times.
-fn sections(alloc: Global, count: usize) -> Result<Vec<u8>, AllocError> {
+/// Sections of so many different blocks, each of two bytes.
+fn sections(alloc: Global, count: u16) -> Result<Vec<u8>, AllocError> {
     let mut out = Vec::new(alloc);
-    for _section in 0..count {
-        out.extend_from_slice(PARTS[TEXT_SECTION])?;
+    for number in 0..count {
+        let block = number.to_be_bytes();
+        out.push(38)?;
+        out.extend_from_slice(Cid::of::<Sha256>(&block).as_bytes())?;
+        out.extend_from_slice(&block)?;
     }
     Ok(out)
 }
 
-/// Whether the worked message is taken with so many sections more, each of 38 bytes.
-fn takes_sections(alloc: Global, count: usize) -> bool {
+/// Whether the worked message is taken with so many sections more, each of 39 bytes.
+fn takes_sections(alloc: Global, count: u16) -> bool {
     let Ok(sections) = sections(alloc, count) else {
         return false;
     };
@@ -60,12 +64,12 @@ fn takes_sections(alloc: Global, count: usize) -> bool {
         return false;
     };
     match check(alloc, &message) {
-        Ok(checked) => checked.sections.len() == count.saturating_add(7),
+        Ok(checked) => checked.sections.len() == usize::from(count).saturating_add(7),
         Err(_) => false,
     }
 }
 
 #[test]
 fn many_blocks(rt: HostRuntime) {
-    assert!(rt; takes_sections(rt.alloc(), 52_000));
+    assert!(rt; takes_sections(rt.alloc(), 50_000));
 }

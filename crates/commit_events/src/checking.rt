@@ -32,8 +32,10 @@ use std::alloc::Allocator;
 ///
 /// Whatever blocks were given, at `Ok` this is so of whatever pairs have the commit's root, unless a node of their tree has the
 /// CID of a given block with other bytes: each key of the operations has the record that they tell, and the pairs with each
-/// operation undone have the root before. Each record that they leave is among the blocks. Who may sign for the DID, whether
-/// the commit is signed, and whether `since` is the revision that is known, is for the caller to see.
+/// operation undone have the root before. Of a root that no pairs have this says nothing, and no answer says that some have it:
+/// `event_following::check_and_apply` does the operations, and goes from a root of pairs to a root of pairs. Each record that they
+/// leave is among the blocks. Who may sign for the DID, whether the commit is signed, and whether `since` is the revision that is
+/// known, is for the caller to see.
 ///
 /// `B` is the number of zero bits of a digest that count for one layer, 2 in the AT Protocol.
 pub fn check_commit<'a, D: Digest, const B: u8, A: Allocator + Copy>(

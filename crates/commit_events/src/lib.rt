@@ -2,8 +2,9 @@
 //! known (AT Protocol, sync 1.1, operation inversion).
 //!
 //! - [`check_commit`] takes a message from whoever sent it, and the root that the repository had before. What it answers is
-//!   true of the tree with the commit's root, whatever blocks were given; only who signed isn't looked at.
-//!   [`EventFault`] is the first fault.
+//!   true of whatever pairs have the commit's root, whatever blocks were given; only who signed isn't looked at. That some
+//!   pairs have that root it doesn't say, as it undoes the operations: who goes on from message to message keeps the
+//!   repository and does them (`event_following::check_and_apply`). [`EventFault`] is the first fault.
 //!
 //! ```text
 //! let checked = check_commit::<Sha256, 2, Global>(alloc, root, &message)?;

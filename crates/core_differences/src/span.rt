@@ -28,7 +28,7 @@ pub struct Span<D: Digest, A: Allocator = Global> {
 
 /// What changed between two versions of a repository, whatever batches led from the one to the other, and the nodes of the new
 /// one that show it: who knows both roots and is given these, in any order and among others, gets `Ok` from
-/// `change_proofs::verify_inversion`.
+/// `change_proofs::verify_inversion`. Of a root after that no pairs have an inversion says nothing.
 ///
 /// Where no block of the one has the CID of another block of the other, nothing but `DifferenceFault::NoMemory` comes. Both stay
 /// as they are.

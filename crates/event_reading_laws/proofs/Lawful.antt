@@ -11,7 +11,7 @@ use Rattle.spec.specs.Stamps.{is_tid}
 use Rattle.spec.proofs.Bools.{and}
 use Rattle.spec.proofs.NodeValues.{lawful-link}
 use Rattle.spec.proofs.Taking.{ensure_ok}
-use Rattle.signed_commits.proofs.Texts.{did-lawful, rev-lawful}
+use Rattle.spec.proofs.CommitLaws.{did-lawful, rev-lawful}
 use Rattle.change_laws.specs.Told.{KeyChange}
 use Rattle.event_laws.specs.Ops.{fields_of_op, text_or_null, values_of_ops}
 use Rattle.event_laws.specs.Events.{Event, fields_of_event}

@@ -15,7 +15,7 @@ use Rattle.spec.proofs.Bools.{and}
 use Rattle.spec.proofs.DagCborLaws.{read-spelling}
 use Rattle.spec.proofs.Taking.{bind_ok, ensure_ok}
 use Rattle.signed_commits.proofs.CommitLaws.{commit-reads_back}
-use Rattle.signed_commits.proofs.Texts.{did-lawful, rev-lawful}
+use Rattle.spec.proofs.CommitLaws.{did-lawful, rev-lawful}
 use Rattle.export_laws.specs.SignedCars.{signed_over}
 use Rattle.export_laws.proofs.LastStamps.{stamp-good}
 use Rattle.export_laws.proofs.OfOne.{own-cid}
