@@ -81,7 +81,8 @@ const OF_ALL = {
   257: ['CHANGED', 'a batch came between two parts of the repository'],
 }
 
-const sentence = (text, { cid, place, what = 'change' }) => {
+const sentence = (text, { cid, place, path, what = 'change' }) => {
+  if (path) return `${path}: ${text}`
   if (cid) return `${text}: ${cid}`
   return place === undefined ? text : `${what} ${place}: ${text}`
 }
@@ -95,11 +96,16 @@ export class TizulgechError extends Error {
     this.code = code
     if (more.place !== undefined) this.place = more.place
     if (more.cid) this.cid = more.cid
+    if (more.path !== undefined) this.path = more.path
   }
   get name() { return this.constructor.name }
 }
 /** Bytes are no record. */
 export class RecordError extends TizulgechError {}
+/** A text is no record as JSON, or a record has no JSON text, or bytes are no link's CID: `path` is the way to a text's first fault. */
+export class JsonError extends TizulgechError {}
+/** A file is no export of a repository: `place` is that of the record that isn't taken. */
+export class FileError extends TizulgechError {}
 /** A text, or bytes, are no CID of this profile. */
 export class CidError extends TizulgechError {}
 /** A batch, a write or a stamp was refused: `place` is that of the write. */
@@ -113,3 +119,8 @@ const isOfRepository = number => number === CLOSED || number === BUSY || number 
 export const repositoryFault = (number, Kind = TizulgechError, table, more) => isOfRepository(number) ? new RepositoryError(number) : new Kind(number, table, more)
 export const batchFault = (number, more) => repositoryFault(number, BatchError, number < BAD_KEY ? OF_RECORDS : undefined, more)
 export const treeFault = (number, more) => repositoryFault(number, TreeError, OF_TREES, more)
+const RECORD_MISSING = 127, RECORD_SIZE = 22
+export const fileFault = (number, place) => {
+  const isOfRecord = number <= RECORD_SIZE || number === RECORD_MISSING
+  return new FileError(number, number < BAD_KEY ? OF_RECORDS : undefined, isOfRecord ? { place, what: 'record' } : {})
+}
