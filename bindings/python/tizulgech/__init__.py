@@ -12,7 +12,7 @@ A repository in memory: Repository, its writes, each a Write that Put, Create, U
 What a batch is tested by: check_write, check_record, record_fault, check_stamp, is_did, is_tid, is_repository_key; next_tid, the next revision by a
 clock.
 
-A tree whose nodes a program keeps elsewhere: tree_apply, tree_get, tree_path, tree_list, tree_prove_change, Edit, links, node_entries, Entries,
+A tree whose nodes a program keeps elsewhere: tree_apply, tree_get, tree_path, tree_list, tree_prove_change, tree_difference, Edit, Difference, links, node_entries, Entries,
 EMPTY_NODE, Missing, BadNode.
 
 Records as JSON: record_json, json_record, BadJson; the CIDs of blobs: link_text, link_from_text. Files: check_car, Export, Repository.open_car.
@@ -50,16 +50,17 @@ from .proofs import verify
 from .records import json_record, link_from_text, link_text, record_json
 from .repositories import Applied, Changed, Repository
 from .stamps import check_stamp, commit_bytes, is_did, is_tid, next_tid
-from .trees import Edit, tree_apply, tree_get, tree_list, tree_path, tree_prove_change
+from .trees import Difference, Edit, tree_apply, tree_difference, tree_get, tree_list, tree_path, tree_prove_change
 from .writes import Create, Delete, Put, Update, Write, check_record, check_write, record_fault
 
 __version__ = "0.3.0"
 
 __all__ = [
     "Applied", "BadCid", "BadJson", "BadMessage", "BadNode", "Bytes", "ChangeProof", "Changed", "CheckedCommit", "Cid", "Create", "Delete",
-    "EMPTY_NODE", "Edit", "Entries", "Export", "FAULTS", "FAULTS_OF_CIDS", "FAULTS_OF_TREES", "Fault", "Missing", "Nodes", "Operation", "Preview",
-    "Put", "Repository", "SignedCommit", "Text", "Told", "Update", "VERSION", "Write", "check_car", "check_commit", "check_record", "check_stamp",
-    "check_write", "commit_bytes", "file_head", "file_section", "is_did", "is_key", "is_repository_key", "is_tid", "json_record", "layer",
-    "link_from_text", "link_text", "links", "listing_car", "next_tid", "node_entries", "read_commit", "record_fault", "record_json", "signed_commit",
-    "tree_apply", "tree_get", "tree_list", "tree_path", "tree_prove_change", "tree_root", "verify", "verify_change", "verify_inversion", "version",
+    "Difference", "EMPTY_NODE", "Edit", "Entries", "Export", "FAULTS", "FAULTS_OF_CIDS", "FAULTS_OF_TREES", "Fault", "Missing", "Nodes", "Operation",
+    "Preview", "Put", "Repository", "SignedCommit", "Text", "Told", "Update", "VERSION", "Write", "check_car", "check_commit", "check_record",
+    "check_stamp", "check_write", "commit_bytes", "file_head", "file_section", "is_did", "is_key", "is_repository_key", "is_tid", "json_record",
+    "layer", "link_from_text", "link_text", "links", "listing_car", "next_tid", "node_entries", "read_commit", "record_fault", "record_json",
+    "signed_commit", "tree_apply", "tree_difference", "tree_get", "tree_list", "tree_path", "tree_prove_change", "tree_root", "verify",
+    "verify_change", "verify_inversion", "version",
 ]

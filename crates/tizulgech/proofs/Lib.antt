@@ -18,3 +18,4 @@ mod Texts
 mod Hosting
 mod Checking
 mod FromFiles
+mod Differed

@@ -45,10 +45,10 @@ checked_spelt c = commit_spelt c.commit ++ event_spelt c.event ++ flat_map secti
 -- numbered by
 
 abbrev pub car_number : cars.CarFault → ℕ
-car_number cars.BadHeader = 70
-car_number cars.BadLength = 71
-car_number cars.Truncated = 72
-car_number cars.BadCid = 73
+car_number cars.BadHeader = 103
+car_number cars.BadLength = 104
+car_number cars.Truncated = 105
+car_number cars.BadCid = 106
 
 -- the fields in the order of DAG-CBOR
 abbrev pub field_number : fields.FieldName → ℕ
@@ -96,7 +96,7 @@ event_told (events.DoubledPath place) = (120, place)
 event_told events.OtherPrevious = (121, 0)
 event_told (events.OfCar f) = (car_number f, 0)
 event_told events.NotTheRoot = (122, 0)
-event_told events.Misnamed = (74, 0)
+event_told events.Misnamed = (123, 0)
 event_told events.CommitMissing = (124, 0)
 event_told (events.OfCommit f) = (commit_number f, 0)
 event_told events.OtherDid = (125, 0)

@@ -26,13 +26,13 @@ commit_spelt c = part_bytes c.did ++ part_bytes c.rev ++ c.root ++ value_bytes c
 
 -- why bytes are no commit
 abbrev pub commit_number : commits.CommitFault → ℕ
-commit_number commits.NotACommit = 76
+commit_number commits.NotACommit = 100
 commit_number commits.BadDid = 101
 commit_number commits.BadRev = 102
 
 -- the same of a fault of the code
 abbrev pub commit_code : CommitFault → ℕ
-commit_code errors.NotACommit = 76
+commit_code errors.NotACommit = 100
 commit_code errors.BadDid = 101
 commit_code errors.BadRev = 102
 

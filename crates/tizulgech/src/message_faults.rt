@@ -95,10 +95,10 @@ fn car_told(fault: CarFault) -> (u8, usize)
     ensures { result ≡ told_or_want event_told_of (option_map OfCar (car_fault_of fault)) }
 {
     match fault {
-        CarFault::BadHeader => (70, 0),
-        CarFault::BadLength => (71, 0),
-        CarFault::Truncated => (72, 0),
-        CarFault::BadCid => (73, 0),
+        CarFault::BadHeader => (103, 0),
+        CarFault::BadLength => (104, 0),
+        CarFault::Truncated => (105, 0),
+        CarFault::BadCid => (106, 0),
         CarFault::NoMemory => (NO_MEMORY, 0),
     }
 }
@@ -139,7 +139,7 @@ fn blocks_told(fault: BlocksFault) -> (u8, usize)
     match fault {
         BlocksFault::Car(fault) => car_told(fault),
         BlocksFault::NotTheRoot => (122, 0),
-        BlocksFault::Misnamed => (74, 0),
+        BlocksFault::Misnamed => (123, 0),
         BlocksFault::CommitMissing => (124, 0),
         BlocksFault::Commit(fault) => commit_told(fault),
         BlocksFault::OtherDid => (125, 0),

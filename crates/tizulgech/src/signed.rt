@@ -69,7 +69,7 @@ fn signed_bytes<'c>(
 }
 
 /// What the signed commit of these bytes says: 0 and whose repository it is, the revision, the root, the commit before or
-/// zeros, the signature and the bytes that were signed; 76 where the bytes are none, 101 for its DID, 102 for its revision;
+/// zeros, the signature and the bytes that were signed; 100 where the bytes are none, 101 for its DID, 102 for its revision;
 /// 251; 255. Nothing tests the signature.
 #[unsafe(no_mangle)]
 #[tactic(auto, using(crate::proofs::CommitNumbers::commit_told))]
@@ -107,7 +107,7 @@ pub(crate) fn code_of_commit(fault: CommitFault) -> u8
     ensures { result ≡ commit_code fault }
 {
     match fault {
-        CommitFault::NotACommit => 76,
+        CommitFault::NotACommit => 100,
         CommitFault::BadDid => COMMIT_DID,
         CommitFault::BadRev => COMMIT_REV,
     }
