@@ -1,6 +1,6 @@
 /** The numbers that calls answer: the header's name of each and what it says, and an error for each kind of call. */
 
-export const NONE = 24, BAD_NODE = 30, OTHER_VALUE = 33, MISSING = 2, BELOW = 1, TOO_MANY_NODES = 31, BAD_KEY = 20
+export const NONE = 24, BAD_NODE = 30, OTHER_VALUE = 33, MISSING = 2, BELOW = 1, TOO_MANY_NODES = 31, BAD_KEY = 20, NODE_MISSING = 129
 export const CLOSED = 250, BUSY = 256, CHANGED = 257
 
 export const OF_RECORDS = {
@@ -58,15 +58,41 @@ const OF_ALL = {
   67: ['JSON_DEPTH', 'lists and maps lie more than 64 levels deep'],
   68: ['JSON_NOT_A_MAP', 'the value is not a map'],
   69: ['NO_JSON_FORM', 'the record has no JSON form'],
-  70: ['CAR_HEADER', 'the file does not begin as a CAR with one root'],
-  71: ['CAR_LENGTH', 'the length of a section is not a number in its shortest form'],
-  72: ['CAR_TRUNCATED', 'the file ends within a section'],
-  73: ['CAR_CID', 'a section does not begin with a CID of a block'],
-  74: ['MISNAMED', 'the CID of a section is not that of its block'],
-  75: ['NO_COMMIT', 'the root is not in the file'],
-  76: ['NOT_A_COMMIT', 'the root is not a signed commit'],
   77: ['NOT_THE_TREE', 'the file does not have a whole tree under its commit'],
   78: ['NO_RECORD', 'the record is not in the file'],
+  100: ['NOT_A_COMMIT', 'the bytes are not those of a signed commit'],
+  101: ['COMMIT_DID', 'the DID of the commit is not one'],
+  102: ['COMMIT_REV', 'the revision of the commit is not a timestamp identifier'],
+  103: ['CAR_HEADER', 'the file does not begin as a CAR with one root'],
+  104: ['CAR_LENGTH', 'the length of a section is not a number in its shortest form'],
+  105: ['CAR_TRUNCATED', 'the file ends within a section'],
+  106: ['CAR_CID', 'a section does not begin with a CID of a block'],
+  107: ['MESSAGE_SIZE', 'the message is too long'],
+  108: ['NOT_A_MESSAGE', 'no message #commit'],
+  109: ['MESSAGE_CBOR', 'the message is not DAG-CBOR'],
+  110: ['MESSAGE_NOT_A_MAP', 'the message is no map'],
+  111: ['BAD_FIELD', 'a field is missing or of another kind'],
+  112: ['REBASE', 'a rebase'],
+  113: ['TOO_BIG', 'the message does not hold all'],
+  114: ['TOO_MANY_OPS', 'too many operations'],
+  115: ['BLOCKS_SIZE', 'the blocks have too many bytes'],
+  116: ['BAD_SINCE', 'the revision before is not a timestamp identifier'],
+  117: ['SINCE_ORDER', 'the revision is not after the one before'],
+  118: ['BAD_TIME', 'the time is none'],
+  119: ['BAD_OP', 'an operation is none'],
+  120: ['DOUBLED_PATH', 'an operation has the path of another'],
+  121: ['OTHER_PREVIOUS', 'the repository had another root before'],
+  122: ['NOT_THE_ROOT', 'the root of the blocks is not the commit'],
+  123: ['MISNAMED', 'a block has another CID'],
+  124: ['COMMIT_MISSING', 'the commit is not among the blocks'],
+  125: ['OTHER_DID', 'the commit is of another repository'],
+  126: ['OTHER_REV', 'the commit has another revision'],
+  127: ['RECORD_MISSING', 'the record of an operation is missing'],
+  128: ['MESSAGE_RECORD_SIZE', 'the record of an operation is too long for a message'],
+  129: ['NODE_MISSING', 'a node that is needed is not in the message'],
+  130: ['ROOT_MOVED', 'the repository has another root than was signed over'],
+  131: ['BAD_SEQ', 'the number is none of the stream'],
+  132: ['NO_BATCH', 'the repository has no batch'],
   249: ['OPEN', 'the repository is open already'],
   250: ['CLOSED', 'the repository is closed'],
   251: ['SMALL', 'the room is too small'],
@@ -104,10 +130,15 @@ export class CidError extends TizulgechError {}
 export class BatchError extends TizulgechError {}
 /** Nodes or pairs show nothing, or there is no edit: `cid` is that of a node, `place` that of a change. */
 export class TreeError extends TizulgechError {}
+/** Bytes are no signed commit. */
+export class CommitError extends TizulgechError {}
+/** A message isn't taken: `place` is that of an operation or a field, `cid` that of a node. */
+export class MessageError extends TizulgechError {}
 /** A repository is closed, busy, or wasn't opened. */
 export class RepositoryError extends TizulgechError {}
 
 const isOfRepository = number => number === CLOSED || number === BUSY || number === CHANGED
 export const repositoryFault = (number, Kind = TizulgechError, table, more) => isOfRepository(number) ? new RepositoryError(number) : new Kind(number, table, more)
 export const batchFault = (number, more) => repositoryFault(number, BatchError, number < BAD_KEY ? OF_RECORDS : undefined, more)
+export const messageFault = (number, more) => repositoryFault(number, MessageError, number < BAD_KEY ? OF_RECORDS : undefined, more)
 export const treeFault = (number, more) => repositoryFault(number, TreeError, OF_TREES, more)

@@ -45,15 +45,41 @@ const OF_ALL: Names = &[
     (67, "JSON_DEPTH"),
     (68, "JSON_NOT_A_MAP"),
     (69, "NO_JSON_FORM"),
-    (70, "CAR_HEADER"),
-    (71, "CAR_LENGTH"),
-    (72, "CAR_TRUNCATED"),
-    (73, "CAR_CID"),
-    (74, "MISNAMED"),
-    (75, "NO_COMMIT"),
-    (76, "NOT_A_COMMIT"),
     (77, "NOT_THE_TREE"),
     (78, "NO_RECORD"),
+    (100, "NOT_A_COMMIT"),
+    (101, "COMMIT_DID"),
+    (102, "COMMIT_REV"),
+    (103, "CAR_HEADER"),
+    (104, "CAR_LENGTH"),
+    (105, "CAR_TRUNCATED"),
+    (106, "CAR_CID"),
+    (107, "MESSAGE_SIZE"),
+    (108, "NOT_A_MESSAGE"),
+    (109, "MESSAGE_CBOR"),
+    (110, "MESSAGE_NOT_A_MAP"),
+    (111, "BAD_FIELD"),
+    (112, "REBASE"),
+    (113, "TOO_BIG"),
+    (114, "TOO_MANY_OPS"),
+    (115, "BLOCKS_SIZE"),
+    (116, "BAD_SINCE"),
+    (117, "SINCE_ORDER"),
+    (118, "BAD_TIME"),
+    (119, "BAD_OP"),
+    (120, "DOUBLED_PATH"),
+    (121, "OTHER_PREVIOUS"),
+    (122, "NOT_THE_ROOT"),
+    (123, "MISNAMED"),
+    (124, "COMMIT_MISSING"),
+    (125, "OTHER_DID"),
+    (126, "OTHER_REV"),
+    (127, "RECORD_MISSING"),
+    (128, "MESSAGE_RECORD_SIZE"),
+    (129, "NODE_MISSING"),
+    (130, "ROOT_MOVED"),
+    (131, "BAD_SEQ"),
+    (132, "NO_BATCH"),
     (252, "BAD"),
     (253, "CLASH"),
     (254, "FULL"),
@@ -180,6 +206,15 @@ faults! {
     } named by OF_ALL
 }
 faults! {
+    /// Why bytes are no signed commit.
+    CommitFault {
+        NotACommit = 100 "the bytes are not those of a signed commit",
+        CommitDid = 101 "the DID of the commit is not one",
+        CommitRev = 102 "the revision of the commit is not a timestamp identifier",
+        NoMemory = 255 "out of memory",
+    } named by OF_ALL
+}
+faults! {
     /// Why bytes are no link's CID, or a text is none's.
     LinkFault {
         Bad = 252 "not a CID of version 1",
@@ -270,13 +305,13 @@ pub enum CheckFault {
     /// The CID of a section isn't that of its block.
     Misnamed,
     /// It hasn't the block that its header names.
-    NoCommit,
+    CommitMissing,
     /// That block isn't a signed commit.
     NotACommit,
     /// The commit's DID isn't one.
-    BadDid,
+    CommitDid,
     /// The commit's revision isn't a timestamp identifier.
-    BadRev,
+    CommitRev,
     /// It hasn't the whole tree that the commit names.
     NotTheTree,
     /// A key isn't that of a record.
@@ -309,17 +344,17 @@ impl CheckFault {
             21 => NotAMap,
             22 => RecordSize,
             25 => WritesFull,
-            27 => BadDid,
-            28 => BadRev,
-            70 => CarHeader,
-            71 => CarLength,
-            72 => CarTruncated,
-            73 => CarCid,
-            74 => Misnamed,
-            75 => NoCommit,
-            76 => NotACommit,
             77 => NotTheTree,
             78 => NoRecord,
+            100 => NotACommit,
+            101 => CommitDid,
+            102 => CommitRev,
+            103 => CarHeader,
+            104 => CarLength,
+            105 => CarTruncated,
+            106 => CarCid,
+            123 => Misnamed,
+            124 => CommitMissing,
             252 => Limit,
             253 => Clash,
             254 => StoreFull,
@@ -336,17 +371,17 @@ impl CheckFault {
             CheckFault::NotAMap => 21,
             CheckFault::RecordSize => 22,
             CheckFault::WritesFull => 25,
-            CheckFault::BadDid => 27,
-            CheckFault::BadRev => 28,
-            CheckFault::CarHeader => 70,
-            CheckFault::CarLength => 71,
-            CheckFault::CarTruncated => 72,
-            CheckFault::CarCid => 73,
-            CheckFault::Misnamed => 74,
-            CheckFault::NoCommit => 75,
-            CheckFault::NotACommit => 76,
             CheckFault::NotTheTree => 77,
             CheckFault::NoRecord => 78,
+            CheckFault::NotACommit => 100,
+            CheckFault::CommitDid => 101,
+            CheckFault::CommitRev => 102,
+            CheckFault::CarHeader => 103,
+            CheckFault::CarLength => 104,
+            CheckFault::CarTruncated => 105,
+            CheckFault::CarCid => 106,
+            CheckFault::Misnamed => 123,
+            CheckFault::CommitMissing => 124,
             CheckFault::Limit => 252,
             CheckFault::Clash => 253,
             CheckFault::StoreFull => 254,
@@ -368,11 +403,11 @@ impl fmt::Display for CheckError {
             CarLength => "the length of a section is not a number in its shortest form",
             CarTruncated => "the file ends within a section",
             CarCid => "a section does not begin with a CID of a block",
-            Misnamed => "the CID of a section is not that of its block",
-            NoCommit => "the root is not in the file",
-            NotACommit => "the root is not a signed commit",
-            BadDid => "the DID is not one",
-            BadRev => "the revision is not a timestamp identifier",
+            Misnamed => "a block has another CID",
+            CommitMissing => "the commit is not among the blocks",
+            NotACommit => "the bytes are not those of a signed commit",
+            CommitDid => "the DID of the commit is not one",
+            CommitRev => "the revision of the commit is not a timestamp identifier",
             NotTheTree => "the file does not have a whole tree under its commit",
             BadKey => return write!(f, "record {}: the key is not that of a record", self.place),
             NoRecord => return write!(f, "record {}: it is not in the file", self.place),
@@ -389,6 +424,147 @@ impl fmt::Display for CheckError {
     }
 }
 impl Error for CheckError {}
+
+faults! {
+    /// Why a message `#commit` isn't taken.
+    MessageFault {
+        Truncated = 1 "the bytes end within a value",
+        LongHead = 2 "a head is longer than it needs to be",
+        Indefinite = 3 "an indefinite length",
+        BadTag = 4 "a tag that isn't 42",
+        BadLink = 5 "a link that is no CID",
+        KeyNotText = 6 "a key of a map that isn't text",
+        KeyOrder = 7 "keys of a map that are out of order or stand twice",
+        BadUtf8 = 8 "text that isn't UTF-8",
+        Float = 9 "a floating-point number",
+        Simple = 10 "a simple value",
+        IntegerRange = 11 "an integer outside of 64 bits with sign",
+        TooDeep = 12 "values that are nested too deep",
+        Trailing = 13 "bytes after the value",
+        NotAMap = 21 "the record is not a map",
+        RecordSize = 22 "the record is too long",
+        BadDid = 27 "the DID is not one",
+        BadRev = 28 "the revision is not a timestamp identifier",
+        BadNode = 30 "a block is no node",
+        TooManyNodes = 31 "the path is longer than any tree is deep",
+        OtherValue = 33 "a key has another value",
+        OtherRoot = 34 "the changes lead to another root",
+        NotTree = 35 "the nodes aren't a tree's",
+        NotACommit = 100 "the bytes are not those of a signed commit",
+        CommitDid = 101 "the DID of the commit is not one",
+        CommitRev = 102 "the revision of the commit is not a timestamp identifier",
+        CarHeader = 103 "the file does not begin as a CAR with one root",
+        CarLength = 104 "the length of a section is not a number in its shortest form",
+        CarTruncated = 105 "the file ends within a section",
+        CarCid = 106 "a section does not begin with a CID of a block",
+        MessageSize = 107 "the message is too long",
+        NotAMessage = 108 "no message #commit",
+        MessageCbor = 109 "the message is not DAG-CBOR",
+        MessageNotAMap = 110 "the message is no map",
+        BadField = 111 "a field is missing or of another kind",
+        Rebase = 112 "a rebase",
+        TooBig = 113 "the message does not hold all",
+        TooManyOps = 114 "too many operations",
+        BlocksSize = 115 "the blocks have too many bytes",
+        BadSince = 116 "the revision before is not a timestamp identifier",
+        SinceOrder = 117 "the revision is not after the one before",
+        BadTime = 118 "the time is none",
+        BadOp = 119 "an operation is none",
+        DoubledPath = 120 "an operation has the path of another",
+        OtherPrevious = 121 "the repository had another root before",
+        NotTheRoot = 122 "the root of the blocks is not the commit",
+        Misnamed = 123 "a block has another CID",
+        CommitMissing = 124 "the commit is not among the blocks",
+        OtherDid = 125 "the commit is of another repository",
+        OtherRev = 126 "the commit has another revision",
+        RecordMissing = 127 "the record of an operation is missing",
+        MessageRecordSize = 128 "the record of an operation is too long for a message",
+        NodeMissing = 129 "a node that is needed is not in the message",
+        NoMemory = 255 "out of memory",
+    } named by OF_ALL
+}
+faults! {
+    /// Why a signed batch isn't accepted. Nothing has changed then.
+    SigningFault {
+        Truncated = 1 "the bytes end within a value",
+        LongHead = 2 "a head is longer than it needs to be",
+        Indefinite = 3 "an indefinite length",
+        BadTag = 4 "a tag that isn't 42",
+        BadLink = 5 "a link that is no CID",
+        KeyNotText = 6 "a key of a map that isn't text",
+        KeyOrder = 7 "keys of a map that are out of order or stand twice",
+        BadUtf8 = 8 "text that isn't UTF-8",
+        Float = 9 "a floating-point number",
+        Simple = 10 "a simple value",
+        IntegerRange = 11 "an integer outside of 64 bits with sign",
+        TooDeep = 12 "values that are nested too deep",
+        Trailing = 13 "bytes after the value",
+        BadKey = 20 "the key is not that of a record",
+        NotAMap = 21 "the record is not a map",
+        RecordSize = 22 "the record is too long",
+        KeyExists = 23 "the key is there already",
+        NoSuchKey = 24 "there is no such key",
+        WritesFull = 25 "the repository takes no more writes",
+        EmptyBatch = 26 "the batch is empty",
+        BadDid = 27 "the DID is not one",
+        BadRev = 28 "the revision is not a timestamp identifier",
+        RevOrder = 29 "the revision is not after the last one",
+        OtherValue = 33 "a key has another value",
+        MessageSize = 107 "the message is too long",
+        NotAMessage = 108 "no message #commit",
+        MessageCbor = 109 "the message is not DAG-CBOR",
+        MessageNotAMap = 110 "the message is no map",
+        BadField = 111 "a field is missing or of another kind",
+        Rebase = 112 "a rebase",
+        TooBig = 113 "the message does not hold all",
+        TooManyOps = 114 "too many operations",
+        BlocksSize = 115 "the blocks have too many bytes",
+        BadSince = 116 "the revision before is not a timestamp identifier",
+        SinceOrder = 117 "the revision is not after the one before",
+        BadTime = 118 "the time is none",
+        BadOp = 119 "an operation is none",
+        MessageRecordSize = 128 "the record of an operation is too long for a message",
+        RootMoved = 130 "the repository has another root than was signed over",
+        BadSeq = 131 "the number is none of the stream",
+        NoBatch = 132 "the repository has no batch",
+        Clash = 253 "two blocks clash",
+        StoreFull = 254 "the store is full",
+        NoMemory = 255 "out of memory",
+    } named by OF_ALL
+}
+/// Why a message isn't taken, and where.
+#[derive(Clone, Copy, Debug, PartialEq, Eq)]
+pub struct MessageError {
+    /// The first fault.
+    pub fault: MessageFault,
+    /// The place of an operation, or of a field in the order of DAG-CBOR; of `MessageCbor` the number of a [`RecordFault`]; else 0.
+    pub place: usize,
+    /// The CID of the node that is missing, or is none.
+    pub node: Option<Cid>,
+}
+
+impl fmt::Display for MessageError {
+    fn fmt(&self, f: &mut fmt::Formatter<'_>) -> fmt::Result {
+        write!(f, "{} ({}, at {})", self.fault, self.fault.name(), self.place)
+    }
+}
+impl Error for MessageError {}
+
+/// Why a signed batch isn't accepted, and where.
+#[derive(Clone, Copy, Debug, PartialEq, Eq)]
+pub struct SigningError {
+    /// The place of a write, or of an operation of the message, from 0; else 0.
+    pub place: usize,
+    /// The first fault.
+    pub fault: SigningFault,
+}
+
+impl fmt::Display for SigningError {
+    fn fmt(&self, f: &mut fmt::Formatter<'_>) -> fmt::Result {
+        write!(f, "{} ({}, at {})", self.fault, self.fault.name(), self.place)
+    }
+}
+impl Error for SigningError {}
 
 /// Why blocks don't show some changes.
 ///

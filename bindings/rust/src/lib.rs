@@ -6,6 +6,8 @@
 //!   undoes changes, as the event stream's operation inversion does.
 //! - [`record_json`] and [`json_record`] are records as JSON, [`link_text`] the text of a blob's CID, and [`check_car`] tells whose
 //!   repository a file is the export of.
+//! - [`SignedCommit`] is written and read; [`Repository::preview`] and [`Repository::apply_signed`] accept a batch whose commit is
+//!   signed, with its message, and [`check_commit`] checks any message `#commit` of the event stream.
 //! - [`Cid`], [`check_record`], [`check_write`], [`check_stamp`], [`commit_bytes`], [`tree_root`], [`listing_car`] and [`Proof`] need no state.
 //!
 //! ```
@@ -54,8 +56,10 @@
 #![deny(unsafe_op_in_unsafe_fn)]
 
 mod changes;
+mod commits;
 mod faults;
 mod framing;
+mod messages;
 mod records;
 mod repository;
 #[allow(missing_docs)]
@@ -64,10 +68,13 @@ pub mod tree;
 mod values;
 
 pub use changes::{ChangeProof, InversionProof, KeyChange, ProvenChange};
+pub use commits::{SignedCommit, file_head, file_section};
 pub use faults::{
-    BatchError, BatchFault, ChangeFault, CheckError, CheckFault, CidFault, JsonError, JsonFault, LinkFault, NoMemory, NodeFault,
-    OpenError, ProofFault, ProvingFault, RecordFault, RecordJsonFault, StampFault, TreeFault,
+    BatchError, BatchFault, ChangeFault, CheckError, CheckFault, CidFault, CommitFault, JsonError, JsonFault, LinkFault, MessageError,
+    MessageFault, NoMemory, NodeFault, OpenError, ProofFault, ProvingFault, RecordFault, RecordJsonFault, SigningError, SigningFault,
+    StampFault, TreeFault,
 };
+pub use messages::{CheckedCommit, Operation, Preview, Told, check_commit};
 pub use records::{Export, check_car, json_record, link_from_text, link_text, record_json};
 pub use repository::{Applied, CarParts, Pairs, Repository, Stamp, Write};
 pub use values::{

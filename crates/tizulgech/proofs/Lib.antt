@@ -14,3 +14,7 @@ mod Texts
 mod Hosting
 mod Checking
 mod FromFiles
+mod CommitNumbers
+mod EventNumbers
+mod Tested
+mod SignedBatches

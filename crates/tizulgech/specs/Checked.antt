@@ -2,34 +2,19 @@
 use Rattle.std.specs.Prelude.{◌≡◌, ⊤, ℕ, ◌&&◌, ◌||◌, Bool, nat_eq, nat_le, List, ◌++◌, length, Result, Ok, Err, if◌then◌else◌}
 use Rattle.sha2.specs.Sha256.{sha256}
 use Rattle.spec.specs.Cid.{cid}
-use Rattle.spec.specs.CarReading as cars
-use Rattle.spec.specs.SignedCommits as commits
 use Rattle.spec.specs.SignedCommits.{Commit, signed_bytes}
 use Rattle.spec.specs.Exports as exports
 use Rattle.spec.specs.Exports.{ExportFault, OfCar, Misnamed, NoCommit, OfCommit, NotTheTree, OfRecord, IsExport, IsFirstFault}
-use Rattle.car_reader.specs.declared.fault.CarFault.{CarFault}
-use Rattle.car_reader.specs.declared.fault.CarFault.TheVariants as car_faults
-use Rattle.signed_commits.specs.declared.fault.CommitFault.{CommitFault}
-use Rattle.signed_commits.specs.declared.fault.CommitFault.TheVariants as commit_faults
 use Rattle.repository_check.specs.declared.fault.RecordFault.{RecordFault}
 use Rattle.repository_check.specs.declared.fault.RecordFault.TheVariants as record_faults
 use Rattle.repository_check.specs.declared.fault.CheckFault.{CheckFault}
 use Rattle.repository_check.specs.declared.fault.CheckFault.TheVariants as faults
 use Rattle.buffers.specs.Answers.{IsHanded, number_bytes, part_bytes}
 use Rattle.tizulgech.specs.Numbers.{record_number, write_number}
+use Rattle.tizulgech.specs.Signing.{car_code, car_number, commit_code, commit_number}
 
--- ---- why a file is no export: its own numbers from 70 on, and of its commit and its records those of a batch
-
-abbrev pub car_number : cars.CarFault → ℕ
-car_number cars.BadHeader = 70
-car_number cars.BadLength = 71
-car_number cars.Truncated = 72
-car_number cars.BadCid = 73
-
-abbrev pub commit_number : commits.CommitFault → ℕ
-commit_number commits.NotACommit = 76
-commit_number commits.BadDid = 27
-commit_number commits.BadRev = 28
+-- ---- why a file is no export: 77 and 78 are its own, of its form and its commit the numbers are those of a message's file and of a
+-- commit that is read, and of its records those of a batch
 
 abbrev pub record_fault_number : exports.RecordFault → ℕ
 record_fault_number exports.NoRecord = 78
@@ -37,8 +22,8 @@ record_fault_number (exports.OfTest f) = write_number f
 
 abbrev pub export_number : ExportFault → ℕ
 export_number (OfCar f) = car_number f
-export_number Misnamed = 74
-export_number NoCommit = 75
+export_number Misnamed = 123
+export_number NoCommit = 124
 export_number (OfCommit f) = commit_number f
 export_number NotTheTree = 77
 export_number (OfRecord place f) = record_fault_number f
@@ -58,18 +43,6 @@ tells_record n = (nat_le 1 n && nat_le n 13) || (nat_le 20 n && nat_le n 22) || 
 
 -- ---- the same of the code; 255 for want of memory
 
-abbrev pub car_code : CarFault → ℕ
-car_code car_faults.BadHeader = 70
-car_code car_faults.BadLength = 71
-car_code car_faults.Truncated = 72
-car_code car_faults.BadCid = 73
-car_code car_faults.NoMemory = 255
-
-abbrev pub commit_code : CommitFault → ℕ
-commit_code commit_faults.NotACommit = 76
-commit_code commit_faults.BadDid = 27
-commit_code commit_faults.BadRev = 28
-
 abbrev pub record_fault_code : RecordFault → ℕ
 record_fault_code record_faults.BadKey = 20
 record_fault_code record_faults.NoRecord = 78
@@ -79,8 +52,8 @@ record_fault_code record_faults.NotAMap = 21
 
 abbrev pub check_code : CheckFault → ℕ
 check_code (faults.Car f) = car_code f
-check_code faults.Misnamed = 74
-check_code faults.NoCommit = 75
+check_code faults.Misnamed = 123
+check_code faults.NoCommit = 124
 check_code (faults.Commit f) = commit_code f
 check_code faults.NotTheTree = 77
 check_code (faults.Record place f) = record_fault_code f

@@ -12,6 +12,9 @@ pub mod HostedChanges
 pub mod RecordTexts
 pub mod Checked
 pub mod Opened
+pub mod Signing
+pub mod Messages
+pub mod SignedBatches
 pub use Rattle.spec.specs.Cid
 pub use Rattle.spec.specs.Layer
 pub use Rattle.spec.specs.States

@@ -24,7 +24,8 @@ pub record HasMany (limit : ℕ) (file : List ℕ) : Type 0 where
 
 -- the numbers that say that a file is no export
 abbrev pub is_of_file : ℕ → Bool
-is_of_file n = (nat_le 1 n && nat_le n 13) || (nat_le 20 n && nat_le n 22) || nat_eq n 27 || nat_eq n 28 || (nat_le 70 n && nat_le n 78)
+is_of_file n = (nat_le 1 n && nat_le n 13) || (nat_le 20 n && nat_le n 22) || nat_eq n 77 || nat_eq n 78
+    || (nat_le 100 n && nat_le n 106) || nat_eq n 123 || nat_eq n 124
 
 -- the number of a fault of an opening
 abbrev pub opening_number : {D A : Type 0} → RepoFault D A → ℕ

@@ -3,24 +3,23 @@
 ghost use Rattle.std.specs.Prelude.{◌≡◌, false, nat_eq, if◌then◌else◌, IfOk};
 ghost use Rattle.signed_commits.specs.Views.{commit_of};
 ghost use Rattle.buffers.specs.Answers.{IsKept};
-ghost use Rattle.tizulgech.specs.Checked.{car_code, check_code, commit_code, export_bytes as export_bytes_of, place_after, record_fault_code, tells_record, IsChecked};
+ghost use Rattle.tizulgech.specs.Checked.{check_code, export_bytes as export_bytes_of, place_after, record_fault_code, tells_record, IsChecked};
 ghost use Rattle.tizulgech.specs.Numbers.{IsHandedOr255};
 
-use crate::codes::{NO_MEMORY, fault_of_record};
+use crate::codes::{NO_MEMORY, code_of_car, code_of_commit, fault_of_record};
 use buffers::{hand, push_number, push_part};
-use car_reader::CarFault;
 use cid::{Cid, Sha256};
 use repository_check::{CheckFault, RecordFault, check};
-use signed_commits::{CommitFault, SignedCommit};
+use signed_commits::SignedCommit;
 use std::alloc::{AllocError, Global};
 
 /// Whether a CAR file (CARv1), as `com.atproto.sync.getRepo` serves it, is the export of a repository, and of which. Nothing of
 /// it is trusted: each block is hashed, and the tree is built anew of the records. No signature is tested.
 ///
 /// 0, and `out` has the CID of the signed commit, the root of the tree, the number of records in eight bytes, the lowest first,
-/// and the DID and the revision, each with its length in eight bytes in front. Else the first fault: of the file 70 for its
-/// header, 71 for the length of a section, 72 where it ends within one, 73 for its CID, 74 where a CID isn't that of its
-/// block; of its commit 75 where there is none, 76 where it is none, 27 for its DID, 28 for its revision; 77 where the file
+/// and the DID and the revision, each with its length in eight bytes in front. Else the first fault: of the file 103 for its
+/// header, 104 for the length of a section, 105 where it ends within one, 106 for its CID, 123 where a CID isn't that of its
+/// block; of its commit 124 where there is none, 100 where it is none, 101 for its DID, 102 for its revision; 77 where the file
 /// hasn't the whole tree that the commit names; of the first record that isn't taken 20 for its key, 78 where it isn't there, 22,
 /// 1 to 13 and 21 for its bytes, and then `place` is its place among the records, from 0 on. 251; 255.
 #[unsafe(no_mangle)]
@@ -85,8 +84,8 @@ pub(crate) fn tell_check(fault: CheckFault, place: &mut usize) -> u8
 {
     match fault {
         CheckFault::Car(fault) => code_of_car(fault),
-        CheckFault::Misnamed => 74,
-        CheckFault::NoCommit => 75,
+        CheckFault::Misnamed => 123,
+        CheckFault::NoCommit => 124,
         CheckFault::Commit(fault) => code_of_commit(fault),
         CheckFault::NotTheTree => 77,
         CheckFault::Record(at, fault) => tell_record(at as usize, fault, place),
@@ -106,30 +105,6 @@ fn tell_record(at: usize, fault: RecordFault, place: &mut usize) -> u8
     }
     *place = at;
     number
-}
-
-/// The number of a fault of a file's form.
-fn code_of_car(fault: CarFault) -> u8
-    ensures { result ≡ car_code fault }
-{
-    match fault {
-        CarFault::BadHeader => 70,
-        CarFault::BadLength => 71,
-        CarFault::Truncated => 72,
-        CarFault::BadCid => 73,
-        CarFault::NoMemory => NO_MEMORY,
-    }
-}
-
-/// The number of a fault of a commit.
-fn code_of_commit(fault: CommitFault) -> u8
-    ensures { result ≡ commit_code fault }
-{
-    match fault {
-        CommitFault::NotACommit => 76,
-        CommitFault::BadDid => 27,
-        CommitFault::BadRev => 28,
-    }
 }
 
 /// The number of a fault of a record.

@@ -1,0 +1,63 @@
+-- What is told of signed commits, and of the parts of files.
+use Rattle.std.specs.Prelude.{◌≡◌, ℕ, List, ◌++◌, Option, Some, None, Result, Ok, Err}
+use Rattle.spec.specs.CarReading as cars
+use Rattle.spec.specs.SignedCommits as commits
+use Rattle.spec.specs.SignedCommits.{Commit, unsigned_bytes}
+use Rattle.car_reader.specs.declared.fault.CarFault.{CarFault}
+use Rattle.car_reader.specs.declared.fault.CarFault.TheVariants as car_errors
+use Rattle.signed_commits.specs.Views.{commit_of}
+use Rattle.signed_commits.specs.declared.commit.SignedCommit.{SignedCommit}
+use Rattle.signed_commits.specs.declared.fault.CommitFault.{CommitFault}
+use Rattle.signed_commits.specs.declared.fault.CommitFault.TheVariants as errors
+use Rattle.buffers.specs.Answers.{part_bytes, value_bytes}
+use Rattle.tizulgech.specs.Numbers.{IsHandedOr255}
+
+-- what is made of a CID; 252 for what is none
+abbrev pub IsMadeOf : ℕ → (List ℕ → List ℕ) → Option (List ℕ) → List ℕ → List ℕ → ℕ → Type 0
+IsMadeOf code made None before room size = code ≡ 252
+IsMadeOf code made (Some c) before room size = IsHandedOr255 code (made c) before room size
+
+-- ---- why bytes are no file
+
+abbrev pub car_number : cars.CarFault → ℕ
+car_number cars.BadHeader = 103
+car_number cars.BadLength = 104
+car_number cars.Truncated = 105
+car_number cars.BadCid = 106
+
+-- the same of a fault of the code; 255 for want of memory
+abbrev pub car_code : CarFault → ℕ
+car_code car_errors.BadHeader = 103
+car_code car_errors.BadLength = 104
+car_code car_errors.Truncated = 105
+car_code car_errors.BadCid = 106
+car_code car_errors.NoMemory = 255
+
+-- ---- a commit that is read
+
+-- how it is spelt: whose it is, the revision, the root, the commit before or zeros, the signature, and the bytes that were signed
+abbrev pub commit_spelt : Commit → List ℕ
+commit_spelt c = part_bytes c.did ++ part_bytes c.rev ++ c.root ++ value_bytes c.prev ++ part_bytes c.sig
+    ++ part_bytes (unsigned_bytes c)
+
+-- why bytes are no commit
+abbrev pub commit_number : commits.CommitFault → ℕ
+commit_number commits.NotACommit = 100
+commit_number commits.BadDid = 101
+commit_number commits.BadRev = 102
+
+-- the same of a fault of the code
+abbrev pub commit_code : CommitFault → ℕ
+commit_code errors.NotACommit = 100
+commit_code errors.BadDid = 101
+commit_code errors.BadRev = 102
+
+-- the commit of bytes, or the number of the fault
+abbrev pub IsCommitRead : ℕ → Result Commit commits.CommitFault → List ℕ → List ℕ → ℕ → Type 0
+IsCommitRead code (Ok c) before room size = IsHandedOr255 code (commit_spelt c) before room size
+IsCommitRead code (Err f) before room size = code ≡ commit_number f
+
+-- the same of an answer of the code
+abbrev pub IsCommitTold : ℕ → Result SignedCommit CommitFault → List ℕ → List ℕ → ℕ → Type 0
+IsCommitTold code (Ok c) before room size = IsHandedOr255 code (commit_spelt (commit_of c)) before room size
+IsCommitTold code (Err f) before room size = code ≡ commit_code f
