@@ -9,10 +9,12 @@ type Fault struct {
 	// Number and Name are those of the C header.
 	Number int
 	Name   string
-	// Place is that of the write in its batch, or of the change, from 0 on; 0 where there is none.
+	// Place is that of the write in its batch, of the change, or of the record, from 0 on; 0 where there is none.
 	Place int
 	// Cid is that of the node which is missing or is none; the zero Cid where no node is meant.
 	Cid Cid
+	// Path is the way to what is wrong in a JSON text, from the outside: .key and [place]; "" where the whole text is meant.
+	Path string
 
 	sentence string
 }
@@ -22,6 +24,8 @@ func (f *Fault) Error() string {
 	switch {
 	case f.Cid != (Cid{}):
 		return fmt.Sprintf("%s: %s", f.sentence, f.Cid)
+	case f.Path != "":
+		return fmt.Sprintf("%s: %s", f.Path, f.sentence)
 	case f.Place > 0:
 		return fmt.Sprintf("at place %d: %s", f.Place, f.sentence)
 	}
@@ -125,18 +129,18 @@ var (
 
 // Of records as JSON, and of files.
 var (
-	ErrNotJSON      = ofAll.add(60, "NOT_JSON", "the text is not JSON")
-	ErrDoubledKey   = ofAll.add(61, "DOUBLED_KEY", "a key stands twice in an object")
-	ErrJSONFloat    = ofAll.add(62, "JSON_FLOAT", "a number has a point or an exponent")
-	ErrJSONRange    = ofAll.add(63, "JSON_RANGE", "a whole number is outside of -(2^53 - 1) to 2^53 - 1")
-	ErrJSONLink     = ofAll.add(64, "JSON_LINK", "a link holds no CID of version 1 in base 32")
-	ErrJSONBytes    = ofAll.add(65, "JSON_BYTES", "bytes are not in base 64")
-	ErrJSONDollar   = ofAll.add(66, "JSON_DOLLAR", "an object with $link or $bytes has other keys")
-	ErrJSONDepth    = ofAll.add(67, "JSON_DEPTH", "lists and maps lie more than 64 levels deep")
-	ErrJSONNotAMap  = ofAll.add(68, "JSON_NOT_A_MAP", "the value is not a map")
-	ErrNoJSONForm   = ofAll.add(69, "NO_JSON_FORM", "the record has no JSON form")
-	ErrNotTheTree   = ofAll.add(77, "NOT_THE_TREE", "the file does not have a whole tree under its commit")
-	ErrNoRecord     = ofAll.add(78, "NO_RECORD", "the record is not in the file")
+	ErrNotJSON     = ofAll.add(60, "NOT_JSON", "the text is not JSON")
+	ErrDoubledKey  = ofAll.add(61, "DOUBLED_KEY", "a key stands twice in an object")
+	ErrJSONFloat   = ofAll.add(62, "JSON_FLOAT", "a number has a point or an exponent")
+	ErrJSONRange   = ofAll.add(63, "JSON_RANGE", "a whole number is outside of -(2^53 - 1) to 2^53 - 1")
+	ErrJSONLink    = ofAll.add(64, "JSON_LINK", "a link holds no CID of version 1 in base 32")
+	ErrJSONBytes   = ofAll.add(65, "JSON_BYTES", "bytes are not in base 64")
+	ErrJSONDollar  = ofAll.add(66, "JSON_DOLLAR", "an object with $link or $bytes has other keys")
+	ErrJSONDepth   = ofAll.add(67, "JSON_DEPTH", "lists and maps lie more than 64 levels deep")
+	ErrJSONNotAMap = ofAll.add(68, "JSON_NOT_A_MAP", "the value is not a map")
+	ErrNoJSONForm  = ofAll.add(69, "NO_JSON_FORM", "the record has no JSON form")
+	ErrNotTheTree  = ofAll.add(77, "NOT_THE_TREE", "the file does not have a whole tree under its commit")
+	ErrNoRecord    = ofAll.add(78, "NO_RECORD", "the record is not in the file")
 )
 
 // Of signed commits, of files, of messages, and of batches that are signed.

@@ -29,7 +29,7 @@ type CidCode = 'CID_LENGTH' | 'CID_PREFIX' | 'CID_LETTER' | 'CID_BITS' | 'CID_PR
 type BatchCode = RecordCode | 'BAD_KEY' | 'NOT_A_MAP' | 'RECORD_SIZE' | 'KEY_EXISTS' | 'NONE' | 'WRITES_FULL' | 'EMPTY_BATCH' | 'BAD_DID' | 'BAD_REV' | 'REV_ORDER'
 type TreeCode = 'MISSING' | 'NOT_ASCENDING' | 'BAD_KEY' | 'BAD_NODE' | 'TOO_MANY_NODES' | 'NOT_BUILT' | 'OTHER_VALUE' | 'OTHER_ROOT' | 'NOT_TREE'
 type JsonCode = 'NOT_JSON' | 'DOUBLED_KEY' | 'JSON_FLOAT' | 'JSON_RANGE' | 'JSON_LINK' | 'JSON_BYTES' | 'JSON_DOLLAR' | 'JSON_DEPTH' | 'JSON_NOT_A_MAP' | 'NO_JSON_FORM'
-type FileCode = RecordCode | CommitCode | 'BAD_KEY' | 'NOT_A_MAP' | 'RECORD_SIZE' | 'CAR_HEADER' | 'CAR_LENGTH' | 'CAR_TRUNCATED' | 'CAR_CID' | 'MISNAMED' | 'COMMIT_MISSING' | 'NOT_THE_TREE' | 'NO_RECORD'
+type FileCode = RecordCode | CommitCode | 'WRITES_FULL' | 'BAD_KEY' | 'NOT_A_MAP' | 'RECORD_SIZE' | 'CAR_HEADER' | 'CAR_LENGTH' | 'CAR_TRUNCATED' | 'CAR_CID' | 'MISNAMED' | 'COMMIT_MISSING' | 'NOT_THE_TREE' | 'NO_RECORD'
 type CommitCode = 'NOT_A_COMMIT' | 'COMMIT_DID' | 'COMMIT_REV'
 type MessageCode = RecordCode | CommitCode | 'NOT_A_MAP' | 'RECORD_SIZE' | 'BAD_DID' | 'BAD_REV' | 'BAD_NODE' | 'TOO_MANY_NODES' | 'OTHER_VALUE' | 'OTHER_ROOT' | 'NOT_TREE' | 'CAR_HEADER' | 'CAR_LENGTH' | 'CAR_TRUNCATED' | 'CAR_CID' | 'MESSAGE_SIZE' | 'NOT_A_MESSAGE' | 'MESSAGE_CBOR' | 'MESSAGE_NOT_A_MAP' | 'BAD_FIELD' | 'REBASE' | 'TOO_BIG' | 'TOO_MANY_OPS' | 'BLOCKS_SIZE' | 'BAD_SINCE' | 'SINCE_ORDER' | 'BAD_TIME' | 'BAD_OP' | 'DOUBLED_PATH' | 'OTHER_PREVIOUS' | 'NOT_THE_ROOT' | 'MISNAMED' | 'COMMIT_MISSING' | 'OTHER_DID' | 'OTHER_REV' | 'RECORD_MISSING' | 'MESSAGE_RECORD_SIZE' | 'NODE_MISSING'
 type SigningCode = BatchCode | 'TOO_MANY_OPS' | 'BLOCKS_SIZE' | 'BAD_SINCE' | 'SINCE_ORDER' | 'BAD_TIME' | 'BAD_OP' | 'OTHER_VALUE' | 'MESSAGE_RECORD_SIZE' | 'ROOT_MOVED' | 'BAD_SEQ' | 'NO_BATCH'
@@ -37,15 +37,20 @@ type RepositoryCode = 'CLOSED' | 'BUSY' | 'CHANGED'
 type AnyCode = 'BAD' | 'CLASH' | 'FULL' | 'NO_MEMORY'
 
 /** A call was refused: `code` as the header names it, `number` as it numbers it. */
-export class TizulgechError<Code extends string = string | JsonCode | FileCode> extends Error {
+export class TizulgechError<Code extends string = string> extends Error {
   constructor(number: number)
   readonly code: Code
   readonly number: number
 }
-/** Bytes are no record. */
-export class RecordError extends TizulgechError<RecordCode | AnyCode> {}
-/** A text, or bytes, are no CID of this profile. */
-export class CidError extends TizulgechError<CidCode> {}
+/** Bytes are no record, or a record has no JSON text. */
+export class RecordError extends TizulgechError<RecordCode | JsonCode | AnyCode> {}
+/** A text is no record as JSON. */
+export class JsonError extends TizulgechError<JsonCode | AnyCode> {
+  /** The way to its first fault from the outside, `.key` and `[place]`; '' where the whole text is faulty. */
+  readonly path?: string
+}
+/** A text, or bytes, are no CID of this profile, or no link's. */
+export class CidError extends TizulgechError<CidCode | AnyCode> {}
 /** A batch, a write or a stamp was refused. */
 export class BatchError extends TizulgechError<SigningCode | AnyCode> {
   /** The place of the refused write, from 0. */
@@ -60,6 +65,11 @@ export class TreeError extends TizulgechError<TreeCode | AnyCode> {
 }
 /** Bytes are no signed commit. */
 export class CommitError extends TizulgechError<CommitCode | AnyCode> {}
+/** A file is no export of a repository, or none is opened with it. */
+export class FileError extends TizulgechError<FileCode | AnyCode> {
+  /** The place of the record that isn't taken, from 0; 0 where something else is faulty. */
+  readonly place: number
+}
 /** A message isn't taken. */
 export class MessageError extends TizulgechError<MessageCode | AnyCode> {
   /** The place of an operation, or of a field in the order of DAG-CBOR; for MESSAGE_CBOR the number of its fault. */
@@ -84,6 +94,15 @@ export function cidsOf(blocks: Iterable<Uint8Array>): Promise<Cid[]>
 /** Throws a RecordError unless the bytes are one value in DAG-CBOR. */
 export function checkRecord(record: Uint8Array): void
 
+/** The one JSON text of a record, by the AT Protocol's data model; throws a RecordError where the bytes are no value in DAG-CBOR, or it has no
+ * such text, as where it has a number outside of -(2^53 - 1) to 2^53 - 1. */
+export function recordJson(record: Uint8Array): string
+/** The record in DAG-CBOR that a JSON text is, of any layout; throws a JsonError. */
+export function jsonRecord(json: Bytes): Uint8Array
+/** The text in which a link has a CID of version 1, whatever its codec and hash are, as that of a blob; and the CID with such a text. */
+export function linkText(cid: Uint8Array): string
+export function linkFromText(link: Bytes): Uint8Array
+
 export interface Stamp { did: Bytes; rev: Bytes }
 export type At = { key: Bytes } | { collection: string; rkey: string }
 /** The record is DAG-CBOR. */
@@ -104,6 +123,13 @@ export function readCommit(block: Uint8Array): SignedCommit
 /** The header of a file (CARv1) with this root, and the section of a block with its CID, which isn't tested. */
 export function fileHead(root: CidLike): Uint8Array
 export function fileSection(cid: CidLike, block: Uint8Array): Uint8Array
+
+/** Of which repository a file is the export: the CID of its signed commit, the root of its tree, how many records it has, its DID and its
+ * revision. */
+export interface Export { commit: Cid; root: Cid; count: number; did: string; rev: string }
+/** Rejects with a FileError unless the CAR file is the export of a repository, as com.atproto.sync.getRepo serves it. Nothing of it is trusted;
+ * no signature is tested. */
+export function checkCar(file: Uint8Array): Promise<Export>
 
 /** What a key had and has, as the library told it. */
 export interface Operation { key: string; prev: Cid | null; cid: Cid | null }
@@ -127,6 +153,9 @@ export function treeRoot(pairs: Iterable<readonly [Bytes, CidLike]>): Promise<{ 
 export function listingCar(stamp: Stamp, records: Iterable<readonly [Bytes, Uint8Array]>): Promise<Uint8Array>
 /** What stands below a node, in the order of a CAR file. */
 export function links(node: Uint8Array): { isNode: boolean; cid: Cid }[]
+/** The pairs and the links of a node, from the front: the link before the first key, and each pair with the link behind it. A key is text, or its
+ * bytes where these are no UTF-8. */
+export function nodeEntries(node: Uint8Array): { left: Cid | null; pairs: { key: Bytes; cid: Cid; link: Cid | null }[] }
 
 /** What the tree with this root has under a key, as the nodes of a proof show: its value's CID, or null where it has none. */
 export function verify(root: CidLike, proof: Iterable<Uint8Array>, key: Bytes): Promise<Cid | null>
@@ -158,11 +187,15 @@ export const tree: {
   path(get: GetNode, root: CidLike, key: Bytes): Promise<{ path: Uint8Array[]; value: Cid | null }>
   get(get: GetNode, root: CidLike, key: Bytes): Promise<Cid | null>
   apply(get: GetNode, root: CidLike, changes: Changes): Promise<Edit>
+  /** What changes make of a tree, and what shows it to whoever knows its root. */
+  proveChange(get: GetNode, root: CidLike, changes: Changes): Promise<ChangeProof>
+  /** The first keys from one on: 256, or `most`. The next ones begin at the last key with a zero byte behind it. */
+  list(get: GetNode, root: CidLike, from?: Bytes, most?: number): Promise<{ key: Bytes; cid: Cid }[]>
 }
 
 /** The root after a batch, the root before it, and the CID of its commit. */
 export interface Applied { root: Cid; previous: Cid; commit: Cid }
-/** What changes make of a repository, and what shows it: what verifyChange takes. */
+/** What changes make of a repository or a tree, and what shows it: what verifyChange takes. */
 export interface ChangeProof { after: Cid; changes: KeyChange[]; nodes: Uint8Array[] }
 /** What the writes of a batch will make of a repository: `unsigned` is what is signed. */
 export interface Preview { previous: Cid; root: Cid; unsigned: Uint8Array; changes: Operation[] }
@@ -174,6 +207,8 @@ export class Repository {
   private constructor()
   /** Opens one that takes so many writes, 1 to 1,048,576. */
   static open(limit: number | bigint): Repository
+  /** Opens one with the records of a CAR file, which is checked as by checkCar: they are one batch, under the DID and the revision of its commit. */
+  static openCar(limit: number | bigint, file: Uint8Array): Promise<Repository>
   close(): void
   [Symbol.dispose](): void
   /** Accepts all writes of a batch, in order, or none of them. */

@@ -74,7 +74,7 @@ typedef struct call {
 } call;
 
 /* calls.c */
-extern const call calls[], open_call, close_call;
+extern const call calls[], open_call, open_car_call, close_call;
 extern const size_t call_count;
 int64_t weight(const job *); /* what a call that was made adds to a repository, about */
 
@@ -87,6 +87,8 @@ void give_back(job *);
 
 /* repositories.c */
 slot *slot_of(instance *, uint64_t number);
+bool has_place(job *);
+void opened(job *);
 void close_slot(napi_env, instance *, slot *);
 void tell(napi_env, slot *, int64_t more);
 napi_value open_now(napi_env, napi_callback_info);
@@ -96,6 +98,7 @@ napi_value close_now(napi_env, napi_callback_info);
 void write_fixed(const job *, uint8_t *to);
 napi_value call_now(napi_env, napi_callback_info);
 napi_value call_later(napi_env, napi_callback_info);
+napi_value open_later(napi_env, napi_callback_info);
 
 /* setup.c */
 napi_value set_up(napi_env, napi_value exports);

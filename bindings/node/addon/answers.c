@@ -107,6 +107,7 @@ static void finish(napi_env env, napi_status status, void *data) {
     if (status != napi_ok) j->answer = TIZULGECH_NO_MEMORY;
     j->own->waiting--;
     if (j->slot) {
+        if (!j->slot->is_open) opened(j);
         j->slot->is_busy = false;
         if (status == napi_ok && !j->answer) tell(env, j->slot, weight(j));
         if (j->slot->is_left) close_slot(env, j->own, j->slot);
@@ -126,17 +127,22 @@ static bool is_queued(napi_env env, job *j, napi_value *promise) {
 }
 
 /* A promise, or the number of an answer that is had without the call. */
-napi_value call_later(napi_env env, napi_callback_info info) {
+static napi_value made_later(napi_env env, napi_callback_info info, bool opens) {
     job *j = malloc(sizeof *j);
     napi_value answer;
     if (!j) return no_memory(env), NULL;
     if (!taken(env, info, j, false)) return drop(j), NULL;
-    if (j->answer) {
+    if (j->answer || (opens && !has_place(j))) {
         if (napi_create_uint32(env, j->answer, &answer) != napi_ok) answer = NULL;
         return drop(j), answer;
     }
-    if (!is_queued(env, j, &answer)) return drop(j), NULL;
+    if (!is_queued(env, j, &answer)) {
+        if (opens) j->answer = TIZULGECH_NO_MEMORY, opened(j);
+        return drop(j), NULL;
+    }
     j->own->waiting++;
     if (j->slot) j->slot->is_busy = true;
     return answer;
 }
+napi_value call_later(napi_env env, napi_callback_info info) { return made_later(env, info, false); }
+napi_value open_later(napi_env env, napi_callback_info info) { return made_later(env, info, true); }

@@ -12,11 +12,21 @@
 
 static uint32_t run_version(job *j) { return (void)j, (uint32_t)tizulgech_version(); }
 static uint32_t run_open(job *j) { return tizulgech_open(N(0), R); }
+static uint32_t run_open_car(job *j) { return tizulgech_open_car(N(0), B(1), R, PLACE); }
 static uint32_t run_cid(job *j) { return tizulgech_cid(B(0), C(0)), 0; }
 static uint32_t run_cid_text(job *j) {
     j->size = 59;
     if (j->room_len < 59) return TIZULGECH_SMALL;
     return tizulgech_cid_text(B(0), j->room, 59) ? TIZULGECH_DONE : TIZULGECH_BAD;
+}
+
+/* The way to a fault of a text is an answer too, beside which the place is the fault's number. */
+static uint32_t run_json_record(job *j) {
+    uint32_t answer = tizulgech_json_record(B(0), OUT);
+    bool is_way = answer >= TIZULGECH_NOT_JSON && answer <= TIZULGECH_JSON_NOT_A_MAP;
+    j->place = is_way ? answer : 0;
+    if (!is_way) return answer;
+    return j->size > j->room_len ? TIZULGECH_SMALL : TIZULGECH_DONE;
 }
 
 /* All writes of a batch wait: kinds, keys and records stand side by side. */
@@ -57,15 +67,18 @@ static uint32_t run_apply_signed(job *j) {
 
 const call calls[] = {
     {"version", "", run_version}, {"cid", "b", run_cid}, {"cid_text", "bh", run_cid_text}, {"apply", "rbbbll", run_apply},
+    {"json_record", "bh", run_json_record},
     {"preview", "rbbbllh", run_preview}, {"apply_signed", "rbbbllbbnbbh", run_apply_signed},
 #define CALL(name, letters, ...) {#name, letters, run_##name},
 #include "calls.def"
 #undef CALL
 };
 const size_t call_count = sizeof calls / sizeof *calls;
-const call open_call = {"open", "n", run_open}, close_call = {"close", "rf", NULL};
+const call open_call = {"open", "n", run_open}, open_car_call = {"open_car", "nb", run_open_car}, close_call = {"close", "rf", NULL};
 
-/* Of a batch what its writes weigh in the repository. */
+/* Of an opening what the repository weighs, and of a batch what its writes weigh in it. */
 int64_t weight(const job *j) {
+    if (j->call->run == run_open) return 4096;
+    if (j->call->run == run_open_car) return (int64_t)(4096 + 2 * j->arguments[1].len);
     return j->call->run == run_apply || j->call->run == run_apply_signed ? (int64_t)(700 * j->arguments[3].len + j->arguments[5].len) : 0;
 }

@@ -38,18 +38,28 @@ void close_slot(napi_env env, instance *own, slot *it) {
     own->free[own->free_count++] = it->index;
 }
 
+/* Whether there is a place for a repository that a call is to open. */
+bool has_place(job *j) {
+    j->slot = new_slot(j->own);
+    if (!j->slot) j->answer = TIZULGECH_NO_MEMORY;
+    return j->slot;
+}
+
+/* What becomes of it, and the number of the new repository. */
+void opened(job *j) {
+    if (j->answer) j->own->free[j->own->free_count++] = j->slot->index;
+    else j->slot->is_open = true, j->number = (uint64_t)j->slot->turn << 20 | j->slot->index;
+}
+
 /* The number of a new repository is written to the slate. */
 napi_value open_now(napi_env env, napi_callback_info info) {
     job it, *j = &it;
     napi_value answer = NULL;
     if (!taken(env, info, j, true)) return give_back(j), NULL;
-    j->slot = new_slot(j->own);
-    if (!j->slot) j->answer = TIZULGECH_NO_MEMORY;
-    else {
+    if (has_place(j)) {
         j->answer = j->call->run(j);
-        j->number = (uint64_t)j->slot->turn << 20 | j->slot->index;
-        if (j->answer) j->own->free[j->own->free_count++] = j->slot->index;
-        else j->slot->is_open = true, tell(env, j->slot, 4096);
+        opened(j);
+        if (!j->answer) tell(env, j->slot, weight(j));
         write_fixed(j, j->own->slate);
     }
     napi_create_uint32(env, j->answer, &answer);

@@ -1,6 +1,6 @@
 /** Changes of keys. */
 import { sizeOf, packed } from './native.js'
-import { Cid, joined } from './cids.js'
+import { Cid, Reader, joined } from './cids.js'
 import { listOf, wrong } from './given.js'
 import { keyBytes } from './keys.js'
 
@@ -26,6 +26,12 @@ export class Wanted {
   told(reader) {
     return this.given.map(it => ({ key: typeof it.key === 'string' ? it.key : it.bytes, prev: reader.value(), cid: it.value }))
   }
+}
+
+/** What changes make of a tree, and what shows it, as an answer has both. */
+export function proofOf(bytes, wanted) {
+  const reader = new Reader(bytes)
+  return { after: reader.cid(), changes: wanted.told(reader), nodes: reader.parts() }
 }
 
 const side = (change, name) => {

@@ -1,6 +1,6 @@
 /** The numbers that calls answer: the header's name of each and what it says, and an error for each kind of call. */
 
-export const NONE = 24, BAD_NODE = 30, OTHER_VALUE = 33, MISSING = 2, BELOW = 1, TOO_MANY_NODES = 31, BAD_KEY = 20, NODE_MISSING = 129
+export const NONE = 24, BAD_NODE = 30, OTHER_VALUE = 33, MISSING = 2, BELOW = 1, TOO_MANY_NODES = 31, BAD_KEY = 20, NODE_MISSING = 129, RECORD_SIZE = 22, NO_RECORD = 78
 export const CLOSED = 250, BUSY = 256, CHANGED = 257
 
 export const OF_RECORDS = {
@@ -105,9 +105,10 @@ const OF_ALL = {
   257: ['CHANGED', 'a batch came between two parts of the repository'],
 }
 
-const sentence = (text, { cid, place, what = 'change' }) => {
+const sentence = (text, { cid, path, place, what = 'change' }) => {
   if (cid) return `${text}: ${cid}`
-  return place === undefined ? text : `${what} ${place}: ${text}`
+  if (path) return `${path}: ${text}`
+  return place === undefined || what === null ? text : `${what} ${place}: ${text}`
 }
 
 /** A call was refused. */
@@ -119,12 +120,15 @@ export class TizulgechError extends Error {
     this.code = code
     if (more.place !== undefined) this.place = more.place
     if (more.cid) this.cid = more.cid
+    if (more.path !== undefined) this.path = more.path
   }
   get name() { return this.constructor.name }
 }
-/** Bytes are no record. */
+/** Bytes are no record, or a record has no JSON text. */
 export class RecordError extends TizulgechError {}
-/** A text, or bytes, are no CID of this profile. */
+/** A text is no record as JSON: `path` is the way to its first fault. */
+export class JsonError extends TizulgechError {}
+/** A text, or bytes, are no CID of this profile, or no link's. */
 export class CidError extends TizulgechError {}
 /** A batch, a write or a stamp was refused: `place` is that of the write. */
 export class BatchError extends TizulgechError {}
@@ -132,6 +136,8 @@ export class BatchError extends TizulgechError {}
 export class TreeError extends TizulgechError {}
 /** Bytes are no signed commit. */
 export class CommitError extends TizulgechError {}
+/** A file is no export of a repository, or none is opened with it: `place` is that of a record. */
+export class FileError extends TizulgechError {}
 /** A message isn't taken: `place` is that of an operation or a field, `cid` that of a node. */
 export class MessageError extends TizulgechError {}
 /** A repository is closed, busy, or wasn't opened. */
@@ -142,3 +148,6 @@ export const repositoryFault = (number, Kind = TizulgechError, table, more) => i
 export const batchFault = (number, more) => repositoryFault(number, BatchError, number < BAD_KEY ? OF_RECORDS : undefined, more)
 export const messageFault = (number, more) => repositoryFault(number, MessageError, number < BAD_KEY ? OF_RECORDS : undefined, more)
 export const treeFault = (number, more) => repositoryFault(number, TreeError, OF_TREES, more)
+/** Of a fault that isn't of a record the place is 0. */
+export const fileFault = (number, place) =>
+  new FileError(number, number < BAD_KEY ? OF_RECORDS : undefined, { place, what: number <= RECORD_SIZE || number === NO_RECORD ? 'record' : null })

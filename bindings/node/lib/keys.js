@@ -24,6 +24,11 @@ export function parseDataKey(key) {
   return { collection, rkey }
 }
 
+/** A key of a tree as text; its bytes where these are no UTF-8. */
+export function keyText(bytes) {
+  const text = Buffer.from(bytes).toString()
+  return Buffer.compare(Buffer.from(text), bytes) ? bytes : text
+}
 /** The bytes of a key of a tree; whether a tree may have it is said by the call that is given it. */
 export function keyBytes(key) {
   // The addon sees that it is bytes or UTF-8.

@@ -3,6 +3,7 @@ import { MANY, called, cidAt, filled, isLong, native, numberOf, packed, sizeOf }
 import { Reader, joined, made, raw } from './cids.js'
 import { TreeError, treeFault } from './faults.js'
 import { block, listOf, wrong } from './given.js'
+import { keyText } from './keys.js'
 
 /** The one node of the tree of no keys. */
 export const EMPTY_NODE = Uint8Array.of(0xa2, 0x61, 0x65, 0x80, 0x61, 0x6c, 0xf6)
@@ -36,3 +37,14 @@ export function links(node) {
   for (const reader = new Reader(filled(answer)); reader.more;) found.push({ isNode: reader.byte() === 1, cid: reader.cid() })
   return found
 }
+
+/** The pairs and the links of the node with this CID. */
+export function entriesOf(node, cid) {
+  const answer = native.node_entries(node, 0)
+  if (numberOf(answer)) throw new TreeError(answer, undefined, { cid })
+  const reader = new Reader(filled(answer)), left = reader.value(), pairs = []
+  while (reader.more) pairs.push({ key: keyText(reader.part()), cid: reader.cid(), link: reader.value() })
+  return { left, pairs }
+}
+/** The pairs and the links of a node, from the front: the link before the first key, and each pair with the link behind it. */
+export const nodeEntries = node => entriesOf(block(node))

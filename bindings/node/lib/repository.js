@@ -2,10 +2,10 @@
 import { setImmediate } from 'node:timers/promises'
 import { MANY, called, cidAt, filled, firstCid, firstNumber, isLong, native, numberOf, packed, sizeOf } from './native.js'
 import { Reader, made, raw } from './cids.js'
-import { Wanted, told } from './changes.js'
+import { Wanted, proofOf, told } from './changes.js'
 import { previewOf } from './commits.js'
-import { BUSY, CHANGED, NONE, OTHER_VALUE, RepositoryError, batchFault, repositoryFault, treeFault } from './faults.js'
-import { listOf, outOfRange, wrong } from './given.js'
+import { BUSY, CHANGED, NONE, OTHER_VALUE, RepositoryError, batchFault, fileFault, repositoryFault, treeFault } from './faults.js'
+import { block, listOf, outOfRange, wrong } from './given.js'
 import { links } from './listings.js'
 import { keyOf, kindOf, recordOf } from './writes.js'
 
@@ -51,6 +51,13 @@ export class Repository {
     const number = native.open(limit)
     if (number) throw new RepositoryError(number)
     return new Repository(firstNumber(), SECRET)
+  }
+  /** Opens one with the records of a CAR file, as com.atproto.sync.getRepo serves it, which is checked as by `checkCar`: they are one batch of so
+   * many writes, under the DID and the revision of the file's commit. Its own commit has no signature, and so another CID than the file's. */
+  static async openCar(limit, file) {
+    const own = block(file), answer = await called(isLong([own]), 'open_car', limit, own)
+    if (answer.number) throw fileFault(answer.number, answer.place)
+    return new Repository(answer.place, SECRET)
   }
   /** Lets it go. Any later call is refused with the code CLOSED. */
   close() {
@@ -179,8 +186,7 @@ export class Repository {
   async proveChange(changes) {
     const wanted = new Wanted(changes), answer = await called(wanted.length > MANY, 'prove_change', this.#id, ...wanted.part(), roomForProof(wanted.length))
     if (answer.number) throw treeFault(answer.number)
-    const reader = new Reader(answer.bytes)
-    return { after: reader.cid(), changes: wanted.told(reader), nodes: reader.parts() }
+    return proofOf(answer.bytes, wanted)
   }
   /** The nodes that show that changes undone lead back from the repository as it is: each a key, what it had and what it has; the keys ascend.
    * That each key has what is told is looked at; of what it had this repository knows nothing. To who doesn't know that some records have the

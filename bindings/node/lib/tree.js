@@ -1,10 +1,11 @@
 /** Trees whose nodes stand elsewhere, as in a database. */
 import { called, cidAt, filled, firstCid, isLong, native, packed, sizeOf } from './native.js'
 import { Cid, Reader, cidsOf, joined, made, raw } from './cids.js'
-import { Wanted } from './changes.js'
+import { Wanted, proofOf } from './changes.js'
 import { BAD_NODE, BELOW, MISSING, NONE, OF_TREES, TOO_MANY_NODES, TreeError, treeFault } from './faults.js'
-import { block, wrong } from './given.js'
+import { block, outOfRange, wrong } from './given.js'
 import { keyBytes } from './keys.js'
+import { entriesOf } from './listings.js'
 
 /** No tree has more layers. */
 const LAYERS = 129
@@ -60,12 +61,22 @@ class Asked {
     }
     return links
   }
+  /** What of a node isn't before a key, the next last: pairs, and nodes with how many layers they may have. */
+  async entriesFrom({ cid, layers }, begin) {
+    if (!layers) throw fault(TOO_MANY_NODES)
+    await this.ask([cid])
+    const { left, pairs } = entriesOf(this.of(cid), cid), below = link => link ? [{ cid: link, layers: layers - 1 }] : []
+    const passed = pairs.filter(it => Buffer.compare(Buffer.from(it.key), begin) < 0).length
+    const found = below(passed ? pairs[passed - 1].link : left)
+    for (const it of pairs.slice(passed)) found.push({ key: it.key, cid: it.cid }, ...below(it.link))
+    return found.reverse()
+  }
   /** What the library answers to changes over the nodes that are here. */
-  edited(root, wanted) {
+  answered(name, root, wanted) {
     const given = Array.from(this.nodes.values()), nodes = given.map(it => it.node)
     // Room for the answer of nearly any edit: where it is too small all is made once more.
     const room = sizeOf(nodes) + 128 * nodes.length + wanted.size + 256 * wanted.length + 1024
-    return called(isLong(nodes) || isLong(wanted.keys), 'tree_apply', packed(nodes), joined(given.map(it => it.cid)), raw(root), ...wanted.part(), room)
+    return called(isLong(nodes) || isLong(wanted.keys), name, packed(nodes), joined(given.map(it => it.cid)), raw(root), ...wanted.part(), room)
   }
 }
 
@@ -74,6 +85,27 @@ function editOf(bytes, wanted) {
   for (let left = reader.number(); left; left--) edit.removedCids.push(reader.cid())
   while (reader.more) edit.newBlocks.push({ cid: reader.cid(), bytes: reader.part() })
   return edit
+}
+
+/** What a call answers to changes over the nodes that these need, which are asked for layer by layer. */
+async function overAsked(name, get, root, changes, read) {
+  const wanted = new Wanted(changes), asked = new Asked(get), top = Cid.from(root)
+  await asked.askBelow(top, wanted)
+  for (;;) {
+    const answer = await asked.answered(name, top, wanted)
+    if (!answer.number) return read(answer.bytes, wanted)
+    const cid = answer.number === MISSING || answer.number === BAD_NODE ? made(cidAt(answer.cids, 0)) : undefined
+    if (answer.number !== MISSING) throw treeFault(answer.number, { cid })
+    // Nodes that are no tree's may need another one.
+    if (asked.has(cid)) throw fault(BAD_NODE, cid)
+    await asked.ask([cid])
+  }
+}
+
+function countOf(it) {
+  if (typeof it !== 'number') throw wrong('a count is a number')
+  if (!(it >= 0)) throw outOfRange('a count is not below 0')
+  return it
 }
 
 export const tree = {
@@ -97,16 +129,20 @@ export const tree = {
   },
   /** Changes keys of a tree at once: each gets a value, or goes where that is null. */
   async apply(get, root, changes) {
-    const wanted = new Wanted(changes), asked = new Asked(get), top = Cid.from(root)
-    await asked.askBelow(top, wanted)
-    for (;;) {
-      const answer = await asked.edited(top, wanted)
-      if (!answer.number) return editOf(answer.bytes, wanted)
-      const cid = answer.number === MISSING || answer.number === BAD_NODE ? made(cidAt(answer.cids, 0)) : undefined
-      if (answer.number !== MISSING) throw treeFault(answer.number, { cid })
-      // Nodes that are no tree's may need another one.
-      if (asked.has(cid)) throw fault(BAD_NODE, cid)
-      await asked.ask([cid])
+    return overAsked('tree_apply', get, root, changes, editOf)
+  },
+  /** What changes make of a tree, and the nodes that show it to whoever knows its root, as `proveChange` has it of a repository. */
+  async proveChange(get, root, changes) {
+    return overAsked('tree_prove_change', get, root, changes, proofOf)
+  },
+  /** The first keys from one on, so many at most, each with its record's CID. */
+  async list(get, root, from = '', most = 256) {
+    const asked = new Asked(get), begin = keyBytes(from), count = countOf(most), found = [], left = [{ cid: Cid.from(root), layers: LAYERS }]
+    while (left.length && found.length < count) {
+      const next = left.pop()
+      if (next.key === undefined) left.push(...await asked.entriesFrom(next, begin))
+      else found.push(next)
     }
+    return found
   },
 }

@@ -129,11 +129,23 @@ test('of changes', async () => {
   one.close()
 })
 
+const table = JSON.parse(fileBeside('cases.json'))
+/** Hexadecimal in parts with a space between two, in which x*n stands for n times x. */
+const data = text => Buffer.concat(text.split(' ').map(it => it.split('*')).map(([part, count = 1]) => hex(part.repeat(count))))
+const refused = call => table.calls.filter(it => it.call === call && it.fault)
+
+test('of records as JSON, links and files', async () => {
+  for (const it of refused('record_json')) await fails(() => t.recordJson(data(it.record)), t.RecordError, it.fault)
+  for (const it of refused('json_record')) await fails(() => t.jsonRecord(it.text), t.JsonError, it.fault, { path: it.path })
+  for (const it of refused('link_text')) await fails(() => t.linkText(data(it.bytes)), t.CidError, it.fault)
+  for (const it of refused('link_from_text')) await fails(() => t.linkFromText(it.text), t.CidError, it.fault)
+  for (const it of refused('check_car')) await fails(() => t.checkCar(data(it.file)), t.FileError, it.fault, { place: it.place })
+  for (const it of refused('open_car')) await fails(() => t.Repository.openCar(it.limit, data(it.file)), t.FileError, it.fault, { place: it.place })
+  await fails(() => t.nodeEntries(hex('78')), t.TreeError, 'BAD_NODE')
+})
+
 test('of commits, messages and signed batches', async () => {
-  const table = JSON.parse(fileBeside('cases.json')), root = t.Cid.parse(EMPTY)
-  // Hexadecimal in parts with a space between two, in which x*n stands for n times x.
-  const data = text => Buffer.concat(text.split(' ').map(it => it.split('*')).map(([part, count = 1]) => hex(part.repeat(count))))
-  const refused = call => table.calls.filter(it => it.call === call && it.fault)
+  const root = t.Cid.parse(EMPTY)
   for (const it of refused('read_commit')) await fails(() => t.readCommit(data(it.bytes)), t.CommitError, it.fault)
   for (const it of refused('check_commit')) await fails(() => t.checkCommit(it.previous, data(it.message)), t.MessageError, it.fault, { place: it.place })
   const one = t.Repository.open(9), told = { previous: root, sig: hex('00'), seq: 1, time: '2026-11-30T12:00:00Z', since: null }
@@ -153,8 +165,8 @@ test('of commits, messages and signed batches', async () => {
 })
 
 test('the codes are those of the header, and each was seen', () => {
-  const header = fileBeside('c/tizulgech.h'), table = header.slice(header.indexOf('enum {'), header.indexOf('};'))
-  const named = Array.from(table.matchAll(/TIZULGECH_(\w+) = (\d+)/g), ([, name, number]) => [name, Number(number)])
+  const header = fileBeside('c/tizulgech.h'), numbers = header.slice(header.indexOf('enum {'), header.indexOf('};'))
+  const named = Array.from(numbers.matchAll(/TIZULGECH_(\w+) = (\d+)/g), ([, name, number]) => [name, Number(number)])
   const own = readFileSync(new URL('../lib/faults.js', import.meta.url), 'utf8')
   for (const [name, number] of named) assert(name === 'DONE' || own.includes(`${number}: ['${name}'`), name)
   // Those that are no faults to whoever calls from here, those that want a clash, a full store or no memory, and one that no accepted batch has.

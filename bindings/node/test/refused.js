@@ -13,6 +13,9 @@ const nodes = new Map(), { newBlocks } = await t.tree.apply(() => t.EMPTY_NODE, 
 for (const { cid, bytes } of newBlocks) nodes.set(`${cid}`, bytes)
 const get = cid => nodes.get(`${cid}`), gone = names.map(it => [it, null]), changed = await one.proveChange(gone)
 const inverted = [{ key: names[0], prev: null, cid: pairs[0].cid }]
+const signed = t.signedCommit(stamp(1), root, hex('00')), top = t.cidOf(signed), [, , ...sections] = await all(one.carSections())
+const file = Buffer.concat([t.fileHead(top), t.fileSection(top, signed), ...sections])
+const longJson = `{"${'é'.repeat(20_000)}":1.5}`
 const long = 'x'.repeat(900), veryLong = 'x'.repeat(1 << 21)
 
 const calls = {
@@ -26,10 +29,19 @@ const calls = {
   listingCar: () => t.listingCar(stamp(1), names.slice(0, 3).map((it, n) => [it, blocks[n]])),
   listingCarOfMany: () => t.listingCar(stamp(1), names.slice(0, 30).map((it, n) => [it, blocks[n]])),
   links: () => t.links(proof[0]),
+  nodeEntries: () => t.nodeEntries(proof[0]),
+  recordJson: () => t.recordJson(hex('a1616b81a1616b01')),
+  jsonRecord: () => t.jsonRecord('{"k":[{"k":1}]}'),
+  aLongWay: () => { try { t.jsonRecord(longJson) } catch (it) { if (it.code !== 'JSON_FLOAT') throw it } },
+  linkText: () => t.linkFromText(t.linkText(root.bytes)),
+  checkCar: () => t.checkCar(file),
+  openCar: async () => (await t.Repository.openCar(100, file)).close(),
   verify: () => t.verify(root, proof, names[3]),
   verifyChange: () => t.verifyChange(root, changed.after, changed.nodes, changed.changes),
   verifyInversion: async () => t.verifyInversion(EMPTY, root, await one.proveInversion(inverted), inverted).catch(it => { if (it.code !== 'OTHER_ROOT') throw it }),
   treePath: () => t.tree.path(get, root, names[3]),
+  treeList: () => t.tree.list(get, root, names[3]),
+  treeProveChange: () => t.tree.proveChange(get, root, gone.slice(0, 2)),
   treeApply: () => t.tree.apply(get, root, gone.slice(0, 2)),
   treeApplyOfMany: () => t.tree.apply(get, root, gone),
   open: () => t.Repository.open(10).close(),

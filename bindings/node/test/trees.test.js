@@ -77,3 +77,23 @@ test('a callback that throws, rejects, or answers something else', async () => {
   const inner = await t.tree.apply(async () => (await t.tree.apply(() => t.EMPTY_NODE, EMPTY, { b: EMPTY }), t.EMPTY_NODE), EMPTY, { a: EMPTY })
   assert(inner.root.equals((await t.treeRoot([['a', EMPTY]])).root))
 })
+
+test('pages of a listing, and what shows a step', async () => {
+  const value = t.cidOf(Buffer.from('record')), plain = new Map(Array.from({ length: 500 }, (_, n) => [key(n), value])), own = sorted(plain).map(([it]) => it)
+  const full = await t.tree.apply(() => t.EMPTY_NODE, EMPTY, plain), nodes = new Map(full.newBlocks.map(({ cid, bytes }) => [`${cid}`, bytes]))
+  const get = cid => nodes.get(`${cid}`), found = []
+  for (let from = '', page; (page = await t.tree.list(get, full.root, from, 7)).length; from = `${page.at(-1).key}\0`) found.push(...page)
+  assert.deepEqual(found.map(it => it.key), own)
+  assert.deepEqual((await t.tree.list(get, full.root, own[490])).map(it => it.key), own.slice(490))
+  assert.equal((await t.tree.list(get, full.root)).length, 256)
+  assert.equal(await code(() => t.tree.list(get, full.root, '', '7')), 'ERR_INVALID_ARG_TYPE')
+  assert.equal(await code(() => t.tree.list(get, full.root, '', -1)), 'ERR_OUT_OF_RANGE')
+  // the same changes with and without the nodes of a repository in memory
+  const changes = [...own.slice(0, 40).map(it => [it, null]), ['b.b.c/new', value]], proof = await t.tree.proveChange(get, full.root, changes)
+  const edit = await t.tree.apply(get, full.root, changes)
+  assert.deepEqual([`${proof.after}`, proof.changes.map(it => [it.key, ...texts([it.prev, it.cid])])], [`${edit.root}`, edit.changes.map(it => [it.key, ...texts([it.prev, it.cid])])])
+  await t.verifyChange(full.root, proof.after, proof.nodes, proof.changes)
+  // a key that is no text
+  const odd = Uint8Array.of(0xff, 1), { root, newBlocks } = await t.tree.apply(() => t.EMPTY_NODE, EMPTY, [[odd, value], ['\ufffd', value]])
+  assert.deepEqual((await t.tree.list(() => newBlocks[0].bytes, root)).map(it => it.key), ['\ufffd', odd])
+})

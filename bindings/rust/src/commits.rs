@@ -41,7 +41,8 @@ impl SignedCommit {
     /// ```
     pub fn bytes_of(stamp: Stamp<'_>, root: &Cid, sig: &[u8]) -> Result<Vec<u8>, TreeFault> {
         let (did, rev) = (stamp.did.as_bytes(), stamp.rev.as_bytes());
-        filled(160 + did.len() + sig.len(), |out, size| sys::signed_commit(did, rev, &root.0, sig, out, size)).map_err(TreeFault::of)
+        filled(160 + did.len() + sig.len(), |out, size| sys::signed_commit(did, rev, &root.0, sig, out, size))
+            .map_err(TreeFault::of)
     }
 
     /// What the signed commit of these bytes says, or why they are none.

@@ -70,9 +70,9 @@ mod values;
 pub use changes::{ChangeProof, InversionProof, KeyChange, ProvenChange};
 pub use commits::{SignedCommit, file_head, file_section};
 pub use faults::{
-    BatchError, BatchFault, ChangeFault, CheckError, CheckFault, CidFault, CommitFault, JsonError, JsonFault, LinkFault, MessageError,
-    MessageFault, NoMemory, NodeFault, OpenError, ProofFault, ProvingFault, RecordFault, RecordJsonFault, SigningError, SigningFault,
-    StampFault, TreeFault,
+    BatchError, BatchFault, ChangeFault, CheckError, CheckFault, CidFault, CommitFault, JsonError, JsonFault, LinkFault,
+    MessageError, MessageFault, NoMemory, NodeFault, OpenError, ProofFault, ProvingFault, RecordFault, RecordJsonFault,
+    SigningError, SigningFault, StampFault, TreeFault,
 };
 pub use messages::{CheckedCommit, Operation, Preview, Told, check_commit};
 pub use records::{Export, check_car, json_record, link_from_text, link_text, record_json};

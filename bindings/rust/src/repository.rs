@@ -1,6 +1,8 @@
 //! A repository in memory.
 use crate::changes::{self, InversionProof, KeyChange, ProvenChange};
-use crate::faults::{BatchError, BatchFault, CheckError, CheckFault, NoMemory, OpenError, ProvingFault, SigningError, SigningFault};
+use crate::faults::{
+    BatchError, BatchFault, CheckError, CheckFault, NoMemory, OpenError, ProvingFault, SigningError, SigningFault,
+};
 use crate::framing::{Reader, filled};
 use crate::messages::{Preview, Told};
 use crate::sys;

@@ -416,7 +416,9 @@ fn commits(seen: &mut Seen) {
         seen.see("file_head", sys::file_head(&root, out, size));
         seen.see("file_section", sys::file_section(&root, tree::EMPTY_NODE, out, size));
     }
-    for (bytes, room) in [(own(DID, &rev), 900), (own(DID, &rev), 1), (vec![], 900), (own("did:", &rev), 900), (own(DID, "1"), 900)] {
+    for (bytes, room) in
+        [(own(DID, &rev), 900), (own(DID, &rev), 1), (vec![], 900), (own("did:", &rev), 900), (own(DID, "1"), 900)]
+    {
         seen.see("read_commit", sys::read_commit(&bytes, &mut vec![0; room], size));
     }
 }
@@ -473,7 +475,8 @@ fn signed(seen: &mut Seen) {
     // what no message tells
     let (did, rev) = (DID.as_bytes(), tid(2));
     let mut apply = |handle: &mut Handle, previous: &sys::Cid, seq: u64, time: &[u8], since: &[u8], room: usize| {
-        let number = handle.apply_signed(previous, did, rev.as_bytes(), &[7; 64], seq, time, since, &mut 0, &mut vec![0; room], &mut 0);
+        let number =
+            handle.apply_signed(previous, did, rev.as_bytes(), &[7; 64], seq, time, since, &mut 0, &mut vec![0; room], &mut 0);
         seen.see("apply_signed", number)
     };
     for at in 0..201 {

@@ -12,7 +12,7 @@ mod Going
 mod Listing
 mod Texts
 mod Hosting
-mod Checking
+mod FilesTold
 mod FromFiles
 mod CommitNumbers
 mod EventNumbers

@@ -1,6 +1,6 @@
 use Rattle.std.proofs.Common.{◌≡◌, length, rules}
 use Rattle.signed_commits.specs.Views.{commit_of}
-use Rattle.tizulgech.proofs.Checking.{export_checked, fault_checked, no_export, place_kept}
+use Rattle.tizulgech.proofs.FilesTold.{export_checked, fault_checked, no_export, place_kept}
 use Rattle.tizulgech.proofs.checked_files.tizulgech_check_car.Goals as goal
 
 pub returns-in-Ok-clause-checked : goal.returns-in-Ok-clause-checked

@@ -3,7 +3,7 @@ use Rattle.sha2.specs.Sha256.{sha256}
 use Rattle.signed_commits.specs.Views.{commit_of}
 use Rattle.repository_check.specs.Views.{records_of}
 use Rattle.checked_opening.proofs.Openable.{export-openable}
-use Rattle.tizulgech.proofs.Checking.{no_export, place_kept}
+use Rattle.tizulgech.proofs.FilesTold.{no_export, place_kept}
 use Rattle.tizulgech.proofs.FromFiles.{file_cause, file_not, file_other, file_some}
 use Rattle.tizulgech.proofs.opening_files.tizulgech_open_car.Goals as goal
 
