@@ -148,6 +148,7 @@ static int of_values(void) {
         || tizulgech_layer(TEXT("blue")) != 1 || !tizulgech_is_key(TEXT("blue")) || tizulgech_is_repository_key(TEXT("blue"))
         || !tizulgech_is_did(TEXT("did:web:a.b")) || tizulgech_is_tid(TEXT("1"))
         || tizulgech_step(node, node_end, TEXT("a.b.c/e"), cid, 36)
+        || tizulgech_next_tid(NULL, 0, 1, 1, out, sizeof out, &size) || size != 13
         || tizulgech_stamp_fault(NULL, 0, TEXT("did:web:a.b"), TEXT("1")) != TIZULGECH_BAD_REV;
 }
 static int of_reading(void) {
@@ -169,6 +170,6 @@ static const struct {
     {"entries", of_entries, 1, 1}, {"car_head", of_head, 1, 1}, {"car_section", of_section, 1, 1}, {"prove_change", of_prove_change, 1, 1}, {"prove_inversion", of_prove_inversion, 2, 1},
     {"signed_commit", of_signed, 1, 1}, {"read_commit", of_read, 2, 1}, {"file_head", of_file_head, 1, 1}, {"file_section", of_file_section, 1, 1},
     {"preview", of_preview, 1, 1}, {"apply_signed", of_apply_signed, 1, 1}, {"check_commit", of_check, 1, 1},
-    {"those of values", of_values, 11, 0}, {"those of reading", of_reading, 5, 0},
+    {"those of values", of_values, 12, 0}, {"those of reading", of_reading, 5, 0},
 };
 enum { CALLS = sizeof calls / sizeof *calls };

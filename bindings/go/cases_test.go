@@ -49,6 +49,8 @@ type item struct {
 	Message, Of   string
 	Previous, Sig string
 	Seq           uint64
+	Last          string
+	Micros, Clock uint64
 	Time, Since   string
 	Pairs         [][2]string
 	Records       [][2]string
@@ -323,6 +325,9 @@ var calls = map[string]func(it item) (any, error){
 	"signed_commit": func(it item) (any, error) {
 		found, err := SignedCommitBytes(it.stamp(), cidIn(it.Root), data(it.Sig))
 		return hex.EncodeToString(found), err
+	},
+	"next_tid": func(it item) (any, error) {
+		return NextTid(it.Last, it.Micros, it.Clock)
 	},
 	"read_commit": func(it item) (any, error) {
 		found, err := ReadCommit(data(it.Bytes))

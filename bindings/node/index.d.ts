@@ -111,6 +111,9 @@ export type Write = ({ action: 'put' | 'create' | 'update'; record: Uint8Array }
 export function checkWrite(write: Write, there: boolean): void
 /** Throws the fault of a stamp after the revision of the batch before; '' where there was none. */
 export function checkStamp(before: Bytes, stamp: Stamp): void
+/** The timestamp identifier after the last one, or after none, at so many microseconds since 1970 by the clock of a number from 0 to 1,023. Where
+ * this time isn't after the last one, as where a clock has gone back, it is that of the microsecond behind the last one's. */
+export function nextTid(last: Bytes | null, micros: number | bigint, clock?: number): string
 /** The bytes of the unsigned commit of a stamp over the root of a tree: what a host signs. */
 export function commitBytes(stamp: Stamp, root: CidLike): Uint8Array
 

@@ -42,6 +42,7 @@ const calls = {
   stamp_fault: it => t.checkStamp(it.before, it) ?? null,
   commit_bytes: it => hex(t.commitBytes(it, it.root)),
   signed_commit: it => hex(t.signedCommit(it, it.root, data(it.sig))),
+  next_tid: it => t.nextTid(it.last || null, it.micros, it.clock),
   read_commit: it => commit(t.readCommit(data(it.bytes))),
   file_head: it => hex(t.fileHead(it.root)),
   file_section: it => hex(t.fileSection(it.of, data(it.block))),

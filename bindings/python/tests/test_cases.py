@@ -115,6 +115,7 @@ def empty_account(did, rev, sig):
 
 CALLS = {
     "signed_commit": lambda did, rev, root, sig: t.signed_commit(did, rev, cid(root), data(sig)).hex(),
+    "next_tid": t.next_tid,
     "read_commit": lambda bytes: commit(t.read_commit(data(bytes))),
     "file_head": lambda root: t.file_head(cid(root)).hex(),
     "file_section": lambda of, block: t.file_section(cid(of), data(block)).hex(),

@@ -39,6 +39,7 @@ CALLS = {
     "read_commit": "bytes: bytes, out: room, size: size -> u8",
     "file_head": "root: bytes, out: room, size: size -> u8",
     "file_section": "cid: bytes, block: bytes, out: room, size: size -> u8",
+    "next_tid": "last: bytes, micros: u64, clock: u64, out: room, size: size -> u8",
     "check_commit": "previous: bytes, message: bytes, place: size, missing: room, out: room, size: size -> u8",
     "open": "limit: usize, repository: repository -> u8",
     "open_car": "limit: usize, file: bytes, repository: repository, place: size -> u8",

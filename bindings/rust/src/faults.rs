@@ -206,6 +206,14 @@ faults! {
     } named by OF_ALL
 }
 faults! {
+    /// Why there is no next timestamp identifier.
+    TidFault {
+        BadRev = 28 "the last one is not a timestamp identifier",
+        RevOrder = 29 "there is none after the last one",
+        Bad = 252 "the microseconds or the clock are out of range",
+    } named by OF_ALL
+}
+faults! {
     /// Why bytes are no signed commit.
     CommitFault {
         NotACommit = 100 "the bytes are not those of a signed commit",

@@ -72,12 +72,12 @@ pub use commits::{SignedCommit, file_head, file_section};
 pub use faults::{
     BatchError, BatchFault, ChangeFault, CheckError, CheckFault, CidFault, CommitFault, JsonError, JsonFault, LinkFault,
     MessageError, MessageFault, NoMemory, NodeFault, OpenError, ProofFault, ProvingFault, RecordFault, RecordJsonFault,
-    SigningError, SigningFault, StampFault, TreeFault,
+    SigningError, SigningFault, StampFault, TidFault, TreeFault,
 };
 pub use messages::{CheckedCommit, Operation, Preview, Told, check_commit};
 pub use records::{Export, check_car, json_record, link_from_text, link_text, record_json};
 pub use repository::{Applied, CarParts, Pairs, Repository, Stamp, Write};
 pub use values::{
     Cid, Proof, VERSION, check_record, check_stamp, check_write, commit_bytes, is_did, is_key, is_repository_key, is_tid, layer,
-    listing_car, tree_root, version,
+    listing_car, next_tid, tree_root, version,
 };

@@ -235,6 +235,15 @@ unsafe extern "C" {
         room: usize,
         size: *mut usize,
     ) -> u8;
+    pub fn tizulgech_next_tid(
+        last: *const u8,
+        last_len: usize,
+        micros: u64,
+        clock: u64,
+        out: *mut u8,
+        room: usize,
+        size: *mut usize,
+    ) -> u8;
     pub fn tizulgech_check_commit(
         previous: *const u8,
         previous_len: usize,
@@ -762,6 +771,11 @@ pub fn file_head(root: &Cid, out: &mut [u8], size: &mut usize) -> u8 {
 pub fn file_section(cid: &Cid, block: &[u8], out: &mut [u8], size: &mut usize) -> u8 {
     // SAFETY: as above.
     unsafe { tizulgech_file_section(cid.as_ptr(), 36, block.as_ptr(), block.len(), out.as_mut_ptr(), out.len(), size) }
+}
+
+pub fn next_tid(last: &[u8], micros: u64, clock: u64, out: &mut [u8], size: &mut usize) -> u8 {
+    // SAFETY: as above.
+    unsafe { tizulgech_next_tid(last.as_ptr(), last.len(), micros, clock, out.as_mut_ptr(), out.len(), size) }
 }
 
 pub fn check_commit(

@@ -40,6 +40,7 @@ const ANSWERS: &[(&str, &str)] = &[
     ("tree_root", "DONE NOT_ASCENDING BAD"),
     ("listing_car", "DONE NOT_BUILT SMALL BAD"),
     ("signed_commit", "DONE SMALL BAD"),
+    ("next_tid", "DONE SMALL BAD BAD_REV REV_ORDER"),
     ("read_commit", "DONE SMALL NOT_A_COMMIT COMMIT_DID COMMIT_REV"),
     ("file_head", "DONE SMALL BAD"),
     ("file_section", "DONE SMALL BAD"),
@@ -416,6 +417,9 @@ fn commits(seen: &mut Seen) {
         seen.see("file_head", sys::file_head(&root, out, size));
         seen.see("file_section", sys::file_section(&root, tree::EMPTY_NODE, out, size));
     }
+    for (last, clock, room) in [("", 7, 13), ("", 7, 12), ("", 1024, 13), ("1", 7, 13), ("bzzzzzzzzzzzz", 7, 13)] {
+        seen.see("next_tid", sys::next_tid(last.as_bytes(), 1, clock, &mut vec![0; room], size));
+    }
     for (bytes, room) in
         [(own(DID, &rev), 900), (own(DID, &rev), 1), (vec![], 900), (own("did:", &rev), 900), (own(DID, "1"), 900)]
     {
@@ -618,6 +622,7 @@ fn small_rooms() {
     });
 
     each_room(|out, size| sys::signed_commit(DID.as_bytes(), rev.as_bytes(), root.as_bytes(), &[7; 64], out, size));
+    each_room(|out, size| sys::next_tid(rev.as_bytes(), 1, 7, out, size));
     each_room(|out, size| sys::file_head(root.as_bytes(), out, size));
     each_room(|out, size| sys::file_section(root.as_bytes(), node, out, size));
     let (mut commit, mut length) = ([0; 400], 0);

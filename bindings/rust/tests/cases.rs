@@ -30,6 +30,7 @@ refused!(
     RecordFault,
     CidFault,
     StampFault,
+    TidFault,
     TreeFault,
     ProofFault,
     NodeFault,
@@ -317,6 +318,10 @@ fn call(it: &Json) -> Result<Json, Refused> {
         }
         "commit_bytes" => hex(commit_bytes(stamp(it), &cid(&it["root"]))?),
         "signed_commit" => hex(SignedCommit::bytes_of(stamp(it), &cid(&it["root"]), &data(&it["sig"]))?),
+        "next_tid" => {
+            let last = it["last"].text();
+            text(next_tid((!last.is_empty()).then_some(last), it["micros"].number(), it["clock"].number())?)
+        }
         "read_commit" => commit(&SignedCommit::read(&data(&it["bytes"]))?),
         "file_head" => hex(file_head(&cid(&it["root"]))?),
         "file_section" => hex(file_section(&cid(&it["of"]), &data(&it["block"]))?),

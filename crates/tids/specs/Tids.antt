@@ -1,6 +1,6 @@
 -- Timestamp identifiers (AT Protocol, TID): 64 bits in 13 letters, of which the highest bit is 0, then 53 bits are microseconds since
 -- 1970, and 10 bits whose clock it is.
-use Rattle.std.specs.Prelude.{ℕ, ◌+◌, ◌-◌, ◌*◌, ◌/◌, ◌%◌, ◌^◌, ◌&&◌, Bool, List, [], ◌∷◌, nat_lt, nat_le, if◌then◌else◌, Option, Some, None, Result, Ok, Err}
+use Rattle.std.specs.Prelude.{ℕ, ◌+◌, ◌-◌, ◌*◌, ◌/◌, ◌%◌, ◌^◌, ◌&&◌, List, [], ◌∷◌, nat_lt, nat_le, if◌then◌else◌, Option, Some, None, Result, Ok}
 use Rattle.spec.specs.Reading.{◌>>=◌, ensure}
 use Rattle.spec.specs.Stamps.{is_next_rev, is_tid}
 
@@ -16,7 +16,7 @@ digit letter =
     else 0
 
 -- the letters of a number below 2^64, the highest first
-abbrev pub letters : ℕ → List ℕ
+unfoldable pub letters : ℕ → List ℕ
 letters n =
     letter (n / 2 ^ 60 % 32) ∷ letter (n / 2 ^ 55 % 32) ∷ letter (n / 2 ^ 50 % 32) ∷ letter (n / 2 ^ 45 % 32)
     ∷ letter (n / 2 ^ 40 % 32) ∷ letter (n / 2 ^ 35 % 32) ∷ letter (n / 2 ^ 30 % 32) ∷ letter (n / 2 ^ 25 % 32)
@@ -48,25 +48,28 @@ passes (Some last) = ensure (is_tid last) BadTid
 abbrev pub moment : ℕ → ℕ → ℕ
 moment micros clock = micros * 1024 + clock
 
--- that by this clock, and where it isn't after the last one the next microsecond after that
+-- the microseconds of the next one: these, and where they by this clock aren't after the last one the next ones after that
 abbrev pub after_number : Option ℕ → ℕ → ℕ → ℕ
-after_number None micros clock = moment micros clock
-after_number (Some n) micros clock =
-    if nat_lt n (moment micros clock) then moment micros clock else moment (n / 1024 + 1) clock
+after_number None micros clock = micros
+after_number (Some n) micros clock = if nat_lt n (moment micros clock) then micros else n / 1024 + 1
 
 abbrev pub last_number : Option (List ℕ) → Option ℕ
 last_number None = None
 last_number (Some last) = number_of last
 
--- the number of the next one
-abbrev pub next_number : Option (List ℕ) → ℕ → ℕ → ℕ
-next_number last micros clock = after_number (last_number last) micros clock
+abbrev pub next_micros : Option (List ℕ) → ℕ → ℕ → ℕ
+next_micros last micros clock = after_number (last_number last) micros clock
+
+-- that at some microseconds, where it is after the last one
+unfoldable pub following : Option (List ℕ) → ℕ → ℕ → Result (List ℕ) TidFault
+following last micros clock = do
+  small ← ensure (nat_lt micros (2 ^ 53)) NoneAfter
+  next ← ensure (is_next_rev last (letters (moment micros clock))) NoneAfter
+  Ok (letters (moment micros clock))
 
 -- the next one after the last, which may be none, at some microseconds by a clock, which may have gone back
 unfoldable pub next_tid : Option (List ℕ) → ℕ → ℕ → Result (List ℕ) TidFault
 next_tid last micros clock = do
   passed ← passes last
   few ← ensure (nat_lt micros (2 ^ 53) && nat_lt clock 1024) OutOfRange
-  small ← ensure (nat_lt (next_number last micros clock) (2 ^ 63)) NoneAfter
-  next ← ensure (is_next_rev last (letters (next_number last micros clock))) NoneAfter
-  Ok (letters (next_number last micros clock))
+  following last (next_micros last micros clock) clock

@@ -1,6 +1,6 @@
 //! The letters of numbers: base32-sortable (AT Protocol, TID).
 
-ghost use Rattle.std.specs.Prelude.{◌≡◌, ◌<◌, ◌≤◌};
+ghost use Rattle.std.specs.Prelude.{◌≡◌, ◌<◌};
 ghost use Rattle.tids.specs.Tids.{digit as digit_of, letter as letter_of, letters as letters_of, number_from as number_after};
 
 /// The letter of five bits.
@@ -28,6 +28,7 @@ fn digit(letter: u8) -> u64
 }
 
 /// The letters of a number, the highest first.
+#[tactic(auto, unfolding(crate::specs::Tids::letters))]
 pub(crate) fn letters(number: u64) -> [u8; 13]
     ensures { result ≡ letters_of number }
 {

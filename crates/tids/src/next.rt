@@ -1,9 +1,9 @@
 //! The next timestamp identifier.
 
-ghost use Rattle.std.specs.Prelude.{◌≡◌, ◌<◌, ◌^◌, option_map};
+ghost use Rattle.std.specs.Prelude.{◌≡◌, ◌<◌, ◌^◌, true, option_map, IfOk};
 ghost use Rattle.spec.specs.Reading.{Gives};
-ghost use Rattle.spec.specs.Stamps.{is_next_rev};
-ghost use Rattle.tids.specs.Tids.{last_number as last_number_of, next_number as next_number_of, next_tid as next_of, passes as passes_of};
+ghost use Rattle.spec.specs.Stamps.{is_next_rev, is_tid as is_tid_of};
+ghost use Rattle.tids.specs.Tids.{following as following_of, last_number as last_number_of, next_micros as next_micros_of, next_tid as next_of, passes as passes_of};
 ghost use Rattle.tids.specs.Views.{tid_fault_of};
 
 use crate::fault::TidFault;
@@ -19,18 +19,32 @@ use record_rules::is_tid;
 /// clock's number more than 10, and `TidFault::NoneAfter` where none of 53 bits is after the last one.
 #[tactic(auto, unfolding(crate::specs::Tids::next_tid))]
 pub fn next_tid(last: Option<&[u8]>, micros: u64, clock: u64) -> Result<[u8; 13], TidFault>
-    ensures { Gives (λ letters. letters) tid_fault_of result
+    ensures next { Gives (λ letters. letters) tid_fault_of result
         (next_of (option_map (λ last. last.now) last.entry) micros clock) }
+
+    // What is answered is one.
+    ensures own { IfOk result (λ letters. is_tid_of letters ≡ true) }
 {
     passes(last)?;
     if micros >= 0x20_0000_0000_0000 || clock >= 1024 {
         return Err(TidFault::OutOfRange);
     }
-    let number = next_number(last, micros, clock);
-    if number >= 0x8000_0000_0000_0000 {
+    let micros = next_micros(last, micros, clock);
+    following(last, micros, clock)
+}
+
+/// That at some microseconds, where it is after the last one.
+#[tactic(auto, unfolding(crate::specs::Tids::following), using(crate::proofs::OwnLetters::letters_are))]
+fn following(last: Option<&[u8]>, micros: u64, clock: u64) -> Result<[u8; 13], TidFault>
+    requires clock { clock < 1024 }
+    ensures next { Gives (λ letters. letters) tid_fault_of result
+        (following_of (option_map (λ last. last.now) last.entry) micros clock) }
+    ensures own { IfOk result (λ letters. is_tid_of letters ≡ true) }
+{
+    if micros >= 0x20_0000_0000_0000 {
         return Err(TidFault::NoneAfter);
     }
-    let next = letters(number);
+    let next = letters(micros * 1024 + clock);
     if !is_after(last, &next) {
         return Err(TidFault::NoneAfter);
     }
@@ -48,16 +62,15 @@ fn passes(last: Option<&[u8]>) -> Result<(), TidFault>
     }
 }
 
-/// The number of the next one.
-fn next_number(last: Option<&[u8]>, micros: u64, clock: u64) -> u64
+/// The microseconds of the next one.
+fn next_micros(last: Option<&[u8]>, micros: u64, clock: u64) -> u64
     requires micros { micros < 2 ^ 53 }
     requires clock { clock < 1024 }
-    ensures { result ≡ next_number_of (option_map (λ last. last.now) last.entry) micros clock }
+    ensures { result ≡ next_micros_of (option_map (λ last. last.now) last.entry) micros clock }
 {
-    let moment = micros * 1024 + clock;
     match last_number(last) {
-        Some(number) if number >= moment => (number / 1024 + 1) * 1024 + clock,
-        _ => moment,
+        Some(number) if number >= micros * 1024 + clock => number / 1024 + 1,
+        _ => micros,
     }
 }
 

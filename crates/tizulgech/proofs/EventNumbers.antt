@@ -1,5 +1,5 @@
 -- What is told of faults within others, and of a message that was checked.
-use Rattle.std.proofs.Common.{◌≡◌, ◌≤◌, ◌∙◌, ℕ, List, false, refl, sym, ap, subst}
+use Rattle.std.proofs.Common.{◌≡◌, ℕ, List, false, sym, ap, subst}
 use Rattle.std.specs.Prelude.{nat_eq, option_map, Option, Some, None, Result, Ok, Err}
 use Rattle.spec.specs.Reading.{Gives}
 use Rattle.change_laws.specs.Given as changes
@@ -9,7 +9,6 @@ use Rattle.event_laws.specs.Verdict.{Checked}
 use Rattle.commit_events.specs.Views.{checked_of, event_fault_of}
 use Rattle.commit_events.specs.declared.checked.CheckedCommit.{CheckedCommit}
 use Rattle.commit_events.specs.declared.fault.EventFault.{EventFault}
-use Rattle.buffers.specs.Answers.{IsHanded}
 use Rattle.tizulgech.specs.Numbers.{IsHandedOr255}
 use Rattle.tizulgech.specs.Messages.{checked_spelt, change_told, event_told, form_told, node_or_want, told_or_want, IsChecked}
 

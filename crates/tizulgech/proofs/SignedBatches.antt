@@ -1,6 +1,6 @@
 -- What is told of a batch that is accepted signed.
 use Rattle.std.proofs.Common.{◌≡◌, ◌≤◌, ◌<◌, ◌+◌, ◌∙◌, ℕ, zero, suc, List, Bool, true, false, refl, sym, ap, subst, arith}
-use Rattle.std.specs.Prelude.{nat_eq, length, option_map, Option, Some, None, Result, Ok, Err}
+use Rattle.std.specs.Prelude.{length, option_map, Option, Some, None, Result, Ok, Err}
 use Rattle.std.specs.Str.{bytes_eq}
 use Rattle.sha2.specs.Sha256.{sha256}
 use Rattle.spec.specs.Reading.{◌>>=◌, ensure, Fails}
@@ -30,7 +30,7 @@ use Rattle.owned_repo.specs.Owning.{Owned}
 use Rattle.tizulgech.specs.Causes.{HasCause}
 use Rattle.tizulgech.specs.Numbers.{IsTested, fault_number, is_other}
 use Rattle.tizulgech.specs.Messages.{form_told, told_or_want}
-use Rattle.tizulgech.specs.SignedBatches.{SigningFault, RootMoved, OfBatch, OfMessage, of_batch, of_message, signing, signing_code, signing_told, untold_told, IsNoLimit, IsSigned}
+use Rattle.tizulgech.specs.SignedBatches.{SigningFault, RootMoved, of_batch, of_message, signing, signing_code, untold_told, IsNoLimit, IsSigned}
 use Rattle.tizulgech.proofs.Causes.{no_limit, told_cause}
 use Rattle.tizulgech.proofs.Tested.{never-0, tested_code}
 
@@ -237,6 +237,6 @@ module _ (code place : ℕ) (before room : List ℕ) (size : ℕ) where
         → IsSigned code place (signing o previous stamp beside) before room size
     batch_signed p e is passed h = after true e
         (subst (λ (test : Result (Unit {0}) (ℕ × BatchFault)).
-            IsSigned code place (of_batch test >>= λ y. of_message (signed_message sha256 2 o.state stamp o.pending beside)) before room size)
+        IsSigned code place (of_batch test >>= λ y. of_message (signed_message sha256 2 o.state stamp o.pending beside)) before room size)
         (sym (subst IsPassed is passed).passes)
         (subst (λ (q : Prepared). IsSigned code place (of_message (signed_message sha256 2 q.before q.stamp q.writes beside)) before room size) is h))

@@ -1,5 +1,5 @@
 -- What is told of a batch that was tested, and not accepted.
-use Rattle.std.proofs.Common.{◌≡◌, ◌∙◌, ℕ, List, true, false, refl, sym, ap, subst, arith}
+use Rattle.std.proofs.Common.{◌≡◌, ◌∙◌, ℕ, List, true, sym, ap, subst, arith}
 use Rattle.std.specs.Prelude.{Result, Ok, Err}
 use Rattle.sha2.specs.Sha256.{sha256}
 use Rattle.spec.specs.Stamps.{Stamp}
@@ -14,7 +14,7 @@ use Rattle.repo.specs.Prepared.{Prepared, IsPassed, prepared_of}
 use Rattle.repo.specs.Refusals.{IsRefusal, IsTestRefusal}
 use Rattle.owned_repo.specs.Owning.{Owned}
 use Rattle.tizulgech.specs.Causes.{HasCause}
-use Rattle.tizulgech.specs.Numbers.{IsHandedOr255, IsTested, fault_number, is_other}
+use Rattle.tizulgech.specs.Numbers.{IsHandedOr255, IsTested, fault_number}
 use Rattle.tizulgech.specs.SignedBatches.{IsPreviewed, IsTestedThen, prepared_spelt}
 use Rattle.tizulgech.proofs.Causes.{batch_cause, told_cause}
 use Rattle.tizulgech.proofs.Filed.{not-255}

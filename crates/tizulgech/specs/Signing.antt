@@ -1,4 +1,4 @@
--- What is told of signed commits, and of the parts of files.
+-- What is told of signed commits, of the parts of files, and of timestamp identifiers.
 use Rattle.std.specs.Prelude.{◌≡◌, ℕ, List, ◌++◌, Option, Some, None, Result, Ok, Err}
 use Rattle.spec.specs.CarReading as cars
 use Rattle.spec.specs.SignedCommits as commits
@@ -9,7 +9,10 @@ use Rattle.signed_commits.specs.Views.{commit_of}
 use Rattle.signed_commits.specs.declared.commit.SignedCommit.{SignedCommit}
 use Rattle.signed_commits.specs.declared.fault.CommitFault.{CommitFault}
 use Rattle.signed_commits.specs.declared.fault.CommitFault.TheVariants as errors
-use Rattle.buffers.specs.Answers.{part_bytes, value_bytes}
+use Rattle.tids.specs.Tids as tids
+use Rattle.tids.specs.declared.fault.TidFault.{TidFault}
+use Rattle.tids.specs.declared.fault.TidFault.TheVariants as faults
+use Rattle.buffers.specs.Answers.{IsHanded, part_bytes, value_bytes}
 use Rattle.tizulgech.specs.Numbers.{IsHandedOr255}
 
 -- what is made of a CID; 252 for what is none
@@ -61,3 +64,25 @@ IsCommitRead code (Err f) before room size = code ≡ commit_number f
 abbrev pub IsCommitTold : ℕ → Result SignedCommit CommitFault → List ℕ → List ℕ → ℕ → Type 0
 IsCommitTold code (Ok c) before room size = IsHandedOr255 code (commit_spelt (commit_of c)) before room size
 IsCommitTold code (Err f) before room size = code ≡ commit_code f
+
+-- ---- the next timestamp identifier
+
+abbrev pub tid_number : tids.TidFault → ℕ
+tid_number tids.BadTid = 28
+tid_number tids.OutOfRange = 252
+tid_number tids.NoneAfter = 29
+
+-- the same of a fault of the code
+abbrev pub tid_code : TidFault → ℕ
+tid_code faults.BadTid = 28
+tid_code faults.OutOfRange = 252
+tid_code faults.NoneAfter = 29
+
+-- its letters, or the number of the fault
+abbrev pub IsNextTid : ℕ → Result (List ℕ) tids.TidFault → List ℕ → List ℕ → ℕ → Type 0
+IsNextTid code (Ok letters) before room size = IsHanded code letters before room size
+IsNextTid code (Err f) before room size = code ≡ tid_number f
+
+abbrev pub IsTidTold : ℕ → Result (List ℕ) TidFault → List ℕ → List ℕ → ℕ → Type 0
+IsTidTold code (Ok letters) before room size = IsHanded code letters before room size
+IsTidTold code (Err f) before room size = code ≡ tid_code f

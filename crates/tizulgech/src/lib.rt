@@ -12,7 +12,7 @@
 //! - `verdicts` has those that check changes between two roots, done or undone; `changes` has the one that proves what changes
 //!   make of a repository, and `inversions` the one that proves changes undone. `told_changes` reads what all of them are told,
 //!   and tells verdicts.
-//! - `signed`, `file_parts` and `revisions` have those for signed commits; `previews` and `signing` those for a batch that is signed
+//! - `signed`, `file_parts`, `revisions` and `next_tids` have those for signed commits; `previews` and `signing` those for a batch that is signed
 //!   before it is accepted; `checking` has the check of a message `#commit`, which `messages` spells and `message_faults` numbers.
 #![tactic(auto)]
 
@@ -30,6 +30,7 @@ mod inversions;
 mod listings;
 mod message_faults;
 mod messages;
+mod next_tids;
 mod node_entries;
 mod nodes;
 mod opening;

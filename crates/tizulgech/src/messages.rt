@@ -52,10 +52,7 @@ fn push_since(out: &mut Vec<u8>, since: Option<&[u8]>) -> Result<(), AllocError>
 }
 
 /// Puts changes at the end, and in front of them how many they are.
-pub(crate) fn push_changes(
-    out: &mut Vec<u8>,
-    changes: &[KeyChange<'_>],
-) -> Result<(), AllocError>
+pub(crate) fn push_changes(out: &mut Vec<u8>, changes: &[KeyChange<'_>]) -> Result<(), AllocError>
     ensures { OnOk result (out.new.items ≡ out.old.items ++ changes_spelt changes.now) }
 {
     push_number(out, changes.len() as u64)?;

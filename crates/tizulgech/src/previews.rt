@@ -110,10 +110,7 @@ fn preview_handed(
 }
 
 /// A batch that was prepared, spelt.
-fn spell_preview(
-    alloc: Global,
-    prepared: &PreparedBatch<Sha256, 2>,
-) -> Result<Vec<u8>, AllocError>
+fn spell_preview(alloc: Global, prepared: &PreparedBatch<Sha256, 2>) -> Result<Vec<u8>, AllocError>
     ensures { IfOk result (λ bytes. bytes.items ≡ prepared_spelt prepared.now) }
 {
     let changes = prepared.changes(alloc)?;

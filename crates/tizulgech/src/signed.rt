@@ -98,12 +98,7 @@ fn tell_commit(
 }
 
 /// A commit, handed out.
-fn commit_handed(
-    alloc: Global,
-    commit: &SignedCommit<'_>,
-    out: &mut [u8],
-    size: &mut usize,
-) -> u8
+fn commit_handed(alloc: Global, commit: &SignedCommit<'_>, out: &mut [u8], size: &mut usize) -> u8
     ensures handed { IsHandedOr255 result (commit_spelt (commit_of commit.now))
         out.old out.new size.new }
     ensures kept { IsKept result out.old out.new size.old size.new }

@@ -1,6 +1,6 @@
 //! A batch that is accepted signed, with its message `#commit`.
 
-ghost use Rattle.std.specs.Prelude.{◌≡◌, ◌≤◌, ◌<◌, None, false, is_some, length, nat_eq, option_map, IfSome};
+ghost use Rattle.std.specs.Prelude.{◌≡◌, ◌≤◌, ◌<◌, None, false, is_some, length, nat_eq, IfSome};
 ghost use Rattle.std.specs.Str.{bytes_eq};
 ghost use Rattle.spec.specs.States.{state_root};
 ghost use Rattle.sha2.specs.Sha256.{sha256};
@@ -17,7 +17,7 @@ ghost use Rattle.tizulgech.specs.SignedBatches.{of_message, signing, signing_cod
 
 use crate::codes::{BAD, CLOSED, NO_MEMORY, code_of_fault};
 use crate::message_faults::form_told;
-use crate::stamps::stamp_of_bytes;
+use crate::stamps::{some_rev, stamp_of_bytes};
 use crate::told_changes::OTHER_VALUE;
 use batches::Stamp;
 use buffers::{cid_in, hand};
@@ -70,22 +70,14 @@ pub extern "C" fn tizulgech_apply_signed(
     let told = Told {
         seq,
         time,
-        since: since_of(since),
+        since: some_rev(since),
         sig,
     };
-    let code = signed_over(alloc, &mut repo, previous, did, rev, &told, place, out, size);
+    let code = signed_over(
+        alloc, &mut repo, previous, did, rev, &told, place, out, size,
+    );
     *repository = Repository::opened(repo);
     code
-}
-
-/// The revision of the batch before, where these aren't no bytes.
-fn since_of(since: &[u8]) -> Option<&[u8]>
-    ensures { option_map (λ rev. rev.now) result ≡ last_rev since.now }
-{
-    if since.is_empty() {
-        return None;
-    }
-    Some(since)
 }
 
 /// The same of a repository.

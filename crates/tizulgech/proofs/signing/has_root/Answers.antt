@@ -1,4 +1,4 @@
-use Rattle.std.proofs.Common.{◌≡◌, ◌∙◌, ℕ, List, ap}
+use Rattle.std.proofs.Common.{◌∙◌, ℕ, List, ap}
 use Rattle.std.specs.Str.{bytes_eq}
 use Rattle.sha2.specs.Sha256.{sha256}
 use Rattle.spec.specs.States.{State, state_root}
