@@ -13,15 +13,15 @@
 //!   make of a repository, and `inversions` the one that proves changes undone. `told_changes` reads what all of them are told,
 //!   and tells verdicts.
 //! - `signed`, `file_parts`, `revisions` and `next_tids` have those for signed commits; `previews` and `signing` those for a batch that is signed
-//!   before it is accepted; `checking` has the check of a message `#commit`, which `messages` spells and `message_faults` numbers.
+//!   before it is accepted; `commit_checks` has the check of a message `#commit`, which `messages` spells and `message_faults` numbers.
 #![tactic(auto)]
 
 mod below;
 mod changes;
 mod checked_files;
-mod checking;
 mod cids;
 mod codes;
+mod commit_checks;
 mod edits;
 mod file_parts;
 mod files;
