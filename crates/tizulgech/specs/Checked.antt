@@ -2,18 +2,34 @@
 use Rattle.std.specs.Prelude.{◌≡◌, ⊤, ℕ, ◌&&◌, ◌||◌, Bool, nat_eq, nat_le, List, ◌++◌, length, Result, Ok, Err, if◌then◌else◌}
 use Rattle.sha2.specs.Sha256.{sha256}
 use Rattle.spec.specs.Cid.{cid}
+use Rattle.spec.specs.CarReading as cars
+use Rattle.spec.specs.SignedCommits as commits
 use Rattle.spec.specs.SignedCommits.{Commit, signed_bytes}
 use Rattle.spec.specs.Exports as exports
 use Rattle.spec.specs.Exports.{ExportFault, OfCar, Misnamed, NoCommit, OfCommit, NotTheTree, OfRecord, IsExport, IsFirstFault}
+use Rattle.car_reader.specs.declared.fault.CarFault.{CarFault}
+use Rattle.car_reader.specs.declared.fault.CarFault.TheVariants as car_faults
+use Rattle.signed_commits.specs.declared.fault.CommitFault.{CommitFault}
+use Rattle.signed_commits.specs.declared.fault.CommitFault.TheVariants as commit_faults
 use Rattle.repository_check.specs.declared.fault.RecordFault.{RecordFault}
 use Rattle.repository_check.specs.declared.fault.RecordFault.TheVariants as record_faults
 use Rattle.repository_check.specs.declared.fault.CheckFault.{CheckFault}
 use Rattle.repository_check.specs.declared.fault.CheckFault.TheVariants as faults
 use Rattle.buffers.specs.Answers.{IsHanded, number_bytes, part_bytes}
 use Rattle.tizulgech.specs.Numbers.{record_number, write_number}
-use Rattle.tizulgech.specs.Signing.{car_code, car_number, commit_code, commit_number}
 
 -- ---- why a file is no export: the numbers of files, of signed commits, and of its records those of a batch
+
+abbrev pub car_number : cars.CarFault → ℕ
+car_number cars.BadHeader = 103
+car_number cars.BadLength = 104
+car_number cars.Truncated = 105
+car_number cars.BadCid = 106
+
+abbrev pub commit_number : commits.CommitFault → ℕ
+commit_number commits.NotACommit = 100
+commit_number commits.BadDid = 101
+commit_number commits.BadRev = 102
 
 abbrev pub record_fault_number : exports.RecordFault → ℕ
 record_fault_number exports.NoRecord = 127
@@ -41,6 +57,18 @@ abbrev pub tells_record : ℕ → Bool
 tells_record n = (nat_le 1 n && nat_le n 13) || (nat_le 20 n && nat_le n 22) || nat_eq n 127
 
 -- ---- the same of the code; 255 for want of memory
+
+abbrev pub car_code : CarFault → ℕ
+car_code car_faults.BadHeader = 103
+car_code car_faults.BadLength = 104
+car_code car_faults.Truncated = 105
+car_code car_faults.BadCid = 106
+car_code car_faults.NoMemory = 255
+
+abbrev pub commit_code : CommitFault → ℕ
+commit_code commit_faults.NotACommit = 100
+commit_code commit_faults.BadDid = 101
+commit_code commit_faults.BadRev = 102
 
 abbrev pub record_fault_code : RecordFault → ℕ
 record_fault_code record_faults.BadKey = 20

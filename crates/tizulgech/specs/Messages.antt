@@ -2,6 +2,7 @@
 use Rattle.std.specs.Prelude.{◌≡◌, ℕ, List, [], ◌++◌, length, nat_eq, false, Option, Some, None, Result, Ok, Err}
 use Rattle.std.specs.List.{flat_map}
 use Rattle.sha2.specs.Sha256.{sha256}
+use Rattle.spec.specs.CarReading as cars
 use Rattle.spec.specs.CarReading.{Section}
 use Rattle.change_laws.specs.Told.{KeyChange}
 use Rattle.change_laws.specs.Given as changes
@@ -12,7 +13,7 @@ use Rattle.event_laws.specs.Verdict as events
 use Rattle.event_laws.specs.Verdict.{Checked, commit_verdict}
 use Rattle.buffers.specs.Answers.{number_bytes, part_bytes, value_bytes}
 use Rattle.tizulgech.specs.Numbers.{IsHandedOr255, cbor_number, write_number}
-use Rattle.tizulgech.specs.Signing.{car_number, commit_number, commit_spelt}
+use Rattle.tizulgech.specs.Signing.{commit_number, commit_spelt}
 
 -- ---- how a message is spelt that is true
 
@@ -42,6 +43,12 @@ checked_spelt c = commit_spelt c.commit ++ event_spelt c.event ++ flat_map secti
 
 -- ---- why a message isn't taken: a number, and with some of them the place of an operation, of a field, or what DAG-CBOR faults are
 -- numbered by
+
+abbrev pub car_number : cars.CarFault → ℕ
+car_number cars.BadHeader = 103
+car_number cars.BadLength = 104
+car_number cars.Truncated = 105
+car_number cars.BadCid = 106
 
 -- the fields in the order of DAG-CBOR
 abbrev pub field_number : fields.FieldName → ℕ

@@ -1,10 +1,7 @@
 -- What is told of signed commits, of the parts of files, and of timestamp identifiers.
 use Rattle.std.specs.Prelude.{◌≡◌, ℕ, List, ◌++◌, Option, Some, None, Result, Ok, Err}
-use Rattle.spec.specs.CarReading as cars
 use Rattle.spec.specs.SignedCommits as commits
 use Rattle.spec.specs.SignedCommits.{Commit, unsigned_bytes}
-use Rattle.car_reader.specs.declared.fault.CarFault.{CarFault}
-use Rattle.car_reader.specs.declared.fault.CarFault.TheVariants as car_errors
 use Rattle.signed_commits.specs.Views.{commit_of}
 use Rattle.signed_commits.specs.declared.commit.SignedCommit.{SignedCommit}
 use Rattle.signed_commits.specs.declared.fault.CommitFault.{CommitFault}
@@ -19,22 +16,6 @@ use Rattle.tizulgech.specs.Numbers.{IsHandedOr255}
 abbrev pub IsMadeOf : ℕ → (List ℕ → List ℕ) → Option (List ℕ) → List ℕ → List ℕ → ℕ → Type 0
 IsMadeOf code made None before room size = code ≡ 252
 IsMadeOf code made (Some c) before room size = IsHandedOr255 code (made c) before room size
-
--- ---- why bytes are no file
-
-abbrev pub car_number : cars.CarFault → ℕ
-car_number cars.BadHeader = 103
-car_number cars.BadLength = 104
-car_number cars.Truncated = 105
-car_number cars.BadCid = 106
-
--- the same of a fault of the code; 255 for want of memory
-abbrev pub car_code : CarFault → ℕ
-car_code car_errors.BadHeader = 103
-car_code car_errors.BadLength = 104
-car_code car_errors.Truncated = 105
-car_code car_errors.BadCid = 106
-car_code car_errors.NoMemory = 255
 
 -- ---- a commit that is read
 

@@ -3,14 +3,15 @@
 ghost use Rattle.std.specs.Prelude.{◌≡◌, false, nat_eq, if◌then◌else◌, IfOk};
 ghost use Rattle.signed_commits.specs.Views.{commit_of};
 ghost use Rattle.buffers.specs.Answers.{IsKept};
-ghost use Rattle.tizulgech.specs.Checked.{check_code, export_bytes as export_bytes_of, place_after, record_fault_code, tells_record, IsChecked};
+ghost use Rattle.tizulgech.specs.Checked.{car_code, check_code, commit_code, export_bytes as export_bytes_of, place_after, record_fault_code, tells_record, IsChecked};
 ghost use Rattle.tizulgech.specs.Numbers.{IsHandedOr255};
 
-use crate::codes::{NO_MEMORY, code_of_car, code_of_commit, fault_of_record};
+use crate::codes::{NO_MEMORY, fault_of_record};
 use buffers::{hand, push_number, push_part};
+use car_reader::CarFault;
 use cid::{Cid, Sha256};
 use repository_check::{CheckFault, RecordFault, check};
-use signed_commits::SignedCommit;
+use signed_commits::{CommitFault, SignedCommit};
 use std::alloc::{AllocError, Global};
 
 /// Whether a CAR file (CARv1), as `com.atproto.sync.getRepo` serves it, is the export of a repository, and of which. Nothing of
@@ -105,6 +106,30 @@ fn tell_record(at: usize, fault: RecordFault, place: &mut usize) -> u8
     }
     *place = at;
     number
+}
+
+/// The number of a fault of a file's form.
+fn code_of_car(fault: CarFault) -> u8
+    ensures { result ≡ car_code fault }
+{
+    match fault {
+        CarFault::BadHeader => 103,
+        CarFault::BadLength => 104,
+        CarFault::Truncated => 105,
+        CarFault::BadCid => 106,
+        CarFault::NoMemory => NO_MEMORY,
+    }
+}
+
+/// The number of a fault of a commit.
+fn code_of_commit(fault: CommitFault) -> u8
+    ensures { result ≡ commit_code fault }
+{
+    match fault {
+        CommitFault::NotACommit => 100,
+        CommitFault::BadDid => 101,
+        CommitFault::BadRev => 102,
+    }
 }
 
 /// The number of a fault of a record.

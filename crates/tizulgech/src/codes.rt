@@ -3,14 +3,11 @@
 ghost use Rattle.std.specs.Prelude.{◌≡◌, length, option_map, IfOk};
 ghost use Rattle.batches.specs.Values.{write_of};
 ghost use Rattle.tizulgech.specs.Numbers.{record_code, record_number, fault_number, write_at, IsCidTold};
-ghost use Rattle.tizulgech.specs.Signing.{car_code, commit_code};
 
 use batches::{RepoFault, Write};
 use buffers::DONE;
-use car_reader::CarFault;
 use cid::{Cid, CidFault, Sha256};
 use dagcbor::{CborFault, Value};
-use signed_commits::CommitFault;
 use std::alloc::{AllocError, Global};
 
 /// A node that is needed isn't among those given.
@@ -65,30 +62,6 @@ pub(crate) fn code_of_record(read: &Result<Value<'_>, CborFault>) -> u8
     match read {
         Ok(_) => DONE,
         Err(fault) => fault_of_record(*fault),
-    }
-}
-
-/// The number of a fault of a file's form.
-pub(crate) fn code_of_car(fault: CarFault) -> u8
-    ensures { result ≡ car_code fault }
-{
-    match fault {
-        CarFault::BadHeader => 103,
-        CarFault::BadLength => 104,
-        CarFault::Truncated => 105,
-        CarFault::BadCid => 106,
-        CarFault::NoMemory => NO_MEMORY,
-    }
-}
-
-/// The number of a fault of a commit.
-pub(crate) fn code_of_commit(fault: CommitFault) -> u8
-    ensures { result ≡ commit_code fault }
-{
-    match fault {
-        CommitFault::NotACommit => 100,
-        CommitFault::BadDid => 101,
-        CommitFault::BadRev => 102,
     }
 }
 

@@ -13,9 +13,8 @@ ghost use Rattle.dagcbor.specs.Fault.{cbor_fault_of};
 ghost use Rattle.commit_events.specs.Views.{change_fault_of, event_fault_of};
 ghost use Rattle.tizulgech.specs.Messages.{change_told as change_told_of, event_told as event_told_of, field_number, form_told as form_told_of, node_or_want, told_or_want};
 
-use crate::codes::{
-    BAD_NODE, NO_MEMORY, NOT_TREE, TOO_DEEP, code_of_car, code_of_commit, fault_of_record,
-};
+use crate::codes::{BAD_NODE, NO_MEMORY, NOT_TREE, TOO_DEEP, fault_of_record};
+use crate::signed::code_of_commit;
 use crate::told_changes::{OTHER_ROOT, OTHER_VALUE};
 use car_reader::CarFault;
 use change_proofs::ChangeFault;
@@ -95,7 +94,13 @@ pub(crate) fn form_told(fault: FormFault) -> (u8, usize)
 fn car_told(fault: CarFault) -> (u8, usize)
     ensures { result ≡ told_or_want event_told_of (option_map OfCar (car_fault_of fault)) }
 {
-    (code_of_car(fault), 0)
+    match fault {
+        CarFault::BadHeader => (103, 0),
+        CarFault::BadLength => (104, 0),
+        CarFault::Truncated => (105, 0),
+        CarFault::BadCid => (106, 0),
+        CarFault::NoMemory => (NO_MEMORY, 0),
+    }
 }
 
 /// Why the bytes of a commit are none.

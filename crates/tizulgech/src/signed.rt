@@ -8,13 +8,18 @@ ghost use Rattle.signed_commits.specs.Views.{commit_of};
 ghost use Rattle.buffers.specs.Answers.{value_bytes, IsKept};
 ghost use Rattle.buffers.specs.Framing.{cid_at};
 ghost use Rattle.tizulgech.specs.Numbers.{IsHandedOr255};
-ghost use Rattle.tizulgech.specs.Signing.{commit_spelt, IsCommitRead, IsCommitTold, IsMadeOf};
+ghost use Rattle.tizulgech.specs.Signing.{commit_code, commit_spelt, IsCommitRead, IsCommitTold, IsMadeOf};
 
-use crate::codes::{BAD, NO_MEMORY, code_of_commit};
+use crate::codes::{BAD, NO_MEMORY};
 use buffers::{cid_in, hand, push_part, push_value};
 use cid::{Cid, CidRef};
 use signed_commits::{CommitFault, SignedCommit, read_commit};
 use std::alloc::{AllocError, Global};
+
+/// The DID of a commit isn't one.
+const COMMIT_DID: u8 = 101;
+/// The revision of a commit isn't a timestamp identifier.
+const COMMIT_REV: u8 = 102;
 
 /// The bytes of the signed commit of a stamp, which isn't tested, over the root of a tree (AT Protocol repository v3, commit
 /// objects): the block that a repository's file begins with and a message names. 0; 251; 252 for a root that is no CID; 255.
@@ -94,6 +99,17 @@ fn tell_commit(
     match read {
         Ok(commit) => commit_handed(alloc, commit, out, size),
         Err(fault) => code_of_commit(*fault),
+    }
+}
+
+/// The number of a fault of a commit.
+pub(crate) fn code_of_commit(fault: CommitFault) -> u8
+    ensures { result ≡ commit_code fault }
+{
+    match fault {
+        CommitFault::NotACommit => 100,
+        CommitFault::BadDid => COMMIT_DID,
+        CommitFault::BadRev => COMMIT_REV,
     }
 }
 
