@@ -76,6 +76,12 @@ def tree_prove_change(nodes, root, changes):
     return {"after": str(proof.after), "changes": [[key.decode(), text(before), text(after)] for key, before, after in proof.changes], "shown": True}
 
 
+def tree_difference(nodes, before, after):
+    found = t.tree_difference(host(nodes), cid(before), cid(after))
+    changes = [[key.decode(), text(old), text(new)] for key, old, new in found.changes]
+    return {"changes": changes, "add": sorted([str(it), node.hex()] for it, node in found.add), "drop": sorted(map(str, found.drop))}
+
+
 def check_car(file):
     found = t.check_car(data(file))
     return {"commit": str(found.commit), "root": str(found.root), "count": found.count, "did": found.did, "rev": found.rev}
@@ -112,6 +118,7 @@ CALLS = {
     "node_entries": node_entries,
     "tree_list": lambda nodes, root, start, most: pairs(t.tree_list(host(nodes), cid(root), start, most)),
     "tree_prove_change": tree_prove_change,
+    "tree_difference": tree_difference,
     "record_json": lambda record: t.record_json(data(record)),
     "json_record": lambda text: t.json_record(text).hex(),
     "link_text": lambda bytes: t.link_text(data(bytes)),

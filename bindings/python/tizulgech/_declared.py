@@ -30,6 +30,8 @@ CALLS = {
     "listing_car": "did: bytes, rev: bytes, keys: bytes, key_ends: ends, records: bytes, record_ends: ends, out: room, size: size -> u8",
     "node_entries": "node: bytes, out: room, size: size -> u8",
     "tree_prove_change": "nodes: bytes, node_ends: ends, cids: bytes, root: bytes, keys: bytes, key_ends: ends, values: bytes, missing: room, out: room, size: size -> u8",
+    "difference": "nodes: bytes, node_ends: ends, cids: bytes, before: bytes, after: bytes, missing: room, out: room, size: size -> u8",
+    "missing": "nodes: bytes, node_ends: ends, cids: bytes, before: bytes, after: bytes, bad: room, out: room, size: size -> u8",
     "record_json": "bytes: bytes, out: room, size: size -> u8",
     "json_record": "text: bytes, out: room, size: size -> u8",
     "link_text": "cid: bytes, out: room, size: size -> u8",

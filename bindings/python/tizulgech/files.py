@@ -25,8 +25,8 @@ def check_car(file: Bytes) -> Export:
     """Of which repository a CAR file is the export, as com.atproto.sync.getRepo serves it. Nothing of it is trusted: each block is hashed, and the tree is
     built anew of the records. No signature is tested.
 
-    Another file raises its first fault: of its form CAR_HEADER, CAR_LENGTH, CAR_TRUNCATED, CAR_CID, MISNAMED; of its commit NO_COMMIT, NOT_A_COMMIT,
-    BAD_DID, BAD_REV; NOT_THE_TREE; and of a record, whose place among the records the fault has, BAD_KEY, NO_RECORD, RECORD_SIZE, TRUNCATED to
+    Another file raises its first fault: of its form CAR_HEADER, CAR_LENGTH, CAR_TRUNCATED, CAR_CID, MISNAMED; of its commit COMMIT_MISSING,
+    NOT_A_COMMIT, COMMIT_DID, COMMIT_REV; NOT_THE_TREE; and of a record, whose place among the records the fault has, BAD_KEY, RECORD_MISSING, RECORD_SIZE, TRUNCATED to
     TRAILING, NOT_A_MAP.
     """
     place = _library.size()

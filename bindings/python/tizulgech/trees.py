@@ -30,6 +30,16 @@ class Edit:
     previous: List[Optional[Cid]] = field(default_factory=list)
 
 
+@dataclass(frozen=True)
+class Difference:
+    """What makes one tree of another: `changes`, of each key that differs what it has before and after, in the order of the keys; `add`, the nodes to
+    insert, of each its CID and its bytes; `drop`, the CIDs of those to remove."""
+
+    changes: List[Tuple[bytes, Optional[Cid], Optional[Cid]]] = field(default_factory=list)
+    add: List[Tuple[Cid, bytes]] = field(default_factory=list)
+    drop: List[Cid] = field(default_factory=list)
+
+
 def tree_path(nodes: Nodes, root: Cid, key: Text) -> Tuple[List[bytes], Optional[Cid]]:
     """The nodes from a root down to a key, which prove what the tree has under it, and its value. No node is hashed. `Missing` and `BadNode` name
     the node that isn't there, or is none."""
@@ -101,6 +111,42 @@ def tree_prove_change(nodes: Nodes, root: Cid, changes: Mapping[Key, Optional[Ci
     Nothing is changed by it. The nodes are asked for, and the faults come, as of `tree_apply`."""
     own = ordered(changes)
     return proof_of(_over_asked("tree_prove_change", nodes, root, own, known), own)
+
+
+def tree_difference(nodes: Nodes, before: Cid, after: Cid, known: bool = False) -> Difference:
+    """What the tree with one root differs by from that with the other. Of each tree just the nodes are asked for that the other lacks, and both roots:
+    layer by layer, each once, and each is hashed unless they are `known`. The faults are those of `tree_apply`."""
+    roots, given = {"before": cid_of(before), "after": cid_of(after)}, _Given(nodes)
+    while True:
+        found = Reader(_of_both("missing", "bad", given, roots, 36 * (len(given.given) + 16)))
+        if not found:
+            break
+        asked = []
+        while found:
+            asked.append(found.cid())
+        for cid in asked:
+            given.ask(cid)
+        if not known:
+            given.check(asked)
+    reader = Reader(_of_both("difference", "missing", given, roots, 1024 + 2 * sum(map(len, given.given.values()))))
+    changes = [(reader.part(), reader.value(), reader.value()) for _ in range(reader.number())]
+    drop, add = [reader.cid() for _ in range(reader.number())], []
+    while reader:
+        add.append((reader.cid(), reader.part()))
+    return Difference(changes, add, drop)
+
+
+def _of_both(name: str, room: str, given: _Given, roots: Mapping[str, bytes], first: int) -> bytes:
+    """The answer of a call over nodes of two trees."""
+    bad = _library.room()
+    nodes, node_ends = joined(given.given.values())
+    told = {"nodes": nodes, "node_ends": node_ends, "cids": b"".join(cid.bytes for cid in given.given), room: bad, **roots}
+    try:
+        return _library.filled(name, first, FAULTS_OF_TREES, **told)
+    except Fault as fault:
+        if fault.number in (2, 30):
+            raise (Missing if fault.number == 2 else BadNode)(Cid(bad.raw)) from None
+        raise
 
 
 def _over_asked(name: str, nodes: Nodes, root: Cid, own: Sequence[Change], known: bool) -> Reader:

@@ -205,6 +205,40 @@ unsafe extern "C" {
         room: usize,
         size: *mut usize,
     ) -> u8;
+    pub fn tizulgech_difference(
+        nodes: *const u8,
+        nodes_len: usize,
+        node_ends: *const usize,
+        node_count: usize,
+        cids: *const u8,
+        cids_len: usize,
+        before: *const u8,
+        before_len: usize,
+        after: *const u8,
+        after_len: usize,
+        missing: *mut u8,
+        missing_room: usize,
+        out: *mut u8,
+        room: usize,
+        size: *mut usize,
+    ) -> u8;
+    pub fn tizulgech_missing(
+        nodes: *const u8,
+        nodes_len: usize,
+        node_ends: *const usize,
+        node_count: usize,
+        cids: *const u8,
+        cids_len: usize,
+        before: *const u8,
+        before_len: usize,
+        after: *const u8,
+        after_len: usize,
+        bad: *mut u8,
+        bad_room: usize,
+        out: *mut u8,
+        room: usize,
+        size: *mut usize,
+    ) -> u8;
     pub fn tizulgech_record_json(bytes: *const u8, len: usize, out: *mut u8, room: usize, size: *mut usize) -> u8;
     pub fn tizulgech_json_record(text: *const u8, len: usize, out: *mut u8, room: usize, size: *mut usize) -> u8;
     pub fn tizulgech_link_text(cid: *const u8, len: usize, out: *mut u8, room: usize, size: *mut usize) -> u8;
@@ -517,6 +551,60 @@ pub fn tree_prove_change(
             values.as_ptr(),
             values.len(),
             missing.as_mut_ptr(),
+            36,
+            out.as_mut_ptr(),
+            out.len(),
+            size,
+        )
+    }
+}
+
+pub fn difference(
+    nodes: Parts<'_>,
+    cids: &[u8],
+    before: &Cid,
+    after: &Cid,
+    missing: &mut Cid,
+    out: &mut [u8],
+    size: &mut usize,
+) -> u8 {
+    // SAFETY: as above, and room for 36 bytes.
+    unsafe {
+        tizulgech_difference(
+            nodes.bytes.as_ptr(),
+            nodes.bytes.len(),
+            nodes.ends.as_ptr(),
+            nodes.ends.len(),
+            cids.as_ptr(),
+            cids.len(),
+            before.as_ptr(),
+            36,
+            after.as_ptr(),
+            36,
+            missing.as_mut_ptr(),
+            36,
+            out.as_mut_ptr(),
+            out.len(),
+            size,
+        )
+    }
+}
+
+pub fn missing(nodes: Parts<'_>, cids: &[u8], before: &Cid, after: &Cid, bad: &mut Cid, out: &mut [u8], size: &mut usize) -> u8 {
+    // SAFETY: as above, and room for 36 bytes.
+    unsafe {
+        tizulgech_missing(
+            nodes.bytes.as_ptr(),
+            nodes.bytes.len(),
+            nodes.ends.as_ptr(),
+            nodes.ends.len(),
+            cids.as_ptr(),
+            cids.len(),
+            before.as_ptr(),
+            36,
+            after.as_ptr(),
+            36,
+            bad.as_mut_ptr(),
             36,
             out.as_mut_ptr(),
             out.len(),

@@ -87,6 +87,28 @@ pub struct Edit {
     pub previous: Vec<Option<Cid>>,
 }
 
+/// A key that two trees differ in.
+#[derive(Clone, Debug, PartialEq, Eq)]
+pub struct Differing {
+    /// The key.
+    pub key: Vec<u8>,
+    /// The CID of its record in the tree before.
+    pub before: Option<Cid>,
+    /// The CID of its record in the tree after.
+    pub after: Option<Cid>,
+}
+
+/// What makes one tree of another.
+#[derive(Clone, Debug, PartialEq, Eq)]
+pub struct Difference {
+    /// The keys that differ, in their order.
+    pub changes: Vec<Differing>,
+    /// The nodes of the tree after that the other lacks, to insert, each under its CID.
+    pub add: Vec<(Cid, Vec<u8>)>,
+    /// The CIDs of the nodes of the tree before that the other lacks, to remove.
+    pub drop: Vec<Cid>,
+}
+
 /// A node as a host hands it in for the CID that it is asked for: its bytes, owned or lent, which are hashed to see whether they are of
 /// that CID, or [`Known`].
 ///
@@ -484,6 +506,58 @@ pub fn prove_change<'k, N: Node, E>(
         })
     };
     Ok(ProvenChange::read(&over_asked(nodes, root, changes, told)?, changes))
+}
+
+/// What the tree with the root `after` differs by from that with the root `before`. Of each tree just the nodes are asked for that the
+/// other lacks, and both roots: layer by layer, each once, and each is hashed unless it is [`Known`].
+///
+/// ```
+/// # use std::{collections::HashMap, convert::Infallible};
+/// # use tizulgech::{Cid, tree};
+/// # let before: Cid = tree::EMPTY_ROOT.parse()?;
+/// # let edit = tree::put(|_| Ok::<_, Infallible>(Some(tree::EMPTY_NODE)), &before, "a/b", &Cid::of(b""))?;
+/// # let mut nodes: HashMap<Cid, Vec<u8>> = edit.add.into_iter().collect();
+/// # nodes.insert(before, tree::EMPTY_NODE.to_vec());
+/// # let after = edit.root;
+/// let found = tree::difference(|cid| Ok::<_, Infallible>(nodes.get(cid)), &before, &after)?;
+/// assert_eq!(found.changes, [tree::Differing { key: b"a/b".to_vec(), before: None, after: Some(Cid::of(b"")) }]);
+/// # Ok::<(), Box<dyn std::error::Error>>(())
+/// ```
+pub fn difference<N: Node, E>(
+    nodes: impl FnMut(&Cid) -> Result<Option<N>, E>,
+    before: &Cid,
+    after: &Cid,
+) -> Result<Difference, EditError<E>> {
+    let (mut asked, mut bad) = (Asked::new(nodes), [0; 36]);
+    loop {
+        let missing = filled(36 * (asked.places.len() + 16), |out, size| {
+            sys::missing(asked.given.parts(), &asked.cids, &before.0, &after.0, &mut bad, out, size)
+        });
+        let missing = missing.map_err(|number| EditError::of(number, Cid(bad)))?;
+        if missing.is_empty() {
+            break;
+        }
+        for cid in missing.chunks_exact(36).map(|cid| Cid(cid.try_into().expect("36 bytes"))) {
+            let node = asked.node(&cid)?;
+            if !N::IS_KNOWN && Cid::of(node) != cid {
+                return Err(EditError::BadNode(cid));
+            }
+        }
+    }
+    let bytes = filled(1024 + 2 * asked.given.len(), |out, size| {
+        sys::difference(asked.given.parts(), &asked.cids, &before.0, &after.0, &mut bad, out, size)
+    });
+    let bytes = bytes.map_err(|number| EditError::of(number, Cid(bad)))?;
+    let (mut reader, mut add) = (Reader(&bytes), Vec::new());
+    let count = reader.number();
+    let mut next = || Differing { key: reader.part().to_vec(), before: reader.value(), after: reader.value() };
+    let changes = (0..count).map(|_| next()).collect();
+    let gone = reader.number();
+    let drop = (0..gone).map(|_| reader.cid()).collect();
+    while !reader.is_empty() {
+        add.push((reader.cid(), reader.part().to_vec()));
+    }
+    Ok(Difference { changes, add, drop })
 }
 
 /// The answer of a call over the nodes that changes need, for which a host is asked layer by layer.

@@ -267,6 +267,16 @@ fn call(it: &Json) -> Result<Json, Refused> {
             pairs(tree::list(host(&it["nodes"]), &cid(&it["root"]), it["start"].text(), most)?)
         }
         "tree_prove_change" => proven(it)?,
+        "tree_difference" => {
+            let found = tree::difference(host(&it["nodes"]), &cid(&it["before"]), &cid(&it["after"]))?;
+            let key = |key: &[u8]| text(std::str::from_utf8(key).unwrap());
+            let changes = found.changes.iter().map(|it| list([key(&it.key), maybe(it.before), maybe(it.after)]));
+            map([
+                ("changes", list(changes)),
+                ("add", sorted(found.add.iter().map(|(cid, node)| list([text(cid), hex(node)])).collect())),
+                ("drop", sorted(found.drop.iter().map(text).collect())),
+            ])
+        }
         "record_json" => text(record_json(&data(&it["record"]))?),
         "json_record" => hex(json_record(it["text"].text())?),
         "link_text" => text(link_text(&data(&it["bytes"]))?),

@@ -83,7 +83,7 @@ place_kept (faults.Commit f) code place was is p n = p
 place_kept faults.NotTheTree code place was is p n = p
 place_kept faults.NoMemory code place was is p n = p
 place_kept (faults.Record at record_faults.BadKey) code place was is p n = let no : tells_record 20 ≡ false = subst (λ (k : ℕ). tells_record k ≡ false) is n in absurd cc
-place_kept (faults.Record at record_faults.NoRecord) code place was is p n = let no : tells_record 78 ≡ false = subst (λ (k : ℕ). tells_record k ≡ false) is n in absurd cc
+place_kept (faults.Record at record_faults.NoRecord) code place was is p n = let no : tells_record 127 ≡ false = subst (λ (k : ℕ). tells_record k ≡ false) is n in absurd cc
 place_kept (faults.Record at record_faults.RecordSize) code place was is p n = let no : tells_record 22 ≡ false = subst (λ (k : ℕ). tells_record k ≡ false) is n in absurd cc
 place_kept (faults.Record at record_faults.NotAMap) code place was is p n = let no : tells_record 21 ≡ false = subst (λ (k : ℕ). tells_record k ≡ false) is n in absurd cc
 place_kept (faults.Record at (record_faults.BadRecord errors.Truncated)) code place was is p n = let no : tells_record 1 ≡ false = subst (λ (k : ℕ). tells_record k ≡ false) is n in absurd cc

@@ -14,3 +14,4 @@ mod Texts
 mod Hosting
 mod Checking
 mod FromFiles
+mod Differed

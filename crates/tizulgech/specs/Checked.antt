@@ -18,29 +18,29 @@ use Rattle.repository_check.specs.declared.fault.CheckFault.TheVariants as fault
 use Rattle.buffers.specs.Answers.{IsHanded, number_bytes, part_bytes}
 use Rattle.tizulgech.specs.Numbers.{record_number, write_number}
 
--- ---- why a file is no export: its own numbers from 70 on, and of its commit and its records those of a batch
+-- ---- why a file is no export: the numbers of files, of signed commits, and of its records those of a batch
 
 abbrev pub car_number : cars.CarFault → ℕ
-car_number cars.BadHeader = 70
-car_number cars.BadLength = 71
-car_number cars.Truncated = 72
-car_number cars.BadCid = 73
+car_number cars.BadHeader = 103
+car_number cars.BadLength = 104
+car_number cars.Truncated = 105
+car_number cars.BadCid = 106
 
 abbrev pub commit_number : commits.CommitFault → ℕ
-commit_number commits.NotACommit = 76
-commit_number commits.BadDid = 27
-commit_number commits.BadRev = 28
+commit_number commits.NotACommit = 100
+commit_number commits.BadDid = 101
+commit_number commits.BadRev = 102
 
 abbrev pub record_fault_number : exports.RecordFault → ℕ
-record_fault_number exports.NoRecord = 78
+record_fault_number exports.NoRecord = 127
 record_fault_number (exports.OfTest f) = write_number f
 
 abbrev pub export_number : ExportFault → ℕ
 export_number (OfCar f) = car_number f
-export_number Misnamed = 74
-export_number NoCommit = 75
+export_number Misnamed = 123
+export_number NoCommit = 124
 export_number (OfCommit f) = commit_number f
-export_number NotTheTree = 77
+export_number NotTheTree = 70
 export_number (OfRecord place f) = record_fault_number f
 
 -- of a record its place is told
@@ -54,35 +54,35 @@ IsPlaceOf (OfRecord at f) place = place ≡ at
 
 -- the numbers of a record's faults
 abbrev pub tells_record : ℕ → Bool
-tells_record n = (nat_le 1 n && nat_le n 13) || (nat_le 20 n && nat_le n 22) || nat_eq n 78
+tells_record n = (nat_le 1 n && nat_le n 13) || (nat_le 20 n && nat_le n 22) || nat_eq n 127
 
 -- ---- the same of the code; 255 for want of memory
 
 abbrev pub car_code : CarFault → ℕ
-car_code car_faults.BadHeader = 70
-car_code car_faults.BadLength = 71
-car_code car_faults.Truncated = 72
-car_code car_faults.BadCid = 73
+car_code car_faults.BadHeader = 103
+car_code car_faults.BadLength = 104
+car_code car_faults.Truncated = 105
+car_code car_faults.BadCid = 106
 car_code car_faults.NoMemory = 255
 
 abbrev pub commit_code : CommitFault → ℕ
-commit_code commit_faults.NotACommit = 76
-commit_code commit_faults.BadDid = 27
-commit_code commit_faults.BadRev = 28
+commit_code commit_faults.NotACommit = 100
+commit_code commit_faults.BadDid = 101
+commit_code commit_faults.BadRev = 102
 
 abbrev pub record_fault_code : RecordFault → ℕ
 record_fault_code record_faults.BadKey = 20
-record_fault_code record_faults.NoRecord = 78
+record_fault_code record_faults.NoRecord = 127
 record_fault_code record_faults.RecordSize = 22
 record_fault_code (record_faults.BadRecord f) = record_number f
 record_fault_code record_faults.NotAMap = 21
 
 abbrev pub check_code : CheckFault → ℕ
 check_code (faults.Car f) = car_code f
-check_code faults.Misnamed = 74
-check_code faults.NoCommit = 75
+check_code faults.Misnamed = 123
+check_code faults.NoCommit = 124
 check_code (faults.Commit f) = commit_code f
-check_code faults.NotTheTree = 77
+check_code faults.NotTheTree = 70
 check_code (faults.Record place f) = record_fault_code f
 check_code faults.NoMemory = 255
 

@@ -12,6 +12,8 @@ pub mod HostedChanges
 pub mod RecordTexts
 pub mod Checked
 pub mod Opened
+pub mod Differing
+pub mod Lacking
 pub use Rattle.spec.specs.Cid
 pub use Rattle.spec.specs.Layer
 pub use Rattle.spec.specs.States

@@ -7,6 +7,7 @@ use Rattle.batches.specs.declared.fault.RepoFault.{RepoFault}
 use Rattle.batches.specs.declared.fault.RepoFault.TheVariants as faults
 use Rattle.checked_opening.specs.Opening.{opened as state_opened}
 use Rattle.owned_repo.specs.Owning.{Owned, holding}
+use Rattle.tizulgech.specs.Checked.{tells_record}
 
 -- the file is the export of this commit and these records, and this is the repository with them after one batch
 pub record IsOpenedOf (limit : ℕ) (file : List ℕ) (n : Option Owned) : Type 0 where
@@ -24,7 +25,7 @@ pub record HasMany (limit : ℕ) (file : List ℕ) : Type 0 where
 
 -- the numbers that say that a file is no export
 abbrev pub is_of_file : ℕ → Bool
-is_of_file n = (nat_le 1 n && nat_le n 13) || (nat_le 20 n && nat_le n 22) || nat_eq n 27 || nat_eq n 28 || (nat_le 70 n && nat_le n 78)
+is_of_file n = tells_record n || nat_eq n 70 || (nat_le 100 n && nat_le n 106) || nat_eq n 123 || nat_eq n 124
 
 -- the number of a fault of an opening
 abbrev pub opening_number : {D A : Type 0} → RepoFault D A → ℕ

@@ -18,11 +18,11 @@ use std::alloc::{AllocError, Global};
 /// it is trusted: each block is hashed, and the tree is built anew of the records. No signature is tested.
 ///
 /// 0, and `out` has the CID of the signed commit, the root of the tree, the number of records in eight bytes, the lowest first,
-/// and the DID and the revision, each with its length in eight bytes in front. Else the first fault: of the file 70 for its
-/// header, 71 for the length of a section, 72 where it ends within one, 73 for its CID, 74 where a CID isn't that of its
-/// block; of its commit 75 where there is none, 76 where it is none, 27 for its DID, 28 for its revision; 77 where the file
-/// hasn't the whole tree that the commit names; of the first record that isn't taken 20 for its key, 78 where it isn't there, 22,
-/// 1 to 13 and 21 for its bytes, and then `place` is its place among the records, from 0 on. 251; 255.
+/// and the DID and the revision, each with its length in eight bytes in front. Else the first fault: of the file 103 for its
+/// header, 104 for the length of a section, 105 where it ends within one, 106 for its CID, 123 where a CID isn't that of its
+/// block; of its commit 124 where there is none, 100 where it is none, 101 for its DID, 102 for its revision; 70 where the file
+/// hasn't the whole tree that the commit names; of the first record that isn't taken 20 for its key, 127 where it isn't there,
+/// 22, 1 to 13 and 21 for its bytes, and then `place` is its place among the records, from 0 on. 251; 255.
 #[unsafe(no_mangle)]
 pub extern "C" fn tizulgech_check_car(
     alloc: Global,
@@ -85,10 +85,10 @@ pub(crate) fn tell_check(fault: CheckFault, place: &mut usize) -> u8
 {
     match fault {
         CheckFault::Car(fault) => code_of_car(fault),
-        CheckFault::Misnamed => 74,
-        CheckFault::NoCommit => 75,
+        CheckFault::Misnamed => 123,
+        CheckFault::NoCommit => 124,
         CheckFault::Commit(fault) => code_of_commit(fault),
-        CheckFault::NotTheTree => 77,
+        CheckFault::NotTheTree => 70,
         CheckFault::Record(at, fault) => tell_record(at as usize, fault, place),
         CheckFault::NoMemory => NO_MEMORY,
     }
@@ -113,10 +113,10 @@ fn code_of_car(fault: CarFault) -> u8
     ensures { result ≡ car_code fault }
 {
     match fault {
-        CarFault::BadHeader => 70,
-        CarFault::BadLength => 71,
-        CarFault::Truncated => 72,
-        CarFault::BadCid => 73,
+        CarFault::BadHeader => 103,
+        CarFault::BadLength => 104,
+        CarFault::Truncated => 105,
+        CarFault::BadCid => 106,
         CarFault::NoMemory => NO_MEMORY,
     }
 }
@@ -126,9 +126,9 @@ fn code_of_commit(fault: CommitFault) -> u8
     ensures { result ≡ commit_code fault }
 {
     match fault {
-        CommitFault::NotACommit => 76,
-        CommitFault::BadDid => 27,
-        CommitFault::BadRev => 28,
+        CommitFault::NotACommit => 100,
+        CommitFault::BadDid => 101,
+        CommitFault::BadRev => 102,
     }
 }
 
@@ -138,7 +138,7 @@ fn code_of_checked(fault: RecordFault) -> u8
 {
     match fault {
         RecordFault::BadKey => 20,
-        RecordFault::NoRecord => 78,
+        RecordFault::NoRecord => 127,
         RecordFault::RecordSize => 22,
         RecordFault::BadRecord(fault) => fault_of_record(fault),
         RecordFault::NotAMap => 21,
