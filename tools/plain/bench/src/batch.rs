@@ -265,7 +265,8 @@ impl<'a, S: Source> Batch<'a, S> {
             return BatchEdit { add: made, drop, previous, reads };
         }
         let old: HashSet<Cid, BuildHasherDefault<OfDigest>> = drop.iter().copied().collect();
-        let both: HashSet<Cid, BuildHasherDefault<OfDigest>> = made.iter().map(|(cid, _)| *cid).filter(|cid| old.contains(cid)).collect();
+        let both: HashSet<Cid, BuildHasherDefault<OfDigest>> =
+            made.iter().map(|(cid, _)| *cid).filter(|cid| old.contains(cid)).collect();
         made.retain(|(cid, _)| !both.contains(cid));
         drop.retain(|cid| !both.contains(cid));
         BatchEdit { add: made, drop, previous, reads }

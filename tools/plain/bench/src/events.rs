@@ -5,7 +5,7 @@ use crate::cbor::{Cursor, is_record};
 use crate::cid::{self, Blocks, Cid, PREFIX};
 use crate::commit::{self, is_did, is_revision, link, link_or_null};
 use crate::node::{entries, is_node, push_head, push_link};
-use crate::paths::{self, Source, Tree};
+use crate::paths::{self, Nodes, Source, Tree};
 use crate::repository::{Repository, commit_of, is_key};
 use std::collections::HashSet;
 
@@ -129,8 +129,6 @@ enum Undoing {
     /// The put is undone, and each node that this makes is hashed.
     Whole,
 }
-
-type Nodes<'r> = Vec<(Cid, &'r [u8])>;
 
 impl Undoing {
     /// The value of a key, and the nodes that deleting it reads.
@@ -322,7 +320,7 @@ impl<'m> Event<'m> {
 }
 
 /// A length of at most nine bytes in its shortest form.
-fn length<'m>(bytes: &'m [u8]) -> Option<(usize, &'m [u8])> {
+fn length(bytes: &[u8]) -> Option<(usize, &[u8])> {
     let mut number = 0u64;
     for (at, byte) in bytes.iter().take(9).enumerate() {
         number |= u64::from(byte & 127) << (7 * at);
@@ -405,7 +403,9 @@ pub fn checked(previous: &Cid, message: &[u8]) -> Result<Cid, Fault> {
     let mut cursor = Cursor(message.strip_prefix(HEADER).ok_or("NotCommit")?);
     let mut event = Event::default();
     fields(&mut cursor, |name, cursor| event.field(name, cursor)).filter(|()| cursor.0.is_empty()).ok_or("BadField")?;
-    let Event { ops: Some(mut ops), rev: Some(rev), has_seq: true, repo: Some(repo), time: Some(time), has_blobs: true, .. } = event else {
+    let Event { ops: Some(mut ops), rev: Some(rev), has_seq: true, repo: Some(repo), time: Some(time), has_blobs: true, .. } =
+        event
+    else {
         return Err("BadField");
     };
     let (Some(since), Some(blocks), Some(commit), Some(before)) = (event.since, event.blocks, event.commit, event.before) else {

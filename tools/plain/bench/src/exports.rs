@@ -122,7 +122,8 @@ pub fn run(count: usize, rounds: usize) {
             let (key, value) = &plan.pairs[*place];
             let (path, to_prove) = timed(|| prove(&desk.repository, key));
             let (found, to_verify) = timed(|| verify(&desk.repository.tree.root, &path, key));
-            let (_, to_hash) = timed(|| path.iter().map(|node| cid::of(node)).all(|cid| desk.repository.blocks.get(&cid).is_some()));
+            let (_, to_hash) =
+                timed(|| path.iter().map(|node| cid::of(node)).all(|cid| desk.repository.blocks.get(&cid).is_some()));
             assert_eq!(found, Ok(Some(*value)));
             nodes += path.len();
             for (sum, nanos) in took[1..].iter_mut().zip([to_prove, to_verify, to_hash]) {

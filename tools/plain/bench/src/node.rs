@@ -200,8 +200,7 @@ pub fn common(one: &[u8], other: &[u8]) -> usize {
 
 pub fn search(block: &[u8], key: &[u8]) -> Place {
     let (count, first) = start(block);
-    let mut place =
-        Place { count, index: 0, before: None, before_common: 0, next: None, next_common: 0, is_here: false, first };
+    let mut place = Place { count, index: 0, before: None, before_common: 0, next: None, next_common: 0, is_here: false, first };
     let mut at = first;
     while place.index < count {
         let entry = entry_at(block, at);

@@ -346,8 +346,11 @@ pub fn get(source: &impl Source, root: &Cid, key: &[u8]) -> Result<(Option<Cid>,
     }
 }
 
+/// Nodes with their CIDs.
+pub type Nodes<'s> = Vec<(Cid, &'s [u8])>;
+
 /// The nodes that deleting a key reads, in their order, and the value that the key has; nothing is made.
-pub fn read_by_delete<'s>(source: &'s impl Source, root: &Cid, key: &[u8]) -> Result<Option<(Cid, Vec<(Cid, &'s [u8])>)>, &'static str> {
+pub fn read_by_delete<'s>(source: &'s impl Source, root: &Cid, key: &[u8]) -> Result<Option<(Cid, Nodes<'s>)>, &'static str> {
     let (mut at, mut read, mut is_top) = (*root, Vec::with_capacity(16), true);
     loop {
         let block = source.node(&at)?;

@@ -98,6 +98,9 @@ pub fn commit_of(stamp: &Stamp, root: &Cid, sig: Option<&[u8]>) -> Vec<u8> {
     out
 }
 
+/// A record with its CID.
+type Record = (Cid, Block);
+
 /// What one accepted batch does to the blocks.
 struct Exchange {
     tree: Tree,
@@ -161,7 +164,7 @@ impl<'s> Repository<'s> {
     }
 
     /// A write alone, along the path of its key.
-    fn exchange_one(&self, key: &[u8], record: Option<&(Cid, Block)>) -> Result<Exchange, String> {
+    fn exchange_one(&self, key: &[u8], record: Option<&Record>) -> Result<Exchange, String> {
         let (tree, edit) = match record {
             Some((value, _)) => paths::put(&self.blocks, self.tree, key, value)?,
             None => paths::delete(&self.blocks, self.tree, key)?.ok_or("NotThere")?,
@@ -172,11 +175,11 @@ impl<'s> Repository<'s> {
     }
 
     /// What writes come to, as one change a key.
-    fn exchange(&self, writes: &[Write], records: &[Option<(Cid, Block)>]) -> Result<Exchange, String> {
+    fn exchange(&self, writes: &[Write], records: &[Option<Record>]) -> Result<Exchange, String> {
         if let ([write], [record]) = (writes, records) {
             return self.exchange_one(&write.key, record.as_ref());
         }
-        let mut last: BTreeMap<&[u8], (bool, Option<&(Cid, Block)>)> = BTreeMap::new();
+        let mut last: BTreeMap<&[u8], (bool, Option<&Record>)> = BTreeMap::new();
         for (write, record) in writes.iter().zip(records) {
             let is_there = match last.get(&write.key[..]) {
                 Some((_, value)) => value.is_some(),
@@ -212,7 +215,7 @@ impl<'s> Repository<'s> {
         self.test_stamp(&stamp)?;
         writes.iter().try_for_each(Self::test_write)?;
         let record = |write: &Write| write.record.as_ref().map(|record| (cid::of(record), Block::from(&record[..])));
-        let records: Vec<Option<(Cid, Block)>> = writes.iter().map(record).collect();
+        let records: Vec<Option<Record>> = writes.iter().map(record).collect();
         let Exchange { tree, come, go } = self.exchange(&writes, &records)?;
         let commit = commit_of(&stamp, &tree.root, None);
         let cid = cid::of(&commit);
@@ -227,10 +230,10 @@ impl<'s> Repository<'s> {
             self.go(&old);
         }
         self.tree = tree;
-        let kept = writes.into_iter().zip(records).map(|(write, record)| Accepted {
-            key: write.key.into_boxed_slice(),
-            record: record.map(|(_, block)| block),
-        });
+        let kept = writes
+            .into_iter()
+            .zip(records)
+            .map(|(write, record)| Accepted { key: write.key.into_boxed_slice(), record: record.map(|(_, block)| block) });
         self.accepted.extend(kept);
         self.stamps.push(stamp);
         Ok(())

@@ -7,6 +7,8 @@ use std::sync::{Arc, Mutex};
 
 pub type Block = Arc<[u8]>;
 
+/// Nearly all blocks have one, so several stand behind a pointer.
+#[allow(clippy::box_collection)]
 enum Owners {
     One(u32),
     Many(Box<BTreeSet<u32>>),

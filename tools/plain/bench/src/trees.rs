@@ -9,6 +9,7 @@ use crate::paths::get;
 use std::io::{self, Read};
 
 type Pairs = Vec<(Vec<u8>, Cid)>;
+type Made = Vec<(Cid, Box<[u8]>)>;
 
 fn cid_in(text: &str) -> Option<Cid> {
     let (mut bits, mut count, mut bytes) = (0u32, 0, Vec::new());
@@ -39,8 +40,8 @@ fn pairs_in(listing: &str) -> Pairs {
     pairs
 }
 
-fn built(pairs: &Pairs) -> (Cid, Vec<(Cid, Box<[u8]>)>) {
-    let mut nodes = Vec::with_capacity(pairs.len() / 3 + 1);
+fn built(pairs: &Pairs) -> (Cid, Made) {
+    let mut nodes = Made::with_capacity(pairs.len() / 3 + 1);
     let pair = |at: usize| (&pairs[at].0[..], &pairs[at].1);
     let root = build(pairs.len(), pair, |cid, block| {
         nodes.push((*cid, block.into()));
