@@ -1,3 +1,4 @@
 pub mod Lanes
+pub mod Single
 pub mod Blocks
 pub mod Digests

@@ -44,9 +44,14 @@ mod compression;
 mod constants;
 mod each;
 mod four;
+mod one;
+mod schedule;
+mod single;
 mod sorted;
 mod vectors;
+mod words;
 
 pub use each::digest_each;
 pub use four::digest_four;
+pub use one::digest_one;
 pub use sorted::digest_sorted;
