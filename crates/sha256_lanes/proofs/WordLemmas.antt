@@ -1,12 +1,20 @@
 -- The words of one block's schedule, four at a time, and the sums that its rounds take.
-use Rattle.std.proofs.Common.{◌≡◌, ℕ, ◌+◌, ◌-◌, ◌%◌, ◌^◌, ◌<◌, ◌≤◌, List, [], ◌∷◌, ◌++◌, length, take, slice_index, inl, inr, refl, sym, ap, ◌∙◌, arith, length-take-le}
+use Rattle.std.proofs.Common.{◌≡◌, ℕ, ◌+◌, ◌-◌, ◌*◌, ◌%◌, ◌^◌, ◌<◌, ◌≤◌, List, [], ◌∷◌, ◌++◌, length, take, slice_index, inl, inr, refl, sym, ap, ◌∙◌, arith, length-take-le}
 use Rattle.std.proofs.lemmas.Bool.{cases_lt}
 use Rattle.std.proofs.lemmas.List.{get_or_append_left, get_or-append_right, get_or-take}
 use Rattle.std.proofs.lemmas.Slice.{take-put_mid}
 use borrow.Rule.Slice.PartMut.{put_mid}
-use Rattle.sha2.specs.Sha256.{add32, next_word, round_constants, rounds, round, schedule, small_sigma0, small_sigma1, temp1, big_sigma1, ch}
-use Rattle.sha2.proofs.Schedule256.{slice_index-schedule_next, rounds_next}
+use Rattle.sha2.specs.Sha256.{add32, next_word, round_constants, rounds, round, schedule, small_sigma0, small_sigma1, word_at}
+use Rattle.sha2.proofs.Schedule256.{slice_index-schedule_first, slice_index-schedule_next, rounds_next}
 use Rattle.sha256_lanes.specs.Single.{IsFour, IsSums}
+
+-- a word of the block
+pub first_is : (b : List ℕ) (k i x : ℕ) → k < 16 → i ≡ 4 * k → x ≡ word_at b i → x ≡ slice_index (schedule b 48) k
+first_is b k i x h at e = e ∙ ap (word_at b) at ∙ sym (slice_index-schedule_first b 48 k h)
+
+-- the same place, spelled another way
+pub four_at : (x ws : List ℕ) (n k : ℕ) → n ≡ k → IsFour x ws n → IsFour x ws k
+four_at x ws n k e held j lt = held j lt ∙ ap (λ (z : ℕ). slice_index ws (z + j)) e
 
 -- four words that are added up in another order
 four_words : (p q r s : ℕ) → add32 (add32 (add32 p q) r) s ≡ add32 (add32 (add32 s r) q) p
@@ -37,8 +45,7 @@ sums_more sums next ws xs ys t k long fits e added words before i h =
       | inl below ↦ at ∙ get_or_append_left (take t sums) ys 0 i (omega arith) ∙ get_or-take t sums i 0 below ∙ before i below
       | inr from ↦
           let place : t + (i - t) ≡ i = omega arith in
-          let there : slice_index (take t sums ++ ys) i ≡ slice_index ys (i - t) = get_or-append_right (take t sums) ys 0 i (omega arith) ∙ ap (slice_index ys) (omega arith) in
-          at ∙ there ∙ added (i - t) (omega arith)
+          at ∙ get_or-append_right (take t sums) ys t i 0 front from ∙ added (i - t) (omega arith)
           ∙ (λ n. add32 (words (i - t) (omega arith) n) (slice_index round_constants (place n)))
           ∙ ap (λ (z : ℕ). add32 (slice_index ws z) (slice_index round_constants i)) place
     ]
