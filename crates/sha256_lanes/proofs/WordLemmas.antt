@@ -6,7 +6,7 @@ use Rattle.std.proofs.lemmas.Slice.{take-put_mid}
 use borrow.Rule.Slice.PartMut.{put_mid}
 use Rattle.sha2.specs.Sha256.{add32, next_word, round_constants, rounds, round, schedule, small_sigma0, small_sigma1, word_at}
 use Rattle.sha2.proofs.Schedule256.{slice_index-schedule_first, slice_index-schedule_next, rounds_next}
-use Rattle.sha256_lanes.specs.Single.{IsFour, IsSums}
+use Rattle.sha256_lanes.specs.Single.{IsAhead, IsFour}
 
 -- a word of the block
 pub first_is : (b : List ℕ) (k i x : ℕ) → k < 16 → i ≡ 4 * k → x ≡ word_at b i → x ≡ slice_index (schedule b 48) k
@@ -33,23 +33,6 @@ next_is b k p q r s x low high ep eq er es ex =
 pub temp1_is : (h s c k w : ℕ) → add32 (add32 (add32 h (add32 w k)) s) c ≡ add32 (add32 (add32 (add32 h s) c) k) w
 temp1_is h s c k w = omega arith
 
--- four sums more
-pub sums_more : (sums next ws xs ys : List ℕ) (t k : ℕ) → length ys ≡ 4 → t ≤ length sums → next ≡ put_mid t k sums ys
-    → ((j : ℕ) → j < 4 → slice_index ys j ≡ add32 (slice_index xs j) (slice_index round_constants (t + j)))
-    → IsFour xs ws t → IsSums sums ws t → IsSums next ws (t + 4)
-sums_more sums next ws xs ys t k long fits e added words before i h =
-    let cut : take (t + 4) next ≡ take t sums ++ ys = ap (take (t + 4)) e ∙ take-put_mid t k sums ys (t + 4) (omega arith) fits in
-    let front : length (take t sums) ≡ t = length-take-le t sums fits in
-    let at : slice_index next i ≡ slice_index (take t sums ++ ys) i = sym (get_or-take (t + 4) next i 0 h) ∙ ap (λ (z : List ℕ). slice_index z i) cut in
-    elim (cases_lt i t) [
-      | inl below ↦ at ∙ get_or_append_left (take t sums) ys 0 i (omega arith) ∙ get_or-take t sums i 0 below ∙ before i below
-      | inr from ↦
-          let place : t + (i - t) ≡ i = omega arith in
-          at ∙ get_or-append_right (take t sums) ys t i 0 front from ∙ added (i - t) (omega arith)
-          ∙ (λ n. add32 (words (i - t) (omega arith) n) (slice_index round_constants (place n)))
-          ∙ ap (λ (z : ℕ). add32 (slice_index ws z) (slice_index round_constants i)) place
-    ]
-
 -- one more round, by the sum of its word and its constant
 pub round_more : (b h v next : List ℕ) (t sum : ℕ) → v ≡ rounds h (schedule b 48) t
     → sum ≡ add32 (slice_index (schedule b 48) t) (slice_index round_constants t)
@@ -58,3 +41,7 @@ round_more b h v next t sum ev es en =
     let ws = schedule b 48 in
     en (slice_index round_constants t) (slice_index ws t) es
     ∙ ap (λ (z : List ℕ). round z (slice_index round_constants t) (slice_index ws t)) ev ∙ sym (rounds_next h ws t)
+
+-- the same round, spelled another way
+pub ahead_at : (b h sums : List ℕ) (x : List (List ℕ)) (v : List ℕ) (n k : ℕ) → n ≡ k → IsAhead b h sums x v n → IsAhead b h sums x v k
+ahead_at b h sums x v n k e held = rw (← e) held

@@ -14,7 +14,7 @@ pub fn digest_one(message: &[u8]) -> [u8; 32]
     ensures { result ≡ sha256 message.now }
 {
     let mut state = H256;
-    'blocks: for i in 0..block_count(message) {
+    'turns: for i in 0..block_count(message) {
         compress_one(&mut state, &padded_block(message, i));
     }
     bytes_of(&state)

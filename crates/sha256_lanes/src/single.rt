@@ -47,7 +47,7 @@ fn four_steps(sums: &mut [u32; 64], words: &mut [u32x4; 4], v: [u32; 8], t: usiz
 /// The sums of the block's own words.
 #[inline(always)]
 fn first_sums(words: &[u32x4; 4]) -> [u32; 64]
-    ensures { (b h : List ℕ) → IsSixteen words.now (schedule b 48) 0 → IsSums result (schedule b 48) 16 }
+    ensures { (b : List ℕ) → IsSixteen words.now (schedule b 48) 0 → IsSums result (schedule b 48) 16 }
 {
     let mut sums = [0; 64];
     write_sums(&mut sums, words[0], 0);
