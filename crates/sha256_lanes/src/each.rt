@@ -4,7 +4,7 @@ ghost use Rattle.std.specs.Prelude.{◌≡◌, IfOk};
 ghost use Rattle.sha256_lanes.specs.Digests.{digests_of};
 
 use crate::four::digest_four;
-use sha2::{Digest, Sha256};
+use crate::one::digest_one;
 use std::alloc::{AllocError, Allocator};
 use std::convert::AsSlice;
 
@@ -26,7 +26,7 @@ pub fn digest_each<T: AsSlice<u8>, A: Allocator>(
         rest = after;
     }
     'last: for message in rest {
-        digests.push(Sha256::digest(message.as_slice()))?;
+        digests.push(digest_one(message.as_slice()))?;
     }
     Ok(digests)
 }

@@ -114,5 +114,10 @@ fn load(block: &[u8; 64], t: usize) -> u32x4
 pub(crate) fn load_sixteen(block: &[u8; 64]) -> [u32x4; 4]
     ensures { IsSixteen result (schedule block.now 48) 0 }
 {
-    [load(block, 0), load(block, 4), load(block, 8), load(block, 12)]
+    [
+        load(block, 0),
+        load(block, 4),
+        load(block, 8),
+        load(block, 12),
+    ]
 }

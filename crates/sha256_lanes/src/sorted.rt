@@ -7,7 +7,7 @@ ghost use Rattle.sha256_lanes.specs.Digests.{digests_of, written};
 
 use crate::blocks::block_count;
 use crate::four::digest_four;
-use sha2::{Digest, Sha256};
+use crate::one::digest_one;
 use std::alloc::{AllocError, Allocator};
 use std::convert::AsSlice;
 
@@ -76,7 +76,7 @@ fn place_all<T: AsSlice<u8>>(digests: &mut [[u8; 32]], messages: &[T], order: &[
         rest = after;
     }
     'last: for pair in rest {
-        digests[pair.1] = Sha256::digest(messages[pair.1].as_slice());
+        digests[pair.1] = digest_one(messages[pair.1].as_slice());
     }
 }
 

@@ -10,15 +10,15 @@ returns c block t h fa fb fc fd =
     let at : (m n : ℕ) → m ≡ n → slice_index ws m ≡ slice_index ws n = λ m n e. ap (slice_index ws) e in
     let of : (j : ℕ) (x y : List ℕ) → x ≡ y → slice_index x j ≡ slice_index y j = λ j x y e. ap (λ (z : List ℕ). slice_index z j) e in
     let early : (j : ℕ) → j < 4 → slice_index c.add-early.result j
-        ≡ add32 (add32 (slice_index c.args.a j) (small_sigma0 (slice_index c.one_on.result j))) (slice_index c.one_on-2.result j) = λ j lt.
+    ≡ add32 (add32 (slice_index c.args.a j) (small_sigma0 (slice_index c.one_on.result j))) (slice_index c.one_on-2.result j) = λ j lt.
     rw (c.add-early.ensures j lt, c.add.ensures j lt, c.small_sigma0.ensures j lt) refl in
     let low : (j : ℕ) → j < 4 → slice_index c.add-low.result j
-        ≡ add32 (add32 (add32 (slice_index c.args.a j) (small_sigma0 (slice_index c.one_on.result j))) (slice_index c.one_on-2.result j))
-        (small_sigma1 (slice_index c.last_two.result j)) = λ j lt.
+    ≡ add32 (add32 (add32 (slice_index c.args.a j) (small_sigma0 (slice_index c.one_on.result j))) (slice_index c.one_on-2.result j))
+    (small_sigma1 (slice_index c.last_two.result j)) = λ j lt.
     rw (c.add-low.ensures j lt, early j lt, c.small_sigma1.ensures j lt) refl in
     let high : (j : ℕ) → j < 4 → slice_index c.add-high.result j
-        ≡ add32 (add32 (add32 (slice_index c.args.a j) (small_sigma0 (slice_index c.one_on.result j))) (slice_index c.one_on-2.result j))
-        (small_sigma1 (slice_index c.first_two.result j)) = λ j lt.
+    ≡ add32 (add32 (add32 (slice_index c.args.a j) (small_sigma0 (slice_index c.one_on.result j))) (slice_index c.one_on-2.result j))
+    (small_sigma1 (slice_index c.first_two.result j)) = λ j lt.
     rw (c.add-high.ensures j lt, early j lt, c.small_sigma1-2.ensures j lt) refl in
     let word0 : slice_index c.add-low.result 0 ≡ slice_index ws (t + 16) = next_is block (t + 16) _ _ _ _ _ (omega arith) (omega arith)
     (fa 0 (lit< tt) ∙ at _ _ (omega arith))
