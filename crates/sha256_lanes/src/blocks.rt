@@ -41,7 +41,7 @@ fn whole_block(bytes: &[u8]) -> [u8; 64]
 }
 
 /// Block `i` after the whole blocks of the message.
-fn last_blocks(message: &[u8], i: usize) -> [u8; 64]
+pub(crate) fn last_blocks(message: &[u8], i: usize) -> [u8; 64]
     requires { length message.now / 64 ≤ i }
     ensures { i < block_count message.now → result ≡ block message.now i }
 {

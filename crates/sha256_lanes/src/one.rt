@@ -3,7 +3,7 @@
 ghost use Rattle.std.specs.Prelude.{◌≡◌};
 ghost use Rattle.sha2.specs.Sha256.{digest_bytes, sha256};
 
-use crate::blocks::{block_count, padded_block};
+use crate::blocks::{block_count, last_blocks};
 use crate::constants::H256;
 use crate::single::compress_one;
 
@@ -14,8 +14,12 @@ pub fn digest_one(message: &[u8]) -> [u8; 32]
     ensures { result ≡ sha256 message.now }
 {
     let mut state = H256;
-    'turns: for i in 0..block_count(message) {
-        compress_one(&mut state, &padded_block(message, i));
+    let whole = message.len() / 64;
+    'whole: for i in 0..whole {
+        compress_one(&mut state, &message[64 * i..64 * i + 64]);
+    }
+    'last: for i in whole..block_count(message) {
+        compress_one(&mut state, &last_blocks(message, i));
     }
     bytes_of(&state)
 }

@@ -83,13 +83,13 @@ pub(crate) fn write_sums(sums: &mut [u32; 64], words: u32x4, t: usize)
     ensures { (ws : List ℕ) → IsFour words ws t → IsSums sums.old ws t → IsSums sums.new ws (t + 4) }
 {
     let sum = add(words, constants(t));
-    sums[t..t + 4].copy_from_slice(&sum.to_array());
+    sum.copy_to_slice(&mut sums[t..t + 4]);
 }
 
 /// The word whose bytes begin at `i`, the highest first.
 #[inline(always)]
-fn load_be(block: &[u8; 64], i: usize) -> u32
-    requires { i + 4 ≤ 64 }
+fn load_be(block: &[u8], i: usize) -> u32
+    requires { i + 4 ≤ length block.now }
     ensures { result ≡ word_at block.now i }
 {
     u32::from_be_bytes([block[i], block[i + 1], block[i + 2], block[i + 3]])
@@ -97,8 +97,9 @@ fn load_be(block: &[u8; 64], i: usize) -> u32
 
 /// Four words of the block, from word `t` on.
 #[inline(always)]
-fn load(block: &[u8; 64], t: usize) -> u32x4
-    requires { t + 4 ≤ 16 }
+fn load(block: &[u8], t: usize) -> u32x4
+    requires first { t + 4 ≤ 16 }
+    requires long { length block.now ≡ 64 }
     ensures { IsFour result (schedule block.now 48) t }
 {
     u32x4::from_array([
@@ -111,7 +112,8 @@ fn load(block: &[u8; 64], t: usize) -> u32x4
 
 /// The words of the block, which are the first sixteen of its schedule.
 #[inline(always)]
-pub(crate) fn load_sixteen(block: &[u8; 64]) -> [u32x4; 4]
+pub(crate) fn load_sixteen(block: &[u8]) -> [u32x4; 4]
+    requires { length block.now ≡ 64 }
     ensures { IsSixteen result (schedule block.now 48) 0 }
 {
     [

@@ -1,6 +1,6 @@
 //! The rounds of SHA-256 over one block (FIPS 180-4, 6.2.2), with the message schedule sixteen words ahead in vectors.
 
-ghost use Rattle.std.specs.Prelude.{◌≡◌, ℕ, List, ◌+◌, ◌≤◌, ◌*◌};
+ghost use Rattle.std.specs.Prelude.{◌≡◌, ℕ, List, ◌+◌, ◌≤◌, length};
 ghost use Rattle.sha2.specs.Sha256.{add32, compress, round, rounds, schedule};
 ghost use Rattle.sha256_lanes.specs.Single.{IsAhead, IsSixteen, IsSums};
 
@@ -44,25 +44,25 @@ fn four_steps(sums: &mut [u32; 64], words: &mut [u32x4; 4], v: [u32; 8], t: usiz
     four_rounds(sums, v, t)
 }
 
-/// The sums of the block's own words.
+/// Writes the sums of the block's own words.
 #[inline(always)]
-fn first_sums(words: &[u32x4; 4]) -> [u32; 64]
-    ensures { (b : List ℕ) → IsSixteen words.now (schedule b 48) 0 → IsSums result (schedule b 48) 16 }
+fn first_sums(sums: &mut [u32; 64], words: &[u32x4; 4])
+    ensures { (b : List ℕ) → IsSixteen words.now (schedule b 48) 0 → IsSums sums.new (schedule b 48) 16 }
 {
-    let mut sums = [0; 64];
-    write_sums(&mut sums, words[0], 0);
-    write_sums(&mut sums, words[1], 4);
-    write_sums(&mut sums, words[2], 8);
-    write_sums(&mut sums, words[3], 12);
-    sums
+    write_sums(sums, words[0], 0);
+    write_sums(sums, words[1], 4);
+    write_sums(sums, words[2], 8);
+    write_sums(sums, words[3], 12);
 }
 
 /// Runs the 64 rounds over the block, and adds the result to `state`.
-pub(crate) fn compress_one(state: &mut [u32; 8], block: &[u8; 64])
+pub(crate) fn compress_one(state: &mut [u32; 8], block: &[u8])
+    requires { length block.now ≡ 64 }
     ensures { state.new ≡ compress state.old block.now }
 {
     let mut words = load_sixteen(block);
-    let mut sums = first_sums(&words);
+    let mut sums = [0; 64];
+    first_sums(&mut sums, &words);
     let mut v = *state;
     'turns: for turn in 0..3 {
         v = four_steps(&mut sums, &mut words, v, 16 * turn);

@@ -8,7 +8,7 @@ pub turns-init : goal.turns-init
 unfolding rounds
 turns-init c = (
   c.load_sixteen-words.ensures,
-  c.first_sums-sums.ensures c.args.block.now c.load_sixteen-words.ensures,
+  c.first_sums.ensures c.args.block.now c.load_sixteen-words.ensures,
   refl,
 )
 
