@@ -63,7 +63,7 @@ impl Digest for Sha256 {
     ghost digest_of = { sha256 };
 
     fn digest(bytes: &[u8]) -> [u8; 32] {
-        <sha2::Sha256 as sha2::Digest>::digest(bytes)
+        sha256_lanes::digest_one(bytes)
     }
 
     fn digest_four(a: &[u8], b: &[u8], c: &[u8], d: &[u8]) -> [[u8; 32]; 4] {

@@ -1,4 +1,4 @@
-use Rattle.std.proofs.Common.{◌≡◌, ℕ, ◌+◌, ◌∙◌, arith, ap, slice_index}
+use Rattle.std.proofs.Common.{◌+◌, arith}
 use Rattle.sha2.specs.Sha256.{schedule}
 use Rattle.sha256_lanes.proofs.WordLemmas.{four_at}
 use Rattle.sha256_lanes.proofs.schedule.go_on.Goals as goal

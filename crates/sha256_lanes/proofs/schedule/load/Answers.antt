@@ -1,5 +1,4 @@
-use Rattle.std.proofs.Common.{◌≡◌, ℕ, ◌+◌, ◌*◌, slice_index, arith, sym, ap, ◌∙◌}
-use Rattle.sha2.specs.Sha256.{schedule, word_at}
+use Rattle.std.proofs.Common.{◌+◌, arith}
 use Rattle.sha256_lanes.proofs.LaneLemmas.{below_four}
 use Rattle.sha256_lanes.proofs.WordLemmas.{first_is}
 use Rattle.sha256_lanes.proofs.schedule.load.Goals as goal

@@ -1,4 +1,4 @@
-use Rattle.std.proofs.Common.{◌≡◌, ℕ, ◌+◌, ◌-◌, ◌<◌, ◌∙◌, List, arith, ap, lit<, refl, slice_index}
+use Rattle.std.proofs.Common.{◌≡◌, ℕ, ◌+◌, ◌<◌, ◌∙◌, List, arith, ap, lit<, refl, slice_index}
 use Rattle.sha2.specs.Sha256.{add32, schedule, small_sigma0, small_sigma1}
 use Rattle.sha256_lanes.proofs.LaneLemmas.{below_four}
 use Rattle.sha256_lanes.proofs.WordLemmas.{next_is}

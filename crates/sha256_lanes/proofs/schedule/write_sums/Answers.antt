@@ -1,5 +1,5 @@
-use Rattle.std.proofs.Common.{◌≡◌, ℕ, ◌+◌, ◌<◌, slice_index, arith, ap, ◌∙◌}
-use Rattle.sha2.specs.Sha256.{add32, round_constants}
+use Rattle.std.proofs.Common.{slice_index, arith, ap, ◌∙◌}
+use Rattle.sha2.specs.Sha256.{add32}
 use Rattle.sha256_lanes.proofs.WordLemmas.{sums_more}
 use Rattle.sha256_lanes.proofs.schedule.write_sums.Goals as goal
 

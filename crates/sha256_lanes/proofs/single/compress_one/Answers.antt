@@ -1,4 +1,4 @@
-use Rattle.std.proofs.Common.{◌≡◌, ◌+◌, ◌*◌, ◌∙◌, arith, ap, lit<, refl}
+use Rattle.std.proofs.Common.{◌≡◌, ◌+◌, ◌*◌, arith, ap, lit<, refl}
 use Rattle.sha2.specs.Sha256.{add_state, compress, rounds}
 use Rattle.sha256_lanes.specs.Single.{IsAhead}
 use Rattle.sha256_lanes.proofs.WordLemmas.{ahead_at}

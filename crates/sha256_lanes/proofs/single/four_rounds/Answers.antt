@@ -1,4 +1,4 @@
-use Rattle.std.proofs.Common.{◌≡◌, ℕ, ◌+◌, ◌∙◌, arith, ap}
+use Rattle.std.proofs.Common.{◌≡◌, ◌+◌, ◌∙◌, arith, ap}
 use Rattle.sha2.specs.Sha256.{rounds, schedule}
 use Rattle.sha256_lanes.proofs.WordLemmas.{round_more}
 use Rattle.sha256_lanes.proofs.single.four_rounds.Goals as goal
