@@ -1,7 +1,7 @@
-//! SHA-256 of messages side by side, beside the same messages one by one.
+//! SHA-256 of one message and of messages side by side, beside the digests of the library `sha2`.
 
-use cid::{Digest, Sha256};
-use sha256_lanes::{digest_each, digest_four, digest_sorted};
+use sha2::{Digest, Sha256};
+use sha256_lanes::{digest_each, digest_four, digest_one, digest_sorted};
 use std::alloc::Global;
 use std::process::Abort;
 
@@ -17,7 +17,7 @@ fn noise() -> [u8; 400] {
     bytes
 }
 
-/// Whether four digests side by side are those of the messages one by one.
+/// Whether four digests side by side are those of the messages by the library.
 fn are_right(a: &[u8], b: &[u8], c: &[u8], d: &[u8]) -> bool {
     digest_four(a, b, c, d)
         == [
@@ -39,7 +39,7 @@ fn cut_out<'a>(rt: &impl Abort, alloc: Global, bytes: &'a [u8; 400]) -> Vec<&'a 
     messages
 }
 
-/// Whether these are the digests of the messages one by one.
+/// Whether these are the digests of the messages by the library.
 fn are_digests_of(digests: &[[u8; 32]], messages: &[&[u8]]) -> bool {
     for place in 0..messages.len() {
         if digests.get(place) != Some(&Sha256::digest(messages[place])) {
@@ -47,6 +47,18 @@ fn are_digests_of(digests: &[[u8; 32]], messages: &[&[u8]]) -> bool {
         }
     }
     digests.len() == messages.len()
+}
+
+#[test]
+fn one_of_every_length(rt: HostRuntime) {
+    let bytes = noise();
+    for len in 0..=300usize {
+        let message = &bytes[len % 100..len % 100 + len];
+        assert!(rt;
+            digest_one(message) == Sha256::digest(message),
+            "of {len} bytes"
+        );
+    }
 }
 
 #[test]

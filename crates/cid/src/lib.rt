@@ -5,7 +5,7 @@
 //!   bytes. [`CidRef`] is one that is lent from a block's bytes.
 //! - [`Digest`] is the hash that all is generic in. [`Sha256`] is the one of the protocol; those in [`digests`] are for
 //!   tests, where layers and collisions are wanted at will. Who has many lists of bytes at once has their digests in
-//!   about half the time by `Digest::digest_each` or `digest_four`.
+//!   about two thirds of the time by `Digest::digest_each` or `digest_four`.
 //! - [`layer`] is the number of zero bits that a key's digest begins with, divided by the zero bits a layer, `B`, which
 //!   is 2 in the AT Protocol. [`layer_four`] hashes four keys side by side.
 //!

@@ -9,7 +9,7 @@ use crate::single::compress_one;
 
 /// The digest of one message.
 ///
-/// It takes three quarters of the time of `sha2`'s, as its message schedule is made four words at a time.
+/// It takes some three quarters of the time of `sha2`'s, as it makes four words of the message schedule at a time.
 pub fn digest_one(message: &[u8]) -> [u8; 32]
     ensures { result ≡ sha256 message.now }
 {
